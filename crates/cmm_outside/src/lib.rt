@@ -1,0 +1,23 @@
+//! What lies outside the compiler: input, output and files.
+//!
+//! A program that is proved to read and write the right bytes says so of objects that can tell what they
+//! hold. So each trait here has ghost members: the contents, where the object tells them, and a count of
+//! faults. A call fails only where the count rises in it, so code that is generic over a trait cannot
+//! answer a fault that the object did not have.
+//!
+//! - `input`: the trait `Source`, and sources over memory and over standard input.
+//! - `output`: the trait `Sink`, sinks over memory and over a standard stream, and `write_all`.
+//! - `storage`: the trait `Files`, files in memory and in the file system, and `read_file`.
+#![tactic(auto)]
+
+pub mod input;
+pub mod output;
+pub mod storage;
+
+pub use input::Source;
+pub use output::Sink;
+pub use storage::{CallKind, Files};
+
+/// A call on something outside has failed. What failed is the object's to know.
+#[derive(Clone, Copy, Debug, PartialEq, Eq)]
+pub struct Failed;

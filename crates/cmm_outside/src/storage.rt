@@ -1,0 +1,78 @@
+//! Files by name.
+
+ghost use Rattle.std.specs.Prelude.{◌≡◌, ℕ, ◌+◌, ◌<◌, ◌≤◌, ◌++◌, [], List, Option, Some, Ok, length, take, IfOk, OnOk, OnErr};
+ghost use Rattle.cmm_outside.specs.Faults.{Rose};
+ghost use Rattle.cmm_outside.specs.Storage.{Contents, FailedCall, ReadsAt, Writes, bytes_of};
+
+use crate::Failed;
+
+/// The longest name of a file, in bytes.
+pub const NAME_LIMIT: usize = 4095;
+
+/// What a call of `Files` does.
+#[derive(Clone, Copy, Debug, PartialEq, Eq)]
+pub enum CallKind {
+    Read,
+    Create,
+    Append,
+}
+
+/// Files by name. Each call asks for a name of at most `NAME_LIMIT` bytes.
+pub trait Files {
+    /// What the files hold, where the object tells it.
+    ghost contents: { Self → Option Contents };
+
+    /// How many calls have failed.
+    ghost faults: { Self → ℕ };
+
+    /// The last call that failed.
+    ghost last_failed: { Self → Option FailedCall };
+
+    /// Reads bytes of a file from the offset `from` on into the front of `buffer`, and answers how many:
+    /// none only where the file has no byte from there on. It fails where there is no such file.
+    fn read_at(&mut self, name: &str, from: u64, buffer: &mut [u8]) -> Result<usize, Failed>
+        requires { length name.now ≤ NAME_LIMIT }
+        ensures bound { IfOk result (λ n. n ≤ length buffer.old) }
+        ensures read { IfOk result (λ n. ReadsAt (contents self.old) name.now from (length buffer.old) buffer.new n) }
+
+        // It changes no file.
+        ensures same { contents self.new ≡ contents self.old }
+
+        // It fails only where the count of faults rises, and that rises only where it fails.
+        ensures no_fault { OnOk result (faults self.new ≡ faults self.old) }
+        ensures no_failed_call { OnOk result (last_failed self.new ≡ last_failed self.old) }
+        ensures fault { OnErr result (Rose (faults self.old) (faults self.new)) }
+        ensures failed_call { OnErr result (last_failed self.new ≡ Some (record { kind = CallKind.Read; name = name.now })) }
+
+        // An empty buffer does nothing.
+        ensures nothing { length buffer.old ≡ 0 → (result ≡ Ok 0) × (self.new ≡ self.old) };
+
+    /// Makes a file of that name that is empty, also where there was one.
+    fn create(&mut self, name: &str) -> Result<(), Failed>
+        requires { length name.now ≤ NAME_LIMIT }
+        ensures created { OnOk result (Writes (contents self.old) (contents self.new) name.now (λ _. [])) }
+        ensures err { OnErr result (contents self.new ≡ contents self.old) }
+
+        ensures no_fault { OnOk result (faults self.new ≡ faults self.old) }
+        ensures no_failed_call { OnOk result (last_failed self.new ≡ last_failed self.old) }
+        ensures fault { OnErr result (Rose (faults self.old) (faults self.new)) }
+        ensures failed_call { OnErr result (last_failed self.new ≡ Some (record { kind = CallKind.Create; name = name.now })) };
+
+    /// Writes a front of the bytes at a file's end, and answers how many. Taking none of a piece that is
+    /// not empty is a failure. A file that is not there is made.
+    fn append(&mut self, name: &str, bytes: &[u8]) -> Result<usize, Failed>
+        requires { length name.now ≤ NAME_LIMIT }
+        ensures bound { IfOk result (λ n. n ≤ length bytes.now) }
+        ensures progress { IfOk result (λ n. 0 < length bytes.now → 0 < n) }
+        ensures appended { IfOk result (λ n. 0 < n →
+            Writes (contents self.old) (contents self.new) name.now (λ file. bytes_of file ++ take n bytes.now)) }
+        ensures err { OnErr result (contents self.new ≡ contents self.old) }
+
+        ensures no_fault { OnOk result (faults self.new ≡ faults self.old) }
+        ensures no_failed_call { OnOk result (last_failed self.new ≡ last_failed self.old) }
+        ensures fault { OnErr result (Rose (faults self.old) (faults self.new)) }
+        ensures failed_call { OnErr result (last_failed self.new ≡ Some (record { kind = CallKind.Append; name = name.now })) }
+
+        // An empty piece does nothing.
+        ensures nothing { length bytes.now ≡ 0 → (result ≡ Ok 0) × (self.new ≡ self.old) };
+}
