@@ -36,3 +36,7 @@ Writes before after name bytes = IfSome before (λ files. Sets files after name 
 -- the bytes of a file that may not be there
 abbrev pub bytes_of : Option (List ℕ) → List ℕ
 bytes_of file = unwrap_or file []
+
+-- where the files tell what they hold, there is a file of this name, and of its bytes P holds
+abbrev pub HasFile : Option Contents → List ℕ → (List ℕ → Type 0) → Type 0
+HasFile contents name P = IfSome contents (λ files. (file : List ℕ) × (files name ≡ Some file) × P file)
