@@ -1,6 +1,8 @@
 -- What files hold, and what calls do to that.
-use Rattle.std.specs.Prelude.{◌≡◌, ◌≢◌, ℕ, ◌<◌, ◌≤◌, List, [], ◌++◌, length, take, drop, Option, Some, IfSome, unwrap_or}
+use Rattle.std.specs.Prelude.{◌≡◌, ◌≢◌, ℕ, ◌<◌, ◌≤◌, List, [], length, take, drop, Option, Some, IfSome, unwrap_or, Result, Ok, Err}
 use Rattle.cmm_outside.specs.declared.storage.CallKind.{CallKind}
+use Rattle.cmm_outside.specs.declared.storage.FileError.{FileError}
+use Rattle.cmm_outside.specs.declared.storage.FileError.TheVariants.{Failed, TooLong, Memory}
 
 -- the bytes of each file, by the bytes of its name; None where there is no such file
 abbrev pub Contents : Type 0
@@ -40,3 +42,10 @@ bytes_of file = unwrap_or file []
 -- where the files tell what they hold, there is a file of this name, and of its bytes P holds
 abbrev pub HasFile : Option Contents → List ℕ → (List ℕ → Type 0) → Type 0
 HasFile contents name P = IfSome contents (λ files. (file : List ℕ) × (files name ≡ Some file) × P file)
+
+-- what holds where a file was not read because a call failed, and what on every other answer
+abbrev pub MatchFailed : {T : Type 0} → Result T FileError → Type 0 → Type 0 → Type 0
+MatchFailed (Ok _) P Q = Q
+MatchFailed (Err Failed) P Q = P
+MatchFailed (Err TooLong) P Q = Q
+MatchFailed (Err Memory) P Q = Q

@@ -15,8 +15,8 @@ pub mod output;
 pub mod storage;
 
 pub use input::Source;
-pub use output::Sink;
-pub use storage::{CallKind, Files};
+pub use output::{Sink, write_all};
+pub use storage::{CallKind, FileError, Files, read_file};
 
 /// A call on something outside has failed. What failed is the object's to know.
 #[derive(Clone, Copy, Debug, PartialEq, Eq)]

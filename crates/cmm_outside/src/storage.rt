@@ -1,13 +1,18 @@
 //! Files by name.
 
-ghost use Rattle.std.specs.Prelude.{◌≡◌, ℕ, ◌+◌, ◌<◌, ◌≤◌, ◌++◌, [], List, Option, Some, Ok, length, take, IfOk, OnOk, OnErr};
+ghost use Rattle.std.specs.Prelude.{◌≡◌, ℕ, ◌+◌, ◌<◌, ◌≤◌, ◌++◌, [], List, Option, Some, Ok, length, take, IfOk, OnOk, OnErr, IsErrOf};
 ghost use Rattle.cmm_outside.specs.Faults.{Rose};
-ghost use Rattle.cmm_outside.specs.Storage.{Contents, FailedCall, ReadsAt, Writes, bytes_of};
+ghost use Rattle.cmm_outside.specs.Storage.{Contents, FailedCall, HasFile, MatchFailed, ReadsAt, Writes, bytes_of};
 
 use crate::Failed;
+use std::alloc::{AllocError, Global};
+use thiserror::Error;
 
 /// The longest name of a file, in bytes.
 pub const NAME_LIMIT: usize = 4095;
+
+/// How many bytes `read_file` asks for at a time.
+const PIECE: usize = 4096;
 
 /// What a call of `Files` does.
 #[derive(Clone, Copy, Debug, PartialEq, Eq)]
@@ -75,4 +80,78 @@ pub trait Files {
 
         // An empty piece does nothing.
         ensures nothing { length bytes.now ≡ 0 → (result ≡ Ok 0) × (self.new ≡ self.old) };
+}
+
+/// Why a file was not read.
+#[derive(Clone, Copy, Debug, PartialEq, Eq, Error)]
+pub enum FileError {
+    /// A call failed.
+    #[error("the file cannot be read")]
+    Failed,
+
+    /// The file has more bytes than the limit.
+    #[error("the file is too long")]
+    TooLong,
+
+    /// There is no memory for the bytes.
+    #[error("out of memory")]
+    Memory,
+}
+
+impl From<Failed> for FileError {
+    ghost use Rattle.std.specs.Prelude.{◌≡◌};
+    ghost use Rattle.cmm_outside.specs.declared.storage.FileError.TheVariants.{Failed};
+
+    ghost from_gives = { λ _ error. error ≡ Failed };
+
+    fn from(_failed: Failed) -> FileError {
+        FileError::Failed
+    }
+}
+
+impl From<AllocError> for FileError {
+    ghost use Rattle.std.specs.Prelude.{◌≡◌};
+    ghost use Rattle.cmm_outside.specs.declared.storage.FileError.TheVariants.{Memory};
+
+    ghost from_gives = { λ _ error. error ≡ Memory };
+
+    fn from(_error: AllocError) -> FileError {
+        FileError::Memory
+    }
+}
+
+/// The bytes of a file, read to its end. It reads at most one byte past `limit`. A limit may be any
+/// number: past what memory can hold, memory ends first.
+pub fn read_file<F: Files>(
+    alloc: Global,
+    files: &mut F,
+    name: &str,
+    limit: u64,
+) -> Result<Vec<u8>, FileError>
+    requires { length name.now ≤ NAME_LIMIT }
+    ensures ok { IfOk result (λ bytes. HasFile (F.contents files.old) name.now (λ file. bytes.items ≡ file)) }
+    ensures within { IfOk result (λ bytes. length bytes.items ≤ limit) }
+    ensures too_long { IsErrOf result FileError.TooLong → HasFile (F.contents files.old) name.now (λ file. limit < length file) }
+    ensures same { F.contents files.new ≡ F.contents files.old }
+
+    // It answers Failed only where a read of this file fails, at the first that does.
+    ensures fault { MatchFailed result (Rose (F.faults files.old) (F.faults files.new)) (F.faults files.new ≡ F.faults files.old) }
+    ensures failed_call { MatchFailed result
+        (F.last_failed files.new ≡ Some (record { kind = CallKind.Read; name = name.now }))
+        (F.last_failed files.new ≡ F.last_failed files.old) }
+{
+    let mut bytes = Vec::new(alloc);
+    let mut piece = [0; PIECE];
+    loop {
+        let left = limit - bytes.len() as u64;
+        let asked = left.saturating_add(1).min(PIECE as u64) as usize;
+        let count = files.read_at(name, bytes.len() as u64, &mut piece[..asked])?;
+        if count == 0 {
+            return Ok(bytes);
+        }
+        if count as u64 > left {
+            return Err(FileError::TooLong);
+        }
+        bytes.extend_from_slice(&piece[..count])?;
+    }
 }
