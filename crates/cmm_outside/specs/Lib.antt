@@ -1,4 +1,6 @@
+pub mod FailingCalls
 pub mod Faults
 pub mod Input
+pub mod MemorySource
 pub mod Output
 pub mod Storage

@@ -10,11 +10,14 @@
 //! - `storage`: the trait `Files`, files in memory and in the file system, and `read_file`.
 #![tactic(auto)]
 
+mod failing_calls;
 pub mod input;
+pub mod memory_source;
 pub mod output;
 pub mod storage;
 
 pub use input::Source;
+pub use memory_source::{MemSource, SureSource};
 pub use output::{Sink, write_all};
 pub use storage::{CallKind, FileError, Files, read_file};
 
