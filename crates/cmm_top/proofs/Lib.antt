@@ -1,0 +1,4 @@
+pub mod Decimal
+pub mod Pieces
+pub mod Spelling
+pub mod Parsing

@@ -1,0 +1,7 @@
+//! The top call.
+#![tactic(auto)]
+
+mod term;
+mod token;
+
+pub use token::tokens_in;
