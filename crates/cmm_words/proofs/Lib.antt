@@ -1,0 +1,4 @@
+pub mod WidthLemmas
+pub mod Wrapping
+pub mod Rotations
+pub mod Quotients

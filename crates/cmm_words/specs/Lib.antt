@@ -1,0 +1,3 @@
+pub mod Widths
+pub mod Integers
+pub mod Words

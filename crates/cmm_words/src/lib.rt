@@ -1,0 +1,25 @@
+//! Words, and the operators on them.
+//!
+//! A word of a width is a `u64` below 2 to that width. Each operator is proved to give its formula over whole
+//! numbers and integers, modulo 2 to the width; `specs/Words.antt` has the formulas, one line an operator.
+//!
+//! - `width`: the four widths.
+//! - `operators`: the names of the operators and the comparisons.
+//! - `conversion`: `low` and `extend`, from one width to another.
+//! - `apply`: `apply1` and `apply2`, the operators applied, over `shift` and `division`.
+//! - `comparison`: `compare`.
+#![tactic(auto)]
+
+mod apply;
+mod comparison;
+mod conversion;
+mod division;
+mod operators;
+mod shift;
+mod width;
+
+pub use apply::{apply1, apply2};
+pub use comparison::compare;
+pub use conversion::{extend, low};
+pub use operators::{Cmp, Op1, Op2};
+pub use width::Width;

@@ -1,0 +1,58 @@
+//! Shifts and rotations. A shift by the width or more shifts every bit out.
+
+ghost use Rattle.std.specs.Prelude.{◌≡◌, ◌^◌, ◌<◌, Some};
+ghost use Rattle.cmm_words.specs.Widths.{bits};
+ghost use Rattle.cmm_words.specs.Words.{value2};
+
+use crate::conversion::{low, to_signed, to_word};
+use crate::operators::Op2;
+use crate::width::Width;
+
+pub(crate) fn shift_left(width: Width, word: u64, count: u64) -> u64
+    requires { word < 2 ^ bits width }
+    ensures { value2 Op2.Shl width word count ≡ Some result }
+{
+    if count < width.bits() {
+        low(width, word << count)
+    } else {
+        0
+    }
+}
+
+pub(crate) fn shift_right(width: Width, word: u64, count: u64) -> u64
+    requires { word < 2 ^ bits width }
+    ensures { value2 Op2.Shrl width word count ≡ Some result }
+{
+    if count < width.bits() {
+        word >> count
+    } else {
+        0
+    }
+}
+
+/// A shift to the right that copies the top bit, so that a count past the width leaves copies of it.
+pub(crate) fn shift_right_signed(width: Width, word: u64, count: u64) -> u64
+    requires { word < 2 ^ bits width }
+    ensures { value2 Op2.Shra width word count ≡ Some result }
+{
+    to_word(width, to_signed(width, word) >> count.min(width.bits() - 1))
+}
+
+pub(crate) fn rotate_left(width: Width, word: u64, count: u64) -> u64
+    requires { word < 2 ^ bits width }
+    ensures { value2 Op2.Rotl width word count ≡ Some result }
+{
+    let count = count % width.bits();
+    if count == 0 {
+        word
+    } else {
+        low(width, word << count) | word >> (width.bits() - count)
+    }
+}
+
+pub(crate) fn rotate_right(width: Width, word: u64, count: u64) -> u64
+    requires { word < 2 ^ bits width }
+    ensures { value2 Op2.Rotr width word count ≡ Some result }
+{
+    rotate_left(width, word, width.bits() - count % width.bits())
+}

@@ -1,0 +1,39 @@
+//! The widths that words have.
+
+ghost use Rattle.std.specs.Prelude.{◌≡◌, ◌-◌, ◌^◌};
+ghost use Rattle.cmm_words.specs.Widths.{bits};
+
+/// How many bits a word has: 8, 16, 32 or 64.
+#[derive(Clone, Copy, Debug, PartialEq, Eq)]
+pub enum Width {
+    W8,
+    W16,
+    W32,
+    W64,
+}
+
+impl Width {
+    /// The number of bits.
+    pub fn bits(self) -> u64
+        ensures { result ≡ bits self }
+    {
+        match self {
+            Width::W8 => 8,
+            Width::W16 => 16,
+            Width::W32 => 32,
+            Width::W64 => 64,
+        }
+    }
+
+    /// The greatest word of this width, whose bits are all ones.
+    pub fn max(self) -> u64
+        ensures { result ≡ 2 ^ bits self - 1 }
+    {
+        match self {
+            Width::W8 => 0xFF,
+            Width::W16 => 0xFFFF,
+            Width::W32 => 0xFFFF_FFFF,
+            Width::W64 => u64::MAX,
+        }
+    }
+}
