@@ -1,6 +1,7 @@
 pub mod FailingCalls
 pub mod Faults
 pub mod Input
+pub mod MemorySink
 pub mod MemorySource
 pub mod Output
 pub mod Storage

@@ -12,11 +12,13 @@
 
 mod failing_calls;
 pub mod input;
+pub mod memory_sink;
 pub mod memory_source;
 pub mod output;
 pub mod storage;
 
 pub use input::Source;
+pub use memory_sink::MemSink;
 pub use memory_source::{MemSource, SureSource};
 pub use output::{Sink, write_all};
 pub use storage::{CallKind, FileError, Files, read_file};
