@@ -2,3 +2,4 @@ pub mod Decimal
 pub mod Pieces
 pub mod Spelling
 pub mod Parsing
+pub mod Values

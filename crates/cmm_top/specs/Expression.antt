@@ -1,5 +1,9 @@
 -- Sums and differences of numbers: their grammar, as trees with a spelling, and their value.
-use Rattle.std.specs.Prelude.{ℕ, ◌+◌, ◌-◌, ◌^◌, ◌%◌, max, List, [], ◌∷◌, ◌++◌}
+use Rattle.std.specs.Prelude.{ℕ, ◌+◌, ◌-◌, ◌^◌, ◌%◌, max, unwrap_or, List, [], ◌∷◌, ◌++◌}
+use Rattle.cmm_words.specs.declared.operators.Op2.{Op2}
+use Rattle.cmm_words.specs.declared.operators.Op2.TheVariants.{Add, Sub}
+use Rattle.cmm_words.specs.declared.width.Width.TheVariants.{W64}
+use Rattle.cmm_words.specs.Words.{low_bits, value2}
 use Rattle.cmm_top.specs.declared.token.Token.{Token}
 use Rattle.cmm_top.specs.declared.token.Token.TheVariants.{Number, Plus, Minus, Open, Close}
 use Rattle.cmm_top.specs.declared.term.Sign.{Sign}
@@ -49,14 +53,19 @@ abbrev mutual
   depth (Alone o) = operand_depth o
   depth (Joined e s o) = max (depth e) (operand_depth o)
 
--- a sum or a difference modulo 2 ^ 64
-abbrev pub with_sign : ℕ → Sign → ℕ → ℕ
-with_sign a sign.Plus b = (a + b) % 2 ^ 64
-with_sign a sign.Minus b = (a + (2 ^ 64 - b)) % 2 ^ 64
+-- the word operator of a sign
+abbrev pub operator_of : Sign → Op2
+operator_of sign.Plus = Add
+operator_of sign.Minus = Sub
 
+-- a word of 64 bits with another one added or taken away
+abbrev pub with_sign : ℕ → Sign → ℕ → ℕ
+with_sign a s b = unwrap_or (value2 (operator_of s) W64 a b) 0
+
+-- the value of an expression, as a word of 64 bits
 abbrev mutual
   pub operand_value : Operand → ℕ
-  operand_value (Literal n) = n
+  operand_value (Literal n) = low_bits W64 n
   operand_value (Bracketed e) = value e
 
   pub value : Expression → ℕ
