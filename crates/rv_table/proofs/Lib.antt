@@ -1,0 +1,5 @@
+pub mod Cutting
+pub mod Decodes
+pub mod Immediates
+pub mod Running
+pub mod Standing
