@@ -1,16 +1,7 @@
 -- A word's fields: cutting undoes packing, and packing undoes cutting.
-use Rattle.std.proofs.Common.{◌≡◌, ℕ, ◌+◌, ◌*◌, ◌/◌, ◌%◌, ◌<◌, ◌^◌, refl, ap, arith}
+use Rattle.std.proofs.Common.{◌≡◌, ℕ, ◌/◌, ◌%◌, ◌<◌, ◌^◌, arith}
 use Rattle.rv_table.specs.declared.word_fields.Fields.{Fields}
-use Rattle.rv_table.specs.Encoding.{fields, packed, cut}
-
--- each field has as many bits as it is wide
-pub record InRange (f : Fields) : Type 0 where
-  pub opcode : f.opcode < 128
-  pub rd : f.rd < 32
-  pub funct3 : f.funct3 < 8
-  pub rs1 : f.rs1 < 32
-  pub rs2 : f.rs2 < 32
-  pub funct7 : f.funct7 < 128
+use Rattle.rv_table.specs.Encoding.{InRange, packed, cut}
 
 pub packed-lt : (f : Fields) → InRange f → packed f < 2 ^ 32
 packed-lt f r = omega arith

@@ -1,16 +1,16 @@
 -- Decoding and encoding are inverse: `instr_of` is exactly the table read backwards.
-use Rattle.std.proofs.Common.{◌≡◌, ℕ, suc, ◌+◌, ◌-◌, ◌*◌, ◌/◌, ◌%◌, ◌<◌, ◌≤◌, ◌^◌, ℤ, pos, negsuc, refl, sym, ap, ◌∙◌, arith, lit<, eqb-true}
-use Rattle.std.specs.Prelude.{nat_lt, Bool, true, false, ◌&&◌, Option, Some, None, ◌↔◌, List, [], ◌∷◌, ◌==◌}
+use Rattle.std.proofs.Common.{◌≡◌, ℕ, ◌+◌, ◌*◌, ◌/◌, ◌%◌, ◌<◌, ◌^◌, ℤ, pos, negsuc, refl, sym, ap, ◌∙◌, arith, lit<, eqb-true, rules}
+use Rattle.std.specs.Prelude.{nat_lt, Bool, true, false, ◌&&◌, Option, Some, None, ◌↔◌, ◌≢◌, IsNone, List, [], ◌∷◌, ◌==◌}
 use Rattle.std.proofs.lemmas.Int.{ints}
 use Rattle.std.proofs.lemmas.Bool.Decides.{nat_tests}
 use Rattle.rv_table.specs.declared.word_fields.Fields.{Fields}
 use Rattle.rv_table.specs.declared.instruction.Instr.{Instr}
 use Rattle.rv_table.specs.declared.instruction.Instr.TheVariants.{Lui, Addi, Slli, Add, Sub, Addiw, Ecall}
-use Rattle.rv_table.specs.Decoding.{by_opcode, by_funct3, by_funct7, by_top, by_word, opcodes, immediate_operations, left_shifts, register_operations, base_operations, alternate_operations, immediate_word_operations, environment_calls, instr_of, Entry, chosen, r_type, i_type, u_type, shift, plain, i_immediate, upper_bits}
-use Rattle.rv_table.specs.Encoding.{Encoding, RType, IType, Shift, WordShift, SType, BType, UType, JType, Fits, IsBetween, IsEven, fields, fields_of, packed, cut}
+use Rattle.rv_table.specs.Decoding.{by_opcode, by_funct3, by_funct7, by_word, opcodes, immediate_operations, left_shifts, register_operations, base_operations, alternate_operations, immediate_word_operations, environment_calls, instr_of, Entry, chosen, r_type, i_type, u_type, shift, plain, i_immediate, upper_bits}
+use Rattle.rv_table.specs.Encoding.{Encoding, RType, IType, Shift, WordShift, SType, BType, UType, JType, Fits, IsBetween, fields, fields_of, InRange, packed, cut}
 use Rattle.rv_table.specs.Table.{encoding_of, IsValid, word_of}
 use Rattle.rv_table.specs.Words.{modulo, signed}
-use Rattle.rv_table.proofs.Cutting.{InRange, cut-packed, packed-cut, in_range_cut, packed-lt}
+use Rattle.rv_table.proofs.Cutting.{cut-packed, packed-cut, in_range_cut, packed-lt}
 use Rattle.rv_table.proofs.Immediates.{modulo-lt, signed-modulo, modulo-signed, signed_between, modulo-pos}
 
 -- the numbers that name an instruction fit their fields
@@ -317,4 +317,20 @@ pub instr_of-is : (word : ℕ) (i : Instr) → word < 2 ^ 32 → (instr_of word 
 instr_of-is word i h = (
   (λ found. let r = all_read (cut word) (in_range_cut word h) i found in (r.valid, ap packed r.same ∙ packed-cut word)),
   (λ (valid, is). ap instr_of (sym is) ∙ instr_of-word_of i valid),
+)
+
+is_none_unless_some : (o : Option Instr) → ((i : Instr) → o ≢ Some i) → IsNone o
+is_none_unless_some None never = search rules
+is_none_unless_some (Some i) never = absurd (never i refl)
+
+not_some_if_none : (o : Option Instr) (i : Instr) → IsNone o → o ≢ Some i
+not_some_if_none None i none is = absurd (cc)
+not_some_if_none (Some j) i none is = absurd (search rules)
+
+-- no instruction is read exactly where no valid one has the word
+pub instr_of-none : (word : ℕ) → word < 2 ^ 32 → (IsNone (instr_of word)) ↔ ((i : Instr) → IsValid i → word_of i ≢ word)
+instr_of-none word h = (
+  (λ none i valid is. not_some_if_none (instr_of word) i none ((instr_of-is word i h).1 (valid, is))),
+  (λ never. is_none_unless_some (instr_of word) (λ i found.
+      let p = (instr_of-is word i h).0 found in never i p.0 p.1)),
 )

@@ -1,11 +1,10 @@
 -- An immediate of each format, as its field's number and back.
-use Rattle.std.proofs.Common.{◌≡◌, ℕ, suc, ◌+◌, ◌-◌, ◌*◌, ◌/◌, ◌%◌, ◌<◌, ◌≤◌, ◌^◌, ℤ, pos, negsuc, refl, sym, ap, ◌∙◌, arith}
+use Rattle.std.proofs.Common.{◌≡◌, ℕ, suc, ◌+◌, ◌-◌, ◌%◌, ◌<◌, ◌^◌, ℤ, pos, negsuc, arith}
 use Rattle.std.proofs.Math.Nat.{mod-eq_of_lt, mod-lt}
 use Rattle.std.proofs.Math.Pow.{pow_pos}
 use Rattle.std.proofs.lemmas.Int.{ints}
 use Rattle.std.proofs.lemmas.Bool.Decides.{nat_tests}
-use Rattle.std.specs.Prelude.{nat_lt, Bool, true, false}
-use Rattle.rv_table.specs.Encoding.{IsBetween, IsEven}
+use Rattle.rv_table.specs.Encoding.{IsBetween}
 use Rattle.rv_table.specs.Words.{modulo, signed}
 
 pub modulo-lt : (w : ℕ) (z : ℤ) → modulo w z < 2 ^ w

@@ -1,5 +1,5 @@
 -- The instruction of a word: the table of `Table` read the other way, by opcode, funct3 and funct7.
-use Rattle.std.specs.Prelude.{ℕ, ◌+◌, ◌*◌, ◌/◌, ◌%◌, ℤ, pos, ◌==◌, Bool, true, false, List, [], ◌∷◌, Option, Some, None}
+use Rattle.std.specs.Prelude.{ℕ, ◌+◌, ◌*◌, ◌/◌, ◌%◌, ℤ, pos, ◌==◌, true, false, List, [], ◌∷◌, Option, Some, None}
 use Rattle.rv_table.specs.declared.instruction.Instr.{Instr}
 use Rattle.rv_table.specs.declared.instruction.Instr.TheVariants.{Lui, Addi, Slli, Add, Sub, Addiw, Ecall}
 use Rattle.rv_table.specs.declared.word_fields.Fields.{Fields}

@@ -63,6 +63,15 @@ fields_of (BType opcode funct3 rs1 rs2 imm) =
 fields_of (UType opcode rd imm) = with_upper opcode rd (modulo 20 imm)
 fields_of (JType opcode rd imm) = with_upper opcode rd (jump_order (modulo 21 imm))
 
+-- each field has as many bits as it is wide
+pub record InRange (f : Fields) : Type 0 where
+  pub opcode : f.opcode < 128
+  pub rd : f.rd < 32
+  pub funct3 : f.funct3 < 8
+  pub rs1 : f.rs1 < 32
+  pub rs2 : f.rs2 < 32
+  pub funct7 : f.funct7 < 128
+
 -- the word of these fields
 abbrev pub packed : Fields → ℕ
 packed f = f.opcode + f.rd * 128 + f.funct3 * 4096 + f.rs1 * 32768 + f.rs2 * 1048576 + f.funct7 * 33554432

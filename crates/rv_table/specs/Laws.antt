@@ -1,11 +1,14 @@
 -- What holds of the table and the machine, at every instruction, code and state.
-use Rattle.std.specs.Prelude.{◌≡◌, ℕ, ◌+◌, ◌*◌, ◌<◌, ◌^◌, ◌↔◌, List, ◌++◌, length, Option, Some}
+use Rattle.std.specs.Prelude.{◌≡◌, ◌≢◌, ℕ, ◌+◌, ◌*◌, ◌<◌, ◌^◌, ◌↔◌, List, ◌++◌, length, Some}
 use Rattle.std.specs.List.{All}
 use Rattle.std.specs.Option.{option_and_then}
+use Rattle.rv_table.specs.declared.effects.Effect.TheVariants.{Set}
 use Rattle.rv_table.specs.declared.instruction.Instr.{Instr}
 use Rattle.rv_table.specs.Decoding.{instr_of}
-use Rattle.rv_table.specs.Machine.{MemoryMap, State, code_base, steps}
-use Rattle.rv_table.specs.Stands.{Stands, code_of}
+use Rattle.rv_table.specs.Machine.{MemoryMap, State, Next, code_base, with_set, instruction_step, steps}
+use Rattle.rv_table.specs.Registers.{with_register}
+use Rattle.rv_table.specs.Row.{row}
+use Rattle.rv_table.specs.Stands.{standing, Stands, code_of}
 use Rattle.rv_table.specs.Straight.{straight}
 use Rattle.rv_table.specs.Table.{IsValid, word_of}
 
@@ -34,3 +37,15 @@ abbrev pub StraightPiecesRun : Type 0
 StraightPiecesRun =
     (m : MemoryMap) (is : List Instr) (s t : State) → Stands m.code s.pc is → straight s is ≡ Some t →
     steps m (length is) s ≡ Some t
+
+-- a written register reads as its value and every other one as before, and register 0 is never written
+pub record RegistersAreKept : Type 0 where
+  pub same : (x : ℕ → ℕ) (rd value : ℕ) → rd ≢ 0 → with_register x rd value rd ≡ value
+  pub other : (x : ℕ → ℕ) (rd value k : ℕ) → k ≢ rd → with_register x rd value k ≡ x k
+  pub zero : (x : ℕ → ℕ) (value : ℕ) → with_register x 0 value ≡ x
+
+-- where an instruction stands at pc whose row sets a register, the step writes it, and moves pc on by 4
+abbrev pub SetsAreDone : Type 0
+SetsAreDone =
+    (m : MemoryMap) (s : State) (i : Instr) (rd value : ℕ) → standing m.code s.pc ≡ Some i →
+    row s.registers s.pc i ≡ Set rd value → instruction_step m s ≡ Next (with_set s rd value)

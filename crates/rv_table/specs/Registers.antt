@@ -1,5 +1,5 @@
 -- The registers as a function from a register's number to its value. Register 0 is 0.
-use Rattle.std.specs.Prelude.{ℕ, ◌==◌, Bool, true, false, slice_index}
+use Rattle.std.specs.Prelude.{ℕ, ◌==◌, true, false, slice_index}
 use Rattle.rv_table.specs.declared.registers.Regs.{Regs}
 
 -- what the registers read as

@@ -1,6 +1,6 @@
 -- What each instruction asks for, one line a row: RISC-V ISA Volume I, "RV32I Base Integer Instruction Set", "RV64I Base Integer
 -- Instruction Set" and "M Extension for Integer Multiplication and Division".
-use Rattle.std.specs.Prelude.{ℕ, ◌+◌}
+use Rattle.std.specs.Prelude.{ℕ}
 use Rattle.rv_table.specs.declared.effects.Effect.{Effect}
 use Rattle.rv_table.specs.declared.effects.Effect.TheVariants.{Set, Ask}
 use Rattle.rv_table.specs.declared.instruction.Instr.{Instr}

@@ -2,7 +2,7 @@
 use Rattle.std.specs.Prelude.{ℕ, pos}
 use Rattle.rv_table.specs.declared.instruction.Instr.{Instr}
 use Rattle.rv_table.specs.declared.instruction.Instr.TheVariants.{Lui, Addi, Slli, Add, Sub, Addiw, Ecall}
-use Rattle.rv_table.specs.Encoding.{Encoding, RType, IType, Shift, WordShift, SType, BType, UType, JType, Fits, fields_of, packed}
+use Rattle.rv_table.specs.Encoding.{Encoding, RType, IType, Shift, UType, Fits, fields_of, packed}
 
 abbrev pub encoding_of : Instr → Encoding
 encoding_of (Lui rd imm) = UType 0b0110111 rd imm
