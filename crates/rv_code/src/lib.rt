@@ -1,0 +1,16 @@
+//! Instructions as words, both ways.
+//!
+//! `encode` gives the word of a valid instruction. `decode` gives the instruction of a word, and none where no row of the table
+//! has the word: FENCE and every reserved encoding among them. So `decode` undoes `encode`, and gives nothing else.
+//!
+//! - `encoding`: from an instruction to its fields and its word.
+//! - `decoding`: from a word to its fields and its instruction.
+//! - `laws`: what follows of the two together.
+#![tactic(auto)]
+
+mod decoding;
+mod encoding;
+pub mod laws;
+
+pub use decoding::decode;
+pub use encoding::encode;

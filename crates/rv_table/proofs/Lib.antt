@@ -1,0 +1,6 @@
+pub mod Cutting
+pub mod Decodes
+pub mod Immediates
+pub mod RegisterFacts
+pub mod Running
+pub mod Standing

@@ -1,0 +1,11 @@
+use Rattle.rv_table.proofs.Running.{instruction_step-set, steps-add, straight_runs}
+use Rattle.rv_table.proofs.laws.runs.Goals as goal
+
+pub returns-clause-set : goal.returns-clause-set
+returns-clause-set c = instruction_step-set
+
+pub returns-clause-join : goal.returns-clause-join
+returns-clause-join c = steps-add
+
+pub returns-clause-straight : goal.returns-clause-straight
+returns-clause-straight c = straight_runs

@@ -1,0 +1,10 @@
+pub mod Encoding
+pub mod Decoding
+pub mod Laws
+pub mod Machine
+pub mod Registers
+pub mod Row
+pub mod Stands
+pub mod Straight
+pub mod Table
+pub mod Words

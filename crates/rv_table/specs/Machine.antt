@@ -1,0 +1,188 @@
+-- A machine that runs instructions: registers, pc and memory by regions, and what one instruction does to them.
+use Rattle.std.specs.Prelude.{ℕ, zero, suc, ◌+◌, ◌-◌, ◌*◌, ◌/◌, ◌%◌, ◌^◌, ◌==◌, nat_lt, nat_le, Bool, true, false, ◌&&◌, ◌||◌, List, length, take, drop, Option, Some, None}
+use Rattle.std.specs.Int.{w32, from_le_bytes}
+use Rattle.rv_table.specs.declared.effects.Effect.{Effect}
+use Rattle.rv_table.specs.declared.effects.Effect.TheVariants.{Set, Jump, Branch, Load, Store, Ask, Break}
+use Rattle.rv_table.specs.declared.instruction.Instr.{Instr}
+use Rattle.rv_table.specs.Decoding.{instr_of}
+use Rattle.rv_table.specs.Registers.{with_register}
+use Rattle.rv_table.specs.Row.{row}
+use Rattle.rv_table.specs.Words.{sign_extended}
+
+-- what stays as it is in a run: the bytes of the code, and the lengths of the data and of the stack
+pub record MemoryMap : Type 0 where
+  pub code : List ℕ
+  pub data_length : ℕ
+  pub stack_size : ℕ
+
+pub record State : Type 0 where
+  pub registers : ℕ → ℕ
+  pub pc : ℕ
+  -- the byte at each address of data and region
+  pub memory : ℕ → ℕ
+
+abbrev pub code_base : ℕ
+code_base = 0x10000
+
+abbrev pub data_base : ℕ
+data_base = 0x40000000
+
+-- the argument area and the global registers, 4,096 bytes below the stack
+abbrev pub region_base : ℕ
+region_base = 0x60000000
+
+abbrev pub stack_base : ℕ
+stack_base = 0x60001000
+
+-- an address is aligned, and a word from there on lies in the code
+abbrev pub is_fetchable : List ℕ → ℕ → Bool
+is_fetchable code pc = (pc % 4 == 0) && (nat_le code_base pc && nat_le (pc + 4) (code_base + length code))
+
+-- the word that is fetched at an address
+abbrev pub fetched : List ℕ → ℕ → Option ℕ
+fetched code pc =
+    elim (is_fetchable code pc) [
+      | true ↦ Some (from_le_bytes w32 (take 4 (drop (pc - code_base) code)))
+      | false ↦ None
+    ]
+
+-- a load or a store of so many bytes is aligned, and lies wholly in the data or wholly in the region
+abbrev pub is_accessible : MemoryMap → ℕ → ℕ → Bool
+is_accessible m address size =
+    (address % size == 0)
+    && ((nat_le data_base address && nat_le (address + size) (data_base + m.data_length))
+    || (nat_le region_base address && nat_le (address + size) (stack_base + m.stack_size)))
+
+-- the number whose bytes stand from an address on, the lowest first
+abbrev pub loaded : (ℕ → ℕ) → ℕ → ℕ → ℕ
+loaded memory address zero = 0
+loaded memory address (suc size) = memory address + 256 * loaded memory (address + 1) size
+
+-- the memory once the low bytes of a number are written from an address on, the lowest first
+abbrev pub stored : (ℕ → ℕ) → ℕ → ℕ → ℕ → ℕ → ℕ
+stored memory address size value at =
+    elim (nat_le address at && nat_lt at (address + size))
+    [ true ↦ value / 2 ^ (8 * (at - address)) % 256 | false ↦ memory at ]
+
+-- what an ECALL asks for, by register 5
+pub data Request : Type 0 where
+  PutByte : ℕ → Request
+  GetByte : Request
+  Yield : Request
+  StackLimit : Request
+  End : ℕ → Request
+
+abbrev pub request_of : (ℕ → ℕ) → Option Request
+request_of x =
+    elim (x 5 == 1) [
+      | true ↦ Some (PutByte (x 10 % 256))
+      | false ↦
+          elim (x 5 == 2) [
+            | true ↦ Some GetByte
+            | false ↦
+                elim (x 5 == 3) [
+                  | true ↦ Some Yield
+                  | false ↦
+                      elim (x 5 == 4) [
+                        | true ↦ Some StackLimit
+                        | false ↦
+                            elim (x 5 == 5) [ true ↦ Some (End (x 10)) | false ↦ None ]
+                      ]
+                ]
+          ]
+    ]
+
+-- what comes of one instruction: the next state; a request, which is answered above, or a trap, which both leave the state as it was
+pub data Outcome : Type 0 where
+  Next : State → Outcome
+  Asks : Request → Outcome
+  Traps : ℕ → Outcome
+
+-- the kinds of trap
+abbrev pub no_instruction : ℕ
+no_instruction = 1
+
+abbrev pub bad_target : ℕ
+bad_target = 2
+
+abbrev pub bad_load : ℕ
+bad_load = 3
+
+abbrev pub bad_store : ℕ
+bad_store = 4
+
+abbrev pub breakpoint : ℕ
+breakpoint = 5
+
+abbrev pub no_request : ℕ
+no_request = 6
+
+-- the state once a register has its value and control goes on
+abbrev pub with_set : State → ℕ → ℕ → State
+with_set s rd value =
+    record { registers = with_register s.registers rd value; pc = s.pc + 4; memory = s.memory }
+
+-- the register gets the link, and control goes to the target if it is aligned
+abbrev pub goes_to : State → ℕ → ℕ → ℕ → Outcome
+goes_to s rd link target =
+    elim (target % 4 == 0) [
+      | true ↦ Next (record { registers = with_register s.registers rd link; pc = target; memory = s.memory })
+      | false ↦ Traps bad_target
+    ]
+
+-- what is read, sign-extended or zero-extended
+abbrev pub extended : Bool → ℕ → ℕ → ℕ
+extended signed size value = elim signed [ true ↦ sign_extended (8 * size) value | false ↦ value ]
+
+-- an effect is done, or it traps
+abbrev pub done : MemoryMap → State → Effect → Outcome
+done m s (Set rd value) = Next (with_set s rd value)
+done m s (Jump rd link target) = goes_to s rd link target
+done m s (Branch taken target) = elim taken [ true ↦ goes_to s 0 0 target | false ↦ Next (with_set s 0 0) ]
+done m s (Load rd address size signed) =
+    elim (is_accessible m address size) [
+      | true ↦ Next (with_set s rd (extended signed size (loaded s.memory address size)))
+      | false ↦ Traps bad_load
+    ]
+done m s (Store address size value) =
+    elim (is_accessible m address size) [
+      | true ↦ Next (record {
+        registers = s.registers;
+        pc = s.pc + 4;
+        memory = stored s.memory address size value;
+      })
+      | false ↦ Traps bad_store
+    ]
+done m s Ask = elim (request_of s.registers) [ Some r ↦ Asks r | None ↦ Traps no_request ]
+done m s Break = Traps breakpoint
+
+-- one instruction: its word is fetched, it is decoded, and its row's effect is done
+abbrev pub decoded_step : MemoryMap → State → Option Instr → Outcome
+decoded_step m s None = Traps no_instruction
+decoded_step m s (Some i) = done m s (row s.registers s.pc i)
+
+abbrev pub fetched_step : MemoryMap → State → Option ℕ → Outcome
+fetched_step m s None = Traps bad_target
+fetched_step m s (Some word) = decoded_step m s (instr_of word)
+
+abbrev pub instruction_step : MemoryMap → State → Outcome
+instruction_step m s = fetched_step m s (fetched m.code s.pc)
+
+-- goes on from the next state, if there is one
+abbrev pub and_then : Outcome → (State → Option State) → Option State
+and_then (Next s) go = go s
+and_then (Asks _) go = None
+and_then (Traps _) go = None
+
+-- the state after so many instructions, none of which asks or traps
+abbrev pub steps : MemoryMap → ℕ → State → Option State
+steps m zero s = Some s
+steps m (suc n) s = and_then (instruction_step m s) (steps m n)
+
+-- where a run begins: pc at the code, register 2 at the stack's top, register 4 at the region
+abbrev pub start : MemoryMap → (ℕ → ℕ) → State
+start m memory = record {
+  registers = with_register (with_register (λ _. 0) 2 (stack_base + m.stack_size)) 4 region_base;
+  pc = code_base;
+  memory = memory;
+}

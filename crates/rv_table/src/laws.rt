@@ -1,0 +1,25 @@
+//! What is proved of the table and the machine: laws about definitions, each the contract of a function that does nothing.
+ghost use Rattle.rv_table.specs.Laws.{DecodingIsExact, WordsFit, CodeStands, RegistersAreKept, SetsAreDone, StepsJoin, StraightPiecesRun};
+
+/// Decoding gives an instruction exactly for its word, and encoding gives words of 32 bits.
+pub fn words_and_instructions()
+    ensures exact { DecodingIsExact }
+    ensures fit { WordsFit }
+{}
+
+/// The code of a list of instructions has each of them at its place.
+pub fn code_stands()
+    ensures { CodeStands }
+{}
+
+/// Writing a register changes that one alone.
+pub fn registers_are_kept()
+    ensures { RegistersAreKept }
+{}
+
+/// An instruction that sets a register does so, runs join, and a straight piece is run as its rows say.
+pub fn runs()
+    ensures set { SetsAreDone }
+    ensures join { StepsJoin }
+    ensures straight { StraightPiecesRun }
+{}

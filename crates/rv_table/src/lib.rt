@@ -1,0 +1,23 @@
+//! The instructions of RV64IM: which there are, the word of each, and what each does.
+//!
+//! The definitions in `specs/` are the table: one line a row gives an instruction's encoding, and one its effect on registers
+//! and pc. `instruction_step` fetches the word at pc, decodes it and does the row's effect to registers, pc and memory, or stops
+//! with a trap. The code here answers a row's effect, and a caller does it.
+//!
+//! - `instruction`: `Instr`, one variant a row, and `valid`, the test that its operands fit their fields.
+//! - `word_fields`: the six fields that every word is cut into.
+//! - `registers`: the registers and pc, and a trap.
+//! - `effects`: what a row asks for, and `effect_of`.
+//! - `laws`: what is proved of the definitions.
+#![tactic(auto)]
+
+mod effects;
+mod instruction;
+pub mod laws;
+mod registers;
+mod word_fields;
+
+pub use effects::{Effect, effect_of};
+pub use instruction::{Instr, valid};
+pub use registers::{Regs, Trap};
+pub use word_fields::Fields;

@@ -1,0 +1,38 @@
+//! The registers, pc, and the trap that stops a run.
+ghost use Rattle.std.specs.Prelude.{◌≡◌, ◌<◌};
+
+/// The 32 registers and the program counter.
+#[derive(Clone, Copy, Debug, PartialEq, Eq)]
+pub struct Regs {
+    /// The registers' values by number. Register 0 reads as 0 whatever stands here.
+    pub x: [u64; 32],
+    /// The address of the instruction that comes next.
+    pub pc: u64,
+}
+
+impl Regs {
+    ghost use Rattle.rv_table.specs.Registers.{registers_of};
+
+    /// What register `register` reads as: 0 for register 0.
+    pub fn read(&self, register: u8) -> u64
+        requires { register < 32 }
+        ensures { result ≡ registers_of self.now register }
+    {
+        if register == 0 {
+            0
+        } else {
+            self.x[register as usize]
+        }
+    }
+}
+
+/// Why a run stopped at an instruction, and that instruction's address.
+#[derive(Clone, Copy, Debug, PartialEq, Eq)]
+pub struct Trap {
+    /// 1: a word that is no instruction. 2: a jump or taken branch to an address that is no multiple of 4, or a fetch outside the
+    /// code. 3 and 4: a load and a store outside data and region, or not aligned to its size. 5: EBREAK. 6: an ECALL whose number
+    /// means nothing.
+    pub kind: u8,
+    /// The address of the instruction that trapped.
+    pub pc: u64,
+}
