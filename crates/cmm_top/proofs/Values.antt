@@ -7,13 +7,9 @@ use Rattle.cmm_top.specs.declared.term.Sign.{Sign}
 use Rattle.cmm_top.specs.declared.term.Sign.TheVariants.{Plus, Minus}
 use Rattle.cmm_top.specs.declared.term.Term.{Term}
 use Rattle.cmm_top.specs.Sign.{combined}
+use Rattle.cmm_top.specs.Code.{total}
 use Rattle.cmm_top.specs.Expression.{Operand, Expression, Literal, Bracketed, Alone, Joined, with_sign, operand_value, value, operand_signs, signs}
 use Rattle.cmm_top.proofs.Spelling.{operand_terms, terms}
-
--- the terms added to a word, from the first one on
-abbrev pub total : ℕ → List Term → ℕ
-total a [] = a
-total a (t ∷ ts) = total (with_sign a t.sign t.number) ts
 
 pub with_sign-Plus : (a b : ℕ) → with_sign a Plus b ≡ (a + b) % 2 ^ 64
 with_sign-Plus a b = refl
@@ -38,7 +34,7 @@ with_sign-combined a b c Plus Minus = omega (arith, with_sign-Minus b c, with_si
 with_sign-combined a b c Minus Plus = omega (arith, with_sign-Minus a (with_sign b Plus c), with_sign-Minus a b, with_sign-Minus (with_sign a Minus b) c)
 with_sign-combined a b c Minus Minus = omega (arith, with_sign-Minus b c, with_sign-Minus a (with_sign b Minus c), with_sign-Minus a b)
 
-total-append : (a : ℕ) (ts us : List Term) → total a (ts ++ us) ≡ total (total a ts) us
+pub total-append : (a : ℕ) (ts us : List Term) → total a (ts ++ us) ≡ total (total a ts) us
 total-append a [] us = refl
 total-append a (t ∷ ts) us = total-append (with_sign a t.sign t.number) ts us
 

@@ -1,7 +1,9 @@
 //! The top call.
 #![tactic(auto)]
 
+mod code;
+mod first;
 mod term;
 mod token;
 
-pub use token::tokens_in;
+pub use first::{FirstFault, compile_first};

@@ -1,0 +1,110 @@
+//! `compile_first`: from the bytes of a unit of the first form to its code.
+
+ghost use Rattle.std.specs.Prelude.{◌≡◌, ◌≢◌, ◌*◌, ◌≤◌, List, length, IfOk, IsErrOf, IfSome, IfNone};
+ghost use Rattle.std.specs.List.{All};
+ghost use Rattle.rv_table.specs.Stands.{code_of as words_of};
+ghost use Rattle.rv_table.specs.Table.{IsValid};
+ghost use Rattle.cmm_top.specs.declared.token.Token.{Token};
+ghost use Rattle.cmm_top.specs.Expression.{Expression, tokens, value};
+ghost use Rattle.cmm_top.specs.Form.{Derives, main_tokens, unit_tokens};
+ghost use Rattle.cmm_top.specs.Run.{EndsWithin};
+
+use std::alloc::{AllocError, Global};
+
+use rv_code::encode;
+use rv_table::Instr;
+use thiserror::Error;
+
+use crate::code::code_of;
+use crate::term::terms_in;
+use crate::token::{Token, tokens_in};
+
+/// The longest unit, in bytes.
+pub const UNIT_LIMIT: u64 = 1_048_576;
+
+/// The most signs of an expression.
+pub const SIGN_LIMIT: usize = 500;
+
+/// The most brackets of all sorts that may be open at once, the brace of the body and the bracket after `return` among them.
+pub const BRACKET_LIMIT: usize = 200;
+
+/// The tokens before the expression of a unit.
+const HEAD: [Token; 9] = [
+    Token::Export,
+    Token::Main,
+    Token::Semicolon,
+    Token::Main,
+    Token::Open,
+    Token::Close,
+    Token::OpenBrace,
+    Token::Return,
+    Token::Open,
+];
+
+/// The tokens after it.
+const TAIL: [Token; 3] = [Token::Close, Token::Semicolon, Token::CloseBrace];
+
+/// Why a unit has no code.
+#[derive(Debug, Drop, Error)]
+pub enum FirstFault {
+    /// It is not of the first form.
+    #[error("form not built")]
+    NotBuilt,
+    #[error("out of memory")]
+    Memory,
+}
+
+/// The code of a unit of the first form. Run from its start, it asks to end with the value of the unit's expression, within 64
+/// instructions for each token of `main`, and it loads and stores nothing.
+pub fn compile_first(alloc: Global, unit: &[u8]) -> Result<Vec<u8>, FirstFault>
+    ensures ok { IfOk result (λ code. (e : Expression) → Derives unit.now e → EndsWithin code.items (64 * length (main_tokens (tokens e))) (value e)) }
+    ensures form { IfOk result (λ code. (e : Expression) × Derives unit.now e) }
+    ensures not_built { IsErrOf result FirstFault.NotBuilt → (e : Expression) → Derives unit.now e → ⊥ }
+{
+    if unit.len() as u64 > UNIT_LIMIT {
+        return Err(FirstFault::NotBuilt);
+    }
+    let tokens = tokens_in(alloc, unit)?;
+    let Some(expression) = expression_in(&tokens) else {
+        return Err(FirstFault::NotBuilt);
+    };
+    let Some(terms) = terms_in(alloc, expression)? else {
+        return Err(FirstFault::NotBuilt);
+    };
+    if terms.len() > SIGN_LIMIT + 1 {
+        return Err(FirstFault::NotBuilt);
+    }
+    let code = code_of(alloc, &terms)?;
+    Ok(bytes_of(alloc, &code)?)
+}
+
+/// The tokens of the expression that a unit returns; none where other tokens stand round it than the form has.
+fn expression_in(unit: &[Token]) -> Option<&[Token]>
+    ensures some { IfSome result (λ expression. unit.now ≡ unit_tokens expression.now) }
+    ensures none { IfNone result ((expression : List Token) → unit.now ≢ unit_tokens expression) }
+{
+    unit.strip_prefix(HEAD.as_slice())?.strip_suffix(TAIL.as_slice())
+}
+
+/// The bytes of the instructions, one after another, the low byte of each word first.
+fn bytes_of(alloc: Global, code: &[Instr]) -> Result<Vec<u8>, AllocError>
+    requires { All IsValid code.now }
+    ensures { IfOk result (λ bytes. bytes.items ≡ words_of code.now) }
+{
+    let mut bytes = Vec::new(alloc);
+    for instruction in code {
+        bytes.extend_from_slice(&encode(*instruction).to_le_bytes())?;
+    }
+    Ok(bytes)
+}
+
+impl From<AllocError> for FirstFault {
+    ghost use Rattle.std.specs.Prelude.{◌≡◌};
+    ghost use Rattle.cmm_top.specs.declared.first.FirstFault.TheVariants.{Memory};
+
+    ghost from_gives = { λ _ fault. fault ≡ Memory };
+
+    fn from(_error: AllocError) -> FirstFault {
+        FirstFault::Memory
+    }
+}
