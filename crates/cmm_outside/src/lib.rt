@@ -12,12 +12,16 @@
 
 mod failing_calls;
 pub mod input;
+pub mod memory_files;
 pub mod memory_sink;
 pub mod memory_source;
+mod named_call;
 pub mod output;
+mod place;
 pub mod storage;
 
 pub use input::Source;
+pub use memory_files::MemFiles;
 pub use memory_sink::MemSink;
 pub use memory_source::{MemSource, SureSource};
 pub use output::{Sink, write_all};
