@@ -11,6 +11,7 @@
 #![tactic(auto)]
 
 mod failing_calls;
+mod fault_count;
 pub mod input;
 pub mod memory_files;
 pub mod memory_sink;
@@ -18,6 +19,7 @@ pub mod memory_source;
 mod named_call;
 pub mod output;
 mod place;
+pub mod standard;
 pub mod storage;
 
 pub use input::Source;
@@ -25,6 +27,7 @@ pub use memory_files::MemFiles;
 pub use memory_sink::MemSink;
 pub use memory_source::{MemSource, SureSource};
 pub use output::{Sink, write_all};
+pub use standard::{StdFiles, StdSink, StdSource};
 pub use storage::{CallKind, FileError, Files, read_file};
 
 /// A call on something outside has failed. What failed is the object's to know.
