@@ -21,6 +21,8 @@ pub mod output;
 mod place;
 pub mod standard;
 pub mod storage;
+#[cfg(test)]
+mod tests;
 
 pub use input::Source;
 pub use memory_files::MemFiles;
