@@ -1,10 +1,6 @@
 -- Calls that are counted, of which some are to fail.
-use Rattle.std.specs.Prelude.{ℕ, ◌+◌, min, List, Bool, Contains, if◌then◌else◌}
-use Rattle.cmm_outside.specs.Faults.{last_count}
-
--- a count that is kept in 64 bits, after one more
-abbrev pub next_count : ℕ → ℕ
-next_count n = min (n + 1) last_count
+use Rattle.std.specs.Prelude.{ℕ, List, Bool, Contains, if◌then◌else◌}
+use Rattle.cmm_outside.specs.Faults.{next_count}
 
 -- how many calls were made and how many of them failed, and the numbers, from 0, of those that are to fail
 pub record Calls : Type 0 where

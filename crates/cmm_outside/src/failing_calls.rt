@@ -4,6 +4,7 @@ ghost use Rattle.std.specs.Prelude.{◌≡◌, ◌↔◌, ◌⊎◌, false, is_e
 ghost use Rattle.cmm_outside.specs.Faults.{Rose};
 
 use crate::Failed;
+use crate::fault_count::FaultCount;
 use std::marker::Model;
 
 /// Calls that are counted from 0, of which the listed ones fail. Both counts stay at `u64::MAX`.
@@ -11,7 +12,7 @@ use std::marker::Model;
 pub struct FailingCalls {
     made: u64,
     failing: Vec<u64>,
-    faults: u64,
+    faults: FaultCount,
 }
 
 impl Model for FailingCalls {
@@ -32,7 +33,7 @@ impl FailingCalls {
         FailingCalls {
             made: 0,
             failing,
-            faults: 0,
+            faults: FaultCount::new(),
         }
     }
 
@@ -45,8 +46,7 @@ impl FailingCalls {
         let listed = self.failing.contains(&self.made);
         self.made = self.made.saturating_add(1);
         if listed || !possible {
-            self.faults = self.faults.saturating_add(1);
-            return Err(Failed);
+            return Err(self.faults.rise());
         }
         Ok(())
     }

@@ -11,16 +11,25 @@
 #![tactic(auto)]
 
 mod failing_calls;
+mod fault_count;
 pub mod input;
+pub mod memory_files;
 pub mod memory_sink;
 pub mod memory_source;
+mod named_call;
 pub mod output;
+mod place;
+pub mod standard;
 pub mod storage;
+#[cfg(test)]
+mod tests;
 
 pub use input::Source;
+pub use memory_files::MemFiles;
 pub use memory_sink::MemSink;
 pub use memory_source::{MemSource, SureSource};
 pub use output::{Sink, write_all};
+pub use standard::{StdFiles, StdSink, StdSource};
 pub use storage::{CallKind, FileError, Files, read_file};
 
 /// A call on something outside has failed. What failed is the object's to know.

@@ -1,0 +1,168 @@
+//! Standard input, a standard output and the file system. None tells what it holds: no clause can say
+//! what lies outside the process.
+
+ghost use Rattle.std.specs.Prelude.{◌≡◌, ◌≤◌, None, Some, length, IfOk};
+ghost use Rattle.cmm_outside.specs.Faults.{Rose};
+
+use crate::fault_count::FaultCount;
+use crate::named_call::NamedCall;
+use crate::storage::NAME_LIMIT;
+use crate::{CallKind, Failed, Files, Sink, Source};
+use std::fs::{self, OpenOptions};
+use std::io::{self, Read, Seek, SeekFrom, Write};
+
+/// A source over a reader, as standard input. Each call is one read, and takes no more than it answers.
+#[derive(Drop)]
+pub struct StdSource<R> {
+    reader: R,
+    faults: FaultCount,
+}
+
+impl<R: Read> StdSource<R> {
+    /// A source that has not failed.
+    pub fn new(reader: R) -> Self
+        ensures { ⟦<StdSource<R> as Source>⟧.faults result ≡ 0 }
+    {
+        StdSource {
+            reader,
+            faults: FaultCount::new(),
+        }
+    }
+}
+
+impl<R: Read> Source for StdSource<R> {
+    ghost left = { λ _. None };
+
+    ghost faults = { λ s. s.faults };
+
+    fn read(&mut self, buffer: &mut [u8]) -> Result<usize, Failed> {
+        if buffer.is_empty() {
+            return Ok(0);
+        }
+        match self.reader.read(buffer) {
+            Ok(count) => Ok(count),
+            Err(_) => Err(self.faults.rise()),
+        }
+    }
+}
+
+/// A sink over a writer, as standard output or standard error. Each call is one write, and keeps nothing
+/// back.
+#[derive(Drop)]
+pub struct StdSink<W> {
+    writer: W,
+    faults: FaultCount,
+}
+
+impl<W: Write> StdSink<W> {
+    /// A sink that has not failed.
+    pub fn new(writer: W) -> Self
+        ensures { ⟦<StdSink<W> as Sink>⟧.faults result ≡ 0 }
+    {
+        StdSink {
+            writer,
+            faults: FaultCount::new(),
+        }
+    }
+}
+
+impl<W: Write> Sink for StdSink<W> {
+    ghost taken = { λ _. None };
+
+    ghost faults = { λ s. s.faults };
+
+    fn write(&mut self, bytes: &[u8]) -> Result<usize, Failed> {
+        if bytes.is_empty() {
+            return Ok(0);
+        }
+        match self.writer.write(bytes) {
+            Ok(count) if count > 0 => Ok(count),
+            _ => Err(self.faults.rise()),
+        }
+    }
+}
+
+/// The files of a file system. Each call opens its file anew.
+#[derive(Drop)]
+pub struct StdFiles<R> {
+    system: R,
+    faults: FaultCount,
+    last_failed: Option<NamedCall>,
+}
+
+impl<R: fs::Files> StdFiles<R> {
+    /// Files of which no call has failed.
+    pub fn new(system: R) -> Self
+        ensures no_fault { ⟦<StdFiles<R> as Files>⟧.faults result ≡ 0 }
+        ensures no_failed_call { ⟦<StdFiles<R> as Files>⟧.last_failed result ≡ None }
+    {
+        StdFiles {
+            system,
+            faults: FaultCount::new(),
+            last_failed: None,
+        }
+    }
+
+    fn try_read_at(&self, name: &str, from: u64, buffer: &mut [u8]) -> io::Result<usize>
+        ensures { IfOk result (λ n. n ≤ length buffer.old) }
+    {
+        let mut file = fs::open(&self.system, name)?;
+        file.seek(SeekFrom::Start(from))?;
+        file.read(buffer)
+    }
+
+    fn try_append(&self, name: &str, bytes: &[u8]) -> io::Result<usize>
+        ensures { IfOk result (λ n. n ≤ length bytes.now) }
+    {
+        OpenOptions::new()
+            .append(true)
+            .create(true)
+            .open(&self.system, name)?
+            .write(bytes)
+    }
+
+    /// Counts and keeps a call that has failed, and gives its answer.
+    fn fail(&mut self, kind: CallKind, name: &str) -> Failed
+        requires { length name.now ≤ NAME_LIMIT }
+        ensures fault { Rose (⟦<StdFiles<R> as Files>⟧.faults self.old) (⟦<StdFiles<R> as Files>⟧.faults self.new) }
+        ensures failed_call { ⟦<StdFiles<R> as Files>⟧.last_failed self.new ≡ Some (record { kind = kind; name = name.now }) }
+    {
+        self.last_failed = Some(NamedCall::new(kind, name));
+        self.faults.rise()
+    }
+}
+
+impl<R: fs::Files> Files for StdFiles<R> {
+    ghost contents = { λ _. None };
+
+    ghost faults = { λ f. f.faults };
+
+    ghost last_failed = { λ f. f.last_failed };
+
+    fn read_at(&mut self, name: &str, from: u64, buffer: &mut [u8]) -> Result<usize, Failed> {
+        if buffer.is_empty() {
+            return Ok(0);
+        }
+        match self.try_read_at(name, from, buffer) {
+            Ok(count) => Ok(count),
+            Err(_) => Err(self.fail(CallKind::Read, name)),
+        }
+    }
+
+    fn create(&mut self, name: &str) -> Result<(), Failed> {
+        match fs::create(&self.system, name) {
+            Ok(_) => Ok(()),
+            Err(_) => Err(self.fail(CallKind::Create, name)),
+        }
+    }
+
+    fn append(&mut self, name: &str, bytes: &[u8]) -> Result<usize, Failed> {
+        if bytes.is_empty() {
+            return Ok(0);
+        }
+        match self.try_append(name, bytes) {
+            Ok(count) if count > 0 => Ok(count),
+            _ => Err(self.fail(CallKind::Append, name)),
+        }
+    }
+}
