@@ -1,6 +1,6 @@
 -- A rotation as two shifts.
-use Rattle.std.proofs.Common.{◌≡◌, ℕ, ◌+◌, ◌-◌, ◌*◌, ◌/◌, ◌%◌, ◌^◌, ◌<◌, ◌≤◌, bit_or, arith, sym, ap, ◌∙◌, add-zero, subst, add_comm}
-use Rattle.std.proofs.lemmas.Nat.{mod-pow-add, shl-shr, shr-shr, shr_below, or_shifted, mod-mul-add, pow_pos}
+use Rattle.std.proofs.Common.{◌≡◌, ℕ, ◌+◌, ◌-◌, ◌*◌, ◌/◌, ◌%◌, ◌^◌, ◌<◌, ◌≤◌, bit_or, arith, sym, ap, ◌∙◌, add-zero, subst, lt_of_le_of_lt, add_comm}
+use Rattle.std.proofs.lemmas.Nat.{mod-pow-add, shl-shr, shr-shr, shr_below, or_shifted, mod-mul-add, pow_pos, mod_below, shr_le, or_lt}
 use Rattle.cmm_words.specs.Words.{folded}
 
 -- the low d + c bits of a * 2 ^ c
@@ -24,3 +24,10 @@ or-shifts k c a within h =
     let whole : k - c + c ≡ k = omega arith in
     let P : ℕ → Type 0 = λ j. bit_or (a * 2 ^ c % 2 ^ j) (a / 2 ^ (k - c)) ≡ folded j (a * 2 ^ c) in
     subst P whole (or-shifts_at (k - c) c a (subst (λ (j : ℕ). a < 2 ^ j) (sym whole) h))
+
+-- what a rotation gives is a word
+pub folded-below : (k c a : ℕ) → c ≤ k → a < 2 ^ k → folded k (a * 2 ^ c) < 2 ^ k
+folded-below k c a within h =
+    let left : a * 2 ^ c % 2 ^ k < 2 ^ k = mod_below (a * 2 ^ c) (2 ^ k) (pow_pos k) in
+    let right : a / 2 ^ (k - c) < 2 ^ k = lt_of_le_of_lt (shr_le a (k - c)) h in
+    subst (λ (n : ℕ). n < 2 ^ k) (or-shifts k c a within h) (or_lt k (a * 2 ^ c % 2 ^ k) (a / 2 ^ (k - c)) left right)

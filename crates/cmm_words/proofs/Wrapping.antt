@@ -4,6 +4,10 @@ use Rattle.std.proofs.lemmas.Nat.{mod-pow-add, mod_below, pow_pos, mod_low}
 use Rattle.std.proofs.Math.Pow.{mod-mod-pow, ones_split}
 use Rattle.cmm_words.specs.Integers.{wrapped}
 
+pub wrapped-below : (k : ℕ) (z : ℤ) → wrapped k z < 2 ^ k
+wrapped-below k (pos n) = mod_below n (2 ^ k) (pow_pos k)
+wrapped-below k (negsuc n) = omega (arith, pow_pos k)
+
 -- what is left of all ones of d + k bits, cut to k bits
 ones-sub-mod : (d k n : ℕ) → (2 ^ (d + k) - 1 - n % 2 ^ (d + k)) % 2 ^ k ≡ 2 ^ k - 1 - n % 2 ^ k
 ones-sub-mod d k n =

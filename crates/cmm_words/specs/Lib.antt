@@ -1,3 +1,5 @@
 pub mod Widths
 pub mod Integers
 pub mod Words
+pub mod Constants
+pub mod Laws

@@ -1,7 +1,7 @@
 -- The word operators: what each one gives, as a formula over whole numbers and integers, modulo 2 to the width
 -- (C-- Language Specification 2.0, the table of primitive operators).
 -- A word of k bits is a whole number below 2 ^ k.
-use Rattle.std.specs.Prelude.{ℕ, ◌+◌, ◌-◌, ◌*◌, ◌/◌, ◌%◌, ◌^◌, min, Bool, not, pos, ◌-ℤ◌, neg_ℤ, Option, Some, None, ◌==◌, nat_lt, nat_le, int_lt, int_le, if◌then◌else◌, bit_and, bit_or, bit_xor}
+use Rattle.std.specs.Prelude.{ℕ, ◌+◌, ◌-◌, ◌*◌, ◌/◌, ◌%◌, ◌^◌, min, Bool, true, false, not, pos, ◌-ℤ◌, neg_ℤ, Option, Some, None, ◌==◌, nat_lt, nat_le, int_lt, int_le, if◌then◌else◌, bit_and, bit_or, bit_xor}
 use Rattle.cmm_words.specs.declared.width.Width.{Width}
 use Rattle.cmm_words.specs.declared.operators.Op1.{Op1}
 use Rattle.cmm_words.specs.declared.operators.Op1.TheVariants.{Com, Neg}
@@ -32,6 +32,16 @@ folded k n = n % 2 ^ k + n / 2 ^ k
 -- a division's value, and none where the divisor is 0
 abbrev pub divided : ℕ → ℕ → Option ℕ
 divided b value = if b == 0 then None else Some value
+
+-- the operators that have no value where the second operand is 0
+abbrev pub is_division : Op2 → Bool
+is_division Divu = true
+is_division Modu = true
+is_division Div = true
+is_division Mod = true
+is_division Quot = true
+is_division Rem = true
+is_division _ = false
 
 -- An operator with two operands. A shift by the width or more shifts every bit out, so its count stops there.
 abbrev pub value2 : Op2 → Width → ℕ → ℕ → Option ℕ

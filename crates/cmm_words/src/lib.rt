@@ -8,18 +8,26 @@
 //! - `conversion`: `low` and `extend`, from one width to another.
 //! - `apply`: `apply1` and `apply2`, the operators applied, over `shift` and `division`.
 //! - `comparison`: `compare`.
+//! - `laws`: what the layers above use of the operators, as contracts.
+//! - `name`: `Name`, which is bytes.
+//! - `constant`: `Constant`, a value that is known before the program runs.
 #![tactic(auto)]
 
 mod apply;
 mod comparison;
+mod constant;
 mod conversion;
 mod division;
+pub mod laws;
+mod name;
 mod operators;
 mod shift;
 mod width;
 
 pub use apply::{apply1, apply2};
 pub use comparison::compare;
+pub use constant::Constant;
 pub use conversion::{extend, low};
+pub use name::Name;
 pub use operators::{Cmp, Op1, Op2};
 pub use width::Width;

@@ -1,0 +1,11 @@
+use Rattle.cmm_words.proofs.WordLaws.{shl_by_any, shrl_by_any, shra_by_any}
+use Rattle.cmm_words.proofs.laws.shifts_by_any_count.Goals as goal
+
+pub returns-clause-left : goal.returns-clause-left
+returns-clause-left c = shl_by_any
+
+pub returns-clause-right : goal.returns-clause-right
+returns-clause-right c = shrl_by_any
+
+pub returns-clause-right_signed : goal.returns-clause-right_signed
+returns-clause-right_signed c = shra_by_any

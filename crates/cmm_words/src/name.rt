@@ -1,0 +1,46 @@
+//! Names, which are bytes.
+
+ghost use Rattle.std.specs.Prelude.{◌≡◌, ◌↔◌, IsTrue, IfOk, bytes_eq};
+
+use cmm_items::Items;
+use std::alloc::{AllocError, Global};
+use std::marker::Model;
+
+/// A name: bytes, of which contracts see the list.
+#[derive(Debug, Drop)]
+pub struct Name {
+    bytes: Items<u8>,
+}
+
+impl Model for Name {
+    ghost use Rattle.std.specs.Prelude.{List, ℕ};
+
+    ghost Value = { List ℕ };
+
+    ghost view = { λ name. name.bytes };
+
+    ghost inverse = { λ bytes. record { bytes = bytes } };
+}
+
+impl Name {
+    /// The name of these bytes. Takes no memory.
+    pub fn new(bytes: Items<u8>) -> Name
+        ensures { result ≡ bytes }
+    {
+        Name { bytes }
+    }
+
+    /// The name of the bytes of a slice.
+    pub fn from_slice(alloc: Global, bytes: &[u8]) -> Result<Name, AllocError>
+        ensures { IfOk result (λ name. name ≡ bytes.now) }
+    {
+        Ok(Name::new(Items::from_slice(alloc, bytes)?))
+    }
+
+    /// The name's bytes.
+    pub fn as_bytes(&self) -> &[u8]
+        ensures { result.now ≡ self.now }
+    {
+        self.bytes.as_slice()
+    }
+}
