@@ -6,3 +6,8 @@ pub mod Values
 pub mod Emitting
 pub mod Loading
 pub mod Adding
+pub mod Ending
+pub mod Compiling
+pub mod UnitCode
+pub mod Fetching
+pub mod Stepping

@@ -9,8 +9,8 @@ use Rattle.cmm_top.specs.declared.term.Term.{Term}
 use Rattle.cmm_top.specs.declared.term.TheConstants.{OPEN_LIMIT}
 use Rattle.cmm_top.specs.Sign.{combined}
 use Rattle.cmm_top.specs.Expression.{Operand, Expression, Literal, Bracketed, Alone, Joined, operand_tokens, tokens, sign_token, operand_depth, depth}
-use Rattle.cmm_top.specs.Reading.{innermost, scan}
-use Rattle.cmm_top.proofs.Spelling.{terms, before, scan-expression, append-closed, append-joined}
+use Rattle.cmm_top.specs.Reading.{innermost, scan, terms}
+use Rattle.cmm_top.proofs.Spelling.{before, scan-expression, append-closed, append-joined}
 
 -- reading goes well from here on
 abbrev Reads : List Token → Option Sign → List Sign → Type 0

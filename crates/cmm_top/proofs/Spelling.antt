@@ -9,17 +9,7 @@ use Rattle.cmm_top.specs.declared.term.Term.{Term}
 use Rattle.cmm_top.specs.declared.term.TheConstants.{OPEN_LIMIT}
 use Rattle.cmm_top.specs.Sign.{combined}
 use Rattle.cmm_top.specs.Expression.{Operand, Expression, Literal, Bracketed, Alone, Joined, operand_tokens, tokens, sign_token, operand_depth, depth}
-use Rattle.cmm_top.specs.Reading.{innermost, scan}
-
--- the terms of an expression under a sign
-abbrev mutual
-  pub operand_terms : Sign → Operand → List Term
-  operand_terms s (Literal n) = record { sign = s; number = n } ∷ []
-  operand_terms s (Bracketed e) = terms s e
-
-  pub terms : Sign → Expression → List Term
-  terms s (Alone o) = operand_terms s o
-  terms s (Joined e t o) = terms s e ++ operand_terms (combined s t) o
+use Rattle.cmm_top.specs.Reading.{innermost, scan, operand_terms, terms}
 
 -- these terms, and then what is found
 abbrev pub before : List Term → Option (List Term) → Option (List Term)

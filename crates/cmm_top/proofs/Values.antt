@@ -9,7 +9,7 @@ use Rattle.cmm_top.specs.declared.term.Term.{Term}
 use Rattle.cmm_top.specs.Sign.{combined}
 use Rattle.cmm_top.specs.Code.{total}
 use Rattle.cmm_top.specs.Expression.{Operand, Expression, Literal, Bracketed, Alone, Joined, with_sign, operand_value, value, operand_signs, signs}
-use Rattle.cmm_top.proofs.Spelling.{operand_terms, terms}
+use Rattle.cmm_top.specs.Reading.{operand_terms, terms}
 
 pub with_sign-Plus : (a b : ℕ) → with_sign a Plus b ≡ (a + b) % 2 ^ 64
 with_sign-Plus a b = refl

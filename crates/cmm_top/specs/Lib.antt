@@ -3,6 +3,9 @@ pub mod Tokens
 pub mod Sign
 pub mod Expression
 pub mod Reading
-pub mod Run
 pub mod Code
+pub mod Run
+pub mod Running
 pub mod Form
+pub mod Command
+pub mod Lines

@@ -8,7 +8,18 @@ use Rattle.cmm_top.specs.declared.term.Sign.TheVariants as sign
 use Rattle.cmm_top.specs.declared.term.Term.{Term}
 use Rattle.cmm_top.specs.declared.term.Reader.{Reader}
 use Rattle.cmm_top.specs.declared.term.TheConstants.{OPEN_LIMIT}
+use Rattle.cmm_top.specs.Expression.{Operand, Expression, Literal, Bracketed, Alone, Joined}
 use Rattle.cmm_top.specs.Sign.{combined}
+
+-- the terms of an expression under a sign
+abbrev mutual
+  pub operand_terms : Sign → Operand → List Term
+  operand_terms s (Literal n) = record { sign = s; number = n } ∷ []
+  operand_terms s (Bracketed e) = terms s e
+
+  pub terms : Sign → Expression → List Term
+  terms s (Alone o) = operand_terms s o
+  terms s (Joined e t o) = terms s e ++ operand_terms (combined s t) o
 
 -- the sign that holds inside the brackets that are open, the innermost first
 abbrev pub innermost : List Sign → Sign

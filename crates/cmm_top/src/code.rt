@@ -19,7 +19,7 @@ const ZERO: u8 = 0;
 const REQUEST: u8 = 5;
 
 /// The sum so far, and in the end the result.
-const SUM: u8 = 10;
+pub const SUM: u8 = 10;
 
 /// The number that is added next.
 const NUMBER: u8 = 11;

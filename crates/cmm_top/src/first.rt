@@ -1,22 +1,24 @@
 //! `compile_first`: from the bytes of a unit of the first form to its code.
 
-ghost use Rattle.std.specs.Prelude.{◌≡◌, ◌≢◌, ◌*◌, ◌≤◌, List, length, IfOk, IsErrOf, IfSome, IfNone};
+ghost use Rattle.std.specs.Prelude.{◌≡◌, ◌≢◌, ◌*◌, ◌≤◌, List, length, IfOk, OnOk, IsErrOf, IfSome, IfNone, OnSome};
 ghost use Rattle.std.specs.List.{All};
 ghost use Rattle.rv_table.specs.Stands.{code_of as words_of};
 ghost use Rattle.rv_table.specs.Table.{IsValid};
 ghost use Rattle.cmm_top.specs.declared.token.Token.{Token};
 ghost use Rattle.cmm_top.specs.Expression.{Expression, tokens, value};
 ghost use Rattle.cmm_top.specs.Form.{Derives, main_tokens, unit_tokens};
-ghost use Rattle.cmm_top.specs.Run.{EndsWithin};
+ghost use Rattle.cmm_top.specs.Reading.{terms};
+ghost use Rattle.cmm_top.specs.Run.{EndsWithin, IsStraight};
 
 use std::alloc::{AllocError, Global};
 
 use rv_code::encode;
 use rv_table::Instr;
+use rv_table::laws::{code_stands, runs};
 use thiserror::Error;
 
 use crate::code::code_of;
-use crate::term::terms_in;
+use crate::term::{Sign, Term, terms_in};
 use crate::token::{Token, tokens_in};
 
 /// The longest unit, in bytes.
@@ -55,27 +57,42 @@ pub enum FirstFault {
 }
 
 /// The code of a unit of the first form. Run from its start, it asks to end with the value of the unit's expression, within 64
-/// instructions for each token of `main`, and it loads and stores nothing.
+/// instructions for each token of `main`. It loads and stores nothing. A unit that is not of the form is `NotBuilt`.
 pub fn compile_first(alloc: Global, unit: &[u8]) -> Result<Vec<u8>, FirstFault>
     ensures ok { IfOk result (λ code. (e : Expression) → Derives unit.now e → EndsWithin code.items (64 * length (main_tokens (tokens e))) (value e)) }
-    ensures form { IfOk result (λ code. (e : Expression) × Derives unit.now e) }
+    ensures straight { IfOk result (λ code. (e : Expression) → Derives unit.now e → IsStraight code.items (64 * length (main_tokens (tokens e))) (value e)) }
+    ensures form { OnOk result ((e : Expression) × Derives unit.now e) }
     ensures not_built { IsErrOf result FirstFault.NotBuilt → (e : Expression) → Derives unit.now e → ⊥ }
 {
-    if unit.len() as u64 > UNIT_LIMIT {
+    let Some(terms) = terms_of_unit(alloc, unit)? else {
         return Err(FirstFault::NotBuilt);
+    };
+    let code = code_of(alloc, &terms)?;
+    code_stands();
+    runs();
+    Ok(bytes_of(alloc, &code)?)
+}
+
+/// The terms of the expression that a unit returns; none where the unit is not of the first form.
+fn terms_of_unit(alloc: Global, unit: &[u8]) -> Result<Option<Vec<Term>>, AllocError>
+    ensures terms { IfOk result (λ found. IfSome found (λ all. (e : Expression) → Derives unit.now e → all.items ≡ terms Sign.Plus e)) }
+    ensures form { IfOk result (λ found. OnSome found ((e : Expression) × Derives unit.now e)) }
+    ensures none { IfOk result (λ found. IfNone found ((e : Expression) → Derives unit.now e → ⊥)) }
+{
+    if unit.len() as u64 > UNIT_LIMIT {
+        return Ok(None);
     }
     let tokens = tokens_in(alloc, unit)?;
     let Some(expression) = expression_in(&tokens) else {
-        return Err(FirstFault::NotBuilt);
+        return Ok(None);
     };
     let Some(terms) = terms_in(alloc, expression)? else {
-        return Err(FirstFault::NotBuilt);
+        return Ok(None);
     };
     if terms.len() > SIGN_LIMIT + 1 {
-        return Err(FirstFault::NotBuilt);
+        return Ok(None);
     }
-    let code = code_of(alloc, &terms)?;
-    Ok(bytes_of(alloc, &code)?)
+    Ok(Some(terms))
 }
 
 /// The tokens of the expression that a unit returns; none where other tokens stand round it than the form has.

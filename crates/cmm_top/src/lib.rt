@@ -2,7 +2,9 @@
 #![tactic(auto)]
 
 mod code;
+mod command;
 mod first;
+mod run;
 mod term;
 mod token;
 

@@ -1,0 +1,18 @@
+use Rattle.std.proofs.Common.{◌∙◌, ap}
+use Rattle.rv_table.specs.Stands.{code_of}
+use Rattle.cmm_top.proofs.UnitCode.{unit_code_ends, unit_code_straight}
+use Rattle.cmm_top.proofs.first.compile_first.Goals as goal
+
+pub returns-clause-ok : goal.returns-clause-ok
+returns-clause-ok c e d =
+    let read = rw c.in-Some.is at c.in_ok-terms.ensures.terms in
+    unit_code_ends c.code_stands.ensures c.runs.ensures.straight c.in_ok-code.code.items c.in_ok-code.ensures.ends.0 c.in_ok-bytes_of.field-0.items c.deref.result.now e
+    (c.deref.ensures.value ∙ read e d) c.in_ok-code.ensures.few c.in_ok-code.ensures.ends.1 c.in_ok-code.ensures.ends.2
+    (c.in_ok-bytes_of.ensures ∙ ap code_of c.deref-2.ensures.value)
+
+pub returns-clause-straight : goal.returns-clause-straight
+returns-clause-straight c e d =
+    let read = rw c.in-Some.is at c.in_ok-terms.ensures.terms in
+    unit_code_straight c.in_ok-code.code.items c.in_ok-code.ensures.ends.0 c.in_ok-bytes_of.field-0.items c.deref.result.now e
+    (c.deref.ensures.value ∙ read e d) c.in_ok-code.ensures.few c.in_ok-code.ensures.ends.1 c.in_ok-code.ensures.ends.2
+    (c.in_ok-bytes_of.ensures ∙ ap code_of c.deref-2.ensures.value)
