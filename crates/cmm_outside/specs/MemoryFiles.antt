@@ -13,7 +13,11 @@ pub record Place : Type 0 where
   pub room : ℕ
   pub file : Option (List ℕ)
 
--- the places, no two of one name, the calls that were made, and the last that failed
+-- a file of these bytes, and just their room
+abbrev pub holding : List ℕ → List ℕ → Place
+holding name bytes = record { name = name; room = length bytes; file = Some bytes }
+
+-- the places, of which the first of a name counts, the calls that were made, and the last that failed
 pub record FilesState : Type 0 where
   pub places : List Place
   pub calls : Calls

@@ -5,9 +5,11 @@
 //! faults. A call fails only where the count rises in it, so code that is generic over a trait cannot
 //! answer a fault that the object did not have.
 //!
-//! - `input`: the trait `Source`, and sources over memory and over standard input.
-//! - `output`: the trait `Sink`, sinks over memory and over a standard stream, and `write_all`.
-//! - `storage`: the trait `Files`, files in memory and in the file system, and `read_file`.
+//! - `input`, `output`, `storage`: the traits `Source`, `Sink` and `Files`, with the loops over them,
+//!   `write_all` and `read_file`.
+//! - `memory_source`, `memory_sink`, `memory_files`: the same over memory, for tests. Their clauses say
+//!   exactly which calls fail: those that are listed, and those for which there is no room or no file.
+//! - `standard`: the same over standard input, a standard output and the file system.
 #![tactic(auto)]
 
 mod failing_calls;

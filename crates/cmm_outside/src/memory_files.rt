@@ -1,6 +1,6 @@
 //! Files in memory, whose calls fail at listed numbers and where a name has no room.
 
-ghost use Rattle.std.specs.Prelude.{◌≡◌, ◌↔◌, ◌⊎◌, ◌<◌, ◌≤◌, ◌-◌, ◌++◌, [], List, ℕ, Some, None, Ok, true, false, length, take, drop, min, max, position, is_err, is_some, unwrap_or, IsErr, IsNone, IfOk, IfSome, OnOk, OnErr, if◌then◌else◌};
+ghost use Rattle.std.specs.Prelude.{◌≡◌, ◌↔◌, ◌⊎◌, ◌<◌, ◌≤◌, ◌-◌, ◌++◌, [], List, ℕ, Some, None, Ok, true, false, length, take, drop, min, max, position, is_err, is_some, unwrap_or, IsErr, IfOk, IfSome, OnOk, OnErr, if◌then◌else◌};
 ghost use Rattle.std.specs.Option.{option_copied};
 ghost use Rattle.std.specs.Str.{bytes_eq};
 ghost use Rattle.cmm_outside.specs.Faults.{Rose};
@@ -36,7 +36,7 @@ impl Model for MemFiles {
 
 impl MemFiles {
     ghost use Rattle.cmm_outside.specs.FailingCalls.{IsNextListed, after_call, no_calls};
-    ghost use Rattle.cmm_outside.specs.MemoryFiles.{Puts, file_of, place_of, room_of, serves};
+    ghost use Rattle.cmm_outside.specs.MemoryFiles.{Puts, file_of, holding, place_of, room_of, serves};
 
     /// No files, and room for none. It takes no memory.
     pub fn new(alloc: Global, failing: Vec<u64>) -> Self
@@ -52,7 +52,7 @@ impl MemFiles {
 
     /// Makes the file hold just these bytes, and gives it just their room.
     pub fn put(&mut self, name: &str, bytes: &[u8]) -> Result<(), AllocError>
-        ensures ok { OnOk result (Puts self.old.places self.new.places name.now (record { name = name.now; room = length bytes.now; file = Some bytes.now })) }
+        ensures ok { OnOk result (Puts self.old.places self.new.places name.now (holding name.now bytes.now)) }
         ensures err { OnErr result (self.new ≡ self.old) }
         ensures same_calls { self.new.calls ≡ self.old.calls }
         ensures same_failed { self.new.last_failed ≡ self.old.last_failed }

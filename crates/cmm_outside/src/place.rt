@@ -34,7 +34,7 @@ impl Model for Place {
 }
 
 impl Place {
-    ghost use Rattle.cmm_outside.specs.MemoryFiles.{room_left, serves};
+    ghost use Rattle.cmm_outside.specs.MemoryFiles.{holding, room_left, serves};
     ghost use Rattle.cmm_outside.specs.Storage.{bytes_of};
 
     /// Room for so many bytes, and no file.
@@ -51,7 +51,7 @@ impl Place {
 
     /// A file of these bytes, and just their room.
     pub fn holding(alloc: Global, name: &str, bytes: &[u8]) -> Result<Self, AllocError>
-        ensures { IfOk result (λ place. place ≡ record { name = name.now; room = length bytes.now; file = Some bytes.now }) }
+        ensures { IfOk result (λ place. place ≡ holding name.now bytes.now) }
     {
         let mut place = Place::new(alloc, name, bytes.len())?;
         place.append(bytes);

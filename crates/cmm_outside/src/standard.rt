@@ -11,7 +11,8 @@ use crate::{CallKind, Failed, Files, Sink, Source};
 use std::fs::{self, OpenOptions};
 use std::io::{self, Read, Seek, SeekFrom, Write};
 
-/// A source over a reader, as standard input. Each call is one read, and takes no more than it answers.
+/// A source over a reader, as standard input. Each call is one read, and what is not asked for stays in
+/// the reader.
 #[derive(Drop)]
 pub struct StdSource<R> {
     reader: R,
@@ -46,8 +47,8 @@ impl<R: Read> Source for StdSource<R> {
     }
 }
 
-/// A sink over a writer, as standard output or standard error. Each call is one write, and keeps nothing
-/// back.
+/// A sink over a writer, as standard output or standard error. Each call is one write, so nothing that a
+/// stream without a buffer has taken is lost at exit.
 #[derive(Drop)]
 pub struct StdSink<W> {
     writer: W,
@@ -103,6 +104,7 @@ impl<R: fs::Files> StdFiles<R> {
         }
     }
 
+    /// One read of a file, from an offset on.
     fn try_read_at(&self, name: &str, from: u64, buffer: &mut [u8]) -> io::Result<usize>
         ensures { IfOk result (λ n. n ≤ length buffer.old) }
     {
@@ -111,6 +113,7 @@ impl<R: fs::Files> StdFiles<R> {
         file.read(buffer)
     }
 
+    /// One write at a file's end.
     fn try_append(&self, name: &str, bytes: &[u8]) -> io::Result<usize>
         ensures { IfOk result (λ n. n ≤ length bytes.now) }
     {

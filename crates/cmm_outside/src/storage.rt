@@ -1,6 +1,6 @@
 //! Files by name.
 
-ghost use Rattle.std.specs.Prelude.{◌≡◌, ℕ, ◌+◌, ◌<◌, ◌≤◌, ◌++◌, [], List, Option, Some, Ok, length, take, IfOk, OnOk, OnErr, IsErrOf};
+ghost use Rattle.std.specs.Prelude.{◌≡◌, ℕ, ◌+◌, ◌<◌, ◌≤◌, ◌++◌, [], Option, Some, Ok, length, take, IfOk, OnOk, OnErr, IsErrOf};
 ghost use Rattle.cmm_outside.specs.Faults.{Rose};
 ghost use Rattle.cmm_outside.specs.Storage.{Contents, FailedCall, HasFile, MatchFailed, ReadsAt, Writes, bytes_of};
 

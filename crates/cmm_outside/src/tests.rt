@@ -4,6 +4,7 @@ use crate::{
     Failed, FileError, Files, MemFiles, MemSink, MemSource, Sink, Source, StdFiles, StdSink,
     StdSource, SureSource, read_file, write_all,
 };
+use std::alloc::{AllocError, Global};
 use std::fs;
 use std::io::{self, Read, Write};
 use std::test::Fail;
@@ -46,18 +47,25 @@ fn listed_writes_fail(rt: HostRuntime) -> Result<(), Fail> {
     Ok(())
 }
 
+/// A file "full" of three bytes with no more room, and room for five bytes for "new".
+fn small_files(alloc: Global, failing: &[u64]) -> Result<MemFiles, AllocError> {
+    let mut files = MemFiles::new(alloc, failing.to_vec(alloc)?);
+    files.put("full", b"abc")?;
+    files.room("new", 5)?;
+    Ok(files)
+}
+
 #[test]
 fn listed_file_calls_fail(rt: HostRuntime) -> Result<(), Fail> {
+    let mut byte = [0; 1];
     for (failing, want) in LISTED {
-        let mut files = MemFiles::new(rt.alloc(), failing.to_vec(rt.alloc())?);
-        files.put("old", b"abc")?;
-        files.room("new", 2)?;
-        let mut byte = [0; 1];
+        let mut files = small_files(rt.alloc(), &failing)?;
         let created = files.create("new").is_ok();
-        assert_eq!(rt; files.append("new", b""), Ok(0));
+        let empty = files.append("new", b"").is_ok()
+            && files.read_at("full", 0, &mut byte[..0]).is_ok();
         let appended = files.append("new", b"xyz").is_ok();
-        assert_eq!(rt; files.read_at("old", 0, &mut byte[..0]), Ok(0));
-        let read = files.read_at("old", 0, &mut byte).is_ok();
+        let read = files.read_at("full", 0, &mut byte).is_ok();
+        assert!(rt; empty);
         assert_eq!(rt; [created, appended, read], want, "at {failing:?}");
     }
     Ok(())
@@ -84,8 +92,16 @@ fn sinks_take_what_they_have_room_for(rt: HostRuntime) -> Result<(), Fail> {
     assert_eq!(rt; sink.write(b"abcde"), Ok(3));
     assert_eq!(rt; sink.write(b"de"), Err(Failed));
     assert_eq!(rt; sink.bytes(), b"abc".as_slice());
+    Ok(())
+}
 
-    for (room, want, taken) in [(5, Ok(()), "abcde"), (6, Ok(()), "abcde"), (4, Err(Failed), "abcd")] {
+#[test]
+fn all_is_written_or_a_front(rt: HostRuntime) -> Result<(), Fail> {
+    for (room, want, taken) in [
+        (5, Ok(()), "abcde"),
+        (6, Ok(()), "abcde"),
+        (4, Err(Failed), "abcd"),
+    ] {
         let mut sink = MemSink::new(rt.alloc(), room, Vec::new(rt.alloc()))?;
         assert_eq!(rt; write_all(&mut sink, b"abcde"), want);
         assert_eq!(rt; sink.bytes(), taken.as_bytes());
@@ -95,25 +111,52 @@ fn sinks_take_what_they_have_room_for(rt: HostRuntime) -> Result<(), Fail> {
 
 #[test]
 fn files_grow_within_their_rooms(rt: HostRuntime) -> Result<(), Fail> {
-    let mut files = MemFiles::new(rt.alloc(), Vec::new(rt.alloc()));
-    let mut buffer = [0; 4];
-    files.put("full", b"abc")?;
-    files.room("full", 2)?;
-    files.room("new", 5)?;
-    assert_eq!(rt; files.get("new"), None);
-    assert_eq!(rt; files.read_at("new", 0, &mut buffer), Err(Failed));
-    assert_eq!(rt; files.create("none"), Err(Failed));
-    assert_eq!(rt; files.append("full", b"d"), Err(Failed));
-    assert_eq!(rt; files.append("new", b"xyz"), Ok(3));
-    assert_eq!(rt; files.append("new", b"uvw"), Ok(2));
-    assert_eq!(rt; files.get("new"), Some(b"xyzuv".as_slice()));
-    assert_eq!(rt; files.read_at("new", 2, &mut buffer), Ok(3));
-    assert_eq!(rt; buffer, *b"zuv\0");
-    assert_eq!(rt; files.read_at("new", 5, &mut buffer), Ok(0));
-    assert_eq!(rt; files.create("new"), Ok(()));
-    assert_eq!(rt; files.get("new"), Some(b"".as_slice()));
-    assert_eq!(rt; files.append("new", b"12345"), Ok(5));
-    assert_eq!(rt; files.get("full"), Some(b"abc".as_slice()));
+    let mut files = small_files(rt.alloc(), &[])?;
+    for (name, piece, want, bytes) in [
+        ("full", "d", Err(Failed), "abc"),
+        ("none", "d", Err(Failed), "no file"),
+        ("new", "", Ok(0), "no file"),
+        ("new", "xyz", Ok(3), "xyz"),
+        ("new", "uvw", Ok(2), "xyzuv"),
+        ("new", "w", Err(Failed), "xyzuv"),
+    ] {
+        let count = files.append(name, piece.as_bytes());
+        assert_eq!(rt; count, want, "at {name} and {piece}");
+        assert_eq!(rt; files.get(name).unwrap_or(b"no file"), bytes.as_bytes());
+    }
+    Ok(())
+}
+
+#[test]
+fn files_are_made_where_there_is_room(rt: HostRuntime) -> Result<(), Fail> {
+    let mut files = small_files(rt.alloc(), &[])?;
+    for (name, want, bytes) in [
+        ("none", Err(Failed), "no file"),
+        ("new", Ok(()), ""),
+        ("full", Ok(()), ""),
+    ] {
+        let made = files.create(name);
+        assert_eq!(rt; made, want, "at {name}");
+        assert_eq!(rt; files.get(name).unwrap_or(b"no file"), bytes.as_bytes());
+    }
+    Ok(())
+}
+
+#[test]
+fn files_are_read_from_an_offset(rt: HostRuntime) -> Result<(), Fail> {
+    let mut files = small_files(rt.alloc(), &[])?;
+    let mut buffer = [0; 2];
+    for (name, from, want, bytes) in [
+        ("full", 0, Ok(2), b"ab"),
+        ("full", 2, Ok(1), b"cb"),
+        ("full", 3, Ok(0), b"cb"),
+        ("full", u64::MAX, Ok(0), b"cb"),
+        ("new", 0, Err(Failed), b"cb"),
+    ] {
+        let count = files.read_at(name, from, &mut buffer);
+        assert_eq!(rt; count, want, "at {name} from {from}");
+        assert_eq!(rt; buffer, *bytes);
+    }
     Ok(())
 }
 
@@ -135,7 +178,11 @@ fn files_are_read_up_to_a_limit(rt: HostRuntime) -> Result<(), Fail> {
         ("none", 5, Err(FileError::Failed)),
     ] {
         let read = read_file(rt.alloc(), &mut files, name, limit);
-        assert_eq!(rt; read.map(|bytes| bytes.len()), want, "at {name} and {limit}");
+        assert_eq!(rt;
+            read.map(|bytes| bytes.len()),
+            want,
+            "at {name} and {limit}"
+        );
     }
     Ok(())
 }
@@ -178,7 +225,11 @@ fn errors_of_streams_are_failures(rt: HostRuntime) {
     let mut none = [0; 0];
     assert_eq!(rt; StdSource::new(Broken).read(&mut byte), Err(Failed));
     assert_eq!(rt; StdSink::new(Broken).write(b"a"), Err(Failed));
-    assert_eq!(rt; StdSink::new(none.as_mut_slice()).write(b"a"), Err(Failed), "a full writer");
+    assert_eq!(rt;
+        StdSink::new(none.as_mut_slice()).write(b"a"),
+        Err(Failed),
+        "a full writer"
+    );
 }
 
 #[test]
@@ -193,17 +244,21 @@ fn real_files_are_made_and_read(rt: HostRuntime) -> Result<(), Fail> {
     let name = "cmm_outside_test.txt";
     let mut files = StdFiles::new(rt);
     assert_eq!(rt; files.create(name), Ok(()));
-    assert_eq!(rt; files.append(name, b"abc"), Ok(3));
-    assert_eq!(rt; files.append(name, b"de"), Ok(2));
-    let bytes = read_file(rt.alloc(), &mut files, name, 5)?;
-    assert_eq!(rt; bytes.as_slice(), b"abcde".as_slice());
+    for (piece, want) in [("abc", "abc"), ("de", "abcde")] {
+        assert_eq!(rt; files.append(name, piece.as_bytes()), Ok(piece.len()));
+        let bytes = read_file(rt.alloc(), &mut files, name, 5)?;
+        assert_eq!(rt; bytes.as_slice(), want.as_bytes());
+    }
     assert_eq!(rt; files.create(name), Ok(()));
-    let bytes = read_file(rt.alloc(), &mut files, name, 5)?;
-    assert_eq!(rt; bytes.as_slice(), b"".as_slice());
-    fs::remove_file(&rt, name)?;
-    let missing = read_file(rt.alloc(), &mut files, name, 5);
-    assert_eq!(rt; missing.map(|bytes| bytes.len()), Err(FileError::Failed));
-    assert_eq!(rt; files.create("no such folder/file"), Err(Failed));
-    assert_eq!(rt; files.append("no such folder/file", b"a"), Err(Failed));
-    Ok(())
+    assert_eq!(rt; files.read_at(name, 0, &mut [0; 1]), Ok(0));
+    Ok(fs::remove_file(&rt, name)?)
+}
+
+#[test]
+fn real_files_that_are_missing_are_failures(rt: HostRuntime) {
+    let mut files = StdFiles::new(rt);
+    let name = "no such folder/file";
+    assert_eq!(rt; files.read_at(name, 0, &mut [0; 1]), Err(Failed));
+    assert_eq!(rt; files.create(name), Err(Failed));
+    assert_eq!(rt; files.append(name, b"a"), Err(Failed));
 }
