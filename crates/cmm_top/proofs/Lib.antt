@@ -6,8 +6,10 @@ pub mod Values
 pub mod Emitting
 pub mod Loading
 pub mod Adding
-pub mod Ending
+pub mod CodeEnds
 pub mod Compiling
 pub mod UnitCode
 pub mod Fetching
 pub mod Stepping
+pub mod Pieced
+pub mod Answering

@@ -19,7 +19,7 @@ use Rattle.rv_table.specs.Table.{IsValid, word_of}
 use Rattle.cmm_top.specs.Code.{Leads}
 use Rattle.cmm_top.specs.Run.{AskFor, IsStraight}
 use Rattle.cmm_top.specs.Running.{IsAt, state_of}
-use Rattle.cmm_top.proofs.Ending.{all_valid_ecall, valid_ecall, code_of-append}
+use Rattle.cmm_top.proofs.CodeEnds.{all_valid_ecall, valid_ecall, code_of-append}
 
 -- what is left of the code stands at pc
 left_stands : CodeStands → (code : List ℕ) (pc : ℕ) (before left : List Instr) → code ≡ code_of (before ++ left) → pc ≡ code_base + 4 * length before → All IsValid left → Stands code pc left

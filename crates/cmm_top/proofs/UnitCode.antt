@@ -13,7 +13,7 @@ use Rattle.cmm_top.specs.Form.{main_tokens}
 use Rattle.cmm_top.specs.Reading.{terms}
 use Rattle.cmm_top.specs.Run.{AskFor, EndsWithin, IsStraight}
 use Rattle.cmm_top.proofs.Compiling.{few_instructions}
-use Rattle.cmm_top.proofs.Ending.{ends_within}
+use Rattle.cmm_top.proofs.CodeEnds.{ends_within}
 use Rattle.cmm_top.proofs.Values.{total-terms}
 
 pub unit_code_ends : CodeStands → StraightPiecesRun → (code is : List Instr) (bytes : List ℕ) (found : List Term) (e : Expression) → found ≡ terms Plus e →

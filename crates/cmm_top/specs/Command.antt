@@ -1,7 +1,12 @@
 -- What the words of the command line ask for.
-use Rattle.std.specs.Prelude.{ℕ, Bool, ◌==◌, ◌&&◌, not, nat_le, if◌then◌else◌, List, [], ◌∷◌, length, slice_index, Option, Some, None, codes}
+use Rattle.std.specs.Prelude.{ℕ, Bool, ◌==◌, ◌&&◌, not, nat_le, if◌then◌else◌, List, [], ◌∷◌, length, slice_index, Option, Some, None, codes, map, String, string_bytes}
+use Rattle.std.specs.Global.{Global}
 use Rattle.std.specs.Str.{bytes_eq}
 use Rattle.cmm_outside.specs.declared.storage.TheConstants.{NAME_LIMIT}
+
+-- the words' bytes
+abbrev pub texts : List (String Global) → List (List ℕ)
+texts words = map string_bytes words
 
 -- a word that names a file: it is no longer than names may be, and does not begin with `-`
 abbrev pub is_file_name : List ℕ → Bool

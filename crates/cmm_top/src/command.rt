@@ -1,14 +1,14 @@
 //! The words of the command line.
 
-ghost use Rattle.std.specs.Prelude.{◌≡◌, map, option_map, string_bytes, length, codes, IsTrue, ◌↔◌, ◌<◌, ◌^◌};
+ghost use Rattle.std.specs.Prelude.{◌≡◌};
 ghost use Rattle.std.specs.Option.{option_copied};
-ghost use Rattle.cmm_top.specs.Command.{file_in as file_in_words, is_file_name as is_file_name_word};
+ghost use Rattle.cmm_top.specs.Command.{texts, file_in as file_in_words, is_file_name as is_file_name_word};
 
 use cmm_outside::storage::NAME_LIMIT;
 
 /// The file that the words ask to run: they are exactly `exec` and the file's name.
 pub fn file_in(words: &[String]) -> Option<&str>
-    ensures { option_copied result ≡ file_in_words (map string_bytes words.now) }
+    ensures { option_copied result ≡ file_in_words (texts words.now) }
 {
     let [command, file] = words else {
         return None;
