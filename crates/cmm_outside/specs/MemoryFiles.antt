@@ -1,5 +1,5 @@
 -- Files in memory.
-use Rattle.std.specs.Prelude.{◌≡◌, ◌≢◌, ℕ, ◌-◌, List, length, Bool, true, false, nat_lt, Option, Some, None, is_some, find, option_and_then}
+use Rattle.std.specs.Prelude.{◌≡◌, ◌≢◌, ℕ, ◌-◌, List, length, Bool, true, false, nat_lt, Option, Some, None, is_some, find, position, option_and_then}
 use Rattle.std.specs.Option.{option_map, option_map_or}
 use Rattle.std.specs.Str.{bytes_eq}
 use Rattle.cmm_outside.specs.declared.storage.CallKind.{CallKind}
@@ -27,6 +27,10 @@ pub record FilesState : Type 0 where
 abbrev pub place_of : List Place → List ℕ → Option Place
 place_of places name = find (λ place. bytes_eq place.name name) places
 
+-- the index of that place
+abbrev pub index_of : List Place → List ℕ → Option ℕ
+index_of places name = position (λ place. bytes_eq place.name name) places
+
 -- the bytes of the file of a name
 abbrev pub file_of : FilesState → List ℕ → Option (List ℕ)
 file_of files name = option_and_then (λ place. place.file) (place_of files.places name)
@@ -49,6 +53,10 @@ serves kind None = false
 serves Read (Some place) = is_some place.file
 serves Create (Some place) = true
 serves Append (Some place) = nat_lt 0 (room_left place)
+
+-- a call of this kind cannot be done on this name
+abbrev pub IsRefused : FilesState → CallKind → List ℕ → Type 0
+IsRefused files kind name = serves kind (place_of files.places name) ≡ false
 
 -- the places after differ in one name, whose place is now this one
 pub record Puts (before after : List Place) (name : List ℕ) (place : Place) : Type 0 where

@@ -1,8 +1,7 @@
 //! Files in memory, whose calls fail at listed numbers and where a name has no room.
 
-ghost use Rattle.std.specs.Prelude.{◌≡◌, ◌↔◌, ◌⊎◌, ◌<◌, ◌≤◌, ◌-◌, ◌++◌, [], List, ℕ, Some, None, Ok, true, false, length, take, drop, min, max, position, is_err, is_some, unwrap_or, IsErr, IfOk, IfSome, OnOk, OnErr, if◌then◌else◌};
+ghost use Rattle.std.specs.Prelude.{◌≡◌, ◌↔◌, ◌⊎◌, ◌<◌, ◌≤◌, ◌-◌, ◌++◌, [], List, ℕ, Some, None, Ok, true, length, take, drop, min, max, is_err, is_some, unwrap_or, IsErr, IfOk, IfSome, OnOk, OnErr, if◌then◌else◌};
 ghost use Rattle.std.specs.Option.{option_copied};
-ghost use Rattle.std.specs.Str.{bytes_eq};
 ghost use Rattle.cmm_outside.specs.Faults.{Rose};
 ghost use Rattle.cmm_outside.specs.Storage.{ReadsAt, Writes, bytes_of};
 
@@ -36,7 +35,7 @@ impl Model for MemFiles {
 
 impl MemFiles {
     ghost use Rattle.cmm_outside.specs.FailingCalls.{IsNextListed, after_call, no_calls};
-    ghost use Rattle.cmm_outside.specs.MemoryFiles.{Puts, file_of, holding, place_of, room_of, serves};
+    ghost use Rattle.cmm_outside.specs.MemoryFiles.{IsRefused, Puts, file_of, holding, index_of, place_of, room_of, serves};
 
     /// No files, and room for none. It takes no memory.
     pub fn new(alloc: Global, failing: Vec<u64>) -> Self
@@ -93,7 +92,7 @@ impl MemFiles {
 
     /// The index of a name's place.
     fn position(&self, name: &str) -> Option<usize>
-        ensures { result ≡ position (λ place. bytes_eq place.name name.now) self.now.places }
+        ensures { result ≡ index_of self.now.places name.now }
     {
         self.places.iter().position(|place| place.is_named(name))
     }
@@ -101,7 +100,7 @@ impl MemFiles {
     /// The index of a name's place, where a call of this kind can be done there.
     fn find(&self, kind: CallKind, name: &str) -> Option<usize>
         ensures possible { is_some result ≡ serves kind (place_of self.now.places name.now) }
-        ensures place { IfSome result (λ i. position (λ place. bytes_eq place.name name.now) self.now.places ≡ Some i) }
+        ensures place { IfSome result (λ i. index_of self.now.places name.now ≡ Some i) }
     {
         let i = self.position(name)?;
         if self.places[i].serves(kind) {
@@ -114,9 +113,9 @@ impl MemFiles {
     /// Counts a call, and gives the index of the place that it is to work on.
     fn begin(&mut self, kind: CallKind, name: &str) -> Result<usize, Failed>
         requires { length name.now ≤ NAME_LIMIT }
-        ensures fails { IsErr result ↔ (IsNextListed self.old.calls ⊎ (serves kind (place_of self.old.places name.now) ≡ false)) }
+        ensures fails { IsErr result ↔ (IsNextListed self.old.calls ⊎ IsRefused self.old kind name.now) }
         ensures served { OnOk result (serves kind (place_of self.old.places name.now) ≡ true) }
-        ensures place { IfOk result (λ i. position (λ place. bytes_eq place.name name.now) self.new.places ≡ Some i) }
+        ensures place { IfOk result (λ i. index_of self.new.places name.now ≡ Some i) }
         ensures counted { self.new.calls ≡ after_call self.old.calls (is_err result) }
         ensures fault { OnErr result (Rose self.old.calls.faults self.new.calls.faults) }
         ensures failed_call { self.new.last_failed ≡ (if is_err result then Some (record { kind = kind; name = name.now }) else self.old.last_failed) }
@@ -135,7 +134,7 @@ impl MemFiles {
 
 impl Files for MemFiles {
     ghost use Rattle.cmm_outside.specs.FailingCalls.{IsNextListed, after_call};
-    ghost use Rattle.cmm_outside.specs.MemoryFiles.{file_of, place_of, room_left_of, room_of, serves};
+    ghost use Rattle.cmm_outside.specs.MemoryFiles.{IsRefused, file_of, room_left_of, room_of};
     ghost use Rattle.cmm_outside.specs.Storage.{ReadsAt, Writes, bytes_of};
 
     ghost contents = { λ f. Some (file_of f) };
@@ -146,15 +145,21 @@ impl Files for MemFiles {
 
     fn read_at(&mut self, name: &str, from: u64, buffer: &mut [u8]) -> Result<usize, Failed>
         requires { length name.now ≤ NAME_LIMIT }
-        ensures fails { IsErr result ↔ ((0 < length buffer.old) × (IsNextListed self.old.calls ⊎ (serves CallKind.Read (place_of self.old.places name.now) ≡ false))) }
+
+        // It fails exactly at the listed calls and where there is no such file.
+        ensures fails { IsErr result ↔ ((0 < length buffer.old) × (IsNextListed self.old.calls ⊎ IsRefused self.old CallKind.Read name.now)) }
         ensures counted { 0 < length buffer.old → self.new.calls ≡ after_call self.old.calls (is_err result) }
+
         ensures all { IfOk result (λ n. n ≡ min (length buffer.old) (length (drop from (bytes_of (file_of self.old name.now))))) }
         ensures read { IfOk result (λ n. ReadsAt (Some (file_of self.old)) name.now from (length buffer.old) buffer.new n) }
         ensures same { self.new.places ≡ self.old.places }
+
         ensures no_fault { OnOk result (self.new.calls.faults ≡ self.old.calls.faults) }
         ensures no_failed_call { OnOk result (self.new.last_failed ≡ self.old.last_failed) }
         ensures fault { OnErr result (Rose self.old.calls.faults self.new.calls.faults) }
         ensures failed_call { OnErr result (self.new.last_failed ≡ Some (record { kind = CallKind.Read; name = name.now })) }
+
+        // An empty piece or buffer does nothing.
         ensures nothing { length buffer.old ≡ 0 → (result ≡ Ok 0) × (self.new ≡ self.old) }
     {
         if buffer.is_empty() {
@@ -166,11 +171,15 @@ impl Files for MemFiles {
 
     fn create(&mut self, name: &str) -> Result<(), Failed>
         requires { length name.now ≤ NAME_LIMIT }
-        ensures fails { IsErr result ↔ (IsNextListed self.old.calls ⊎ (serves CallKind.Create (place_of self.old.places name.now) ≡ false)) }
+
+        // It fails exactly at the listed calls and where the name has no room.
+        ensures fails { IsErr result ↔ (IsNextListed self.old.calls ⊎ IsRefused self.old CallKind.Create name.now) }
         ensures counted { self.new.calls ≡ after_call self.old.calls (is_err result) }
+
         ensures created { OnOk result (Writes (Some (file_of self.old)) (Some (file_of self.new)) name.now (λ _. [])) }
         ensures same_rooms { (other : List ℕ) → room_of self.new other ≡ room_of self.old other }
         ensures err { OnErr result (self.new.places ≡ self.old.places) }
+
         ensures no_fault { OnOk result (self.new.calls.faults ≡ self.old.calls.faults) }
         ensures no_failed_call { OnOk result (self.new.last_failed ≡ self.old.last_failed) }
         ensures fault { OnErr result (Rose self.old.calls.faults self.new.calls.faults) }
@@ -183,18 +192,24 @@ impl Files for MemFiles {
 
     fn append(&mut self, name: &str, bytes: &[u8]) -> Result<usize, Failed>
         requires { length name.now ≤ NAME_LIMIT }
-        ensures fails { IsErr result ↔ ((0 < length bytes.now) × (IsNextListed self.old.calls ⊎ (serves CallKind.Append (place_of self.old.places name.now) ≡ false))) }
+
+        // It fails exactly at the listed calls and where the name has no room left.
+        ensures fails { IsErr result ↔ ((0 < length bytes.now) × (IsNextListed self.old.calls ⊎ IsRefused self.old CallKind.Append name.now)) }
         ensures counted { 0 < length bytes.now → self.new.calls ≡ after_call self.old.calls (is_err result) }
+
         ensures all { IfOk result (λ n. n ≡ min (length bytes.now) (room_left_of self.old name.now)) }
         ensures progress { IfOk result (λ n. 0 < length bytes.now → 0 < n) }
         ensures appended { IfOk result (λ n. 0 < n →
             Writes (Some (file_of self.old)) (Some (file_of self.new)) name.now (λ file. bytes_of file ++ take n bytes.now)) }
         ensures same_rooms { (other : List ℕ) → room_of self.new other ≡ room_of self.old other }
         ensures err { OnErr result (self.new.places ≡ self.old.places) }
+
         ensures no_fault { OnOk result (self.new.calls.faults ≡ self.old.calls.faults) }
         ensures no_failed_call { OnOk result (self.new.last_failed ≡ self.old.last_failed) }
         ensures fault { OnErr result (Rose self.old.calls.faults self.new.calls.faults) }
         ensures failed_call { OnErr result (self.new.last_failed ≡ Some (record { kind = CallKind.Append; name = name.now })) }
+
+        // An empty piece or buffer does nothing.
         ensures nothing { length bytes.now ≡ 0 → (result ≡ Ok 0) × (self.new ≡ self.old) }
     {
         if bytes.is_empty() {

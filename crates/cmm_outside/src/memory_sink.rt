@@ -60,15 +60,20 @@ impl Sink for MemSink {
     ghost faults = { λ s. s.calls.faults };
 
     fn write(&mut self, bytes: &[u8]) -> Result<usize, Failed>
+        // It fails exactly at the listed calls and where the room is full.
         ensures fails { IsErr result ↔ ((0 < length bytes.now) × (IsNextListed self.old.calls ⊎ IsFull self.old)) }
         ensures counted { 0 < length bytes.now → self.new.calls ≡ after_call self.old.calls (is_err result) }
+
         ensures all { IfOk result (λ n. n ≡ min (length bytes.now) (self.old.room - length self.old.taken)) }
         ensures progress { IfOk result (λ n. 0 < length bytes.now → 0 < n) }
         ensures taken { IfOk result (λ n. self.new.taken ≡ self.old.taken ++ take n bytes.now) }
         ensures same_room { self.new.room ≡ self.old.room }
         ensures err { OnErr result (self.new.taken ≡ self.old.taken) }
+
         ensures no_fault { OnOk result (self.new.calls.faults ≡ self.old.calls.faults) }
         ensures fault { OnErr result (Rose self.old.calls.faults self.new.calls.faults) }
+
+        // An empty piece does nothing.
         ensures nothing { length bytes.now ≡ 0 → (result ≡ Ok 0) × (self.new ≡ self.old) }
     {
         if bytes.is_empty() {

@@ -50,6 +50,8 @@ impl Source for SureSource {
         ensures sure { IsOk result }
         ensures all { IfOk result (λ n. n ≡ min (length buffer.old) (length self.old)) }
         ensures read { IfOk result (λ n. Reads (Some self.old) (Some self.new) (length buffer.old) buffer.new n) }
+
+        // An empty buffer does nothing.
         ensures nothing { length buffer.old ≡ 0 → (result ≡ Ok 0) × (self.new ≡ self.old) }
     {
         let left = &self.bytes[self.taken..];
@@ -104,13 +106,18 @@ impl Source for MemSource {
     ghost faults = { λ s. s.calls.faults };
 
     fn read(&mut self, buffer: &mut [u8]) -> Result<usize, Failed>
+        // It fails exactly at the listed calls.
         ensures fails { IsErr result ↔ ((0 < length buffer.old) × IsNextListed self.old.calls) }
         ensures counted { 0 < length buffer.old → self.new.calls ≡ after_call self.old.calls (is_err result) }
+
         ensures all { IfOk result (λ n. n ≡ min (length buffer.old) (length self.old.left)) }
         ensures read { IfOk result (λ n. Reads (Some self.old.left) (Some self.new.left) (length buffer.old) buffer.new n) }
         ensures err { OnErr result (self.new.left ≡ self.old.left) }
+
         ensures no_fault { OnOk result (self.new.calls.faults ≡ self.old.calls.faults) }
         ensures fault { OnErr result (Rose self.old.calls.faults self.new.calls.faults) }
+
+        // An empty buffer does nothing.
         ensures nothing { length buffer.old ≡ 0 → (result ≡ Ok 0) × (self.new ≡ self.old) }
     {
         if buffer.is_empty() {
