@@ -5,3 +5,4 @@ pub mod Quotients
 pub mod Shifts
 pub mod SignedReadings
 pub mod WordLaws
+pub mod Rows

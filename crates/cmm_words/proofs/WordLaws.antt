@@ -10,7 +10,7 @@ use Rattle.cmm_words.specs.Integers.{signed, wrapped, rounded_down}
 use Rattle.cmm_words.specs.Words.{divided, folded, low_bits}
 use Rattle.cmm_words.specs.Laws.{IsCut2, IsCutOfExtended, IsCutOfExtendedFirst, RotlIsTwoShifts, RotrIsTwoShifts, GivesWord2, ShlByAnyCount, ShrlByAnyCount, ShraByAnyCount, two_shifts, extended}
 use Rattle.cmm_words.proofs.Wrapping.{wrapped-below}
-use Rattle.cmm_words.proofs.Rotations.{or-shifts, folded-below}
+use Rattle.cmm_words.proofs.Rotations.{or_shifts, folded-below}
 use Rattle.cmm_words.proofs.Shifts.{shl-min, shr-min, rounded_down-min}
 use Rattle.cmm_words.proofs.WidthLemmas.{cut_64, cut_wrapped_64, signed-extended, extended-zero, count_within, word_64, signed_fits_width}
 
@@ -81,7 +81,7 @@ rotation w a n m ha whole =
     let within : n ≤ bits w = omega arith in
     let rest : bits w - n ≡ m = omega arith in
     let kept : a / 2 ^ m % 2 ^ bits w ≡ a / 2 ^ m = mod-eq_of_lt (lt_of_le_of_lt (shr_le a m) ha) in
-    sym (or-shifts (bits w) n a within ha)
+    sym (or_shifts (bits w) n a within ha)
     ∙ rw (rest, or_mod (a * 2 ^ n % 2 ^ 64) (a / 2 ^ m) (bits w), cut_64 w (a * 2 ^ n), kept) refl
 
 pub rotl_shifts : RotlIsTwoShifts

@@ -38,6 +38,7 @@ pub(crate) fn shift_right_signed(width: Width, word: u64, count: u64) -> u64
     to_word(width, to_signed(width, word) >> count.min(width.bits() - 1))
 }
 
+#[tactic(auto, using(crate::proofs::Rotations::or_shifts, crate::proofs::WidthLemmas::cut_64))]
 pub(crate) fn rotate_left(width: Width, word: u64, count: u64) -> u64
     requires { word < 2 ^ bits width }
     ensures { value2 Op2.Rotl width word count ≡ Some result }
