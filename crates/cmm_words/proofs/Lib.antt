@@ -6,3 +6,5 @@ pub mod Shifts
 pub mod SignedReadings
 pub mod WordLaws
 pub mod Rows
+pub mod Sums
+pub mod Rounding
