@@ -10,10 +10,10 @@ use lib.Signed.{mag_rem, non_neg}
 use Rattle.cmm_words.specs.declared.width.Width.{Width}
 use Rattle.cmm_words.specs.declared.operators.Cmp.TheVariants.{Lt}
 use Rattle.cmm_words.specs.declared.operators.Op2.TheVariants.{Add, Sub, Div, Mod, Quot, Rem}
-use Rattle.cmm_words.specs.Widths.{bits}
+use Rattle.cmm_words.specs.Widths.{bits, IsWord}
 use Rattle.cmm_words.specs.Integers.{signed, wrapped, quotient_down, quotient_toward_zero, remainder}
 use Rattle.cmm_words.specs.Words.{value2, divided, holds}
-use Rattle.cmm_words.specs.Laws.{IsWord, is_rounded_up, DivFromQuot, ModFromRem}
+use Rattle.cmm_words.specs.Laws.{is_rounded_up, DivFromQuot, ModFromRem}
 use Rattle.cmm_words.proofs.Quotients.{int_lt-zero, quotient-exact, quotient-up, remainder_toward_zero, remainder_down}
 use Rattle.cmm_words.proofs.SignedReadings.{wrapped-signed, signed-wrapped, signed_fits, signed_low}
 use Rattle.cmm_words.proofs.Wrapping.{wrapped-below}

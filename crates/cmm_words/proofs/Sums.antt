@@ -1,10 +1,12 @@
 -- Sums of integers, modulo 2 ^ k.
-use Rattle.std.proofs.Common.{◌≡◌, ℕ, suc, ◌+◌, ◌-◌, ◌*◌, ◌%◌, ◌^◌, arith, ℤ, pos, negsuc, ◌+ℤ◌, ap, ◌∙◌, refl, add-mul, unsigned_abs}
+use Rattle.std.proofs.Common.{◌≡◌, ℕ, suc, ◌+◌, ◌-◌, ◌*◌, ◌%◌, ◌^◌, arith, ℤ, pos, negsuc, ◌+ℤ◌, ap, ◌∙◌, refl, add-mul, unsigned_abs, add-zero, mod-eq_of_lt}
 use Rattle.std.proofs.lemmas.Nat.{pow_pos}
 use Rattle.std.proofs.lemmas.Int.{ints, int_rem_euclid_is}
 use Rattle.std.proofs.Math.Nat.{add-mod, le-mul_of_pos_right}
 use Rattle.std.specs.Int.{int_rem_euclid}
 use Rattle.cmm_words.specs.Integers.{wrapped}
+use Rattle.cmm_words.proofs.Wrapping.{wrapped-below}
+use Rattle.cmm_words.proofs.Shifts.{mul-mod}
 
 -- a number that is z and so many times 2 ^ k
 pub record Lifted (k : ℕ) (z : ℤ) : Type 0 where
@@ -35,3 +37,9 @@ wrapped-add k u v =
     wrapped_by k (u +ℤ v) (a.times + b.times) (a.number + b.number) both
     ∙ add-mod a.number b.number (2 ^ k)
     ∙ rw (wrapped_by k u a.times a.number a.same, wrapped_by k v b.times b.number b.same) refl
+
+-- a multiple of 2 ^ k adds nothing
+pub wrapped-multiple : (k : ℕ) (z : ℤ) (n : ℕ) → wrapped k (z +ℤ pos (n * 2 ^ k)) ≡ wrapped k z
+wrapped-multiple k z n =
+    let whole : wrapped k (pos (n * 2 ^ k)) ≡ 0 = mul-mod n k in
+    wrapped-add k z (pos (n * 2 ^ k)) ∙ rw (whole, add-zero (wrapped k z)) (mod-eq_of_lt (wrapped-below k z))

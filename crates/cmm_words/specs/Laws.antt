@@ -8,13 +8,9 @@ use Rattle.cmm_words.specs.declared.operators.Op2.{Op2}
 use Rattle.cmm_words.specs.declared.operators.Op2.TheVariants.{Add, Sub, Shl, Shrl, Shra, Rotl, Rotr, Div, Mod, Quot, Rem}
 use Rattle.cmm_words.specs.declared.operators.Cmp.{Cmp}
 use Rattle.cmm_words.specs.declared.operators.Cmp.TheVariants.{Ne, Lt}
-use Rattle.cmm_words.specs.Widths.{bits}
+use Rattle.cmm_words.specs.Widths.{bits, IsWord}
 use Rattle.cmm_words.specs.Integers.{signed, wrapped, rounded_down, quotient_down, quotient_toward_zero, remainder}
 use Rattle.cmm_words.specs.Words.{low_bits, sign_extended, value1, value2, holds}
-
--- a number is a word
-abbrev pub IsWord : Width → ℕ → Type 0
-IsWord w a = a < 2 ^ bits w
 
 -- ---- an operator at a width, by the same operator at 64 bits
 
@@ -126,8 +122,13 @@ ShrlPastWidth = (w : Width) (a b : ℕ) → IsWord w a → bits w ≤ b → valu
 abbrev pub ShraPastWidth : Type 0
 ShraPastWidth = (w : Width) (a b : ℕ) → IsWord w a → bits w ≤ b → value2 Shra w a b ≡ value2 Shra w a (bits w - 1)
 
--- ---- sums: the word of a sum is the sum of the words
+-- ---- integers as words
 
+-- integers that are a multiple of 2 to the width apart are one word
+abbrev pub WordPastMultiple : Type 0
+WordPastMultiple = (w : Width) (z : ℤ) (n : ℕ) → wrapped (bits w) (z +ℤ pos (n * 2 ^ bits w)) ≡ wrapped (bits w) z
+
+-- the word of a sum is the sum of the words
 abbrev pub WordOfSum : Type 0
 WordOfSum = (w : Width) (x y : ℤ) →
     wrapped (bits w) (x +ℤ y) ≡ low_bits w (wrapped (bits w) x + wrapped (bits w) y)

@@ -1,6 +1,6 @@
 //! Laws of the operators that the layers above use. Each is the contract of a function that does nothing.
 
-ghost use Rattle.cmm_words.specs.Laws.{IsCut1, IsCut2, IsCutOfExtended, IsCutOfExtendedFirst, RotlIsTwoShifts, RotrIsTwoShifts, IsWide, IsWideOfExtended, GivesWord1, GivesWord2, LowIsWord, ExtendedIsWord, LowOfLow, LowOfWord, LowOfExtended, ExtendedOfExtended, SignedOfExtended, WordOfSigned, ShlByAnyCount, ShrlByAnyCount, ShraByAnyCount, ShlPastWidth, ShrlPastWidth, ShraPastWidth, WordOfSum, DivFromQuot, ModFromRem, DownByPositive, DownByNegative, TowardZeroIsNearer, TowardZeroOfPositive, TowardZeroOfNegative};
+ghost use Rattle.cmm_words.specs.Laws.{IsCut1, IsCut2, IsCutOfExtended, IsCutOfExtendedFirst, RotlIsTwoShifts, RotrIsTwoShifts, IsWide, IsWideOfExtended, GivesWord1, GivesWord2, LowIsWord, ExtendedIsWord, LowOfLow, LowOfWord, LowOfExtended, ExtendedOfExtended, SignedOfExtended, WordOfSigned, ShlByAnyCount, ShrlByAnyCount, ShraByAnyCount, ShlPastWidth, ShrlPastWidth, ShraPastWidth, WordPastMultiple, WordOfSum, DivFromQuot, ModFromRem, DownByPositive, DownByNegative, TowardZeroIsNearer, TowardZeroOfPositive, TowardZeroOfNegative};
 
 use crate::operators::{Cmp, Op1, Op2};
 
@@ -72,9 +72,10 @@ pub fn shifts_by_any_count()
     ensures right_signed_past_width { ShraPastWidth }
 {}
 
-/// The word of a sum of integers is the sum of their words.
-pub fn sums_are_words()
-    ensures { WordOfSum }
+/// Integers as words: a multiple of 2 to the width adds nothing, and sums are those of the words.
+pub fn integers_as_words()
+    ensures multiple { WordPastMultiple }
+    ensures sum { WordOfSum }
 {}
 
 /// A division rounded down, by one rounded toward zero, which is the one that machines have.

@@ -159,6 +159,9 @@ fn conversions(rt: HostRuntime) {
     assert!(rt; !Constant::Number(0x100, Width::W8).fits());
     assert!(rt; Constant::Code { proc: 1, plus: 8 }.fits());
     assert_eq!(rt; Width::W32.bits(), 32);
+    assert_eq!(rt; Width::W32.bytes(), 4);
+    assert_eq!(rt; Width::from_bits(32), Some(Width::W32));
+    assert_eq!(rt; Width::from_bits(33), None);
 }
 
 #[test]
