@@ -2,11 +2,15 @@
 
 ghost use Rattle.std.specs.Prelude.{◌≡◌, [], ◌∷◌, ◌++◌, ◌-◌, ◌<◌, length, take, slice_get, slice_set, ◌↔◌, IsTrue, MatchOption, OnOk, OnErr, IfOk, IfErr, option_copied};
 ghost use Rattle.std.specs.List.{AllZip};
-ghost use Rattle.std.specs.Cmp.Lexicographic.{pointwise, lists_per, lists_equiv};
+ghost use Rattle.std.specs.Cmp.Lexicographic.{pointwise, slice_cmp, slice_partial_cmp, lists_per, lists_equiv, lists_po, lists_total, lists_agrees, lists_ties};
+ghost use Rattle.std.specs.Hash as fed;
+ghost use Rattle.std.specs.Hash.{items_Alike};
 ghost use Rattle.std.specs.Iterator.Adapters.{IterYieldsInOrder};
 ghost use Rattle.std.specs.Slice.Iter.{iter_rest};
 
 use std::alloc::{AllocError, AllocFailed, Global};
+use std::cmp::Ordering;
+use std::hash::{Hash, Hasher};
 use std::marker::Model;
 use std::slice::Iter;
 
@@ -168,4 +172,38 @@ impl<T: PartialEq> PartialEq for Items<T> {
 
 impl<T: Eq> Eq for Items<T> {
     ghost laws = { lists_equiv T.Eq.laws };
+}
+
+impl<T: PartialOrd> PartialOrd for Items<T> {
+    ghost partial_cmp = { λ x y. slice_partial_cmp T.partial_cmp x y };
+
+    ghost laws = { lists_po T.PartialOrd.laws };
+
+    fn partial_cmp(&self, other: &Items<T>) -> Option<Ordering> {
+        self.items.partial_cmp(&other.items)
+    }
+}
+
+impl<T: Ord> Ord for Items<T> {
+    ghost cmp = { λ x y. slice_cmp T.cmp x y };
+
+    ghost total = { lists_total T.total };
+
+    ghost matches_partial_cmp = { λ x y. lists_agrees T.matches_partial_cmp x y };
+
+    ghost matches_eq = { λ x y. lists_ties T.cmp T.matches_eq x y };
+
+    fn cmp(&self, other: &Items<T>) -> Ordering {
+        self.items.cmp(&other.items)
+    }
+}
+
+impl<T: Hash> Hash for Items<T> {
+    ghost hash_input = { λ x. fed.slice T.hash_input x };
+
+    ghost respects_eq = { (items_Alike (record { fed = T.respects_eq })).fed };
+
+    fn hash<H: Hasher>(&self, state: &mut H) {
+        self.items.hash(state);
+    }
 }

@@ -5,3 +5,6 @@ pub mod Quotients
 pub mod Shifts
 pub mod SignedReadings
 pub mod WordLaws
+pub mod Rows
+pub mod Sums
+pub mod Rounding

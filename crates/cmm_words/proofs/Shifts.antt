@@ -6,11 +6,11 @@ use lib.Signed.{mag}
 use Rattle.cmm_words.specs.Integers.{rounded_down}
 
 -- a multiple leaves no remainder
-mul-mod : (a k : ℕ) → a * 2 ^ k % 2 ^ k ≡ 0
+pub mul-mod : (a k : ℕ) → a * 2 ^ k % 2 ^ k ≡ 0
 mul-mod a k = ap (λ n. n % 2 ^ k) (sym (add-zero (a * 2 ^ k))) ∙ mod-mul-add a (2 ^ k) 0 (pow_pos k)
 
 -- what is shifted to the left by k or more has no low k bits
-shl-mod_past : (k a b : ℕ) → k ≤ b → a * 2 ^ b % 2 ^ k ≡ 0
+pub shl-mod_past : (k a b : ℕ) → k ≤ b → a * 2 ^ b % 2 ^ k ≡ 0
 shl-mod_past k a b h =
     let split : b ≡ b - k + k = omega arith in
     let whole : a * 2 ^ b ≡ a * 2 ^ (b - k) * 2 ^ k =
@@ -18,7 +18,7 @@ shl-mod_past k a b h =
     ap (λ n. n % 2 ^ k) whole ∙ mul-mod (a * 2 ^ (b - k)) k
 
 -- what is shifted to the right by k or more is 0
-shr_past : (k n b : ℕ) → n < 2 ^ k → k ≤ b → n / 2 ^ b ≡ 0
+pub shr_past : (k n b : ℕ) → n < 2 ^ k → k ≤ b → n / 2 ^ b ≡ 0
 shr_past k n b h past =
     let below : n < 1 * 2 ^ b = rw (one-mul (2 ^ b)) (lt_of_lt_of_le h (pow_mono past)) in
     let none : n / 2 ^ b < 1 = div_below n (2 ^ b) 1 (pow_pos b) below in
@@ -46,3 +46,8 @@ shr-min k n b below = ⊎_elim within past (cases_lt b k) where
 pub rounded_down-min : (k : ℕ) (z : ℤ) (b : ℕ) → mag z < 2 ^ k → rounded_down z (2 ^ min b k) ≡ rounded_down z (2 ^ b)
 rounded_down-min k (pos n) b below = ap pos (shr-min k n b below)
 rounded_down-min k (negsuc n) b below = ap negsuc (shr-min k n b below)
+
+-- and what is past k shifts as k itself
+pub rounded_down_past : (k : ℕ) (z : ℤ) (b : ℕ) → mag z < 2 ^ k → k ≤ b → rounded_down z (2 ^ b) ≡ rounded_down z (2 ^ k)
+rounded_down_past k (pos n) b below past = let here : k ≤ k = omega arith in ap pos (shr_past k n b below past ∙ sym (shr_past k n k below here))
+rounded_down_past k (negsuc n) b below past = let here : k ≤ k = omega arith in ap negsuc (shr_past k n b below past ∙ sym (shr_past k n k below here))

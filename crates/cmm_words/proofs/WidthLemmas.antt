@@ -31,6 +31,12 @@ cut_wrapped_64 W16 z = cut-wrapped 48 16 z
 cut_wrapped_64 W32 z = cut-wrapped 32 32 z
 cut_wrapped_64 W64 z = cut-wrapped 0 64 z
 
+pub bits_within : (w : Width) → bits w ≤ 64
+bits_within W8 = lit≤ tt
+bits_within W16 = lit≤ tt
+bits_within W32 = lit≤ tt
+bits_within W64 = lit≤ tt
+
 -- a word is a word of 64 bits
 pub word_64 : (w : Width) (a : ℕ) → a < 2 ^ bits w → a < 2 ^ 64
 word_64 W8 a h = lt_of_lt_of_le h (lit≤ tt)

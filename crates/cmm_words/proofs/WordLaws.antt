@@ -1,18 +1,21 @@
 -- The laws of the operators with two operands.
-use Rattle.std.proofs.Common.{◌≡◌, ℕ, ◌+◌, ◌-◌, ◌*◌, ◌/◌, ◌%◌, ◌^◌, ◌<◌, ◌≤◌, min, arith, ℤ, ap, sym, ◌∙◌, lt_of_le_of_lt, mod-eq_of_lt, Some, None, option_map, IfSome, true, false, cond, ◌==◌, refl, Bool, div-le_self}
-use Rattle.std.proofs.lemmas.Nat.{mod_below, pow_pos, and_le_l, or_lt, xor_lt, shr_le, or_mod}
+use Rattle.std.proofs.Common.{◌≡◌, ℕ, ◌+◌, ◌-◌, ◌*◌, ◌/◌, ◌%◌, ◌^◌, ◌<◌, ◌≤◌, min, arith, ℤ, ap, sym, ◌∙◌, lt_of_le_of_lt, mod-eq_of_lt, Some, None, option_map, IfSome, true, false, cond, ◌==◌, refl, Bool, div-le_self, ⊎_elim, mul-one, div-one, add-zero, zero-add}
+use Rattle.std.proofs.lemmas.Nat.{mod_below, pow_pos, and_le_l, or_lt, xor_lt, shr_le, or_mod, shl-shr}
 use Rattle.std.proofs.Math.Nat.{mod-le}
+use Rattle.std.proofs.lemmas.Bool.{cases_lt}
 use lib.Signed.{mag}
 use Rattle.cmm_words.specs.declared.width.Width.{Width}
 use Rattle.cmm_words.specs.declared.operators.Op2.TheVariants.{Add, Sub, Mul, And, Or, Xor, Shl, Shrl, Shra, Rotl, Rotr, Divu, Modu, Div, Mod, Quot, Rem}
 use Rattle.cmm_words.specs.Widths.{bits}
 use Rattle.cmm_words.specs.Integers.{signed, wrapped, rounded_down}
 use Rattle.cmm_words.specs.Words.{divided, folded, low_bits}
-use Rattle.cmm_words.specs.Laws.{IsCut2, IsCutOfExtended, IsCutOfExtendedFirst, RotlIsTwoShifts, RotrIsTwoShifts, GivesWord2, ShlByAnyCount, ShrlByAnyCount, ShraByAnyCount, two_shifts, extended}
+use Rattle.cmm_words.specs.Laws.{IsCut2, IsCutOfExtended, IsCutOfExtendedFirst, RotlIsTwoShifts, RotrIsTwoShifts, GivesWord2, ShlByAnyCount, ShrlByAnyCount, ShraByAnyCount, ShlPastWidth, ShrlPastWidth, ShraPastWidth, two_shifts, extended}
 use Rattle.cmm_words.proofs.Wrapping.{wrapped-below}
-use Rattle.cmm_words.proofs.Rotations.{or-shifts, folded-below}
-use Rattle.cmm_words.proofs.Shifts.{shl-min, shr-min, rounded_down-min}
-use Rattle.cmm_words.proofs.WidthLemmas.{cut_64, cut_wrapped_64, signed-extended, extended-zero, count_within, word_64, signed_fits_width}
+use Rattle.cmm_words.proofs.Rotations.{or_shifts, folded-below}
+use Rattle.cmm_words.proofs.Shifts.{shl-min, shr-min, shl-mod_past, shr_past, rounded_down-min, mul-mod, rounded_down_past}
+use lib.Bits.{or_self}
+use Rattle.cmm_words.proofs.SignedReadings.{signed_fits}
+use Rattle.cmm_words.proofs.WidthLemmas.{cut_64, cut_wrapped_64, signed-extended, extended-zero, count_within, word_64, signed_fits_width, bits_within, positive_bits}
 
 -- ---- every value is a word
 
@@ -52,6 +55,22 @@ pub shra_by_any : ShraByAnyCount
 shra_by_any w a b h =
     ap (λ z. Some (wrapped (bits w) z)) (rounded_down-min (bits w) (signed (bits w) a) b (signed_fits_width w a h))
 
+pub shl_past : ShlPastWidth
+shl_past w a b past = ap Some (shl-min (bits w) a b ∙ shl-mod_past (bits w) a b past)
+
+pub shrl_past : ShrlPastWidth
+shrl_past w a b h past = ap Some (shr-min (bits w) a b h ∙ shr_past (bits w) a b h past)
+
+pub shra_past : ShraPastWidth
+shra_past w a b h past =
+    let k : ℕ = bits w in
+    let x : ℤ = signed k a in
+    let fits : mag x < 2 ^ k = signed_fits_width w a h in
+    let half : mag x < 2 ^ (k - 1) = signed_fits k a (positive_bits w) h in
+    let fewer : k - 1 ≤ b = omega arith in
+    ap (λ z. Some (wrapped k z))
+    (rounded_down-min k x b fits ∙ rounded_down_past (k - 1) x b half fewer ∙ sym (rounded_down-min k x (k - 1) fits))
+
 -- ---- an operator by the same at 64 bits
 
 pub or_cut : IsCut2 Or
@@ -81,14 +100,50 @@ rotation w a n m ha whole =
     let within : n ≤ bits w = omega arith in
     let rest : bits w - n ≡ m = omega arith in
     let kept : a / 2 ^ m % 2 ^ bits w ≡ a / 2 ^ m = mod-eq_of_lt (lt_of_le_of_lt (shr_le a m) ha) in
-    sym (or-shifts (bits w) n a within ha)
+    sym (or_shifts (bits w) n a within ha)
     ∙ rw (rest, or_mod (a * 2 ^ n % 2 ^ 64) (a / 2 ^ m) (bits w), cut_64 w (a * 2 ^ n), kept) refl
 
+-- a rotation of a whole register by nothing
+no_shifts : (w : Width) (a : ℕ) → a < 2 ^ bits w → two_shifts w a 0 0 ≡ a
+no_shifts w a h = rw (mul-one a, div-one a, mod-eq_of_lt (word_64 w a h), or_self a) (mod-eq_of_lt h)
+
+folded-none : (k a : ℕ) → a < 2 ^ k → folded k (a * 2 ^ 0) ≡ a
+folded-none k a h =
+    let here : k ≤ k = omega arith in
+    rw (mul-one a, mod-eq_of_lt h, shr_past k a k h here) (add-zero a)
+
+folded-whole : (k a : ℕ) → folded k (a * 2 ^ k) ≡ a
+folded-whole k a = rw (mul-mod a k, shl-shr a k) (zero-add a)
+
 pub rotl_shifts : RotlIsTwoShifts
-rotl_shifts w a b h = let within = count_within w b in ap Some (rotation w a (b % bits w) (bits w - b % bits w) h (omega arith))
+rotl_shifts w a b h = ap Some (⊎_elim below whole (cases_lt (bits w - n) 64)) where
+  n : ℕ
+  n = b % bits w
+
+  below : bits w - n < 64 → folded (bits w) (a * 2 ^ n) ≡ two_shifts w a n ((bits w - n) % 64)
+  below lt = let within : n ≤ bits w = count_within w b in rw (mod-eq_of_lt lt) (rotation w a n (bits w - n) h (omega arith))
+
+  whole : 64 ≤ bits w - n → folded (bits w) (a * 2 ^ n) ≡ two_shifts w a n ((bits w - n) % 64)
+  whole le =
+      let none : n ≡ 0 = omega (arith, bits_within w) in
+      let left : (bits w - n) % 64 ≡ 0 = let all : bits w - n ≡ 64 = omega (arith, bits_within w) in ap (λ m. m % 64) all in
+      rw (left, none) (folded-none (bits w) a h ∙ sym (no_shifts w a h))
 
 pub rotr_shifts : RotrIsTwoShifts
-rotr_shifts w a b h = let within = count_within w b in ap Some (rotation w a (bits w - b % bits w) (b % bits w) h (omega arith))
+rotr_shifts w a b h = ap Some (⊎_elim below whole (cases_lt (bits w - n) 64)) where
+  n : ℕ
+  n = b % bits w
+
+  below : bits w - n < 64 → folded (bits w) (a * 2 ^ (bits w - n)) ≡ two_shifts w a ((bits w - n) % 64) n
+  below lt = let within : n ≤ bits w = count_within w b in rw (mod-eq_of_lt lt) (rotation w a (bits w - n) n h (omega arith))
+
+  whole : 64 ≤ bits w - n → folded (bits w) (a * 2 ^ (bits w - n)) ≡ two_shifts w a ((bits w - n) % 64) n
+  whole le =
+      let none : n ≡ 0 = omega (arith, bits_within w) in
+      let left : (bits w - n) % 64 ≡ 0 = let all : bits w - n ≡ 64 = omega (arith, bits_within w) in ap (λ m. m % 64) all in
+      let whole_width : bits w - n ≡ bits w = omega arith in
+      ap (λ m. folded (bits w) (a * 2 ^ m)) whole_width ∙ folded-whole (bits w) a
+      ∙ sym (rw (left, none) (no_shifts w a h))
 
 -- a division's value at 64 bits, cut
 cut-divided : (w : Width) (b : ℕ) (z : ℤ) → b < 2 ^ bits w → divided b (wrapped (bits w) z) ≡ option_map (low_bits w) (divided (extended w b) (wrapped 64 z))

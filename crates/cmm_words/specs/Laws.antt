@@ -1,18 +1,16 @@
 -- What the layers above use of the word operators, each law one notion.
-use Rattle.std.specs.Prelude.{◌≡◌, ℕ, ◌-◌, ◌*◌, ◌/◌, ◌%◌, ◌^◌, ◌<◌, ◌≤◌, ℤ, pos, ◌<ℤ◌, ◌≤ℤ◌, Some, option_map, IfSome, bit_or, unsigned_abs}
+use Rattle.std.specs.Prelude.{◌≡◌, ℕ, ◌+◌, ◌-◌, ◌*◌, ◌/◌, ◌%◌, ◌^◌, ◌<◌, ◌≤◌, ℤ, pos, ◌+ℤ◌, ◌<ℤ◌, ◌≤ℤ◌, Bool, not, ◌&&◌, Some, option_map, IfSome, bit_or, unsigned_abs, if◌then◌else◌}
+use Rattle.std.specs.Bool.{beq}
 use Rattle.cmm_words.specs.declared.width.Width.{Width}
 use Rattle.cmm_words.specs.declared.width.Width.TheVariants.{W64}
 use Rattle.cmm_words.specs.declared.operators.Op1.{Op1}
 use Rattle.cmm_words.specs.declared.operators.Op2.{Op2}
-use Rattle.cmm_words.specs.declared.operators.Op2.TheVariants.{Shl, Shrl, Shra, Rotl, Rotr}
+use Rattle.cmm_words.specs.declared.operators.Op2.TheVariants.{Add, Sub, Shl, Shrl, Shra, Rotl, Rotr, Div, Mod, Quot, Rem}
 use Rattle.cmm_words.specs.declared.operators.Cmp.{Cmp}
-use Rattle.cmm_words.specs.Widths.{bits}
+use Rattle.cmm_words.specs.declared.operators.Cmp.TheVariants.{Ne, Lt}
+use Rattle.cmm_words.specs.Widths.{bits, IsWord}
 use Rattle.cmm_words.specs.Integers.{signed, wrapped, rounded_down, quotient_down, quotient_toward_zero, remainder}
 use Rattle.cmm_words.specs.Words.{low_bits, sign_extended, value1, value2, holds}
-
--- a number is a word
-abbrev pub IsWord : Width → ℕ → Type 0
-IsWord w a = a < 2 ^ bits w
 
 -- ---- an operator at a width, by the same operator at 64 bits
 
@@ -42,14 +40,15 @@ IsCutOfExtendedFirst op = (w : Width) (a b : ℕ) → IsWord w a → IsWord w b 
 abbrev pub two_shifts : Width → ℕ → ℕ → ℕ → ℕ
 two_shifts w a left right = low_bits w (bit_or (low_bits W64 (a * 2 ^ left)) (a / 2 ^ right))
 
--- A rotation is a shift by the count and one the other way by what the count leaves of the width.
+-- A rotation is a shift by the count and one the other way by what the count leaves of the width. A shift of 64 bits
+-- takes its count modulo 64, and so it may here.
 abbrev pub RotlIsTwoShifts : Type 0
 RotlIsTwoShifts = (w : Width) (a b : ℕ) → IsWord w a →
-    value2 Rotl w a b ≡ Some (two_shifts w a (b % bits w) (bits w - b % bits w))
+    value2 Rotl w a b ≡ Some (two_shifts w a (b % bits w) ((bits w - b % bits w) % 64))
 
 abbrev pub RotrIsTwoShifts : Type 0
 RotrIsTwoShifts = (w : Width) (a b : ℕ) → IsWord w a →
-    value2 Rotr w a b ≡ Some (two_shifts w a (bits w - b % bits w) (b % bits w))
+    value2 Rotr w a b ≡ Some (two_shifts w a ((bits w - b % bits w) % 64) (b % bits w))
 
 -- A comparison at a width is the comparison at 64 bits, on the words as they are or extended.
 abbrev pub IsWide : Cmp → Type 0
@@ -112,6 +111,45 @@ ShrlByAnyCount = (w : Width) (a b : ℕ) → IsWord w a → value2 Shrl w a b �
 abbrev pub ShraByAnyCount : Type 0
 ShraByAnyCount = (w : Width) (a b : ℕ) → IsWord w a →
     value2 Shra w a b ≡ Some (wrapped (bits w) (rounded_down (signed (bits w) a) (2 ^ b)))
+
+-- and a count past the width gives what the last count gives, or nothing
+abbrev pub ShlPastWidth : Type 0
+ShlPastWidth = (w : Width) (a b : ℕ) → bits w ≤ b → value2 Shl w a b ≡ Some 0
+
+abbrev pub ShrlPastWidth : Type 0
+ShrlPastWidth = (w : Width) (a b : ℕ) → IsWord w a → bits w ≤ b → value2 Shrl w a b ≡ Some 0
+
+abbrev pub ShraPastWidth : Type 0
+ShraPastWidth = (w : Width) (a b : ℕ) → IsWord w a → bits w ≤ b → value2 Shra w a b ≡ value2 Shra w a (bits w - 1)
+
+-- ---- integers as words
+
+-- integers that are a multiple of 2 to the width apart are one word
+abbrev pub WordPastMultiple : Type 0
+WordPastMultiple = (w : Width) (z : ℤ) (n : ℕ) → wrapped (bits w) (z +ℤ pos (n * 2 ^ bits w)) ≡ wrapped (bits w) z
+
+-- the word of a sum is the sum of the words
+abbrev pub WordOfSum : Type 0
+WordOfSum = (w : Width) (x y : ℤ) →
+    wrapped (bits w) (x +ℤ y) ≡ low_bits w (wrapped (bits w) x + wrapped (bits w) y)
+
+-- ---- divisions: one rounding by the other
+
+-- a remainder r of a division toward zero by b tells whether its quotient was rounded up
+abbrev pub is_rounded_up : Width → ℕ → ℕ → Bool
+is_rounded_up w b r = holds Ne w r 0 && not (beq (holds Lt w r 0) (holds Lt w b 0))
+
+-- a quotient rounded down is that toward zero, or less by 1 where that was rounded up
+abbrev pub DivFromQuot : Type 0
+DivFromQuot = (w : Width) (a b q r : ℕ) → IsWord w a → IsWord w b →
+    value2 Quot w a b ≡ Some q → value2 Rem w a b ≡ Some r →
+    value2 Div w a b ≡ (if is_rounded_up w b r then value2 Sub w q 1 else Some q)
+
+-- and its remainder is more by the divisor there
+abbrev pub ModFromRem : Type 0
+ModFromRem = (w : Width) (a b r : ℕ) → IsWord w a → IsWord w b →
+    value2 Rem w a b ≡ Some r →
+    value2 Mod w a b ≡ (if is_rounded_up w b r then value2 Add w r b else Some r)
 
 -- ---- divisions: the remainder tells how a quotient is rounded
 

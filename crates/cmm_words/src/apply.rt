@@ -1,7 +1,7 @@
 //! The operators, applied to words.
 
-ghost use Rattle.std.specs.Prelude.{◌≡◌, ◌^◌, ◌<◌, ◌↔◌, IsTrue, IsNone, IfSome};
-ghost use Rattle.cmm_words.specs.Widths.{bits};
+ghost use Rattle.std.specs.Prelude.{◌≡◌, ◌↔◌, IsTrue, IsNone, IfSome};
+ghost use Rattle.cmm_words.specs.Widths.{IsWord};
 ghost use Rattle.cmm_words.specs.Words.{value1, value2, is_division};
 
 use crate::conversion::low;
@@ -12,9 +12,9 @@ use crate::width::Width;
 
 /// What an operator gives at one word.
 pub fn apply1(operator: Op1, width: Width, word: u64) -> u64
-    requires { word < 2 ^ bits width }
+    requires { IsWord width word }
     ensures value { result ≡ value1 operator width word }
-    ensures word { result < 2 ^ bits width }
+    ensures word { IsWord width result }
 {
     match operator {
         Op1::Com => width.max() - word,
@@ -24,11 +24,11 @@ pub fn apply1(operator: Op1, width: Width, word: u64) -> u64
 
 /// What an operator gives at two words: None where a division's divisor is 0.
 pub fn apply2(operator: Op2, width: Width, left: u64, right: u64) -> Option<u64>
-    requires left { left < 2 ^ bits width }
-    requires right { right < 2 ^ bits width }
+    requires left { IsWord width left }
+    requires right { IsWord width right }
     ensures value { result ≡ value2 operator width left right }
     ensures none { IsNone result ↔ (IsTrue (is_division operator) × (right ≡ 0)) }
-    ensures word { IfSome result (λ word. word < 2 ^ bits width) }
+    ensures word { IfSome result (IsWord width) }
 {
     match operator {
         Op2::Add => Some(low(width, left.wrapping_add(right))),

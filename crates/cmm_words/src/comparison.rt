@@ -1,7 +1,7 @@
 //! Comparisons of words.
 
-ghost use Rattle.std.specs.Prelude.{◌≡◌, ◌^◌, ◌<◌};
-ghost use Rattle.cmm_words.specs.Widths.{bits};
+ghost use Rattle.std.specs.Prelude.{◌≡◌};
+ghost use Rattle.cmm_words.specs.Widths.{IsWord};
 ghost use Rattle.cmm_words.specs.Words.{holds};
 
 use crate::conversion::to_signed;
@@ -10,8 +10,8 @@ use crate::width::Width;
 
 /// Whether a comparison holds of two words.
 pub fn compare(comparison: Cmp, width: Width, left: u64, right: u64) -> bool
-    requires left { left < 2 ^ bits width }
-    requires right { right < 2 ^ bits width }
+    requires left { IsWord width left }
+    requires right { IsWord width right }
     ensures { result ≡ holds comparison width left right }
 {
     match comparison {

@@ -1,7 +1,7 @@
 //! Words of one width as words of another, and as signed numbers.
 
-ghost use Rattle.std.specs.Prelude.{◌≡◌, ◌^◌, ◌<◌, ◌≤◌};
-ghost use Rattle.cmm_words.specs.Widths.{bits};
+ghost use Rattle.std.specs.Prelude.{◌≡◌, ◌≤◌};
+ghost use Rattle.cmm_words.specs.Widths.{bits, IsWord};
 ghost use Rattle.cmm_words.specs.Integers.{signed, wrapped};
 ghost use Rattle.cmm_words.specs.Words.{low_bits, sign_extended};
 
@@ -17,7 +17,7 @@ pub fn low(width: Width, value: u64) -> u64
 /// Extends a word to a width that is not less, by its top bit.
 pub fn extend(from: Width, to: Width, word: u64) -> u64
     requires not_wider { bits from ≤ bits to }
-    requires word { word < 2 ^ bits from }
+    requires word { IsWord from word }
     ensures { result ≡ sign_extended from to word }
 {
     if word <= from.max() / 2 {
@@ -29,7 +29,7 @@ pub fn extend(from: Width, to: Width, word: u64) -> u64
 
 /// A word read as a signed number.
 pub(crate) fn to_signed(width: Width, word: u64) -> i64
-    requires { word < 2 ^ bits width }
+    requires { IsWord width word }
     ensures { result ≡ signed (bits width) word }
 {
     extend(width, Width::W64, word).cast_signed()

@@ -1,9 +1,9 @@
 //! Signed division by the host's, whose quotients are rounded toward zero.
 
-ghost use Rattle.std.specs.Prelude.{◌≡◌, ◌^◌, ◌<◌, pos, ◌+ℤ◌};
+ghost use Rattle.std.specs.Prelude.{◌≡◌, pos, ◌+ℤ◌};
 ghost use Rattle.std.specs.Bool.{OnTrue, OnFalse};
 ghost use Rattle.std.specs.Int.{w64, IsNonZero};
-ghost use Rattle.cmm_words.specs.Widths.{bits};
+ghost use Rattle.cmm_words.specs.Widths.{IsWord};
 ghost use Rattle.cmm_words.specs.Integers.{wrapped, quotient_down, quotient_toward_zero, remainder};
 ghost use Rattle.cmm_words.specs.Words.{value2};
 
@@ -47,8 +47,8 @@ fn remainder_rounded_down(dividend: i64, divisor: i64) -> i64
 }
 
 pub(crate) fn divide_down(width: Width, left: u64, right: u64) -> Option<u64>
-    requires left { left < 2 ^ bits width }
-    requires right { right < 2 ^ bits width }
+    requires left { IsWord width left }
+    requires right { IsWord width right }
     ensures { result ≡ value2 Op2.Div width left right }
 {
     if right == 0 {
@@ -59,8 +59,8 @@ pub(crate) fn divide_down(width: Width, left: u64, right: u64) -> Option<u64>
 }
 
 pub(crate) fn modulo_down(width: Width, left: u64, right: u64) -> Option<u64>
-    requires left { left < 2 ^ bits width }
-    requires right { right < 2 ^ bits width }
+    requires left { IsWord width left }
+    requires right { IsWord width right }
     ensures { result ≡ value2 Op2.Mod width left right }
 {
     if right == 0 {
@@ -71,8 +71,8 @@ pub(crate) fn modulo_down(width: Width, left: u64, right: u64) -> Option<u64>
 }
 
 pub(crate) fn divide_toward_zero(width: Width, left: u64, right: u64) -> Option<u64>
-    requires left { left < 2 ^ bits width }
-    requires right { right < 2 ^ bits width }
+    requires left { IsWord width left }
+    requires right { IsWord width right }
     ensures { result ≡ value2 Op2.Quot width left right }
 {
     if right == 0 {
@@ -83,8 +83,8 @@ pub(crate) fn divide_toward_zero(width: Width, left: u64, right: u64) -> Option<
 }
 
 pub(crate) fn modulo_toward_zero(width: Width, left: u64, right: u64) -> Option<u64>
-    requires left { left < 2 ^ bits width }
-    requires right { right < 2 ^ bits width }
+    requires left { IsWord width left }
+    requires right { IsWord width right }
     ensures { result ≡ value2 Op2.Rem width left right }
 {
     if right == 0 {

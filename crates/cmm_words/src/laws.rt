@@ -1,6 +1,6 @@
 //! Laws of the operators that the layers above use. Each is the contract of a function that does nothing.
 
-ghost use Rattle.cmm_words.specs.Laws.{IsCut1, IsCut2, IsCutOfExtended, IsCutOfExtendedFirst, RotlIsTwoShifts, RotrIsTwoShifts, IsWide, IsWideOfExtended, GivesWord1, GivesWord2, LowIsWord, ExtendedIsWord, LowOfLow, LowOfWord, LowOfExtended, ExtendedOfExtended, SignedOfExtended, WordOfSigned, ShlByAnyCount, ShrlByAnyCount, ShraByAnyCount, DownByPositive, DownByNegative, TowardZeroIsNearer, TowardZeroOfPositive, TowardZeroOfNegative};
+ghost use Rattle.cmm_words.specs.Laws.{IsCut1, IsCut2, IsCutOfExtended, IsCutOfExtendedFirst, RotlIsTwoShifts, RotrIsTwoShifts, IsWide, IsWideOfExtended, GivesWord1, GivesWord2, LowIsWord, ExtendedIsWord, LowOfLow, LowOfWord, LowOfExtended, ExtendedOfExtended, SignedOfExtended, WordOfSigned, ShlByAnyCount, ShrlByAnyCount, ShraByAnyCount, ShlPastWidth, ShrlPastWidth, ShraPastWidth, WordPastMultiple, WordOfSum, DivFromQuot, ModFromRem, DownByPositive, DownByNegative, TowardZeroIsNearer, TowardZeroOfPositive, TowardZeroOfNegative};
 
 use crate::operators::{Cmp, Op1, Op2};
 
@@ -67,6 +67,21 @@ pub fn shifts_by_any_count()
     ensures left { ShlByAnyCount }
     ensures right { ShrlByAnyCount }
     ensures right_signed { ShraByAnyCount }
+    ensures left_past_width { ShlPastWidth }
+    ensures right_past_width { ShrlPastWidth }
+    ensures right_signed_past_width { ShraPastWidth }
+{}
+
+/// Integers as words: a multiple of 2 to the width adds nothing, and sums are those of the words.
+pub fn integers_as_words()
+    ensures multiple { WordPastMultiple }
+    ensures sum { WordOfSum }
+{}
+
+/// A division rounded down, by one rounded toward zero, which is the one that machines have.
+pub fn divisions_by_each_other()
+    ensures quotient { DivFromQuot }
+    ensures remainder { ModFromRem }
 {}
 
 /// The remainders of the two kinds of signed division, which tell how their quotients are rounded.

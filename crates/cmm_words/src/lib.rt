@@ -31,3 +31,6 @@ pub use conversion::{extend, low};
 pub use name::Name;
 pub use operators::{Cmp, Op1, Op2};
 pub use width::Width;
+
+#[cfg(test)]
+mod tests;

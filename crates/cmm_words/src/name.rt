@@ -1,13 +1,15 @@
 //! Names, which are bytes.
 
 ghost use Rattle.std.specs.Prelude.{◌≡◌, ◌↔◌, IsTrue, IfOk, bytes_eq};
+ghost use Rattle.std.specs.Cmp.{partial_equiv_from_equiv};
+ghost use Rattle.std.specs.Cmp.Lexicographic.{nat_list_eq_equiv};
 
 use cmm_items::Items;
 use std::alloc::{AllocError, Global};
 use std::marker::Model;
 
-/// A name: bytes, of which contracts see the list.
-#[derive(Debug, Drop)]
+/// A name: bytes, of which contracts see the list. Names are ordered as their bytes are.
+#[derive(Debug, Drop, Eq, PartialOrd, Ord, Hash)]
 pub struct Name {
     bytes: Items<u8>,
 }
@@ -42,5 +44,30 @@ impl Name {
         ensures { result.now ≡ self.now }
     {
         self.bytes.as_slice()
+    }
+}
+
+/// A copy is the same name.
+impl Clone for Name {
+    ghost is_clone = { λ name copy. copy ≡ name };
+
+    fn clone(&self) -> Result<Name, AllocError> {
+        Ok(Name {
+            bytes: self.bytes.clone()?,
+        })
+    }
+}
+
+/// Two names are equal where their bytes are.
+impl PartialEq for Name {
+    ghost eq = { bytes_eq };
+
+    ghost laws = { partial_equiv_from_equiv nat_list_eq_equiv };
+
+    fn eq(&self, other: &Name) -> bool
+        ensures value { result ≡ bytes_eq self.now other.now }
+        ensures same { IsTrue result ↔ (self.now ≡ other.now) }
+    {
+        self.bytes == other.bytes
     }
 }

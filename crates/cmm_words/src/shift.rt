@@ -1,7 +1,7 @@
 //! Shifts and rotations. A shift by the width or more shifts every bit out.
 
-ghost use Rattle.std.specs.Prelude.{◌≡◌, ◌^◌, ◌<◌, Some};
-ghost use Rattle.cmm_words.specs.Widths.{bits};
+ghost use Rattle.std.specs.Prelude.{◌≡◌, Some};
+ghost use Rattle.cmm_words.specs.Widths.{IsWord};
 ghost use Rattle.cmm_words.specs.Words.{value2};
 
 use crate::conversion::{low, to_signed, to_word};
@@ -9,7 +9,7 @@ use crate::operators::Op2;
 use crate::width::Width;
 
 pub(crate) fn shift_left(width: Width, word: u64, count: u64) -> u64
-    requires { word < 2 ^ bits width }
+    requires { IsWord width word }
     ensures { value2 Op2.Shl width word count ≡ Some result }
 {
     if count < width.bits() {
@@ -20,7 +20,7 @@ pub(crate) fn shift_left(width: Width, word: u64, count: u64) -> u64
 }
 
 pub(crate) fn shift_right(width: Width, word: u64, count: u64) -> u64
-    requires { word < 2 ^ bits width }
+    requires { IsWord width word }
     ensures { value2 Op2.Shrl width word count ≡ Some result }
 {
     if count < width.bits() {
@@ -32,14 +32,15 @@ pub(crate) fn shift_right(width: Width, word: u64, count: u64) -> u64
 
 /// A shift to the right that copies the top bit, so that a count past the width leaves copies of it.
 pub(crate) fn shift_right_signed(width: Width, word: u64, count: u64) -> u64
-    requires { word < 2 ^ bits width }
+    requires { IsWord width word }
     ensures { value2 Op2.Shra width word count ≡ Some result }
 {
     to_word(width, to_signed(width, word) >> count.min(width.bits() - 1))
 }
 
+#[tactic(auto, using(crate::proofs::Rotations::or_shifts, crate::proofs::WidthLemmas::cut_64))]
 pub(crate) fn rotate_left(width: Width, word: u64, count: u64) -> u64
-    requires { word < 2 ^ bits width }
+    requires { IsWord width word }
     ensures { value2 Op2.Rotl width word count ≡ Some result }
 {
     let count = count % width.bits();
@@ -51,7 +52,7 @@ pub(crate) fn rotate_left(width: Width, word: u64, count: u64) -> u64
 }
 
 pub(crate) fn rotate_right(width: Width, word: u64, count: u64) -> u64
-    requires { word < 2 ^ bits width }
+    requires { IsWord width word }
     ensures { value2 Op2.Rotr width word count ≡ Some result }
 {
     rotate_left(width, word, width.bits() - count % width.bits())

@@ -1,7 +1,7 @@
 //! The widths that words have.
 
-ghost use Rattle.std.specs.Prelude.{◌≡◌, ◌-◌, ◌^◌};
-ghost use Rattle.cmm_words.specs.Widths.{bits};
+ghost use Rattle.std.specs.Prelude.{◌≡◌, ◌≢◌, ◌-◌, ◌^◌, IfSome, IfNone};
+ghost use Rattle.cmm_words.specs.Widths.{bits, bytes};
 
 /// How many bits a word has: 8, 16, 32 or 64.
 #[derive(Clone, Copy, Debug, PartialEq, Eq)]
@@ -22,6 +22,27 @@ impl Width {
             Width::W16 => 16,
             Width::W32 => 32,
             Width::W64 => 64,
+        }
+    }
+
+    /// The number of bytes.
+    pub fn bytes(self) -> u64
+        ensures { result ≡ bytes self }
+    {
+        self.bits() / 8
+    }
+
+    /// The width of so many bits, if there is one.
+    pub fn from_bits(count: u64) -> Option<Width>
+        ensures some { IfSome result (λ width. bits width ≡ count) }
+        ensures none { IfNone result ((width : Width) → bits width ≢ count) }
+    {
+        match count {
+            8 => Some(Width::W8),
+            16 => Some(Width::W16),
+            32 => Some(Width::W32),
+            64 => Some(Width::W64),
+            _ => None,
         }
     }
 
