@@ -1,7 +1,7 @@
 //! From a word to its instruction.
 ghost use Rattle.std.specs.Prelude.{◌≡◌, ◌≢◌, ◌<◌, ◌^◌, ◌↔◌, ◌+◌, ◌*◌, ◌%◌, pos, IsNone};
 ghost use Rattle.rv_table.specs.declared.instruction.Instr.{Instr};
-ghost use Rattle.rv_table.specs.Decoding.{instr_of, by_opcode, by_funct3, by_funct7, by_top, by_word, opcodes, immediate_operations, left_shifts, register_operations, base_operations, alternate_operations, immediate_word_operations, environment_calls, i_immediate, upper_bits};
+ghost use Rattle.rv_table.specs.Decoding.{instr_of, by_funct3, by_funct7, by_top, by_word, indirect_jumps, branches, loads, stores, immediate_operations, left_shifts, right_shifts, register_operations, base_operations, alternate_operations, multiplications, immediate_word_operations, left_word_shifts, right_word_shifts, register_word_operations, base_word_operations, alternate_word_operations, word_multiplications, environment_calls, i_bits, s_bits, b_bits, u_bits, j_bits, shift_bits};
 ghost use Rattle.rv_table.specs.Encoding.{InRange, cut};
 ghost use Rattle.rv_table.specs.Table.{IsValid, word_of};
 ghost use Rattle.rv_table.specs.Words.{signed};
@@ -26,10 +26,149 @@ fn read_word(word: u32) -> Option<Instr>
             rd: f.rd,
             imm: upper_immediate(f),
         }),
+        0b0010111 => Some(Instr::Auipc {
+            rd: f.rd,
+            imm: upper_immediate(f),
+        }),
+        0b1101111 => Some(Instr::Jal {
+            rd: f.rd,
+            imm: jump_offset(f),
+        }),
+        0b1100111 => indirect_jump(f),
+        0b1100011 => branch(f),
+        0b0000011 => load(f),
+        0b0100011 => store(f),
         0b0010011 => immediate_operation(f),
         0b0110011 => register_operation(f),
         0b0011011 => immediate_word_operation(f),
+        0b0111011 => register_word_operation(f),
         0b1110011 => environment_call(word),
+        _ => None,
+    }
+}
+
+fn indirect_jump(f: Fields) -> Option<Instr>
+    requires { InRange f }
+    ensures { result ≡ by_funct3 indirect_jumps f }
+{
+    match f.funct3 {
+        0b000 => Some(Instr::Jalr {
+            rd: f.rd,
+            rs1: f.rs1,
+            imm: immediate(f),
+        }),
+        _ => None,
+    }
+}
+
+fn branch(f: Fields) -> Option<Instr>
+    requires { InRange f }
+    ensures { result ≡ by_funct3 branches f }
+{
+    match f.funct3 {
+        0b000 => Some(Instr::Beq {
+            rs1: f.rs1,
+            rs2: f.rs2,
+            imm: branch_offset(f),
+        }),
+        0b001 => Some(Instr::Bne {
+            rs1: f.rs1,
+            rs2: f.rs2,
+            imm: branch_offset(f),
+        }),
+        0b100 => Some(Instr::Blt {
+            rs1: f.rs1,
+            rs2: f.rs2,
+            imm: branch_offset(f),
+        }),
+        0b101 => Some(Instr::Bge {
+            rs1: f.rs1,
+            rs2: f.rs2,
+            imm: branch_offset(f),
+        }),
+        0b110 => Some(Instr::Bltu {
+            rs1: f.rs1,
+            rs2: f.rs2,
+            imm: branch_offset(f),
+        }),
+        0b111 => Some(Instr::Bgeu {
+            rs1: f.rs1,
+            rs2: f.rs2,
+            imm: branch_offset(f),
+        }),
+        _ => None,
+    }
+}
+
+fn load(f: Fields) -> Option<Instr>
+    requires { InRange f }
+    ensures { result ≡ by_funct3 loads f }
+{
+    match f.funct3 {
+        0b000 => Some(Instr::Lb {
+            rd: f.rd,
+            rs1: f.rs1,
+            imm: immediate(f),
+        }),
+        0b001 => Some(Instr::Lh {
+            rd: f.rd,
+            rs1: f.rs1,
+            imm: immediate(f),
+        }),
+        0b010 => Some(Instr::Lw {
+            rd: f.rd,
+            rs1: f.rs1,
+            imm: immediate(f),
+        }),
+        0b011 => Some(Instr::Ld {
+            rd: f.rd,
+            rs1: f.rs1,
+            imm: immediate(f),
+        }),
+        0b100 => Some(Instr::Lbu {
+            rd: f.rd,
+            rs1: f.rs1,
+            imm: immediate(f),
+        }),
+        0b101 => Some(Instr::Lhu {
+            rd: f.rd,
+            rs1: f.rs1,
+            imm: immediate(f),
+        }),
+        0b110 => Some(Instr::Lwu {
+            rd: f.rd,
+            rs1: f.rs1,
+            imm: immediate(f),
+        }),
+        _ => None,
+    }
+}
+
+fn store(f: Fields) -> Option<Instr>
+    requires { InRange f }
+    ensures { result ≡ by_funct3 stores f }
+{
+    match f.funct3 {
+        0b000 => Some(Instr::Sb {
+            rs1: f.rs1,
+            rs2: f.rs2,
+            imm: store_offset(f),
+        }),
+        0b001 => Some(Instr::Sh {
+            rs1: f.rs1,
+            rs2: f.rs2,
+            imm: store_offset(f),
+        }),
+        0b010 => Some(Instr::Sw {
+            rs1: f.rs1,
+            rs2: f.rs2,
+            imm: store_offset(f),
+        }),
+        0b011 => Some(Instr::Sd {
+            rs1: f.rs1,
+            rs2: f.rs2,
+            imm: store_offset(f),
+        }),
         _ => None,
     }
 }
@@ -45,6 +184,32 @@ fn immediate_operation(f: Fields) -> Option<Instr>
             imm: immediate(f),
         }),
         0b001 => left_shift(f),
+        0b010 => Some(Instr::Slti {
+            rd: f.rd,
+            rs1: f.rs1,
+            imm: immediate(f),
+        }),
+        0b011 => Some(Instr::Sltiu {
+            rd: f.rd,
+            rs1: f.rs1,
+            imm: immediate(f),
+        }),
+        0b100 => Some(Instr::Xori {
+            rd: f.rd,
+            rs1: f.rs1,
+            imm: immediate(f),
+        }),
+        0b101 => right_shift(f),
+        0b110 => Some(Instr::Ori {
+            rd: f.rd,
+            rs1: f.rs1,
+            imm: immediate(f),
+        }),
+        0b111 => Some(Instr::Andi {
+            rd: f.rd,
+            rs1: f.rs1,
+            imm: immediate(f),
+        }),
         _ => None,
     }
 }
@@ -63,6 +228,25 @@ fn left_shift(f: Fields) -> Option<Instr>
     }
 }
 
+fn right_shift(f: Fields) -> Option<Instr>
+    requires { InRange f }
+    ensures { result ≡ by_top right_shifts f }
+{
+    match f.funct7 / 2 {
+        0b000000 => Some(Instr::Srli {
+            rd: f.rd,
+            rs1: f.rs1,
+            imm: amount(f),
+        }),
+        0b010000 => Some(Instr::Srai {
+            rd: f.rd,
+            rs1: f.rs1,
+            imm: amount(f),
+        }),
+        _ => None,
+    }
+}
+
 fn register_operation(f: Fields) -> Option<Instr>
     requires { InRange f }
     ensures { result ≡ by_funct7 register_operations f }
@@ -70,6 +254,7 @@ fn register_operation(f: Fields) -> Option<Instr>
     match f.funct7 {
         0b0000000 => base_operation(f),
         0b0100000 => alternate_operation(f),
+        0b0000001 => multiplication(f),
         _ => None,
     }
 }
@@ -80,6 +265,41 @@ fn base_operation(f: Fields) -> Option<Instr>
 {
     match f.funct3 {
         0b000 => Some(Instr::Add {
+            rd: f.rd,
+            rs1: f.rs1,
+            rs2: f.rs2,
+        }),
+        0b001 => Some(Instr::Sll {
+            rd: f.rd,
+            rs1: f.rs1,
+            rs2: f.rs2,
+        }),
+        0b010 => Some(Instr::Slt {
+            rd: f.rd,
+            rs1: f.rs1,
+            rs2: f.rs2,
+        }),
+        0b011 => Some(Instr::Sltu {
+            rd: f.rd,
+            rs1: f.rs1,
+            rs2: f.rs2,
+        }),
+        0b100 => Some(Instr::Xor {
+            rd: f.rd,
+            rs1: f.rs1,
+            rs2: f.rs2,
+        }),
+        0b101 => Some(Instr::Srl {
+            rd: f.rd,
+            rs1: f.rs1,
+            rs2: f.rs2,
+        }),
+        0b110 => Some(Instr::Or {
+            rd: f.rd,
+            rs1: f.rs1,
+            rs2: f.rs2,
+        }),
+        0b111 => Some(Instr::And {
             rd: f.rd,
             rs1: f.rs1,
             rs2: f.rs2,
@@ -98,6 +318,60 @@ fn alternate_operation(f: Fields) -> Option<Instr>
             rs1: f.rs1,
             rs2: f.rs2,
         }),
+        0b101 => Some(Instr::Sra {
+            rd: f.rd,
+            rs1: f.rs1,
+            rs2: f.rs2,
+        }),
+        _ => None,
+    }
+}
+
+fn multiplication(f: Fields) -> Option<Instr>
+    requires { InRange f }
+    ensures { result ≡ by_funct3 multiplications f }
+{
+    match f.funct3 {
+        0b000 => Some(Instr::Mul {
+            rd: f.rd,
+            rs1: f.rs1,
+            rs2: f.rs2,
+        }),
+        0b001 => Some(Instr::Mulh {
+            rd: f.rd,
+            rs1: f.rs1,
+            rs2: f.rs2,
+        }),
+        0b010 => Some(Instr::Mulhsu {
+            rd: f.rd,
+            rs1: f.rs1,
+            rs2: f.rs2,
+        }),
+        0b011 => Some(Instr::Mulhu {
+            rd: f.rd,
+            rs1: f.rs1,
+            rs2: f.rs2,
+        }),
+        0b100 => Some(Instr::Div {
+            rd: f.rd,
+            rs1: f.rs1,
+            rs2: f.rs2,
+        }),
+        0b101 => Some(Instr::Divu {
+            rd: f.rd,
+            rs1: f.rs1,
+            rs2: f.rs2,
+        }),
+        0b110 => Some(Instr::Rem {
+            rd: f.rd,
+            rs1: f.rs1,
+            rs2: f.rs2,
+        }),
+        0b111 => Some(Instr::Remu {
+            rd: f.rd,
+            rs1: f.rs1,
+            rs2: f.rs2,
+        }),
         _ => None,
     }
 }
@@ -112,6 +386,130 @@ fn immediate_word_operation(f: Fields) -> Option<Instr>
             rs1: f.rs1,
             imm: immediate(f),
         }),
+        0b001 => left_word_shift(f),
+        0b101 => right_word_shift(f),
+        _ => None,
+    }
+}
+
+fn left_word_shift(f: Fields) -> Option<Instr>
+    requires { InRange f }
+    ensures { result ≡ by_funct7 left_word_shifts f }
+{
+    match f.funct7 {
+        0b0000000 => Some(Instr::Slliw {
+            rd: f.rd,
+            rs1: f.rs1,
+            imm: f.rs2 as i32,
+        }),
+        _ => None,
+    }
+}
+
+fn right_word_shift(f: Fields) -> Option<Instr>
+    requires { InRange f }
+    ensures { result ≡ by_funct7 right_word_shifts f }
+{
+    match f.funct7 {
+        0b0000000 => Some(Instr::Srliw {
+            rd: f.rd,
+            rs1: f.rs1,
+            imm: f.rs2 as i32,
+        }),
+        0b0100000 => Some(Instr::Sraiw {
+            rd: f.rd,
+            rs1: f.rs1,
+            imm: f.rs2 as i32,
+        }),
+        _ => None,
+    }
+}
+
+fn register_word_operation(f: Fields) -> Option<Instr>
+    requires { InRange f }
+    ensures { result ≡ by_funct7 register_word_operations f }
+{
+    match f.funct7 {
+        0b0000000 => base_word_operation(f),
+        0b0100000 => alternate_word_operation(f),
+        0b0000001 => word_multiplication(f),
+        _ => None,
+    }
+}
+
+fn base_word_operation(f: Fields) -> Option<Instr>
+    requires { InRange f }
+    ensures { result ≡ by_funct3 base_word_operations f }
+{
+    match f.funct3 {
+        0b000 => Some(Instr::Addw {
+            rd: f.rd,
+            rs1: f.rs1,
+            rs2: f.rs2,
+        }),
+        0b001 => Some(Instr::Sllw {
+            rd: f.rd,
+            rs1: f.rs1,
+            rs2: f.rs2,
+        }),
+        0b101 => Some(Instr::Srlw {
+            rd: f.rd,
+            rs1: f.rs1,
+            rs2: f.rs2,
+        }),
+        _ => None,
+    }
+}
+
+fn alternate_word_operation(f: Fields) -> Option<Instr>
+    requires { InRange f }
+    ensures { result ≡ by_funct3 alternate_word_operations f }
+{
+    match f.funct3 {
+        0b000 => Some(Instr::Subw {
+            rd: f.rd,
+            rs1: f.rs1,
+            rs2: f.rs2,
+        }),
+        0b101 => Some(Instr::Sraw {
+            rd: f.rd,
+            rs1: f.rs1,
+            rs2: f.rs2,
+        }),
+        _ => None,
+    }
+}
+
+fn word_multiplication(f: Fields) -> Option<Instr>
+    requires { InRange f }
+    ensures { result ≡ by_funct3 word_multiplications f }
+{
+    match f.funct3 {
+        0b000 => Some(Instr::Mulw {
+            rd: f.rd,
+            rs1: f.rs1,
+            rs2: f.rs2,
+        }),
+        0b100 => Some(Instr::Divw {
+            rd: f.rd,
+            rs1: f.rs1,
+            rs2: f.rs2,
+        }),
+        0b101 => Some(Instr::Divuw {
+            rd: f.rd,
+            rs1: f.rs1,
+            rs2: f.rs2,
+        }),
+        0b110 => Some(Instr::Remw {
+            rd: f.rd,
+            rs1: f.rs1,
+            rs2: f.rs2,
+        }),
+        0b111 => Some(Instr::Remuw {
+            rd: f.rd,
+            rs1: f.rs1,
+            rs2: f.rs2,
+        }),
         _ => None,
     }
 }
@@ -121,6 +519,7 @@ fn environment_call(word: u32) -> Option<Instr>
 {
     match word {
         0x0000_0073 => Some(Instr::Ecall),
+        0x0010_0073 => Some(Instr::Ebreak),
         _ => None,
     }
 }
@@ -143,22 +542,61 @@ fn cut_word(word: u32) -> Fields
 /// The immediate of the I format.
 fn immediate(f: Fields) -> i32
     requires { InRange f }
-    ensures { result ≡ i_immediate f }
+    ensures { result ≡ signed 12 (i_bits f) }
 {
     signed(12, f.funct7 as u32 * 32 + f.rs2 as u32)
+}
+
+/// The immediate of the S format.
+fn store_offset(f: Fields) -> i32
+    requires { InRange f }
+    ensures { result ≡ signed 12 (s_bits f) }
+{
+    signed(12, f.funct7 as u32 * 32 + f.rd as u32)
+}
+
+/// The immediate of the B format.
+fn branch_offset(f: Fields) -> i32
+    requires { InRange f }
+    ensures { result ≡ signed 13 (b_bits f) }
+{
+    let high = f.funct7 as u32 / 64 * 0x1000 + f.rd as u32 % 2 * 0x800;
+    signed(13, high + f.funct7 as u32 % 64 * 32 + f.rd as u32 / 2 * 2)
 }
 
 /// The immediate of the U format.
 fn upper_immediate(f: Fields) -> i32
     requires { InRange f }
-    ensures { result ≡ pos (upper_bits f) }
+    ensures { result ≡ pos (u_bits f) }
 {
-    (f.funct7 as u32 * 8192 + f.rs2 as u32 * 256 + f.rs1 as u32 * 8 + f.funct3 as u32) as i32
+    upper_bits(f) as i32
+}
+
+/// The immediate of the J format.
+fn jump_offset(f: Fields) -> i32
+    requires { InRange f }
+    ensures { result ≡ signed 21 (j_bits f) }
+{
+    let bits = upper_bits(f);
+    let high = bits / 0x8_0000 * 0x10_0000 + bits % 0x100 * 0x1000;
+    signed(
+        21,
+        high + bits / 0x100 % 2 * 0x800 + bits / 0x200 % 0x400 * 2,
+    )
+}
+
+/// Bits 31 to 12 of the word.
+fn upper_bits(f: Fields) -> u32
+    requires { InRange f }
+    ensures value { result ≡ u_bits f }
+    ensures fits { result < 2 ^ 20 }
+{
+    f.funct7 as u32 * 0x2000 + f.rs2 as u32 * 0x100 + f.rs1 as u32 * 8 + f.funct3 as u32
 }
 
 /// The amount of a shift of 64 bits.
 fn amount(f: Fields) -> i32
-    ensures { result ≡ pos (f.funct7 % 2 * 32 + f.rs2) }
+    ensures { result ≡ pos (shift_bits f) }
 {
     (f.funct7 % 2) as i32 * 32 + f.rs2 as i32
 }
