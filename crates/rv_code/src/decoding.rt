@@ -21,17 +21,18 @@ fn read_word(word: u32) -> Option<Instr>
     ensures { result ≡ instr_of word }
 {
     let f = cut_word(word);
+    let rd = f.rd;
     match f.opcode {
         0b0110111 => Some(Instr::Lui {
-            rd: f.rd,
+            rd,
             imm: upper_immediate(f),
         }),
         0b0010111 => Some(Instr::Auipc {
-            rd: f.rd,
+            rd,
             imm: upper_immediate(f),
         }),
         0b1101111 => Some(Instr::Jal {
-            rd: f.rd,
+            rd,
             imm: jump_offset(f),
         }),
         0b1100111 => indirect_jump(f),
@@ -51,12 +52,10 @@ fn indirect_jump(f: Fields) -> Option<Instr>
     requires { InRange f }
     ensures { result ≡ by_funct3 indirect_jumps f }
 {
+    let Fields { rd, rs1, .. } = f;
+    let imm = immediate(f);
     match f.funct3 {
-        0b000 => Some(Instr::Jalr {
-            rd: f.rd,
-            rs1: f.rs1,
-            imm: immediate(f),
-        }),
+        0b000 => Some(Instr::Jalr { rd, rs1, imm }),
         _ => None,
     }
 }
@@ -65,37 +64,15 @@ fn branch(f: Fields) -> Option<Instr>
     requires { InRange f }
     ensures { result ≡ by_funct3 branches f }
 {
+    let Fields { rs1, rs2, .. } = f;
+    let imm = branch_offset(f);
     match f.funct3 {
-        0b000 => Some(Instr::Beq {
-            rs1: f.rs1,
-            rs2: f.rs2,
-            imm: branch_offset(f),
-        }),
-        0b001 => Some(Instr::Bne {
-            rs1: f.rs1,
-            rs2: f.rs2,
-            imm: branch_offset(f),
-        }),
-        0b100 => Some(Instr::Blt {
-            rs1: f.rs1,
-            rs2: f.rs2,
-            imm: branch_offset(f),
-        }),
-        0b101 => Some(Instr::Bge {
-            rs1: f.rs1,
-            rs2: f.rs2,
-            imm: branch_offset(f),
-        }),
-        0b110 => Some(Instr::Bltu {
-            rs1: f.rs1,
-            rs2: f.rs2,
-            imm: branch_offset(f),
-        }),
-        0b111 => Some(Instr::Bgeu {
-            rs1: f.rs1,
-            rs2: f.rs2,
-            imm: branch_offset(f),
-        }),
+        0b000 => Some(Instr::Beq { rs1, rs2, imm }),
+        0b001 => Some(Instr::Bne { rs1, rs2, imm }),
+        0b100 => Some(Instr::Blt { rs1, rs2, imm }),
+        0b101 => Some(Instr::Bge { rs1, rs2, imm }),
+        0b110 => Some(Instr::Bltu { rs1, rs2, imm }),
+        0b111 => Some(Instr::Bgeu { rs1, rs2, imm }),
         _ => None,
     }
 }
@@ -104,42 +81,16 @@ fn load(f: Fields) -> Option<Instr>
     requires { InRange f }
     ensures { result ≡ by_funct3 loads f }
 {
+    let Fields { rd, rs1, .. } = f;
+    let imm = immediate(f);
     match f.funct3 {
-        0b000 => Some(Instr::Lb {
-            rd: f.rd,
-            rs1: f.rs1,
-            imm: immediate(f),
-        }),
-        0b001 => Some(Instr::Lh {
-            rd: f.rd,
-            rs1: f.rs1,
-            imm: immediate(f),
-        }),
-        0b010 => Some(Instr::Lw {
-            rd: f.rd,
-            rs1: f.rs1,
-            imm: immediate(f),
-        }),
-        0b011 => Some(Instr::Ld {
-            rd: f.rd,
-            rs1: f.rs1,
-            imm: immediate(f),
-        }),
-        0b100 => Some(Instr::Lbu {
-            rd: f.rd,
-            rs1: f.rs1,
-            imm: immediate(f),
-        }),
-        0b101 => Some(Instr::Lhu {
-            rd: f.rd,
-            rs1: f.rs1,
-            imm: immediate(f),
-        }),
-        0b110 => Some(Instr::Lwu {
-            rd: f.rd,
-            rs1: f.rs1,
-            imm: immediate(f),
-        }),
+        0b000 => Some(Instr::Lb { rd, rs1, imm }),
+        0b001 => Some(Instr::Lh { rd, rs1, imm }),
+        0b010 => Some(Instr::Lw { rd, rs1, imm }),
+        0b011 => Some(Instr::Ld { rd, rs1, imm }),
+        0b100 => Some(Instr::Lbu { rd, rs1, imm }),
+        0b101 => Some(Instr::Lhu { rd, rs1, imm }),
+        0b110 => Some(Instr::Lwu { rd, rs1, imm }),
         _ => None,
     }
 }
@@ -148,27 +99,13 @@ fn store(f: Fields) -> Option<Instr>
     requires { InRange f }
     ensures { result ≡ by_funct3 stores f }
 {
+    let Fields { rs1, rs2, .. } = f;
+    let imm = store_offset(f);
     match f.funct3 {
-        0b000 => Some(Instr::Sb {
-            rs1: f.rs1,
-            rs2: f.rs2,
-            imm: store_offset(f),
-        }),
-        0b001 => Some(Instr::Sh {
-            rs1: f.rs1,
-            rs2: f.rs2,
-            imm: store_offset(f),
-        }),
-        0b010 => Some(Instr::Sw {
-            rs1: f.rs1,
-            rs2: f.rs2,
-            imm: store_offset(f),
-        }),
-        0b011 => Some(Instr::Sd {
-            rs1: f.rs1,
-            rs2: f.rs2,
-            imm: store_offset(f),
-        }),
+        0b000 => Some(Instr::Sb { rs1, rs2, imm }),
+        0b001 => Some(Instr::Sh { rs1, rs2, imm }),
+        0b010 => Some(Instr::Sw { rs1, rs2, imm }),
+        0b011 => Some(Instr::Sd { rs1, rs2, imm }),
         _ => None,
     }
 }
@@ -177,39 +114,17 @@ fn immediate_operation(f: Fields) -> Option<Instr>
     requires { InRange f }
     ensures { result ≡ by_funct3 immediate_operations f }
 {
+    let Fields { rd, rs1, .. } = f;
+    let imm = immediate(f);
     match f.funct3 {
-        0b000 => Some(Instr::Addi {
-            rd: f.rd,
-            rs1: f.rs1,
-            imm: immediate(f),
-        }),
+        0b000 => Some(Instr::Addi { rd, rs1, imm }),
         0b001 => left_shift(f),
-        0b010 => Some(Instr::Slti {
-            rd: f.rd,
-            rs1: f.rs1,
-            imm: immediate(f),
-        }),
-        0b011 => Some(Instr::Sltiu {
-            rd: f.rd,
-            rs1: f.rs1,
-            imm: immediate(f),
-        }),
-        0b100 => Some(Instr::Xori {
-            rd: f.rd,
-            rs1: f.rs1,
-            imm: immediate(f),
-        }),
+        0b010 => Some(Instr::Slti { rd, rs1, imm }),
+        0b011 => Some(Instr::Sltiu { rd, rs1, imm }),
+        0b100 => Some(Instr::Xori { rd, rs1, imm }),
         0b101 => right_shift(f),
-        0b110 => Some(Instr::Ori {
-            rd: f.rd,
-            rs1: f.rs1,
-            imm: immediate(f),
-        }),
-        0b111 => Some(Instr::Andi {
-            rd: f.rd,
-            rs1: f.rs1,
-            imm: immediate(f),
-        }),
+        0b110 => Some(Instr::Ori { rd, rs1, imm }),
+        0b111 => Some(Instr::Andi { rd, rs1, imm }),
         _ => None,
     }
 }
@@ -218,12 +133,10 @@ fn left_shift(f: Fields) -> Option<Instr>
     requires { InRange f }
     ensures { result ≡ by_top left_shifts f }
 {
+    let Fields { rd, rs1, .. } = f;
+    let imm = amount(f);
     match f.funct7 / 2 {
-        0b000000 => Some(Instr::Slli {
-            rd: f.rd,
-            rs1: f.rs1,
-            imm: amount(f),
-        }),
+        0b000000 => Some(Instr::Slli { rd, rs1, imm }),
         _ => None,
     }
 }
@@ -232,17 +145,11 @@ fn right_shift(f: Fields) -> Option<Instr>
     requires { InRange f }
     ensures { result ≡ by_top right_shifts f }
 {
+    let Fields { rd, rs1, .. } = f;
+    let imm = amount(f);
     match f.funct7 / 2 {
-        0b000000 => Some(Instr::Srli {
-            rd: f.rd,
-            rs1: f.rs1,
-            imm: amount(f),
-        }),
-        0b010000 => Some(Instr::Srai {
-            rd: f.rd,
-            rs1: f.rs1,
-            imm: amount(f),
-        }),
+        0b000000 => Some(Instr::Srli { rd, rs1, imm }),
+        0b010000 => Some(Instr::Srai { rd, rs1, imm }),
         _ => None,
     }
 }
@@ -263,47 +170,16 @@ fn base_operation(f: Fields) -> Option<Instr>
     requires { InRange f }
     ensures { result ≡ by_funct3 base_operations f }
 {
+    let Fields { rd, rs1, rs2, .. } = f;
     match f.funct3 {
-        0b000 => Some(Instr::Add {
-            rd: f.rd,
-            rs1: f.rs1,
-            rs2: f.rs2,
-        }),
-        0b001 => Some(Instr::Sll {
-            rd: f.rd,
-            rs1: f.rs1,
-            rs2: f.rs2,
-        }),
-        0b010 => Some(Instr::Slt {
-            rd: f.rd,
-            rs1: f.rs1,
-            rs2: f.rs2,
-        }),
-        0b011 => Some(Instr::Sltu {
-            rd: f.rd,
-            rs1: f.rs1,
-            rs2: f.rs2,
-        }),
-        0b100 => Some(Instr::Xor {
-            rd: f.rd,
-            rs1: f.rs1,
-            rs2: f.rs2,
-        }),
-        0b101 => Some(Instr::Srl {
-            rd: f.rd,
-            rs1: f.rs1,
-            rs2: f.rs2,
-        }),
-        0b110 => Some(Instr::Or {
-            rd: f.rd,
-            rs1: f.rs1,
-            rs2: f.rs2,
-        }),
-        0b111 => Some(Instr::And {
-            rd: f.rd,
-            rs1: f.rs1,
-            rs2: f.rs2,
-        }),
+        0b000 => Some(Instr::Add { rd, rs1, rs2 }),
+        0b001 => Some(Instr::Sll { rd, rs1, rs2 }),
+        0b010 => Some(Instr::Slt { rd, rs1, rs2 }),
+        0b011 => Some(Instr::Sltu { rd, rs1, rs2 }),
+        0b100 => Some(Instr::Xor { rd, rs1, rs2 }),
+        0b101 => Some(Instr::Srl { rd, rs1, rs2 }),
+        0b110 => Some(Instr::Or { rd, rs1, rs2 }),
+        0b111 => Some(Instr::And { rd, rs1, rs2 }),
         _ => None,
     }
 }
@@ -312,17 +188,10 @@ fn alternate_operation(f: Fields) -> Option<Instr>
     requires { InRange f }
     ensures { result ≡ by_funct3 alternate_operations f }
 {
+    let Fields { rd, rs1, rs2, .. } = f;
     match f.funct3 {
-        0b000 => Some(Instr::Sub {
-            rd: f.rd,
-            rs1: f.rs1,
-            rs2: f.rs2,
-        }),
-        0b101 => Some(Instr::Sra {
-            rd: f.rd,
-            rs1: f.rs1,
-            rs2: f.rs2,
-        }),
+        0b000 => Some(Instr::Sub { rd, rs1, rs2 }),
+        0b101 => Some(Instr::Sra { rd, rs1, rs2 }),
         _ => None,
     }
 }
@@ -331,47 +200,16 @@ fn multiplication(f: Fields) -> Option<Instr>
     requires { InRange f }
     ensures { result ≡ by_funct3 multiplications f }
 {
+    let Fields { rd, rs1, rs2, .. } = f;
     match f.funct3 {
-        0b000 => Some(Instr::Mul {
-            rd: f.rd,
-            rs1: f.rs1,
-            rs2: f.rs2,
-        }),
-        0b001 => Some(Instr::Mulh {
-            rd: f.rd,
-            rs1: f.rs1,
-            rs2: f.rs2,
-        }),
-        0b010 => Some(Instr::Mulhsu {
-            rd: f.rd,
-            rs1: f.rs1,
-            rs2: f.rs2,
-        }),
-        0b011 => Some(Instr::Mulhu {
-            rd: f.rd,
-            rs1: f.rs1,
-            rs2: f.rs2,
-        }),
-        0b100 => Some(Instr::Div {
-            rd: f.rd,
-            rs1: f.rs1,
-            rs2: f.rs2,
-        }),
-        0b101 => Some(Instr::Divu {
-            rd: f.rd,
-            rs1: f.rs1,
-            rs2: f.rs2,
-        }),
-        0b110 => Some(Instr::Rem {
-            rd: f.rd,
-            rs1: f.rs1,
-            rs2: f.rs2,
-        }),
-        0b111 => Some(Instr::Remu {
-            rd: f.rd,
-            rs1: f.rs1,
-            rs2: f.rs2,
-        }),
+        0b000 => Some(Instr::Mul { rd, rs1, rs2 }),
+        0b001 => Some(Instr::Mulh { rd, rs1, rs2 }),
+        0b010 => Some(Instr::Mulhsu { rd, rs1, rs2 }),
+        0b011 => Some(Instr::Mulhu { rd, rs1, rs2 }),
+        0b100 => Some(Instr::Div { rd, rs1, rs2 }),
+        0b101 => Some(Instr::Divu { rd, rs1, rs2 }),
+        0b110 => Some(Instr::Rem { rd, rs1, rs2 }),
+        0b111 => Some(Instr::Remu { rd, rs1, rs2 }),
         _ => None,
     }
 }
@@ -380,12 +218,10 @@ fn immediate_word_operation(f: Fields) -> Option<Instr>
     requires { InRange f }
     ensures { result ≡ by_funct3 immediate_word_operations f }
 {
+    let Fields { rd, rs1, .. } = f;
+    let imm = immediate(f);
     match f.funct3 {
-        0b000 => Some(Instr::Addiw {
-            rd: f.rd,
-            rs1: f.rs1,
-            imm: immediate(f),
-        }),
+        0b000 => Some(Instr::Addiw { rd, rs1, imm }),
         0b001 => left_word_shift(f),
         0b101 => right_word_shift(f),
         _ => None,
@@ -396,12 +232,10 @@ fn left_word_shift(f: Fields) -> Option<Instr>
     requires { InRange f }
     ensures { result ≡ by_funct7 left_word_shifts f }
 {
+    let Fields { rd, rs1, .. } = f;
+    let imm = f.rs2 as i32;
     match f.funct7 {
-        0b0000000 => Some(Instr::Slliw {
-            rd: f.rd,
-            rs1: f.rs1,
-            imm: f.rs2 as i32,
-        }),
+        0b0000000 => Some(Instr::Slliw { rd, rs1, imm }),
         _ => None,
     }
 }
@@ -410,17 +244,11 @@ fn right_word_shift(f: Fields) -> Option<Instr>
     requires { InRange f }
     ensures { result ≡ by_funct7 right_word_shifts f }
 {
+    let Fields { rd, rs1, .. } = f;
+    let imm = f.rs2 as i32;
     match f.funct7 {
-        0b0000000 => Some(Instr::Srliw {
-            rd: f.rd,
-            rs1: f.rs1,
-            imm: f.rs2 as i32,
-        }),
-        0b0100000 => Some(Instr::Sraiw {
-            rd: f.rd,
-            rs1: f.rs1,
-            imm: f.rs2 as i32,
-        }),
+        0b0000000 => Some(Instr::Srliw { rd, rs1, imm }),
+        0b0100000 => Some(Instr::Sraiw { rd, rs1, imm }),
         _ => None,
     }
 }
@@ -441,22 +269,11 @@ fn base_word_operation(f: Fields) -> Option<Instr>
     requires { InRange f }
     ensures { result ≡ by_funct3 base_word_operations f }
 {
+    let Fields { rd, rs1, rs2, .. } = f;
     match f.funct3 {
-        0b000 => Some(Instr::Addw {
-            rd: f.rd,
-            rs1: f.rs1,
-            rs2: f.rs2,
-        }),
-        0b001 => Some(Instr::Sllw {
-            rd: f.rd,
-            rs1: f.rs1,
-            rs2: f.rs2,
-        }),
-        0b101 => Some(Instr::Srlw {
-            rd: f.rd,
-            rs1: f.rs1,
-            rs2: f.rs2,
-        }),
+        0b000 => Some(Instr::Addw { rd, rs1, rs2 }),
+        0b001 => Some(Instr::Sllw { rd, rs1, rs2 }),
+        0b101 => Some(Instr::Srlw { rd, rs1, rs2 }),
         _ => None,
     }
 }
@@ -465,17 +282,10 @@ fn alternate_word_operation(f: Fields) -> Option<Instr>
     requires { InRange f }
     ensures { result ≡ by_funct3 alternate_word_operations f }
 {
+    let Fields { rd, rs1, rs2, .. } = f;
     match f.funct3 {
-        0b000 => Some(Instr::Subw {
-            rd: f.rd,
-            rs1: f.rs1,
-            rs2: f.rs2,
-        }),
-        0b101 => Some(Instr::Sraw {
-            rd: f.rd,
-            rs1: f.rs1,
-            rs2: f.rs2,
-        }),
+        0b000 => Some(Instr::Subw { rd, rs1, rs2 }),
+        0b101 => Some(Instr::Sraw { rd, rs1, rs2 }),
         _ => None,
     }
 }
@@ -484,32 +294,13 @@ fn word_multiplication(f: Fields) -> Option<Instr>
     requires { InRange f }
     ensures { result ≡ by_funct3 word_multiplications f }
 {
+    let Fields { rd, rs1, rs2, .. } = f;
     match f.funct3 {
-        0b000 => Some(Instr::Mulw {
-            rd: f.rd,
-            rs1: f.rs1,
-            rs2: f.rs2,
-        }),
-        0b100 => Some(Instr::Divw {
-            rd: f.rd,
-            rs1: f.rs1,
-            rs2: f.rs2,
-        }),
-        0b101 => Some(Instr::Divuw {
-            rd: f.rd,
-            rs1: f.rs1,
-            rs2: f.rs2,
-        }),
-        0b110 => Some(Instr::Remw {
-            rd: f.rd,
-            rs1: f.rs1,
-            rs2: f.rs2,
-        }),
-        0b111 => Some(Instr::Remuw {
-            rd: f.rd,
-            rs1: f.rs1,
-            rs2: f.rs2,
-        }),
+        0b000 => Some(Instr::Mulw { rd, rs1, rs2 }),
+        0b100 => Some(Instr::Divw { rd, rs1, rs2 }),
+        0b101 => Some(Instr::Divuw { rd, rs1, rs2 }),
+        0b110 => Some(Instr::Remw { rd, rs1, rs2 }),
+        0b111 => Some(Instr::Remuw { rd, rs1, rs2 }),
         _ => None,
     }
 }

@@ -1,4 +1,4 @@
--- Decoding and encoding are inverse: `instr_of` is exactly the table read backwards.
+-- A word is read as an instruction exactly where that is valid and this is its word.
 use Rattle.std.proofs.Common.{◌≡◌, ℕ, suc, ◌+◌, ◌-◌, ◌*◌, ◌/◌, ◌%◌, ◌<◌, ◌≤◌, ◌^◌, ℤ, pos, negsuc, refl, sym, ap, ◌∙◌, arith, lit<, eqb-true, rules}
 use Rattle.std.specs.Prelude.{nat_lt, Bool, true, false, ◌&&◌, Option, Some, None, ◌↔◌, ◌≢◌, IsNone, List, [], ◌∷◌, ◌==◌}
 use Rattle.std.proofs.lemmas.Int.{ints}
@@ -13,272 +13,7 @@ use Rattle.rv_table.specs.Words.{modulo, signed}
 use Rattle.rv_table.proofs.Cutting.{cut-packed, packed-cut, in_range_cut, packed-lt}
 use Rattle.rv_table.proofs.Immediates.{modulo-lt, signed-modulo, modulo-signed, signed_between, modulo-pos, modulo-parity_13, modulo-parity_21, signed-parity_13, signed-parity_21}
 use Rattle.rv_table.proofs.Orders.{b_parts, upper_parts, j_parts, j_order, j_order-lt, j_order-even, jump_order-j_order}
-
--- the numbers that name an instruction fit their fields
-abbrev names_fit : ℕ → ℕ → ℕ → Bool
-names_fit opcode funct3 funct7 = nat_lt opcode 128 && nat_lt funct3 8 && nat_lt funct7 128
-
-abbrev is_named : Encoding → Bool
-is_named (RType opcode funct3 funct7 _ _ _) = names_fit opcode funct3 funct7
-is_named (IType opcode funct3 _ _ _) = names_fit opcode funct3 0
-is_named (Shift opcode funct3 top _ _ _) = names_fit opcode funct3 (top * 2 + 1)
-is_named (WordShift opcode funct3 funct7 _ _ _) = names_fit opcode funct3 funct7
-is_named (SType opcode funct3 _ _ _) = names_fit opcode funct3 0
-is_named (BType opcode funct3 _ _ _) = names_fit opcode funct3 0
-is_named (UType opcode _ _) = names_fit opcode 0 0
-is_named (JType opcode _ _) = names_fit opcode 0 0
-
-in_range : (e : Encoding) → is_named e ≡ true → Fits e → InRange (fields_of e)
-in_range (RType opcode funct3 funct7 rd rs1 rs2) n f = record {
-  opcode = grind (arith, nat_tests);
-  rd = omega arith;
-  funct3 = grind (arith, nat_tests);
-  rs1 = omega arith;
-  rs2 = omega arith;
-  funct7 = grind (arith, nat_tests);
-}
-in_range (IType opcode funct3 rd rs1 imm) n f = let u = modulo-lt 12 imm in record {
-  opcode = grind (arith, nat_tests);
-  rd = omega arith;
-  funct3 = grind (arith, nat_tests);
-  rs1 = omega arith;
-  rs2 = omega arith;
-  funct7 = omega arith;
-}
-in_range (Shift opcode funct3 top rd rs1 amount) n f = let u = modulo-lt 6 amount in record {
-  opcode = grind (arith, nat_tests);
-  rd = omega arith;
-  funct3 = grind (arith, nat_tests);
-  rs1 = omega arith;
-  rs2 = omega arith;
-  funct7 = grind (arith, nat_tests);
-}
-in_range (WordShift opcode funct3 funct7 rd rs1 amount) n f = let u = modulo-lt 5 amount in record {
-  opcode = grind (arith, nat_tests);
-  rd = omega arith;
-  funct3 = grind (arith, nat_tests);
-  rs1 = omega arith;
-  rs2 = omega arith;
-  funct7 = grind (arith, nat_tests);
-}
-in_range (SType opcode funct3 rs1 rs2 imm) n f = let u = modulo-lt 12 imm in record {
-  opcode = grind (arith, nat_tests);
-  rd = omega arith;
-  funct3 = grind (arith, nat_tests);
-  rs1 = omega arith;
-  rs2 = omega arith;
-  funct7 = omega arith;
-}
-in_range (BType opcode funct3 rs1 rs2 imm) n f = let u = modulo-lt 13 imm in record {
-  opcode = grind (arith, nat_tests);
-  rd = omega arith;
-  funct3 = grind (arith, nat_tests);
-  rs1 = omega arith;
-  rs2 = omega arith;
-  funct7 = omega arith;
-}
-in_range (UType opcode rd imm) n f = let u = modulo-lt 20 imm in record {
-  opcode = grind (arith, nat_tests);
-  rd = omega arith;
-  funct3 = omega arith;
-  rs1 = omega arith;
-  rs2 = omega arith;
-  funct7 = omega arith;
-}
-in_range (JType opcode rd imm) n f = let u = modulo-lt 21 imm in record {
-  opcode = grind (arith, nat_tests);
-  rd = omega arith;
-  funct3 = omega arith;
-  rs1 = omega arith;
-  rs2 = omega arith;
-  funct7 = omega arith;
-}
-
--- the numbers of every row fit
-is_named_encoding_of : (i : Instr) → is_named (encoding_of i) ≡ true
-is_named_encoding_of (Lui rd imm) = refl
-is_named_encoding_of (Auipc rd imm) = refl
-is_named_encoding_of (Jal rd imm) = refl
-is_named_encoding_of (Jalr rd rs1 imm) = refl
-is_named_encoding_of (Beq rs1 rs2 imm) = refl
-is_named_encoding_of (Bne rs1 rs2 imm) = refl
-is_named_encoding_of (Blt rs1 rs2 imm) = refl
-is_named_encoding_of (Bge rs1 rs2 imm) = refl
-is_named_encoding_of (Bltu rs1 rs2 imm) = refl
-is_named_encoding_of (Bgeu rs1 rs2 imm) = refl
-is_named_encoding_of (Lb rd rs1 imm) = refl
-is_named_encoding_of (Lh rd rs1 imm) = refl
-is_named_encoding_of (Lw rd rs1 imm) = refl
-is_named_encoding_of (Ld rd rs1 imm) = refl
-is_named_encoding_of (Lbu rd rs1 imm) = refl
-is_named_encoding_of (Lhu rd rs1 imm) = refl
-is_named_encoding_of (Lwu rd rs1 imm) = refl
-is_named_encoding_of (Sb rs1 rs2 imm) = refl
-is_named_encoding_of (Sh rs1 rs2 imm) = refl
-is_named_encoding_of (Sw rs1 rs2 imm) = refl
-is_named_encoding_of (Sd rs1 rs2 imm) = refl
-is_named_encoding_of (Addi rd rs1 imm) = refl
-is_named_encoding_of (Slti rd rs1 imm) = refl
-is_named_encoding_of (Sltiu rd rs1 imm) = refl
-is_named_encoding_of (Xori rd rs1 imm) = refl
-is_named_encoding_of (Ori rd rs1 imm) = refl
-is_named_encoding_of (Andi rd rs1 imm) = refl
-is_named_encoding_of (Slli rd rs1 imm) = refl
-is_named_encoding_of (Srli rd rs1 imm) = refl
-is_named_encoding_of (Srai rd rs1 imm) = refl
-is_named_encoding_of (Add rd rs1 rs2) = refl
-is_named_encoding_of (Sll rd rs1 rs2) = refl
-is_named_encoding_of (Slt rd rs1 rs2) = refl
-is_named_encoding_of (Sltu rd rs1 rs2) = refl
-is_named_encoding_of (Xor rd rs1 rs2) = refl
-is_named_encoding_of (Srl rd rs1 rs2) = refl
-is_named_encoding_of (Or rd rs1 rs2) = refl
-is_named_encoding_of (And rd rs1 rs2) = refl
-is_named_encoding_of (Sub rd rs1 rs2) = refl
-is_named_encoding_of (Sra rd rs1 rs2) = refl
-is_named_encoding_of (Mul rd rs1 rs2) = refl
-is_named_encoding_of (Mulh rd rs1 rs2) = refl
-is_named_encoding_of (Mulhsu rd rs1 rs2) = refl
-is_named_encoding_of (Mulhu rd rs1 rs2) = refl
-is_named_encoding_of (Div rd rs1 rs2) = refl
-is_named_encoding_of (Divu rd rs1 rs2) = refl
-is_named_encoding_of (Rem rd rs1 rs2) = refl
-is_named_encoding_of (Remu rd rs1 rs2) = refl
-is_named_encoding_of (Addiw rd rs1 imm) = refl
-is_named_encoding_of (Slliw rd rs1 imm) = refl
-is_named_encoding_of (Srliw rd rs1 imm) = refl
-is_named_encoding_of (Sraiw rd rs1 imm) = refl
-is_named_encoding_of (Addw rd rs1 rs2) = refl
-is_named_encoding_of (Sllw rd rs1 rs2) = refl
-is_named_encoding_of (Srlw rd rs1 rs2) = refl
-is_named_encoding_of (Subw rd rs1 rs2) = refl
-is_named_encoding_of (Sraw rd rs1 rs2) = refl
-is_named_encoding_of (Mulw rd rs1 rs2) = refl
-is_named_encoding_of (Divw rd rs1 rs2) = refl
-is_named_encoding_of (Divuw rd rs1 rs2) = refl
-is_named_encoding_of (Remw rd rs1 rs2) = refl
-is_named_encoding_of (Remuw rd rs1 rs2) = refl
-is_named_encoding_of Ecall = refl
-is_named_encoding_of Ebreak = refl
-
--- each format's immediate is read back
-back_12 : (imm : ℤ) → IsBetween (negsuc 2047) (pos 2047) imm →
-    signed 12 (modulo 12 imm / 32 * 32 + modulo 12 imm % 32) ≡ imm
-back_12 imm h =
-    let e : modulo 12 imm / 32 * 32 + modulo 12 imm % 32 ≡ modulo 12 imm = omega arith in
-    rw e (signed-modulo 11 imm h)
-
-back_b : (imm : ℤ) → IsBetween (negsuc 4095) (pos 4094) imm × IsEven imm →
-    signed 13 (b_bits (fields_of (BType 0 0 0 0 imm))) ≡ imm
-back_b imm h =
-    let e = b_parts (modulo 13 imm) (modulo-lt 13 imm) (modulo-parity_13 imm ∙ h.1) in
-    let wide : IsBetween (negsuc (2 ^ 12 - 1)) (pos (2 ^ 12 - 1)) imm = (h.0.0, omega (arith, ints, h.0.1)) in
-    rw e (signed-modulo 12 imm wide)
-
-back_u : (imm : ℤ) → IsBetween (pos 0) (pos 1048575) imm → pos (u_bits (fields_of (UType 0 0 imm))) ≡ imm
-back_u imm h =
-    let u = modulo-lt 20 imm in
-    let e : u_bits (fields_of (UType 0 0 imm)) ≡ modulo 20 imm = omega arith in
-    rw e (sym (modulo-pos 20 1048575 imm (lit< tt) h))
-
-back_j : (imm : ℤ) → IsBetween (negsuc 1048575) (pos 1048574) imm × IsEven imm →
-    signed 21 (j_bits (fields_of (JType 0 0 imm))) ≡ imm
-back_j imm h =
-    let e = upper_parts (jump_order (modulo 21 imm)) in
-    let d = j_parts (modulo 21 imm) (modulo-lt 21 imm) (modulo-parity_21 imm ∙ h.1) in
-    let wide : IsBetween (negsuc (2 ^ 20 - 1)) (pos (2 ^ 20 - 1)) imm = (h.0.0, omega (arith, ints, h.0.1)) in
-    rw (e, d) (signed-modulo 20 imm wide)
-
-back_shift : (top : ℕ) (amount : ℤ) → IsBetween (pos 0) (pos 63) amount →
-    pos ((top * 2 + modulo 6 amount / 32) % 2 * 32 + modulo 6 amount % 32) ≡ amount
-back_shift top amount h =
-    let u = modulo-lt 6 amount in
-    let e : (top * 2 + modulo 6 amount / 32) % 2 * 32 + modulo 6 amount % 32 ≡ modulo 6 amount = omega arith in
-    rw e (sym (modulo-pos 6 63 amount (lit< tt) h))
-
--- the top six bits stand over a shift's amount
-top_part : (top : ℕ) (amount : ℤ) → (top * 2 + modulo 6 amount / 32) / 2 ≡ top
-top_part top amount = let u = modulo-lt 6 amount in omega arith
-
-back_word_shift : (amount : ℤ) → IsBetween (pos 0) (pos 31) amount → pos (modulo 5 amount) ≡ amount
-back_word_shift amount h = sym (modulo-pos 5 31 amount (lit< tt) h)
-
--- the fields of every row are read as its instruction
-by_opcode-fields_of : (i : Instr) → IsValid i → by_opcode opcodes (fields_of (encoding_of i)) ≡ Some i
-by_opcode-fields_of (Lui rd imm) h = ap (λ z. Some (Lui rd z)) (back_u imm h.1)
-by_opcode-fields_of (Auipc rd imm) h = ap (λ z. Some (Auipc rd z)) (back_u imm h.1)
-by_opcode-fields_of (Jal rd imm) h = ap (λ z. Some (Jal rd z)) (back_j imm h.1)
-by_opcode-fields_of (Jalr rd rs1 imm) h = ap (λ z. Some (Jalr rd rs1 z)) (back_12 imm h.1)
-by_opcode-fields_of (Beq rs1 rs2 imm) h = ap (λ z. Some (Beq rs1 rs2 z)) (back_b imm h.1)
-by_opcode-fields_of (Bne rs1 rs2 imm) h = ap (λ z. Some (Bne rs1 rs2 z)) (back_b imm h.1)
-by_opcode-fields_of (Blt rs1 rs2 imm) h = ap (λ z. Some (Blt rs1 rs2 z)) (back_b imm h.1)
-by_opcode-fields_of (Bge rs1 rs2 imm) h = ap (λ z. Some (Bge rs1 rs2 z)) (back_b imm h.1)
-by_opcode-fields_of (Bltu rs1 rs2 imm) h = ap (λ z. Some (Bltu rs1 rs2 z)) (back_b imm h.1)
-by_opcode-fields_of (Bgeu rs1 rs2 imm) h = ap (λ z. Some (Bgeu rs1 rs2 z)) (back_b imm h.1)
-by_opcode-fields_of (Lb rd rs1 imm) h = ap (λ z. Some (Lb rd rs1 z)) (back_12 imm h.1)
-by_opcode-fields_of (Lh rd rs1 imm) h = ap (λ z. Some (Lh rd rs1 z)) (back_12 imm h.1)
-by_opcode-fields_of (Lw rd rs1 imm) h = ap (λ z. Some (Lw rd rs1 z)) (back_12 imm h.1)
-by_opcode-fields_of (Ld rd rs1 imm) h = ap (λ z. Some (Ld rd rs1 z)) (back_12 imm h.1)
-by_opcode-fields_of (Lbu rd rs1 imm) h = ap (λ z. Some (Lbu rd rs1 z)) (back_12 imm h.1)
-by_opcode-fields_of (Lhu rd rs1 imm) h = ap (λ z. Some (Lhu rd rs1 z)) (back_12 imm h.1)
-by_opcode-fields_of (Lwu rd rs1 imm) h = ap (λ z. Some (Lwu rd rs1 z)) (back_12 imm h.1)
-by_opcode-fields_of (Sb rs1 rs2 imm) h = ap (λ z. Some (Sb rs1 rs2 z)) (back_12 imm h.1)
-by_opcode-fields_of (Sh rs1 rs2 imm) h = ap (λ z. Some (Sh rs1 rs2 z)) (back_12 imm h.1)
-by_opcode-fields_of (Sw rs1 rs2 imm) h = ap (λ z. Some (Sw rs1 rs2 z)) (back_12 imm h.1)
-by_opcode-fields_of (Sd rs1 rs2 imm) h = ap (λ z. Some (Sd rs1 rs2 z)) (back_12 imm h.1)
-by_opcode-fields_of (Addi rd rs1 imm) h = ap (λ z. Some (Addi rd rs1 z)) (back_12 imm h.1)
-by_opcode-fields_of (Slti rd rs1 imm) h = ap (λ z. Some (Slti rd rs1 z)) (back_12 imm h.1)
-by_opcode-fields_of (Sltiu rd rs1 imm) h = ap (λ z. Some (Sltiu rd rs1 z)) (back_12 imm h.1)
-by_opcode-fields_of (Xori rd rs1 imm) h = ap (λ z. Some (Xori rd rs1 z)) (back_12 imm h.1)
-by_opcode-fields_of (Ori rd rs1 imm) h = ap (λ z. Some (Ori rd rs1 z)) (back_12 imm h.1)
-by_opcode-fields_of (Andi rd rs1 imm) h = ap (λ z. Some (Andi rd rs1 z)) (back_12 imm h.1)
-by_opcode-fields_of (Slli rd rs1 imm) h = rw (top_part 0b000000 imm) (ap (λ z. Some (Slli rd rs1 z)) (back_shift 0b000000 imm h.1))
-by_opcode-fields_of (Srli rd rs1 imm) h = rw (top_part 0b000000 imm) (ap (λ z. Some (Srli rd rs1 z)) (back_shift 0b000000 imm h.1))
-by_opcode-fields_of (Srai rd rs1 imm) h = rw (top_part 0b010000 imm) (ap (λ z. Some (Srai rd rs1 z)) (back_shift 0b010000 imm h.1))
-by_opcode-fields_of (Add rd rs1 rs2) h = refl
-by_opcode-fields_of (Sll rd rs1 rs2) h = refl
-by_opcode-fields_of (Slt rd rs1 rs2) h = refl
-by_opcode-fields_of (Sltu rd rs1 rs2) h = refl
-by_opcode-fields_of (Xor rd rs1 rs2) h = refl
-by_opcode-fields_of (Srl rd rs1 rs2) h = refl
-by_opcode-fields_of (Or rd rs1 rs2) h = refl
-by_opcode-fields_of (And rd rs1 rs2) h = refl
-by_opcode-fields_of (Sub rd rs1 rs2) h = refl
-by_opcode-fields_of (Sra rd rs1 rs2) h = refl
-by_opcode-fields_of (Mul rd rs1 rs2) h = refl
-by_opcode-fields_of (Mulh rd rs1 rs2) h = refl
-by_opcode-fields_of (Mulhsu rd rs1 rs2) h = refl
-by_opcode-fields_of (Mulhu rd rs1 rs2) h = refl
-by_opcode-fields_of (Div rd rs1 rs2) h = refl
-by_opcode-fields_of (Divu rd rs1 rs2) h = refl
-by_opcode-fields_of (Rem rd rs1 rs2) h = refl
-by_opcode-fields_of (Remu rd rs1 rs2) h = refl
-by_opcode-fields_of (Addiw rd rs1 imm) h = ap (λ z. Some (Addiw rd rs1 z)) (back_12 imm h.1)
-by_opcode-fields_of (Slliw rd rs1 imm) h = ap (λ z. Some (Slliw rd rs1 z)) (back_word_shift imm h.1)
-by_opcode-fields_of (Srliw rd rs1 imm) h = ap (λ z. Some (Srliw rd rs1 z)) (back_word_shift imm h.1)
-by_opcode-fields_of (Sraiw rd rs1 imm) h = ap (λ z. Some (Sraiw rd rs1 z)) (back_word_shift imm h.1)
-by_opcode-fields_of (Addw rd rs1 rs2) h = refl
-by_opcode-fields_of (Sllw rd rs1 rs2) h = refl
-by_opcode-fields_of (Srlw rd rs1 rs2) h = refl
-by_opcode-fields_of (Subw rd rs1 rs2) h = refl
-by_opcode-fields_of (Sraw rd rs1 rs2) h = refl
-by_opcode-fields_of (Mulw rd rs1 rs2) h = refl
-by_opcode-fields_of (Divw rd rs1 rs2) h = refl
-by_opcode-fields_of (Divuw rd rs1 rs2) h = refl
-by_opcode-fields_of (Remw rd rs1 rs2) h = refl
-by_opcode-fields_of (Remuw rd rs1 rs2) h = refl
-by_opcode-fields_of Ecall h = refl
-by_opcode-fields_of Ebreak h = refl
-
-pub instr_of-word_of : (i : Instr) → IsValid i → instr_of (word_of i) ≡ Some i
-instr_of-word_of i h =
-    ap (by_opcode opcodes) (cut-packed (fields_of (encoding_of i)) (in_range (encoding_of i) (is_named_encoding_of i) h))
-    ∙ by_opcode-fields_of i h
-
-pub word_of-lt : (i : Instr) → IsValid i → word_of i < 2 ^ 32
-word_of-lt i h = packed-lt (fields_of (encoding_of i)) (in_range (encoding_of i) (is_named_encoding_of i) h)
-
--- ---- the other way
+use Rattle.rv_table.proofs.Encodes.{instr_of-word_of}
 
 -- what an instruction that was read from fields has to meet
 record IsRead (f : Fields) (i : Instr) : Type 0 where
@@ -289,6 +24,11 @@ record IsRead (f : Fields) (i : Instr) : Type 0 where
 abbrev Readings : List Entry → ℕ → Fields → Instr → Type 0
 Readings [] number f i = Unit {0}
 Readings (e ∷ es) number f i = (number ≡ e.number → e.reading f ≡ Some i → IsRead f i) × Readings es number f i
+
+-- joins the readings of a list
+infixr 20 ◌⨾◌
+abbrev ◌⨾◌ : {A B : Type 0} → A → B → A × B
+a ⨾ b = (a, b)
 
 -- the first entry is read, or the others are
 at_first : (t : Bool) (e : Entry) (es : List Entry) (number : ℕ) (f : Fields) (i : Instr) → (number == e.number) ≡ t →
@@ -451,283 +191,167 @@ module _ (f : Fields) (r : InRange f) (i : Instr) where
 
   -- ---- the tables
   indirect_jumps_read : f.opcode ≡ 0b1100111 → by_funct3 indirect_jumps f ≡ Some i → IsRead f i
-  indirect_jumps_read o = chosen_is_read indirect_jumps f.funct3 f i (
-    i_read Jalr 0b1100111 0b000 (λ a b z. refl) o,
-    tt,
-  )
+  indirect_jumps_read o = chosen_is_read indirect_jumps f.funct3 f i
+      ( i_read Jalr 0b1100111 0b000 (λ a b z. refl) o
+      ⨾ tt)
 
   branches_read : f.opcode ≡ 0b1100011 → by_funct3 branches f ≡ Some i → IsRead f i
-  branches_read o = chosen_is_read branches f.funct3 f i (
-    b_read Beq 0b1100011 0b000 (λ a b z. refl) o,
-    (
-      b_read Bne 0b1100011 0b001 (λ a b z. refl) o,
-      (
-        b_read Blt 0b1100011 0b100 (λ a b z. refl) o,
-        (
-          b_read Bge 0b1100011 0b101 (λ a b z. refl) o,
-          (
-            b_read Bltu 0b1100011 0b110 (λ a b z. refl) o,
-            (
-              b_read Bgeu 0b1100011 0b111 (λ a b z. refl) o,
-              tt,
-            ),
-          ),
-        ),
-      ),
-    ),
-  )
+  branches_read o = chosen_is_read branches f.funct3 f i
+      ( b_read Beq 0b1100011 0b000 (λ a b z. refl) o
+      ⨾ b_read Bne 0b1100011 0b001 (λ a b z. refl) o
+      ⨾ b_read Blt 0b1100011 0b100 (λ a b z. refl) o
+      ⨾ b_read Bge 0b1100011 0b101 (λ a b z. refl) o
+      ⨾ b_read Bltu 0b1100011 0b110 (λ a b z. refl) o
+      ⨾ b_read Bgeu 0b1100011 0b111 (λ a b z. refl) o
+      ⨾ tt)
 
   loads_read : f.opcode ≡ 0b0000011 → by_funct3 loads f ≡ Some i → IsRead f i
-  loads_read o = chosen_is_read loads f.funct3 f i (
-    i_read Lb 0b0000011 0b000 (λ a b z. refl) o,
-    (
-      i_read Lh 0b0000011 0b001 (λ a b z. refl) o,
-      (
-        i_read Lw 0b0000011 0b010 (λ a b z. refl) o,
-        (
-          i_read Ld 0b0000011 0b011 (λ a b z. refl) o,
-          (
-            i_read Lbu 0b0000011 0b100 (λ a b z. refl) o,
-            (
-              i_read Lhu 0b0000011 0b101 (λ a b z. refl) o,
-              (
-                i_read Lwu 0b0000011 0b110 (λ a b z. refl) o,
-                tt,
-              ),
-            ),
-          ),
-        ),
-      ),
-    ),
-  )
+  loads_read o = chosen_is_read loads f.funct3 f i
+      ( i_read Lb 0b0000011 0b000 (λ a b z. refl) o
+      ⨾ i_read Lh 0b0000011 0b001 (λ a b z. refl) o
+      ⨾ i_read Lw 0b0000011 0b010 (λ a b z. refl) o
+      ⨾ i_read Ld 0b0000011 0b011 (λ a b z. refl) o
+      ⨾ i_read Lbu 0b0000011 0b100 (λ a b z. refl) o
+      ⨾ i_read Lhu 0b0000011 0b101 (λ a b z. refl) o
+      ⨾ i_read Lwu 0b0000011 0b110 (λ a b z. refl) o
+      ⨾ tt)
 
   stores_read : f.opcode ≡ 0b0100011 → by_funct3 stores f ≡ Some i → IsRead f i
-  stores_read o = chosen_is_read stores f.funct3 f i (
-    s_read Sb 0b0100011 0b000 (λ a b z. refl) o,
-    (
-      s_read Sh 0b0100011 0b001 (λ a b z. refl) o,
-      (
-        s_read Sw 0b0100011 0b010 (λ a b z. refl) o,
-        (
-          s_read Sd 0b0100011 0b011 (λ a b z. refl) o,
-          tt,
-        ),
-      ),
-    ),
-  )
+  stores_read o = chosen_is_read stores f.funct3 f i
+      ( s_read Sb 0b0100011 0b000 (λ a b z. refl) o
+      ⨾ s_read Sh 0b0100011 0b001 (λ a b z. refl) o
+      ⨾ s_read Sw 0b0100011 0b010 (λ a b z. refl) o
+      ⨾ s_read Sd 0b0100011 0b011 (λ a b z. refl) o
+      ⨾ tt)
+
+  left_shifts_read : f.opcode ≡ 0b0010011 → f.funct3 ≡ 0b001 → by_top left_shifts f ≡ Some i → IsRead f i
+  left_shifts_read o t = chosen_is_read left_shifts (f.funct7 / 2) f i
+      ( shift_read Slli 0b0010011 0b001 0b000000 (λ a b z. refl) o t
+      ⨾ tt)
+
+  right_shifts_read : f.opcode ≡ 0b0010011 → f.funct3 ≡ 0b101 → by_top right_shifts f ≡ Some i → IsRead f i
+  right_shifts_read o t = chosen_is_read right_shifts (f.funct7 / 2) f i
+      ( shift_read Srli 0b0010011 0b101 0b000000 (λ a b z. refl) o t
+      ⨾ shift_read Srai 0b0010011 0b101 0b010000 (λ a b z. refl) o t
+      ⨾ tt)
 
   immediate_operations_read : f.opcode ≡ 0b0010011 → by_funct3 immediate_operations f ≡ Some i → IsRead f i
-  immediate_operations_read o = chosen_is_read immediate_operations f.funct3 f i (
-    i_read Addi 0b0010011 0b000 (λ a b z. refl) o,
-    (
-      (λ t. chosen_is_read left_shifts (f.funct7 / 2) f i (
-        shift_read Slli 0b0010011 0b001 0b000000 (λ a b z. refl) o t,
-        tt,
-      )),
-      (
-        i_read Slti 0b0010011 0b010 (λ a b z. refl) o,
-        (
-          i_read Sltiu 0b0010011 0b011 (λ a b z. refl) o,
-          (
-            i_read Xori 0b0010011 0b100 (λ a b z. refl) o,
-            (
-              (λ t. chosen_is_read right_shifts (f.funct7 / 2) f i (
-                shift_read Srli 0b0010011 0b101 0b000000 (λ a b z. refl) o t,
-                (
-                  shift_read Srai 0b0010011 0b101 0b010000 (λ a b z. refl) o t,
-                  tt,
-                ),
-              )),
-              (
-                i_read Ori 0b0010011 0b110 (λ a b z. refl) o,
-                (
-                  i_read Andi 0b0010011 0b111 (λ a b z. refl) o,
-                  tt,
-                ),
-              ),
-            ),
-          ),
-        ),
-      ),
-    ),
-  )
+  immediate_operations_read o = chosen_is_read immediate_operations f.funct3 f i
+      ( i_read Addi 0b0010011 0b000 (λ a b z. refl) o
+      ⨾ left_shifts_read o
+      ⨾ i_read Slti 0b0010011 0b010 (λ a b z. refl) o
+      ⨾ i_read Sltiu 0b0010011 0b011 (λ a b z. refl) o
+      ⨾ i_read Xori 0b0010011 0b100 (λ a b z. refl) o
+      ⨾ right_shifts_read o
+      ⨾ i_read Ori 0b0010011 0b110 (λ a b z. refl) o
+      ⨾ i_read Andi 0b0010011 0b111 (λ a b z. refl) o
+      ⨾ tt)
+
+  base_operations_read : f.opcode ≡ 0b0110011 → f.funct7 ≡ 0b0000000 → by_funct3 base_operations f ≡ Some i → IsRead f i
+  base_operations_read o s = chosen_is_read base_operations f.funct3 f i
+      ( (λ t. r_read Add 0b0110011 0b000 0b0000000 (λ a b c. refl) o t s)
+      ⨾ (λ t. r_read Sll 0b0110011 0b001 0b0000000 (λ a b c. refl) o t s)
+      ⨾ (λ t. r_read Slt 0b0110011 0b010 0b0000000 (λ a b c. refl) o t s)
+      ⨾ (λ t. r_read Sltu 0b0110011 0b011 0b0000000 (λ a b c. refl) o t s)
+      ⨾ (λ t. r_read Xor 0b0110011 0b100 0b0000000 (λ a b c. refl) o t s)
+      ⨾ (λ t. r_read Srl 0b0110011 0b101 0b0000000 (λ a b c. refl) o t s)
+      ⨾ (λ t. r_read Or 0b0110011 0b110 0b0000000 (λ a b c. refl) o t s)
+      ⨾ (λ t. r_read And 0b0110011 0b111 0b0000000 (λ a b c. refl) o t s)
+      ⨾ tt)
+
+  alternate_operations_read : f.opcode ≡ 0b0110011 → f.funct7 ≡ 0b0100000 → by_funct3 alternate_operations f ≡ Some i → IsRead f i
+  alternate_operations_read o s = chosen_is_read alternate_operations f.funct3 f i
+      ( (λ t. r_read Sub 0b0110011 0b000 0b0100000 (λ a b c. refl) o t s)
+      ⨾ (λ t. r_read Sra 0b0110011 0b101 0b0100000 (λ a b c. refl) o t s)
+      ⨾ tt)
+
+  multiplications_read : f.opcode ≡ 0b0110011 → f.funct7 ≡ 0b0000001 → by_funct3 multiplications f ≡ Some i → IsRead f i
+  multiplications_read o s = chosen_is_read multiplications f.funct3 f i
+      ( (λ t. r_read Mul 0b0110011 0b000 0b0000001 (λ a b c. refl) o t s)
+      ⨾ (λ t. r_read Mulh 0b0110011 0b001 0b0000001 (λ a b c. refl) o t s)
+      ⨾ (λ t. r_read Mulhsu 0b0110011 0b010 0b0000001 (λ a b c. refl) o t s)
+      ⨾ (λ t. r_read Mulhu 0b0110011 0b011 0b0000001 (λ a b c. refl) o t s)
+      ⨾ (λ t. r_read Div 0b0110011 0b100 0b0000001 (λ a b c. refl) o t s)
+      ⨾ (λ t. r_read Divu 0b0110011 0b101 0b0000001 (λ a b c. refl) o t s)
+      ⨾ (λ t. r_read Rem 0b0110011 0b110 0b0000001 (λ a b c. refl) o t s)
+      ⨾ (λ t. r_read Remu 0b0110011 0b111 0b0000001 (λ a b c. refl) o t s)
+      ⨾ tt)
 
   register_operations_read : f.opcode ≡ 0b0110011 → by_funct7 register_operations f ≡ Some i → IsRead f i
-  register_operations_read o = chosen_is_read register_operations f.funct7 f i (
-    (λ s. chosen_is_read base_operations f.funct3 f i (
-      (λ t. r_read Add 0b0110011 0b000 0b0000000 (λ a b c. refl) o t s),
-      (
-        (λ t. r_read Sll 0b0110011 0b001 0b0000000 (λ a b c. refl) o t s),
-        (
-          (λ t. r_read Slt 0b0110011 0b010 0b0000000 (λ a b c. refl) o t s),
-          (
-            (λ t. r_read Sltu 0b0110011 0b011 0b0000000 (λ a b c. refl) o t s),
-            (
-              (λ t. r_read Xor 0b0110011 0b100 0b0000000 (λ a b c. refl) o t s),
-              (
-                (λ t. r_read Srl 0b0110011 0b101 0b0000000 (λ a b c. refl) o t s),
-                (
-                  (λ t. r_read Or 0b0110011 0b110 0b0000000 (λ a b c. refl) o t s),
-                  (
-                    (λ t. r_read And 0b0110011 0b111 0b0000000 (λ a b c. refl) o t s),
-                    tt,
-                  ),
-                ),
-              ),
-            ),
-          ),
-        ),
-      ),
-    )),
-    (
-      (λ s. chosen_is_read alternate_operations f.funct3 f i (
-        (λ t. r_read Sub 0b0110011 0b000 0b0100000 (λ a b c. refl) o t s),
-        (
-          (λ t. r_read Sra 0b0110011 0b101 0b0100000 (λ a b c. refl) o t s),
-          tt,
-        ),
-      )),
-      (
-        (λ s. chosen_is_read multiplications f.funct3 f i (
-          (λ t. r_read Mul 0b0110011 0b000 0b0000001 (λ a b c. refl) o t s),
-          (
-            (λ t. r_read Mulh 0b0110011 0b001 0b0000001 (λ a b c. refl) o t s),
-            (
-              (λ t. r_read Mulhsu 0b0110011 0b010 0b0000001 (λ a b c. refl) o t s),
-              (
-                (λ t. r_read Mulhu 0b0110011 0b011 0b0000001 (λ a b c. refl) o t s),
-                (
-                  (λ t. r_read Div 0b0110011 0b100 0b0000001 (λ a b c. refl) o t s),
-                  (
-                    (λ t. r_read Divu 0b0110011 0b101 0b0000001 (λ a b c. refl) o t s),
-                    (
-                      (λ t. r_read Rem 0b0110011 0b110 0b0000001 (λ a b c. refl) o t s),
-                      (
-                        (λ t. r_read Remu 0b0110011 0b111 0b0000001 (λ a b c. refl) o t s),
-                        tt,
-                      ),
-                    ),
-                  ),
-                ),
-              ),
-            ),
-          ),
-        )),
-        tt,
-      ),
-    ),
-  )
+  register_operations_read o = chosen_is_read register_operations f.funct7 f i
+      ( base_operations_read o
+      ⨾ alternate_operations_read o
+      ⨾ multiplications_read o
+      ⨾ tt)
+
+  left_word_shifts_read : f.opcode ≡ 0b0011011 → f.funct3 ≡ 0b001 → by_funct7 left_word_shifts f ≡ Some i → IsRead f i
+  left_word_shifts_read o t = chosen_is_read left_word_shifts f.funct7 f i
+      ( word_shift_read Slliw 0b0011011 0b001 0b0000000 (λ a b z. refl) o t
+      ⨾ tt)
+
+  right_word_shifts_read : f.opcode ≡ 0b0011011 → f.funct3 ≡ 0b101 → by_funct7 right_word_shifts f ≡ Some i → IsRead f i
+  right_word_shifts_read o t = chosen_is_read right_word_shifts f.funct7 f i
+      ( word_shift_read Srliw 0b0011011 0b101 0b0000000 (λ a b z. refl) o t
+      ⨾ word_shift_read Sraiw 0b0011011 0b101 0b0100000 (λ a b z. refl) o t
+      ⨾ tt)
 
   immediate_word_operations_read : f.opcode ≡ 0b0011011 → by_funct3 immediate_word_operations f ≡ Some i → IsRead f i
-  immediate_word_operations_read o = chosen_is_read immediate_word_operations f.funct3 f i (
-    i_read Addiw 0b0011011 0b000 (λ a b z. refl) o,
-    (
-      (λ t. chosen_is_read left_word_shifts f.funct7 f i (
-        word_shift_read Slliw 0b0011011 0b001 0b0000000 (λ a b z. refl) o t,
-        tt,
-      )),
-      (
-        (λ t. chosen_is_read right_word_shifts f.funct7 f i (
-          word_shift_read Srliw 0b0011011 0b101 0b0000000 (λ a b z. refl) o t,
-          (
-            word_shift_read Sraiw 0b0011011 0b101 0b0100000 (λ a b z. refl) o t,
-            tt,
-          ),
-        )),
-        tt,
-      ),
-    ),
-  )
+  immediate_word_operations_read o = chosen_is_read immediate_word_operations f.funct3 f i
+      ( i_read Addiw 0b0011011 0b000 (λ a b z. refl) o
+      ⨾ left_word_shifts_read o
+      ⨾ right_word_shifts_read o
+      ⨾ tt)
+
+  base_word_operations_read : f.opcode ≡ 0b0111011 → f.funct7 ≡ 0b0000000 → by_funct3 base_word_operations f ≡ Some i → IsRead f i
+  base_word_operations_read o s = chosen_is_read base_word_operations f.funct3 f i
+      ( (λ t. r_read Addw 0b0111011 0b000 0b0000000 (λ a b c. refl) o t s)
+      ⨾ (λ t. r_read Sllw 0b0111011 0b001 0b0000000 (λ a b c. refl) o t s)
+      ⨾ (λ t. r_read Srlw 0b0111011 0b101 0b0000000 (λ a b c. refl) o t s)
+      ⨾ tt)
+
+  alternate_word_operations_read : f.opcode ≡ 0b0111011 → f.funct7 ≡ 0b0100000 → by_funct3 alternate_word_operations f ≡ Some i → IsRead f i
+  alternate_word_operations_read o s = chosen_is_read alternate_word_operations f.funct3 f i
+      ( (λ t. r_read Subw 0b0111011 0b000 0b0100000 (λ a b c. refl) o t s)
+      ⨾ (λ t. r_read Sraw 0b0111011 0b101 0b0100000 (λ a b c. refl) o t s)
+      ⨾ tt)
+
+  word_multiplications_read : f.opcode ≡ 0b0111011 → f.funct7 ≡ 0b0000001 → by_funct3 word_multiplications f ≡ Some i → IsRead f i
+  word_multiplications_read o s = chosen_is_read word_multiplications f.funct3 f i
+      ( (λ t. r_read Mulw 0b0111011 0b000 0b0000001 (λ a b c. refl) o t s)
+      ⨾ (λ t. r_read Divw 0b0111011 0b100 0b0000001 (λ a b c. refl) o t s)
+      ⨾ (λ t. r_read Divuw 0b0111011 0b101 0b0000001 (λ a b c. refl) o t s)
+      ⨾ (λ t. r_read Remw 0b0111011 0b110 0b0000001 (λ a b c. refl) o t s)
+      ⨾ (λ t. r_read Remuw 0b0111011 0b111 0b0000001 (λ a b c. refl) o t s)
+      ⨾ tt)
 
   register_word_operations_read : f.opcode ≡ 0b0111011 → by_funct7 register_word_operations f ≡ Some i → IsRead f i
-  register_word_operations_read o = chosen_is_read register_word_operations f.funct7 f i (
-    (λ s. chosen_is_read base_word_operations f.funct3 f i (
-      (λ t. r_read Addw 0b0111011 0b000 0b0000000 (λ a b c. refl) o t s),
-      (
-        (λ t. r_read Sllw 0b0111011 0b001 0b0000000 (λ a b c. refl) o t s),
-        (
-          (λ t. r_read Srlw 0b0111011 0b101 0b0000000 (λ a b c. refl) o t s),
-          tt,
-        ),
-      ),
-    )),
-    (
-      (λ s. chosen_is_read alternate_word_operations f.funct3 f i (
-        (λ t. r_read Subw 0b0111011 0b000 0b0100000 (λ a b c. refl) o t s),
-        (
-          (λ t. r_read Sraw 0b0111011 0b101 0b0100000 (λ a b c. refl) o t s),
-          tt,
-        ),
-      )),
-      (
-        (λ s. chosen_is_read word_multiplications f.funct3 f i (
-          (λ t. r_read Mulw 0b0111011 0b000 0b0000001 (λ a b c. refl) o t s),
-          (
-            (λ t. r_read Divw 0b0111011 0b100 0b0000001 (λ a b c. refl) o t s),
-            (
-              (λ t. r_read Divuw 0b0111011 0b101 0b0000001 (λ a b c. refl) o t s),
-              (
-                (λ t. r_read Remw 0b0111011 0b110 0b0000001 (λ a b c. refl) o t s),
-                (
-                  (λ t. r_read Remuw 0b0111011 0b111 0b0000001 (λ a b c. refl) o t s),
-                  tt,
-                ),
-              ),
-            ),
-          ),
-        )),
-        tt,
-      ),
-    ),
-  )
+  register_word_operations_read o = chosen_is_read register_word_operations f.funct7 f i
+      ( base_word_operations_read o
+      ⨾ alternate_word_operations_read o
+      ⨾ word_multiplications_read o
+      ⨾ tt)
 
   environment_calls_read : by_word environment_calls f ≡ Some i → IsRead f i
-  environment_calls_read = chosen_is_read environment_calls (packed f) f i (
-    word_read Ecall ((lit< tt, lit< tt), (omega (arith, ints), omega (arith, ints))) refl,
-    (
-      word_read Ebreak ((lit< tt, lit< tt), (omega (arith, ints), omega (arith, ints))) refl,
-      tt,
-    ),
-  )
+  environment_calls_read = chosen_is_read environment_calls (packed f) f i
+      ( word_read Ecall ((lit< tt, lit< tt), (omega (arith, ints), omega (arith, ints))) refl
+      ⨾ word_read Ebreak ((lit< tt, lit< tt), (omega (arith, ints), omega (arith, ints))) refl
+      ⨾ tt)
 
   opcodes_read : by_opcode opcodes f ≡ Some i → IsRead f i
-  opcodes_read = chosen_is_read opcodes f.opcode f i (
-    u_read Lui 0b0110111 (λ a z. refl),
-    (
-      u_read Auipc 0b0010111 (λ a z. refl),
-      (
-        j_read Jal 0b1101111 (λ a z. refl),
-        (
-          indirect_jumps_read,
-          (
-            branches_read,
-            (
-              loads_read,
-              (
-                stores_read,
-                (
-                  immediate_operations_read,
-                  (
-                    register_operations_read,
-                    (
-                      immediate_word_operations_read,
-                      (
-                        register_word_operations_read,
-                        (
-                          (λ o. environment_calls_read),
-                          tt,
-                        ),
-                      ),
-                    ),
-                  ),
-                ),
-              ),
-            ),
-          ),
-        ),
-      ),
-    ),
-  )
+  opcodes_read = chosen_is_read opcodes f.opcode f i
+      ( u_read Lui 0b0110111 (λ a z. refl)
+      ⨾ u_read Auipc 0b0010111 (λ a z. refl)
+      ⨾ j_read Jal 0b1101111 (λ a z. refl)
+      ⨾ indirect_jumps_read
+      ⨾ branches_read
+      ⨾ loads_read
+      ⨾ stores_read
+      ⨾ immediate_operations_read
+      ⨾ register_operations_read
+      ⨾ immediate_word_operations_read
+      ⨾ register_word_operations_read
+      ⨾ (λ o. environment_calls_read)
+      ⨾ tt)
 
 -- exactly the word of a valid instruction is read as it
 pub instr_of-is : (word : ℕ) (i : Instr) → word < 2 ^ 32 → (instr_of word ≡ Some i) ↔ (IsValid i × (word_of i ≡ word))

@@ -1,5 +1,6 @@
 pub mod Cutting
 pub mod Decodes
+pub mod Encodes
 pub mod Immediates
 pub mod Orders
 pub mod RegisterFacts
