@@ -1,5 +1,6 @@
 //! What an instruction asks for.
 ghost use Rattle.std.specs.Prelude.{◌≡◌};
+ghost use Rattle.rv_table.specs.Bounds.{HasASize, WritesARegister};
 ghost use Rattle.rv_table.specs.Registers.{registers_of};
 ghost use Rattle.rv_table.specs.Row.{row};
 ghost use Rattle.rv_table.specs.Table.{IsValid};
@@ -49,6 +50,16 @@ pub enum Effect {
 
 /// What the instruction asks for at these registers and this pc.
 pub fn effect_of(i: Instr, r: &Regs) -> Effect
+    requires { IsValid i }
+    ensures row { result ≡ row (registers_of r.now) r.now.pc i }
+    ensures register { WritesARegister result }
+    ensures size { HasASize result }
+{
+    row(i, r)
+}
+
+/// The row of the instruction, a line each.
+fn row(i: Instr, r: &Regs) -> Effect
     requires { IsValid i }
     ensures { result ≡ row (registers_of r.now) r.now.pc i }
 {
