@@ -1,18 +1,17 @@
 -- A word is read as an instruction exactly where that is valid and this is its word.
-use Rattle.std.proofs.Common.{◌≡◌, ℕ, suc, ◌+◌, ◌-◌, ◌*◌, ◌/◌, ◌%◌, ◌<◌, ◌≤◌, ◌^◌, ℤ, pos, negsuc, refl, sym, ap, ◌∙◌, arith, lit<, eqb-true, rules}
-use Rattle.std.specs.Prelude.{nat_lt, Bool, true, false, ◌&&◌, Option, Some, None, ◌↔◌, ◌≢◌, IsNone, List, [], ◌∷◌, ◌==◌}
+use Rattle.std.proofs.Common.{◌≡◌, ℕ, suc, ◌+◌, ◌*◌, ◌/◌, ◌%◌, ◌<◌, ◌^◌, ℤ, pos, negsuc, refl, sym, ap, ◌∙◌, arith, lit<, eqb-true, rules}
+use Rattle.std.specs.Prelude.{Bool, true, false, Option, Some, None, ◌↔◌, ◌≢◌, IsNone, List, [], ◌∷◌, ◌==◌}
 use Rattle.std.proofs.lemmas.Int.{ints}
-use Rattle.std.proofs.lemmas.Bool.Decides.{nat_tests}
 use Rattle.rv_table.specs.declared.word_fields.Fields.{Fields}
 use Rattle.rv_table.specs.declared.instruction.Instr.{Instr}
 use Rattle.rv_table.specs.declared.instruction.Instr.TheVariants.{Lui, Auipc, Jal, Jalr, Beq, Bne, Blt, Bge, Bltu, Bgeu, Lb, Lh, Lw, Ld, Lbu, Lhu, Lwu, Sb, Sh, Sw, Sd, Addi, Slti, Sltiu, Xori, Ori, Andi, Slli, Srli, Srai, Add, Sll, Slt, Sltu, Xor, Srl, Or, And, Sub, Sra, Mul, Mulh, Mulhsu, Mulhu, Div, Divu, Rem, Remu, Addiw, Slliw, Srliw, Sraiw, Addw, Sllw, Srlw, Subw, Sraw, Mulw, Divw, Divuw, Remw, Remuw, Ecall, Ebreak}
 use Rattle.rv_table.specs.Decoding.{by_opcode, by_funct3, by_funct7, by_top, by_word, indirect_jumps, branches, loads, stores, left_shifts, right_shifts, immediate_operations, base_operations, alternate_operations, multiplications, register_operations, left_word_shifts, right_word_shifts, immediate_word_operations, base_word_operations, alternate_word_operations, word_multiplications, register_word_operations, environment_calls, opcodes, instr_of, Entry, chosen, r_type, i_type, shift, word_shift, s_type, b_type, u_type, j_type, plain, i_bits, s_bits, b_bits, u_bits, j_bits, shift_bits}
-use Rattle.rv_table.specs.Encoding.{Encoding, RType, IType, Shift, WordShift, SType, BType, UType, JType, Fits, IsBetween, IsEven, InRange, fields, fields_of, jump_order, packed, cut}
+use Rattle.rv_table.specs.Encoding.{Encoding, RType, IType, Shift, WordShift, SType, BType, UType, JType, Fits, IsBetween, InRange, fields, fields_of, jump_order, packed, cut}
 use Rattle.rv_table.specs.Table.{encoding_of, IsValid, word_of}
 use Rattle.rv_table.specs.Words.{modulo, signed}
-use Rattle.rv_table.proofs.Cutting.{cut-packed, packed-cut, in_range_cut, packed-lt}
-use Rattle.rv_table.proofs.Immediates.{modulo-lt, signed-modulo, modulo-signed, signed_between, modulo-pos, modulo-parity_13, modulo-parity_21, signed-parity_13, signed-parity_21}
-use Rattle.rv_table.proofs.Orders.{b_parts, upper_parts, j_parts, j_order, j_order-lt, j_order-even, jump_order-j_order}
+use Rattle.rv_table.proofs.Cutting.{cut-packed, packed-cut, in_range_cut}
+use Rattle.rv_table.proofs.Immediates.{modulo-signed, signed_between, signed-parity_13, signed-parity_21}
+use Rattle.rv_table.proofs.Orders.{j_order-lt, j_order-even, jump_order-j_order}
 use Rattle.rv_table.proofs.Encodes.{instr_of-word_of}
 
 -- what an instruction that was read from fields has to meet
@@ -192,12 +191,12 @@ module _ (f : Fields) (r : InRange f) (i : Instr) where
   -- ---- the tables
   indirect_jumps_read : f.opcode ≡ 0b1100111 → by_funct3 indirect_jumps f ≡ Some i → IsRead f i
   indirect_jumps_read o = chosen_is_read indirect_jumps f.funct3 f i
-      ( i_read Jalr 0b1100111 0b000 (λ a b z. refl) o
+      (i_read Jalr 0b1100111 0b000 (λ a b z. refl) o
       ⨾ tt)
 
   branches_read : f.opcode ≡ 0b1100011 → by_funct3 branches f ≡ Some i → IsRead f i
   branches_read o = chosen_is_read branches f.funct3 f i
-      ( b_read Beq 0b1100011 0b000 (λ a b z. refl) o
+      (b_read Beq 0b1100011 0b000 (λ a b z. refl) o
       ⨾ b_read Bne 0b1100011 0b001 (λ a b z. refl) o
       ⨾ b_read Blt 0b1100011 0b100 (λ a b z. refl) o
       ⨾ b_read Bge 0b1100011 0b101 (λ a b z. refl) o
@@ -207,7 +206,7 @@ module _ (f : Fields) (r : InRange f) (i : Instr) where
 
   loads_read : f.opcode ≡ 0b0000011 → by_funct3 loads f ≡ Some i → IsRead f i
   loads_read o = chosen_is_read loads f.funct3 f i
-      ( i_read Lb 0b0000011 0b000 (λ a b z. refl) o
+      (i_read Lb 0b0000011 0b000 (λ a b z. refl) o
       ⨾ i_read Lh 0b0000011 0b001 (λ a b z. refl) o
       ⨾ i_read Lw 0b0000011 0b010 (λ a b z. refl) o
       ⨾ i_read Ld 0b0000011 0b011 (λ a b z. refl) o
@@ -218,7 +217,7 @@ module _ (f : Fields) (r : InRange f) (i : Instr) where
 
   stores_read : f.opcode ≡ 0b0100011 → by_funct3 stores f ≡ Some i → IsRead f i
   stores_read o = chosen_is_read stores f.funct3 f i
-      ( s_read Sb 0b0100011 0b000 (λ a b z. refl) o
+      (s_read Sb 0b0100011 0b000 (λ a b z. refl) o
       ⨾ s_read Sh 0b0100011 0b001 (λ a b z. refl) o
       ⨾ s_read Sw 0b0100011 0b010 (λ a b z. refl) o
       ⨾ s_read Sd 0b0100011 0b011 (λ a b z. refl) o
@@ -226,18 +225,18 @@ module _ (f : Fields) (r : InRange f) (i : Instr) where
 
   left_shifts_read : f.opcode ≡ 0b0010011 → f.funct3 ≡ 0b001 → by_top left_shifts f ≡ Some i → IsRead f i
   left_shifts_read o t = chosen_is_read left_shifts (f.funct7 / 2) f i
-      ( shift_read Slli 0b0010011 0b001 0b000000 (λ a b z. refl) o t
+      (shift_read Slli 0b0010011 0b001 0b000000 (λ a b z. refl) o t
       ⨾ tt)
 
   right_shifts_read : f.opcode ≡ 0b0010011 → f.funct3 ≡ 0b101 → by_top right_shifts f ≡ Some i → IsRead f i
   right_shifts_read o t = chosen_is_read right_shifts (f.funct7 / 2) f i
-      ( shift_read Srli 0b0010011 0b101 0b000000 (λ a b z. refl) o t
+      (shift_read Srli 0b0010011 0b101 0b000000 (λ a b z. refl) o t
       ⨾ shift_read Srai 0b0010011 0b101 0b010000 (λ a b z. refl) o t
       ⨾ tt)
 
   immediate_operations_read : f.opcode ≡ 0b0010011 → by_funct3 immediate_operations f ≡ Some i → IsRead f i
   immediate_operations_read o = chosen_is_read immediate_operations f.funct3 f i
-      ( i_read Addi 0b0010011 0b000 (λ a b z. refl) o
+      (i_read Addi 0b0010011 0b000 (λ a b z. refl) o
       ⨾ left_shifts_read o
       ⨾ i_read Slti 0b0010011 0b010 (λ a b z. refl) o
       ⨾ i_read Sltiu 0b0010011 0b011 (λ a b z. refl) o
@@ -249,7 +248,7 @@ module _ (f : Fields) (r : InRange f) (i : Instr) where
 
   base_operations_read : f.opcode ≡ 0b0110011 → f.funct7 ≡ 0b0000000 → by_funct3 base_operations f ≡ Some i → IsRead f i
   base_operations_read o s = chosen_is_read base_operations f.funct3 f i
-      ( (λ t. r_read Add 0b0110011 0b000 0b0000000 (λ a b c. refl) o t s)
+      ((λ t. r_read Add 0b0110011 0b000 0b0000000 (λ a b c. refl) o t s)
       ⨾ (λ t. r_read Sll 0b0110011 0b001 0b0000000 (λ a b c. refl) o t s)
       ⨾ (λ t. r_read Slt 0b0110011 0b010 0b0000000 (λ a b c. refl) o t s)
       ⨾ (λ t. r_read Sltu 0b0110011 0b011 0b0000000 (λ a b c. refl) o t s)
@@ -261,13 +260,13 @@ module _ (f : Fields) (r : InRange f) (i : Instr) where
 
   alternate_operations_read : f.opcode ≡ 0b0110011 → f.funct7 ≡ 0b0100000 → by_funct3 alternate_operations f ≡ Some i → IsRead f i
   alternate_operations_read o s = chosen_is_read alternate_operations f.funct3 f i
-      ( (λ t. r_read Sub 0b0110011 0b000 0b0100000 (λ a b c. refl) o t s)
+      ((λ t. r_read Sub 0b0110011 0b000 0b0100000 (λ a b c. refl) o t s)
       ⨾ (λ t. r_read Sra 0b0110011 0b101 0b0100000 (λ a b c. refl) o t s)
       ⨾ tt)
 
   multiplications_read : f.opcode ≡ 0b0110011 → f.funct7 ≡ 0b0000001 → by_funct3 multiplications f ≡ Some i → IsRead f i
   multiplications_read o s = chosen_is_read multiplications f.funct3 f i
-      ( (λ t. r_read Mul 0b0110011 0b000 0b0000001 (λ a b c. refl) o t s)
+      ((λ t. r_read Mul 0b0110011 0b000 0b0000001 (λ a b c. refl) o t s)
       ⨾ (λ t. r_read Mulh 0b0110011 0b001 0b0000001 (λ a b c. refl) o t s)
       ⨾ (λ t. r_read Mulhsu 0b0110011 0b010 0b0000001 (λ a b c. refl) o t s)
       ⨾ (λ t. r_read Mulhu 0b0110011 0b011 0b0000001 (λ a b c. refl) o t s)
@@ -279,45 +278,45 @@ module _ (f : Fields) (r : InRange f) (i : Instr) where
 
   register_operations_read : f.opcode ≡ 0b0110011 → by_funct7 register_operations f ≡ Some i → IsRead f i
   register_operations_read o = chosen_is_read register_operations f.funct7 f i
-      ( base_operations_read o
+      (base_operations_read o
       ⨾ alternate_operations_read o
       ⨾ multiplications_read o
       ⨾ tt)
 
   left_word_shifts_read : f.opcode ≡ 0b0011011 → f.funct3 ≡ 0b001 → by_funct7 left_word_shifts f ≡ Some i → IsRead f i
   left_word_shifts_read o t = chosen_is_read left_word_shifts f.funct7 f i
-      ( word_shift_read Slliw 0b0011011 0b001 0b0000000 (λ a b z. refl) o t
+      (word_shift_read Slliw 0b0011011 0b001 0b0000000 (λ a b z. refl) o t
       ⨾ tt)
 
   right_word_shifts_read : f.opcode ≡ 0b0011011 → f.funct3 ≡ 0b101 → by_funct7 right_word_shifts f ≡ Some i → IsRead f i
   right_word_shifts_read o t = chosen_is_read right_word_shifts f.funct7 f i
-      ( word_shift_read Srliw 0b0011011 0b101 0b0000000 (λ a b z. refl) o t
+      (word_shift_read Srliw 0b0011011 0b101 0b0000000 (λ a b z. refl) o t
       ⨾ word_shift_read Sraiw 0b0011011 0b101 0b0100000 (λ a b z. refl) o t
       ⨾ tt)
 
   immediate_word_operations_read : f.opcode ≡ 0b0011011 → by_funct3 immediate_word_operations f ≡ Some i → IsRead f i
   immediate_word_operations_read o = chosen_is_read immediate_word_operations f.funct3 f i
-      ( i_read Addiw 0b0011011 0b000 (λ a b z. refl) o
+      (i_read Addiw 0b0011011 0b000 (λ a b z. refl) o
       ⨾ left_word_shifts_read o
       ⨾ right_word_shifts_read o
       ⨾ tt)
 
   base_word_operations_read : f.opcode ≡ 0b0111011 → f.funct7 ≡ 0b0000000 → by_funct3 base_word_operations f ≡ Some i → IsRead f i
   base_word_operations_read o s = chosen_is_read base_word_operations f.funct3 f i
-      ( (λ t. r_read Addw 0b0111011 0b000 0b0000000 (λ a b c. refl) o t s)
+      ((λ t. r_read Addw 0b0111011 0b000 0b0000000 (λ a b c. refl) o t s)
       ⨾ (λ t. r_read Sllw 0b0111011 0b001 0b0000000 (λ a b c. refl) o t s)
       ⨾ (λ t. r_read Srlw 0b0111011 0b101 0b0000000 (λ a b c. refl) o t s)
       ⨾ tt)
 
   alternate_word_operations_read : f.opcode ≡ 0b0111011 → f.funct7 ≡ 0b0100000 → by_funct3 alternate_word_operations f ≡ Some i → IsRead f i
   alternate_word_operations_read o s = chosen_is_read alternate_word_operations f.funct3 f i
-      ( (λ t. r_read Subw 0b0111011 0b000 0b0100000 (λ a b c. refl) o t s)
+      ((λ t. r_read Subw 0b0111011 0b000 0b0100000 (λ a b c. refl) o t s)
       ⨾ (λ t. r_read Sraw 0b0111011 0b101 0b0100000 (λ a b c. refl) o t s)
       ⨾ tt)
 
   word_multiplications_read : f.opcode ≡ 0b0111011 → f.funct7 ≡ 0b0000001 → by_funct3 word_multiplications f ≡ Some i → IsRead f i
   word_multiplications_read o s = chosen_is_read word_multiplications f.funct3 f i
-      ( (λ t. r_read Mulw 0b0111011 0b000 0b0000001 (λ a b c. refl) o t s)
+      ((λ t. r_read Mulw 0b0111011 0b000 0b0000001 (λ a b c. refl) o t s)
       ⨾ (λ t. r_read Divw 0b0111011 0b100 0b0000001 (λ a b c. refl) o t s)
       ⨾ (λ t. r_read Divuw 0b0111011 0b101 0b0000001 (λ a b c. refl) o t s)
       ⨾ (λ t. r_read Remw 0b0111011 0b110 0b0000001 (λ a b c. refl) o t s)
@@ -326,20 +325,20 @@ module _ (f : Fields) (r : InRange f) (i : Instr) where
 
   register_word_operations_read : f.opcode ≡ 0b0111011 → by_funct7 register_word_operations f ≡ Some i → IsRead f i
   register_word_operations_read o = chosen_is_read register_word_operations f.funct7 f i
-      ( base_word_operations_read o
+      (base_word_operations_read o
       ⨾ alternate_word_operations_read o
       ⨾ word_multiplications_read o
       ⨾ tt)
 
   environment_calls_read : by_word environment_calls f ≡ Some i → IsRead f i
   environment_calls_read = chosen_is_read environment_calls (packed f) f i
-      ( word_read Ecall ((lit< tt, lit< tt), (omega (arith, ints), omega (arith, ints))) refl
+      (word_read Ecall ((lit< tt, lit< tt), (omega (arith, ints), omega (arith, ints))) refl
       ⨾ word_read Ebreak ((lit< tt, lit< tt), (omega (arith, ints), omega (arith, ints))) refl
       ⨾ tt)
 
   opcodes_read : by_opcode opcodes f ≡ Some i → IsRead f i
   opcodes_read = chosen_is_read opcodes f.opcode f i
-      ( u_read Lui 0b0110111 (λ a z. refl)
+      (u_read Lui 0b0110111 (λ a z. refl)
       ⨾ u_read Auipc 0b0010111 (λ a z. refl)
       ⨾ j_read Jal 0b1101111 (λ a z. refl)
       ⨾ indirect_jumps_read

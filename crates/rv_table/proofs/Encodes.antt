@@ -1,18 +1,17 @@
 -- The word of a valid instruction is read as that instruction.
-use Rattle.std.proofs.Common.{◌≡◌, ℕ, suc, ◌+◌, ◌-◌, ◌*◌, ◌/◌, ◌%◌, ◌<◌, ◌≤◌, ◌^◌, ℤ, pos, negsuc, refl, sym, ap, ◌∙◌, arith, lit<, eqb-true, rules}
-use Rattle.std.specs.Prelude.{nat_lt, Bool, true, false, ◌&&◌, Option, Some, None, ◌↔◌, ◌≢◌, IsNone, List, [], ◌∷◌, ◌==◌}
+use Rattle.std.proofs.Common.{◌≡◌, ℕ, ◌+◌, ◌-◌, ◌*◌, ◌/◌, ◌%◌, ◌<◌, ◌^◌, ℤ, pos, negsuc, refl, sym, ap, ◌∙◌, arith, lit<}
+use Rattle.std.specs.Prelude.{nat_lt, Bool, true, ◌&&◌, Some}
 use Rattle.std.proofs.lemmas.Int.{ints}
 use Rattle.std.proofs.lemmas.Bool.Decides.{nat_tests}
-use Rattle.rv_table.specs.declared.word_fields.Fields.{Fields}
 use Rattle.rv_table.specs.declared.instruction.Instr.{Instr}
 use Rattle.rv_table.specs.declared.instruction.Instr.TheVariants.{Lui, Auipc, Jal, Jalr, Beq, Bne, Blt, Bge, Bltu, Bgeu, Lb, Lh, Lw, Ld, Lbu, Lhu, Lwu, Sb, Sh, Sw, Sd, Addi, Slti, Sltiu, Xori, Ori, Andi, Slli, Srli, Srai, Add, Sll, Slt, Sltu, Xor, Srl, Or, And, Sub, Sra, Mul, Mulh, Mulhsu, Mulhu, Div, Divu, Rem, Remu, Addiw, Slliw, Srliw, Sraiw, Addw, Sllw, Srlw, Subw, Sraw, Mulw, Divw, Divuw, Remw, Remuw, Ecall, Ebreak}
-use Rattle.rv_table.specs.Decoding.{by_opcode, by_funct3, by_funct7, by_top, by_word, indirect_jumps, branches, loads, stores, left_shifts, right_shifts, immediate_operations, base_operations, alternate_operations, multiplications, register_operations, left_word_shifts, right_word_shifts, immediate_word_operations, base_word_operations, alternate_word_operations, word_multiplications, register_word_operations, environment_calls, opcodes, instr_of, Entry, chosen, r_type, i_type, shift, word_shift, s_type, b_type, u_type, j_type, plain, i_bits, s_bits, b_bits, u_bits, j_bits, shift_bits}
-use Rattle.rv_table.specs.Encoding.{Encoding, RType, IType, Shift, WordShift, SType, BType, UType, JType, Fits, IsBetween, IsEven, InRange, fields, fields_of, jump_order, packed, cut}
+use Rattle.rv_table.specs.Decoding.{by_opcode, opcodes, instr_of, b_bits, u_bits, j_bits}
+use Rattle.rv_table.specs.Encoding.{Encoding, RType, IType, Shift, WordShift, SType, BType, UType, JType, Fits, IsBetween, IsEven, InRange, fields_of, jump_order}
 use Rattle.rv_table.specs.Table.{encoding_of, IsValid, word_of}
 use Rattle.rv_table.specs.Words.{modulo, signed}
-use Rattle.rv_table.proofs.Cutting.{cut-packed, packed-cut, in_range_cut, packed-lt}
-use Rattle.rv_table.proofs.Immediates.{modulo-lt, signed-modulo, modulo-signed, signed_between, modulo-pos, modulo-parity_13, modulo-parity_21, signed-parity_13, signed-parity_21}
-use Rattle.rv_table.proofs.Orders.{b_parts, upper_parts, j_parts, j_order, j_order-lt, j_order-even, jump_order-j_order}
+use Rattle.rv_table.proofs.Cutting.{cut-packed, packed-lt}
+use Rattle.rv_table.proofs.Immediates.{modulo-lt, signed-modulo, modulo-pos, modulo-parity_13, modulo-parity_21}
+use Rattle.rv_table.proofs.Orders.{b_parts, upper_parts, j_parts}
 
 -- the numbers that name an instruction fit their fields
 abbrev names_fit : ℕ → ℕ → ℕ → Bool
@@ -277,4 +276,3 @@ instr_of-word_of i h =
 
 pub word_of-lt : (i : Instr) → IsValid i → word_of i < 2 ^ 32
 word_of-lt i h = packed-lt (fields_of (encoding_of i)) (in_range (encoding_of i) (is_named_encoding_of i) h)
-

@@ -11,3 +11,4 @@ pub mod Soundness
 pub mod Standing
 pub mod Stops
 pub mod WordFacts
+mod WorkedRows

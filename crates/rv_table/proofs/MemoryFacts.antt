@@ -1,7 +1,7 @@
 -- Loads after stores.
-use Rattle.std.proofs.Common.{◌≡◌, ℕ, zero, suc, ◌+◌, ◌-◌, ◌*◌, ◌/◌, ◌%◌, ◌<◌, ◌≤◌, ◌^◌, refl, sym, ap, ◌∙◌, arith, add-zero}
+use Rattle.std.proofs.Common.{◌≡◌, ℕ, zero, suc, ◌+◌, ◌-◌, ◌*◌, ◌/◌, ◌%◌, ◌<◌, ◌≤◌, ◌^◌, refl, sym, arith, add-zero}
 use Rattle.std.proofs.Math.Nat.{div-one, div-div-eq-div-mul}
-use Rattle.std.specs.Prelude.{nat_lt, nat_le, Bool, true, false, ◌&&◌}
+use Rattle.std.specs.Prelude.{nat_lt, nat_le, true, false}
 use Rattle.std.proofs.lemmas.Bool.Decides.{nat_tests}
 use Rattle.std.proofs.lemmas.Nat.{pow-add, mod-pow-add}
 use Rattle.rv_table.specs.Memory.{loaded, stored}
@@ -46,7 +46,7 @@ loaded-above memory address size value from (suc count) h =
 
 -- the lowest byte and the others make up the number
 one_more_byte : (u count : ℕ) → u % 256 + 256 * (u / 256 % 2 ^ (8 * count)) ≡ u % 2 ^ (8 * suc count)
-one_more_byte u count = 
+one_more_byte u count =
     let e : 8 * suc count ≡ 8 * count + 8 = omega arith in
     let m : u % 2 ^ (8 * count + 8) ≡ u / 2 ^ 8 % 2 ^ (8 * count) * 2 ^ 8 + u % 2 ^ 8 = mod-pow-add u (8 * count) 8 in
     rw (e, m) (omega arith)
@@ -63,7 +63,7 @@ pub loaded-within : (memory : ℕ → ℕ) (address size value offset count : �
 loaded-within memory address size value offset zero h = omega arith
 loaded-within memory address size value offset (suc count) h =
     let here : stored memory address size value (address + offset) ≡ value / 2 ^ (8 * (address + offset - address)) % 256 =
-            stored-within memory address size value (address + offset) (omega arith) (omega arith)
+    stored-within memory address size value (address + offset) (omega arith) (omega arith)
     in
     let at : address + offset - address ≡ offset = omega arith in
     let on : address + offset + 1 ≡ address + (offset + 1) = omega arith in
@@ -74,7 +74,7 @@ pub loaded-same : (memory : ℕ → ℕ) (address size value : ℕ) →
     loaded (stored memory address size value) address size ≡ value % 2 ^ (8 * size)
 loaded-same memory address size value =
     let e : loaded (stored memory address size value) (address + 0) size ≡ value / 1 % 2 ^ (8 * size) =
-            loaded-within memory address size value 0 size (omega arith)
+    loaded-within memory address size value 0 size (omega arith)
     in
     rw (add-zero address, div-one value) at e
 

@@ -17,12 +17,12 @@ with_register-0 x value = refl
 pub with_register-fits : (x : ℕ → ℕ) (rd value : ℕ) → ((k : ℕ) → x k < 2 ^ 64) → value < 2 ^ 64 → (k : ℕ) →
     with_register x rd value k < 2 ^ 64
 with_register-fits x rd value fits small k = either (rd == 0) (k == rd) (fits k) small
-    where
-      either : (a b : Bool) → x k < 2 ^ 64 → value < 2 ^ 64 →
-          elim a [ true ↦ x k | false ↦ elim b [ true ↦ value | false ↦ x k ] ] < 2 ^ 64
-      either true b h g = h
-      either false true h g = g
-      either false false h g = h
+  where
+    either : (a b : Bool) → x k < 2 ^ 64 → value < 2 ^ 64 →
+        elim a [ true ↦ x k | false ↦ elim b [ true ↦ value | false ↦ x k ] ] < 2 ^ 64
+    either true b h g = h
+    either false true h g = g
+    either false false h g = h
 
 pub with_register-zero : (x : ℕ → ℕ) (rd value : ℕ) → with_register x rd value 0 ≡ x 0
 with_register-zero x rd value = grind (arith, nat_tests)

@@ -1,5 +1,5 @@
 -- Every value that a row gives has 64 bits, and what it writes is a register.
-use Rattle.std.proofs.Common.{◌≡◌, ℕ, suc, ◌+◌, ◌*◌, ◌/◌, ◌%◌, ◌<◌, ◌≤◌, ◌^◌, pos, refl, arith, lit<, rules}
+use Rattle.std.proofs.Common.{ℕ, ◌*◌, ◌/◌, ◌%◌, ◌<◌, ◌≤◌, ◌^◌, arith, lit<, rules}
 use Rattle.std.specs.Prelude.{Bool, true, false, cond, ◌==◌}
 use Rattle.std.proofs.Math.Nat.{mod-lt, div-le_self, lt_of_le_of_lt, le_of_lt, mul-le-mul_left}
 use Rattle.std.proofs.Math.Pow.{pow_pos}

@@ -1,5 +1,5 @@
 -- Runs keep states sound.
-use Rattle.std.proofs.Common.{◌≡◌, ℕ, zero, suc, ◌+◌, ◌*◌, ◌%◌, ◌<◌, ◌≤◌, ◌^◌, refl, sym, ap, ◌∙◌, arith, lit<, subst, rules}
+use Rattle.std.proofs.Common.{◌≡◌, ℕ, zero, suc, ◌+◌, ◌*◌, ◌%◌, ◌<◌, ◌≤◌, ◌^◌, refl, ◌∙◌, arith, lit<, subst}
 use Rattle.std.specs.Prelude.{Option, Some, None, Bool, true, false, ◌==◌, ◌&&◌, nat_le, nat_lt, IsTrue}
 use Rattle.std.proofs.lemmas.Bool.Decides.{nat_tests}
 use Rattle.std.proofs.Math.Nat.{mod-lt, lt_of_lt_of_le}
@@ -10,7 +10,6 @@ use Rattle.rv_table.specs.declared.instruction.Instr.{Instr}
 use Rattle.rv_table.specs.Bounds.{ValuesFit, HasASize, IsSound, is_size}
 use Rattle.rv_table.specs.Decoding.{instr_of}
 use Rattle.rv_table.specs.Machine.{MemoryMap, State, Outcome, Next, Asks, Traps, Request, and_then, extended, fetched, instruction_step, fetched_step, decoded_step, done, goes_to, with_set, steps, start, request_of, no_request, is_accessible, loaded, stored, stack_base, region_base}
-use Rattle.rv_table.specs.Registers.{with_register}
 use Rattle.rv_table.specs.Row.{row}
 use Rattle.rv_table.proofs.Immediates.{modulo-lt}
 use Rattle.rv_table.proofs.MemoryFacts.{loaded-lt}
@@ -73,8 +72,8 @@ module _ (m : MemoryMap) (s : State) (h : IsSound s) where
       either_soundly (is_accessible m address size) _ _ (set_soundly rd _ (extended-lt signed address size sized)) tt
   done_soundly (Store address size value) fits sized =
       either_soundly (is_accessible m address size) _ _
-          record { registers = h.registers; zero = h.zero; memory = stored-lt address size value }
-          tt
+      record { registers = h.registers; zero = h.zero; memory = stored-lt address size value }
+      tt
   done_soundly Ask fits sized = request_soundly (request_of s.registers)
   done_soundly Break fits sized = tt
 
@@ -96,8 +95,8 @@ pub sound_steps : (m : MemoryMap) (n : ℕ) (s t : State) → IsSound s → step
 sound_steps m zero s t h is = let e : s ≡ t = cc in subst (λ u. IsSound u) e h
 sound_steps m (suc n) s t h is =
     and_then_soundly (instruction_step m s) (steps m n) t (fetched_soundly m s h (fetched m.code s.pc))
-        (λ u sound. sound_steps m n u t sound)
-        is
+    (λ u sound. sound_steps m n u t sound)
+    is
 
 pub sound_start : (m : MemoryMap) (memory : ℕ → ℕ) → stack_base + m.stack_size < 2 ^ 64 →
     ((address : ℕ) → memory address < 2 ^ 8) → IsSound (start m memory)

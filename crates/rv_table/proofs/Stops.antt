@@ -1,5 +1,5 @@
 -- Requests and traps end a run.
-use Rattle.std.proofs.Common.{◌≡◌, ℕ, suc, ◌≤◌, refl, sym, ap, ◌∙◌, arith, lit≤, subst, ◌%◌}
+use Rattle.std.proofs.Common.{◌≡◌, ℕ, suc, ◌≤◌, ap, lit≤, subst, ◌%◌}
 use Rattle.std.specs.Prelude.{Option, Some, None, Bool, true, false, ◌==◌}
 use Rattle.rv_table.specs.declared.effects.Effect.{Effect}
 use Rattle.rv_table.specs.declared.effects.Effect.TheVariants.{Set, Jump, Branch, Load, Store, Ask, Break}

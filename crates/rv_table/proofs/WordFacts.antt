@@ -1,10 +1,10 @@
 -- Signed readings: of 64 bits, of a word, and of what a division gives.
-use Rattle.std.proofs.Common.{◌≡◌, ◌≢◌, ℕ, zero, suc, ◌+◌, ◌-◌, ◌*◌, ◌/◌, ◌%◌, ◌<◌, ◌≤◌, ◌^◌, ℤ, pos, negsuc, refl, sym, ap, ◌∙◌, arith, of_z, to_z, w64, neg_ℤ, ◌*ℤ◌, lit<, rules}
+use Rattle.std.proofs.Common.{◌≡◌, ◌≢◌, ℕ, zero, suc, ◌/◌, ◌%◌, ◌<◌, ◌≤◌, ◌^◌, ℤ, pos, negsuc, refl, ap, ◌∙◌, arith, of_z, to_z, w64, neg_ℤ, ◌*ℤ◌, lit<}
 use Rattle.std.specs.Prelude.{int_div, int_rem, unsigned_abs, ◌==◌, Bool, true, false}
 use Rattle.std.specs.Int.{w128, int_wrapping_div}
 use lib.Signed.{mag, mag_rem}
 use Rattle.std.proofs.Math.Nat.{div-le_self, le_trans, lt_of_le_of_lt}
-use Rattle.std.proofs.lemmas.Int.{ints, to_z-of_z, of_z-to_z, fits_signed_mul}
+use Rattle.std.proofs.lemmas.Int.{to_z-of_z, of_z-to_z, fits_signed_mul}
 use Rattle.std.proofs.lemmas.Bool.Decides.{nat_tests}
 use Rattle.rv_table.specs.Words.{modulo, signed, sign_extended, word, quotient, remainder}
 use Rattle.rv_table.proofs.Immediates.{modulo-lt}

@@ -28,17 +28,14 @@ pub fn runs()
 pub fn numbers_stay_in_range()
     ensures rows { RowsAreBounded }
     ensures runs { RunsAreSound }
-{
-}
+{}
 
 /// A load gives what a store left there.
 pub fn stores_are_read()
     ensures { StoresAreRead }
-{
-}
+{}
 
 /// Requests and traps stop a run and change nothing.
 pub fn stops_end_runs()
     ensures { StopsEndRuns }
-{
-}
+{}
