@@ -14,3 +14,6 @@ pub mod laws;
 
 pub use decoding::decode;
 pub use encoding::encode;
+
+#[cfg(test)]
+mod tests;

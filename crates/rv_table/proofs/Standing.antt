@@ -13,7 +13,7 @@ use Rattle.rv_table.specs.Decoding.{instr_of}
 use Rattle.rv_table.specs.Machine.{code_base, is_fetchable, fetched}
 use Rattle.rv_table.specs.Stands.{standing, Stands, code_of}
 use Rattle.rv_table.specs.Table.{IsValid, word_of}
-use Rattle.rv_table.proofs.Decodes.{instr_of-word_of, word_of-lt}
+use Rattle.rv_table.proofs.Encodes.{instr_of-word_of, word_of-lt}
 
 -- the word that stands after so many words is fetched
 pub fetched-append : (before after : List ℕ) (k word : ℕ) → length before ≡ 4 * k → word < 2 ^ 32 →

@@ -1,11 +1,12 @@
 -- What holds of the table and the machine, at every instruction, code and state.
-use Rattle.std.specs.Prelude.{◌≡◌, ◌≢◌, ℕ, ◌+◌, ◌*◌, ◌<◌, ◌^◌, ◌↔◌, List, ◌++◌, length, Some}
+use Rattle.std.specs.Prelude.{◌≡◌, ◌≢◌, ℕ, suc, ◌+◌, ◌*◌, ◌/◌, ◌%◌, ◌<◌, ◌≤◌, ◌^◌, ◌↔◌, List, ◌++◌, length, Some, None}
 use Rattle.std.specs.List.{All}
 use Rattle.std.specs.Option.{option_and_then}
 use Rattle.rv_table.specs.declared.effects.Effect.TheVariants.{Set}
 use Rattle.rv_table.specs.declared.instruction.Instr.{Instr}
+use Rattle.rv_table.specs.Bounds.{ValuesFit, HasASize, WritesARegister, IsSound}
 use Rattle.rv_table.specs.Decoding.{instr_of}
-use Rattle.rv_table.specs.Machine.{MemoryMap, State, Next, code_base, with_set, instruction_step, steps}
+use Rattle.rv_table.specs.Machine.{MemoryMap, State, Next, Asks, Traps, Request, code_base, stack_base, loaded, stored, with_set, instruction_step, steps, start}
 use Rattle.rv_table.specs.Registers.{with_register}
 use Rattle.rv_table.specs.Row.{row}
 use Rattle.rv_table.specs.Stands.{standing, Stands, code_of}
@@ -49,3 +50,36 @@ abbrev pub SetsAreDone : Type 0
 SetsAreDone =
     (m : MemoryMap) (s : State) (i : Instr) (rd value : ℕ) → standing m.code s.pc ≡ Some i →
     row s.registers s.pc i ≡ Set rd value → instruction_step m s ≡ Next (with_set s rd value)
+
+-- the values and addresses of every row have 64 bits where the registers do, its accesses have one of four sizes, and a valid
+-- instruction writes a register
+pub record RowsAreBounded : Type 0 where
+  pub values : (x : ℕ → ℕ) (pc : ℕ) (i : Instr) → ((k : ℕ) → x k < 2 ^ 64) → ValuesFit (row x pc i)
+  pub size : (x : ℕ → ℕ) (pc : ℕ) (i : Instr) → HasASize (row x pc i)
+  pub register : (x : ℕ → ℕ) (pc : ℕ) (i : Instr) → IsValid i → WritesARegister (row x pc i)
+
+-- runs begin and stay in sound states: registers have 64 bits, register 0 is 0, and memory holds bytes
+pub record RunsAreSound : Type 0 where
+  pub begin : (m : MemoryMap) (memory : ℕ → ℕ) → stack_base + m.stack_size < 2 ^ 64 →
+      ((address : ℕ) → memory address < 2 ^ 8) → IsSound (start m memory)
+  pub stay : (m : MemoryMap) (n : ℕ) (s t : State) → IsSound s → steps m n s ≡ Some t → IsSound t
+
+-- what is loaded after a store
+pub record StoresAreRead : Type 0 where
+  -- at the same address and of the same size
+  pub same : (memory : ℕ → ℕ) (address size value : ℕ) →
+      loaded (stored memory address size value) address size ≡ value % 2 ^ (8 * size)
+  -- of any size within what was stored
+  pub within : (memory : ℕ → ℕ) (address size value offset count : ℕ) → offset + count ≤ size →
+      loaded (stored memory address size value) (address + offset) count ≡ value / 2 ^ (8 * offset) % 2 ^ (8 * count)
+  -- wholly below or above it
+  pub below : (memory : ℕ → ℕ) (address size value from count : ℕ) → from + count ≤ address →
+      loaded (stored memory address size value) from count ≡ loaded memory from count
+  pub above : (memory : ℕ → ℕ) (address size value from count : ℕ) → address + size ≤ from →
+      loaded (stored memory address size value) from count ≡ loaded memory from count
+
+-- a request or a trap ends a run in the state that it found, and a trap has one of six kinds
+pub record StopsEndRuns : Type 0 where
+  pub request : (m : MemoryMap) (s : State) (r : Request) (n : ℕ) → instruction_step m s ≡ Asks r → steps m (suc n) s ≡ None
+  pub trap : (m : MemoryMap) (s : State) (kind n : ℕ) → instruction_step m s ≡ Traps kind → steps m (suc n) s ≡ None
+  pub kinds : (m : MemoryMap) (s : State) (kind : ℕ) → instruction_step m s ≡ Traps kind → (1 ≤ kind) × (kind ≤ 6)

@@ -1,7 +1,9 @@
 pub mod Encoding
+pub mod Bounds
 pub mod Decoding
 pub mod Laws
 pub mod Machine
+pub mod Memory
 pub mod Registers
 pub mod Row
 pub mod Stands

@@ -1,68 +1,19 @@
 -- A machine that runs instructions: registers, pc and memory by regions, and what one instruction does to them.
-use Rattle.std.specs.Prelude.{ℕ, zero, suc, ◌+◌, ◌-◌, ◌*◌, ◌/◌, ◌%◌, ◌^◌, ◌==◌, nat_lt, nat_le, Bool, true, false, ◌&&◌, ◌||◌, List, length, take, drop, Option, Some, None}
-use Rattle.std.specs.Int.{w32, from_le_bytes}
+use Rattle.std.specs.Prelude.{ℕ, zero, suc, ◌+◌, ◌*◌, ◌%◌, ◌==◌, Bool, true, false, Option, Some, None}
 use Rattle.rv_table.specs.declared.effects.Effect.{Effect}
 use Rattle.rv_table.specs.declared.effects.Effect.TheVariants.{Set, Jump, Branch, Load, Store, Ask, Break}
 use Rattle.rv_table.specs.declared.instruction.Instr.{Instr}
 use Rattle.rv_table.specs.Decoding.{instr_of}
+pub use Rattle.rv_table.specs.Memory.{MemoryMap, code_base, data_base, region_base, stack_base, is_fetchable, fetched, is_accessible, loaded, stored}
 use Rattle.rv_table.specs.Registers.{with_register}
 use Rattle.rv_table.specs.Row.{row}
 use Rattle.rv_table.specs.Words.{sign_extended}
-
--- what stays as it is in a run: the bytes of the code, and the lengths of the data and of the stack
-pub record MemoryMap : Type 0 where
-  pub code : List ℕ
-  pub data_length : ℕ
-  pub stack_size : ℕ
 
 pub record State : Type 0 where
   pub registers : ℕ → ℕ
   pub pc : ℕ
   -- the byte at each address of data and region
   pub memory : ℕ → ℕ
-
-abbrev pub code_base : ℕ
-code_base = 0x10000
-
-abbrev pub data_base : ℕ
-data_base = 0x40000000
-
--- the argument area and the global registers, 4,096 bytes below the stack
-abbrev pub region_base : ℕ
-region_base = 0x60000000
-
-abbrev pub stack_base : ℕ
-stack_base = 0x60001000
-
--- an address is aligned, and a word from there on lies in the code
-abbrev pub is_fetchable : List ℕ → ℕ → Bool
-is_fetchable code pc = (pc % 4 == 0) && (nat_le code_base pc && nat_le (pc + 4) (code_base + length code))
-
--- the word that is fetched at an address
-abbrev pub fetched : List ℕ → ℕ → Option ℕ
-fetched code pc =
-    elim (is_fetchable code pc) [
-      | true ↦ Some (from_le_bytes w32 (take 4 (drop (pc - code_base) code)))
-      | false ↦ None
-    ]
-
--- a load or a store of so many bytes is aligned, and lies wholly in the data or wholly in the region
-abbrev pub is_accessible : MemoryMap → ℕ → ℕ → Bool
-is_accessible m address size =
-    (address % size == 0)
-    && ((nat_le data_base address && nat_le (address + size) (data_base + m.data_length))
-    || (nat_le region_base address && nat_le (address + size) (stack_base + m.stack_size)))
-
--- the number whose bytes stand from an address on, the lowest first
-abbrev pub loaded : (ℕ → ℕ) → ℕ → ℕ → ℕ
-loaded memory address zero = 0
-loaded memory address (suc size) = memory address + 256 * loaded memory (address + 1) size
-
--- the memory once the low bytes of a number are written from an address on, the lowest first
-abbrev pub stored : (ℕ → ℕ) → ℕ → ℕ → ℕ → ℕ → ℕ
-stored memory address size value at =
-    elim (nat_le address at && nat_lt at (address + size))
-    [ true ↦ value / 2 ^ (8 * (at - address)) % 256 | false ↦ memory at ]
 
 -- what an ECALL asks for, by register 5
 pub data Request : Type 0 where

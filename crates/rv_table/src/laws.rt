@@ -1,5 +1,5 @@
 //! What is proved of the table and the machine: laws about definitions, each the contract of a function that does nothing.
-ghost use Rattle.rv_table.specs.Laws.{DecodingIsExact, WordsFit, CodeStands, RegistersAreKept, SetsAreDone, StepsJoin, StraightPiecesRun};
+ghost use Rattle.rv_table.specs.Laws.{DecodingIsExact, WordsFit, CodeStands, RegistersAreKept, RowsAreBounded, RunsAreSound, SetsAreDone, StepsJoin, StopsEndRuns, StoresAreRead, StraightPiecesRun};
 
 /// Decoding gives an instruction exactly for its word, and encoding gives words of 32 bits.
 pub fn words_and_instructions()
@@ -22,4 +22,20 @@ pub fn runs()
     ensures set { SetsAreDone }
     ensures join { StepsJoin }
     ensures straight { StraightPiecesRun }
+{}
+
+/// The numbers of every row are in range, and so runs keep registers and memory in theirs.
+pub fn numbers_stay_in_range()
+    ensures rows { RowsAreBounded }
+    ensures runs { RunsAreSound }
+{}
+
+/// A load gives what a store left there.
+pub fn stores_are_read()
+    ensures { StoresAreRead }
+{}
+
+/// Requests and traps stop a run and change nothing.
+pub fn stops_end_runs()
+    ensures { StopsEndRuns }
 {}

@@ -8,9 +8,11 @@
 //! - `word_fields`: the six fields that every word is cut into.
 //! - `registers`: the registers and pc, and a trap.
 //! - `effects`: what a row asks for, and `effect_of`.
+//! - `arithmetic`: the operations on words that the rows need.
 //! - `laws`: what is proved of the definitions.
 #![tactic(auto)]
 
+mod arithmetic;
 mod effects;
 mod instruction;
 pub mod laws;

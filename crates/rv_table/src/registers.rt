@@ -11,7 +11,7 @@ pub struct Regs {
 }
 
 impl Regs {
-    ghost use Rattle.rv_table.specs.Registers.{registers_of};
+    ghost use Rattle.rv_table.specs.Registers.{registers_of, with_register};
 
     /// What register `register` reads as: 0 for register 0.
     pub fn read(&self, register: u8) -> u64
@@ -23,6 +23,15 @@ impl Regs {
         } else {
             self.x[register as usize]
         }
+    }
+
+    /// Gives the register a value; register 0 stays 0.
+    pub fn write(&mut self, register: u8, value: u64)
+        requires { register < 32 }
+        ensures register { registers_of self.new ≡ with_register (registers_of self.old) register value }
+        ensures pc { self.new.pc ≡ self.old.pc }
+    {
+        self.x[register as usize] = value;
     }
 }
 

@@ -1,4 +1,5 @@
-use Rattle.rv_table.proofs.Decodes.{instr_of-is, word_of-lt}
+use Rattle.rv_table.proofs.Decodes.{instr_of-is}
+use Rattle.rv_table.proofs.Encodes.{word_of-lt}
 use Rattle.rv_table.proofs.laws.words_and_instructions.Goals as goal
 
 pub returns-clause-exact : goal.returns-clause-exact

@@ -1,0 +1,5 @@
+use Rattle.rv_table.proofs.MemoryFacts.{loaded-same, loaded-within, loaded-below, loaded-above}
+use Rattle.rv_table.proofs.laws.stores_are_read.Goals as goal
+
+pub returns : goal.returns
+returns c = record { same = loaded-same; within = loaded-within; below = loaded-below; above = loaded-above }

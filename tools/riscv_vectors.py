@@ -1,0 +1,250 @@
+#!/usr/bin/env python3
+"""Makes the outside vectors of crates/rv_code: words by the GNU assembler, results by QEMU.
+
+    tools/riscv_vectors.py            writes crates/rv_code/src/tests/words.rt and results.rt (run rt fmt in crates/rv_code after)
+    tools/riscv_vectors.py --check    compares what it makes with those files
+
+Where the assembler or the emulator is missing it says so and ends with status 0.
+Debian and Ubuntu: apt-get install binutils-riscv64-linux-gnu qemu-user
+"""
+import itertools
+import os
+import re
+import shutil
+import struct
+import subprocess
+import sys
+import tempfile
+
+TOOLS = ["riscv64-linux-gnu-as", "riscv64-linux-gnu-ld", "riscv64-linux-gnu-objcopy", "qemu-riscv64"]
+TESTS = os.path.join(os.path.dirname(__file__), "..", "crates", "rv_code", "src", "tests")
+
+REGISTER = "add sll slt sltu xor srl or and sub sra mul mulh mulhsu mulhu div divu rem remu".split()
+REGISTER += "addw sllw srlw subw sraw mulw divw divuw remw remuw".split()
+IMMEDIATE = "addi slti sltiu xori ori andi addiw".split()
+SHIFTS = {"slli": 63, "srli": 63, "srai": 63, "slliw": 31, "srliw": 31, "sraiw": 31}
+BRANCHES = "beq bne blt bge bltu bgeu".split()
+LOADS = "lb lh lw ld lbu lhu lwu".split()
+STORES = "sb sh sw sd".split()
+
+GREATEST = 2**63 - 1
+LEAST = 2**63
+ONES = 2**64 - 1
+# Pairs of operands at the corners: zero, one, all ones, the least and the greatest, mixed signs, shifts past the width.
+PAIRS = [(0, 0), (1, ONES), (ONES, 1), (LEAST, ONES), (GREATEST, LEAST), (LEAST, 0), (7, 0xFFFF_FFFF_FFFF_FFFD)]
+PAIRS += [(0x0123_4567_89AB_CDEF, 65), (0xFFFF_FFFF_8000_0000, 0x1_FFFF_FFFF)]
+CORNERS = [0, 1, ONES, LEAST, GREATEST, 0x0123_4567_89AB_CDEF, 0xFFFF_FFFF_8000_0000]
+
+
+def spelled_words():
+    """Each row at the ends of its operands: the assembler's text, and the name and the fields of its variant."""
+    registers = [(0, 0, 0), (31, 31, 31), (1, 2, 31), (16, 8, 4)]
+    for name in REGISTER:
+        for d, a, b in registers:
+            yield f"{name} x{d}, x{a}, x{b}", (name, dict(rd=d, rs1=a, rs2=b))
+    for name in IMMEDIATE + ["jalr"] + LOADS:
+        for (d, a, _), imm in zip(registers, [0, -2048, 2047, -1]):
+            shown = f"x{a}, {imm}" if name in IMMEDIATE else f"{imm}(x{a})"
+            yield f"{name} x{d}, {shown}", (name, dict(rd=d, rs1=a, imm=imm))
+    for name, most in SHIFTS.items():
+        for (d, a, _), imm in zip(registers, [0, most, 1, most // 2 + 1]):
+            yield f"{name} x{d}, x{a}, {imm}", (name, dict(rd=d, rs1=a, imm=imm))
+    for name in STORES:
+        for (a, b, _), imm in zip(registers, [0, -2048, 2047, -1]):
+            yield f"{name} x{b}, {imm}(x{a})", (name, dict(rs1=a, rs2=b, imm=imm))
+    for name in BRANCHES:
+        for (a, b, _), imm in zip(registers, [0, -4096, 4094, -2]):
+            yield f"{name} x{a}, x{b}, .+{imm}", (name, dict(rs1=a, rs2=b, imm=imm))
+    for name in ["lui", "auipc"]:
+        for (d, _, _), imm in zip(registers, [0, 1048575, 524288, 1]):
+            yield f"{name} x{d}, {imm}", (name, dict(rd=d, imm=imm))
+    for (d, _, _), imm in zip(registers, [0, -1048576, 1048574, -2]):
+        yield f"jal x{d}, .+{imm}", ("jal", dict(rd=d, imm=imm))
+    for name in ["ecall", "ebreak"]:
+        yield name, (name, {})
+
+
+def spelled_results():
+    """Each row that gives register 12 a value, at operands in registers 10 and 11."""
+    for name in REGISTER:
+        for pair in PAIRS:
+            yield f"{name} x12, x10, x11", pair
+    for name in IMMEDIATE:
+        for a, imm in zip(CORNERS, itertools.cycle([-1, 0, 2047, -2048, 1])):
+            yield f"{name} x12, x10, {imm}", (a, 0)
+    for name, most in SHIFTS.items():
+        for a, imm in zip(CORNERS, itertools.cycle([0, most, 1, most // 2 + 1])):
+            yield f"{name} x12, x10, {imm}", (a, 0)
+    for name in ["lui", "auipc"]:
+        for imm in [0, 1, 524287, 524288, 1048575, 0x12345]:
+            yield f"{name} x12, {imm}", (0, 0)
+
+
+def spelled_jumps():
+    """Branches, and jumps with register 12 as their link; register 10 counts from pc for jalr."""
+    pairs = PAIRS[:6] + [(5, 5), (LEAST, GREATEST)]
+    for name in BRANCHES:
+        for pair, imm in zip(pairs, itertools.cycle([8, -8, 16, -12])):
+            yield f"{name} x10, x11, .+{imm}", pair
+    for imm in [8, -8, 16, -16, 4, 12]:
+        yield f"jal x12, .+{imm}", (0, 0)
+    for a, imm in [(8, 0), (16, -8), (9, 0), (0, 13), (2047, -2035), (ONES, -7)]:
+        yield f"jalr x12, {imm}(x10)", (a, 0)
+
+
+def spelled_loads():
+    """Loads of a number in memory."""
+    for name in LOADS:
+        for a in CORNERS + [0x80, 0x8000]:
+            yield name, a
+
+
+def run(folder, *command):
+    return subprocess.run(command, cwd=folder, check=True, stdout=subprocess.PIPE).stdout
+
+
+def assembled(folder, lines):
+    with open(os.path.join(folder, "w.s"), "w") as f:
+        f.write(".option norvc\n.option norelax\n" + "\n".join(lines) + "\n")
+    run(folder, TOOLS[0], "-march=rv64im", "-o", "w.o", "w.s")
+    run(folder, TOOLS[2], "-O", "binary", "-j", ".text", "w.o", "w.bin")
+    with open(os.path.join(folder, "w.bin"), "rb") as f:
+        data = f.read()
+    return [w for (w,) in struct.iter_unpack("<I", data)]
+
+
+def emulated(folder, body, operands, count):
+    """Runs code that stores `count` numbers by register 21, reading operands by register 20."""
+    numbers = "\n".join(f".quad {n}" for n in operands)
+    with open(os.path.join(folder, "e.s"), "w") as f:
+        f.write(f""".option norvc
+.option norelax
+.text
+.globl _start
+_start:
+    la x20, operands
+    la x21, results
+{body}
+    li x17, 64
+    li x10, 1
+    la x11, results
+    li x12, {8 * count}
+    ecall
+    li x17, 93
+    li x10, 0
+    ecall
+.data
+.balign 8
+operands:
+{numbers}
+.bss
+.balign 8
+results: .skip {8 * count}
+""")
+    run(folder, TOOLS[0], "-march=rv64im", "-o", "e.o", "e.s")
+    run(folder, TOOLS[1], "-o", "e", "e.o")
+    return [n for (n,) in struct.iter_unpack("<Q", run(folder, TOOLS[3], "./e"))]
+
+
+def results(folder):
+    vectors = list(spelled_results())
+    body, operands = "", []
+    for k, (text, pair) in enumerate(vectors):
+        operands += pair
+        body += f"    ld x10, 0(x20)\n    ld x11, 8(x20)\n    la x13, at{k}\nat{k}: {text}\n"
+        if text.startswith("auipc"):
+            body += "    sub x12, x12, x13\n"
+        body += "    sd x12, 0(x21)\n    addi x20, x20, 16\n    addi x21, x21, 8\n"
+    values = emulated(folder, body, operands, len(vectors))
+    words = assembled(folder, [text for text, _ in vectors])
+    return [(w, a, b, v) for w, (_, (a, b)), v in zip(words, vectors, values)]
+
+
+def jumps(folder):
+    """Where each goes: eight instructions on either side call, so that the link of the call tells."""
+    vectors = list(spelled_jumps())
+    body, operands = "", []
+    for k, (text, pair) in enumerate(vectors):
+        operands += pair
+        sled = f"    jal x31, told{k}\n" * 8
+        moved = "    add x10, x10, x13\n" if text.startswith("jalr") else ""
+        body += f"    ld x10, 0(x20)\n    ld x11, 8(x20)\n    la x13, at{k}\n{moved}    mv x12, x13\n    j at{k}\n"
+        body += f"{sled}at{k}: {text}\n{sled}told{k}:\n"
+        body += "    sub x12, x12, x13\n    sub x31, x31, x13\n    addi x31, x31, -4\n"
+        body += "    sd x12, 0(x21)\n    sd x31, 8(x21)\n    addi x20, x20, 16\n    addi x21, x21, 16\n"
+    values = emulated(folder, body, operands, 2 * len(vectors))
+    words = assembled(folder, [text for text, _ in vectors])
+    return [(w, a, b, values[2 * k], values[2 * k + 1]) for k, (w, (_, (a, b))) in enumerate(zip(words, vectors))]
+
+
+def loads(folder):
+    vectors = list(spelled_loads())
+    body, operands = "", []
+    for name, a in vectors:
+        operands.append(a)
+        body += f"    {name} x12, 0(x20)\n    sd x12, 0(x21)\n    addi x20, x20, 8\n    addi x21, x21, 8\n"
+    values = emulated(folder, body, operands, len(vectors))
+    words = assembled(folder, [f"{name} x12, 0(x10)" for name, _ in vectors])
+    return [(w, a, v) for w, (_, a), v in zip(words, vectors, values)]
+
+
+def instruction(name, operands):
+    """As Debug writes it."""
+    shown = ", ".join(f"{k}: {v}" for k, v in operands.items())
+    return name.capitalize() + (f" {{ {shown} }}" if operands else "")
+
+
+def table(name, kind, rows):
+    return f"pub const {name}: [{kind}; {len(rows)}] = [\n" + "".join(f"    {r},\n" for r in rows) + "];\n"
+
+
+def hexes(row):
+    return "(" + ", ".join(f"{n:#x}" for n in row) + ")"
+
+
+def words_file(folder):
+    spelled = list(spelled_words())
+    words = assembled(folder, [text for text, _ in spelled])
+    lines = [f'("{instruction(*i)}", {w:#010x})' for w, (_, i) in zip(words, spelled)]
+    return f"""//! Words by the GNU assembler, made by tools/riscv_vectors.py.
+
+/// Instructions at the ends of their operands' ranges, as `Debug` writes them, and their words.
+{table("WORDS", "(&str, u32)", lines)}"""
+
+
+def results_file(folder):
+    return f"""//! Results by QEMU, made by tools/riscv_vectors.py.
+
+/// A word, what registers 10 and 11 hold, and what register 12 gets, at pc 0.
+{table("RESULTS", "(u32, u64, u64, u64)", [hexes(r) for r in results(folder)])}
+/// The word of a branch or jump, what registers 10 and 11 hold, and the link (0 if none is given) and the address where control
+/// goes, from pc on. Where a jump's target is a register's, register 10 counts from pc too.
+{table("JUMPS", "(u32, u64, u64, u64, u64)", [hexes(r) for r in jumps(folder)])}
+/// The word of a load, what memory holds from its address on, and what it gives.
+{table("LOADS", "(u32, u64, u64)", [hexes(r) for r in loads(folder)])}"""
+
+
+def bare(text):
+    return re.sub(r"[\s_,]", "", text)
+
+
+def main():
+    missing = [t for t in TOOLS if shutil.which(t) is None]
+    if missing:
+        print("skipped: no " + ", ".join(missing))
+        return 0
+    differ = []
+    with tempfile.TemporaryDirectory() as folder:
+        for name, made in [("words.rt", words_file(folder)), ("results.rt", results_file(folder))]:
+            path = os.path.join(TESTS, name)
+            if sys.argv[1:] == ["--check"]:
+                with open(path) as f:
+                    differ += [name] if bare(f.read()) != bare(made) else []
+            else:
+                with open(path, "w") as f:
+                    f.write(made)
+    print("differs from what was made: " + ", ".join(differ) if differ else "the vectors are as made")
+    return 1 if differ else 0
+
+
+sys.exit(main())
