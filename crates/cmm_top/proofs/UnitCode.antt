@@ -1,10 +1,13 @@
 -- The code of a unit's terms ends with the value of the unit's expression.
 use Rattle.std.proofs.Common.{◌≡◌, ℕ, ◌+◌, ◌*◌, ◌≤◌, List, [], ◌∷◌, ◌++◌, length, ap, sym, ◌∙◌, subst, arith, length-append}
+use Rattle.std.specs.List.{All}
+use Rattle.std.proofs.lemmas.List.Elements.{All-append}
 use Rattle.rv_table.specs.declared.instruction.Instr.{Instr}
 use Rattle.rv_table.specs.declared.instruction.Instr.TheVariants.{Ecall}
 use Rattle.rv_table.specs.Laws.{CodeStands, StraightPiecesRun}
 use Rattle.rv_table.specs.Machine.{State}
 use Rattle.rv_table.specs.Stands.{code_of}
+use Rattle.rv_table.specs.Table.{IsValid}
 use Rattle.cmm_top.specs.declared.term.Sign.TheVariants.{Plus}
 use Rattle.cmm_top.specs.declared.term.Term.{Term}
 use Rattle.cmm_top.specs.Code.{Leads, Emits, EndsWith, total}
@@ -13,7 +16,7 @@ use Rattle.cmm_top.specs.Form.{main_tokens}
 use Rattle.cmm_top.specs.Reading.{terms}
 use Rattle.cmm_top.specs.Run.{AskFor, EndsWithin, IsStraight}
 use Rattle.cmm_top.proofs.Compiling.{few_instructions}
-use Rattle.cmm_top.proofs.CodeEnds.{ends_within}
+use Rattle.cmm_top.proofs.CodeEnds.{all_valid_ecall, ends_within}
 use Rattle.cmm_top.proofs.Values.{total-terms}
 
 pub unit_code_ends : CodeStands → StraightPiecesRun → (code is : List Instr) (bytes : List ℕ) (found : List Term) (e : Expression) → found ≡ terms Plus e →
@@ -47,3 +50,8 @@ unit_code_straight code is bytes found e same few whole emits bytes_are =
         zero = l.zero;
         reached = (l.reached.0, l.reached.1 ∙ (ap (λ (n : ℕ). total n found) sum ∙ (ap (total 0) same ∙ total-terms e)));
       }
+
+-- its instructions are valid
+pub unit_code_valid : (code is : List Instr) (found : List Term) → code ≡ is ++ Ecall ∷ [] → Emits [] is (EndsWith found) → All IsValid code
+unit_code_valid code is found whole emits =
+    subst (All IsValid) (sym (whole ∙ ap (λ (xs : List Instr). xs ++ Ecall ∷ []) emits.added)) (All-append IsValid emits.is (Ecall ∷ []) emits.valid all_valid_ecall)

@@ -1,7 +1,14 @@
-use Rattle.std.proofs.Common.{◌∙◌, ap}
+use Rattle.std.proofs.Common.{◌∙◌, ap, sym, subst}
+use Rattle.std.specs.List.{All}
 use Rattle.rv_table.specs.Stands.{code_of}
-use Rattle.cmm_top.proofs.UnitCode.{unit_code_ends, unit_code_straight}
+use Rattle.rv_table.specs.Table.{IsValid}
+use Rattle.cmm_top.proofs.UnitCode.{unit_code_ends, unit_code_straight, unit_code_valid}
 use Rattle.cmm_top.proofs.first.compile_first.Goals as goal
+
+pub bytes_of-requires : goal.bytes_of-requires
+bytes_of-requires c =
+    subst (All IsValid) (sym c.deref-2.ensures.value)
+    (unit_code_valid c.in_ok-code.code.items c.in_ok-code.ensures.ends.0 c.deref.result.now c.in_ok-code.ensures.ends.1 c.in_ok-code.ensures.ends.2)
 
 pub returns-clause-ok : goal.returns-clause-ok
 returns-clause-ok c e d =
