@@ -60,44 +60,50 @@ module _ (w : Width) (a b r : ℕ) (ha : IsWord w a) (hb : IsWord w b) (has : va
   abbrev y : ℤ
   y = signed k b
 
+  -- a test that tells whether the quotient toward zero was rounded up
+  abbrev Tells : Bool → Type 0
+  Tells up = OnTrue up (quotient_toward_zero x y ≡ quotient_down x y +ℤ pos 1) × OnFalse up (quotient_toward_zero x y ≡ quotient_down x y)
+
   nonzero : b ≢ 0
   nonzero = (divided-some b (wrapped k (remainder x y (quotient_toward_zero x y))) r has).0
 
+  -- r is the host's remainder, as a word
   rest_is : wrapped k (int_rem x y) ≡ r
   rest_is = ap (wrapped k) (sym (remainder_toward_zero x y)) ∙ (divided-some b (wrapped k (remainder x y (quotient_toward_zero x y))) r has).1
 
   divisor : y ≢ pos 0
   divisor e = nonzero (sym (wrapped-signed k b hb) ∙ ap (wrapped k) e ∙ mod-eq_of_lt (pow_pos k))
 
+  -- and reads as it
   rest_read : signed k r ≡ int_rem x y
   rest_read = ap (signed k) (sym rest_is) ∙ signed-wrapped k (int_rem x y) (positive_bits w) (lt_of_le_of_lt (mag_rem x y) (signed_fits k a (positive_bits w) ha))
 
   zero_read : signed k 0 ≡ pos 0
   zero_read = signed_low k 0 (pow_pos (k - 1))
 
-  -- what the remainder tells of the quotient
-  told : OnTrue (is_rounded_up w b r) (quotient_toward_zero x y ≡ quotient_down x y +ℤ pos 1) × OnFalse (is_rounded_up w b r) (quotient_toward_zero x y ≡ quotient_down x y)
+  -- the remainder does tell
+  told : Tells (is_rounded_up w b r)
   told = ⊎_elim exact inexact (cases_eq r 0) where
-    exact : r ≡ 0 → OnTrue (is_rounded_up w b r) (quotient_toward_zero x y ≡ quotient_down x y +ℤ pos 1) × OnFalse (is_rounded_up w b r) (quotient_toward_zero x y ≡ quotient_down x y)
+    exact : r ≡ 0 → Tells (is_rounded_up w b r)
     exact e =
         let no_rest : int_rem x y ≡ pos 0 = sym rest_read ∙ ap (signed k) e ∙ zero_read in
         let test : is_rounded_up w b r ≡ false = ap (λ n. not (n == 0) && not (beq (holds Lt w r 0) (holds Lt w b 0))) e in
         rw test (tt, quotient-exact x y divisor no_rest)
 
-    inexact : r ≢ 0 → OnTrue (is_rounded_up w b r) (quotient_toward_zero x y ≡ quotient_down x y +ℤ pos 1) × OnFalse (is_rounded_up w b r) (quotient_toward_zero x y ≡ quotient_down x y)
+    inexact : r ≢ 0 → Tells (is_rounded_up w b r)
     inexact h =
         let rest : int_rem x y ≢ pos 0 = λ e. h (sym rest_is ∙ ap (wrapped k) e ∙ mod-eq_of_lt (pow_pos k)) in
         let no : (r == 0) ≡ false = grind (arith, nat_tests) in
-        let test : is_rounded_up w b r ≡ not (beq (not (non_neg x)) (not (non_neg y))) =
-        rw (no, rest_read, zero_read, sign_rem x y rest, int_lt-zero y) refl in
+        let test : is_rounded_up w b r ≡ not (beq (not (non_neg x)) (not (non_neg y))) = rw (no, rest_read, zero_read, sign_rem x y rest, int_lt-zero y) refl in
         rw test (quotient-up x y divisor rest, quotient-same x y)
 
+  -- the quotient rounded down
   subtracted : (q : ℕ) → value2 Quot w a b ≡ Some q → value2 Div w a b ≡ cond (is_rounded_up w b r) (value2 Sub w q 1) (Some q)
   subtracted q e = by (is_rounded_up w b r) told where
     is_q : wrapped k (quotient_toward_zero x y) ≡ q
     is_q = (divided-some b (wrapped k (quotient_toward_zero x y)) q e).1
 
-    by : (up : Bool) → OnTrue up (quotient_toward_zero x y ≡ quotient_down x y +ℤ pos 1) × OnFalse up (quotient_toward_zero x y ≡ quotient_down x y) → value2 Div w a b ≡ cond up (value2 Sub w q 1) (Some q)
+    by : (up : Bool) → Tells up → value2 Div w a b ≡ cond up (value2 Sub w q 1) (Some q)
     by true is =
         let less : quotient_down x y ≡ quotient_toward_zero x y -ℤ pos 1 = omega (arith, ints, is.0) in
         let below : q < 2 ^ k = subst (λ (n : ℕ). n < 2 ^ k) is_q (wrapped-below k (quotient_toward_zero x y)) in
@@ -106,9 +112,10 @@ module _ (w : Width) (a b r : ℕ) (ha : IsWord w a) (hb : IsWord w b) (has : va
         ∙ rw (is_q) (sym (wrapped-add k (pos q) (negsuc 0) ∙ rw (mod-eq_of_lt below) refl)))
     by false is = divided-nonzero b (wrapped k (quotient_down x y)) nonzero ∙ ap Some (ap (wrapped k) (sym is.1) ∙ is_q)
 
+  -- the remainder rounded down
   added : value2 Mod w a b ≡ cond (is_rounded_up w b r) (value2 Add w r b) (Some r)
   added = by (is_rounded_up w b r) told where
-    by : (up : Bool) → OnTrue up (quotient_toward_zero x y ≡ quotient_down x y +ℤ pos 1) × OnFalse up (quotient_toward_zero x y ≡ quotient_down x y) → value2 Mod w a b ≡ cond up (value2 Add w r b) (Some r)
+    by : (up : Bool) → Tells up → value2 Mod w a b ≡ cond up (value2 Add w r b) (Some r)
     by true is =
         divided-nonzero b (wrapped k (remainder x y (quotient_down x y))) nonzero
         ∙ ap Some (ap (wrapped k) (remainder_down x y (quotient_down x y) is.0) ∙ wrapped-add k (int_rem x y) y ∙ rw (rest_is, wrapped-signed k b hb) refl)

@@ -17,14 +17,14 @@ positive_bits W16 = lit< tt
 positive_bits W32 = lit< tt
 positive_bits W64 = lit< tt
 
--- a word register's 64 bits, cut to a width
+-- 64 bits, cut to a width
 pub cut_64 : (w : Width) (n : ℕ) → n % 2 ^ 64 % 2 ^ bits w ≡ n % 2 ^ bits w
 cut_64 W8 n = mod-mod-pow n 56 8
 cut_64 W16 n = mod-mod-pow n 48 16
 cut_64 W32 n = mod-mod-pow n 32 32
 cut_64 W64 n = mod-mod-pow n 0 64
 
--- a register's word, cut to a width
+-- an integer's word of 64 bits, cut to a width
 pub cut_wrapped_64 : (w : Width) (z : ℤ) → wrapped 64 z % 2 ^ bits w ≡ wrapped (bits w) z
 cut_wrapped_64 W8 z = cut-wrapped 56 8 z
 cut_wrapped_64 W16 z = cut-wrapped 48 16 z
@@ -56,6 +56,7 @@ pub signed-extended : (w : Width) (a : ℕ) → a < 2 ^ bits w → signed 64 (wr
 signed-extended w a h =
     signed-wrapped 64 (signed (bits w) a) (lit< tt) (lt_of_lt_of_le (signed_fits (bits w) a (positive_bits w) h) (half_64 w))
 
+-- numbers that are 0 together pass one test
 same_test : (x y : ℕ) → (x ≡ 0 → y ≡ 0) → (y ≡ 0 → x ≡ 0) → (x == 0) ≡ (y == 0)
 same_test x y f g = grind (arith, nat_tests)
 

@@ -68,8 +68,8 @@ shra_past w a b h past =
     let fits : mag x < 2 ^ k = signed_fits_width w a h in
     let half : mag x < 2 ^ (k - 1) = signed_fits k a (positive_bits w) h in
     let fewer : k - 1 ≤ b = omega arith in
-    ap (λ z. Some (wrapped k z))
-    (rounded_down-min k x b fits ∙ rounded_down_past (k - 1) x b half fewer ∙ sym (rounded_down-min k x (k - 1) fits))
+    let last : rounded_down x (2 ^ b) ≡ rounded_down x (2 ^ (k - 1)) = rounded_down_past (k - 1) x b half fewer in
+    ap (λ z. Some (wrapped k z)) (rounded_down-min k x b fits ∙ last ∙ sym (rounded_down-min k x (k - 1) fits))
 
 -- ---- an operator by the same at 64 bits
 
@@ -90,8 +90,8 @@ shrl_cut w a b ha hb =
 pub shra_cut : IsCutOfExtendedFirst Shra
 shra_cut w a b ha hb =
     let x : ℤ = signed (bits w) a in
-    let count : rounded_down x (2 ^ min b (bits w)) ≡ rounded_down x (2 ^ min b 64) =
-    rounded_down-min (bits w) x b (signed_fits_width w a ha) ∙ sym (rounded_down-min 64 x b (word_64 w (mag x) (signed_fits_width w a ha))) in
+    let fits : mag x < 2 ^ bits w = signed_fits_width w a ha in
+    let count : rounded_down x (2 ^ min b (bits w)) ≡ rounded_down x (2 ^ min b 64) = rounded_down-min (bits w) x b fits ∙ sym (rounded_down-min 64 x b (word_64 w (mag x) fits)) in
     rw (signed-extended w a ha, cut_wrapped_64 w (rounded_down x (2 ^ min b 64)), count) refl
 
 -- a shift to the left by the first count, and to the right by the other
@@ -107,6 +107,7 @@ rotation w a n m ha whole =
 no_shifts : (w : Width) (a : ℕ) → a < 2 ^ bits w → two_shifts w a 0 0 ≡ a
 no_shifts w a h = rw (mul-one a, div-one a, mod-eq_of_lt (word_64 w a h), or_self a) (mod-eq_of_lt h)
 
+-- the formula of a rotation by nothing, and by the whole width
 folded-none : (k a : ℕ) → a < 2 ^ k → folded k (a * 2 ^ 0) ≡ a
 folded-none k a h =
     let here : k ≤ k = omega arith in

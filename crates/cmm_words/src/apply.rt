@@ -10,7 +10,7 @@ use crate::operators::{Op1, Op2};
 use crate::shift::{rotate_left, rotate_right, shift_left, shift_right, shift_right_signed};
 use crate::width::Width;
 
-/// What an operator gives at one word.
+/// What an operator gives at one word: `value1` of specs/Words.antt, a word again.
 pub fn apply1(operator: Op1, width: Width, word: u64) -> u64
     requires { IsWord width word }
     ensures value { result ≡ value1 operator width word }
@@ -22,7 +22,8 @@ pub fn apply1(operator: Op1, width: Width, word: u64) -> u64
     }
 }
 
-/// What an operator gives at two words: None where a division's divisor is 0.
+/// What an operator gives at two words: `value2` of specs/Words.antt, a word again. None comes exactly where the
+/// operator is a division and the divisor is 0.
 pub fn apply2(operator: Op2, width: Width, left: u64, right: u64) -> Option<u64>
     requires left { IsWord width left }
     requires right { IsWord width right }

@@ -8,7 +8,7 @@ use crate::conversion::to_signed;
 use crate::operators::Cmp;
 use crate::width::Width;
 
-/// Whether a comparison holds of two words.
+/// Whether a comparison holds of two words: `holds` of specs/Words.antt.
 pub fn compare(comparison: Cmp, width: Width, left: u64, right: u64) -> bool
     requires left { IsWord width left }
     requires right { IsWord width right }

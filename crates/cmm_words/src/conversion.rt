@@ -7,14 +7,14 @@ ghost use Rattle.cmm_words.specs.Words.{low_bits, sign_extended};
 
 use crate::width::Width;
 
-/// The low bits of a number.
+/// The low bits of a number, as many as the width has: the number modulo 2 to the width.
 pub fn low(width: Width, value: u64) -> u64
     ensures { result ≡ low_bits width value }
 {
     value & width.max()
 }
 
-/// Extends a word to a width that is not less, by its top bit.
+/// Extends a word to a width that is not less, by its top bit, so that its signed reading stays the same.
 pub fn extend(from: Width, to: Width, word: u64) -> u64
     requires not_wider { bits from ≤ bits to }
     requires word { IsWord from word }

@@ -46,6 +46,7 @@ fn remainder_rounded_down(dividend: i64, divisor: i64) -> i64
     }
 }
 
+/// `Div`: the quotient rounded down.
 pub(crate) fn divide_down(width: Width, left: u64, right: u64) -> Option<u64>
     requires left { IsWord width left }
     requires right { IsWord width right }
@@ -58,6 +59,7 @@ pub(crate) fn divide_down(width: Width, left: u64, right: u64) -> Option<u64>
     Some(to_word(width, quotient))
 }
 
+/// `Mod`: the remainder of `Div`.
 pub(crate) fn modulo_down(width: Width, left: u64, right: u64) -> Option<u64>
     requires left { IsWord width left }
     requires right { IsWord width right }
@@ -70,6 +72,7 @@ pub(crate) fn modulo_down(width: Width, left: u64, right: u64) -> Option<u64>
     Some(to_word(width, remainder))
 }
 
+/// `Quot`: the quotient rounded toward zero.
 pub(crate) fn divide_toward_zero(width: Width, left: u64, right: u64) -> Option<u64>
     requires left { IsWord width left }
     requires right { IsWord width right }
@@ -82,6 +85,7 @@ pub(crate) fn divide_toward_zero(width: Width, left: u64, right: u64) -> Option<
     Some(to_word(width, quotient))
 }
 
+/// `Rem`: the remainder of `Quot`.
 pub(crate) fn modulo_toward_zero(width: Width, left: u64, right: u64) -> Option<u64>
     requires left { IsWord width left }
     requires right { IsWord width right }

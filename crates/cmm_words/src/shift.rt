@@ -8,6 +8,7 @@ use crate::conversion::{low, to_signed, to_word};
 use crate::operators::Op2;
 use crate::width::Width;
 
+/// A shift to the left.
 pub(crate) fn shift_left(width: Width, word: u64, count: u64) -> u64
     requires { IsWord width word }
     ensures { value2 Op2.Shl width word count ≡ Some result }
@@ -19,6 +20,7 @@ pub(crate) fn shift_left(width: Width, word: u64, count: u64) -> u64
     }
 }
 
+/// A shift to the right that brings in zeros.
 pub(crate) fn shift_right(width: Width, word: u64, count: u64) -> u64
     requires { IsWord width word }
     ensures { value2 Op2.Shrl width word count ≡ Some result }
@@ -38,6 +40,7 @@ pub(crate) fn shift_right_signed(width: Width, word: u64, count: u64) -> u64
     to_word(width, to_signed(width, word) >> count.min(width.bits() - 1))
 }
 
+/// A rotation to the left, as two shifts. A count of 0 is apart, since no shift takes the whole width.
 #[tactic(auto, using(crate::proofs::Rotations::or_shifts, crate::proofs::WidthLemmas::cut_64))]
 pub(crate) fn rotate_left(width: Width, word: u64, count: u64) -> u64
     requires { IsWord width word }
@@ -51,6 +54,7 @@ pub(crate) fn rotate_left(width: Width, word: u64, count: u64) -> u64
     }
 }
 
+/// A rotation to the right is one to the left by what the count leaves of the width.
 pub(crate) fn rotate_right(width: Width, word: u64, count: u64) -> u64
     requires { IsWord width word }
     ensures { value2 Op2.Rotr width word count ≡ Some result }
