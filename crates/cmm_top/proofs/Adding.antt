@@ -31,19 +31,19 @@ load_add old loaded Minus n small e = emits-push old loaded (Loads n) (Adds (rec
 pub emits-then : (old mid new : List Instr) (so so' so'' : (ℕ → ℕ) → (ℕ → ℕ) → Type 0) → Emits old mid so → Emits mid new so' →
     ((x y z : ℕ → ℕ) → so x y → so' y z → so'' x z) → Emits old new so''
 emits-then old mid new so so' so'' e f then = record {
-    is = e.is ++ f.is;
-    added = f.added ∙ (ap (λ (is : List Instr). is ++ f.is) e.added ∙ append_assoc old e.is f.is);
-    valid = All-append IsValid e.is f.is e.valid f.valid;
-    leads = λ s z. leads_then s (e.leads s z);
-  }
+  is = e.is ++ f.is;
+  added = f.added ∙ (ap (λ (is : List Instr). is ++ f.is) e.added ∙ append_assoc old e.is f.is);
+  valid = All-append IsValid e.is f.is e.valid f.valid;
+  leads = λ s z. leads_then s (e.leads s z);
+}
   where
     leads_then : (s : State) → Leads s e.is (so s.registers) → Leads s (e.is ++ f.is) (so'' s.registers)
     leads_then s l = record {
-        to = (f.leads l.to l.zero).to;
-        runs = straight-append s e.is f.is l.to l.runs ∙ (f.leads l.to l.zero).runs;
-        zero = (f.leads l.to l.zero).zero;
-        reached = then s.registers l.to.registers (f.leads l.to l.zero).to.registers l.reached (f.leads l.to l.zero).reached;
-      }
+      to = (f.leads l.to l.zero).to;
+      runs = straight-append s e.is f.is l.to l.runs ∙ (f.leads l.to l.zero).runs;
+      zero = (f.leads l.to l.zero).zero;
+      reached = then s.registers l.to.registers (f.leads l.to l.zero).to.registers l.reached (f.leads l.to l.zero).reached;
+    }
 
 -- one term more is added
 pub adds_more : (mid new : List Instr) (terms : List Term) (i : ℕ) (d : Term) → i < length terms → Emits [] mid (Adds (take i terms)) →

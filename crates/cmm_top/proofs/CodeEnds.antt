@@ -70,23 +70,23 @@ record Placed (code : List ℕ) (is : List Instr) : Type 0 where
 
 placed : CodeStands → (is : List Instr) → All IsValid is → Placed (code_of (is ++ Ecall ∷ [])) is
 placed stands is valid = record {
-    sum = subst (λ (code : List ℕ). Stands code code_base is) (sym (code_of-append is (Ecall ∷ []))) (stands [] is (code_of (Ecall ∷ [])) valid);
-    end = subst (λ (code : List ℕ). standing code (code_base + 4 * length is) ≡ Some Ecall) (sym (code_of-append is (Ecall ∷ []))) (stands is (Ecall ∷ []) [] all_valid_ecall).0;
-  }
+  sum = subst (λ (code : List ℕ). Stands code code_base is) (sym (code_of-append is (Ecall ∷ []))) (stands [] is (code_of (Ecall ∷ [])) valid);
+  end = subst (λ (code : List ℕ). standing code (code_base + 4 * length is) ≡ Some Ecall) (sym (code_of-append is (Ecall ∷ []))) (stands is (Ecall ∷ []) [] all_valid_ecall).0;
+}
 
 -- from a state at the code's start the sum is added, and then the end is asked for
 ends_at : StraightPiecesRun → (m : MemoryMap) (s : State) (is : List Instr) (terms : List Term) (limit : ℕ) → Placed m.code is → s.pc ≡ code_base → length is < limit →
     Leads s is (EndsWith terms s.registers) → Ends m s limit (total (s.registers 10) terms)
 ends_at runs m s is terms limit p at few l = record {
-    count = length is;
-    within = few;
-    at = l.to;
-    runs = runs m is s l.to (subst (λ (pc : ℕ). Stands m.code pc is) (sym at) p.sum) l.runs;
-    asks = asks_end m l.to
-        (subst (λ (pc : ℕ). standing m.code pc ≡ Some Ecall) (sym (pc-straight s is l.to l.runs ∙ ap (λ (pc : ℕ). pc + 4 * length is) at)) p.end)
-        l.reached.0
-        ∙ ap (λ (n : ℕ). Asks (End n)) l.reached.1;
-  }
+  count = length is;
+  within = few;
+  at = l.to;
+  runs = runs m is s l.to (subst (λ (pc : ℕ). Stands m.code pc is) (sym at) p.sum) l.runs;
+  asks = asks_end m l.to
+      (subst (λ (pc : ℕ). standing m.code pc ≡ Some Ecall) (sym (pc-straight s is l.to l.runs ∙ ap (λ (pc : ℕ). pc + 4 * length is) at)) p.end)
+      l.reached.0
+      ∙ ap (λ (n : ℕ). Asks (End n)) l.reached.1;
+}
 
 -- the code of a sum ends with it
 pub ends_within : CodeStands → StraightPiecesRun → (code is : List Instr) (terms : List Term) (limit : ℕ) → code ≡ is ++ Ecall ∷ [] → Emits [] is (EndsWith terms) → length code ≤ limit →

@@ -32,12 +32,15 @@ pub derived : (unit : List ℕ) (expression : List Token) (found : List Term) �
 derived unit expression found short h read few = by (parsed expression found read)
   where
     by : IsParsed expression found → (e : Expression) × Derives unit e
-    by (e, spelled, deep, is) = (e, record {
+    by (e, spelled, deep, is) = (
+      e,
+      record {
         short = short;
         spelled = h ∙ ap unit_tokens spelled;
         signs = omega (arith, few, ap length is, length-terms Plus e);
         brackets = omega arith;
-      })
+      },
+    )
 
 -- an expression has two tokens for each sign, and one more
 mutual

@@ -48,11 +48,11 @@ leads-push : (s : State) (is : List Instr) (so so' : (ℕ → ℕ) → Type 0) (
     ((y : ℕ → ℕ) → so y → y 0 ≡ 0 → so' (with_register y rd (value y))) →
     Leads s is so → Leads s (is ++ i ∷ []) so'
 leads-push s is so so' i rd value row' then l = record {
-    to = with_set l.to rd (value l.to.registers);
-    runs = straight-append s is (i ∷ []) l.to l.runs ∙ ap (λ (e : Effect). on_set e (λ r v. Some (with_set l.to r v))) (row' l.to.registers l.to.pc);
-    zero = register_zero l.to.registers rd (value l.to.registers) ∙ l.zero;
-    reached = then l.to.registers l.reached l.zero;
-  }
+  to = with_set l.to rd (value l.to.registers);
+  runs = straight-append s is (i ∷ []) l.to l.runs ∙ ap (λ (e : Effect). on_set e (λ r v. Some (with_set l.to r v))) (row' l.to.registers l.to.pc);
+  zero = register_zero l.to.registers rd (value l.to.registers) ∙ l.zero;
+  reached = then l.to.registers l.reached l.zero;
+}
 
 -- one instruction more, which sets a register other than 0
 pub emits-push : (old new : List Instr) (so so' : (ℕ → ℕ) → (ℕ → ℕ) → Type 0) (i : Instr) (rd : ℕ) (value : (ℕ → ℕ) → ℕ) →
@@ -61,8 +61,8 @@ pub emits-push : (old new : List Instr) (so so' : (ℕ → ℕ) → (ℕ → ℕ
     ((x y : ℕ → ℕ) → so x y → y 0 ≡ 0 → so' x (with_register y rd (value y))) →
     Emits old (new ++ i ∷ []) so'
 emits-push old new so so' i rd value e valid row' then = record {
-    is = e.is ++ i ∷ [];
-    added = ap (λ (xs : List Instr). xs ++ i ∷ []) e.added ∙ assoc_last old e.is i;
-    valid = All-append IsValid e.is (i ∷ []) e.valid (All-cons IsValid i [] valid (All-nil IsValid));
-    leads = λ s z. leads-push s e.is (so s.registers) (so' s.registers) i rd value row' (then s.registers) (e.leads s z);
-  }
+  is = e.is ++ i ∷ [];
+  added = ap (λ (xs : List Instr). xs ++ i ∷ []) e.added ∙ assoc_last old e.is i;
+  valid = All-append IsValid e.is (i ∷ []) e.valid (All-cons IsValid i [] valid (All-nil IsValid));
+  leads = λ s z. leads-push s e.is (so s.registers) (so' s.registers) i rd value row' (then s.registers) (e.leads s z);
+}

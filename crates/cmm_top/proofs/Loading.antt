@@ -25,8 +25,8 @@ pub load_more : (old high : List Instr) (n : ℕ) (low : ℤ) → n < 2 ^ 64 →
     Emits old high (Loads ((n + 2048) / 4096)) → Emits old ((high ++ Slli 11 11 (pos 12) ∷ []) ++ Addi 11 11 low ∷ []) (Loads n)
 load_more old high n low small between rest e =
     let shifted : Emits old (high ++ Slli 11 11 (pos 12) ∷ []) (Loads ((n + 2048) / 4096 * 4096 % 2 ^ 64)) =
-        emits-push old high (Loads ((n + 2048) / 4096)) (Loads ((n + 2048) / 4096 * 4096 % 2 ^ 64)) (Slli 11 11 (pos 12)) 11 (λ x. shifted_left (x 11) 12)
-        e ((omega arith, omega arith), (omega (arith, ints), omega (arith, ints))) (λ x pc. refl) (λ x y loaded zero. (ap (λ (k : ℕ). shifted_left k 12) loaded.0, loaded.1)) in
+    emits-push old high (Loads ((n + 2048) / 4096)) (Loads ((n + 2048) / 4096 * 4096 % 2 ^ 64)) (Slli 11 11 (pos 12)) 11 (λ x. shifted_left (x 11) 12)
+    e ((omega arith, omega arith), (omega (arith, ints), omega (arith, ints))) (λ x pc. refl) (λ x y loaded zero. (ap (λ (k : ℕ). shifted_left k 12) loaded.0, loaded.1)) in
     emits-push old (high ++ Slli 11 11 (pos 12) ∷ []) (Loads ((n + 2048) / 4096 * 4096 % 2 ^ 64)) (Loads n) (Addi 11 11 low) 11 (λ x. sum (x 11) (modulo 64 low))
     shifted ((omega arith, omega arith), between) (λ x pc. refl) (λ x y loaded zero. (omega (arith, loaded.0, rest), loaded.1))
 

@@ -29,9 +29,11 @@ AppendsFront-pieces f xs i d before mid after h a (n, within, b) =
     let rest : List ℕ = flat_map f (drop (i + 1) xs) in
     let all : flat_map f xs ≡ done ++ (piece ++ rest) = flat_map-from f xs i d h in
     let front : take (length done + n) (flat_map f xs) ≡ done ++ take n piece =
-        ap (take (length done + n)) all ∙ (take-append-add done (piece ++ rest) n ∙ ap (λ (ys : List ℕ). done ++ ys) (take-append-le n piece rest within)) in
-    (length done + n, omega (arith, ap length all, length-append done (piece ++ rest), length-append piece rest),
-    subst (λ (bs : List ℕ). Appends before after bs) (sym front) (Appends-then before mid after done (take n piece) a b))
+    ap (take (length done + n)) all ∙ (take-append-add done (piece ++ rest) n ∙ ap (λ (ys : List ℕ). done ++ ys) (take-append-le n piece rest within)) in (
+      length done + n,
+      omega (arith, ap length all, length-append done (piece ++ rest), length-append piece rest),
+      subst (λ (bs : List ℕ). Appends before after bs) (sym front) (Appends-then before mid after done (take n piece) a b),
+    )
 
 -- what holds in any case holds on an error
 pub OnErr-always : {T E : Type 0} (r : Result T E) {P : Type 0} → P → OnErr r P

@@ -84,7 +84,7 @@ next_by stands code r s before [] v spelled at valid stand l i h rd value sets r
 next_by stands code r s before (j ∷ rest) v spelled at valid stand l i h rd value sets registers pc =
     let done : row (registers_of r) r.pc j ≡ Set rd value = ap (row (registers_of r) r.pc) (same_instruction (standing code r.pc) i j stand.0 h) ∙ sets in
     let leads : straight (with_set (state_of r) rd value) rest ≡ Some l.to =
-        ap (λ (e : Effect). on_set e (λ rd value. straight (with_set (state_of r) rd value) rest)) (sym done) ∙ l.runs in
+    ap (λ (e : Effect). on_set e (λ rd value. straight (with_set (state_of r) rd value) rest)) (sym done) ∙ l.runs in
     let more : Leads (with_set (state_of r) rd value) rest (AskFor v) = record { to = l.to; runs = leads; zero = l.zero; reached = l.reached } in
     record {
       before = before ++ j ∷ [];
@@ -113,11 +113,11 @@ within_at code r n v a = omega (arith, a.done, ap length a.spelled, length-code_
 -- the run begins
 pub start_at : (code : List ℕ) (r : Regs) (limit v : ℕ) → IsStraight code limit v → r.pc ≡ code_base → registers_of r 10 ≡ 0 → IsAt code r 0 v
 start_at code r limit v s at sum = record {
-    before = [];
-    rest = s.piece;
-    spelled = s.spelled;
-    valid = s.valid;
-    done = refl;
-    pc = omega (arith, at);
-    leads = s.leads (state_of r) refl sum;
-  }
+  before = [];
+  rest = s.piece;
+  spelled = s.spelled;
+  valid = s.valid;
+  done = refl;
+  pc = omega (arith, at);
+  leads = s.leads (state_of r) refl sum;
+}

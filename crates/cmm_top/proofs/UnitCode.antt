@@ -25,7 +25,7 @@ pub unit_code_ends : CodeStands → StraightPiecesRun → (code is : List Instr)
 unit_code_ends stands runs code is bytes found e same few whole emits bytes_are =
     let few' : length code ≤ 66 * length (terms Plus e) + 2 = subst (λ (ts : List Term). length code ≤ 66 * length ts + 2) same few in
     let ends : EndsWithin (code_of code) (64 * length (main_tokens (tokens e))) (total 0 found) =
-        ends_within stands runs code is found (64 * length (main_tokens (tokens e))) whole emits (few_instructions e (length code) few') in
+    ends_within stands runs code is found (64 * length (main_tokens (tokens e))) whole emits (few_instructions e (length code) few') in
     subst (λ (bs : List ℕ). EndsWithin bs (64 * length (main_tokens (tokens e))) (value e)) (sym bytes_are)
     (subst (λ (n : ℕ). EndsWithin (code_of code) (64 * length (main_tokens (tokens e))) n) (ap (total 0) same ∙ total-terms e) ends)
 
@@ -45,11 +45,11 @@ unit_code_straight code is bytes found e same few whole emits bytes_are =
   where
     asked : (s : State) → s.registers 10 ≡ 0 → Leads s emits.is (EndsWith found s.registers) → Leads s emits.is (AskFor (value e))
     asked s sum l = record {
-        to = l.to;
-        runs = l.runs;
-        zero = l.zero;
-        reached = (l.reached.0, l.reached.1 ∙ (ap (λ (n : ℕ). total n found) sum ∙ (ap (total 0) same ∙ total-terms e)));
-      }
+      to = l.to;
+      runs = l.runs;
+      zero = l.zero;
+      reached = (l.reached.0, l.reached.1 ∙ (ap (λ (n : ℕ). total n found) sum ∙ (ap (total 0) same ∙ total-terms e)));
+    }
 
 -- its instructions are valid
 pub unit_code_valid : (code is : List Instr) (found : List Term) → code ≡ is ++ Ecall ∷ [] → Emits [] is (EndsWith found) → All IsValid code

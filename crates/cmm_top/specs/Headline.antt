@@ -14,4 +14,4 @@ use Rattle.cmm_top.specs.Lines.{result_line}
 abbrev pub RunsSums : List (List ℕ) → Option Contents → Option (List ℕ) → Option (List ℕ) → Type 0 → Type 0 → Status → Type 0
 RunsSums words contents before after files_fail log_fails answer =
     IfSome contents (λ files. (name unit : List ℕ) (e : Expression) → file_in words ≡ Some name → files name ≡ Some unit → Derives unit e → ¬ files_fail → ¬ log_fails →
-        ((answer ≡ Done) × Appends before after (result_line (value e))) ⊎ (answer ≡ Memory))
+    ((answer ≡ Done) × Appends before after (result_line (value e))) ⊎ (answer ≡ Memory))

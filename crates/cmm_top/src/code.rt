@@ -6,11 +6,9 @@ ghost use Rattle.rv_table.specs.Encoding.{IsBetween};
 ghost use Rattle.rv_table.specs.Words.{modulo};
 ghost use Rattle.cmm_top.specs.Code.{addition_of, Adds, Emits, EndsWith, Loads};
 
-use std::alloc::{AllocError, Global};
-
-use rv_table::Instr;
-
 use crate::term::{Sign, Term};
+use rv_table::Instr;
+use std::alloc::{AllocError, Global};
 
 /// Always 0.
 const ZERO: u8 = 0;

@@ -7,14 +7,12 @@ ghost use Rattle.cmm_outside.specs.Output.{Appends, AppendsFront};
 ghost use Rattle.cmm_outside.specs.declared.storage.TheConstants.{NAME_LIMIT};
 ghost use Rattle.cmm_top.specs.Ending.{IsCaused, Closes, line_of, status_of as status_of_ending};
 
-use std::alloc::Global;
-
-use cmm_outside::{Failed, FileError, Files, Sink, read_file, write_all};
-use itoa::Buffer;
-
 use crate::first::{FirstFault, UNIT_LIMIT, compile_first};
 use crate::run::run;
 use crate::status::Status;
+use cmm_outside::{Failed, FileError, Files, Sink, read_file, write_all};
+use itoa::Buffer;
+use std::alloc::Global;
 
 /// What a call comes to, before its line is written.
 #[derive(Clone, Copy, Debug, PartialEq, Eq)]

@@ -10,16 +10,14 @@ ghost use Rattle.cmm_top.specs.Form.{Derives, main_tokens, unit_tokens};
 ghost use Rattle.cmm_top.specs.Reading.{terms};
 ghost use Rattle.cmm_top.specs.Run.{EndsWithin, IsStraight};
 
-use std::alloc::{AllocError, Global};
-
-use rv_code::encode;
-use rv_table::Instr;
-use rv_table::laws::{code_stands, runs};
-use thiserror::Error;
-
 use crate::code::code_of;
 use crate::term::{Sign, Term, terms_in};
 use crate::token::{Token, tokens_in};
+use rv_code::encode;
+use rv_table::Instr;
+use rv_table::laws::{code_stands, runs};
+use std::alloc::{AllocError, Global};
+use thiserror::Error;
 
 /// The longest unit, in bytes.
 pub const UNIT_LIMIT: u64 = 1_048_576;
@@ -100,7 +98,8 @@ fn expression_in(unit: &[Token]) -> Option<&[Token]>
     ensures some { IfSome result (λ expression. unit.now ≡ unit_tokens expression.now) }
     ensures none { IfNone result ((expression : List Token) → unit.now ≢ unit_tokens expression) }
 {
-    unit.strip_prefix(HEAD.as_slice())?.strip_suffix(TAIL.as_slice())
+    unit.strip_prefix(HEAD.as_slice())?
+        .strip_suffix(TAIL.as_slice())
 }
 
 /// The bytes of the instructions, one after another, the low byte of each word first.

@@ -8,6 +8,8 @@ mod first;
 mod run;
 mod status;
 mod term;
+#[cfg(test)]
+mod tests;
 mod token;
 mod top;
 

@@ -6,11 +6,10 @@ ghost use Rattle.rv_table.specs.Registers.{registers_of, with_register};
 ghost use Rattle.rv_table.specs.Stands.{standing};
 ghost use Rattle.cmm_top.specs.Run.{IsStraight};
 
+use crate::code::SUM;
 use rv_code::decode;
 use rv_table::laws::code_stands;
 use rv_table::{Effect, Instr, Regs, effect_of};
-
-use crate::code::SUM;
 
 /// Where code stands.
 const CODE_BASE: u64 = 0x10000;

@@ -7,13 +7,11 @@ ghost use Rattle.cmm_top.specs.Causes.{IsUsage, IsRefused, IsDone, IsFileFault, 
 ghost use Rattle.cmm_top.specs.Command.{texts};
 ghost use Rattle.cmm_top.specs.Headline.{RunsSums};
 
-use std::alloc::Global;
-
-use cmm_outside::{Files, Sink, Source};
-
 use crate::command::file_in;
 use crate::ending::{Ending, close, exec};
 use crate::status::Finish;
+use cmm_outside::{Files, Sink, Source};
+use std::alloc::Global;
 
 /// Does what the words of the command line ask for. `exec FILE` builds the unit in a file, runs its code, and writes the result to
 /// the log. The words are those after the program's name.

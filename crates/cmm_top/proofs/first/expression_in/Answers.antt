@@ -32,7 +32,7 @@ decides a b = (λ h. cc, λ h. cc)
 pub returns-clause-some : goal.returns-clause-some
 returns-clause-some c =
     let whole : c.args.unit.now ≡ c.as_slice.result.now ++ c.in_ok-strip_prefix.field-0.now =
-        MatchOption-at_some _ _ c.in_ok-strip_prefix.field-0 c.in_ok-strip_prefix.was (strip_prefix_is decides c.args.unit.now c.as_slice.result.now c.strip_prefix.result c.strip_prefix.ensures.cases) in
+    MatchOption-at_some _ _ c.in_ok-strip_prefix.field-0 c.in_ok-strip_prefix.was (strip_prefix_is decides c.args.unit.now c.as_slice.result.now c.strip_prefix.result c.strip_prefix.ensures.cases) in
     by c.strip_suffix.result c.args.unit.now c.in_ok-strip_prefix.field-0.now (rw c.as_slice.ensures at whole)
     (rw c.as_slice-2.ensures at (strip_suffix_is decides c.in_ok-strip_prefix.field-0.now c.as_slice-2.result.now c.strip_suffix.result c.strip_suffix.ensures.cases))
   where

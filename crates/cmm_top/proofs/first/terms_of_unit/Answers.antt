@@ -14,7 +14,7 @@ returns-in_default-2-clause-none c e d =
 pub returns-then-len-clause-none : goal.returns-then-len-clause-none
 returns-then-len-clause-none c e d =
     let same = terms_same c.args.unit.now c.in-Some.expression.now c.in-Some-2.terms.items e d
-        (sym c.in_ok-tokens.ensures ∙ (sym c.deref.ensures.value ∙ c.in-Some.ensures.some)) (rw c.in-Some-2.is at c.in_ok-terms.ensures) in
+    (sym c.in_ok-tokens.ensures ∙ (sym c.deref.ensures.value ∙ c.in-Some.ensures.some)) (rw c.in-Some-2.is at c.in_ok-terms.ensures) in
     omega (arith, c.if-len.true, c.len.ensures, ap length same, length-terms Plus e, d.signs)
 
 pub returns-clause-terms : goal.returns-clause-terms
