@@ -1,6 +1,6 @@
 -- Terms are added one by one, and then the run may end.
-use Rattle.std.proofs.Common.{◌≡◌, ℕ, ◌+◌, ◌-◌, ◌*◌, ◌%◌, ◌^◌, ◌<◌, ◌≤◌, ◌⊎◌, inl, inr, List, [], ◌∷◌, ◌++◌, length, take, get_or, Some, refl, ap, sym, ◌∙◌, subst, arith, append_assoc, pos}
-use Rattle.std.proofs.Math.Pow.{pow_mono, pow-lt}
+use Rattle.std.proofs.Common.{ℕ, ◌+◌, ◌*◌, ◌^◌, ◌<◌, ◌≤◌, inl, inr, List, [], ◌∷◌, ◌++◌, length, take, get_or, refl, ap, sym, ◌∙◌, arith, append_assoc, pos}
+use Rattle.std.proofs.Math.Pow.{pow_mono}
 use Rattle.std.proofs.lemmas.Bool.{cases_lt}
 use Rattle.std.proofs.lemmas.Int.{ints}
 use Rattle.std.proofs.lemmas.List.{take_more}
@@ -8,16 +8,14 @@ use Rattle.std.proofs.lemmas.List.Elements.{All-append}
 use Rattle.rv_table.specs.declared.instruction.Instr.{Instr}
 use Rattle.rv_table.specs.declared.instruction.Instr.TheVariants.{Addi, Add, Sub}
 use Rattle.rv_table.specs.Machine.{State}
-use Rattle.rv_table.specs.Straight.{straight}
 use Rattle.rv_table.specs.Table.{IsValid}
 use Rattle.rv_table.specs.Words.{modulo, sum, difference}
 use Rattle.cmm_top.specs.declared.term.Sign.{Sign}
 use Rattle.cmm_top.specs.declared.term.Sign.TheVariants.{Plus, Minus}
 use Rattle.cmm_top.specs.declared.term.Term.{Term}
-use Rattle.cmm_top.specs.Expression.{with_sign}
 use Rattle.cmm_top.specs.Code.{Leads, Emits, Loads, Adds, EndsWith, addition_of, total}
 use Rattle.cmm_top.proofs.Emitting.{emits-push, straight-append}
-use Rattle.cmm_top.proofs.Values.{with_sign-Plus, with_sign-Minus, total-append}
+use Rattle.cmm_top.proofs.Values.{with_sign-Minus, total-append}
 
 -- a loaded number is added
 pub load_add : (old loaded : List Instr) (s : Sign) (n : ℕ) → n < 2 ^ 64 → Emits old loaded (Loads n) →

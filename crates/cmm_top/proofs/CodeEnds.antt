@@ -1,5 +1,5 @@
 -- The code of a sum, run from its start, comes to the ECALL that ends the run with it.
-use Rattle.std.proofs.Common.{◌≡◌, ℕ, zero, suc, ◌+◌, ◌*◌, ◌<◌, ◌≤◌, List, [], ◌∷◌, ◌++◌, length, Option, Some, None, refl, ap, sym, ◌∙◌, subst, arith, append-nil, length-append, pos}
+use Rattle.std.proofs.Common.{◌≡◌, ℕ, ◌+◌, ◌*◌, ◌<◌, ◌≤◌, List, [], ◌∷◌, ◌++◌, length, Option, Some, None, refl, ap, sym, ◌∙◌, subst, arith, length-append}
 use Rattle.std.specs.List.{All}
 use Rattle.std.specs.Option.{option_and_then}
 use Rattle.std.proofs.lemmas.Int.{ints}
@@ -12,7 +12,7 @@ use Rattle.rv_table.specs.declared.instruction.Instr.{Instr}
 use Rattle.rv_table.specs.declared.instruction.Instr.TheVariants.{Ecall}
 use Rattle.rv_table.specs.Decoding.{instr_of}
 use Rattle.rv_table.specs.Laws.{CodeStands, StraightPiecesRun}
-use Rattle.rv_table.specs.Machine.{MemoryMap, State, Outcome, Request, Asks, Traps, End, code_base, no_request, request_of, with_set, fetched, done, fetched_step, decoded_step, instruction_step, start, steps}
+use Rattle.rv_table.specs.Machine.{MemoryMap, State, Outcome, Request, Asks, Traps, End, code_base, no_request, request_of, with_set, fetched, done, fetched_step, decoded_step, instruction_step, start}
 use Rattle.rv_table.specs.Row.{row}
 use Rattle.rv_table.specs.Stands.{standing, Stands, code_of}
 use Rattle.rv_table.specs.Straight.{on_set, straight}

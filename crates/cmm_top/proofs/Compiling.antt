@@ -1,13 +1,13 @@
 -- From the tokens of a unit to the terms of the expression that it returns, and back.
-use Rattle.std.proofs.Common.{◌≡◌, ℕ, ◌+◌, ◌*◌, ◌≤◌, ◌<◌, List, [], ◌∷◌, ◌++◌, length, Option, Some, None, refl, ap, sym, ◌∙◌, arith, append-nil, length-append}
+use Rattle.std.proofs.Common.{◌≡◌, ℕ, ◌+◌, ◌*◌, ◌≤◌, List, [], ◌∷◌, length, Some, ap, sym, ◌∙◌, arith, append-nil, length-append}
 use Rattle.std.proofs.lemmas.List.{append_cancel_right}
 use Rattle.std.proofs.lemmas.Option.{same_Some}
 use Rattle.cmm_top.specs.declared.token.Token.{Token}
-use Rattle.cmm_top.specs.declared.token.Token.TheVariants.{Export, Main, Return, Open, Close, OpenBrace, CloseBrace, Semicolon}
+use Rattle.cmm_top.specs.declared.token.Token.TheVariants.{Close, CloseBrace, Semicolon}
 use Rattle.cmm_top.specs.declared.term.Sign.TheVariants.{Plus}
 use Rattle.cmm_top.specs.declared.term.Term.{Term}
 use Rattle.cmm_top.specs.declared.first.TheConstants.{UNIT_LIMIT, SIGN_LIMIT}
-use Rattle.cmm_top.specs.Expression.{Operand, Expression, Literal, Bracketed, Alone, Joined, operand_tokens, tokens, sign_token, operand_signs, signs, depth}
+use Rattle.cmm_top.specs.Expression.{Operand, Expression, Literal, Bracketed, Alone, Joined, operand_tokens, tokens, sign_token, operand_signs, signs}
 use Rattle.cmm_top.specs.Form.{Derives, main_tokens, unit_tokens}
 use Rattle.cmm_top.specs.Reading.{scan}
 use Rattle.cmm_top.specs.Tokens.{tokens_of}

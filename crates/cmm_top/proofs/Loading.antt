@@ -1,15 +1,11 @@
 -- A number comes into its register piece by piece.
-use Rattle.std.proofs.Common.{◌≡◌, ℕ, suc, ◌+◌, ◌-◌, ◌*◌, ◌/◌, ◌%◌, ◌^◌, ◌<◌, ◌≤◌, List, [], ◌∷◌, ◌++◌, length, refl, ap, sym, ◌∙◌, subst, arith, length-append, ℤ, pos, negsuc}
+use Rattle.std.proofs.Common.{◌≡◌, ℕ, suc, ◌+◌, ◌-◌, ◌*◌, ◌/◌, ◌%◌, ◌^◌, ◌<◌, ◌≤◌, List, [], ◌∷◌, ◌++◌, refl, ap, arith, ℤ, pos, negsuc}
 use Rattle.std.proofs.lemmas.Int.{ints}
-use Rattle.rv_table.specs.declared.effects.Effect.TheVariants.{Set}
 use Rattle.rv_table.specs.declared.instruction.Instr.{Instr}
 use Rattle.rv_table.specs.declared.instruction.Instr.TheVariants.{Addi, Slli}
 use Rattle.rv_table.specs.Encoding.{IsBetween}
-use Rattle.rv_table.specs.Row.{row}
-use Rattle.rv_table.specs.Registers.{with_register}
-use Rattle.rv_table.specs.Table.{IsValid}
 use Rattle.rv_table.specs.Words.{modulo, sum, shifted_left}
-use Rattle.cmm_top.specs.Code.{Leads, Emits, Loads}
+use Rattle.cmm_top.specs.Code.{Emits, Loads}
 use Rattle.cmm_top.proofs.Emitting.{emits-nil, emits-push}
 
 -- a small number is one immediate

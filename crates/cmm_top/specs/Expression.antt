@@ -1,5 +1,5 @@
 -- Sums and differences of numbers: their grammar, as trees with a spelling, and their value.
-use Rattle.std.specs.Prelude.{ℕ, ◌+◌, ◌-◌, ◌^◌, ◌%◌, max, unwrap_or, List, [], ◌∷◌, ◌++◌}
+use Rattle.std.specs.Prelude.{ℕ, ◌+◌, max, unwrap_or, List, [], ◌∷◌, ◌++◌}
 use Rattle.cmm_words.specs.declared.operators.Op2.{Op2}
 use Rattle.cmm_words.specs.declared.operators.Op2.TheVariants.{Add, Sub}
 use Rattle.cmm_words.specs.declared.width.Width.TheVariants.{W64}

@@ -1,8 +1,7 @@
-use Rattle.std.proofs.Common.{◌≡◌, ◌+◌, ◌-◌, ◌*◌, ◌^◌, ◌≤◌, ◌<◌, ◌++◌, length, length-append, ℕ, ap, ◌∙◌, refl, arith, ℤ, pos, negsuc, w32, SFits}
+use Rattle.std.proofs.Common.{length, length-append, ap, arith, ℤ, pos, negsuc, w32, SFits}
 use Rattle.std.proofs.lemmas.Int.{ints, to_z_pos, to_z-of_z}
 use Rattle.rv_table.specs.Encoding.{IsBetween}
-use Rattle.cmm_top.specs.Code.{Emits, Loads}
-use Rattle.cmm_top.proofs.Loading.{load_small, load_more, few_small, few_more}
+use Rattle.cmm_top.proofs.Loading.{load_small, load_more, few_more}
 use Rattle.cmm_top.proofs.code.+load.Goals as goal
 
 pub returns-then-number-lt2048-clause-loads : goal.returns-then-number-lt2048-clause-loads

@@ -1,4 +1,4 @@
-use Rattle.std.proofs.Common.{◌≡◌, ◌+◌, ◌-◌, ◌≤◌, length, length-append, ap, arith}
+use Rattle.std.proofs.Common.{◌-◌, ◌≤◌, length, length-append, arith}
 use Rattle.cmm_top.proofs.Adding.{load_add, few_bits}
 use Rattle.cmm_top.proofs.code.add.Goals as goal
 

@@ -1,4 +1,4 @@
-use Rattle.std.proofs.Common.{◌≡◌, ◌∙◌, sym, ap, arith, length}
+use Rattle.std.proofs.Common.{◌∙◌, sym, ap, arith, length}
 use Rattle.std.proofs.lemmas.Option.{none-some}
 use Rattle.cmm_top.specs.declared.term.Sign.TheVariants.{Plus}
 use Rattle.cmm_top.specs.Reading.{terms}

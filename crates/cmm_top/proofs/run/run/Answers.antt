@@ -1,7 +1,7 @@
-use Rattle.std.proofs.Common.{◌≡◌, ◌∙◌, sym, ap, subst, Some, None, arith}
+use Rattle.std.proofs.Common.{◌∙◌, sym, subst, arith}
 use Rattle.std.proofs.lemmas.Option.{none-some, same_Some}
 use Rattle.rv_table.specs.Table.{IsValid}
-use Rattle.cmm_top.proofs.Stepping.{valid_at, result_at, next_at, within_at, start_at}
+use Rattle.cmm_top.proofs.Stepping.{valid_at, result_at, next_at, within_at}
 use Rattle.cmm_top.proofs.run.run.Goals as goal
 
 pub unreachable-requires : goal.unreachable-requires
