@@ -1,6 +1,6 @@
 //! A `Vec` that contracts see as the list of its elements.
 
-ghost use Rattle.std.specs.Prelude.{◌≡◌, [], ◌∷◌, ◌++◌, ◌-◌, ◌<◌, length, take, slice_get, slice_set, ◌↔◌, IsTrue, MatchOption, OnOk, OnErr, IfOk, IfErr, option_copied};
+ghost use Rattle.std.specs.Prelude.{◌≡◌, [], ◌∷◌, ◌++◌, ◌-◌, ◌<◌, ◌≤◌, length, take, slice_get, slice_set, ◌↔◌, IsTrue, MatchOption, OnSome, IfNone, OnOk, OnErr, IfOk, IfErr, option_copied};
 ghost use Rattle.std.specs.List.{AllZip};
 ghost use Rattle.std.specs.Cmp.Lexicographic.{pointwise, slice_cmp, slice_partial_cmp, lists_per, lists_equiv, lists_po, lists_total, lists_agrees, lists_ties};
 ghost use Rattle.std.specs.Hash as fed;
@@ -78,7 +78,9 @@ impl<T> Items<T> {
 
     /// The item at an index, from 0.
     pub fn get(&self, index: usize) -> Option<&T>
-        ensures { option_copied result ≡ slice_get self.now index }
+        ensures value { option_copied result ≡ slice_get self.now index }
+        ensures within { OnSome result (index < length self.now) }
+        ensures past { IfNone result (length self.now ≤ index) }
     {
         self.items.get(index)
     }
