@@ -189,13 +189,14 @@ def loads(folder):
 
 
 def instruction(name, operands):
-    """As Debug writes it."""
-    shown = ", ".join(f"{k}: {v}" for k, v in operands.items())
-    return name.capitalize() + (f" {{ {shown} }}" if operands else "")
+    """By the macros of the table's file, one for each set of fields."""
+    macro = {"rd rs1 rs2": "r", "rd rs1 imm": "i", "rs1 rs2 imm": "s", "rd imm": "u", "": ""}[" ".join(operands)]
+    shown = ", ".join([name.capitalize()] + [str(v) for v in operands.values()])
+    return f"{macro}!({shown})" if macro else f"Instr::{name.capitalize()}"
 
 
 def table(name, kind, rows):
-    return f"pub const {name}: [{kind}; {len(rows)}] = [\n" + "".join(f"    {r},\n" for r in rows) + "];\n"
+    return f"pub static {name}: [{kind}; {len(rows)}] = [\n" + "".join(f"    {r},\n" for r in rows) + "];\n"
 
 
 def hexes(row):
@@ -205,11 +206,23 @@ def hexes(row):
 def words_file(folder):
     spelled = list(spelled_words())
     words = assembled(folder, [text for text, _ in spelled])
-    lines = [f'("{instruction(*i)}", {w:#010x})' for w, (_, i) in zip(words, spelled)]
+    lines = [f"({instruction(*i)}, {w:#010x})" for w, (_, i) in zip(words, spelled)]
+    macros = "\n".join(
+        f"macro_rules! {letter} {{\n    ($name:ident, {', '.join(f'${f}:expr' for f in fields)}) => {{\n"
+        f"        Instr::$name {{ {', '.join(f'{f}: ${f}' for f in fields)} }}\n    }};\n}}\n"
+        for letter, fields in [
+            ("r", ["rd", "rs1", "rs2"]),
+            ("i", ["rd", "rs1", "imm"]),
+            ("s", ["rs1", "rs2", "imm"]),
+            ("u", ["rd", "imm"]),
+        ]
+    )
     return f"""//! Words by the GNU assembler, made by tools/riscv_vectors.py.
+use rv_table::Instr;
 
-/// Instructions at the ends of their operands' ranges, as `Debug` writes them, and their words.
-{table("WORDS", "(&str, u32)", lines)}"""
+{macros}
+/// Instructions at the ends of their operands' ranges, with their words.
+{table("WORDS", "(Instr, u32)", lines)}"""
 
 
 def results_file(folder):

@@ -6,7 +6,7 @@ use Rattle.rv_table.specs.declared.effects.Effect.TheVariants.{Set}
 use Rattle.rv_table.specs.declared.instruction.Instr.{Instr}
 use Rattle.rv_table.specs.Bounds.{ValuesFit, HasASize, WritesARegister, IsSound}
 use Rattle.rv_table.specs.Decoding.{instr_of}
-use Rattle.rv_table.specs.Machine.{MemoryMap, State, Next, Asks, Traps, Request, code_base, stack_base, loaded, stored, with_set, instruction_step, steps, start}
+use Rattle.rv_table.specs.Machine.{MemoryMap, State, Next, Asks, Traps, Request, code_base, stack_base, loaded, stored, with_set, done, instruction_step, steps, start}
 use Rattle.rv_table.specs.Registers.{with_register}
 use Rattle.rv_table.specs.Row.{row}
 use Rattle.rv_table.specs.Stands.{standing, Stands, code_of}
@@ -45,7 +45,13 @@ pub record RegistersAreKept : Type 0 where
   pub other : (x : ℕ → ℕ) (rd value k : ℕ) → k ≢ rd → with_register x rd value k ≡ x k
   pub zero : (x : ℕ → ℕ) (value : ℕ) → with_register x 0 value ≡ x
 
--- where an instruction stands at pc whose row sets a register, the step writes it, and moves pc on by 4
+-- where an instruction stands at pc, the step does its row's effect
+abbrev pub RowsAreDone : Type 0
+RowsAreDone =
+    (m : MemoryMap) (s : State) (i : Instr) → standing m.code s.pc ≡ Some i →
+    instruction_step m s ≡ done m s (row s.registers s.pc i)
+
+-- where its row sets a register, the step writes it, and moves pc on by 4
 abbrev pub SetsAreDone : Type 0
 SetsAreDone =
     (m : MemoryMap) (s : State) (i : Instr) (rd value : ℕ) → standing m.code s.pc ≡ Some i →

@@ -1,5 +1,5 @@
 -- A machine that runs instructions: registers, pc and memory by regions, and what one instruction does to them.
-use Rattle.std.specs.Prelude.{ℕ, zero, suc, ◌+◌, ◌*◌, ◌%◌, ◌==◌, Bool, true, false, Option, Some, None}
+use Rattle.std.specs.Prelude.{ℕ, zero, suc, ◌+◌, ◌*◌, ◌%◌, ◌==◌, Bool, true, false, List, [], ◌∷◌, Option, Some, None}
 use Rattle.rv_table.specs.declared.effects.Effect.{Effect}
 use Rattle.rv_table.specs.declared.effects.Effect.TheVariants.{Set, Jump, Branch, Load, Store, Ask, Break}
 use Rattle.rv_table.specs.declared.instruction.Instr.{Instr}
@@ -23,25 +23,20 @@ pub data Request : Type 0 where
   StackLimit : Request
   End : ℕ → Request
 
+-- the request that stands at a number
+abbrev pub numbered : ℕ → List (ℕ × Request) → Option Request
+numbered n [] = None
+numbered n ((k, r) ∷ rest) = elim (n == k) [ true ↦ Some r | false ↦ numbered n rest ]
+
 abbrev pub request_of : (ℕ → ℕ) → Option Request
 request_of x =
-    elim (x 5 == 1) [
-      | true ↦ Some (PutByte (x 10 % 256))
-      | false ↦
-          elim (x 5 == 2) [
-            | true ↦ Some GetByte
-            | false ↦
-                elim (x 5 == 3) [
-                  | true ↦ Some Yield
-                  | false ↦
-                      elim (x 5 == 4) [
-                        | true ↦ Some StackLimit
-                        | false ↦
-                            elim (x 5 == 5) [ true ↦ Some (End (x 10)) | false ↦ None ]
-                      ]
-                ]
-          ]
-    ]
+    numbered (x 5) (
+    (1, PutByte (x 10 % 256))
+    ∷ (2, GetByte)
+    ∷ (3, Yield)
+    ∷ (4, StackLimit)
+    ∷ (5, End (x 10))
+    ∷ [])
 
 -- what comes of one instruction: the next state; a request, which is answered above, or a trap, which both leave the state as it was
 pub data Outcome : Type 0 where

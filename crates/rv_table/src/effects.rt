@@ -1,5 +1,5 @@
 //! What an instruction asks for.
-ghost use Rattle.std.specs.Prelude.{◌≡◌};
+ghost use Rattle.std.specs.Prelude.{◌≡◌, ◌*◌, ◌/◌};
 ghost use Rattle.rv_table.specs.Bounds.{HasASize, WritesARegister};
 ghost use Rattle.rv_table.specs.Registers.{registers_of};
 ghost use Rattle.rv_table.specs.Row.{row};
@@ -67,11 +67,7 @@ fn row(i: Instr, r: &Regs) -> Effect
         Instr::Lui { rd, imm } => set(rd, upper_immediate(imm)),
         Instr::Auipc { rd, imm } => set(rd, r.pc.wrapping_add(upper_immediate(imm))),
         Instr::Jal { rd, imm } => jump(rd, r.pc, r.pc.wrapping_add(immediate(imm))),
-        Instr::Jalr { rd, rs1, imm } => jump(
-            rd,
-            r.pc,
-            r.read(rs1).wrapping_add(immediate(imm)) / 2 * 2,
-        ),
+        Instr::Jalr { rd, rs1, imm } => jump(rd, r.pc, register_target(r.read(rs1), imm)),
         Instr::Beq { rs1, rs2, imm } => branch(r.read(rs1) == r.read(rs2), r.pc, imm),
         Instr::Bne { rs1, rs2, imm } => branch(r.read(rs1) != r.read(rs2), r.pc, imm),
         Instr::Blt { rs1, rs2, imm } => branch(is_less(r.read(rs1), r.read(rs2)), r.pc, imm),
@@ -158,6 +154,13 @@ fn jump(rd: u8, pc: u64, target: u64) -> Effect
         link: pc.wrapping_add(4),
         target,
     }
+}
+
+/// Where a jump by a register goes: bit 0 is cleared.
+fn register_target(base: u64, imm: i32) -> u64
+    ensures { result ≡ sum base (modulo 64 imm) / 2 * 2 }
+{
+    base.wrapping_add(immediate(imm)) / 2 * 2
 }
 
 fn branch(taken: bool, pc: u64, imm: i32) -> Effect

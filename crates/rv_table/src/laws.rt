@@ -1,5 +1,5 @@
 //! What is proved of the table and the machine: laws about definitions, each the contract of a function that does nothing.
-ghost use Rattle.rv_table.specs.Laws.{DecodingIsExact, WordsFit, CodeStands, RegistersAreKept, RowsAreBounded, RunsAreSound, SetsAreDone, StepsJoin, StopsEndRuns, StoresAreRead, StraightPiecesRun};
+ghost use Rattle.rv_table.specs.Laws.{DecodingIsExact, WordsFit, CodeStands, RegistersAreKept, RowsAreBounded, RowsAreDone, RunsAreSound, SetsAreDone, StepsJoin, StopsEndRuns, StoresAreRead, StraightPiecesRun};
 
 /// Decoding gives an instruction exactly for its word, and encoding gives words of 32 bits.
 pub fn words_and_instructions()
@@ -17,8 +17,9 @@ pub fn registers_are_kept()
     ensures { RegistersAreKept }
 {}
 
-/// An instruction that sets a register does so, runs join, and a straight piece is run as its rows say.
+/// What stands at pc is done, runs join, and a straight piece is run as its rows say.
 pub fn runs()
+    ensures done { RowsAreDone }
     ensures set { SetsAreDone }
     ensures join { StepsJoin }
     ensures straight { StraightPiecesRun }

@@ -1,5 +1,8 @@
-use Rattle.rv_table.proofs.Running.{instruction_step-set, steps-add, straight_runs}
+use Rattle.rv_table.proofs.Running.{instruction_step-standing, instruction_step-set, steps-add, straight_runs}
 use Rattle.rv_table.proofs.laws.runs.Goals as goal
+
+pub returns-clause-done : goal.returns-clause-done
+returns-clause-done c = instruction_step-standing
 
 pub returns-clause-set : goal.returns-clause-set
 returns-clause-set c = instruction_step-set
