@@ -1,10 +1,10 @@
 #!/usr/bin/env python3
-"""Prints the rows of src/tests/corners.rt: each operator on corner operands at each width.
+"""Prints the rows of crates/cmm_words/src/tests/corners.rt: each operator on corner operands at each width.
 
 The values are those of Python's integers, by the table of operators of the C-- Language Specification 2.0: a word of
 w bits is a number below 2**w, its signed reading is less by 2**w where the top bit is set, and each result is taken
 modulo 2**w. Python's // rounds down; a quotient rounded toward zero is found from the absolute values.
-Run: python3 tools/corner_rows.py > src/tests/corners.rt, and then rt fmt.
+Run: python3 tools/corner_rows.py > crates/cmm_words/src/tests/corners.rt, and then rt fmt in crates/cmm_words.
 """
 
 WIDTHS = (8, 16, 32, 64)
