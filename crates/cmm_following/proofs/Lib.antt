@@ -1,0 +1,4 @@
+pub mod Leading
+pub mod Prefixes
+pub mod Running
+pub mod Simulating

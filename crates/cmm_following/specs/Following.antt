@@ -1,0 +1,21 @@
+-- Following: what a simulation says of whole runs, in both directions and with its costs.
+use Rattle.std.specs.Prelude.{◌≡◌, ℕ, suc, ◌≤◌, false}
+use Rattle.cmm_following.specs.Machine.{Machine, after, spent}
+use Rattle.cmm_following.specs.Observing.{Level, Passes}
+
+-- B, run from t, follows A, run from s, as long as A does not go wrong
+pub record Follows
+    {S T Line Call Ending : Type 0}
+    (A : Machine S Line Call Ending)
+    (a : S → ℕ)
+    (B : Machine T Line Call Ending)
+    (b : T → ℕ)
+    (s : S)
+    (t : T) :
+    Type 0 where
+  -- where A is after any steps, B comes to be level, and has spent at most what those steps cost
+  pub down : (m : ℕ) → A.wrong (after A m s) ≡ false →
+      (n : ℕ) × (spent B b n t ≤ spent A a m s) × Level A B (after A m s) (after B n t)
+  -- every step of B is one that it passes while A makes some step, and not a later one
+  pub up : (n : ℕ) → A.wrong (after A (suc n) s) ≡ false →
+      (m : ℕ) × (m ≤ n) × Passes A B (after A m s) (after B n t)
