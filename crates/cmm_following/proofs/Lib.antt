@@ -1,3 +1,5 @@
+pub mod Agreeing
+pub mod FollowingRuns
 pub mod Leading
 pub mod Prefixes
 pub mod Running
