@@ -1,5 +1,5 @@
 -- Agreement with a factor: it comes from following at a constant cost.
-use Rattle.std.proofs.Common.{◌≡◌, ℕ, zero, suc, ◌+◌, ◌*◌, ◌-◌, ◌<◌, ◌≤◌, refl, sym, ap, ◌∙◌, arith, mul-one}
+use Rattle.std.proofs.Common.{◌≡◌, ℕ, zero, suc, ◌+◌, ◌*◌, ◌-◌, ◌<◌, ◌≤◌, refl, sym, ap, ◌∙◌, arith, le-mul_of_pos_right, mul_comm}
 use Rattle.std.specs.Prelude.{Bool, true, false, Option, Some, None}
 use Rattle.cmm_following.proofs.FollowingRuns.{right_until}
 use Rattle.cmm_following.proofs.Prefixes.{within_of_eq, within_trans}
@@ -27,5 +27,52 @@ module _ {S L C E : Type 0} (M : Machine S L C E) (lasts : Lasts M) where
       rw (← f) (over_after M lasts ending (n - m) (after M m s) is, silent_after M lasts ending (n - m) (after M m s) is)
 
 module _ {S T L C E : Type 0} (A : Machine S L C E) (B : Machine T L C E) (K : ℕ) (s : S) (t : T) where
+  -- in plain counts: where A is after m steps, B is level after at most K of its own for each
+  level_within : Follows A (λ _. K) B (λ _. 1) s t → (m : ℕ) → A.wrong (after A m s) ≡ false →
+      (n : ℕ) × (n ≤ K * m) × Level A B (after A m s) (after B n t)
+  level_within follows m right =
+      let p = follows.down m right in
+      let e = spent-constant A K m s in
+      let f = spent-constant B 1 p.0 t in
+      (p.0, omega (arith, p.1), p.2)
+
+  -- each step of B is passed during a step of A that K(n+1) steps include
+  passed_within : Lasts A → 1 ≤ K → Follows A (λ _. K) B (λ _. 1) s t → (n : ℕ) → A.wrong (after A (K * (n + 1)) s) ≡ false →
+      (m : ℕ) × (m ≤ n) × (suc m ≤ K * (n + 1)) × Passes A B (after A m s) (after B n t)
+  passed_within lasts some follows n right =
+      let e : n + 1 ≤ K * (n + 1) = rw (mul_comm K (n + 1)) (le-mul_of_pos_right (n + 1) some) in
+      let le : suc n ≤ K * (n + 1) = omega arith in
+      let p = follows.up n (right_until A lasts (suc n) (K * (n + 1)) s le right) in
+      (p.0, p.1, omega (arith, p.1), p.2)
+
+  -- following at the cost K a step against 1 a step is agreement with the factor K
   pub agrees_of_follows : Lasts A → Lasts B → 1 ≤ K → Follows A (λ _. K) B (λ _. 1) s t → Agrees A B K s t
-  agrees_of_follows lasts lasts' some follows = ?
+  agrees_of_follows lasts lasts' some follows = record {
+    down = λ m right.
+        let p = level_within follows m right in
+        let le : p.0 ≤ K * (m + 1) = omega (arith, p.1) in
+        rw p.2.seen (grows_until B lasts' p.0 (K * (m + 1)) t le);
+    ends_down = λ m ending right is.
+        let p = level_within follows m right in
+        let le : p.0 ≤ K * (m + 1) = omega (arith, p.1) in
+        let same = event_of_but_input _ _ (sym p.2.asks ∙ ap but_input is) in
+        let o = over_until B lasts' ending p.0 (K * (m + 1)) t le same in
+        (o.0, p.2.seen ∙ sym o.1);
+    stands_down = λ m event right is.
+        let p = level_within follows m right in
+        (p.0, p.1, event_of_but_input _ _ (sym p.2.asks ∙ is), p.2.seen);
+    up = λ n right.
+        let p = passed_within lasts some follows n right in
+        let shown = within_trans _ _ _ (lasts'.grows (after B n t)) p.3.seen in
+        within_trans _ _ _ shown (grows_until A lasts (suc p.0) (K * (n + 1)) s p.2);
+    ends_up = λ n ending right is.
+        let p = passed_within lasts some follows n right in
+        let q = p.3.asks (End ending) is in
+        let le : p.0 ≤ K * (n + 1) = omega (arith, p.2) in
+        let o = over_until A lasts ending p.0 (K * (n + 1)) s le q.0 in
+        (o.0, o.1 ∙ q.1);
+    stands_up = λ n event right is.
+        let p = passed_within lasts some follows n right in
+        let q = p.3.asks event is in
+        (p.0, p.1, q.0, q.1);
+  }

@@ -119,7 +119,7 @@ module _ {S T U L C E : Type 0} (A : Machine S L C E) (a : S → ℕ) (B : Machi
         let p = first.up n right in
         let le : suc p.0 ≤ suc n = omega (arith, p.1) in
         let between : B.wrong (after B (suc n) t) ≡ false =
-        false_unless _ _ p.2.wrong (right_until A lasts (suc p.0) (suc n) s le right)
+        false_unless (B.wrong (after B (suc n) t)) (A.wrong (after A (suc p.0) s)) p.2.wrong (right_until A lasts (suc p.0) (suc n) s le right)
         in
         let q = second.up n between in
         let o = first.up q.0 (right_until A lasts (suc q.0) (suc n) s (omega (arith, q.1)) right) in
