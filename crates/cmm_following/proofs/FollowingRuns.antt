@@ -114,7 +114,7 @@ module _ {S T U L C E : Type 0} (A : Machine S L C E) (a : S → ℕ) (B : Machi
     down = λ m right.
         let p = first.down m right in
         let q = second.down p.0 (sym p.2.wrong ∙ right) in
-        (q.0, omega (arith, p.1, q.1), level_trans A B D _ _ _ p.2 q.2);
+        (q.0, omega (arith, p.1, q.1), level_trans A B D (after A m s) (after B p.0 t) (after D q.0 u) p.2 q.2);
     up = λ n right.
         let p = first.up n right in
         let le : suc p.0 ≤ suc n = omega (arith, p.1) in
@@ -123,7 +123,7 @@ module _ {S T U L C E : Type 0} (A : Machine S L C E) (a : S → ℕ) (B : Machi
         in
         let q = second.up n between in
         let o = first.up q.0 (right_until A lasts (suc q.0) (suc n) s (omega (arith, q.1)) right) in
-        (o.0, omega (arith, o.1, q.1), passes_trans A B D _ _ _ o.2 q.2);
+        (o.0, omega (arith, o.1, q.1), passes_trans A B D (after A o.0 s) (after B q.0 t) (after D n u) o.2 q.2);
   }
 
 module _ {S T L C E : Type 0} (A : Machine S L C E) (a : S → ℕ) (B : Machine T L C E) (b : T → ℕ) (s : S) (t : T) where

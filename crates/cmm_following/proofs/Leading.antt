@@ -60,3 +60,12 @@ module _ {S L C E : Type 0} (M : Machine S L C E) (cost : S → ℕ) where
     enough = omega (arith, path.enough);
     within = omega (arith, path.within);
   }
+
+  -- a step and then the path from where it leads
+  pub then_leads : (P Q : S → Type 0) (l m : ℕ) (t : S) → P t → Leads M cost P Q l m (M.step t) → Leads M cost P Q (suc l) (cost t + m) t
+  then_leads P Q l m t here path =
+      let first = one_step P (λ u. u ≡ M.step t) t here refl in
+      let go : (u : S) → u ≡ M.step t → Leads M cost P Q l m u = λ u is. rw is path in
+      let e : 1 + l ≡ suc l = omega arith in
+      let whole = joined P (λ u. u ≡ M.step t) Q 1 (cost t) l m t first go in
+      rw e at whole
