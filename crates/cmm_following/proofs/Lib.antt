@@ -1,9 +1,7 @@
-pub mod Agreeing
-pub mod FollowingRuns
-pub mod Leading
-pub mod Passing
+pub mod Agreements
+pub mod Paths
+pub mod Followings
 pub mod Prefixes
-pub mod Running
-pub mod Simulating
+pub mod Runs
+pub mod Simulations
 mod SmallMachines
-mod TickingMachines

@@ -1,20 +1,26 @@
--- What is proved of the small machines by the theory.
-use Rattle.std.specs.Prelude.{ℕ, List}
+-- What the theory proves of the small machines.
+use Rattle.std.specs.Prelude.{◌≡◌, ℕ, List, Bool, true, false}
 use Rattle.cmm_following.specs.Agreement.{Agrees}
 use Rattle.cmm_following.specs.Following.{Follows}
-use Rattle.cmm_following.specs.PredecessorCode.{code, instructions, StandsAt, Take}
-use Rattle.cmm_following.specs.Predecessors.{predecessors, Ready, unseen}
+use Rattle.cmm_following.specs.Predecessors.{predecessors, start}
 use Rattle.cmm_following.specs.Simulation.{Simulates}
-use Rattle.cmm_following.specs.Ticking.{ticking, unfetched}
+use Rattle.cmm_following.specs.Ticking.{ticking, unfetched, Ticks}
 
--- the code simulates the machine, at three instructions for a number and one for a call
-abbrev pub CodeSimulates : Type 0
-CodeSimulates = Simulates predecessors instructions code (λ _. 1) StandsAt
+-- in lock-step, the machine that does not check for 0 simulates the one that does, in the same states
+abbrev pub UncheckedSimulates : Type 0
+UncheckedSimulates = Simulates (predecessors true) (λ _. 1) (predecessors false) (λ _. 1) (λ s t. s ≡ t)
 
--- on every input the code follows the machine
-abbrev pub CodeFollows : Type 0
-CodeFollows = (input : List ℕ) → Follows predecessors instructions code (λ _. 1) (Ready input unseen) (Take input unseen)
+-- done in two ticks a step, a machine simulates itself, whether it checks or not
+abbrev pub TickingSimulates : Type 0
+TickingSimulates = (checks : Bool) → Simulates (predecessors checks) (λ _. 2) (ticking (predecessors checks)) (λ _. 1) Ticks
 
--- on every input the machine agrees with its code on a processor of two ticks an instruction, with the factor 6
+-- on every input, the unchecked machine done in ticks follows the checked one at two ticks a step
+abbrev pub TicksFollow : Type 0
+TicksFollow =
+    (input : List ℕ) →
+    Follows (predecessors true) (λ _. 2) (ticking (predecessors false)) (λ _. 1) (start input) (unfetched (start input))
+
+-- and agrees with it with the factor 2
 abbrev pub TicksAgree : Type 0
-TicksAgree = (input : List ℕ) → Agrees predecessors (ticking code) 6 (Ready input unseen) (unfetched (Take input unseen))
+TicksAgree =
+    (input : List ℕ) → Agrees (predecessors true) (ticking (predecessors false)) 2 (start input) (unfetched (start input))

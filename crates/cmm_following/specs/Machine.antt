@@ -22,6 +22,6 @@ spent M cost (suc n) s = spent M cost n s + cost (after M n s)
 -- nothing that is seen is taken back, a run that is over stays over and shows nothing more, and one that is wrong stays wrong
 pub record Lasts {State Line Call Ending : Type 0} (M : Machine State Line Call Ending) : Type 0 where
   pub grows : (s : State) → IsWithin (M.seen s) (M.seen (M.step s))
-  pub over : (s : State) (ending : Ending) → M.asks s ≡ Some (End ending) → M.asks (M.step s) ≡ Some (End ending)
-  pub silent : (s : State) (ending : Ending) → M.asks s ≡ Some (End ending) → M.seen (M.step s) ≡ M.seen s
+  pub over : (s : State) (ending : Ending) → M.asks s ≡ Some (End ending) →
+      (M.asks (M.step s) ≡ Some (End ending)) × (M.seen (M.step s) ≡ M.seen s)
   pub wrong : (s : State) → M.wrong s ≡ true → M.wrong (M.step s) ≡ true

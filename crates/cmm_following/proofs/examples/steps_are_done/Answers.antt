@@ -1,0 +1,6 @@
+use Rattle.cmm_following.proofs.SmallMachines.{predecessors_last, ticking_simulates}
+use Rattle.cmm_following.proofs.examples.steps_are_done.Goals as goal
+use Rattle.cmm_following.specs.Predecessors.{predecessors}
+
+pub returns-clause-ticks : goal.returns-clause-ticks
+returns-clause-ticks c = λ checks. ticking_simulates (predecessors checks) (predecessors_last checks)
