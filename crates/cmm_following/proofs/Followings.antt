@@ -1,12 +1,12 @@
 -- Following: it comes from a simulation, composes and scales.
-use Rattle.std.proofs.Common.{◌≡◌, ℕ, zero, suc, ◌+◌, ◌*◌, ◌≤◌, refl, sym, ◌∙◌, arith, le_trans, mul-le-mul_left}
+use Rattle.std.proofs.Common.{◌≡◌, ℕ, zero, suc, ◌*◌, ◌≤◌, sym, ◌∙◌, arith, le_trans, mul-le-mul_left}
 use Rattle.std.specs.Prelude.{false}
 use Rattle.cmm_following.proofs.Paths.{arrived, joined, weaker}
 use Rattle.cmm_following.proofs.Runs.{false_unless, right_until, spent_above, spent_below}
 use Rattle.cmm_following.proofs.Simulations.{level_trans, passes_trans}
 use Rattle.cmm_following.specs.Following.{Follows}
 use Rattle.cmm_following.specs.Machine.{Machine, Lasts, after, spent}
-use Rattle.cmm_following.specs.Observing.{Level, Passes}
+use Rattle.cmm_following.specs.Observing.{Passes}
 use Rattle.cmm_following.specs.Simulation.{Leads, Simulates}
 
 -- a state that B passes while A makes one of its first m steps from s

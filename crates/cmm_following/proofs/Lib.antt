@@ -1,7 +1,8 @@
 pub mod Agreements
-pub mod Paths
 pub mod Followings
+pub mod Paths
 pub mod Prefixes
+mod Rows
 pub mod Runs
 pub mod Simulations
 mod SmallMachines

@@ -1,7 +1,7 @@
 -- Paths: how they begin, go on and are joined.
-use Rattle.std.proofs.Common.{◌≡◌, ℕ, zero, suc, ◌+◌, ◌-◌, ◌<◌, ◌≤◌, ◌⊎◌, inl, inr, refl, arith}
+use Rattle.std.proofs.Common.{◌≡◌, ℕ, ◌+◌, ◌-◌, ◌<◌, ◌≤◌, ◌⊎◌, inl, inr, refl, arith}
 use Rattle.cmm_following.proofs.Runs.{after-add, after-until, spent-add}
-use Rattle.cmm_following.specs.Machine.{Machine, after, spent}
+use Rattle.cmm_following.specs.Machine.{Machine, after}
 use Rattle.cmm_following.specs.Simulation.{Leads}
 
 module _ {S L C E : Type 0} {M : Machine S L C E} {cost : S → ℕ} where

@@ -1,5 +1,5 @@
 -- What is seen grows: prefixes, and what lies within what.
-use Rattle.std.proofs.Common.{◌≡◌, List, [], ◌++◌, refl, sym, append_assoc, append-nil}
+use Rattle.std.proofs.Common.{List, [], ◌++◌, refl, sym, append_assoc, append-nil}
 use Rattle.cmm_following.specs.Seen.{Seen, IsPrefix, IsWithin}
 
 -- a list begins itself

@@ -1,9 +1,9 @@
 -- Runs of one machine: how steps and costs add up, and what lasts.
 use Rattle.std.proofs.Common.{◌≡◌, ℕ, zero, suc, ◌+◌, ◌*◌, ◌-◌, ◌≤◌, ◌⊎◌, inl, inr, refl, sym, ap, ◌∙◌, arith, add-zero, add-suc, mul-zero, mul-add, mul-suc}
-use Rattle.std.specs.Prelude.{Bool, true, false, Option, Some}
+use Rattle.std.specs.Prelude.{Bool, true, false, Some}
 use Rattle.cmm_following.proofs.Prefixes.{within_refl, within_trans}
 use Rattle.cmm_following.specs.Machine.{Machine, Lasts, after, spent}
-use Rattle.cmm_following.specs.Seen.{Seen, IsWithin, Event, End}
+use Rattle.cmm_following.specs.Seen.{IsWithin, End}
 
 -- a test that is true only where another one is true is false where that one is false
 pub false_unless : (b c : Bool) → (b ≡ true → c ≡ true) → c ≡ false → b ≡ false

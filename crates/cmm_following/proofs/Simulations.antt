@@ -1,12 +1,12 @@
 -- Simulations: how they compose and scale, and machines in lock-step.
-use Rattle.std.proofs.Common.{◌≡◌, ℕ, zero, suc, ◌+◌, ◌*◌, ◌<◌, ◌≤◌, refl, sym, ap, ◌∙◌, arith, le_trans, mul-le-mul_left}
-use Rattle.std.specs.Prelude.{Bool, true, false, Option, Some}
+use Rattle.std.proofs.Common.{◌≡◌, ℕ, zero, suc, ◌*◌, ◌<◌, ◌≤◌, ap, ◌∙◌, arith, le_trans, mul-le-mul_left}
+use Rattle.std.specs.Prelude.{false}
 use Rattle.cmm_following.proofs.Paths.{arrived, one_step, joined, weaker}
 use Rattle.cmm_following.proofs.Prefixes.{within_refl, within_trans}
 use Rattle.cmm_following.proofs.Runs.{false_unless, spent_below}
 use Rattle.cmm_following.specs.Machine.{Machine, after, spent}
 use Rattle.cmm_following.specs.Observing.{Level, Passes}
-use Rattle.cmm_following.specs.Seen.{Seen, Event, but_input}
+use Rattle.cmm_following.specs.Seen.{but_input}
 use Rattle.cmm_following.specs.Simulation.{Leads, Simulates, Through}
 
 module _ {S T U L C E : Type 0} {A : Machine S L C E} {B : Machine T L C E} {D : Machine U L C E} {s : S} {t : T} {u : U} where
@@ -33,7 +33,7 @@ module _ {S T U L C E : Type 0} {A : Machine S L C E} {B : Machine T L C E} {b :
       let goes = false_unless (B.wrong (B.step here)) (A.wrong (A.step s)) passed.wrong right in
       let first = leads_along second s t u right is k (λ i less. passes i (omega arith)) in
       let next : (v : U) → Q here v → Leads D d (Passes A D s) (Q (B.step here)) 1 (b here) v = λ v related.
-          weaker (second.leads here v related goes) (λ w. passes_trans passed) (λ w is. is) (omega arith) (omega arith)
+      weaker (second.leads here v related goes) (λ w. passes_trans passed) (λ w is. is) (omega arith) (omega arith)
       in
       weaker (joined first next) (λ w p. p) (λ w q. q) (omega arith) (omega arith)
 

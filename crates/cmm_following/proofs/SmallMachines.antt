@@ -1,13 +1,13 @@
 -- The small machines: what lasts in them, and the two simulations.
-use Rattle.std.proofs.Common.{◌≡◌, ℕ, zero, suc, ◌+◌, ◌≤◌, List, [], ◌∷◌, ◌++◌, refl, sym, ap, ◌∙◌, arith}
-use Rattle.std.specs.Prelude.{Bool, true, false, Option, Some, None}
+use Rattle.std.proofs.Common.{◌≡◌, ℕ, zero, suc, List, [], ◌∷◌, ◌++◌, refl, ap, ◌∙◌, arith}
+use Rattle.std.specs.Prelude.{Bool, true, false, Some}
 use Rattle.cmm_following.proofs.Paths.{one_step, then_leads, weaker}
 use Rattle.cmm_following.proofs.Prefixes.{prefix_refl, within_refl, within_trans}
 use Rattle.cmm_following.proofs.Simulations.{in_lock_step}
 use Rattle.cmm_following.specs.Machine.{Machine, Lasts}
 use Rattle.cmm_following.specs.Observing.{Passes}
-use Rattle.cmm_following.specs.Predecessors.{Predecessors, Ready, Waiting, Failed, predecessors, predecessors_step, predecessors_seen, predecessors_asks, predecessors_wrong, with_put, with_logged}
-use Rattle.cmm_following.specs.Seen.{Seen, IsPrefix, IsWithin, Event, End}
+use Rattle.cmm_following.specs.Predecessors.{Predecessors, Ready, Waiting, Failed, predecessors, predecessors_step, predecessors_seen, predecessors_asks, predecessors_wrong, with_put}
+use Rattle.cmm_following.specs.Seen.{Seen, IsPrefix, IsWithin, End}
 use Rattle.cmm_following.specs.Simulation.{Leads, Simulates}
 use Rattle.cmm_following.specs.Ticking.{Ticking, Ticks, tick, ticking, unfetched}
 

@@ -3,7 +3,7 @@ use Rattle.std.specs.Prelude.{◌≡◌, ℕ, suc, ◌≤◌, false}
 use Rattle.cmm_following.specs.Machine.{Machine, after, spent}
 use Rattle.cmm_following.specs.Observing.{Level, Passes}
 
--- B, run from t, follows A, run from s, as long as A does not go wrong
+-- B, run from t, follows A, run from s, as long as A does not go wrong; a and b give what their steps cost
 pub record Follows
     {S T Line Call Ending : Type 0}
     (A : Machine S Line Call Ending)

@@ -1,5 +1,5 @@
 -- Two machines side by side: states that are level, and states that the second passes during one step of the first.
-use Rattle.std.specs.Prelude.{◌≡◌, true, Option, Some}
+use Rattle.std.specs.Prelude.{◌≡◌, true, Some}
 use Rattle.cmm_following.specs.Machine.{Machine}
 use Rattle.cmm_following.specs.Seen.{IsWithin, Event, but_input}
 

@@ -13,7 +13,7 @@ pub record IsPrefix {A : Type 0} (xs ys : List A) : Type 0 where
   pub rest : List A
   pub whole : ys ≡ xs ++ rest
 
--- what is seen first is the beginning of what is seen later
+-- what is seen earlier is the beginning of what is seen later
 pub record IsWithin {Line : Type 0} (earlier later : Seen Line) : Type 0 where
   pub output : IsPrefix earlier.output later.output
   pub log : IsPrefix earlier.log later.log

@@ -11,9 +11,9 @@ pub record Leads {S Line Call Ending : Type 0} (M : Machine S Line Call Ending) 
   pub enough : least ≤ steps
   pub within : spent M cost steps t ≤ most
 
--- R is a simulation of A by B: related states are level, and a step of A that does not go wrong leads B, by at least one step and
--- for at most what that step costs, through states that it passes to one that is related again; a step that goes wrong obliges
--- B to nothing
+-- R is a simulation of A, whose steps cost a, by B, whose steps cost b: related states are level, and a step of A that does not go
+-- wrong leads B, by at least one step and for at most what that step costs, through states that it passes to one that is related
+-- again; a step that goes wrong obliges B to nothing
 pub record Simulates
     {S T Line Call Ending : Type 0}
     (A : Machine S Line Call Ending)

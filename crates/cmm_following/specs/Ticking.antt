@@ -1,5 +1,5 @@
 -- A machine whose every step takes two ticks: one to fetch it and one to do it.
-use Rattle.std.specs.Prelude.{◌≡◌, ℕ, Bool, true, false}
+use Rattle.std.specs.Prelude.{◌≡◌, Bool, true, false}
 use Rattle.cmm_following.specs.Machine.{Machine}
 
 -- a state of the machine below, and whether its step has been fetched

@@ -1,5 +1,5 @@
-use Rattle.std.proofs.Common.{ℕ, refl, arith}
-use Rattle.std.specs.Prelude.{List, true, false}
+use Rattle.std.proofs.Common.{refl, arith}
+use Rattle.std.specs.Prelude.{true, false}
 use Rattle.cmm_following.proofs.Agreements.{agrees_of_follows}
 use Rattle.cmm_following.proofs.Followings.{follows_of_simulates, follows_scaled, follows_trans}
 use Rattle.cmm_following.proofs.SmallMachines.{predecessors_last, ticking_lasts, ticking_simulates, unchecked_simulates}
