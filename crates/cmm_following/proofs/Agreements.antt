@@ -10,14 +10,15 @@ use Rattle.cmm_following.specs.Observing.{Level, Passes}
 use Rattle.cmm_following.specs.Seen.{Event, Input, Client, End, but_input}
 
 -- an event that is no input is an event
-event_of_but_input : {C E : Type 0} (asks : Option (Event C E)) (event : Event C E) → but_input asks ≡ Some event → asks ≡ Some event
+event_of_but_input : {C E : Type 0} (asks : Option (Event C E)) (event : Event C E) → but_input asks ≡ Some event →
+    asks ≡ Some event
 event_of_but_input None event is = absurd (cc)
 event_of_but_input (Some Input) event is = absurd (cc)
 event_of_but_input (Some (Client call)) event is = is
 event_of_but_input (Some (End ending)) event is = is
 
 module _ {S T L C E : Type 0} {A : Machine S L C E} {B : Machine T L C E} {factor : ℕ} {s : S} {t : T} where
-  -- in counts of steps: where A is after m, B is level after at most factor of its own for each
+  -- where A is after m steps, B is level after at most factor of its own steps for each
   level_within : Follows A (λ _. factor) B (λ _. 1) s t → (m : ℕ) → A.wrong (after A m s) ≡ false →
       (n : ℕ) × (n ≤ factor * m) × Level A B (after A m s) (after B n t)
   level_within follows m right =
@@ -25,7 +26,8 @@ module _ {S T L C E : Type 0} {A : Machine S L C E} {B : Machine T L C E} {facto
       (p.0, omega (arith, p.1, spent-constant A factor m s, spent-constant B 1 p.0 t), p.2)
 
   -- each step of B is passed during one of the first factor * (n + 1) steps of A
-  passed_within : Lasts A → 1 ≤ factor → Follows A (λ _. factor) B (λ _. 1) s t → (n : ℕ) → A.wrong (after A (factor * (n + 1)) s) ≡ false →
+  passed_within : Lasts A → 1 ≤ factor → Follows A (λ _. factor) B (λ _. 1) s t → (n : ℕ) →
+      A.wrong (after A (factor * (n + 1)) s) ≡ false →
       (m : ℕ) × (m ≤ n) × (suc m ≤ factor * (n + 1)) × Passes A B (after A m s) (after B n t)
   passed_within lasts positive follows n right =
       let e : n + 1 ≤ factor * (n + 1) = rw (mul_comm factor (n + 1)) (le-mul_of_pos_right (n + 1) positive) in

@@ -55,6 +55,7 @@ module _ {S L C E : Type 0} {M : Machine S L C E} {cost : S → ℕ} where
       through second i less (inr there) = rw (← after-until M first.steps i t there) (second (i - first.steps) (omega arith))
 
   -- a step and then a path from where it leads
-  pub then_leads : {P Q : S → Type 0} {l m : ℕ} {t : S} → P t → Leads M cost P Q l m (M.step t) → Leads M cost P Q (1 + l) (cost t + m) t
+  pub then_leads : {P Q : S → Type 0} {l m : ℕ} {t : S} → P t → Leads M cost P Q l m (M.step t) →
+      Leads M cost P Q (1 + l) (cost t + m) t
   then_leads {P = P} {Q = Q} {l = l} {m = m} {t = t} here path =
       joined (one_step {P = P} {Q = λ u. u ≡ M.step t} here refl) (λ u is. rw is path)

@@ -27,7 +27,9 @@ it_fails = refl
 unchecked_goes_on : ((predecessors false).seen (after (predecessors false) 3 (start (5 ∷ 0 ∷ [])))).output ≡ 4 ∷ 0 ∷ []
 unchecked_goes_on = refl
 
-ticks_are_half_steps : ((ticking (predecessors false)).seen (after (ticking (predecessors false)) 5 (unfetched (start (5 ∷ 3 ∷ []))))).taken ≡ 5 ∷ []
+ticks_are_half_steps :
+    ((ticking (predecessors false)).seen (after (ticking (predecessors false)) 5 (unfetched (start (5 ∷ 3 ∷ []))))).taken
+    ≡ 5 ∷ []
 ticks_are_half_steps = refl
 
 steps_cost : spent (predecessors true) (λ _. 2) 7 (start (5 ∷ [])) ≡ 14

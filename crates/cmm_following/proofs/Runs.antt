@@ -48,12 +48,14 @@ module _ {S L C E : Type 0} (M : Machine S L C E) where
       let f = above (after M n s) in
       rw (mul-add k (spent M c n s) (c (after M n s))) (omega arith)
 
-  -- what every step keeps holds later if it holds before
+  -- what holds, and every step keeps, holds after any number of steps
   kept_after : (P : S → Type 0) → ((u : S) → P u → P (M.step u)) → (n : ℕ) (s : S) → P s → P (after M n s)
   kept_after P keeps zero s holds = holds
   kept_after P keeps (suc n) s holds = keeps (after M n s) (kept_after P keeps n s holds)
 
-  pub kept_until : (P : S → Type 0) → ((u : S) → P u → P (M.step u)) → (m n : ℕ) (s : S) → m ≤ n → P (after M m s) → P (after M n s)
+  -- what holds after some steps, and every step keeps, holds after more
+  pub kept_until : (P : S → Type 0) → ((u : S) → P u → P (M.step u)) → (m n : ℕ) (s : S) → m ≤ n → P (after M m s) →
+      P (after M n s)
   kept_until P keeps m n s le holds = rw (← after-until m n s le) (kept_after P keeps (n - m) (after M m s) holds)
 
 module _ {S L C E : Type 0} (M : Machine S L C E) (lasts : Lasts M) where

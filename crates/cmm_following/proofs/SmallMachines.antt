@@ -15,10 +15,12 @@ use Rattle.cmm_following.specs.Ticking.{Ticking, Ticks, tick, ticking, unfetched
 prefix_more : (xs : List ℕ) (x : ℕ) → IsPrefix xs (xs ++ x ∷ [])
 prefix_more xs x = record { rest = x ∷ []; whole = refl }
 
+-- what is seen is within what is seen once a number has been put
 within_put : (seen : Seen ℕ) (number less : ℕ) → IsWithin seen (with_put seen number less)
 within_put seen number less =
     record { output = prefix_more seen.output less; log = prefix_refl seen.log; taken = prefix_more seen.taken number }
 
+-- a step takes nothing back that has been seen
 grows : (checks : Bool) (s : Predecessors) → IsWithin (predecessors_seen s) (predecessors_seen (predecessors_step checks s))
 grows checks (Ready [] seen) = within_refl seen
 grows true (Ready (zero ∷ left) seen) = within_refl seen
@@ -28,17 +30,22 @@ grows checks (Waiting less left seen) =
     record { output = prefix_refl seen.output; log = prefix_more seen.log less; taken = prefix_refl seen.taken }
 grows checks (Failed seen) = within_refl seen
 
-over_stays : (checks : Bool) (s : Predecessors) (ending : ℕ) → predecessors_asks s ≡ Some (End ending) → predecessors_step checks s ≡ s
+-- a run that is over stays in its state
+over_stays : (checks : Bool) (s : Predecessors) (ending : ℕ) → predecessors_asks s ≡ Some (End ending) →
+    predecessors_step checks s ≡ s
 over_stays checks (Ready [] seen) ending is = refl
 over_stays checks (Ready (number ∷ left) seen) ending is = absurd (cc)
 over_stays checks (Waiting less left seen) ending is = absurd (cc)
 over_stays checks (Failed seen) ending is = absurd (cc)
 
-wrong_stays : (checks : Bool) (s : Predecessors) → predecessors_wrong s ≡ true → predecessors_wrong (predecessors_step checks s) ≡ true
+-- a run that has gone wrong stays so
+wrong_stays : (checks : Bool) (s : Predecessors) → predecessors_wrong s ≡ true →
+    predecessors_wrong (predecessors_step checks s) ≡ true
 wrong_stays checks (Ready left seen) is = absurd (cc)
 wrong_stays checks (Waiting less left seen) is = absurd (cc)
 wrong_stays checks (Failed seen) is = is
 
+-- so the machine lasts
 pub predecessors_last : (checks : Bool) → Lasts (predecessors checks)
 predecessors_last checks = record {
   grows = grows checks;
@@ -49,13 +56,15 @@ predecessors_last checks = record {
 }
 
 -- where the check finds no 0, it makes no difference
-same_step : (s : Predecessors) → predecessors_wrong (predecessors_step true s) ≡ false → predecessors_step true s ≡ predecessors_step false s
+same_step : (s : Predecessors) → predecessors_wrong (predecessors_step true s) ≡ false →
+    predecessors_step true s ≡ predecessors_step false s
 same_step (Ready [] seen) right = refl
 same_step (Ready (zero ∷ left) seen) right = absurd (cc)
 same_step (Ready (suc less ∷ left) seen) right = refl
 same_step (Waiting less left seen) right = refl
 same_step (Failed seen) right = refl
 
+-- so the machines go in lock-step until the check goes wrong
 pub unchecked_simulates : Simulates (predecessors true) (λ _. 1) (predecessors false) (λ _. 1) (λ s t. s ≡ t)
 unchecked_simulates =
     in_lock_step (λ s t is. (ap predecessors_seen is, ap predecessors_asks is, ap predecessors_wrong is, omega arith))
@@ -63,10 +72,12 @@ unchecked_simulates =
 
 module _ {S L C E : Type 0} (M : Machine S L C E) (lasts : Lasts M) where
   -- what each step keeps is kept by each tick
-  kept_by_tick : (P : S → Type 0) → ((s : S) → P s → P (M.step s)) → (fetched : Bool) (s : S) → P s → P (tick M fetched s).state
+  kept_by_tick : (P : S → Type 0) → ((s : S) → P s → P (M.step s)) → (fetched : Bool) (s : S) → P s →
+      P (tick M fetched s).state
   kept_by_tick P keeps false s holds = holds
   kept_by_tick P keeps true s holds = keeps s holds
 
+  -- a machine lasts when it is done in ticks
   pub ticking_lasts : Lasts (ticking M)
   ticking_lasts = record {
     grows = λ u.

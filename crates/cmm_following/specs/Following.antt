@@ -13,9 +13,9 @@ pub record Follows
     (s : S)
     (t : T) :
     Type 0 where
-  -- where A is after any steps, B comes to be level, and has spent at most what those steps cost
+  -- B comes to be level with A after any number of its steps, and has spent at most what they cost
   pub down : (m : ℕ) → A.wrong (after A m s) ≡ false →
       (n : ℕ) × (spent B b n t ≤ spent A a m s) × Level A B (after A m s) (after B n t)
-  -- every step of B is one that it passes while A makes some step, and not a later one
+  -- B makes each of its steps in passing, while A makes some step that comes no later in its run
   pub up : (n : ℕ) → A.wrong (after A (suc n) s) ≡ false →
       (m : ℕ) × (m ≤ n) × Passes A B (after A m s) (after B n t)

@@ -2,7 +2,8 @@
 use Rattle.std.specs.Prelude.{◌≡◌, ℕ, zero, suc, ◌+◌, Bool, true, Option, Some}
 use Rattle.cmm_following.specs.Seen.{Seen, IsWithin, Event, End}
 
--- a machine goes from each state to one next state, shows what is seen there and at which event it stands, and has gone wrong or not
+-- a machine goes from each state to one next state; of a state it says what has been seen, at which event it stands, if at one, and
+-- whether the run has gone wrong
 pub record Machine (State Line Call Ending : Type 0) : Type 0 where
   pub step : State → State
   pub seen : State → Seen Line

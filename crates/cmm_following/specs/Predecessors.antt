@@ -26,6 +26,7 @@ predecessors_step checks (Ready (suc less ∷ left) seen) = Waiting less left (w
 predecessors_step checks (Waiting less left seen) = Ready left (with_logged seen less)
 predecessors_step checks (Failed seen) = Failed seen
 
+-- what has been seen
 abbrev pub predecessors_seen : Predecessors → Seen ℕ
 predecessors_seen (Ready left seen) = seen
 predecessors_seen (Waiting less left seen) = seen
@@ -38,11 +39,13 @@ predecessors_asks (Ready (number ∷ left) seen) = Some Input
 predecessors_asks (Waiting less left seen) = Some (Client less)
 predecessors_asks (Failed seen) = None
 
+-- only a check makes a run go wrong
 abbrev pub predecessors_wrong : Predecessors → Bool
 predecessors_wrong (Ready left seen) = false
 predecessors_wrong (Waiting less left seen) = false
 predecessors_wrong (Failed seen) = true
 
+-- the machine, which checks for 0 or not
 abbrev pub predecessors : Bool → Machine Predecessors ℕ ℕ ℕ
 predecessors checks =
     record { step = predecessors_step checks; seen = predecessors_seen; asks = predecessors_asks; wrong = predecessors_wrong }

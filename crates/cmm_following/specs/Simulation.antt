@@ -3,8 +3,15 @@ use Rattle.std.specs.Prelude.{◌≡◌, ℕ, ◌<◌, ◌≤◌, false}
 use Rattle.cmm_following.specs.Machine.{Machine, after, spent}
 use Rattle.cmm_following.specs.Observing.{Level, Passes}
 
--- a path from t through states that are P to one that is Q, of at least so many steps, that costs at most so much
-pub record Leads {S Line Call Ending : Type 0} (M : Machine S Line Call Ending) (cost : S → ℕ) (P Q : S → Type 0) (least most : ℕ) (t : S) : Type 0 where
+-- a path from t through states that are P to one that is Q, of at least so many steps, which cost at most so much
+pub record Leads
+    {S Line Call Ending : Type 0}
+    (M : Machine S Line Call Ending)
+    (cost : S → ℕ)
+    (P Q : S → Type 0)
+    (least most : ℕ)
+    (t : S) :
+    Type 0 where
   pub steps : ℕ
   pub through : (i : ℕ) → i < steps → P (after M i t)
   pub arrives : Q (after M steps t)
