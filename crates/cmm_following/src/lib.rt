@@ -19,8 +19,8 @@
 //!
 //! The laws hold for all machines, which a contract cannot say, so they are the public lemmas of `proofs/`: of runs in `Runs`, of
 //! paths in `Paths`, of simulations (compose, scale, lock-step) in `Simulations`, of following (from a simulation, compose, scale)
-//! in `Followings`, and of agreement (from following) in `Agreements`. Each is used on the small machines of `examples`, whose
-//! contracts are proved by nothing else.
+//! in `Followings`, and of agreement (from following) in `Agreements`. Each is used on the small machines of `examples`, so that
+//! a contract names what it gives.
 #![tactic(auto)]
 
 pub mod examples;
