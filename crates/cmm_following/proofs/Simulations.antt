@@ -9,52 +9,44 @@ use Rattle.cmm_following.specs.Observing.{Level, Passes}
 use Rattle.cmm_following.specs.Seen.{but_input}
 use Rattle.cmm_following.specs.Simulation.{Leads, Simulates, Through}
 
-module _ {S T U L C E : Type 0} {A : Machine S L C E} {B : Machine T L C E} {D : Machine U L C E} {s : S} {t : T} {u : U} where
+module _ {S T U L C E : Type 0} {A : Machine S L C E} {B : Machine T L C E} {D : Machine U L C E} where
   -- what is level with something level is level
-  pub level_trans : Level A B s t → Level B D t u → Level A D s u
+  pub level_trans : {s : S} {t : T} {u : U} → Level A B s t → Level B D t u → Level A D s u
   level_trans p q = record { seen = p.seen ∙ q.seen; asks = p.asks ∙ q.asks; wrong = p.wrong ∙ q.wrong }
 
   -- what is passed while something is passed is passed
-  pub passes_trans : Passes A B s t → Passes B D t u → Passes A D s u
+  pub passes_trans : {s : S} {t : T} {u : U} → Passes A B s t → Passes B D t u → Passes A D s u
   passes_trans p q = record {
     seen = within_trans q.seen p.seen;
     asks = λ event is. let f = q.asks event is in let g = p.asks event f.0 in (g.0, g.1 ∙ f.1);
     wrong = λ is. p.wrong (q.wrong is);
   }
 
-module _
-    {S T U L C E : Type 0}
-    {A : Machine S L C E}
-    {B : Machine T L C E}
-    {b : T → ℕ}
-    {D : Machine U L C E}
-    {d : U → ℕ}
-    {Q : T → U → Type 0}
-  where
-    -- along the first k steps of a path of B, during one step of A, D is led for at most what they cost
-    leads_along : Simulates B b D d Q → (s : S) (t : T) (u : U) → A.wrong (A.step s) ≡ false → Q t u → (k : ℕ) →
-        ((i : ℕ) → i < k → Passes A B s (after B i t)) → Leads D d (Passes A D s) (Q (after B k t)) k (spent B b k t) u
-    leads_along second s t u right is zero passes = arrived is
-    leads_along second s t u right is (suc k) passes =
-        let here = after B k t in
-        let passed = passes k (omega arith) in
-        let goes = false_unless (B.wrong (B.step here)) (A.wrong (A.step s)) passed.wrong right in
-        let first = leads_along second s t u right is k (λ i less. passes i (omega arith)) in
-        let next : (v : U) → Q here v → Leads D d (Passes A D s) (Q (B.step here)) 1 (b here) v = λ v related.
-        weaker (second.leads here v related goes) (λ w. passes_trans passed) (λ w is. is) (omega arith) (omega arith)
-        in
-        weaker (joined first next) (λ w p. p) (λ w q. q) (omega arith) (omega arith)
+  -- along the first k steps of a path of B, during one step of A, D is led for at most what they cost
+  leads_along : {b : T → ℕ} {d : U → ℕ} {Q : T → U → Type 0} → Simulates B b D d Q → (s : S) (t : T) (u : U) →
+      A.wrong (A.step s) ≡ false → Q t u → (k : ℕ) → ((i : ℕ) → i < k → Passes A B s (after B i t)) →
+      Leads D d (Passes A D s) (Q (after B k t)) k (spent B b k t) u
+  leads_along second s t u right is zero passes = arrived is
+  leads_along {b = b} {d = d} {Q = Q} second s t u right is (suc k) passes =
+      let here = after B k t in
+      let passed = passes k (omega arith) in
+      let goes = false_unless (B.wrong (B.step here)) (A.wrong (A.step s)) passed.wrong right in
+      let first = leads_along second s t u right is k (λ i less. passes i (omega arith)) in
+      let next : (v : U) → Q here v → Leads D d (Passes A D s) (Q (B.step here)) 1 (b here) v = λ v related.
+      weaker (second.leads here v related goes) (λ w. passes_trans passed) (λ w is. is) (omega arith) (omega arith)
+      in
+      weaker (joined first next) (λ w p. p) (λ w q. q) (omega arith) (omega arith)
 
-    -- simulations compose, where what the steps of B cost when it simulates is what they may cost when it is simulated
-    pub simulates_trans : {a : S → ℕ} {R : S → T → Type 0} → Simulates A a B b R → Simulates B b D d Q →
-        Simulates A a D d (Through R Q)
-    simulates_trans first second = record {
-      level = λ s u is. level_trans (first.level s is.0 is.1) (second.level is.0 u is.2);
-      leads = λ s u is right.
-          let path = first.leads s is.0 is.1 right in
-          weaker (leads_along second s is.0 u right is.2 path.steps path.through) (λ w p. p)
-          (λ w q. (after B path.steps is.0, path.arrives, q)) path.enough path.within;
-    }
+  -- simulations compose, where what the steps of B cost when it simulates is what they may cost when it is simulated
+  pub simulates_trans : {a : S → ℕ} {b : T → ℕ} {d : U → ℕ} {R : S → T → Type 0} {Q : T → U → Type 0} → Simulates A a B b R →
+      Simulates B b D d Q → Simulates A a D d (Through R Q)
+  simulates_trans first second = record {
+    level = λ s u is. level_trans (first.level s is.0 is.1) (second.level is.0 u is.2);
+    leads = λ s u is right.
+        let path = first.leads s is.0 is.1 right in
+        weaker (leads_along second s is.0 u right is.2 path.steps path.through) (λ w p. p)
+        (λ w q. (after B path.steps is.0, path.arrives, q)) path.enough path.within;
+  }
 
 module _ {S T L C E : Type 0} {A : Machine S L C E} {a : S → ℕ} {B : Machine T L C E} {b : T → ℕ} {R : S → T → Type 0} where
   -- both costs may be multiplied by the same number, the first be counted dearer and the second cheaper
