@@ -1,0 +1,9 @@
+pub mod Agreement
+pub mod Examples
+pub mod Following
+pub mod Machine
+pub mod Observing
+pub mod Predecessors
+pub mod Seen
+pub mod Simulation
+pub mod Ticking
