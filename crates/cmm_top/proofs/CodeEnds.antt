@@ -47,7 +47,7 @@ answered (Some r) = Asks r
 answered None = Traps no_request
 
 request_end : (x : ℕ → ℕ) → x 5 ≡ 5 → request_of x ≡ Some (End (x 10))
-request_end x five = rw (five, five, five, five, five, request_of) refl
+request_end x five = rw (five, request_of) refl
 
 -- an ECALL whose number is 5 asks for the end
 asks_end : (m : MemoryMap) (s : State) → standing m.code s.pc ≡ Some Ecall → s.registers 5 ≡ 5 → instruction_step m s ≡ Asks (End (s.registers 10))
