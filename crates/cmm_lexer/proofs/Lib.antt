@@ -1,0 +1,4 @@
+mod Digits
+mod Positions
+mod Quoting
+mod Taking

@@ -1,0 +1,6 @@
+pub mod Bytes
+pub mod Spellings
+pub mod Characters
+pub mod Numbers
+pub mod Pieces
+pub mod Lexing

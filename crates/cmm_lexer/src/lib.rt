@@ -1,0 +1,9 @@
+//! The tokens of a unit.
+#![tactic(auto)]
+
+mod bytes;
+mod character;
+mod number;
+mod piece;
+mod spelling;
+mod token;
