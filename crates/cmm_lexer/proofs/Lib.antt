@@ -2,3 +2,4 @@ mod Digits
 mod Positions
 mod Quoting
 mod Taking
+mod Numbered

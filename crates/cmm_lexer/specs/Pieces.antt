@@ -11,6 +11,7 @@ use Rattle.cmm_lexer.specs.declared.piece.Rule.TheVariants.{BadByte, OpenComment
 use Rattle.cmm_lexer.specs.Bytes.{is_separator, is_digit, is_operator_byte, begins_operator, begins_word, begins}
 use Rattle.cmm_lexer.specs.Spellings.{reserved, symbols, number_of, name_len}
 use Rattle.cmm_lexer.specs.Characters.{character_at, quoted, after_comment}
+use Rattle.cmm_lexer.specs.Places.{column_at}
 use Rattle.cmm_lexer.specs.Numbers.{radix_of, is_digit_at, digits_after, is_number}
 
 abbrev pub skipped : ℕ → Piece
@@ -92,8 +93,17 @@ pub record Placed : Type 0 where
   pub start : ℕ
   pub piece : Piece
 
--- the pieces of a text that starts there, at the start of a line or elsewhere: the first bytes, as many as are owned, belong to a piece before it
-unfoldable pub pieces : ℕ → ℕ → Bool → List ℕ → List Placed
-pieces owned start first [] = []
-pieces (suc owned) start first (b ∷ bs) = pieces owned (suc start) (b == 10) bs
-pieces zero start first (b ∷ bs) = record { start = start; piece = piece_at first (b ∷ bs) } ∷ pieces ((piece_at first (b ∷ bs)).len - 1) (suc start) (b == 10) bs
+-- whether a place of a unit is the first of its line
+abbrev pub begins_line : List ℕ → ℕ → Bool
+begins_line unit place = column_at unit place == 1
+
+-- the pieces from a place of a unit on, whose text from there is given: the first bytes of it, as many as are owned, belong to a piece before them
+unfoldable pub pieces_from : List ℕ → ℕ → ℕ → List ℕ → List Placed
+pieces_from unit owned place [] = []
+pieces_from unit (suc owned) place (b ∷ bs) = pieces_from unit owned (suc place) bs
+pieces_from unit zero place (b ∷ bs) =
+    let piece = piece_at (begins_line unit place) (b ∷ bs) in
+    record { start = place; piece = piece } ∷ pieces_from unit (piece.len - 1) (suc place) bs
+
+abbrev pub pieces_of : List ℕ → List Placed
+pieces_of unit = pieces_from unit 0 0 unit

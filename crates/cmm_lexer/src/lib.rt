@@ -7,3 +7,4 @@ mod number;
 mod piece;
 mod spelling;
 mod token;
+mod tokens;
