@@ -6,3 +6,4 @@ pub mod Places
 pub mod Pieces
 pub mod Lexing
 pub mod Blame
+pub mod Reached

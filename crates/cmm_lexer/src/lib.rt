@@ -3,6 +3,7 @@
 
 mod bytes;
 mod character;
+mod lexing;
 mod number;
 mod piece;
 mod spelling;

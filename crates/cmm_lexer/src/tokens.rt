@@ -1,7 +1,8 @@
 //! The tokens of a unit, with the spellings that they have numbers of.
 
-ghost use Rattle.std.specs.Prelude.{◌≡◌, ◌≢◌, ◌+◌, ◌-◌, ◌*◌, ◌^◌, ◌<◌, ◌≤◌, ◌==◌, ℕ, true, List, [], ◌∷◌, ◌++◌, length, map, slice_index_or, if◌then◌else◌, IfOk, OnOk, OnErr, IfErr, not};
+ghost use Rattle.std.specs.Prelude.{◌≡◌, ◌≢◌, ◌+◌, ◌-◌, ◌*◌, ◌^◌, ◌<◌, ◌≤◌, ◌==◌, ℕ, true, List, [], ◌∷◌, ◌++◌, length, map, slice_index_or, nat_eq, if◌then◌else◌, IfOk, OnOk, OnErr, IfErr, not};
 ghost use Rattle.std.specs.List.{AllPairs, count_by, suffix_len};
+ghost use Rattle.std.specs.Cmp.Lexicographic.{pointwise};
 ghost use Rattle.indexmap.specs.IndexSet.{IsUnique};
 ghost use Rattle.cmm_lexer.specs.Places.{ends_line, column_past};
 ghost use Rattle.cmm_lexer.specs.Lexing.{spelled, lexeme_of, is_numbered, are_numbered, token_in, fault_in, rule_number};
@@ -55,6 +56,7 @@ impl Tokens {
     pub fn new(alloc: Global) -> Tokens
         ensures list { result.list ≡ [] }
         ensures spellings { result.spellings.keys ≡ [] }
+        ensures distinct { IsUnique (pointwise nat_eq) result.spellings }
         ensures place { (result.line ≡ 1) × (result.column ≡ 1) }
     {
         Tokens {
@@ -81,6 +83,7 @@ impl Tokens {
         requires { length self.old.spellings.keys < 2 ^ 20 }
         ensures number { IfOk result (λ n. (n < length self.new.spellings.keys) × (slice_index_or self.new.spellings.keys n [] ≡ spelling)) }
         ensures kept { OnOk result ((more : List (List ℕ)) × (length more ≤ 1) × (self.new.spellings.keys ≡ self.old.spellings.keys ++ more)) }
+        ensures distinct { IsUnique (pointwise nat_eq) self.new.spellings }
         ensures list { self.new.list ≡ self.old.list }
         ensures place { (self.new.line ≡ self.old.line) × (self.new.column ≡ self.old.column) }
     {
@@ -90,10 +93,12 @@ impl Tokens {
 
     /// A lexeme's kind of token, whose spelling has a number.
     fn kind_of(&mut self, lexeme: Lexeme) -> Result<TokenKind, AllocError>
-        requires { length self.old.spellings.keys < 2 ^ 20 }
+        requires few { length self.old.spellings.keys < 2 ^ 20 }
+        requires distinct { IsUnique (pointwise nat_eq) self.old.spellings }
         ensures lexeme { IfOk result (λ kind. lexeme_of self.new.spellings.keys kind ≡ lexeme) }
         ensures numbered { IfOk result (λ kind. is_numbered (length self.new.spellings.keys) kind ≡ true) }
         ensures kept { OnOk result ((more : List (List ℕ)) × (length more ≤ 1) × (self.new.spellings.keys ≡ self.old.spellings.keys ++ more)) }
+        ensures distinct { IsUnique (pointwise nat_eq) self.new.spellings }
         ensures list { self.new.list ≡ self.old.list }
         ensures place { (self.new.line ≡ self.old.line) × (self.new.column ≡ self.old.column) }
     {
@@ -112,9 +117,11 @@ impl Tokens {
     /// Adds a token that starts at the place reached.
     fn push(&mut self, lexeme: Lexeme, start: u32, end: u32) -> Result<(), AllocError>
         requires few { length self.old.spellings.keys < 2 ^ 20 }
+        requires distinct { IsUnique (pointwise nat_eq) self.old.spellings }
         requires numbered { are_numbered (length self.old.spellings.keys) self.old.list ≡ true }
         ensures list { OnOk result (map (spelled self.new.spellings.keys) self.new.list ≡ map (spelled self.old.spellings.keys) self.old.list ++ record { lexeme = lexeme; start = start; past = «end»; line = self.old.line; column = self.old.column } ∷ []) }
         ensures numbered { OnOk result (are_numbered (length self.new.spellings.keys) self.new.list ≡ true) }
+        ensures distinct { OnOk result (IsUnique (pointwise nat_eq) self.new.spellings) }
         ensures few { OnOk result (length self.new.spellings.keys ≤ length self.old.spellings.keys + 1) }
         ensures place { (self.new.line ≡ self.old.line) × (self.new.column ≡ self.old.column) }
     {
@@ -133,9 +140,11 @@ impl Tokens {
     /// Adds the token that a piece is, or says which rule it breaks at the place reached.
     pub fn take(&mut self, part: Part, start: u32, end: u32) -> Result<(), LexFault>
         requires few { length self.old.spellings.keys < 2 ^ 20 }
+        requires distinct { IsUnique (pointwise nat_eq) self.old.spellings }
         requires numbered { are_numbered (length self.old.spellings.keys) self.old.list ≡ true }
         ensures list { OnOk result (map (spelled self.new.spellings.keys) self.new.list ≡ map (spelled self.old.spellings.keys) self.old.list ++ token_in part start «end» self.old.line self.old.column) }
         ensures numbered { OnOk result (are_numbered (length self.new.spellings.keys) self.new.list ≡ true) }
+        ensures distinct { OnOk result (IsUnique (pointwise nat_eq) self.new.spellings) }
         ensures few { OnOk result (length self.new.spellings.keys ≤ length self.old.spellings.keys + 1) }
         ensures unbroken { OnOk result (fault_in part start ≡ []) }
         ensures err { IfErr result (Blames part self.old.line self.old.column) }
@@ -144,11 +153,18 @@ impl Tokens {
         match part {
             Part::Skipped => Ok(()),
             Part::Lexed(lexeme) => Ok(self.push(lexeme, start, end)?),
-            Part::Broken(rule) => Err(LexFault::At {
-                rule: rule.number(),
-                line: self.line,
-                column: self.column,
-            }),
+            Part::Broken(rule) => Err(self.fault(rule)),
+        }
+    }
+
+    /// The fault of a rule that is broken at the place reached.
+    pub fn fault(&self, rule: Rule) -> LexFault
+        ensures { result ≡ LexFault.At (rule_number rule) self.now.line self.now.column }
+    {
+        LexFault::At {
+            rule: rule.number(),
+            line: self.line,
+            column: self.column,
         }
     }
 
