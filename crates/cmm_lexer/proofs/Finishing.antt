@@ -1,14 +1,13 @@
 -- What is known of a unit at a fault and at its end.
-use Rattle.std.proofs.Common.{◌≡◌, ℕ, ◌+◌, ◌<◌, ◌≤◌, Bool, true, false, nat_lt, nat_eq, List, [], ◌∷◌, ◌++◌, length, drop, Option, Some, None, Result, Ok, Err, refl, ap, sym, ◌∙◌, arith, append-nil}
+use Rattle.std.proofs.Common.{◌≡◌, ℕ, ◌<◌, ◌≤◌, true, false, nat_lt, nat_eq, List, [], ◌∷◌, length, Some, Result, Ok, Err, refl, sym, ◌∙◌, arith, append-nil}
 use Rattle.std.proofs.lemmas.Bool.Decides.{nat_tests, Decides-eqb}
 use Rattle.std.proofs.lemmas.List.{drop_all}
 use Rattle.std.proofs.lemmas.Map.Made.{AllPairs-from_IsDistinct}
 use Rattle.std.proofs.lemmas.Slice.Eq.{slice_eq-Decides}
-use Rattle.std.specs.List.{flat_map, slice_get}
+use Rattle.std.specs.List.{flat_map}
 use Rattle.std.specs.Cmp.Lexicographic.{pointwise}
 use Rattle.std.specs.Result.{IsErrAnd, IfErr}
 use Rattle.cmm_lexer.specs.declared.piece.Piece.{Piece}
-use Rattle.cmm_lexer.specs.declared.piece.Part.{Part}
 use Rattle.cmm_lexer.specs.declared.piece.Part.TheVariants.{Broken}
 use Rattle.cmm_lexer.specs.declared.piece.Rule.{Rule}
 use Rattle.cmm_lexer.specs.declared.piece.Rule.TheVariants.{TooLong}
@@ -18,7 +17,7 @@ use Rattle.cmm_lexer.specs.declared.tokens.LexFault.TheVariants.{At, Memory}
 use Rattle.cmm_lexer.specs.declared.tokens.TheConstants.{UNIT_LIMIT}
 use Rattle.cmm_lexer.specs.Places.{line_at, column_at}
 use Rattle.cmm_lexer.specs.Pieces.{Placed, pieces_from}
-use Rattle.cmm_lexer.specs.Lexing.{Lexes, Fault, fault_of, faults_of, token_of, tokens_of, first_fault, IsFirstFault}
+use Rattle.cmm_lexer.specs.Lexing.{Lexes, fault_of, faults_of, first_fault, IsFirstFault}
 use Rattle.cmm_lexer.specs.Blame.{Blames}
 use Rattle.cmm_lexer.specs.Reached.{Reached, pieces_at}
 
@@ -55,7 +54,7 @@ finished unit place ts r h s =
       numbered = r.numbered;
       distinct = AllPairs-from_IsDistinct (λ xs ys. slice_eq-Decides Decides-eqb xs ys (pointwise nat_eq xs ys) refl) ts.spellings.keys r.distinct;
       line = rw (← all) r.line;
-      column = rw (← all) r.column
+      column = rw (← all) r.column;
     }
 
 -- an error that is passed on

@@ -1,16 +1,28 @@
 -- The characters between quotes, and the end of a block comment.
-use Rattle.std.specs.Prelude.{ℕ, suc, zero, Bool, true, false, ◌==◌, ◌&&◌, ◌||◌, ◌+◌, ◌*◌, ◌-◌, List, [], ◌∷◌, drop, Option, Some, None, option_map}
+use Rattle.std.specs.Prelude.{ℕ, suc, zero, true, false, ◌==◌, ◌&&◌, ◌||◌, ◌+◌, ◌*◌, ◌-◌, List, [], ◌∷◌, drop, Option, Some, None, option_map}
 use Rattle.cmm_lexer.specs.declared.character.Character.{Character}
 use Rattle.cmm_lexer.specs.Bytes.{is_hex_digit, digit_value, begins}
 
 -- the byte that a letter after a backslash stands for: n, t, r, 0, the backslash and the quotes
 abbrev pub escaped : ℕ → Option ℕ
 escaped b =
-    elim (b == 110) [ true ↦ Some 10 | false ↦
-    elim (b == 116) [ true ↦ Some 9 | false ↦
-    elim (b == 114) [ true ↦ Some 13 | false ↦
-    elim (b == 48) [ true ↦ Some 0 | false ↦
-    elim (b == 92 || b == 34 || b == 39) [ true ↦ Some b | false ↦ None ] ] ] ] ]
+    elim (b == 110) [
+      | true ↦ Some 10
+      | false ↦
+          elim (b == 116) [
+            | true ↦ Some 9
+            | false ↦
+                elim (b == 114) [
+                  | true ↦ Some 13
+                  | false ↦
+                      elim (b == 48) [
+                        | true ↦ Some 0
+                        | false ↦
+                            elim (b == 92 || b == 34 || b == 39) [ true ↦ Some b | false ↦ None ]
+                      ]
+                ]
+          ]
+    ]
 
 -- the byte that two hexadecimal digits after `\x` write
 abbrev pub hex_pair : List ℕ → Option ℕ
@@ -22,8 +34,8 @@ hex_pair (h ∷ l ∷ bs) = elim (is_hex_digit h && is_hex_digit l) [ true ↦ S
 abbrev pub escape_at : List ℕ → Option Character
 escape_at [] = None
 escape_at (b ∷ bs) = elim (b == 120) [
-    true ↦ option_map (λ v. record { value = v; len = 4 }) (hex_pair bs) |
-    false ↦ option_map (λ v. record { value = v; len = 2 }) (escaped b)
+  | true ↦ option_map (λ v. record { value = v; len = 4 }) (hex_pair bs)
+  | false ↦ option_map (λ v. record { value = v; len = 2 }) (escaped b)
 ]
 
 -- the character at the front of a text, where it has one, inside these quotes
@@ -44,8 +56,8 @@ abbrev pub quoted : ℕ → List ℕ → Option Quoted
 quoted owned [] = None
 quoted (suc owned) (b ∷ bs) = quoted owned bs
 quoted zero (b ∷ bs) = elim (b == 34) [
-    true ↦ Some (record { values = []; rest = bs }) |
-    false ↦ elim (character_at 34 (b ∷ bs)) [ None ↦ None | Some c ↦ with_value c.value (quoted (c.len - 1) bs) ]
+  | true ↦ Some (record { values = []; rest = bs })
+  | false ↦ elim (character_at 34 (b ∷ bs)) [ None ↦ None | Some c ↦ with_value c.value (quoted (c.len - 1) bs) ]
 ]
 
 -- the text after the next `*/`

@@ -1,11 +1,10 @@
 -- The tokens of a unit, with their places and spellings, and its first fault (C-- Language Specification 2.0, lexical form).
-use Rattle.std.specs.Prelude.{◌≡◌, ◌≢◌, ℕ, Bool, true, ◌+◌, ◌<◌, nat_lt, if◌then◌else◌, List, [], ◌∷◌, length, map, slice_get, slice_index_or, Option, Some, None, MatchOption}
+use Rattle.std.specs.Prelude.{◌≡◌, ◌≢◌, ℕ, Bool, true, ◌+◌, nat_lt, if◌then◌else◌, List, [], ◌∷◌, length, map, slice_get, slice_index_or, Option, Some, None}
 use Rattle.std.specs.List.{AllPairs, flat_map, list_all}
 use Rattle.cmm_lexer.specs.declared.piece.Lexeme.{Lexeme}
 use Rattle.cmm_lexer.specs.declared.piece.Lexeme.TheVariants as lexeme
 use Rattle.cmm_lexer.specs.declared.piece.Part.{Part}
 use Rattle.cmm_lexer.specs.declared.piece.Part.TheVariants.{Skipped, Lexed, Broken}
-use Rattle.cmm_lexer.specs.declared.piece.Piece.{Piece}
 use Rattle.cmm_lexer.specs.declared.piece.Rule.{Rule}
 use Rattle.cmm_lexer.specs.declared.piece.Rule.TheVariants.{BadByte, OpenComment, OpenText, BadNumber, TooLong}
 use Rattle.cmm_lexer.specs.declared.token.Token.{Token}

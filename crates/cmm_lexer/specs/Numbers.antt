@@ -1,14 +1,14 @@
 -- What the digits of a number write.
-use Rattle.std.specs.Prelude.{ℕ, Bool, true, false, ◌==◌, ◌&&◌, ◌||◌, ◌+◌, ◌*◌, ◌^◌, not, nat_lt, List, [], ◌∷◌, drop, take, length, if◌then◌else◌}
-use Rattle.std.specs.List.{list_all, prefix_len}
+use Rattle.std.specs.Prelude.{ℕ, Bool, true, false, ◌==◌, ◌&&◌, ◌||◌, ◌+◌, ◌*◌, ◌^◌, nat_lt, List, [], ◌∷◌, drop, length, if◌then◌else◌}
+use Rattle.std.specs.List.{list_all}
 use Rattle.cmm_lexer.specs.declared.number.Radix.{Radix}
-use Rattle.cmm_lexer.specs.Bytes.{is_digit, is_hex_digit, digit_value, begins, begins_word}
+use Rattle.cmm_lexer.specs.Bytes.{is_digit, is_hex_digit, digit_value, begins}
 
 -- `0x` or `0X` goes before hexadecimal digits, and other digits are octal after a leading 0
 abbrev pub radix_of : List ℕ → Radix
 radix_of text = elim (begins (λ b. b == 48) text) [
-    true ↦ elim (begins (λ b. b == 120 || b == 88) (drop 1 text)) [ true ↦ record { prefix = 2; base = 16 } | false ↦ record { prefix = 0; base = 8 } ] |
-    false ↦ record { prefix = 0; base = 10 }
+  | true ↦ elim (begins (λ b. b == 120 || b == 88) (drop 1 text)) [ true ↦ record { prefix = 2; base = 16 } | false ↦ record { prefix = 0; base = 8 } ]
+  | false ↦ record { prefix = 0; base = 10 }
 ]
 
 -- the digits that may be misplaced at a base: 8 and 9 at 8, none at others

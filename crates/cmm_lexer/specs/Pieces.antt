@@ -1,9 +1,8 @@
 -- The pieces that a text splits into: separators, comments, skipped lines and tokens, each the longest at its place.
-use Rattle.std.specs.Prelude.{ℕ, suc, zero, Bool, true, false, ◌==◌, ◌&&◌, ◌||◌, ◌+◌, ◌-◌, not, nat_lt, List, [], ◌∷◌, drop, take, length, Option, Some, None}
+use Rattle.std.specs.Prelude.{ℕ, suc, zero, Bool, true, false, ◌==◌, ◌&&◌, ◌+◌, ◌-◌, not, nat_lt, List, [], ◌∷◌, drop, take, length, Some, None}
 use Rattle.std.specs.List.{prefix_len}
 use Rattle.cmm_lexer.specs.declared.piece.Lexeme.{Lexeme}
 use Rattle.cmm_lexer.specs.declared.piece.Lexeme.TheVariants.{Name, Int, Char, Text, Op, Checked, Word, Symbol}
-use Rattle.cmm_lexer.specs.declared.piece.Part.{Part}
 use Rattle.cmm_lexer.specs.declared.piece.Part.TheVariants.{Skipped, Lexed, Broken}
 use Rattle.cmm_lexer.specs.declared.piece.Piece.{Piece}
 use Rattle.cmm_lexer.specs.declared.piece.Rule.{Rule}
@@ -34,8 +33,8 @@ comment_piece text = elim (after_comment (drop 2 text)) [ None ↦ broken OpenCo
 
 unfoldable pub name_piece : List ℕ → Piece
 name_piece text = elim (number_of reserved (take (name_len text) text)) [
-    Some n ↦ lexed (name_len text) (Word n) |
-    None ↦ lexed (name_len text) (Name (take (name_len text) text))
+  | Some n ↦ lexed (name_len text) (Word n)
+  | None ↦ lexed (name_len text) (Name (take (name_len text) text))
 ]
 
 unfoldable pub number_piece : List ℕ → Piece
@@ -44,15 +43,15 @@ number_piece text =
     let rest = drop radix.prefix text in
     let len = prefix_len (is_digit_at radix.base) rest in
     elim (is_number radix.base (take len rest) && not (begins begins_word (drop len rest))) [
-        true ↦ lexed (radix.prefix + len) (Int (digits_after radix.base 0 (take len rest))) |
-        false ↦ broken BadNumber
+      | true ↦ lexed (radix.prefix + len) (Int (digits_after radix.base 0 (take len rest)))
+      | false ↦ broken BadNumber
     ]
 
 -- one character between single quotes
 unfoldable pub character_piece : List ℕ → Piece
 character_piece text = elim (character_at 39 (drop 1 text)) [
-    None ↦ broken OpenText |
-    Some c ↦ elim (begins (λ b. b == 39) (drop (1 + c.len) text)) [ true ↦ lexed (c.len + 2) (Char c.value) | false ↦ broken OpenText ]
+  | None ↦ broken OpenText
+  | Some c ↦ elim (begins (λ b. b == 39) (drop (1 + c.len) text)) [ true ↦ lexed (c.len + 2) (Char c.value) | false ↦ broken OpenText ]
 ]
 
 unfoldable pub text_piece : List ℕ → Piece
@@ -60,33 +59,60 @@ text_piece text = elim (quoted 0 (drop 1 text)) [ None ↦ broken OpenText | Som
 
 unfoldable pub symbol_piece : List ℕ → Piece
 symbol_piece text = elim (number_of symbols (take 2 text)) [
-    Some n ↦ lexed (length (take 2 text)) (Symbol n) |
-    None ↦ elim (number_of symbols (take 1 text)) [ Some n ↦ lexed 1 (Symbol n) | None ↦ broken BadByte ]
+  | Some n ↦ lexed (length (take 2 text)) (Symbol n)
+  | None ↦ elim (number_of symbols (take 1 text)) [ Some n ↦ lexed 1 (Symbol n) | None ↦ broken BadByte ]
 ]
 
 -- the name of an operator after one or two percent signs, or the symbol `%`
 unfoldable pub percent_piece : List ℕ → Piece
 percent_piece text = elim (begins begins_operator (drop 1 text)) [
-    true ↦ let name = take (prefix_len is_operator_byte (drop 1 text)) (drop 1 text) in lexed (1 + length name) (Op name) |
-    false ↦ elim (begins (λ b. b == 37) (drop 1 text) && begins begins_operator (drop 2 text)) [
-        true ↦ let name = take (prefix_len is_operator_byte (drop 2 text)) (drop 2 text) in lexed (2 + length name) (Checked name) |
-        false ↦ symbol_piece text
-    ]
+  | true ↦ let name = take (prefix_len is_operator_byte (drop 1 text)) (drop 1 text) in lexed (1 + length name) (Op name)
+  | false ↦ elim (begins (λ b. b == 37) (drop 1 text) && begins begins_operator (drop 2 text)) [
+    | true ↦ let name = take (prefix_len is_operator_byte (drop 2 text)) (drop 2 text) in lexed (2 + length name) (Checked name)
+    | false ↦ symbol_piece text
+  ]
 ]
 
 -- the piece at the front of a text, at the start of a line or elsewhere
 unfoldable pub piece_at : Bool → List ℕ → Piece
 piece_at first text =
-    elim (begins is_separator text) [ true ↦ skipped 1 | false ↦
-    elim (first && begins (λ b. b == 35) text) [ true ↦ skipped (line_len text) | false ↦
-    elim (begins (λ b. b == 47) text && begins (λ b. b == 47) (drop 1 text)) [ true ↦ skipped (line_len text) | false ↦
-    elim (begins (λ b. b == 47) text && begins (λ b. b == 42) (drop 1 text)) [ true ↦ comment_piece text | false ↦
-    elim (begins is_digit text) [ true ↦ number_piece text | false ↦
-    elim (nat_lt 0 (name_len text)) [ true ↦ name_piece text | false ↦
-    elim (begins (λ b. b == 39) text) [ true ↦ character_piece text | false ↦
-    elim (begins (λ b. b == 34) text) [ true ↦ text_piece text | false ↦
-    elim (begins (λ b. b == 37) text) [ true ↦ percent_piece text | false ↦
-    symbol_piece text ] ] ] ] ] ] ] ] ]
+    elim (begins is_separator text) [
+      | true ↦ skipped 1
+      | false ↦
+          elim (first && begins (λ b. b == 35) text) [
+            | true ↦ skipped (line_len text)
+            | false ↦
+                elim (begins (λ b. b == 47) text && begins (λ b. b == 47) (drop 1 text)) [
+                  | true ↦ skipped (line_len text)
+                  | false ↦
+                      elim (begins (λ b. b == 47) text && begins (λ b. b == 42) (drop 1 text)) [
+                        | true ↦ comment_piece text
+                        | false ↦
+                            elim (begins is_digit text) [
+                              | true ↦ number_piece text
+                              | false ↦
+                                  elim (nat_lt 0 (name_len text)) [
+                                    | true ↦ name_piece text
+                                    | false ↦
+                                        elim (begins (λ b. b == 39) text) [
+                                          | true ↦ character_piece text
+                                          | false ↦
+                                              elim (begins (λ b. b == 34) text) [
+                                                | true ↦ text_piece text
+                                                | false ↦
+                                                    elim (begins (λ b. b == 37) text) [
+                                                      | true ↦ percent_piece text
+                                                      | false ↦
+                                                          symbol_piece text
+                                                    ]
+                                              ]
+                                        ]
+                                  ]
+                            ]
+                      ]
+                ]
+          ]
+    ]
 
 -- a piece, and where it starts in its unit
 pub record Placed : Type 0 where

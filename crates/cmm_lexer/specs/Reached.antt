@@ -1,5 +1,5 @@
 -- How far the tokens of a unit are read.
-use Rattle.std.specs.Prelude.{◌≡◌, ℕ, true, ◌+◌, ◌≤◌, List, ◌++◌, length, map, drop, nat_eq}
+use Rattle.std.specs.Prelude.{◌≡◌, ℕ, true, ◌≤◌, List, ◌++◌, length, map, drop, nat_eq}
 use Rattle.std.specs.List.{flat_map, IsDistinct}
 use Rattle.std.specs.Cmp.Lexicographic.{pointwise}
 use Rattle.cmm_lexer.specs.declared.tokens.Tokens.{Tokens}

@@ -23,7 +23,10 @@ pub fn character_at(quote: u8, text: &[u8]) -> Option<Character>
     } else if *byte == b'\\' {
         escape(after)
     } else {
-        Some(Character { value: *byte, len: 1 })
+        Some(Character {
+            value: *byte,
+            len: 1,
+        })
     }
 }
 

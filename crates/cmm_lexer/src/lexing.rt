@@ -4,10 +4,9 @@ ghost use Rattle.std.specs.Prelude.{◌≤◌, ◌<◌, length, IfOk, IfErr};
 ghost use Rattle.cmm_lexer.specs.Lexing.{Lexes, IsFirstFault};
 ghost use Rattle.cmm_lexer.specs.Reached.{Reached};
 
-use std::alloc::Global;
-
 use crate::piece::{Rule, piece_at};
 use crate::tokens::{LexFault, Tokens, UNIT_LIMIT};
+use std::alloc::Global;
 
 /// The tokens of a unit. A fault is the first in the text, but a unit of more than `UNIT_LIMIT` bytes is refused for its length.
 pub fn lex(alloc: Global, unit: &[u8]) -> Result<Tokens, LexFault>

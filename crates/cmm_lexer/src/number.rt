@@ -22,9 +22,15 @@ pub fn radix_of(text: &[u8]) -> Radix
     ensures base { 0 < result.base }
 {
     match text {
-        [b'0', b'x' | b'X', ..] => Radix { prefix: 2, base: 16 },
+        [b'0', b'x' | b'X', ..] => Radix {
+            prefix: 2,
+            base: 16,
+        },
         [b'0', ..] => Radix { prefix: 0, base: 8 },
-        _ => Radix { prefix: 0, base: 10 },
+        _ => Radix {
+            prefix: 0,
+            base: 10,
+        },
     }
 }
 

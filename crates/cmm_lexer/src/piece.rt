@@ -5,10 +5,6 @@ ghost use Rattle.std.specs.List.{prefix_len};
 ghost use Rattle.cmm_lexer.specs.Spellings.{name_len as name_len_of};
 ghost use Rattle.cmm_lexer.specs.Pieces.{skipped, lexed, broken, line_len as line_len_of, comment_piece as comment_piece_of, name_piece as name_piece_of, number_piece as number_piece_of, character_piece as character_piece_of, text_piece as text_piece_of, symbol_piece as symbol_piece_of, percent_piece as percent_piece_of, piece_at as piece_in};
 
-use std::alloc::{AllocError, Global};
-
-use cmm_items::Items;
-
 use crate::bytes::{is_digit, is_separator};
 use crate::character::character_at;
 use crate::number::{digits_len, number_of, radix_of};
@@ -16,6 +12,8 @@ use crate::spelling::{
     begins_with, begins_with_operator, begins_with_word, name_len, operator_len, reserved_number,
     symbol_number,
 };
+use cmm_items::Items;
+use std::alloc::{AllocError, Global};
 
 /// What a token is, with its spelling or its value.
 #[derive(Debug, Drop)]

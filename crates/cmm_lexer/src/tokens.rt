@@ -8,14 +8,12 @@ ghost use Rattle.cmm_lexer.specs.Places.{ends_line, column_past};
 ghost use Rattle.cmm_lexer.specs.Lexing.{spelled, lexeme_of, is_numbered, are_numbered, token_in, fault_in, rule_number};
 ghost use Rattle.cmm_lexer.specs.Blame.{Blames};
 
-use std::alloc::{AllocError, Global};
-
-use cmm_items::Items;
-use indexmap::IndexSet;
-use thiserror::Error;
-
 use crate::piece::{Lexeme, Part, Piece, Rule};
 use crate::token::{Token, TokenKind};
+use cmm_items::Items;
+use indexmap::IndexSet;
+use std::alloc::{AllocError, Global};
+use thiserror::Error;
 
 /// The longest unit, in bytes.
 pub const UNIT_LIMIT: usize = 1_048_576;
@@ -53,7 +51,7 @@ pub struct Tokens {
 
 impl Tokens {
     /// No tokens, at the start of a unit.
-    pub fn new(alloc: Global) -> Tokens
+    pub(crate) fn new(alloc: Global) -> Tokens
         ensures list { result.list ≡ [] }
         ensures spellings { result.spellings.keys ≡ [] }
         ensures distinct { IsUnique (pointwise nat_eq) result.spellings }
@@ -138,7 +136,7 @@ impl Tokens {
     }
 
     /// Adds the token that a piece is, or says which rule it breaks at the place reached.
-    pub fn take(&mut self, part: Part, start: u32, end: u32) -> Result<(), LexFault>
+    pub(crate) fn take(&mut self, part: Part, start: u32, end: u32) -> Result<(), LexFault>
         requires few { length self.old.spellings.keys < 2 ^ 20 }
         requires distinct { IsUnique (pointwise nat_eq) self.old.spellings }
         requires numbered { are_numbered (length self.old.spellings.keys) self.old.list ≡ true }
@@ -158,7 +156,7 @@ impl Tokens {
     }
 
     /// The fault of a rule that is broken at the place reached.
-    pub fn fault(&self, rule: Rule) -> LexFault
+    pub(crate) fn fault(&self, rule: Rule) -> LexFault
         ensures { result ≡ LexFault.At (rule_number rule) self.now.line self.now.column }
     {
         LexFault::At {
@@ -169,7 +167,7 @@ impl Tokens {
     }
 
     /// Passes these bytes: the place reached is then the one after them.
-    pub fn pass(&mut self, bytes: &[u8])
+    pub(crate) fn pass(&mut self, bytes: &[u8])
         requires line { self.old.line + length bytes.now < 2 ^ 32 }
         requires column { self.old.column + length bytes.now < 2 ^ 32 }
         ensures line { self.new.line ≡ self.old.line + count_by ends_line bytes.now }

@@ -1,9 +1,7 @@
-use Rattle.std.proofs.Common.{◌≡◌, ◌∷◌, ◌++◌, ◌+◌, ◌==◌, drop, map, arith, ap, sym, ◌∙◌, refl}
-use Rattle.cmm_lexer.specs.declared.piece.Piece.{Piece}
-use Rattle.cmm_lexer.specs.Places.{line_at, column_at}
+use Rattle.std.proofs.Common.{◌≡◌, ◌==◌, drop, arith}
+use Rattle.cmm_lexer.specs.Places.{column_at}
 use Rattle.cmm_lexer.specs.Pieces.{piece_at}
-use Rattle.cmm_lexer.specs.Lexing.{spelled, token_of, tokens_of, fault_of, faults_of, IsFirstFault}
-use Rattle.cmm_lexer.specs.Reached.{pieces_at}
+use Rattle.cmm_lexer.specs.Lexing.{token_of, fault_of, IsFirstFault}
 use Rattle.cmm_lexer.proofs.Placing.{line_at-add, column_at-add, column_at-le}
 use Rattle.cmm_lexer.proofs.Splitting.{pieces_at-step, given-step, nothing-step}
 use Rattle.cmm_lexer.proofs.Finishing.{blamed, err-passed}
@@ -31,5 +29,5 @@ returns-clause-reached c =
       distinct = rw c.pass.ensures.spellings c.in_ok-take.ensures.distinct;
       few = rw c.pass.ensures.spellings (omega (arith, c.in_ok-take.ensures.few, c.requires.reached.few, c.in_ok-piece.ensures.within));
       line = rw (line_at-add, ← c.split_at.ensures.back, ← c.split_at-2.ensures.front, ← c.requires.reached.line, ← c.in_ok-take.ensures.place.0) c.pass.ensures.line;
-      column = rw (column_at-add, ← c.split_at.ensures.back, ← c.split_at-2.ensures.front, ← c.requires.reached.column, ← c.in_ok-take.ensures.place.1) c.pass.ensures.column
+      column = rw (column_at-add, ← c.split_at.ensures.back, ← c.split_at-2.ensures.front, ← c.requires.reached.column, ← c.in_ok-take.ensures.place.1) c.pass.ensures.column;
     }

@@ -1,4 +1,4 @@
-use Rattle.std.proofs.Common.{◌≡◌, ◌≤◌, ◌+◌, ◌++◌, drop, length}
+use Rattle.std.proofs.Common.{◌≡◌, ◌≤◌, ◌+◌, drop, length}
 use Rattle.cmm_lexer.specs.Characters.{quoted}
 use Rattle.cmm_lexer.proofs.Quoting.{after_values}
 use Rattle.cmm_lexer.proofs.piece.text_piece.Given as goal

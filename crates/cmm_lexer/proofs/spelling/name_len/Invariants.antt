@@ -1,4 +1,4 @@
-use Rattle.std.proofs.Common.{◌≡◌, ◌≤◌, ◌+◌, ◌-◌, ℕ, length}
+use Rattle.std.proofs.Common.{◌≡◌, ◌≤◌, ◌+◌, length}
 use Rattle.cmm_lexer.specs.Spellings.{name_len}
 use Rattle.cmm_lexer.proofs.spelling.name_len.Given as goal
 

@@ -1,4 +1,4 @@
-use Rattle.std.proofs.Common.{◌≡◌, ◌≤◌, ◌<◌, ℕ, Bool, true, false, get_or, nat_eq, List, [], length, arith, sym, ap, ◌∙◌}
+use Rattle.std.proofs.Common.{nat_eq, [], arith, sym, ◌∙◌}
 use Rattle.std.specs.Cmp.Lexicographic.{pointwise}
 use Rattle.cmm_lexer.proofs.Positions.{position-found, position-none}
 use Rattle.cmm_lexer.proofs.spelling.number_of.Goals as goal

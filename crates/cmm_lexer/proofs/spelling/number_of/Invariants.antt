@@ -1,4 +1,4 @@
-use Rattle.std.proofs.Common.{◌≡◌, ◌≤◌, ◌<◌, ℕ, Bool, false, get_or, nat_eq, List, [], length}
+use Rattle.std.proofs.Common.{◌≡◌, ◌<◌, ℕ, false, get_or, nat_eq, []}
 use Rattle.std.specs.Cmp.Lexicographic.{pointwise}
 use Rattle.cmm_lexer.proofs.spelling.number_of.Given as goal
 
