@@ -1,0 +1,27 @@
+//! The tokens of a unit of C-- (C-- Language Specification 2.0, lexical form).
+//!
+//! A unit splits into pieces, each the longest at its place: separators, comments, skipped lines and tokens. `specs/Pieces` says by
+//! cases on the bytes which piece stands at a place, and `specs/Lexing` which tokens the pieces make and which fault comes first.
+//! `lex` answers the tokens exactly where no piece breaks a rule, with their kinds, places and spellings, and else the first fault
+//! of the text. Two tokens have one number exactly where their bytes are equal. The time is linear in the unit's length.
+//!
+//! - `token`, `tokens`: a token, and the tokens of a unit with the spellings that they have numbers of.
+//! - `lexing`: `lex`, one loop over the pieces.
+//! - `piece`: the piece at the front of a text.
+//! - `character`, `number`, `spelling`, `bytes`: what characters, numbers, names and symbols are made of.
+#![tactic(auto)]
+
+mod bytes;
+mod character;
+mod lexing;
+mod number;
+mod piece;
+mod spelling;
+#[cfg(test)]
+mod tests;
+mod token;
+mod tokens;
+
+pub use lexing::lex;
+pub use token::{Token, TokenKind};
+pub use tokens::{LexFault, Tokens, UNIT_LIMIT};

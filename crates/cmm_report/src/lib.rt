@@ -1,0 +1,90 @@
+//! The parts of a line of the log: numbers, addresses and kinds.
+//!
+//! Each call writes its text to a sink whole, or answers that a write failed. Then the sink has taken a front of the text, and its
+//! count of faults rose: no call fails of itself. `specs/Texts` says what the texts are.
+#![tactic(auto)]
+
+ghost use Rattle.std.specs.Prelude.{◌≡◌, false, decimal, OnOk, OnErr};
+ghost use Rattle.cmm_outside.specs.Faults.{Rose};
+ghost use Rattle.cmm_outside.specs.Output.{Appends, AppendsFront};
+ghost use Rattle.cmm_report.specs.Texts.{address_text, is_plain as is_plain_byte, kind_byte, kind_text};
+
+use cmm_outside::{Failed, Sink, write_all};
+use itoa::Buffer;
+
+#[cfg(test)]
+mod tests;
+
+/// Writes a number in decimal, without leading zeros.
+pub fn put_number<E: Sink>(to: &mut E, n: u64) -> Result<(), Failed>
+    ensures ok { OnOk result (Appends (E.taken to.old) (E.taken to.new) (decimal n)) }
+    ensures err { OnErr result (AppendsFront (E.taken to.old) (E.taken to.new) (decimal n)) }
+    ensures no_fault { OnOk result (E.faults to.new ≡ E.faults to.old) }
+    ensures fault { OnErr result (Rose (E.faults to.old) (E.faults to.new)) }
+{
+    let mut buffer = Buffer::new();
+    write_all(to, buffer.format(n).as_bytes())
+}
+
+/// Writes an address: 16 lower-case hexadecimal digits, without prefix.
+pub fn put_address<E: Sink>(to: &mut E, n: u64) -> Result<(), Failed>
+    ensures ok { OnOk result (Appends (E.taken to.old) (E.taken to.new) (address_text n)) }
+    ensures err { OnErr result (AppendsFront (E.taken to.old) (E.taken to.new) (address_text n)) }
+    ensures no_fault { OnOk result (E.faults to.new ≡ E.faults to.old) }
+    ensures fault { OnErr result (Rose (E.faults to.old) (E.faults to.new)) }
+{
+    write_all(to, &address_digits(n))
+}
+
+/// Writes the bytes of a kind as they stand between its quotes: bytes 32 to 126 but `"` and `\` as they are, any other as `\x` and
+/// two lower-case hexadecimal digits.
+pub fn put_kind<E: Sink>(to: &mut E, kind: &[u8]) -> Result<(), Failed>
+    ensures ok { OnOk result (Appends (E.taken to.old) (E.taken to.new) (kind_text kind.now)) }
+    ensures err { OnErr result (AppendsFront (E.taken to.old) (E.taken to.new) (kind_text kind.now)) }
+    ensures no_fault { OnOk result (E.faults to.new ≡ E.faults to.old) }
+    ensures fault { OnErr result (Rose (E.faults to.old) (E.faults to.new)) }
+{
+    for byte in kind {
+        put_kind_byte(to, *byte)?;
+    }
+    Ok(())
+}
+
+/// Writes a byte of a kind.
+fn put_kind_byte<E: Sink>(to: &mut E, byte: u8) -> Result<(), Failed>
+    ensures ok { OnOk result (Appends (E.taken to.old) (E.taken to.new) (kind_byte byte)) }
+    ensures err { OnErr result (AppendsFront (E.taken to.old) (E.taken to.new) (kind_byte byte)) }
+    ensures no_fault { OnOk result (E.faults to.new ≡ E.faults to.old) }
+    ensures fault { OnErr result (Rose (E.faults to.old) (E.faults to.new)) }
+{
+    if is_plain(byte) {
+        write_all(to, &[byte])
+    } else {
+        write_all(to, &escape(byte))
+    }
+}
+
+fn is_plain(byte: u8) -> bool
+    ensures { result ≡ is_plain_byte byte }
+{
+    matches!(byte, b' '..=b'~') && byte != b'"' && byte != b'\\'
+}
+
+/// A byte that is not plain, as `\x` and two digits.
+fn escape(byte: u8) -> [u8; 4]
+    requires { is_plain_byte byte ≡ false }
+    ensures { result ≡ kind_byte byte }
+{
+    let mut digits = [b'0'; 2];
+    let _ = hex::encode_to_slice([byte], &mut digits);
+    [b'\\', b'x', digits[0], digits[1]]
+}
+
+/// The 16 digits of an address.
+fn address_digits(n: u64) -> [u8; 16]
+    ensures { result ≡ address_text n }
+{
+    let mut digits = [b'0'; 16];
+    let _ = hex::encode_to_slice(n.to_be_bytes(), &mut digits);
+    digits
+}
