@@ -30,14 +30,14 @@ one_value unit e f d g =
 line_caused : (words : List (List ℕ)) (name : List ℕ) (contents : Option Contents) (a b : ℕ) (last : Option FailedCall) (ending : Ending) → file_in words ≡ Some name →
     IsCaused name contents a b last ending → IsLine words contents a b last (line_of name ending)
 line_caused words name contents a b last Usage asked cause = absurd cause
-line_caused words name contents a b last Refused asked cause = inr (inl (record { name = name; asked = asked; file = cause; writes = refl }))
+line_caused words name contents a b last (Refused fault) asked cause = inr (inl (record { name = name; fault = fault; asked = asked; file = cause; writes = refl }))
 line_caused words name contents a b last (Result v) asked cause = inr (inr (inl (record { name = name; result = v; asked = asked; file = cause; writes = refl })))
 line_caused words name contents a b last FileFault asked cause = inr (inr (inr (inl (record { name = name; asked = asked; rose = cause.0; failed = cause.1; writes = refl }))))
 line_caused words name contents a b last OutOfMemory asked cause = inr (inr (inr (inr refl)))
 
 not_output_fault : (ending : Ending) → status_of ending ≡ status.OutputFault → ⊥
 not_output_fault Usage h = cc
-not_output_fault Refused h = cc
+not_output_fault (Refused fault) h = cc
 not_output_fault (Result v) h = cc
 not_output_fault FileFault h = cc
 not_output_fault OutOfMemory h = cc
@@ -53,7 +53,7 @@ sum_by : (files : Contents) (name unit : List ℕ) (e : Expression) (a b : ℕ) 
     files name ≡ Some unit → Derives unit e → (Rose a b → ⊥) → IsCaused name (Some files) a b last ending → answer ≡ status_of ending → Appends before after (line_of name ending) →
     ((answer ≡ status.Done) × Appends before after (result_line (value e))) ⊎ (answer ≡ status.Memory)
 sum_by files name unit e a b last Usage before after answer told d sure cause is written = absurd cause
-sum_by files name unit e a b last Refused before after answer told d sure (file, there, none) is written =
+sum_by files name unit e a b last (Refused fault) before after answer told d sure (file, there, (none, broken)) is written =
     absurd (none e (subst (λ (u : List ℕ). Derives u e) (same_Some unit file (sym told ∙ there)) d))
 sum_by files name unit e a b last (Result v) before after answer told d sure (file, there, (f, derives, v_is)) is written =
     let same : v ≡ value e = v_is ∙ one_value unit f e (subst (λ (u : List ℕ). Derives u f) (same_Some file unit (sym there ∙ told)) derives) d in

@@ -6,7 +6,8 @@ use Rattle.cmm_top.specs.declared.token.Token.{Token}
 use Rattle.cmm_top.specs.declared.token.Token.TheVariants.{Close, CloseBrace, Semicolon}
 use Rattle.cmm_top.specs.declared.term.Sign.TheVariants.{Plus}
 use Rattle.cmm_top.specs.declared.term.Term.{Term}
-use Rattle.cmm_top.specs.declared.first.TheConstants.{UNIT_LIMIT, SIGN_LIMIT}
+use Rattle.cmm_lexer.specs.declared.tokens.TheConstants.{UNIT_LIMIT}
+use Rattle.cmm_top.specs.declared.first.TheConstants.{SIGN_LIMIT}
 use Rattle.cmm_top.specs.Expression.{Operand, Expression, Literal, Bracketed, Alone, Joined, operand_tokens, tokens, sign_token, operand_signs, signs}
 use Rattle.cmm_top.specs.Form.{Derives, main_tokens, unit_tokens}
 use Rattle.cmm_top.specs.Reading.{scan}

@@ -1,9 +1,12 @@
 -- Why a call writes what it does: for each line that may go to the log, what must have happened.
 use Rattle.std.specs.Prelude.{◌≡◌, ℕ, ◌⊎◌, List, Option, Some, None}
+use Rattle.cmm_lexer.specs.declared.tokens.LexFault.TheVariants.{At}
+use Rattle.cmm_lexer.specs.Lexing.{first_fault, IsFirstFault}
 use Rattle.cmm_outside.specs.declared.storage.CallKind.TheVariants.{Read}
 use Rattle.cmm_outside.specs.Faults.{Rose}
 use Rattle.cmm_outside.specs.Output.{Appends, AppendsFront}
 use Rattle.cmm_outside.specs.Storage.{Contents, FailedCall, HasFile}
+use Rattle.cmm_top.specs.declared.ending.Fault.{Fault}
 use Rattle.cmm_top.specs.Command.{file_in}
 use Rattle.cmm_top.specs.Expression.{Expression, value}
 use Rattle.cmm_top.specs.Form.{Derives}
@@ -16,16 +19,23 @@ HasValue result unit = (e : Expression) × Derives unit e × (result ≡ value e
 abbrev pub IsNotBuilt : List ℕ → Type 0
 IsNotBuilt unit = (e : Expression) → Derives unit e → ⊥
 
+-- why a unit is refused: for the first rule of the lexical form that it breaks, or else because it is not of the first form
+abbrev pub IsFault : Fault → List ℕ → Type 0
+IsFault fault unit =
+    IsFirstFault unit (At fault.rule fault.line fault.column)
+    ⊎ ((fault ≡ record { rule = 90; line = 1; column = 1 }) × (first_fault unit ≡ None) × IsNotBuilt unit)
+
 -- the words ask for no file to be run
 abbrev pub IsUsage : List (List ℕ) → List ℕ → Type 0
 IsUsage words line = (file_in words ≡ None) × (line ≡ usage_line)
 
--- the file is no unit of the first form
+-- the file is no unit of the first form, and the line says which rule it breaks, and where
 pub record IsRefused (words : List (List ℕ)) (contents : Option Contents) (line : List ℕ) : Type 0 where
   pub name : List ℕ
+  pub fault : Fault
   pub asked : file_in words ≡ Some name
-  pub file : HasFile contents name IsNotBuilt
-  pub writes : line ≡ refused_line name
+  pub file : HasFile contents name (λ unit. IsNotBuilt unit × IsFault fault unit)
+  pub writes : line ≡ refused_line name fault
 
 -- the file is a unit of the first form, and the result is the value of its expression
 pub record IsDone (words : List (List ℕ)) (contents : Option Contents) (line : List ℕ) : Type 0 where

@@ -2,7 +2,8 @@
 use Rattle.std.specs.Prelude.{◌≡◌, ℕ, ◌+◌, ◌≤◌, List, [], ◌∷◌, ◌++◌, length}
 use Rattle.cmm_top.specs.declared.token.Token.{Token}
 use Rattle.cmm_top.specs.declared.token.Token.TheVariants.{Export, Main, Return, Open, Close, OpenBrace, CloseBrace, Semicolon}
-use Rattle.cmm_top.specs.declared.first.TheConstants.{UNIT_LIMIT, SIGN_LIMIT, BRACKET_LIMIT}
+use Rattle.cmm_lexer.specs.declared.tokens.TheConstants.{UNIT_LIMIT}
+use Rattle.cmm_top.specs.declared.first.TheConstants.{SIGN_LIMIT, BRACKET_LIMIT}
 use Rattle.cmm_top.specs.Tokens.{tokens_of}
 use Rattle.cmm_top.specs.Expression.{Expression, tokens, signs, depth}
 

@@ -9,6 +9,7 @@ pub mod Running
 pub mod Form
 pub mod Command
 pub mod Lines
+pub mod Parts
 pub mod Status
 pub mod Causes
 pub mod Ending

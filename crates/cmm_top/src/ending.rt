@@ -5,20 +5,46 @@ ghost use Rattle.std.specs.List.{flat_map};
 ghost use Rattle.cmm_outside.specs.Faults.{Rose};
 ghost use Rattle.cmm_outside.specs.Output.{Appends, AppendsFront};
 ghost use Rattle.cmm_outside.specs.declared.storage.TheConstants.{NAME_LIMIT};
-ghost use Rattle.cmm_top.specs.Ending.{IsCaused, Closes, line_of, status_of as status_of_ending};
+ghost use Rattle.cmm_top.specs.Causes.{IsNotBuilt};
+ghost use Rattle.cmm_top.specs.Ending.{IsCaused, IsRefusal, Closes, line_of, status_of as status_of_ending};
+ghost use Rattle.cmm_top.specs.Lines.{refused_line, rule_text as rule_text_of};
+ghost use Rattle.cmm_top.specs.Parts.{part_text};
 
-use crate::first::{FirstFault, UNIT_LIMIT, compile_first};
+use crate::first::{FirstFault, compile_first};
 use crate::run::run;
 use crate::status::Status;
+use cmm_lexer::{LexFault, UNIT_LIMIT, lex};
 use cmm_outside::{Failed, FileError, Files, Sink, read_file, write_all};
 use itoa::Buffer;
 use std::alloc::Global;
+
+/// A rule that a unit breaks, and where: its line and its column, in bytes, from 1.
+#[derive(Clone, Copy, Debug, PartialEq, Eq)]
+pub struct Fault {
+    pub rule: u8,
+    pub line: u32,
+    pub column: u32,
+}
+
+/// The fault of a unit that is longer than any may be.
+const TOO_LONG: Fault = Fault {
+    rule: 5,
+    line: 1,
+    column: 1,
+};
+
+/// The fault of a unit that breaks no rule of the lexical form and still is not of the first form.
+const NOT_BUILT: Fault = Fault {
+    rule: 90,
+    line: 1,
+    column: 1,
+};
 
 /// What a call comes to, before its line is written.
 #[derive(Clone, Copy, Debug, PartialEq, Eq)]
 pub enum Ending {
     Usage,
-    Refused,
+    Refused(Fault),
     Result(u64),
     FileFault,
     OutOfMemory,
@@ -31,16 +57,28 @@ pub fn exec<F: Files>(alloc: Global, name: &str, files: &mut F) -> Ending
     ensures no_fault { (result ≡ Ending.FileFault) ⊎ (F.faults files.new ≡ F.faults files.old) }
     ensures same { F.contents files.new ≡ F.contents files.old }
 {
-    let unit = match read_file(alloc, files, name, UNIT_LIMIT) {
+    let unit = match read_file(alloc, files, name, UNIT_LIMIT as u64) {
         Ok(unit) => unit,
-        Err(FileError::TooLong) => return Ending::Refused,
+        Err(FileError::TooLong) => return Ending::Refused(TOO_LONG),
         Err(FileError::Failed) => return Ending::FileFault,
         Err(FileError::Memory) => return Ending::OutOfMemory,
     };
     match compile_first(alloc, &unit) {
         Ok(code) => Ending::Result(run(&code)),
-        Err(FirstFault::NotBuilt) => Ending::Refused,
+        Err(FirstFault::NotBuilt) => refused(alloc, &unit),
         Err(FirstFault::Memory) => Ending::OutOfMemory,
+    }
+}
+
+/// Refuses a unit that is not of the first form.
+fn refused(alloc: Global, unit: &[u8]) -> Ending
+    requires { IsNotBuilt unit.now }
+    ensures { IsRefusal unit.now result }
+{
+    match lex(alloc, unit) {
+        Ok(_) => Ending::Refused(NOT_BUILT),
+        Err(LexFault::At { rule, line, column }) => Ending::Refused(Fault { rule, line, column }),
+        Err(LexFault::Memory) => Ending::OutOfMemory,
     }
 }
 
@@ -59,7 +97,7 @@ fn status_of(ending: Ending) -> Status
 {
     match ending {
         Ending::Usage => Status::Usage,
-        Ending::Refused => Status::Refused,
+        Ending::Refused(_) => Status::Refused,
         Ending::Result(_) => Status::Done,
         Ending::FileFault => Status::FileFault,
         Ending::OutOfMemory => Status::Memory,
@@ -75,25 +113,97 @@ fn write_line<E: Sink>(ending: Ending, name: &str, log: &mut E) -> Result<(), Fa
 {
     match ending {
         Ending::Usage => write_all(log, b"usage\n"),
-        Ending::Refused => write_pieces(log, &[name.as_bytes(), b":1:1: 90 form not built\n"]),
-        Ending::Result(value) => {
-            let mut buffer = Buffer::new();
-            write_pieces(log, &[b"result ", buffer.format(value).as_bytes(), b"\n"])
-        }
-        Ending::FileFault => write_pieces(log, &[b"file fault ", name.as_bytes(), b"\n"]),
+        Ending::Refused(fault) => write_fault(fault, name, log),
+        Ending::Result(value) => write_parts(
+            log,
+            &[
+                Part::Text(b"result "),
+                Part::Number(value),
+                Part::Text(b"\n"),
+            ],
+        ),
+        Ending::FileFault => write_parts(
+            log,
+            &[
+                Part::Text(b"file fault "),
+                Part::Text(name.as_bytes()),
+                Part::Text(b"\n"),
+            ],
+        ),
         Ending::OutOfMemory => write_all(log, b"out of memory\n"),
     }
 }
 
-/// Writes the pieces, one after another.
-fn write_pieces<E: Sink>(log: &mut E, pieces: &[&[u8]]) -> Result<(), Failed>
-    ensures ok { OnOk result (Appends (E.taken log.old) (E.taken log.new) (flat_map (λ piece. piece.now) pieces.now)) }
-    ensures err { OnErr result (AppendsFront (E.taken log.old) (E.taken log.new) (flat_map (λ piece. piece.now) pieces.now)) }
+/// Writes the line of a refused unit.
+fn write_fault<E: Sink>(fault: Fault, name: &str, log: &mut E) -> Result<(), Failed>
+    ensures ok { OnOk result (Appends (E.taken log.old) (E.taken log.new) (refused_line name.now fault)) }
+    ensures err { OnErr result (AppendsFront (E.taken log.old) (E.taken log.new) (refused_line name.now fault)) }
     ensures no_fault { OnOk result (E.faults log.new ≡ E.faults log.old) }
     ensures fault { OnErr result (Rose (E.faults log.old) (E.faults log.new)) }
 {
-    for piece in pieces {
-        write_all(log, piece)?;
+    write_parts(
+        log,
+        &[
+            Part::Text(name.as_bytes()),
+            Part::Text(b":"),
+            Part::Number(u64::from(fault.line)),
+            Part::Text(b":"),
+            Part::Number(u64::from(fault.column)),
+            Part::Text(b": "),
+            Part::Number(u64::from(fault.rule)),
+            Part::Text(b" "),
+            Part::Text(rule_text(fault.rule).as_bytes()),
+            Part::Text(b"\n"),
+        ],
+    )
+}
+
+/// What a rule says, shortly.
+fn rule_text(rule: u8) -> &'static str
+    ensures { result.now ≡ rule_text_of rule }
+{
+    match rule {
+        1 => "bad byte",
+        2 => "open comment",
+        3 => "open text",
+        4 => "bad number",
+        5 => "unit too long",
+        90 => "form not built",
+        _ => "",
+    }
+}
+
+/// A part of a line.
+#[derive(Clone, Copy, Debug)]
+enum Part<'a> {
+    Text(&'a [u8]),
+    Number(u64),
+}
+
+/// Writes the parts, one after another.
+fn write_parts<E: Sink>(log: &mut E, parts: &[Part]) -> Result<(), Failed>
+    ensures ok { OnOk result (Appends (E.taken log.old) (E.taken log.new) (flat_map part_text parts.now)) }
+    ensures err { OnErr result (AppendsFront (E.taken log.old) (E.taken log.new) (flat_map part_text parts.now)) }
+    ensures no_fault { OnOk result (E.faults log.new ≡ E.faults log.old) }
+    ensures fault { OnErr result (Rose (E.faults log.old) (E.faults log.new)) }
+{
+    for part in parts {
+        write_part(log, part)?;
     }
     Ok(())
+}
+
+fn write_part<E: Sink>(log: &mut E, part: &Part) -> Result<(), Failed>
+    ensures ok { OnOk result (Appends (E.taken log.old) (E.taken log.new) (part_text part.now)) }
+    ensures err { OnErr result (AppendsFront (E.taken log.old) (E.taken log.new) (part_text part.now)) }
+    ensures no_fault { OnOk result (E.faults log.new ≡ E.faults log.old) }
+    ensures fault { OnErr result (Rose (E.faults log.old) (E.faults log.new)) }
+{
+    match *part {
+        Part::Text(bytes) => write_all(log, bytes),
+        Part::Number(number) => {
+            let mut buffer = Buffer::new();
+            write_all(log, buffer.format(number).as_bytes())
+        }
+    }
 }

@@ -13,14 +13,12 @@ ghost use Rattle.cmm_top.specs.Run.{EndsWithin, IsStraight};
 use crate::code::code_of;
 use crate::term::{Sign, Term, terms_in};
 use crate::token::{Token, tokens_in};
+use cmm_lexer::UNIT_LIMIT;
 use rv_code::encode;
 use rv_table::Instr;
 use rv_table::laws::{code_stands, runs};
 use std::alloc::{AllocError, Global};
 use thiserror::Error;
-
-/// The longest unit, in bytes.
-pub const UNIT_LIMIT: u64 = 1_048_576;
 
 /// The most signs of an expression.
 pub const SIGN_LIMIT: usize = 500;
@@ -77,7 +75,7 @@ fn terms_of_unit(alloc: Global, unit: &[u8]) -> Result<Option<Vec<Term>>, AllocE
     ensures form { IfOk result (λ found. OnSome found ((e : Expression) × Derives unit.now e)) }
     ensures none { IfOk result (λ found. IfNone found ((e : Expression) → Derives unit.now e → ⊥)) }
 {
-    if unit.len() as u64 > UNIT_LIMIT {
+    if unit.len() > UNIT_LIMIT {
         return Ok(None);
     }
     let tokens = tokens_in(alloc, unit)?;

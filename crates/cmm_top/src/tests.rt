@@ -43,7 +43,7 @@ fn call(
 }
 
 /// Units and what the log must say of each.
-const UNITS: [(&str, &str); 34] = [
+const UNITS: [(&str, &str); 36] = [
     ("export main; main() { return (2 + 3); }", "result 5\n"),
     (
         "export main; main() { return (0 - 1); }",
@@ -68,7 +68,7 @@ const UNITS: [(&str, &str); 34] = [
     ),
     (
         "export main; main() { return (18446744073709551616); }",
-        "a.cmm:1:1: 90 form not built\n",
+        "a.cmm:1:31: 4 bad number\n",
     ),
     (
         "export main; main() { return (2047 + 2048 - 4095 + 4096); }",
@@ -97,7 +97,7 @@ const UNITS: [(&str, &str); 34] = [
     ),
     (
         "export main; main() { return (1a); }",
-        "a.cmm:1:1: 90 form not built\n",
+        "a.cmm:1:31: 4 bad number\n",
     ),
     (
         "export main; main() { return (1 2); }",
@@ -161,13 +161,15 @@ const UNITS: [(&str, &str); 34] = [
     ),
     (
         "export main; main() { return (1\x0b); }",
-        "a.cmm:1:1: 90 form not built\n",
+        "a.cmm:1:32: 1 bad byte\n",
     ),
     (
         "export main; main() { return (main); }",
         "a.cmm:1:1: 90 form not built\n",
     ),
     ("", "a.cmm:1:1: 90 form not built\n"),
+    ("export main; /* x", "a.cmm:1:14: 2 open comment\n"),
+    ("export main;\n \"x\n\"", "a.cmm:2:2: 3 open text\n"),
 ];
 
 #[test]
@@ -212,7 +214,7 @@ fn words_are_tested_first(rt: HostRuntime) -> Result<(), Fail> {
     Ok(())
 }
 
-/// Failing calls on `exec a.cmm`, which reads twice and writes three pieces, and what status and log come of them.
+/// Failing calls on `exec a.cmm`, which reads twice and writes three parts of a line, and what status and log come of them.
 const FAULTS: [(Outside<'static>, Status, &str); 11] = [
     (NO_FAULT, Status::Done, "result 5\n"),
     (
@@ -358,7 +360,7 @@ fn limits_hold_at_both_ends(rt: HostRuntime) -> Result<(), Fail> {
         (0, 501, 0, UNITS[2].1),
         (198, 500, 0, "result 501\n"),
         (0, 0, 1_048_576 - 35, "result 1\n"),
-        (0, 0, 1_048_577 - 35, UNITS[2].1),
+        (0, 0, 1_048_577 - 35, "a.cmm:1:1: 5 unit too long\n"),
     ];
     for (brackets, signs, spaces, want) in table {
         let unit = unit_of(rt.alloc(), brackets, signs, spaces)?;
