@@ -2,7 +2,7 @@
 # How many bytes per second `lex` reads, in a program built as a release is, beside `wc -w` on the same bytes.
 #
 # Usage: bench/lexer.sh [FOLDER]. The folder, a temporary one by default, gets a copy of the crates that the lexer stands on and a
-# program that lexes four units of 1 MiB: names, symbols, one text, one comment. Nothing of it belongs to the repository.
+# program that lexes units of 1 MiB: names, different names, symbols, numbers, one text, one comment. Nothing of it belongs to the repository.
 set -eu
 here=$(cd "$(dirname "$0")/.." && pwd)
 work=${1:-$(mktemp -d)}
@@ -40,6 +40,20 @@ fn unit(rt: &impl AllocGlobal, piece: &[u8], head: &[u8], tail: &[u8]) -> io::Re
     Ok(bytes)
 }
 
+fn letter(number: u32, worth: u32) -> u8 {
+    b'a' + (number / worth.max(1) % 26) as u8
+}
+
+/// As many different names as fit.
+fn different_names(rt: &impl AllocGlobal) -> io::Result<Vec<u8>> {
+    let mut bytes = Vec::new(rt.alloc());
+    for number in 0..209_715u32 {
+        let name = [letter(number, 17576), letter(number, 676), letter(number, 26), letter(number, 1), b' '];
+        bytes.extend_from_slice(&name)?;
+    }
+    Ok(bytes)
+}
+
 fn measure(rt: &(impl AllocGlobal + Clock + Print), name: &str, bytes: &[u8]) -> io::Result<()> {
     let start = Instant::now(rt)?;
     let mut tokens = 0usize;
@@ -49,14 +63,14 @@ fn measure(rt: &(impl AllocGlobal + Clock + Print), name: &str, bytes: &[u8]) ->
             Err(_) => tokens = 0,
         }
     }
-    let micros = start.elapsed(rt)?.as_micros() as u64;
+    let each = start.elapsed(rt)?.as_micros() / 10;
     let size = bytes.len();
-    let each = micros / 10;
     println!(rt; "{name}: {size} bytes, {tokens} tokens, {each} microseconds")
 }
 
 fn main(rt: HostRuntime) -> io::Result<()> {
     measure(&rt, "names", unit(&rt, b"ab1 c.d ", b"", b"")?.as_slice())?;
+    measure(&rt, "different names", different_names(&rt)?.as_slice())?;
     measure(&rt, "symbols", unit(&rt, b"<=;:", b"", b"")?.as_slice())?;
     measure(&rt, "numbers", unit(&rt, b"0x1f 77 ", b"", b"")?.as_slice())?;
     measure(&rt, "text", unit(&rt, b"a\\x41", b"\"", b"\"")?.as_slice())?;
