@@ -1,8 +1,9 @@
 mod Digits
 mod Finishing
-mod Positions
-mod Quoting
-mod Taking
 mod Numbered
 mod Placing
+mod Positions
+mod Quoting
 mod Splitting
+mod Taking
+mod WorkedRows

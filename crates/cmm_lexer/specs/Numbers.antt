@@ -11,7 +11,7 @@ radix_of text = elim (begins (λ b. b == 48) text) [
   | false ↦ record { prefix = 0; base = 10 }
 ]
 
--- the digits that may be misplaced at a base: 8 and 9 at 8, none at others
+-- which bytes go on the digits of a number: at base 8 the misplaced digits 8 and 9 too
 abbrev pub is_digit_at : ℕ → ℕ → Bool
 is_digit_at base b = if base == 16 then is_hex_digit b else is_digit b
 

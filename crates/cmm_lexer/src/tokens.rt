@@ -21,7 +21,11 @@ pub const UNIT_LIMIT: usize = 1_048_576;
 /// Why a unit has no tokens.
 #[derive(Debug, Drop, Error)]
 pub enum LexFault {
-    /// It breaks this rule of the lexical form at this place.
+    /// It breaks this rule of the lexical form at this place: 1 where a byte starts no token, at the byte; 2 where a block comment is
+    /// not closed, at its `/*`; 3 where a text or a character is not closed on its line, has an unknown escape, or a character is not
+    /// exactly one, at its opening quote; 4 where a number is out of range, has no digit or a digit past its base, or a letter, `_`,
+    /// `$` or `@` follows it, at its first digit; 5 where the unit has more than `UNIT_LIMIT` bytes, at 1:1. Lines and columns count
+    /// from 1, columns in bytes.
     #[error("rule {rule} at {line}:{column}")]
     At { rule: u8, line: u32, column: u32 },
     #[error("out of memory")]
@@ -38,7 +42,7 @@ impl From<AllocError> for LexFault {
     }
 }
 
-/// The tokens of a unit, in order.
+/// The tokens of a unit, in order. Two of them have one number exactly where the bytes that it stands for are equal.
 #[derive(Drop)]
 pub struct Tokens {
     pub list: Items<Token>,

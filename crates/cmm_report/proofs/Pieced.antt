@@ -1,9 +1,10 @@
 -- Writing pieces, one of which is written in part.
-use Rattle.std.proofs.Common.{◌≡◌, ℕ, suc, ◌+◌, ◌<◌, ◌≤◌, List, [], ◌∷◌, ◌++◌, length, take, drop, get_or, Option, Some, None, refl, ap, sym, ◌∙◌, subst, arith, length-append, append_assoc}
+use Rattle.std.proofs.Common.{◌≡◌, ℕ, suc, ◌+◌, ◌<◌, List, ◌∷◌, ◌++◌, length, take, drop, get_or, Option, Some, None, Result, Ok, Err, ap, sym, ◌∙◌, subst, arith, length-append, append_assoc}
 use Rattle.std.proofs.Math.Seq.{take-append-add, drop-cons}
 use Rattle.std.proofs.lemmas.List.{take-append-le, take-append-drop}
 use Rattle.std.proofs.lemmas.Grind.{flat_map-append}
 use Rattle.std.specs.List.{flat_map}
+use Rattle.std.specs.Result.{OnErr}
 use Rattle.cmm_outside.specs.Output.{Appends, AppendsFront}
 
 -- what is written before a front of the next piece
@@ -27,6 +28,13 @@ AppendsFront-pieces f xs i d before mid after h a (n, within, b) =
     let rest : List ℕ = flat_map f (drop (i + 1) xs) in
     let all : flat_map f xs ≡ done ++ (piece ++ rest) = flat_map-from f xs i d h in
     let front : take (length done + n) (flat_map f xs) ≡ done ++ take n piece =
-        ap (take (length done + n)) all ∙ (take-append-add done (piece ++ rest) n ∙ ap (λ (ys : List ℕ). done ++ ys) (take-append-le n piece rest within)) in
-    (length done + n, omega (arith, ap length all, length-append done (piece ++ rest), length-append piece rest),
-    subst (λ (bs : List ℕ). Appends before after bs) (sym front) (Appends-then before mid after done (take n piece) a b))
+    ap (take (length done + n)) all ∙ (take-append-add done (piece ++ rest) n ∙ ap (λ (ys : List ℕ). done ++ ys) (take-append-le n piece rest within)) in (
+      length done + n,
+      omega (arith, ap length all, length-append done (piece ++ rest), length-append piece rest),
+      subst (λ (bs : List ℕ). Appends before after bs) (sym front) (Appends-then before mid after done (take n piece) a b),
+    )
+
+-- what holds in any case holds on an error
+pub OnErr-always : {T E : Type 0} (r : Result T E) {P : Type 0} → P → OnErr r P
+OnErr-always (Ok x) p = tt
+OnErr-always (Err e) p = p
