@@ -15,7 +15,7 @@ use crate::run::run;
 use crate::status::Status;
 use cmm_lexer::{LexFault, UNIT_LIMIT, lex};
 use cmm_outside::{Failed, FileError, Files, Sink, read_file, write_all};
-use itoa::Buffer;
+use cmm_report::put_number;
 use std::alloc::Global;
 
 /// A rule that a unit breaks, and where: its line and its column, in bytes, from 1.
@@ -201,9 +201,6 @@ fn write_part<E: Sink>(log: &mut E, part: &Part) -> Result<(), Failed>
 {
     match *part {
         Part::Text(bytes) => write_all(log, bytes),
-        Part::Number(number) => {
-            let mut buffer = Buffer::new();
-            write_all(log, buffer.format(number).as_bytes())
-        }
+        Part::Number(number) => put_number(log, number),
     }
 }
