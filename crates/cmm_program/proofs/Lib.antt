@@ -1,0 +1,7 @@
+mod Notation
+mod Calls
+mod Yielding
+mod Erring
+mod CallRows
+mod ErrorRows
+mod ClientRows
