@@ -5,3 +5,5 @@ mod Erring
 mod CallRows
 mod ErrorRows
 mod ClientRows
+mod LayoutRows
+mod RangeRows
