@@ -1,5 +1,5 @@
 -- Worked rows: calls, returns, cuts and input, run to their ends.
-use Rattle.std.proofs.Common.{◌≡◌, ℕ, refl, List, [], ◌∷◌}
+use Rattle.std.proofs.Common.{◌≡◌, refl, [], ◌∷◌}
 use Rattle.cmm_program.specs.State.{Ended, Done, StackLimit}
 use Rattle.cmm_program.specs.Machine.{state_after}
 use Rattle.cmm_program.proofs.Notation.{opened, setting, no_client, seen, silent}

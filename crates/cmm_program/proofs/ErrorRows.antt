@@ -1,5 +1,5 @@
 -- Worked rows: each unchecked error is met by a program of its own, at its step, with what came before kept.
-use Rattle.std.proofs.Common.{◌≡◌, ℕ, refl, List, [], ◌∷◌}
+use Rattle.std.proofs.Common.{◌≡◌, refl, []}
 use Rattle.std.specs.Prelude.{codes}
 use Rattle.cmm_program.specs.Errors.{ZeroDivisor, BadAccess, UnwrittenRead, NotAProcedure, WrongValues, WrongAlternates, NeverReturns, NoSuchCut, NoArm, EndOfBody, ContinuationFromAbove}
 use Rattle.cmm_program.specs.State.{Running, Wrong}

@@ -1,6 +1,6 @@
 -- Worked rows: where data and stackdata lie, and which placements are valid.
-use Rattle.std.proofs.Common.{◌≡◌, ℕ, Bool, true, false, refl, List, [], ◌∷◌}
-use Rattle.std.specs.Prelude.{◌++◌, codes}
+use Rattle.std.proofs.Common.{◌≡◌, true, false, refl, List, [], ◌∷◌}
+use Rattle.std.specs.Prelude.{codes}
 use Rattle.cmm_words.specs.declared.width.Width.TheVariants.{W8, W16, W64}
 use Rattle.cmm_words.specs.declared.constant.Constant.TheVariants.{Number, Code, Address}
 use Rattle.cmm_program.specs.declared.program.Program.{Program}
@@ -11,9 +11,8 @@ use Rattle.cmm_program.specs.declared.placement.PlaceRow.{PlaceRow}
 use Rattle.cmm_program.specs.Layout.{label_addresses, data_bytes, stack_labels, stack_size}
 use Rattle.cmm_program.specs.Bounds.{frame_bound, step_factor}
 use Rattle.cmm_program.specs.Placed.{is_row_placed, is_placed}
-use Rattle.cmm_program.proofs.Notation.{opened, plain}
 use Rattle.cmm_program.proofs.Yielding.{divide, divide-placed}
-use Rattle.cmm_program.proofs.Calls.{sum, sum-main, deep, deep-placed, cutting, cutting-placed}
+use Rattle.cmm_program.proofs.Calls.{sum-main, deep, deep-placed, cutting, cutting-placed}
 
 -- ---- data: four bytes, an alignment, and two words; a label stands on what follows the alignment
 divide_labels : label_addresses divide ≡ 0x40000000 ∷ 0x40000008 ∷ []
@@ -26,20 +25,21 @@ divide_bytes = refl
 -- A procedure's address, a label's, padding, a datum of zeros, and a label at the end of a section.
 abbrev mixed : Program
 mixed = record {
-    procs = sum-main ∷ [];
-    datums =
+  procs = sum-main ∷ [];
+  datums =
       record { align = 1; length = 3; width = W8; values = [] }
       ∷ record { align = 2; length = 2; width = W16; values = Number 0x1234 W16 ∷ [] }
       ∷ record { align = 8; length = 16; width = W64; values = Code 0 4 ∷ Address 1 0 ∷ [] }
       ∷ record { align = 1; length = 1; width = W8; values = [] }
       ∷ [];
-    globals = [];
-    labels =
+  globals = [];
+  labels =
       record { name = codes "half"; links = []; datum = 1; at_end = false }
       ∷ record { name = codes "end"; links = []; datum = 4; at_end = true }
       ∷ record { name = codes "first"; links = []; datum = 0; at_end = true }
       ∷ [];
-    main = 0 }
+  main = 0;
+}
 
 abbrev mixed-placed : Placement
 mixed-placed = record { rows = record { code = 0x10100; frame = 0; pairs = []; stack = [] } ∷ [] }
@@ -144,6 +144,8 @@ stackdata_outside = refl
 row_missing : is_placed deep record { rows = [] } ≡ false
 row_missing = refl
 
-codes_fall : is_placed deep record { rows =
-    record { code = 0x10010; frame = 48; pairs = []; stack = [] } ∷ record { code = 0x10000; frame = 32; pairs = []; stack = [] } ∷ [] } ≡ false
+codes_fall : is_placed deep record {
+  rows =
+      record { code = 0x10010; frame = 48; pairs = []; stack = [] } ∷ record { code = 0x10000; frame = 32; pairs = []; stack = [] } ∷ [];
+} ≡ false
 codes_fall = refl

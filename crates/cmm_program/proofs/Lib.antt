@@ -1,3 +1,4 @@
+pub mod Places
 mod Notation
 mod Calls
 mod Yielding

@@ -1,10 +1,10 @@
 -- A notation for programs, settings and scripts that are written by hand.
-use Rattle.std.proofs.Common.{ℕ, ◌+◌, Bool, false, List, [], ◌∷◌, ◌++◌, Some, None}
+use Rattle.std.proofs.Common.{ℕ, ◌+◌, Bool, false, List, [], Some, None}
 use Rattle.std.specs.Fmt as Fmt
 use denote.Hole.Carrier as Carrier
 use Rattle.cmm_program.specs.declared.expression.Expression.TheBlock as Expression
 use Rattle.cmm_program.specs.declared.statement.Form.TheBlock as Form
-use Rattle.std.specs.Prelude.{Option, flat_map, codes}
+use Rattle.std.specs.Prelude.{flat_map}
 use Rattle.cmm_words.specs.declared.width.Width.{Width}
 use Rattle.cmm_words.specs.declared.width.Width.TheVariants.{W64}
 use Rattle.cmm_words.specs.declared.constant.Constant.TheVariants.{Number}

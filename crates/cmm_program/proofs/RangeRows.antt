@@ -1,5 +1,5 @@
 -- Worked rows: programs written by hand are in range, with counts of tokens that were counted in their texts.
-use Rattle.std.proofs.Common.{◌≡◌, ℕ, ◌+◌, ◌∷◌, [], Bool, true, false, refl}
+use Rattle.std.proofs.Common.{◌≡◌, ◌+◌, Bool, true, false, refl}
 use Rattle.std.specs.Prelude.{◌&&◌, nat_le, None}
 use Rattle.cmm_words.specs.declared.width.Width.TheVariants.{W8, W64}
 use Rattle.cmm_words.specs.declared.operators.Op2.TheVariants.{Add}
@@ -14,7 +14,7 @@ use Rattle.cmm_program.specs.Tokens.{heading_tokens}
 use Rattle.cmm_program.specs.Typing.{typed}
 use Rattle.cmm_program.proofs.Notation.{opened, num}
 use Rattle.cmm_program.proofs.Calls.{alternates, alternates-main, alternates-t, alternates-h, cutting, cutting-c, cutting-d, cutting-e, tail, tail-f}
-use Rattle.cmm_program.proofs.Yielding.{unwinding, unwinding-mid, unwinding-leaf, checked, checked-main, changing, changing-main, divide, divide-put, divide-main, divide-divide}
+use Rattle.cmm_program.proofs.Yielding.{unwinding, unwinding-mid, checked, checked-main, changing, changing-main, divide, divide-put, divide-main, divide-divide}
 
 -- the statements, sites, continuations and counts of a procedure
 abbrev keeps_rules : Program → Proc → Bool

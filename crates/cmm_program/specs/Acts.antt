@@ -1,6 +1,6 @@
 -- What a control does next, and the same once all its numbers are known. Neither names an expression: an act asks for
 -- values, so that a machine with other operands does the same acts.
-use Rattle.std.specs.Prelude.{ℕ, ◌==◌, Bool, true, false, List, [], ◌∷◌, map, zip, Result, Ok, Err, Option, Some, None}
+use Rattle.std.specs.Prelude.{ℕ, List, [], ◌∷◌, map, Ok, Err, Option, Some, None}
 use Rattle.cmm_words.specs.declared.width.Width.{Width}
 use Rattle.cmm_words.specs.declared.operators.Op2.{Op2}
 use Rattle.cmm_words.specs.Words.{value2}

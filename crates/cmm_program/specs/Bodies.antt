@@ -1,8 +1,8 @@
 -- The statements of a body: what stands where, and what each one does.
 -- Where a program goes on is the list of the statements still to do, those of enclosing blocks at the end.
-use Rattle.std.specs.Prelude.{ℕ, suc, ◌==◌, ◌&&◌, ◌||◌, Bool, true, false, nat_le, List, [], ◌∷◌, ◌++◌, map, slice_get, Result, Ok, Err, Option, Some, None}
+use Rattle.std.specs.Prelude.{ℕ, suc, ◌==◌, ◌&&◌, ◌||◌, Bool, true, false, nat_le, List, [], ◌∷◌, ◌++◌, slice_get, Option, Some, None}
 use Rattle.cmm_program.specs.declared.statement.Form.{Form, Row_of-Arm, end_of-Arm, more_of-Arm}
-use Rattle.cmm_program.specs.declared.statement.Form.TheVariants.{Empty, If', Switch', Span', Span, Assign, Call, Yield, Checked, PutByte, GetByte, Jump, Return, Label, Goto, Continuation, Cut}
+use Rattle.cmm_program.specs.declared.statement.Form.TheVariants.{If', Switch', Span', Span, Call, Yield, Checked, Label, Continuation}
 use Rattle.cmm_program.specs.declared.statement.Statement.{Statement}
 use Rattle.cmm_program.specs.declared.statement.Arm.{Arm', Row_of-Statement, end_of-Statement, more_of-Statement}
 use Rattle.cmm_program.specs.declared.statement.Case.{Case}
@@ -63,8 +63,9 @@ abbrev mutual
   pub after_in : {n : _} → Mark → Row_of-Statement n → Option (List Statement)
   after_in m end_of-Statement = None
   after_in m (more_of-Statement tokens form rest) = elim (is_mark m form) [
-      true ↦ Some (statements rest)
-    | false ↦ first_of_two (outward (after_inside m form) (statements rest)) (after_in m rest) ]
+    | true ↦ Some (statements rest)
+    | false ↦ first_of_two (outward (after_inside m form) (statements rest)) (after_in m rest)
+  ]
 
   pub after_in_arms : {n : _} → Mark → Row_of-Arm n → Option (List Statement)
   after_in_arms m end_of-Arm = None

@@ -1,6 +1,6 @@
 -- The client's answer to a yield: each command, with its refusals in their order and its line of the log
 -- (C-- Language Specification 2.0, the run-time interface).
-use Rattle.std.specs.Prelude.{ℕ, zero, suc, ◌+◌, ◌%◌, ◌^◌, ◌==◌, ◌&&◌, ◌||◌, not, nat_lt, bytes_eq, slice_set, Bool, true, false, List, [], ◌∷◌, ◌++◌, map, drop, length, slice_get, slice_index_or, Result, Ok, Err, Option, Some, None}
+use Rattle.std.specs.Prelude.{ℕ, zero, suc, ◌+◌, ◌%◌, ◌^◌, ◌==◌, ◌&&◌, ◌||◌, not, nat_lt, bytes_eq, slice_set, Bool, true, false, List, [], ◌∷◌, ◌++◌, map, drop, length, slice_get, Result, Ok, Err, Option, Some, None}
 use Rattle.cmm_words.specs.declared.width.Width.{Width}
 use Rattle.cmm_words.specs.Widths.{bits}
 use Rattle.cmm_script.specs.declared.script.Script.{Script}
@@ -17,10 +17,10 @@ use Rattle.cmm_program.specs.declared.procedure.Site.{Site}
 use Rattle.cmm_program.specs.declared.procedure.VarInfo.{VarInfo}
 use Rattle.cmm_program.specs.declared.program.Label.{Label}
 use Rattle.cmm_program.specs.Errors.{and_then, provided, given, all_of, with_some}
-use Rattle.cmm_program.specs.Layout.{label_of, data_base, bytes_of}
+use Rattle.cmm_program.specs.Layout.{label_of, bytes_of}
 use Rattle.cmm_program.specs.Memory.{Room, is_in, with_bytes}
 use Rattle.cmm_program.specs.State.{Setting, Frame, Store, Ended, Stopped}
-use Rattle.cmm_program.specs.Frames.{procedure_at, site_at, site_cuts, without}
+use Rattle.cmm_program.specs.Frames.{procedure_at, site_cuts, without}
 use Rattle.cmm_program.specs.Exits.{Exit, return_exit, unwind_exit}
 use Rattle.cmm_program.specs.Orders.{Answer, Away, Over, cut_among, found_exit}
 use Rattle.cmm_program.specs.Liveness.{is_live_at}
@@ -171,15 +171,17 @@ asked s yielded cursor Stop store = Ok (Resumes (Over 0 record store { status = 
 -- a refused command changes nothing but the log
 abbrev pub reply : Setting → List ℕ → ℕ → Command → Store → Reply
 reply s yielded cursor command store = elim (asked s yielded cursor command store) [
-    Ok r ↦ r
-  | Err refusal ↦ Then cursor (logged (refused_line refusal) store) ]
+  | Ok r ↦ r
+  | Err refusal ↦ Then cursor (logged (refused_line refusal) store)
+]
 
 -- one command after the other, until one resumes or stops; at their end the run is stopped
 abbrev pub commands_run : Setting → List ℕ → ℕ → List Command → Store → Answer
 commands_run s yielded cursor [] store = Over 0 record store { status = Ended Stopped }
 commands_run s yielded cursor (c ∷ cs) store = elim (reply s yielded cursor c store) [
-    Then cursor' store' ↦ commands_run s yielded cursor' cs store'
-  | Resumes answer ↦ answer ]
+  | Then cursor' store' ↦ commands_run s yielded cursor' cs store'
+  | Resumes answer ↦ answer
+]
 
 -- ---- the block that answers
 
@@ -199,8 +201,9 @@ block_with test (b ∷ bs) = elim (test b.code) [ true ↦ Some b.commands | fal
 -- the block of the first value of the yield, or else the one for all others; without either there are no commands
 abbrev pub commands_for : List ℕ → Script → List Command
 commands_for yielded script = elim (block_with (is_for_code yielded) script.blocks) [
-    Some commands ↦ commands
-  | None ↦ elim (block_with is_other script.blocks) [ Some commands ↦ commands | None ↦ [] ] ]
+  | Some commands ↦ commands
+  | None ↦ elim (block_with is_other script.blocks) [ Some commands ↦ commands | None ↦ [] ]
+]
 
 -- the client's answer to a yield of these values
 abbrev pub answered : Setting → List ℕ → Store → Answer

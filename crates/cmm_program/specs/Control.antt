@@ -1,7 +1,7 @@
 -- Where a machine goes on. A machine is its control and the store: two machines with the same acts do the same.
-use Rattle.std.specs.Prelude.{ℕ, Bool, true, false, List, [], ◌∷◌, drop, Result, Ok, Err, Option, Some, None}
-use Rattle.cmm_program.specs.Errors.{Tried, and_then}
-use Rattle.cmm_program.specs.State.{Setting, Store, Status, Running, Waiting, Ended, Wrong, StackLimit}
+use Rattle.std.specs.Prelude.{ℕ, List, [], ◌∷◌, drop, Ok, Err, Some, None}
+use Rattle.cmm_program.specs.Errors.{and_then}
+use Rattle.cmm_program.specs.State.{Setting, Store, Status, Running, Ended, Wrong, StackLimit}
 use Rattle.cmm_program.specs.Acts.{Act, Nothing, evaluated}
 use Rattle.cmm_program.specs.Writes.{reads_of}
 use Rattle.cmm_program.specs.Exits.{Landing, Called, Instead, Back, Resumed, land}
@@ -43,8 +43,9 @@ over status store = record store { status = status }
 -- a landing done; the run ends at the stack limit where the stack is too small
 abbrev pub landed : {C : Type 0} → Control C → Setting → Landing → Store → List C → State C
 landed k s landing store controls = elim (land s landing store) [
-    Some after ↦ record { store = over Running after; controls = arrived k landing controls }
-  | None ↦ record { store = over (Ended StackLimit) store; controls = controls } ]
+  | Some after ↦ record { store = over Running after; controls = arrived k landing controls }
+  | None ↦ record { store = over (Ended StackLimit) store; controls = controls }
+]
 
 abbrev pub moved : {C : Type 0} → (C → C) → List C → List C
 moved f [] = []
@@ -65,5 +66,6 @@ next_act k (c ∷ cs) = k.act c
 -- one step of a running state
 abbrev pub ran : {C : Type 0} → Control C → Setting → State C → State C
 ran k s st = elim (and_then (evaluated (reads_of s st.store) (next_act k st.controls)) (λ order. perform s order st.store)) [
-    Ok answer ↦ answer_done k s answer st.controls
-  | Err error ↦ record st { store = over (Wrong error) st.store } ]
+  | Ok answer ↦ answer_done k s answer st.controls
+  | Err error ↦ record st { store = over (Wrong error) st.store }
+]

@@ -1,6 +1,6 @@
 -- The exits of a call site, and landings: where control arrives in an activation, with values for it
 -- (C-- Language Specification 2.0, call-site annotations).
-use Rattle.std.specs.Prelude.{ℕ, suc, ◌==◌, ◌&&◌, not, nat_lt, Bool, true, false, List, [], ◌∷◌, ◌++◌, map, length, slice_get, slice_index_or, Result, Ok, Err, Option, Some, None}
+use Rattle.std.specs.Prelude.{ℕ, ◌==◌, ◌&&◌, not, nat_lt, Bool, true, false, List, [], ◌∷◌, map, length, slice_get, slice_index_or, Option, Some, None}
 use Rattle.cmm_words.specs.declared.width.Width.{Width}
 use Rattle.cmm_words.specs.declared.width.Width.TheVariants.{W64}
 use Rattle.cmm_words.specs.Widths.{bits}
@@ -8,8 +8,7 @@ use Rattle.cmm_program.specs.declared.procedure.Proc.{Proc}
 use Rattle.cmm_program.specs.declared.procedure.Site.{Site}
 use Rattle.cmm_program.specs.declared.procedure.Target.{Target}
 use Rattle.cmm_program.specs.declared.procedure.Target.TheVariants.{Variable}
-use Rattle.cmm_program.specs.declared.procedure.VarInfo.{VarInfo}
-use Rattle.cmm_program.specs.Errors.{Tried, with_some}
+use Rattle.cmm_program.specs.Errors.{with_some}
 use Rattle.cmm_program.specs.State.{Setting, Frame, Store}
 use Rattle.cmm_program.specs.Frames.{procedure_at, place_row, frame_address, fits_stack, room_of, new_frame, with_site, site_at, parameters}
 use Rattle.cmm_program.specs.Acts.{Word, target_width}
@@ -44,8 +43,9 @@ continuation_exit p k = with_some (slice_get p.conts k) (λ c. Some record { wid
 -- The exits of a return, by number: first the alternate ones, and then the normal one, if there is one.
 abbrev pub return_exit : Proc → Site → ℕ → Option Exit
 return_exit p site n = elim (nat_lt n (length site.returns)) [
-    true ↦ with_some (slice_get site.returns n) (continuation_exit p)
-  | false ↦ elim ((n == length site.returns) && not site.never) [ true ↦ Some (normal_exit site) | false ↦ None ] ]
+  | true ↦ with_some (slice_get site.returns n) (continuation_exit p)
+  | false ↦ elim ((n == length site.returns) && not site.never) [ true ↦ Some (normal_exit site) | false ↦ None ]
+]
 
 abbrev pub unwind_exit : Proc → Site → ℕ → Option Exit
 unwind_exit p site n = with_some (slice_get site.unwinds n) (continuation_exit p)
@@ -66,10 +66,12 @@ abbrev pub entered : Setting → ℕ → List ℕ → List Frame → Store → O
 entered s n values older store = with_some (procedure_at s n) (λ p.
     let frames = new_frame n p values ∷ older in
     elim (fits_stack s frames) [
-      true ↦ Some record store {
+      | true ↦ Some record store {
         frames = frames;
-        memory = record store.memory { rooms = room_of (frame_address s frames) p (place_row s n) ∷ store.memory.rooms } }
-    | false ↦ None ])
+        memory = record store.memory { rooms = room_of (frame_address s frames) p (place_row s n) ∷ store.memory.rooms };
+      }
+      | false ↦ None
+    ])
 
 -- what takes the values at the normal exit of the youngest activation's site, and at one of its continuations
 abbrev pub results_of : Setting → List Frame → List Target
@@ -79,8 +81,9 @@ results_of s (f ∷ fs) = elim (site_at s f) [ Some site ↦ site.results | None
 abbrev pub parameters_of : Setting → ℕ → List Frame → List Target
 parameters_of s k [] = []
 parameters_of s k (f ∷ fs) = elim (procedure_at s f.procedure) [
-    Some p ↦ map (λ n. Variable n (variable_width p n)) (parameters p k)
-  | None ↦ [] ]
+  | Some p ↦ map (λ n. Variable n (variable_width p n)) (parameters p k)
+  | None ↦ []
+]
 
 -- the youngest activation goes on, with its values assigned
 abbrev pub gone_on : List Target → List ℕ → Store → Store

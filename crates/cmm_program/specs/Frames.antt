@@ -1,14 +1,13 @@
 -- The frames of a stack: their sizes and addresses, what is in them, and how they come and go.
 -- Frames stand youngest first; a list of them stands for its youngest, whose older ones follow.
-use Rattle.std.specs.Prelude.{ℕ, suc, ◌+◌, ◌-◌, Bool, true, false, nat_le, List, [], ◌∷◌, ◌++◌, map, length, drop, replicate, sum_by, slice_get, slice_index_or, Option, Some, None}
+use Rattle.std.specs.Prelude.{ℕ, ◌+◌, ◌-◌, Bool, nat_le, List, [], ◌∷◌, ◌++◌, length, drop, replicate, sum_by, slice_get, slice_index_or, Option, Some, None}
 use Rattle.cmm_program.specs.declared.procedure.Proc.{Proc}
-use Rattle.cmm_program.specs.declared.procedure.Cont.{Cont}
 use Rattle.cmm_program.specs.declared.procedure.Site.{Site}
 use Rattle.cmm_program.specs.declared.placement.PlaceRow.{PlaceRow}
 use Rattle.cmm_program.specs.Errors.{with_some}
 use Rattle.cmm_program.specs.Layout.{row_of, stack_labels, stack_size}
 use Rattle.cmm_program.specs.Memory.{Room}
-use Rattle.cmm_program.specs.State.{Setting, Frame, Store, Running}
+use Rattle.cmm_program.specs.State.{Setting, Frame, Store}
 
 abbrev pub procedure_at : Setting → ℕ → Option Proc
 procedure_at s n = slice_get s.program.procs n
@@ -53,8 +52,9 @@ stackdata_offset p row = with_some (slice_get row.stack 0) (λ offset. with_some
 
 abbrev pub room_of : ℕ → Proc → PlaceRow → Room
 room_of frame p row = elim (stackdata_offset p row) [
-    Some offset ↦ record { address = frame + offset; cells = replicate (stack_size p.stack) None }
-  | None ↦ record { address = frame; cells = [] } ]
+  | Some offset ↦ record { address = frame + offset; cells = replicate (stack_size p.stack) None }
+  | None ↦ record { address = frame; cells = [] }
+]
 
 -- ---- sites and continuations
 
@@ -74,9 +74,10 @@ site_cuts s (f ∷ fs) = elim (site_at s f) [ Some site ↦ site.cuts | None ↦
 -- a new activation: its formals as passed, and its other variables 0
 abbrev pub new_frame : ℕ → Proc → List ℕ → Frame
 new_frame n p values = record {
-    procedure = n;
-    variables = values ++ replicate (length p.vars - length values) 0;
-    site = None }
+  procedure = n;
+  variables = values ++ replicate (length p.vars - length values) 0;
+  site = None;
+}
 
 -- the youngest frame suspended at a site, or going on
 abbrev pub with_site : Option ℕ → List Frame → List Frame

@@ -1,7 +1,7 @@
 -- Programs in range: each number names what is there, the rules that a resolved program can show are kept, and no
 -- count of tokens is less than a text with the same parts can have. What `check` answers is in range, and whatever
 -- works on a program may rely on it (C-- Language Specification 2.0, static semantics).
-use Rattle.std.specs.Prelude.{◌≡◌, ℕ, zero, suc, ◌+◌, ◌*◌, ◌^◌, ◌<◌, ◌≤◌, ◌==◌, ◌&&◌, ◌||◌, not, nat_le, nat_lt, Bool, true, false, IsTrue, List, [], ◌∷◌, ◌++◌, length, map, sum_by, slice_get, Option, Some, None}
+use Rattle.std.specs.Prelude.{◌≡◌, ℕ, zero, suc, ◌+◌, ◌*◌, ◌^◌, ◌<◌, ◌≤◌, ◌==◌, ◌&&◌, ◌||◌, not, nat_le, nat_lt, Bool, true, false, IsTrue, All, List, [], ◌∷◌, ◌++◌, length, sum_by, slice_get, Option, Some, None}
 use Rattle.cmm_words.specs.declared.width.Width.{Width}
 use Rattle.cmm_words.specs.declared.width.Width.TheVariants.{W64}
 use Rattle.cmm_words.specs.declared.constant.Constant.{Constant}
@@ -10,11 +10,9 @@ use Rattle.cmm_words.specs.Words.{is_division}
 use Rattle.cmm_program.specs.declared.expression.Expression.{Expression}
 use Rattle.cmm_program.specs.declared.statement.Form.{Form, Row_of-Arm, end_of-Arm, more_of-Arm}
 use Rattle.cmm_program.specs.declared.statement.Form.TheVariants.{Empty, If', Switch', Span', Span, Assign, Call, Yield, Checked, PutByte, GetByte, Jump, Return, Label, Goto, Continuation, Cut}
-use Rattle.cmm_program.specs.declared.statement.Statement.{Statement}
 use Rattle.cmm_program.specs.declared.statement.Arm.{Arm', Row_of-Statement, end_of-Statement, more_of-Statement}
 use Rattle.cmm_program.specs.declared.statement.Lvalue.{Lvalue}
 use Rattle.cmm_program.specs.declared.statement.Lvalue.TheVariants as lvalue
-use Rattle.cmm_program.specs.declared.statement.Case.{Case}
 use Rattle.cmm_program.specs.declared.statement.Case.TheVariants.{In, Default}
 use Rattle.cmm_program.specs.declared.statement.Range.{Range}
 use Rattle.cmm_program.specs.declared.procedure.Proc.{Proc}
@@ -25,11 +23,11 @@ use Rattle.cmm_program.specs.declared.program.Program.{Program}
 use Rattle.cmm_program.specs.declared.program.Datum.{Datum}
 use Rattle.cmm_program.specs.declared.program.Label.{Label as DataLabel}
 use Rattle.cmm_program.specs.Acts.{target_width}
-use Rattle.cmm_program.specs.Bodies.{Mark, AtLabel, AtContinuation, AtSite, Branch, branches, statements, after_inside}
+use Rattle.cmm_program.specs.Bodies.{Mark, AtLabel, AtContinuation, AtSite, Branch, branches, after_inside}
 use Rattle.cmm_program.specs.Layout.{end_before, data_base, stack_size}
 use Rattle.cmm_program.specs.Placed.{every}
 use Rattle.cmm_program.specs.Tokens.{own_tokens, heading_tokens}
-use Rattle.cmm_program.specs.Typing.{is_alignment, same_width, constant_width, has_variable, is_target, typed, has_width, is_typed, is_condition}
+use Rattle.cmm_program.specs.Typing.{is_alignment, same_width, constant_width, is_target, typed, has_width, is_typed, is_condition}
 
 -- at most 64 values are passed at once
 abbrev pub at_most_64 : {A : Type 0} → List A → Bool
@@ -106,8 +104,9 @@ module _ (p : Program) (q : Proc) where
   -- a checked operator has one result, of its operands' width, and yields one value
   abbrev pub is_checked_site : Width → Site → Bool
   is_checked_site width site = is_yield_site 1 site && elim site.results [
-      [] ↦ false
-    | target ∷ more ↦ same_width (target_width target) width && (length more == 0) ]
+    | [] ↦ false
+    | target ∷ more ↦ same_width (target_width target) width && (length more == 0)
+  ]
 
   -- a statement without the blocks inside it
   abbrev pub is_form : Form → Bool
@@ -198,6 +197,12 @@ body_tokens q = tokens_inside (Span q.body)
 abbrev pub is_item : StackItem → Bool
 is_item i = is_alignment i.align && (not i.label || (i.length == 0))
 
+-- what a test of a frame relies on: its parts are small
+pub record FitsFrames (q : Proc) : Type 0 where
+  pub items : IsTrue (every is_item q.stack)
+  pub stackdata : stack_size q.stack ≤ 65536
+  pub tokens : q.tokens ≤ 131072
+
 pub record IsProcInRange (p : Program) (q : Proc) : Type 0 where
   pub name : IsTrue (is_name q.name)
   pub unit : q.unit < 256
@@ -222,8 +227,9 @@ is_initial p width c = elim (constant_width p c) [ Some found ↦ same_width fou
 -- values fill the datum, and each has its width
 abbrev pub is_datum : Program → Datum → Bool
 is_datum p d = is_alignment d.align && elim d.values [
-    [] ↦ true
-  | _ ∷ _ ↦ (d.length == length d.values * bytes d.width) && every (is_initial p d.width) d.values ]
+  | [] ↦ true
+  | _ ∷ _ ↦ (d.length == length d.values * bytes d.width) && every (is_initial p d.width) d.values
+]
 
 abbrev pub is_label : Program → DataLabel → Bool
 is_label p l = is_name l.name && every is_name l.links && elim l.at_end [ true ↦ nat_le l.datum (length p.datums) | false ↦ nat_lt l.datum (length p.datums) ]
@@ -231,7 +237,7 @@ is_label p l = is_name l.name && every is_name l.links && elim l.at_end [ true �
 -- ---- programs
 
 pub record IsInRange (p : Program) : Type 0 where
-  pub procedures : (n : ℕ) (q : Proc) → slice_get p.procs n ≡ Some q → IsProcInRange p q
+  pub procedures : All (IsProcInRange p) p.procs
   pub procedure_count : length p.procs ≤ 65535
   pub main : p.main < length p.procs
   pub main_formals : (q : Proc) → slice_get p.procs p.main ≡ Some q → q.formals ≡ 0

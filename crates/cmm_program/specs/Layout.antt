@@ -1,7 +1,6 @@
 -- Where data lies, and where the stackdata of a procedure lies in its frame (C-- Language Specification 2.0, data
 -- sections and stack data).
-use Rattle.std.specs.Prelude.{ℕ, zero, suc, pred, ◌+◌, ◌-◌, ◌*◌, ◌/◌, ◌%◌, ◌^◌, Bool, true, false, List, [], ◌∷◌, ◌++◌, map, length, take, replicate, flat_map, slice_get, slice_index_or}
-use Rattle.cmm_words.specs.declared.width.Width.{Width}
+use Rattle.std.specs.Prelude.{ℕ, zero, suc, pred, ◌+◌, ◌-◌, ◌*◌, ◌/◌, ◌%◌, ◌^◌, true, false, List, [], ◌∷◌, ◌++◌, map, take, replicate, flat_map, slice_index_or}
 use Rattle.cmm_words.specs.declared.constant.Constant.{Constant}
 use Rattle.cmm_words.specs.declared.constant.Constant.TheVariants.{Number, Code, Address}
 use Rattle.cmm_words.specs.Widths.{bytes}
@@ -73,8 +72,9 @@ bytes_of (suc n) value = value % 256 ∷ bytes_of n (value / 256)
 
 abbrev pub datum_bytes : Program → Placement → Datum → List ℕ
 datum_bytes p placement d = elim d.values [
-    [] ↦ replicate d.length 0
-  | _ ∷ _ ↦ flat_map (λ c. bytes_of (bytes d.width) (constant_value p placement c)) d.values ]
+  | [] ↦ replicate d.length 0
+  | _ ∷ _ ↦ flat_map (λ c. bytes_of (bytes d.width) (constant_value p placement c)) d.values
+]
 
 abbrev pub bytes_from : Program → Placement → ℕ → List Datum → List ℕ
 bytes_from p placement place [] = []

@@ -1,9 +1,9 @@
 -- Which variables are live at a call site, by the paths of a body (Ramsey and Peyton Jones, PLDI 2000, the flow edges
 -- of call sites). A path goes from position to position; a position is the list of the statements still to do.
-use Rattle.std.specs.Prelude.{ℕ, zero, suc, ◌==◌, ◌&&◌, ◌||◌, not, Bool, true, false, List, [], ◌∷◌, ◌++◌, map, flat_map, slice_get, Option, Some, None}
+use Rattle.std.specs.Prelude.{ℕ, zero, suc, ◌==◌, ◌||◌, Bool, true, false, List, [], ◌∷◌, ◌++◌, map, flat_map, slice_get, Some, None}
 use Rattle.cmm_program.specs.declared.expression.Expression.{Expression, Expression-F}
 use Rattle.cmm_program.specs.declared.expression.Expression.TheOpen as e
-use Rattle.cmm_program.specs.declared.expression.Condition.{Condition, Condition-F}
+use Rattle.cmm_program.specs.declared.expression.Condition.{Condition-F}
 use Rattle.cmm_program.specs.declared.expression.Condition.TheOpen as c
 use Rattle.cmm_program.specs.declared.statement.Form.{Form}
 use Rattle.cmm_program.specs.declared.statement.Form.TheVariants.{Empty, If', Switch', Span', Assign, Call, Yield, Checked, PutByte, GetByte, Jump, Return, Label, Goto, Continuation, Cut}
@@ -133,16 +133,18 @@ is_among v (n ∷ ns) = (v == n) || is_among v ns
 abbrev pub along : (List Statement → Bool) → ℕ → List Way → Bool
 along test v [] = false
 along test v (w ∷ ws) = elim (is_among v w.written) [
-    true ↦ along test v ws
-  | false ↦ elim (test w.to) [ true ↦ true | false ↦ along test v ws ] ]
+  | true ↦ along test v ws
+  | false ↦ elim (test w.to) [ true ↦ true | false ↦ along test v ws ]
+]
 
 -- Some path of at most so many statements reads the variable, and nothing writes it before on that path.
 abbrev pub is_read_within : ℕ → Proc → ℕ → List Statement → Bool
 is_read_within zero p v position = false
 is_read_within (suc n) p v [] = false
 is_read_within (suc n) p v (s ∷ rest) = elim (is_among v (read_in s.form)) [
-    true ↦ true
-  | false ↦ along (is_read_within n p v) v (ways p s.form rest) ]
+  | true ↦ true
+  | false ↦ along (is_read_within n p v) v (ways p s.form rest)
+]
 
 -- A path that comes back to a position can be cut short, so none has to be longer than the body, which has no more
 -- statements than tokens.

@@ -1,8 +1,7 @@
 -- The C-- machine: its states, one after the other (Ramsey and Peyton Jones, PLDI 2000, the abstract machine).
-use Rattle.std.specs.Prelude.{ℕ, zero, suc, List, [], ◌∷◌, map, length, replicate, Option, Some, None}
+use Rattle.std.specs.Prelude.{ℕ, zero, suc, List, [], map, length, replicate, Some}
 use Rattle.cmm_program.specs.Layout.{data_base, data_bytes}
-use Rattle.cmm_program.specs.Memory.{Room}
-use Rattle.cmm_program.specs.State.{Setting, Store, Status, Running, Waiting, Ended, Wrong}
+use Rattle.cmm_program.specs.State.{Setting, Store, Running, Waiting, Ended, Wrong}
 use Rattle.cmm_program.specs.Exits.{Instead}
 use Rattle.cmm_program.specs.Control.{Control, State, landed, answer_done, ran}
 use Rattle.cmm_program.specs.Todo.{Todo, todo_control}
@@ -11,10 +10,11 @@ use Rattle.cmm_program.specs.Client.{answered}
 -- one step: what the youngest activation does, or the client's answer; an ended or wrong state stays
 abbrev pub step_of : {C : Type 0} → Control C → Setting → State C → State C
 step_of k s st = elim st.store.status [
-    Running ↦ ran k s st
+  | Running ↦ ran k s st
   | Waiting values ↦ answer_done k s (answered s values st.store) st.controls
   | Ended outcome ↦ st
-  | Wrong error ↦ st ]
+  | Wrong error ↦ st
+]
 
 abbrev pub steps_of : {C : Type 0} → Control C → Setting → ℕ → State C → State C
 steps_of k s zero st = st
@@ -23,14 +23,15 @@ steps_of k s (suc m) st = steps_of k s m (step_of k s st)
 -- data as it is at the start, no activation, and the whole input left
 abbrev pub first_store : Setting → List ℕ → Store
 first_store s input = record {
-    memory = record { globals = record { address = data_base; cells = map Some (data_bytes s.program s.placement) }; rooms = [] };
-    registers = replicate (length s.program.globals) 0;
-    frames = [];
-    input = input;
-    taken = [];
-    output = [];
-    log = [];
-    status = Running }
+  memory = record { globals = record { address = data_base; cells = map Some (data_bytes s.program s.placement) }; rooms = [] };
+  registers = replicate (length s.program.globals) 0;
+  frames = [];
+  input = input;
+  taken = [];
+  output = [];
+  log = [];
+  status = Running;
+}
 
 -- the one activation of `main`, or the end where the stack is too small for it
 abbrev pub start_of : {C : Type 0} → Control C → Setting → List ℕ → State C

@@ -1,5 +1,5 @@
 -- Memory: the bytes of data, and those of the stackdata of each present activation.
-use Rattle.std.specs.Prelude.{ℕ, zero, suc, ◌+◌, ◌-◌, ◌*◌, ◌/◌, ◌%◌, ◌&&◌, Bool, true, false, nat_lt, nat_le, List, [], ◌∷◌, length, map, slice_index_or, slice_set, Option, Some, None}
+use Rattle.std.specs.Prelude.{ℕ, zero, suc, ◌+◌, ◌-◌, ◌*◌, ◌&&◌, Bool, true, false, nat_lt, nat_le, List, [], ◌∷◌, length, map, slice_index_or, slice_set, Option, Some, None}
 
 -- what stands at an address
 pub data Cell : Type 0 where
@@ -30,22 +30,25 @@ cell_of None = Unwritten
 abbrev pub cell_in : List Room → ℕ → Cell
 cell_in [] address = Outside
 cell_in (room ∷ rooms) address = elim (is_in room address) [
-    true ↦ cell_of (slice_index_or room.cells (address - room.address) None)
-  | false ↦ cell_in rooms address ]
+  | true ↦ cell_of (slice_index_or room.cells (address - room.address) None)
+  | false ↦ cell_in rooms address
+]
 
 abbrev pub cell_at : Memory → ℕ → Cell
 cell_at memory address = cell_in (memory.globals ∷ memory.rooms) address
 
 abbrev pub with_byte_in : Room → ℕ → ℕ → Room
 with_byte_in room address byte = elim (is_in room address) [
-    true ↦ record room { cells = slice_set room.cells (address - room.address) (Some byte) }
-  | false ↦ room ]
+  | true ↦ record room { cells = slice_set room.cells (address - room.address) (Some byte) }
+  | false ↦ room
+]
 
 -- memory with a byte at an address; the same where nothing stands there
 abbrev pub with_byte : Memory → ℕ → ℕ → Memory
 with_byte memory address byte = record {
-    globals = with_byte_in memory.globals address byte;
-    rooms = map (λ room. with_byte_in room address byte) memory.rooms }
+  globals = with_byte_in memory.globals address byte;
+  rooms = map (λ room. with_byte_in room address byte) memory.rooms;
+}
 
 -- memory with bytes from an address on
 abbrev pub with_bytes : Memory → ℕ → List ℕ → Memory

@@ -1,9 +1,8 @@
 -- Orders done to the store (C-- Language Specification 2.0, statements; Ramsey and Peyton Jones, PLDI 2000, the
 -- abstract machine).
-use Rattle.std.specs.Prelude.{ℕ, suc, ◌%◌, ◌^◌, ◌-◌, ◌==◌, Bool, true, false, List, [], ◌∷◌, ◌++◌, map, take, length, find, slice_get, Result, Ok, Err, Option, Some, None}
+use Rattle.std.specs.Prelude.{ℕ, suc, ◌%◌, ◌^◌, ◌-◌, ◌==◌, true, false, List, [], ◌∷◌, ◌++◌, map, take, length, find, Ok, Err, Option, Some, None}
 use Rattle.cmm_words.specs.declared.width.Width.TheVariants.{W64}
 use Rattle.cmm_script.specs.Lines.{yield_line}
-use Rattle.cmm_program.specs.declared.procedure.Proc.{Proc}
 use Rattle.cmm_program.specs.declared.placement.PlaceRow.{PlaceRow}
 use Rattle.cmm_program.specs.Errors.{Tried, NotAProcedure, WrongValues, WrongAlternates, NeverReturns, NoSuchCut, EndOfBody, and_then, provided, given, with_some}
 use Rattle.cmm_program.specs.State.{Setting, Frame, Store, Waiting, Ended, Done}
@@ -49,8 +48,9 @@ after_the_oldest exit alternates words store =
     provided (alternates == 0) WrongAlternates
     (provided (have_widths (W64 ∷ []) words) WrongValues
     (elim (numbers words) [
-      v ∷ _ ↦ Ok (Over 1 (record (without 1 store) { status = Ended (Done v) }))
-    | [] ↦ Err WrongValues ]))
+      | v ∷ _ ↦ Ok (Over 1 (record (without 1 store) { status = Ended (Done v) }))
+      | [] ↦ Err WrongValues
+    ]))
 
 -- to the site of the older frames' youngest
 abbrev pub returned : Setting → ℕ → ℕ → List Word → List Frame → Store → Tried Answer
@@ -74,8 +74,9 @@ pub record Found : Type 0 where
 abbrev pub cut_among : Setting → ℕ → List ℕ → ℕ → List Frame → Option Found
 cut_among s younger own value [] = None
 cut_among s younger own value (f ∷ fs) = elim (find (λ k. continuation_value s (f ∷ fs) k == value) own) [
-    Some k ↦ Some record { younger = younger; procedure = f.procedure; continuation = k }
-  | None ↦ cut_among s (suc younger) (site_cuts s fs) value fs ]
+  | Some k ↦ Some record { younger = younger; procedure = f.procedure; continuation = k }
+  | None ↦ cut_among s (suc younger) (site_cuts s fs) value fs
+]
 
 abbrev pub found_exit : Setting → Found → Option Exit
 found_exit s found = with_some (procedure_at s found.procedure) (λ p. continuation_exit p found.continuation)
@@ -89,8 +90,9 @@ next_byte (byte ∷ rest) = byte
 
 abbrev pub one_taken : Store → Store
 one_taken store = elim store.input [
-    [] ↦ store
-  | byte ∷ rest ↦ record store { input = rest; taken = store.taken ++ byte ∷ [] } ]
+  | [] ↦ store
+  | byte ∷ rest ↦ record store { input = rest; taken = store.taken ++ byte ∷ [] }
+]
 
 -- ---- every order
 
@@ -102,13 +104,15 @@ perform s (Put value) store = Ok (Stay 0 record store { output = store.output ++
 perform s (Get target) store = Ok (Stay 0 (assigned target (next_byte store.input) (one_taken store)))
 perform s (Enter site address words) store = entering s address words (λ n. Ok (Away 0 store (Called site n (numbers words))))
 perform s (Suspend site values) store = Ok (Wait record store {
-    frames = with_site (Some site) store.frames;
-    log = store.log ++ yield_line values;
-    status = Waiting values })
+  frames = with_site (Some site) store.frames;
+  log = store.log ++ yield_line values;
+  status = Waiting values;
+})
 perform s (Replace address words) store = entering s address words (λ n. Ok (Away 1 (without 1 store) (Instead n (numbers words))))
 perform s (Leave exit alternates words) store = elim store.frames [
-    [] ↦ Err EndOfBody
-  | f ∷ fs ↦ returned s exit alternates words fs store ]
+  | [] ↦ Err EndOfBody
+  | f ∷ fs ↦ returned s exit alternates words fs store
+]
 perform s (CutTo value words own) store =
     given (cut_among s 0 own value store.frames) NoSuchCut (λ found.
     given (found_exit s found) NoSuchCut (λ exit. leaving found.younger (without found.younger store) exit words))

@@ -1,5 +1,5 @@
 -- Which placements of a program are valid.
-use Rattle.std.specs.Prelude.{◌≡◌, ℕ, ◌+◌, ◌-◌, ◌%◌, ◌<◌, ◌≤◌, ◌==◌, ◌&&◌, ◌||◌, nat_le, nat_lt, Bool, true, false, IsTrue, List, [], ◌∷◌, length, Option, Some, None}
+use Rattle.std.specs.Prelude.{ℕ, ◌+◌, ◌%◌, ◌==◌, ◌&&◌, ◌||◌, nat_le, nat_lt, Bool, true, false, IsTrue, List, [], ◌∷◌, length, Some, None}
 use Rattle.cmm_program.specs.declared.procedure.Proc.{Proc}
 use Rattle.cmm_program.specs.declared.procedure.StackItem.{StackItem}
 use Rattle.cmm_program.specs.declared.program.Program.{Program}
@@ -44,10 +44,12 @@ abbrev pub are_labels : ℕ → ℕ → List StackItem → List ℕ → Bool
 are_labels base place [] [] = true
 are_labels base place [] (offset ∷ offsets) = false
 are_labels base place (i ∷ is) offsets = let here = aligned_up i.align place in elim i.label [
-    false ↦ are_labels base (here + i.length) is offsets
+  | false ↦ are_labels base (here + i.length) is offsets
   | true ↦ elim offsets [
-      [] ↦ false
-    | offset ∷ rest ↦ (offset == base + here) && are_labels base (here + i.length) is rest ] ]
+    | [] ↦ false
+    | offset ∷ rest ↦ (offset == base + here) && are_labels base (here + i.length) is rest
+  ]
+]
 
 -- Stackdata from a base, inside the frame and apart from the pairs.
 abbrev pub is_stackdata_at : ℕ → Proc → PlaceRow → Bool
@@ -58,8 +60,9 @@ is_stackdata_at base p row =
 -- The first label shows the base. Stackdata without a label has no addresses, and the row then names none.
 abbrev pub is_stackdata : Proc → PlaceRow → Bool
 is_stackdata p row = elim (stackdata_offset p row) [
-    Some base ↦ is_stackdata_at base p row
-  | None ↦ are_labels 0 0 p.stack row.stack ]
+  | Some base ↦ is_stackdata_at base p row
+  | None ↦ are_labels 0 0 p.stack row.stack
+]
 
 -- ---- a row, and a whole placement
 

@@ -1,6 +1,6 @@
 -- A state of the C-- machine, apart from where its activations go on (Ramsey and Peyton Jones, PLDI 2000, the
 -- abstract machine).
-use Rattle.std.specs.Prelude.{ℕ, Bool, List, Option}
+use Rattle.std.specs.Prelude.{ℕ, List, Option}
 use Rattle.cmm_script.specs.declared.script.Script.{Script}
 use Rattle.cmm_program.specs.declared.program.Program.{Program}
 use Rattle.cmm_program.specs.declared.placement.Placement.{Placement}

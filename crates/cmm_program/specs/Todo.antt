@@ -1,5 +1,5 @@
 -- The control of the C-- machine: the statements that an activation has still to do.
-use Rattle.std.specs.Prelude.{ℕ, zero, suc, ◌==◌, Bool, true, false, List, [], ◌∷◌, ◌++◌, map, slice_get, Result, Ok, Err, Option, Some, None}
+use Rattle.std.specs.Prelude.{ℕ, zero, suc, true, false, List, [], ◌∷◌, ◌++◌, map, slice_get, Ok, Some, None}
 use Rattle.cmm_program.specs.declared.expression.Expression.{Expression}
 use Rattle.cmm_program.specs.declared.statement.Form.{Form}
 use Rattle.cmm_program.specs.declared.statement.Form.TheVariants.{Empty, If', Switch', Span', Assign, Call, Yield, Checked, PutByte, GetByte, Jump, Return, Label, Goto, Continuation, Cut}
@@ -7,14 +7,13 @@ use Rattle.cmm_program.specs.declared.statement.Statement.{Statement}
 use Rattle.cmm_program.specs.declared.statement.Lvalue.{Lvalue}
 use Rattle.cmm_program.specs.declared.statement.Lvalue.TheVariants as lvalue
 use Rattle.cmm_program.specs.declared.procedure.Proc.{Proc}
-use Rattle.cmm_program.specs.declared.procedure.Site.{Site}
 use Rattle.cmm_program.specs.declared.procedure.Target.{Target}
 use Rattle.cmm_program.specs.declared.program.Program.{Program}
-use Rattle.cmm_program.specs.Errors.{Tried, NoArm, EndOfBody, ContinuationFromAbove, and_then, given}
+use Rattle.cmm_program.specs.Errors.{NoArm, EndOfBody, ContinuationFromAbove, and_then, given}
 use Rattle.cmm_program.specs.Values.{Value, Test, value_of, test_of, width_of}
 use Rattle.cmm_program.specs.Acts as act
 use Rattle.cmm_program.specs.Acts.{Act, Aim, Passed, Held, Memory}
-use Rattle.cmm_program.specs.Bodies.{Mark, AtLabel, AtContinuation, statements, Branch, branches, arm_for, branch_body, follow}
+use Rattle.cmm_program.specs.Bodies.{AtLabel, AtContinuation, statements, Branch, branches, arm_for, branch_body, follow}
 use Rattle.cmm_program.specs.Control.{Control}
 
 -- a procedure's number, and the statements still to do
@@ -76,20 +75,23 @@ in_procedure p n otherwise f = elim (slice_get p.procs n) [ Some proc ↦ f proc
 
 abbrev pub todo_act : Program → Todo → Act
 todo_act p t = elim t.rest [
-    [] ↦ act.Fail EndOfBody
-  | statement ∷ _ ↦ in_procedure p t.procedure act.Nothing (λ proc. act_of proc statement.form) ]
+  | [] ↦ act.Fail EndOfBody
+  | statement ∷ _ ↦ in_procedure p t.procedure act.Nothing (λ proc. act_of proc statement.form)
+]
 
 abbrev pub todo_on : Program → ℕ → Todo → Todo
 todo_on p way t = elim t.rest [
-    [] ↦ t
-  | statement ∷ rest ↦ record t { rest = in_procedure p t.procedure [] (λ proc. rest_after proc way statement.form rest) } ]
+  | [] ↦ t
+  | statement ∷ rest ↦ record t { rest = in_procedure p t.procedure [] (λ proc. rest_after proc way statement.form rest) }
+]
 
 -- An activation that waits at a site, or goes on behind it, has to do what follows the site's statement.
 abbrev pub todo_control : Program → Control Todo
 todo_control p = record {
-    act = todo_act p;
-    on = todo_on p;
-    later = todo_on p 0;
-    back = λ t. t;
-    resume = λ k t. record t { rest = in_procedure p t.procedure [] (λ proc. follow proc (AtContinuation k)) };
-    begin = λ n. record { procedure = n; rest = in_procedure p n [] (λ proc. proc.body) } }
+  act = todo_act p;
+  on = todo_on p;
+  later = todo_on p 0;
+  back = λ t. t;
+  resume = λ k t. record t { rest = in_procedure p t.procedure [] (λ proc. follow proc (AtContinuation k)) };
+  begin = λ n. record { procedure = n; rest = in_procedure p n [] (λ proc. proc.body) };
+}

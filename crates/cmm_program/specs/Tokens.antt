@@ -1,6 +1,6 @@
 -- How many tokens a statement has at least: those of its shortest text, brackets round operands left out
 -- (C-- Language Specification 2.0, syntax).
-use Rattle.std.specs.Prelude.{ℕ, ◌+◌, ◌-◌, ◌*◌, ◌==◌, nat_lt, Bool, true, false, List, [], ◌∷◌, length, sum_by, slice_get, Option, Some, None}
+use Rattle.std.specs.Prelude.{ℕ, ◌+◌, ◌-◌, ◌*◌, ◌==◌, nat_lt, Bool, true, false, List, [], ◌∷◌, length, sum_by, slice_get, Some, None}
 use Rattle.cmm_words.specs.declared.operators.Op2.{Op2}
 use Rattle.cmm_words.specs.declared.operators.Op2.TheVariants.{Shra, Rotl, Rotr, Div, Mod, Quot, Rem}
 use Rattle.cmm_program.specs.declared.expression.Expression.{Expression, Expression-F}

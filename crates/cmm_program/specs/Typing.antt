@@ -1,6 +1,6 @@
 -- Which expressions and conditions of a resolved program keep the rules on widths (C-- Language Specification 2.0,
 -- expressions): what each names is there, and its operands have the widths that it asks for.
-use Rattle.std.specs.Prelude.{ℕ, ◌^◌, ◌==◌, ◌&&◌, ◌||◌, nat_le, nat_lt, Bool, true, false, List, [], ◌∷◌, length, slice_get, Option, Some, None}
+use Rattle.std.specs.Prelude.{ℕ, ◌^◌, ◌==◌, ◌&&◌, ◌||◌, nat_le, nat_lt, Bool, true, false, length, slice_get, Option, Some, None}
 use Rattle.cmm_words.specs.declared.width.Width.{Width}
 use Rattle.cmm_words.specs.declared.width.Width.TheVariants.{W64}
 use Rattle.cmm_words.specs.declared.constant.Constant.{Constant}

@@ -1,6 +1,6 @@
 -- What can be read of a store by its youngest activation, and how values are put into places
 -- (C-- Language Specification 2.0, assignment).
-use Rattle.std.specs.Prelude.{ℕ, Bool, true, false, List, [], ◌∷◌, slice_index_or, slice_set, Result, Ok, Err}
+use Rattle.std.specs.Prelude.{ℕ, List, [], ◌∷◌, slice_index_or, slice_set, Ok}
 use Rattle.cmm_words.specs.Widths.{bytes}
 use Rattle.cmm_program.specs.declared.procedure.Target.{Target}
 use Rattle.cmm_program.specs.declared.procedure.Target.TheVariants.{Variable, Register}
@@ -19,12 +19,13 @@ variables_of (f ∷ fs) = f.variables
 -- what the youngest activation of a store reads
 abbrev pub reads_of : Setting → Store → Reads
 reads_of s store = record {
-    constant = constant_value s.program s.placement;
-    variable = λ n. slice_index_or (variables_of store.frames) n 0;
-    register = λ n. slice_index_or store.registers n 0;
-    stackdata = stackdata_address s store.frames;
-    continuation = continuation_value s store.frames;
-    byte = cell_at store.memory }
+  constant = constant_value s.program s.placement;
+  variable = λ n. slice_index_or (variables_of store.frames) n 0;
+  register = λ n. slice_index_or store.registers n 0;
+  stackdata = stackdata_address s store.frames;
+  continuation = continuation_value s store.frames;
+  byte = cell_at store.memory;
+}
 
 abbrev pub with_variable : List Frame → ℕ → ℕ → List Frame
 with_variable [] number value = []

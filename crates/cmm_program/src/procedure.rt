@@ -1,9 +1,8 @@
 //! A procedure of a resolved program (C-- Language Specification 2.0, procedures, stack data and call sites).
 
+use crate::statement::Statement;
 use cmm_items::Items;
 use cmm_words::{Constant, Name, Width};
-
-use crate::statement::Statement;
 
 /// A variable or a global register that takes a value, by its number, with its width.
 #[derive(Clone, Copy, Debug, PartialEq, Eq)]

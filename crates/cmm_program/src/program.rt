@@ -1,9 +1,8 @@
 //! A resolved program: all its units, with each name replaced by the number of what it names.
 
+use crate::procedure::Proc;
 use cmm_items::Items;
 use cmm_words::{Constant, Name, Width};
-
-use crate::procedure::Proc;
 
 /// A piece of initialised data, or an alignment.
 #[derive(Debug, Drop)]

@@ -1,11 +1,10 @@
 //! The statements of a procedure's body (C-- Language Specification 2.0, statements).
 //! Variables, labels, continuations and call sites are named by their numbers in the procedure.
 
-use cmm_items::Items;
-use cmm_words::{Op2, Width};
-
 use crate::expression::{Condition, Expression};
 use crate::procedure::Target;
+use cmm_items::Items;
+use cmm_words::{Op2, Width};
 
 /// What an assignment assigns to.
 #[derive(Debug, Drop)]

@@ -1,5 +1,5 @@
 -- The lines that a run writes to its log: at a yield, and for each of the client's commands.
-use Rattle.std.specs.Prelude.{ℕ, List, [], ◌∷◌, ◌++◌, flat_map, Option, codes, decimal}
+use Rattle.std.specs.Prelude.{ℕ, List, ◌++◌, flat_map, Option, codes, decimal}
 use Rattle.cmm_script.specs.Refusals.{Refusal, refusal_number}
 use Rattle.cmm_script.specs.Walk.{line, and, value_or_dead}
 

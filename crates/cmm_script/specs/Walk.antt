@@ -1,6 +1,6 @@
 -- A walk of a stopped program's activations, as plain data, and its text (C-- Language Specification 2.0, the
 -- run-time interface).
-use Rattle.std.specs.Prelude.{ℕ, suc, ◌+◌, ◌/◌, ◌%◌, ◌==◌, ◌&&◌, ◌||◌, not, nat_lt, nat_le, Bool, true, false, List, [], ◌∷◌, ◌++◌, flat_map, Option, Some, None, codes, decimal}
+use Rattle.std.specs.Prelude.{ℕ, suc, ◌+◌, ◌/◌, ◌%◌, ◌==◌, ◌&&◌, not, nat_lt, nat_le, Bool, true, false, List, [], ◌∷◌, ◌++◌, flat_map, Option, Some, None, codes, decimal}
 
 -- a variable: its width in bits, the kind that its declaration has, and its value where it is live
 pub record Shown : Type 0 where
@@ -41,8 +41,9 @@ is_plain byte = nat_le 32 byte && nat_le byte 126 && not (byte == 34) && not (by
 
 abbrev pub kind_byte : ℕ → List ℕ
 kind_byte byte = elim (is_plain byte) [
-    true ↦ byte ∷ []
-  | false ↦ 92 ∷ 120 ∷ hex_digit (byte / 16) ∷ hex_digit (byte % 16) ∷ [] ]
+  | true ↦ byte ∷ []
+  | false ↦ 92 ∷ 120 ∷ hex_digit (byte / 16) ∷ hex_digit (byte % 16) ∷ []
+]
 
 -- a kind, between quotes
 abbrev pub quoted : List ℕ → List ℕ
