@@ -8,3 +8,5 @@ mod ErrorRows
 mod ClientRows
 mod LayoutRows
 mod RangeRows
+mod Storing
+mod StoreRows

@@ -12,10 +12,6 @@ use Rattle.cmm_program.specs.InRange.{is_item}
 pub aligned_up-grows : (align place : ℕ) → 0 < align → place ≤ aligned_up align place
 aligned_up-grows align place h = omega (arith, div-add-mod' (place + pred align) align, mod_below (place + pred align) align h)
 
--- and none by more than the alignment
-pub aligned_up-near : (align place : ℕ) → aligned_up align place ≤ place + align
-aligned_up-near align place = omega (arith, div-add-mod' (place + pred align) align)
-
 -- an item has an alignment of at least 1
 is_item-align : (i : StackItem) → IsTrue (is_item i) → 0 < i.align
 is_item-align i h = grind (arith, nat_tests, h)

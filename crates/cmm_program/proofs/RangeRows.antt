@@ -8,7 +8,7 @@ use Rattle.cmm_program.specs.declared.expression.Expression.TheVariants as e
 use Rattle.cmm_program.specs.declared.statement.Form.TheVariants as f
 use Rattle.cmm_program.specs.declared.procedure.Proc.{Proc}
 use Rattle.cmm_program.specs.declared.program.Program.{Program}
-use Rattle.cmm_program.specs.InRange.{is_body_in, is_site, is_continuation, body_tokens}
+use Rattle.cmm_program.specs.InRange.{is_body_in, is_site, is_continuation, body_tokens, counted, body_numbers, label_number, continuation_number, site_number}
 use Rattle.cmm_program.specs.Placed.{every}
 use Rattle.cmm_program.specs.Tokens.{heading_tokens}
 use Rattle.cmm_program.specs.Typing.{typed}
@@ -83,3 +83,16 @@ too_few_tokens = refl
 widths_differ : typed tail tail-f (e.Binary Add W64 (num 1) (e.Known (Number 1 W8))) ≡ None
 unfolding opened
 widths_differ = refl
+
+-- numbers stand in textual order
+alternates_continuations : body_numbers continuation_number alternates-t ≡ counted 0 3
+unfolding opened
+alternates_continuations = refl
+
+divide_sites : body_numbers site_number divide-main ≡ counted 0 2
+unfolding opened
+divide_sites = refl
+
+divide_labels : body_numbers label_number divide-put ≡ counted 0 1
+unfolding opened
+divide_labels = refl

@@ -165,10 +165,49 @@ module _ (p : Program) (q : Proc) where
   abbrev pub is_continuation : Cont → Bool
   is_continuation c = at_most_64 c.params && every (below (length q.vars)) c.params
 
--- numbers from 0 up to a count
+-- ---- numbers in textual order
+
+-- numbers from one on, so many
 abbrev pub counted : ℕ → ℕ → List ℕ
 counted from zero = []
 counted from (suc n) = from ∷ counted (suc from) n
+
+abbrev pub label_number : Form → List ℕ
+label_number (Label n) = n ∷ []
+label_number _ = []
+
+abbrev pub continuation_number : Form → List ℕ
+continuation_number (Continuation n) = n ∷ []
+continuation_number _ = []
+
+abbrev pub site_number : Form → List ℕ
+site_number (Call site callee actuals) = site ∷ []
+site_number (Yield site values) = site ∷ []
+site_number (Checked site op width left right) = site ∷ []
+site_number _ = []
+
+-- the numbers that the statements of a body have, in textual order
+abbrev mutual
+  pub numbers_inside : (Form → List ℕ) → Form → List ℕ
+  numbers_inside number (If' condition _ then_ _ otherwise) = numbers_in number then_ ++ numbers_in number otherwise
+  numbers_inside number (Switch' value _ arms) = numbers_in_arms number arms
+  numbers_inside number (Span' _ body) = numbers_in number body
+  numbers_inside number _ = []
+
+  pub numbers_in : {n : _} → (Form → List ℕ) → Row_of-Statement n → List ℕ
+  numbers_in number end_of-Statement = []
+  numbers_in number (more_of-Statement tokens form rest) = number form ++ numbers_inside number form ++ numbers_in number rest
+
+  pub numbers_in_arms : {n : _} → (Form → List ℕ) → Row_of-Arm n → List ℕ
+  numbers_in_arms number end_of-Arm = []
+  numbers_in_arms number (more_of-Arm (Arm' case _ body) rest) = numbers_in number body ++ numbers_in_arms number rest
+
+abbrev pub body_numbers : (Form → List ℕ) → Proc → List ℕ
+body_numbers number q = numbers_inside number (Span q.body)
+
+-- a body has each of so many numbers once, in textual order
+abbrev pub AreNumbered : (Form → List ℕ) → ℕ → Proc → Type 0
+AreNumbered number count q = body_numbers number q ≡ counted 0 count
 
 -- ---- counts of tokens
 
@@ -214,8 +253,9 @@ pub record IsProcInRange (p : Program) (q : Proc) : Type 0 where
   pub continuations : IsTrue (every (is_continuation p q) q.conts)
   pub sites : IsTrue (every (is_site p q) q.sites)
   pub body : IsTrue (is_body_in p q (Span q.body))
-  pub continuations_stand : IsTrue (every (λ k. has_mark p q (AtContinuation k)) (counted 0 (length q.conts)))
-  pub sites_stand : IsTrue (every (λ n. has_mark p q (AtSite n)) (counted 0 (length q.sites)))
+  pub labels_numbered : AreNumbered label_number (length (body_numbers label_number q)) q
+  pub continuations_numbered : AreNumbered continuation_number (length q.conts) q
+  pub sites_numbered : AreNumbered site_number (length q.sites) q
   pub counts : heading_tokens q + body_tokens q ≤ q.tokens
   pub tokens : q.tokens ≤ 131072
 
