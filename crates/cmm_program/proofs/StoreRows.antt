@@ -1,5 +1,5 @@
 -- Worked rows: registers, memory, control within a body, and the stack limit.
-use Rattle.std.proofs.Common.{◌≡◌, ℕ, refl, List, [], ◌∷◌}
+use Rattle.std.proofs.Common.{◌≡◌, refl, [], ◌∷◌}
 use Rattle.std.specs.Prelude.{None, map, codes}
 use Rattle.cmm_script.specs.declared.script.Command.TheVariants.{Cut}
 use Rattle.cmm_script.specs.declared.script.Value.TheVariants.{Number, Yielded}

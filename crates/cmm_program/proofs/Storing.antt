@@ -1,9 +1,8 @@
 -- Programs of worked rows, written by hand: registers, memory and control.
-use Rattle.std.proofs.Common.{true, false, List, [], ◌∷◌, Some, None}
+use Rattle.std.proofs.Common.{true, false, [], ◌∷◌, Some, None}
 use Rattle.std.specs.Prelude.{codes}
-use Rattle.cmm_words.specs.declared.width.Width.TheVariants.{W8, W16, W32, W64}
-use Rattle.cmm_words.specs.declared.operators.Op1.TheVariants.{Com, Neg}
-use Rattle.cmm_words.specs.declared.operators.Op2.TheVariants.{Add, Sub, Mul, Divu, Shl}
+use Rattle.cmm_words.specs.declared.width.Width.TheVariants.{W8, W32, W64}
+use Rattle.cmm_words.specs.declared.operators.Op2.TheVariants.{Add, Mul}
 use Rattle.cmm_words.specs.declared.operators.Cmp.TheVariants.{Eq, Ltu}
 use Rattle.cmm_words.specs.declared.constant.Constant.TheVariants.{Number, Code, Address}
 use Rattle.cmm_program.specs.declared.expression.Expression.TheVariants as e
@@ -15,7 +14,7 @@ use Rattle.cmm_program.specs.declared.procedure.Target.TheVariants.{Variable, Re
 use Rattle.cmm_program.specs.declared.procedure.Proc.{Proc}
 use Rattle.cmm_program.specs.declared.program.Program.{Program}
 use Rattle.cmm_program.specs.declared.placement.Placement.{Placement}
-use Rattle.cmm_program.proofs.Notation.{num, is, arm, variable, plain}
+use Rattle.cmm_program.proofs.Notation.{num, is, arm, plain}
 
 -- ---- a global register, a loop and a switch
 --     register bits64 total;

@@ -23,7 +23,7 @@ use Rattle.cmm_program.specs.declared.program.Program.{Program}
 use Rattle.cmm_program.specs.declared.program.Datum.{Datum}
 use Rattle.cmm_program.specs.declared.program.Label.{Label as DataLabel}
 use Rattle.cmm_program.specs.Acts.{target_width}
-use Rattle.cmm_program.specs.Bodies.{Mark, AtLabel, AtContinuation, AtSite, Branch, branches, after_inside}
+use Rattle.cmm_program.specs.Bodies.{Mark, AtLabel, Branch, branches, after_inside}
 use Rattle.cmm_program.specs.Layout.{end_before, data_base, stack_size}
 use Rattle.cmm_program.specs.Placed.{every}
 use Rattle.cmm_program.specs.Tokens.{own_tokens, heading_tokens}
