@@ -10,3 +10,5 @@ mod LayoutRows
 mod RangeRows
 mod Storing
 mod StoreRows
+mod Flowing
+mod LiveRows

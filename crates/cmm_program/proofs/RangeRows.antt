@@ -8,7 +8,8 @@ use Rattle.cmm_program.specs.declared.expression.Expression.TheVariants as e
 use Rattle.cmm_program.specs.declared.statement.Form.TheVariants as f
 use Rattle.cmm_program.specs.declared.procedure.Proc.{Proc}
 use Rattle.cmm_program.specs.declared.program.Program.{Program}
-use Rattle.cmm_program.specs.InRange.{is_body_in, is_site, is_continuation, body_tokens, counted, body_numbers, label_number, continuation_number, site_number}
+use Rattle.cmm_program.specs.InRange.{is_body_in, is_site, is_continuation}
+use Rattle.cmm_program.specs.Numbering.{counted, body_numbers, label_number, continuation_number, site_number, body_tokens}
 use Rattle.cmm_program.specs.Placed.{every}
 use Rattle.cmm_program.specs.Tokens.{heading_tokens}
 use Rattle.cmm_program.specs.Typing.{typed}
