@@ -1,4 +1,4 @@
--- Programs of worked rows, written by hand: calls, returns, cuts and input.
+-- Programs of worked rows, resolved, each below its text: calls, returns, cuts and input.
 use Rattle.std.proofs.Common.{true, false, [], ◌∷◌, None}
 use Rattle.std.specs.Prelude.{codes}
 use Rattle.cmm_words.specs.declared.width.Width.TheVariants.{W64}

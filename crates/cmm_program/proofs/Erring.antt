@@ -1,4 +1,4 @@
--- Programs written by hand, each of which meets an unchecked error.
+-- Programs, resolved, each below its text, and each of which meets an unchecked error.
 use Rattle.std.proofs.Common.{true, false, [], ◌∷◌, None}
 use Rattle.std.specs.Prelude.{codes}
 use Rattle.cmm_words.specs.declared.width.Width.TheVariants.{W8, W64}

@@ -1,4 +1,4 @@
--- Programs of worked rows, written by hand: paths from a call site.
+-- Programs of worked rows, resolved, each below its text: paths from a call site.
 use Rattle.std.proofs.Common.{true, false, [], ◌∷◌, Some, None}
 use Rattle.std.specs.Prelude.{codes}
 use Rattle.cmm_words.specs.declared.width.Width.TheVariants.{W64}

@@ -1,4 +1,4 @@
--- A notation for programs, settings and scripts that are written by hand.
+-- A notation for programs, settings and scripts of worked rows.
 use Rattle.std.proofs.Common.{ℕ, ◌+◌, Bool, false, List, [], Some, None}
 use Rattle.std.specs.Fmt as Fmt
 use denote.Hole.Carrier as Carrier

@@ -1,4 +1,4 @@
--- Worked rows: programs written by hand are in range, with counts of tokens that were counted in their texts.
+-- Worked rows: resolved programs are in range, with counts of tokens that were counted in their texts.
 use Rattle.std.proofs.Common.{◌≡◌, ◌+◌, Bool, true, false, refl}
 use Rattle.std.specs.Prelude.{◌&&◌, nat_le, None}
 use Rattle.cmm_words.specs.declared.width.Width.TheVariants.{W8, W64}

@@ -1,4 +1,4 @@
--- Programs of worked rows, written by hand: registers, memory and control.
+-- Programs of worked rows, resolved, each below its text: registers, memory and control.
 use Rattle.std.proofs.Common.{true, false, [], ◌∷◌, Some, None}
 use Rattle.std.specs.Prelude.{codes}
 use Rattle.cmm_words.specs.declared.width.Width.TheVariants.{W8, W32, W64}

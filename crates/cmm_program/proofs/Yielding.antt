@@ -1,4 +1,4 @@
--- Programs of worked rows, written by hand: those that yield.
+-- Programs of worked rows, resolved, each below its text: those that yield.
 use Rattle.std.proofs.Common.{true, false, [], ◌∷◌, Some, None}
 use Rattle.std.specs.Prelude.{codes}
 use Rattle.cmm_words.specs.declared.width.Width.TheVariants.{W8, W64}
