@@ -1,0 +1,227 @@
+-- Programs in range: each number names what is there, the rules that a resolved program can show are kept, and no
+-- count of tokens is less than a text with the same parts can have. What `check` answers is in range, and whatever
+-- works on a program may rely on it (C-- Language Specification 2.0, static semantics).
+use Rattle.std.specs.Prelude.{◌≡◌, ℕ, ◌+◌, ◌*◌, ◌^◌, ◌<◌, ◌≤◌, ◌==◌, ◌&&◌, ◌||◌, not, nat_le, nat_lt, Bool, true, false, IsTrue, All, List, [], ◌∷◌, ◌++◌, length, sum_by, slice_get, Option, Some, None}
+use Rattle.cmm_words.specs.declared.width.Width.{Width}
+use Rattle.cmm_words.specs.declared.width.Width.TheVariants.{W64}
+use Rattle.cmm_words.specs.declared.constant.Constant.{Constant}
+use Rattle.cmm_words.specs.Widths.{bits, bytes}
+use Rattle.cmm_words.specs.Words.{is_division}
+use Rattle.cmm_program.specs.declared.expression.Expression.{Expression}
+use Rattle.cmm_program.specs.declared.statement.Form.{Form, Row_of-Arm, end_of-Arm, more_of-Arm}
+use Rattle.cmm_program.specs.declared.statement.Form.TheVariants.{Empty, If', Switch', Span', Span, Assign, Call, Yield, Checked, PutByte, GetByte, Jump, Return, Label, Goto, Continuation, Cut}
+use Rattle.cmm_program.specs.declared.statement.Arm.{Arm', Row_of-Statement, end_of-Statement, more_of-Statement}
+use Rattle.cmm_program.specs.declared.statement.Lvalue.{Lvalue}
+use Rattle.cmm_program.specs.declared.statement.Lvalue.TheVariants as lvalue
+use Rattle.cmm_program.specs.declared.statement.Case.TheVariants.{In, Default}
+use Rattle.cmm_program.specs.declared.statement.Range.{Range}
+use Rattle.cmm_program.specs.declared.procedure.Proc.{Proc}
+use Rattle.cmm_program.specs.declared.procedure.Site.{Site}
+use Rattle.cmm_program.specs.declared.procedure.StackItem.{StackItem}
+use Rattle.cmm_program.specs.declared.procedure.Cont.{Cont}
+use Rattle.cmm_program.specs.declared.program.Program.{Program}
+use Rattle.cmm_program.specs.declared.program.Datum.{Datum}
+use Rattle.cmm_program.specs.declared.program.Label.{Label as DataLabel}
+use Rattle.cmm_program.specs.Acts.{target_width}
+use Rattle.cmm_program.specs.Bodies.{Mark, AtLabel, Branch, branches, after_inside}
+use Rattle.cmm_program.specs.Numbering.{AreNumbered, body_numbers, label_number, continuation_number, site_number, body_tokens}
+use Rattle.cmm_program.specs.Layout.{end_before, data_base, stack_size}
+use Rattle.cmm_program.specs.Placed.{every}
+use Rattle.cmm_program.specs.Tokens.{own_tokens, heading_tokens}
+use Rattle.cmm_program.specs.Typing.{is_alignment, same_width, constant_width, is_target, typed, has_width, is_typed, is_condition}
+
+-- at most 64 values are passed at once
+abbrev pub at_most_64 : {A : Type 0} → List A → Bool
+at_most_64 list = nat_le (length list) 64
+
+-- a name has at most 255 bytes
+abbrev pub is_name : List ℕ → Bool
+is_name name = nat_le (length name) 255
+
+abbrev pub below : ℕ → ℕ → Bool
+below limit n = nat_lt n limit
+
+-- ---- the arms of a switch on values of a width: no range falls, none leaves the width, and no two meet
+
+abbrev pub is_range : Width → Range → Bool
+is_range width r = nat_le r.from r.to && nat_lt r.to (2 ^ bits width)
+
+abbrev pub do_not_meet : Range → Range → Bool
+do_not_meet a b = nat_lt a.to b.from || nat_lt b.to a.from
+
+abbrev pub none_meet : List Range → Bool
+none_meet [] = true
+none_meet (r ∷ rs) = every (do_not_meet r) rs && none_meet rs
+
+abbrev pub all_ranges : List Branch → List Range
+all_ranges [] = []
+all_ranges (b ∷ bs) = elim b.case [ In ranges ↦ ranges ++ all_ranges bs | Default ↦ all_ranges bs ]
+
+abbrev pub defaults : List Branch → ℕ
+defaults [] = 0
+defaults (b ∷ bs) = elim b.case [ In ranges ↦ defaults bs | Default ↦ 1 + defaults bs ]
+
+abbrev pub are_arms : Option Width → List Branch → Bool
+are_arms None bs = false
+are_arms (Some width) bs = every (is_range width) (all_ranges bs) && none_meet (all_ranges bs) && nat_le (defaults bs) 1
+
+-- ---- a statement: what it names, its widths and its counts
+
+abbrev pub is_there : {A : Type 0} → Option A → Bool
+is_there (Some a) = true
+is_there None = false
+
+module _ (p : Program) (q : Proc) where
+  -- the body has this place
+  abbrev pub has_mark : Mark → Bool
+  has_mark m = is_there (after_inside m (Span q.body))
+
+  abbrev pub is_lvalue : Lvalue → Bool
+  is_lvalue (lvalue.Target target) = is_target p q target
+  is_lvalue (lvalue.Memory width aligned address) = is_alignment aligned && has_width p q W64 address
+
+  abbrev pub lvalue_width : Lvalue → Width
+  lvalue_width (lvalue.Target target) = target_width target
+  lvalue_width (lvalue.Memory width aligned address) = width
+
+  -- as many values as there are places, of their widths
+  abbrev pub are_assigned : List Lvalue → List Expression → Bool
+  are_assigned [] [] = true
+  are_assigned (l ∷ ls) (e ∷ es) = is_lvalue l && has_width p q (lvalue_width l) e && are_assigned ls es
+  are_assigned _ _ = false
+
+  abbrev pub are_passed : List Expression → Bool
+  are_passed es = at_most_64 es && every (is_typed p q) es
+
+  abbrev pub at_site : ℕ → (Site → Bool) → Bool
+  at_site n test = elim (slice_get q.sites n) [ Some site ↦ test site | None ↦ false ]
+
+  abbrev pub is_call_site : Site → Bool
+  is_call_site site = not (is_there site.yield_values)
+
+  abbrev pub is_yield_site : ℕ → Site → Bool
+  is_yield_site count site = elim site.yield_values [ Some n ↦ n == count | None ↦ false ]
+
+  -- a checked operator has one result, of its operands' width, and yields one value
+  abbrev pub is_checked_site : Width → Site → Bool
+  is_checked_site width site = is_yield_site 1 site && elim site.results [
+    | [] ↦ false
+    | target ∷ more ↦ same_width (target_width target) width && (length more == 0)
+  ]
+
+  -- a statement without the blocks inside it
+  abbrev pub is_form : Form → Bool
+  is_form Empty = true
+  is_form (If' condition _ then_ _ otherwise) = is_condition p q condition
+  is_form (Switch' value _ arms) = are_arms (typed p q value) (branches arms)
+  is_form (Span' _ body) = true
+  is_form (Assign to values) = are_assigned to values
+  is_form (Call site callee actuals) = at_site site is_call_site && has_width p q W64 callee && are_passed actuals
+  is_form (Yield site values) = at_site site (is_yield_site (length values)) && are_passed values
+  is_form (Checked site op width left right) =
+      at_site site (is_checked_site width) && is_division op && has_width p q width left && has_width p q width right
+  is_form (PutByte value) = has_width p q W64 value
+  is_form (GetByte target) = is_target p q target && same_width (target_width target) W64
+  is_form (Jump callee actuals) = has_width p q W64 callee && are_passed actuals
+  is_form (Return exit alternates values) = nat_le exit alternates && nat_le alternates 64 && are_passed values
+  is_form (Label n) = true
+  is_form (Goto n) = has_mark (AtLabel n)
+  is_form (Continuation n) = below (length q.conts) n
+  is_form (Cut to values own) = has_width p q W64 to && are_passed values && every (below (length q.conts)) own
+
+  -- and it has at least the tokens that its parts have
+  abbrev pub is_statement : ℕ → Form → Bool
+  is_statement tokens form = is_form form && nat_le (own_tokens q form) tokens
+
+  abbrev mutual
+    pub is_body_in : Form → Bool
+    is_body_in (If' condition _ then_ _ otherwise) = is_block then_ && is_block otherwise
+    is_body_in (Switch' value _ arms) = are_bodies arms
+    is_body_in (Span' _ body) = is_block body
+    is_body_in _ = true
+
+    pub is_block : {n : _} → Row_of-Statement n → Bool
+    is_block end_of-Statement = true
+    is_block (more_of-Statement tokens form rest) = is_statement tokens form && is_body_in form && is_block rest
+
+    pub are_bodies : {n : _} → Row_of-Arm n → Bool
+    are_bodies end_of-Arm = true
+    are_bodies (more_of-Arm (Arm' case _ body) rest) = is_block body && are_bodies rest
+
+  -- ---- the sites
+
+  -- ascending, each token once
+  abbrev pub are_spans : List (ℕ × Constant) → Bool
+  are_spans [] = true
+  are_spans (s ∷ []) = is_there (constant_width p s.1)
+  are_spans (s ∷ t ∷ rest) = is_there (constant_width p s.1) && nat_lt s.0 t.0 && are_spans (t ∷ rest)
+
+  abbrev pub is_site : Site → Bool
+  is_site site =
+      at_most_64 site.results && every (is_target p q) site.results
+      && at_most_64 site.returns && every (below (length q.conts)) site.returns
+      && every (below (length q.conts)) site.unwinds && every (below (length q.conts)) site.cuts
+      && are_spans site.spans
+
+  abbrev pub is_continuation : Cont → Bool
+  is_continuation c = at_most_64 c.params && every (below (length q.vars)) c.params
+
+-- ---- procedures
+
+-- alignments are those of the language; an item with a label has no length
+abbrev pub is_item : StackItem → Bool
+is_item i = is_alignment i.align && (not i.label || (i.length == 0))
+
+-- what a test of a frame relies on: its parts are small
+pub record FitsFrames (q : Proc) : Type 0 where
+  pub items : IsTrue (every is_item q.stack)
+  pub stackdata : stack_size q.stack ≤ 65536
+  pub tokens : q.tokens ≤ 131072
+
+pub record IsProcInRange (p : Program) (q : Proc) : Type 0 where
+  pub name : IsTrue (is_name q.name)
+  pub unit : q.unit < 256
+  pub formals : IsTrue (nat_le q.formals (length q.vars) && nat_le q.formals 64)
+  pub variables : length q.vars ≤ 1024
+  pub kinds : IsTrue (every (λ v. is_name v.kind) q.vars)
+  pub items : IsTrue (every is_item q.stack)
+  pub stackdata : stack_size q.stack ≤ 65536
+  pub continuations : IsTrue (every (is_continuation p q) q.conts)
+  pub sites : IsTrue (every (is_site p q) q.sites)
+  pub body : IsTrue (is_body_in p q (Span q.body))
+  pub labels_numbered : AreNumbered label_number (length (body_numbers label_number q)) q
+  pub continuations_numbered : AreNumbered continuation_number (length q.conts) q
+  pub sites_numbered : AreNumbered site_number (length q.sites) q
+  pub counts : heading_tokens q + body_tokens q ≤ q.tokens
+  pub tokens : q.tokens ≤ 131072
+
+-- ---- data
+
+abbrev pub is_initial : Program → Width → Constant → Bool
+is_initial p width c = elim (constant_width p c) [ Some found ↦ same_width found width | None ↦ false ]
+
+-- values fill the datum, and each has its width
+abbrev pub is_datum : Program → Datum → Bool
+is_datum p d = is_alignment d.align && elim d.values [
+  | [] ↦ true
+  | _ ∷ _ ↦ (d.length == length d.values * bytes d.width) && every (is_initial p d.width) d.values
+]
+
+abbrev pub is_label : Program → DataLabel → Bool
+is_label p l = is_name l.name && every is_name l.links && elim l.at_end [ true ↦ nat_le l.datum (length p.datums) | false ↦ nat_lt l.datum (length p.datums) ]
+
+-- ---- programs
+
+pub record IsInRange (p : Program) : Type 0 where
+  pub procedures : All (IsProcInRange p) p.procs
+  pub procedure_count : length p.procs ≤ 65535
+  pub main : p.main < length p.procs
+  pub main_formals : (q : Proc) → slice_get p.procs p.main ≡ Some q → q.formals ≡ 0
+  pub datums : IsTrue (every (is_datum p) p.datums)
+  pub data_size : end_before p (length p.datums) ≤ data_base + 67108864
+  pub labels : IsTrue (every (is_label p) p.labels)
+  pub registers : length p.globals ≤ 256
+  pub register_names : IsTrue (every (λ g. is_name g.name) p.globals)
+  pub tokens : sum_by (λ q. q.tokens) p.procs ≤ 1000000
+  pub site_variables : sum_by (λ q. length q.sites * length q.vars) p.procs ≤ 8000000
+  pub site_spans : sum_by (λ q. sum_by (λ site. length site.spans) q.sites) p.procs ≤ 1000000

@@ -1,0 +1,50 @@
+-- The C-- machine: its states, one after the other (Ramsey and Peyton Jones, PLDI 2000, the abstract machine).
+use Rattle.std.specs.Prelude.{ℕ, zero, suc, List, [], map, length, replicate, Some}
+use Rattle.cmm_program.specs.Layout.{data_base, data_bytes}
+use Rattle.cmm_program.specs.State.{Setting, Store, Running, Waiting, Ended, Wrong}
+use Rattle.cmm_program.specs.Exits.{Instead}
+use Rattle.cmm_program.specs.Control.{Control, State, landed, answer_done, ran}
+use Rattle.cmm_program.specs.Todo.{Todo, todo_control}
+use Rattle.cmm_program.specs.Client.{answered}
+
+-- one step: what the youngest activation does, or the client's answer; an ended or wrong state stays
+abbrev pub step_of : {C : Type 0} → Control C → Setting → State C → State C
+step_of k s st = elim st.store.status [
+  | Running ↦ ran k s st
+  | Waiting values ↦ answer_done k s (answered s values st.store) st.controls
+  | Ended outcome ↦ st
+  | Wrong error ↦ st
+]
+
+abbrev pub steps_of : {C : Type 0} → Control C → Setting → ℕ → State C → State C
+steps_of k s zero st = st
+steps_of k s (suc m) st = steps_of k s m (step_of k s st)
+
+-- data as it is at the start, no activation, and the whole input left
+abbrev pub first_store : Setting → List ℕ → Store
+first_store s input = record {
+  memory = record { globals = record { address = data_base; cells = map Some (data_bytes s.program s.placement) }; rooms = [] };
+  registers = replicate (length s.program.globals) 0;
+  frames = [];
+  input = input;
+  taken = [];
+  output = [];
+  log = [];
+  status = Running;
+}
+
+-- the one activation of `main`, or the end where the stack is too small for it
+abbrev pub start_of : {C : Type 0} → Control C → Setting → List ℕ → State C
+start_of k s input = landed k s (Instead s.program.main []) (first_store s input) []
+
+-- ---- the C-- machine
+
+abbrev pub step : Setting → State Todo → State Todo
+step s = step_of (todo_control s.program) s
+
+abbrev pub start : Setting → List ℕ → State Todo
+start s input = start_of (todo_control s.program) s input
+
+-- the state after m steps
+abbrev pub state_after : Setting → List ℕ → ℕ → State Todo
+state_after s input m = steps_of (todo_control s.program) s m (start s input)

@@ -1,0 +1,89 @@
+-- Which placements of a program are valid.
+use Rattle.std.specs.Prelude.{ℕ, ◌+◌, ◌%◌, ◌==◌, ◌&&◌, ◌||◌, nat_le, nat_lt, Bool, true, false, IsTrue, List, [], ◌∷◌, length, Some, None}
+use Rattle.cmm_program.specs.declared.procedure.Proc.{Proc}
+use Rattle.cmm_program.specs.declared.procedure.StackItem.{StackItem}
+use Rattle.cmm_program.specs.declared.program.Program.{Program}
+use Rattle.cmm_program.specs.declared.placement.Placement.{Placement}
+use Rattle.cmm_program.specs.declared.placement.PlaceRow.{PlaceRow}
+use Rattle.cmm_program.specs.Layout.{aligned_up, stack_size}
+use Rattle.cmm_program.specs.Bounds.{frame_bound}
+use Rattle.cmm_program.specs.Frames.{stackdata_offset}
+
+-- every element passes the test
+abbrev pub every : {A : Type 0} → (A → Bool) → List A → Bool
+every test [] = true
+every test (a ∷ as_) = test a && every test as_
+
+-- code has the addresses from 0x10000 up to 0x40000000 for itself
+abbrev pub is_code_address : ℕ → Bool
+is_code_address address = (address % 4 == 0) && nat_le 0x10000 address && nat_lt address 0x40000000
+
+abbrev pub is_frame_size : Proc → ℕ → Bool
+is_frame_size p size = (size % 16 == 0) && nat_le size (frame_bound p)
+
+-- ---- pairs: 16 bytes each
+
+abbrev pub is_pair_in : ℕ → ℕ → Bool
+is_pair_in frame offset = (offset % 8 == 0) && nat_le (offset + 16) frame
+
+-- so many bytes at two offsets have none in common
+abbrev pub apart : ℕ → ℕ → ℕ → ℕ → Bool
+apart offset size offset' size' = nat_le (offset + size) offset' || nat_le (offset' + size') offset
+
+abbrev pub pairs_apart : List ℕ → Bool
+pairs_apart [] = true
+pairs_apart (offset ∷ offsets) = every (λ other. apart offset 16 other 16) offsets && pairs_apart offsets
+
+abbrev pub are_pairs : Proc → PlaceRow → Bool
+are_pairs p row = (length row.pairs == length p.conts) && every (is_pair_in row.frame) row.pairs && pairs_apart row.pairs
+
+-- ---- stackdata
+
+-- the offsets are those of the labels of some items, which begin at a place, moved by a base
+abbrev pub are_labels : ℕ → ℕ → List StackItem → List ℕ → Bool
+are_labels base place [] [] = true
+are_labels base place [] (offset ∷ offsets) = false
+are_labels base place (i ∷ is) offsets = let here = aligned_up i.align place in elim i.label [
+  | false ↦ are_labels base (here + i.length) is offsets
+  | true ↦ elim offsets [
+    | [] ↦ false
+    | offset ∷ rest ↦ (offset == base + here) && are_labels base (here + i.length) is rest
+  ]
+]
+
+-- Stackdata from a base, inside the frame and apart from the pairs.
+abbrev pub is_stackdata_at : ℕ → Proc → PlaceRow → Bool
+is_stackdata_at base p row =
+    (base % 16 == 0) && nat_le (base + stack_size p.stack) row.frame && are_labels base 0 p.stack row.stack
+    && every (λ offset. apart base (stack_size p.stack) offset 16) row.pairs
+
+-- The first label shows the base. Stackdata without a label has no addresses, and the row then names none.
+abbrev pub is_stackdata : Proc → PlaceRow → Bool
+is_stackdata p row = elim (stackdata_offset p row) [
+  | Some base ↦ is_stackdata_at base p row
+  | None ↦ are_labels 0 0 p.stack row.stack
+]
+
+-- ---- a row, and a whole placement
+
+abbrev pub is_row_placed : Proc → PlaceRow → Bool
+is_row_placed p row = is_code_address row.code && is_frame_size p row.frame && are_pairs p row && is_stackdata p row
+
+-- a row for each procedure, and no other
+abbrev pub are_rows_placed : List Proc → List PlaceRow → Bool
+are_rows_placed [] [] = true
+are_rows_placed (p ∷ ps) (row ∷ rows) = is_row_placed p row && are_rows_placed ps rows
+are_rows_placed _ _ = false
+
+-- each address above the one before
+abbrev pub ascend_from : ℕ → List PlaceRow → Bool
+ascend_from address [] = true
+ascend_from address (row ∷ rows) = nat_lt address row.code && ascend_from row.code rows
+
+abbrev pub is_placed : Program → Placement → Bool
+is_placed program placement = are_rows_placed program.procs placement.rows && ascend_from 0 placement.rows
+
+-- a placement that a machine may use
+pub record IsPlaced (program : Program) (placement : Placement) : Type 0 where
+  pub rows : IsTrue (are_rows_placed program.procs placement.rows)
+  pub ascending : IsTrue (ascend_from 0 placement.rows)

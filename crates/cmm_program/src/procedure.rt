@@ -1,0 +1,79 @@
+//! A procedure of a resolved program (C-- Language Specification 2.0, procedures, stack data and call sites).
+
+use crate::statement::Statement;
+use cmm_items::Items;
+use cmm_words::{Constant, Name, Width};
+
+/// A variable or a global register that takes a value, by its number, with its width.
+#[derive(Clone, Copy, Debug, PartialEq, Eq)]
+pub enum Target {
+    Variable(u32, Width),
+    Register(u32, Width),
+}
+
+/// A variable of a procedure.
+#[derive(Debug, Drop)]
+pub struct VarInfo {
+    pub width: Width,
+    /// The text of its declaration, which a walk shows.
+    pub kind: Name,
+    /// Whether the client may not change it.
+    pub invariant: bool,
+}
+
+/// An item of stackdata. An item of length 0 with `label` set is a stackdata label; one of length 0 without is an
+/// alignment.
+#[derive(Clone, Copy, Debug, PartialEq, Eq)]
+pub struct StackItem {
+    /// In bytes.
+    pub align: u32,
+    /// In bytes.
+    pub length: u32,
+    pub label: bool,
+}
+
+/// A continuation of a procedure.
+#[derive(Debug, Drop)]
+pub struct Cont {
+    /// The variables that take the values passed to it.
+    pub params: Items<u32>,
+}
+
+/// A call site: a call, a yield or a checked operator.
+#[derive(Debug, Drop)]
+pub struct Site {
+    /// What takes the values of its normal exit.
+    pub results: Items<Target>,
+    /// The continuations of its alternate exits.
+    pub returns: Items<u32>,
+    /// The continuations of its unwind exits.
+    pub unwinds: Items<u32>,
+    /// The continuations to which it may be cut.
+    pub cuts: Items<u32>,
+    /// Whether it says that the activation may be cut past or unwound past. This changes nothing.
+    pub aborts: bool,
+    /// Whether it has no normal exit.
+    pub never: bool,
+    /// How many values its yield has, where it is a yield or a checked operator.
+    pub yield_values: Option<u8>,
+    /// The token and the value of each span that gives the site a descriptor: the innermost of each token, in
+    /// ascending order of tokens.
+    pub spans: Items<(u64, Constant)>,
+}
+
+/// A procedure.
+#[derive(Debug, Drop)]
+pub struct Proc {
+    pub name: Name,
+    /// The number of its unit.
+    pub unit: u32,
+    /// The count of its tokens, from its name to its closing brace.
+    pub tokens: u32,
+    /// How many of its variables are formals. These come first.
+    pub formals: u32,
+    pub vars: Items<VarInfo>,
+    pub stack: Items<StackItem>,
+    pub conts: Items<Cont>,
+    pub sites: Items<Site>,
+    pub body: Items<Statement>,
+}

@@ -1,0 +1,12 @@
+//! Client scripts, and the lines of the log.
+//!
+//! A script says what a client of the run-time system does at each yield of a program. This layer has its types, the
+//! commands that may be refused with the number of each refusal, the text of each line that a run writes to its log,
+//! and a walk of a stopped program's activations as plain data, with its text.
+//!
+//! - `script`: `Script`, its blocks, commands and values.
+#![tactic(auto)]
+
+mod script;
+
+pub use script::{Block, Command, Script, Value};
