@@ -3,7 +3,7 @@ ghost use Rattle.std.specs.Prelude.{◌≡◌, ◌≤◌, ◌+◌, length, IfOk,
 ghost use Rattle.std.specs.Option.{ok_or};
 ghost use Rattle.rv_table.specs.Bounds.{is_size};
 ghost use Rattle.rv_table.specs.Machine.{bad_target, bad_load, bad_store};
-ghost use Rattle.rv_table.specs.Memory.{fetched, is_accessible, loaded, stored, stack_base};
+ghost use Rattle.rv_table.specs.Memory.{data_base, fetched, is_accessible, loaded, stored, stack_base};
 ghost use Rattle.rv_memory.specs.Regions.{map_of, memory_of, started};
 
 use crate::numbers::{offset_in, read, read_word, write};
@@ -106,7 +106,8 @@ impl Memory {
 
     /// The word at an address of the code. The error is the trap's kind, 2.
     pub fn fetch(&self, pc: u64) -> Result<u32, u8>
-        ensures { result ≡ ok_or (fetched (map_of self.now).code pc) bad_target }
+        ensures word { result ≡ ok_or (fetched (map_of self.now).code pc) bad_target }
+        ensures within { IfOk result (λ _. pc + 4 ≤ data_base) }
     {
         match offset_in(CODE_BASE, &self.code, pc, 4) {
             Some(at) => Ok(read_word(&self.code, at)),
