@@ -13,3 +13,6 @@ mod instruction;
 
 pub use event::Event;
 pub use instruction::step;
+
+#[cfg(test)]
+mod tests;
