@@ -1,13 +1,16 @@
 -- States after the parts of a step.
-use Rattle.std.proofs.Common.{◌≡◌, ℕ, ◌%◌, refl, ap, ◌∙◌, arith, rules}
+use Rattle.std.proofs.Common.{◌≡◌, ℕ, ◌%◌, refl, sym, ap, ◌∙◌, arith, rules}
 use Rattle.std.proofs.lemmas.Bool.Decides.{nat_tests}
 use Rattle.std.specs.Prelude.{◌==◌, Bool, true, false, IsTrue, IsFalse, Result, Ok, Err}
 use Rattle.rv_memory.specs.Regions.{Regions, map_of, memory_of}
+use Rattle.rv_table.specs.declared.effects.Effect.{Effect}
+use Rattle.rv_table.specs.declared.instruction.Instr.{Instr}
+use Rattle.rv_table.specs.Row.{row}
 use Rattle.rv_table.specs.declared.effects.Effect.TheVariants.{Load, Store}
 use Rattle.rv_table.specs.declared.registers.Regs.{Regs}
-use Rattle.rv_table.specs.Machine.{State, done, extended, goes_to, is_accessible, loaded, stored, with_set}
+use Rattle.rv_table.specs.Machine.{MemoryMap, State, Traps, instruction_step, done, extended, goes_to, is_accessible, loaded, stored, with_set}
 use Rattle.rv_table.specs.Registers.{with_register}
-use Rattle.rv_sim.specs.Stepping.{state_of, state_with, state_after}
+use Rattle.rv_sim.specs.Stepping.{found_step, state_of, state_with, state_after}
 
 -- the state of equal registers and pc
 pub state-same : (x y : ℕ → ℕ) (pc at : ℕ) (memory : ℕ → ℕ) → x ≡ y → pc ≡ at →
@@ -45,3 +48,13 @@ pub load_done : (m : Regions) (r q : Regs) (rd address size value gives : ℕ) (
 load_done m r q rd address size value gives signed h read extends on =
     let same : value ≡ loaded (memory_of m) address size = cc in
     rw (done, h) (on ∙ ap (λ (n : ℕ). with_set (state_of r m) rd n) (extends ∙ ap (λ (n : ℕ). extended signed size n) same))
+
+-- the step where no instruction was found
+pub step-missing : (m : MemoryMap) (s : State) (found : Result Instr ℕ) (kind : ℕ) → instruction_step m s ≡ found_step m s found →
+    found ≡ Err kind → instruction_step m s ≡ Traps kind
+step-missing m s found kind step was = step ∙ ap (found_step m s) was
+
+-- the step where one was found, by its effect
+pub step-found : (m : MemoryMap) (s : State) (found : Result Instr ℕ) (i : Instr) (effect : Effect) →
+    instruction_step m s ≡ found_step m s found → found ≡ Ok i → effect ≡ row s.registers s.pc i → instruction_step m s ≡ done m s effect
+step-found m s found i effect step was effects = step ∙ ap (found_step m s) was ∙ ap (done m s) (sym effects)
