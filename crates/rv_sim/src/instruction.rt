@@ -1,13 +1,13 @@
 //! One step: an instruction is fetched, decoded and done.
-ghost use Rattle.std.specs.Prelude.{◌≡◌, ◌≢◌, ◌≤◌, ◌<◌, ◌+◌, ◌%◌, ◌==◌, ◌^◌, ℕ, Ok, IfOk, IsTrue};
+ghost use Rattle.std.specs.Prelude.{◌≡◌, ◌≢◌, ◌<◌, ◌+◌, ◌^◌, ℕ, Ok, IfOk, IsTrue};
 ghost use Rattle.std.specs.Option.{option_map};
 ghost use Rattle.rv_memory.specs.Regions.{map_of};
 ghost use Rattle.rv_sim.specs.declared.event.Event.TheVariants.{Next};
 ghost use Rattle.rv_sim.specs.Stepping.{state_of, state_with, found_step, outcome_of, answer_of, asked, event_of, state_after};
 ghost use Rattle.rv_table.specs.Bounds.{HasASize, WritesARegister, is_size};
 ghost use Rattle.rv_table.specs.Machine.{State, done, extended, goes_to, instruction_step, request_of, with_set};
-ghost use Rattle.rv_table.specs.Table.{IsValid};
 ghost use Rattle.rv_table.specs.Registers.{registers_of};
+ghost use Rattle.rv_table.specs.Table.{IsValid};
 
 use crate::event::Event;
 use rv_code::decode;
