@@ -1,0 +1,53 @@
+-- What one instruction does to registers and memory, and the event that it ends in.
+use Rattle.std.specs.Prelude.{ℕ, Result, Ok, Err}
+use Rattle.rv_memory.specs.Regions.{Regions, map_of, memory_of}
+use Rattle.rv_sim.specs.declared.event.Event.{Event}
+use Rattle.rv_sim.specs.declared.event.Event.TheVariants.{Next, PutByte, GetByte, Yield, StackLimit, End, Trap}
+use Rattle.rv_table.specs.declared.instruction.Instr.{Instr}
+use Rattle.rv_table.specs.declared.registers.Regs.{Regs}
+use Rattle.rv_table.specs.Machine as machine
+use Rattle.rv_table.specs.Machine.{MemoryMap, State, Request, Outcome, done, instruction_step}
+use Rattle.rv_table.specs.Registers.{registers_of}
+use Rattle.rv_table.specs.Row.{row}
+
+-- the machine's state that registers and a memory are
+abbrev pub state_with : Regs → (ℕ → ℕ) → State
+state_with r memory = record { registers = registers_of r; pc = r.pc; memory = memory }
+
+abbrev pub state_of : Regs → Regions → State
+state_of r m = state_with r (memory_of m)
+
+-- what comes of the instruction that stands at pc
+abbrev pub outcome_of : Regs → Regions → Outcome
+outcome_of r m = instruction_step (map_of m) (state_of r m)
+
+-- the event of a request
+abbrev pub asked : Request → Event
+asked (machine.PutByte byte) = PutByte byte
+asked machine.GetByte = GetByte
+asked machine.Yield = Yield
+asked machine.StackLimit = StackLimit
+asked (machine.End value) = End value
+
+-- the event, or the kind of the trap
+abbrev pub answer_of : Outcome → Result Event ℕ
+answer_of (machine.Next _) = Ok Next
+answer_of (machine.Asks request) = Ok (asked request)
+answer_of (machine.Traps kind) = Err kind
+
+-- the event of what came of the instruction at pc
+abbrev pub event_of : ℕ → Outcome → Event
+event_of pc (machine.Next _) = Next
+event_of pc (machine.Asks request) = asked request
+event_of pc (machine.Traps kind) = Trap (record { kind = kind; pc = pc })
+
+-- what comes of an instruction that was looked for, or of the trap in its place
+abbrev pub found_step : MemoryMap → State → Result Instr ℕ → Outcome
+found_step m s (Ok i) = done m s (row s.registers s.pc i)
+found_step m s (Err kind) = machine.Traps kind
+
+-- the state after an instruction: the next one, or the state as it was where the instruction asks or traps
+abbrev pub state_after : State → Outcome → State
+state_after s (machine.Next t) = t
+state_after s (machine.Asks _) = s
+state_after s (machine.Traps _) = s

@@ -1,0 +1,165 @@
+//! One step: an instruction is fetched, decoded and done.
+ghost use Rattle.std.specs.Prelude.{◌≡◌, ◌≢◌, ◌<◌, ◌+◌, ◌^◌, ℕ, Ok, IfOk, IsTrue};
+ghost use Rattle.std.specs.Option.{option_map};
+ghost use Rattle.rv_memory.specs.Regions.{map_of};
+ghost use Rattle.rv_sim.specs.declared.event.Event.TheVariants.{Next};
+ghost use Rattle.rv_sim.specs.Stepping.{state_of, state_with, found_step, outcome_of, answer_of, asked, event_of, state_after};
+ghost use Rattle.rv_table.specs.Bounds.{HasASize, WritesARegister, is_size};
+ghost use Rattle.rv_table.specs.Machine.{State, done, extended, goes_to, instruction_step, request_of, with_set};
+ghost use Rattle.rv_table.specs.Registers.{registers_of};
+ghost use Rattle.rv_table.specs.Table.{IsValid};
+
+use crate::event::Event;
+use rv_code::decode;
+use rv_memory::Memory;
+use rv_table::{Effect, Instr, Regs, Trap, effect_of};
+
+/// The kind of the trap at a word that is no instruction.
+const NO_INSTRUCTION: u8 = 1;
+
+/// The kind of the trap at a jump or a taken branch to an address that is no multiple of 4.
+const BAD_TARGET: u8 = 2;
+
+/// The kind of the trap at EBREAK.
+const BREAKPOINT: u8 = 5;
+
+/// The kind of the trap at an ECALL whose number means nothing.
+const NO_REQUEST: u8 = 6;
+
+/// Does the instruction at pc, and says what it ends in.
+pub fn step(r: &mut Regs, m: &mut Memory) -> Event
+    ensures event { result ≡ event_of r.old.pc (outcome_of r.old m.old) }
+    ensures state { state_of r.new m.new ≡ state_after (state_of r.old m.old) (outcome_of r.old m.old) }
+    ensures map { map_of m.new ≡ map_of m.old }
+    ensures registers_kept { result ≢ Next → r.new ≡ r.old }
+    ensures memory_kept { result ≢ Next → m.new ≡ m.old }
+{
+    match attempt(r, m) {
+        Ok(event) => event,
+        Err(kind) => Event::Trap(Trap { kind, pc: r.pc }),
+    }
+}
+
+/// Does the instruction at pc. The error is the trap's kind.
+fn attempt(r: &mut Regs, m: &mut Memory) -> Result<Event, u8>
+    ensures answer { result ≡ answer_of (outcome_of r.old m.old) }
+    ensures state { state_of r.new m.new ≡ state_after (state_of r.old m.old) (outcome_of r.old m.old) }
+    ensures map { map_of m.new ≡ map_of m.old }
+    ensures registers_kept { result ≢ Ok Next → r.new ≡ r.old }
+    ensures memory_kept { result ≢ Ok Next → m.new ≡ m.old }
+{
+    let instruction = instruction_at(r.pc, m)?;
+    let effect = effect_of(instruction, r);
+    perform(effect, r, m)
+}
+
+/// The instruction at an address. The error is the trap's kind.
+fn instruction_at(pc: u64, m: &Memory) -> Result<Instr, u8>
+    ensures found { (s : State) → s.pc ≡ pc → instruction_step (map_of m.now) s ≡ found_step (map_of m.now) s result }
+    ensures valid { IfOk result IsValid }
+    ensures room { IfOk result (λ _. pc + 4 < 2 ^ 64) }
+{
+    let word = m.fetch(pc)?;
+    decode(word).ok_or(NO_INSTRUCTION)
+}
+
+/// Does an effect. The error is the trap's kind.
+fn perform(effect: Effect, r: &mut Regs, m: &mut Memory) -> Result<Event, u8>
+    requires register { WritesARegister effect }
+    requires size { HasASize effect }
+    requires room { r.old.pc + 4 < 2 ^ 64 }
+    ensures answer { result ≡ answer_of (done (map_of m.old) (state_of r.old m.old) effect) }
+    ensures state { state_of r.new m.new ≡ state_after (state_of r.old m.old) (done (map_of m.old) (state_of r.old m.old) effect) }
+    ensures map { map_of m.new ≡ map_of m.old }
+    ensures registers_kept { result ≢ Ok Next → r.new ≡ r.old }
+    ensures memory_kept { result ≢ Ok Next → m.new ≡ m.old }
+{
+    match effect {
+        Effect::Set { rd, value } => Ok(set(r, rd, value)),
+        Effect::Jump { rd, link, target } => jump(r, rd, link, target),
+        Effect::Branch { taken, target } => {
+            if taken {
+                jump(r, 0, 0, target)
+            } else {
+                Ok(set(r, 0, 0))
+            }
+        }
+        Effect::Load {
+            rd,
+            address,
+            size,
+            signed,
+        } => {
+            let value = m.load(address, size)?;
+            Ok(set(r, rd, extended(value, size, signed)))
+        }
+        Effect::Store {
+            address,
+            size,
+            value,
+        } => {
+            m.store(address, size, value)?;
+            Ok(set(r, 0, 0))
+        }
+        Effect::Ask => request(r).ok_or(NO_REQUEST),
+        Effect::Break => Err(BREAKPOINT),
+    }
+}
+
+/// Gives the register a value, and goes on after the instruction.
+fn set(r: &mut Regs, rd: u8, value: u64) -> Event
+    requires register { rd < 32 }
+    requires room { r.old.pc + 4 < 2 ^ 64 }
+    ensures event { result ≡ Next }
+    ensures state { (memory : ℕ → ℕ) → state_with r.new memory ≡ with_set (state_with r.old memory) rd value }
+{
+    r.write(rd, value);
+    r.pc += 4;
+    Event::Next
+}
+
+/// Gives the register a value, and goes to the target. The error is the kind of the trap at a target that is no multiple of 4.
+fn jump(r: &mut Regs, rd: u8, link: u64, target: u64) -> Result<Event, u8>
+    requires { rd < 32 }
+    ensures answer { (memory : ℕ → ℕ) → result ≡ answer_of (goes_to (state_with r.old memory) rd link target) }
+    ensures state { (memory : ℕ → ℕ) →
+        state_with r.new memory ≡ state_after (state_with r.old memory) (goes_to (state_with r.old memory) rd link target) }
+    ensures kept { result ≢ Ok Next → r.new ≡ r.old }
+{
+    if target % 4 != 0 {
+        return Err(BAD_TARGET);
+    }
+    r.write(rd, link);
+    r.pc = target;
+    Ok(Event::Next)
+}
+
+/// What an ECALL asks for, by register 5; none where its number means nothing.
+fn request(r: &Regs) -> Option<Event>
+    ensures { result ≡ option_map asked (request_of (registers_of r.now)) }
+{
+    match r.read(5) {
+        1 => Some(Event::PutByte((r.read(10) % 256) as u8)),
+        2 => Some(Event::GetByte),
+        3 => Some(Event::Yield),
+        4 => Some(Event::StackLimit),
+        5 => Some(Event::End(r.read(10))),
+        _ => None,
+    }
+}
+
+/// What a load of `size` bytes gives: the number that stands there, sign-extended or zero-extended to 64 bits.
+fn extended(value: u64, size: u8, signed: bool) -> u64
+    requires { IsTrue (is_size size) }
+    ensures { result ≡ extended signed size value }
+{
+    if !signed {
+        return value;
+    }
+    match size {
+        1 => i64::from(((value % 0x100) as u8).cast_signed()).cast_unsigned(),
+        2 => i64::from(((value % 0x1_0000) as u16).cast_signed()).cast_unsigned(),
+        4 => i64::from(((value % 0x1_0000_0000) as u32).cast_signed()).cast_unsigned(),
+        _ => value,
+    }
+}
