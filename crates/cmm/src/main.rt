@@ -4,9 +4,8 @@
 use cmm_outside::{StdFiles, StdSink, StdSource};
 use cmm_top::{Status, cmm_main};
 use std::alloc::{AllocError, Global};
-use std::env;
-use std::io;
 use std::process::ExitCode;
+use std::{env, io};
 
 fn main(rt: HostRuntime) -> ExitCode {
     let words = match words(&rt) {
