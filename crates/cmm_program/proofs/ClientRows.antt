@@ -3,7 +3,7 @@ use Rattle.std.proofs.Common.{◌≡◌, refl, [], ◌∷◌}
 use Rattle.std.specs.Prelude.{◌++◌, flat_map, codes}
 use Rattle.cmm_script.specs.declared.script.Command.TheVariants.{List as ListAll, Youngest, Next, Desc, Seek, Var, Set, Poke, Return, Unwind, Cut, Stop}
 use Rattle.cmm_script.specs.declared.script.Value.TheVariants.{Number, Yielded}
-use Rattle.cmm_script.specs.Walk.{line, walk_text}
+use Rattle.cmm_script.specs.Walk.{line, kind_byte, walk_text}
 use Rattle.cmm_program.specs.State.{Ended, Done, Stopped}
 use Rattle.cmm_program.specs.Walks.{walk_of}
 use Rattle.cmm_program.specs.Machine.{state_after}
@@ -37,7 +37,7 @@ unwinding_runs :
     ∷ codes "at mid site 0"
     ∷ codes "resume"
     ∷ [])
-unfolding opened
+unfolding opened kind_byte
 unwinding_runs = refl
 
 refusals_logged :

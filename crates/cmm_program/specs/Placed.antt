@@ -26,13 +26,13 @@ is_frame_size p size = (size % 16 == 0) && nat_le size (frame_bound p)
 abbrev pub is_pair_in : ℕ → ℕ → Bool
 is_pair_in frame offset = (offset % 8 == 0) && nat_le (offset + 16) frame
 
--- so many bytes at two offsets have none in common
-abbrev pub apart : ℕ → ℕ → ℕ → ℕ → Bool
-apart offset size offset' size' = nat_le (offset + size) offset' || nat_le (offset' + size') offset
+-- so many bytes from an offset on and the pair at another have none in common
+abbrev pub apart : ℕ → ℕ → ℕ → Bool
+apart offset size pair = (size == 0) || nat_le (offset + size) pair || nat_le (pair + 16) offset
 
 abbrev pub pairs_apart : List ℕ → Bool
 pairs_apart [] = true
-pairs_apart (offset ∷ offsets) = every (λ other. apart offset 16 other 16) offsets && pairs_apart offsets
+pairs_apart (offset ∷ offsets) = every (λ other. apart offset 16 other) offsets && pairs_apart offsets
 
 abbrev pub are_pairs : Proc → PlaceRow → Bool
 are_pairs p row = (length row.pairs == length p.conts) && every (is_pair_in row.frame) row.pairs && pairs_apart row.pairs
@@ -55,7 +55,7 @@ are_labels base place (i ∷ is) offsets = let here = aligned_up i.align place i
 abbrev pub is_stackdata_at : ℕ → Proc → PlaceRow → Bool
 is_stackdata_at base p row =
     (base % 16 == 0) && nat_le (base + stack_size p.stack) row.frame && are_labels base 0 p.stack row.stack
-    && every (λ offset. apart base (stack_size p.stack) offset 16) row.pairs
+    && every (λ offset. apart base (stack_size p.stack) offset) row.pairs
 
 -- The first label shows the base. Stackdata without a label has no addresses, and the row then names none.
 abbrev pub is_stackdata : Proc → PlaceRow → Bool

@@ -133,11 +133,11 @@ fn pairs_lie_inside(frame: u32, pairs: &[u32]) -> bool
 /// Whether so many bytes from a place on have none in common with the pairs at these offsets.
 fn lies_apart(place: u64, size: u64, pairs: &[u32]) -> bool
     requires { place + size < 2 ^ 63 }
-    ensures { result ≡ every (λ other. apart place size other 16) pairs.now }
+    ensures { result ≡ every (λ other. apart place size other) pairs.now }
 {
     for other in pairs {
         let other = u64::from(*other);
-        if place + size > other && other + 16 > place {
+        if size > 0 && place + size > other && other + 16 > place {
             return false;
         }
     }

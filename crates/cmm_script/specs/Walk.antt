@@ -1,6 +1,8 @@
 -- A walk of a stopped program's activations, as plain data, and its text (C-- Language Specification 2.0, the
 -- run-time interface).
-use Rattle.std.specs.Prelude.{ℕ, suc, ◌+◌, ◌/◌, ◌%◌, ◌==◌, ◌&&◌, not, nat_lt, nat_le, Bool, true, false, List, [], ◌∷◌, ◌++◌, flat_map, Option, Some, None, codes, decimal}
+use Rattle.std.specs.Prelude.{ℕ, suc, List, [], ◌∷◌, ◌++◌, flat_map, Option, Some, None, codes, decimal}
+use Rattle.cmm_report.specs.Texts.{kind_text}
+unfoldable pub use Rattle.cmm_report.specs.Texts.{kind_byte}
 
 -- a variable: its width in bits, the kind that its declaration has, and its value where it is live
 pub record Shown : Type 0 where
@@ -32,22 +34,9 @@ space = 32 ∷ []
 abbrev pub and : List ℕ → List ℕ
 and word = space ++ word
 
-abbrev pub hex_digit : ℕ → ℕ
-hex_digit n = elim (nat_lt n 10) [ true ↦ 48 + n | false ↦ 87 + n ]
-
--- whether a byte of a kind is written as it is: it is printable, and neither a quote nor a backslash
-abbrev pub is_plain : ℕ → Bool
-is_plain byte = nat_le 32 byte && nat_le byte 126 && not (byte == 34) && not (byte == 92)
-
-abbrev pub kind_byte : ℕ → List ℕ
-kind_byte byte = elim (is_plain byte) [
-  | true ↦ byte ∷ []
-  | false ↦ 92 ∷ 120 ∷ hex_digit (byte / 16) ∷ hex_digit (byte % 16) ∷ []
-]
-
 -- a kind, between quotes
 abbrev pub quoted : List ℕ → List ℕ
-quoted kind = 34 ∷ (flat_map kind_byte kind ++ (34 ∷ []))
+quoted kind = 34 ∷ (kind_text kind ++ (34 ∷ []))
 
 abbrev pub value_or_dead : Option ℕ → List ℕ
 value_or_dead (Some value) = decimal value

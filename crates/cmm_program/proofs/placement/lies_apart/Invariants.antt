@@ -5,4 +5,4 @@ use Rattle.cmm_program.proofs.placement.lies_apart.Given as goal
 -- the answer depends on what is left alone
 abbrev pub invariant-loop-other : goal.invariant-loop-other
 invariant-loop-other l =
-    every (λ other. apart l.place l.size other 16) l.pairs ≡ every (λ other. apart l.place l.size other 16) (drop l.other-index l.pairs)
+    every (λ other. apart l.place l.size other) l.pairs ≡ every (λ other. apart l.place l.size other) (drop l.other-index l.pairs)
