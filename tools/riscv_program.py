@@ -8,14 +8,9 @@ Where the assembler or the emulator is missing it says so and ends with status 0
 Debian and Ubuntu: apt-get install binutils-riscv64-linux-gnu qemu-user
 """
 import os
-import re
-import shutil
-import subprocess
 import sys
-import tempfile
 
-TOOLS = ["riscv64-linux-gnu-as", "riscv64-linux-gnu-ld", "riscv64-linux-gnu-objcopy", "qemu-riscv64"]
-PATH = os.path.join(os.path.dirname(__file__), "..", "crates", "rv_sim", "src", "tests", "program.rt")
+from riscv_files import TOOLS, run, write_or_compare
 
 # Code and data stand where the simulator has them. The end stores every register, and asks both machines to stop: the
 # simulator by number 5 in register 5, Linux by a write of the data to its standard output.
@@ -175,10 +170,6 @@ data: .skip {SIZE}
 """
 
 
-def run(folder, *command):
-    return subprocess.run(command, cwd=folder, check=True, stdout=subprocess.PIPE).stdout
-
-
 def made(folder):
     with open(os.path.join(folder, "p.s"), "w") as f:
         f.write(source())
@@ -198,26 +189,8 @@ pub static AFTER: [u8; {len(after)}] = [{", ".join(str(b) for b in after)}];
 """
 
 
-def bare(text):
-    return re.sub(r"[\s_,]", "", text)
+def made_files(folder):
+    return {"crates/rv_sim/src/tests/program.rt": made(folder)}
 
 
-def main():
-    missing = [t for t in TOOLS if shutil.which(t) is None]
-    if missing:
-        print("skipped: no " + ", ".join(missing))
-        return 0
-    with tempfile.TemporaryDirectory() as folder:
-        text = made(folder)
-    if sys.argv[1:] == ["--check"]:
-        with open(PATH) as f:
-            differs = bare(f.read()) != bare(text)
-        print("differs from what was made" if differs else "the program is as made")
-        return 1 if differs else 0
-    os.makedirs(os.path.dirname(PATH), exist_ok=True)
-    with open(PATH, "w") as f:
-        f.write(text)
-    return 0
-
-
-sys.exit(main())
+sys.exit(write_or_compare(made_files))

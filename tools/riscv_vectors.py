@@ -9,15 +9,10 @@ Debian and Ubuntu: apt-get install binutils-riscv64-linux-gnu qemu-user
 """
 import itertools
 import os
-import re
-import shutil
 import struct
-import subprocess
 import sys
-import tempfile
 
-TOOLS = ["riscv64-linux-gnu-as", "riscv64-linux-gnu-ld", "riscv64-linux-gnu-objcopy", "qemu-riscv64"]
-TESTS = os.path.join(os.path.dirname(__file__), "..", "crates", "rv_code", "src", "tests")
+from riscv_files import TOOLS, run, write_or_compare
 
 REGISTER = "add sll slt sltu xor srl or and sub sra mul mulh mulhsu mulhu div divu rem remu".split()
 REGISTER += "addw sllw srlw subw sraw mulw divw divuw remw remuw".split()
@@ -97,10 +92,6 @@ def spelled_loads():
     for name in LOADS:
         for a in CORNERS + [0x80, 0x8000]:
             yield name, a
-
-
-def run(folder, *command):
-    return subprocess.run(command, cwd=folder, check=True, stdout=subprocess.PIPE).stdout
 
 
 def assembled(folder, lines):
@@ -237,27 +228,9 @@ def results_file(folder):
 {table("LOADS", "(u32, u64, u64)", [hexes(r) for r in loads(folder)])}"""
 
 
-def bare(text):
-    return re.sub(r"[\s_,]", "", text)
+def made_files(folder):
+    tests = "crates/rv_code/src/tests/"
+    return {tests + "words.rt": words_file(folder), tests + "results.rt": results_file(folder)}
 
 
-def main():
-    missing = [t for t in TOOLS if shutil.which(t) is None]
-    if missing:
-        print("skipped: no " + ", ".join(missing))
-        return 0
-    differ = []
-    with tempfile.TemporaryDirectory() as folder:
-        for name, made in [("words.rt", words_file(folder)), ("results.rt", results_file(folder))]:
-            path = os.path.join(TESTS, name)
-            if sys.argv[1:] == ["--check"]:
-                with open(path) as f:
-                    differ += [name] if bare(f.read()) != bare(made) else []
-            else:
-                with open(path, "w") as f:
-                    f.write(made)
-    print("differs from what was made: " + ", ".join(differ) if differ else "the vectors are as made")
-    return 1 if differ else 0
-
-
-sys.exit(main())
+sys.exit(write_or_compare(made_files))
