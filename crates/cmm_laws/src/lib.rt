@@ -3,9 +3,11 @@
 //! The layers of the compiler are joined by these laws, so each is stated once, here, in the form in which it is cited.
 //! Each is the contract of a public function that does nothing.
 //!
+//! - `memory`: reads after writes, rooms that come and go, numbers as bytes, words stored and loaded.
 //! - `runs`: what an ended state does, what is only added to, and who takes the input.
 //!
-//! Laws of memory, over the cell at an address, are the public lemmas of `proofs/Cells`.
+//! The laws of memory are the public lemmas of `proofs/Cells` and `proofs/StoredWords` too.
 #![tactic(auto)]
 
+pub mod memory;
 pub mod runs;

@@ -1,0 +1,125 @@
+-- The bytes of a number and back, and words stored and loaded again.
+use Rattle.std.proofs.Common.{◌≡◌, ℕ, zero, suc, ◌+◌, ◌*◌, ◌/◌, ◌%◌, ◌<◌, ◌^◌, ◌==◌, true, false, Bool, List, [], ◌∷◌, length, map, get_or, Ok, refl, ap, ap₂, subst, ◌∙◌, arith, mod-lt, mod-eq_of_lt, pow-suc, add-zero}
+use Rattle.std.proofs.Math.Nat.{one-le-pow, add-mul-div_left, add-mul-mod_self_left, div-eq_of_lt}
+use Rattle.std.proofs.Math.Arith.{mod-mul}
+use Rattle.std.proofs.lemmas.Bool.{and_parts, and_from}
+use Rattle.std.proofs.lemmas.List.Elements.{All-cons}
+use Rattle.cmm_words.specs.declared.width.Width.{Width}
+use Rattle.cmm_words.specs.declared.width.Width.TheVariants.{W8, W16, W32, W64}
+use Rattle.cmm_words.specs.Widths.{bytes, IsWord}
+use Rattle.cmm_program.specs.Errors.{BadAccess, and_then, provided, all_of}
+use Rattle.cmm_program.specs.Layout.{bytes_of}
+use Rattle.cmm_program.specs.Memory.{Cell, Outside, Unwritten, Byte, cell_at, with_bytes, number_of, addresses}
+use Rattle.cmm_program.specs.State.{Store}
+use Rattle.cmm_program.specs.Values.{Reads, is_there, all_there, may_access, byte_of, loaded}
+use Rattle.cmm_program.specs.Writes.{reads_of}
+use Rattle.cmm_laws.proofs.Cells.{same_addresses}
+use Rattle.cmm_laws.specs.Cells.{written}
+use Rattle.cmm_laws.specs.StoredWords.{BytesOfNumber, NumberOfBytes, SmallNumberOfBytes, BytesOfSpelled, StoredIsLoaded}
+
+-- ---- bytes of a number
+
+pub bytes_of_number : BytesOfNumber
+bytes_of_number zero value = (refl, λ k d less. absurd (omega arith))
+bytes_of_number (suc size) value =
+    let rest = bytes_of_number size (value / 256) in
+    (ap suc rest.0, All-cons (λ byte. byte < 256) (value % 256) _ (mod-lt value (omega arith)) rest.1)
+
+pub number_of_bytes : NumberOfBytes
+number_of_bytes zero value = omega arith
+number_of_bytes (suc size) value =
+    let split = mod-mul value {m = 256 ^ size} {c = 256} (one-le-pow size 256 (omega arith)) (omega arith) in
+    rw (number_of_bytes size (value / 256), pow-suc 256 size, split) (omega arith)
+
+pub small_number_of_bytes : SmallNumberOfBytes
+small_number_of_bytes size value small = number_of_bytes size value ∙ mod-eq_of_lt small
+
+pub bytes_of_spelled : BytesOfSpelled
+bytes_of_spelled [] are = (refl, omega arith)
+bytes_of_spelled (byte ∷ bytes) are =
+    let low : byte < 256 = are 0 0 (omega arith) in
+    let rest = bytes_of_spelled bytes (λ k d less. are (suc k) d (omega arith)) in
+    let quotient : (byte + 256 * number_of bytes) / 256 ≡ number_of bytes =
+    add-mul-div_left byte (number_of bytes) (omega arith) ∙ ap (λ q. q + number_of bytes) (div-eq_of_lt low) ∙ omega arith
+    in
+    let remainder : (byte + 256 * number_of bytes) % 256 ≡ byte =
+    add-mul-mod_self_left byte 256 (number_of bytes) ∙ mod-eq_of_lt low
+    in
+    (ap₂ (λ b bs. b ∷ bs) remainder (ap (bytes_of (length bytes)) quotient ∙ rest.0), rw (pow-suc 256 (length bytes)) (omega (arith, rest.1)))
+
+-- ---- bytes in memory
+
+-- where bytes stand from an address on, they are read
+bytes_read : (cell : ℕ → Cell) (address : ℕ) (bytes : List ℕ) →
+    ((i : ℕ) → i < length bytes → cell (address + i) ≡ Byte (get_or bytes i 0)) →
+    all_of (map (λ at. byte_of (cell at)) (addresses address (length bytes))) ≡ Ok bytes
+bytes_read cell address [] stand = refl
+bytes_read cell address (byte ∷ bytes) stand =
+    let here : cell address ≡ Byte byte = rw (add-zero address) at (stand 0 (omega arith)) in
+    let rest = bytes_read cell (suc address) bytes (λ i less.
+    let e : suc address + i ≡ address + suc i = omega arith in rw e (stand (suc i) (omega arith))) in
+    rw (here, rest)
+
+-- each of so many cells is there where all are
+each_there : (cell : ℕ → Cell) (address size i : ℕ) → all_there (map cell (addresses address size)) ≡ true → i < size →
+    is_there (cell (address + i)) ≡ true
+each_there cell address zero i all less = absurd (omega arith)
+each_there cell address (suc size) zero all less = rw (add-zero address) (and_parts _ _ all).0
+each_there cell address (suc size) (suc i) all less =
+    let e : address + suc i ≡ suc address + i = omega arith in
+    rw e (each_there cell (suc address) size i (and_parts _ _ all).1 (omega arith))
+
+-- all are there where each is
+all_are_there : (cell : ℕ → Cell) (address size : ℕ) → ((i : ℕ) → i < size → is_there (cell (address + i)) ≡ true) →
+    all_there (map cell (addresses address size)) ≡ true
+all_are_there cell address zero each = refl
+all_are_there cell address (suc size) each =
+    let here : is_there (cell address) ≡ true = rw (add-zero address) at (each 0 (omega arith)) in
+    let rest = all_are_there cell (suc address) size (λ i less.
+    let e : suc address + i ≡ address + suc i = omega arith in rw e (each (suc i) (omega arith))) in
+    and_from _ _ here rest
+
+-- a cell that is there takes a byte
+there_taken : (cell : Cell) (byte : ℕ) → is_there cell ≡ true → written cell byte ≡ Byte byte
+there_taken Outside byte there = absurd (cc)
+there_taken Unwritten byte there = refl
+there_taken (Byte before) byte there = refl
+
+-- where the bytes of a word stand, at an address that is aligned, the number that they spell is loaded
+word_read : (r : Reads) (width : Width) (aligned address : ℕ) (found : List ℕ) → length found ≡ bytes width →
+    (address % aligned == 0) ≡ true → ((i : ℕ) → i < length found → r.byte (address + i) ≡ Byte (get_or found i 0)) →
+    loaded r width aligned address ≡ Ok (number_of found)
+word_read r width aligned address found size is_aligned stand =
+    let there = all_are_there r.byte address (length found) (λ i less. ap is_there (stand i less)) in
+    let access = and_from (address % aligned == 0) (all_there (map r.byte (addresses address (length found)))) is_aligned there in
+    subst (λ n. provided (may_access r.byte n aligned address) BadAccess
+    (and_then (all_of (map (λ a. byte_of (r.byte a)) (addresses address n))) (λ all. Ok (number_of all))) ≡ Ok (number_of found)) size
+    (rw (access, bytes_read r.byte address found stand) refl)
+
+-- the words of a width are the numbers of its bytes
+small_word : (width : Width) (value : ℕ) → IsWord width value → value < 256 ^ bytes width
+small_word W8 value small = small
+small_word W16 value small = small
+small_word W32 value small = small
+small_word W64 value small = small
+
+pub stored_is_loaded : StoredIsLoaded
+stored_is_loaded s width aligned address value before after small done = by (may_access (cell_at before.memory) (bytes width) aligned address) refl done
+  where
+    word : List ℕ
+    word = bytes_of (bytes width) value
+
+    stored : Store
+    stored = record before { memory = with_bytes before.memory address word }
+
+    by : (access : Bool) → may_access (cell_at before.memory) (bytes width) aligned address ≡ access →
+        provided access BadAccess (Ok stored) ≡ Ok after → loaded (reads_of s after) width aligned address ≡ Ok value
+    by false access is = absurd (cc)
+    by true access is =
+        let parts = and_parts (address % aligned == 0) (all_there (map (cell_at before.memory) (addresses address (bytes width)))) access in
+        let size = (bytes_of_number (bytes width) value).0 in
+        let e : stored ≡ after = cc in
+        let read = word_read (reads_of s stored) width aligned address word size parts.0 (λ i less.
+        same_addresses before.memory address word i less
+        ∙ there_taken _ _ (each_there (cell_at before.memory) address (bytes width) i parts.1 (omega (arith, size, less)))) in
+        rw (← e) (read ∙ ap Ok (small_number_of_bytes (bytes width) value (small_word width value small)))
