@@ -3,7 +3,7 @@ use Rattle.std.proofs.Common.{◌≡◌, ◌≢◌, ℕ, zero, suc, ◌+◌, ◌
 use Rattle.std.proofs.lemmas.Bool.Decides.{nat_tests}
 use Rattle.std.proofs.lemmas.List.{get_or-replicate, get_or-set_same, get_or-set_other, length-set, length-replicate, drop-map}
 use Rattle.cmm_program.specs.Memory.{Cell, Outside, Byte, Room, Memory, is_in, cell_of, cell_in, cell_at, with_byte_in, with_byte, with_bytes}
-use Rattle.cmm_laws.specs.Cells.{written, HaveNot, unwritten_room, SameAddress, OtherAddress, OutsideStays, SameAddresses, OtherAddresses, DataFirst, RoomOfAddress, RoomStays, RoomComes, RoomComesUnwritten, RoomsGo, WrittenThenGone}
+use Rattle.cmm_laws.specs.Cells.{written, Lack, unwritten_room, SameAddress, OtherAddress, OutsideStays, SameAddresses, OtherAddresses, DataFirst, RoomOfAddress, RoomStays, WriteInData, WriteInRooms, RoomComes, RoomComesUnwritten, RoomsGo, WrittenThenGone}
 
 -- ---- one room
 
@@ -94,7 +94,7 @@ other_address m = other_in (m.globals ∷ m.rooms)
 pub room_stays : RoomStays
 room_stays room address byte is = ap (λ t. byte_if t room address byte) is
 
-outside_in : (rooms : List Room) (address byte : ℕ) → HaveNot rooms address → map (λ room. with_byte_in room address byte) rooms ≡ rooms
+outside_in : (rooms : List Room) (address byte : ℕ) → Lack rooms address → map (λ room. with_byte_in room address byte) rooms ≡ rooms
 outside_in [] address byte outside = refl
 outside_in (room ∷ rooms) address byte outside =
     let parts = outside_head (is_in room address) _ _ outside in
@@ -135,7 +135,7 @@ same_addresses m address bytes i less = at_offset m address bytes i (address + i
 pub data_first : DataFirst
 data_first m rooms address is = picked (is_in m.globals address) (λ _. refl) (λ e. absurd (cc))
 
-room_in : (rooms : List Room) (i : ℕ) (room : Room) (address : ℕ) → slice_get rooms i ≡ Some room → HaveNot (take i rooms) address →
+room_in : (rooms : List Room) (i : ℕ) (room : Room) (address : ℕ) → slice_get rooms i ≡ Some room → Lack (take i rooms) address →
     is_in room address ≡ true → cell_in rooms address ≡ cell_in (room ∷ []) address
 room_in [] i room address found younger is = absurd (cc)
 room_in (first ∷ rooms) zero room address found younger is =
@@ -148,6 +148,15 @@ room_in (first ∷ rooms) (suc i) room address found younger is =
 pub room_of_address : RoomOfAddress
 room_of_address m i room address found globals younger is =
     ap (λ t. pick t (own m.globals address) (cell_in m.rooms address)) globals ∙ room_in m.rooms i room address found younger is
+
+pub write_in_data : WriteInData
+write_in_data m address byte lack =
+    ap (λ rooms. record { globals = with_byte_in m.globals address byte; rooms = rooms }) (outside_in m.rooms address byte lack)
+
+pub write_in_rooms : WriteInRooms
+write_in_rooms m address byte is =
+    ap (λ globals. record { globals = globals; rooms = map (λ room. with_byte_in room address byte) m.rooms })
+    (room_stays m.globals address byte is)
 
 -- ---- rooms come and go
 
@@ -164,7 +173,7 @@ room_comes_unwritten m start size address globals is =
     ∙ ap (λ t. pick t (own room address) (cell_in m.rooms address)) is
     ∙ ap cell_of (get_or-replicate size (address - start) None None less)
 
-gone_in : (count : ℕ) (rooms : List Room) (address : ℕ) → HaveNot (take count rooms) address →
+gone_in : (count : ℕ) (rooms : List Room) (address : ℕ) → Lack (take count rooms) address →
     cell_in (drop count rooms) address ≡ cell_in rooms address
 gone_in zero rooms address younger = refl
 gone_in (suc count) [] address younger = refl

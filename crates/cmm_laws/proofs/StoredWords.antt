@@ -1,21 +1,22 @@
 -- The bytes of a number and back, and words stored and loaded again.
-use Rattle.std.proofs.Common.{◌≡◌, ℕ, zero, suc, ◌+◌, ◌*◌, ◌/◌, ◌%◌, ◌<◌, ◌^◌, ◌==◌, true, false, Bool, List, [], ◌∷◌, length, map, get_or, Ok, refl, ap, ap₂, subst, ◌∙◌, arith, mod-lt, mod-eq_of_lt, pow-suc, add-zero}
+use Rattle.std.proofs.Common.{◌≡◌, ℕ, zero, suc, ◌+◌, ◌*◌, ◌/◌, ◌%◌, ◌<◌, ◌^◌, ◌==◌, ◌&&◌, true, false, Bool, List, [], ◌∷◌, length, map, get_or, Ok, refl, ap, ap₂, subst, ◌∙◌, ⊎_elim, arith, mod-lt, mod-eq_of_lt, pow-suc, add-zero}
 use Rattle.std.proofs.Math.Nat.{one-le-pow, add-mul-div_left, add-mul-mod_self_left, div-eq_of_lt}
 use Rattle.std.proofs.Math.Arith.{mod-mul}
-use Rattle.std.proofs.lemmas.Bool.{and_parts, and_from}
+use Rattle.std.proofs.lemmas.Bool.{and_parts, and_from, cases_eq}
 use Rattle.std.proofs.lemmas.List.Elements.{All-cons}
 use Rattle.cmm_words.specs.declared.width.Width.{Width}
 use Rattle.cmm_words.specs.declared.width.Width.TheVariants.{W8, W16, W32, W64}
 use Rattle.cmm_words.specs.Widths.{bytes, IsWord}
 use Rattle.cmm_program.specs.Errors.{BadAccess, and_then, provided, all_of}
 use Rattle.cmm_program.specs.Layout.{bytes_of}
-use Rattle.cmm_program.specs.Memory.{Cell, Outside, Unwritten, Byte, cell_at, with_bytes, number_of, addresses}
+use Rattle.cmm_program.specs.Memory.{Cell, Outside, Unwritten, Byte, Memory, cell_at, with_byte, with_bytes, number_of, addresses}
 use Rattle.cmm_program.specs.State.{Store}
 use Rattle.cmm_program.specs.Values.{Reads, is_there, all_there, may_access, byte_of, loaded}
-use Rattle.cmm_program.specs.Writes.{reads_of}
-use Rattle.cmm_laws.proofs.Cells.{same_addresses}
+use Rattle.cmm_program.specs.Writes.{reads_of, put}
+use Rattle.cmm_program.specs.Acts as place
+use Rattle.cmm_laws.proofs.Cells.{same_address, other_address, same_addresses, other_addresses}
 use Rattle.cmm_laws.specs.Cells.{written}
-use Rattle.cmm_laws.specs.StoredWords.{BytesOfNumber, NumberOfBytes, SmallNumberOfBytes, BytesOfSpelled, StoredIsLoaded}
+use Rattle.cmm_laws.specs.StoredWords.{BytesOfNumber, NumberOfBytes, SmallNumberOfBytes, BytesOfSpelled, StoredIsLoaded, WordsElsewhereStay, AccessStays}
 
 -- ---- bytes of a number
 
@@ -103,23 +104,78 @@ small_word W16 value small = small
 small_word W32 value small = small
 small_word W64 value small = small
 
-pub stored_is_loaded : StoredIsLoaded
-stored_is_loaded s width aligned address value before after small done = by (may_access (cell_at before.memory) (bytes width) aligned address) refl done
+-- the store with a word put into memory
+abbrev with_word : Width → ℕ → ℕ → Store → Store
+with_word width address value store = record store { memory = with_bytes store.memory address (bytes_of (bytes width) value) }
+
+-- a word is put where the address may be accessed
+put_done : (width : Width) (aligned address value : ℕ) (before after : Store) → put (place.Memory width aligned address) value before ≡ Ok after →
+    (may_access (cell_at before.memory) (bytes width) aligned address ≡ true) × (with_word width address value before ≡ after)
+put_done width aligned address value before after = by (may_access (cell_at before.memory) (bytes width) aligned address)
   where
-    word : List ℕ
-    word = bytes_of (bytes width) value
+    by : (access : Bool) → provided access BadAccess (Ok (with_word width address value before)) ≡ Ok after →
+        (access ≡ true) × (with_word width address value before ≡ after)
+    by true is = (refl, cc)
+    by false is = absurd (cc)
 
-    stored : Store
-    stored = record before { memory = with_bytes before.memory address word }
+pub stored_is_loaded : StoredIsLoaded
+stored_is_loaded s width aligned address value before after small is =
+    let done = put_done width aligned address value before after is in
+    let word = bytes_of (bytes width) value in
+    let size = (bytes_of_number (bytes width) value).0 in
+    let parts = and_parts (address % aligned == 0) (all_there (map (cell_at before.memory) (addresses address (bytes width)))) done.0 in
+    let read = word_read (reads_of s (with_word width address value before)) width aligned address word size parts.0 (λ i less.
+    same_addresses before.memory address word i less
+    ∙ there_taken _ _ (each_there (cell_at before.memory) address (bytes width) i parts.1 (omega (arith, size, less)))) in
+    rw (← done.1) (read ∙ ap Ok (small_number_of_bytes (bytes width) value (small_word width value small)))
 
-    by : (access : Bool) → may_access (cell_at before.memory) (bytes width) aligned address ≡ access →
-        provided access BadAccess (Ok stored) ≡ Ok after → loaded (reads_of s after) width aligned address ≡ Ok value
-    by false access is = absurd (cc)
-    by true access is =
-        let parts = and_parts (address % aligned == 0) (all_there (map (cell_at before.memory) (addresses address (bytes width)))) access in
-        let size = (bytes_of_number (bytes width) value).0 in
-        let e : stored ≡ after = cc in
-        let read = word_read (reads_of s stored) width aligned address word size parts.0 (λ i less.
-        same_addresses before.memory address word i less
-        ∙ there_taken _ _ (each_there (cell_at before.memory) address (bytes width) i parts.1 (omega (arith, size, less)))) in
-        rw (← e) (read ∙ ap Ok (small_number_of_bytes (bytes width) value (small_word width value small)))
+-- ---- words elsewhere
+
+-- what two memories show alike of so many cells
+same_cells : {A : Type 0} (show : Cell → A) (f g : ℕ → Cell) (address size : ℕ) → ((i : ℕ) → i < size → f (address + i) ≡ g (address + i)) →
+    map (λ at. show (f at)) (addresses address size) ≡ map (λ at. show (g at)) (addresses address size)
+same_cells show f g address zero same = refl
+same_cells show f g address (suc size) same =
+    let first : f address ≡ g address = rw (add-zero address) at (same 0 (omega arith)) in
+    ap₂ (λ a rest. a ∷ rest) (ap show first) (same_cells show f g (suc address) size (λ i less.
+    let e : suc address + i ≡ address + suc i = omega arith in rw e (same (suc i) (omega arith))))
+
+-- the same bytes load the same word
+same_word : (r r' : Reads) (width : Width) (aligned address : ℕ) → ((i : ℕ) → i < bytes width → r.byte (address + i) ≡ r'.byte (address + i)) →
+    loaded r width aligned address ≡ loaded r' width aligned address
+same_word r r' width aligned address same =
+    ap₂ (λ cells found. provided ((address % aligned == 0) && all_there cells) BadAccess (and_then (all_of found) (λ all. Ok (number_of all))))
+    (same_cells (λ cell. cell) r.byte r'.byte address (bytes width) same) (same_cells byte_of r.byte r'.byte address (bytes width) same)
+
+pub words_elsewhere_stay : WordsElsewhereStay
+words_elsewhere_stay s width width' aligned aligned' address other value before after is apart =
+    let done = put_done width aligned address value before after is in
+    let size = (bytes_of_number (bytes width) value).0 in
+    let word = bytes_of (bytes width) value in
+    rw (← done.1) (same_word (reads_of s (with_word width address value before)) (reads_of s before) width' aligned' other (λ i less.
+    other_addresses before.memory address word (other + i) (λ j within e. ⊎_elim (λ below. absurd (omega (arith, below, e)))
+    (λ above. absurd (omega (arith, above, e, size))) apart)))
+
+-- ---- access
+
+there_written : (cell : Cell) (byte : ℕ) → is_there (written cell byte) ≡ is_there cell
+there_written Outside byte = refl
+there_written Unwritten byte = refl
+there_written (Byte before) byte = refl
+
+there_stays : (m : Memory) (address byte other : ℕ) → is_there (cell_at (with_byte m address byte) other) ≡ is_there (cell_at m other)
+there_stays m address byte other = ⊎_elim
+    (λ e. rw e (ap is_there (same_address m address byte) ∙ there_written (cell_at m address) byte))
+    (λ differs. ap is_there (other_address m address byte other differs)) (cases_eq other address)
+
+all_there_stay : (m : Memory) (address byte other size : ℕ) →
+    all_there (map (cell_at (with_byte m address byte)) (addresses other size)) ≡ all_there (map (cell_at m) (addresses other size))
+all_there_stay m address byte other zero = refl
+all_there_stay m address byte other (suc size) =
+    ap₂ (λ a b. a && b) (there_stays m address byte other) (all_there_stay m address byte (suc other) size)
+
+pub access_stays : AccessStays
+access_stays m address [] size aligned other = refl
+access_stays m address (byte ∷ more) size aligned other =
+    access_stays (with_byte m address byte) (suc address) more size aligned other
+    ∙ ap (λ there. (other % aligned == 0) && there) (all_there_stay m address byte other size)

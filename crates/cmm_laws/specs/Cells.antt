@@ -1,6 +1,6 @@
 -- What holds of memory, as seen by the cell at an address: after a write, across data and rooms, and when rooms come and
 -- go. Nothing above needs to know how memory is kept.
-use Rattle.std.specs.Prelude.{◌≡◌, ◌≢◌, ℕ, ◌+◌, ◌<◌, true, false, List, [], ◌∷◌, length, replicate, take, drop, slice_get, slice_index_or, Some, None}
+use Rattle.std.specs.Prelude.{◌≡◌, ◌≢◌, ℕ, ◌+◌, ◌<◌, true, false, List, [], ◌∷◌, length, map, replicate, take, drop, slice_get, slice_index_or, Some, None}
 use Rattle.cmm_program.specs.Memory.{Cell, Outside, Unwritten, Byte, Room, Memory, is_in, cell_in, cell_at, with_byte_in, with_byte, with_bytes}
 
 -- ---- after a write
@@ -35,9 +35,9 @@ OtherAddresses = (m : Memory) (address : ℕ) (bytes : List ℕ) (other : ℕ) �
 
 -- ---- data and rooms
 
--- none of these rooms has an address
-abbrev pub HaveNot : List Room → ℕ → Type 0
-HaveNot rooms address = cell_in rooms address ≡ Outside
+-- these rooms lack an address
+abbrev pub Lack : List Room → ℕ → Type 0
+Lack rooms address = cell_in rooms address ≡ Outside
 
 abbrev pub with_rooms : Memory → List Room → Memory
 with_rooms m rooms = record m { rooms = rooms }
@@ -50,12 +50,21 @@ DataFirst = (m : Memory) (rooms : List Room) (address : ℕ) → is_in m.globals
 -- an address of a room is read from that room, where no data and no younger room has it
 abbrev pub RoomOfAddress : Type 0
 RoomOfAddress = (m : Memory) (i : ℕ) (room : Room) (address : ℕ) → slice_get m.rooms i ≡ Some room →
-    is_in m.globals address ≡ false → HaveNot (take i m.rooms) address → is_in room address ≡ true →
+    is_in m.globals address ≡ false → Lack (take i m.rooms) address → is_in room address ≡ true →
     cell_at m address ≡ cell_in (room ∷ []) address
 
 -- a write leaves data, or a room, that lacks its address
 abbrev pub RoomStays : Type 0
 RoomStays = (room : Room) (address byte : ℕ) → is_in room address ≡ false → with_byte_in room address byte ≡ room
+
+-- where rooms lack its address, a write changes data alone; where data lacks it, rooms alone
+abbrev pub WriteInData : Type 0
+WriteInData = (m : Memory) (address byte : ℕ) → Lack m.rooms address →
+    with_byte m address byte ≡ record m { globals = with_byte_in m.globals address byte }
+
+abbrev pub WriteInRooms : Type 0
+WriteInRooms = (m : Memory) (address byte : ℕ) → is_in m.globals address ≡ false →
+    with_byte m address byte ≡ with_rooms m (map (λ room. with_byte_in room address byte) m.rooms)
 
 -- ---- rooms come and go
 
@@ -76,7 +85,7 @@ RoomComesUnwritten = (m : Memory) (start size address : ℕ) → is_in m.globals
 
 -- the youngest rooms that go leave the cells at addresses outside them
 abbrev pub RoomsGo : Type 0
-RoomsGo = (m : Memory) (count address : ℕ) → HaveNot (take count m.rooms) address →
+RoomsGo = (m : Memory) (count address : ℕ) → Lack (take count m.rooms) address →
     cell_at (with_rooms m (drop count m.rooms)) address ≡ cell_at m address
 
 -- what is written before they go is there after, as if they had gone first

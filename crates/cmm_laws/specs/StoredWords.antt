@@ -1,16 +1,16 @@
 -- The bytes of a number and back, and words stored and loaded again.
-use Rattle.std.specs.Prelude.{◌≡◌, ℕ, ◌%◌, ◌^◌, ◌<◌, All, List, length, Ok}
+use Rattle.std.specs.Prelude.{◌≡◌, ◌⊎◌, ℕ, ◌+◌, ◌%◌, ◌^◌, ◌<◌, ◌≤◌, All, List, length, Ok}
 use Rattle.cmm_words.specs.declared.width.Width.{Width}
-use Rattle.cmm_words.specs.Widths.{IsWord}
+use Rattle.cmm_words.specs.Widths.{bytes, IsWord}
 use Rattle.cmm_program.specs.Layout.{bytes_of}
-use Rattle.cmm_program.specs.Memory.{number_of}
+use Rattle.cmm_program.specs.Memory.{Memory, cell_at, with_bytes, number_of}
 use Rattle.cmm_program.specs.State.{Setting, Store}
-use Rattle.cmm_program.specs.Values.{loaded}
+use Rattle.cmm_program.specs.Values.{may_access, loaded}
 use Rattle.cmm_program.specs.Acts as place
 use Rattle.cmm_program.specs.Writes.{reads_of, put}
 
 abbrev pub AreBytes : List ℕ → Type 0
-AreBytes bytes = All (λ byte. byte < 256) bytes
+AreBytes list = All (λ byte. byte < 256) list
 
 -- so many bytes of a number are so many bytes
 abbrev pub BytesOfNumber : Type 0
@@ -26,10 +26,22 @@ SmallNumberOfBytes = (size value : ℕ) → value < 256 ^ size → number_of (by
 
 -- bytes are those of the number that they spell, which is small enough
 abbrev pub BytesOfSpelled : Type 0
-BytesOfSpelled = (bytes : List ℕ) → AreBytes bytes →
-    (bytes_of (length bytes) (number_of bytes) ≡ bytes) × (number_of bytes < 256 ^ length bytes)
+BytesOfSpelled = (spelled : List ℕ) → AreBytes spelled →
+    (bytes_of (length spelled) (number_of spelled) ≡ spelled) × (number_of spelled < 256 ^ length spelled)
 
 -- a word that was stored is loaded again from its address
 abbrev pub StoredIsLoaded : Type 0
 StoredIsLoaded = (s : Setting) (width : Width) (aligned address value : ℕ) (before after : Store) → IsWord width value →
     put (place.Memory width aligned address) value before ≡ Ok after → loaded (reads_of s after) width aligned address ≡ Ok value
+
+-- and the words elsewhere are loaded as before
+abbrev pub WordsElsewhereStay : Type 0
+WordsElsewhereStay = (s : Setting) (width width' : Width) (aligned aligned' address other value : ℕ) (before after : Store) →
+    put (place.Memory width aligned address) value before ≡ Ok after →
+    (other + bytes width' ≤ address) ⊎ (address + bytes width ≤ other) →
+    loaded (reads_of s after) width' aligned' other ≡ loaded (reads_of s before) width' aligned' other
+
+-- writes leave which addresses may be accessed
+abbrev pub AccessStays : Type 0
+AccessStays = (m : Memory) (address : ℕ) (written : List ℕ) (size aligned other : ℕ) →
+    may_access (cell_at (with_bytes m address written)) size aligned other ≡ may_access (cell_at m) size aligned other

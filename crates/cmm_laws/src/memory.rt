@@ -1,6 +1,6 @@
 //! What memory keeps: reads after writes, data and rooms, numbers as bytes, and words stored and loaded again.
-ghost use Rattle.cmm_laws.specs.Cells.{DataFirst, OtherAddress, OtherAddresses, OutsideStays, RoomComes, RoomComesUnwritten, RoomOfAddress, RoomStays, RoomsGo, SameAddress, SameAddresses, WrittenThenGone};
-ghost use Rattle.cmm_laws.specs.StoredWords.{BytesOfNumber, BytesOfSpelled, NumberOfBytes, SmallNumberOfBytes, StoredIsLoaded};
+ghost use Rattle.cmm_laws.specs.Cells.{DataFirst, OtherAddress, OtherAddresses, OutsideStays, RoomComes, RoomComesUnwritten, RoomOfAddress, RoomStays, RoomsGo, SameAddress, SameAddresses, WriteInData, WriteInRooms, WrittenThenGone};
+ghost use Rattle.cmm_laws.specs.StoredWords.{AccessStays, BytesOfNumber, BytesOfSpelled, NumberOfBytes, SmallNumberOfBytes, StoredIsLoaded, WordsElsewhereStay};
 
 /// A byte that was written is read again at its address, every other cell stays, and nothing is written where
 /// nothing stands; so too for several bytes.
@@ -12,11 +12,14 @@ pub fn reads_after_writes()
     ensures other_addresses { OtherAddresses }
 {}
 
-/// Data is read first, and then the youngest room that has the address; a write leaves the others.
+/// Data is read first, and then the youngest room that has the address; a write leaves the data and the rooms that lack
+/// its address.
 pub fn data_and_rooms()
     ensures first { DataFirst }
     ensures room { RoomOfAddress }
     ensures others { RoomStays }
+    ensures data_alone { WriteInData }
+    ensures rooms_alone { WriteInRooms }
 {}
 
 /// A room that comes or goes leaves the cells outside it; one that comes is unwritten.
@@ -35,7 +38,10 @@ pub fn numbers_are_bytes()
     ensures spelled { BytesOfSpelled }
 {}
 
-/// A word that was stored is loaded again.
+/// A word that was stored is loaded again, the words elsewhere are loaded as before, and whether an address may be
+/// accessed stays.
 pub fn words_are_kept()
-    ensures { StoredIsLoaded }
+    ensures loaded { StoredIsLoaded }
+    ensures elsewhere { WordsElsewhereStay }
+    ensures access { AccessStays }
 {}
