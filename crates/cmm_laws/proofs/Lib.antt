@@ -1,0 +1,5 @@
+pub mod Kept
+pub mod Outlines
+pub mod Commands
+pub mod Steps
+pub mod Growing
