@@ -3,3 +3,5 @@ pub mod Outlines
 pub mod Commands
 pub mod Steps
 pub mod Growing
+pub mod Stacking
+pub mod Addresses

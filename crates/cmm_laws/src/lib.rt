@@ -4,8 +4,10 @@
 //! Each is the contract of a public function that does nothing.
 //!
 //! - `runs`: what an ended state does, what is only added to, who takes the input, and what the client's commands leave.
+//! - `stacks`: that the frames fit the stack and adjoin, and that what belongs to different activations lies apart.
 //!
 //! Laws of memory, over the cell at an address, are the public lemmas of `proofs/Cells`.
 #![tactic(auto)]
 
 pub mod runs;
+pub mod stacks;
