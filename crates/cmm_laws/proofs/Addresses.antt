@@ -12,7 +12,7 @@ use Rattle.cmm_program.specs.State.{Setting, Frame, Store}
 use Rattle.cmm_program.specs.Frames.{procedure_at, place_row, frame_size, sum_of_sizes, frame_address, continuation_value, stackdata_offset, room_of}
 use Rattle.cmm_program.specs.Placed.{every, is_pair_in, is_stackdata_at, is_stackdata, is_row_placed, are_rows_placed}
 use Rattle.cmm_laws.specs.Stacks.{Extent, extent, stack_of, stackdata_at, stackdata_of, IsStack, IsSet, IsFrameAddress, pairs_of, IsOf, Pair, Stackdata}
-use Rattle.cmm_laws.proofs.Stacking.{stack_dropped}
+use Rattle.cmm_laws.proofs.Landings.{stack_dropped}
 
 drop_suc : {A : Type 0} (n : ℕ) (xs : List A) → drop 1 (drop n xs) ≡ drop (suc n) xs
 drop_suc n xs = rw (drop-drop 1 n xs, add-one n) refl
@@ -99,12 +99,11 @@ module _ (s : Setting) (set : IsSet s) where
               rw (length-replicate (stack_size p.stack)) (omega arith, omega arith)
 
   -- whose an address is, between two frames
-  IsIn : List Frame → ℕ → Type 0
+  abbrev IsIn : List Frame → ℕ → Type 0
   IsIn fs a = (frame_address s fs ≤ a) × (a < frame_address s (drop 1 fs))
 
   pair_inside : (fs : List Frame) → sum_of_sizes s fs ≤ s.top - s.base → (k a : ℕ) → k < length (pairs_of s fs) →
       continuation_value s fs k ≤ a → a < continuation_value s fs k + 16 → IsIn fs a
-  unfolding IsIn
   pair_inside [] fit k a less from to = absurd (omega arith)
   pair_inside (f ∷ fs) fit k a less from to =
       let pair : slice_index_or (place_row s f.procedure).pairs k 0 + 16 ≤ frame_size s f = (fits f.procedure).pairs k less in
@@ -113,7 +112,6 @@ module _ (s : Setting) (set : IsSet s) where
 
   room_inside : (fs : List Frame) → sum_of_sizes s fs ≤ s.top - s.base → (room : Room) (older : List Extent) (a : ℕ) →
       extent room ∷ older ≡ stackdata_of s fs → is_in room a ≡ true → IsIn fs a
-  unfolding IsIn
   room_inside [] fit room older a is inside = absurd (cc)
   room_inside (f ∷ fs) fit room older a is inside =
       let same : extent room ≡ stackdata_at s f (frame_address s (f ∷ fs)) = cc in
@@ -124,7 +122,6 @@ module _ (s : Setting) (set : IsSet s) where
 
   pub own : (store : Store) → IsStack s (stack_of store) → (younger a : ℕ) → IsOf s store younger a →
       (frame_address s (drop younger store.frames) ≤ a) × (a < frame_address s (drop (suc younger) store.frames))
-  unfolding IsIn
   own store h younger a (Pair k less from to) =
       rw (← drop_suc younger store.frames)
       (pair_inside (drop younger store.frames) (stack_dropped s younger (stack_of store) h).fits k a less from to)
@@ -133,28 +130,24 @@ module _ (s : Setting) (set : IsSet s) where
       let rooms = ap (map extent) (sym is) ∙ sym (drop-map extent younger store.memory.rooms) ∙ left.rooms in
       rw (← drop_suc younger store.frames) (room_inside (drop younger store.frames) left.fits room (map extent older) a rooms inside)
 
+  -- a frame ends before an older one begins
+  not_both : (store : Store) → IsStack s (stack_of store) → (i j a : ℕ) → i < j → IsOf s store i a → IsOf s store j a → ⊥
+  not_both store h i j a less first second =
+      let below = own store h i a first in
+      let above = own store h j a second in
+      let e : suc i + (j - suc i) ≡ j = omega arith in
+      let fs = drop (suc i) store.frames in
+      let between : frame_address s fs ≤ frame_address s (drop j store.frames) =
+      rw (← e, ← drop-drop (j - suc i) (suc i) store.frames) (omega (arith, sum_by-take-drop (frame_size s) fs (j - suc i))) in
+      absurd (omega arith)
+
   pub of_one : (store : Store) → IsStack s (stack_of store) → (i j a : ℕ) → IsOf s store i a → IsOf s store j a → i ≡ j
   of_one store h i j a first second = by (cases_order i j)
     where
-      -- a frame ends before a much older one begins
-      before : (m n : ℕ) → m < n → frame_address s (drop (suc m) store.frames) ≤ frame_address s (drop n store.frames)
-      before m n less =
-          let e : suc m + (n - suc m) ≡ n = omega arith in
-          let parts = sum_by-take-drop (frame_size s) (drop (suc m) store.frames) (n - suc m) in
-          rw (← e, ← drop-drop (n - suc m) (suc m) store.frames) (omega arith)
-
       by : (i ≡ j) ⊎ ((i < j) ⊎ (j < i)) → i ≡ j
       by (inl same) = same
-      by (inr (inl less)) =
-          let a_first = own store h i a first in
-          let a_second = own store h j a second in
-          let ends = before i j less in
-          absurd (omega arith)
-      by (inr (inr more)) =
-          let a_first = own store h i a first in
-          let a_second = own store h j a second in
-          let ends = before j i more in
-          absurd (omega arith)
+      by (inr (inl less)) = absurd (not_both store h i j a less first second)
+      by (inr (inr more)) = absurd (not_both store h j i a more second first)
 
   pub in_stack : (store : Store) → IsStack s (stack_of store) → data_base + length (data_bytes s.program s.placement) ≤ s.base →
       (younger a : ℕ) → IsOf s store younger a → (s.base ≤ a) × (a < s.top) × (is_in store.memory.globals a ≡ false)

@@ -88,7 +88,7 @@ change_spares cursor before after (Log text is) =
     rw is (record { registers = refl; places = refl; input = refl; taken = refl; output = refl; status = refl })
 change_spares cursor before after (Variable n value is) = rw is (record {
   registers = refl;
-  places = same_with_value (λ procedure site. (procedure, site)) cursor n value before.frames;
+  places = same_with_value (λ f. (f.procedure, f.site)) (λ f vs. refl) cursor n value before.frames;
   input = refl;
   taken = refl;
   output = refl;
@@ -102,7 +102,7 @@ changed_outline : (cursor : ℕ) (before after : Store) → Changes cursor befor
     (text : List ℕ) × (outline after ≡ logs text (outline before))
 changed_outline cursor before after (Log text is) = (text, ap outline is)
 changed_outline cursor before after (Variable n value is) =
-    (ok_line, ap outline is ∙ ap (logs ok_line) (framed before _ (same_with_value (λ procedure site. bare (record { procedure = procedure; variables = []; site = None })) cursor n value before.frames)))
+    (ok_line, ap outline is ∙ ap (logs ok_line) (framed before _ (same_with_value bare (λ f vs. refl) cursor n value before.frames)))
 changed_outline cursor before after (Data address value may is) =
     (ok_line, ap outline is ∙ ap (logs ok_line) (outline_with_bytes before address (bytes_of 8 value)))
 

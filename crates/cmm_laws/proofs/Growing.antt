@@ -1,54 +1,23 @@
 -- What is seen only grows: the steps of any control, whatever act comes next.
-use Rattle.std.proofs.Common.{◌≡◌, ◌⊎◌, ℕ, ◌%◌, ◌++◌, List, [], ◌∷◌, drop, Option, Some, None, refl, sym, ap, ◌∙◌, inl, inr, subst, append_assoc}
+use Rattle.std.proofs.Common.{◌≡◌, ◌⊎◌, ℕ, ◌%◌, ◌++◌, List, [], ◌∷◌, Option, Some, None, refl, sym, ap, ap₂, ◌∙◌, inl, inr, subst, append_assoc}
 use Rattle.cmm_following.specs.Seen.{IsWithin}
 use Rattle.cmm_following.proofs.Prefixes.{prefix_refl, within_refl, within_trans}
 use Rattle.cmm_script.specs.Lines.{yield_line}
 use Rattle.cmm_program.specs.declared.procedure.Target.{Target}
 use Rattle.cmm_program.specs.Values.{Reads, Value}
-use Rattle.cmm_program.specs.State.{Setting, Frame, Store, Running}
-use Rattle.cmm_program.specs.Frames.{procedure_at, fits_stack, new_frame, with_site}
+use Rattle.cmm_program.specs.State.{Setting, Store, Running}
 use Rattle.cmm_program.specs.Acts.{Act, Nothing, Assign, Choose, PutByte, GetByte, Call, Yield, Checked, Jump, Return, Cut, Fail, Order, Put, Get, Suspend, evaluated, checked_order}
-use Rattle.cmm_program.specs.Exits.{Landing, Called, Instead, Back, Resumed, land, entered, results_of, parameters_of}
-use Rattle.cmm_program.specs.Orders.{Answer, Stay, Wait, Away, Over}
+use Rattle.cmm_program.specs.Exits.{Instead}
 use Rattle.cmm_program.specs.Client.{answered}
-use Rattle.cmm_program.specs.Control.{Control, State, next_act, landed, answer_done}
+use Rattle.cmm_program.specs.Control.{Control, State, next_act}
 use Rattle.cmm_program.specs.Machine.{step_of, steps_of, first_store, start_of}
 use Rattle.cmm_laws.specs.Runs as runs
 use Rattle.cmm_laws.specs.Runs.{Traffic, traffic, yielded, Adds, seen_in, Takes}
-use Rattle.cmm_laws.proofs.Kept.{KeptBy, KeptIn, kept_ok, kept_err, kept_and_then, keeping, kept_some, kept_with_some, kept_if}
-use Rattle.cmm_laws.proofs.Outlines.{store_in, yielded_in, performed, traffic_after, yielded_by, outline_gone_on}
+use Rattle.cmm_laws.proofs.Kept.{KeptBy, kept_ok, kept_err, kept_and_then, keeping}
+use Rattle.cmm_laws.proofs.Outlines.{performed, traffic_after, yielded_by}
 use Rattle.cmm_laws.proofs.Commands.{answer_does}
-use Rattle.cmm_laws.proofs.Steps.{landed_has, step_has, kept_by_steps}
-
--- entering is no traffic, and neither is any landing
-entered_traffic : (s : Setting) (n : ℕ) (values : List ℕ) (older : List Frame) (store : Store) →
-    KeptIn (λ after. traffic after ≡ traffic store) (entered s n values older store)
-entered_traffic s n values older store = kept_with_some (procedure_at s n) _ (λ p is.
-    kept_if (fits_stack s (new_frame n p values ∷ older)) _ (λ fit. refl))
-
-land_traffic : (s : Setting) (landing : Landing) (store : Store) → KeptIn (λ after. traffic after ≡ traffic store) (land s landing store)
-land_traffic s (Called site n values) store = entered_traffic s n values (with_site (Some site) store.frames) store
-land_traffic s (Instead n values) store = entered_traffic s n values store.frames store
-land_traffic s (Back values) store = kept_some (ap (λ o. o.traffic) (outline_gone_on (results_of s store.frames) values store))
-land_traffic s (Resumed k values) store = kept_some (ap (λ o. o.traffic) (outline_gone_on (parameters_of s k store.frames) values store))
-
-module _ {C : Type 0} (k : Control C) (s : Setting) where
-  landed_traffic : (landing : Landing) (store : Store) (cs : List C) → traffic (landed k s landing store cs).store ≡ traffic store
-  landed_traffic landing store cs =
-      landed_has k s (λ after. traffic after ≡ traffic store) landing store cs (land_traffic s landing store) refl
-
-  done_traffic : (answer : Answer) (cs : List C) → traffic (answer_done k s answer cs).store ≡ traffic (store_in answer)
-  done_traffic (Stay way store) cs = refl
-  done_traffic (Wait store) cs = refl
-  done_traffic (Away gone store landing) cs = landed_traffic landing store (drop gone cs)
-  done_traffic (Over gone store) cs = refl
-
-  done_yielded : (answer : Answer) (cs : List C) → yielded (answer_done k s answer cs).store.status ≡ yielded_in answer
-  done_yielded (Stay way store) cs = refl
-  done_yielded (Wait store) cs = refl
-  done_yielded (Away gone store landing) cs =
-      landed_has k s (λ after. yielded after.status ≡ None) landing store (drop gone cs) (record { holds = λ after is. refl }) refl
-  done_yielded (Over gone store) cs = refl
+use Rattle.cmm_laws.proofs.Steps.{step_has, kept_by_steps}
+use Rattle.cmm_laws.proofs.Landings.{landed_keeps, done_keeps, done_yielded}
 
 -- the act that an order with traffic comes from
 abbrev Asks : Act → Order → Type 0
@@ -97,14 +66,14 @@ module _ {C : Type 0} (k : Control C) (s : Setting) where
     holds = λ answer e.
         let does = (performed s st.store running order).holds answer e in
         order_adds k st running _ order ((evaluated_asks _ _).holds order is)
-        (done_traffic k s answer st.controls ∙ ap (λ o. o.traffic) does.outline)
+        ((done_keeps k s answer st.controls).0 ∙ ap (λ o. o.traffic) does.outline)
         (done_yielded k s answer st.controls ∙ does.yielded);
   })
       (λ error. runs.Nothing refl refl)
       (λ values is.
       let answer = answered s values st.store in
       let logged = answer_does s values st.store in
-      runs.Lines values logged.text is (done_traffic k s answer st.controls ∙ ap (λ o. o.traffic) logged.does.outline)
+      runs.Lines values logged.text is ((done_keeps k s answer st.controls).0 ∙ ap (λ o. o.traffic) logged.does.outline)
       (done_yielded k s answer st.controls ∙ logged.does.yielded))
       (λ rests. runs.Nothing refl rests)
 
@@ -114,32 +83,36 @@ record Told {C : Type 0} (k : Control C) (st : State C) (t : Traffic) : Type 0 w
   whole : t.taken ++ t.input ≡ st.store.taken ++ st.store.input
   taken : (t.input ≡ st.store.input) × (t.taken ≡ st.store.taken) ⊎ Takes k st
 
+-- traffic that adds to output and log alone
+told : {C : Type 0} (k : Control C) (st : State C) (t : Traffic) → IsWithin (seen_in (traffic st.store)) (seen_in t) →
+    t.input ≡ st.store.input → t.taken ≡ st.store.taken → Told k st t
+told k st t within left taken = record { within = within; whole = ap₂ (λ xs ys. xs ++ ys) taken left; taken = inl (left, taken) }
+
 adds_tells : {C : Type 0} (k : Control C) (st : State C) (after : Store) → Adds k st after → Told k st (traffic after)
 adds_tells k st after adds = by adds
   where
     by : Adds k st after → Told k st (traffic after)
-    by (runs.Nothing is waits) =
-        subst (Told k st) (sym is) (record { within = within_refl _; whole = refl; taken = inl (refl, refl) })
-    by (runs.Output value n running next is waits) = subst (Told k st) (sym is) (record {
-      within = record { output = record { rest = n % 256 ∷ []; whole = refl }; log = prefix_refl _; taken = prefix_refl _ };
-      whole = refl;
-      taken = inl (refl, refl);
-    })
+    by (runs.Nothing is waits) = subst (Told k st) (sym is) (told k st _ (within_refl _) refl refl)
+    by (runs.Output value n running next is waits) = subst (Told k st) (sym is) (told k st _ (record {
+      output = record { rest = n % 256 ∷ []; whole = refl };
+      log = prefix_refl _;
+      taken = prefix_refl _;
+    }) refl refl)
     by (runs.Input target byte rest running next left is waits) = subst (Told k st) (sym is) (record {
       within = record { output = prefix_refl _; log = prefix_refl _; taken = record { rest = byte ∷ []; whole = refl } };
       whole = append_assoc st.store.taken (byte ∷ []) rest ∙ ap (λ xs. st.store.taken ++ xs) (sym left);
       taken = inr (record { target = target; running = running; next = next });
     })
-    by (runs.Line values running is waits) = subst (Told k st) (sym is) (record {
-      within = record { output = prefix_refl _; log = record { rest = yield_line values; whole = refl }; taken = prefix_refl _ };
-      whole = refl;
-      taken = inl (refl, refl);
-    })
-    by (runs.Lines values text waiting is waits) = subst (Told k st) (sym is) (record {
-      within = record { output = prefix_refl _; log = record { rest = text; whole = refl }; taken = prefix_refl _ };
-      whole = refl;
-      taken = inl (refl, refl);
-    })
+    by (runs.Line values running is waits) = subst (Told k st) (sym is) (told k st _ (record {
+      output = prefix_refl _;
+      log = record { rest = yield_line values; whole = refl };
+      taken = prefix_refl _;
+    }) refl refl)
+    by (runs.Lines values text waiting is waits) = subst (Told k st) (sym is) (told k st _ (record {
+      output = prefix_refl _;
+      log = record { rest = text; whole = refl };
+      taken = prefix_refl _;
+    }) refl refl)
 
 module _ {C : Type 0} (k : Control C) (s : Setting) where
   pub step_grows : (st : State C) → IsWithin (seen_in (traffic st.store)) (seen_in (traffic (step_of k s st).store))
@@ -157,4 +130,4 @@ module _ {C : Type 0} (k : Control C) (s : Setting) where
   pub input_kept : (input : List ℕ) (m : ℕ) → let store = (steps_of k s m (start_of k s input)).store in store.taken ++ store.input ≡ input
   input_kept input m = kept_by_steps k s (λ st. st.store.taken ++ st.store.input ≡ input)
       (λ st is. (adds_tells k st _ (step_adds k s st)).whole ∙ is) m (start_of k s input)
-      (ap (λ t. t.taken ++ t.input) (landed_traffic k s (Instead s.program.main []) (first_store s input) []))
+      (ap (λ t. t.taken ++ t.input) (landed_keeps k s (Instead s.program.main []) (first_store s input) []).0)

@@ -31,14 +31,15 @@ outline store =
     record { traffic = traffic store; status = store.status; stack = record (stack_of store) { frames = map bare store.frames } }
 
 -- without so many of the youngest activations
-abbrev pub dropped : ℕ → Outline → Outline
-dropped n o = record o { stack = record o.stack { frames = drop n o.stack.frames; rooms = drop n o.stack.rooms } }
+abbrev pub stack_without : ℕ → Stack → Stack
+stack_without n k = record k { frames = drop n k.frames; rooms = drop n k.rooms }
 
 -- with text at the end of the log
 abbrev pub logs : List ℕ → Outline → Outline
 logs text o = record o { traffic = record o.traffic { log = o.traffic.log ++ text } }
 
-pub outline_without : (n : ℕ) (store : Store) → outline (without n store) ≡ dropped n (outline store)
+pub outline_without : (n : ℕ) (store : Store) →
+    outline (without n store) ≡ record (outline store) { stack = stack_without n (outline store).stack }
 outline_without n store = rw (drop-map bare n store.frames, drop-map extent n store.memory.rooms) refl
 
 -- ---- what does not show in an outline
@@ -56,11 +57,12 @@ bare_with_variable : (fs : List Frame) (n value : ℕ) → map bare (with_variab
 bare_with_variable [] n value = refl
 bare_with_variable (f ∷ fs) n value = refl
 
-pub same_with_value : {A : Type 0} (g : ℕ → Option ℕ → A) (cursor n value : ℕ) (fs : List Frame) →
-    map (λ f. g f.procedure f.site) (with_value cursor n value fs) ≡ map (λ f. g f.procedure f.site) fs
-same_with_value g cursor n value [] = refl
-same_with_value g zero n value (f ∷ fs) = refl
-same_with_value g (suc cursor) n value (f ∷ fs) = ap (λ xs. g f.procedure f.site ∷ xs) (same_with_value g cursor n value fs)
+-- what does not look at values of variables
+pub same_with_value : {A : Type 0} (g : Frame → A) → ((f : Frame) (values : List ℕ) → g (record f { variables = values }) ≡ g f) →
+    (cursor n value : ℕ) (fs : List Frame) → map g (with_value cursor n value fs) ≡ map g fs
+same_with_value g same cursor n value [] = refl
+same_with_value g same zero n value (f ∷ fs) = ap (λ x. x ∷ map g fs) (same f _)
+same_with_value g same (suc cursor) n value (f ∷ fs) = ap (λ xs. g f ∷ xs) (same_with_value g same cursor n value fs)
 
 outline_assigned : (target : Target) (value : ℕ) (store : Store) → outline (assigned target value store) ≡ outline store
 outline_assigned (Variable n width) value store = framed store _ (bare_with_variable store.frames n value)
@@ -137,7 +139,7 @@ yielded_in (Over gone store) = yielded store.status
 -- an answer comes from a store of this outline but for the status, and the state after it waits with these values, if it does
 pub record Does (o : Outline) (values : Option (List ℕ)) (answer : Answer) : Type 0 where
   pub status : Status
-  pub outline : outline (store_in answer) ≡ record (dropped (gone_in answer) o) { status = status }
+  pub outline : outline (store_in answer) ≡ record o { status = status; stack = stack_without (gone_in answer) o.stack }
   pub yielded : yielded_in answer ≡ values
 
 abbrev pub traffic_after : Order → Traffic → Traffic
