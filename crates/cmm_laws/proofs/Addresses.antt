@@ -12,7 +12,7 @@ use Rattle.cmm_program.specs.State.{Setting, Frame, Store}
 use Rattle.cmm_program.specs.Frames.{procedure_at, place_row, frame_size, sum_of_sizes, frame_address, continuation_value, stackdata_offset, room_of}
 use Rattle.cmm_program.specs.Placed.{every, is_pair_in, is_stackdata_at, is_stackdata, is_row_placed, are_rows_placed}
 use Rattle.cmm_laws.specs.Stacks.{Extent, extent, stack_of, stackdata_at, stackdata_of, IsStack, IsSet, IsFrameAddress, pairs_of, IsOf, Pair, Stackdata}
-use Rattle.cmm_laws.proofs.Landings.{stack_dropped}
+use Rattle.cmm_laws.proofs.Steps.{stack_dropped}
 
 drop_suc : {A : Type 0} (n : ℕ) (xs : List A) → drop 1 (drop n xs) ≡ drop (suc n) xs
 drop_suc n xs = rw (drop-drop 1 n xs, add-one n) refl

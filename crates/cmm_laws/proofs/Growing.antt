@@ -16,8 +16,7 @@ use Rattle.cmm_laws.specs.Runs.{Traffic, traffic, yielded, Adds, seen_in, Takes}
 use Rattle.cmm_laws.proofs.Kept.{KeptBy, kept_ok, kept_err, kept_and_then, keeping}
 use Rattle.cmm_laws.proofs.Outlines.{performed, traffic_after, yielded_by}
 use Rattle.cmm_laws.proofs.Commands.{answer_does}
-use Rattle.cmm_laws.proofs.Steps.{step_has, kept_by_steps}
-use Rattle.cmm_laws.proofs.Landings.{landed_keeps, done_keeps, done_yielded}
+use Rattle.cmm_laws.proofs.Steps.{step_has, kept_by_steps, landed_keeps, done_keeps, done_yielded}
 
 -- the act that an order with traffic comes from
 abbrev Asks : Act → Order → Type 0

@@ -2,7 +2,6 @@ pub mod Kept
 pub mod Outlines
 pub mod Commands
 pub mod Steps
-pub mod Landings
 pub mod Growing
 pub mod Stacking
 pub mod Addresses

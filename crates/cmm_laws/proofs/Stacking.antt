@@ -10,8 +10,7 @@ use Rattle.cmm_program.specs.Machine.{step_of, steps_of, first_store, start_of}
 use Rattle.cmm_laws.specs.Stacks.{stack_of, stackdata_of, IsStack}
 use Rattle.cmm_laws.proofs.Outlines.{performed}
 use Rattle.cmm_laws.proofs.Commands.{answer_does}
-use Rattle.cmm_laws.proofs.Steps.{step_has, kept_by_steps}
-use Rattle.cmm_laws.proofs.Landings.{stack_left, landed_keeps, done_keeps}
+use Rattle.cmm_laws.proofs.Steps.{step_has, kept_by_steps, stack_left, landed_keeps, done_keeps}
 
 module _ {C : Type 0} (k : Control C) (s : Setting) where
   pub step_stack : (st : State C) → IsStack s (stack_of st.store) → IsStack s (stack_of (step_of k s st).store)

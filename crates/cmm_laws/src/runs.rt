@@ -2,6 +2,7 @@
 ghost use Rattle.cmm_laws.specs.Runs.{EndedStays, WrongStays, StepAdds, StepGrows, RunGrows, OnlyCallTakes, InputIsKept, RefusedOnlyLogs, CommandChanges, CommandSpares};
 
 /// An ended state and a wrong one stay as they are.
+#[tactic(auto, using(crate::proofs::Steps::ended_stays, crate::proofs::Steps::wrong_stays))]
 pub fn over_is_over()
     ensures ended { EndedStays }
     ensures wrong { WrongStays }
@@ -16,6 +17,7 @@ pub fn what_was_seen_grows()
 {}
 
 /// Only a foreign call takes input, and none of it is lost.
+#[tactic(auto, using(crate::proofs::Growing::step_takes, crate::proofs::Growing::input_kept))]
 pub fn input_is_taken_by_calls()
     ensures taken { OnlyCallTakes }
     ensures kept { InputIsKept }

@@ -3,7 +3,7 @@ use Rattle.cmm_program.specs.Machine.{state_after}
 use Rattle.cmm_program.specs.Todo.{todo_control}
 use Rattle.cmm_laws.specs.Stacks.{stack_of}
 use Rattle.cmm_laws.proofs.Addresses.{frame_aligned, adjoin}
-use Rattle.cmm_laws.proofs.Landings.{stack_dropped}
+use Rattle.cmm_laws.proofs.Steps.{stack_dropped}
 use Rattle.cmm_laws.proofs.Stacking.{steps_stack}
 use Rattle.cmm_laws.proofs.stacks.frames_adjoin.Goals as goal
 
