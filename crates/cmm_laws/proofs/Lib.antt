@@ -1,2 +1,9 @@
+pub mod Kept
+pub mod Outlines
+pub mod Commands
+pub mod Steps
+pub mod Growing
+pub mod Stacking
+pub mod Addresses
 pub mod Cells
 pub mod StoredWords

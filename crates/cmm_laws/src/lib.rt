@@ -4,10 +4,12 @@
 //! Each is the contract of a public function that does nothing.
 //!
 //! - `memory`: reads after writes, rooms that come and go, numbers as bytes, words stored and loaded.
-//! - `runs`: what an ended state does, what is only added to, and who takes the input.
+//! - `runs`: what an ended state does, what is only added to, who takes the input, and what the client's commands leave.
+//! - `stacks`: that the frames fit the stack and adjoin, and that what belongs to different activations lies apart.
 //!
 //! The laws of memory are the public lemmas of `proofs/Cells` and `proofs/StoredWords` too.
 #![tactic(auto)]
 
 pub mod memory;
 pub mod runs;
+pub mod stacks;

@@ -1,0 +1,22 @@
+//! The stack of every state: frames that fit and adjoin, and parts of frames that lie apart.
+ghost use Rattle.cmm_laws.specs.Stacks.{EachStateHasStack, OneRoomEach, FramesAreAligned, FramesAdjoin, PartsLieInFrame, PartsLieApart, PartsLieInStack};
+
+/// In every state the frames fit the stack, and the rooms of stackdata stand in step with them.
+pub fn every_state_has_its_stack()
+    ensures stack { EachStateHasStack }
+    ensures rooms { OneRoomEach }
+{}
+
+/// On a valid placement each frame lies in the stack at a multiple of 16, and ends where the next older one begins.
+pub fn frames_adjoin()
+    ensures aligned { FramesAreAligned }
+    ensures adjoin { FramesAdjoin }
+{}
+
+/// The pairs of continuations and the stackdata of an activation lie in its own frame, so those of different
+/// activations lie apart, and none overlaps data below the stack.
+pub fn parts_of_frames_lie_apart()
+    ensures own { PartsLieInFrame }
+    ensures apart { PartsLieApart }
+    ensures stack { PartsLieInStack }
+{}
