@@ -1,0 +1,236 @@
+-- The nodes of a body stand for its statements: what holds where statements lead holds where they are entered.
+use Rattle.std.proofs.Common.{◌≡◌, ℕ, zero, suc, ◌==◌, Bool, true, false, List, [], ◌∷◌, ◌++◌, map, length, Option, Some, None, refl, sym, ap, subst, ◌∙◌, arith, append_assoc, length-append}
+use Rattle.std.proofs.lemmas.Bool.{eq-eqb, ne_eqb}
+use Rattle.std.proofs.lemmas.List.{length-map}
+use Rattle.cmm_program.specs.declared.statement.Form.{Form, Row_of-Arm, end_of-Arm, more_of-Arm}
+use Rattle.cmm_program.specs.declared.statement.Form.TheVariants.{If', Switch', Span', Goto}
+use Rattle.cmm_program.specs.declared.statement.Arm.{Arm', Row_of-Statement, end_of-Statement, more_of-Statement}
+use Rattle.cmm_program.specs.declared.statement.Statement.{Statement}
+use Rattle.cmm_program.specs.declared.procedure.Proc.{Proc}
+use Rattle.cmm_program.specs.Bodies.{Mark, AtLabel, AtContinuation, AtSite, is_mark, statements, branches, branch_body, first_of_two, outward, after_inside, after_in, after_in_arms, follow}
+use Rattle.cmm_program.specs.Todo.{rest_after}
+use Rattle.cmm_laws.proofs.Cells.{pick, picked}
+use Rattle.cmm_laws.specs.StatementGraph.{Node, Laid, LaidArms, end_node, node_at, by_way, with_node, form_laid, laid, arms_laid, is_node, found, entry, next_of, directed, body_laid, nodes_of}
+
+-- ---- numbers stay while nodes are put in front
+
+pub record IsBehind (nodes all : List Node) : Type 0 where
+  pub front : List Node
+  pub whole : all ≡ front ++ nodes
+
+behind_first : (node : Node) (nodes all : List Node) → IsBehind (node ∷ nodes) all → IsBehind nodes all
+behind_first node nodes all b =
+    record { front = b.front ++ node ∷ []; whole = b.whole ∙ sym (append_assoc b.front (node ∷ []) nodes) }
+
+-- a node has the number of those behind it
+number_of_node : (front : List Node) (node : Node) (nodes : List Node) → node_at (front ++ node ∷ nodes) (length nodes) ≡ node
+number_of_node [] node nodes =
+    ap (λ t. pick t node (node_at nodes (length nodes))) (eq-eqb (length nodes) (length nodes) refl)
+number_of_node (first ∷ front) node nodes =
+    let more : length (front ++ node ∷ nodes) ≡ length nodes → ⊥ = λ e. absurd (omega (arith, e, length-append front (node ∷ nodes))) in
+    ap (λ t. pick t first (node_at (front ++ node ∷ nodes) (length nodes))) (ne_eqb (length (front ++ node ∷ nodes)) (length nodes) more)
+    ∙ number_of_node front node nodes
+
+map_at : (f : Node → Node) → f end_node ≡ end_node → (nodes : List Node) (n : ℕ) → node_at (map f nodes) n ≡ f (node_at nodes n)
+map_at f is [] n = sym is
+map_at f is (node ∷ nodes) n =
+    ap (λ m. pick (m == n) (f node) (node_at (map f nodes) n)) (length-map nodes f) ∙ by (map_at f is nodes n) (length nodes == n)
+  where
+    by : node_at (map f nodes) n ≡ f (node_at nodes n) → (t : Bool) →
+        pick t (f node) (node_at (map f nodes) n) ≡ f (pick t node (node_at nodes n))
+    by later true = refl
+    by later false = later
+
+-- a node of the body, in the graph
+pub in_graph : (p : Proc) (node : Node) (nodes : List Node) → IsBehind (node ∷ nodes) (body_laid p).nodes →
+    node_at (nodes_of p) (length nodes) ≡ directed (body_laid p).nodes node
+in_graph p node nodes b =
+    let all = (body_laid p).nodes in
+    map_at (directed all) refl all (length nodes)
+    ∙ ap (directed all) (ap (λ list. node_at list (length nodes)) b.whole ∙ number_of_node b.front node nodes)
+
+-- ---- marks are found where they are, whether each `goto` is directed or not
+
+no_goto : (m : Mark) (n : ℕ) → is_mark m (Goto n) ≡ false
+no_goto (AtLabel l) n = refl
+no_goto (AtContinuation k) n = refl
+no_goto (AtSite site) n = refl
+
+marked_next : (m : Mark) (all : List Node) (form : Option Form) (next : ℕ) → is_node m form ≡ true → next_of all form next ≡ next
+marked_next m all (Some (Goto n)) next is = absurd (let e = no_goto m n in cc)
+marked_next m all form next is = refl
+
+found_directed : (m : Mark) (all nodes : List Node) → found m (map (directed all) nodes) ≡ found m nodes
+found_directed m all [] = refl
+found_directed m all (node ∷ nodes) =
+    picked (is_node m node.form) (λ is. ap Some (marked_next m all node.form node.next is)) (λ _. found_directed m all nodes)
+
+pub entry_in_graph : (m : Mark) (p : Proc) → entry m (nodes_of p) ≡ entry m (body_laid p).nodes
+entry_in_graph m p =
+    let all = (body_laid p).nodes in
+    ap (λ (o : Option ℕ). elim o as (λ _. ℕ) [ Some number ↦ number | None ↦ 0 ]) (found_directed m all all)
+
+-- ---- what holds where statements lead holds where they are entered
+
+-- what an activation that stands at a node may still have to do: W, and V one step later
+module _ (p : Proc) (W V : ℕ → List Statement → Type 0) where
+  abbrev all : List Node
+  all = (body_laid p).nodes
+
+  -- a node stands for a statement and what follows it where each way leads to a node that stands for what is to do then
+  pub record Levels : Type 0 where
+    pub weaker : (n : ℕ) (rest : List Statement) → W n rest → V n rest
+    pub built : (n tokens : ℕ) (form : Form) (rest : List Statement) (node : Node) → node_at (nodes_of p) n ≡ node →
+        node.form ≡ Some form → ((way : ℕ) → V (by_way way node) (rest_after p way form rest)) →
+        W n (record { tokens = tokens; form = form } ∷ rest)
+    pub jumps : (label : ℕ) → V (entry (AtLabel label) all) (follow p (AtLabel label))
+
+  -- a mark is found where what follows it is, if there is such a place; or else it is found further behind, if at all
+  abbrev pub Finds : Option (List Statement) → Option ℕ → Option ℕ → List Statement → Type 0
+  Finds (Some inner) here behind rest = (n : ℕ) × (here ≡ Some n) × W n (inner ++ rest)
+  Finds None here behind rest = here ≡ behind
+
+  -- from where some statements are entered to where they lead
+  pub record Stands (list : List Statement) (inside : Mark → Option (List Statement)) (before after : Laid) : Type 0 where
+    pub behind : IsBehind after.nodes all
+    pub enters : (rest : List Statement) → W after.start rest → W before.start (list ++ rest)
+    pub finds : (m : Mark) (rest : List Statement) → W after.start rest → Finds (inside m) (found m before.nodes) (found m after.nodes) rest
+
+  -- the same of the arms of a switch, of which each leads behind it
+  record ArmsStand {n : _} (arms : Row_of-Arm n) (before : LaidArms) (after : Laid) : Type 0 where
+    behind : IsBehind after.nodes all
+    enters : (rest : List Statement) → W after.start rest → (way : ℕ) →
+        W (by_way way (record { form = None; ways = before.starts; next = after.start })) (branch_body (branches arms) way ++ rest)
+    finds : (m : Mark) (rest : List Statement) → W after.start rest →
+        Finds (after_in_arms m arms) (found m before.nodes) (found m after.nodes) rest
+
+  finds_either : (a b : Option (List Statement)) (x y z : Option ℕ) (rest : List Statement) → Finds a x y rest → Finds b y z rest →
+      Finds (first_of_two a b) x z rest
+  finds_either (Some inner) b x y z rest first second = first
+  finds_either None b x y z rest first second = subst (λ o. Finds b o z rest) (sym first) second
+
+  finds_outward : (a : Option (List Statement)) (x y : Option ℕ) (tail rest : List Statement) → Finds a x y (tail ++ rest) →
+      Finds (outward a tail) x y rest
+  finds_outward (Some inner) x y tail rest (n, e, w) = (n, e, subst (W n) (sym (append_assoc inner tail rest)) w)
+  finds_outward None x y tail rest e = e
+
+  -- what follows a mark in one statement
+  abbrev inside_of : Form → Mark → Option (List Statement)
+  inside_of form m = pick (is_mark m form) (Some []) (after_inside m form)
+
+  in_order : (t : Bool) (inner : Option (List Statement)) (tail : List Statement) (other : Option (List Statement)) →
+      first_of_two (outward (pick t (Some []) inner) tail) other ≡ pick t (Some tail) (first_of_two (outward inner tail) other)
+  in_order true inner tail other = refl
+  in_order false inner tail other = refl
+
+  finds_leaf : (t : Bool) (next : ℕ) (z : Option ℕ) (rest : List Statement) → W next rest →
+      Finds (pick t (Some []) None) (pick t (Some next) z) z rest
+  finds_leaf true next z rest w = (next, refl, w)
+  finds_leaf false next z rest w = refl
+
+  finds_block : (t : Bool) (next : ℕ) (inner : Option (List Statement)) (x z : Option ℕ) (rest : List Statement) → t ≡ false →
+      Finds inner x z rest → Finds (pick t (Some []) inner) (pick t (Some next) x) z rest
+  finds_block true next inner x z rest never finds = absurd (cc)
+  finds_block false next inner x z rest is finds = finds
+
+  module _ (levels : Levels) where
+    -- a statement without blocks
+    leaf : (form : Form) (tokens : ℕ) (after : Laid) →
+        ((way : ℕ) (rest : List Statement) → W after.start rest → V (next_of all (Some form) after.start) (rest_after p way form rest)) →
+        ((m : Mark) → after_inside m form ≡ None) → IsBehind (with_node form [] after.start after.nodes).nodes all →
+        Stands (record { tokens = tokens; form = form } ∷ []) (inside_of form) (with_node form [] after.start after.nodes) after
+    leaf form tokens after later none behind = record {
+      behind = behind_first _ after.nodes all behind;
+      enters = λ rest w.
+          levels.built (length after.nodes) tokens form rest _ (in_graph p _ after.nodes behind) refl (λ way. later way rest w);
+      finds = λ m rest w.
+          subst (λ o. Finds (pick (is_mark m form) (Some []) o)
+          (found m (with_node form [] after.start after.nodes).nodes) (found m after.nodes) rest) (sym (none m))
+          (finds_leaf (is_mark m form) after.start (found m after.nodes) rest w);
+    }
+
+    mutual
+      pub form_stands : (form : Form) (tokens : ℕ) (after : Laid) → IsBehind (form_laid form after).nodes all →
+          Stands (record { tokens = tokens; form = form } ∷ []) (inside_of form) (form_laid form after) after
+      form_stands (If' condition n then_ k otherwise) tokens after behind =
+          let other = laid otherwise after in
+          let first = row_stands then_ (record { nodes = other.nodes; start = after.start }) (behind_first _ _ all behind) in
+          let second = row_stands otherwise after first.behind in
+          record {
+            behind = second.behind;
+            enters = λ rest w. levels.built _ tokens (If' condition n then_ k otherwise) rest _ (in_graph p _ _ behind) refl (elim [
+              | zero ↦ levels.weaker _ _ (first.enters rest w)
+              | suc way ↦ levels.weaker _ _ (second.enters rest w)
+            ]);
+            finds = λ m rest w.
+                finds_block (is_mark m (If' condition n then_ k otherwise)) other.start _ _ _ rest
+                (elim m as (λ m. is_mark m (If' condition n then_ k otherwise) ≡ false) [
+                  | AtLabel l ↦ refl
+                  | AtContinuation c ↦ refl
+                  | AtSite site ↦ refl
+                ])
+                (finds_either _ _ _ _ _ rest (first.finds m rest w) (second.finds m rest w));
+          }
+      form_stands (Switch' value n arms) tokens after behind =
+          let inside = arms_stand arms after (behind_first _ _ all behind) in
+          record {
+            behind = inside.behind;
+            enters = λ rest w. levels.built _ tokens (Switch' value n arms) rest _ (in_graph p _ _ behind) refl
+                (λ way. levels.weaker _ _ (inside.enters rest w way));
+            finds = λ m rest w.
+                finds_block (is_mark m (Switch' value n arms)) after.start _ _ _ rest
+                (elim m as (λ m. is_mark m (Switch' value n arms) ≡ false) [
+                  | AtLabel l ↦ refl
+                  | AtContinuation c ↦ refl
+                  | AtSite site ↦ refl
+                ])
+                (inside.finds m rest w);
+          }
+      form_stands (Span' n body) tokens after behind =
+          let inside = row_stands body after (behind_first _ _ all behind) in
+          record {
+            behind = inside.behind;
+            enters = λ rest w. levels.built _ tokens (Span' n body) rest _ (in_graph p _ _ behind) refl
+                (λ way. levels.weaker _ _ (inside.enters rest w));
+            finds = λ m rest w.
+                finds_block (is_mark m (Span' n body)) (laid body after).start _ _ _ rest
+                (elim m as (λ m. is_mark m (Span' n body) ≡ false) [
+                  | AtLabel l ↦ refl
+                  | AtContinuation c ↦ refl
+                  | AtSite site ↦ refl
+                ])
+                (inside.finds m rest w);
+          }
+      form_stands (Goto n) tokens after behind = leaf (Goto n) tokens after (λ way rest w. levels.jumps n) (λ m. refl) behind
+      form_stands form tokens after behind = leaf form tokens after (λ way rest w. levels.weaker _ _ w) (λ m. refl) behind
+
+      pub row_stands : {n : _} (row : Row_of-Statement n) (after : Laid) → IsBehind (laid row after).nodes all →
+          Stands (statements row) (λ m. after_in m row) (laid row after) after
+      row_stands end_of-Statement after behind =
+          record { behind = behind; enters = λ rest w. w; finds = λ m rest w. refl }
+      row_stands (more_of-Statement tokens form rest) after behind =
+          let first = form_stands form tokens (laid rest after) behind in
+          let second = row_stands rest after first.behind in
+          record {
+            behind = second.behind;
+            enters = λ last w. first.enters (statements rest ++ last) (second.enters last w);
+            finds = λ m last w.
+                subst (λ o. Finds o (found m (form_laid form (laid rest after)).nodes) (found m after.nodes) last)
+                (in_order (is_mark m form) (after_inside m form) (statements rest) (after_in m rest))
+                (finds_either _ _ _ _ _ last
+                (finds_outward _ _ _ (statements rest) last (first.finds m (statements rest ++ last) (second.enters last w)))
+                (second.finds m last w));
+          }
+
+      arms_stand : {n : _} (arms : Row_of-Arm n) (after : Laid) → IsBehind (arms_laid arms after).nodes all →
+          ArmsStand arms (arms_laid arms after) after
+      arms_stand end_of-Arm after behind = record { behind = behind; enters = λ rest w way. w; finds = λ m rest w. refl }
+      arms_stand (more_of-Arm (Arm' case n body) rest) after behind =
+          let others = arms_laid rest after in
+          let first = row_stands body (record { nodes = others.nodes; start = after.start }) behind in
+          let second = arms_stand rest after first.behind in
+          record {
+            behind = second.behind;
+            enters = λ last w. elim [ zero ↦ first.enters last w | suc way ↦ second.enters last w way ];
+            finds = λ m last w. finds_either _ _ _ _ _ last (first.finds m last w) (second.finds m last w);
+          }

@@ -1,0 +1,101 @@
+-- The C-- machine and its graph of whole statements go in lock-step: what is seen of a machine with any control, which
+-- node stands for which statements, and what follows for all runs.
+use Rattle.std.specs.Prelude.{◌≡◌, ℕ, ◌-◌, Bool, true, false, List, [], ◌∷◌, length, take, Option, Some, None}
+use Rattle.std.specs.List.{AllZip}
+use Rattle.cmm_script.specs.Lines.{yield_line}
+use Rattle.cmm_script.specs.Walk.{Activation}
+use Rattle.cmm_program.specs.declared.program.Program.{Program}
+use Rattle.cmm_program.specs.State.{Setting, Store, Status, Running, Waiting, Ended, Wrong, Outcome}
+use Rattle.cmm_program.specs.Acts.{Act, GetByte}
+use Rattle.cmm_program.specs.Control.{Control, State, next_act}
+use Rattle.cmm_program.specs.Todo.{Todo, todo_control}
+use Rattle.cmm_program.specs.Machine.{step_of, start_of, start}
+use Rattle.cmm_program.specs.Walks.{walk_of}
+use Rattle.cmm_following.specs.Seen.{Seen, Event, Input, Client, End}
+use Rattle.cmm_following.specs.Machine.{Machine}
+use Rattle.cmm_following.specs.Simulation.{Simulates}
+use Rattle.cmm_following.specs.Following.{Follows}
+use Rattle.cmm_following.specs.Agreement.{Agrees}
+use Rattle.cmm_laws.specs.Runs.{yielded}
+use Rattle.cmm_laws.specs.StatementGraph.{Position, graph_control}
+
+-- ---- what is seen of a machine
+
+-- what the client sees when it is called: the values of the yield, and the walk
+pub record Call : Type 0 where
+  pub values : List ℕ
+  pub walk : List Activation
+
+-- the log, without the line of a yield whose values the client has not answered yet
+abbrev pub log_seen : Option (List ℕ) → List ℕ → List ℕ
+log_seen None log = log
+log_seen (Some values) log = take (length log - length (yield_line values)) log
+
+abbrev pub store_seen : Store → Seen ℕ
+store_seen store = record { output = store.output; log = log_seen (yielded store.status) store.log; taken = store.taken }
+
+abbrev pub act_event : Act → Option (Event Call Outcome)
+act_event (GetByte target) = Some Input
+act_event act = None
+
+abbrev pub event_at : Setting → Status → Store → Act → Option (Event Call Outcome)
+event_at s Running store act = act_event act
+event_at s (Waiting values) store act = Some (Client record { values = values; walk = walk_of s store })
+event_at s (Ended outcome) store act = Some (End outcome)
+event_at s (Wrong error) store act = None
+
+abbrev pub is_wrong : Status → Bool
+is_wrong (Wrong error) = true
+is_wrong status = false
+
+-- the machine of any control, in the theory of following
+abbrev pub machine_of : {C : Type 0} → Control C → Setting → Machine (State C) ℕ Call Outcome
+machine_of k s = record {
+  step = step_of k s;
+  seen = λ st. store_seen st.store;
+  asks = λ st. event_at s st.store.status st.store (next_act k st.controls);
+  wrong = λ st. is_wrong st.store.status;
+}
+
+-- ---- which node stands for which statements
+
+-- where an activation stands after it has gone by these ways
+abbrev pub by_ways : {C : Type 0} → Control C → List ℕ → C → C
+by_ways k [] c = c
+by_ways k (way ∷ ways) c = by_ways k ways (k.on way c)
+
+-- A node stands for the statements still to do: both are of one procedure, and by whatever ways they go on, they come to
+-- the same act.
+pub record StandsFor (p : Program) (t : Todo) (c : Position) : Type 0 where
+  pub procedure : t.procedure ≡ c.procedure
+  pub acts : (ways : List ℕ) →
+      (todo_control p).act (by_ways (todo_control p) ways t) ≡ (graph_control p).act (by_ways (graph_control p) ways c)
+
+-- one store, and the controls of each activation related
+pub record AreInLockStep {C D : Type 0} (Related : C → D → Type 0) (a : State C) (b : State D) : Type 0 where
+  pub store : a.store ≡ b.store
+  pub controls : AllZip Related a.controls b.controls
+
+-- ---- the laws
+
+abbrev pub c_machine : Setting → Machine (State Todo) ℕ Call Outcome
+c_machine s = machine_of (todo_control s.program) s
+
+abbrev pub graph_machine : Setting → Machine (State Position) ℕ Call Outcome
+graph_machine s = machine_of (graph_control s.program) s
+
+abbrev pub graph_start : Setting → List ℕ → State Position
+graph_start s input = start_of (graph_control s.program) s input
+
+-- each step of the C-- machine is one step over the graph
+abbrev pub GraphSimulates : Type 0
+GraphSimulates = (s : Setting) → Simulates (c_machine s) (λ _. 1) (graph_machine s) (λ _. 1) (AreInLockStep (StandsFor s.program))
+
+-- so on every input the graph follows the C-- machine
+abbrev pub GraphFollows : Type 0
+GraphFollows = (s : Setting) (input : List ℕ) →
+    Follows (c_machine s) (λ _. 1) (graph_machine s) (λ _. 1) (start s input) (graph_start s input)
+
+-- and agrees with it with the factor 1
+abbrev pub GraphAgrees : Type 0
+GraphAgrees = (s : Setting) (input : List ℕ) → Agrees (c_machine s) (graph_machine s) 1 (start s input) (graph_start s input)
