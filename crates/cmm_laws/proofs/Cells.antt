@@ -1,9 +1,9 @@
 -- Laws of memory, over the cell at an address.
-use Rattle.std.proofs.Common.{◌≡◌, ◌≢◌, ℕ, zero, suc, ◌+◌, ◌-◌, ◌<◌, ◌≤◌, ◌&&◌, nat_lt, nat_le, true, false, Bool, List, [], ◌∷◌, length, map, set, get_or, take, drop, slice_get, Option, Some, None, refl, sym, ap, ap₂, ◌∙◌, arith}
+use Rattle.std.proofs.Common.{◌≡◌, ◌≢◌, ℕ, zero, suc, ◌+◌, ◌-◌, ◌<◌, ◌≤◌, ◌&&◌, nat_lt, nat_le, true, false, Bool, List, [], ◌∷◌, length, map, set, get_or, take, drop, Option, Some, None, refl, sym, ap, ap₂, ◌∙◌, arith}
 use Rattle.std.proofs.lemmas.Bool.Decides.{nat_tests}
 use Rattle.std.proofs.lemmas.List.{get_or-replicate, get_or-set_same, get_or-set_other, length-set, length-replicate, drop-map}
 use Rattle.cmm_program.specs.Memory.{Cell, Outside, Byte, Room, Memory, is_in, cell_of, cell_in, cell_at, with_byte_in, with_byte, with_bytes}
-use Rattle.cmm_laws.specs.Cells.{written, Lack, unwritten_room, SameAddress, OtherAddress, OutsideStays, SameAddresses, OtherAddresses, DataFirst, RoomOfAddress, RoomStays, WriteInData, WriteInRooms, RoomComes, RoomComesUnwritten, RoomsGo, WrittenThenGone}
+use Rattle.cmm_laws.specs.Cells.{written, Lack, unwritten_room, SameAddress, OtherAddress, OutsideStays, SameAddresses, OtherAddresses, DataFirst, RoomOfAddress, LackEach, RoomStays, WriteInData, WriteInRooms, RoomComes, RoomComesUnwritten, RoomsGo, WrittenThenGone}
 
 -- ---- one room
 
@@ -135,19 +135,27 @@ same_addresses m address bytes i less = at_offset m address bytes i (address + i
 pub data_first : DataFirst
 data_first m rooms address is = picked (is_in m.globals address) (λ _. refl) (λ e. absurd (cc))
 
-room_in : (rooms : List Room) (i : ℕ) (room : Room) (address : ℕ) → slice_get rooms i ≡ Some room → Lack (take i rooms) address →
-    is_in room address ≡ true → cell_in rooms address ≡ cell_in (room ∷ []) address
-room_in [] i room address found younger is = absurd (cc)
-room_in (first ∷ rooms) zero room address found younger is =
+room_in : (rooms : List Room) (younger : ℕ) (room : Room) (older : List Room) (address : ℕ) → drop younger rooms ≡ room ∷ older →
+    Lack (take younger rooms) address → is_in room address ≡ true → cell_in rooms address ≡ cell_in (room ∷ []) address
+room_in [] zero room older address found lack is = absurd (cc)
+room_in [] (suc younger) room older address found lack is = absurd (cc)
+room_in (first ∷ rooms) zero room older address found lack is =
     let e : first ≡ room = cc in
     rw e (picked (is_in room address) (λ _. refl) (λ e. absurd (cc)))
-room_in (first ∷ rooms) (suc i) room address found younger is =
-    let parts = outside_head (is_in first address) _ _ younger in
-    ap (λ t. pick t (own first address) (cell_in rooms address)) parts.0 ∙ room_in rooms i room address found parts.1 is
+room_in (first ∷ rooms) (suc younger) room older address found lack is =
+    let parts = outside_head (is_in first address) _ _ lack in
+    ap (λ t. pick t (own first address) (cell_in rooms address)) parts.0 ∙ room_in rooms younger room older address found parts.1 is
 
 pub room_of_address : RoomOfAddress
-room_of_address m i room address found globals younger is =
-    ap (λ t. pick t (own m.globals address) (cell_in m.rooms address)) globals ∙ room_in m.rooms i room address found younger is
+room_of_address m younger room older address found globals lack is =
+    ap (λ t. pick t (own m.globals address) (cell_in m.rooms address)) globals ∙ room_in m.rooms younger room older address found lack is
+
+pub lack_each : LackEach
+lack_each rooms zero address each = refl
+lack_each [] (suc younger) address each = refl
+lack_each (room ∷ rooms) (suc younger) address each =
+    ap (λ t. pick t (own room address) (cell_in (take younger rooms) address)) (each 0 room rooms (omega arith) refl)
+    ∙ lack_each rooms younger address (λ i other older less. each (suc i) other older (omega arith))
 
 pub write_in_data : WriteInData
 write_in_data m address byte lack =

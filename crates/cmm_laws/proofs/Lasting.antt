@@ -13,7 +13,7 @@ use Rattle.cmm_following.proofs.Prefixes.{prefix_refl, prefix_trans}
 use Rattle.cmm_laws.proofs.Growing.{step_adds}
 use Rattle.cmm_laws.specs.Runs as runs
 use Rattle.cmm_laws.specs.Runs.{Traffic, traffic, yielded, Adds}
-use Rattle.cmm_laws.specs.LockStep.{log_seen, store_seen, act_event, event_at, is_wrong, machine_of}
+use Rattle.cmm_laws.specs.LockStep.{LineUnseen, log_seen, store_seen, act_event, event_at, is_wrong, machine_of}
 
 -- ---- what is seen grows
 
@@ -28,7 +28,7 @@ log_begins (Some values) log =
     let n = length log - length (yield_line values) in record { rest = drop n log; whole = sym (take-append-drop n log) }
 
 -- the line of a yield is not seen while the client is waited for
-line_unseen : (values log : List ℕ) → log_seen (Some values) (log ++ yield_line values) ≡ log
+pub line_unseen : LineUnseen
 line_unseen values log =
     let line = yield_line values in
     take_at log line (length (log ++ line) - length line) (omega (arith, length-append log line))

@@ -1,5 +1,5 @@
 -- The nodes of a body stand for its statements: what holds where statements lead holds where they are entered.
-use Rattle.std.proofs.Common.{◌≡◌, ℕ, zero, suc, ◌==◌, Bool, true, false, List, [], ◌∷◌, ◌++◌, map, length, Option, Some, None, refl, sym, ap, subst, ◌∙◌, arith, append_assoc, length-append}
+use Rattle.std.proofs.Common.{◌≡◌, ℕ, zero, suc, ◌==◌, Bool, true, false, List, [], ◌∷◌, ◌++◌, map, length, slice_index_or, Option, Some, None, refl, sym, ap, subst, ◌∙◌, arith, append_assoc, length-append}
 use Rattle.std.proofs.lemmas.Bool.{eq-eqb, ne_eqb}
 use Rattle.std.proofs.lemmas.List.{length-map}
 use Rattle.cmm_program.specs.declared.statement.Form.{Form, Row_of-Arm, end_of-Arm, more_of-Arm}
@@ -100,7 +100,7 @@ module _ (p : Proc) (W V : ℕ → List Statement → Type 0) where
   record ArmsStand {n : _} (arms : Row_of-Arm n) (before : LaidArms) (after : Laid) : Type 0 where
     behind : IsBehind after.nodes all
     enters : (rest : List Statement) → W after.start rest → (way : ℕ) →
-        W (by_way way (record { form = None; ways = before.starts; next = after.start })) (branch_body (branches arms) way ++ rest)
+        W (slice_index_or before.starts way after.start) (branch_body (branches arms) way ++ rest)
     finds : (m : Mark) (rest : List Statement) → W after.start rest →
         Finds (after_in_arms m arms) (found m before.nodes) (found m after.nodes) rest
 
@@ -149,6 +149,19 @@ module _ (p : Proc) (W V : ℕ → List Statement → Type 0) where
           (finds_leaf (is_mark m form) after.start (found m after.nodes) rest w);
     }
 
+    -- a statement with blocks, which is no mark: marks are found inside it
+    block : (form : Form) (tokens : ℕ) (ways : List ℕ) (next : ℕ) (nodes : List Node) (after : Laid) →
+        ((m : Mark) → is_mark m form ≡ false) → IsBehind (with_node form ways next nodes).nodes all → IsBehind after.nodes all →
+        ((rest : List Statement) → W after.start rest → (way : ℕ) →
+        V (slice_index_or ways way (next_of all (Some form) next)) (rest_after p way form rest)) →
+        ((m : Mark) (rest : List Statement) → W after.start rest → Finds (after_inside m form) (found m nodes) (found m after.nodes) rest) →
+        Stands (record { tokens = tokens; form = form } ∷ []) (inside_of form) (with_node form ways next nodes) after
+    block form tokens ways next nodes after unmarked behind ends leads finds = record {
+      behind = ends;
+      enters = λ rest w. levels.built (length nodes) tokens form rest _ (in_graph p _ nodes behind) refl (leads rest w);
+      finds = λ m rest w. finds_block (is_mark m form) next _ _ _ rest (unmarked m) (finds m rest w);
+    }
+
     mutual
       pub form_stands : (form : Form) (tokens : ℕ) (after : Laid) → IsBehind (form_laid form after).nodes all →
           Stands (record { tokens = tokens; form = form } ∷ []) (inside_of form) (form_laid form after) after
@@ -156,51 +169,20 @@ module _ (p : Proc) (W V : ℕ → List Statement → Type 0) where
           let other = laid otherwise after in
           let first = row_stands then_ (record { nodes = other.nodes; start = after.start }) (behind_first _ _ all behind) in
           let second = row_stands otherwise after first.behind in
-          record {
-            behind = second.behind;
-            enters = λ rest w. levels.built _ tokens (If' condition n then_ k otherwise) rest _ (in_graph p _ _ behind) refl (elim [
-              | zero ↦ levels.weaker _ _ (first.enters rest w)
-              | suc way ↦ levels.weaker _ _ (second.enters rest w)
-            ]);
-            finds = λ m rest w.
-                finds_block (is_mark m (If' condition n then_ k otherwise)) other.start _ _ _ rest
-                (elim m as (λ m. is_mark m (If' condition n then_ k otherwise) ≡ false) [
-                  | AtLabel l ↦ refl
-                  | AtContinuation c ↦ refl
-                  | AtSite site ↦ refl
-                ])
-                (finds_either _ _ _ _ _ rest (first.finds m rest w) (second.finds m rest w));
-          }
+          block (If' condition n then_ k otherwise) tokens _ _ _ after
+          (elim [ AtLabel l ↦ refl | AtContinuation c ↦ refl | AtSite site ↦ refl ]) behind second.behind
+          (λ rest w. elim [ zero ↦ levels.weaker _ _ (first.enters rest w) | suc way ↦ levels.weaker _ _ (second.enters rest w) ])
+          (λ m rest w. finds_either _ _ _ _ _ rest (first.finds m rest w) (second.finds m rest w))
       form_stands (Switch' value n arms) tokens after behind =
           let inside = arms_stand arms after (behind_first _ _ all behind) in
-          record {
-            behind = inside.behind;
-            enters = λ rest w. levels.built _ tokens (Switch' value n arms) rest _ (in_graph p _ _ behind) refl
-                (λ way. levels.weaker _ _ (inside.enters rest w way));
-            finds = λ m rest w.
-                finds_block (is_mark m (Switch' value n arms)) after.start _ _ _ rest
-                (elim m as (λ m. is_mark m (Switch' value n arms) ≡ false) [
-                  | AtLabel l ↦ refl
-                  | AtContinuation c ↦ refl
-                  | AtSite site ↦ refl
-                ])
-                (inside.finds m rest w);
-          }
+          block (Switch' value n arms) tokens _ _ _ after
+          (elim [ AtLabel l ↦ refl | AtContinuation c ↦ refl | AtSite site ↦ refl ]) behind inside.behind
+          (λ rest w way. levels.weaker _ _ (inside.enters rest w way)) inside.finds
       form_stands (Span' n body) tokens after behind =
           let inside = row_stands body after (behind_first _ _ all behind) in
-          record {
-            behind = inside.behind;
-            enters = λ rest w. levels.built _ tokens (Span' n body) rest _ (in_graph p _ _ behind) refl
-                (λ way. levels.weaker _ _ (inside.enters rest w));
-            finds = λ m rest w.
-                finds_block (is_mark m (Span' n body)) (laid body after).start _ _ _ rest
-                (elim m as (λ m. is_mark m (Span' n body) ≡ false) [
-                  | AtLabel l ↦ refl
-                  | AtContinuation c ↦ refl
-                  | AtSite site ↦ refl
-                ])
-                (inside.finds m rest w);
-          }
+          block (Span' n body) tokens _ _ _ after
+          (elim [ AtLabel l ↦ refl | AtContinuation c ↦ refl | AtSite site ↦ refl ]) behind inside.behind
+          (λ rest w way. levels.weaker _ _ (inside.enters rest w)) inside.finds
       form_stands (Goto n) tokens after behind = leaf (Goto n) tokens after (λ way rest w. levels.jumps n) (λ m. refl) behind
       form_stands form tokens after behind = leaf form tokens after (λ way rest w. levels.weaker _ _ w) (λ m. refl) behind
 

@@ -1,6 +1,6 @@
 -- What holds of memory, as seen by the cell at an address: after a write, across data and rooms, and when rooms come and
 -- go. Nothing above needs to know how memory is kept.
-use Rattle.std.specs.Prelude.{◌≡◌, ◌≢◌, ℕ, ◌+◌, ◌<◌, true, false, List, [], ◌∷◌, length, map, replicate, take, drop, slice_get, slice_index_or, Some, None}
+use Rattle.std.specs.Prelude.{◌≡◌, ◌≢◌, ℕ, ◌+◌, ◌<◌, true, false, List, [], ◌∷◌, length, map, replicate, take, drop, slice_index_or, None}
 use Rattle.cmm_program.specs.Memory.{Cell, Outside, Unwritten, Byte, Room, Memory, is_in, cell_in, cell_at, with_byte_in, with_byte, with_bytes}
 
 -- ---- after a write
@@ -49,9 +49,15 @@ DataFirst = (m : Memory) (rooms : List Room) (address : ℕ) → is_in m.globals
 
 -- an address of a room is read from that room, where no data and no younger room has it
 abbrev pub RoomOfAddress : Type 0
-RoomOfAddress = (m : Memory) (i : ℕ) (room : Room) (address : ℕ) → slice_get m.rooms i ≡ Some room →
-    is_in m.globals address ≡ false → Lack (take i m.rooms) address → is_in room address ≡ true →
+RoomOfAddress = (m : Memory) (younger : ℕ) (room : Room) (older : List Room) (address : ℕ) → drop younger m.rooms ≡ room ∷ older →
+    is_in m.globals address ≡ false → Lack (take younger m.rooms) address → is_in room address ≡ true →
     cell_at m address ≡ cell_in (room ∷ []) address
+
+-- younger rooms lack an address where each of them does
+abbrev pub LackEach : Type 0
+LackEach = (rooms : List Room) (younger address : ℕ) →
+    ((i : ℕ) (room : Room) (older : List Room) → i < younger → drop i rooms ≡ room ∷ older → is_in room address ≡ false) →
+    Lack (take younger rooms) address
 
 -- a write leaves data, or a room, that lacks its address
 abbrev pub RoomStays : Type 0

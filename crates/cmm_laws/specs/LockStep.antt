@@ -1,6 +1,6 @@
 -- The C-- machine and its graph of whole statements go in lock-step: what is seen of a machine with any control, which
 -- node stands for which statements, and what follows for all runs.
-use Rattle.std.specs.Prelude.{◌≡◌, ℕ, ◌-◌, Bool, true, false, List, [], ◌∷◌, length, take, Option, Some, None}
+use Rattle.std.specs.Prelude.{◌≡◌, ℕ, ◌-◌, Bool, true, false, List, [], ◌∷◌, ◌++◌, length, take, Option, Some, None}
 use Rattle.std.specs.List.{AllZip}
 use Rattle.cmm_script.specs.Lines.{yield_line}
 use Rattle.cmm_script.specs.Walk.{Activation}
@@ -12,7 +12,7 @@ use Rattle.cmm_program.specs.Todo.{Todo, todo_control}
 use Rattle.cmm_program.specs.Machine.{step_of, start_of, start}
 use Rattle.cmm_program.specs.Walks.{walk_of}
 use Rattle.cmm_following.specs.Seen.{Seen, Event, Input, Client, End}
-use Rattle.cmm_following.specs.Machine.{Machine}
+use Rattle.cmm_following.specs.Machine.{Machine, Lasts}
 use Rattle.cmm_following.specs.Simulation.{Simulates}
 use Rattle.cmm_following.specs.Following.{Follows}
 use Rattle.cmm_following.specs.Agreement.{Agrees}
@@ -99,3 +99,11 @@ GraphFollows = (s : Setting) (input : List ℕ) →
 -- and agrees with it with the factor 1
 abbrev pub GraphAgrees : Type 0
 GraphAgrees = (s : Setting) (input : List ℕ) → Agrees (c_machine s) (graph_machine s) 1 (start s input) (graph_start s input)
+
+-- what is seen of both only grows, and what is over or wrong stays so
+abbrev pub MachinesLast : Type 0
+MachinesLast = (s : Setting) → Lasts (c_machine s) × Lasts (graph_machine s)
+
+-- the line of a yield is not seen until the client has answered
+abbrev pub LineUnseen : Type 0
+LineUnseen = (values log : List ℕ) → log_seen (Some values) (log ++ yield_line values) ≡ log

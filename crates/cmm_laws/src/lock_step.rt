@@ -1,6 +1,6 @@
 //! The C-- machine is followed step by step by a second control over the same store, a graph whose nodes are whole
 //! statements.
-ghost use Rattle.cmm_laws.specs.LockStep.{GraphAgrees, GraphFollows, GraphSimulates};
+ghost use Rattle.cmm_laws.specs.LockStep.{GraphAgrees, GraphFollows, GraphSimulates, LineUnseen, MachinesLast};
 
 /// Each statement becomes a node: in every program, a step of the C-- machine is one step over the graph, and so on every
 /// input both show the same.
@@ -8,4 +8,11 @@ pub fn statements_become_nodes()
     ensures simulates { GraphSimulates }
     ensures follows { GraphFollows }
     ensures agrees { GraphAgrees }
+{}
+
+/// What is seen of both machines only grows, without the line of a yield until the client has answered, and a run that
+/// is over or wrong stays so.
+pub fn machines_last()
+    ensures last { MachinesLast }
+    ensures line { LineUnseen }
 {}

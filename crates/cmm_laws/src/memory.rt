@@ -1,5 +1,5 @@
 //! What memory keeps: reads after writes, data and rooms, numbers as bytes, and words stored and loaded again.
-ghost use Rattle.cmm_laws.specs.Cells.{DataFirst, OtherAddress, OtherAddresses, OutsideStays, RoomComes, RoomComesUnwritten, RoomOfAddress, RoomStays, RoomsGo, SameAddress, SameAddresses, WriteInData, WriteInRooms, WrittenThenGone};
+ghost use Rattle.cmm_laws.specs.Cells.{DataFirst, LackEach, OtherAddress, OtherAddresses, OutsideStays, RoomComes, RoomComesUnwritten, RoomOfAddress, RoomStays, RoomsGo, SameAddress, SameAddresses, WriteInData, WriteInRooms, WrittenThenGone};
 ghost use Rattle.cmm_laws.specs.StoredWords.{AccessStays, BytesOfNumber, BytesOfSpelled, NumberOfBytes, SmallNumberOfBytes, StoredIsLoaded, WordsElsewhereStay};
 
 /// A byte that was written is read again at its address, every other cell stays, and nothing is written where
@@ -17,6 +17,7 @@ pub fn reads_after_writes()
 pub fn data_and_rooms()
     ensures first { DataFirst }
     ensures room { RoomOfAddress }
+    ensures younger { LackEach }
     ensures others { RoomStays }
     ensures data_alone { WriteInData }
     ensures rooms_alone { WriteInRooms }

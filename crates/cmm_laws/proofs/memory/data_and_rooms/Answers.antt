@@ -1,4 +1,4 @@
-use Rattle.cmm_laws.proofs.Cells.{data_first, room_of_address, room_stays, write_in_data, write_in_rooms}
+use Rattle.cmm_laws.proofs.Cells.{data_first, lack_each, room_of_address, room_stays, write_in_data, write_in_rooms}
 use Rattle.cmm_laws.proofs.memory.data_and_rooms.Goals as goal
 
 pub returns-clause-first : goal.returns-clause-first
@@ -15,3 +15,6 @@ returns-clause-data_alone c = write_in_data
 
 pub returns-clause-rooms_alone : goal.returns-clause-rooms_alone
 returns-clause-rooms_alone c = write_in_rooms
+
+pub returns-clause-younger : goal.returns-clause-younger
+returns-clause-younger c = lack_each
