@@ -14,6 +14,7 @@ use Rattle.cmm_program.specs.Placed.{every, is_pair_in, is_stackdata_at, is_stac
 use Rattle.cmm_laws.specs.Stacks.{Extent, extent, stack_of, stackdata_at, stackdata_of, IsStack, IsSet, IsFrameAddress, pairs_of, IsOf, Pair, Stackdata}
 use Rattle.cmm_laws.proofs.Steps.{stack_dropped}
 
+-- one more is left out
 drop_suc : {A : Type 0} (n : ℕ) (xs : List A) → drop 1 (drop n xs) ≡ drop (suc n) xs
 drop_suc n xs = rw (drop-drop 1 n xs, add-one n) refl
 
@@ -24,16 +25,19 @@ record Fits (procedure : Option Proc) (row : PlaceRow) : Type 0 where
   stackdata : (p : Proc) (offset : ℕ) → procedure ≡ Some p → stackdata_offset p row ≡ Some offset →
       offset + stack_size p.stack ≤ row.frame
 
+-- a test that every number passes, at one of them
 every_at : (test : ℕ → Bool) (ns : List ℕ) → every test ns ≡ true → (k : ℕ) → k < length ns → test (slice_index_or ns k 0) ≡ true
 every_at test [] all k less = absurd (omega arith)
 every_at test (n ∷ ns) all zero less = (and_parts (test n) (every test ns) all).0
 every_at test (n ∷ ns) all (suc k) less = every_at test ns (and_parts (test n) (every test ns) all).1 k (omega arith)
 
+-- stackdata that is placed ends inside the frame
 stackdata_fits : (p : Proc) (row : PlaceRow) → is_stackdata p row ≡ true → (offset : ℕ) → stackdata_offset p row ≡ Some offset →
     offset + stack_size p.stack ≤ row.frame
 stackdata_fits p row placed offset at =
     let lies : is_stackdata_at offset p row ≡ true = rw (at, is_stackdata) at placed in grind (arith, nat_tests)
 
+-- the row of a procedure, and each row of a valid placement
 fits_row : (p : Proc) (row : PlaceRow) → is_row_placed p row ≡ true → Fits (Some p) row
 fits_row p row placed =
     let stackdata : is_stackdata p row ≡ true = grind (arith, nat_tests) in
@@ -58,6 +62,7 @@ module _ (s : Setting) (set : IsSet s) where
   fits : (n : ℕ) → Fits (procedure_at s n) (place_row s n)
   fits n = fits_rows s.program.procs s.placement.rows set.placed.rows n
 
+  -- frames fill multiples of 16 bytes
   sizes_aligned : (fs : List Frame) → sum_of_sizes s fs % 16 ≡ 0
   sizes_aligned [] = refl
   sizes_aligned (f ∷ fs) =
@@ -65,6 +70,7 @@ module _ (s : Setting) (set : IsSet s) where
       let rest = sizes_aligned fs in
       rw (sum_by-cons (frame_size s) f fs) (omega arith)
 
+  -- so each begins at one, in the stack
   pub frame_aligned : (fs : List Frame) → sum_of_sizes s fs ≤ s.top - s.base → IsFrameAddress s (frame_address s fs)
   frame_aligned fs fit =
       let sizes = sizes_aligned fs in
@@ -72,6 +78,7 @@ module _ (s : Setting) (set : IsSet s) where
       let order = set.order in
       record { aligned = omega arith; above = omega arith; below = omega arith }
 
+  -- a frame ends where the next older one begins
   pub adjoin : (f : Frame) (fs : List Frame) → sum_of_sizes s (f ∷ fs) ≤ s.top - s.base →
       frame_address s (f ∷ fs) + frame_size s f ≡ frame_address s fs
   adjoin f fs fit = omega (arith, sum_by-cons (frame_size s) f fs, fit)
@@ -98,10 +105,11 @@ module _ (s : Setting) (set : IsSet s) where
               let inside = fits offset refl refl in
               rw (length-replicate (stack_size p.stack)) (omega arith, omega arith)
 
-  -- whose an address is, between two frames
+  -- an address inside the youngest of these frames
   abbrev IsIn : List Frame → ℕ → Type 0
   IsIn fs a = (frame_address s fs ≤ a) × (a < frame_address s (drop 1 fs))
 
+  -- each byte of a pair, and of a room, is
   pair_inside : (fs : List Frame) → sum_of_sizes s fs ≤ s.top - s.base → (k a : ℕ) → k < length (pairs_of s fs) →
       continuation_value s fs k ≤ a → a < continuation_value s fs k + 16 → IsIn fs a
   pair_inside [] fit k a less from to = absurd (omega arith)
@@ -120,6 +128,7 @@ module _ (s : Setting) (set : IsSet s) where
       let next = adjoin f fs fit in
       grind (arith, nat_tests)
 
+  -- the addresses of an activation lie in its own frame
   pub own : (store : Store) → IsStack s (stack_of store) → (younger a : ℕ) → IsOf s store younger a →
       (frame_address s (drop younger store.frames) ≤ a) × (a < frame_address s (drop (suc younger) store.frames))
   own store h younger a (Pair k less from to) =
@@ -141,6 +150,7 @@ module _ (s : Setting) (set : IsSet s) where
       rw (← e, ← drop-drop (j - suc i) (suc i) store.frames) (omega (arith, sum_by-take-drop (frame_size s) fs (j - suc i))) in
       absurd (omega arith)
 
+  -- so an address is of one activation at most
   pub of_one : (store : Store) → IsStack s (stack_of store) → (i j a : ℕ) → IsOf s store i a → IsOf s store j a → i ≡ j
   of_one store h i j a first second = by (cases_order i j)
     where
@@ -149,13 +159,18 @@ module _ (s : Setting) (set : IsSet s) where
       by (inr (inl less)) = absurd (not_both store h i j a less first second)
       by (inr (inr more)) = absurd (not_both store h j i a more second first)
 
-  pub in_stack : (store : Store) → IsStack s (stack_of store) → data_base + length (data_bytes s.program s.placement) ≤ s.base →
-      (younger a : ℕ) → IsOf s store younger a → (s.base ≤ a) × (a < s.top) × (is_in store.memory.globals a ≡ false)
-  in_stack store h below younger a is =
+  -- and lies in the stack, where no data is
+  pub in_stack : (store : Store) → IsStack s (stack_of store) → (younger a : ℕ) → IsOf s store younger a →
+      (s.base ≤ a) × (a < s.top)
+      × (data_base + length (data_bytes s.program s.placement) ≤ s.base → is_in store.memory.globals a ≡ false)
+  in_stack store h younger a is =
       let between = own store h younger a is in
       let first = frame_aligned (drop younger store.frames) (stack_dropped s younger (stack_of store) h).fits in
       let above : s.base ≤ a = omega (arith, first.above) in
-      let size : length store.memory.globals.cells ≡ length (data_bytes s.program s.placement) = ap (λ e. e.length) h.globals in
       let past = store.memory.globals.address + length store.memory.globals.cells in
       let address : store.memory.globals.address ≡ data_base = ap (λ e. e.address) h.globals in
-      (above, omega (arith, between.1), and_right (nat_le store.memory.globals.address a) (nat_lt a past) (le-ltb a past (omega arith)))
+      let size : length store.memory.globals.cells ≡ length (data_bytes s.program s.placement) = ap (λ e. e.length) h.globals in (
+        above,
+        omega (arith, between.1),
+        λ below. and_right (nat_le store.memory.globals.address a) (nat_lt a past) (le-ltb a past (omega arith)),
+      )

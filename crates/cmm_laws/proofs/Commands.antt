@@ -18,6 +18,7 @@ pub record Logged (store : Store) (answer : Answer) : Type 0 where
   pub text : List ℕ
   pub does : Does (logs text (outline store)) None answer
 
+-- the client stops the run, and logs nothing
 stopped : (store : Store) → Logged store (Over 0 record store { status = Ended Stopped })
 stopped store = record { text = []; does = rw (append-nil store.log) (ends store 0 Stopped) }
 
@@ -27,6 +28,7 @@ Replies store (Then cursor after) = Changes cursor store after
 Replies store (Resumes answer) = Logged store answer
 
 module _ (s : Setting) (yielded : List ℕ) (store : Store) where
+  -- each kind of answer: lines alone, going on at an exit, a variable, data
   logs_only : (cursor : ℕ) (text : List ℕ) → Replies store (Then cursor (logged text store))
   logs_only cursor text = Log text refl
 
@@ -44,6 +46,7 @@ module _ (s : Setting) (yielded : List ℕ) (store : Store) where
   resumed_replies : (gone : ℕ) (exit : Option Exit) (values : List ℕ) → KeptBy (Replies store) (resumed gone exit values store)
   resumed_replies gone exit values = search (keeping, resumes)
 
+  -- a search logs where it ends
   sought_replies : (token value cursor : ℕ) (frames : List Frame) → KeptBy (Replies store) (sought s token value cursor frames store)
   sought_replies token value cursor [] = kept_err
   sought_replies token value cursor (f ∷ fs) = kept_given (suspended_at s (f ∷ fs)) _ _ (λ a is.
@@ -54,6 +57,7 @@ module _ (s : Setting) (yielded : List ℕ) (store : Store) where
       by a later true = kept_ok (Log _ refl)
       by a later false = later
 
+  -- each command that is not refused
   asked_replies : (cursor : ℕ) (command : Command) → KeptBy (Replies store) (asked s yielded cursor command store)
   asked_replies cursor ListAll = kept_ok (Log _ refl)
   asked_replies cursor Youngest = search (keeping, logs_only)
@@ -79,10 +83,12 @@ module _ (s : Setting) (yielded : List ℕ) (store : Store) where
       by (Ok r) holds = holds r refl
       by (Err refusal) holds = Log _ refl
 
+-- a command that does not resume changes little
 pub command_changes : (s : Setting) (yielded : List ℕ) (cursor cursor' : ℕ) (command : Command) (store after : Store) →
     reply s yielded cursor command store ≡ Then cursor' after → Changes cursor' store after
 command_changes s yielded cursor cursor' command store after is = subst (Replies store) is (replies s yielded store cursor command)
 
+-- and leaves the rest
 pub change_spares : (cursor : ℕ) (before after : Store) → Changes cursor before after → Spares before after
 change_spares cursor before after (Log text is) =
     rw is (record { registers = refl; places = refl; input = refl; taken = refl; output = refl; status = refl })
@@ -114,6 +120,7 @@ logged_before before after text answer is h = record {
   does = rw (← append_assoc before.log text h.text) (subst (λ o. Does (logs h.text o) None answer) is h.does);
 }
 
+-- commands one after the other log one text after the other
 commands_do : (s : Setting) (yielded : List ℕ) (cursor : ℕ) (commands : List Command) (store : Store) →
     Logged store (commands_run s yielded cursor commands store)
 commands_do s yielded cursor [] store = stopped store

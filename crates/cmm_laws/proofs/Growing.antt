@@ -24,6 +24,7 @@ Asks act (Put n) = (value : Value) × (act ≡ PutByte value)
 Asks act (Get target) = act ≡ GetByte target
 Asks act _ = Unit {0}
 
+-- no other act does
 checked_asks : (act : Act) (site : ℕ) (targets : List Target) (o : Option ℕ) → Asks act (checked_order site targets o)
 checked_asks act site targets (Some value) = tt
 checked_asks act site targets None = tt
@@ -87,6 +88,7 @@ told : {C : Type 0} (k : Control C) (st : State C) (t : Traffic) → IsWithin (s
     t.input ≡ st.store.input → t.taken ≡ st.store.taken → Told k st t
 told k st t within left taken = record { within = within; whole = ap₂ (λ xs ys. xs ++ ys) taken left; taken = inl (left, taken) }
 
+-- each of the five things that a step may add tells so
 adds_tells : {C : Type 0} (k : Control C) (st : State C) (after : Store) → Adds k st after → Told k st (traffic after)
 adds_tells k st after adds = by adds
   where
@@ -114,9 +116,11 @@ adds_tells k st after adds = by adds
     }) refl refl)
 
 module _ {C : Type 0} (k : Control C) (s : Setting) where
+  -- a step takes back nothing that was seen
   pub step_grows : (st : State C) → IsWithin (seen_in (traffic st.store)) (seen_in (traffic (step_of k s st).store))
   step_grows st = (adds_tells k st _ (step_adds k s st)).within
 
+  -- and takes input only at its call
   pub step_takes : (st : State C) →
       ((step_of k s st).store.input ≡ st.store.input) × ((step_of k s st).store.taken ≡ st.store.taken) ⊎ Takes k st
   step_takes st = (adds_tells k st _ (step_adds k s st)).taken
@@ -126,6 +130,7 @@ module _ {C : Type 0} (k : Control C) (s : Setting) where
   steps_grow n st = kept_by_steps k s (λ later. IsWithin (seen_in (traffic st.store)) (seen_in (traffic later.store)))
       (λ later within. within_trans within (step_grows later)) n st (within_refl _)
 
+  -- what was taken and what is left are the input
   pub input_kept : (input : List ℕ) (m : ℕ) → let store = (steps_of k s m (start_of k s input)).store in store.taken ++ store.input ≡ input
   input_kept input m = kept_by_steps k s (λ st. st.store.taken ++ st.store.input ≡ input)
       (λ st is. (adds_tells k st _ (step_adds k s st)).whole ∙ is) m (start_of k s input)

@@ -18,9 +18,11 @@ use Rattle.cmm_laws.specs.Runs.{Traffic, traffic, yielded}
 use Rattle.cmm_laws.specs.Stacks.{extent, Stack, stack_of}
 use Rattle.cmm_laws.proofs.Kept.{KeptBy, kept_ok, kept_err, kept_and_then, keeping}
 
+-- a frame of which only the procedure is known
 abbrev pub bare : Frame → Frame
 bare f = record { procedure = f.procedure; variables = []; site = None }
 
+-- what went in and out, the status, and the stack with bare frames
 pub record Outline : Type 0 where
   pub traffic : Traffic
   pub status : Status
@@ -38,6 +40,7 @@ stack_without n k = record k { frames = drop n k.frames; rooms = drop n k.rooms 
 abbrev pub logs : List ℕ → Outline → Outline
 logs text o = record o { traffic = record o.traffic { log = o.traffic.log ++ text } }
 
+-- the outline of a store without them
 pub outline_without : (n : ℕ) (store : Store) →
     outline (without n store) ≡ record (outline store) { stack = stack_without n (outline store).stack }
 outline_without n store = rw (drop-map bare n store.frames, drop-map extent n store.memory.rooms) refl
@@ -49,6 +52,7 @@ pub framed : (store : Store) (fs : List Frame) → map bare fs ≡ map bare stor
     outline (record store { frames = fs }) ≡ outline store
 framed store fs same = ap (λ gs. record (outline store) { stack = record (stack_of store) { frames = gs } }) same
 
+-- a site, and a value of the youngest activation
 pub bare_with_site : (site : Option ℕ) (fs : List Frame) → map bare (with_site site fs) ≡ map bare fs
 bare_with_site site [] = refl
 bare_with_site site (f ∷ fs) = refl
@@ -64,6 +68,7 @@ same_with_value g same cursor n value [] = refl
 same_with_value g same zero n value (f ∷ fs) = ap (λ x. x ∷ map g fs) (same f _)
 same_with_value g same (suc cursor) n value (f ∷ fs) = ap (λ xs. g f ∷ xs) (same_with_value g same cursor n value fs)
 
+-- values of targets
 outline_assigned : (target : Target) (value : ℕ) (store : Store) → outline (assigned target value store) ≡ outline store
 outline_assigned (Variable n width) value store = framed store _ (bare_with_variable store.frames n value)
 outline_assigned (Register n width) value store = refl
@@ -80,6 +85,7 @@ outline_gone_on targets values store =
     let after = all_assigned targets values store in
     framed after _ (bare_with_site None after.frames) ∙ outline_all_assigned targets values store
 
+-- bytes in the rooms and in data
 extent_with_byte : (room : Room) (address byte : ℕ) → extent (with_byte_in room address byte) ≡ extent room
 extent_with_byte room address byte = by (is_in room address)
   where
@@ -104,6 +110,7 @@ outline_with_bytes store address (byte ∷ bytes) =
     ∙ ap₂ (λ g rs. record (outline store) { stack = record (outline store).stack { globals = g; rooms = rs } })
     (extent_with_byte store.memory.globals address byte) (extents_with_byte store.memory.rooms address byte)
 
+-- so an assignment does not show
 put_keeps : (place : Place) (value : ℕ) (store : Store) → KeptBy (λ after. outline after ≡ outline store) (put place value store)
 put_keeps (Held target) value store = kept_ok (outline_assigned target value store)
 put_keeps (Memory width aligned address) value store =
@@ -117,6 +124,7 @@ put_all_keeps (w ∷ ws) store = kept_and_then (put w.place w.value store) (put_
 
 -- ---- orders
 
+-- the store that an answer has, and how many activations are gone in it
 abbrev pub store_in : Answer → Store
 store_in (Stay way store) = store
 store_in (Wait store) = store
@@ -142,6 +150,7 @@ pub record Does (o : Outline) (values : Option (List ℕ)) (answer : Answer) : T
   pub outline : outline (store_in answer) ≡ record o { status = status; stack = stack_without (gone_in answer) o.stack }
   pub yielded : yielded_in answer ≡ values
 
+-- what an order puts, takes and logs
 abbrev pub traffic_after : Order → Traffic → Traffic
 traffic_after (Put value) t = record t { output = t.output ++ value % 256 ∷ [] }
 traffic_after (Get target) t = elim t.input [
@@ -151,6 +160,7 @@ traffic_after (Get target) t = elim t.input [
 traffic_after (Suspend site values) t = record t { log = t.log ++ yield_line values }
 traffic_after _ t = t
 
+-- what it gives the client
 abbrev pub yielded_by : Order → Option (List ℕ)
 yielded_by (Suspend site values) = Some values
 yielded_by _ = None
@@ -159,6 +169,7 @@ yielded_by _ = None
 abbrev pub DoesOrder : Store → Order → Answer → Type 0
 DoesOrder store order = Does (record (outline store) { traffic = traffic_after order (traffic store) }) (yielded_by order)
 
+-- a byte is taken, if one is left
 outline_taken : (store : Store) (target : Target) →
     outline (one_taken store) ≡ record (outline store) { traffic = traffic_after (Get target) (traffic store) }
 outline_taken store target = by store.input
@@ -175,6 +186,7 @@ outline_taken store target = by store.input
     by [] = refl
     by (byte ∷ rest) = refl
 
+-- some activations are gone, and control lands, or the run ends
 pub goes : (store : Store) (gone : ℕ) (landing : Landing) → Does (outline store) None (Away gone (without gone store) landing)
 goes store gone landing = record { status = store.status; outline = outline_without gone store; yielded = refl }
 
@@ -186,6 +198,7 @@ ends store gone outcome = record {
   yielded = refl;
 }
 
+-- the oldest activation ends the run with its value
 oldest_does : (store : Store) (exit alternates : ℕ) (words : List Word) →
     KeptBy (Does (outline store) None) (after_the_oldest exit alternates words store)
 oldest_does store exit alternates words = search (keeping, by (numbers words))
@@ -198,10 +211,12 @@ oldest_does store exit alternates words = search (keeping, by (numbers words))
     by (v ∷ vs) = kept_ok (ends store 1 (Done v))
 
 module _ (s : Setting) (store : Store) (running : store.status ≡ Running) where
+  -- the youngest activation goes on
   stays : {t : Traffic} {after : Store} (way : ℕ) → outline after ≡ record (outline store) { traffic = t } →
       Does (record (outline store) { traffic = t }) None (Stay way after)
   stays way is = record { status = store.status; outline = is; yielded = ap (λ o. yielded o.status) is ∙ ap yielded running }
 
+  -- a return, from the youngest of some frames
   returned_does : (exit alternates : ℕ) (words : List Word) (frames : List Frame) →
       KeptBy (Does (outline store) None) (elim frames [
         | [] ↦ Err EndOfBody
@@ -211,6 +226,7 @@ module _ (s : Setting) (store : Store) (running : store.status ≡ Running) wher
   returned_does exit alternates words (f ∷ []) = oldest_does store exit alternates words
   returned_does exit alternates words (f ∷ g ∷ fs) = search (keeping, goes) depth 8
 
+  -- every order
   pub performed : (order : Order) → KeptBy (DoesOrder store order) (perform s order store)
   performed GoOn = kept_ok (stays 0 refl)
   performed (WriteAll ws) =

@@ -13,6 +13,7 @@ use Rattle.cmm_laws.proofs.Commands.{answer_does}
 use Rattle.cmm_laws.proofs.Steps.{step_has, kept_by_steps, stack_left, landed_keeps, done_keeps}
 
 module _ {C : Type 0} (k : Control C) (s : Setting) where
+  -- a step keeps the stack
   pub step_stack : (st : State C) → IsStack s (stack_of st.store) → IsStack s (stack_of (step_of k s st).store)
   step_stack st h = step_has k s (λ after. IsStack s (stack_of after)) st
       (λ order running is. record {

@@ -31,19 +31,14 @@ module _ (s : Setting) where
   stackdata_bare (f ∷ fs) =
       ap₂ (λ n es. stackdata_at s f (s.top - n) ∷ es) (sizes_bare (f ∷ fs)) (stackdata_bare fs)
 
+  -- so it makes no difference to a stack that its frames are bare
   to_bare : (k : Stack) → IsStack s k → IsStack s (record k { frames = map bare k.frames })
-  to_bare k h = record {
-    fits = rw (sizes_bare k.frames) h.fits;
-    rooms = h.rooms ∙ sym (stackdata_bare k.frames);
-    globals = h.globals;
-  }
+  to_bare k h =
+      record { fits = rw (sizes_bare k.frames) h.fits; rooms = h.rooms ∙ sym (stackdata_bare k.frames); globals = h.globals }
 
   from_bare : (k : Stack) → IsStack s (record k { frames = map bare k.frames }) → IsStack s k
-  from_bare k h = record {
-    fits = rw (sizes_bare k.frames) at h.fits;
-    rooms = h.rooms ∙ stackdata_bare k.frames;
-    globals = h.globals;
-  }
+  from_bare k h =
+      record { fits = rw (sizes_bare k.frames) at h.fits; rooms = h.rooms ∙ stackdata_bare k.frames; globals = h.globals }
 
   -- without some of the youngest frames
   stackdata_drop : (n : ℕ) (fs : List Frame) → drop n (stackdata_of s fs) ≡ stackdata_of s (drop n fs)
@@ -68,12 +63,14 @@ module _ (s : Setting) where
   abbrev pub Keeps : Store → Store → Type 0
   Keeps before after = (traffic after ≡ traffic before) × (IsStack s (stack_of before) → IsStack s (stack_of after))
 
+  -- going on with values, in the youngest activation
   gone_on_keeps : (targets : List Target) (values : List ℕ) (store : Store) → Keeps store (gone_on targets values store)
   gone_on_keeps targets values store =
       let after = gone_on targets values store in
       let same = outline_gone_on targets values store in
       (ap (λ o. o.traffic) same, λ h. from_bare (stack_of after) (subst (λ o. IsStack s o.stack) (sym same) (to_bare (stack_of store) h)))
 
+  -- the stackdata of a frame whose procedure is known
   stackdata_some : (f : Frame) (address : ℕ) (p : Proc) → procedure_at s f.procedure ≡ Some p →
       stackdata_at s f address ≡ extent (room_of address p (place_row s f.procedure))
   stackdata_some f address p is = rw (is, stackdata_at) refl
@@ -90,6 +87,7 @@ module _ (s : Setting) where
             record { fits = leb-true _ _ fit; rooms = ap₂ (λ e es. e ∷ es) (sym first) below.rooms; globals = h.globals },
       )))
 
+  -- each landing
   land_keeps : (landing : Landing) (store : Store) → KeptIn (Keeps store) (land s landing store)
   land_keeps (Called site n values) store = entered_keeps n values _ store (bare_with_site (Some site) store.frames)
   land_keeps (Instead n values) store = entered_keeps n values _ store refl
@@ -118,6 +116,7 @@ module _ {C : Type 0} (k : Control C) (s : Setting) where
       by (Some after) holds = holds after refl
       by None holds = ends
 
+  -- so a landing done keeps it, and each answer done
   pub landed_keeps : (landing : Landing) (store : Store) (cs : List C) → Keeps s store (landed k s landing store cs).store
   landed_keeps landing store cs = landed_has (Keeps s store) landing store cs (land_keeps s landing store) (refl, λ h. h)
 
@@ -127,6 +126,7 @@ module _ {C : Type 0} (k : Control C) (s : Setting) where
   done_keeps (Away gone store landing) cs = landed_keeps landing store (drop gone cs)
   done_keeps (Over gone store) cs = (refl, λ h. h)
 
+  -- the state after an answer waits where that says so
   pub done_yielded : (answer : Answer) (cs : List C) → yielded (answer_done k s answer cs).store.status ≡ yielded_in answer
   done_yielded (Stay way store) cs = refl
   done_yielded (Wait store) cs = refl

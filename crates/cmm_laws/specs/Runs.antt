@@ -73,6 +73,7 @@ StepAdds = (s : Setting) (st : State Todo) → Adds (todo_control s.program) st 
 
 -- ---- what only grows
 
+-- what is seen of it
 abbrev pub seen_in : Traffic → Seen ℕ
 seen_in t = record { output = t.output; log = t.log; taken = t.taken }
 
@@ -142,6 +143,7 @@ pub record Spares (before after : Store) : Type 0 where
   pub output : after.output ≡ before.output
   pub status : after.status ≡ before.status
 
+-- it leaves everything else
 abbrev pub CommandSpares : Type 0
 CommandSpares = (s : Setting) (yielded : List ℕ) (cursor cursor' : ℕ) (command : Command) (store after : Store) →
     reply s yielded cursor command store ≡ Then cursor' after → Spares store after

@@ -59,12 +59,13 @@ pub record IsSet (s : Setting) : Type 0 where
   pub order : s.base ≤ s.top
   pub aligned : s.top % 16 ≡ 0
 
--- the address of each frame, that of the youngest when `younger` ones are left out, lies in the stack at a multiple of 16
+-- an address at which a frame may begin
 pub record IsFrameAddress (s : Setting) (address : ℕ) : Type 0 where
   pub aligned : address % 16 ≡ 0
   pub above : s.base ≤ address
   pub below : address ≤ s.top
 
+-- each frame begins at one: the youngest that is left without so many younger ones
 abbrev pub FramesAreAligned : Type 0
 FramesAreAligned = (s : Setting) (input : List ℕ) (m younger : ℕ) → IsSet s →
     IsFrameAddress s (frame_address s (drop younger (state_after s input m).store.frames))
@@ -77,6 +78,7 @@ FramesAdjoin = (s : Setting) (input : List ℕ) (m younger : ℕ) (f : Frame) (f
 
 -- ---- whose address is whose
 
+-- the offsets of the pairs in the youngest frame
 abbrev pub pairs_of : Setting → List Frame → List ℕ
 pairs_of s [] = []
 pairs_of s (f ∷ fs) = (place_row s f.procedure).pairs
@@ -100,9 +102,9 @@ abbrev pub PartsLieApart : Type 0
 PartsLieApart = (s : Setting) (input : List ℕ) (m i j address : ℕ) → IsSet s →
     let store = (state_after s input m).store in IsOf s store i address → IsOf s store j address → i ≡ j
 
--- and all lie in the stack, apart from data that ends below it
+-- and all lie in the stack, so apart from data if that ends below it
 abbrev pub PartsLieInStack : Type 0
 PartsLieInStack = (s : Setting) (input : List ℕ) (m younger address : ℕ) → IsSet s →
-    data_base + length (data_bytes s.program s.placement) ≤ s.base →
     let store = (state_after s input m).store in IsOf s store younger address →
-    (s.base ≤ address) × (address < s.top) × (is_in store.memory.globals address ≡ false)
+    (s.base ≤ address) × (address < s.top)
+    × (data_base + length (data_bytes s.program s.placement) ≤ s.base → is_in store.memory.globals address ≡ false)

@@ -12,5 +12,5 @@ returns-clause-apart c = λ s input m i j address set.
     of_one s set _ (steps_stack (todo_control s.program) s input m) i j address
 
 pub returns-clause-stack : goal.returns-clause-stack
-returns-clause-stack c = λ s input m younger address set below.
-    in_stack s set _ (steps_stack (todo_control s.program) s input m) below younger address
+returns-clause-stack c = λ s input m younger address set.
+    in_stack s set _ (steps_stack (todo_control s.program) s input m) younger address
