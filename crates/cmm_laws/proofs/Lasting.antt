@@ -13,7 +13,7 @@ use Rattle.cmm_following.proofs.Prefixes.{prefix_refl, prefix_trans}
 use Rattle.cmm_laws.proofs.Growing.{step_adds}
 use Rattle.cmm_laws.specs.Runs as runs
 use Rattle.cmm_laws.specs.Runs.{Traffic, traffic, yielded, Adds}
-use Rattle.cmm_laws.specs.LockStep.{LineUnseen, log_seen, store_seen, act_event, event_at, is_wrong, machine_of}
+use Rattle.cmm_laws.specs.Observed.{LineUnseen, log_seen, store_seen, act_event, event_at, is_wrong, machine_of}
 
 -- ---- what is seen grows
 

@@ -12,7 +12,8 @@ use Rattle.cmm_following.proofs.Simulations.{in_lock_step}
 use Rattle.cmm_laws.proofs.GraphStands.{graph_same_acts}
 use Rattle.cmm_laws.proofs.Lasting.{machine_lasts}
 use Rattle.cmm_laws.proofs.SameActs.{SameActs, landed_together, next_together, steps_together}
-use Rattle.cmm_laws.specs.LockStep.{AreInLockStep, StandsFor, GraphSimulates, GraphFollows, GraphAgrees, machine_of, store_seen, event_at, is_wrong}
+use Rattle.cmm_laws.specs.LockStep.{AreInLockStep, StandsFor, GraphSimulates, GraphFollows, GraphAgrees}
+use Rattle.cmm_laws.specs.Observed.{machine_of, store_seen, event_at, is_wrong}
 use Rattle.cmm_laws.specs.StatementGraph.{graph_control}
 
 module _ {C D : Type 0} (k : Control C) (l : Control D) (W : C → D → Type 0) (same : SameActs k l W) (s : Setting) where

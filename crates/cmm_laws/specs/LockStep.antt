@@ -1,61 +1,18 @@
--- The C-- machine and its graph of whole statements go in lock-step: what is seen of a machine with any control, which
--- node stands for which statements, and what follows for all runs.
-use Rattle.std.specs.Prelude.{◌≡◌, ℕ, ◌-◌, Bool, true, false, List, [], ◌∷◌, ◌++◌, length, take, Option, Some, None}
+-- The C-- machine and its graph of whole statements go in lock-step: which node stands for which statements, and what
+-- follows for all runs.
+use Rattle.std.specs.Prelude.{◌≡◌, ℕ, List, [], ◌∷◌}
 use Rattle.std.specs.List.{AllZip}
-use Rattle.cmm_script.specs.Lines.{yield_line}
-use Rattle.cmm_script.specs.Walk.{Activation}
 use Rattle.cmm_program.specs.declared.program.Program.{Program}
-use Rattle.cmm_program.specs.State.{Setting, Store, Status, Running, Waiting, Ended, Wrong, Outcome}
-use Rattle.cmm_program.specs.Acts.{Act, GetByte}
-use Rattle.cmm_program.specs.Control.{Control, State, next_act}
+use Rattle.cmm_program.specs.State.{Setting, Outcome}
+use Rattle.cmm_program.specs.Control.{Control, State}
 use Rattle.cmm_program.specs.Todo.{Todo, todo_control}
-use Rattle.cmm_program.specs.Machine.{step_of, start_of, start}
-use Rattle.cmm_program.specs.Walks.{walk_of}
-use Rattle.cmm_following.specs.Seen.{Seen, Event, Input, Client, End}
+use Rattle.cmm_program.specs.Machine.{start_of, start}
 use Rattle.cmm_following.specs.Machine.{Machine, Lasts}
 use Rattle.cmm_following.specs.Simulation.{Simulates}
 use Rattle.cmm_following.specs.Following.{Follows}
 use Rattle.cmm_following.specs.Agreement.{Agrees}
-use Rattle.cmm_laws.specs.Runs.{yielded}
+use Rattle.cmm_laws.specs.Observed.{Call, machine_of}
 use Rattle.cmm_laws.specs.StatementGraph.{Position, graph_control}
-
--- ---- what is seen of a machine
-
--- what the client sees when it is called: the values of the yield, and the walk
-pub record Call : Type 0 where
-  pub values : List ℕ
-  pub walk : List Activation
-
--- the log, without the line of a yield whose values the client has not answered yet
-abbrev pub log_seen : Option (List ℕ) → List ℕ → List ℕ
-log_seen None log = log
-log_seen (Some values) log = take (length log - length (yield_line values)) log
-
-abbrev pub store_seen : Store → Seen ℕ
-store_seen store = record { output = store.output; log = log_seen (yielded store.status) store.log; taken = store.taken }
-
-abbrev pub act_event : Act → Option (Event Call Outcome)
-act_event (GetByte target) = Some Input
-act_event act = None
-
-abbrev pub event_at : Setting → Status → Store → Act → Option (Event Call Outcome)
-event_at s Running store act = act_event act
-event_at s (Waiting values) store act = Some (Client record { values = values; walk = walk_of s store })
-event_at s (Ended outcome) store act = Some (End outcome)
-event_at s (Wrong error) store act = None
-
-abbrev pub is_wrong : Status → Bool
-is_wrong (Wrong error) = true
-is_wrong status = false
-
--- the machine of any control, in the theory of following
-abbrev pub machine_of : {C : Type 0} → Control C → Setting → Machine (State C) ℕ Call Outcome
-machine_of k s = record {
-  step = step_of k s;
-  seen = λ st. store_seen st.store;
-  asks = λ st. event_at s st.store.status st.store (next_act k st.controls);
-  wrong = λ st. is_wrong st.store.status;
-}
 
 -- ---- which node stands for which statements
 
@@ -103,7 +60,3 @@ GraphAgrees = (s : Setting) (input : List ℕ) → Agrees (c_machine s) (graph_m
 -- what is seen of both only grows, and what is over or wrong stays so
 abbrev pub MachinesLast : Type 0
 MachinesLast = (s : Setting) → Lasts (c_machine s) × Lasts (graph_machine s)
-
--- the line of a yield is not seen until the client has answered
-abbrev pub LineUnseen : Type 0
-LineUnseen = (values log : List ℕ) → log_seen (Some values) (log ++ yield_line values) ≡ log

@@ -1,6 +1,7 @@
 //! The C-- machine is followed step by step by a second control over the same store, a graph whose nodes are whole
 //! statements.
-ghost use Rattle.cmm_laws.specs.LockStep.{GraphAgrees, GraphFollows, GraphSimulates, LineUnseen, MachinesLast};
+ghost use Rattle.cmm_laws.specs.LockStep.{GraphAgrees, GraphFollows, GraphSimulates, MachinesLast};
+ghost use Rattle.cmm_laws.specs.Observed.{LineUnseen};
 
 /// Each statement becomes a node: in every program, a step of the C-- machine is one step over the graph, and so on every
 /// input both show the same.
