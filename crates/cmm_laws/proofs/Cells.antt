@@ -39,6 +39,7 @@ cell_there : (found : Option ℕ) → cell_of found ≢ Outside
 cell_there None = λ e. cc
 cell_there (Some byte) = λ e. cc
 
+-- what a room has takes a byte
 byte_taken : (found : Option ℕ) (byte : ℕ) → Byte byte ≡ written (cell_of found) byte
 byte_taken None byte = refl
 byte_taken (Some before) byte = refl
@@ -50,6 +51,7 @@ outside_head false found rest is = (refl, is)
 
 -- ---- a byte written
 
+-- in one room, with what later rooms give
 same_in_room : (t : Bool) (room : Room) (address byte : ℕ) (rest rest' : Cell) → is_in room address ≡ t → rest' ≡ written rest byte →
     pick t (own (byte_if t room address byte) address) rest' ≡ written (pick t (own room address) rest) byte
 same_in_room true room address byte rest rest' is later =
@@ -59,6 +61,7 @@ same_in_room true room address byte rest rest' is later =
     ∙ byte_taken (get_or room.cells (address - room.address) None) byte
 same_in_room false room address byte rest rest' is later = later
 
+-- in a list of rooms
 same_in : (rooms : List Room) (address byte : ℕ) →
     cell_in (map (λ room. with_byte_in room address byte) rooms) address ≡ written (cell_in rooms address) byte
 same_in [] address byte = refl
@@ -67,6 +70,7 @@ same_in (room ∷ rooms) address byte =
     (same_ends (is_in room address) room address byte address)
     ∙ same_in_room (is_in room address) room address byte _ _ refl (same_in rooms address byte)
 
+-- another address of one room keeps its cell
 other_in_room : (t : Bool) (room : Room) (address byte other : ℕ) → is_in room address ≡ t → is_in room other ≡ true → other ≢ address →
     own (byte_if t room address byte) other ≡ own room other
 other_in_room true room address byte other is there differs =
@@ -76,6 +80,7 @@ other_in_room true room address byte other is there differs =
     ap cell_of (get_or-set_other room.cells (address - room.address) (other - room.address) (Some byte) None ne)
 other_in_room false room address byte other is there differs = refl
 
+-- and of a list of rooms
 other_in : (rooms : List Room) (address byte other : ℕ) → other ≢ address →
     cell_in (map (λ room. with_byte_in room address byte) rooms) other ≡ cell_in rooms other
 other_in [] address byte other differs = refl
@@ -85,21 +90,26 @@ other_in (room ∷ rooms) address byte other differs =
     ∙ picked (is_in room other) (λ there. other_in_room (is_in room address) room address byte other refl there differs)
     (λ _. other_in rooms address byte other differs)
 
+-- a byte that was written is read again
 pub same_address : SameAddress
 same_address m = same_in (m.globals ∷ m.rooms)
 
+-- every other cell stays
 pub other_address : OtherAddress
 other_address m = other_in (m.globals ∷ m.rooms)
 
+-- a room without the address stays
 pub room_stays : RoomStays
 room_stays room address byte is = ap (λ t. byte_if t room address byte) is
 
+-- and so do rooms that lack it
 outside_in : (rooms : List Room) (address byte : ℕ) → Lack rooms address → map (λ room. with_byte_in room address byte) rooms ≡ rooms
 outside_in [] address byte outside = refl
 outside_in (room ∷ rooms) address byte outside =
     let parts = outside_head (is_in room address) _ _ outside in
     ap₂ (λ r rs. r ∷ rs) (room_stays room address byte parts.0) (outside_in rooms address byte parts.1)
 
+-- a write where nothing stands changes nothing
 pub outside_stays : OutsideStays
 outside_stays m address byte outside =
     let parts = outside_head (is_in m.globals address) _ _ outside in
@@ -108,6 +118,7 @@ outside_stays m address byte outside =
 
 -- ---- bytes written
 
+-- cells at none of the written addresses stay
 pub other_addresses : OtherAddresses
 other_addresses m address [] other differs = refl
 other_addresses m address (byte ∷ bytes) other differs =
@@ -127,14 +138,17 @@ at_offset m address (byte ∷ bytes) (suc i) at is less =
     at_offset (with_byte m address byte) (suc address) bytes i at (omega arith) (omega arith)
     ∙ ap (λ cell. written cell (get_or bytes i 0)) (other_address m address byte at (λ e. absurd (omega arith)))
 
+-- each byte is read again at its address
 pub same_addresses : SameAddresses
 same_addresses m address bytes i less = at_offset m address bytes i (address + i) refl less
 
 -- ---- data and rooms
 
+-- data is read whatever the rooms are
 pub data_first : DataFirst
 data_first m rooms address is = picked (is_in m.globals address) (λ _. refl) (λ e. absurd (cc))
 
+-- among rooms, the first that has the address is read
 room_in : (rooms : List Room) (younger : ℕ) (room : Room) (older : List Room) (address : ℕ) → drop younger rooms ≡ room ∷ older →
     Lack (take younger rooms) address → is_in room address ≡ true → cell_in rooms address ≡ cell_in (room ∷ []) address
 room_in [] zero room older address found lack is = absurd (cc)
@@ -146,10 +160,12 @@ room_in (first ∷ rooms) (suc younger) room older address found lack is =
     let parts = outside_head (is_in first address) _ _ lack in
     ap (λ t. pick t (own first address) (cell_in rooms address)) parts.0 ∙ room_in rooms younger room older address found parts.1 is
 
+-- and in memory, where data has it not
 pub room_of_address : RoomOfAddress
 room_of_address m younger room older address found globals lack is =
     ap (λ t. pick t (own m.globals address) (cell_in m.rooms address)) globals ∙ room_in m.rooms younger room older address found lack is
 
+-- younger rooms lack an address where each does
 pub lack_each : LackEach
 lack_each rooms zero address each = refl
 lack_each [] (suc younger) address each = refl
@@ -157,10 +173,12 @@ lack_each (room ∷ rooms) (suc younger) address each =
     ap (λ t. pick t (own room address) (cell_in (take younger rooms) address)) (each 0 room rooms (omega arith) refl)
     ∙ lack_each rooms younger address (λ i other older less. each (suc i) other older (omega arith))
 
+-- where no room has the address only data changes
 pub write_in_data : WriteInData
 write_in_data m address byte lack =
     ap (λ rooms. record { globals = with_byte_in m.globals address byte; rooms = rooms }) (outside_in m.rooms address byte lack)
 
+-- and where data has it not only rooms change
 pub write_in_rooms : WriteInRooms
 write_in_rooms m address byte is =
     ap (λ globals. record { globals = globals; rooms = map (λ room. with_byte_in room address byte) m.rooms })
@@ -168,10 +186,12 @@ write_in_rooms m address byte is =
 
 -- ---- rooms come and go
 
+-- cells outside a room that comes stay
 pub room_comes : RoomComes
 room_comes m room address is =
     picked (is_in m.globals address) (λ _. refl) (λ _. ap (λ t. pick t (own room address) (cell_in m.rooms address)) is)
 
+-- those inside it are unwritten
 pub room_comes_unwritten : RoomComesUnwritten
 room_comes_unwritten m start size address globals is =
     let room = unwritten_room start size in
@@ -181,6 +201,7 @@ room_comes_unwritten m start size address globals is =
     ∙ ap (λ t. pick t (own room address) (cell_in m.rooms address)) is
     ∙ ap cell_of (get_or-replicate size (address - start) None None less)
 
+-- among rooms, the youngest that lack the address may go
 gone_in : (count : ℕ) (rooms : List Room) (address : ℕ) → Lack (take count rooms) address →
     cell_in (drop count rooms) address ≡ cell_in rooms address
 gone_in zero rooms address younger = refl
@@ -189,10 +210,12 @@ gone_in (suc count) (room ∷ rooms) address younger =
     let parts = outside_head (is_in room address) _ _ younger in
     gone_in count rooms address parts.1 ∙ sym (ap (λ t. pick t (own room address) (cell_in rooms address)) parts.0)
 
+-- and in memory
 pub rooms_go : RoomsGo
 rooms_go m count address younger =
     ap (λ rest. pick (is_in m.globals address) (own m.globals address) rest) (gone_in count m.rooms address younger)
 
+-- a write before they go is one after
 pub written_then_gone : WrittenThenGone
 written_then_gone m address byte count =
     ap (λ rooms. record { globals = with_byte_in m.globals address byte; rooms = rooms })

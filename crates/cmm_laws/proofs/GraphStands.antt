@@ -22,26 +22,32 @@ end_laid = record { nodes = end_node ∷ []; start = 0 }
 
 -- ---- the statements of a body as a row
 
+-- the row in a span
 abbrev row_of : Form → (n : Count) × Row_of-Statement n
 row_of (Span' n row) = (_, row)
 row_of form = (_, end_of-Statement)
 
+-- that of a body
 abbrev body_row : (p : Proc) → Row_of-Statement (row_of (Span p.body)).0
 body_row p = (row_of (Span p.body)).1
 
+-- a row read as a list
 row_items : (n : _) (row : Row_of-Statement n) → statements row ≡ items-the_row-Statement n row
 row_items n end_of-Statement = refl
 row_items n (more_of-Statement tokens form rest) = ap (λ list. record { tokens = tokens; form = form } ∷ list) (row_items _ rest)
 
+-- that of a body is its statements
 row_statements : (p : Proc) → statements (body_row p) ≡ p.body
 row_statements p = row_items _ (body_row p) ∙ items_hidden-the_row-Statement-0 p.body
 
 -- ---- the same acts for so many steps
 
+-- whichever ways are gone
 abbrev SameFor : Program → ℕ → Todo → Position → Type 0
 SameFor p zero t c = Unit {0}
 SameFor p (suc d) t c = (todo_act p t ≡ graph_act p c) × ((way : ℕ) → SameFor p d (todo_on p way t) (graph_on p way c))
 
+-- and so for one step fewer
 one_fewer : (p : Program) (d : ℕ) (t : Todo) (c : Position) → SameFor p (suc d) t c → SameFor p d t c
 one_fewer p zero t c same = tt
 one_fewer p (suc d) t c same = (same.0, λ way. one_fewer p d _ _ (same.1 way))
@@ -72,9 +78,11 @@ module _ (p : Program) (q : ℕ) where
     on_at : (way n : ℕ) (node : Node) → node_at (nodes_of proc) n ≡ node → graph_on p way (at n) ≡ at (by_way way node)
     on_at way n node found = ap at (in_it 0 (λ proc. by_way way (node_at (nodes_of proc) n)) ∙ ap (by_way way) found)
 
+    -- at a node of this procedure
     abbrev Same : ℕ → ℕ → List Statement → Type 0
     Same d n rest = SameFor p d (todo rest) (at n)
 
+    -- from d steps to one more, where that many are the same behind every mark
     levels : (d : ℕ) → ((m : Mark) → Same d (entry m (body_laid proc).nodes) (follow proc m)) → Levels proc (Same (suc d)) (Same d)
     levels d entries = record {
       weaker = λ n rest. one_fewer p d (todo rest) (at n);
@@ -98,12 +106,14 @@ module _ (p : Program) (q : ℕ) where
           jumps = λ label. tt;
         }) (body_row proc) end_laid (record { front = []; whole = refl })).behind
 
+    -- which comes to the same act for any number of steps
     same_end : (d : ℕ) → Same d 0 []
     same_end zero = tt
     same_end (suc d) =
         let found = in_graph proc end_node [] end_behind in
         (sym (act_at 0 end_node found), λ way. subst (SameFor p d (todo [])) (sym (on_at way 0 end_node found)) (same_end d))
 
+    -- the whole body
     body_stands : (d : ℕ) → ((m : Mark) → Same d (entry m (body_laid proc).nodes) (follow proc m)) →
         Stands proc (Same (suc d)) (Same d) (statements (body_row proc)) (λ m. after_in m (body_row proc)) (body_laid proc) end_laid
     body_stands d entries =
@@ -162,6 +172,7 @@ todo_keeps : (p : Program) (way q : ℕ) (rest : List Statement) → (todo_on p 
 todo_keeps p way q [] = refl
 todo_keeps p way q (statement ∷ rest) = refl
 
+-- a node goes on to stand for what is still to do
 on_stands : (p : Program) (way : ℕ) (t : Todo) (c : Position) → StandsFor p t c → StandsFor p (todo_on p way t) (graph_on p way c)
 on_stands p way t c stands = record {
   procedure = todo_keeps p way t.procedure t.rest ∙ stands.procedure;

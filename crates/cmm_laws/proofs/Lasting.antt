@@ -33,6 +33,7 @@ line_unseen values log =
     let line = yield_line values in
     take_at log line (length (log ++ line) - length line) (omega (arith, length-append log line))
 
+-- a list begins what it becomes by more behind it
 one_more : {A : Type 0} (list more : List A) → IsPrefix list (list ++ more)
 one_more list more = record { rest = more; whole = refl }
 
@@ -42,6 +43,7 @@ grows_to : (before after : Store) (values : Option (List ℕ)) (t : Traffic) →
 grows_to before after values t is waits within =
     subst₂ (λ v u. IsWithin (store_seen before) (seen_at v u)) (sym waits) (sym is) within
 
+-- so does whatever a step may add
 adds_seen : {C : Type 0} (k : Control C) (st : State C) (after : Store) → Adds k st after → IsWithin (store_seen st.store) (store_seen after)
 adds_seen k st after (runs.Nothing is waits) = grows_to st.store after None _ is waits
     record { output = prefix_refl _; log = log_begins _ _; taken = prefix_refl _ }
@@ -66,6 +68,7 @@ acts_end_nothing (GetByte target) outcome is = cc
 acts_end_nothing act outcome is = cc
 
 module _ {C : Type 0} (k : Control C) (s : Setting) (st : State C) where
+  -- what a step makes of a state, by its status
   abbrev stepped : Status → State C
   stepped status = elim status as (λ _. State C) [
     | Running ↦ ran k s st
@@ -74,6 +77,7 @@ module _ {C : Type 0} (k : Control C) (s : Setting) (st : State C) where
     | Wrong error ↦ st
   ]
 
+  -- a state at the end of a run stays
   over_stays : (outcome : Outcome) (status : Status) → event_at s status st.store (next_act k st.controls) ≡ Some (End outcome) →
       stepped status ≡ st
   over_stays outcome Running is = absurd (acts_end_nothing (next_act k st.controls) outcome is)
@@ -81,12 +85,14 @@ module _ {C : Type 0} (k : Control C) (s : Setting) (st : State C) where
   over_stays outcome (Ended ending) is = refl
   over_stays outcome (Wrong error) is = refl
 
+  -- a wrong one stays
   wrong_stays : (status : Status) → is_wrong status ≡ true → stepped status ≡ st
   wrong_stays Running is = absurd (cc)
   wrong_stays (Waiting values) is = absurd (cc)
   wrong_stays (Ended ending) is = refl
   wrong_stays (Wrong error) is = refl
 
+-- the machine of any control lasts
 pub machine_lasts : {C : Type 0} (k : Control C) (s : Setting) → Lasts (machine_of k s)
 machine_lasts k s = record {
   grows = λ st. adds_seen k st (step_of k s st).store (step_adds k s st);

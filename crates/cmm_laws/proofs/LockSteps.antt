@@ -33,16 +33,19 @@ module _ {C D : Type 0} (k : Control C) (l : Control D) (W : C → D → Type 0)
   pub start_together : (input : List ℕ) → AreInLockStep W (start_of k s input) (start_of l s input)
   start_together input = landed_together k l W same s (Instead s.program.main []) (first_store s input) [] [] tt
 
+-- the graph does each step of the C-- machine
 pub graph_simulates : GraphSimulates
 graph_simulates s =
     simulates_of_same (todo_control s.program) (graph_control s.program) (StandsFor s.program) (graph_same_acts s.program) s
 
+-- so it follows it from the start
 pub graph_follows : GraphFollows
 graph_follows s input =
     let p = s.program in
     let together = start_together (todo_control p) (graph_control p) (StandsFor p) (graph_same_acts p) s input in
     follows_of_simulates (machine_lasts (todo_control p) s) (graph_simulates s) together
 
+-- and agrees with it in counts of steps
 pub graph_agrees : GraphAgrees
 graph_agrees s input =
     let lasts = machine_lasts (todo_control s.program) s in

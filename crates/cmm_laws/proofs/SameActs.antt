@@ -22,6 +22,7 @@ pub record SameActs {C D : Type 0} (k : Control C) (l : Control D) (W : C → D 
   pub begin : (n : ℕ) → W (k.begin n) (l.begin n)
 
 module _ {C D : Type 0} (k : Control C) (l : Control D) (W : C → D → Type 0) (same : SameActs k l W) where
+  -- when the youngest activation goes on
   moved_together : (f : C → C) (g : D → D) → ((c : C) (d : D) → W c d → W (f c) (g d)) → (cs : List C) (ds : List D) →
       AllZip W cs ds → AllZip W (moved f cs) (moved g ds)
   moved_together f g keeps [] [] are = tt
@@ -29,6 +30,7 @@ module _ {C D : Type 0} (k : Control C) (l : Control D) (W : C → D → Type 0)
   moved_together f g keeps (c ∷ cs) [] are = absurd are
   moved_together f g keeps (c ∷ cs) (d ∷ ds) are = (keeps c d are.0, are.1)
 
+  -- when the youngest ones go
   dropped_together : (n : ℕ) (cs : List C) (ds : List D) → AllZip W cs ds → AllZip W (drop n cs) (drop n ds)
   dropped_together zero cs ds are = are
   dropped_together (suc n) [] [] are = tt
@@ -36,6 +38,7 @@ module _ {C D : Type 0} (k : Control C) (l : Control D) (W : C → D → Type 0)
   dropped_together (suc n) (c ∷ cs) [] are = absurd are
   dropped_together (suc n) (c ∷ cs) (d ∷ ds) are = dropped_together n cs ds are.1
 
+  -- where a landing arrives
   arrived_together : (landing : Landing) (cs : List C) (ds : List D) → AllZip W cs ds →
       AllZip W (arrived k landing cs) (arrived l landing ds)
   arrived_together (Instead n values) cs ds are = (same.begin n, are)
@@ -49,6 +52,7 @@ module _ {C D : Type 0} (k : Control C) (l : Control D) (W : C → D → Type 0)
   arrived_together landing (c ∷ cs) [] are = absurd are
 
   module _ (s : Setting) where
+    -- after a landing
     pub landed_together : (landing : Landing) (store : Store) (cs : List C) (ds : List D) → AllZip W cs ds →
         AreInLockStep W (landed k s landing store cs) (landed l s landing store ds)
     landed_together landing store cs ds are = by (land s landing store)
@@ -65,6 +69,7 @@ module _ {C D : Type 0} (k : Control C) (l : Control D) (W : C → D → Type 0)
         by (Some after) = record { store = refl; controls = arrived_together landing cs ds are }
         by None = record { store = refl; controls = are }
 
+    -- after an answer
     answered_together : (answer : Answer) (cs : List C) (ds : List D) → AllZip W cs ds →
         AreInLockStep W (answer_done k s answer cs) (answer_done l s answer ds)
     answered_together (Stay way store) cs ds are =
@@ -81,15 +86,18 @@ module _ {C D : Type 0} (k : Control C) (l : Control D) (W : C → D → Type 0)
     next_together (c ∷ cs) [] are = absurd are
     next_together (c ∷ cs) (d ∷ ds) are = same.act c d are.0
 
+    -- what an order comes to, or the error that ends it
     abbrev done : {E : Type 0} → Control E → Store → List E → Tried Answer → State E
     done j store es (Ok answer) = answer_done j s answer es
     done j store es (Err error) = record { store = over (Wrong error) store; controls = es }
 
+    -- after an order
     done_together : (store : Store) (cs : List C) (ds : List D) → AllZip W cs ds → (tried : Tried Answer) →
         AreInLockStep W (done k store cs tried) (done l store ds tried)
     done_together store cs ds are (Ok answer) = answered_together answer cs ds are
     done_together store cs ds are (Err error) = record { store = refl; controls = are }
 
+    -- after what the youngest activations do
     ran_together : (store : Store) (cs : List C) (ds : List D) → AllZip W cs ds →
         AreInLockStep W (ran k s record { store = store; controls = cs }) (ran l s record { store = store; controls = ds })
     ran_together store cs ds are =
@@ -97,6 +105,7 @@ module _ {C D : Type 0} (k : Control C) (l : Control D) (W : C → D → Type 0)
         subst (λ act. AreInLockStep W (done k store cs (answer (next_act k cs))) (done l store ds (answer act))) (next_together cs ds are)
         (done_together store cs ds are (answer (next_act k cs)))
 
+    -- after a step, by the status
     stepped_together : (store : Store) (cs : List C) (ds : List D) → AllZip W cs ds → (status : Status) →
         AreInLockStep W (elim status as (λ _. State C) [
           | Running ↦ ran k s record { store = store; controls = cs }

@@ -14,10 +14,12 @@ use Rattle.cmm_laws.specs.StatementGraph.{Node, Laid, LaidArms, end_node, node_a
 
 -- ---- numbers stay while nodes are put in front
 
+-- these nodes are the last ones of all
 pub record IsBehind (nodes all : List Node) : Type 0 where
   pub front : List Node
   pub whole : all ≡ front ++ nodes
 
+-- and so are those behind the first of them
 behind_first : (node : Node) (nodes all : List Node) → IsBehind (node ∷ nodes) all → IsBehind nodes all
 behind_first node nodes all b =
     record { front = b.front ++ node ∷ []; whole = b.whole ∙ sym (append_assoc b.front (node ∷ []) nodes) }
@@ -31,6 +33,7 @@ number_of_node (first ∷ front) node nodes =
     ap (λ t. pick t first (node_at (front ++ node ∷ nodes) (length nodes))) (ne_eqb (length (front ++ node ∷ nodes)) (length nodes) more)
     ∙ number_of_node front node nodes
 
+-- a node by its number when every node is changed, but for the end
 map_at : (f : Node → Node) → f end_node ≡ end_node → (nodes : List Node) (n : ℕ) → node_at (map f nodes) n ≡ f (node_at nodes n)
 map_at f is [] n = sym is
 map_at f is (node ∷ nodes) n =
@@ -51,20 +54,24 @@ in_graph p node nodes b =
 
 -- ---- marks are found where they are, whether each `goto` is directed or not
 
+-- a `goto` is no mark
 no_goto : (m : Mark) (n : ℕ) → is_mark m (Goto n) ≡ false
 no_goto (AtLabel l) n = refl
 no_goto (AtContinuation k) n = refl
 no_goto (AtSite site) n = refl
 
+-- so a node with a mark leads where it did before it was directed
 marked_next : (m : Mark) (all : List Node) (form : Option Form) (next : ℕ) → is_node m form ≡ true → next_of all form next ≡ next
 marked_next m all (Some (Goto n)) next is = absurd (let e = no_goto m n in cc)
 marked_next m all form next is = refl
 
+-- and marks are found as before
 found_directed : (m : Mark) (all nodes : List Node) → found m (map (directed all) nodes) ≡ found m nodes
 found_directed m all [] = refl
 found_directed m all (node ∷ nodes) =
     picked (is_node m node.form) (λ is. ap Some (marked_next m all node.form node.next is)) (λ _. found_directed m all nodes)
 
+-- also by who looks for where they lead
 pub entry_in_graph : (m : Mark) (p : Proc) → entry m (nodes_of p) ≡ entry m (body_laid p).nodes
 entry_in_graph m p =
     let all = (body_laid p).nodes in
@@ -74,6 +81,7 @@ entry_in_graph m p =
 
 -- what an activation that stands at a node may still have to do: W, and V one step later
 module _ (p : Proc) (W V : ℕ → List Statement → Type 0) where
+  -- the nodes of the body
   abbrev all : List Node
   all = (body_laid p).nodes
 
@@ -104,11 +112,13 @@ module _ (p : Proc) (W V : ℕ → List Statement → Type 0) where
     finds : (m : Mark) (rest : List Statement) → W after.start rest →
         Finds (after_in_arms m arms) (found m before.nodes) (found m after.nodes) rest
 
+  -- what is found in one of two pieces, the second behind the first
   finds_either : (a b : Option (List Statement)) (x y z : Option ℕ) (rest : List Statement) → Finds a x y rest → Finds b y z rest →
       Finds (first_of_two a b) x z rest
   finds_either (Some inner) b x y z rest first second = first
   finds_either None b x y z rest first second = subst (λ o. Finds b o z rest) (sym first) second
 
+  -- what is found in a block, seen from what follows the block
   finds_outward : (a : Option (List Statement)) (x y : Option ℕ) (tail rest : List Statement) → Finds a x y (tail ++ rest) →
       Finds (outward a tail) x y rest
   finds_outward (Some inner) x y tail rest (n, e, w) = (n, e, subst (W n) (sym (append_assoc inner tail rest)) w)
@@ -118,16 +128,19 @@ module _ (p : Proc) (W V : ℕ → List Statement → Type 0) where
   abbrev inside_of : Form → Mark → Option (List Statement)
   inside_of form m = pick (is_mark m form) (Some []) (after_inside m form)
 
+  -- what follows a mark in a statement and those behind it, as the body tells it
   in_order : (t : Bool) (inner : Option (List Statement)) (tail : List Statement) (other : Option (List Statement)) →
       first_of_two (outward (pick t (Some []) inner) tail) other ≡ pick t (Some tail) (first_of_two (outward inner tail) other)
   in_order true inner tail other = refl
   in_order false inner tail other = refl
 
+  -- a statement without blocks may itself be the mark
   finds_leaf : (t : Bool) (next : ℕ) (z : Option ℕ) (rest : List Statement) → W next rest →
       Finds (pick t (Some []) None) (pick t (Some next) z) z rest
   finds_leaf true next z rest w = (next, refl, w)
   finds_leaf false next z rest w = refl
 
+  -- one with blocks is none
   finds_block : (t : Bool) (next : ℕ) (inner : Option (List Statement)) (x z : Option ℕ) (rest : List Statement) → t ≡ false →
       Finds inner x z rest → Finds (pick t (Some []) inner) (pick t (Some next) x) z rest
   finds_block true next inner x z rest never finds = absurd (cc)
@@ -163,6 +176,7 @@ module _ (p : Proc) (W V : ℕ → List Statement → Type 0) where
     }
 
     mutual
+      -- one statement
       pub form_stands : (form : Form) (tokens : ℕ) (after : Laid) → IsBehind (form_laid form after).nodes all →
           Stands (record { tokens = tokens; form = form } ∷ []) (inside_of form) (form_laid form after) after
       form_stands (If' condition n then_ k otherwise) tokens after behind =
@@ -186,6 +200,7 @@ module _ (p : Proc) (W V : ℕ → List Statement → Type 0) where
       form_stands (Goto n) tokens after behind = leaf (Goto n) tokens after (λ way rest w. levels.jumps n) (λ m. refl) behind
       form_stands form tokens after behind = leaf form tokens after (λ way rest w. levels.weaker _ _ w) (λ m. refl) behind
 
+      -- the statements of a block
       pub row_stands : {n : _} (row : Row_of-Statement n) (after : Laid) → IsBehind (laid row after).nodes all →
           Stands (statements row) (λ m. after_in m row) (laid row after) after
       row_stands end_of-Statement after behind =
@@ -204,6 +219,7 @@ module _ (p : Proc) (W V : ℕ → List Statement → Type 0) where
                 (second.finds m last w));
           }
 
+      -- the arms of a switch
       arms_stand : {n : _} (arms : Row_of-Arm n) (after : Laid) → IsBehind (arms_laid arms after).nodes all →
           ArmsStand arms (arms_laid arms after) after
       arms_stand end_of-Arm after behind = record { behind = behind; enters = λ rest w way. w; finds = λ m rest w. refl }

@@ -20,21 +20,25 @@ use Rattle.cmm_laws.specs.StoredWords.{BytesOfNumber, NumberOfBytes, SmallNumber
 
 -- ---- bytes of a number
 
+-- the bytes of a number are so many, and bytes
 pub bytes_of_number : BytesOfNumber
 bytes_of_number zero value = (refl, λ k d less. absurd (omega arith))
 bytes_of_number (suc size) value =
     let rest = bytes_of_number size (value / 256) in
     (ap suc rest.0, All-cons (λ byte. byte < 256) (value % 256) _ (mod-lt value (omega arith)) rest.1)
 
+-- they spell the number, cut to their count
 pub number_of_bytes : NumberOfBytes
 number_of_bytes zero value = omega arith
 number_of_bytes (suc size) value =
     let split = mod-mul value {m = 256 ^ size} {c = 256} (one-le-pow size 256 (omega arith)) (omega arith) in
     rw (number_of_bytes size (value / 256), pow-suc 256 size, split) (omega arith)
 
+-- which is the number where it is small enough
 pub small_number_of_bytes : SmallNumberOfBytes
 small_number_of_bytes size value small = number_of_bytes size value ∙ mod-eq_of_lt small
 
+-- and back
 pub bytes_of_spelled : BytesOfSpelled
 bytes_of_spelled [] are = (refl, omega arith)
 bytes_of_spelled (byte ∷ bytes) are =
@@ -118,6 +122,7 @@ put_done width aligned address value before after = by (may_access (cell_at befo
     by true is = (refl, cc)
     by false is = absurd (cc)
 
+-- a stored word is loaded again
 pub stored_is_loaded : StoredIsLoaded
 stored_is_loaded s width aligned address value before after small is =
     let done = put_done width aligned address value before after is in
@@ -147,6 +152,7 @@ same_word r r' width aligned address same =
     ap₂ (λ cells found. provided ((address % aligned == 0) && all_there cells) BadAccess (and_then (all_of found) (λ all. Ok (number_of all))))
     (same_cells (λ cell. cell) r.byte r'.byte address (bytes width) same) (same_cells byte_of r.byte r'.byte address (bytes width) same)
 
+-- a store leaves the words elsewhere
 pub words_elsewhere_stay : WordsElsewhereStay
 words_elsewhere_stay s width width' aligned aligned' address other value before after is apart =
     let done = put_done width aligned address value before after is in
@@ -158,22 +164,26 @@ words_elsewhere_stay s width width' aligned aligned' address other value before 
 
 -- ---- access
 
+-- a write leaves what is there
 there_written : (cell : Cell) (byte : ℕ) → is_there (written cell byte) ≡ is_there cell
 there_written Outside byte = refl
 there_written Unwritten byte = refl
 there_written (Byte before) byte = refl
 
+-- at every address
 there_stays : (m : Memory) (address byte other : ℕ) → is_there (cell_at (with_byte m address byte) other) ≡ is_there (cell_at m other)
 there_stays m address byte other = ⊎_elim
     (λ e. rw e (ap is_there (same_address m address byte) ∙ there_written (cell_at m address) byte))
     (λ differs. ap is_there (other_address m address byte other differs)) (cases_eq other address)
 
+-- at so many addresses
 all_there_stay : (m : Memory) (address byte other size : ℕ) →
     all_there (map (cell_at (with_byte m address byte)) (addresses other size)) ≡ all_there (map (cell_at m) (addresses other size))
 all_there_stay m address byte other zero = refl
 all_there_stay m address byte other (suc size) =
     ap₂ (λ a b. a && b) (there_stays m address byte other) (all_there_stay m address byte (suc other) size)
 
+-- so it leaves which addresses may be accessed
 pub access_stays : AccessStays
 access_stays m address [] size aligned other = refl
 access_stays m address (byte ∷ more) size aligned other =
