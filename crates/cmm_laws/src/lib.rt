@@ -4,8 +4,10 @@
 //! Each is the contract of a public function that does nothing.
 //!
 //! - `runs`: what an ended state does, what is only added to, and who takes the input.
+//! - `values`: sites in range, and values that fit their widths, in every state.
 //!
 //! Laws of memory, over the cell at an address, are the public lemmas of `proofs/Cells`.
 #![tactic(auto)]
 
 pub mod runs;
+pub mod values;

@@ -1,0 +1,266 @@
+-- Values put into a store whose values fit: what its youngest activation reads fits, and every place keeps what fits it.
+use Rattle.std.proofs.Common.{◌≡◌, ℕ, zero, suc, ◌+◌, ◌-◌, ◌%◌, ◌/◌, ◌^◌, ◌<◌, ◌≤◌, Bool, true, false, Option, Some, None, Ok, Err, List, [], ◌∷◌, map, All, IsTrue, IfSome, IsSome, refl, ap, sym, ◌∙◌, subst, arith, slice_get, slice_set, slice_index_or, length, replicate}
+use Rattle.std.specs.Prelude.{⊤, nat_le}
+use Rattle.std.specs.List.{AllZip}
+use Rattle.std.proofs.lemmas.Bool.{and_parts, eqb-true, leb-true, ltb-true, false≢true}
+use Rattle.std.proofs.lemmas.List.Elements.{All-nil, All-cons, All-head, All-tail, All-map, All-weaker, All-set}
+use Rattle.std.proofs.lemmas.List.Sums.{get_or-le-sum_by, sum_by-cons}
+use Rattle.std.proofs.lemmas.Nat.{mod_below, pow_pos}
+use Rattle.std.proofs.lemmas.Option.{none-some, same_Some}
+use Rattle.cmm_words.specs.declared.width.Width.{Width}
+use Rattle.cmm_words.specs.declared.width.Width.TheVariants.{W64}
+use Rattle.cmm_words.specs.declared.constant.Constant.{Constant}
+use Rattle.cmm_words.specs.declared.constant.Constant.TheVariants as constant
+use Rattle.cmm_words.specs.Widths.{bits, bytes, IsWord}
+use Rattle.cmm_program.specs.declared.procedure.Proc.{Proc}
+use Rattle.cmm_program.specs.declared.procedure.Target.{Target}
+use Rattle.cmm_program.specs.declared.procedure.Target.TheVariants.{Variable, Register}
+use Rattle.cmm_program.specs.declared.procedure.VarInfo.{VarInfo}
+use Rattle.cmm_program.specs.declared.program.Global.{Global}
+use Rattle.cmm_program.specs.declared.program.Program.{Program}
+use Rattle.cmm_program.specs.declared.placement.PlaceRow.{PlaceRow}
+use Rattle.cmm_program.specs.Acts.{Place, Held, Memory, Write, target_width}
+use Rattle.cmm_program.specs.Errors.{Tried, BadAccess}
+use Rattle.cmm_program.specs.Frames.{procedure_at, place_row, frame_size, sum_of_sizes, frame_address, part_address, continuation_value, stackdata_address}
+use Rattle.cmm_program.specs.Layout.{bytes_of, constant_value, row_of, label_address}
+use Rattle.cmm_program.specs.Memory as memory
+use Rattle.cmm_program.specs.Memory.{Room, Cell, is_in, cell_of, cell_in, cell_at, with_byte_in, with_byte, with_bytes}
+use Rattle.cmm_program.specs.Placed.{every}
+use Rattle.cmm_program.specs.State.{Setting, Frame, Store, Status}
+use Rattle.cmm_program.specs.Todo.{Todo}
+use Rattle.cmm_program.specs.Typing.{is_target, has_variable, has_register, same_width, constant_width}
+use Rattle.cmm_program.specs.Values.{may_access}
+use Rattle.cmm_program.specs.Writes.{reads_of, variables_of, with_variable, assigned, all_assigned, put, put_all}
+use Rattle.cmm_laws.specs.Fitting.{IsOf, IsActivation, AreActivations, IsByte, CellFits, RoomFits, MemoryFits, StoreFits}
+use Rattle.cmm_laws.proofs.FittingActs.{PlaceFits, WriteFits, back_word}
+use Rattle.cmm_laws.proofs.FittingExpressions.{ReadsFit, IsByteCell, if_holds_from, low-word, same_word}
+use Rattle.cmm_laws.proofs.FittingKept.{Kept, kept_and_then, kept_provided, some_kept}
+use Rattle.cmm_laws.proofs.FittingLists.{zip_get, zip_set, all_get}
+
+-- ---- what is kept of a store while its youngest activation works
+
+-- the youngest activation is one of this procedure, if there is an activation
+abbrev pub IsYoungest : Setting → Proc → List Frame → Type 0
+IsYoungest s q [] = ⊤
+IsYoungest s q (f ∷ fs) = procedure_at s f.procedure ≡ Some q
+
+pub record Works (s : Setting) (q : Proc) (P : Option ℕ → Type 0) (status : Status) (ts : List Todo) (store : Store) : Type 0 where
+  pub fits : StoreFits s store
+  pub activations : AreActivations s P store.frames ts
+  pub youngest : IsYoungest s q store.frames
+  pub still : store.status ≡ status
+
+-- ---- variables and registers
+
+-- the declared width of a variable, and of a register
+variable_info : (q : Proc) (n : ℕ) (w : Width) → IsTrue (has_variable q n w) → (v : VarInfo) × (slice_get q.vars n ≡ Some v) × IsTrue (same_width v.width w)
+variable_info q n w = by (slice_get q.vars n) refl where
+  by : (found : Option VarInfo) → slice_get q.vars n ≡ found → IsTrue (elim found [ Some v ↦ same_width v.width w | None ↦ false ]) →
+      (v : VarInfo) × (slice_get q.vars n ≡ Some v) × IsTrue (same_width v.width w)
+  by (Some v) is here = (v, is, here)
+  by None is here = absurd (false≢true here)
+
+register_info : (p : Program) (n : ℕ) (w : Width) → IsTrue (has_register p n w) → (g : Global) × (slice_get p.globals n ≡ Some g) × IsTrue (same_width g.width w)
+register_info p n w = by (slice_get p.globals n) refl where
+  by : (found : Option Global) → slice_get p.globals n ≡ found → IsTrue (elim found [ Some g ↦ same_width g.width w | None ↦ false ]) →
+      (g : Global) × (slice_get p.globals n ≡ Some g) × IsTrue (same_width g.width w)
+  by (Some g) is here = (g, is, here)
+  by None is here = absurd (false≢true here)
+
+variable_reads : (s : Setting) (q : Proc) (P : Option ℕ → Type 0) (fs : List Frame) (ts : List Todo) (n : ℕ) (w : Width) → AreActivations s P fs ts →
+    IsYoungest s q fs → IsTrue (has_variable q n w) → IsWord w (slice_index_or (variables_of fs) n 0)
+variable_reads s q P [] ts n w are youngest has = pow_pos (bits w)
+variable_reads s q P (f ∷ fs) [] n w are youngest has = absurd are
+variable_reads s q P (f ∷ fs) (t ∷ ts) n w are youngest has =
+    let v = variable_info q n w has in
+    same_word (v.0).width w _ v.2 (zip_get _ q.vars f.variables n v.0 0 v.1 (are.1.procedure q youngest).variables)
+
+register_reads : (s : Setting) (store : Store) (n : ℕ) (w : Width) → StoreFits s store → IsTrue (has_register s.program n w) → IsWord w (slice_index_or store.registers n 0)
+register_reads s store n w fits has =
+    let g = register_info s.program n w has in
+    same_word (g.0).width w _ g.2 (zip_get _ s.program.globals store.registers n g.0 0 g.1 fits.registers)
+
+pub with_variable_keeps : (s : Setting) (q : Proc) (P : Option ℕ → Type 0) (fs : List Frame) (ts : List Todo) (n : ℕ) (w : Width) (value : ℕ) →
+    AreActivations s P fs ts → IsYoungest s q fs → IsTrue (has_variable q n w) → IsWord w value →
+    AreActivations s P (with_variable fs n value) ts × IsYoungest s q (with_variable fs n value) × (sum_of_sizes s (with_variable fs n value) ≡ sum_of_sizes s fs)
+with_variable_keeps s q P [] ts n w value are youngest has fits = (are, tt, refl)
+with_variable_keeps s q P (f ∷ fs) [] n w value are youngest has fits = absurd are
+with_variable_keeps s q P (f ∷ fs) (t ∷ ts) n w value are youngest has fits = ((are.0, changed, are.2), youngest, refl) where
+  changed : IsActivation s (record f { variables = slice_set f.variables n value }) t
+  changed = record {
+    known = are.1.known;
+    control = are.1.control;
+    procedure = λ q' is.
+        let same : q ≡ q' = same_Some q q' (sym youngest ∙ is) in
+        let old = are.1.procedure q' is in
+        let v = variable_info q' n w (subst (λ x. IsTrue (has_variable x n w)) same has) in
+        record {
+          variables = zip_set _ q'.vars f.variables n v.0 value v.1 (back_word (v.0).width w value v.2 fits) old.variables;
+          site = old.site;
+          statements = old.statements;
+        };
+  }
+
+pub assigned_works : (s : Setting) (q : Proc) (P : Option ℕ → Type 0) (status : Status) (ts : List Todo) (target : Target) (value : ℕ) (store : Store) →
+    Works s q P status ts store → IsTrue (is_target s.program q target) → IsWord (target_width target) value → Works s q P status ts (assigned target value store)
+assigned_works s q P status ts (Variable n w) value store old has fits =
+    let new = with_variable_keeps s q P store.frames ts n w value old.activations old.youngest has fits in
+    record {
+      fits = record {
+        registers = old.fits.registers;
+        memory = old.fits.memory;
+        stack = subst (λ k. k ≤ s.top - s.base) (sym new.2) old.fits.stack;
+        input = old.fits.input;
+        taken = old.fits.taken;
+        output = old.fits.output;
+      };
+      activations = new.0;
+      youngest = new.1;
+      still = old.still;
+    }
+assigned_works s q P status ts (Register n w) value store old has fits =
+    let g = register_info s.program n w has in
+    record {
+      fits = record {
+        registers = zip_set _ s.program.globals store.registers n g.0 value g.1 (back_word (g.0).width w value g.2 fits) old.fits.registers;
+        memory = old.fits.memory;
+        stack = old.fits.stack;
+        input = old.fits.input;
+        taken = old.fits.taken;
+        output = old.fits.output;
+      };
+      activations = old.activations;
+      youngest = old.youngest;
+      still = old.still;
+    }
+
+pub all_assigned_works : (s : Setting) (q : Proc) (P : Option ℕ → Type 0) (status : Status) (ts : List Todo) (targets : List Target) (values : List ℕ) (store : Store) →
+    Works s q P status ts store → IsTrue (every (is_target s.program q) targets) → AllZip IsWord (map target_width targets) values →
+    Works s q P status ts (all_assigned targets values store)
+all_assigned_works s q P status ts [] values store old has fits = old
+all_assigned_works s q P status ts (t ∷ targets) [] store old has fits = old
+all_assigned_works s q P status ts (t ∷ targets) (v ∷ values) store old has fits =
+    let h = and_parts _ _ has in
+    all_assigned_works s q P status ts targets values (assigned t v store) (assigned_works s q P status ts t v store old h.0 fits.0) h.1 fits.1
+
+-- ---- memory
+
+pub bytes_of_fit : (n value : ℕ) → All IsByte (bytes_of n value)
+bytes_of_fit zero value = All-nil IsByte
+bytes_of_fit (suc n) value = All-cons IsByte (value % 256) _ (mod_below value 256 (omega arith)) (bytes_of_fit n (value / 256))
+
+with_byte_in_fits : (room : Room) (address byte : ℕ) → IsByte byte → RoomFits room → RoomFits (with_byte_in room address byte)
+with_byte_in_fits room address byte is old = by (is_in room address) where
+  by : (test : Bool) → RoomFits (elim test [
+         | true ↦ record room { cells = slice_set room.cells (address - room.address) (Some byte) }
+         | false ↦ room
+       ])
+  by true = All-set CellFits room.cells (address - room.address) (Some byte) is old
+  by false = old
+
+with_byte_fits : (m : memory.Memory) (address byte : ℕ) → IsByte byte → MemoryFits m → MemoryFits (with_byte m address byte)
+with_byte_fits m address byte is old = record {
+  globals = with_byte_in_fits m.globals address byte is old.globals;
+  rooms = All-map RoomFits (λ (room : Room). with_byte_in room address byte) m.rooms
+      (All-weaker RoomFits (λ (room : Room). RoomFits (with_byte_in room address byte)) (λ room h. with_byte_in_fits room address byte is h) m.rooms old.rooms);
+}
+
+pub with_bytes_fit : (m : memory.Memory) (address : ℕ) (bs : List ℕ) → All IsByte bs → MemoryFits m → MemoryFits (with_bytes m address bs)
+with_bytes_fit m address [] are old = old
+with_bytes_fit m address (b ∷ bs) are old =
+    with_bytes_fit (with_byte m address b) (suc address) bs (All-tail IsByte b bs are) (with_byte_fits m address b (All-head IsByte b bs are) old)
+
+cell_of_fits : (cell : Option ℕ) → IfSome cell IsByte → IsByteCell (cell_of cell)
+cell_of_fits (Some byte) is = is
+cell_of_fits None is = tt
+
+-- what a list has at any place, or else the default
+pub any_place : {A : Type 0} (P : A → Type 0) (xs : List A) (n : ℕ) (d : A) → All P xs → P d → P (slice_index_or xs n d)
+any_place P [] n d all default = default
+any_place P (x ∷ xs) zero d all default = All-head P x xs all
+any_place P (x ∷ xs) (suc n) d all default = any_place P xs n d (All-tail P x xs all) default
+
+cell_in_fits : (rooms : List Room) (address : ℕ) → All RoomFits rooms → IsByteCell (cell_in rooms address)
+cell_in_fits [] address are = tt
+cell_in_fits (room ∷ rooms) address are = by (is_in room address) (cell_in_fits rooms address (All-tail RoomFits room rooms are)) where
+  by : (test : Bool) → IsByteCell (cell_in rooms address) → IsByteCell (elim test [
+         | true ↦ cell_of (slice_index_or room.cells (address - room.address) None)
+         | false ↦ cell_in rooms address
+       ])
+  by true older = cell_of_fits _ (any_place CellFits room.cells (address - room.address) None (All-head RoomFits room rooms are) tt)
+  by false older = older
+
+-- ---- addresses of parts of frames
+
+-- the parts of a frame lie inside it
+pub record PartsInside (row : PlaceRow) : Type 0 where
+  pub pairs : All (λ offset. offset ≤ row.frame) row.pairs
+  pub stack : All (λ offset. offset ≤ row.frame) row.stack
+
+part_within : (s : Setting) (f : Frame) (fs : List Frame) (offsets : List ℕ) (n : ℕ) → sum_of_sizes s (f ∷ fs) ≤ s.top - s.base →
+    All (λ offset. offset ≤ frame_size s f) offsets → part_address s (f ∷ fs) offsets n ≤ s.top
+part_within s f fs offsets n fits inside =
+    let offset : slice_index_or offsets n 0 ≤ frame_size s f = any_place (λ (k : ℕ). k ≤ frame_size s f) offsets n 0 inside (omega arith) in
+    let size = sum_by-cons (frame_size s) f fs in
+    omega arith
+
+continuation_word : (s : Setting) (fs : List Frame) (k : ℕ) → s.top < 2 ^ 64 → ((n : ℕ) → PartsInside (place_row s n)) → sum_of_sizes s fs ≤ s.top - s.base →
+    IsWord W64 (continuation_value s fs k)
+continuation_word s [] k top inside fits = omega arith
+continuation_word s (f ∷ fs) k top inside fits =
+    let within = part_within s f fs (place_row s f.procedure).pairs k fits (inside f.procedure).pairs in omega arith
+
+stackdata_word : (s : Setting) (fs : List Frame) (k : ℕ) → s.top < 2 ^ 64 → ((n : ℕ) → PartsInside (place_row s n)) → sum_of_sizes s fs ≤ s.top - s.base →
+    IsWord W64 (stackdata_address s fs k)
+stackdata_word s [] k top inside fits = omega arith
+stackdata_word s (f ∷ fs) k top inside fits =
+    let within = part_within s f fs (place_row s f.procedure).stack k fits (inside f.procedure).stack in omega arith
+
+-- ---- what can be read
+
+constant_word : (s : Setting) (c : Constant) (w : Width) → constant_width s.program c ≡ Some w → IsWord w (constant_value s.program s.placement c)
+constant_word s (constant.Number n width) w is =
+    let h = if_holds_from _ width w is in
+    subst (λ (k : Width). IsWord k n) h.1 (ltb-true n (2 ^ bits width) h.0)
+constant_word s (constant.Code proc plus) w is = subst (λ (k : Width). IsWord k (((row_of s.placement proc).code + plus) % 2 ^ 64)) (if_holds_from _ W64 w is).1 (low-word W64 ((row_of s.placement proc).code + plus))
+constant_word s (constant.Address label plus) w is = subst (λ (k : Width). IsWord k ((label_address s.program label + plus) % 2 ^ 64)) (if_holds_from _ W64 w is).1 (low-word W64 (label_address s.program label + plus))
+
+pub reads_fit : (s : Setting) (q : Proc) (P : Option ℕ → Type 0) (status : Status) (ts : List Todo) (store : Store) → s.top < 2 ^ 64 →
+    ((n : ℕ) → PartsInside (place_row s n)) → Works s q P status ts store → ReadsFit s.program q (reads_of s store)
+reads_fit s q P status ts store top inside works = record {
+  constant = constant_word s;
+  variable = λ n w has. variable_reads s q P store.frames ts n w works.activations works.youngest has;
+  register = λ n w has. register_reads s store n w works.fits has;
+  stackdata = λ n. stackdata_word s store.frames n top inside works.fits.stack;
+  continuation = λ n. continuation_word s store.frames n top inside works.fits.stack;
+  byte = λ address. cell_in_fits (store.memory.globals ∷ store.memory.rooms) address
+      (All-cons RoomFits _ _ works.fits.memory.globals works.fits.memory.rooms);
+}
+
+-- ---- a value put into a place
+
+put_works : (s : Setting) (q : Proc) (P : Option ℕ → Type 0) (status : Status) (ts : List Todo) (place : Place) (value : ℕ) (store : Store) →
+    Works s q P status ts store → PlaceFits s.program q place value → Kept (Works s q P status ts) (put place value store)
+put_works s q P status ts (Held target) value store old fits = assigned_works s q P status ts target value store old fits.0 fits.1
+put_works s q P status ts (Memory width aligned address) value store old fits =
+    kept_provided (may_access (cell_at store.memory) (bytes width) aligned address) BadAccess _ _ (λ _. record {
+      fits = record {
+        registers = old.fits.registers;
+        memory = with_bytes_fit store.memory address (bytes_of (bytes width) value) (bytes_of_fit (bytes width) value) old.fits.memory;
+        stack = old.fits.stack;
+        input = old.fits.input;
+        taken = old.fits.taken;
+        output = old.fits.output;
+      };
+      activations = old.activations;
+      youngest = old.youngest;
+      still = old.still;
+    })
+
+pub put_all_works : (s : Setting) (q : Proc) (P : Option ℕ → Type 0) (status : Status) (ts : List Todo) (ws : List Write) (store : Store) →
+    Works s q P status ts store → All (WriteFits s.program q) ws → Kept (Works s q P status ts) (put_all ws store)
+put_all_works s q P status ts [] store old fits = old
+put_all_works s q P status ts (w ∷ ws) store old fits =
+    kept_and_then (put w.place w.value store) (Works s q P status ts) _ _
+        (put_works s q P status ts w.place w.value store old (All-head (WriteFits s.program q) w ws fits))
+        (λ after h. put_all_works s q P status ts ws after h (All-tail (WriteFits s.program q) w ws fits))

@@ -1,0 +1,12 @@
+mod Fitting
+mod FittingActs
+mod FittingBodies
+mod FittingClient
+mod FittingExits
+mod FittingExpressions
+mod FittingKept
+mod FittingLandings
+mod FittingLists
+mod FittingOrders
+mod FittingStart
+mod FittingStores

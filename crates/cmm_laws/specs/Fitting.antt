@@ -1,0 +1,95 @@
+-- What holds of every state of the C-- machine, for a program in range at a valid placement: each activation has to do
+-- statements of its own procedure, each suspended one waits at a site of it, and each value fits the width of what holds
+-- it.
+use Rattle.std.specs.Prelude.{◌≡◌, ℕ, ◌-◌, ◌^◌, ◌<◌, ◌≤◌, IsTrue, IsSome, IsNone, IfSome, ⊤, All, List, [], ◌∷◌, length, Option, Some}
+use Rattle.std.specs.List.{AllZip}
+use Rattle.cmm_words.specs.declared.width.Width.TheVariants.{W64}
+use Rattle.cmm_words.specs.Widths.{IsWord}
+use Rattle.cmm_program.specs.declared.statement.Statement.{Statement}
+use Rattle.cmm_program.specs.declared.procedure.Proc.{Proc}
+use Rattle.cmm_program.specs.declared.program.Program.{Program}
+use Rattle.cmm_program.specs.Control.{State}
+use Rattle.cmm_program.specs.Frames.{procedure_at, sum_of_sizes}
+use Rattle.cmm_program.specs.InRange.{IsInRange, is_statement, is_body_in}
+use Rattle.cmm_program.specs.Machine.{state_after}
+use Rattle.cmm_program.specs.Memory.{Memory, Room}
+use Rattle.cmm_program.specs.Placed.{IsPlaced}
+use Rattle.cmm_program.specs.State.{Setting, Frame, Store, Status, Running, Waiting, Ended, Wrong}
+use Rattle.cmm_program.specs.Todo.{Todo}
+
+-- ---- activations
+
+-- a statement that is in range in a procedure, with the blocks inside it
+abbrev pub IsStatementOf : Program → Proc → Statement → Type 0
+IsStatementOf p q statement = IsTrue (is_statement p q statement.tokens statement.form) × IsTrue (is_body_in p q statement.form)
+
+-- An activation of a procedure: each of its variables has a value, of the variable's width; it waits at one of its sites,
+-- if it is suspended; and what it has still to do are statements of the procedure.
+pub record IsOf (p : Program) (q : Proc) (f : Frame) (t : Todo) : Type 0 where
+  pub variables : AllZip (λ v value. IsWord v.width value) q.vars f.variables
+  pub site : IfSome f.site (λ n. n < length q.sites)
+  pub statements : All (IsStatementOf p q) t.rest
+
+-- a frame, and where its activation stands: both name one procedure of the program
+pub record IsActivation (s : Setting) (f : Frame) (t : Todo) : Type 0 where
+  pub known : f.procedure < length s.program.procs
+  pub control : t.procedure ≡ f.procedure
+  pub procedure : (q : Proc) → procedure_at s f.procedure ≡ Some q → IsOf s.program q f t
+
+-- As many activations stand somewhere as there are frames. The youngest has a site or none, as is asked, and each older
+-- one is suspended.
+abbrev pub AreActivations : Setting → (Option ℕ → Type 0) → List Frame → List Todo → Type 0
+AreActivations s P [] [] = ⊤
+AreActivations s P [] (t ∷ ts) = ⊥
+AreActivations s P (f ∷ fs) [] = ⊥
+AreActivations s P (f ∷ fs) (t ∷ ts) = P f.site × IsActivation s f t × AreActivations s IsSome fs ts
+
+-- whether the youngest activation is suspended: not while it runs, but while the state waits for the client
+abbrev pub YoungestSite : Status → Option ℕ → Type 0
+YoungestSite Running site = IsNone site
+YoungestSite (Waiting values) site = IsSome site
+YoungestSite (Ended outcome) site = ⊤
+YoungestSite (Wrong error) site = ⊤
+
+-- ---- values
+
+abbrev pub IsByte : ℕ → Type 0
+IsByte n = n < 256
+
+-- what was written into a cell, and into a room, is bytes
+abbrev pub CellFits : Option ℕ → Type 0
+CellFits cell = IfSome cell IsByte
+
+abbrev pub RoomFits : Room → Type 0
+RoomFits room = All CellFits room.cells
+
+pub record MemoryFits (memory : Memory) : Type 0 where
+  pub globals : RoomFits memory.globals
+  pub rooms : All RoomFits memory.rooms
+
+-- a store without its activations: each register has a value, of its width, and all else is bytes; the frames fit the stack
+pub record StoreFits (s : Setting) (store : Store) : Type 0 where
+  pub registers : AllZip (λ g value. IsWord g.width value) s.program.globals store.registers
+  pub memory : MemoryFits store.memory
+  pub stack : sum_of_sizes s store.frames ≤ s.top - s.base
+  pub input : All IsByte store.input
+  pub taken : All IsByte store.taken
+  pub output : All IsByte store.output
+
+-- the values for the client
+abbrev pub AreYielded : Status → Type 0
+AreYielded (Waiting values) = All (IsWord W64) values
+AreYielded _ = ⊤
+
+-- ---- states
+
+pub record IsSound (s : Setting) (st : State Todo) : Type 0 where
+  pub store : StoreFits s st.store
+  pub activations : AreActivations s (YoungestSite st.store.status) st.store.frames st.controls
+  pub yielded : AreYielded st.store.status
+
+-- A program that is in range, at a valid placement, with a stack whose addresses are words and an input of bytes, has only
+-- such states.
+abbrev pub EveryStateIsSound : Type 0
+EveryStateIsSound = (s : Setting) (input : List ℕ) → IsInRange s.program → IsPlaced s.program s.placement → s.top < 2 ^ 64 →
+    All IsByte input → (m : ℕ) → IsSound s (state_after s input m)
