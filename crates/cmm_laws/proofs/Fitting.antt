@@ -1,23 +1,21 @@
 -- Every state of the C-- machine is sound: the first one is, and each step keeps it.
-use Rattle.std.proofs.Common.{◌≡◌, ℕ, zero, suc, ◌-◌, ◌^◌, ◌<◌, ◌≤◌, Bool, true, false, Option, Some, None, Result, Ok, Err, List, [], ◌∷◌, map, take, drop, All, IsTrue, IfSome, IsSome, IsNone, refl, ap, sym, ◌∙◌, subst, arith, length, replicate}
+use Rattle.std.proofs.Common.{◌≡◌, ℕ, zero, suc, ◌^◌, ◌<◌, Option, Some, None, Ok, Err, List, [], ◌∷◌, map, take, drop, All, IfSome, IsNone, refl, ap, sym, ◌∙◌, subst, arith}
 use Rattle.std.specs.Prelude.{⊤}
 use Rattle.std.specs.List.{AllZip}
 use Rattle.std.proofs.lemmas.Bool.{and_parts}
 use Rattle.std.proofs.lemmas.List.Elements.{All-nil, All-head}
 use Rattle.std.proofs.lemmas.Nat.{pow_pos}
 use Rattle.cmm_words.specs.Widths.{bits, IsWord}
-use Rattle.cmm_program.specs.declared.procedure.Proc.{Proc}
 use Rattle.cmm_program.specs.declared.statement.Statement.{Statement}
 use Rattle.cmm_program.specs.Acts.{Act, Nothing, evaluated}
 use Rattle.cmm_program.specs.Client.{answered}
-use Rattle.cmm_program.specs.Control.{State, arrived, moved, landed, over, answer_done, next_act, ran}
-use Rattle.cmm_program.specs.Errors.{Tried, UncheckedError, and_then}
+use Rattle.cmm_program.specs.Control.{State, arrived, landed, over, answer_done, next_act, ran}
+use Rattle.cmm_program.specs.Errors.{Tried, and_then}
 use Rattle.cmm_program.specs.Exits.{Landing, Instead, land}
 use Rattle.cmm_program.specs.Frames.{procedure_at, place_row}
 use Rattle.cmm_program.specs.InRange.{IsInRange}
-use Rattle.cmm_program.specs.Machine.{first_store, start, step, step_of, steps_of, state_after}
+use Rattle.cmm_program.specs.Machine.{first_store, start, step, steps_of}
 use Rattle.cmm_program.specs.Orders.{Answer, Stay, Wait, Away, Over, perform}
-use Rattle.cmm_program.specs.Placed.{IsPlaced}
 use Rattle.cmm_program.specs.State.{Setting, Frame, Store, Status, Running, Waiting, Ended, Wrong, StackLimit}
 use Rattle.cmm_program.specs.Todo.{Todo, todo_control, todo_act, act_of}
 use Rattle.cmm_program.specs.Writes.{reads_of}
@@ -27,7 +25,7 @@ use Rattle.cmm_laws.proofs.FittingClient.{answered_fits}
 use Rattle.cmm_laws.proofs.FittingKept.{Kept, kept_and_then}
 use Rattle.cmm_laws.proofs.FittingLandings.{Fits, LandingFits, LandingSite, proc_in_range, found_procedure, moved_keeps, weaker_site, refitted, land_fits}
 use Rattle.cmm_laws.proofs.FittingLists.{some_get, zip_zeros}
-use Rattle.cmm_laws.proofs.FittingOrders.{AnswerFits, Running', perform_fits}
+use Rattle.cmm_laws.proofs.FittingOrders.{AnswerFits, perform_fits}
 use Rattle.cmm_laws.proofs.FittingStart.{parts_inside, data_cells}
 use Rattle.cmm_laws.proofs.FittingStores.{PartsInside, Works, reads_fit}
 
@@ -38,9 +36,9 @@ module _ (s : Setting) (range : IsInRange s.program) where
       IsSound s (landed (todo_control s.program) s landing store ts)
   landed_sound landing store ts old fits = by (land s landing store) (land_fits s landing ts store range old fits) where
     by : (o : Option Store) → IfSome o (Fits s IsNone (arrived (todo_control s.program) landing ts)) → IsSound s (elim o [
-           | Some after ↦ record { store = over Running after; controls = arrived (todo_control s.program) landing ts }
-           | None ↦ record { store = over (Ended StackLimit) store; controls = ts }
-         ])
+      | Some after ↦ record { store = over Running after; controls = arrived (todo_control s.program) landing ts }
+      | None ↦ record { store = over (Ended StackLimit) store; controls = ts }
+    ])
     by (Some after) here = record {
       store = refitted s after after.frames after.log Running here.store here.store.stack;
       activations = here.activations;
@@ -73,21 +71,21 @@ module _ (s : Setting) (range : IsInRange s.program) where
     acts : (f : Frame) (fs : List Frame) (n : ℕ) (rest : List Statement) (ts : List Todo) (base : Store) → base.status ≡ Running →
         Fits s (YoungestSite Running) (record { procedure = n; rest = rest } ∷ ts) (record base { frames = f ∷ fs }) →
         Kept (AnswerFits s (record { procedure = n; rest = rest } ∷ ts))
-            (and_then (evaluated (reads_of s (record base { frames = f ∷ fs })) (todo_act s.program record { procedure = n; rest = rest }))
-                (λ order. perform s order (record base { frames = f ∷ fs })))
+        (and_then (evaluated (reads_of s (record base { frames = f ∷ fs })) (todo_act s.program record { procedure = n; rest = rest }))
+        (λ order. perform s order (record base { frames = f ∷ fs })))
     acts f fs n [] ts base running old = tt
     acts f fs n (x ∷ rest) ts base running old =
         let here = old.activations.1 in
         let q = some_get s.program.procs f.procedure here.known in
         let works : Works s q.0 (YoungestSite Running) Running (record { procedure = n; rest = x ∷ rest } ∷ ts) (record base { frames = f ∷ fs }) =
-            record { fits = old.store; activations = old.activations; youngest = q.1; still = running } in
+        record { fits = old.store; activations = old.activations; youngest = q.1; still = running } in
         let reads = reads_fit s q.0 (YoungestSite Running) Running _ (record base { frames = f ∷ fs }) top inside works in
         let statement = All-head (IsStatementOf s.program q.0) x rest (here.procedure q.0 q.1).statements in
         let order = order_fits s.program q.0 (reads_of s (record base { frames = f ∷ fs })) reads x.form (proc_in_range s f.procedure q.0 range q.1).sites (and_parts _ _ statement.0).0 in
         let same = found_procedure s Act n Nothing (λ proc. act_of proc x.form) q.0 (ap (procedure_at s) here.control ∙ q.1) in
         let act = subst (λ a. Kept (OrderFits s.program q.0) (evaluated (reads_of s (record base { frames = f ∷ fs })) a)) (sym same) order in
         kept_and_then (evaluated (reads_of s (record base { frames = f ∷ fs })) (todo_act s.program record { procedure = n; rest = x ∷ rest })) (OrderFits s.program q.0) _ _ act
-            (λ o fits. perform_fits s q.0 (record { procedure = n; rest = x ∷ rest } ∷ ts) o (record base { frames = f ∷ fs }) works fits)
+        (λ o fits. perform_fits s q.0 (record { procedure = n; rest = x ∷ rest } ∷ ts) o (record base { frames = f ∷ fs }) works fits)
 
     orders : (frames : List Frame) (ts : List Todo) (base : Store) → base.status ≡ Running → Fits s (YoungestSite Running) ts (record base { frames = frames }) →
         Kept (AnswerFits s ts) (and_then (evaluated (reads_of s (record base { frames = frames })) (next_act (todo_control s.program) ts)) (λ order. perform s order (record base { frames = frames })))
@@ -99,9 +97,9 @@ module _ (s : Setting) (range : IsInRange s.program) where
     ran_sound : (st : State Todo) → st.store.status ≡ Running → IsSound s st → IsSound s (ran (todo_control s.program) s st)
     ran_sound st running old = by _ (orders st.store.frames st.controls st.store running (record { store = old.store; activations = subst (λ x. AreActivations s (YoungestSite x) st.store.frames st.controls) running old.activations })) where
       by : (answer : Tried Answer) → Kept (AnswerFits s st.controls) answer → IsSound s (elim answer [
-             | Ok a ↦ answer_done (todo_control s.program) s a st.controls
-             | Err error ↦ record st { store = over (Wrong error) st.store }
-           ])
+        | Ok a ↦ answer_done (todo_control s.program) s a st.controls
+        | Err error ↦ record st { store = over (Wrong error) st.store }
+      ])
       by (Ok a) here = answer_sound a st.controls here
       by (Err error) here = record {
         store = refitted s st.store st.store.frames st.store.log (Wrong error) old.store old.store.stack;
@@ -114,11 +112,11 @@ module _ (s : Setting) (range : IsInRange s.program) where
     step_sound : (st : State Todo) → IsSound s st → IsSound s (step s st)
     step_sound st old = by st.store.status refl where
       by : (status : Status) → st.store.status ≡ status → IsSound s (elim status [
-             | Running ↦ ran (todo_control s.program) s st
-             | Waiting values ↦ answer_done (todo_control s.program) s (answered s values st.store) st.controls
-             | Ended outcome ↦ st
-             | Wrong error ↦ st
-           ])
+        | Running ↦ ran (todo_control s.program) s st
+        | Waiting values ↦ answer_done (todo_control s.program) s (answered s values st.store) st.controls
+        | Ended outcome ↦ st
+        | Wrong error ↦ st
+      ])
       by Running is = ran_sound st is old
       by (Waiting values) is =
           let waits = subst (λ x. AreActivations s (YoungestSite x) st.store.frames st.controls) is old.activations in
@@ -135,17 +133,17 @@ module _ (s : Setting) (range : IsInRange s.program) where
   start_sound : (input : List ℕ) → All IsByte input → IsSound s (start s input)
   start_sound input are =
       landed_sound (Instead s.program.main []) (first_store s input) [] (record { store = first; activations = tt })
-          (λ q is. subst (λ n. AllZip IsWord (map (λ v. v.width) (take n q.vars)) []) (sym (range.main_formals q is)) tt)
+      (λ q is. subst (λ n. AllZip IsWord (map (λ v. v.width) (take n q.vars)) []) (sym (range.main_formals q is)) tt)
     where
-    first : StoreFits s (first_store s input)
-    first = record {
-      registers = zip_zeros _ s.program.globals (λ g. pow_pos (bits g.width));
-      memory = record { globals = data_cells s; rooms = All-nil RoomFits };
-      stack = omega arith;
-      input = are;
-      taken = All-nil IsByte;
-      output = All-nil IsByte;
-    }
+      first : StoreFits s (first_store s input)
+      first = record {
+        registers = zip_zeros _ s.program.globals (λ g. pow_pos (bits g.width));
+        memory = record { globals = data_cells s; rooms = All-nil RoomFits };
+        stack = omega arith;
+        input = are;
+        taken = All-nil IsByte;
+        output = All-nil IsByte;
+      }
 
 pub every_state_sound : EveryStateIsSound
 every_state_sound s input range placed top are m =

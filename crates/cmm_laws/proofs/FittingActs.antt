@@ -1,13 +1,12 @@
 -- The order of a statement in range: what it passes and writes fits the widths that go with it.
-use Rattle.std.proofs.Common.{◌≡◌, ℕ, ◌<◌, ◌^◌, ◌==◌, ◌&&◌, Bool, true, false, Option, Some, None, Ok, Err, List, [], ◌∷◌, map, All, IsTrue, IfSome, refl, ap, sym, subst, arith, slice_get, length, lit<}
+use Rattle.std.proofs.Common.{◌≡◌, ℕ, ◌<◌, ◌^◌, ◌==◌, ◌&&◌, Bool, false, Option, Some, None, List, [], ◌∷◌, map, All, IsTrue, IfSome, refl, ap, sym, subst, slice_get, length, lit<}
 use Rattle.std.specs.Prelude.{⊤}
 use Rattle.std.specs.List.{AllZip}
 use Rattle.std.proofs.lemmas.Bool.{and_parts, eqb-true, false≢true}
 use Rattle.std.proofs.lemmas.List.Elements.{All-nil, All-cons, All-map, All-weaker}
-use Rattle.std.proofs.lemmas.Option.{slice_get_within, none-some}
+use Rattle.std.proofs.lemmas.Option.{slice_get_within}
 use Rattle.cmm_words.specs.declared.width.Width.{Width}
 use Rattle.cmm_words.specs.declared.width.Width.TheVariants.{W64}
-use Rattle.cmm_words.specs.declared.operators.Op2.{Op2}
 use Rattle.cmm_words.specs.Widths.{bits, IsWord}
 use Rattle.cmm_words.specs.Words.{value2}
 use Rattle.cmm_words.proofs.WidthLemmas.{word_64}
@@ -23,15 +22,14 @@ use Rattle.cmm_program.specs.declared.procedure.Target.{Target}
 use Rattle.cmm_program.specs.declared.program.Program.{Program}
 use Rattle.cmm_program.specs.Acts as act
 use Rattle.cmm_program.specs.Acts.{Place, Held, Memory, Aim, Passed, Word, Write, Order, GoOn, WriteAll, GoBy, Put, Get, Enter, Suspend, Replace, Leave, CutTo, target_width, word_passed, words_of, values_of, places_of, writes, checked_order, evaluated}
-use Rattle.cmm_program.specs.Errors.{Tried}
 use Rattle.cmm_program.specs.InRange.{is_form, is_site, is_lvalue, lvalue_width, are_assigned, are_passed, at_site, is_checked_site}
 use Rattle.cmm_program.specs.Placed.{every}
 use Rattle.cmm_program.specs.Todo.{aim_of, passed, act_of, site_results, if_way, switch_way}
-use Rattle.cmm_program.specs.Typing.{is_target, is_typed, has_width, same_width}
+use Rattle.cmm_program.specs.Typing.{is_target, is_typed, same_width}
 use Rattle.cmm_program.specs.Values.{Reads, Value, value_of, width_of, test_of}
 use Rattle.cmm_program.specs.Bodies.{branches}
-use Rattle.cmm_laws.proofs.FittingExpressions.{ReadsFit, width_gives, typed_gives, same_word}
-use Rattle.cmm_laws.proofs.FittingKept.{Kept, kept_and_then, kept_any, kept_all, kept_zip, kept_weaker, some_kept}
+use Rattle.cmm_laws.proofs.FittingExpressions.{ReadsFit, width_gives, typed_gives}
+use Rattle.cmm_laws.proofs.FittingKept.{Kept, kept_and_then, kept_any, kept_all, kept_zip, kept_weaker}
 use Rattle.cmm_laws.proofs.FittingLists.{every_get, every_all}
 
 -- ---- what fits
@@ -87,14 +85,14 @@ module _ (p : Program) (q : Proc) (r : Reads) (reads : ReadsFit p q r) where
   words_fit : (es : List Expression) → IsTrue (are_passed p q es) → Kept (All WordFits) (words_of r (map passed es))
   words_fit es is =
       kept_all WordFits (word_passed r) (map passed es) (All-map (λ (x : Passed). Kept WordFits (word_passed r x)) passed es
-          (All-weaker (λ (e : Expression). IsTrue (is_typed p q e)) (λ (e : Expression). Kept WordFits (word_passed r (passed e))) (λ e h. kept_and_then (value_of e r) (IsWord (width_of e)) _ _ (typed_gives p q r reads e h) (λ v fits. fits)) es
-              (every_all (is_typed p q) es (and_parts _ _ is).1)))
+      (All-weaker (λ (e : Expression). IsTrue (is_typed p q e)) (λ (e : Expression). Kept WordFits (word_passed r (passed e))) (λ e h. kept_and_then (value_of e r) (IsWord (width_of e)) _ _ (typed_gives p q r reads e h) (λ v fits. fits)) es
+      (every_all (is_typed p q) es (and_parts _ _ is).1)))
 
   yielded_fit : (es : List Expression) → IsTrue (are_passed p q es) → Kept (All (IsWord W64)) (values_of r (map value_of es))
   yielded_fit es is =
       kept_all (IsWord W64) (λ (v : Value). v r) (map value_of es) (All-map (λ (v : Value). Kept (IsWord W64) (v r)) value_of es
-          (All-weaker (λ (e : Expression). IsTrue (is_typed p q e)) (λ (e : Expression). Kept (IsWord W64) (value_of e r)) (λ e h. kept_weaker (value_of e r) (IsWord (width_of e)) (IsWord W64) (word_64 (width_of e)) (typed_gives p q r reads e h)) es
-              (every_all (is_typed p q) es (and_parts _ _ is).1)))
+      (All-weaker (λ (e : Expression). IsTrue (is_typed p q e)) (λ (e : Expression). Kept (IsWord W64) (value_of e r)) (λ e h. kept_weaker (value_of e r) (IsWord (width_of e)) (IsWord W64) (word_64 (width_of e)) (typed_gives p q r reads e h)) es
+      (every_all (is_typed p q) es (and_parts _ _ is).1)))
 
   -- a place that takes each value of a width
   abbrev Takes : Lvalue → Place → Type 0
@@ -129,7 +127,7 @@ module _ (p : Program) (q : Proc) (r : Reads) (reads : ReadsFit p q r) where
       let zips = assigned_zips ls es is in
       kept_and_then (places_of r (map aim_of ls)) (AllZip Takes ls) _ _ (kept_zip Takes (λ (aim : Aim). aim r) ls (map aim_of ls) zips.0) (λ ps places.
       kept_and_then (values_of r (map value_of es)) (AllZip (λ l v. IsWord (lvalue_width p q l) v) ls) _ _
-          (kept_zip (λ l v. IsWord (lvalue_width p q l) v) (λ (v : Value). v r) ls (map value_of es) zips.1) (λ vs values. writes_fit ls ps vs places values))
+      (kept_zip (λ l v. IsWord (lvalue_width p q l) v) (λ (v : Value). v r) ls (map value_of es) zips.1) (λ vs values. writes_fit ls ps vs places values))
 
   -- ---- checked operators
 
@@ -149,10 +147,10 @@ module _ (p : Program) (q : Proc) (r : Reads) (reads : ReadsFit p q r) where
       let found = site_from p q n (is_checked_site p q width) here in
       let targets = results_fit p q n found.0 sites found.1 in
       subst (λ ts. All (WriteFits p q) (writes (map Held ts) (v ∷ []))) (sym (results_at found.0 found.1))
-          (first_result width v fits (found.0).results targets (and_parts _ _ found.2).1)
+      (first_result width v fits (found.0).results targets (and_parts _ _ found.2).1)
     where
-    results_at : (site : Site) → slice_get q.sites n ≡ Some site → site_results q n ≡ site.results
-    results_at site is = ap (λ (o : Option Site). elim o [ Some x ↦ x.results | None ↦ [] ]) is
+      results_at : (site : Site) → slice_get q.sites n ≡ Some site → site_results q n ≡ site.results
+      results_at site is = ap (λ (o : Option Site). elim o [ Some x ↦ x.results | None ↦ [] ]) is
 
   -- ---- every statement
 
@@ -165,7 +163,7 @@ module _ (p : Program) (q : Proc) (r : Reads) (reads : ReadsFit p q r) where
   order_fits (Call site callee actuals) sites is =
       let h = and_parts _ _ is in
       kept_any (value_of callee r) _ _ (λ to. kept_and_then (words_of r (map passed actuals)) (All WordFits) _ _ (words_fit actuals h.1)
-          (λ ws fits. (site_within p q site _ (and_parts _ _ h.0).0, fits)))
+      (λ ws fits. (site_within p q site _ (and_parts _ _ h.0).0, fits)))
   order_fits (Yield site values) sites is =
       let h = and_parts _ _ is in
       kept_and_then (values_of r (map value_of values)) (All (IsWord W64)) _ _ (yielded_fit values h.1) (λ vs fits. (site_within p q site _ h.0, fits))

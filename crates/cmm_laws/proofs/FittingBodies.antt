@@ -1,19 +1,18 @@
 -- What an activation has still to do are statements of its procedure: what a block has, what follows a mark, and what is
 -- left after a statement.
-use Rattle.std.proofs.Common.{◌≡◌, ℕ, zero, suc, Bool, true, false, Option, Some, None, List, [], ◌∷◌, ◌++◌, All, IsTrue, IfSome, refl, ap, subst, slice_get}
+use Rattle.std.proofs.Common.{◌≡◌, ℕ, zero, suc, Bool, true, false, Option, Some, None, List, [], ◌∷◌, All, IsTrue, IfSome, refl, ap, subst, slice_get}
 use mathlib.Core.Former.{Count}
-use Rattle.std.specs.Prelude.{⊤}
 use Rattle.std.proofs.lemmas.Bool.{and_parts}
 use Rattle.std.proofs.lemmas.List.Elements.{All-nil, All-cons, All-append}
 use Rattle.cmm_program.specs.declared.statement.Form.{Form, Row_of-Arm, end_of-Arm, more_of-Arm}
-use Rattle.cmm_program.specs.declared.statement.Form.TheVariants.{Empty, If', Switch', Span', Span, Assign, Call, Yield, Checked, PutByte, GetByte, Jump, Return, Label, Goto, Continuation, Cut}
+use Rattle.cmm_program.specs.declared.statement.Form.TheVariants.{If', Switch', Span', Span, Goto}
 use Rattle.cmm_program.specs.declared.statement.Statement.{Statement}
 use Rattle.cmm_program.specs.declared.statement.Arm.{items-the_row-Statement, items_hidden-the_row-Statement-0}
 use Rattle.cmm_program.specs.declared.statement.Arm.{Arm', Row_of-Statement, end_of-Statement, more_of-Statement}
 use Rattle.cmm_program.specs.declared.procedure.Proc.{Proc}
 use Rattle.cmm_program.specs.declared.program.Program.{Program}
 use Rattle.cmm_program.specs.Bodies.{Mark, AtLabel, Branch, statements, branches, branch_body, first_of_two, outward, is_mark, after_inside, after_in, after_in_arms, follow}
-use Rattle.cmm_program.specs.InRange.{is_body_in, is_block, are_bodies, is_statement}
+use Rattle.cmm_program.specs.InRange.{is_body_in, is_block, are_bodies}
 use Rattle.cmm_program.specs.Todo.{rest_after}
 use Rattle.cmm_laws.specs.Fitting.{IsStatementOf}
 use Rattle.cmm_laws.proofs.FittingLists.{all_get}
@@ -76,8 +75,8 @@ module _ (p : Program) (q : Proc) where
         let h = and_parts _ _ is in
         let behind = statements_of rest h.1 in
         either_kept (is_mark m form) (statements rest) _ (IsStatementOf p q) behind
-            (first_kept (outward (after_inside m form) (statements rest)) (after_in m rest) (All (IsStatementOf p q))
-                (outward_kept (after_inside m form) (statements rest) (IsStatementOf p q) (inside_of m form (and_parts _ _ h.0).1) behind) (after_of m rest h.1))
+        (first_kept (outward (after_inside m form) (statements rest)) (after_in m rest) (All (IsStatementOf p q))
+        (outward_kept (after_inside m form) (statements rest) (IsStatementOf p q) (inside_of m form (and_parts _ _ h.0).1) behind) (after_of m rest h.1))
 
     arms_of : {n : _} (m : Mark) (row : Row_of-Arm n) → IsTrue (are_bodies p q row) → IfSome (after_in_arms m row) (All (IsStatementOf p q))
     arms_of m end_of-Arm is = tt

@@ -1,5 +1,5 @@
 -- The client's answer to a yield leads to a sound state: each of its commands leaves a sound store or resumes at an exit.
-use Rattle.std.proofs.Common.{◌≡◌, ℕ, zero, suc, ◌+◌, ◌-◌, ◌^◌, ◌<◌, ◌≤◌, Bool, true, false, not, Option, Some, None, Result, Ok, Err, List, [], ◌∷◌, ◌++◌, map, drop, All, IsTrue, IfSome, IsSome, refl, ap, sym, ◌∙◌, subst, arith, slice_get, slice_set, length}
+use Rattle.std.proofs.Common.{◌≡◌, ℕ, zero, suc, ◌+◌, ◌-◌, ◌^◌, ◌≤◌, Bool, true, false, not, Option, Some, None, Ok, Err, List, [], ◌∷◌, ◌++◌, drop, IsTrue, IsSome, refl, ap, sym, ◌∙◌, subst, arith, slice_get, length}
 use Rattle.std.specs.Prelude.{⊤, ◌==◌}
 use Rattle.std.specs.List.{AllZip}
 use Rattle.std.proofs.lemmas.Bool.{and_parts, ltb-true, eqb-true, eq-eqb}
@@ -9,25 +9,23 @@ use Rattle.cmm_words.specs.declared.width.Width.{Width}
 use Rattle.cmm_words.specs.Widths.{bits, IsWord}
 use Rattle.cmm_script.specs.declared.script.Command.{Command}
 use Rattle.cmm_script.specs.declared.script.Command.TheVariants.{List as ListAll, Youngest, Next, Desc, Seek, Var, Set, Poke, Return, Unwind, Cut, Stop}
-use Rattle.cmm_script.specs.Refusals.{Refusal, NoActivation, NoVariable, DeadVariable, DoesNotFit, NoExit, OtherCount, InvariantVariable, NoCut, NoPlace, NoYieldedValue}
-use Rattle.cmm_script.specs.Lines.{descriptor_line, ok_line, resume_line, refused_line, var_line}
-use Rattle.cmm_script.specs.Walk.{walk_text}
+use Rattle.cmm_script.specs.Refusals.{NoActivation, NoVariable, DeadVariable, DoesNotFit, NoExit, OtherCount, InvariantVariable, NoCut, NoPlace}
+use Rattle.cmm_script.specs.Lines.{ok_line, resume_line, refused_line}
 use Rattle.cmm_program.specs.declared.procedure.Proc.{Proc}
 use Rattle.cmm_program.specs.declared.procedure.Site.{Site}
 use Rattle.cmm_program.specs.declared.procedure.VarInfo.{VarInfo}
 use Rattle.cmm_program.specs.Client.{Reply, Then, Resumes, Asked, logged, Suspended, suspended_at, at_cursor, stands, descriptor, sought, number_given, numbers_given, fits, all_fit, resumed, with_value, set_done, linked_label, may_poke, poked, variable_info, asked, reply, commands_run, commands_for, answered}
 use Rattle.cmm_program.specs.Errors.{with_some}
 use Rattle.cmm_program.specs.Exits.{Exit, return_exit, unwind_exit}
-use Rattle.cmm_program.specs.Frames.{procedure_at, frame_size, sum_of_sizes, site_at, site_cuts, without}
+use Rattle.cmm_program.specs.Frames.{procedure_at, frame_size, sum_of_sizes, site_at, site_cuts}
 use Rattle.cmm_program.specs.Layout.{label_of, bytes_of}
 use Rattle.cmm_program.specs.Liveness.{is_live_at}
 use Rattle.cmm_program.specs.Memory.{with_bytes}
-use Rattle.cmm_program.specs.Orders.{Answer, Away, Over, cut_among, found_exit}
+use Rattle.cmm_program.specs.Orders.{Over, cut_among, found_exit}
 use Rattle.cmm_program.specs.State.{Setting, Frame, Store, Ended, Stopped}
 use Rattle.cmm_program.specs.Todo.{Todo}
 use Rattle.cmm_program.specs.Typing.{has_variable, same_width}
-use Rattle.cmm_program.specs.Walks.{walk_of, live_value}
-use Rattle.cmm_laws.specs.Fitting.{AreActivations, StoreFits, IsSound}
+use Rattle.cmm_laws.specs.Fitting.{AreActivations}
 use Rattle.cmm_laws.proofs.FittingExits.{ExitFits, return_fits, unwind_fits}
 use Rattle.cmm_laws.proofs.FittingKept.{Kept, kept_any, kept_given, kept_provided, with_some_from}
 use Rattle.cmm_laws.proofs.FittingLandings.{Fits, weaker_site, refitted}
@@ -55,8 +53,8 @@ suspended_is s f fs a at =
     let site = with_some_from (slice_get (p.0).sites n.0) _ a p.2 in
     let is = same_Some _ a site.2 in
     let found : site_at s f ≡ Some site.0 =
-        ap (λ (o : Option ℕ). with_some o (λ k. with_some (procedure_at s f.procedure) (λ (x : Proc). slice_get x.sites k))) n.1
-        ∙ ap (λ (o : Option Proc). with_some o (λ (x : Proc). slice_get x.sites n.0)) p.1 ∙ site.1
+    ap (λ (o : Option ℕ). with_some o (λ k. with_some (procedure_at s f.procedure) (λ (x : Proc). slice_get x.sites k))) n.1
+    ∙ ap (λ (o : Option Proc). with_some o (λ (x : Proc). slice_get x.sites n.0)) p.1 ∙ site.1
     in
     (p.1 ∙ ap (λ (x : Suspended). Some x.procedure) is, found ∙ ap (λ (x : Suspended). Some x.site) is)
 
@@ -75,7 +73,7 @@ set_keeps s P zero n value a info [] ts are at is word = (are, refl)
 set_keeps s P (suc cursor) n value a info [] ts are at is word = (are, refl)
 set_keeps s P zero n value a info (f ∷ fs) ts are at is word =
     let has : IsTrue (has_variable a.procedure n info.width) =
-        subst (λ o. IsTrue (elim o [ Some v ↦ same_width v.width info.width | None ↦ false ])) (sym is) (eq-eqb (bits info.width) (bits info.width) refl)
+    subst (λ o. IsTrue (elim o [ Some v ↦ same_width v.width info.width | None ↦ false ])) (sym is) (eq-eqb (bits info.width) (bits info.width) refl)
     in
     let new = with_variable_keeps s a.procedure P (f ∷ fs) ts n info.width value are (suspended_is s f fs a at).0 has word in
     (new.0, new.2)
@@ -100,17 +98,17 @@ module _ (s : Setting) (ts : List Todo) where
       kept_provided (length e.widths == length values) OtherCount _ _ (λ count.
       kept_provided (all_fit e.widths values) DoesNotFit _ _ (λ fit.
       away_fits s IsSome ts (logged resume_line store) gone e values (logged_fits s IsSome ts resume_line store old) (leads e is)
-          (fitting_zip e.widths values (eqb-true _ _ count) fit))))
+      (fitting_zip e.widths values (eqb-true _ _ count) fit))))
 
   sought_fits : (token value cursor : ℕ) (frames : List Frame) (store : Store) → Fits s IsSome ts store → Kept (ReplyFits s ts) (sought s token value cursor frames store)
   sought_fits token value cursor [] store old = tt
   sought_fits token value cursor (f ∷ fs) store old =
       kept_given (suspended_at s (f ∷ fs)) NoActivation _ _ (λ a is. by a (descriptor s token a == value) (sought_fits token value (suc cursor) fs store old))
     where
-    by : (a : Suspended) (test : Bool) → Kept (ReplyFits s ts) (sought s token value (suc cursor) fs store) →
-        Kept (ReplyFits s ts) (elim test [ true ↦ Ok (stands cursor a store) | false ↦ sought s token value (suc cursor) fs store ])
-    by a true older = logged_fits s IsSome ts _ store old
-    by a false older = older
+      by : (a : Suspended) (test : Bool) → Kept (ReplyFits s ts) (sought s token value (suc cursor) fs store) →
+          Kept (ReplyFits s ts) (elim test [ true ↦ Ok (stands cursor a store) | false ↦ sought s token value (suc cursor) fs store ])
+      by a true older = logged_fits s IsSome ts _ store old
+      by a false older = older
 
   set_fits : (cursor n value : ℕ) (a : Suspended) (info : VarInfo) (store : Store) → Fits s IsSome ts store → at_cursor s cursor store ≡ Some a →
       variable_info a n ≡ Some info → IsWord info.width value → ReplyFits s ts (set_done cursor n value store)
@@ -192,10 +190,10 @@ module _ (s : Setting) (ts : List Todo) where
   commands_fit yielded cursor (c ∷ cs) store old =
       by (reply s yielded cursor c store) (reply_fits yielded cursor c store old) (λ at after h. commands_fit yielded at cs after h)
     where
-    by : (r : Reply) → ReplyFits s ts r → ((at : ℕ) (after : Store) → Fits s IsSome ts after → AnswerFits s ts (commands_run s yielded at cs after)) →
-        AnswerFits s ts (elim r [ Then cursor' store' ↦ commands_run s yielded cursor' cs store' | Resumes answer ↦ answer ])
-    by (Then at after) here rest = rest at after here
-    by (Resumes answer) here rest = here
+      by : (r : Reply) → ReplyFits s ts r → ((at : ℕ) (after : Store) → Fits s IsSome ts after → AnswerFits s ts (commands_run s yielded at cs after)) →
+          AnswerFits s ts (elim r [ Then cursor' store' ↦ commands_run s yielded cursor' cs store' | Resumes answer ↦ answer ])
+      by (Then at after) here rest = rest at after here
+      by (Resumes answer) here rest = here
 
   pub answered_fits : (yielded : List ℕ) (store : Store) → Fits s IsSome ts store → AnswerFits s ts (answered s yielded store)
   answered_fits yielded store old = commands_fit yielded 0 (commands_for yielded s.script) store old

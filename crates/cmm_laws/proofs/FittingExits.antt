@@ -1,18 +1,18 @@
 -- Exits: the widths that an exit of a site asks for are those of what takes the values where it leads.
-use Rattle.std.proofs.Common.{◌≡◌, ℕ, Bool, true, false, Option, Some, None, List, [], ◌∷◌, map, All, IsTrue, refl, ap, sym, ◌∙◌, subst, slice_get, slice_index_or, length, not}
-use Rattle.std.specs.Prelude.{⊤, ◌==◌, ◌&&◌, nat_lt}
+use Rattle.std.proofs.Common.{◌≡◌, ℕ, Bool, true, false, Option, Some, None, List, [], ◌∷◌, map, All, IsTrue, refl, ap, sym, ◌∙◌, subst, slice_get, length, not}
+use Rattle.std.specs.Prelude.{◌==◌, ◌&&◌, nat_lt}
 use Rattle.std.specs.List.{AllZip}
-use Rattle.std.proofs.lemmas.Bool.{and_parts, eqb-true, false≢true}
+use Rattle.std.proofs.lemmas.Bool.{and_parts, false≢true}
 use Rattle.std.proofs.lemmas.List.Elements.{All-head, All-tail}
 use Rattle.std.proofs.lemmas.Option.{none-some, same_Some}
 use Rattle.cmm_words.specs.declared.width.Width.{Width}
-use Rattle.cmm_words.specs.Widths.{bits, IsWord}
+use Rattle.cmm_words.specs.Widths.{IsWord}
 use Rattle.cmm_program.specs.declared.procedure.Cont.{Cont}
 use Rattle.cmm_program.specs.declared.procedure.Proc.{Proc}
 use Rattle.cmm_program.specs.declared.procedure.Site.{Site}
 use Rattle.cmm_program.specs.Acts.{Word, target_width}
 use Rattle.cmm_program.specs.Errors.{with_some}
-use Rattle.cmm_program.specs.Exits.{Exit, Back, Resumed, normal_exit, continuation_exit, return_exit, unwind_exit, variable_width, have_widths, numbers, results_of, parameters_of}
+use Rattle.cmm_program.specs.Exits.{Exit, normal_exit, continuation_exit, return_exit, unwind_exit, variable_width, have_widths, numbers, results_of, parameters_of}
 use Rattle.cmm_program.specs.Frames.{procedure_at, site_at, parameters}
 use Rattle.cmm_program.specs.State.{Setting, Frame}
 use Rattle.cmm_laws.proofs.FittingActs.{WordFits, back_word}
@@ -47,10 +47,10 @@ module _ (s : Setting) (f : Frame) (fs : List Frame) (q : Proc) (is : procedure_
       let c = with_some_from (slice_get q.conts k) _ e at in
       subst (ExitFits s (f ∷ fs)) (same_Some _ e c.2) (λ values fit. (subst (λ ws. AllZip IsWord ws values) (sym (taken c.0 c.1)) fit, λ x. tt))
     where
-    taken : (c : Cont) → slice_get q.conts k ≡ Some c → map target_width (parameters_of s k (f ∷ fs)) ≡ map (variable_width q) c.params
-    taken c there =
-        let params : parameters q k ≡ c.params = ap (λ (o : Option Cont). elim o [ Some x ↦ x.params | None ↦ [] ]) there in
-        ap (map target_width) (parameters_at s k f fs q is) ∙ ap (λ ns. map target_width (map (target_of q) ns)) params ∙ target_widths c.params
+      taken : (c : Cont) → slice_get q.conts k ≡ Some c → map target_width (parameters_of s k (f ∷ fs)) ≡ map (variable_width q) c.params
+      taken c there =
+          let params : parameters q k ≡ c.params = ap (λ (o : Option Cont). elim o [ Some x ↦ x.params | None ↦ [] ]) there in
+          ap (map target_width) (parameters_at s k f fs q is) ∙ ap (λ ns. map target_width (map (target_of q) ns)) params ∙ target_widths c.params
 
   listed_fits : (ks : List ℕ) (n : ℕ) (e : Exit) → with_some (slice_get ks n) (continuation_exit q) ≡ Some e → ExitFits s (f ∷ fs) e
   listed_fits ks n e at = let k = with_some_from (slice_get ks n) (continuation_exit q) e at in continuation_fits k.0 e k.2

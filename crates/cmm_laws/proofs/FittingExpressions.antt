@@ -1,6 +1,6 @@
 -- The value of an expression that keeps the rules on widths fits its width, where what it reads does.
 use mathlib.Core.Former.{one_more}
-use Rattle.std.proofs.Common.{◌≡◌, ℕ, zero, suc, ◌+◌, ◌-◌, ◌*◌, ◌%◌, ◌^◌, ◌<◌, ◌≤◌, Bool, true, false, Option, Some, None, Ok, Err, List, [], ◌∷◌, map, IsTrue, IfSome, refl, ap, sym, ◌∙◌, subst, arith, lt_of_lt_of_le, pow_mono, pow-suc}
+use Rattle.std.proofs.Common.{◌≡◌, ℕ, zero, suc, ◌+◌, ◌*◌, ◌^◌, ◌<◌, Bool, true, false, Option, Some, None, Ok, Err, map, IsTrue, refl, sym, ◌∙◌, subst, arith, lt_of_lt_of_le, pow_mono, pow-suc}
 use Rattle.std.specs.Prelude.{⊤, nat_le}
 use Rattle.std.proofs.lemmas.Bool.{eqb-true, leb-true, false≢true}
 use Rattle.std.proofs.lemmas.Nat.{mod_below, pow_pos}
@@ -12,14 +12,14 @@ use Rattle.cmm_words.specs.declared.constant.Constant.TheVariants as constant
 use Rattle.cmm_words.specs.declared.operators.Op1.TheVariants.{Com, Neg}
 use Rattle.cmm_words.specs.Laws.{GivesWord1, LowIsWord, ExtendedIsWord}
 use Rattle.cmm_words.specs.Widths.{bits, bytes, IsWord}
-use Rattle.cmm_words.specs.Words.{value1, value2, sign_extended, low_bits}
+use Rattle.cmm_words.specs.Words.{value2}
 use Rattle.cmm_words.proofs.WordLaws.{value2-word}
 use Rattle.cmm_words.proofs.Wrapping.{wrapped-below}
 use Rattle.cmm_program.specs.declared.expression.Expression.{Expression, Row_of-Expression, more_of-Expression}
 use Rattle.cmm_program.specs.declared.expression.Expression.TheVariants.{Known, Variable, Register, Stackdata, Continuation, Load', Unary', Binary', SignExtend', ZeroExtend', LowBits'}
 use Rattle.cmm_program.specs.declared.procedure.Proc.{Proc}
 use Rattle.cmm_program.specs.declared.program.Program.{Program}
-use Rattle.cmm_program.specs.Errors.{Tried, ZeroDivisor, BadAccess, and_then, with_some, given, all_of}
+use Rattle.cmm_program.specs.Errors.{Tried, ZeroDivisor, BadAccess, with_some, all_of}
 use Rattle.cmm_program.specs.Folds.{fold_operand}
 use Rattle.cmm_program.specs.Memory.{Cell, Outside, Unwritten, Byte, number_of, addresses}
 use Rattle.cmm_program.specs.Typing as typing
@@ -72,15 +72,15 @@ number_fits cell are zero address = omega arith
 number_fits cell are (suc n) address =
     kept_and_then (byte_of (cell address)) IsByte _ _ (here (cell address) (are address)) (λ byte is.
     kept_and_then (all_of (map (λ a. byte_of (cell a)) (addresses (suc address) n))) (λ found. number_of found < 256 ^ n) _ _
-        (number_fits cell are n (suc address)) (λ rest less. joined byte (number_of rest) is less))
+    (number_fits cell are n (suc address)) (λ rest less. joined byte (number_of rest) is less))
   where
-  here : (c : Cell) → IsByteCell c → Kept IsByte (byte_of c)
-  here Outside is = tt
-  here Unwritten is = tt
-  here (Byte byte) is = is
+    here : (c : Cell) → IsByteCell c → Kept IsByte (byte_of c)
+    here Outside is = tt
+    here Unwritten is = tt
+    here (Byte byte) is = is
 
-  joined : (byte rest : ℕ) → byte < 256 → rest < 256 ^ n → byte + 256 * rest < 256 ^ suc n
-  joined byte rest is less = rw (pow-suc 256 n) (omega arith)
+    joined : (byte rest : ℕ) → byte < 256 → rest < 256 ^ n → byte + 256 * rest < 256 ^ suc n
+    joined byte rest is less = rw (pow-suc 256 n) (omega arith)
 
 byte_words : (w : Width) → 256 ^ bytes w ≡ 2 ^ bits w
 byte_words W8 = refl
@@ -92,7 +92,7 @@ loaded_fits : (r : Reads) (width : Width) (aligned address : ℕ) → ((a : ℕ)
 loaded_fits r width aligned address are =
     kept_provided (may_access r.byte (bytes width) aligned address) BadAccess _ _ (λ _.
     kept_and_then _ (λ found. number_of found < 256 ^ bytes width) _ _ (number_fits r.byte are (bytes width) address)
-        (λ found less. subst (λ k. number_of found < k) (byte_words width) less))
+    (λ found less. subst (λ k. number_of found < k) (byte_words width) less))
 
 -- ---- what the tests on widths say
 
@@ -151,12 +151,13 @@ module _ (p : Program) (q : Proc) (r : Reads) (reads : ReadsFit p q r) where
     expression_gives (Binary' op width _ a _ b) w is =
         let m = with_some_from (if_width (fold_operand (typing.width_step p q) a) width width) _ w is in
         let x = gives_operand _ _ width width m.0 _ (operand_gives a) m.1 in
-        let y = gives_operand _ _ m.0 m.0 w _ (operand_gives b) m.2 in
-        (x.0 ∙ y.0,
-         kept_and_then (fold_operand value_step a r) (IsWord width) _ _ x.1 (λ u hu.
-         kept_and_then (fold_operand value_step b r) (IsWord m.0) _ _ y.1 (λ v hv.
-         let fits = subst (λ k. IsWord k v) (sym x.0) hv in
-         kept_given (value2 op width u v) ZeroDivisor _ _ (λ n here. some_kept (value2 op width u v) (IsWord width) n here (value2-word op width u v hu fits)))))
+        let y = gives_operand _ _ m.0 m.0 w _ (operand_gives b) m.2 in (
+          x.0 ∙ y.0,
+          kept_and_then (fold_operand value_step a r) (IsWord width) _ _ x.1 (λ u hu.
+              kept_and_then (fold_operand value_step b r) (IsWord m.0) _ _ y.1 (λ v hv.
+              let fits = subst (λ k. IsWord k v) (sym x.0) hv in
+              kept_given (value2 op width u v) ZeroDivisor _ _ (λ n here. some_kept (value2 op width u v) (IsWord width) n here (value2-word op width u v hu fits)))),
+        )
     expression_gives (SignExtend' from to _ a) w is =
         let x = gives_converted _ _ from to w _ _ (operand_gives a) is in
         (x.0, kept_and_then (fold_operand value_step a r) (IsWord from) _ _ x.2 (λ v h. extended-word from to v))

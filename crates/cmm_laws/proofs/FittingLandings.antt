@@ -1,12 +1,11 @@
 -- Landings: a new activation, and one that goes on behind its site or at a continuation. What they leave is sound.
-use Rattle.std.proofs.Common.{◌≡◌, ℕ, zero, suc, ◌+◌, ◌-◌, ◌^◌, ◌<◌, ◌≤◌, Bool, true, false, Option, Some, None, Ok, Err, List, [], ◌∷◌, ◌++◌, map, take, drop, All, IsTrue, IfSome, IsSome, IsNone, refl, ap, sym, ◌∙◌, subst, arith, slice_get, slice_index_or, length, replicate}
-use Rattle.std.specs.Prelude.{⊤, nat_lt}
+use Rattle.std.proofs.Common.{◌≡◌, ℕ, zero, suc, ◌+◌, ◌-◌, ◌<◌, ◌≤◌, Bool, true, false, Option, Some, None, List, [], ◌∷◌, map, take, All, IsTrue, IfSome, IsSome, IsNone, refl, ap, sym, ◌∙◌, subst, slice_get, slice_index_or, length, replicate}
+use Rattle.std.specs.Prelude.{⊤}
 use Rattle.std.specs.List.{AllZip}
-use Rattle.std.proofs.lemmas.Bool.{and_parts, leb-true, ltb-true, eq-eqb, and_from, false≢true}
-use Rattle.std.proofs.lemmas.List.Elements.{All-nil, All-cons, All-head, All-tail, All-replicate, All-drop}
+use Rattle.std.proofs.lemmas.Bool.{and_parts, leb-true, ltb-true, eq-eqb, and_from}
+use Rattle.std.proofs.lemmas.List.Elements.{All-nil, All-cons, All-head, All-tail, All-replicate}
 use Rattle.std.proofs.lemmas.Nat.{pow_pos}
 use Rattle.std.proofs.lemmas.Option.{none-some, same_Some, slice_get_within}
-use Rattle.cmm_words.specs.declared.width.Width.{Width}
 use Rattle.cmm_words.specs.declared.width.Width.TheVariants.{W64}
 use Rattle.cmm_words.specs.Widths.{bits, IsWord}
 use Rattle.cmm_program.specs.declared.procedure.Cont.{Cont}
@@ -19,22 +18,20 @@ use Rattle.cmm_program.specs.declared.program.Program.{Program}
 use Rattle.cmm_program.specs.declared.placement.PlaceRow.{PlaceRow}
 use Rattle.cmm_program.specs.declared.statement.Statement.{Statement}
 use Rattle.cmm_program.specs.declared.statement.Form.TheVariants.{Span}
-use Rattle.cmm_program.specs.Acts.{Word, target_width}
+use Rattle.cmm_program.specs.Acts.{target_width}
 use Rattle.cmm_program.specs.Bodies.{AtContinuation, follow}
-use Rattle.cmm_program.specs.Control.{Control, arrived, moved, landed}
-use Rattle.cmm_program.specs.Errors.{with_some}
-use Rattle.cmm_program.specs.Exits.{Landing, Called, Instead, Back, Resumed, Exit, normal_exit, continuation_exit, return_exit, unwind_exit, variable_width, have_widths, numbers, entered, results_of, parameters_of, gone_on, land}
+use Rattle.cmm_program.specs.Control.{arrived, moved}
+use Rattle.cmm_program.specs.Exits.{Landing, Called, Instead, Back, Resumed, variable_width, entered, results_of, parameters_of, gone_on, land}
 use Rattle.cmm_program.specs.Layout.{stack_size}
-use Rattle.cmm_program.specs.Memory.{Room}
 use Rattle.cmm_program.specs.Frames.{procedure_at, place_row, sum_of_sizes, fits_stack, frame_address, stackdata_offset, room_of, new_frame, with_site, site_at, parameters}
-use Rattle.cmm_program.specs.InRange.{IsInRange, IsProcInRange, is_site, is_continuation, below, is_statement, is_body_in}
+use Rattle.cmm_program.specs.InRange.{IsInRange, IsProcInRange, is_continuation, below, is_body_in}
 use Rattle.cmm_program.specs.Placed.{every}
 use Rattle.cmm_program.specs.State.{Setting, Frame, Store, Status}
 use Rattle.cmm_program.specs.Todo.{Todo, todo_control, todo_on, in_procedure, rest_after}
 use Rattle.cmm_program.specs.Typing.{is_target, has_variable, same_width}
 use Rattle.cmm_program.specs.Writes.{all_assigned}
-use Rattle.cmm_laws.specs.Fitting.{IsStatementOf, IsOf, IsActivation, AreActivations, CellFits, RoomFits, StoreFits}
-use Rattle.cmm_laws.proofs.FittingActs.{WordFits, back_word, results_fit}
+use Rattle.cmm_laws.specs.Fitting.{IsStatementOf, IsActivation, AreActivations, CellFits, RoomFits, StoreFits}
+use Rattle.cmm_laws.proofs.FittingActs.{results_fit}
 use Rattle.cmm_laws.proofs.FittingBodies.{body_of, follow_of, rest_of}
 use Rattle.cmm_laws.proofs.FittingKept.{kept_with_some, with_some_from}
 use Rattle.cmm_laws.proofs.FittingLists.{all_get, every_get, some_get, zip_filled, zip_map}
@@ -98,7 +95,7 @@ on_goes : (s : Setting) (f : Frame) (n way : ℕ) (rest : List Statement) → Is
 on_goes s f n way [] range old = old
 on_goes s f n way (x ∷ rest) range old =
     goes_on s f (record { procedure = n; rest = x ∷ rest }) (λ q. rest_after q way x.form rest) range old
-        (λ q body are. rest_of s.program q way x.form rest body (All-head (IsStatementOf s.program q) x rest are).1 (All-tail (IsStatementOf s.program q) x rest are))
+    (λ q body are. rest_of s.program q way x.form rest body (All-head (IsStatementOf s.program q) x rest are).1 (All-tail (IsStatementOf s.program q) x rest are))
 
 pub moved_keeps : (s : Setting) (P : Option ℕ → Type 0) (way : ℕ) (fs : List Frame) (ts : List Todo) → IsInRange s.program → AreActivations s P fs ts →
     AreActivations s P fs (moved (todo_on s.program way) ts)
@@ -146,52 +143,52 @@ entered_fits : (s : Setting) (n : ℕ) (values : List ℕ) (older : List Frame) 
 entered_fits s n values older ts store range fits are formals =
     kept_with_some (procedure_at s n) _ _ (λ q is. by q is (fits_stack s (new_frame n q values ∷ older)) refl)
   where
-  cells : (frame : ℕ) (q : Proc) (row : PlaceRow) → RoomFits (room_of frame q row)
-  cells frame q row = from (stackdata_offset q row) where
-    from : (offset : Option ℕ) → RoomFits (elim offset [
-             | Some o ↦ record { address = frame + o; cells = replicate (stack_size q.stack) None }
-             | None ↦ record { address = frame; cells = [] }
-           ])
-    from (Some o) = All-replicate CellFits (stack_size q.stack) None tt
-    from None = All-nil CellFits
+    cells : (frame : ℕ) (q : Proc) (row : PlaceRow) → RoomFits (room_of frame q row)
+    cells frame q row = from (stackdata_offset q row) where
+      from : (offset : Option ℕ) → RoomFits (elim offset [
+        | Some o ↦ record { address = frame + o; cells = replicate (stack_size q.stack) None }
+        | None ↦ record { address = frame; cells = [] }
+      ])
+      from (Some o) = All-replicate CellFits (stack_size q.stack) None tt
+      from None = All-nil CellFits
 
-  begun : (q : Proc) → procedure_at s n ≡ Some q → IsActivation s (new_frame n q values) ((todo_control s.program).begin n)
-  begun q is = record {
-    known = slice_get_within s.program.procs n q is;
-    control = refl;
-    procedure = λ q' is'.
-        let same : q ≡ q' = same_Some q q' (sym is ∙ is') in
-        let body = (proc_in_range s n q' range is').body in
-        record {
-          variables = subst (λ x. AllZip (λ v value. IsWord v.width value) q'.vars (new_frame n x values).variables) (sym same)
-              (zip_filled _ q'.formals q'.vars values (λ v. pow_pos (bits v.width)) (zip_map IsWord (λ (v : VarInfo). v.width) (take q'.formals q'.vars) values (formals q' is')));
-          site = tt;
-          statements = subst (All (IsStatementOf s.program q')) (sym (found_procedure s (List Statement) n [] (λ x. x.body) q' is')) (body_of s.program q' body);
+    begun : (q : Proc) → procedure_at s n ≡ Some q → IsActivation s (new_frame n q values) ((todo_control s.program).begin n)
+    begun q is = record {
+      known = slice_get_within s.program.procs n q is;
+      control = refl;
+      procedure = λ q' is'.
+          let same : q ≡ q' = same_Some q q' (sym is ∙ is') in
+          let body = (proc_in_range s n q' range is').body in
+          record {
+            variables = subst (λ x. AllZip (λ v value. IsWord v.width value) q'.vars (new_frame n x values).variables) (sym same)
+                (zip_filled _ q'.formals q'.vars values (λ v. pow_pos (bits v.width)) (zip_map IsWord (λ (v : VarInfo). v.width) (take q'.formals q'.vars) values (formals q' is')));
+            site = tt;
+            statements = subst (All (IsStatementOf s.program q')) (sym (found_procedure s (List Statement) n [] (λ x. x.body) q' is')) (body_of s.program q' body);
+          };
+    }
+
+    by : (q : Proc) → procedure_at s n ≡ Some q → (test : Bool) → fits_stack s (new_frame n q values ∷ older) ≡ test → IfSome (elim test [
+      | true ↦ Some (record store {
+        frames = new_frame n q values ∷ older;
+        memory = record store.memory { rooms = room_of (frame_address s (new_frame n q values ∷ older)) q (place_row s n) ∷ store.memory.rooms };
+      })
+      | false ↦ None
+    ]) (Fits s IsNone ((todo_control s.program).begin n ∷ ts))
+    by q is true holds = record {
+      store = record {
+        registers = fits.registers;
+        memory = record {
+          globals = fits.memory.globals;
+          rooms = All-cons RoomFits _ store.memory.rooms (cells _ q (place_row s n)) fits.memory.rooms;
         };
-  }
-
-  by : (q : Proc) → procedure_at s n ≡ Some q → (test : Bool) → fits_stack s (new_frame n q values ∷ older) ≡ test → IfSome (elim test [
-         | true ↦ Some (record store {
-             frames = new_frame n q values ∷ older;
-             memory = record store.memory { rooms = room_of (frame_address s (new_frame n q values ∷ older)) q (place_row s n) ∷ store.memory.rooms };
-           })
-         | false ↦ None
-       ]) (Fits s IsNone ((todo_control s.program).begin n ∷ ts))
-  by q is true holds = record {
-    store = record {
-      registers = fits.registers;
-      memory = record {
-        globals = fits.memory.globals;
-        rooms = All-cons RoomFits _ store.memory.rooms (cells _ q (place_row s n)) fits.memory.rooms;
+        stack = leb-true _ _ holds;
+        input = fits.input;
+        taken = fits.taken;
+        output = fits.output;
       };
-      stack = leb-true _ _ holds;
-      input = fits.input;
-      taken = fits.taken;
-      output = fits.output;
-    };
-    activations = (refl, begun q is, are);
-  }
-  by q is false holds = tt
+      activations = (refl, begun q is, are);
+    }
+    by q is false holds = tt
 
 -- ---- going on
 
@@ -271,9 +268,9 @@ parameter_targets : (s : Setting) (k : ℕ) (f : Frame) (fs : List Frame) (q : P
 parameter_targets s k f fs q range is =
     subst (λ ts. IsTrue (every (is_target s.program q) ts)) (sym (parameters_at s k f fs q is)) (targets_of s.program q (parameters q k) (by (slice_get q.conts k) refl))
   where
-  by : (found : Option Cont) → slice_get q.conts k ≡ found → IsTrue (every (below (length q.vars)) (elim found [ Some c ↦ c.params | None ↦ [] ]))
-  by (Some c) at = (and_parts _ _ (every_get (is_continuation s.program q) q.conts k c (proc_in_range s f.procedure q range is).continuations at)).1
-  by None at = refl
+    by : (found : Option Cont) → slice_get q.conts k ≡ found → IsTrue (every (below (length q.vars)) (elim found [ Some c ↦ c.params | None ↦ [] ]))
+    by (Some c) at = (and_parts _ _ (every_get (is_continuation s.program q) q.conts k c (proc_in_range s f.procedure q range is).continuations at)).1
+    by None at = refl
 
 -- ---- every landing
 
@@ -286,7 +283,7 @@ land_back s values (f ∷ fs) [] base range old fits = absurd old.activations
 land_back s values (f ∷ fs) (t ∷ ts) base range old fits =
     let q = some_get s.program.procs f.procedure old.activations.1.known in
     gone_on_fits s q.0 (λ x. ⊤) (results_of s (f ∷ fs)) values (t ∷ ts) (record base { frames = f ∷ fs })
-        (record { fits = old.store; activations = old.activations; youngest = q.1; still = refl }) (result_targets s f fs q.0 range q.1) fits
+    (record { fits = old.store; activations = old.activations; youngest = q.1; still = refl }) (result_targets s f fs q.0 range q.1) fits
 
 land_resumed : (s : Setting) (k : ℕ) (values : List ℕ) (frames : List Frame) (ts : List Todo) (base : Store) → IsInRange s.program →
     Fits s (λ site. ⊤) ts (record base { frames = frames }) → AllZip IsWord (map target_width (parameters_of s k frames)) values →
@@ -298,7 +295,7 @@ land_resumed s k values (f ∷ fs) (t ∷ ts) base range old fits =
     let q = some_get s.program.procs f.procedure old.activations.1.known in
     let here = goes_on s f t (λ x. follow x (AtContinuation k)) range old.activations.1 (λ x body are. follow_of s.program x (AtContinuation k) body) in
     gone_on_fits s q.0 (λ x. ⊤) (parameters_of s k (f ∷ fs)) values ((todo_control s.program).resume k t ∷ ts) (record base { frames = f ∷ fs })
-        (record { fits = old.store; activations = (old.activations.0, here, old.activations.2); youngest = q.1; still = refl }) (parameter_targets s k f fs q.0 range q.1) fits
+    (record { fits = old.store; activations = (old.activations.0, here, old.activations.2); youngest = q.1; still = refl }) (parameter_targets s k f fs q.0 range q.1) fits
 
 land_called : (s : Setting) (site n : ℕ) (values : List ℕ) (ts : List Todo) (store : Store) → IsInRange s.program → Fits s (λ site. ⊤) ts store →
     HasSite s site store.frames → FormalsFit s n values →

@@ -1,5 +1,5 @@
 -- Elements of lists that pass a test, and lists in step.
-use Rattle.std.proofs.Common.{◌≡◌, ℕ, zero, suc, ◌-◌, ◌<◌, ◌&&◌, Bool, true, false, Some, List, [], ◌∷◌, ◌++◌, map, take, replicate, length, slice_get, slice_set, slice_index_or, All, IsTrue, refl, sym, subst, arith, lt_of_le_of_lt, le_of_suc-le-suc}
+use Rattle.std.proofs.Common.{◌≡◌, ℕ, zero, suc, ◌-◌, ◌<◌, Bool, Some, List, [], ◌∷◌, ◌++◌, map, take, replicate, length, slice_get, slice_set, slice_index_or, All, IsTrue, refl, sym, subst, arith}
 use Rattle.std.specs.List.{AllZip}
 use Rattle.std.proofs.lemmas.Bool.{and_parts}
 use Rattle.std.proofs.lemmas.List.Elements.{All-nil, All-cons}

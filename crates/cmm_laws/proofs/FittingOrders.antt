@@ -1,29 +1,23 @@
 -- Orders done to a sound store: the answer leads to a sound state.
-use Rattle.std.proofs.Common.{◌≡◌, ℕ, zero, suc, ◌+◌, ◌-◌, ◌%◌, ◌^◌, ◌<◌, ◌≤◌, Bool, true, false, cond, Option, Some, None, Ok, Err, List, [], ◌∷◌, ◌++◌, map, take, drop, find, All, IsTrue, IfSome, IsSome, IsNone, refl, ap, sym, ◌∙◌, subst, arith, slice_get, length, lit<}
+use Rattle.std.proofs.Common.{◌≡◌, ℕ, zero, suc, ◌+◌, ◌-◌, ◌%◌, ◌<◌, ◌≤◌, Option, Some, None, Ok, Err, List, [], ◌∷◌, ◌++◌, map, take, drop, find, All, IsSome, ap, sym, ◌∙◌, subst, arith, length, lit<}
 use Rattle.std.specs.Prelude.{⊤, ◌==◌}
 use Rattle.std.specs.List.{AllZip}
-use Rattle.std.proofs.lemmas.List.Elements.{All-nil, All-cons, All-head, All-tail, All-push, All-drop}
+use Rattle.std.proofs.lemmas.List.Elements.{All-head, All-tail, All-push, All-drop}
 use Rattle.std.proofs.lemmas.Option.{none-some, same_Some}
 use Rattle.std.proofs.lemmas.List.Sums.{sum_by-take-drop}
-use Rattle.std.proofs.lemmas.Nat.{mod_below, pow_pos}
+use Rattle.std.proofs.lemmas.Nat.{mod_below}
 use Rattle.cmm_words.specs.declared.width.Width.TheVariants.{W64}
-use Rattle.cmm_words.specs.Widths.{bits, IsWord}
+use Rattle.cmm_words.specs.Widths.{IsWord}
 use Rattle.cmm_script.specs.Lines.{yield_line}
 use Rattle.cmm_program.specs.declared.procedure.Proc.{Proc}
-use Rattle.cmm_program.specs.declared.procedure.Site.{Site}
-use Rattle.cmm_program.specs.declared.procedure.Target.{Target}
 use Rattle.cmm_program.specs.Acts.{Word, Order, GoOn, WriteAll, GoBy, Put, Get, Enter, Suspend, Replace, Leave, CutTo, target_width}
-use Rattle.cmm_program.specs.Control.{arrived, moved, landed, over}
-use Rattle.cmm_program.specs.Errors.{Tried, NotAProcedure, WrongValues, WrongAlternates, NeverReturns, NoSuchCut, EndOfBody}
-use Rattle.cmm_program.specs.Exits.{Landing, Called, Instead, Exit, return_exit, continuation_exit, have_widths, numbers}
-use Rattle.cmm_program.specs.Frames.{procedure_at, frame_size, sum_of_sizes, continuation_value, site_at, site_cuts, with_site, without}
-use Rattle.cmm_program.specs.InRange.{IsInRange}
-use Rattle.cmm_program.specs.Memory.{Room}
-use Rattle.cmm_program.specs.Orders.{Answer, Stay, Wait, Away, Over, procedure_from, entering, leaving, after_the_oldest, returned, Found, cut_among, found_exit, next_byte, one_taken, perform}
+use Rattle.cmm_program.specs.Errors.{Tried, NotAProcedure, WrongValues, WrongAlternates, NeverReturns, NoSuchCut}
+use Rattle.cmm_program.specs.Exits.{Exit, return_exit, continuation_exit, have_widths, numbers}
+use Rattle.cmm_program.specs.Frames.{procedure_at, frame_size, continuation_value, site_at, site_cuts, with_site, without}
+use Rattle.cmm_program.specs.Orders.{Answer, Stay, Wait, Away, Over, procedure_from, entering, leaving, returned, Found, cut_among, found_exit, next_byte, one_taken, perform}
 use Rattle.cmm_program.specs.State.{Setting, Frame, Store, Status, Running, Waiting, Ended, Done}
 use Rattle.cmm_program.specs.Todo.{Todo}
-use Rattle.cmm_program.specs.Typing.{is_target, same_width}
-use Rattle.cmm_program.specs.Writes.{assigned, put_all}
+use Rattle.cmm_program.specs.Writes.{put_all}
 use Rattle.cmm_laws.specs.Fitting.{AreActivations, YoungestSite, IsByte, RoomFits, StoreFits, AreYielded, IsSound}
 use Rattle.cmm_laws.proofs.FittingActs.{WordFits, OrderFits, back_word}
 use Rattle.cmm_laws.proofs.FittingExits.{ExitFits, words_zip, continuation_fits, return_fits}
@@ -71,12 +65,14 @@ without_fits s n store old =
 pub away_fits : (s : Setting) (P : Option ℕ → Type 0) (ts : List Todo) (store : Store) (gone : ℕ) (exit : Exit) (values : List ℕ) → Fits s P ts store →
     ExitFits s (drop gone store.frames) exit → AllZip IsWord exit.widths values → AnswerFits s ts (Away gone (without gone store) (exit.landing values))
 away_fits s P ts store gone exit values old leads fit =
-    let there = leads values fit in
-    (record {
-       store = without_fits s gone store old.store;
-       activations = weaker_site s (λ site. ⊤) (LandingSite (exit.landing values)) (drop gone store.frames) (drop gone ts) (λ site h. there.1 site)
-           (dropped_keeps s P gone store.frames ts old.activations);
-     }, there.0)
+    let there = leads values fit in (
+      record {
+        store = without_fits s gone store old.store;
+        activations = weaker_site s (λ site. ⊤) (LandingSite (exit.landing values)) (drop gone store.frames) (drop gone ts) (λ site h. there.1 site)
+            (dropped_keeps s P gone store.frames ts old.activations);
+      },
+      there.0,
+    )
 
 leaving_fits : (s : Setting) (P : Option ℕ → Type 0) (ts : List Todo) (store : Store) (gone : ℕ) (exit : Exit) (words : List Word) → Fits s P ts store →
     ExitFits s (drop gone store.frames) exit → All WordFits words → Kept (AnswerFits s ts) (leaving gone (without gone store) exit words)
@@ -103,21 +99,21 @@ returned_fits s P ts exit alternates words f [] base old fit =
     kept_provided (alternates == 0) WrongAlternates _ _ (λ _.
     kept_provided (have_widths (W64 ∷ []) words) WrongValues _ _ (λ _. by (numbers words)))
   where
-  store : Store
-  store = record base { frames = f ∷ [] }
+    store : Store
+    store = record base { frames = f ∷ [] }
 
-  by : (values : List ℕ) → Kept (AnswerFits s ts) (elim values [
-         | v ∷ _ ↦ Ok (Over 1 (record (without 1 store) { status = Ended (Done v) }))
-         | [] ↦ Err WrongValues
-       ])
-  by [] = tt
-  by (v ∷ vs) =
-      let left = without_fits s 1 store old.store in
-      record {
-        store = refitted s (without 1 store) [] base.log (Ended (Done v)) left left.stack;
-        activations = dropped_keeps s P 1 store.frames ts old.activations;
-        yielded = tt;
-      }
+    by : (values : List ℕ) → Kept (AnswerFits s ts) (elim values [
+      | v ∷ _ ↦ Ok (Over 1 (record (without 1 store) { status = Ended (Done v) }))
+      | [] ↦ Err WrongValues
+    ])
+    by [] = tt
+    by (v ∷ vs) =
+        let left = without_fits s 1 store old.store in
+        record {
+          store = refitted s (without 1 store) [] base.log (Ended (Done v)) left left.stack;
+          activations = dropped_keeps s P 1 store.frames ts old.activations;
+          yielded = tt;
+        }
 returned_fits s P ts exit alternates words f (g ∷ fs) base old fit =
     kept_given (procedure_at s g.procedure) WrongAlternates _ _ (λ p is.
     kept_given (site_at s g) WrongAlternates _ _ (λ site at.
@@ -145,13 +141,13 @@ cut_found s younger own value [] found is = absurd (none-some found is)
 cut_found s younger own value (f ∷ fs) found is =
     by (find (λ k. continuation_value s (f ∷ fs) k == value) own) (cut_found s (suc younger) (site_cuts s fs) value fs found) is
   where
-  by : (o : Option ℕ) → (cut_among s (suc younger) (site_cuts s fs) value fs ≡ Some found → (n : ℕ) × (found.younger ≡ suc younger + n) × IsOfYoungest (drop n fs) found.procedure) →
-      elim o [ Some k ↦ Some record { younger = younger; procedure = f.procedure; continuation = k } | None ↦ cut_among s (suc younger) (site_cuts s fs) value fs ] ≡ Some found →
-      (n : ℕ) × (found.younger ≡ younger + n) × IsOfYoungest (drop n (f ∷ fs)) found.procedure
-  by (Some k) older is =
-      let here = same_Some _ found is in
-      (0, sym (ap (λ (x : Found). x.younger) here) ∙ omega arith, ap (λ (x : Found). x.procedure) here)
-  by None older is = let h = older is in (suc h.0, omega (arith, h.1), h.2)
+    by : (o : Option ℕ) → (cut_among s (suc younger) (site_cuts s fs) value fs ≡ Some found → (n : ℕ) × (found.younger ≡ suc younger + n) × IsOfYoungest (drop n fs) found.procedure) →
+        elim o [ Some k ↦ Some record { younger = younger; procedure = f.procedure; continuation = k } | None ↦ cut_among s (suc younger) (site_cuts s fs) value fs ] ≡ Some found →
+        (n : ℕ) × (found.younger ≡ younger + n) × IsOfYoungest (drop n (f ∷ fs)) found.procedure
+    by (Some k) older is =
+        let here = same_Some _ found is in
+        (0, sym (ap (λ (x : Found). x.younger) here) ∙ omega arith, ap (λ (x : Found). x.procedure) here)
+    by None older is = let h = older is in (suc h.0, omega (arith, h.1), h.2)
 
 pub found_fits : (s : Setting) (own : List ℕ) (value : ℕ) (fs : List Frame) (found : Found) (e : Exit) → cut_among s 0 own value fs ≡ Some found →
     found_exit s found ≡ Some e → ExitFits s (drop found.younger fs) e
@@ -161,10 +157,10 @@ found_fits s own value fs found e is at =
     let p = with_some_from (procedure_at s found.procedure) _ e at in
     subst (λ k. ExitFits s (drop k fs) e) same (by (drop n.0 fs) n.2 p.0 p.1 p.2)
   where
-  by : (frames : List Frame) → IsOfYoungest frames found.procedure → (p : Proc) → procedure_at s found.procedure ≡ Some p →
-      continuation_exit p found.continuation ≡ Some e → ExitFits s frames e
-  by [] of p is there = absurd of
-  by (f ∷ rest) of p is there = continuation_fits s f rest p (ap (procedure_at s) of ∙ is) found.continuation e there
+    by : (frames : List Frame) → IsOfYoungest frames found.procedure → (p : Proc) → procedure_at s found.procedure ≡ Some p →
+        continuation_exit p found.continuation ≡ Some e → ExitFits s frames e
+    by [] of p is there = absurd of
+    by (f ∷ rest) of p is there = continuation_fits s f rest p (ap (procedure_at s) of ∙ is) found.continuation e there
 
 -- ---- input
 
@@ -215,7 +211,7 @@ module _ (s : Setting) (q : Proc) (ts : List Todo) where
   perform_fits GoOn store works fits = sound_of s q Running ts store works tt
   perform_fits (WriteAll ws) store works fits =
       kept_and_then (put_all ws store) Running' _ _ (put_all_works s q (YoungestSite Running) Running ts ws store works fits)
-          (λ after h. sound_of s q Running ts after h tt)
+      (λ after h. sound_of s q Running ts after h tt)
   perform_fits (GoBy way) store works fits = sound_of s q Running ts store works tt
   perform_fits (Put value) store works fits =
       sound_of s q Running ts (record store { output = store.output ++ value % 256 ∷ [] }) (record {
@@ -236,9 +232,10 @@ module _ (s : Setting) (q : Proc) (ts : List Todo) where
       let taken = taken_works s q (YoungestSite Running) Running ts store.input store works in
       sound_of s q Running ts _ (assigned_works s q (YoungestSite Running) Running ts target (next_byte store.input) (one_taken store) taken fits.0 word) tt
   perform_fits (Enter site address words) store works fits =
-      entering_fits s ts address words _ fits.1 (λ n formals.
-      (record { store = works.fits; activations = weaker_site s (YoungestSite Running) (λ x. ⊤) store.frames ts (λ x h. tt) works.activations },
-       (has_site s q site store.frames works.youngest fits.0, formals)))
+      entering_fits s ts address words _ fits.1 (λ n formals. (
+        record { store = works.fits; activations = weaker_site s (YoungestSite Running) (λ x. ⊤) store.frames ts (λ x h. tt) works.activations },
+        (has_site s q site store.frames works.youngest fits.0, formals),
+      ))
   perform_fits (Suspend site values) store works fits = record {
     store = refitted s store (with_site (Some site) store.frames) (store.log ++ yield_line values) (Waiting values) works.fits
         (subst (λ k. k ≤ s.top - s.base) (sym (resited_sum s (Some site) store.frames)) works.fits.stack);

@@ -1,9 +1,9 @@
 -- What a run begins with: frames whose parts lie inside them, and data that is bytes.
-use Rattle.std.proofs.Common.{◌≡◌, ℕ, zero, suc, pred, ◌+◌, ◌-◌, ◌*◌, ◌%◌, ◌<◌, ◌≤◌, Bool, true, false, Option, Some, None, List, [], ◌∷◌, ◌++◌, map, flat_map, replicate, All, IsTrue, IfSome, refl, ap, sym, ◌∙◌, subst, arith, slice_get, length}
-use Rattle.std.specs.Prelude.{⊤, nat_le, ◌==◌, ◌&&◌}
+use Rattle.std.proofs.Common.{◌≡◌, ℕ, ◌+◌, ◌-◌, ◌%◌, ◌≤◌, Bool, true, false, Option, Some, None, List, [], ◌∷◌, ◌++◌, map, flat_map, replicate, All, IsTrue, refl, ap, sym, ◌∙◌, arith, slice_get}
+use Rattle.std.specs.Prelude.{nat_le, ◌==◌, ◌&&◌}
 use Rattle.std.proofs.lemmas.Bool.{and_parts, eqb-true, leb-true, false≢true}
 use Rattle.std.proofs.lemmas.List.Elements.{All-nil, All-cons, All-append, All-replicate, All-weaker, All-map, All-head, All-tail}
-use Rattle.std.proofs.lemmas.Option.{none-some, same_Some}
+use Rattle.std.proofs.lemmas.Option.{none-some}
 use Rattle.cmm_words.specs.declared.constant.Constant.{Constant}
 use Rattle.cmm_words.specs.Widths.{bytes}
 use Rattle.cmm_program.specs.declared.placement.Placement.{Placement}
@@ -16,11 +16,10 @@ use Rattle.cmm_program.specs.Errors.{with_some}
 use Rattle.cmm_program.specs.Frames.{place_row, stackdata_offset}
 use Rattle.cmm_program.specs.InRange.{IsInRange, IsProcInRange, is_item}
 use Rattle.cmm_program.specs.Layout.{aligned_up, end_of, item_piece, stack_size, stack_labels, stack_labels_from, bytes_of, constant_value, datum_bytes, bytes_from, data_bytes, data_base}
-use Rattle.cmm_program.specs.Placed.{IsPlaced, every, is_pair_in, are_pairs, are_labels, is_stackdata, is_stackdata_at, is_row_placed, are_rows_placed}
+use Rattle.cmm_program.specs.Placed.{IsPlaced, every, is_pair_in, are_pairs, are_labels, is_stackdata, is_stackdata_at, are_rows_placed}
 use Rattle.cmm_program.specs.State.{Setting}
-use Rattle.cmm_program.proofs.Places.{aligned_up-grows, end_of-grows}
+use Rattle.cmm_program.proofs.Places.{end_of-grows}
 use Rattle.cmm_laws.specs.Fitting.{IsByte, CellFits}
-use Rattle.cmm_laws.proofs.FittingKept.{with_some_from}
 use Rattle.cmm_laws.proofs.FittingLists.{every_all}
 use Rattle.cmm_laws.proofs.FittingStores.{PartsInside, any_place, bytes_of_fit}
 
@@ -104,8 +103,8 @@ pairs_inside p row are =
     let every_pair : All (λ (offset : ℕ). IsTrue (is_pair_in row.frame offset)) row.pairs = every_all (is_pair_in row.frame) row.pairs (and_parts _ _ (and_parts _ _ are).0).1 in
     All-weaker (λ (offset : ℕ). IsTrue (is_pair_in row.frame offset)) (λ (offset : ℕ). offset ≤ row.frame) below row.pairs every_pair
   where
-  below : (offset : ℕ) → IsTrue (is_pair_in row.frame offset) → offset ≤ row.frame
-  below offset is = let h = leb-true (offset + 16) row.frame (and_parts (offset % 8 == 0) (nat_le (offset + 16) row.frame) is).1 in omega arith
+    below : (offset : ℕ) → IsTrue (is_pair_in row.frame offset) → offset ≤ row.frame
+    below offset is = let h = leb-true (offset + 16) row.frame (and_parts (offset % 8 == 0) (nat_le (offset + 16) row.frame) is).1 in omega arith
 
 rows_inside : (program : Program) (procs : List Proc) (rows : List PlaceRow) → All (IsProcInRange program) procs → IsTrue (are_rows_placed procs rows) → All PartsInside rows
 rows_inside program [] [] range placed = All-nil PartsInside
@@ -116,13 +115,13 @@ rows_inside program (p ∷ ps) (row ∷ rows) range placed =
     let parts = and_parts _ _ h.0 in
     let items = (All-head (IsProcInRange program) p ps range).items in
     All-cons PartsInside row rows
-        (record { pairs = pairs_inside p row (and_parts _ _ parts.0).1; stack = stack_inside p row items parts.1 })
-        (rows_inside program ps rows (All-tail (IsProcInRange program) p ps range) h.1)
+    (record { pairs = pairs_inside p row (and_parts _ _ parts.0).1; stack = stack_inside p row items parts.1 })
+    (rows_inside program ps rows (All-tail (IsProcInRange program) p ps range) h.1)
 
 pub parts_inside : (s : Setting) → IsInRange s.program → IsPlaced s.program s.placement → (n : ℕ) → PartsInside (place_row s n)
 parts_inside s range placed n =
     any_place PartsInside s.placement.rows n _ (rows_inside s.program s.program.procs s.placement.rows range.procedures placed.rows)
-        (record { pairs = no_offsets 0; stack = no_offsets 0 })
+    (record { pairs = no_offsets 0; stack = no_offsets 0 })
 
 -- ---- data
 
@@ -137,9 +136,9 @@ values_bytes p placement width (c ∷ cs) =
 datum_fits : (p : Program) (placement : Placement) (d : Datum) → All IsByte (datum_bytes p placement d)
 datum_fits p placement d = by d.values where
   by : (values : List Constant) → All IsByte (elim values [
-         | [] ↦ replicate d.length 0
-         | _ ∷ _ ↦ flat_map (λ c. bytes_of (bytes d.width) (constant_value p placement c)) d.values
-       ])
+    | [] ↦ replicate d.length 0
+    | _ ∷ _ ↦ flat_map (λ c. bytes_of (bytes d.width) (constant_value p placement c)) d.values
+  ])
   by [] = zero_bytes d.length
   by (c ∷ cs) = values_bytes p placement (bytes d.width) d.values
 
@@ -147,8 +146,8 @@ data_fits : (p : Program) (placement : Placement) (place : ℕ) (ds : List Datum
 data_fits p placement place [] = All-nil IsByte
 data_fits p placement place (d ∷ ds) =
     All-append IsByte (replicate (aligned_up d.align place - place) 0 ++ datum_bytes p placement d) _
-        (All-append IsByte (replicate (aligned_up d.align place - place) 0) (datum_bytes p placement d) (zero_bytes (aligned_up d.align place - place)) (datum_fits p placement d))
-        (data_fits p placement (aligned_up d.align place + d.length) ds)
+    (All-append IsByte (replicate (aligned_up d.align place - place) 0) (datum_bytes p placement d) (zero_bytes (aligned_up d.align place - place)) (datum_fits p placement d))
+    (data_fits p placement (aligned_up d.align place + d.length) ds)
 
 pub data_cells : (s : Setting) → All CellFits (map Some (data_bytes s.program s.placement))
 data_cells s = All-map CellFits (λ (b : ℕ). Some b) (data_bytes s.program s.placement) (data_fits s.program s.placement data_base s.program.datums)

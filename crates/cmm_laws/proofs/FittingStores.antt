@@ -1,12 +1,12 @@
 -- Values put into a store whose values fit: what its youngest activation reads fits, and every place keeps what fits it.
-use Rattle.std.proofs.Common.{◌≡◌, ℕ, zero, suc, ◌+◌, ◌-◌, ◌%◌, ◌/◌, ◌^◌, ◌<◌, ◌≤◌, Bool, true, false, Option, Some, None, Ok, Err, List, [], ◌∷◌, map, All, IsTrue, IfSome, IsSome, refl, ap, sym, ◌∙◌, subst, arith, slice_get, slice_set, slice_index_or, length, replicate}
-use Rattle.std.specs.Prelude.{⊤, nat_le}
+use Rattle.std.proofs.Common.{◌≡◌, ℕ, zero, suc, ◌+◌, ◌-◌, ◌%◌, ◌/◌, ◌^◌, ◌<◌, ◌≤◌, Bool, true, false, Option, Some, None, List, [], ◌∷◌, map, All, IsTrue, IfSome, refl, sym, ◌∙◌, subst, arith, slice_get, slice_set, slice_index_or}
+use Rattle.std.specs.Prelude.{⊤}
 use Rattle.std.specs.List.{AllZip}
-use Rattle.std.proofs.lemmas.Bool.{and_parts, eqb-true, leb-true, ltb-true, false≢true}
+use Rattle.std.proofs.lemmas.Bool.{and_parts, ltb-true, false≢true}
 use Rattle.std.proofs.lemmas.List.Elements.{All-nil, All-cons, All-head, All-tail, All-map, All-weaker, All-set}
-use Rattle.std.proofs.lemmas.List.Sums.{get_or-le-sum_by, sum_by-cons}
+use Rattle.std.proofs.lemmas.List.Sums.{sum_by-cons}
 use Rattle.std.proofs.lemmas.Nat.{mod_below, pow_pos}
-use Rattle.std.proofs.lemmas.Option.{none-some, same_Some}
+use Rattle.std.proofs.lemmas.Option.{same_Some}
 use Rattle.cmm_words.specs.declared.width.Width.{Width}
 use Rattle.cmm_words.specs.declared.width.Width.TheVariants.{W64}
 use Rattle.cmm_words.specs.declared.constant.Constant.{Constant}
@@ -20,8 +20,8 @@ use Rattle.cmm_program.specs.declared.program.Global.{Global}
 use Rattle.cmm_program.specs.declared.program.Program.{Program}
 use Rattle.cmm_program.specs.declared.placement.PlaceRow.{PlaceRow}
 use Rattle.cmm_program.specs.Acts.{Place, Held, Memory, Write, target_width}
-use Rattle.cmm_program.specs.Errors.{Tried, BadAccess}
-use Rattle.cmm_program.specs.Frames.{procedure_at, place_row, frame_size, sum_of_sizes, frame_address, part_address, continuation_value, stackdata_address}
+use Rattle.cmm_program.specs.Errors.{BadAccess}
+use Rattle.cmm_program.specs.Frames.{procedure_at, place_row, frame_size, sum_of_sizes, part_address, continuation_value, stackdata_address}
 use Rattle.cmm_program.specs.Layout.{bytes_of, constant_value, row_of, label_address}
 use Rattle.cmm_program.specs.Memory as memory
 use Rattle.cmm_program.specs.Memory.{Room, Cell, is_in, cell_of, cell_in, cell_at, with_byte_in, with_byte, with_bytes}
@@ -31,11 +31,11 @@ use Rattle.cmm_program.specs.Todo.{Todo}
 use Rattle.cmm_program.specs.Typing.{is_target, has_variable, has_register, same_width, constant_width}
 use Rattle.cmm_program.specs.Values.{may_access}
 use Rattle.cmm_program.specs.Writes.{reads_of, variables_of, with_variable, assigned, all_assigned, put, put_all}
-use Rattle.cmm_laws.specs.Fitting.{IsOf, IsActivation, AreActivations, IsByte, CellFits, RoomFits, MemoryFits, StoreFits}
+use Rattle.cmm_laws.specs.Fitting.{IsActivation, AreActivations, IsByte, CellFits, RoomFits, MemoryFits, StoreFits}
 use Rattle.cmm_laws.proofs.FittingActs.{PlaceFits, WriteFits, back_word}
 use Rattle.cmm_laws.proofs.FittingExpressions.{ReadsFit, IsByteCell, if_holds_from, low-word, same_word}
-use Rattle.cmm_laws.proofs.FittingKept.{Kept, kept_and_then, kept_provided, some_kept}
-use Rattle.cmm_laws.proofs.FittingLists.{zip_get, zip_set, all_get}
+use Rattle.cmm_laws.proofs.FittingKept.{Kept, kept_and_then, kept_provided}
+use Rattle.cmm_laws.proofs.FittingLists.{zip_get, zip_set}
 
 -- ---- what is kept of a store while its youngest activation works
 
@@ -152,9 +152,9 @@ bytes_of_fit (suc n) value = All-cons IsByte (value % 256) _ (mod_below value 25
 with_byte_in_fits : (room : Room) (address byte : ℕ) → IsByte byte → RoomFits room → RoomFits (with_byte_in room address byte)
 with_byte_in_fits room address byte is old = by (is_in room address) where
   by : (test : Bool) → RoomFits (elim test [
-         | true ↦ record room { cells = slice_set room.cells (address - room.address) (Some byte) }
-         | false ↦ room
-       ])
+    | true ↦ record room { cells = slice_set room.cells (address - room.address) (Some byte) }
+    | false ↦ room
+  ])
   by true = All-set CellFits room.cells (address - room.address) (Some byte) is old
   by false = old
 
@@ -184,9 +184,9 @@ cell_in_fits : (rooms : List Room) (address : ℕ) → All RoomFits rooms → Is
 cell_in_fits [] address are = tt
 cell_in_fits (room ∷ rooms) address are = by (is_in room address) (cell_in_fits rooms address (All-tail RoomFits room rooms are)) where
   by : (test : Bool) → IsByteCell (cell_in rooms address) → IsByteCell (elim test [
-         | true ↦ cell_of (slice_index_or room.cells (address - room.address) None)
-         | false ↦ cell_in rooms address
-       ])
+    | true ↦ cell_of (slice_index_or room.cells (address - room.address) None)
+    | false ↦ cell_in rooms address
+  ])
   by true older = cell_of_fits _ (any_place CellFits room.cells (address - room.address) None (All-head RoomFits room rooms are) tt)
   by false older = older
 
@@ -262,5 +262,5 @@ pub put_all_works : (s : Setting) (q : Proc) (P : Option ℕ → Type 0) (status
 put_all_works s q P status ts [] store old fits = old
 put_all_works s q P status ts (w ∷ ws) store old fits =
     kept_and_then (put w.place w.value store) (Works s q P status ts) _ _
-        (put_works s q P status ts w.place w.value store old (All-head (WriteFits s.program q) w ws fits))
-        (λ after h. put_all_works s q P status ts ws after h (All-tail (WriteFits s.program q) w ws fits))
+    (put_works s q P status ts w.place w.value store old (All-head (WriteFits s.program q) w ws fits))
+    (λ after h. put_all_works s q P status ts ws after h (All-tail (WriteFits s.program q) w ws fits))
