@@ -1,5 +1,5 @@
 -- The order of a statement in range: what it passes and writes fits the widths that go with it.
-use Rattle.std.proofs.Common.{◌≡◌, ℕ, ◌<◌, ◌^◌, ◌==◌, ◌&&◌, Bool, false, Option, Some, None, List, [], ◌∷◌, map, All, IsTrue, IfSome, refl, ap, sym, subst, slice_get, length, lit<}
+use Rattle.std.proofs.Common.{◌≡◌, ℕ, ◌<◌, ◌^◌, ◌==◌, ◌&&◌, Bool, false, Option, Some, None, List, [], ◌∷◌, map, All, IsTrue, IfSome, sym, subst, slice_get, length, lit<}
 use Rattle.std.specs.Prelude.{⊤}
 use Rattle.std.specs.List.{AllZip}
 use Rattle.std.proofs.lemmas.Bool.{and_parts, eqb-true, false≢true}
@@ -29,8 +29,7 @@ use Rattle.cmm_program.specs.Typing.{is_target, is_typed, same_width}
 use Rattle.cmm_program.specs.Values.{Reads, Value, value_of, width_of, test_of}
 use Rattle.cmm_program.specs.Bodies.{branches}
 use Rattle.cmm_laws.proofs.FittingExpressions.{ReadsFit, width_gives, typed_gives}
-use Rattle.cmm_laws.proofs.FittingKept.{Kept, kept_and_then, kept_any, kept_all, kept_zip, kept_weaker}
-use Rattle.cmm_laws.proofs.FittingLists.{every_get, every_all}
+use Rattle.cmm_laws.proofs.FittingKept.{Kept, kept_and_then, kept_any, kept_all, kept_zip, kept_weaker, passes_from, value_at, every_get, every_all}
 
 -- ---- what fits
 
@@ -61,16 +60,8 @@ back_word v w a same h = subst (λ k. a < 2 ^ k) (sym (eqb-true (bits v) (bits w
 
 -- ---- sites
 
--- a site that passes a test is there
-site_from : (p : Program) (q : Proc) (n : ℕ) (test : Site → Bool) → IsTrue (at_site p q n test) → (site : Site) × (slice_get q.sites n ≡ Some site) × IsTrue (test site)
-site_from p q n test = by (slice_get q.sites n) refl where
-  by : (found : Option Site) → slice_get q.sites n ≡ found → IsTrue (elim found [ Some site ↦ test site | None ↦ false ]) →
-      (site : Site) × (slice_get q.sites n ≡ Some site) × IsTrue (test site)
-  by (Some site) is here = (site, is, here)
-  by None is here = absurd (false≢true here)
-
 site_within : (p : Program) (q : Proc) (n : ℕ) (test : Site → Bool) → IsTrue (at_site p q n test) → n < length q.sites
-site_within p q n test here = let h = site_from p q n test here in slice_get_within q.sites n h.0 h.1
+site_within p q n test here = let h = passes_from (slice_get q.sites n) test here in slice_get_within q.sites n h.0 h.1
 
 -- what takes the values of a site's normal exit
 pub results_fit : (p : Program) (q : Proc) (n : ℕ) (site : Site) → IsTrue (every (is_site p q) q.sites) → slice_get q.sites n ≡ Some site →
@@ -144,13 +135,10 @@ module _ (p : Program) (q : Proc) (r : Reads) (reads : ReadsFit p q r) where
       IsTrue (at_site p q n (is_checked_site p q width)) → IfSome value (IsWord width) → OrderFits p q (checked_order n (site_results q n) value)
   checked_fits n width None sites here fits = (site_within p q n _ here, All-cons (IsWord W64) 1 [] (lit< tt) (All-nil (IsWord W64)))
   checked_fits n width (Some v) sites here fits =
-      let found = site_from p q n (is_checked_site p q width) here in
+      let found = passes_from (slice_get q.sites n) (is_checked_site p q width) here in
       let targets = results_fit p q n found.0 sites found.1 in
-      subst (λ ts. All (WriteFits p q) (writes (map Held ts) (v ∷ []))) (sym (results_at found.0 found.1))
+      subst (λ ts. All (WriteFits p q) (writes (map Held ts) (v ∷ []))) (sym (value_at (slice_get q.sites n) (λ (x : Site). x.results) [] found.0 found.1))
       (first_result width v fits (found.0).results targets (and_parts _ _ found.2).1)
-    where
-      results_at : (site : Site) → slice_get q.sites n ≡ Some site → site_results q n ≡ site.results
-      results_at site is = ap (λ (o : Option Site). elim o [ Some x ↦ x.results | None ↦ [] ]) is
 
   -- ---- every statement
 

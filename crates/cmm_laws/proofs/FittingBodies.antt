@@ -1,6 +1,6 @@
 -- What an activation has still to do are statements of its procedure: what a block has, what follows a mark, and what is
 -- left after a statement.
-use Rattle.std.proofs.Common.{◌≡◌, ℕ, zero, suc, Bool, true, false, Option, Some, None, List, [], ◌∷◌, All, IsTrue, IfSome, refl, ap, subst, slice_get}
+use Rattle.std.proofs.Common.{◌≡◌, ℕ, zero, suc, Option, Some, None, List, [], ◌∷◌, All, IsTrue, IfSome, refl, ap, subst, slice_get}
 use mathlib.Core.Former.{Count}
 use Rattle.std.proofs.lemmas.Bool.{and_parts}
 use Rattle.std.proofs.lemmas.List.Elements.{All-nil, All-cons, All-append}
@@ -15,7 +15,7 @@ use Rattle.cmm_program.specs.Bodies.{Mark, AtLabel, Branch, statements, branches
 use Rattle.cmm_program.specs.InRange.{is_body_in, is_block, are_bodies}
 use Rattle.cmm_program.specs.Todo.{rest_after}
 use Rattle.cmm_laws.specs.Fitting.{IsStatementOf}
-use Rattle.cmm_laws.proofs.FittingLists.{all_get}
+use Rattle.cmm_laws.proofs.FittingKept.{at_option, at_test, some_kept, all_get}
 
 -- ---- of two places, and of one inside a block
 
@@ -27,11 +27,6 @@ outward_kept : (inner : Option (List Statement)) (rest : List Statement) (P : St
     IfSome (outward inner rest) (All P)
 outward_kept (Some xs) rest P here there = All-append P xs rest here there
 outward_kept None rest P here there = tt
-
-either_kept : (marked : Bool) (rest : List Statement) (deeper : Option (List Statement)) (P : Statement → Type 0) → All P rest → IfSome deeper (All P) →
-    IfSome (elim marked [ true ↦ Some rest | false ↦ deeper ]) (All P)
-either_kept true rest deeper P here there = here
-either_kept false rest deeper P here there = there
 
 -- the statements of a row are its items
 listed : (n : Count) (row : Row_of-Statement n) → statements row ≡ items-the_row-Statement n row
@@ -74,7 +69,7 @@ module _ (p : Program) (q : Proc) where
     after_of m (more_of-Statement tokens form rest) is =
         let h = and_parts _ _ is in
         let behind = statements_of rest h.1 in
-        either_kept (is_mark m form) (statements rest) _ (IsStatementOf p q) behind
+        at_test (is_mark m form) (Some (statements rest)) _ (λ o. IfSome o (All (IsStatementOf p q))) (λ _. behind)
         (first_kept (outward (after_inside m form) (statements rest)) (after_in m rest) (All (IsStatementOf p q))
         (outward_kept (after_inside m form) (statements rest) (IsStatementOf p q) (inside_of m form (and_parts _ _ h.0).1) behind) (after_of m rest h.1))
 
@@ -85,10 +80,9 @@ module _ (p : Program) (q : Proc) where
         first_kept (after_in m body) (after_in_arms m rest) (All (IsStatementOf p q)) (after_of m body h.0) (arms_of m rest h.1)
 
   pub follow_of : (m : Mark) → IsTrue (is_body_in p q (Span q.body)) → All (IsStatementOf p q) (follow q m)
-  follow_of m is = by (after_inside m (Span q.body)) (inside_of m (Span q.body) is) where
-    by : (found : Option (List Statement)) → IfSome found (All (IsStatementOf p q)) → All (IsStatementOf p q) (elim found [ Some rest ↦ rest | None ↦ [] ])
-    by (Some rest) here = here
-    by None here = All-nil (IsStatementOf p q)
+  follow_of m is =
+      at_option (after_inside m (Span q.body)) (λ rest. rest) [] (All (IsStatementOf p q))
+      (λ rest here. some_kept (after_inside m (Span q.body)) (All (IsStatementOf p q)) rest here (inside_of m (Span q.body) is)) (All-nil (IsStatementOf p q))
 
   pub body_of : IsTrue (is_body_in p q (Span q.body)) → All (IsStatementOf p q) q.body
   body_of is = subst (All (IsStatementOf p q)) (items_hidden-the_row-Statement-0 q.body) (inside (Span q.body) is) where
@@ -99,10 +93,9 @@ module _ (p : Program) (q : Proc) where
   -- ---- what is left after a statement
 
   branch_of : (bs : List Branch) (way : ℕ) → All (λ b. All (IsStatementOf p q) b.body) bs → All (IsStatementOf p q) (branch_body bs way)
-  branch_of bs way each = by (slice_get bs way) refl where
-    by : (found : Option Branch) → slice_get bs way ≡ found → All (IsStatementOf p q) (elim found [ Some b ↦ b.body | None ↦ [] ])
-    by (Some b) is = all_get (λ (x : Branch). All (IsStatementOf p q) x.body) bs way b each is
-    by None is = All-nil (IsStatementOf p q)
+  branch_of bs way each =
+      at_option (slice_get bs way) (λ (b : Branch). b.body) [] (All (IsStatementOf p q))
+      (λ b is. all_get (λ (x : Branch). All (IsStatementOf p q) x.body) bs way b each is) (All-nil (IsStatementOf p q))
 
   pub rest_of : (way : ℕ) (form : Form) (rest : List Statement) → IsTrue (is_body_in p q (Span q.body)) → IsTrue (is_body_in p q form) →
       All (IsStatementOf p q) rest → All (IsStatementOf p q) (rest_after q way form rest)

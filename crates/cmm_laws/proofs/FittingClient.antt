@@ -1,5 +1,5 @@
 -- The client's answer to a yield leads to a sound state: each of its commands leaves a sound store or resumes at an exit.
-use Rattle.std.proofs.Common.{◌≡◌, ℕ, zero, suc, ◌+◌, ◌-◌, ◌^◌, ◌≤◌, Bool, true, false, not, Option, Some, None, Ok, Err, List, [], ◌∷◌, ◌++◌, drop, IsTrue, IsSome, refl, ap, sym, ◌∙◌, subst, arith, slice_get, length}
+use Rattle.std.proofs.Common.{◌≡◌, ℕ, zero, suc, ◌+◌, ◌-◌, ◌^◌, ◌≤◌, false, not, Option, Some, Ok, Err, List, [], ◌∷◌, drop, IsTrue, IsSome, refl, ap, sym, ◌∙◌, subst, arith, slice_get, length}
 use Rattle.std.specs.Prelude.{⊤, ◌==◌}
 use Rattle.std.specs.List.{AllZip}
 use Rattle.std.proofs.lemmas.Bool.{and_parts, ltb-true, eqb-true, eq-eqb}
@@ -10,7 +10,7 @@ use Rattle.cmm_words.specs.Widths.{bits, IsWord}
 use Rattle.cmm_script.specs.declared.script.Command.{Command}
 use Rattle.cmm_script.specs.declared.script.Command.TheVariants.{List as ListAll, Youngest, Next, Desc, Seek, Var, Set, Poke, Return, Unwind, Cut, Stop}
 use Rattle.cmm_script.specs.Refusals.{NoActivation, NoVariable, DeadVariable, DoesNotFit, NoExit, OtherCount, InvariantVariable, NoCut, NoPlace}
-use Rattle.cmm_script.specs.Lines.{ok_line, resume_line, refused_line}
+use Rattle.cmm_script.specs.Lines.{resume_line, refused_line}
 use Rattle.cmm_program.specs.declared.procedure.Proc.{Proc}
 use Rattle.cmm_program.specs.declared.procedure.Site.{Site}
 use Rattle.cmm_program.specs.declared.procedure.VarInfo.{VarInfo}
@@ -18,29 +18,25 @@ use Rattle.cmm_program.specs.Client.{Reply, Then, Resumes, Asked, logged, Suspen
 use Rattle.cmm_program.specs.Errors.{with_some}
 use Rattle.cmm_program.specs.Exits.{Exit, return_exit, unwind_exit}
 use Rattle.cmm_program.specs.Frames.{procedure_at, frame_size, sum_of_sizes, site_at, site_cuts}
-use Rattle.cmm_program.specs.Layout.{label_of, bytes_of}
+use Rattle.cmm_program.specs.Layout.{label_of}
 use Rattle.cmm_program.specs.Liveness.{is_live_at}
-use Rattle.cmm_program.specs.Memory.{with_bytes}
 use Rattle.cmm_program.specs.Orders.{Over, cut_among, found_exit}
 use Rattle.cmm_program.specs.State.{Setting, Frame, Store, Ended, Stopped}
 use Rattle.cmm_program.specs.Todo.{Todo}
-use Rattle.cmm_program.specs.Typing.{has_variable, same_width}
-use Rattle.cmm_laws.specs.Fitting.{AreActivations}
+use Rattle.cmm_program.specs.Typing.{same_width}
+use Rattle.cmm_laws.specs.Fitting.{AreActivations, Fits}
 use Rattle.cmm_laws.proofs.FittingExits.{ExitFits, return_fits, unwind_fits}
-use Rattle.cmm_laws.proofs.FittingKept.{Kept, kept_any, kept_given, kept_provided, with_some_from}
-use Rattle.cmm_laws.proofs.FittingLandings.{Fits, weaker_site, refitted}
+use Rattle.cmm_laws.proofs.FittingKept.{Kept, kept_any, kept_given, kept_provided, with_some_from, at_test, value_at}
+use Rattle.cmm_laws.proofs.FittingLandings.{weaker_site}
 use Rattle.cmm_laws.proofs.FittingOrders.{AnswerFits, away_fits, found_fits}
-use Rattle.cmm_laws.proofs.FittingStores.{with_bytes_fit, bytes_of_fit, with_variable_keeps}
+use Rattle.cmm_laws.proofs.FittingStores.{written_fits, with_variable_keeps}
 
 abbrev pub ReplyFits : Setting → List Todo → Reply → Type 0
 ReplyFits s ts (Then cursor store) = Fits s IsSome ts store
 ReplyFits s ts (Resumes answer) = AnswerFits s ts answer
 
 logged_fits : (s : Setting) (P : Option ℕ → Type 0) (ts : List Todo) (text : List ℕ) (store : Store) → Fits s P ts store → Fits s P ts (logged text store)
-logged_fits s P ts text store old = record {
-  store = refitted s store store.frames (store.log ++ text) store.status old.store old.store.stack;
-  activations = old.activations;
-}
+logged_fits s P ts text store old = record { store = old.store; stack = old.stack; activations = old.activations }
 
 -- ---- the activation at the cursor
 
@@ -72,9 +68,7 @@ set_keeps : (s : Setting) (P : Option ℕ → Type 0) (cursor n value : ℕ) (a 
 set_keeps s P zero n value a info [] ts are at is word = (are, refl)
 set_keeps s P (suc cursor) n value a info [] ts are at is word = (are, refl)
 set_keeps s P zero n value a info (f ∷ fs) ts are at is word =
-    let has : IsTrue (has_variable a.procedure n info.width) =
-    subst (λ o. IsTrue (elim o [ Some v ↦ same_width v.width info.width | None ↦ false ])) (sym is) (eq-eqb (bits info.width) (bits info.width) refl)
-    in
+    let has = value_at (slice_get a.procedure.vars n) (λ v. same_width v.width info.width) false info is ∙ eq-eqb (bits info.width) (bits info.width) refl in
     let new = with_variable_keeps s a.procedure P (f ∷ fs) ts n info.width value are (suspended_is s f fs a at).0 has word in
     (new.0, new.2)
 set_keeps s P (suc cursor) n value a info (f ∷ fs) [] are at is word = absurd are
@@ -103,43 +97,25 @@ module _ (s : Setting) (ts : List Todo) where
   sought_fits : (token value cursor : ℕ) (frames : List Frame) (store : Store) → Fits s IsSome ts store → Kept (ReplyFits s ts) (sought s token value cursor frames store)
   sought_fits token value cursor [] store old = tt
   sought_fits token value cursor (f ∷ fs) store old =
-      kept_given (suspended_at s (f ∷ fs)) NoActivation _ _ (λ a is. by a (descriptor s token a == value) (sought_fits token value (suc cursor) fs store old))
-    where
-      by : (a : Suspended) (test : Bool) → Kept (ReplyFits s ts) (sought s token value (suc cursor) fs store) →
-          Kept (ReplyFits s ts) (elim test [ true ↦ Ok (stands cursor a store) | false ↦ sought s token value (suc cursor) fs store ])
-      by a true older = logged_fits s IsSome ts _ store old
-      by a false older = older
+      kept_given (suspended_at s (f ∷ fs)) NoActivation _ _ (λ a is.
+      at_test (descriptor s token a == value) (Ok (stands cursor a store)) (sought s token value (suc cursor) fs store) (Kept (ReplyFits s ts))
+      (λ _. logged_fits s IsSome ts _ store old) (sought_fits token value (suc cursor) fs store old))
 
   set_fits : (cursor n value : ℕ) (a : Suspended) (info : VarInfo) (store : Store) → Fits s IsSome ts store → at_cursor s cursor store ≡ Some a →
       variable_info a n ≡ Some info → IsWord info.width value → ReplyFits s ts (set_done cursor n value store)
   set_fits cursor n value a info store old at is word =
       let new = set_keeps s IsSome cursor n value a info store.frames ts old.activations at is word in
-      logged_fits s IsSome ts ok_line (record store { frames = with_value cursor n value store.frames }) (record {
-        store = refitted s store (with_value cursor n value store.frames) store.log store.status old.store (subst (λ k. k ≤ s.top - s.base) (sym new.1) old.store.stack);
-        activations = new.0;
-      })
+      record { store = old.store; stack = subst (λ k. k ≤ s.top - s.base) (sym new.1) old.stack; activations = new.0 }
 
   poked_fits : (cursor address value : ℕ) (store : Store) → Fits s IsSome ts store → Kept (ReplyFits s ts) (poked cursor address value store)
   poked_fits cursor address value store old =
       kept_provided (may_poke store.memory.globals address) NoPlace _ _ (λ _.
-      logged_fits s IsSome ts ok_line (record store { memory = with_bytes store.memory address (bytes_of 8 value) }) (record {
-        store = record {
-          registers = old.store.registers;
-          memory = with_bytes_fit store.memory address (bytes_of 8 value) (bytes_of_fit 8 value) old.store.memory;
-          stack = old.store.stack;
-          input = old.store.input;
-          taken = old.store.taken;
-          output = old.store.output;
-        };
-        activations = old.activations;
-      }))
+      record { store = written_fits s store address 8 value old.store; stack = old.stack; activations = old.activations })
 
   stopped_fits : (store : Store) → Fits s IsSome ts store → AnswerFits s ts (Over 0 record store { status = Ended Stopped })
-  stopped_fits store old = record {
-    store = refitted s store store.frames store.log (Ended Stopped) old.store old.store.stack;
-    activations = weaker_site s IsSome (λ x. ⊤) store.frames ts (λ x h. tt) old.activations;
-    yielded = tt;
-  }
+  stopped_fits store old =
+      let are = weaker_site s IsSome (λ x. ⊤) store.frames ts (λ x h. tt) old.activations in
+      record { fits = record { store = old.store; stack = old.stack; activations = are }; yielded = tt }
 
   -- ---- the commands
 

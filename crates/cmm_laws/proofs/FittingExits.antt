@@ -1,5 +1,5 @@
 -- Exits: the widths that an exit of a site asks for are those of what takes the values where it leads.
-use Rattle.std.proofs.Common.{◌≡◌, ℕ, Bool, true, false, Option, Some, None, List, [], ◌∷◌, map, All, IsTrue, refl, ap, sym, ◌∙◌, subst, slice_get, length, not}
+use Rattle.std.proofs.Common.{◌≡◌, ℕ, Option, Some, None, List, [], ◌∷◌, map, All, IsTrue, refl, ap, sym, ◌∙◌, subst, slice_get, length, not}
 use Rattle.std.specs.Prelude.{◌==◌, ◌&&◌, nat_lt}
 use Rattle.std.specs.List.{AllZip}
 use Rattle.std.proofs.lemmas.Bool.{and_parts, false≢true}
@@ -12,11 +12,11 @@ use Rattle.cmm_program.specs.declared.procedure.Proc.{Proc}
 use Rattle.cmm_program.specs.declared.procedure.Site.{Site}
 use Rattle.cmm_program.specs.Acts.{Word, target_width}
 use Rattle.cmm_program.specs.Errors.{with_some}
-use Rattle.cmm_program.specs.Exits.{Exit, normal_exit, continuation_exit, return_exit, unwind_exit, variable_width, have_widths, numbers, results_of, parameters_of}
-use Rattle.cmm_program.specs.Frames.{procedure_at, site_at, parameters}
+use Rattle.cmm_program.specs.Exits.{Exit, normal_exit, continuation_exit, return_exit, unwind_exit, variable_width, have_widths, numbers, parameters_of}
+use Rattle.cmm_program.specs.Frames.{procedure_at, site_at}
 use Rattle.cmm_program.specs.State.{Setting, Frame}
 use Rattle.cmm_laws.proofs.FittingActs.{WordFits, back_word}
-use Rattle.cmm_laws.proofs.FittingKept.{with_some_from}
+use Rattle.cmm_laws.proofs.FittingKept.{with_some_from, at_test, value_at}
 use Rattle.cmm_laws.proofs.FittingLandings.{LandingFits, LandingSite, target_of, parameters_at}
 
 -- values of the widths that it asks for fit where it leads
@@ -34,9 +34,9 @@ words_zip (w ∷ ws) (v ∷ vs) have fit =
 
 module _ (s : Setting) (f : Frame) (fs : List Frame) (q : Proc) (is : procedure_at s f.procedure ≡ Some q) where
   normal_fits : (site : Site) → site_at s f ≡ Some site → ExitFits s (f ∷ fs) (normal_exit site)
-  normal_fits site at values fit = (subst (λ ts. AllZip IsWord (map target_width ts) values) (sym here) fit, λ x. tt) where
-    here : results_of s (f ∷ fs) ≡ site.results
-    here = ap (λ (o : Option Site). elim o [ Some x ↦ x.results | None ↦ [] ]) at
+  normal_fits site at values fit =
+      let here = value_at (site_at s f) (λ (x : Site). x.results) [] site at in
+      (subst (λ ts. AllZip IsWord (map target_width ts) values) (sym here) fit, λ x. tt)
 
   target_widths : (ns : List ℕ) → map target_width (map (target_of q) ns) ≡ map (variable_width q) ns
   target_widths [] = refl
@@ -49,7 +49,7 @@ module _ (s : Setting) (f : Frame) (fs : List Frame) (q : Proc) (is : procedure_
     where
       taken : (c : Cont) → slice_get q.conts k ≡ Some c → map target_width (parameters_of s k (f ∷ fs)) ≡ map (variable_width q) c.params
       taken c there =
-          let params : parameters q k ≡ c.params = ap (λ (o : Option Cont). elim o [ Some x ↦ x.params | None ↦ [] ]) there in
+          let params = value_at (slice_get q.conts k) (λ (x : Cont). x.params) [] c there in
           ap (map target_width) (parameters_at s k f fs q is) ∙ ap (λ ns. map target_width (map (target_of q) ns)) params ∙ target_widths c.params
 
   listed_fits : (ks : List ℕ) (n : ℕ) (e : Exit) → with_some (slice_get ks n) (continuation_exit q) ≡ Some e → ExitFits s (f ∷ fs) e
@@ -59,10 +59,8 @@ module _ (s : Setting) (f : Frame) (fs : List Frame) (q : Proc) (is : procedure_
   unwind_fits site n e at = listed_fits site.unwinds n e at
 
   pub return_fits : (site : Site) (n : ℕ) (e : Exit) → site_at s f ≡ Some site → return_exit q site n ≡ Some e → ExitFits s (f ∷ fs) e
-  return_fits site n e at = by (nat_lt n (length site.returns)) ((n == length site.returns) && not site.never) where
-    by : (alternate normal : Bool) →
-        elim alternate [ true ↦ with_some (slice_get site.returns n) (continuation_exit q) | false ↦ elim normal [ true ↦ Some (normal_exit site) | false ↦ None ] ] ≡ Some e →
-        ExitFits s (f ∷ fs) e
-    by true normal there = listed_fits site.returns n e there
-    by false true there = subst (ExitFits s (f ∷ fs)) (same_Some (normal_exit site) e there) (normal_fits site at)
-    by false false there = absurd (none-some e there)
+  return_fits site n e at =
+      let P : Option Exit → Type 0 = λ o. o ≡ Some e → ExitFits s (f ∷ fs) e in
+      at_test (nat_lt n (length site.returns)) (with_some (slice_get site.returns n) (continuation_exit q)) _ P (λ _. listed_fits site.returns n e)
+      (at_test ((n == length site.returns) && not site.never) (Some (normal_exit site)) None P
+      (λ _ there. subst (ExitFits s (f ∷ fs)) (same_Some (normal_exit site) e there) (normal_fits site at)) (λ there. absurd (none-some e there)))

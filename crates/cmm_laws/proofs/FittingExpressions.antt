@@ -1,8 +1,8 @@
 -- The value of an expression that keeps the rules on widths fits its width, where what it reads does.
 use mathlib.Core.Former.{one_more}
-use Rattle.std.proofs.Common.{◌≡◌, ℕ, zero, suc, ◌+◌, ◌*◌, ◌^◌, ◌<◌, Bool, true, false, Option, Some, None, Ok, Err, map, IsTrue, refl, sym, ◌∙◌, subst, arith, lt_of_lt_of_le, pow_mono, pow-suc}
+use Rattle.std.proofs.Common.{◌≡◌, ℕ, zero, suc, ◌^◌, ◌<◌, Bool, true, false, Option, Some, Ok, map, IsTrue, refl, sym, ◌∙◌, subst, arith, lt_of_lt_of_le, pow_mono, pow-suc}
 use Rattle.std.specs.Prelude.{⊤, nat_le}
-use Rattle.std.proofs.lemmas.Bool.{eqb-true, leb-true, false≢true}
+use Rattle.std.proofs.lemmas.Bool.{eqb-true, leb-true}
 use Rattle.std.proofs.lemmas.Nat.{mod_below, pow_pos}
 use Rattle.std.proofs.lemmas.Option.{none-some, same_Some}
 use Rattle.cmm_words.specs.declared.width.Width.{Width}
@@ -26,7 +26,7 @@ use Rattle.cmm_program.specs.Typing as typing
 use Rattle.cmm_program.specs.Typing.{same_width, if_holds, if_width, constant_width, has_variable, has_register, typed, has_width, is_typed}
 use Rattle.cmm_program.specs.Values.{Reads, value_of, value_step, width_of, width_step, known_width, byte_of, loaded, may_access}
 use Rattle.cmm_laws.specs.Fitting.{IsByte}
-use Rattle.cmm_laws.proofs.FittingKept.{Kept, kept_and_then, kept_any, kept_given, kept_provided, with_some_from, some_kept}
+use Rattle.cmm_laws.proofs.FittingKept.{Kept, kept_and_then, kept_any, kept_given, kept_provided, kept_weaker, with_some_from, some_kept, passes_from}
 
 abbrev pub IsByteCell : Cell → Type 0
 IsByteCell (Byte byte) = IsByte byte
@@ -60,27 +60,20 @@ same_word v w a same h = subst (λ k. a < 2 ^ k) (eqb-true (bits v) (bits w) sam
 wider_word : (v w : Width) (a : ℕ) → IsTrue (nat_le (bits v) (bits w)) → IsWord v a → IsWord w a
 wider_word v w a wider h = lt_of_lt_of_le h (pow_mono (leb-true (bits v) (bits w) wider))
 
-kept_word : (v w : Width) (t : Tried ℕ) → ((a : ℕ) → IsWord v a → IsWord w a) → Kept (IsWord v) t → Kept (IsWord w) t
-kept_word v w (Ok a) wider h = wider a h
-kept_word v w (Err e) wider h = tt
-
 -- ---- bytes as a number
+
+byte_fits : (c : Cell) → IsByteCell c → Kept IsByte (byte_of c)
+byte_fits Outside is = tt
+byte_fits Unwritten is = tt
+byte_fits (Byte byte) is = is
 
 number_fits : (cell : ℕ → Cell) → ((a : ℕ) → IsByteCell (cell a)) → (n address : ℕ) →
     Kept (λ found. number_of found < 256 ^ n) (all_of (map (λ a. byte_of (cell a)) (addresses address n)))
 number_fits cell are zero address = omega arith
 number_fits cell are (suc n) address =
-    kept_and_then (byte_of (cell address)) IsByte _ _ (here (cell address) (are address)) (λ byte is.
+    kept_and_then (byte_of (cell address)) IsByte _ _ (byte_fits (cell address) (are address)) (λ byte is.
     kept_and_then (all_of (map (λ a. byte_of (cell a)) (addresses (suc address) n))) (λ found. number_of found < 256 ^ n) _ _
-    (number_fits cell are n (suc address)) (λ rest less. joined byte (number_of rest) is less))
-  where
-    here : (c : Cell) → IsByteCell c → Kept IsByte (byte_of c)
-    here Outside is = tt
-    here Unwritten is = tt
-    here (Byte byte) is = is
-
-    joined : (byte rest : ℕ) → byte < 256 → rest < 256 ^ n → byte + 256 * rest < 256 ^ suc n
-    joined byte rest is less = rw (pow-suc 256 n) (omega arith)
+    (number_fits cell are n (suc address)) (λ rest less. rw (pow-suc 256 n) (omega arith)))
 
 byte_words : (w : Width) → 256 ^ bytes w ≡ 2 ^ bits w
 byte_words W8 = refl
@@ -114,7 +107,7 @@ gives_operand found width wanted result w value gives is =
     let a = with_some_from found _ w is in
     let same = if_holds_from (same_width a.0 wanted) result w a.2 in
     let here = gives a.0 a.1 in
-    (same.1, kept_word width wanted value (λ x fits. same_word a.0 wanted x same.0 (subst (λ k. IsWord k x) here.0 fits)) here.1)
+    (same.1, kept_weaker value (IsWord width) (IsWord wanted) (λ x fits. same_word a.0 wanted x same.0 (subst (λ k. IsWord k x) here.0 fits)) here.1)
 
 -- the same for a conversion, which has a test besides
 gives_converted : (found : Option Width) (width from to w : Width) (test : Bool) (value : Tried ℕ) → Gives found width value →
@@ -163,7 +156,7 @@ module _ (p : Program) (q : Proc) (r : Reads) (reads : ReadsFit p q r) where
         (x.0, kept_and_then (fold_operand value_step a r) (IsWord from) _ _ x.2 (λ v h. extended-word from to v))
     expression_gives (ZeroExtend' from to _ a) w is =
         let x = gives_converted _ _ from to w _ _ (operand_gives a) is in
-        (x.0, kept_word from to (fold_operand value_step a r) (λ v. wider_word from to v x.1) x.2)
+        (x.0, kept_weaker (fold_operand value_step a r) (IsWord from) (IsWord to) (λ v. wider_word from to v x.1) x.2)
     expression_gives (LowBits' from to _ a) w is =
         let x = gives_converted _ _ from to w _ _ (operand_gives a) is in
         (x.0, kept_and_then (fold_operand value_step a r) (IsWord from) _ _ x.2 (λ v h. low-word to v))
@@ -174,13 +167,10 @@ module _ (p : Program) (q : Proc) (r : Reads) (reads : ReadsFit p q r) where
   -- ---- tests of a width
 
   pub width_gives : (w : Width) (e : Expression) → IsTrue (has_width p q w e) → Kept (IsWord w) (value_of e r)
-  width_gives w e = by (typed p q e) refl where
-    by : (found : Option Width) → typed p q e ≡ found → IsTrue (elim found [ Some x ↦ same_width x w | None ↦ false ]) → Kept (IsWord w) (value_of e r)
-    by (Some x) is same = let h = expression_gives e x is in kept_word (width_of e) w (value_of e r) (λ a fits. same_word x w a same (subst (λ k. IsWord k a) h.0 fits)) h.1
-    by None is same = absurd (false≢true same)
+  width_gives w e has =
+      let x = passes_from (typed p q e) (λ x. same_width x w) has in
+      let h = expression_gives e x.0 x.1 in
+      kept_weaker (value_of e r) (IsWord (width_of e)) (IsWord w) (λ a fits. same_word x.0 w a x.2 (subst (λ k. IsWord k a) h.0 fits)) h.1
 
   pub typed_gives : (e : Expression) → IsTrue (is_typed p q e) → Kept (IsWord (width_of e)) (value_of e r)
-  typed_gives e = by (typed p q e) refl where
-    by : (found : Option Width) → typed p q e ≡ found → IsTrue (elim found [ Some x ↦ true | None ↦ false ]) → Kept (IsWord (width_of e)) (value_of e r)
-    by (Some x) is here = (expression_gives e x is).1
-    by None is here = absurd (false≢true here)
+  typed_gives e is = let x = passes_from (typed p q e) (λ x. true) is in (expression_gives e x.0 x.1).1

@@ -20,8 +20,8 @@ use Rattle.cmm_program.specs.Placed.{IsPlaced, every, is_pair_in, are_pairs, are
 use Rattle.cmm_program.specs.State.{Setting}
 use Rattle.cmm_program.proofs.Places.{end_of-grows}
 use Rattle.cmm_laws.specs.Fitting.{IsByte, CellFits}
-use Rattle.cmm_laws.proofs.FittingLists.{every_all}
-use Rattle.cmm_laws.proofs.FittingStores.{PartsInside, any_place, bytes_of_fit}
+use Rattle.cmm_laws.proofs.FittingKept.{every_all, any_place}
+use Rattle.cmm_laws.proofs.FittingStores.{PartsInside, bytes_of_fit}
 
 -- ---- parts of frames
 

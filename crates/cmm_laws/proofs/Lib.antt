@@ -6,7 +6,6 @@ mod FittingExits
 mod FittingExpressions
 mod FittingKept
 mod FittingLandings
-mod FittingLists
 mod FittingOrders
 mod FittingStart
 mod FittingStores

@@ -67,14 +67,16 @@ pub record MemoryFits (memory : Memory) : Type 0 where
   pub globals : RoomFits memory.globals
   pub rooms : All RoomFits memory.rooms
 
--- a store without its activations: each register has a value, of its width, and all else is bytes; the frames fit the stack
-pub record StoreFits (s : Setting) (store : Store) : Type 0 where
-  pub registers : AllZip (λ g value. IsWord g.width value) s.program.globals store.registers
-  pub memory : MemoryFits store.memory
-  pub stack : sum_of_sizes s store.frames ≤ s.top - s.base
-  pub input : All IsByte store.input
-  pub taken : All IsByte store.taken
-  pub output : All IsByte store.output
+-- each register has a value, of its width, and memory, input, what was taken of it and output are bytes
+pub record AreFitting (s : Setting) (held : List ℕ) (m : Memory) (left gone written : List ℕ) : Type 0 where
+  pub registers : AllZip (λ g value. IsWord g.width value) s.program.globals held
+  pub memory : MemoryFits m
+  pub input : All IsByte left
+  pub taken : All IsByte gone
+  pub output : All IsByte written
+
+abbrev pub StoreFits : Setting → Store → Type 0
+StoreFits s store = AreFitting s store.registers store.memory store.input store.taken store.output
 
 -- the values for the client
 abbrev pub AreYielded : Status → Type 0
@@ -83,9 +85,14 @@ AreYielded _ = ⊤
 
 -- ---- states
 
+-- a store, and where its activations stand, whose youngest has a site or none, as is asked
+pub record Fits (s : Setting) (P : Option ℕ → Type 0) (ts : List Todo) (after : Store) : Type 0 where
+  pub store : StoreFits s after
+  pub stack : sum_of_sizes s after.frames ≤ s.top - s.base
+  pub activations : AreActivations s P after.frames ts
+
 pub record IsSound (s : Setting) (st : State Todo) : Type 0 where
-  pub store : StoreFits s st.store
-  pub activations : AreActivations s (YoungestSite st.store.status) st.store.frames st.controls
+  pub fits : Fits s (YoungestSite st.store.status) st.controls st.store
   pub yielded : AreYielded st.store.status
 
 -- A program that is in range, at a valid placement, with a stack whose addresses are words and an input of bytes, has only
