@@ -25,9 +25,8 @@ use Rattle.cmm_program.specs.State.{Setting, Frame, Store, Ended, Stopped}
 use Rattle.cmm_program.specs.Todo.{Todo}
 use Rattle.cmm_program.specs.Typing.{same_width}
 use Rattle.cmm_laws.specs.Fitting.{AreActivations, Fits}
-use Rattle.cmm_laws.proofs.FittingExits.{ExitFits, return_fits, unwind_fits}
 use Rattle.cmm_laws.proofs.FittingKept.{Kept, kept_any, kept_given, kept_provided, with_some_from, at_test, value_at}
-use Rattle.cmm_laws.proofs.FittingLandings.{weaker_site}
+use Rattle.cmm_laws.proofs.FittingLandings.{ExitFits, return_fits, unwind_fits, weaker_site}
 use Rattle.cmm_laws.proofs.FittingOrders.{AnswerFits, away_fits, found_fits}
 use Rattle.cmm_laws.proofs.FittingStores.{written_fits, with_variable_keeps}
 

@@ -1,8 +1,9 @@
--- Landings: a new activation, and one that goes on behind its site or at a continuation. What they leave is sound.
-use Rattle.std.proofs.Common.{◌≡◌, ℕ, zero, suc, ◌+◌, ◌-◌, ◌<◌, ◌≤◌, false, Option, Some, None, List, [], ◌∷◌, map, take, All, IsTrue, IfSome, IsSome, IsNone, refl, ap, sym, ◌∙◌, subst, slice_get, slice_index_or, length, replicate}
-use Rattle.std.specs.Prelude.{⊤}
+-- Landings: a new activation, and one that goes on behind its site or at a continuation. What they leave is sound; and the
+-- widths that an exit of a site asks for are those of what takes the values where it leads.
+use Rattle.std.proofs.Common.{◌≡◌, ℕ, zero, suc, ◌+◌, ◌-◌, ◌<◌, ◌≤◌, false, Option, Some, None, List, [], ◌∷◌, map, take, All, IsTrue, IfSome, IsSome, IsNone, refl, ap, sym, ◌∙◌, subst, slice_get, slice_index_or, length, replicate, not}
+use Rattle.std.specs.Prelude.{⊤, ◌==◌, ◌&&◌, nat_lt}
 use Rattle.std.specs.List.{AllZip}
-use Rattle.std.proofs.lemmas.Bool.{and_parts, leb-true, ltb-true, eq-eqb, and_from}
+use Rattle.std.proofs.lemmas.Bool.{and_parts, leb-true, ltb-true, eq-eqb, and_from, false≢true}
 use Rattle.std.proofs.lemmas.List.Elements.{All-nil, All-cons, All-head, All-tail, All-replicate}
 use Rattle.std.proofs.lemmas.Nat.{pow_pos}
 use Rattle.std.proofs.lemmas.Option.{none-some, same_Some, slice_get_within}
@@ -18,10 +19,10 @@ use Rattle.cmm_program.specs.declared.program.Program.{Program}
 use Rattle.cmm_program.specs.declared.placement.PlaceRow.{PlaceRow}
 use Rattle.cmm_program.specs.declared.statement.Statement.{Statement}
 use Rattle.cmm_program.specs.declared.statement.Form.TheVariants.{Span}
-use Rattle.cmm_program.specs.Acts.{target_width}
+use Rattle.cmm_program.specs.Acts.{target_width, Word}
 use Rattle.cmm_program.specs.Bodies.{AtContinuation, follow}
 use Rattle.cmm_program.specs.Control.{arrived, moved}
-use Rattle.cmm_program.specs.Exits.{Landing, Called, Instead, Back, Resumed, variable_width, entered, results_of, parameters_of, gone_on, land}
+use Rattle.cmm_program.specs.Exits.{Landing, Called, Instead, Back, Resumed, variable_width, entered, results_of, parameters_of, gone_on, land, Exit, normal_exit, continuation_exit, return_exit, unwind_exit, have_widths, numbers}
 use Rattle.cmm_program.specs.Layout.{stack_size}
 use Rattle.cmm_program.specs.Frames.{procedure_at, place_row, sum_of_sizes, fits_stack, frame_address, stackdata_offset, room_of, new_frame, with_site, site_at, parameters}
 use Rattle.cmm_program.specs.InRange.{IsInRange, IsProcInRange, is_continuation, below, is_body_in}
@@ -31,10 +32,12 @@ use Rattle.cmm_program.specs.Todo.{Todo, todo_control, todo_on, in_procedure, re
 use Rattle.cmm_program.specs.Typing.{is_target, same_width}
 use Rattle.cmm_program.specs.Writes.{all_assigned}
 use Rattle.cmm_laws.specs.Fitting.{IsStatementOf, IsActivation, AreActivations, CellFits, RoomFits, StoreFits, Fits}
-use Rattle.cmm_laws.proofs.FittingActs.{results_fit}
+use Rattle.cmm_laws.proofs.FittingActs.{results_fit, WordFits, back_word}
 use Rattle.cmm_laws.proofs.FittingBodies.{body_of, follow_of, rest_of}
 use Rattle.cmm_laws.proofs.FittingKept.{kept_with_some, with_some_from, at_option, at_test, value_at, all_get, every_get, some_get, zip_filled, zip_map}
 use Rattle.cmm_laws.proofs.FittingStores.{Works, all_assigned_works}
+use Rattle.cmm_words.specs.declared.width.Width.{Width}
+use Rattle.cmm_program.specs.Errors.{with_some}
 
 -- ---- what fits
 
@@ -277,3 +280,51 @@ module _ (s : Setting) (range : IsInRange s.program) where
   land_fits (Instead n values) ts store old fits = entered_fits n values store.frames ts store old.store old.activations fits
   land_fits (Back values) ts store old fits = land_back values store.frames ts store old fits
   land_fits (Resumed k values) ts store old fits = land_resumed k values store.frames ts store old fits
+
+-- ---- exits
+
+-- values of the widths that it asks for fit where it leads
+abbrev pub ExitFits : Setting → List Frame → Exit → Type 0
+ExitFits s frames e = (values : List ℕ) → AllZip IsWord e.widths values → LandingFits s (e.landing values) frames × ((site : Option ℕ) → LandingSite (e.landing values) site)
+
+-- words that have just these widths fit them
+pub words_zip : (ws : List Width) (words : List Word) → IsTrue (have_widths ws words) → All WordFits words → AllZip IsWord ws (numbers words)
+words_zip [] [] have fit = tt
+words_zip [] (v ∷ vs) have fit = absurd (false≢true have)
+words_zip (w ∷ ws) [] have fit = absurd (false≢true have)
+words_zip (w ∷ ws) (v ∷ vs) have fit =
+    let h = and_parts _ _ have in
+    (back_word w v.width v.value h.0 (All-head WordFits v vs fit), words_zip ws vs h.1 (All-tail WordFits v vs fit))
+
+module _ (s : Setting) (f : Frame) (fs : List Frame) (q : Proc) (is : procedure_at s f.procedure ≡ Some q) where
+  normal_fits : (site : Site) → site_at s f ≡ Some site → ExitFits s (f ∷ fs) (normal_exit site)
+  normal_fits site at values fit =
+      let here = value_at (site_at s f) (λ (x : Site). x.results) [] site at in
+      (subst (λ ts. AllZip IsWord (map target_width ts) values) (sym here) fit, λ x. tt)
+
+  target_widths : (ns : List ℕ) → map target_width (map (target_of q) ns) ≡ map (variable_width q) ns
+  target_widths [] = refl
+  target_widths (n ∷ ns) = ap (λ ws. variable_width q n ∷ ws) (target_widths ns)
+
+  pub continuation_fits : (k : ℕ) (e : Exit) → continuation_exit q k ≡ Some e → ExitFits s (f ∷ fs) e
+  continuation_fits k e at =
+      let c = with_some_from (slice_get q.conts k) _ e at in
+      subst (ExitFits s (f ∷ fs)) (same_Some _ e c.2) (λ values fit. (subst (λ ws. AllZip IsWord ws values) (sym (taken c.0 c.1)) fit, λ x. tt))
+    where
+      taken : (c : Cont) → slice_get q.conts k ≡ Some c → map target_width (parameters_of s k (f ∷ fs)) ≡ map (variable_width q) c.params
+      taken c there =
+          let params = value_at (slice_get q.conts k) (λ (x : Cont). x.params) [] c there in
+          ap (map target_width) (parameters_at s k f fs q is) ∙ ap (λ ns. map target_width (map (target_of q) ns)) params ∙ target_widths c.params
+
+  listed_fits : (ks : List ℕ) (n : ℕ) (e : Exit) → with_some (slice_get ks n) (continuation_exit q) ≡ Some e → ExitFits s (f ∷ fs) e
+  listed_fits ks n e at = let k = with_some_from (slice_get ks n) (continuation_exit q) e at in continuation_fits k.0 e k.2
+
+  pub unwind_fits : (site : Site) (n : ℕ) (e : Exit) → unwind_exit q site n ≡ Some e → ExitFits s (f ∷ fs) e
+  unwind_fits site n e at = listed_fits site.unwinds n e at
+
+  pub return_fits : (site : Site) (n : ℕ) (e : Exit) → site_at s f ≡ Some site → return_exit q site n ≡ Some e → ExitFits s (f ∷ fs) e
+  return_fits site n e at =
+      let P : Option Exit → Type 0 = λ o. o ≡ Some e → ExitFits s (f ∷ fs) e in
+      at_test (nat_lt n (length site.returns)) (with_some (slice_get site.returns n) (continuation_exit q)) _ P (λ _. listed_fits site.returns n e)
+      (at_test ((n == length site.returns) && not site.never) (Some (normal_exit site)) None P
+      (λ _ there. subst (ExitFits s (f ∷ fs)) (same_Some (normal_exit site) e there) (normal_fits site at)) (λ there. absurd (none-some e there)))

@@ -17,11 +17,10 @@ use Rattle.cmm_program.specs.Orders.{Answer, Stay, Wait, Away, Over, procedure_f
 use Rattle.cmm_program.specs.State.{Setting, Frame, Store, Running, Ended, Done}
 use Rattle.cmm_program.specs.Todo.{Todo}
 use Rattle.cmm_program.specs.Writes.{put_all}
-use Rattle.cmm_laws.specs.Fitting.{AreActivations, YoungestSite, IsByte, RoomFits, StoreFits, AreYielded, Fits, IsSound}
+use Rattle.cmm_laws.specs.Fitting.{AreActivations, YoungestSite, IsByte, RoomFits, AreFitting, AreYielded, Fits, IsSound}
 use Rattle.cmm_laws.proofs.FittingActs.{WordFits, OrderFits, back_word}
-use Rattle.cmm_laws.proofs.FittingExits.{ExitFits, words_zip, continuation_fits, return_fits}
 use Rattle.cmm_laws.proofs.FittingKept.{Kept, kept_and_then, kept_given, kept_provided, with_some_from, at_option}
-use Rattle.cmm_laws.proofs.FittingLandings.{FormalsFit, HasSite, LandingFits, LandingSite, by_youngest, suspended_keeps, weaker_site, resited_sum}
+use Rattle.cmm_laws.proofs.FittingLandings.{ExitFits, words_zip, continuation_fits, return_fits, FormalsFit, HasSite, LandingFits, LandingSite, by_youngest, suspended_keeps, weaker_site, resited_sum}
 use Rattle.cmm_laws.proofs.FittingStores.{IsYoungest, Works, assigned_works, put_all_works}
 
 -- an answer is sound where the state is to which it leads, for activations that stand at these places
@@ -159,30 +158,21 @@ module _ (s : Setting) where
       yielded = subst AreYielded (sym works.still) tt;
     }
 
+    -- other bytes in input and output
+    streams_run : (base : Store) (left gone written : List ℕ) → Runs base → All IsByte left → All IsByte gone → All IsByte written →
+        Runs (record base { input = left; taken = gone; output = written })
+    streams_run base left gone written old are had have =
+        let was = old.fits.store in
+        let new : AreFitting s base.registers base.memory left gone written =
+        record { registers = was.registers; memory = was.memory; input = are; taken = had; output = have } in
+        record { fits = record { store = new; stack = old.fits.stack; activations = old.fits.activations }; youngest = old.youngest; still = old.still }
+
     taken_runs : (input : List ℕ) (base : Store) → Runs (record base { input = input }) → Runs (one_taken (record base { input = input }))
     taken_runs [] base old = old
     taken_runs (b ∷ bs) base old =
         let was = old.fits.store in
-        let new : StoreFits s (record base { input = bs; taken = base.taken ++ b ∷ [] }) = record {
-          registers = was.registers;
-          memory = was.memory;
-          input = All-tail IsByte b bs was.input;
-          taken = All-push IsByte base.taken b was.taken (All-head IsByte b bs was.input);
-          output = was.output;
-        } in
-        record { fits = record { store = new; stack = old.fits.stack; activations = old.fits.activations }; youngest = old.youngest; still = old.still }
-
-    put_runs : (value : ℕ) (store : Store) → Runs store → Runs (record store { output = store.output ++ value % 256 ∷ [] })
-    put_runs value store old =
-        let was = old.fits.store in
-        let new : StoreFits s (record store { output = store.output ++ value % 256 ∷ [] }) = record {
-          registers = was.registers;
-          memory = was.memory;
-          input = was.input;
-          taken = was.taken;
-          output = All-push IsByte store.output (value % 256) was.output (mod_below value 256 (omega arith));
-        } in
-        record { fits = record { store = new; stack = old.fits.stack; activations = old.fits.activations }; youngest = old.youngest; still = old.still }
+        let had = All-push IsByte base.taken b was.taken (All-head IsByte b bs was.input) in
+        streams_run (record base { input = b ∷ bs }) bs (base.taken ++ b ∷ []) base.output old (All-tail IsByte b bs was.input) had was.output
 
     has_site : (n : ℕ) (frames : List Frame) → IsYoungest s q frames → n < length q.sites → HasSite s n frames
     has_site n [] youngest within = tt
@@ -193,7 +183,10 @@ module _ (s : Setting) where
     perform_fits (WriteAll ws) store works fits =
         kept_and_then (put_all ws store) Runs _ _ (put_all_works s q (YoungestSite Running) Running ts ws store works fits) runs_sound
     perform_fits (GoBy way) store works fits = runs_sound store works
-    perform_fits (Put value) store works fits = runs_sound _ (put_runs value store works)
+    perform_fits (Put value) store works fits =
+        let was = works.fits.store in
+        let have = All-push IsByte store.output (value % 256) was.output (mod_below value 256 (omega arith)) in
+        runs_sound _ (streams_run store store.input store.taken (store.output ++ value % 256 ∷ []) works was.input was.taken have)
     perform_fits (Get target) store works fits =
         let word = back_word (target_width target) W64 (next_byte store.input) fits.1 (next_word store.input works.fits.store.input) in
         runs_sound _ (assigned_works s q (YoungestSite Running) Running ts target (next_byte store.input) (one_taken store) (taken_runs store.input store works) fits.0 word)

@@ -2,7 +2,6 @@ mod Fitting
 mod FittingActs
 mod FittingBodies
 mod FittingClient
-mod FittingExits
 mod FittingExpressions
 mod FittingKept
 mod FittingLandings
