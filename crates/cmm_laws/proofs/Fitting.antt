@@ -19,14 +19,16 @@ use Rattle.cmm_program.specs.Orders.{Answer, Stay, Wait, Away, Over, perform}
 use Rattle.cmm_program.specs.State.{Setting, Frame, Store, Status, Running, Waiting, Ended, Wrong, StackLimit}
 use Rattle.cmm_program.specs.Todo.{Todo, todo_control, todo_act, todo_on, act_of}
 use Rattle.cmm_program.specs.Writes.{reads_of}
-use Rattle.cmm_laws.specs.Fitting.{IsStatementOf, YoungestSite, IsByte, RoomFits, StoreFits, AreYielded, Fits, IsSound, EveryStateIsSound}
+use Rattle.cmm_laws.specs.Fitting.{IsStatementOf, YoungestSite, IsByte, RoomFits, StoreFits, AreYielded, Fits, IsSound, EveryStateIsSound, ExpressionsFit}
 use Rattle.cmm_laws.proofs.FittingActs.{OrderFits, order_fits}
 use Rattle.cmm_laws.proofs.FittingClient.{answered_fits}
-use Rattle.cmm_laws.proofs.FittingKept.{Kept, kept_and_then, at_option, some_kept, some_get, zip_zeros}
+use Rattle.cmm_program.specs.Values.{value_of, width_of}
+use Rattle.cmm_laws.proofs.FittingExpressions.{expression_gives}
+use Rattle.cmm_laws.proofs.FittingKept.{Kept, kept_and_then, kept_at, at_option, some_kept, some_get, zip_zeros}
 use Rattle.cmm_laws.proofs.FittingLandings.{LandingFits, LandingSite, proc_in_range, found_procedure, moved_keeps, weaker_site, land_fits}
 use Rattle.cmm_laws.proofs.FittingOrders.{AnswerFits, Runs, perform_fits}
 use Rattle.cmm_laws.proofs.FittingStart.{parts_inside, data_cells}
-use Rattle.cmm_laws.proofs.FittingStores.{PartsInside, reads_fit}
+use Rattle.cmm_laws.proofs.FittingStores.{PartsInside, IsYoungest, Works, reads_fit}
 
 module _ (s : Setting) (range : IsInRange s.program) where
   -- ---- what an answer makes of a state
@@ -135,3 +137,11 @@ module _ (s : Setting) (range : IsInRange s.program) where
 pub every_state_sound : EveryStateIsSound
 every_state_sound s input range placed top are m =
     steps_sound s range top (parts_inside s range placed) m (start s input) (start_sound s range input are)
+
+pub expressions_fitting : ExpressionsFit
+expressions_fitting s st f fs q e w value range placed top sound youngest found typed is =
+    let works : Works s q (YoungestSite st.store.status) st.store.status st.controls st.store =
+    record { fits = sound.fits; youngest = subst (IsYoungest s q) (sym youngest) found; still = refl } in
+    let reads = reads_fit s top (parts_inside s range placed) q (YoungestSite st.store.status) st.store.status st.controls st.store works in
+    let gives = expression_gives s.program q (reads_of s st.store) reads e w typed in
+    subst (λ x. IsWord x value) gives.0 (kept_at (value_of e (reads_of s st.store)) (IsWord (width_of e)) value is gives.1)

@@ -3,7 +3,7 @@ use Rattle.std.proofs.Common.{◌≡◌, ℕ, ◌<◌, ◌^◌, ◌==◌, ◌&&�
 use Rattle.std.specs.Prelude.{⊤}
 use Rattle.std.specs.List.{AllZip}
 use Rattle.std.proofs.lemmas.Bool.{and_parts, eqb-true, false≢true}
-use Rattle.std.proofs.lemmas.List.Elements.{All-nil, All-cons, All-map, All-weaker}
+use Rattle.std.proofs.lemmas.List.Elements.{All-nil, All-cons}
 use Rattle.std.proofs.lemmas.Option.{slice_get_within}
 use Rattle.cmm_words.specs.declared.width.Width.{Width}
 use Rattle.cmm_words.specs.declared.width.Width.TheVariants.{W64}
@@ -29,7 +29,7 @@ use Rattle.cmm_program.specs.Typing.{is_target, is_typed, same_width}
 use Rattle.cmm_program.specs.Values.{Reads, Value, value_of, width_of, test_of}
 use Rattle.cmm_program.specs.Bodies.{branches}
 use Rattle.cmm_laws.proofs.FittingExpressions.{ReadsFit, width_gives, typed_gives}
-use Rattle.cmm_laws.proofs.FittingKept.{Kept, kept_and_then, kept_any, kept_all, kept_zip, kept_weaker, passes_from, value_at, every_get, every_all}
+use Rattle.cmm_laws.proofs.FittingKept.{Kept, kept_and_then, kept_any, kept_passed, kept_zip, kept_weaker, passes_from, value_at, every_get}
 
 -- ---- what fits
 
@@ -75,15 +75,13 @@ module _ (p : Program) (q : Proc) (r : Reads) (reads : ReadsFit p q r) where
 
   words_fit : (es : List Expression) → IsTrue (are_passed p q es) → Kept (All WordFits) (words_of r (map passed es))
   words_fit es is =
-      kept_all WordFits (word_passed r) (map passed es) (All-map (λ (x : Passed). Kept WordFits (word_passed r x)) passed es
-      (All-weaker (λ (e : Expression). IsTrue (is_typed p q e)) (λ (e : Expression). Kept WordFits (word_passed r (passed e))) (λ e h. kept_and_then (value_of e r) (IsWord (width_of e)) _ _ (typed_gives p q r reads e h) (λ v fits. fits)) es
-      (every_all (is_typed p q) es (and_parts _ _ is).1)))
+      kept_passed WordFits (word_passed r) passed (is_typed p q) es (and_parts _ _ is).1
+      (λ e h. kept_and_then (value_of e r) (IsWord (width_of e)) _ _ (typed_gives p q r reads e h) (λ v fits. fits))
 
   yielded_fit : (es : List Expression) → IsTrue (are_passed p q es) → Kept (All (IsWord W64)) (values_of r (map value_of es))
   yielded_fit es is =
-      kept_all (IsWord W64) (λ (v : Value). v r) (map value_of es) (All-map (λ (v : Value). Kept (IsWord W64) (v r)) value_of es
-      (All-weaker (λ (e : Expression). IsTrue (is_typed p q e)) (λ (e : Expression). Kept (IsWord W64) (value_of e r)) (λ e h. kept_weaker (value_of e r) (IsWord (width_of e)) (IsWord W64) (word_64 (width_of e)) (typed_gives p q r reads e h)) es
-      (every_all (is_typed p q) es (and_parts _ _ is).1)))
+      kept_passed (IsWord W64) (λ (v : Value). v r) value_of (is_typed p q) es (and_parts _ _ is).1
+      (λ e h. kept_weaker (value_of e r) (IsWord (width_of e)) (IsWord W64) (word_64 (width_of e)) (typed_gives p q r reads e h))
 
   -- a place that takes each value of a width
   abbrev Takes : Lvalue → Place → Type 0

@@ -37,12 +37,14 @@ pub kept_weaker : {A E : Type 0} (t : Result A E) (P Q : A → Type 0) → ((a :
 kept_weaker (Ok a) P Q weaker here = weaker a here
 kept_weaker (Err e) P Q weaker here = tt
 
--- all of some values, and all in step with a list
-pub kept_all : {A B E : Type 0} (P : A → Type 0) (f : B → Result A E) (ys : List B) → All (λ y. Kept P (f y)) ys → Kept (All P) (all_of (map f ys))
-kept_all P f [] each = All-nil P
-kept_all {B = B} P f (y ∷ ys) each =
-    kept_and_then (f y) P _ _ (All-head (λ (z : B). Kept P (f z)) y ys each) (λ a here.
-    kept_and_then (all_of (map f ys)) (All P) _ _ (kept_all P f ys (All-tail (λ (z : B). Kept P (f z)) y ys each)) (λ rest there. All-cons P a rest here there))
+-- all of some values, where what they come from passes a test, and all in step with a list
+pub kept_passed : {A B C E : Type 0} (P : A → Type 0) (f : B → Result A E) (g : C → B) (test : C → Bool) (xs : List C) → IsTrue (every test xs) →
+    ((x : C) → IsTrue (test x) → Kept P (f (g x))) → Kept (All P) (all_of (map f (map g xs)))
+kept_passed P f g test [] passes each = All-nil P
+kept_passed P f g test (x ∷ xs) passes each =
+    let h = and_parts (test x) (every test xs) passes in
+    kept_and_then (f (g x)) P _ _ (each x h.0) (λ a here.
+    kept_and_then (all_of (map f (map g xs))) (All P) _ _ (kept_passed P f g test xs h.1 each) (λ rest there. All-cons P a rest here there))
 
 pub kept_zip : {A B C E : Type 0} (R : C → A → Type 0) (f : B → Result A E) (xs : List C) (ys : List B) → AllZip (λ x y. Kept (R x) (f y)) xs ys →
     Kept (AllZip R xs) (all_of (map f ys))
@@ -80,6 +82,9 @@ pub kept_with_some : {A B : Type 0} (o : Option A) (Q : B → Type 0) (next : A 
     IfSome (with_some o next) Q
 kept_with_some (Some a) Q next after = after a refl
 kept_with_some None Q next after = tt
+
+pub kept_at : {A E : Type 0} (t : Result A E) (P : A → Type 0) (a : A) → t ≡ Ok a → Kept P t → P a
+kept_at t P a is here = subst (Kept P) is here
 
 pub some_kept : {A : Type 0} (o : Option A) (P : A → Type 0) (a : A) → o ≡ Some a → IfSome o P → P a
 some_kept None P a is here = absurd (none-some a is)

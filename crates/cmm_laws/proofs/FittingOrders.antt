@@ -17,7 +17,7 @@ use Rattle.cmm_program.specs.Orders.{Answer, Stay, Wait, Away, Over, procedure_f
 use Rattle.cmm_program.specs.State.{Setting, Frame, Store, Running, Ended, Done}
 use Rattle.cmm_program.specs.Todo.{Todo}
 use Rattle.cmm_program.specs.Writes.{put_all}
-use Rattle.cmm_laws.specs.Fitting.{AreActivations, YoungestSite, IsByte, RoomFits, AreFitting, AreYielded, Fits, IsSound}
+use Rattle.cmm_laws.specs.Fitting.{AreActivations, YoungestSite, IsByte, RoomFits, ValuesFit, AreYielded, Fits, IsSound}
 use Rattle.cmm_laws.proofs.FittingActs.{WordFits, OrderFits, back_word}
 use Rattle.cmm_laws.proofs.FittingKept.{Kept, kept_and_then, kept_given, kept_provided, with_some_from, at_option}
 use Rattle.cmm_laws.proofs.FittingLandings.{ExitFits, words_zip, continuation_fits, return_fits, FormalsFit, HasSite, LandingFits, LandingSite, by_youngest, suspended_keeps, weaker_site, resited_sum}
@@ -163,7 +163,7 @@ module _ (s : Setting) where
         Runs (record base { input = left; taken = gone; output = written })
     streams_run base left gone written old are had have =
         let was = old.fits.store in
-        let new : AreFitting s base.registers base.memory left gone written =
+        let new : ValuesFit s base.registers base.memory left gone written =
         record { registers = was.registers; memory = was.memory; input = are; taken = had; output = have } in
         record { fits = record { store = new; stack = old.fits.stack; activations = old.fits.activations }; youngest = old.youngest; still = old.still }
 

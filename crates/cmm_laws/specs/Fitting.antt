@@ -1,10 +1,12 @@
 -- What holds of every state of the C-- machine, for a program in range at a valid placement: each activation has to do
 -- statements of its own procedure, each suspended one waits at a site of it, and each value fits the width of what holds
 -- it.
-use Rattle.std.specs.Prelude.{◌≡◌, ℕ, ◌-◌, ◌^◌, ◌<◌, ◌≤◌, IsTrue, IsSome, IsNone, IfSome, ⊤, All, List, [], ◌∷◌, length, Option, Some}
+use Rattle.std.specs.Prelude.{◌≡◌, ℕ, ◌-◌, ◌^◌, ◌<◌, ◌≤◌, IsTrue, IsSome, IsNone, IfSome, ⊤, All, List, [], ◌∷◌, length, Option, Some, Ok}
 use Rattle.std.specs.List.{AllZip}
+use Rattle.cmm_words.specs.declared.width.Width.{Width}
 use Rattle.cmm_words.specs.declared.width.Width.TheVariants.{W64}
 use Rattle.cmm_words.specs.Widths.{IsWord}
+use Rattle.cmm_program.specs.declared.expression.Expression.{Expression}
 use Rattle.cmm_program.specs.declared.statement.Statement.{Statement}
 use Rattle.cmm_program.specs.declared.procedure.Proc.{Proc}
 use Rattle.cmm_program.specs.declared.program.Program.{Program}
@@ -16,6 +18,9 @@ use Rattle.cmm_program.specs.Memory.{Memory, Room}
 use Rattle.cmm_program.specs.Placed.{IsPlaced}
 use Rattle.cmm_program.specs.State.{Setting, Frame, Store, Status, Running, Waiting, Ended, Wrong}
 use Rattle.cmm_program.specs.Todo.{Todo}
+use Rattle.cmm_program.specs.Typing.{typed}
+use Rattle.cmm_program.specs.Values.{value_of}
+use Rattle.cmm_program.specs.Writes.{reads_of}
 
 -- ---- activations
 
@@ -25,7 +30,7 @@ IsStatementOf p q statement = IsTrue (is_statement p q statement.tokens statemen
 
 -- An activation of a procedure: each of its variables has a value, of the variable's width; it waits at one of its sites,
 -- if it is suspended; and what it has still to do are statements of the procedure.
-pub record IsOf (p : Program) (q : Proc) (f : Frame) (t : Todo) : Type 0 where
+pub record IsActivationOf (p : Program) (q : Proc) (f : Frame) (t : Todo) : Type 0 where
   pub variables : AllZip (λ v value. IsWord v.width value) q.vars f.variables
   pub site : IfSome f.site (λ n. n < length q.sites)
   pub statements : All (IsStatementOf p q) t.rest
@@ -34,10 +39,10 @@ pub record IsOf (p : Program) (q : Proc) (f : Frame) (t : Todo) : Type 0 where
 pub record IsActivation (s : Setting) (f : Frame) (t : Todo) : Type 0 where
   pub known : f.procedure < length s.program.procs
   pub control : t.procedure ≡ f.procedure
-  pub procedure : (q : Proc) → procedure_at s f.procedure ≡ Some q → IsOf s.program q f t
+  pub procedure : (q : Proc) → procedure_at s f.procedure ≡ Some q → IsActivationOf s.program q f t
 
--- As many activations stand somewhere as there are frames. The youngest has a site or none, as is asked, and each older
--- one is suspended.
+-- As many activations stand somewhere as there are frames, youngest first. Of the youngest one's site P holds, and each
+-- older one is suspended.
 abbrev pub AreActivations : Setting → (Option ℕ → Type 0) → List Frame → List Todo → Type 0
 AreActivations s P [] [] = ⊤
 AreActivations s P [] (t ∷ ts) = ⊥
@@ -67,8 +72,8 @@ pub record MemoryFits (memory : Memory) : Type 0 where
   pub globals : RoomFits memory.globals
   pub rooms : All RoomFits memory.rooms
 
--- each register has a value, of its width, and memory, input, what was taken of it and output are bytes
-pub record AreFitting (s : Setting) (held : List ℕ) (m : Memory) (left gone written : List ℕ) : Type 0 where
+-- values of a store: each register has one, of its width, and memory, input, what was taken of it and output are bytes
+pub record ValuesFit (s : Setting) (held : List ℕ) (m : Memory) (left gone written : List ℕ) : Type 0 where
   pub registers : AllZip (λ g value. IsWord g.width value) s.program.globals held
   pub memory : MemoryFits m
   pub input : All IsByte left
@@ -76,7 +81,7 @@ pub record AreFitting (s : Setting) (held : List ℕ) (m : Memory) (left gone wr
   pub output : All IsByte written
 
 abbrev pub StoreFits : Setting → Store → Type 0
-StoreFits s store = AreFitting s store.registers store.memory store.input store.taken store.output
+StoreFits s store = ValuesFit s store.registers store.memory store.input store.taken store.output
 
 -- the values for the client
 abbrev pub AreYielded : Status → Type 0
@@ -85,11 +90,12 @@ AreYielded _ = ⊤
 
 -- ---- states
 
--- a store, and where its activations stand, whose youngest has a site or none, as is asked
-pub record Fits (s : Setting) (P : Option ℕ → Type 0) (ts : List Todo) (after : Store) : Type 0 where
-  pub store : StoreFits s after
-  pub stack : sum_of_sizes s after.frames ≤ s.top - s.base
-  pub activations : AreActivations s P after.frames ts
+-- a store and where its activations stand: its values fit, and so do its frames the stack; of the youngest activation's site
+-- P holds
+pub record Fits (s : Setting) (P : Option ℕ → Type 0) (ts : List Todo) (now : Store) : Type 0 where
+  pub store : StoreFits s now
+  pub stack : sum_of_sizes s now.frames ≤ s.top - s.base
+  pub activations : AreActivations s P now.frames ts
 
 pub record IsSound (s : Setting) (st : State Todo) : Type 0 where
   pub fits : Fits s (YoungestSite st.store.status) st.controls st.store
@@ -100,3 +106,9 @@ pub record IsSound (s : Setting) (st : State Todo) : Type 0 where
 abbrev pub EveryStateIsSound : Type 0
 EveryStateIsSound = (s : Setting) (input : List ℕ) → IsInRange s.program → IsPlaced s.program s.placement → s.top < 2 ^ 64 →
     All IsByte input → (m : ℕ) → IsSound s (state_after s input m)
+
+-- An expression of the youngest activation's procedure that keeps the rules on widths has then a value of its width.
+abbrev pub ExpressionsFit : Type 0
+ExpressionsFit = (s : Setting) (st : State Todo) (f : Frame) (fs : List Frame) (q : Proc) (e : Expression) (w : Width) (value : ℕ) →
+    IsInRange s.program → IsPlaced s.program s.placement → s.top < 2 ^ 64 → IsSound s st → st.store.frames ≡ f ∷ fs →
+    procedure_at s f.procedure ≡ Some q → typed s.program q e ≡ Some w → value_of e (reads_of s st.store) ≡ Ok value → IsWord w value
