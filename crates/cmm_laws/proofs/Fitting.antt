@@ -19,13 +19,13 @@ use Rattle.cmm_program.specs.Orders.{Answer, Stay, Wait, Away, Over, perform}
 use Rattle.cmm_program.specs.State.{Setting, Frame, Store, Status, Running, Waiting, Ended, Wrong, StackLimit}
 use Rattle.cmm_program.specs.Todo.{Todo, todo_control, todo_act, todo_on, act_of}
 use Rattle.cmm_program.specs.Writes.{reads_of}
-use Rattle.cmm_laws.specs.Fitting.{IsStatementOf, YoungestSite, IsByte, RoomFits, StoreFits, AreYielded, Fits, IsSound, EveryStateIsSound, ExpressionsFit}
+use Rattle.cmm_laws.specs.Fitting.{IsStatementOf, Youngest, IsByte, RoomFits, StoreFits, Fits, IsSound, EveryStateIsSound, ExpressionsFit}
 use Rattle.cmm_laws.proofs.FittingActs.{OrderFits, order_fits}
 use Rattle.cmm_laws.proofs.FittingClient.{answered_fits}
 use Rattle.cmm_program.specs.Values.{value_of, width_of}
 use Rattle.cmm_laws.proofs.FittingExpressions.{expression_gives}
 use Rattle.cmm_laws.proofs.FittingKept.{Kept, kept_and_then, kept_at, at_option, some_kept, some_get, zip_zeros}
-use Rattle.cmm_laws.proofs.FittingLandings.{LandingFits, LandingSite, proc_in_range, found_procedure, moved_keeps, weaker_site, land_fits}
+use Rattle.cmm_laws.proofs.FittingLandings.{LandingFits, Lower, proc_in_range, found_procedure, moved_keeps, weaker_site, land_fits}
 use Rattle.cmm_laws.proofs.FittingOrders.{AnswerFits, Runs, perform_fits}
 use Rattle.cmm_laws.proofs.FittingStart.{parts_inside, data_cells}
 use Rattle.cmm_laws.proofs.FittingStores.{PartsInside, IsYoungest, Works, reads_fit}
@@ -33,7 +33,7 @@ use Rattle.cmm_laws.proofs.FittingStores.{PartsInside, IsYoungest, Works, reads_
 module _ (s : Setting) (range : IsInRange s.program) where
   -- ---- what an answer makes of a state
 
-  landed_sound : (landing : Landing) (store : Store) (ts : List Todo) → Fits s (LandingSite landing) ts store → LandingFits s landing store.frames →
+  landed_sound : (landing : Landing) (store : Store) (ts : List Todo) → Fits s (Lower landing) ts store → LandingFits s landing store.frames →
       IsSound s (landed (todo_control s.program) s landing store ts)
   landed_sound landing store ts old fits = at_option (land s landing store) _ _ (IsSound s) (λ after is. went after is) full where
     went : (after : Store) → land s landing store ≡ Some after → IsSound s record { store = over Running after; controls = arrived (todo_control s.program) landing ts }
@@ -43,13 +43,13 @@ module _ (s : Setting) (range : IsInRange s.program) where
 
     full : IsSound s record { store = over (Ended StackLimit) store; controls = ts }
     full =
-        let are = weaker_site s (LandingSite landing) (λ x. ⊤) store.frames ts (λ x h. tt) old.activations in
+        let are = weaker_site s (Lower landing) (λ x. ⊤) store.frames ts (λ x h. tt) old.activations in
         record { fits = record { store = old.store; stack = old.stack; activations = are }; yielded = tt }
 
   moved_sound : (way : ℕ) (store : Store) (ts : List Todo) → IsSound s record { store = store; controls = ts } →
       IsSound s record { store = store; controls = moved (todo_on s.program way) ts }
   moved_sound way store ts old =
-      let are = moved_keeps s range (YoungestSite store.status) way store.frames ts old.fits.activations in
+      let are = moved_keeps s range (Youngest store.status) way store.frames ts old.fits.activations in
       record { fits = record { store = old.fits.store; stack = old.fits.stack; activations = are }; yielded = old.yielded }
 
   answer_sound : (answer : Answer) (ts : List Todo) → AnswerFits s ts answer → IsSound s (answer_done (todo_control s.program) s answer ts)
@@ -63,7 +63,7 @@ module _ (s : Setting) (range : IsInRange s.program) where
   module _ (top : s.top < 2 ^ 64) (inside : (n : ℕ) → PartsInside (place_row s n)) where
     -- the order of what the youngest activation does, and then what it leads to
     acts : (f : Frame) (fs : List Frame) (n : ℕ) (rest : List Statement) (ts : List Todo) (base : Store) → base.status ≡ Running →
-        Fits s (YoungestSite Running) (record { procedure = n; rest = rest } ∷ ts) (record base { frames = f ∷ fs }) →
+        Fits s (Youngest Running) (record { procedure = n; rest = rest } ∷ ts) (record base { frames = f ∷ fs }) →
         Kept (AnswerFits s (record { procedure = n; rest = rest } ∷ ts))
         (and_then (evaluated (reads_of s (record base { frames = f ∷ fs })) (todo_act s.program record { procedure = n; rest = rest }))
         (λ order. perform s order (record base { frames = f ∷ fs })))
@@ -74,7 +74,7 @@ module _ (s : Setting) (range : IsInRange s.program) where
         let here = old.activations.1 in
         let q = some_get s.program.procs f.procedure here.known in
         let works : Runs s q.0 controls store = record { fits = old; youngest = q.1; still = running } in
-        let reads = reads_fit s top inside q.0 (YoungestSite Running) Running controls store works in
+        let reads = reads_fit s top inside q.0 (Youngest Running) Running controls store works in
         let statement = All-head (IsStatementOf s.program q.0) x rest (here.procedure q.0 q.1).statements in
         let order = order_fits s.program q.0 (reads_of s store) reads x.form (proc_in_range s range f.procedure q.0 q.1).sites (and_parts _ _ statement.0).0 in
         let same = found_procedure s Act n Nothing (λ proc. act_of proc x.form) q.0 (ap (procedure_at s) here.control ∙ q.1) in
@@ -82,19 +82,18 @@ module _ (s : Setting) (range : IsInRange s.program) where
         (subst (λ a. Kept (OrderFits s.program q.0) (evaluated (reads_of s store) a)) (sym same) order)
         (λ o fits. perform_fits s q.0 controls o store works fits)
 
-    orders : (frames : List Frame) (ts : List Todo) (base : Store) → base.status ≡ Running → Fits s (YoungestSite Running) ts (record base { frames = frames }) →
+    orders : (frames : List Frame) (ts : List Todo) (base : Store) → base.status ≡ Running → Fits s (Youngest Running) ts (record base { frames = frames }) →
         Kept (AnswerFits s ts) (and_then (evaluated (reads_of s (record base { frames = frames })) (next_act (todo_control s.program) ts))
         (λ order. perform s order (record base { frames = frames })))
-    orders [] [] base running old =
-        record { fits = record { store = old.store; stack = old.stack; activations = tt }; yielded = subst AreYielded (sym running) tt }
+    orders [] [] base running old = absurd old.activations
     orders [] (t ∷ ts) base running old = absurd old.activations
     orders (f ∷ fs) [] base running old = absurd old.activations
     orders (f ∷ fs) (t ∷ ts) base running old = acts f fs t.procedure t.rest ts base running old
 
     step_sound : (st : State Todo) → IsSound s st → IsSound s (step s st)
     step_sound st old = by st.store.status refl where
-      at : (status : Status) → st.store.status ≡ status → Fits s (YoungestSite status) st.controls st.store
-      at status is = subst (λ x. Fits s (YoungestSite x) st.controls st.store) is old.fits
+      at : (status : Status) → st.store.status ≡ status → Fits s (Youngest status) st.controls st.store
+      at status is = subst (λ x. Fits s (Youngest x) st.controls st.store) is old.fits
 
       ran_sound : (answer : Tried Answer) → Kept (AnswerFits s st.controls) answer → IsSound s (elim answer [
         | Ok a ↦ answer_done (todo_control s.program) s a st.controls
@@ -102,7 +101,7 @@ module _ (s : Setting) (range : IsInRange s.program) where
       ])
       ran_sound (Ok a) here = answer_sound a st.controls here
       ran_sound (Err error) here =
-          let are = weaker_site s (YoungestSite st.store.status) (λ x. ⊤) st.store.frames st.controls (λ x h. tt) old.fits.activations in
+          let are = weaker_site s (Youngest st.store.status) (λ x. ⊤) st.store.frames st.controls (λ x h. tt) old.fits.activations in
           record { fits = record { store = old.fits.store; stack = old.fits.stack; activations = are }; yielded = tt }
 
       by : (status : Status) → st.store.status ≡ status → IsSound s (elim status [
@@ -112,7 +111,7 @@ module _ (s : Setting) (range : IsInRange s.program) where
         | Wrong error ↦ st
       ])
       by Running is = ran_sound _ (orders st.store.frames st.controls st.store is (at Running is))
-      by (Waiting values) is = answer_sound (answered s values st.store) st.controls (answered_fits s st.controls values st.store (at (Waiting values) is))
+      by (Waiting values) is = answer_sound (answered s values st.store) st.controls (answered_fits s (Youngest (Waiting values)) st.controls values st.store (at (Waiting values) is))
       by (Ended outcome) is = old
       by (Wrong error) is = old
 
@@ -140,8 +139,8 @@ every_state_sound s input range placed top are m =
 
 pub expressions_fitting : ExpressionsFit
 expressions_fitting s st f fs q e w value range placed top sound youngest found typed is =
-    let works : Works s q (YoungestSite st.store.status) st.store.status st.controls st.store =
+    let works : Works s q (Youngest st.store.status) st.store.status st.controls st.store =
     record { fits = sound.fits; youngest = subst (IsYoungest s q) (sym youngest) found; still = refl } in
-    let reads = reads_fit s top (parts_inside s range placed) q (YoungestSite st.store.status) st.store.status st.controls st.store works in
+    let reads = reads_fit s top (parts_inside s range placed) q (Youngest st.store.status) st.store.status st.controls st.store works in
     let gives = expression_gives s.program q (reads_of s st.store) reads e w typed in
     subst (λ x. IsWord x value) gives.0 (kept_at (value_of e (reads_of s st.store)) (IsWord (width_of e)) value is gives.1)

@@ -1,5 +1,5 @@
 -- The client's answer to a yield leads to a sound state: each of its commands leaves a sound store or resumes at an exit.
-use Rattle.std.proofs.Common.{◌≡◌, ℕ, zero, suc, ◌+◌, ◌-◌, ◌^◌, ◌≤◌, false, not, Option, Some, Ok, Err, List, [], ◌∷◌, drop, IsTrue, IsSome, refl, ap, sym, ◌∙◌, subst, arith, slice_get, length}
+use Rattle.std.proofs.Common.{◌≡◌, ℕ, zero, suc, ◌+◌, ◌-◌, ◌^◌, ◌≤◌, false, not, Option, Some, Ok, Err, List, [], ◌∷◌, drop, IsTrue, refl, ap, sym, ◌∙◌, subst, arith, slice_get, length}
 use Rattle.std.specs.Prelude.{⊤, ◌==◌}
 use Rattle.std.specs.List.{AllZip}
 use Rattle.std.proofs.lemmas.Bool.{and_parts, ltb-true, eqb-true, eq-eqb}
@@ -24,17 +24,17 @@ use Rattle.cmm_program.specs.Orders.{Over, cut_among, found_exit}
 use Rattle.cmm_program.specs.State.{Setting, Frame, Store, Ended, Stopped}
 use Rattle.cmm_program.specs.Todo.{Todo}
 use Rattle.cmm_program.specs.Typing.{same_width}
-use Rattle.cmm_laws.specs.Fitting.{AreActivations, Fits}
+use Rattle.cmm_laws.specs.Fitting.{Demand, IsSuspended, AreActivations, Fits}
 use Rattle.cmm_laws.proofs.FittingKept.{Kept, kept_any, kept_given, kept_provided, with_some_from, at_test, value_at}
 use Rattle.cmm_laws.proofs.FittingLandings.{ExitFits, return_fits, unwind_fits, weaker_site}
 use Rattle.cmm_laws.proofs.FittingOrders.{AnswerFits, away_fits, found_fits}
 use Rattle.cmm_laws.proofs.FittingStores.{written_fits, with_variable_keeps}
 
-abbrev pub ReplyFits : Setting → List Todo → Reply → Type 0
-ReplyFits s ts (Then cursor store) = Fits s IsSome ts store
-ReplyFits s ts (Resumes answer) = AnswerFits s ts answer
+abbrev pub ReplyFits : Setting → Demand → List Todo → Reply → Type 0
+ReplyFits s P ts (Then cursor store) = Fits s P ts store
+ReplyFits s P ts (Resumes answer) = AnswerFits s ts answer
 
-logged_fits : (s : Setting) (P : Option ℕ → Type 0) (ts : List Todo) (text : List ℕ) (store : Store) → Fits s P ts store → Fits s P ts (logged text store)
+logged_fits : (s : Setting) (P : Demand) (ts : List Todo) (text : List ℕ) (store : Store) → Fits s P ts store → Fits s P ts (logged text store)
 logged_fits s P ts text store old = record { store = old.store; stack = old.stack; activations = old.activations }
 
 -- ---- the activation at the cursor
@@ -61,7 +61,7 @@ exit_at s (f ∷ fs) a exit e at leads is = let h = suspended_is s f fs a at in 
 
 -- ---- changes of variables
 
-set_keeps : (s : Setting) (P : Option ℕ → Type 0) (cursor n value : ℕ) (a : Suspended) (info : VarInfo) (fs : List Frame) (ts : List Todo) →
+set_keeps : (s : Setting) (P : Demand) (cursor n value : ℕ) (a : Suspended) (info : VarInfo) (fs : List Frame) (ts : List Todo) →
     AreActivations s P fs ts → suspended_at s (drop cursor fs) ≡ Some a → slice_get a.procedure.vars n ≡ Some info → IsWord info.width value →
     AreActivations s P (with_value cursor n value fs) ts × (sum_of_sizes s (with_value cursor n value fs) ≡ sum_of_sizes s fs)
 set_keeps s P zero n value a info [] ts are at is word = (are, refl)
@@ -72,7 +72,7 @@ set_keeps s P zero n value a info (f ∷ fs) ts are at is word =
     (new.0, new.2)
 set_keeps s P (suc cursor) n value a info (f ∷ fs) [] are at is word = absurd are
 set_keeps s P (suc cursor) n value a info (f ∷ fs) (t ∷ ts) are at is word =
-    let older = set_keeps s IsSome cursor n value a info fs ts are.2 at is word in
+    let older = set_keeps s IsSuspended cursor n value a info fs ts are.2 at is word in
     ((are.0, are.1, older.0), sum_by-cons (frame_size s) f (with_value cursor n value fs) ∙ ap (λ k. frame_size s f + k) older.1 ∙ sym (sum_by-cons (frame_size s) f fs))
 
 -- ---- exits
@@ -83,50 +83,50 @@ fitting_zip [] (v ∷ vs) same fit = absurd (omega arith)
 fitting_zip (w ∷ ws) [] same fit = absurd (omega arith)
 fitting_zip (w ∷ ws) (v ∷ vs) same fit = let h = and_parts _ _ fit in (ltb-true v (2 ^ bits w) h.0, fitting_zip ws vs (omega arith) h.1)
 
-module _ (s : Setting) (ts : List Todo) where
-  resumed_fits : (gone : ℕ) (exit : Option Exit) (values : List ℕ) (store : Store) → Fits s IsSome ts store →
-      ((e : Exit) → exit ≡ Some e → ExitFits s (drop gone store.frames) e) → Kept (ReplyFits s ts) (resumed gone exit values store)
+module _ (s : Setting) (P : Demand) (ts : List Todo) where
+  resumed_fits : (gone : ℕ) (exit : Option Exit) (values : List ℕ) (store : Store) → Fits s P ts store →
+      ((e : Exit) → exit ≡ Some e → ExitFits s (drop gone store.frames) e) → Kept (ReplyFits s P ts) (resumed gone exit values store)
   resumed_fits gone exit values store old leads =
       kept_given exit NoExit _ _ (λ e is.
       kept_provided (length e.widths == length values) OtherCount _ _ (λ count.
       kept_provided (all_fit e.widths values) DoesNotFit _ _ (λ fit.
-      away_fits s IsSome ts (logged resume_line store) gone e values (logged_fits s IsSome ts resume_line store old) (leads e is)
+      away_fits s P ts (logged resume_line store) gone e values (logged_fits s P ts resume_line store old) (leads e is)
       (fitting_zip e.widths values (eqb-true _ _ count) fit))))
 
-  sought_fits : (token value cursor : ℕ) (frames : List Frame) (store : Store) → Fits s IsSome ts store → Kept (ReplyFits s ts) (sought s token value cursor frames store)
+  sought_fits : (token value cursor : ℕ) (frames : List Frame) (store : Store) → Fits s P ts store → Kept (ReplyFits s P ts) (sought s token value cursor frames store)
   sought_fits token value cursor [] store old = tt
   sought_fits token value cursor (f ∷ fs) store old =
       kept_given (suspended_at s (f ∷ fs)) NoActivation _ _ (λ a is.
-      at_test (descriptor s token a == value) (Ok (stands cursor a store)) (sought s token value (suc cursor) fs store) (Kept (ReplyFits s ts))
-      (λ _. logged_fits s IsSome ts _ store old) (sought_fits token value (suc cursor) fs store old))
+      at_test (descriptor s token a == value) (Ok (stands cursor a store)) (sought s token value (suc cursor) fs store) (Kept (ReplyFits s P ts))
+      (λ _. logged_fits s P ts _ store old) (sought_fits token value (suc cursor) fs store old))
 
-  set_fits : (cursor n value : ℕ) (a : Suspended) (info : VarInfo) (store : Store) → Fits s IsSome ts store → at_cursor s cursor store ≡ Some a →
-      variable_info a n ≡ Some info → IsWord info.width value → ReplyFits s ts (set_done cursor n value store)
+  set_fits : (cursor n value : ℕ) (a : Suspended) (info : VarInfo) (store : Store) → Fits s P ts store → at_cursor s cursor store ≡ Some a →
+      variable_info a n ≡ Some info → IsWord info.width value → ReplyFits s P ts (set_done cursor n value store)
   set_fits cursor n value a info store old at is word =
-      let new = set_keeps s IsSome cursor n value a info store.frames ts old.activations at is word in
+      let new = set_keeps s P cursor n value a info store.frames ts old.activations at is word in
       record { store = old.store; stack = subst (λ k. k ≤ s.top - s.base) (sym new.1) old.stack; activations = new.0 }
 
-  poked_fits : (cursor address value : ℕ) (store : Store) → Fits s IsSome ts store → Kept (ReplyFits s ts) (poked cursor address value store)
+  poked_fits : (cursor address value : ℕ) (store : Store) → Fits s P ts store → Kept (ReplyFits s P ts) (poked cursor address value store)
   poked_fits cursor address value store old =
       kept_provided (may_poke store.memory.globals address) NoPlace _ _ (λ _.
       record { store = written_fits s store address 8 value old.store; stack = old.stack; activations = old.activations })
 
-  stopped_fits : (store : Store) → Fits s IsSome ts store → AnswerFits s ts (Over 0 record store { status = Ended Stopped })
+  stopped_fits : (store : Store) → Fits s P ts store → AnswerFits s ts (Over 0 record store { status = Ended Stopped })
   stopped_fits store old =
-      let are = weaker_site s IsSome (λ x. ⊤) store.frames ts (λ x h. tt) old.activations in
+      let are = weaker_site s P (λ x. ⊤) store.frames ts (λ x h. tt) old.activations in
       record { fits = record { store = old.store; stack = old.stack; activations = are }; yielded = tt }
 
   -- ---- the commands
 
-  asked_fits : (yielded : List ℕ) (cursor : ℕ) (command : Command) (store : Store) → Fits s IsSome ts store → Kept (ReplyFits s ts) (asked s yielded cursor command store)
-  asked_fits yielded cursor ListAll store old = logged_fits s IsSome ts _ store old
-  asked_fits yielded cursor Youngest store old = kept_given (at_cursor s 0 store) NoActivation _ _ (λ a is. logged_fits s IsSome ts _ store old)
-  asked_fits yielded cursor Next store old = kept_given (at_cursor s (suc cursor) store) NoActivation _ _ (λ a is. logged_fits s IsSome ts _ store old)
-  asked_fits yielded cursor (Desc token) store old = kept_given (at_cursor s cursor store) NoActivation _ _ (λ a is. logged_fits s IsSome ts _ store old)
+  asked_fits : (yielded : List ℕ) (cursor : ℕ) (command : Command) (store : Store) → Fits s P ts store → Kept (ReplyFits s P ts) (asked s yielded cursor command store)
+  asked_fits yielded cursor ListAll store old = logged_fits s P ts _ store old
+  asked_fits yielded cursor Youngest store old = kept_given (at_cursor s 0 store) NoActivation _ _ (λ a is. logged_fits s P ts _ store old)
+  asked_fits yielded cursor Next store old = kept_given (at_cursor s (suc cursor) store) NoActivation _ _ (λ a is. logged_fits s P ts _ store old)
+  asked_fits yielded cursor (Desc token) store old = kept_given (at_cursor s cursor store) NoActivation _ _ (λ a is. logged_fits s P ts _ store old)
   asked_fits yielded cursor (Seek token value) store old =
       kept_any (number_given yielded value) _ _ (λ v. sought_fits token v cursor (drop cursor store.frames) store old)
   asked_fits yielded cursor (Var n) store old =
-      kept_given (at_cursor s cursor store) NoActivation _ _ (λ a at. kept_given (variable_info a n) NoVariable _ _ (λ info is. logged_fits s IsSome ts _ store old))
+      kept_given (at_cursor s cursor store) NoActivation _ _ (λ a at. kept_given (variable_info a n) NoVariable _ _ (λ info is. logged_fits s P ts _ store old))
   asked_fits yielded cursor (Set n value) store old =
       kept_any (number_given yielded value) _ _ (λ v.
       kept_given (at_cursor s cursor store) NoActivation _ _ (λ a at.
@@ -154,21 +154,21 @@ module _ (s : Setting) (ts : List Todo) where
       resumed_fits found.younger (found_exit s found) vs store old (λ e leads. found_fits s (site_cuts s store.frames) k store.frames found e is leads))))
   asked_fits yielded cursor Stop store old = stopped_fits store old
 
-  reply_fits : (yielded : List ℕ) (cursor : ℕ) (command : Command) (store : Store) → Fits s IsSome ts store → ReplyFits s ts (reply s yielded cursor command store)
+  reply_fits : (yielded : List ℕ) (cursor : ℕ) (command : Command) (store : Store) → Fits s P ts store → ReplyFits s P ts (reply s yielded cursor command store)
   reply_fits yielded cursor command store old = by (asked s yielded cursor command store) (asked_fits yielded cursor command store old) where
-    by : (answer : Asked) → Kept (ReplyFits s ts) answer → ReplyFits s ts (elim answer [ Ok r ↦ r | Err refusal ↦ Then cursor (logged (refused_line refusal) store) ])
+    by : (answer : Asked) → Kept (ReplyFits s P ts) answer → ReplyFits s P ts (elim answer [ Ok r ↦ r | Err refusal ↦ Then cursor (logged (refused_line refusal) store) ])
     by (Ok r) here = here
-    by (Err refusal) here = logged_fits s IsSome ts _ store old
+    by (Err refusal) here = logged_fits s P ts _ store old
 
-  commands_fit : (yielded : List ℕ) (cursor : ℕ) (commands : List Command) (store : Store) → Fits s IsSome ts store → AnswerFits s ts (commands_run s yielded cursor commands store)
+  commands_fit : (yielded : List ℕ) (cursor : ℕ) (commands : List Command) (store : Store) → Fits s P ts store → AnswerFits s ts (commands_run s yielded cursor commands store)
   commands_fit yielded cursor [] store old = stopped_fits store old
   commands_fit yielded cursor (c ∷ cs) store old =
       by (reply s yielded cursor c store) (reply_fits yielded cursor c store old) (λ at after h. commands_fit yielded at cs after h)
     where
-      by : (r : Reply) → ReplyFits s ts r → ((at : ℕ) (after : Store) → Fits s IsSome ts after → AnswerFits s ts (commands_run s yielded at cs after)) →
+      by : (r : Reply) → ReplyFits s P ts r → ((at : ℕ) (after : Store) → Fits s P ts after → AnswerFits s ts (commands_run s yielded at cs after)) →
           AnswerFits s ts (elim r [ Then cursor' store' ↦ commands_run s yielded cursor' cs store' | Resumes answer ↦ answer ])
       by (Then at after) here rest = rest at after here
       by (Resumes answer) here rest = here
 
-  pub answered_fits : (yielded : List ℕ) (store : Store) → Fits s IsSome ts store → AnswerFits s ts (answered s yielded store)
+  pub answered_fits : (yielded : List ℕ) (store : Store) → Fits s P ts store → AnswerFits s ts (answered s yielded store)
   answered_fits yielded store old = commands_fit yielded 0 (commands_for yielded s.script) store old

@@ -1,6 +1,6 @@
 -- Landings: a new activation, and one that goes on behind its site or at a continuation. What they leave is sound; and the
 -- widths that an exit of a site asks for are those of what takes the values where it leads.
-use Rattle.std.proofs.Common.{◌≡◌, ℕ, zero, suc, ◌+◌, ◌-◌, ◌<◌, ◌≤◌, false, Option, Some, None, List, [], ◌∷◌, map, take, All, IsTrue, IfSome, IsSome, IsNone, refl, ap, sym, ◌∙◌, subst, slice_get, slice_index_or, length, replicate, not}
+use Rattle.std.proofs.Common.{◌≡◌, ℕ, zero, suc, ◌+◌, ◌-◌, ◌<◌, ◌≤◌, false, Option, Some, None, List, [], ◌∷◌, map, take, All, IsTrue, IfSome, refl, ap, sym, ◌∙◌, subst, slice_get, slice_index_or, length, replicate, not}
 use Rattle.std.specs.Prelude.{⊤, ◌==◌, ◌&&◌, nat_lt}
 use Rattle.std.specs.List.{AllZip}
 use Rattle.std.proofs.lemmas.Bool.{and_parts, leb-true, ltb-true, eq-eqb, and_from, false≢true}
@@ -27,11 +27,11 @@ use Rattle.cmm_program.specs.Layout.{stack_size}
 use Rattle.cmm_program.specs.Frames.{procedure_at, place_row, sum_of_sizes, fits_stack, frame_address, stackdata_offset, room_of, new_frame, with_site, site_at, parameters}
 use Rattle.cmm_program.specs.InRange.{IsInRange, IsProcInRange, is_continuation, below, is_body_in}
 use Rattle.cmm_program.specs.Placed.{every}
-use Rattle.cmm_program.specs.State.{Setting, Frame, Store}
+use Rattle.cmm_program.specs.State.{Setting, Frame, Store, Running}
 use Rattle.cmm_program.specs.Todo.{Todo, todo_control, todo_on, in_procedure, rest_after}
 use Rattle.cmm_program.specs.Typing.{is_target, same_width}
 use Rattle.cmm_program.specs.Writes.{all_assigned}
-use Rattle.cmm_laws.specs.Fitting.{IsStatementOf, IsActivation, AreActivations, CellFits, RoomFits, StoreFits, Fits}
+use Rattle.cmm_laws.specs.Fitting.{IsStatementOf, IsActivation, Demand, IsSuspended, AreActivations, Youngest, CellFits, RoomFits, StoreFits, Fits}
 use Rattle.cmm_laws.proofs.FittingActs.{results_fit, WordFits, back_word}
 use Rattle.cmm_laws.proofs.FittingBodies.{body_of, follow_of, rest_of}
 use Rattle.cmm_laws.proofs.FittingKept.{kept_with_some, with_some_from, at_option, at_test, value_at, all_get, every_get, some_get, zip_filled, zip_map}
@@ -53,28 +53,35 @@ HasSite s site (f ∷ fs) = (q : Proc) → procedure_at s f.procedure ≡ Some q
 abbrev pub LandingFits : Setting → Landing → List Frame → Type 0
 LandingFits s (Called site n values) frames = HasSite s site frames × FormalsFit s n values
 LandingFits s (Instead n values) frames = FormalsFit s n values
-LandingFits s (Back values) frames = AllZip IsWord (map target_width (results_of s frames)) values
-LandingFits s (Resumed k values) frames = AllZip IsWord (map target_width (parameters_of s k frames)) values
+LandingFits s (Back values) [] = ⊥
+LandingFits s (Back values) (f ∷ fs) = AllZip IsWord (map target_width (results_of s (f ∷ fs))) values
+LandingFits s (Resumed k values) [] = ⊥
+LandingFits s (Resumed k values) (f ∷ fs) = AllZip IsWord (map target_width (parameters_of s k (f ∷ fs))) values
 
 -- an activation that takes the place of another comes above suspended ones
-abbrev pub LandingSite : Landing → Option ℕ → Type 0
-LandingSite (Instead n values) site = IsSome site
-LandingSite _ site = ⊤
+abbrev pub Lower : Landing → Demand
+Lower (Instead n values) = IsSuspended
+Lower _ = λ x. ⊤
+
+-- there is an activation
+abbrev pub IsThere : Demand
+IsThere None = ⊥
+IsThere (Some site) = ⊤
 
 -- ---- the youngest activation
 
 -- by cases on whether there is one
-pub by_youngest : (s : Setting) (P : Option ℕ → Type 0) (M : List Frame → List Todo → Type 0) → M [] [] →
-    ((f : Frame) (fs : List Frame) (t : Todo) (ts : List Todo) → P f.site → IsActivation s f t → AreActivations s IsSome fs ts → M (f ∷ fs) (t ∷ ts)) →
+pub by_youngest : (s : Setting) (P : Demand) (M : List Frame → List Todo → Type 0) → (P None → M [] []) →
+    ((f : Frame) (fs : List Frame) (t : Todo) (ts : List Todo) → P (Some f.site) → IsActivation s f t → AreActivations s IsSuspended fs ts → M (f ∷ fs) (t ∷ ts)) →
     (fs : List Frame) (ts : List Todo) → AreActivations s P fs ts → M fs ts
-by_youngest s P M none some [] [] are = none
+by_youngest s P M none some [] [] are = none are
 by_youngest s P M none some [] (t ∷ ts) are = absurd are
 by_youngest s P M none some (f ∷ fs) [] are = absurd are
 by_youngest s P M none some (f ∷ fs) (t ∷ ts) are = some f fs t ts are.0 are.1 are.2
 
-pub weaker_site : (s : Setting) (P Q : Option ℕ → Type 0) (fs : List Frame) (ts : List Todo) → ((site : Option ℕ) → P site → Q site) → AreActivations s P fs ts →
+pub weaker_site : (s : Setting) (P Q : Demand) (fs : List Frame) (ts : List Todo) → ((x : Option (Option ℕ)) → P x → Q x) → AreActivations s P fs ts →
     AreActivations s Q fs ts
-weaker_site s P Q fs ts weaker = by_youngest s P (AreActivations s Q) tt (λ f fs t ts site here older. (weaker f.site site, here, older)) fs ts
+weaker_site s P Q fs ts weaker = by_youngest s P (AreActivations s Q) (weaker None) (λ f fs t ts site here older. (weaker (Some f.site) site, here, older)) fs ts
 
 -- suspended at a site, or going on
 resited : (s : Setting) (f : Frame) (t : Todo) (site : Option ℕ) → IsActivation s f t →
@@ -85,15 +92,15 @@ resited s f t site old within = record {
   procedure = λ q is. let was = old.procedure q is in record { variables = was.variables; site = within q is; statements = was.statements };
 }
 
-pub suspended_keeps : (s : Setting) (P : Option ℕ → Type 0) (n : ℕ) (fs : List Frame) (ts : List Todo) → AreActivations s P fs ts → HasSite s n fs →
-    AreActivations s IsSome (with_site (Some n) fs) ts
-suspended_keeps s P n =
-    by_youngest s P (λ fs ts. HasSite s n fs → AreActivations s IsSome (with_site (Some n) fs) ts) (λ within. tt)
-    (λ f fs t ts site here older within. (refl, resited s f t (Some n) here within, older))
+pub suspended_keeps : (s : Setting) (P Q : Demand) (n : ℕ) → (P None → Q None) → Q (Some (Some n)) → (fs : List Frame) (ts : List Todo) → AreActivations s P fs ts →
+    HasSite s n fs → AreActivations s Q (with_site (Some n) fs) ts
+suspended_keeps s P Q n none some =
+    by_youngest s P (λ fs ts. HasSite s n fs → AreActivations s Q (with_site (Some n) fs) ts) (λ h within. none h)
+    (λ f fs t ts site here older within. (some, resited s f t (Some n) here within, older))
 
-awake_keeps : (s : Setting) (P : Option ℕ → Type 0) (fs : List Frame) (ts : List Todo) → AreActivations s P fs ts → AreActivations s IsNone (with_site None fs) ts
-awake_keeps s P =
-    by_youngest s P (λ fs ts. AreActivations s IsNone (with_site None fs) ts) tt
+awake_keeps : (s : Setting) (fs : List Frame) (ts : List Todo) → AreActivations s IsThere fs ts → AreActivations s (Youngest Running) (with_site None fs) ts
+awake_keeps s =
+    by_youngest s IsThere (λ fs ts. AreActivations s (Youngest Running) (with_site None fs) ts) (λ h. h)
     (λ f fs t ts site here older. (refl, resited s f t None here (λ q is. tt), older))
 
 pub resited_sum : (s : Setting) (site : Option ℕ) (fs : List Frame) → sum_of_sizes s (with_site site fs) ≡ sum_of_sizes s fs
@@ -156,10 +163,10 @@ module _ (s : Setting) (range : IsInRange s.program) where
       goes_on f (record { procedure = n; rest = x ∷ rest }) (λ q. rest_after q way x.form rest) old
       (λ q body are. rest_of s.program q way x.form rest body (All-head (IsStatementOf s.program q) x rest are).1 (All-tail (IsStatementOf s.program q) x rest are))
 
-  pub moved_keeps : (P : Option ℕ → Type 0) (way : ℕ) (fs : List Frame) (ts : List Todo) → AreActivations s P fs ts →
+  pub moved_keeps : (P : Demand) (way : ℕ) (fs : List Frame) (ts : List Todo) → AreActivations s P fs ts →
       AreActivations s P fs (moved (todo_on s.program way) ts)
   moved_keeps P way =
-      by_youngest s P (λ fs ts. AreActivations s P fs (moved (todo_on s.program way) ts)) tt
+      by_youngest s P (λ fs ts. AreActivations s P fs (moved (todo_on s.program way) ts)) (λ h. h)
       (λ f fs t ts site here older. (site, on_goes f t.procedure way t.rest here, older))
 
   -- ---- a new activation
@@ -181,11 +188,11 @@ module _ (s : Setting) (range : IsInRange s.program) where
   }
 
   entered_fits : (n : ℕ) (values : List ℕ) (older : List Frame) (ts : List Todo) (store : Store) → StoreFits s store →
-      AreActivations s IsSome older ts → FormalsFit s n values →
-      IfSome (entered s n values older store) (Fits s IsNone ((todo_control s.program).begin n ∷ ts))
+      AreActivations s IsSuspended older ts → FormalsFit s n values →
+      IfSome (entered s n values older store) (Fits s (Youngest Running) ((todo_control s.program).begin n ∷ ts))
   entered_fits n values older ts store fits are formals =
       kept_with_some (procedure_at s n) _ _ (λ q is.
-      at_test (fits_stack s (new_frame n q values ∷ older)) _ _ (λ o. IfSome o (Fits s IsNone ((todo_control s.program).begin n ∷ ts))) (λ holds. record {
+      at_test (fits_stack s (new_frame n q values ∷ older)) _ _ (λ o. IfSome o (Fits s (Youngest Running) ((todo_control s.program).begin n ∷ ts))) (λ holds. record {
         store = record {
           registers = fits.registers;
           memory = record {
@@ -207,15 +214,15 @@ module _ (s : Setting) (range : IsInRange s.program) where
 
   -- ---- going on
 
-  gone_on_fits : (q : Proc) (P : Option ℕ → Type 0) (targets : List Target) (values : List ℕ) (ts : List Todo) (store : Store) → Works s q P store.status ts store →
-      IsTrue (every (is_target s.program q) targets) → AllZip IsWord (map target_width targets) values → Fits s IsNone ts (gone_on targets values store)
-  gone_on_fits q P targets values ts store works has fits =
+  gone_on_fits : (q : Proc) (targets : List Target) (values : List ℕ) (ts : List Todo) (store : Store) → Works s q IsThere store.status ts store →
+      IsTrue (every (is_target s.program q) targets) → AllZip IsWord (map target_width targets) values → Fits s (Youngest Running) ts (gone_on targets values store)
+  gone_on_fits q targets values ts store works has fits =
       let frames = (all_assigned targets values store).frames in
-      let kept = (all_assigned_works s q P store.status ts targets values store works has fits).fits in
+      let kept = (all_assigned_works s q IsThere store.status ts targets values store works has fits).fits in
       record {
         store = kept.store;
         stack = subst (λ k. k ≤ s.top - s.base) (sym (resited_sum s None frames)) kept.stack;
-        activations = awake_keeps s P frames ts kept.activations;
+        activations = awake_keeps s frames ts kept.activations;
       }
 
   -- what takes the values behind the site of an activation
@@ -241,41 +248,38 @@ module _ (s : Setting) (range : IsInRange s.program) where
   lands : (f : Frame) (fs : List Frame) (t u : Todo) (ts : List Todo) (base : Store) (targets : List Target) (values : List ℕ) →
       Fits s (λ x. ⊤) (t ∷ ts) (record base { frames = f ∷ fs }) → IsActivation s f u →
       ((q : Proc) → procedure_at s f.procedure ≡ Some q → IsTrue (every (is_target s.program q) targets)) → AllZip IsWord (map target_width targets) values →
-      Fits s IsNone (u ∷ ts) (gone_on targets values (record base { frames = f ∷ fs }))
+      Fits s (Youngest Running) (u ∷ ts) (gone_on targets values (record base { frames = f ∷ fs }))
   lands f fs t u ts base targets values old here has fits =
       let q = some_get s.program.procs f.procedure here.known in
-      let now : Fits s (λ x. ⊤) (u ∷ ts) (record base { frames = f ∷ fs }) =
-      record { store = old.store; stack = old.stack; activations = (tt, here, old.activations.2) } in
-      gone_on_fits q.0 (λ x. ⊤) targets values (u ∷ ts) (record base { frames = f ∷ fs }) (record { fits = now; youngest = q.1; still = refl }) (has q.0 q.1) fits
+      let now : Fits s IsThere (u ∷ ts) (record base { frames = f ∷ fs }) = record { store = old.store; stack = old.stack; activations = (tt, here, old.activations.2) } in
+      gone_on_fits q.0 targets values (u ∷ ts) (record base { frames = f ∷ fs }) (record { fits = now; youngest = q.1; still = refl }) (has q.0 q.1) fits
 
-  land_back : (values : List ℕ) (frames : List Frame) (ts : List Todo) (base : Store) → Fits s (λ site. ⊤) ts (record base { frames = frames }) →
-      AllZip IsWord (map target_width (results_of s frames)) values →
-      Fits s IsNone (arrived (todo_control s.program) (Back values) ts) (gone_on (results_of s frames) values (record base { frames = frames }))
-  land_back values [] [] base old fits = record { store = old.store; stack = old.stack; activations = tt }
-  land_back values [] (t ∷ ts) base old fits = absurd old.activations
+  land_back : (values : List ℕ) (frames : List Frame) (ts : List Todo) (base : Store) → Fits s (λ x. ⊤) ts (record base { frames = frames }) →
+      LandingFits s (Back values) frames →
+      Fits s (Youngest Running) (arrived (todo_control s.program) (Back values) ts) (gone_on (results_of s frames) values (record base { frames = frames }))
+  land_back values [] ts base old fits = absurd fits
   land_back values (f ∷ fs) [] base old fits = absurd old.activations
   land_back values (f ∷ fs) (t ∷ ts) base old fits = lands f fs t t ts base (results_of s (f ∷ fs)) values old old.activations.1 (result_targets f fs) fits
 
-  land_resumed : (k : ℕ) (values : List ℕ) (frames : List Frame) (ts : List Todo) (base : Store) → Fits s (λ site. ⊤) ts (record base { frames = frames }) →
-      AllZip IsWord (map target_width (parameters_of s k frames)) values →
-      Fits s IsNone (arrived (todo_control s.program) (Resumed k values) ts) (gone_on (parameters_of s k frames) values (record base { frames = frames }))
-  land_resumed k values [] [] base old fits = record { store = old.store; stack = old.stack; activations = tt }
-  land_resumed k values [] (t ∷ ts) base old fits = absurd old.activations
+  land_resumed : (k : ℕ) (values : List ℕ) (frames : List Frame) (ts : List Todo) (base : Store) → Fits s (λ x. ⊤) ts (record base { frames = frames }) →
+      LandingFits s (Resumed k values) frames →
+      Fits s (Youngest Running) (arrived (todo_control s.program) (Resumed k values) ts) (gone_on (parameters_of s k frames) values (record base { frames = frames }))
+  land_resumed k values [] ts base old fits = absurd fits
   land_resumed k values (f ∷ fs) [] base old fits = absurd old.activations
   land_resumed k values (f ∷ fs) (t ∷ ts) base old fits =
       let here = goes_on f t (λ q. follow q (AtContinuation k)) old.activations.1 (λ q body are. follow_of s.program q (AtContinuation k) body) in
       lands f fs t ((todo_control s.program).resume k t) ts base (parameters_of s k (f ∷ fs)) values old here (parameter_targets k f fs) fits
 
-  land_called : (site n : ℕ) (values : List ℕ) (ts : List Todo) (store : Store) → Fits s (λ site. ⊤) ts store → HasSite s site store.frames → FormalsFit s n values →
-      IfSome (land s (Called site n values) store) (Fits s IsNone (arrived (todo_control s.program) (Called site n values) ts))
+  land_called : (site n : ℕ) (values : List ℕ) (ts : List Todo) (store : Store) → Fits s (λ x. ⊤) ts store → HasSite s site store.frames → FormalsFit s n values →
+      IfSome (land s (Called site n values) store) (Fits s (Youngest Running) (arrived (todo_control s.program) (Called site n values) ts))
   land_called site n values [] store old has fits =
-      entered_fits n values (with_site (Some site) store.frames) [] store old.store (suspended_keeps s _ site store.frames [] old.activations has) fits
+      entered_fits n values (with_site (Some site) store.frames) [] store old.store (suspended_keeps s (λ x. ⊤) IsSuspended site (λ h. tt) refl store.frames [] old.activations has) fits
   land_called site n values (t ∷ ts) store old has fits =
       let later = moved_keeps (λ x. ⊤) 0 store.frames (t ∷ ts) old.activations in
-      entered_fits n values (with_site (Some site) store.frames) (moved (todo_on s.program 0) (t ∷ ts)) store old.store (suspended_keeps s _ site store.frames _ later has) fits
+      entered_fits n values (with_site (Some site) store.frames) (moved (todo_on s.program 0) (t ∷ ts)) store old.store (suspended_keeps s (λ x. ⊤) IsSuspended site (λ h. tt) refl store.frames _ later has) fits
 
-  pub land_fits : (landing : Landing) (ts : List Todo) (store : Store) → Fits s (LandingSite landing) ts store → LandingFits s landing store.frames →
-      IfSome (land s landing store) (Fits s IsNone (arrived (todo_control s.program) landing ts))
+  pub land_fits : (landing : Landing) (ts : List Todo) (store : Store) → Fits s (Lower landing) ts store → LandingFits s landing store.frames →
+      IfSome (land s landing store) (Fits s (Youngest Running) (arrived (todo_control s.program) landing ts))
   land_fits (Called site n values) ts store old fits = land_called site n values ts store old fits.0 fits.1
   land_fits (Instead n values) ts store old fits = entered_fits n values store.frames ts store old.store old.activations fits
   land_fits (Back values) ts store old fits = land_back values store.frames ts store old fits
@@ -285,7 +289,7 @@ module _ (s : Setting) (range : IsInRange s.program) where
 
 -- values of the widths that it asks for fit where it leads
 abbrev pub ExitFits : Setting → List Frame → Exit → Type 0
-ExitFits s frames e = (values : List ℕ) → AllZip IsWord e.widths values → LandingFits s (e.landing values) frames × ((site : Option ℕ) → LandingSite (e.landing values) site)
+ExitFits s frames e = (values : List ℕ) → AllZip IsWord e.widths values → LandingFits s (e.landing values) frames × ((x : Option (Option ℕ)) → Lower (e.landing values) x)
 
 -- words that have just these widths fit them
 pub words_zip : (ws : List Width) (words : List Word) → IsTrue (have_widths ws words) → All WordFits words → AllZip IsWord ws (numbers words)

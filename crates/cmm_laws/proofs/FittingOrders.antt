@@ -1,5 +1,5 @@
 -- Orders done to a sound store: the answer leads to a sound state.
-use Rattle.std.proofs.Common.{◌≡◌, ℕ, zero, suc, ◌+◌, ◌-◌, ◌%◌, ◌<◌, ◌≤◌, Option, Some, Ok, Err, List, [], ◌∷◌, ◌++◌, map, take, drop, find, All, IsSome, ap, sym, ◌∙◌, subst, arith, length, lit<}
+use Rattle.std.proofs.Common.{◌≡◌, ℕ, zero, suc, ◌+◌, ◌-◌, ◌%◌, ◌<◌, ◌≤◌, Option, Some, Ok, Err, List, [], ◌∷◌, ◌++◌, map, take, drop, find, All, refl, ap, sym, ◌∙◌, subst, arith, length, lit<}
 use Rattle.std.specs.Prelude.{⊤, ◌==◌}
 use Rattle.std.specs.List.{AllZip}
 use Rattle.std.proofs.lemmas.List.Elements.{All-head, All-tail, All-push, All-drop}
@@ -14,20 +14,20 @@ use Rattle.cmm_program.specs.Errors.{Tried, NotAProcedure, WrongValues, WrongAlt
 use Rattle.cmm_program.specs.Exits.{Exit, return_exit, continuation_exit, have_widths, numbers}
 use Rattle.cmm_program.specs.Frames.{procedure_at, frame_size, continuation_value, site_at, site_cuts, without}
 use Rattle.cmm_program.specs.Orders.{Answer, Stay, Wait, Away, Over, procedure_from, entering, leaving, Found, cut_among, found_exit, next_byte, one_taken, perform}
-use Rattle.cmm_program.specs.State.{Setting, Frame, Store, Running, Ended, Done}
+use Rattle.cmm_program.specs.State.{Setting, Frame, Store, Running, Waiting, Ended, Done}
 use Rattle.cmm_program.specs.Todo.{Todo}
 use Rattle.cmm_program.specs.Writes.{put_all}
-use Rattle.cmm_laws.specs.Fitting.{AreActivations, YoungestSite, IsByte, RoomFits, ValuesFit, AreYielded, Fits, IsSound}
+use Rattle.cmm_laws.specs.Fitting.{Demand, IsSuspended, AreActivations, Youngest, IsByte, RoomFits, ValuesFit, AreYielded, Fits, IsSound}
 use Rattle.cmm_laws.proofs.FittingActs.{WordFits, OrderFits, back_word}
 use Rattle.cmm_laws.proofs.FittingKept.{Kept, kept_and_then, kept_given, kept_provided, with_some_from, at_option}
-use Rattle.cmm_laws.proofs.FittingLandings.{ExitFits, words_zip, continuation_fits, return_fits, FormalsFit, HasSite, LandingFits, LandingSite, by_youngest, suspended_keeps, weaker_site, resited_sum}
+use Rattle.cmm_laws.proofs.FittingLandings.{ExitFits, words_zip, continuation_fits, return_fits, FormalsFit, HasSite, LandingFits, Lower, by_youngest, suspended_keeps, weaker_site, resited_sum}
 use Rattle.cmm_laws.proofs.FittingStores.{IsYoungest, Works, assigned_works, put_all_works}
 
 -- an answer is sound where the state is to which it leads, for activations that stand at these places
 abbrev pub AnswerFits : Setting → List Todo → Answer → Type 0
 AnswerFits s ts (Stay way store) = IsSound s record { store = store; controls = ts }
 AnswerFits s ts (Wait store) = IsSound s record { store = store; controls = ts }
-AnswerFits s ts (Away gone store landing) = Fits s (LandingSite landing) (drop gone ts) store × LandingFits s landing store.frames
+AnswerFits s ts (Away gone store landing) = Fits s (Lower landing) (drop gone ts) store × LandingFits s landing store.frames
 AnswerFits s ts (Over gone store) = IsSound s record { store = store; controls = drop gone ts }
 
 -- a procedure that the youngest of some frames has
@@ -42,16 +42,16 @@ next_word (b ∷ bs) are = let h = All-head IsByte b bs are in omega arith
 module _ (s : Setting) where
   -- ---- activations that go
 
-  dropped_keeps : (P : Option ℕ → Type 0) (n : ℕ) (fs : List Frame) (ts : List Todo) → AreActivations s P fs ts → AreActivations s (λ x. ⊤) (drop n fs) (drop n ts)
+  dropped_keeps : (P : Demand) (n : ℕ) (fs : List Frame) (ts : List Todo) → AreActivations s P fs ts → AreActivations s (λ x. ⊤) (drop n fs) (drop n ts)
   dropped_keeps P zero fs ts are = weaker_site s P (λ x. ⊤) fs ts (λ x h. tt) are
   dropped_keeps P (suc n) fs ts are =
-      by_youngest s P (λ fs ts. AreActivations s (λ x. ⊤) (drop (suc n) fs) (drop (suc n) ts)) tt (λ f fs t ts site here older. dropped_keeps IsSome n fs ts older) fs ts are
+      by_youngest s P (λ fs ts. AreActivations s (λ x. ⊤) (drop (suc n) fs) (drop (suc n) ts)) (λ h. tt) (λ f fs t ts site here older. dropped_keeps IsSuspended n fs ts older) fs ts are
 
   -- below one that goes all are suspended
-  below_keeps : (P : Option ℕ → Type 0) (fs : List Frame) (ts : List Todo) → AreActivations s P fs ts → AreActivations s IsSome (drop 1 fs) (drop 1 ts)
-  below_keeps P = by_youngest s P (λ fs ts. AreActivations s IsSome (drop 1 fs) (drop 1 ts)) tt (λ f fs t ts site here older. older)
+  below_keeps : (P : Demand) (fs : List Frame) (ts : List Todo) → AreActivations s P fs ts → AreActivations s IsSuspended (drop 1 fs) (drop 1 ts)
+  below_keeps P = by_youngest s P (λ fs ts. AreActivations s IsSuspended (drop 1 fs) (drop 1 ts)) (λ h. tt) (λ f fs t ts site here older. older)
 
-  left_fits : (P Q : Option ℕ → Type 0) (n : ℕ) (ts : List Todo) (store : Store) → Fits s P ts store → AreActivations s Q (drop n store.frames) (drop n ts) →
+  left_fits : (P Q : Demand) (n : ℕ) (ts : List Todo) (store : Store) → Fits s P ts store → AreActivations s Q (drop n store.frames) (drop n ts) →
       Fits s Q (drop n ts) (without n store)
   left_fits P Q n ts store old are =
       let sum = sum_by-take-drop (frame_size s) store.frames n in
@@ -69,15 +69,15 @@ module _ (s : Setting) where
       }
 
   -- to where an exit of the youngest of those that are left leads
-  pub away_fits : (P : Option ℕ → Type 0) (ts : List Todo) (store : Store) (gone : ℕ) (exit : Exit) (values : List ℕ) → Fits s P ts store →
+  pub away_fits : (P : Demand) (ts : List Todo) (store : Store) (gone : ℕ) (exit : Exit) (values : List ℕ) → Fits s P ts store →
       ExitFits s (drop gone store.frames) exit → AllZip IsWord exit.widths values → AnswerFits s ts (Away gone (without gone store) (exit.landing values))
   away_fits P ts store gone exit values old leads fit =
       let there = leads values fit in
-      let are = weaker_site s (λ x. ⊤) (LandingSite (exit.landing values)) (drop gone store.frames) (drop gone ts) (λ x h. there.1 x)
+      let are = weaker_site s (λ x. ⊤) (Lower (exit.landing values)) (drop gone store.frames) (drop gone ts) (λ x h. there.1 x)
       (dropped_keeps P gone store.frames ts old.activations) in
-      (left_fits P (LandingSite (exit.landing values)) gone ts store old are, there.0)
+      (left_fits P (Lower (exit.landing values)) gone ts store old are, there.0)
 
-  leaving_fits : (P : Option ℕ → Type 0) (ts : List Todo) (store : Store) (gone : ℕ) (exit : Exit) (words : List Word) → Fits s P ts store →
+  leaving_fits : (P : Demand) (ts : List Todo) (store : Store) (gone : ℕ) (exit : Exit) (words : List Word) → Fits s P ts store →
       ExitFits s (drop gone store.frames) exit → All WordFits words → Kept (AnswerFits s ts) (leaving gone (without gone store) exit words)
   leaving_fits P ts store gone exit words old leads fit =
       kept_provided (have_widths exit.widths words) WrongValues _ _ (λ have.
@@ -95,7 +95,7 @@ module _ (s : Setting) where
 
   -- ---- returns
 
-  leave_fits : (P : Option ℕ → Type 0) (ts : List Todo) (exit alternates : ℕ) (words : List Word) (frames : List Frame) (base : Store) →
+  leave_fits : (P : Demand) (ts : List Todo) (exit alternates : ℕ) (words : List Word) (frames : List Frame) (base : Store) →
       Fits s P ts (record base { frames = frames }) → All WordFits words →
       Kept (AnswerFits s ts) (perform s (Leave exit alternates words) (record base { frames = frames }))
   leave_fits P ts exit alternates words [] base old fit = tt
@@ -150,11 +150,11 @@ module _ (s : Setting) where
   module _ (q : Proc) (ts : List Todo) where
     -- a store in which the youngest activation runs
     abbrev pub Runs : Store → Type 0
-    Runs store = Works s q (YoungestSite Running) Running ts store
+    Runs store = Works s q (Youngest Running) Running ts store
 
     runs_sound : (store : Store) → Runs store → IsSound s record { store = store; controls = ts }
     runs_sound store works = record {
-      fits = subst (λ x. Fits s (YoungestSite x) ts store) (sym works.still) works.fits;
+      fits = subst (λ x. Fits s (Youngest x) ts store) (sym works.still) works.fits;
       yielded = subst AreYielded (sym works.still) tt;
     }
 
@@ -181,7 +181,7 @@ module _ (s : Setting) where
     pub perform_fits : (order : Order) (store : Store) → Runs store → OrderFits s.program q order → Kept (AnswerFits s ts) (perform s order store)
     perform_fits GoOn store works fits = runs_sound store works
     perform_fits (WriteAll ws) store works fits =
-        kept_and_then (put_all ws store) Runs _ _ (put_all_works s q (YoungestSite Running) Running ts ws store works fits) runs_sound
+        kept_and_then (put_all ws store) Runs _ _ (put_all_works s q (Youngest Running) Running ts ws store works fits) runs_sound
     perform_fits (GoBy way) store works fits = runs_sound store works
     perform_fits (Put value) store works fits =
         let was = works.fits.store in
@@ -189,24 +189,24 @@ module _ (s : Setting) where
         runs_sound _ (streams_run store store.input store.taken (store.output ++ value % 256 ∷ []) works was.input was.taken have)
     perform_fits (Get target) store works fits =
         let word = back_word (target_width target) W64 (next_byte store.input) fits.1 (next_word store.input works.fits.store.input) in
-        runs_sound _ (assigned_works s q (YoungestSite Running) Running ts target (next_byte store.input) (one_taken store) (taken_runs store.input store works) fits.0 word)
+        runs_sound _ (assigned_works s q (Youngest Running) Running ts target (next_byte store.input) (one_taken store) (taken_runs store.input store works) fits.0 word)
     perform_fits (Enter site address words) store works fits =
-        let are = weaker_site s (YoungestSite Running) (λ x. ⊤) store.frames ts (λ x h. tt) works.fits.activations in
+        let are = weaker_site s (Youngest Running) (λ x. ⊤) store.frames ts (λ x h. tt) works.fits.activations in
         entering_fits ts address words _ fits.1 (λ n formals.
         (record { store = works.fits.store; stack = works.fits.stack; activations = are }, (has_site site store.frames works.youngest fits.0, formals)))
     perform_fits (Suspend site values) store works fits = record {
       fits = record {
         store = works.fits.store;
         stack = subst (λ k. k ≤ s.top - s.base) (sym (resited_sum s (Some site) store.frames)) works.fits.stack;
-        activations = suspended_keeps s (YoungestSite Running) site store.frames ts works.fits.activations (has_site site store.frames works.youngest fits.0);
+        activations = suspended_keeps s (Youngest Running) (Youngest (Waiting values)) site (λ h. h) refl store.frames ts works.fits.activations (has_site site store.frames works.youngest fits.0);
       };
       yielded = fits.1;
     }
     perform_fits (Replace address words) store works fits =
-        let are = below_keeps (YoungestSite Running) store.frames ts works.fits.activations in
-        entering_fits ts address words _ fits (λ n formals. (left_fits (YoungestSite Running) IsSome 1 ts store works.fits are, formals))
-    perform_fits (Leave exit alternates words) store works fits = leave_fits (YoungestSite Running) ts exit alternates words store.frames store works.fits fits
+        let are = below_keeps (Youngest Running) store.frames ts works.fits.activations in
+        entering_fits ts address words _ fits (λ n formals. (left_fits (Youngest Running) IsSuspended 1 ts store works.fits are, formals))
+    perform_fits (Leave exit alternates words) store works fits = leave_fits (Youngest Running) ts exit alternates words store.frames store works.fits fits
     perform_fits (CutTo value words own) store works fits =
         kept_given (cut_among s 0 own value store.frames) NoSuchCut _ _ (λ found is.
         kept_given (found_exit s found) NoSuchCut _ _ (λ exit at.
-        leaving_fits (YoungestSite Running) ts store found.younger exit words works.fits (found_fits own value store.frames found exit is at) fits))
+        leaving_fits (Youngest Running) ts store found.younger exit words works.fits (found_fits own value store.frames found exit is at) fits))

@@ -28,7 +28,7 @@ use Rattle.cmm_program.specs.Todo.{Todo}
 use Rattle.cmm_program.specs.Typing.{is_target, has_variable, has_register, same_width, constant_width}
 use Rattle.cmm_program.specs.Values.{may_access}
 use Rattle.cmm_program.specs.Writes.{reads_of, variables_of, with_variable, assigned, all_assigned, put, put_all}
-use Rattle.cmm_laws.specs.Fitting.{IsActivation, AreActivations, IsByte, CellFits, RoomFits, MemoryFits, StoreFits, Fits}
+use Rattle.cmm_laws.specs.Fitting.{IsActivation, Demand, AreActivations, IsByte, CellFits, RoomFits, MemoryFits, StoreFits, Fits}
 use Rattle.cmm_laws.proofs.FittingActs.{PlaceFits, WriteFits, back_word}
 use Rattle.cmm_laws.proofs.FittingExpressions.{ReadsFit, IsByteCell, if_holds_from, low-word, same_word}
 use Rattle.cmm_laws.proofs.FittingKept.{Kept, kept_and_then, kept_provided, at_test, passes_from, any_place, zip_get, zip_set}
@@ -40,7 +40,7 @@ abbrev pub IsYoungest : Setting → Proc → List Frame → Type 0
 IsYoungest s q [] = ⊤
 IsYoungest s q (f ∷ fs) = procedure_at s f.procedure ≡ Some q
 
-pub record Works (s : Setting) (q : Proc) (P : Option ℕ → Type 0) (status : Status) (ts : List Todo) (store : Store) : Type 0 where
+pub record Works (s : Setting) (q : Proc) (P : Demand) (status : Status) (ts : List Todo) (store : Store) : Type 0 where
   pub fits : Fits s P ts store
   pub youngest : IsYoungest s q store.frames
   pub still : store.status ≡ status
@@ -126,7 +126,7 @@ constant_word s (constant.Address label plus) w is =
     let address = label_address s.program label + plus in
     subst (λ (k : Width). IsWord k (address % 2 ^ 64)) (if_holds_from _ W64 w is).1 (low-word W64 address)
 
-variable_reads : (s : Setting) (q : Proc) (P : Option ℕ → Type 0) (fs : List Frame) (ts : List Todo) (n : ℕ) (w : Width) → AreActivations s P fs ts →
+variable_reads : (s : Setting) (q : Proc) (P : Demand) (fs : List Frame) (ts : List Todo) (n : ℕ) (w : Width) → AreActivations s P fs ts →
     IsYoungest s q fs → IsTrue (has_variable q n w) → IsWord w (slice_index_or (variables_of fs) n 0)
 variable_reads s q P [] ts n w are youngest has = pow_pos (bits w)
 variable_reads s q P (f ∷ fs) [] n w are youngest has = absurd are
@@ -139,7 +139,7 @@ register_reads s store n w fits has =
     let g = passes_from (slice_get s.program.globals n) (λ g. same_width g.width w) has in
     same_word (g.0).width w _ g.2 (zip_get _ s.program.globals store.registers n g.0 0 g.1 fits.registers)
 
-pub reads_fit : (s : Setting) (top : s.top < 2 ^ 64) (inside : (n : ℕ) → PartsInside (place_row s n)) (q : Proc) (P : Option ℕ → Type 0) (status : Status) (ts : List Todo) (store : Store) →
+pub reads_fit : (s : Setting) (top : s.top < 2 ^ 64) (inside : (n : ℕ) → PartsInside (place_row s n)) (q : Proc) (P : Demand) (status : Status) (ts : List Todo) (store : Store) →
     Works s q P status ts store → ReadsFit s.program q (reads_of s store)
 reads_fit s top inside q P status ts store works = let fits = works.fits in record {
   constant = constant_word s;
@@ -153,7 +153,7 @@ reads_fit s top inside q P status ts store works = let fits = works.fits in reco
 
 -- ---- values put into places
 
-module _ (s : Setting) (q : Proc) (P : Option ℕ → Type 0) where
+module _ (s : Setting) (q : Proc) (P : Demand) where
   pub with_variable_keeps : (fs : List Frame) (ts : List Todo) (n : ℕ) (w : Width) (value : ℕ) →
       AreActivations s P fs ts → IsYoungest s q fs → IsTrue (has_variable q n w) → IsWord w value →
       AreActivations s P (with_variable fs n value) ts × IsYoungest s q (with_variable fs n value) × (sum_of_sizes s (with_variable fs n value) ≡ sum_of_sizes s fs)

@@ -1,7 +1,7 @@
 -- What holds of every state of the C-- machine, for a program in range at a valid placement: each activation has to do
 -- statements of its own procedure, each suspended one waits at a site of it, and each value fits the width of what holds
 -- it.
-use Rattle.std.specs.Prelude.{◌≡◌, ℕ, ◌-◌, ◌^◌, ◌<◌, ◌≤◌, IsTrue, IsSome, IsNone, IfSome, ⊤, All, List, [], ◌∷◌, length, Option, Some, Ok}
+use Rattle.std.specs.Prelude.{◌≡◌, ℕ, ◌-◌, ◌^◌, ◌<◌, ◌≤◌, IsTrue, IsSome, IsNone, IfSome, ⊤, All, List, [], ◌∷◌, length, Option, Some, None, Ok}
 use Rattle.std.specs.List.{AllZip}
 use Rattle.cmm_words.specs.declared.width.Width.{Width}
 use Rattle.cmm_words.specs.declared.width.Width.TheVariants.{W64}
@@ -41,20 +41,31 @@ pub record IsActivation (s : Setting) (f : Frame) (t : Todo) : Type 0 where
   pub control : t.procedure ≡ f.procedure
   pub procedure : (q : Proc) → procedure_at s f.procedure ≡ Some q → IsActivationOf s.program q f t
 
--- As many activations stand somewhere as there are frames, youngest first. Of the youngest one's site P holds, and each
--- older one is suspended.
-abbrev pub AreActivations : Setting → (Option ℕ → Type 0) → List Frame → List Todo → Type 0
-AreActivations s P [] [] = ⊤
+-- what is demanded of the youngest activation, by its site, or of there being none
+abbrev pub Demand : Type 1
+Demand = Option (Option ℕ) → Type 0
+
+-- it is suspended, if there is one
+abbrev pub IsSuspended : Demand
+IsSuspended None = ⊤
+IsSuspended (Some site) = IsSome site
+
+-- As many activations stand somewhere as there are frames, youngest first. The youngest is as demanded, and each older one is
+-- suspended.
+abbrev pub AreActivations : Setting → Demand → List Frame → List Todo → Type 0
+AreActivations s P [] [] = P None
 AreActivations s P [] (t ∷ ts) = ⊥
 AreActivations s P (f ∷ fs) [] = ⊥
-AreActivations s P (f ∷ fs) (t ∷ ts) = P f.site × IsActivation s f t × AreActivations s IsSome fs ts
+AreActivations s P (f ∷ fs) (t ∷ ts) = P (Some f.site) × IsActivation s f t × AreActivations s IsSuspended fs ts
 
--- whether the youngest activation is suspended: not while it runs, but while the state waits for the client
-abbrev pub YoungestSite : Status → Option ℕ → Type 0
-YoungestSite Running site = IsNone site
-YoungestSite (Waiting values) site = IsSome site
-YoungestSite (Ended outcome) site = ⊤
-YoungestSite (Wrong error) site = ⊤
+-- In a running state there is an activation, which isn't suspended; in one that waits for the client there is a suspended one.
+abbrev pub Youngest : Status → Demand
+Youngest Running None = ⊥
+Youngest Running (Some site) = IsNone site
+Youngest (Waiting values) None = ⊥
+Youngest (Waiting values) (Some site) = IsSome site
+Youngest (Ended outcome) youngest = ⊤
+Youngest (Wrong error) youngest = ⊤
 
 -- ---- values
 
@@ -90,15 +101,14 @@ AreYielded _ = ⊤
 
 -- ---- states
 
--- a store and where its activations stand: its values fit, and so do its frames the stack; of the youngest activation's site
--- P holds
-pub record Fits (s : Setting) (P : Option ℕ → Type 0) (ts : List Todo) (now : Store) : Type 0 where
+-- a store and where its activations stand: its values fit, its frames fit the stack, and its youngest activation is as demanded
+pub record Fits (s : Setting) (P : Demand) (ts : List Todo) (now : Store) : Type 0 where
   pub store : StoreFits s now
   pub stack : sum_of_sizes s now.frames ≤ s.top - s.base
   pub activations : AreActivations s P now.frames ts
 
 pub record IsSound (s : Setting) (st : State Todo) : Type 0 where
-  pub fits : Fits s (YoungestSite st.store.status) st.controls st.store
+  pub fits : Fits s (Youngest st.store.status) st.controls st.store
   pub yielded : AreYielded st.store.status
 
 -- A program that is in range, at a valid placement, with a stack whose addresses are words and an input of bytes, has only
