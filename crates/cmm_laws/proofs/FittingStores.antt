@@ -92,18 +92,18 @@ written_fits s store address n value old = record {
 
 -- ---- addresses of parts of frames
 
--- the parts of a frame lie inside it
+-- offsets that are not above a limit, and a frame whose parts lie inside it
+abbrev pub AreUpTo : ℕ → List ℕ → Type 0
+AreUpTo limit offsets = (n : ℕ) → slice_index_or offsets n 0 ≤ limit
+
 pub record PartsInside (row : PlaceRow) : Type 0 where
-  pub pairs : All (λ offset. offset ≤ row.frame) row.pairs
-  pub stack : All (λ offset. offset ≤ row.frame) row.stack
+  pub pairs : AreUpTo row.frame row.pairs
+  pub stack : AreUpTo row.frame row.stack
 
 module _ (s : Setting) (top : s.top < 2 ^ 64) (inside : (n : ℕ) → PartsInside (place_row s n)) where
-  part_word : (f : Frame) (fs : List Frame) (offsets : List ℕ) (n : ℕ) → sum_of_sizes s (f ∷ fs) ≤ s.top - s.base →
-      All (λ offset. offset ≤ frame_size s f) offsets → IsWord W64 (part_address s (f ∷ fs) offsets n)
-  part_word f fs offsets n fits within =
-      let offset : slice_index_or offsets n 0 ≤ frame_size s f = any_place (λ (k : ℕ). k ≤ frame_size s f) offsets n 0 within (omega arith) in
-      let size = sum_by-cons (frame_size s) f fs in
-      omega arith
+  part_word : (f : Frame) (fs : List Frame) (offsets : List ℕ) (n : ℕ) → sum_of_sizes s (f ∷ fs) ≤ s.top - s.base → AreUpTo (frame_size s f) offsets →
+      IsWord W64 (part_address s (f ∷ fs) offsets n)
+  part_word f fs offsets n fits within = let offset = within n in let size = sum_by-cons (frame_size s) f fs in omega arith
 
   continuation_word : (fs : List Frame) (k : ℕ) → sum_of_sizes s fs ≤ s.top - s.base → IsWord W64 (continuation_value s fs k)
   continuation_word [] k fits = omega arith

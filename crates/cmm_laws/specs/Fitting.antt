@@ -1,6 +1,5 @@
--- What holds of every state of the C-- machine, for a program in range at a valid placement: each activation has to do
--- statements of its own procedure, each suspended one waits at a site of it, and each value fits the width of what holds
--- it.
+-- What holds of every state of the C-- machine, for a program in range at a valid placement: what an activation has to do is
+-- in range in its own procedure, each suspended one waits at a site of it, and each value fits the width of what holds it.
 use Rattle.std.specs.Prelude.{◌≡◌, ℕ, ◌-◌, ◌^◌, ◌<◌, ◌≤◌, IsTrue, IsSome, IsNone, IfSome, ⊤, All, List, [], ◌∷◌, length, Option, Some, None, Ok}
 use Rattle.std.specs.List.{AllZip}
 use Rattle.cmm_words.specs.declared.width.Width.{Width}
@@ -29,7 +28,7 @@ abbrev pub IsStatementOf : Program → Proc → Statement → Type 0
 IsStatementOf p q statement = IsTrue (is_statement p q statement.tokens statement.form) × IsTrue (is_body_in p q statement.form)
 
 -- An activation of a procedure: each of its variables has a value, of the variable's width; it waits at one of its sites,
--- if it is suspended; and what it has still to do are statements of the procedure.
+-- if it is suspended; and each statement that it has still to do is in range in the procedure.
 pub record IsActivationOf (p : Program) (q : Proc) (f : Frame) (t : Todo) : Type 0 where
   pub variables : AllZip (λ v value. IsWord v.width value) q.vars f.variables
   pub site : IfSome f.site (λ n. n < length q.sites)

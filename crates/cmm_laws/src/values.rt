@@ -1,8 +1,8 @@
 //! Sites in range, and values that fit: what each state of a run has.
 ghost use Rattle.cmm_laws.specs.Fitting.{EveryStateIsSound, ExpressionsFit};
 
-/// In every state, the activations have to do statements of their procedures, the suspended ones wait at sites of
-/// them, and each value fits the width of what holds it.
+/// In every state, each statement that an activation has still to do is in range in its procedure, each suspended
+/// activation waits at a site of its procedure, and each value fits the width of what holds it.
 pub fn every_state_is_sound()
     ensures { EveryStateIsSound }
 {}
