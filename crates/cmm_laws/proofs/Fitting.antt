@@ -33,6 +33,7 @@ use Rattle.cmm_laws.proofs.FittingStores.{PartsInside, IsYoungest, Works, reads_
 module _ (s : Setting) (range : IsInRange s.program) where
   -- ---- what an answer makes of a state
 
+  -- a landing leaves a sound state, also where the stack is too small for it
   landed_sound : (landing : Landing) (store : Store) (ts : List Todo) → Fits s (Lower landing) ts store → LandingFits s landing store.frames →
       IsSound s (landed (todo_control s.program) s landing store ts)
   landed_sound landing store ts old fits = at_option (land s landing store) _ _ (IsSound s) (λ after is. went after is) full where
@@ -46,12 +47,14 @@ module _ (s : Setting) (range : IsInRange s.program) where
         let are = weaker_site s (Lower landing) (λ x. ⊤) store.frames ts (λ x h. tt) old.activations in
         record { fits = record { store = old.store; stack = old.stack; activations = are }; yielded = tt }
 
+  -- the youngest activation past its statement
   moved_sound : (way : ℕ) (store : Store) (ts : List Todo) → IsSound s record { store = store; controls = ts } →
       IsSound s record { store = store; controls = moved (todo_on s.program way) ts }
   moved_sound way store ts old =
       let are = moved_keeps s range (Youngest store.status) way store.frames ts old.fits.activations in
       record { fits = record { store = old.fits.store; stack = old.fits.stack; activations = are }; yielded = old.yielded }
 
+  -- whatever the answer is
   answer_sound : (answer : Answer) (ts : List Todo) → AnswerFits s ts answer → IsSound s (answer_done (todo_control s.program) s answer ts)
   answer_sound (Stay way store) ts fits = moved_sound way store ts fits
   answer_sound (Wait store) ts fits = moved_sound 0 store ts fits
@@ -82,6 +85,7 @@ module _ (s : Setting) (range : IsInRange s.program) where
         (subst (λ a. Kept (OrderFits s.program q.0) (evaluated (reads_of s store) a)) (sym same) order)
         (λ o fits. perform_fits s q.0 controls o store works fits)
 
+    -- the same where there may be no activation, which a running state does not have
     orders : (frames : List Frame) (ts : List Todo) (base : Store) → base.status ≡ Running → Fits s (Youngest Running) ts (record base { frames = frames }) →
         Kept (AnswerFits s ts) (and_then (evaluated (reads_of s (record base { frames = frames })) (next_act (todo_control s.program) ts))
         (λ order. perform s order (record base { frames = frames })))
@@ -90,6 +94,7 @@ module _ (s : Setting) (range : IsInRange s.program) where
     orders (f ∷ fs) [] base running old = absurd old.activations
     orders (f ∷ fs) (t ∷ ts) base running old = acts f fs t.procedure t.rest ts base running old
 
+    -- one step, and any number of them
     step_sound : (st : State Todo) → IsSound s st → IsSound s (step s st)
     step_sound st old = by st.store.status refl where
       at : (status : Status) → st.store.status ≡ status → Fits s (Youngest status) st.controls st.store
@@ -119,6 +124,7 @@ module _ (s : Setting) (range : IsInRange s.program) where
     steps_sound zero st old = old
     steps_sound (suc m) st old = steps_sound m (step s st) (step_sound st old)
 
+  -- the state at the start
   start_sound : (input : List ℕ) → All IsByte input → IsSound s (start s input)
   start_sound input are =
       landed_sound (Instead s.program.main []) (first_store s input) [] (record { store = first; stack = omega arith; activations = tt })
@@ -133,10 +139,12 @@ module _ (s : Setting) (range : IsInRange s.program) where
         output = All-nil IsByte;
       }
 
+-- every state of a run
 pub every_state_sound : EveryStateIsSound
 every_state_sound s input range placed top are m =
     steps_sound s range top (parts_inside s range placed) m (start s input) (start_sound s range input are)
 
+-- the values of expressions in a sound state
 pub expressions_fitting : ExpressionsFit
 expressions_fitting s st f fs q e w value range placed top sound youngest found typed is =
     let works : Works s q (Youngest st.store.status) st.store.status st.controls st.store =

@@ -33,6 +33,7 @@ use Rattle.cmm_laws.proofs.FittingKept.{Kept, kept_and_then, kept_any, kept_pass
 
 -- ---- what fits
 
+-- a word that is passed fits its width
 abbrev pub WordFits : Word → Type 0
 WordFits w = IsWord w.width w.value
 
@@ -41,9 +42,11 @@ abbrev pub PlaceFits : Program → Proc → Place → ℕ → Type 0
 PlaceFits p q (Held target) value = IsTrue (is_target p q target) × IsWord (target_width target) value
 PlaceFits p q (Memory width aligned address) value = ⊤
 
+-- a value that is written fits its place
 abbrev pub WriteFits : Program → Proc → Write → Type 0
 WriteFits p q w = PlaceFits p q w.place w.value
 
+-- what an order passes and writes fits, and the site that it names is there
 abbrev pub OrderFits : Program → Proc → Order → Type 0
 OrderFits p q (WriteAll ws) = All (WriteFits p q) ws
 OrderFits p q (Get target) = IsTrue (is_target p q target) × IsTrue (same_width (target_width target) W64)
@@ -60,6 +63,7 @@ back_word v w a same h = subst (λ k. a < 2 ^ k) (sym (eqb-true (bits v) (bits w
 
 -- ---- sites
 
+-- a site that passes a test is one of the procedure
 site_within : (p : Program) (q : Proc) (n : ℕ) (test : Site → Bool) → IsTrue (at_site p q n test) → n < length q.sites
 site_within p q n test here = let h = passes_from (slice_get q.sites n) test here in slice_get_within q.sites n h.0 h.1
 
@@ -73,11 +77,13 @@ results_fit p q n site sites is =
 module _ (p : Program) (q : Proc) (r : Reads) (reads : ReadsFit p q r) where
   -- ---- values and places
 
+  -- expressions that are passed give words that fit
   words_fit : (es : List Expression) → IsTrue (are_passed p q es) → Kept (All WordFits) (words_of r (map passed es))
   words_fit es is =
       kept_passed WordFits (word_passed r) passed (is_typed p q) es (and_parts _ _ is).1
       (λ e h. kept_and_then (value_of e r) (IsWord (width_of e)) _ _ (typed_gives p q r reads e h) (λ v fits. fits))
 
+  -- expressions that are yielded give words of 64 bits
   yielded_fit : (es : List Expression) → IsTrue (are_passed p q es) → Kept (All (IsWord W64)) (values_of r (map value_of es))
   yielded_fit es is =
       kept_passed (IsWord W64) (λ (v : Value). v r) value_of (is_typed p q) es (and_parts _ _ is).1
@@ -87,10 +93,12 @@ module _ (p : Program) (q : Proc) (r : Reads) (reads : ReadsFit p q r) where
   abbrev Takes : Lvalue → Place → Type 0
   Takes l place = (v : ℕ) → IsWord (lvalue_width p q l) v → PlaceFits p q place v
 
+  -- the place that a left side gives takes each value of its width
   aim_fits : (l : Lvalue) → IsTrue (is_lvalue p q l) → Kept (Takes l) (aim_of l r)
   aim_fits (lvalue.Target target) is = λ v h. (is, h)
   aim_fits (lvalue.Memory width aligned address) is = kept_any (value_of address r) _ _ (λ a v h. tt)
 
+  -- in an assignment each place takes the value that stands for it
   assigned_zips : (ls : List Lvalue) (es : List Expression) → IsTrue (are_assigned p q ls es) →
       AllZip (λ l (aim : Aim). Kept (Takes l) (aim r)) ls (map aim_of ls) × AllZip (λ l (v : Value). Kept (IsWord (lvalue_width p q l)) (v r)) ls (map value_of es)
   assigned_zips [] [] is = (tt, tt)
@@ -102,6 +110,7 @@ module _ (p : Program) (q : Proc) (r : Reads) (reads : ReadsFit p q r) where
       let rest = assigned_zips ls es h.1 in
       ((aim_fits l here.0, rest.0), (width_gives p q r reads (lvalue_width p q l) e here.1, rest.1))
 
+  -- places and values in step make writes that fit
   writes_fit : (ls : List Lvalue) (ps : List Place) (vs : List ℕ) → AllZip Takes ls ps → AllZip (λ l v. IsWord (lvalue_width p q l) v) ls vs →
       All (WriteFits p q) (writes ps vs)
   writes_fit [] [] vs places values = All-nil (WriteFits p q)
@@ -110,6 +119,7 @@ module _ (p : Program) (q : Proc) (r : Reads) (reads : ReadsFit p q r) where
   writes_fit (l ∷ ls) (x ∷ ps) [] places values = absurd values
   writes_fit (l ∷ ls) (x ∷ ps) (v ∷ vs) places values = All-cons (WriteFits p q) _ (writes ps vs) (places.0 v values.0) (writes_fit ls ps vs places.1 values.1)
 
+  -- an assignment writes what fits
   assigned_fit : (ls : List Lvalue) (es : List Expression) → IsTrue (are_assigned p q ls es) →
       Kept (OrderFits p q) (evaluated r (act.Assign (map aim_of ls) (map value_of es)))
   assigned_fit ls es is =
@@ -120,6 +130,7 @@ module _ (p : Program) (q : Proc) (r : Reads) (reads : ReadsFit p q r) where
 
   -- ---- checked operators
 
+  -- the first result of a checked site takes a value of the operands' width
   first_result : (width : Width) (v : ℕ) → IsWord width v → (ts : List Target) → IsTrue (every (is_target p q) ts) →
       IsTrue (elim ts [ [] ↦ false | target ∷ more ↦ same_width (target_width target) width && (length more == 0) ]) →
       All (WriteFits p q) (writes (map Held ts) (v ∷ []))
@@ -129,6 +140,7 @@ module _ (p : Program) (q : Proc) (r : Reads) (reads : ReadsFit p q r) where
   first_result width v fits (t ∷ u ∷ more) targets is =
       All-cons (WriteFits p q) _ [] ((and_parts _ _ targets).0, back_word (target_width t) width v (and_parts _ _ is).0 fits) (All-nil (WriteFits p q))
 
+  -- a checked operator writes what fits, or yields 1
   checked_fits : (n : ℕ) (width : Width) (value : Option ℕ) → IsTrue (every (is_site p q) q.sites) →
       IsTrue (at_site p q n (is_checked_site p q width)) → IfSome value (IsWord width) → OrderFits p q (checked_order n (site_results q n) value)
   checked_fits n width None sites here fits = (site_within p q n _ here, All-cons (IsWord W64) 1 [] (lit< tt) (All-nil (IsWord W64)))
@@ -140,6 +152,7 @@ module _ (p : Program) (q : Proc) (r : Reads) (reads : ReadsFit p q r) where
 
   -- ---- every statement
 
+  -- each statement in range has an order that fits
   pub order_fits : (form : Form) → IsTrue (every (is_site p q) q.sites) → IsTrue (is_form p q form) → Kept (OrderFits p q) (evaluated r (act_of q form))
   order_fits Empty sites is = tt
   order_fits (If' condition _ then_ _ otherwise) sites is = kept_any (if_way (test_of condition) r) _ _ (λ way. tt)

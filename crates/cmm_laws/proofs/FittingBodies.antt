@@ -19,10 +19,12 @@ use Rattle.cmm_laws.proofs.FittingKept.{at_option, at_test, some_kept, all_get}
 
 -- ---- of two places, and of one inside a block
 
+-- the first of two that is there
 first_kept : {A : Type 0} (a b : Option A) (P : A → Type 0) → IfSome a P → IfSome b P → IfSome (first_of_two a b) P
 first_kept (Some x) b P here there = here
 first_kept None b P here there = there
 
+-- what stands behind a block, put behind what follows in it
 outward_kept : (inner : Option (List Statement)) (rest : List Statement) (P : Statement → Type 0) → IfSome inner (All P) → All P rest →
     IfSome (outward inner rest) (All P)
 outward_kept (Some xs) rest P here there = All-append P xs rest here there
@@ -41,6 +43,7 @@ span_items _ = []
 module _ (p : Program) (q : Proc) where
   -- ---- blocks
 
+  -- the statements of a block, and the bodies of arms
   pub statements_of : {n : _} (row : Row_of-Statement n) → IsTrue (is_block p q row) → All (IsStatementOf p q) (statements row)
   statements_of end_of-Statement is = All-nil (IsStatementOf p q)
   statements_of (more_of-Statement tokens form rest) is =
@@ -56,6 +59,7 @@ module _ (p : Program) (q : Proc) where
   -- ---- what follows a mark
 
   mutual
+    -- inside a statement, in a block and in arms
     inside_of : (m : Mark) (form : Form) → IsTrue (is_body_in p q form) → IfSome (after_inside m form) (All (IsStatementOf p q))
     inside_of m (If' condition _ then_ _ otherwise) is =
         let h = and_parts _ _ is in
@@ -79,11 +83,13 @@ module _ (p : Program) (q : Proc) where
         let h = and_parts _ _ is in
         first_kept (after_in m body) (after_in_arms m rest) (All (IsStatementOf p q)) (after_of m body h.0) (arms_of m rest h.1)
 
+  -- what follows a mark in the procedure's body
   pub follow_of : (m : Mark) → IsTrue (is_body_in p q (Span q.body)) → All (IsStatementOf p q) (follow q m)
   follow_of m is =
       at_option (after_inside m (Span q.body)) (λ rest. rest) [] (All (IsStatementOf p q))
       (λ rest here. some_kept (after_inside m (Span q.body)) (All (IsStatementOf p q)) rest here (inside_of m (Span q.body) is)) (All-nil (IsStatementOf p q))
 
+  -- the whole body
   pub body_of : IsTrue (is_body_in p q (Span q.body)) → All (IsStatementOf p q) q.body
   body_of is = subst (All (IsStatementOf p q)) (items_hidden-the_row-Statement-0 q.body) (inside (Span q.body) is) where
     inside : (form : Form) → IsTrue (is_body_in p q form) → All (IsStatementOf p q) (span_items form)
@@ -92,11 +98,13 @@ module _ (p : Program) (q : Proc) where
 
   -- ---- what is left after a statement
 
+  -- the body of the chosen branch
   branch_of : (bs : List Branch) (way : ℕ) → All (λ b. All (IsStatementOf p q) b.body) bs → All (IsStatementOf p q) (branch_body bs way)
   branch_of bs way each =
       at_option (slice_get bs way) (λ (b : Branch). b.body) [] (All (IsStatementOf p q))
       (λ b is. all_get (λ (x : Branch). All (IsStatementOf p q) x.body) bs way b each is) (All-nil (IsStatementOf p q))
 
+  -- the statements still to do after a statement
   pub rest_of : (way : ℕ) (form : Form) (rest : List Statement) → IsTrue (is_body_in p q (Span q.body)) → IsTrue (is_body_in p q form) →
       All (IsStatementOf p q) rest → All (IsStatementOf p q) (rest_after q way form rest)
   rest_of zero (If' condition _ then_ _ otherwise) rest body is old = All-append (IsStatementOf p q) (statements then_) rest (statements_of then_ (and_parts _ _ is).0) old

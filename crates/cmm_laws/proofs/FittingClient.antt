@@ -30,10 +30,12 @@ use Rattle.cmm_laws.proofs.FittingLandings.{ExitFits, return_fits, unwind_fits, 
 use Rattle.cmm_laws.proofs.FittingOrders.{AnswerFits, away_fits, found_fits}
 use Rattle.cmm_laws.proofs.FittingStores.{written_fits, with_variable_keeps}
 
+-- a reply leaves a sound store, or an answer that is sound
 abbrev pub ReplyFits : Setting → Demand → List Todo → Reply → Type 0
 ReplyFits s P ts (Then cursor store) = Fits s P ts store
 ReplyFits s P ts (Resumes answer) = AnswerFits s ts answer
 
+-- the log is no part of what fits
 logged_fits : (s : Setting) (P : Demand) (ts : List Todo) (text : List ℕ) (store : Store) → Fits s P ts store → Fits s P ts (logged text store)
 logged_fits s P ts text store old = record { store = old.store; stack = old.stack; activations = old.activations }
 
@@ -53,6 +55,7 @@ suspended_is s f fs a at =
     in
     (p.1 ∙ ap (λ (x : Suspended). Some x.procedure) is, found ∙ ap (λ (x : Suspended). Some x.site) is)
 
+-- so an exit of that site fits where it leads
 exit_at : (s : Setting) (frames : List Frame) (a : Suspended) (exit : Proc → Site → Option Exit) (e : Exit) → suspended_at s frames ≡ Some a →
     ((f : Frame) (fs : List Frame) (q : Proc) (site : Site) → procedure_at s f.procedure ≡ Some q → site_at s f ≡ Some site → exit q site ≡ Some e → ExitFits s (f ∷ fs) e) →
     exit a.procedure a.site ≡ Some e → ExitFits s frames e
@@ -61,6 +64,7 @@ exit_at s (f ∷ fs) a exit e at leads is = let h = suspended_is s f fs a at in 
 
 -- ---- changes of variables
 
+-- a variable of the activation at the cursor with a value of its width
 set_keeps : (s : Setting) (P : Demand) (cursor n value : ℕ) (a : Suspended) (info : VarInfo) (fs : List Frame) (ts : List Todo) →
     AreActivations s P fs ts → suspended_at s (drop cursor fs) ≡ Some a → slice_get a.procedure.vars n ≡ Some info → IsWord info.width value →
     AreActivations s P (with_value cursor n value fs) ts × (sum_of_sizes s (with_value cursor n value fs) ≡ sum_of_sizes s fs)
@@ -77,6 +81,7 @@ set_keeps s P (suc cursor) n value a info (f ∷ fs) (t ∷ ts) are at is word =
 
 -- ---- exits
 
+-- as many values as widths, each of which fits
 fitting_zip : (ws : List Width) (values : List ℕ) → length ws ≡ length values → IsTrue (all_fit ws values) → AllZip IsWord ws values
 fitting_zip [] [] same fit = tt
 fitting_zip [] (v ∷ vs) same fit = absurd (omega arith)
@@ -84,6 +89,7 @@ fitting_zip (w ∷ ws) [] same fit = absurd (omega arith)
 fitting_zip (w ∷ ws) (v ∷ vs) same fit = let h = and_parts _ _ fit in (ltb-true v (2 ^ bits w) h.0, fitting_zip ws vs (omega arith) h.1)
 
 module _ (s : Setting) (P : Demand) (ts : List Todo) where
+  -- the run goes on at an exit
   resumed_fits : (gone : ℕ) (exit : Option Exit) (values : List ℕ) (store : Store) → Fits s P ts store →
       ((e : Exit) → exit ≡ Some e → ExitFits s (drop gone store.frames) e) → Kept (ReplyFits s P ts) (resumed gone exit values store)
   resumed_fits gone exit values store old leads =
@@ -93,6 +99,7 @@ module _ (s : Setting) (P : Demand) (ts : List Todo) where
       away_fits s P ts (logged resume_line store) gone e values (logged_fits s P ts resume_line store old) (leads e is)
       (fitting_zip e.widths values (eqb-true _ _ count) fit))))
 
+  -- the cursor after a search
   sought_fits : (token value cursor : ℕ) (frames : List Frame) (store : Store) → Fits s P ts store → Kept (ReplyFits s P ts) (sought s token value cursor frames store)
   sought_fits token value cursor [] store old = tt
   sought_fits token value cursor (f ∷ fs) store old =
@@ -100,6 +107,7 @@ module _ (s : Setting) (P : Demand) (ts : List Todo) where
       at_test (descriptor s token a == value) (Ok (stands cursor a store)) (sought s token value (suc cursor) fs store) (Kept (ReplyFits s P ts))
       (λ _. logged_fits s P ts _ store old) (sought_fits token value (suc cursor) fs store old))
 
+  -- the store after a change of a variable, and after one of data
   set_fits : (cursor n value : ℕ) (a : Suspended) (info : VarInfo) (store : Store) → Fits s P ts store → at_cursor s cursor store ≡ Some a →
       variable_info a n ≡ Some info → IsWord info.width value → ReplyFits s P ts (set_done cursor n value store)
   set_fits cursor n value a info store old at is word =
@@ -111,6 +119,7 @@ module _ (s : Setting) (P : Demand) (ts : List Todo) where
       kept_provided (may_poke store.memory.globals address) NoPlace _ _ (λ _.
       record { store = written_fits s store address 8 value old.store; stack = old.stack; activations = old.activations })
 
+  -- the run stopped
   stopped_fits : (store : Store) → Fits s P ts store → AnswerFits s ts (Over 0 record store { status = Ended Stopped })
   stopped_fits store old =
       let are = weaker_site s P (λ x. ⊤) store.frames ts (λ x h. tt) old.activations in
@@ -118,6 +127,7 @@ module _ (s : Setting) (P : Demand) (ts : List Todo) where
 
   -- ---- the commands
 
+  -- each command
   asked_fits : (yielded : List ℕ) (cursor : ℕ) (command : Command) (store : Store) → Fits s P ts store → Kept (ReplyFits s P ts) (asked s yielded cursor command store)
   asked_fits yielded cursor ListAll store old = logged_fits s P ts _ store old
   asked_fits yielded cursor Youngest store old = kept_given (at_cursor s 0 store) NoActivation _ _ (λ a is. logged_fits s P ts _ store old)
@@ -154,6 +164,7 @@ module _ (s : Setting) (P : Demand) (ts : List Todo) where
       resumed_fits found.younger (found_exit s found) vs store old (λ e leads. found_fits s (site_cuts s store.frames) k store.frames found e is leads))))
   asked_fits yielded cursor Stop store old = stopped_fits store old
 
+  -- a command that may be refused, and all commands
   reply_fits : (yielded : List ℕ) (cursor : ℕ) (command : Command) (store : Store) → Fits s P ts store → ReplyFits s P ts (reply s yielded cursor command store)
   reply_fits yielded cursor command store old = by (asked s yielded cursor command store) (asked_fits yielded cursor command store old) where
     by : (answer : Asked) → Kept (ReplyFits s P ts) answer → ReplyFits s P ts (elim answer [ Ok r ↦ r | Err refusal ↦ Then cursor (logged (refused_line refusal) store) ])
@@ -170,5 +181,6 @@ module _ (s : Setting) (P : Demand) (ts : List Todo) where
       by (Then at after) here rest = rest at after here
       by (Resumes answer) here rest = here
 
+  -- the whole answer to a yield
   pub answered_fits : (yielded : List ℕ) (store : Store) → Fits s P ts store → AnswerFits s ts (answered s yielded store)
   answered_fits yielded store old = commands_fit yielded 0 (commands_for yielded s.script) store old

@@ -28,6 +28,7 @@ use Rattle.cmm_program.specs.Values.{Reads, value_of, value_step, width_of, widt
 use Rattle.cmm_laws.specs.Fitting.{IsByte}
 use Rattle.cmm_laws.proofs.FittingKept.{Kept, kept_and_then, kept_any, kept_given, kept_provided, kept_weaker, with_some_from, some_kept, passes_from}
 
+-- a cell that was written holds a byte
 abbrev pub IsByteCell : Cell → Type 0
 IsByteCell (Byte byte) = IsByte byte
 IsByteCell _ = ⊤
@@ -43,6 +44,7 @@ pub record ReadsFit (p : Program) (q : Proc) (r : Reads) : Type 0 where
 
 -- ---- words
 
+-- a unary operator, a cut and an extension give words
 pub value1-word : GivesWord1
 value1-word Com w a h = omega (arith, pow_pos (bits w))
 value1-word Neg w a h = wrapped-below (bits w) _
@@ -57,11 +59,13 @@ extended-word v w a = wrapped-below (bits w) _
 pub same_word : (v w : Width) (a : ℕ) → IsTrue (same_width v w) → IsWord v a → IsWord w a
 same_word v w a same h = subst (λ k. a < 2 ^ k) (eqb-true (bits v) (bits w) same) h
 
+-- or of one of more bits
 wider_word : (v w : Width) (a : ℕ) → IsTrue (nat_le (bits v) (bits w)) → IsWord v a → IsWord w a
 wider_word v w a wider h = lt_of_lt_of_le h (pow_mono (leb-true (bits v) (bits w) wider))
 
 -- ---- bytes as a number
 
+-- the byte of a cell, and the number of some
 byte_fits : (c : Cell) → IsByteCell c → Kept IsByte (byte_of c)
 byte_fits Outside is = tt
 byte_fits Unwritten is = tt
@@ -75,12 +79,14 @@ number_fits cell are (suc n) address =
     kept_and_then (all_of (map (λ a. byte_of (cell a)) (addresses (suc address) n))) (λ found. number_of found < 256 ^ n) _ _
     (number_fits cell are n (suc address)) (λ rest less. rw (pow-suc 256 n) (omega arith)))
 
+-- as many bytes as a width has make its words
 byte_words : (w : Width) → 256 ^ bytes w ≡ 2 ^ bits w
 byte_words W8 = refl
 byte_words W16 = refl
 byte_words W32 = refl
 byte_words W64 = refl
 
+-- a load gives a word of its width
 loaded_fits : (r : Reads) (width : Width) (aligned address : ℕ) → ((a : ℕ) → IsByteCell (r.byte a)) → Kept (IsWord width) (loaded r width aligned address)
 loaded_fits r width aligned address are =
     kept_provided (may_access r.byte (bytes width) aligned address) BadAccess _ _ (λ _.
@@ -89,6 +95,7 @@ loaded_fits r width aligned address are =
 
 -- ---- what the tests on widths say
 
+-- a width that is given under a test
 pub if_holds_from : (test : Bool) (x w : Width) → if_holds test x ≡ Some w → IsTrue test × (x ≡ w)
 if_holds_from true x w is = (refl, same_Some x w is)
 if_holds_from false x w is = absurd (none-some w is)
@@ -97,6 +104,7 @@ if_holds_from false x w is = absurd (none-some w is)
 abbrev Gives : Option Width → Width → Tried ℕ → Type 0
 Gives found width value = (w : Width) → found ≡ Some w → (width ≡ w) × Kept (IsWord width) value
 
+-- an expression without operands
 gives_leaf : (test : Bool) (x : Width) (v : ℕ) → (IsTrue test → IsWord x v) → Gives (if_holds test x) x (Ok v)
 gives_leaf test x v fits w is = let h = if_holds_from test x w is in (h.1, fits h.0)
 
@@ -121,6 +129,7 @@ gives_converted found width from to w test value gives is =
 -- ---- expressions
 
 module _ (p : Program) (q : Proc) (r : Reads) (reads : ReadsFit p q r) where
+  -- a constant
   constant_gives : (c : Constant) → Gives (constant_width p c) (known_width c) (Ok (r.constant c))
   constant_gives c w is = let same = found c is in (same, subst (λ k. IsWord k (r.constant c)) (sym same) (reads.constant c w is)) where
     found : (c : Constant) → constant_width p c ≡ Some w → known_width c ≡ w
@@ -129,6 +138,7 @@ module _ (p : Program) (q : Proc) (r : Reads) (reads : ReadsFit p q r) where
     found (constant.Address label plus) is = (if_holds_from _ W64 w is).1
 
   mutual
+    -- every expression, and the one of a row
     pub expression_gives : (e : Expression) → Gives (typed p q e) (width_of e) (value_of e r)
     expression_gives (Known c) w is = constant_gives c w is
     expression_gives (Variable n width) w is = gives_leaf (has_variable q n width) width (r.variable n) (reads.variable n width) w is
@@ -166,6 +176,7 @@ module _ (p : Program) (q : Proc) (r : Reads) (reads : ReadsFit p q r) where
 
   -- ---- tests of a width
 
+  -- an expression of a wanted width, and of any width
   pub width_gives : (w : Width) (e : Expression) → IsTrue (has_width p q w e) → Kept (IsWord w) (value_of e r)
   width_gives w e has =
       let x = passes_from (typed p q e) (λ x. same_width x w) has in

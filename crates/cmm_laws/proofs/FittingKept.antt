@@ -15,6 +15,7 @@ abbrev pub Kept : {A E : Type 0} → (A → Type 0) → Result A E → Type 0
 Kept P (Ok a) = P a
 Kept P (Err e) = ⊤
 
+-- after a value of which something holds, and after any value
 pub kept_and_then : {A B E : Type 0} (t : Result A E) (P : A → Type 0) (Q : B → Type 0) (next : A → Result B E) → Kept P t →
     ((a : A) → P a → Kept Q (next a)) → Kept Q (and_then t next)
 kept_and_then (Ok a) P Q next here after = after a here
@@ -24,6 +25,7 @@ pub kept_any : {A B E : Type 0} (t : Result A E) (Q : B → Type 0) (next : A �
 kept_any (Ok a) Q next after = after a
 kept_any (Err e) Q next after = tt
 
+-- where there is a value, and where a test holds
 pub kept_given : {A B E : Type 0} (o : Option A) (error : E) (Q : B → Type 0) (next : A → Result B E) → ((a : A) → o ≡ Some a → Kept Q (next a)) →
     Kept Q (given o error next)
 kept_given (Some a) error Q next after = after a refl
@@ -33,6 +35,7 @@ pub kept_provided : {A E : Type 0} (test : Bool) (error : E) (Q : A → Type 0) 
 kept_provided true error Q next after = after refl
 kept_provided false error Q next after = tt
 
+-- what is weaker holds too
 pub kept_weaker : {A E : Type 0} (t : Result A E) (P Q : A → Type 0) → ((a : A) → P a → Q a) → Kept P t → Kept Q t
 kept_weaker (Ok a) P Q weaker here = weaker a here
 kept_weaker (Err e) P Q weaker here = tt
@@ -57,6 +60,7 @@ kept_zip R f (x ∷ xs) (y ∷ ys) each =
 
 -- ---- options and tests
 
+-- by cases on what may be there, and on a test
 pub at_option : {A B : Type 0} (o : Option A) (f : A → B) (b : B) (P : B → Type 0) → ((a : A) → o ≡ Some a → P (f a)) → P b → P (elim o [ Some a ↦ f a | None ↦ b ])
 at_option (Some a) f b P some none = some a refl
 at_option None f b P some none = none
@@ -65,6 +69,7 @@ pub at_test : {B : Type 0} (test : Bool) (x y : B) (P : B → Type 0) → (IsTru
 at_test true x y P yes_ no_ = yes_ refl
 at_test false x y P yes_ no_ = no_
 
+-- the case that is there
 pub value_at : {A B : Type 0} (o : Option A) (f : A → B) (b : B) (a : A) → o ≡ Some a → elim o [ Some x ↦ f x | None ↦ b ] ≡ f a
 value_at {A = A} o f b a is = ap (λ (o : Option A). elim o [ Some x ↦ f x | None ↦ b ]) is
 
@@ -78,11 +83,13 @@ pub with_some_from : {A B : Type 0} (o : Option A) (next : A → Option B) (b : 
 with_some_from (Some a) next b is = (a, refl, is)
 with_some_from None next b is = absurd (none-some b is)
 
+-- of what is made from what may be there
 pub kept_with_some : {A B : Type 0} (o : Option A) (Q : B → Type 0) (next : A → Option B) → ((a : A) → o ≡ Some a → IfSome (next a) Q) →
     IfSome (with_some o next) Q
 kept_with_some (Some a) Q next after = after a refl
 kept_with_some None Q next after = tt
 
+-- what is kept of a value that is there
 pub kept_at : {A E : Type 0} (t : Result A E) (P : A → Type 0) (a : A) → t ≡ Ok a → Kept P t → P a
 kept_at t P a is here = subst (Kept P) is here
 
@@ -92,15 +99,14 @@ some_kept (Some x) P a is here = subst P (same_Some x a is) here
 
 -- ---- elements
 
-pub every_all : {A : Type 0} (test : A → Bool) (xs : List A) → IsTrue (every test xs) → All (λ x. IsTrue (test x)) xs
-every_all {A = A} test [] all = All-nil (λ (y : A). IsTrue (test y))
-every_all {A = A} test (x ∷ xs) all = let h = and_parts (test x) (every test xs) all in All-cons (λ (y : A). IsTrue (test y)) x xs h.0 (every_all test xs h.1)
+-- of one of the elements
+pub every_get : {A : Type 0} (test : A → Bool) (xs : List A) (n : ℕ) (x : A) → IsTrue (every test xs) → slice_get xs n ≡ Some x → IsTrue (test x)
+every_get test [] n x all is = absurd (none-some x is)
+every_get test (y ∷ ys) zero x all is = subst (λ z. IsTrue (test z)) (same_Some y x is) (and_parts _ _ all).0
+every_get test (y ∷ ys) (suc n) x all is = every_get test ys n x (and_parts _ _ all).1 is
 
 pub all_get : {A : Type 0} (P : A → Type 0) (xs : List A) (n : ℕ) (x : A) → All P xs → slice_get xs n ≡ Some x → P x
 all_get P xs n x all is = subst P (get_or_from_slice_get xs n x x is) (all n x (slice_get_within xs n x is))
-
-pub every_get : {A : Type 0} (test : A → Bool) (xs : List A) (n : ℕ) (x : A) → IsTrue (every test xs) → slice_get xs n ≡ Some x → IsTrue (test x)
-every_get test xs n x all is = all_get (λ y. IsTrue (test y)) xs n x (every_all test xs all) is
 
 -- an index below the length has an element
 pub some_get : {A : Type 0} (xs : List A) (n : ℕ) → n < length xs → (x : A) × (slice_get xs n ≡ Some x)
@@ -116,6 +122,7 @@ any_place P (x ∷ xs) (suc n) d all default = any_place P xs n d (All-tail P x 
 
 -- ---- lists in step
 
+-- one element of the second list replaced, and read
 pub zip_set : {A B : Type 0} (R : A → B → Type 0) (xs : List A) (ys : List B) (n : ℕ) (x : A) (v : B) → slice_get xs n ≡ Some x → R x v →
     AllZip R xs ys → AllZip R xs (slice_set ys n v)
 zip_set R [] [] n x v is new old = old
@@ -131,6 +138,7 @@ zip_get R (a ∷ xs) [] n x d is old = absurd old
 zip_get R (a ∷ xs) (y ∷ ys) zero x d is old = subst (λ z. R z y) (same_Some a x is) old.0
 zip_get R (a ∷ xs) (y ∷ ys) (suc n) x d is old = zip_get R xs ys n x d is old.1
 
+-- zeros in step with a list
 pub zip_zeros : {A : Type 0} (R : A → ℕ → Type 0) (xs : List A) → ((x : A) → R x 0) → AllZip R xs (replicate (length xs) 0)
 zip_zeros R [] zeros = tt
 zip_zeros R (x ∷ xs) zeros = (zeros x, zip_zeros R xs zeros)
@@ -147,6 +155,7 @@ zip_filled R (suc n) (x ∷ xs) (y ∷ ys) zeros old =
     let fewer : length xs - length ys ≡ suc (length xs) - suc (length ys) = omega arith in
     (old.0, subst (λ k. AllZip R xs (ys ++ replicate k 0)) fewer (zip_filled R n xs ys zeros old.1))
 
+-- with the elements that the first list was made from
 pub zip_map : {A B C : Type 0} (R : B → C → Type 0) (f : A → B) (xs : List A) (ys : List C) → AllZip R (map f xs) ys → AllZip (λ x y. R (f x) y) xs ys
 zip_map R f [] [] old = tt
 zip_map R f [] (y ∷ ys) old = absurd old

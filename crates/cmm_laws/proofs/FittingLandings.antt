@@ -1,12 +1,12 @@
 -- Landings: a new activation, and one that goes on behind its site or at a continuation. What they leave is sound; and the
 -- widths that an exit of a site asks for are those of what takes the values where it leads.
-use Rattle.std.proofs.Common.{◌≡◌, ℕ, zero, suc, ◌+◌, ◌-◌, ◌<◌, ◌≤◌, false, Option, Some, None, List, [], ◌∷◌, map, take, All, IsTrue, IfSome, refl, ap, sym, ◌∙◌, subst, slice_get, slice_index_or, length, replicate, not}
-use Rattle.std.specs.Prelude.{⊤, ◌==◌, ◌&&◌, nat_lt}
+use Rattle.std.proofs.Common.{◌≡◌, ℕ, ◌+◌, ◌-◌, ◌<◌, ◌≤◌, false, Option, Some, None, List, [], ◌∷◌, map, take, All, IsTrue, IfSome, refl, ap, sym, ◌∙◌, subst, slice_get, slice_index_or, length, replicate, not}
+use Rattle.std.specs.Prelude.{option_map, ⊤, ◌==◌, ◌&&◌, nat_lt}
 use Rattle.std.specs.List.{AllZip}
 use Rattle.std.proofs.lemmas.Bool.{and_parts, leb-true, ltb-true, eq-eqb, and_from, false≢true}
 use Rattle.std.proofs.lemmas.List.Elements.{All-nil, All-cons, All-head, All-tail, All-replicate}
 use Rattle.std.proofs.lemmas.Nat.{pow_pos}
-use Rattle.std.proofs.lemmas.Option.{none-some, same_Some, slice_get_within}
+use Rattle.std.proofs.lemmas.Option.{none-some, same_Some, slice_get_within, get_or_from_slice_get, slice_get-map}
 use Rattle.cmm_words.specs.declared.width.Width.TheVariants.{W64}
 use Rattle.cmm_words.specs.Widths.{bits, IsWord}
 use Rattle.cmm_program.specs.declared.procedure.Cont.{Cont}
@@ -50,6 +50,7 @@ abbrev pub HasSite : Setting → ℕ → List Frame → Type 0
 HasSite s site [] = ⊤
 HasSite s site (f ∷ fs) = (q : Proc) → procedure_at s f.procedure ≡ Some q → site < length q.sites
 
+-- the values of a landing fit what takes them, and there is an activation that takes them
 abbrev pub LandingFits : Setting → Landing → List Frame → Type 0
 LandingFits s (Called site n values) frames = HasSite s site frames × FormalsFit s n values
 LandingFits s (Instead n values) frames = FormalsFit s n values
@@ -79,6 +80,7 @@ by_youngest s P M none some [] (t ∷ ts) are = absurd are
 by_youngest s P M none some (f ∷ fs) [] are = absurd are
 by_youngest s P M none some (f ∷ fs) (t ∷ ts) are = some f fs t ts are.0 are.1 are.2
 
+-- less may be demanded of the youngest
 pub weaker_site : (s : Setting) (P Q : Demand) (fs : List Frame) (ts : List Todo) → ((x : Option (Option ℕ)) → P x → Q x) → AreActivations s P fs ts →
     AreActivations s Q fs ts
 weaker_site s P Q fs ts weaker = by_youngest s P (AreActivations s Q) (weaker None) (λ f fs t ts site here older. (weaker (Some f.site) site, here, older)) fs ts
@@ -92,6 +94,7 @@ resited s f t site old within = record {
   procedure = λ q is. let was = old.procedure q is in record { variables = was.variables; site = within q is; statements = was.statements };
 }
 
+-- the youngest suspended at one of its sites, and the youngest going on
 pub suspended_keeps : (s : Setting) (P Q : Demand) (n : ℕ) → (P None → Q None) → Q (Some (Some n)) → (fs : List Frame) (ts : List Todo) → AreActivations s P fs ts →
     HasSite s n fs → AreActivations s Q (with_site (Some n) fs) ts
 suspended_keeps s P Q n none some =
@@ -103,20 +106,22 @@ awake_keeps s =
     by_youngest s IsThere (λ fs ts. AreActivations s (Youngest Running) (with_site None fs) ts) (λ h. h)
     (λ f fs t ts site here older. (refl, resited s f t None here (λ q is. tt), older))
 
+-- no frame has another size for it
 pub resited_sum : (s : Setting) (site : Option ℕ) (fs : List Frame) → sum_of_sizes s (with_site site fs) ≡ sum_of_sizes s fs
 resited_sum s site [] = refl
 resited_sum s site (f ∷ fs) = refl
 
 -- ---- parameters of a continuation
 
+-- an element of a list that was made from another
 map_get : {A B : Type 0} (f : A → B) (xs : List A) (n : ℕ) (x : A) (d : B) → slice_get xs n ≡ Some x → f x ≡ slice_index_or (map f xs) n d
-map_get f [] n x d is = absurd (none-some x is)
-map_get f (y ∷ ys) zero x d is = ap f (sym (same_Some y x is))
-map_get f (y ∷ ys) (suc n) x d is = map_get f ys n x d is
+map_get f xs n x d is = sym (get_or_from_slice_get (map f xs) n (f x) d (slice_get-map f xs n ∙ ap (option_map f) is))
 
+-- a parameter as a target, with the width of its variable
 abbrev pub target_of : Proc → ℕ → Target
 target_of q n = Variable n (variable_width q n)
 
+-- parameters in range are targets of the procedure
 targets_of : (p : Program) (q : Proc) (ns : List ℕ) → IsTrue (every (below (length q.vars)) ns) → IsTrue (every (is_target p q) (map (target_of q) ns))
 targets_of p q [] are = refl
 targets_of p q (n ∷ ns) are =
@@ -125,21 +130,25 @@ targets_of p q (n ∷ ns) are =
     let same = eq-eqb _ _ (ap bits (map_get (λ (x : VarInfo). x.width) q.vars n v.0 W64 v.1)) in
     and_from _ _ (value_at (slice_get q.vars n) (λ x. same_width x.width (variable_width q n)) false v.0 v.1 ∙ same) (targets_of p q ns h.1)
 
+-- the parameters of a continuation of the youngest activation
 pub parameters_at : (s : Setting) (k : ℕ) (f : Frame) (fs : List Frame) (q : Proc) → procedure_at s f.procedure ≡ Some q →
     parameters_of s k (f ∷ fs) ≡ map (target_of q) (parameters q k)
 parameters_at s k f fs q is = value_at (procedure_at s f.procedure) (λ p. map (target_of p) (parameters p k)) [] q is
 
 -- ---- procedures by their numbers
 
+-- what is done with a procedure that is found
 pub found_procedure : (s : Setting) (A : Type 0) (n : ℕ) (otherwise : A) (f : Proc → A) (q : Proc) → procedure_at s n ≡ Some q → in_procedure s.program n otherwise f ≡ f q
 found_procedure s A n otherwise f q is = value_at (procedure_at s n) f otherwise q is
 
 module _ (s : Setting) (range : IsInRange s.program) where
+  -- a procedure of a program in range is in range
   pub proc_in_range : (n : ℕ) (q : Proc) → procedure_at s n ≡ Some q → IsProcInRange s.program q
   proc_in_range n q is = all_get (IsProcInRange s.program) s.program.procs n q range.procedures is
 
   -- ---- what is left to do
 
+  -- an activation with other statements of its procedure to do
   goes_on : (f : Frame) (t : Todo) (rest : Proc → List Statement) → IsActivation s f t →
       ((q : Proc) → IsTrue (is_body_in s.program q (Span q.body)) → All (IsStatementOf s.program q) t.rest → All (IsStatementOf s.program q) (rest q)) →
       IsActivation s f (record t { rest = in_procedure s.program t.procedure [] rest })
@@ -156,6 +165,7 @@ module _ (s : Setting) (range : IsInRange s.program) where
         };
   }
 
+  -- past its statement, and the youngest one so
   on_goes : (f : Frame) (n way : ℕ) (rest : List Statement) → IsActivation s f (record { procedure = n; rest = rest }) →
       IsActivation s f (todo_on s.program way (record { procedure = n; rest = rest }))
   on_goes f n way [] old = old
@@ -171,6 +181,7 @@ module _ (s : Setting) (range : IsInRange s.program) where
 
   -- ---- a new activation
 
+  -- it begins with its formals as passed
   begun : (n : ℕ) (values : List ℕ) (q : Proc) → procedure_at s n ≡ Some q → FormalsFit s n values →
       IsActivation s (new_frame n q values) ((todo_control s.program).begin n)
   begun n values q is formals = record {
@@ -187,6 +198,7 @@ module _ (s : Setting) (range : IsInRange s.program) where
         };
   }
 
+  -- it is entered above suspended ones
   entered_fits : (n : ℕ) (values : List ℕ) (older : List Frame) (ts : List Todo) (store : Store) → StoreFits s store →
       AreActivations s IsSuspended older ts → FormalsFit s n values →
       IfSome (entered s n values older store) (Fits s (Youngest Running) ((todo_control s.program).begin n ∷ ts))
@@ -214,6 +226,7 @@ module _ (s : Setting) (range : IsInRange s.program) where
 
   -- ---- going on
 
+  -- the youngest goes on with values in targets of its procedure
   gone_on_fits : (q : Proc) (targets : List Target) (values : List ℕ) (ts : List Todo) (store : Store) → Works s q IsThere store.status ts store →
       IsTrue (every (is_target s.program q) targets) → AllZip IsWord (map target_width targets) values → Fits s (Youngest Running) ts (gone_on targets values store)
   gone_on_fits q targets values ts store works has fits =
@@ -254,6 +267,7 @@ module _ (s : Setting) (range : IsInRange s.program) where
       let now : Fits s IsThere (u ∷ ts) (record base { frames = f ∷ fs }) = record { store = old.store; stack = old.stack; activations = (tt, here, old.activations.2) } in
       gone_on_fits q.0 targets values (u ∷ ts) (record base { frames = f ∷ fs }) (record { fits = now; youngest = q.1; still = refl }) (has q.0 q.1) fits
 
+  -- behind its site, at a continuation, and in a new activation that it calls
   land_back : (values : List ℕ) (frames : List Frame) (ts : List Todo) (base : Store) → Fits s (λ x. ⊤) ts (record base { frames = frames }) →
       LandingFits s (Back values) frames →
       Fits s (Youngest Running) (arrived (todo_control s.program) (Back values) ts) (gone_on (results_of s frames) values (record base { frames = frames }))
@@ -278,6 +292,7 @@ module _ (s : Setting) (range : IsInRange s.program) where
       let later = moved_keeps (λ x. ⊤) 0 store.frames (t ∷ ts) old.activations in
       entered_fits n values (with_site (Some site) store.frames) (moved (todo_on s.program 0) (t ∷ ts)) store old.store (suspended_keeps s (λ x. ⊤) IsSuspended site (λ h. tt) refl store.frames _ later has) fits
 
+  -- each of them
   pub land_fits : (landing : Landing) (ts : List Todo) (store : Store) → Fits s (Lower landing) ts store → LandingFits s landing store.frames →
       IfSome (land s landing store) (Fits s (Youngest Running) (arrived (todo_control s.program) landing ts))
   land_fits (Called site n values) ts store old fits = land_called site n values ts store old fits.0 fits.1
@@ -301,15 +316,18 @@ words_zip (w ∷ ws) (v ∷ vs) have fit =
     (back_word w v.width v.value h.0 (All-head WordFits v vs fit), words_zip ws vs h.1 (All-tail WordFits v vs fit))
 
 module _ (s : Setting) (f : Frame) (fs : List Frame) (q : Proc) (is : procedure_at s f.procedure ≡ Some q) where
+  -- the normal exit of the youngest activation's site
   normal_fits : (site : Site) → site_at s f ≡ Some site → ExitFits s (f ∷ fs) (normal_exit site)
   normal_fits site at values fit =
       let here = value_at (site_at s f) (λ (x : Site). x.results) [] site at in
       (subst (λ ts. AllZip IsWord (map target_width ts) values) (sym here) fit, λ x. tt)
 
+  -- parameters as targets have the widths of their variables
   target_widths : (ns : List ℕ) → map target_width (map (target_of q) ns) ≡ map (variable_width q) ns
   target_widths [] = refl
   target_widths (n ∷ ns) = ap (λ ws. variable_width q n ∷ ws) (target_widths ns)
 
+  -- an exit to a continuation, and to one of a list
   pub continuation_fits : (k : ℕ) (e : Exit) → continuation_exit q k ≡ Some e → ExitFits s (f ∷ fs) e
   continuation_fits k e at =
       let c = with_some_from (slice_get q.conts k) _ e at in
@@ -323,6 +341,7 @@ module _ (s : Setting) (f : Frame) (fs : List Frame) (q : Proc) (is : procedure_
   listed_fits : (ks : List ℕ) (n : ℕ) (e : Exit) → with_some (slice_get ks n) (continuation_exit q) ≡ Some e → ExitFits s (f ∷ fs) e
   listed_fits ks n e at = let k = with_some_from (slice_get ks n) (continuation_exit q) e at in continuation_fits k.0 e k.2
 
+  -- an unwind exit, and an exit of a return
   pub unwind_fits : (site : Site) (n : ℕ) (e : Exit) → unwind_exit q site n ≡ Some e → ExitFits s (f ∷ fs) e
   unwind_fits site n e at = listed_fits site.unwinds n e at
 

@@ -35,6 +35,7 @@ abbrev pub IsOfYoungest : List Frame → ℕ → Type 0
 IsOfYoungest [] n = ⊥
 IsOfYoungest (f ∷ fs) n = f.procedure ≡ n
 
+-- the next byte, or all ones, is a word of 64 bits
 next_word : (input : List ℕ) → All IsByte input → IsWord W64 (next_byte input)
 next_word [] are = lit< tt
 next_word (b ∷ bs) are = let h = All-head IsByte b bs are in omega arith
@@ -42,6 +43,7 @@ next_word (b ∷ bs) are = let h = All-head IsByte b bs are in omega arith
 module _ (s : Setting) where
   -- ---- activations that go
 
+  -- the activations without some of the youngest
   dropped_keeps : (P : Demand) (n : ℕ) (fs : List Frame) (ts : List Todo) → AreActivations s P fs ts → AreActivations s (λ x. ⊤) (drop n fs) (drop n ts)
   dropped_keeps P zero fs ts are = weaker_site s P (λ x. ⊤) fs ts (λ x h. tt) are
   dropped_keeps P (suc n) fs ts are =
@@ -51,6 +53,7 @@ module _ (s : Setting) where
   below_keeps : (P : Demand) (fs : List Frame) (ts : List Todo) → AreActivations s P fs ts → AreActivations s IsSuspended (drop 1 fs) (drop 1 ts)
   below_keeps P = by_youngest s P (λ fs ts. AreActivations s IsSuspended (drop 1 fs) (drop 1 ts)) (λ h. tt) (λ f fs t ts site here older. older)
 
+  -- and the store without them
   left_fits : (P Q : Demand) (n : ℕ) (ts : List Todo) (store : Store) → Fits s P ts store → AreActivations s Q (drop n store.frames) (drop n ts) →
       Fits s Q (drop n ts) (without n store)
   left_fits P Q n ts store old are =
@@ -77,6 +80,7 @@ module _ (s : Setting) where
       (dropped_keeps P gone store.frames ts old.activations) in
       (left_fits P (Lower (exit.landing values)) gone ts store old are, there.0)
 
+  -- an exit with words of its widths
   leaving_fits : (P : Demand) (ts : List Todo) (store : Store) (gone : ℕ) (exit : Exit) (words : List Word) → Fits s P ts store →
       ExitFits s (drop gone store.frames) exit → All WordFits words → Kept (AnswerFits s ts) (leaving gone (without gone store) exit words)
   leaving_fits P ts store gone exit words old leads fit =
@@ -85,6 +89,7 @@ module _ (s : Setting) where
 
   -- ---- calls and jumps
 
+  -- a procedure is entered with words of its formals' widths
   entering_fits : (ts : List Todo) (address : ℕ) (words : List Word) (next : ℕ → Tried Answer) → All WordFits words →
       ((n : ℕ) → FormalsFit s n (numbers words) → Kept (AnswerFits s ts) (next n)) → Kept (AnswerFits s ts) (entering s address words next)
   entering_fits ts address words next fit after =
@@ -95,6 +100,7 @@ module _ (s : Setting) where
 
   -- ---- returns
 
+  -- a return to the site of the next older activation, or from the oldest
   leave_fits : (P : Demand) (ts : List Todo) (exit alternates : ℕ) (words : List Word) (frames : List Frame) (base : Store) →
       Fits s P ts (record base { frames = frames }) → All WordFits words →
       Kept (AnswerFits s ts) (perform s (Leave exit alternates words) (record base { frames = frames }))
@@ -133,6 +139,7 @@ module _ (s : Setting) where
       (λ k _ at. let here = same_Some _ found at in (0, sym (ap (λ (x : Found). x.younger) here) ∙ omega arith, ap (λ (x : Found). x.procedure) here))
       (λ at. let h = cut_found (suc younger) (site_cuts s fs) value fs found at in (suc h.0, omega (arith, h.1), h.2)) is
 
+  -- so the exit that a cut finds fits where it leads
   pub found_fits : (own : List ℕ) (value : ℕ) (fs : List Frame) (found : Found) (e : Exit) → cut_among s 0 own value fs ≡ Some found →
       found_exit s found ≡ Some e → ExitFits s (drop found.younger fs) e
   found_fits own value fs found e is at =
@@ -152,6 +159,7 @@ module _ (s : Setting) where
     abbrev pub Runs : Store → Type 0
     Runs store = Works s q (Youngest Running) Running ts store
 
+    -- such a store makes a sound state
     runs_sound : (store : Store) → Runs store → IsSound s record { store = store; controls = ts }
     runs_sound store works = record {
       fits = subst (λ x. Fits s (Youngest x) ts store) (sym works.still) works.fits;
@@ -167,6 +175,7 @@ module _ (s : Setting) where
         record { registers = was.registers; memory = was.memory; input = are; taken = had; output = have } in
         record { fits = record { store = new; stack = old.fits.stack; activations = old.fits.activations }; youngest = old.youngest; still = old.still }
 
+    -- after the next byte of the input is taken
     taken_runs : (input : List ℕ) (base : Store) → Runs (record base { input = input }) → Runs (one_taken (record base { input = input }))
     taken_runs [] base old = old
     taken_runs (b ∷ bs) base old =
@@ -174,10 +183,12 @@ module _ (s : Setting) where
         let had = All-push IsByte base.taken b was.taken (All-head IsByte b bs was.input) in
         streams_run (record base { input = b ∷ bs }) bs (base.taken ++ b ∷ []) base.output old (All-tail IsByte b bs was.input) had was.output
 
+    -- a site of the procedure is one of the youngest activation
     has_site : (n : ℕ) (frames : List Frame) → IsYoungest s q frames → n < length q.sites → HasSite s n frames
     has_site n [] youngest within = tt
     has_site n (f ∷ fs) youngest within = λ q' is. subst (λ (x : Proc). n < length x.sites) (same_Some q q' (sym youngest ∙ is)) within
 
+    -- each order
     pub perform_fits : (order : Order) (store : Store) → Runs store → OrderFits s.program q order → Kept (AnswerFits s ts) (perform s order store)
     perform_fits GoOn store works fits = runs_sound store works
     perform_fits (WriteAll ws) store works fits =

@@ -67,6 +67,7 @@ first_label base place (i ∷ is) o os labels = by i.label (first_label base (he
   by false deeper labels = deeper labels
   by true deeper labels = (here, refl)
 
+-- the stackdata labels of a placed row lie inside its frame, and so do the pairs
 stack_inside : (p : Proc) (row : PlaceRow) → IsTrue (every is_item p.stack) → IsTrue (is_stackdata p row) → AreUpTo row.frame row.stack
 stack_inside p row items placed n = by (stackdata_offset p row) refl placed where
   none : (offsets : List ℕ) → with_some (slice_get offsets 0) (λ offset. with_some (slice_get (stack_labels p.stack) 0) (λ place. Some (offset - place))) ≡ None →
@@ -90,6 +91,7 @@ pairs_inside frame (o ∷ os) are zero =
     omega (arith, h)
 pairs_inside frame (o ∷ os) are (suc n) = pairs_inside frame os (and_parts _ _ are).1 n
 
+-- so in every row of a valid placement
 rows_inside : (program : Program) (procs : List Proc) (rows : List PlaceRow) → All (IsProcInRange program) procs → IsTrue (are_rows_placed procs rows) → All PartsInside rows
 rows_inside program [] [] range placed = All-nil PartsInside
 rows_inside program [] (row ∷ rows) range placed = absurd (false≢true placed)
@@ -101,6 +103,7 @@ rows_inside program (p ∷ ps) (row ∷ rows) range placed =
     let stack = stack_inside p row (All-head (IsProcInRange program) p ps range).items parts.1 in
     All-cons PartsInside row rows (record { pairs = pairs; stack = stack }) (rows_inside program ps rows (All-tail (IsProcInRange program) p ps range) h.1)
 
+-- and at every number
 pub parts_inside : (s : Setting) → IsInRange s.program → IsPlaced s.program s.placement → (n : ℕ) → PartsInside (place_row s n)
 parts_inside s range placed n =
     any_place PartsInside s.placement.rows n _ (rows_inside s.program s.program.procs s.placement.rows range.procedures placed.rows)
@@ -108,6 +111,7 @@ parts_inside s range placed n =
 
 -- ---- data
 
+-- data is laid down as bytes
 zero_bytes : (n : ℕ) → All IsByte (replicate n 0)
 zero_bytes n = All-replicate IsByte n 0 (omega arith)
 

@@ -47,10 +47,12 @@ pub record Works (s : Setting) (q : Proc) (P : Demand) (status : Status) (ts : L
 
 -- ---- memory
 
+-- the bytes of a number are bytes
 pub bytes_of_fit : (n value : ℕ) → All IsByte (bytes_of n value)
 bytes_of_fit zero value = All-nil IsByte
 bytes_of_fit (suc n) value = All-cons IsByte (value % 256) _ (mod_below value 256 (omega arith)) (bytes_of_fit n (value / 256))
 
+-- a byte written into a room, into memory, and bytes from an address on
 with_byte_in_fits : (room : Room) (address byte : ℕ) → IsByte byte → RoomFits room → RoomFits (with_byte_in room address byte)
 with_byte_in_fits room address byte is old =
     at_test (is_in room address) (record room { cells = slice_set room.cells (address - room.address) (Some byte) }) room RoomFits
@@ -68,6 +70,7 @@ with_bytes_fit m address [] are old = old
 with_bytes_fit m address (b ∷ bs) are old =
     with_bytes_fit (with_byte m address b) (suc address) bs (All-tail IsByte b bs are) (with_byte_fits m address b (All-head IsByte b bs are) old)
 
+-- a cell that is read
 cell_in_fits : (rooms : List Room) (address : ℕ) → All RoomFits rooms → IsByteCell (cell_in rooms address)
 cell_in_fits [] address are = tt
 cell_in_fits (room ∷ rooms) address are =
@@ -101,6 +104,7 @@ pub record PartsInside (row : PlaceRow) : Type 0 where
   pub stack : AreUpTo row.frame row.stack
 
 module _ (s : Setting) (top : s.top < 2 ^ 64) (inside : (n : ℕ) → PartsInside (place_row s n)) where
+  -- an offset inside the frame gives an address that is a word; so of a pair, and of a stackdata label
   part_word : (f : Frame) (fs : List Frame) (offsets : List ℕ) (n : ℕ) → sum_of_sizes s (f ∷ fs) ≤ s.top - s.base → AreUpTo (frame_size s f) offsets →
       IsWord W64 (part_address s (f ∷ fs) offsets n)
   part_word f fs offsets n fits within = let offset = within n in let size = sum_by-cons (frame_size s) f fs in omega arith
@@ -115,6 +119,7 @@ module _ (s : Setting) (top : s.top < 2 ^ 64) (inside : (n : ℕ) → PartsInsid
 
 -- ---- what can be read
 
+-- a constant
 constant_word : (s : Setting) (c : Constant) (w : Width) → constant_width s.program c ≡ Some w → IsWord w (constant_value s.program s.placement c)
 constant_word s (constant.Number n width) w is =
     let h = if_holds_from _ width w is in
@@ -126,6 +131,7 @@ constant_word s (constant.Address label plus) w is =
     let address = label_address s.program label + plus in
     subst (λ (k : Width). IsWord k (address % 2 ^ 64)) (if_holds_from _ W64 w is).1 (low-word W64 address)
 
+-- a variable of the youngest activation, and a register
 variable_reads : (s : Setting) (q : Proc) (P : Demand) (fs : List Frame) (ts : List Todo) (n : ℕ) (w : Width) → AreActivations s P fs ts →
     IsYoungest s q fs → IsTrue (has_variable q n w) → IsWord w (slice_index_or (variables_of fs) n 0)
 variable_reads s q P [] ts n w are youngest has = pow_pos (bits w)
@@ -139,6 +145,7 @@ register_reads s store n w fits has =
     let g = passes_from (slice_get s.program.globals n) (λ g. same_width g.width w) has in
     same_word (g.0).width w _ g.2 (zip_get _ s.program.globals store.registers n g.0 0 g.1 fits.registers)
 
+-- all that the youngest activation reads
 pub reads_fit : (s : Setting) (top : s.top < 2 ^ 64) (inside : (n : ℕ) → PartsInside (place_row s n)) (q : Proc) (P : Demand) (status : Status) (ts : List Todo) (store : Store) →
     Works s q P status ts store → ReadsFit s.program q (reads_of s store)
 reads_fit s top inside q P status ts store works = let fits = works.fits in record {
@@ -154,6 +161,7 @@ reads_fit s top inside q P status ts store works = let fits = works.fits in reco
 -- ---- values put into places
 
 module _ (s : Setting) (q : Proc) (P : Demand) where
+  -- a variable of the youngest activation with a value of its width
   pub with_variable_keeps : (fs : List Frame) (ts : List Todo) (n : ℕ) (w : Width) (value : ℕ) →
       AreActivations s P fs ts → IsYoungest s q fs → IsTrue (has_variable q n w) → IsWord w value →
       AreActivations s P (with_variable fs n value) ts × IsYoungest s q (with_variable fs n value) × (sum_of_sizes s (with_variable fs n value) ≡ sum_of_sizes s fs)
@@ -176,6 +184,7 @@ module _ (s : Setting) (q : Proc) (P : Demand) where
     }
 
   module _ (status : Status) (ts : List Todo) where
+    -- a target with a value of its width, and targets with theirs
     pub assigned_works : (target : Target) (value : ℕ) (store : Store) → Works s q P status ts store → IsTrue (is_target s.program q target) →
         IsWord (target_width target) value → Works s q P status ts (assigned target value store)
     assigned_works (Variable n w) value store old has fits =
@@ -202,6 +211,7 @@ module _ (s : Setting) (q : Proc) (P : Demand) where
         let h = and_parts _ _ has in
         all_assigned_works targets values (assigned t v store) (assigned_works t v store old h.0 fits.0) h.1 fits.1
 
+    -- a place with a value that fits it, and places with theirs
     put_works : (place : Place) (value : ℕ) (store : Store) → Works s q P status ts store → PlaceFits s.program q place value →
         Kept (Works s q P status ts) (put place value store)
     put_works (Held target) value store old fits = assigned_works target value store old fits.0 fits.1
