@@ -19,7 +19,7 @@ use Rattle.cmm_program.specs.Orders.{Answer, Stay, Wait, Away, Over, perform}
 use Rattle.cmm_program.specs.State.{Setting, Frame, Store, Status, Running, Waiting, Ended, Wrong, StackLimit}
 use Rattle.cmm_program.specs.Todo.{Todo, todo_control, todo_act, todo_on, act_of}
 use Rattle.cmm_program.specs.Writes.{reads_of}
-use Rattle.cmm_laws.specs.Fitting.{IsStatementOf, Youngest, IsByte, RoomFits, StoreFits, Fits, IsSound, EveryStateIsSound, ExpressionsFit}
+use Rattle.cmm_laws.specs.Fitting.{IsStatementOf, Youngest, IsByte, RoomFits, StoreFits, Fits, IsSound, StartIsSound, StepIsSound, EveryStateIsSound, ExpressionsFit}
 use Rattle.cmm_laws.proofs.FittingActs.{OrderFits, order_fits}
 use Rattle.cmm_laws.proofs.FittingClient.{answered_fits}
 use Rattle.cmm_program.specs.Values.{value_of, width_of}
@@ -139,16 +139,23 @@ module _ (s : Setting) (range : IsInRange s.program) where
         output = All-nil IsByte;
       }
 
--- every state of a run
+-- the first state, each step, and so every state of a run
+pub first_state_sound : StartIsSound
+first_state_sound s input set are = start_sound s set.program input are
+
+pub each_step_sound : StepIsSound
+each_step_sound s st set old = step_sound s set.program set.top (parts_inside s set.program set.placement) st old
+
 pub every_state_sound : EveryStateIsSound
-every_state_sound s input range placed top are m =
-    steps_sound s range top (parts_inside s range placed) m (start s input) (start_sound s range input are)
+every_state_sound s input set are m =
+    steps_sound s set.program set.top (parts_inside s set.program set.placement) m (start s input) (start_sound s set.program input are)
 
 -- the values of expressions in a sound state
 pub expressions_fitting : ExpressionsFit
-expressions_fitting s st f fs q e w value range placed top sound youngest found typed is =
+expressions_fitting s st f fs q e w value set sound youngest found typed is =
     let works : Works s q (Youngest st.store.status) st.store.status st.controls st.store =
     record { fits = sound.fits; youngest = subst (IsYoungest s q) (sym youngest) found; still = refl } in
-    let reads = reads_fit s top (parts_inside s range placed) q (Youngest st.store.status) st.store.status st.controls st.store works in
+    let inside = parts_inside s set.program set.placement in
+    let reads = reads_fit s set.top inside q (Youngest st.store.status) st.store.status st.controls st.store works in
     let gives = expression_gives s.program q (reads_of s st.store) reads e w typed in
     subst (λ x. IsWord x value) gives.0 (kept_at (value_of e (reads_of s st.store)) (IsWord (width_of e)) value is gives.1)

@@ -1,4 +1,4 @@
-mod Fitting
+pub mod Fitting
 mod FittingActs
 mod FittingBodies
 mod FittingClient

@@ -12,7 +12,7 @@ use Rattle.cmm_program.specs.declared.program.Program.{Program}
 use Rattle.cmm_program.specs.Control.{State}
 use Rattle.cmm_program.specs.Frames.{procedure_at, sum_of_sizes}
 use Rattle.cmm_program.specs.InRange.{IsInRange, is_statement, is_body_in}
-use Rattle.cmm_program.specs.Machine.{state_after}
+use Rattle.cmm_program.specs.Machine.{start, step, state_after}
 use Rattle.cmm_program.specs.Memory.{Memory, Room}
 use Rattle.cmm_program.specs.Placed.{IsPlaced}
 use Rattle.cmm_program.specs.State.{Setting, Frame, Store, Status, Running, Waiting, Ended, Wrong}
@@ -110,14 +110,27 @@ pub record IsSound (s : Setting) (st : State Todo) : Type 0 where
   pub fits : Fits s (Youngest st.store.status) st.controls st.store
   pub yielded : AreYielded st.store.status
 
--- A program that is in range, at a valid placement, with a stack whose addresses are words and an input of bytes, has only
--- such states.
-abbrev pub EveryStateIsSound : Type 0
-EveryStateIsSound = (s : Setting) (input : List ℕ) → IsInRange s.program → IsPlaced s.program s.placement → s.top < 2 ^ 64 →
-    All IsByte input → (m : ℕ) → IsSound s (state_after s input m)
+-- what a run needs for that: a program in range at a valid placement, and a stack whose addresses are words
+pub record IsSetUp (s : Setting) : Type 0 where
+  pub program : IsInRange s.program
+  pub placement : IsPlaced s.program s.placement
+  pub top : s.top < 2 ^ 64
 
--- An expression of the youngest activation's procedure that keeps the rules on widths has then a value of its width.
+-- with an input of bytes, the first state is sound
+abbrev pub StartIsSound : Type 0
+StartIsSound = (s : Setting) (input : List ℕ) → IsSetUp s → All IsByte input → IsSound s (start s input)
+
+-- a step leads from a sound state to a sound one
+abbrev pub StepIsSound : Type 0
+StepIsSound = (s : Setting) (st : State Todo) → IsSetUp s → IsSound s st → IsSound s (step s st)
+
+-- so with an input of bytes every state is sound
+abbrev pub EveryStateIsSound : Type 0
+EveryStateIsSound = (s : Setting) (input : List ℕ) → IsSetUp s → All IsByte input → (m : ℕ) → IsSound s (state_after s input m)
+
+-- In a sound state, an expression of the youngest activation's procedure that keeps the rules on widths has a value of its
+-- width, if it has one.
 abbrev pub ExpressionsFit : Type 0
 ExpressionsFit = (s : Setting) (st : State Todo) (f : Frame) (fs : List Frame) (q : Proc) (e : Expression) (w : Width) (value : ℕ) →
-    IsInRange s.program → IsPlaced s.program s.placement → s.top < 2 ^ 64 → IsSound s st → st.store.frames ≡ f ∷ fs →
-    procedure_at s f.procedure ≡ Some q → typed s.program q e ≡ Some w → value_of e (reads_of s st.store) ≡ Ok value → IsWord w value
+    IsSetUp s → IsSound s st → st.store.frames ≡ f ∷ fs → procedure_at s f.procedure ≡ Some q →
+    typed s.program q e ≡ Some w → value_of e (reads_of s st.store) ≡ Ok value → IsWord w value
