@@ -13,3 +13,13 @@ pub mod GraphStands
 pub mod Lasting
 pub mod LockSteps
 mod GraphRows
+pub mod Fitting
+mod FittingActs
+mod FittingBodies
+mod FittingClient
+mod FittingExpressions
+mod FittingKept
+mod FittingLandings
+mod FittingOrders
+mod FittingStart
+mod FittingStores

@@ -7,6 +7,7 @@
 //! - `memory`: reads after writes, rooms that come and go, numbers as bytes, words stored and loaded.
 //! - `runs`: what an ended state does, what is only added to, who takes the input, and what the client's commands leave.
 //! - `stacks`: that the frames fit the stack and adjoin, and that what belongs to different activations lies apart.
+//! - `values`: sites in range, and values that fit their widths, in every state.
 //!
 //! The laws of memory are the public lemmas of `proofs/Cells` and `proofs/StoredWords` too.
 #![tactic(auto)]
@@ -15,3 +16,4 @@ pub mod lock_step;
 pub mod memory;
 pub mod runs;
 pub mod stacks;
+pub mod values;

@@ -1,0 +1,136 @@
+-- What holds of every state of the C-- machine, for a program in range at a valid placement: what an activation has to do is
+-- in range in its own procedure, each suspended one waits at a site of it, and each value fits the width of what holds it.
+use Rattle.std.specs.Prelude.{◌≡◌, ℕ, ◌-◌, ◌^◌, ◌<◌, ◌≤◌, IsTrue, IsSome, IsNone, IfSome, ⊤, All, List, [], ◌∷◌, length, Option, Some, None, Ok}
+use Rattle.std.specs.List.{AllZip}
+use Rattle.cmm_words.specs.declared.width.Width.{Width}
+use Rattle.cmm_words.specs.declared.width.Width.TheVariants.{W64}
+use Rattle.cmm_words.specs.Widths.{IsWord}
+use Rattle.cmm_program.specs.declared.expression.Expression.{Expression}
+use Rattle.cmm_program.specs.declared.statement.Statement.{Statement}
+use Rattle.cmm_program.specs.declared.procedure.Proc.{Proc}
+use Rattle.cmm_program.specs.declared.program.Program.{Program}
+use Rattle.cmm_program.specs.Control.{State}
+use Rattle.cmm_program.specs.Frames.{procedure_at, sum_of_sizes}
+use Rattle.cmm_program.specs.InRange.{IsInRange, is_statement, is_body_in}
+use Rattle.cmm_program.specs.Machine.{start, step, state_after}
+use Rattle.cmm_program.specs.Memory.{Memory, Room}
+use Rattle.cmm_program.specs.Placed.{IsPlaced}
+use Rattle.cmm_program.specs.State.{Setting, Frame, Store, Status, Running, Waiting, Ended, Wrong}
+use Rattle.cmm_program.specs.Todo.{Todo}
+use Rattle.cmm_program.specs.Typing.{typed}
+use Rattle.cmm_program.specs.Values.{value_of}
+use Rattle.cmm_program.specs.Writes.{reads_of}
+
+-- ---- activations
+
+-- a statement that is in range in a procedure, with the blocks inside it
+abbrev pub IsStatementOf : Program → Proc → Statement → Type 0
+IsStatementOf p q statement = IsTrue (is_statement p q statement.tokens statement.form) × IsTrue (is_body_in p q statement.form)
+
+-- An activation of a procedure: each of its variables has a value, of the variable's width; it waits at one of its sites,
+-- if it is suspended; and each statement that it has still to do is in range in the procedure.
+pub record IsActivationOf (p : Program) (q : Proc) (f : Frame) (t : Todo) : Type 0 where
+  pub variables : AllZip (λ v value. IsWord v.width value) q.vars f.variables
+  pub site : IfSome f.site (λ n. n < length q.sites)
+  pub statements : All (IsStatementOf p q) t.rest
+
+-- a frame, and where its activation stands: both name one procedure of the program
+pub record IsActivation (s : Setting) (f : Frame) (t : Todo) : Type 0 where
+  pub known : f.procedure < length s.program.procs
+  pub control : t.procedure ≡ f.procedure
+  pub procedure : (q : Proc) → procedure_at s f.procedure ≡ Some q → IsActivationOf s.program q f t
+
+-- what is demanded of the youngest activation, by its site, or of there being none
+abbrev pub Demand : Type 1
+Demand = Option (Option ℕ) → Type 0
+
+-- it is suspended, if there is one
+abbrev pub IsSuspended : Demand
+IsSuspended None = ⊤
+IsSuspended (Some site) = IsSome site
+
+-- As many activations stand somewhere as there are frames, youngest first. The youngest is as demanded, and each older one is
+-- suspended.
+abbrev pub AreActivations : Setting → Demand → List Frame → List Todo → Type 0
+AreActivations s P [] [] = P None
+AreActivations s P [] (t ∷ ts) = ⊥
+AreActivations s P (f ∷ fs) [] = ⊥
+AreActivations s P (f ∷ fs) (t ∷ ts) = P (Some f.site) × IsActivation s f t × AreActivations s IsSuspended fs ts
+
+-- In a running state there is an activation, which isn't suspended; in one that waits for the client there is a suspended one.
+abbrev pub Youngest : Status → Demand
+Youngest Running None = ⊥
+Youngest Running (Some site) = IsNone site
+Youngest (Waiting values) None = ⊥
+Youngest (Waiting values) (Some site) = IsSome site
+Youngest (Ended outcome) youngest = ⊤
+Youngest (Wrong error) youngest = ⊤
+
+-- ---- values
+
+abbrev pub IsByte : ℕ → Type 0
+IsByte n = n < 256
+
+-- what was written into a cell, and into a room, is bytes
+abbrev pub CellFits : Option ℕ → Type 0
+CellFits cell = IfSome cell IsByte
+
+abbrev pub RoomFits : Room → Type 0
+RoomFits room = All CellFits room.cells
+
+pub record MemoryFits (memory : Memory) : Type 0 where
+  pub globals : RoomFits memory.globals
+  pub rooms : All RoomFits memory.rooms
+
+-- values of a store: each register has one, of its width, and memory, input, what was taken of it and output are bytes
+pub record ValuesFit (s : Setting) (held : List ℕ) (m : Memory) (left gone written : List ℕ) : Type 0 where
+  pub registers : AllZip (λ g value. IsWord g.width value) s.program.globals held
+  pub memory : MemoryFits m
+  pub input : All IsByte left
+  pub taken : All IsByte gone
+  pub output : All IsByte written
+
+abbrev pub StoreFits : Setting → Store → Type 0
+StoreFits s store = ValuesFit s store.registers store.memory store.input store.taken store.output
+
+-- the values for the client
+abbrev pub AreYielded : Status → Type 0
+AreYielded (Waiting values) = All (IsWord W64) values
+AreYielded _ = ⊤
+
+-- ---- states
+
+-- a store and where its activations stand: its values fit, its frames fit the stack, and its youngest activation is as demanded
+pub record Fits (s : Setting) (P : Demand) (ts : List Todo) (now : Store) : Type 0 where
+  pub store : StoreFits s now
+  pub stack : sum_of_sizes s now.frames ≤ s.top - s.base
+  pub activations : AreActivations s P now.frames ts
+
+pub record IsSound (s : Setting) (st : State Todo) : Type 0 where
+  pub fits : Fits s (Youngest st.store.status) st.controls st.store
+  pub yielded : AreYielded st.store.status
+
+-- what a run needs for that: a program in range at a valid placement, and a stack whose addresses are words
+pub record IsSetUp (s : Setting) : Type 0 where
+  pub program : IsInRange s.program
+  pub placement : IsPlaced s.program s.placement
+  pub top : s.top < 2 ^ 64
+
+-- with an input of bytes, the first state is sound
+abbrev pub StartIsSound : Type 0
+StartIsSound = (s : Setting) (input : List ℕ) → IsSetUp s → All IsByte input → IsSound s (start s input)
+
+-- a step leads from a sound state to a sound one
+abbrev pub StepIsSound : Type 0
+StepIsSound = (s : Setting) (st : State Todo) → IsSetUp s → IsSound s st → IsSound s (step s st)
+
+-- so with an input of bytes every state is sound
+abbrev pub EveryStateIsSound : Type 0
+EveryStateIsSound = (s : Setting) (input : List ℕ) → IsSetUp s → All IsByte input → (m : ℕ) → IsSound s (state_after s input m)
+
+-- In a sound state, an expression of the youngest activation's procedure that keeps the rules on widths has a value of its
+-- width, if it has one.
+abbrev pub ExpressionsFit : Type 0
+ExpressionsFit = (s : Setting) (st : State Todo) (f : Frame) (fs : List Frame) (q : Proc) (e : Expression) (w : Width) (value : ℕ) →
+    IsSetUp s → IsSound s st → st.store.frames ≡ f ∷ fs → procedure_at s f.procedure ≡ Some q →
+    typed s.program q e ≡ Some w → value_of e (reads_of s st.store) ≡ Ok value → IsWord w value
