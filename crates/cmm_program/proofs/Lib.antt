@@ -1,4 +1,8 @@
 pub mod Places
+pub mod Settling
+pub mod Positions
+pub mod Leading
+pub mod LivePaths
 mod Notation
 mod Calls
 mod Yielding

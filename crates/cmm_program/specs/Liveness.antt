@@ -1,5 +1,7 @@
 -- Which variables are live at a call site, by the paths of a body (Ramsey and Peyton Jones, PLDI 2000, the flow edges
--- of call sites). A path goes from position to position; a position is the list of the statements still to do.
+-- of call sites). A path goes from position to position; a position is the list of the statements still to do. Here is the
+-- test, which looks along paths of bounded length; `LivePaths` has the definition by paths of any length, and `Laws` that the
+-- two agree.
 use Rattle.std.specs.Prelude.{ℕ, zero, suc, ◌==◌, ◌||◌, Bool, true, false, List, [], ◌∷◌, ◌++◌, map, flat_map, slice_get, Some, None}
 use Rattle.cmm_program.specs.declared.expression.Expression.{Expression, Expression-F}
 use Rattle.cmm_program.specs.declared.expression.Expression.TheOpen as e
@@ -146,8 +148,8 @@ is_read_within (suc n) p v (s ∷ rest) = elim (is_among v (read_in s.form)) [
   | false ↦ along (is_read_within n p v) v (ways p s.form rest)
 ]
 
--- A path that comes back to a position can be cut short, so none has to be longer than the body, which has no more
--- statements than tokens.
+-- No path has to be longer than the procedure has tokens: one that comes back to a position can be cut short, and a body
+-- has no more positions than tokens (`Laws.LivenessIsByPaths`).
 abbrev pub is_read_from : Proc → ℕ → List Statement → Bool
 is_read_from p v position = is_read_within p.tokens p v position
 

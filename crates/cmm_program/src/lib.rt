@@ -11,9 +11,11 @@
 //! - `procedure`: a procedure, with its variables, stackdata, continuations and call sites.
 //! - `program`: a whole program, with its data.
 //! - `placement`: where the code and the parts of the frames lie.
+//! - `laws`: what the layers above use of the definitions of liveness, as contracts.
 #![tactic(auto)]
 
 mod expression;
+pub mod laws;
 mod placement;
 mod procedure;
 mod program;
