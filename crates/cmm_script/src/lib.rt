@@ -7,6 +7,14 @@
 //! - `script`: `Script`, its blocks, commands and values.
 #![tactic(auto)]
 
+mod fault;
+mod keyword;
+mod line;
+mod number;
+mod reader;
 mod script;
+mod words;
 
+pub use fault::ScriptFault;
+pub use reader::{SCRIPT_LIMIT, parse_script};
 pub use script::{Block, Command, Script, Value};
