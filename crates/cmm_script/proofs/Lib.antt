@@ -1,2 +1,6 @@
 mod Digits
 mod Values
+mod Stepping
+mod Forms
+mod Blocks
+mod Scripts

@@ -1,5 +1,5 @@
 -- The blocks that lines make, from the first line on.
-use Rattle.std.specs.Prelude.{◌≡◌, ℕ, true, false, List, [], ◌∷◌, ◌++◌, Option, Some, None, Result, Ok, Err}
+use Rattle.std.specs.Prelude.{◌≡◌, ℕ, true, false, if◌then◌else◌, List, [], ◌∷◌, ◌++◌, Option, Some, None, Result, Ok, Err}
 use Rattle.cmm_script.specs.declared.fault.Rule.{Rule}
 use Rattle.cmm_script.specs.declared.fault.Rule.TheVariants.{Form, Repeat}
 use Rattle.cmm_script.specs.declared.fault.ScriptFault.{ScriptFault}
@@ -29,7 +29,7 @@ onto_last f (b ∷ c ∷ bs) = b ∷ onto_last f (c ∷ bs)
 
 -- a block begins
 abbrev pub with_head : List Block → Option ℕ → Result (List Block) Rule
-with_head bs code = elim (has_code code bs) [ true ↦ Err Repeat | false ↦ Ok (bs ++ begun code ∷ []) ]
+with_head bs code = if has_code code bs then Err Repeat else Ok (bs ++ begun code ∷ [])
 
 -- the last block has a command more
 abbrev pub with_last : List Block → ℕ → Command → Result (List Block) Rule

@@ -1,10 +1,11 @@
 -- Why bytes are no script: the first fault.
-use Rattle.std.specs.Prelude.{◌≡◌, ℕ, true, ◌<◌, ◌≤◌, ◌⊎◌, List, [], ◌∷◌, ◌++◌, length, Option}
+use Rattle.std.specs.Prelude.{◌≡◌, ℕ, true, ◌<◌, ◌≤◌, ◌⊎◌, List, [], ◌∷◌, ◌++◌, length, Option, Result, Ok, Err}
 use Rattle.cmm_script.specs.declared.fault.Rule.{Rule}
 use Rattle.cmm_script.specs.declared.fault.Rule.TheVariants.{Form, Repeat, Length}
 use Rattle.cmm_script.specs.declared.fault.ScriptFault.{ScriptFault}
 use Rattle.cmm_script.specs.declared.fault.ScriptFault.TheVariants.{At, Memory}
 use Rattle.cmm_script.specs.declared.reader.TheConstants.{SCRIPT_LIMIT}
+use Rattle.cmm_script.specs.declared.script.Script.{Script}
 use Rattle.cmm_script.specs.declared.script.Block.{Block}
 use Rattle.cmm_script.specs.declared.script.Command.{Command}
 use Rattle.cmm_script.specs.Words.{Word, Said, said_in}
@@ -42,3 +43,15 @@ IsFirstFault bytes Repeat line = (length bytes ≤ SCRIPT_LIMIT) × BreaksFirst 
 abbrev pub ScriptFaultAt : List ℕ → ScriptFault → Type 0
 ScriptFaultAt bytes Memory = Unit {0}
 ScriptFaultAt bytes (At r line) = (rule : Rule) × (r ≡ rule_number rule) × IsFirstFault bytes rule line
+
+-- an answer is this script, unless memory ran out
+abbrev pub IsScript : Script → Result Script ScriptFault → Type 0
+IsScript s (Ok t) = t ≡ s
+IsScript s (Err Memory) = Unit {0}
+IsScript s (Err (At r line)) = ⊥
+
+-- an answer is this fault, unless memory ran out
+abbrev pub IsRefusal : Rule → ℕ → Result Script ScriptFault → Type 0
+IsRefusal rule line (Ok s) = ⊥
+IsRefusal rule line (Err Memory) = Unit {0}
+IsRefusal rule line (Err (At r n)) = (r ≡ rule_number rule) × (n ≡ line)

@@ -9,3 +9,4 @@ pub mod Rules
 pub mod Spelling
 pub mod Faults
 pub mod Building
+pub mod Laws

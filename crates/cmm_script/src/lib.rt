@@ -9,6 +9,7 @@
 
 mod fault;
 mod keyword;
+pub mod laws;
 mod line;
 mod number;
 mod reader;

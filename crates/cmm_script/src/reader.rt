@@ -1,11 +1,13 @@
 //! `parse_script`: from the bytes of a script to its blocks.
 
-ghost use Rattle.std.specs.Prelude.{◌≡◌, ◌≤◌, [], length, map, IfOk, IfErr};
+ghost use Rattle.std.specs.Prelude.{◌≡◌, ◌≤◌, ℕ, [], length, map, IfOk, IfErr};
 ghost use Rattle.cmm_script.specs.Building.{Leaves, Makes, with_head, with_last, with_line, with_words, blocks_after};
-ghost use Rattle.cmm_script.specs.Faults.{ScriptFaultAt};
+ghost use Rattle.cmm_script.specs.Faults.{ScriptFaultAt, IsFirstFault, IsScript, IsRefusal};
 ghost use Rattle.cmm_script.specs.Reading.{line_of as line_in_words};
 ghost use Rattle.cmm_script.specs.Rules.{rule_number};
+ghost use Rattle.cmm_script.specs.declared.fault.Rule.{Rule};
 ghost use Rattle.cmm_script.specs.declared.fault.ScriptFault.{ScriptFault};
+ghost use Rattle.cmm_script.specs.declared.script.Script.{Script};
 ghost use Rattle.cmm_script.specs.Spelling.{SpellsScript, has_code as has_code_in};
 ghost use Rattle.cmm_script.specs.Words.{words_in, said_in};
 
@@ -22,8 +24,14 @@ pub const SCRIPT_LIMIT: usize = 65_536;
 /// The script that bytes spell. A fault is the first in the text, but a script of more than `SCRIPT_LIMIT` bytes is refused for its
 /// length.
 pub fn parse_script(alloc: Global, bytes: &[u8]) -> Result<Script, ScriptFault>
+    // What is read is spelled so.
     ensures ok { IfOk result (SpellsScript bytes.now) }
+    // What is spelled so is read, unless memory runs out.
+    ensures only { (s : Script) → SpellsScript bytes.now s → IsScript s result }
+    // A fault is the first of the bytes.
     ensures err { IfErr result (ScriptFaultAt bytes.now) }
+    // Bytes with a fault are refused for it, unless memory runs out.
+    ensures refused { (rule : Rule) (line : ℕ) → IsFirstFault bytes.now rule line → IsRefusal rule line result }
 {
     if bytes.len() > SCRIPT_LIMIT {
         return Err(fault(Rule::Length, 1));
