@@ -1,5 +1,5 @@
 -- Lines make the blocks that they spell, or break the first rule that they break.
-use Rattle.std.proofs.Common.{◌≡◌, ℕ, zero, suc, Bool, true, false, cond, nat_eq, ◌||◌, List, [], ◌∷◌, ◌++◌, map, Option, Some, None, Result, Ok, Err, refl, sym, ap, subst, ◌∙◌, append_assoc, append-nil, inl, inr}
+use Rattle.std.proofs.Common.{◌≡◌, ℕ, Bool, true, false, cond, nat_eq, ◌||◌, List, [], ◌∷◌, ◌++◌, map, Option, Some, None, Result, Ok, Err, refl, sym, ap, subst, ◌∙◌, append_assoc, append-nil, inl, inr}
 use Rattle.std.proofs.lemmas.List.{map-append}
 use Rattle.std.proofs.lemmas.Map.Keys.{IsDistinct-push, IsDistinct-head, IsDistinct-tail}
 use Rattle.std.specs.Cmp.{nat_eq_equiv}
@@ -15,9 +15,9 @@ use Rattle.cmm_script.specs.declared.script.Command.{Command}
 use Rattle.cmm_script.specs.Words.{Word, Said}
 use Rattle.cmm_script.specs.Reading.{line_of}
 use Rattle.cmm_script.specs.Spelling.{SpellsHead, SpellsCommand, SpellsCommands, SpellsBlock, SpellsBlocks, has_code, AreBlocks}
-use Rattle.cmm_script.specs.Faults.{IsNoLine, Breaks, BreaksFirst}
+use Rattle.cmm_script.specs.Faults.{Breaks, BreaksFirst}
 use Rattle.cmm_script.specs.Building.{begun, with_command, onto_last, with_head, with_last, with_line, blocks_after}
-use Rattle.cmm_script.proofs.Forms.{Spells, line-read, line-spelled}
+use Rattle.cmm_script.proofs.Forms.{line-read, line-spelled}
 
 -- ---- codes
 

@@ -1,5 +1,5 @@
 -- A line's words mean what spells them, and nothing else.
-use Rattle.std.proofs.Common.{◌≡◌, ℕ, ◌≤◌, ◌<◌, Bool, true, false, nat_lt, cond, List, [], ◌∷◌, length, Option, Some, None, refl, sym, ap, subst, ◌∙◌, arith}
+use Rattle.std.proofs.Common.{◌≡◌, ℕ, ◌≤◌, Bool, true, false, nat_lt, cond, List, [], ◌∷◌, length, Option, Some, None, refl, sym, ap, subst, ◌∙◌, arith}
 use Rattle.std.proofs.lemmas.Bool.Decides.{nat_tests}
 use Rattle.std.proofs.lemmas.Option.{same_Some}
 use Rattle.std.specs.Prelude.{bytes_eq, codes}
@@ -9,7 +9,6 @@ use Rattle.cmm_script.specs.declared.keyword.Keyword.{Keyword}
 use Rattle.cmm_script.specs.declared.keyword.Keyword.TheVariants as keyword
 use Rattle.cmm_script.specs.declared.line.Line.{Line}
 use Rattle.cmm_script.specs.declared.line.Line.TheVariants.{Begins, Does}
-use Rattle.cmm_script.specs.declared.script.Command.{Command}
 use Rattle.cmm_script.specs.declared.script.Command.TheVariants.{List as ListAll, Youngest, Next, Desc, Seek, Var, Set, Poke, Return, Unwind, Cut, Stop}
 use Rattle.cmm_script.specs.declared.script.Value.{Value}
 use Rattle.cmm_script.specs.Words.{Word}
@@ -76,6 +75,14 @@ read-two ws f g made l e =
     let r = bind-some (g p.0.1) (λ b. Some (made q.0 b)) l q.2 in
     (p.0, q.0, r.0, two-is ws p.0 p.1, q.1, r.1, same_Some (made q.0 r.0) l r.2)
 
+read-poke : (ws : List Word) (l : Line) → (three ws >>= λ w. number_of w.1 >>= λ o. value_of w.2 >>= λ v. Some (Does (Poke w.0 o v))) ≡ Some l
+    → (w : Word × Word × Word) × (o : ℕ) × (v : Value) × (ws ≡ w.0 ∷ w.1 ∷ w.2 ∷ []) × (number_of w.1 ≡ Some o) × (value_of w.2 ≡ Some v) × (Does (Poke w.0 o v) ≡ l)
+read-poke ws l e =
+    let p = bind-some (three ws) (λ w. number_of w.1 >>= λ o. value_of w.2 >>= λ v. Some (Does (Poke w.0 o v))) l e in
+    let q = bind-some (number_of p.0.1) (λ o. value_of p.0.2 >>= λ v. Some (Does (Poke p.0.0 o v))) l p.2 in
+    let r = bind-some (value_of p.0.2) (λ v. Some (Does (Poke p.0.0 q.0 v))) l q.2 in
+    (p.0, q.0, r.0, three-is ws p.0 p.1, q.1, r.1, same_Some (Does (Poke p.0.0 q.0 r.0)) l r.2)
+
 -- ---- values
 
 each-spelled : (ws : List Word) (vs : List Value) → each_value ws ≡ Some vs → AllZip (λ w v. value_of w ≡ Some v) ws vs × (length ws ≡ length vs)
@@ -100,6 +107,7 @@ values-spelled ws vs e = by (nat_lt 64 (length ws)) refl e
   where
     few : nat_lt 64 (length ws) ≡ false → length ws ≤ 64
     few t = grind (arith, nat_tests)
+
     by : (b : Bool) → nat_lt 64 (length ws) ≡ b → elim b [ true ↦ None | false ↦ each_value ws ] ≡ Some vs → AreValues ws vs
     by true t h = absurd cc
     by false t h = let all = each-spelled ws vs h in record { each = all.0; few = omega (arith, all.1, few t) }
@@ -187,10 +195,8 @@ as-spelled keyword.Set ws l e =
     let p = read-two ws index_of value_of (λ n v. Does (Set n v)) l e in
     subst (λ (x : Line). Spells (codes "set" ∷ ws) x) p.6 (p.0.0, p.0.1, ap (λ (r : List Word). codes "set" ∷ r) p.3, p.4, p.5)
 as-spelled keyword.Poke ws l e =
-    let p = bind-some (three ws) (λ w. number_of w.1 >>= λ o. value_of w.2 >>= λ v. Some (Does (Poke w.0 o v))) l e in
-    let q = bind-some (number_of p.0.1) (λ o. value_of p.0.2 >>= λ v. Some (Does (Poke p.0.0 o v))) l p.2 in
-    let r = bind-some (value_of p.0.2) (λ v. Some (Does (Poke p.0.0 q.0 v))) l q.2 in
-    subst (λ (x : Line). Spells (codes "poke" ∷ ws) x) (same_Some (Does (Poke p.0.0 q.0 r.0)) l r.2) (p.0.1, p.0.2, ap (λ (s : List Word). codes "poke" ∷ s) (three-is ws p.0 p.1), q.1, r.1)
+    let p = read-poke ws l e in
+    subst (λ (x : Line). Spells (codes "poke" ∷ ws) x) p.6 (p.0.1, p.0.2, ap (λ (r : List Word). codes "poke" ∷ r) p.3, p.4, p.5)
 as-spelled keyword.Return ws l e =
     let p = bind-some (exit_of ws) (λ x. Some (Does (Return x.0 x.1))) l e in
     let q = exit-spelled ws p.0 p.1 in

@@ -4,3 +4,4 @@ mod Stepping
 mod Forms
 mod Blocks
 mod Scripts
+mod ScriptRows

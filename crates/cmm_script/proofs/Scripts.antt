@@ -7,7 +7,7 @@ use Rattle.cmm_script.specs.declared.fault.ScriptFault.{ScriptFault}
 use Rattle.cmm_script.specs.declared.fault.ScriptFault.TheVariants.{At, Memory}
 use Rattle.cmm_script.specs.declared.script.Block.{Block}
 use Rattle.cmm_script.specs.declared.script.Script.{Script}
-use Rattle.cmm_script.specs.Words.{Said, said_in}
+use Rattle.cmm_script.specs.Words.{said_in}
 use Rattle.cmm_script.specs.Rules.{rule_number}
 use Rattle.cmm_script.specs.Building.{blocks_after, Makes}
 use Rattle.cmm_script.specs.Spelling.{SpellsScript}

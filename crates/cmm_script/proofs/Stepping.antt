@@ -1,17 +1,13 @@
 -- One line after another makes the blocks.
-use Rattle.std.proofs.Common.{◌≡◌, ℕ, zero, suc, ◌+◌, ◌<◌, ◌≤◌, Bool, true, false, List, [], ◌∷◌, ◌++◌, length, map, get_or, set, drop, Result, Ok, Err, refl, sym, ap, ◌∙◌, arith, add-one, Bor}
-use Rattle.std.proofs.Math.ListN.{length-map}
+use Rattle.std.proofs.Common.{◌≡◌, ℕ, zero, suc, ◌+◌, ◌<◌, Bool, true, false, List, [], ◌∷◌, ◌++◌, length, get_or, set, drop, Result, Ok, Err, refl, sym, ap, ◌∙◌, arith, add-one}
 use Rattle.std.proofs.Math.Seq.{drop-cons}
-use Rattle.std.proofs.lemmas.List.{get_or-map}
-use Rattle.std.proofs.lemmas.List.Splits.{length-slice_split}
-use Rattle.std.proofs.lemmas.List.Sums.{count_by-le-length}
-use Rattle.std.specs.List.{slice_split}
+use Rattle.std.proofs.lemmas.List.{drop_all}
 use Rattle.cmm_script.specs.declared.fault.Rule.{Rule}
 use Rattle.cmm_script.specs.declared.fault.ScriptFault.{ScriptFault}
 use Rattle.cmm_script.specs.declared.fault.ScriptFault.TheVariants.{At, Memory}
 use Rattle.cmm_script.specs.declared.script.Block.{Block}
 use Rattle.cmm_script.specs.declared.script.Command.{Command}
-use Rattle.cmm_script.specs.Words.{Word, ends_line, words_in, is_skipped, said_from}
+use Rattle.cmm_script.specs.Words.{Word, words_in, is_skipped, said_from}
 use Rattle.cmm_script.specs.Reading.{line_of}
 use Rattle.cmm_script.specs.Building.{with_command, onto_last, with_last, with_line, with_words, blocks_after, Leaves, Makes}
 
@@ -41,52 +37,31 @@ blocks_after-line bs n line lines = by (is_skipped (words_in line)) (words_in li
     over : (r : Result (List Block) Rule) → elim r [ Err rule ↦ Err (rule, n) | Ok cs ↦ blocks_after cs (said_from (suc n) lines) ] ≡ after_line n lines r
     over (Ok cs) = refl
     over (Err rule) = refl
+
     by : (t : Bool) (ws : List Word) → blocks_after bs (elim t [ true ↦ said_from (suc n) lines | false ↦ record { number = n; words = ws } ∷ said_from (suc n) lines ])
         ≡ after_line n lines (elim t [ true ↦ Ok bs | false ↦ with_line bs n (line_of ws) ])
     by true ws = refl
     by false ws = over (with_line bs n (line_of ws))
 
-blocks_after-at : (bs : List Block) (i : ℕ) (lines : List (List ℕ)) (line : List ℕ) (made : Result (List Block) Rule) → i < length lines → line ≡ get_or lines i [] → with_words bs (i + 1) (words_in line) ≡ made
+blocks_after-at : (bs : List Block) (i : ℕ) (lines : List (List ℕ)) (line : List ℕ) (made : Result (List Block) Rule) → i < length lines → line ≡ get_or lines i line → with_words bs (i + 1) (words_in line) ≡ made
     → blocks_after bs (said_from (suc i) (drop i lines)) ≡ after_line (suc i) (drop (suc i) lines) made
 blocks_after-at bs i lines line made h at e =
     let there : with_words bs (suc i) (words_in line) ≡ made = rw (← add-one i) e in
-    rw (drop-cons lines i [] h, ← at) (blocks_after-line bs (suc i) line (drop (suc i) lines) ∙ ap (after_line (suc i) (drop (suc i) lines)) there)
-
--- a line that is read
-pub blocks_after-more : (bs cs : List Block) (i : ℕ) (lines : List (List ℕ)) (line : List ℕ) → i < length lines → line ≡ get_or lines i [] → with_words bs (i + 1) (words_in line) ≡ Ok cs
-    → blocks_after cs (said_from (suc (i + 1)) (drop (i + 1) lines)) ≡ blocks_after bs (said_from (suc i) (drop i lines))
-blocks_after-more bs cs i lines line h at e = rw add-one (sym (blocks_after-at bs i lines line (Ok cs) h at e))
-
--- a line that breaks a rule
-pub blocks_after-broken : (bs : List Block) (i : ℕ) (lines : List (List ℕ)) (line : List ℕ) (rule : Rule) → i < length lines → line ≡ get_or lines i [] → with_words bs (i + 1) (words_in line) ≡ Err rule
-    → blocks_after bs (said_from (suc i) (drop i lines)) ≡ Err (rule, i + 1)
-blocks_after-broken bs i lines line rule h at e = rw add-one (blocks_after-at bs i lines line (Err rule) h at e)
-
--- ---- the lines of a text
-
-abbrev texts : List (Bor (List ℕ)) → List (List ℕ)
-texts lines = map (λ line. line.now) lines
-
--- a text of few bytes has few lines
-pub few-lines : (text : List ℕ) (lines : List (Bor (List ℕ))) (i : ℕ) → texts lines ≡ slice_split ends_line text → length text ≤ 65536 → i < length lines → i ≤ 65536
-few-lines text lines i e short h =
-    omega (arith, length-map lines (λ line. line.now), ap length e, length-slice_split ends_line text, count_by-le-length ends_line text)
-
-line-at : (lines : List (Bor (List ℕ))) (i : ℕ) (d : Bor (List ℕ)) → i < length lines → (get_or lines i d).now ≡ get_or (texts lines) i []
-line-at lines i d h = sym (get_or-map (λ line. line.now) lines i d [] h)
+    rw (drop-cons lines i line h, ← at) (blocks_after-line bs (suc i) line (drop (suc i) lines) ∙ ap (after_line (suc i) (drop (suc i) lines)) there)
 
 -- one more line is read
-pub lines-more : (bs cs : List Block) (i : ℕ) (lines : List (Bor (List ℕ))) (d : Bor (List ℕ)) (all : Result (List Block) (Rule × ℕ)) → i < length lines → with_words bs (i + 1) (words_in (get_or lines i d).now) ≡ Ok cs
-    → blocks_after bs (said_from (suc i) (drop i (texts lines))) ≡ all → blocks_after cs (said_from (suc (i + 1)) (drop (i + 1) (texts lines))) ≡ all
-lines-more bs cs i lines d all h e so_far =
-    blocks_after-more bs cs i (texts lines) (get_or lines i d).now (omega (arith, length-map lines (λ line. line.now))) (line-at lines i d h) e ∙ so_far
+pub lines-more : (bs cs : List Block) (i : ℕ) (lines : List (List ℕ)) (line : List ℕ) (all : Result (List Block) (Rule × ℕ)) → (i < length lines) × (line ≡ get_or lines i line) → with_words bs (i + 1) (words_in line) ≡ Ok cs
+    → blocks_after bs (said_from (suc i) (drop i lines)) ≡ all → blocks_after cs (said_from (suc (i + 1)) (drop (i + 1) lines)) ≡ all
+lines-more bs cs i lines line all (h, at) e so_far = rw add-one (sym (blocks_after-at bs i lines line (Ok cs) h at e) ∙ so_far)
 
 -- a line breaks a rule
-pub lines-broken : (bs left : List Block) (i : ℕ) (lines : List (Bor (List ℕ))) (d : Bor (List ℕ)) (all : Result (List Block) (Rule × ℕ)) (e : ScriptFault) → i < length lines
-    → Leaves (Err e) (i + 1) left (with_words bs (i + 1) (words_in (get_or lines i d).now)) → blocks_after bs (said_from (suc i) (drop i (texts lines))) ≡ all → Makes (Err e) all
-lines-broken bs left i lines d all Memory h fault so_far = tt
-lines-broken bs left i lines d all (At r line) h (rule, number, here, e) so_far = (
-  rule,
-  number,
-  sym so_far ∙ blocks_after-broken bs i (texts lines) (get_or lines i d).now rule (omega (arith, length-map lines (λ line. line.now))) (line-at lines i d h) e ∙ ap (λ (n : ℕ). Err (rule, n)) (sym here),
-)
+pub lines-broken : (bs left : List Block) (i : ℕ) (lines : List (List ℕ)) (line : List ℕ) (all : Result (List Block) (Rule × ℕ)) (e : ScriptFault) → (i < length lines) × (line ≡ get_or lines i line)
+    → Leaves (Err e) (i + 1) left (with_words bs (i + 1) (words_in line)) → blocks_after bs (said_from (suc i) (drop i lines)) ≡ all → Makes (Err e) all
+lines-broken bs left i lines line all Memory (h, at) fault so_far = tt
+lines-broken bs left i lines line all (At r n) (h, at) (rule, number, here, e) so_far =
+    let there : suc i ≡ n = omega (arith, here) in
+    (rule, number, sym so_far ∙ blocks_after-at bs i lines line (Err rule) h at e ∙ ap (λ (k : ℕ). Err (rule, k)) there)
+
+-- all lines are read
+pub lines-done : (bs : List Block) (i : ℕ) (lines : List (List ℕ)) (all : Result (List Block) (Rule × ℕ)) (cs : List Block) → cs ≡ bs → i ≡ length lines → blocks_after bs (said_from (suc i) (drop i lines)) ≡ all → all ≡ Ok cs
+lines-done bs i lines all cs same e so_far = rw same (sym so_far ∙ ap (λ (ls : List (List ℕ)). blocks_after bs (said_from (suc i) ls)) (drop_all i lines (omega (arith, e))))

@@ -31,14 +31,14 @@ pub fn line_of(alloc: Global, words: &[&[u8]]) -> Result<Line, Unread>
         [] => Err(Unread::Form),
         [first, operands @ ..] => {
             let keyword = Keyword::of(first).ok_or(Unread::Form)?;
-            line_as_said(alloc, keyword, operands)
+            line_of_keyword(alloc, keyword, operands)
         }
     }
 }
 
 /// What a line says that begins with a keyword.
 #[tactic(auto, unfolding(crate::specs::Reading::line_as))]
-fn line_as_said(alloc: Global, keyword: Keyword, operands: &[&[u8]]) -> Result<Line, Unread>
+fn line_of_keyword(alloc: Global, keyword: Keyword, operands: &[&[u8]]) -> Result<Line, Unread>
     ensures { Reads result (line_as keyword (map (λ word. word.now) operands.now)) }
 {
     match keyword {

@@ -14,7 +14,7 @@ ghost use Rattle.cmm_script.specs.Words.{words_in, said_in};
 use crate::fault::{Rule, ScriptFault, Unread};
 use crate::line::{Line, line_of};
 use crate::script::{Block, Command, Script};
-use crate::words::{is_skipped, lines_of, words_of};
+use crate::words::{is_skipped, words_of};
 use cmm_items::Items;
 use std::alloc::Global;
 
@@ -45,10 +45,11 @@ fn blocks_of(alloc: Global, bytes: &[u8]) -> Result<Items<Block>, ScriptFault>
     requires { length bytes.now ≤ SCRIPT_LIMIT }
     ensures { Makes result (blocks_after [] (said_in bytes.now)) }
 {
-    let lines = lines_of(alloc, bytes)?;
     let mut blocks = Vec::new(alloc);
-    for (index, line) in lines.iter().enumerate() {
-        read_line(alloc, &mut blocks, index as u32 + 1, line)?;
+    let mut number = 0;
+    for line in bytes.split(|byte| *byte == b'\n') {
+        number += 1;
+        read_line(alloc, &mut blocks, number, line)?;
     }
     Ok(Items::from_vec(blocks))
 }
@@ -114,11 +115,7 @@ fn has_code(code: Option<u64>, blocks: &[Block]) -> bool
 }
 
 /// Adds a command to the last block, where there is one.
-fn add_command(
-    blocks: &mut Vec<Block>,
-    number: u32,
-    command: Command,
-) -> Result<(), ScriptFault>
+fn add_command(blocks: &mut Vec<Block>, number: u32, command: Command) -> Result<(), ScriptFault>
     ensures { Leaves result number blocks.new.items (with_last blocks.old.items number command) }
 {
     let Some(block) = blocks.last_mut() else {
