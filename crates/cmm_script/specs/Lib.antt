@@ -1,3 +1,12 @@
 pub mod Refusals
 pub mod Walk
 pub mod Lines
+pub mod Words
+pub mod Numbers
+pub mod Keywords
+pub mod Reading
+pub mod Rules
+pub mod Spelling
+pub mod Faults
+pub mod Building
+pub mod Laws

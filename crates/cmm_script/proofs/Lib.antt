@@ -1,0 +1,7 @@
+mod Digits
+mod Values
+mod Stepping
+mod Forms
+mod Blocks
+mod Scripts
+mod ScriptRows
