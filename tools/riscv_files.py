@@ -1,10 +1,24 @@
-"""What the scripts that make RISC-V test data share: the tools that they call, and writing or comparing what they made."""
+"""What the scripts that make RISC-V test data share: the instructions' names, the assembler and the emulator, and writing or
+comparing what was made."""
 import os
 import re
 import shutil
+import struct
 import subprocess
 import sys
 import tempfile
+
+REGISTER = "add sll slt sltu xor srl or and sub sra mul mulh mulhsu mulhu div divu rem remu".split()
+REGISTER += "addw sllw srlw subw sraw mulw divw divuw remw remuw".split()
+IMMEDIATE = "addi slti sltiu xori ori andi addiw".split()
+SHIFTS = {"slli": 63, "srli": 63, "srai": 63, "slliw": 31, "srliw": 31, "sraiw": 31}
+BRANCHES = "beq bne blt bge bltu bgeu".split()
+LOADS = "lb lh lw ld lbu lhu lwu".split()
+STORES = "sb sh sw sd".split()
+
+GREATEST = 2**63 - 1
+LEAST = 2**63
+ONES = 2**64 - 1
 
 TOOLS = ["riscv64-linux-gnu-as", "riscv64-linux-gnu-ld", "riscv64-linux-gnu-objcopy", "qemu-riscv64"]
 TOP = os.path.join(os.path.dirname(__file__), "..")
@@ -13,6 +27,58 @@ TOP = os.path.join(os.path.dirname(__file__), "..")
 def run(folder, *command):
     """What a command prints that is run in a folder."""
     return subprocess.run(command, cwd=folder, check=True, stdout=subprocess.PIPE).stdout
+
+
+def assembled(folder, lines):
+    """The words of instructions."""
+    with open(os.path.join(folder, "w.s"), "w") as f:
+        f.write(".option norvc\n.option norelax\n" + "\n".join(lines) + "\n")
+    run(folder, TOOLS[0], "-march=rv64im", "-o", "w.o", "w.s")
+    run(folder, TOOLS[2], "-O", "binary", "-j", ".text", "w.o", "w.bin")
+    with open(os.path.join(folder, "w.bin"), "rb") as f:
+        data = f.read()
+    return [w for (w,) in struct.iter_unpack("<I", data)]
+
+
+def emulated(folder, body, operands, count):
+    """Runs code that stores `count` numbers by register 21, reading operands by register 20."""
+    numbers = "\n".join(f".quad {n}" for n in operands)
+    with open(os.path.join(folder, "e.s"), "w") as f:
+        f.write(f""".option norvc
+.option norelax
+.text
+.globl _start
+_start:
+    la x20, operands
+    la x21, results
+{body}
+    li x17, 64
+    li x10, 1
+    la x11, results
+    li x12, {8 * count}
+    ecall
+    li x17, 93
+    li x10, 0
+    ecall
+.data
+.balign 8
+operands:
+{numbers}
+.bss
+.balign 8
+results: .skip {8 * count}
+""")
+    run(folder, TOOLS[0], "-march=rv64im", "-o", "e.o", "e.s")
+    run(folder, TOOLS[1], "-o", "e", "e.o")
+    return [n for (n,) in struct.iter_unpack("<Q", run(folder, TOOLS[3], "./e"))]
+
+
+def table(name, kind, rows):
+    return f"pub static {name}: [{kind}; {len(rows)}] = [\n" + "".join(f"    {r},\n" for r in rows) + "];\n"
+
+
+def hexes(row):
+    return "(" + ", ".join(f"{n:#x}" for n in row) + ")"
 
 
 def bare(text):

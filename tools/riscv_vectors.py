@@ -8,23 +8,11 @@ Where the assembler or the emulator is missing it says so and ends with status 0
 Debian and Ubuntu: apt-get install binutils-riscv64-linux-gnu qemu-user
 """
 import itertools
-import os
-import struct
 import sys
 
-from riscv_files import TOOLS, run, write_or_compare
+from riscv_files import BRANCHES, GREATEST, IMMEDIATE, LEAST, LOADS, ONES, REGISTER, SHIFTS, STORES
+from riscv_files import assembled, emulated, hexes, table, write_or_compare
 
-REGISTER = "add sll slt sltu xor srl or and sub sra mul mulh mulhsu mulhu div divu rem remu".split()
-REGISTER += "addw sllw srlw subw sraw mulw divw divuw remw remuw".split()
-IMMEDIATE = "addi slti sltiu xori ori andi addiw".split()
-SHIFTS = {"slli": 63, "srli": 63, "srai": 63, "slliw": 31, "srliw": 31, "sraiw": 31}
-BRANCHES = "beq bne blt bge bltu bgeu".split()
-LOADS = "lb lh lw ld lbu lhu lwu".split()
-STORES = "sb sh sw sd".split()
-
-GREATEST = 2**63 - 1
-LEAST = 2**63
-ONES = 2**64 - 1
 # Pairs of operands at the corners: zero, one, all ones, the least and the greatest, mixed signs, shifts past the width.
 PAIRS = [(0, 0), (1, ONES), (ONES, 1), (LEAST, ONES), (GREATEST, LEAST), (LEAST, 0), (7, 0xFFFF_FFFF_FFFF_FFFD)]
 PAIRS += [(0x0123_4567_89AB_CDEF, 65), (0xFFFF_FFFF_8000_0000, 0x1_FFFF_FFFF)]
@@ -94,49 +82,6 @@ def spelled_loads():
             yield name, a
 
 
-def assembled(folder, lines):
-    with open(os.path.join(folder, "w.s"), "w") as f:
-        f.write(".option norvc\n.option norelax\n" + "\n".join(lines) + "\n")
-    run(folder, TOOLS[0], "-march=rv64im", "-o", "w.o", "w.s")
-    run(folder, TOOLS[2], "-O", "binary", "-j", ".text", "w.o", "w.bin")
-    with open(os.path.join(folder, "w.bin"), "rb") as f:
-        data = f.read()
-    return [w for (w,) in struct.iter_unpack("<I", data)]
-
-
-def emulated(folder, body, operands, count):
-    """Runs code that stores `count` numbers by register 21, reading operands by register 20."""
-    numbers = "\n".join(f".quad {n}" for n in operands)
-    with open(os.path.join(folder, "e.s"), "w") as f:
-        f.write(f""".option norvc
-.option norelax
-.text
-.globl _start
-_start:
-    la x20, operands
-    la x21, results
-{body}
-    li x17, 64
-    li x10, 1
-    la x11, results
-    li x12, {8 * count}
-    ecall
-    li x17, 93
-    li x10, 0
-    ecall
-.data
-.balign 8
-operands:
-{numbers}
-.bss
-.balign 8
-results: .skip {8 * count}
-""")
-    run(folder, TOOLS[0], "-march=rv64im", "-o", "e.o", "e.s")
-    run(folder, TOOLS[1], "-o", "e", "e.o")
-    return [n for (n,) in struct.iter_unpack("<Q", run(folder, TOOLS[3], "./e"))]
-
-
 def results(folder):
     vectors = list(spelled_results())
     body, operands = "", []
@@ -184,14 +129,6 @@ def instruction(name, operands):
     macro = {"rd rs1 rs2": "r", "rd rs1 imm": "i", "rs1 rs2 imm": "s", "rd imm": "u", "": ""}[" ".join(operands)]
     shown = ", ".join([name.capitalize()] + [str(v) for v in operands.values()])
     return f"{macro}!({shown})" if macro else f"Instr::{name.capitalize()}"
-
-
-def table(name, kind, rows):
-    return f"pub static {name}: [{kind}; {len(rows)}] = [\n" + "".join(f"    {r},\n" for r in rows) + "];\n"
-
-
-def hexes(row):
-    return "(" + ", ".join(f"{n:#x}" for n in row) + ")"
 
 
 def words_file(folder):

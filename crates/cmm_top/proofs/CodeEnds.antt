@@ -57,7 +57,7 @@ asks_end m s h five = step_of_fetched m s Ecall (fetched m.code s.pc) h ∙ ap a
 pub code_of-append : (is js : List Instr) → code_of (is ++ js) ≡ code_of is ++ code_of js
 code_of-append is js = flat_map-append (λ i. to_le_bytes w32 (word_of i)) is js
 
-pub valid_ecall : IsValid Ecall
+valid_ecall : IsValid Ecall
 valid_ecall = ((omega arith, omega arith), (omega (arith, ints), omega (arith, ints)))
 
 pub all_valid_ecall : All IsValid (Ecall ∷ [])

@@ -1,6 +1,6 @@
 -- From the tokens of a unit to the terms of the expression that it returns, and back.
 use Rattle.std.proofs.Common.{◌≡◌, ℕ, ◌+◌, ◌*◌, ◌≤◌, List, [], ◌∷◌, length, Some, ap, sym, ◌∙◌, arith, append-nil, length-append}
-use Rattle.std.proofs.lemmas.List.{append_cancel_right}
+use Rattle.std.proofs.lemmas.List.{append_cancel_right, length-map}
 use Rattle.std.proofs.lemmas.Option.{same_Some}
 use Rattle.cmm_top.specs.declared.token.Token.{Token}
 use Rattle.cmm_top.specs.declared.token.Token.TheVariants.{Close, CloseBrace, Semicolon}
@@ -11,7 +11,9 @@ use Rattle.cmm_top.specs.declared.first.TheConstants.{SIGN_LIMIT}
 use Rattle.cmm_top.specs.Expression.{Operand, Expression, Literal, Bracketed, Alone, Joined, operand_tokens, tokens, sign_token, operand_signs, signs}
 use Rattle.cmm_top.specs.Form.{Derives, main_tokens, unit_tokens}
 use Rattle.cmm_top.specs.Reading.{scan}
-use Rattle.cmm_top.specs.Tokens.{tokens_of}
+use Rattle.cmm_top.specs.Text.{pieces}
+use Rattle.cmm_top.specs.Tokens.{token_of, tokens_of}
+use Rattle.cmm_top.proofs.Pieces.{length-pieces}
 use Rattle.cmm_top.proofs.Parsing.{IsParsed, parsed}
 use Rattle.cmm_top.specs.Reading.{terms}
 use Rattle.cmm_top.proofs.Spelling.{scan-expression}
@@ -60,3 +62,7 @@ few_instructions e n h = omega (arith, length-terms Plus e, length-tokens e, len
 -- the terms that were read are those of the expression
 pub terms_same : (unit : List ℕ) (expression : List Token) (found : List Term) (e : Expression) → Derives unit e → tokens_of unit ≡ unit_tokens expression → Some found ≡ scan expression (Some Plus) [] → found ≡ terms Plus e
 terms_same unit expression found e d h read = same_Some found (terms Plus e) (read ∙ terms_read unit expression e d h)
+
+-- a unit has no more tokens than bytes
+pub few_tokens : (unit : List ℕ) (e : Expression) → Derives unit e → 64 * length (main_tokens (tokens e)) ≤ 64 * UNIT_LIMIT
+few_tokens unit e d = omega (arith, d.short, ap length d.spelled, length-map (pieces unit) token_of, length-pieces unit)

@@ -8,8 +8,7 @@ pub mod Loading
 pub mod Adding
 pub mod CodeEnds
 pub mod Compiling
+pub mod StepsLeft
 pub mod UnitCode
-pub mod Fetching
-pub mod Stepping
 pub mod Pieced
 pub mod Answering

@@ -1,5 +1,5 @@
 -- What the pieces of a text are, from its front.
-use Rattle.std.proofs.Common.{◌≡◌, ℕ, suc, ◌+◌, ◌<◌, Bool, true, false, ◌&&◌, cond, List, [], ◌∷◌, length, take, drop, get_or, refl, arith}
+use Rattle.std.proofs.Common.{◌≡◌, ℕ, suc, ◌+◌, ◌<◌, ◌≤◌, Bool, true, false, ◌&&◌, cond, List, [], ◌∷◌, length, take, drop, get_or, refl, arith}
 use Rattle.std.proofs.lemmas.Bool.Decides.{nat_tests}
 use Rattle.std.proofs.lemmas.Grind.{common_steps}
 use Rattle.std.specs.List.{prefix_len}
@@ -53,3 +53,14 @@ pieces-symbol (b ∷ bs) l s w = by (is_separator b) refl s
     by : (t : Bool) → is_separator b ≡ t → cond t (1 + prefix_len is_separator bs) 0 ≡ 0 → pieces (b ∷ bs) ≡ (b ∷ []) ∷ pieces bs
     by true h s = absurd (omega arith)
     by false h s = rw (h, w) refl
+
+-- a text has no more pieces than bytes
+pub length-pieces : (bs : List ℕ) → length (pieces bs) ≤ length bs
+length-pieces [] = omega arith
+length-pieces (b ∷ bs) = by (is_separator b) (is_word_byte b && begins_word bs) (pieces bs) (length-pieces bs)
+  where
+    by : (parts goes_on : Bool) (ps : List (List ℕ)) → length ps ≤ length bs → length (cond parts ps (cond goes_on (on_first b ps) ((b ∷ []) ∷ ps))) ≤ length (b ∷ bs)
+    by true goes_on ps h = omega arith
+    by false true [] h = omega arith
+    by false true (p ∷ ps) h = omega arith
+    by false false ps h = omega arith

@@ -5,7 +5,6 @@ pub mod Expression
 pub mod Reading
 pub mod Code
 pub mod Run
-pub mod Running
 pub mod Form
 pub mod Command
 pub mod Lines

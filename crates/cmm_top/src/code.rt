@@ -17,7 +17,7 @@ const ZERO: u8 = 0;
 const REQUEST: u8 = 5;
 
 /// The sum so far, and in the end the result.
-pub const SUM: u8 = 10;
+const SUM: u8 = 10;
 
 /// The number that is added next.
 const NUMBER: u8 = 11;

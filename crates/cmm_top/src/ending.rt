@@ -16,7 +16,7 @@ use crate::status::Status;
 use cmm_lexer::{LexFault, UNIT_LIMIT, lex};
 use cmm_outside::{Failed, FileError, Files, Sink, read_file, write_all};
 use cmm_report::put_number;
-use std::alloc::Global;
+use std::alloc::{AllocError, Global};
 
 /// A rule that a unit breaks, and where: its line and its column, in bytes, from 1.
 #[derive(Clone, Copy, Debug, PartialEq, Eq)]
@@ -64,7 +64,10 @@ pub fn exec<F: Files>(alloc: Global, name: &str, files: &mut F) -> Ending
         Err(FileError::Memory) => return Ending::OutOfMemory,
     };
     match compile_first(alloc, &unit) {
-        Ok(code) => Ending::Result(run(&code)),
+        Ok(code) => match run(alloc, &code) {
+            Ok(value) => Ending::Result(value),
+            Err(AllocError) => Ending::OutOfMemory,
+        },
         Err(FirstFault::NotBuilt) => refused(alloc, &unit),
         Err(FirstFault::Memory) => Ending::OutOfMemory,
     }

@@ -1,6 +1,6 @@
 //! `compile_first`: from the bytes of a unit of the first form to its code.
 
-ghost use Rattle.std.specs.Prelude.{◌≡◌, ◌≢◌, ◌*◌, ◌≤◌, List, length, IfOk, OnOk, IsErrOf, IfSome, IfNone, OnSome};
+ghost use Rattle.std.specs.Prelude.{◌≡◌, ◌≢◌, ◌+◌, ◌*◌, ◌≤◌, List, length, IfOk, OnOk, IsErrOf, IfSome, IfNone, OnSome};
 ghost use Rattle.std.specs.List.{All};
 ghost use Rattle.rv_table.specs.Stands.{code_of as words_of};
 ghost use Rattle.rv_table.specs.Table.{IsValid};
@@ -8,7 +8,7 @@ ghost use Rattle.cmm_top.specs.declared.token.Token.{Token};
 ghost use Rattle.cmm_top.specs.Expression.{Expression, tokens, value};
 ghost use Rattle.cmm_top.specs.Form.{Derives, main_tokens, unit_tokens};
 ghost use Rattle.cmm_top.specs.Reading.{terms};
-ghost use Rattle.cmm_top.specs.Run.{EndsWithin, IsStraight};
+ghost use Rattle.cmm_top.specs.Run.{EndsWithin};
 
 use crate::code::code_of;
 use crate::term::{Sign, Term, terms_in};
@@ -53,10 +53,10 @@ pub enum FirstFault {
 }
 
 /// The code of a unit of the first form. Run from its start, it asks to end with the value of the unit's expression, within 64
-/// instructions for each token of `main`. It loads and stores nothing. A unit that is not of the form is `NotBuilt`.
+/// instructions for each token of `main`. It fits the place that a memory has for code. A unit that is not of the form is `NotBuilt`.
 pub fn compile_first(alloc: Global, unit: &[u8]) -> Result<Vec<u8>, FirstFault>
     ensures ok { IfOk result (λ code. (e : Expression) → Derives unit.now e → EndsWithin code.items (64 * length (main_tokens (tokens e))) (value e)) }
-    ensures straight { IfOk result (λ code. (e : Expression) → Derives unit.now e → IsStraight code.items (64 * length (main_tokens (tokens e))) (value e)) }
+    ensures short { IfOk result (λ code. length code.items ≤ 0x3fff0000) }
     ensures form { OnOk result ((e : Expression) × Derives unit.now e) }
     ensures not_built { IsErrOf result FirstFault.NotBuilt → (e : Expression) → Derives unit.now e → ⊥ }
 {
@@ -72,6 +72,7 @@ pub fn compile_first(alloc: Global, unit: &[u8]) -> Result<Vec<u8>, FirstFault>
 /// The terms of the expression that a unit returns; none where the unit is not of the first form.
 fn terms_of_unit(alloc: Global, unit: &[u8]) -> Result<Option<Vec<Term>>, AllocError>
     ensures terms { IfOk result (λ found. IfSome found (λ all. (e : Expression) → Derives unit.now e → all.items ≡ terms Sign.Plus e)) }
+    ensures few { IfOk result (λ found. IfSome found (λ all. length all.items ≤ SIGN_LIMIT + 1)) }
     ensures form { IfOk result (λ found. OnSome found ((e : Expression) × Derives unit.now e)) }
     ensures none { IfOk result (λ found. IfNone found ((e : Expression) → Derives unit.now e → ⊥)) }
 {

@@ -1,82 +1,56 @@
-//! Runs the code of a sum.
+//! Runs the code of a unit.
 
-ghost use Rattle.std.specs.Prelude.{◌≡◌, ◌≢◌, ℕ, ◌+◌, ◌<◌, ◌^◌};
-ghost use Rattle.rv_table.specs.Machine.{code_base, fetched};
+ghost use Rattle.std.specs.Prelude.{◌≡◌, ℕ, ◌≤◌, length, IfOk};
+ghost use Rattle.rv_table.specs.Machine.{code_base, region_base};
 ghost use Rattle.rv_table.specs.Registers.{registers_of, with_register};
-ghost use Rattle.rv_table.specs.Stands.{standing};
-ghost use Rattle.cmm_top.specs.Run.{IsStraight};
+ghost use Rattle.cmm_top.specs.Run.{EndsWithin};
 
-use crate::code::SUM;
-use rv_code::decode;
-use rv_table::laws::code_stands;
-use rv_table::{Effect, Instr, Regs, effect_of};
+use cmm_lexer::UNIT_LIMIT;
+use rv_memory::{Memory, NoMemory};
+use rv_sim::{Event, step};
+use rv_table::Regs;
+use std::alloc::Global;
 
 /// Where code stands.
-const CODE_BASE: u64 = 0x10000;
+const CODE_BASE: u64 = 0x1_0000;
 
-/// Where the argument area and the global registers stand, which register 4 has, and where the stack ends, in bytes.
+/// Where the argument area and the global registers stand, which register 4 has.
 const REGION_BASE: u64 = 0x6000_0000;
 
-const STACK_TOP: u64 = 0x6010_1000;
+/// The bytes of the stack.
+const STACK_SIZE: u64 = 0x10_0000;
 
-/// Runs code that is straight from its start to the ECALL that ends it, and answers its result.
-pub fn run(code: &[u8]) -> u64
-    requires { (limit : ℕ) × (value : ℕ) × IsStraight code.now limit value }
-    ensures { (limit value : ℕ) → IsStraight code.now limit value → result ≡ value }
+/// The most instructions of a run: 64 for each token of a unit, which has no more tokens than bytes.
+pub const STEP_LIMIT: u64 = 64 * UNIT_LIMIT as u64;
+
+/// Runs code that asks to end, and answers its result.
+pub fn run(alloc: Global, code: &[u8]) -> Result<u64, NoMemory>
+    requires short { length code.now ≤ 0x3fff0000 }
+    requires ends { (value : ℕ) × EndsWithin code.now STEP_LIMIT value }
+    ensures { (value : ℕ) → EndsWithin code.now STEP_LIMIT value → IfOk result (λ found. found ≡ value) }
 {
-    code_stands();
-    let mut regs = start();
-    for _ in 0..code.len() {
-        let Some(instruction) = instruction_at(code, regs.pc) else {
-            unreachable!();
-        };
-        match effect_of(instruction, &regs) {
-            Effect::Set { rd, value } => set(&mut regs, rd, value),
-            _ => return regs.read(SUM),
+    let mut memory = Memory::new(alloc, code, &[], STACK_SIZE)?;
+    let mut regs = start(memory.top());
+    for _ in 0..STEP_LIMIT {
+        match step(&mut regs, &mut memory) {
+            Event::Next => {}
+            Event::End(value) => return Ok(value),
+            _ => unreachable!(),
         }
     }
     unreachable!()
 }
 
-/// The registers before the first instruction.
-fn start() -> Regs
+/// The registers before the first instruction, where the stack ends at this address.
+fn start(top: u64) -> Regs
+    ensures registers { registers_of result ≡ with_register (with_register (λ _. 0) 2 top) 4 region_base }
     ensures pc { result.pc ≡ code_base }
-    ensures sum { registers_of result 10 ≡ 0 }
 {
-    let mut x = [0; 32];
-    x[2] = STACK_TOP;
-    x[4] = REGION_BASE;
-    Regs { x, pc: CODE_BASE }
-}
-
-/// The instruction that stands at an address of the code.
-fn instruction_at(code: &[u8], pc: u64) -> Option<Instr>
-    ensures { result ≡ standing code.now pc }
-{
-    decode(word_at(code, pc)?)
-}
-
-/// The word that is fetched from an address.
-fn word_at(code: &[u8], pc: u64) -> Option<u32>
-    ensures { result ≡ fetched code.now pc }
-{
-    let at = pc.checked_sub(CODE_BASE)? as usize;
-    if pc % 4 != 0 {
-        return None;
-    }
-    let word = code.get(at..)?.first_chunk::<4>()?;
-    Some(u32::from_le_bytes(*word))
-}
-
-/// Gives a register its value, and goes on after the instruction.
-fn set(regs: &mut Regs, rd: u8, value: u64)
-    requires register { rd < 32 }
-    requires pc { regs.old.pc + 4 < 2 ^ 64 }
-    ensures registers { registers_of regs.new ≡ with_register (registers_of regs.old) rd value }
-    ensures pc { regs.new.pc ≡ regs.old.pc + 4 }
-{
-    if rd != 0 {
-        regs.x[rd as usize] = value;
-    }
-    regs.pc += 4;
+    let mut regs = Regs {
+        x: [0; 32],
+        pc: CODE_BASE,
+    };
+    regs.write(2, top);
+    regs.write(4, REGION_BASE);
+    regs
 }

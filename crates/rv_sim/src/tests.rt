@@ -1,12 +1,16 @@
-//! Every kind of event and trap, and a program against a stock assembler and emulator.
+//! Every kind of event and trap; every row, and a program, against a stock assembler and emulator.
+ghost use Rattle.std.specs.Prelude.{◌≡◌, ◌<◌};
+
 use super::{Event, step};
 use rv_memory::Memory;
 use rv_table::{Regs, Trap};
 use std::test::Fail;
 
 mod program;
+mod rows;
 
 use program::{AFTER, CODE};
+use rows::{ACCESSES, STEPS};
 
 #[test]
 fn each_event_and_trap(rt: HostRuntime) -> Result<(), Fail> {
@@ -39,6 +43,48 @@ fn each_event_and_trap(rt: HostRuntime) -> Result<(), Fail> {
         r.write(10, 0x12a);
         assert_eq!(rt; step(&mut r, &mut m), event, "{word:#x}");
         assert_eq!(rt; r.pc, after, "{word:#x}");
+    }
+    Ok(())
+}
+
+/// Registers at the start of the code, two of which hold a value.
+fn holding(first: (u8, u64), second: (u8, u64)) -> Regs
+    requires first { first.0 < 32 }
+    requires second { second.0 < 32 }
+    ensures { result.pc ≡ 0x10000 }
+{
+    let mut r = Regs {
+        x: [0; 32],
+        pc: 0x1_0000,
+    };
+    r.write(first.0, first.1);
+    r.write(second.0, second.1);
+    r
+}
+
+#[test]
+fn rows_do_what_the_emulators_do(rt: HostRuntime) -> Result<(), Fail> {
+    for &(word, first, second, (rd, value), distance) in &STEPS {
+        assert!(rt; first.0 < 32 && second.0 < 32 && rd < 32);
+        let mut m = Memory::new(rt.alloc(), &word.to_le_bytes(), &[], 0)?;
+        let mut r = holding(first, second);
+        assert_eq!(rt; step(&mut r, &mut m), Event::Next, "{word:#x}");
+        assert_eq!(rt; r.read(rd), value, "{word:#x} {first:?} {second:?}");
+        assert_eq!(rt; r.pc, 0x1_0000u64.wrapping_add(distance), "{word:#x}");
+    }
+    Ok(())
+}
+
+#[test]
+fn accesses_do_what_the_emulators_do(rt: HostRuntime) -> Result<(), Fail> {
+    for &(word, first, second, (rd, value), (address, before, after)) in &ACCESSES {
+        assert!(rt; first.0 < 32 && second.0 < 32 && rd < 32);
+        let mut m = Memory::new(rt.alloc(), &word.to_le_bytes(), &[0; 4096], 4096)?;
+        assert_eq!(rt; m.store(address, 8, before), Ok(()), "{word:#x}");
+        let mut r = holding(first, second);
+        assert_eq!(rt; step(&mut r, &mut m), Event::Next, "{word:#x}");
+        assert_eq!(rt; r.read(rd), value, "{word:#x} {first:?}");
+        assert_eq!(rt; m.load(address, 8), Ok(after), "{word:#x} {second:?}");
     }
     Ok(())
 }

@@ -1,30 +1,28 @@
-use Rattle.std.proofs.Common.{◌∙◌, sym, subst, arith}
-use Rattle.std.proofs.lemmas.Option.{none-some, same_Some}
-use Rattle.rv_table.specs.Table.{IsValid}
-use Rattle.cmm_top.proofs.Stepping.{valid_at, result_at, next_at, within_at}
+use Rattle.std.proofs.Common.{ℕ, ◌∙◌, ◌-◌, ◌+◌, sym, ap, arith}
+use Rattle.rv_memory.specs.Regions.{Regions, map_of}
+use Rattle.rv_table.specs.Machine.{region_base}
+use Rattle.rv_table.specs.Registers.{with_register}
+use Rattle.cmm_top.specs.declared.run.TheConstants.{STEP_LIMIT}
+use Rattle.cmm_top.proofs.StepsLeft.{begins, end_is, next_ends, no_other}
 use Rattle.cmm_top.proofs.run.run.Goals as goal
+
+pub loop-init : goal.loop-init
+loop-init c value e =
+    begins c.start-regs.result c.in_ok-memory.memory c.args.code.now STEP_LIMIT value e (ap (λ (m : Regions). (map_of m).code) c.in_ok-memory.ensures)
+    (c.start-regs.ensures.registers ∙ ap (λ (n : ℕ). with_register (with_register (λ _. 0) 2 n) 4 region_base) c.top.ensures) c.start-regs.ensures.pc
+
+pub loop-preserved : goal.loop-preserved
+loop-preserved c value e =
+    next_ends c.loop.regs c.step.new.r c.loop.memory c.step.new.m (STEP_LIMIT - c.loop.counter) (STEP_LIMIT - (c.loop.counter + 1)) value (omega arith)
+    (c.loop.invariant value e) (sym c.step.ensures.event ∙ c.in-Next.is) c.step.ensures.state c.step.ensures.map
+
+pub returns-in-End : goal.returns-in-End
+returns-in-End c value e = end_is c.loop.regs c.loop.memory (STEP_LIMIT - c.loop.counter) value c.in-End.value (c.loop.invariant value e) (sym c.step.ensures.event ∙ c.in-End.is)
 
 pub unreachable-requires : goal.unreachable-requires
 unreachable-requires c =
-    let a = c.loop.invariant c.requires.0 c.requires.1 c.requires.2 in
-    let (i, h, valid) = valid_at c.code_stands.ensures c.args.code.now c.loop.regs c.loop.counter c.requires.1 a in
-    none-some i (sym c.in_default.is ∙ (c.instruction_at.ensures ∙ h))
-
-pub effect_of-requires : goal.effect_of-requires
-effect_of-requires c =
-    let a = c.loop.invariant c.requires.0 c.requires.1 c.requires.2 in
-    let (i, h, valid) = valid_at c.code_stands.ensures c.args.code.now c.loop.regs c.loop.counter c.requires.1 a in
-    subst IsValid (same_Some i c.in-Some.instruction (sym h ∙ (sym c.instruction_at.ensures ∙ c.in-Some.is))) valid
-
-pub returns-in_default-effect_of : goal.returns-in_default-effect_of
-returns-in_default-effect_of c limit value s =
-    c.read.ensures ∙ result_at c.code_stands.ensures c.args.code.now c.loop.regs c.loop.counter value (c.loop.invariant limit value s) c.in-Some.instruction
-    (sym c.instruction_at.ensures ∙ c.in-Some.is) (λ rd v e. c.in_default-effect_of.not-Set rd v (c.effect_of.ensures.row ∙ e))
-
-pub loop-preserved : goal.loop-preserved
-loop-preserved c limit value s =
-    next_at c.code_stands.ensures c.args.code.now c.loop.regs c.set.new.regs c.loop.counter value (c.loop.invariant limit value s) c.in-Some.instruction
-    (sym c.instruction_at.ensures ∙ c.in-Some.is) c.in-Set.rd c.in-Set.value (sym c.effect_of.ensures.row ∙ c.in-Set.is) c.set.ensures.registers c.set.ensures.pc
+    no_other c.loop.regs c.loop.memory (STEP_LIMIT - c.loop.counter) c.requires.ends.0 c.step.result (c.loop.invariant c.requires.ends.0 c.requires.ends.1)
+    c.step.ensures.event c.in_default.not-Next c.in_default.not-End
 
 pub unreachable-requires-2 : goal.unreachable-requires-2
-unreachable-requires-2 c = omega (arith, within_at c.args.code.now c.loop.regs c.loop.counter c.requires.1 (c.loop.invariant c.requires.0 c.requires.1 c.requires.2))
+unreachable-requires-2 c = omega (arith, c.loop-test.false, (c.loop.invariant c.requires.ends.0 c.requires.ends.1).within)
