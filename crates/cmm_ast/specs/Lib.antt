@@ -1,0 +1,6 @@
+pub mod Numbers
+pub mod Taking
+pub mod ExpressionGrammar
+pub mod StatementGrammar
+pub mod UnitGrammar
+pub mod Derivation

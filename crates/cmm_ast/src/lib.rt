@@ -1,0 +1,23 @@
+//! Syntax trees of C-- (C-- Language Specification 2.0, syntax), and the grammar.
+#![tactic(auto)]
+
+mod declaration;
+mod expression;
+mod keyword;
+mod procedure;
+mod statement;
+mod token;
+mod unit;
+
+pub use declaration::{ByteOrder, Decl, DeclForm, Export, Import, Property, PropertyForm};
+pub use expression::{
+    Expr, ExprForm, Infix, Memory, Number, Prefix, Prim, PrimForm, TypeForm, TypeName,
+};
+pub use keyword::{Keyword, Symbol};
+pub use procedure::{Formal, Local, LocalForm, Modifiers, Proc, Room, RoomForm};
+pub use statement::{
+    Actual, Arm, Block, Callee, CalleeForm, Case, Exit, Flow, FlowForm, Kinded, Lvalue, Otherwise,
+    Part, Range, Span, Stmt, StmtForm,
+};
+pub use token::{Ident, Int, Text};
+pub use unit::{Count, Datum, DatumForm, Initial, Item, Place, Section, TopLevel, Unit};

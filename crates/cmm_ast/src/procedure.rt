@@ -1,0 +1,79 @@
+//! Procedures and what they declare (C-- Language Specification 2.0, procedures). The token of a node is the number of
+//! its first token in the unit, from 0.
+
+use crate::expression::{Expr, TypeName};
+use crate::statement::Block;
+use crate::token::{Ident, Int, Text};
+use cmm_items::Items;
+
+/// A procedure.
+#[derive(Debug, Drop)]
+pub struct Proc {
+    pub name: Ident,
+    pub formals: Items<Formal>,
+    pub body: Block,
+}
+
+/// A formal parameter.
+#[derive(Debug, Drop)]
+pub struct Formal {
+    pub modifiers: Modifiers,
+    pub width: TypeName,
+    pub name: Ident,
+}
+
+/// What stands before the type of a variable.
+#[derive(Debug, Drop)]
+pub enum Modifiers {
+    Nothing,
+    /// `"kind"`
+    Kind(Text),
+    /// `"kind" invariant`
+    KindInvariant(Text),
+    /// `invariant`, with the number of its token
+    Invariant(u32),
+    /// `invariant "kind"`, with the number of its first token
+    InvariantKind(u32, Text),
+}
+
+/// A declaration in a body.
+#[derive(Debug, Drop)]
+pub struct Local {
+    /// The number of its first token.
+    pub token: u32,
+    /// The number of the token after its last.
+    pub past: u32,
+    pub form: LocalForm,
+}
+
+/// What is declared.
+#[derive(Debug, Drop)]
+pub enum LocalForm {
+    Variables {
+        modifiers: Modifiers,
+        width: TypeName,
+        names: Items<Ident>,
+    },
+    Stackdata(Items<Room>),
+}
+
+/// A piece of stackdata.
+#[derive(Debug, Drop)]
+pub struct Room {
+    pub token: u32,
+    pub form: RoomForm,
+}
+
+/// What a piece of stackdata is.
+#[derive(Debug, Drop)]
+pub enum RoomForm {
+    /// `l:`
+    Label(Ident),
+    /// `align 8;`
+    Align(Int),
+    /// `T[e];`
+    Data {
+        width: TypeName,
+        count: Option<Expr>,
+    },
+}
