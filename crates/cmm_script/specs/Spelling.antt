@@ -44,6 +44,7 @@ SpellsCommands [] [] [] = Unit {0}
 SpellsCommands (l ∷ ls) (c ∷ cs) (n ∷ ns) = SpellsCommand l.words c × (l.number ≡ n) × SpellsCommands ls cs ns
 SpellsCommands ls cs ns = ⊥
 
+-- a block: its head, and then its commands
 abbrev pub SpellsBlock : List Said → Block → Type 0
 SpellsBlock [] b = ⊥
 SpellsBlock (l ∷ ls) b = SpellsHead l.words b.code × SpellsCommands ls b.commands b.lines
