@@ -16,3 +16,4 @@ mod Storing
 mod StoreRows
 mod Flowing
 mod LiveRows
+mod PlacedRows
