@@ -1,0 +1,3 @@
+pub mod Sounds
+pub mod Locals
+pub mod Completes
