@@ -55,40 +55,42 @@ taken_both None q after e = absurd cc
 pub both : (p q : Takes) (r after : Reading) → (p ⨾ q) r ≡ Some after → Both p q r after
 both p q r after e = let o = taken_both (p r) q after e in record { between = o.0; first = o.1; second = o.2 }
 
-pub after_complete_if : {A B : Type 0} {fuel later : ℕ} {p q : Takes} {a : A} {b : B} {reads : Reads A}
-    {first middle begins follow : Option Lexeme → Type 0} (rest : A → Reads B) → Complete fuel p a reads first middle →
+pub after_complete_if : {A B : Type 0} {fuel later : ℕ} {p q : Takes} {a : A} {b : A → B} {reads : Reads A} {rest : A → Reads B}
+    {first middle begins follow : Option Lexeme → Type 0} → Complete fuel p a reads first middle →
     ((r between : Reading) → p r ≡ Some between → length r.left < fuel → length between.left < later) →
-    ((x : Option Lexeme) → begins x → middle x) → Complete later q b (rest a) begins follow → Complete fuel (p ⨾ q) b (reads >>= rest) first follow
-after_complete_if {p = p} {q = q} {a = a} {b = b} {reads = reads} rest one fewer goes two = record {
-  moves = λ r after e. let s = both p q r after e in moves_trans (one.moves r s.between s.first) (two.moves s.between after s.second);
+    ((x : Option Lexeme) → begins x → middle x) → ((x : A) → Complete later q (b x) (rest x) begins follow) →
+    Complete fuel (p ⨾ q) (b a) (reads >>= rest) first follow
+after_complete_if {p = p} {q = q} {a = a} {b = b} {reads = reads} {rest = rest} one fewer goes each = record {
+  moves = λ r after e. let s = both p q r after e in moves_trans (one.moves r s.between s.first) ((each a).moves s.between after s.second);
   begins = λ r after e f.
       let s = both p q r after e in
-      one.begins r s.between s.first (goes (next s.between.left) (two.begins s.between after s.second f));
+      one.begins r s.between s.first (goes (next s.between.left) ((each a).begins s.between after s.second f));
   complete = λ limited r after e f less fits.
       let s = both p q r after e in
-      let h = one.complete limited r s.between s.first (goes (next s.between.left) (two.begins s.between after s.second f)) less fits in
+      let h = one.complete limited r s.between s.first (goes (next s.between.left) ((each a).begins s.between after s.second f)) less fits in
       ap (λ o. and_then o (λ a after. rest a limited after)) h
-      ∙ after_outcome limited a b s.between after (λ a after. rest a limited after) (two.moves s.between after s.second)
-      (two.complete limited s.between after s.second f (fewer r s.between s.first less));
+      ∙ after_outcome limited a (b a) s.between after (λ a after. rest a limited after) ((each a).moves s.between after s.second)
+      ((each a).complete limited s.between after s.second f (fewer r s.between s.first less));
 }
 
-pub after_complete : {A B : Type 0} {fuel : ℕ} {p q : Takes} {a : A} {b : B} {reads : Reads A}
-    {first middle begins follow : Option Lexeme → Type 0} (rest : A → Reads B) → Complete fuel p a reads first middle →
-    ((x : Option Lexeme) → begins x → middle x) → Complete fuel q b (rest a) begins follow → Complete fuel (p ⨾ q) b (reads >>= rest) first follow
-after_complete rest one goes two =
-    after_complete_if rest one (λ r between e less. let o = (one.moves r between e).shrinks in omega arith) goes two
+pub after_complete : {A B : Type 0} {fuel : ℕ} {p q : Takes} {a : A} {b : A → B} {reads : Reads A} {rest : A → Reads B}
+    {first middle begins follow : Option Lexeme → Type 0} → Complete fuel p a reads first middle →
+    ((x : Option Lexeme) → begins x → middle x) → ((x : A) → Complete fuel q (b x) (rest x) begins follow) →
+    Complete fuel (p ⨾ q) (b a) (reads >>= rest) first follow
+after_complete one goes two =
+    after_complete_if one (λ r between e less. let o = (one.moves r between e).shrinks in omega arith) goes two
 
 -- something takes a token
 pub record Strict (takes : Takes) : Type 0 where
   pub strict : (r after : Reading) → takes r ≡ Some after → length after.left < length r.left
 
 -- after a token there are fewer
-pub fewer_complete : {A B : Type 0} {fuel : ℕ} {p q : Takes} {a : A} {b : B} {reads : Reads A}
-    {first middle begins follow : Option Lexeme → Type 0} (rest : A → Reads B) → Strict p → Complete (suc fuel) p a reads first middle →
-    ((x : Option Lexeme) → begins x → middle x) → Complete fuel q b (rest a) begins follow →
-    Complete (suc fuel) (p ⨾ q) b (reads >>= rest) first follow
-fewer_complete rest strict one goes two =
-    after_complete_if rest one (λ r between e less. let o = strict.strict r between e in omega arith) goes two
+pub fewer_complete : {A B : Type 0} {fuel : ℕ} {p q : Takes} {a : A} {b : A → B} {reads : Reads A} {rest : A → Reads B}
+    {first middle begins follow : Option Lexeme → Type 0} → Strict p → Complete (suc fuel) p a reads first middle →
+    ((x : Option Lexeme) → begins x → middle x) → ((x : A) → Complete fuel q (b x) (rest x) begins follow) →
+    Complete (suc fuel) (p ⨾ q) (b a) (reads >>= rest) first follow
+fewer_complete strict one goes two =
+    after_complete_if one (λ r between e less. let o = strict.strict r between e in omega arith) goes two
 
 some_same : {r s : Reading} → Some r ≡ Some s → s ≡ r
 some_same e = cc
@@ -228,7 +230,7 @@ skip_complete test {x} only = record {
   begins = λ r after e f. (token_taken test x r after only e).next_was;
   complete = λ limited r after e f less fits.
       let t = token_taken test x r after only e in
-      rw t.after_is (sym (outcome_read limited tt (record r { left = past r.left; taken = suc r.taken }) (passed_same limited r _ refl ∙ fits)));
+      rw t.after_is (sym (outcome_read limited tt (record r { left = past r.left; taken = suc r.taken }) (passed_same limited r (record r { left = past r.left; taken = suc r.taken }) refl ∙ fits)));
 }
 
 -- a token that passes a limit, or none does
@@ -339,7 +341,7 @@ here_taken : (n : ℕ) (test : Bool) (r after : Reading) → elim test as (λ _.
 here_taken n true r after e = (refl, cc)
 here_taken n false r after e = absurd cc
 
-number_same : (n m : ℕ) → (n == m) ≡ true → n ≡ m
+pub number_same : (n m : ℕ) → (n == m) ≡ true → n ≡ m
 number_same n m e = grind (arith, nat_tests)
 
 pub here_complete : {fuel : ℕ} {follow : Option Lexeme → Type 0} (n : ℕ) → Complete fuel (here_is n) n here follow follow
@@ -354,7 +356,29 @@ here_complete {follow = follow} n = record {
 
 pub enclosed_complete : {A : Type 0} {fuel : ℕ} {p : Takes} {a : A} {reads : Reads A} {first follow : Option Lexeme → Type 0} →
     Complete fuel p a reads first follow → Complete fuel (enclosed_is p) a (enclosed reads) first follow
-enclosed_complete {p = p} {a = a} {reads = reads} {first} {follow} one = ?
+enclosed_complete {A = A} {p = p} {a = a} {reads = reads} one = record {
+  moves = λ r after e.
+      let o = closing r after e in
+      let m = one.moves r o.0 o.1 in
+      record { shrinks = rw o.2 m.shrinks; stays = λ token is. rw o.2 (m.stays token is) };
+  begins = λ r after e f. let o = closing r after e in one.begins r o.0 o.1 (rw o.2 at f);
+  complete = λ limited r after e f less fits.
+      let o = closing r after e in
+      closes limited r after o.0 o.2 (one.complete limited r o.0 o.1 (rw o.2 at f) less fits);
+}
+  where
+  closes : (limited : Bool) (r after between : Reading) → after ≡ record between { open_brackets = r.open_brackets } →
+      reads limited (point r) ≡ outcome limited a between → enclosed reads limited (point r) ≡ outcome limited a after
+  closes limited r after between is read =
+      let closed : Reading = record between { open_brackets = r.open_brackets } in
+      let rest : A → Point → Answer A = λ a after. Read a record after { open_brackets = r.open_brackets } in
+      ap (λ ans. and_then ans rest) read
+      ∙ rw is (after_outcome limited a a between closed rest (record { shrinks = omega arith; stays = λ token is. is })
+      (λ fits. sym (outcome_read limited a closed (passed_same limited between closed refl ∙ fits))))
+
+  closing : (r after : Reading) → enclosed_is p r ≡ Some after →
+      (between : Reading) × (p r ≡ Some between) × (after ≡ record between { open_brackets = r.open_brackets })
+  closing r after e = mapped (p r) (λ between. record between { open_brackets = r.open_brackets }) after e
 
 pub outermost_complete : {A : Type 0} {fuel : ℕ} {p : Takes} {a : A} {reads : Reads A} {first follow : Option Lexeme → Type 0} →
     Complete fuel p a reads first follow → Complete fuel (outermost_is p) a (outermost reads) first follow

@@ -1,3 +1,4 @@
 pub mod Sounds
 pub mod Locals
 pub mod Completes
+pub mod Tokens

@@ -2,7 +2,7 @@
 -- grammar is: one after the other, by the next token, in brackets.
 use Rattle.std.specs.Prelude.{ℕ, zero, suc, ◌==◌, nat_lt, Bool, true, false, ◌&&◌, List, [], ◌∷◌, ◌++◌, Option, Some, None}
 use Rattle.cmm_lexer.specs.declared.piece.Lexeme.{Lexeme}
-use Rattle.cmm_lexer.specs.declared.piece.Lexeme.TheVariants.{Name, Int as Number, Text as Quoted}
+use Rattle.cmm_lexer.specs.declared.piece.Lexeme.TheVariants.{Name, Int as Number, Text as Quoted, Checked}
 use Rattle.cmm_ast.specs.declared.token.Ident.{Ident}
 use Rattle.cmm_ast.specs.declared.token.Text.{Text}
 use Rattle.cmm_ast.specs.declared.token.Int.{Int}
@@ -85,35 +85,54 @@ here limited p = Read p.taken p
 abbrev pub skip : Reads (Unit {0})
 skip limited p = Read tt record p { left = past p.left; taken = suc p.taken }
 
+abbrev pub expect : (Lexeme → Bool) → Reads (Unit {0})
+expect test = if_next test skip stop
+
 abbrev pub keyword : Keyword → Reads (Unit {0})
-keyword k = if_next (is_keyword (keyword_number k)) skip stop
+keyword k = expect (is_keyword (keyword_number k))
 
 abbrev pub symbol : Symbol → Reads (Unit {0})
-symbol s = if_next (is_symbol (symbol_number s)) skip stop
+symbol s = expect (is_symbol (symbol_number s))
 
-abbrev pub name_by : Option Lexeme → Reads (List ℕ)
-name_by (Some (Name bytes)) = skip >> give bytes
-name_by _ = stop
+-- what the next token holds
+abbrev pub picked : {A : Type 0} → Option A → Reads A
+picked (Some a) = skip >> give a
+picked None = stop
+
+abbrev pub held : {A : Type 0} → (Lexeme → Option A) → Option Lexeme → Option A
+held content (Some x) = content x
+held content None = None
+
+abbrev pub pick : {A : Type 0} → (Lexeme → Option A) → Reads A
+pick content = look (λ x. picked (held content x))
+
+abbrev pub name_in : Lexeme → Option (List ℕ)
+name_in (Name bytes) = Some bytes
+name_in _ = None
+
+abbrev pub text_in : Lexeme → Option (List ℕ)
+text_in (Quoted bytes) = Some bytes
+text_in _ = None
+
+abbrev pub int_in : Lexeme → Option ℕ
+int_in (Number value) = Some value
+int_in _ = None
+
+abbrev pub checked_in : Lexeme → Option (List ℕ)
+checked_in (Checked bytes) = Some bytes
+checked_in _ = None
 
 abbrev pub name : Reads (List ℕ)
-name = look name_by
+name = pick name_in
 
 abbrev pub ident : Reads Ident
 ident = here >>= λ token. name >>= λ bytes. give record { name = bytes; token = token }
 
-abbrev pub text_by : Option Lexeme → Reads (List ℕ)
-text_by (Some (Quoted bytes)) = skip >> give bytes
-text_by _ = stop
-
 abbrev pub text : Reads Text
-text = here >>= λ token. look text_by >>= λ bytes. give record { bytes = bytes; token = token }
-
-abbrev pub int_by : Option Lexeme → Reads ℕ
-int_by (Some (Number value)) = skip >> give value
-int_by _ = stop
+text = here >>= λ token. pick text_in >>= λ bytes. give record { bytes = bytes; token = token }
 
 abbrev pub int : Reads Int
-int = here >>= λ token. look int_by >>= λ value. give record { value = value; token = token }
+int = here >>= λ token. pick int_in >>= λ value. give record { value = value; token = token }
 
 -- ---- limits
 
