@@ -2,3 +2,4 @@ pub mod Sounds
 pub mod Locals
 pub mod Completes
 pub mod Tokens
+pub mod StatementsLocal
