@@ -1,23 +1,26 @@
 -- Types and expressions that are read are trees of the tokens that they take.
-use Rattle.std.proofs.Common.{◌≡◌, ℕ, zero, suc, ◌+◌, max, ◌<◌, ◌≤◌, ◌⊎◌, inl, inr, Bool, true, false, ◌&&◌, ◌==◌, nat_le, List, [], ◌∷◌, ◌++◌, Option, Some, None, refl, sym, ap, ◌∙◌, arith, find}
+use Rattle.std.proofs.Common.{◌≡◌, ℕ, zero, suc, ◌+◌, max, ◌<◌, ◌≤◌, ◌⊎◌, inl, inr, Bool, true, false, ◌&&◌, ◌==◌, nat_le, List, [], ◌∷◌, ◌++◌, Option, Some, None, refl, sym, ap, ◌∙◌, arith, find, cond}
 use Rattle.std.proofs.Math.Path.{fun_ext}
 use Rattle.std.proofs.lemmas.Bool.Decides.{nat_tests}
 use denote.Hole.Carrier as Carrier
 use Rattle.cmm_words.specs.declared.width.Width.{Width}
+use Rattle.cmm_words.specs.declared.width.Width.TheVariants.{W8, W16, W32, W64}
 use Rattle.cmm_lexer.specs.declared.piece.Lexeme.{Lexeme}
 use Rattle.cmm_lexer.specs.declared.piece.Lexeme.TheVariants as l
 use Rattle.cmm_ast.specs.declared.token.Ident.{Ident}
 use Rattle.cmm_ast.specs.declared.token.Int.{Int}
 use Rattle.cmm_ast.specs.declared.keyword.Keyword.TheVariants.{Align, Aligned}
 use Rattle.cmm_ast.specs.declared.keyword.Symbol.{Symbol}
-use Rattle.cmm_ast.specs.declared.keyword.Symbol.TheVariants.{Open, OpenSquare, Colons}
+use Rattle.cmm_ast.specs.declared.keyword.Symbol.TheVariants.{Open, Close, OpenSquare, CloseSquare, Colons, Comma}
 use Rattle.cmm_ast.specs.declared.expression.TypeName.{TypeName}
 use Rattle.cmm_ast.specs.declared.expression.TypeForm.{TypeForm}
 use Rattle.cmm_ast.specs.declared.expression.TypeForm.TheVariants.{Bits, Named as OfName}
 use Rattle.cmm_ast.specs.declared.expression.Number.{Number}
 use Rattle.cmm_ast.specs.declared.expression.Number.TheVariants as number
 use Rattle.cmm_ast.specs.declared.expression.Infix.{Infix as InfixOperator}
+use Rattle.cmm_ast.specs.declared.expression.Infix.TheVariants.{Eq, Ne, Lt, Le, Gt, Ge, Or, Xor, And, Shl, Shr, Add, Sub, Mul, Div, Mod}
 use Rattle.cmm_ast.specs.declared.expression.Prefix.{Prefix as PrefixOperator}
+use Rattle.cmm_ast.specs.declared.expression.Prefix.TheVariants.{Negate, Complement}
 use Rattle.cmm_ast.specs.declared.expression.Expr.{Expr}
 use Rattle.cmm_ast.specs.declared.expression.ExprForm.{ExprForm, Row_of-Expr, end_of-Expr, more_of-Expr, items-the_row-Expr, items_hidden-the_row-Expr-1}
 use Rattle.cmm_ast.specs.declared.expression.ExprForm.TheBlock as ExprForms
@@ -33,7 +36,7 @@ use Rattle.cmm_ast.specs.ExpressionGrammar.{width_word, prefix_symbol, infix_sym
 use Rattle.cmm_parser.specs.Reading.{Point, Read, Reads, ◌>>=◌, give, next, look, choice, passes, if_next, here, skip, skip_opening, skip_operator, stop, in_brackets, round, square, pick, int, ident, name, listed}
 use Rattle.cmm_parser.specs.ReadingLaws.{within, Sound}
 use Rattle.cmm_parser.specs.ExpressionReading.{width_in, prefix_in, infix_in, sized, type_by, type_name, named_type, number_in, typed, literal, bracketed, aligned, located, memory, name_or_memory, prefixed, unary_by, begins_expression, tight, infix_next, joined, climb, operand, expr, whole, prim_by, prim, whole_prim, whole_memory}
-use Rattle.cmm_parser.proofs.Sounds.{Goes, GoesAt, whole_sound, after_sound, last_sound, same_sound, give_sound, at_sound, look_sound, stop_sound, next_sound, skip_sound, skip_last_sound, operator_sound, opening_last_sound, here_sound, enclosed_sound, outermost_sound, same_number, bound, read_same, one_taken, none_taken, taken_then, look_at_sound, at_same, choice_sound}
+use Rattle.cmm_parser.proofs.Sounds.{Goes, GoesAt, whole_sound, after_sound, last_sound, last_goes, same_sound, give_sound, at_sound, look_sound, stop_sound, next_sound, skip_sound, skip_last_sound, operator_sound, opening_last_sound, here_sound, enclosed_sound, outermost_sound, same_number, bound, read_same, renamed, one_taken, none_taken, taken_then, look_at_sound, at_same, choice_sound}
 use Rattle.cmm_parser.proofs.Completes.{number_same, both}
 use Rattle.cmm_parser.proofs.Lists.{takes_assoc, takes_nothing, rest_to, listed_goes, goes_same, chosen}
 use Rattle.cmm_parser.proofs.Tokens.{symbol_sound, ident_sound, int_sound, name_sound, pick_sound, same_bytes, some_is}
@@ -45,22 +48,29 @@ opened = tt
 
 -- ---- words and symbols
 
+found_by : {A : Type 0} (test : A → Bool) (b a : A) (bs : List A) (o : Bool) → test b ≡ o → (find test bs ≡ Some a → test a ≡ true) →
+    cond o (Some b) (find test bs) ≡ Some a → test a ≡ true
+found_by test b a bs true is later e = rw (some_is e) is
+found_by test b a bs false is later e = later e
+
 pub found : {A : Type 0} (test : A → Bool) (as_ : List A) (a : A) → find test as_ ≡ Some a → test a ≡ true
 found test [] a e = absurd cc
-found test (b ∷ bs) a e = by (test b) refl where
-  by : (o : Bool) → test b ≡ o → test a ≡ true
-  by true is = let same : a ≡ b = some_is (rw (find, is) at e) in rw same is
-  by false is = found test bs a (rw (find, is) at e)
+found test (b ∷ bs) a e = found_by test b a bs (test b) refl (found test bs a) e
 
 pub turned : (n m : ℕ) → (n == m) ≡ true → (m == n) ≡ true
 turned n m e = rw (number_same n m e) (same_number m)
+
+abbrev pub all_infix : List InfixOperator
+all_infix = Eq ∷ Ne ∷ Lt ∷ Le ∷ Gt ∷ Ge ∷ Or ∷ Xor ∷ And ∷ Shl ∷ Shr ∷ Add ∷ Sub ∷ Mul ∷ Div ∷ Mod ∷ []
 
 -- ---- types
 
 pub type_form_sound : Sound (look type_by) grammar.type_form
 type_form_sound = whole_sound (look_sound by) where
   of_word : (n : ℕ) (o : Option Width) → width_in n ≡ o → GoesAt (Some (l.Word n)) (λ k. k) (sized o) grammar.type_form
-  of_word n (Some width) e = skip_last_sound (is_keyword (keyword_number (width_word width))) (Bits width) (turned n _ (found _ _ width e)) refl
+  of_word n (Some width) e = skip_last_sound (is_keyword (keyword_number (width_word width))) (Bits width)
+      (turned n (keyword_number (width_word width))
+      (found (λ w. n == keyword_number (width_word w)) (W8 ∷ W16 ∷ W32 ∷ W64 ∷ []) width e)) refl
   of_word n None e = stop_sound
 
   by : (x : Option Lexeme) → GoesAt x (λ k. k) (type_by x) grammar.type_form
@@ -97,7 +107,7 @@ typed_is = optional_is (λ t. symbol_is Colons ⨾ grammar.type_name t)
 pub typed_sound : Sound typed typed_is
 typed_sound =
     whole_sound
-    (next_sound (λ x passed. skip_sound _ passed (λ _. last_sound _ type_name_sound (λ t. refl))) (λ x none. at_sound (give_sound None refl)))
+    (next_sound (λ x passed. skip_sound (is_symbol (symbol_number Colons)) passed (λ _. last_sound (λ t. Some t) type_name_sound (λ t. refl))) (λ x none. at_sound (give_sound None refl)))
 
 pub literal_sound : Sound literal prim_form
 literal_sound = whole_sound (after_sound number_sound (λ n. last_sound _ typed_sound (λ width. refl)))
@@ -159,20 +169,24 @@ aligned_sound = whole_sound (next_sound first then_) where
       look_at_sound (λ y. choice (passes (is_keyword (keyword_number Align)) y) (skip >>= λ _. int >>= λ bytes. give (Some bytes)) (give None))
       (second x none)
 
-module _ {inner : ℕ → Reads Expr} (sound : Sound (inner 0) (operand_is 0)) where
+-- an expression without an operator between operands
+abbrev pub unary_is : ExprForm → Takes
+unary_is f = binds unary_level f ⨾ expr_form f
+
+module _ (inner : ℕ → Reads Expr) (sound : Sound (inner 0) (operand_is 0)) where
   pub bracketed_sound : Sound (bracketed inner) prim_form
   unfolding opened
-  bracketed_sound = whole_sound (last_sound Bracketed (in_brackets_sound _ _ sound) (λ e. refl))
+  bracketed_sound = whole_sound (last_sound Bracketed (in_brackets_sound Open Close sound) (λ e. refl))
 
   located_sound : Sound (located inner) (λ place. operand_is 0 place.0 ⨾ optional_is aligned_by place.1)
   located_sound = whole_sound (after_sound sound (λ address. last_sound _ aligned_sound (λ bytes. refl)))
 
   pub memory_goes : (width : TypeName) → Goes (λ k. grammar.type_name width ⨾ k) (memory inner width) grammar.memory
   unfolding opened
-  memory_goes width = last_sound _ (in_brackets_sound _ _ located_sound) (λ place. refl)
+  memory_goes width = last_sound _ (in_brackets_sound OpenSquare CloseSquare located_sound) (λ place. refl)
 
   -- a name, or the word in memory whose type it names
-  name_or_memory_sound : Sound (name_or_memory inner) expr_form
+  name_or_memory_sound : Sound (name_or_memory inner) unary_is
   name_or_memory_sound = record {
     sound = λ p f after e.
         let rest : Ident → Reads ExprForm = λ name.
@@ -190,16 +204,128 @@ module _ {inner : ℕ → Reads Expr} (sound : Sound (inner 0) (operand_is 0)) w
     named n true name r between e = e
     named n false name r between e = absurd cc
 
-    by : (p : Point) (name : Ident) (between : Point) (f : ExprForm) (after : Point) → grammar.ident name (within p) ≡ Some (within between) →
-        ((memory inner (named_type name) >>= λ m. give (InMemory m)) true between ≡ Read f after)
-        ⊎ (give (Prim (NameOf name.name)) true between ≡ Read f after) → expr_form f (within p) ≡ Some (within after)
-    by p name between f after taken (inl e) =
-        let q = bound (memory inner (named_type name) true between) (λ m after. give (InMemory m) true after) f after e in
+    by : (p : Point) (i : Ident) (between : Point) (f : ExprForm) (after : Point) → grammar.ident i (within p) ≡ Some (within between) →
+        ((memory inner (named_type i) >>= λ m. give (InMemory m)) true between ≡ Read f after)
+        ⊎ (give (Prim (NameOf i.name)) true between ≡ Read f after) → unary_is f (within p) ≡ Some (within after)
+    by p i between f after taken (inl e) =
+        let q = bound (memory inner (named_type i) true between) (λ m after. give (InMemory m) true after) f after e in
         let o = read_same q.then_read in
-        let m = (memory_goes (named_type name)).goes (within p) between (λ k. taken_then (grammar.ident name) k (within p) (within between) taken) q.first
+        let m = (memory_goes (named_type i)).goes (within p) between (λ k. taken_then (grammar.ident i) k (within p) (within between) taken) q.first
             q.between q.read
         in
-        rw (o.0, o.1) m
-    by p name between f after taken (inr e) =
+        renamed unary_is f (InMemory q.first) after q.between (within p) o m
+    by p i between f after taken (inr e) =
         let o = read_same e in
-        rw (o.0, o.1) (named name.token (name.token == p.taken) (token (is_name name.name)) (within p) (within between) taken)
+        renamed unary_is f (Prim (NameOf i.name)) after between (within p) o
+        (named i.token (i.token == p.taken) (token (is_name i.name)) (within p) (within between) taken)
+
+pub prim_form_of_prefix : (op : PrefixOperator) (e : Expr) → expr_form (Prefix op e) ≡ (operator_is (symbol_is (prefix_symbol op)) ⨾ operand_is unary_level e)
+unfolding opened
+prim_form_of_prefix op e = refl
+
+pub form_of_infix : (left : Expr) (op : InfixOperator) (right : Expr) →
+    expr_form (Infix left op right)
+    ≡ (operand_is (left_level op) left ⨾ operator_is (symbol_is (infix_symbol op)) ⨾ operand_is (right_level op) right)
+unfolding opened
+form_of_infix left op right = refl
+
+pub level_of_infix : (left : Expr) (op : InfixOperator) (right : Expr) → level_of (Infix left op right) ≡ infix_level op
+unfolding opened
+level_of_infix left op right = refl
+
+-- the operands of an operator that is written by its name
+abbrev pub operands_are : List Expr → Takes
+operands_are es = grammar.operand_list (ExprForms.hidden-the_row-Expr-1 es) ⨾ may_comma
+
+item_then : (h f more k : Takes) → ((h ⨾ f ⨾ more) ⨾ k) ≡ ((h ⨾ f) ⨾ more ⨾ k)
+item_then h f more k = takes_assoc h (f ⨾ more) k ∙ ap (λ t. h ⨾ t) (takes_assoc f more k) ∙ sym (takes_assoc h f (more ⨾ k))
+
+rows_then : (n : _) (row : Row_of-Expr n) (k : Takes) → (grammar.more_operands row ⨾ k) ≡ rest_to grammar.expr (items-the_row-Expr n row) k
+rows_then n end_of-Expr k = refl
+rows_then n (more_of-Expr {n = m} token f rest) k =
+    takes_assoc (symbol_is Comma) (here_is token ⨾ expr_form f ⨾ grammar.more_operands rest) k
+    ∙ ap (λ t. symbol_is Comma ⨾ t)
+    (item_then (here_is token) (expr_form f) (grammar.more_operands rest) k
+    ∙ ap (λ t. (here_is token ⨾ expr_form f) ⨾ t) (rows_then m rest k))
+
+row_operands : (n : _) (row : Row_of-Expr n) (e : Expr) (es : List Expr) (k : Takes) → items-the_row-Expr n row ≡ e ∷ es →
+    (grammar.operand_list row ⨾ k) ≡ (grammar.expr e ⨾ rest_to grammar.expr es k)
+row_operands n end_of-Expr e es k same = absurd cc
+row_operands n (more_of-Expr {n = m} token f rest) e es k same =
+    let first : record { token = token; form = f } ≡ e = cc in
+    let others : items-the_row-Expr m rest ≡ es = cc in
+    item_then (here_is token) (expr_form f) (grammar.more_operands rest) k
+    ∙ ap (λ t. (here_is token ⨾ expr_form f) ⨾ t) (rows_then m rest k)
+    ∙ ap (λ x. grammar.expr x ⨾ rest_to grammar.expr (items-the_row-Expr m rest) k) first
+    ∙ ap (λ xs. grammar.expr e ⨾ rest_to grammar.expr xs k) others
+
+operands_same : (e : Expr) (es : List Expr) → operands_are (e ∷ es) ≡ (grammar.expr e ⨾ rest_to grammar.expr es may_comma)
+operands_same e es = row_operands _ (ExprForms.hidden-the_row-Expr-1 (e ∷ es)) e es may_comma (items_hidden-the_row-Expr-1 (e ∷ es))
+
+form_of_named : (bytes : List ℕ) (es : List Expr) → expr_form (Named bytes es) ≡ (operator_is (token (is_operator bytes)) ⨾ round_is (operands_are es))
+form_of_named bytes es = refl
+
+-- ---- operands
+
+-- what binds at least as tightly as 0
+bound_by : (test : Bool) (next_ : Takes) → test ≡ true →
+    ((λ r. elim test as (λ _. Option Reading) [ true ↦ Some r | false ↦ None ]) ⨾ next_) ≡ next_
+bound_by true next_ e = refl
+bound_by false next_ e = absurd cc
+
+any_level : (e : Expr) → operand_is 0 e ≡ grammar.expr e
+any_level e = bound_by (nat_le 0 (level_of e.form)) (grammar.expr e) (grind (arith, nat_tests))
+
+module _ (inner : ℕ → Reads Expr) (sound : (level : ℕ) → level ≤ unary_level → Sound (inner level) (operand_is level)) where
+  prefixed_sound : (n : ℕ) (o : Option PrefixOperator) → prefix_in n ≡ o → GoesAt (Some (l.Symbol n)) (λ k. k) (prefixed inner o) unary_is
+  unfolding opened
+  prefixed_sound n (Some op) e =
+      operator_sound (is_symbol (symbol_number (prefix_symbol op)))
+      (turned n (symbol_number (prefix_symbol op)) (found (λ op. n == symbol_number (prefix_symbol op)) (Negate ∷ Complement ∷ []) op e))
+      (λ _. last_sound (λ x. Prefix op x) (sound unary_level (omega arith)) (λ x. refl))
+  prefixed_sound n None e = at_sound (last_sound (λ x. Prim x) (bracketed_sound inner (sound 0 (omega arith))) (λ x. refl))
+
+  pub unary_sound : (turns : ℕ) → Sound (look (unary_by turns inner)) unary_is
+  unary_sound turns = whole_sound (look_sound by) where
+    by : (x : Option Lexeme) → GoesAt x (λ k. k) (unary_by turns inner x) unary_is
+    by (Some (l.Name bytes)) = at_sound (same_sound (name_or_memory_sound inner (sound 0 (omega arith))) (λ f. refl))
+    by (Some (l.Op bytes)) =
+        operator_sound (is_operator bytes) (same_bytes bytes)
+        (λ _. last_sound (λ es. Named bytes es)
+        (in_brackets_sound Open Close (listed_goes (sound_same (λ e. sym (any_level e)) (sound 0 (omega arith))) operands_are operands_same begins_expression turns)) (λ es. refl))
+    by (Some (l.Symbol n)) = prefixed_sound n (prefix_in n) refl
+    by (Some (l.Word n)) =
+        at_sound (after_sound type_name_sound (λ width. last_goes (λ m. InMemory m) (memory_goes inner (sound 0 (omega arith)) width) (λ m. refl)))
+    by _ = at_sound (last_sound (λ x. Prim x) literal_sound (λ x. refl))
+
+  -- ---- operators between operands
+
+  -- the operator that is next
+  pub record Grows (level : ℕ) (left : ExprForm) (x : Option Lexeme) (op : InfixOperator) : Type 0 where
+    pub symbol : Lexeme
+    pub is_next : x ≡ Some symbol
+    pub passed : is_symbol (symbol_number (infix_symbol op)) symbol ≡ true
+    pub high : nat_le level (infix_level op) ≡ true
+    pub left_high : nat_le (left_level op) (level_of left) ≡ true
+
+  grows : (level : ℕ) (left : ExprForm) (x : Option Lexeme) (op : InfixOperator) → infix_next level left x ≡ Some op → Grows level left x op
+  grows level left (Some (l.Symbol n)) op e = of_symbol (infix_in n) refl e where
+    of_test : (o : InfixOperator) (high left_high : Bool) → nat_le level (infix_level o) ≡ high → nat_le (left_level o) (level_of left) ≡ left_high →
+        infix_in n ≡ Some o → elim (high && left_high) as (λ _. Option InfixOperator) [ true ↦ Some o | false ↦ None ] ≡ Some op →
+        Grows level left (Some (l.Symbol n)) op
+    of_test o true true h lh is e =
+        let same : o ≡ op = cc in
+        record {
+          symbol = l.Symbol n;
+          is_next = refl;
+          passed = rw (sym same) (turned n (symbol_number (infix_symbol o)) (found (λ x. n == symbol_number (infix_symbol x)) all_infix o is));
+          high = rw (sym same) h;
+          left_high = rw (sym same) lh;
+        }
+    of_test o true false h lh is e = absurd cc
+    of_test o false lh' h lh is e = absurd cc
+
+    of_symbol : (o : Option InfixOperator) → infix_in n ≡ o → tight level left o ≡ Some op → Grows level left (Some (l.Symbol n)) op
+    of_symbol (Some o) is e = of_test o (nat_le level (infix_level o)) (nat_le (left_level o) (level_of left)) refl refl is e
+    of_symbol None is e = absurd cc
+  grows level left _ op e = absurd cc

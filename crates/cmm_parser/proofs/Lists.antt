@@ -49,7 +49,7 @@ commas_to p a (b ∷ rest) k =
 
 -- ---- what is read is taken
 
-goes_same : {B : Type 0} {first second : Takes → Takes} {reads : Reads B} {takes : B → Takes} → ((k : Takes) → first k ≡ second k) →
+pub goes_same : {B : Type 0} {first second : Takes → Takes} {reads : Reads B} {takes : B → Takes} → ((k : Takes) → first k ≡ second k) →
     Goes second reads takes → Goes first reads takes
 goes_same same goes = record { goes = λ r p before b after e. goes.goes r p (λ k. ap (λ t. t r) (sym (same k)) ∙ before k) b after e }
 
@@ -66,7 +66,7 @@ may_comma_taken : (x : Lexeme) (r : Reading) → next r.left ≡ Some x → is_c
     may_comma r ≡ Some record r { left = past r.left; taken = suc r.taken }
 may_comma_taken x r is passed = rw (may_comma, one_taken is_comma x r is passed) refl
 
-chosen : {A : Type 0} (test : Bool) (holds fails : Reads A) (p : Point) (a : A) (after : Point) → choice test holds fails true p ≡ Read a after →
+pub chosen : {A : Type 0} (test : Bool) (holds fails : Reads A) (p : Point) (a : A) (after : Point) → choice test holds fails true p ≡ Read a after →
     (holds true p ≡ Read a after) ⊎ (fails true p ≡ Read a after)
 chosen true holds fails p a after e = inl e
 chosen false holds fails p a after e = inr e

@@ -50,6 +50,10 @@ after_sound {so_far = so_far} {reads = reads} {is = is} {rest = rest} first then
 pub read_same : {A : Type 0} {a b : A} {p q : Point} → Read a p ≡ Read b q → (b ≡ a) × (q ≡ p)
 read_same e = (cc, cc)
 
+pub renamed : {B : Type 0} (takes : B → Takes) (b made : B) (after between : Point) (r : Reading) → (b ≡ made) × (after ≡ between) →
+    takes made r ≡ Some (within between) → takes b r ≡ Some (within after)
+renamed takes b made after between r e taken = rw (e.0, e.1) taken
+
 finished : {B : Type 0} (takes : B → Takes) (so_far : Takes → Takes) (is : Takes) (b made : B) (after between p : Point) (r : Reading) →
     (b ≡ made) × (after ≡ between) → takes made ≡ so_far is → so_far is r ≡ is (within p) → is (within p) ≡ Some (within between) →
     takes b r ≡ Some (within after)
@@ -63,6 +67,16 @@ last_sound {so_far = so_far} {reads = reads} {is = is} {takes = takes} make last
       let q = bound (reads true p) (λ a after. give (make a) true after) b after e in
       finished takes so_far (is q.first) b (make q.first) after q.between p r (read_same q.then_read) (same q.first) (before (is q.first))
       (last.sound p q.first q.between q.read);
+}
+
+-- the last part, of which the tree is made, where it goes on with what was read before
+pub last_goes : {A B : Type 0} {so_far : Takes → Takes} {reads : Reads A} {is : A → Takes} {takes : B → Takes} (make : A → B) →
+    Goes so_far reads is → ((a : A) → takes (make a) ≡ is a) → Goes so_far (reads >>= λ a. give (make a)) takes
+last_goes {reads = reads} {takes = takes} make last same = record {
+  goes = λ r p before b after e.
+      let q = bound (reads true p) (λ a after. give (make a) true after) b after e in
+      renamed takes b (make q.first) after q.between r (read_same q.then_read)
+      (ap (λ t. t r) (same q.first) ∙ last.goes r p before q.first q.between q.read);
 }
 
 -- the last part, which is the tree
