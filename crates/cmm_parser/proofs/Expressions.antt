@@ -298,34 +298,145 @@ module _ (inner : ℕ → Reads Expr) (sound : (level : ℕ) → level ≤ unary
         at_sound (after_sound type_name_sound (λ width. last_goes (λ m. InMemory m) (memory_goes inner (sound 0 (omega arith)) width) (λ m. refl)))
     by _ = at_sound (last_sound (λ x. Prim x) literal_sound (λ x. refl))
 
-  -- ---- operators between operands
+-- ---- operators between operands
 
-  -- the operator that is next
-  pub record Grows (level : ℕ) (left : ExprForm) (x : Option Lexeme) (op : InfixOperator) : Type 0 where
-    pub symbol : Lexeme
-    pub is_next : x ≡ Some symbol
-    pub passed : is_symbol (symbol_number (infix_symbol op)) symbol ≡ true
-    pub high : nat_le level (infix_level op) ≡ true
-    pub left_high : nat_le (left_level op) (level_of left) ≡ true
+-- the operator that is next
+pub record Grows (level : ℕ) (left : ExprForm) (x : Option Lexeme) (op : InfixOperator) : Type 0 where
+  pub symbol : Lexeme
+  pub is_next : x ≡ Some symbol
+  pub passed : is_symbol (symbol_number (infix_symbol op)) symbol ≡ true
+  pub high : nat_le level (infix_level op) ≡ true
+  pub left_high : nat_le (left_level op) (level_of left) ≡ true
 
-  grows : (level : ℕ) (left : ExprForm) (x : Option Lexeme) (op : InfixOperator) → infix_next level left x ≡ Some op → Grows level left x op
-  grows level left (Some (l.Symbol n)) op e = of_symbol (infix_in n) refl e where
-    of_test : (o : InfixOperator) (high left_high : Bool) → nat_le level (infix_level o) ≡ high → nat_le (left_level o) (level_of left) ≡ left_high →
-        infix_in n ≡ Some o → elim (high && left_high) as (λ _. Option InfixOperator) [ true ↦ Some o | false ↦ None ] ≡ Some op →
-        Grows level left (Some (l.Symbol n)) op
-    of_test o true true h lh is e =
-        let same : o ≡ op = cc in
-        record {
-          symbol = l.Symbol n;
-          is_next = refl;
-          passed = rw (sym same) (turned n (symbol_number (infix_symbol o)) (found (λ x. n == symbol_number (infix_symbol x)) all_infix o is));
-          high = rw (sym same) h;
-          left_high = rw (sym same) lh;
-        }
-    of_test o true false h lh is e = absurd cc
-    of_test o false lh' h lh is e = absurd cc
+grows : (level : ℕ) (left : ExprForm) (x : Option Lexeme) (op : InfixOperator) → infix_next level left x ≡ Some op → Grows level left x op
+grows level left (Some (l.Symbol n)) op e = of_symbol (infix_in n) refl e where
+  of_test : (o : InfixOperator) (high left_high : Bool) → nat_le level (infix_level o) ≡ high → nat_le (left_level o) (level_of left) ≡ left_high →
+      infix_in n ≡ Some o → elim (high && left_high) as (λ _. Option InfixOperator) [ true ↦ Some o | false ↦ None ] ≡ Some op →
+      Grows level left (Some (l.Symbol n)) op
+  of_test o true true h lh is e =
+      let same : o ≡ op = cc in
+      record {
+        symbol = l.Symbol n;
+        is_next = refl;
+        passed = rw (sym same) (turned n (symbol_number (infix_symbol o)) (found (λ x. n == symbol_number (infix_symbol x)) all_infix o is));
+        high = rw (sym same) h;
+        left_high = rw (sym same) lh;
+      }
+  of_test o true false h lh is e = absurd cc
+  of_test o false lh' h lh is e = absurd cc
 
-    of_symbol : (o : Option InfixOperator) → infix_in n ≡ o → tight level left o ≡ Some op → Grows level left (Some (l.Symbol n)) op
-    of_symbol (Some o) is e = of_test o (nat_le level (infix_level o)) (nat_le (left_level o) (level_of left)) refl refl is e
-    of_symbol None is e = absurd cc
-  grows level left _ op e = absurd cc
+  of_symbol : (o : Option InfixOperator) → infix_in n ≡ o → tight level left o ≡ Some op → Grows level left (Some (l.Symbol n)) op
+  of_symbol (Some o) is e = of_test o (nat_le level (infix_level o)) (nat_le (left_level o) (level_of left)) refl refl is e
+  of_symbol None is e = absurd cc
+grows level left _ op e = absurd cc
+
+small_level : (op : InfixOperator) → right_level op ≤ unary_level
+small_level Or = omega arith
+small_level Xor = omega arith
+small_level And = omega arith
+small_level Shl = omega arith
+small_level Shr = omega arith
+small_level Add = omega arith
+small_level Sub = omega arith
+small_level Mul = omega arith
+small_level Div = omega arith
+small_level Mod = omega arith
+small_level _ = omega arith
+
+here_or : (n : ℕ) (test : Bool) (y : Takes) (r : Reading) → (n == r.taken) ≡ test → (here_is n ⨾ here_is n ⨾ y) r ≡ (here_is n ⨾ y) r
+here_or n true y r e = rw (◌⨾◌, here_is, e, e) refl
+here_or n false y r e = rw (◌⨾◌, here_is, e) refl
+
+here_twice : (n : ℕ) (y : Takes) → (here_is n ⨾ here_is n ⨾ y) ≡ (here_is n ⨾ y)
+here_twice n y = fun_ext (λ r. here_or n (n == r.taken) y r refl)
+
+joined_same : (n : ℕ) (f o r k form left_is : Takes) → form ≡ (left_is ⨾ o ⨾ r) → left_is ≡ (here_is n ⨾ f) →
+    (here_is n ⨾ f ⨾ o ⨾ r ⨾ k) ≡ (here_is n ⨾ form ⨾ k)
+joined_same n f o r k form left_is is same =
+    sym (here_twice n (f ⨾ o ⨾ r ⨾ k))
+    ∙ ap (λ t. here_is n ⨾ t) (sym (takes_assoc (here_is n) f (o ⨾ r ⨾ k)))
+    ∙ ap (λ t. here_is n ⨾ t ⨾ o ⨾ r ⨾ k) (sym same)
+    ∙ ap (λ t. here_is n ⨾ left_is ⨾ t) (sym (takes_assoc o r k))
+    ∙ ap (λ t. here_is n ⨾ t) (sym (takes_assoc left_is (o ⨾ r) k))
+    ∙ ap (λ t. here_is n ⨾ t ⨾ k) (sym is)
+
+at_least : (level : ℕ) (e : Expr) → nat_le level (level_of e.form) ≡ true → operand_is level e ≡ grammar.expr e
+at_least level e high = bound_by (nat_le level (level_of e.form)) (grammar.expr e) high
+
+bound_never : (test : Bool) (next_ : Takes) → test ≡ false →
+    ((λ r. elim test as (λ _. Option Reading) [ true ↦ Some r | false ↦ None ]) ⨾ next_) ≡ (λ r. None)
+bound_never true next_ e = absurd cc
+bound_never false next_ e = refl
+
+none_after : (o : Option Reading) (after : Reading) → elim o as (λ _. Option Reading) [ Some x ↦ None | None ↦ None ] ≡ Some after → ⊥
+none_after (Some x) after e = absurd cc
+none_after None after e = absurd cc
+
+never : (token : ℕ) (f : Takes) (r after : Reading) → f ≡ (λ r. None) → (here_is token ⨾ f ⨾ nothing) r ≡ Some after → ⊥
+never token f r after none is = none_after (here_is token r) after (ap (λ t. (here_is token ⨾ t ⨾ nothing) r) (sym none) ∙ is)
+
+goes_at_is : {B : Type 0} {x y : Option Lexeme} {so_far : Takes → Takes} {reads : Reads B} {takes : B → Takes} → x ≡ y →
+    GoesAt y so_far reads takes → GoesAt x so_far reads takes
+goes_at_is e it = rw e it
+
+module _ (inner : ℕ → Reads Expr) (sound : (level : ℕ) → level ≤ unary_level → Sound (inner level) (operand_is level)) where
+  climb_goes : (turns level : ℕ) (left : Expr) → nat_le level (level_of left.form) ≡ true →
+      Goes (λ k. here_is left.token ⨾ expr_form left.form ⨾ k) (climb turns inner level left) (operand_is level)
+  climb_goes zero level left high = record { goes = λ r p before b after e. absurd cc }
+  climb_goes (suc turns) level left high = look_sound (λ x. climb_at turns level left high (climb_goes turns level) x (infix_next level left.form x) refl)
+    where
+    climb_at : (turns level : ℕ) (left : Expr) → nat_le level (level_of left.form) ≡ true →
+        ((left : Expr) → nat_le level (level_of left.form) ≡ true →
+        Goes (λ k. here_is left.token ⨾ expr_form left.form ⨾ k) (climb turns inner level left) (operand_is level)) → (x : Option Lexeme) (o : Option InfixOperator) →
+        infix_next level left.form x ≡ o →
+        GoesAt x (λ k. here_is left.token ⨾ expr_form left.form ⨾ k)
+        (elim o as (λ _. Reads Expr) [
+          | Some op ↦ skip_operator >>= λ _. inner (right_level op) >>= λ right. climb turns inner level (joined left op right)
+          | None ↦ give left
+        ]) (operand_is level)
+    climb_at turns level left high later x None e =
+        at_sound (give_sound left (at_least level left high ∙ ap (λ t. here_is left.token ⨾ t) (sym (takes_nothing (expr_form left.form)))))
+    climb_at turns level left high later x (Some op) e =
+        let g = grows level left.form x op e in
+        goes_at_is g.is_next
+        (operator_sound (is_symbol (symbol_number (infix_symbol op))) g.passed
+        (λ _. after_sound (sound (right_level op) (small_level op)) (λ right.
+        goes_same
+        (λ k. joined_same left.token (expr_form left.form) (operator_is (symbol_is (infix_symbol op))) (operand_is (right_level op) right) k
+        (expr_form (Infix left op right)) (operand_is (left_level op) left) (form_of_infix left op right)
+        (at_least (left_level op) left g.left_high))
+        (later (joined left op right) (rw (level_of_infix left op right) g.high)))))
+
+  start_goes : (turns level token : ℕ) (form : ExprForm) → level ≤ unary_level → (test : Bool) → nat_le unary_level (level_of form) ≡ test →
+      Goes (λ k. here_is token ⨾ unary_is form ⨾ k) (climb turns inner level (record { token = token; form = form })) (operand_is level)
+  start_goes turns level token form le true e =
+      goes_same (λ k. ap (λ t. here_is token ⨾ t ⨾ k) (bound_by (nat_le unary_level (level_of form)) (expr_form form) e))
+      (climb_goes turns level (record { token = token; form = form }) (grind (arith, nat_tests)))
+  start_goes turns level token form le false e = record { goes = λ r p before b after read. absurd (never token (unary_is form) r (within p)
+      (bound_never (nat_le unary_level (level_of form)) (expr_form form) e) (before nothing)) }
+
+pub operand_sound : (fuel level : ℕ) → level ≤ unary_level → Sound (operand fuel level) (operand_is level)
+operand_sound zero level le = record { sound = λ p a after e. absurd cc }
+operand_sound (suc fuel) level le =
+    whole_sound (after_sound here_sound (λ token.
+    after_sound (unary_sound (operand fuel) (operand_sound fuel) fuel) (λ form.
+    start_goes (operand fuel) (operand_sound fuel) (suc fuel) level token form le (nat_le unary_level (level_of form)) refl)))
+
+pub expr_sound : (fuel : ℕ) → Sound (expr fuel) grammar.expr
+expr_sound fuel = sound_same (λ e. sym (any_level e)) (operand_sound fuel 0 (omega arith))
+
+pub whole_expr_sound : (fuel : ℕ) → Sound (whole fuel) grammar.whole
+whole_expr_sound fuel = outermost_sound (expr_sound fuel)
+
+prim_form_sound : (fuel : ℕ) → Sound (look (prim_by (operand fuel))) prim_form
+prim_form_sound fuel = whole_sound (look_sound by) where
+  by : (x : Option Lexeme) → GoesAt x (λ k. k) (prim_by (operand fuel) x) prim_form
+  by (Some (l.Name bytes)) = skip_last_sound (is_name bytes) (NameOf bytes) (same_bytes bytes) refl
+  by (Some (l.Symbol n)) = at_sound (same_sound (bracketed_sound (operand fuel) (operand_sound fuel 0 (omega arith))) (λ f. refl))
+  by _ = at_sound (same_sound literal_sound (λ f. refl))
+
+pub prim_sound : (fuel : ℕ) → Sound (prim fuel) grammar.prim
+prim_sound fuel = whole_sound (after_sound here_sound (λ token. last_sound _ (prim_form_sound fuel) (λ f. refl)))
+
+pub whole_prim_sound : (fuel : ℕ) → Sound (whole_prim fuel) grammar.whole_prim
+whole_prim_sound fuel = outermost_sound (prim_sound fuel)

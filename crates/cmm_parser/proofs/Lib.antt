@@ -4,3 +4,4 @@ pub mod Completes
 pub mod Tokens
 pub mod Lists
 pub mod Expressions
+pub mod LocalExpressions
