@@ -112,12 +112,12 @@ typed_sound =
 pub literal_sound : Sound literal prim_form
 literal_sound = whole_sound (after_sound number_sound (λ n. last_sound _ typed_sound (λ width. refl)))
 
-pub in_brackets_sound : {A : Type 0} {reads : Reads A} {is : A → Takes} (opens closes : Symbol) → Sound reads is →
-    Sound (in_brackets opens reads closes) (λ a. in_brackets_is opens (is a) closes)
-in_brackets_sound opens closes inner =
+pub in_brackets_sound : {A : Type 0} {reads : Reads A} {is : A → Takes} (opened_by closed_by : Symbol) → Sound reads is →
+    Sound (in_brackets opened_by reads closed_by) (λ a. in_brackets_is opened_by (is a) closed_by)
+in_brackets_sound opened_by closed_by inner =
     enclosed_sound (whole_sound
     (after_sound (whole_sound (next_sound (λ x passed. opening_last_sound _ passed refl) (λ x none. stop_sound)))
-    (λ _. after_sound inner (λ a. last_sound _ (symbol_sound closes) (λ _. refl)))))
+    (λ _. after_sound inner (λ a. last_sound _ (symbol_sound closed_by) (λ _. refl)))))
 
 -- an expression that binds at least as tightly as a level
 abbrev pub operand_is : ℕ → Expr → Takes
@@ -268,7 +268,7 @@ form_of_named bytes es = refl
 -- ---- operands
 
 -- what binds at least as tightly as 0
-bound_by : (test : Bool) (next_ : Takes) → test ≡ true →
+pub bound_by : (test : Bool) (next_ : Takes) → test ≡ true →
     ((λ r. elim test as (λ _. Option Reading) [ true ↦ Some r | false ↦ None ]) ⨾ next_) ≡ next_
 bound_by true next_ e = refl
 bound_by false next_ e = absurd cc
@@ -330,7 +330,7 @@ grows level left (Some (l.Symbol n)) op e = of_symbol (infix_in n) refl e where
   of_symbol None is e = absurd cc
 grows level left _ op e = absurd cc
 
-small_level : (op : InfixOperator) → right_level op ≤ unary_level
+pub small_level : (op : InfixOperator) → right_level op ≤ unary_level
 small_level Or = omega arith
 small_level Xor = omega arith
 small_level And = omega arith

@@ -5,3 +5,4 @@ pub mod Tokens
 pub mod Lists
 pub mod Expressions
 pub mod LocalExpressions
+pub mod CompleteExpressions
