@@ -2,4 +2,8 @@ pub mod Sounds
 pub mod Locals
 pub mod Completes
 pub mod Tokens
-pub mod StatementsLocal
+pub mod Lists
+pub mod Expressions
+pub mod LocalExpressions
+pub mod CompleteExpressions
+pub mod LocalStatements
