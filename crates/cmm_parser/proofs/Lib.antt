@@ -7,3 +7,5 @@ pub mod Expressions
 pub mod LocalExpressions
 pub mod CompleteExpressions
 pub mod LocalStatements
+pub mod Rows
+pub mod StatementForms

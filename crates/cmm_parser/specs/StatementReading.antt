@@ -13,7 +13,7 @@ use Rattle.cmm_ast.specs.declared.expression.TypeName.{TypeName}
 use Rattle.cmm_ast.specs.declared.procedure.LocalForm.{LocalForm}
 use Rattle.cmm_ast.specs.declared.procedure.Modifiers.{Modifiers}
 use Rattle.cmm_ast.specs.declared.procedure.Modifiers.TheVariants as before
-use Rattle.cmm_ast.specs.declared.statement.Arm.{Arm, roll-Arm}
+use Rattle.cmm_ast.specs.declared.statement.Arm.{Arm}
 use Rattle.cmm_ast.specs.declared.statement.Block.{Block}
 use Rattle.cmm_ast.specs.declared.statement.CalleeForm.TheVariants as callees
 use Rattle.cmm_ast.specs.declared.statement.Case.{Case}
@@ -191,7 +191,7 @@ abbrev pub is_within : Lexeme → Bool
 is_within x = elim (is_symbol (symbol_number CloseBrace) x) [ true ↦ false | false ↦ true ]
 
 abbrev pub arm : ℕ → Reads Block → Reads Arm
-arm fuel blocks = here >>= λ token. case fuel >>= λ what. blocks >>= λ body. give (roll-Arm record { token = token; case = what; body = body })
+arm fuel blocks = here >>= λ token. case fuel >>= λ what. blocks >>= λ body. give record { token = token; case = what; body = body }
 
 abbrev pub switch_form : ℕ → Reads Block → Reads StmtForm
 switch_form fuel blocks =

@@ -1,0 +1,140 @@
+-- Parts that may be left out, rows of parts without commas, and where operators are counted anew: what is read is taken.
+use Rattle.std.proofs.Common.{◌≡◌, ℕ, zero, suc, ◌==◌, Bool, true, false, List, [], ◌∷◌, ◌++◌, Option, Some, None, refl, sym, ap, ◌∙◌}
+use Rattle.std.proofs.Math.Path.{fun_ext}
+use Rattle.cmm_lexer.specs.declared.piece.Lexeme.{Lexeme}
+use Rattle.cmm_ast.specs.declared.keyword.Symbol.{Symbol}
+use Rattle.cmm_ast.specs.declared.keyword.Symbol.TheVariants.{Comma}
+use Rattle.cmm_ast.specs.Taking.{Reading, Takes, ◌⨾◌, nothing, token, taken_if, symbol as symbol_is, here as here_is, optional as optional_is, many as many_is, commas as commas_is, may_comma as may_comma_is, outermost as outermost_is, opening as opening_is, in_brackets as in_brackets_is}
+use Rattle.cmm_parser.specs.Reading.{Point, Read, Reads, ◌>>=◌, give, optional, many, next, skip, passes, is_comma, outermost}
+use Rattle.cmm_parser.specs.ReadingLaws.{within, Sound}
+use Rattle.cmm_parser.specs.CallReading.{may_comma}
+use Rattle.cmm_parser.proofs.Sounds.{Goes, GoesAt, whole_sound, after_sound, last_sound, give_sound, at_sound, next_sound, bound, read_same, one_taken, taken_then}
+use Rattle.cmm_parser.proofs.Lists.{takes_assoc, takes_nothing, goes_same, may_comma_not}
+
+-- ---- takings one after the other
+
+pub takes_assoc3 : (p q s k : Takes) → ((p ⨾ q ⨾ s) ⨾ k) ≡ (p ⨾ q ⨾ s ⨾ k)
+takes_assoc3 p q s k = takes_assoc p (q ⨾ s) k ∙ ap (λ t. p ⨾ t) (takes_assoc q s k)
+
+pub takes_assoc4 : (p q s t k : Takes) → ((p ⨾ q ⨾ s ⨾ t) ⨾ k) ≡ (p ⨾ q ⨾ s ⨾ t ⨾ k)
+takes_assoc4 p q s t k = takes_assoc p (q ⨾ s ⨾ t) k ∙ ap (λ x. p ⨾ x) (takes_assoc3 q s t k)
+
+-- a tree is read in parts, of which each is a tree from the start
+pub then_sound : {A B : Type 0} {so_far : Takes → Takes} {reads : Reads A} {is : A → Takes} {rest : A → Reads B} {takes : B → Takes} →
+    Goes so_far reads is → ((a : A) → Goes (λ k. is a ⨾ k) (rest a) takes) → Goes so_far (reads >>= rest) takes
+then_sound {reads = reads} {is = is} {rest = rest} first each = record {
+  goes = λ r p before b after e.
+      let q = bound (reads true p) (λ a after. rest a true after) b after e in
+      (each q.first).goes r q.between (λ k. taken_then (is q.first) k r (within q.between) (first.goes r p before q.first q.between q.read)) b after
+      q.then_read;
+}
+
+-- what was taken before stays before
+after_prefix : {B : Type 0} (so_far : Takes → Takes) (reads : Reads B) (takes : B → Takes) → Goes so_far reads takes → (o : Option Reading) (p : Point) →
+    ((k : Takes) → elim o as (λ _. Option Reading) [ Some x ↦ so_far k x | None ↦ None ] ≡ k (within p)) → (b : B) (after : Point) →
+    reads true p ≡ Read b after → elim o as (λ _. Option Reading) [ Some x ↦ takes b x | None ↦ None ] ≡ Some (within after)
+after_prefix so_far reads takes it (Some x) p before b after e = it.goes x p before b after e
+after_prefix so_far reads takes it None p before b after e = absurd (let h = before nothing in cc)
+
+pub prefix_sound : {B : Type 0} {so_far : Takes → Takes} {reads : Reads B} {takes : B → Takes} (earlier : Takes) → Goes so_far reads takes →
+    Goes (λ k. earlier ⨾ so_far k) reads (λ b. earlier ⨾ takes b)
+prefix_sound {so_far = so_far} {reads = reads} {takes = takes} earlier it = record {
+  goes = λ r p before b after e. after_prefix so_far reads takes it (earlier r) p before b after e;
+}
+
+-- nothing is read from where nothing goes
+pub never_sound : {B : Type 0} {so_far : Takes → Takes} {reads : Reads B} {takes : B → Takes} → ((k : Takes) (r : Reading) → so_far k r ≡ None) →
+    Goes so_far reads takes
+never_sound none = record { goes = λ r p before b after e. absurd (let h = sym (before nothing) ∙ none nothing r in cc) }
+
+-- ---- a part that may be left out, and rows
+
+pub optional_sound : {A : Type 0} {reads : Reads A} {is : A → Takes} (begins : Lexeme → Bool) → Sound reads is →
+    Sound (optional begins reads) (optional_is is)
+optional_sound begins inner =
+    whole_sound (next_sound (λ x passed. at_sound (last_sound (λ a. Some a) inner (λ a. refl))) (λ x none. at_sound (give_sound None refl)))
+
+-- each of a row, and then what goes on
+abbrev pub many_to : {A : Type 0} → (A → Takes) → List A → Takes → Takes
+many_to p [] k = k
+many_to p (a ∷ as_) k = p a ⨾ many_to p as_ k
+
+pub many_to-append : {A : Type 0} (p : A → Takes) (as_ : List A) (b : A) (k : Takes) → many_to p (as_ ++ (b ∷ [])) k ≡ many_to p as_ (p b ⨾ k)
+many_to-append p [] b k = refl
+many_to-append p (a ∷ as_) b k = ap (λ t. p a ⨾ t) (many_to-append p as_ b k)
+
+pub many_same : {A : Type 0} (p : A → Takes) (as_ : List A) → many_is p as_ ≡ many_to p as_ nothing
+many_same p [] = refl
+many_same p (a ∷ as_) = ap (λ t. p a ⨾ t) (many_same p as_)
+
+module _ {A : Type 0} {reads : Reads A} {p : A → Takes} (item : Sound reads p) (takes : List A → Takes)
+    (same : (as_ : List A) → takes as_ ≡ many_to p as_ nothing) (begins : Lexeme → Bool) where
+  many_goes : (turns : ℕ) (as_ : List A) → Goes (λ k. many_to p as_ k) (many turns begins reads as_) takes
+  many_goes zero as_ = record { goes = λ r p before b after e. absurd cc }
+  many_goes (suc turns) as_ =
+      next_sound
+      (λ x passed. at_sound (after_sound item (λ b. goes_same (λ k. sym (many_to-append p as_ b k)) (many_goes turns (as_ ++ (b ∷ []))))))
+      (λ x none. at_sound (give_sound as_ (same as_)))
+
+  -- a row, in whatever form the grammar has it
+  pub row_sound : (turns : ℕ) → Sound (many turns begins reads []) takes
+  row_sound turns = whole_sound (many_goes turns [])
+
+pub many_sound : {A : Type 0} {reads : Reads A} {p : A → Takes} → Sound reads p → (begins : Lexeme → Bool) (turns : ℕ) →
+    Sound (many turns begins reads []) (many_is p)
+many_sound {p = p} item begins turns = row_sound item (many_is p) (many_same p) begins turns
+
+pub may_comma_sound : Sound may_comma (λ _. may_comma_is)
+may_comma_sound = whole_sound (next_sound at_comma without) where
+  at_comma : (x : Lexeme) → is_comma x ≡ true → GoesAt (Some x) (λ k. k) skip (λ _. may_comma_is)
+  at_comma x passed = record {
+    goes = λ r p is before b after e.
+        let o = read_same e in rw (o.1, before may_comma_is, may_comma_is, one_taken is_comma x (within p) is passed) refl;
+  }
+
+  without : (x : Option Lexeme) → passes is_comma x ≡ false → GoesAt x (λ k. k) (give {A = Unit {0}} tt) (λ _. may_comma_is)
+  without x none = record {
+    goes = λ r p is before b after e.
+        let o = read_same e in
+        let none_here : passes is_comma (next p.left) ≡ false = rw is none in
+        rw (o.1, before may_comma_is) (may_comma_not (within p) none_here);
+  }
+
+-- ---- where operators are counted anew
+
+pub outermost_goes : {B : Type 0} {so_far : Takes → Takes} {reads : Reads B} {takes : B → Takes} → Goes (λ k. so_far (outermost_is k)) reads takes →
+    Goes so_far (outermost reads) takes
+outermost_goes it = record { goes = λ r p before b after e. it.goes r (record p { operators = 0 }) (λ k. before (outermost_is k)) b after e }
+
+-- takes tokens of which none is an operator
+pub record Apart (p : Takes) : Type 0 where
+  pub apart : (k : Takes) → outermost_is (p ⨾ k) ≡ (p ⨾ outermost_is k)
+
+tested_apart : (test : Bool) (xs : List Lexeme) (k : Takes) (r : Reading) →
+    (taken_if test xs ⨾ k) (record r { operators = 0 }) ≡ (taken_if test xs ⨾ outermost_is k) r
+tested_apart true xs k r = refl
+tested_apart false xs k r = refl
+
+token_apart_at : (test : Lexeme → Bool) (left : List Lexeme) (taken opens operators : ℕ) (over : Option ℕ) (k : Takes) →
+    outermost_is (token test ⨾ k) (record { left = left; taken = taken; open_brackets = opens; operators = operators; over = over })
+    ≡ (token test ⨾ outermost_is k) (record { left = left; taken = taken; open_brackets = opens; operators = operators; over = over })
+token_apart_at test [] taken opens operators over k = refl
+token_apart_at test (x ∷ xs) taken opens operators over k =
+    tested_apart (test x) xs k (record { left = x ∷ xs; taken = taken; open_brackets = opens; operators = operators; over = over })
+
+pub token_apart : (test : Lexeme → Bool) → Apart (token test)
+token_apart test = record { apart = λ k. fun_ext (λ r. token_apart_at test r.left r.taken r.open_brackets r.operators r.over k) }
+
+here_apart_at : (test : Bool) (k : Takes) (r : Reading) →
+    elim (elim test as (λ _. Option Reading) [ true ↦ Some record r { operators = 0 } | false ↦ None ]) as (λ _. Option Reading) [ Some x ↦ k x | None ↦ None ]
+    ≡ elim (elim test as (λ _. Option Reading) [ true ↦ Some r | false ↦ None ]) as (λ _. Option Reading) [ Some x ↦ outermost_is k x | None ↦ None ]
+here_apart_at true k r = refl
+here_apart_at false k r = refl
+
+pub here_apart : (n : ℕ) → Apart (here_is n)
+here_apart n = record { apart = λ k. fun_ext (λ r. here_apart_at (n == r.taken) k r) }
+
+pub both_apart : {p q : Takes} → Apart p → Apart q → Apart (p ⨾ q)
+both_apart {p} {q} one two = record {
+  apart = λ k. ap (λ t. outermost_is t) (takes_assoc p q k) ∙ one.apart (q ⨾ k) ∙ ap (λ t. p ⨾ t) (two.apart k) ∙ sym (takes_assoc p q (outermost_is k));
+}
