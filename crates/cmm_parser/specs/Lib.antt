@@ -1,3 +1,6 @@
 pub mod Reading
 pub mod ReadingLaws
 pub mod ExpressionReading
+pub mod DeclarationReading
+pub mod ProcedureReading
+pub mod UnitReading
