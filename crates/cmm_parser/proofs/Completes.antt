@@ -23,7 +23,7 @@ passed_stays : (limited : Bool) (r after : Reading) → Moves r after → (token
 passed_stays true r after moves token e = moves.stays token e
 passed_stays false r after moves token e = absurd cc
 
-outcome_read : {A : Type 0} (limited : Bool) (a : A) (r : Reading) → passed limited r ≡ None → outcome limited a r ≡ Read a (point r)
+pub outcome_read : {A : Type 0} (limited : Bool) (a : A) (r : Reading) → passed limited r ≡ None → outcome limited a r ≡ Read a (point r)
 outcome_read limited a r e = rw (outcome, e) refl
 
 outcome_stopped : {A : Type 0} (limited : Bool) (a : A) (r : Reading) (token : ℕ) → passed limited r ≡ Some token → outcome limited a r ≡ Stopped TooDeep token
@@ -95,7 +95,7 @@ fewer_complete strict one goes two =
 some_same : {r s : Reading} → Some r ≡ Some s → s ≡ r
 some_same e = cc
 
-moves_self : (r after : Reading) → after ≡ r → Moves r after
+pub moves_self : (r after : Reading) → after ≡ r → Moves r after
 moves_self r after e = record { shrinks = rw e (omega arith); stays = λ token is. rw e is }
 
 -- nothing more is read
@@ -211,7 +211,7 @@ taken_from test x (y ∷ ys) taken opens operators over after only e =
 pub token_taken : (test : Lexeme → Bool) (x : Lexeme) (r after : Reading) → Only test x → token test r ≡ Some after → Taken x r after
 token_taken test x r after only e = taken_from test x r.left r.taken r.open_brackets r.operators r.over after only e
 
-taken_moves : (x : Lexeme) (r after : Reading) → Taken x r after → Moves r after
+pub taken_moves : (x : Lexeme) (r after : Reading) → Taken x r after → Moves r after
 taken_moves x r after t = let less = t.fewer in record {
   shrinks = rw t.after_is (omega arith);
   stays = λ token e. rw t.after_is e;
@@ -220,7 +220,7 @@ taken_moves x r after t = let less = t.fewer in record {
 pub token_strict : {test : Lexeme → Bool} {x : Lexeme} → Only test x → Strict (token test)
 token_strict {test} {x} only = record { strict = λ r after e. let t = token_taken test x r after only e in rw t.after_is t.fewer }
 
-passed_same : (limited : Bool) (r after : Reading) → after.over ≡ r.over → passed limited after ≡ passed limited r
+pub passed_same : (limited : Bool) (r after : Reading) → after.over ≡ r.over → passed limited after ≡ passed limited r
 passed_same true r after e = e
 passed_same false r after e = refl
 

@@ -28,7 +28,7 @@ pub bound : {A B : Type 0} (answer : Answer A) (rest : A → Point → Answer B)
 bound (Read a p) rest b after e = record { first = a; between = p; read = refl; then_read = e }
 bound (Stopped f k) rest b after e = absurd cc
 
-taken_then : (first k : Takes) (r after : Reading) → first r ≡ Some after → (first ⨾ k) r ≡ k after
+pub taken_then : (first k : Takes) (r after : Reading) → first r ≡ Some after → (first ⨾ k) r ≡ k after
 taken_then first k r after e = rw (◌⨾◌, e) refl
 
 -- the whole, where nothing was read before
@@ -47,8 +47,12 @@ after_sound {so_far = so_far} {reads = reads} {is = is} {rest = rest} first then
       after q.then_read;
 }
 
-read_same : {A : Type 0} {a b : A} {p q : Point} → Read a p ≡ Read b q → (b ≡ a) × (q ≡ p)
+pub read_same : {A : Type 0} {a b : A} {p q : Point} → Read a p ≡ Read b q → (b ≡ a) × (q ≡ p)
 read_same e = (cc, cc)
+
+pub renamed : {B : Type 0} (takes : B → Takes) (b made : B) (after between : Point) (r : Reading) → (b ≡ made) × (after ≡ between) →
+    takes made r ≡ Some (within between) → takes b r ≡ Some (within after)
+renamed takes b made after between r e taken = rw (e.0, e.1) taken
 
 finished : {B : Type 0} (takes : B → Takes) (so_far : Takes → Takes) (is : Takes) (b made : B) (after between p : Point) (r : Reading) →
     (b ≡ made) × (after ≡ between) → takes made ≡ so_far is → so_far is r ≡ is (within p) → is (within p) ≡ Some (within between) →
@@ -63,6 +67,16 @@ last_sound {so_far = so_far} {reads = reads} {is = is} {takes = takes} make last
       let q = bound (reads true p) (λ a after. give (make a) true after) b after e in
       finished takes so_far (is q.first) b (make q.first) after q.between p r (read_same q.then_read) (same q.first) (before (is q.first))
       (last.sound p q.first q.between q.read);
+}
+
+-- the last part, of which the tree is made, where it goes on with what was read before
+pub last_goes : {A B : Type 0} {so_far : Takes → Takes} {reads : Reads A} {is : A → Takes} {takes : B → Takes} (make : A → B) →
+    Goes so_far reads is → ((a : A) → takes (make a) ≡ is a) → Goes so_far (reads >>= λ a. give (make a)) takes
+last_goes {reads = reads} {takes = takes} make last same = record {
+  goes = λ r p before b after e.
+      let q = bound (reads true p) (λ a after. give (make a) true after) b after e in
+      renamed takes b (make q.first) after q.between r (read_same q.then_read)
+      (ap (λ t. t r) (same q.first) ∙ last.goes r p before q.first q.between q.read);
 }
 
 -- the last part, which is the tree
@@ -87,6 +101,25 @@ at_sound goes = record { goes = λ r p is. goes.goes r p }
 pub look_sound : {B : Type 0} {so_far : Takes → Takes} {by : Option Lexeme → Reads B} {takes : B → Takes} →
     ((x : Option Lexeme) → GoesAt x so_far (by x) takes) → Goes so_far (look by) takes
 look_sound each = record { goes = λ r p before b after e. (each (next p.left)).goes r p refl before b after e }
+
+-- where this token is known to be next
+pub look_at_sound : {B : Type 0} {x : Option Lexeme} {so_far : Takes → Takes} {takes : B → Takes} (by : Option Lexeme → Reads B) →
+    GoesAt x so_far (by x) takes → GoesAt x so_far (look by) takes
+look_at_sound by it = record {
+  goes = λ r p is before b after e. it.goes r p is before b after (ap (λ y. by y true p) (sym is) ∙ e);
+}
+
+-- and trees take the same there
+pub at_same : {B : Type 0} {x : Option Lexeme} {reads : Reads B} {takes other : B → Takes} →
+    ((b : B) (r : Reading) → next r.left ≡ x → takes b r ≡ other b r) → GoesAt x (λ k. k) reads other → GoesAt x (λ k. k) reads takes
+at_same same it = record {
+  goes = λ r p is before b after e.
+      let there : r ≡ within p = some_reading (before (λ q. Some q)) in
+      same b r (ap (λ q. next q.left) there ∙ is) ∙ it.goes r p is before b after e;
+}
+  where
+  some_reading : {q s : Reading} → Some q ≡ Some s → q ≡ s
+  some_reading e = cc
 
 pub stop_sound : {B : Type 0} {x : Option Lexeme} {so_far : Takes → Takes} {takes : B → Takes} → GoesAt x so_far stop takes
 stop_sound = record { goes = λ r p is before b after e. absurd cc }
@@ -131,11 +164,20 @@ pub one_taken : (test : Lexeme → Bool) (x : Lexeme) (r : Reading) → next r.l
     token test r ≡ Some record r { left = past r.left; taken = suc r.taken }
 one_taken test x r is passes = taken_one test x r.left r.taken r.open_brackets r.operators r.over is passes
 
-pub skip_sound : {B : Type 0} {so_far : Takes → Takes} {takes : B → Takes} (rest : Unit {0} → Reads B) (test : Lexeme → Bool) {x : Lexeme} →
-    test x ≡ true → Goes (λ k. so_far (token test ⨾ k)) (rest tt) takes → GoesAt (Some x) so_far (skip >>= rest) takes
-skip_sound rest test {x} passed then_ = record {
+taken_none : (test : Lexeme → Bool) (left : List Lexeme) (taken opens operators : ℕ) (over : Option ℕ) → passes test (next left) ≡ false →
+    token test (record { left = left; taken = taken; open_brackets = opens; operators = operators; over = over }) ≡ None
+taken_none test [] taken opens operators over fails = refl
+taken_none test (y ∷ ys) taken opens operators over fails = rw fails refl
+
+-- none is taken
+pub none_taken : (test : Lexeme → Bool) (r : Reading) → passes test (next r.left) ≡ false → token test r ≡ None
+none_taken test r fails = taken_none test r.left r.taken r.open_brackets r.operators r.over fails
+
+pub skip_sound : {B : Type 0} {so_far : Takes → Takes} {rest : Unit {0} → Reads B} {takes : B → Takes} (test : Lexeme → Bool) {x : Lexeme} →
+    test x ≡ true → ((u : Unit {0}) → Goes (λ k. so_far (token test ⨾ k)) (rest u) takes) → GoesAt (Some x) so_far (skip >>= rest) takes
+skip_sound {rest = rest} test {x} passed then_ = record {
   goes = λ r p is before b after e.
-      then_.goes r (record p { left = past p.left; taken = suc p.taken })
+      (then_ tt).goes r (record p { left = past p.left; taken = suc p.taken })
       (λ k. before (token test ⨾ k) ∙ taken_then (token test) k (within p) _ (one_taken test x (within p) is passed)) b after e;
 }
 
@@ -159,12 +201,12 @@ counted : (test : Lexeme → Bool) (x : Lexeme) (p : Point) → next p.left ≡ 
 counted test x p is passes small = rw (operator_is, one_taken test x (within p) is passes, small) refl
 
 pub operator_sound : {B : Type 0} {so_far : Takes → Takes} {rest : Unit {0} → Reads B} {takes : B → Takes} (test : Lexeme → Bool) {x : Lexeme} →
-    test x ≡ true → Goes (λ k. so_far (operator_is (token test) ⨾ k)) (rest tt) takes → GoesAt (Some x) so_far (skip_operator >>= rest) takes
+    test x ≡ true → ((u : Unit {0}) → Goes (λ k. so_far (operator_is (token test) ⨾ k)) (rest u) takes) → GoesAt (Some x) so_far (skip_operator >>= rest) takes
 operator_sound {rest = rest} test {x} passes then_ = record {
   goes = λ r p is before b after e.
       let q = bound (skip_operator true p) (λ a after. rest a true after) b after e in
       let o = not_stopped (nat_lt 500 (suc p.operators)) p.taken tt tt _ q.between q.read in
-      then_.goes r q.between
+      (then_ tt).goes r q.between
       (λ k. before (operator_is (token test) ⨾ k)
       ∙ taken_then (operator_is (token test)) k (within p) (within q.between)
       (counted test x p is passes o.0 ∙ ap (λ v. Some (within v)) (sym o.1))) b after q.then_read;
@@ -176,16 +218,31 @@ opened : (test : Lexeme → Bool) (x : Lexeme) (p : Point) → next p.left ≡ S
 opened test x p is passes small = rw (opening_is, one_taken test x (within p) is passes, small) refl
 
 pub opening_sound : {B : Type 0} {so_far : Takes → Takes} {rest : Unit {0} → Reads B} {takes : B → Takes} (test : Lexeme → Bool) {x : Lexeme} →
-    test x ≡ true → Goes (λ k. so_far (opening_is (token test) ⨾ k)) (rest tt) takes → GoesAt (Some x) so_far (skip_opening >>= rest) takes
+    test x ≡ true → ((u : Unit {0}) → Goes (λ k. so_far (opening_is (token test) ⨾ k)) (rest u) takes) → GoesAt (Some x) so_far (skip_opening >>= rest) takes
 opening_sound {rest = rest} test {x} passes then_ = record {
   goes = λ r p is before b after e.
       let q = bound (skip_opening true p) (λ a after. rest a true after) b after e in
       let o = not_stopped (nat_lt 200 (suc p.open_brackets)) p.taken tt tt _ q.between q.read in
-      then_.goes r q.between
+      (then_ tt).goes r q.between
       (λ k. before (opening_is (token test) ⨾ k)
       ∙ taken_then (opening_is (token test)) k (within p) (within q.between)
       (opened test x p is passes o.0 ∙ ap (λ v. Some (within v)) (sym o.1))) b after q.then_read;
 }
+
+-- the bracket is the last
+pub opening_last_sound : {so_far : Takes → Takes} {takes : Unit {0} → Takes} (test : Lexeme → Bool) {x : Lexeme} → test x ≡ true →
+    takes tt ≡ so_far (opening_is (token test)) → GoesAt (Some x) so_far skip_opening takes
+opening_last_sound {so_far = so_far} {takes = takes} test {x} passed same = record {
+  goes = λ r p is before b after e.
+      let o = not_stopped (nat_lt 200 (suc p.open_brackets)) p.taken tt b _ after e in
+      rw (same, before (opening_is (token test))) (counted_opening p after o.1 (opened test x p is passed o.0));
+}
+  where
+  counted_opening : (p after : Point) → after ≡ record p { left = past p.left; taken = suc p.taken; open_brackets = suc p.open_brackets } →
+      opening_is (token test) (within p)
+      ≡ Some (within record p { left = past p.left; taken = suc p.taken; open_brackets = suc p.open_brackets }) →
+      opening_is (token test) (within p) ≡ Some (within after)
+  counted_opening p after e is = rw e is
 
 -- ---- the number of the next token, brackets and outermost expressions
 

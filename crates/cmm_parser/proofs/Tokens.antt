@@ -114,7 +114,7 @@ picked_local None = stop_local
 pub pick_local : {A : Type 0} (content : Lexeme → Option A) → Local (pick content)
 pick_local content = look_local (λ x. picked_local (held content x))
 
-some_is : {A : Type 0} {a b : A} → Some a ≡ Some b → b ≡ a
+pub some_is : {A : Type 0} {a b : A} → Some a ≡ Some b → b ≡ a
 some_is e = cc
 
 name_in_is : (x : Lexeme) (bytes : List ℕ) → name_in x ≡ Some bytes → is_name bytes x ≡ true

@@ -81,8 +81,12 @@ aligned =
     if_next (is_keyword (keyword_number Aligned)) (skip >>= λ _. int >>= λ bytes. give (Some bytes))
     (if_next (is_keyword (keyword_number Align)) (skip >>= λ _. int >>= λ bytes. give (Some bytes)) (give None))
 
+-- an address, and what it is said to be a multiple of
+abbrev pub located : (ℕ → Reads Expr) → Reads (Expr × Option Int)
+located inner = inner 0 >>= λ address. aligned >>= λ bytes. give (address, bytes)
+
 abbrev pub memory : (ℕ → Reads Expr) → TypeName → Reads Memory
-memory inner width = square (inner 0 >>= λ address. aligned >>= λ bytes. give (roll-Memory (record { width = width; address = address; aligned = bytes })))
+memory inner width = square (located inner) >>= λ place. give (roll-Memory (record { width = width; address = place.0; aligned = place.1 }))
 
 -- ---- expressions
 
