@@ -6,3 +6,7 @@ pub mod Lists
 pub mod Expressions
 pub mod LocalExpressions
 pub mod CompleteExpressions
+pub mod Repeats
+pub mod Declarations
+pub mod Procedures
+pub mod Units

@@ -5,6 +5,7 @@ use Rattle.cmm_ast.specs.declared.token.Ident.{Ident}
 use Rattle.cmm_ast.specs.declared.keyword.Keyword.TheVariants.{Align, Section as SectionWord, Span}
 use Rattle.cmm_ast.specs.declared.keyword.Symbol.TheVariants.{Colon, CloseBrace, CloseSquare, Open, OpenBrace, OpenSquare, Semicolon}
 use Rattle.cmm_ast.specs.declared.expression.TypeName.{TypeName}
+use Rattle.cmm_ast.specs.declared.expression.Expr.{Expr}
 use Rattle.cmm_ast.specs.declared.statement.Block.{Block}
 use Rattle.cmm_ast.specs.declared.unit.TopLevel.{TopLevel}
 use Rattle.cmm_ast.specs.declared.unit.TopLevel.TheVariants as tops
@@ -27,11 +28,15 @@ use Rattle.cmm_parser.specs.ProcedureReading.{procedure}
 -- ---- data
 
 -- what stands in the square brackets
-abbrev pub count_in : ℕ → Reads Count
-count_in fuel = if_next (is_symbol (symbol_number CloseSquare)) (give counts.OfInitial) (whole fuel >>= λ e. give (counts.Of e))
+abbrev pub count_in : ℕ → Reads (Option Expr)
+count_in fuel = if_next (is_symbol (symbol_number CloseSquare)) (give None) (whole fuel >>= λ e. give (Some e))
+
+abbrev pub count_of : Option Expr → Count
+count_of None = counts.OfInitial
+count_of (Some e) = counts.Of e
 
 abbrev pub count : ℕ → Reads Count
-count fuel = if_next (is_symbol (symbol_number OpenSquare)) (square (count_in fuel)) (give counts.One)
+count fuel = if_next (is_symbol (symbol_number OpenSquare)) (square (count_in fuel) >>= λ e. give (count_of e)) (give counts.One)
 
 abbrev pub values : ℕ → Reads Initial
 values fuel = braces (listed fuel begins_expression (whole fuel)) >>= λ found. give (initials.Values found)
