@@ -31,14 +31,14 @@ use Rattle.cmm_ast.specs.Numbers.{keyword_number, symbol_number}
 use Rattle.cmm_ast.specs.Taking.{Reading, Takes, ◌⨾◌, token, nothing, is_keyword, is_symbol, is_name, is_operator, is_int, is_char, keyword as keyword_is, symbol as symbol_is, here as here_is, operator as operator_is, opening as opening_is, optional as optional_is, round as round_is, square as square_is, in_brackets as in_brackets_is, may_comma}
 use Rattle.cmm_ast.specs.ExpressionGrammar as grammar
 use Rattle.cmm_ast.specs.ExpressionGrammar.{width_word, prefix_symbol, infix_symbol, infix_level, left_level, right_level, unary_level, level_of, binds, expr_form, prim_form, aligned_by, number_of}
-use Rattle.cmm_parser.specs.Reading.{Point, Read, Stopped, Reads, and_then, ◌>>=◌, give, next, look, choice, passes, if_next, here, skip, skip_opening, skip_operator, stop, in_brackets, round, square, pick, int, ident, name, listed}
+use Rattle.cmm_parser.specs.Reading.{Point, TooDeep, Answer, Read, Stopped, Reads, and_then, ◌>>=◌, give, next, look, choice, passes, if_next, here, skip, skip_opening, skip_operator, stop, in_brackets, round, square, pick, int, ident, name, listed}
 use Rattle.cmm_parser.specs.ReadingLaws.{point, passed, outcome, Moves, Complete}
 use Rattle.cmm_parser.specs.ExpressionReading.{width_in, prefix_in, infix_in, sized, type_by, type_name, named_type, number_in, typed, literal, bracketed, aligned, located, memory, name_or_memory, prefixed, unary_by, begins_expression, tight, infix_next, joined, climb, operand}
-use Rattle.cmm_parser.proofs.Completes.{Next, Anything, Only, Strict, moves_trans, outcome_read, after_outcome, after_complete, fewer_complete, give_complete, last_complete, follow_complete, less_complete, at_complete, holds_complete, fails_complete, skip_complete, operator_complete, operator_strict, opening_complete, opening_strict, here_complete, enclosed_complete, both, number_same}
+use Rattle.cmm_parser.proofs.Completes.{Next, Anything, Only, Strict, moves_trans, outcome_read, outcome_stopped, after_outcome, after_outcome_if, after_complete, fewer_complete, give_complete, last_complete, follow_complete, less_complete, at_complete, holds_complete, fails_complete, skip_complete, operator_complete, operator_strict, opening_complete, opening_strict, here_complete, enclosed_complete, both, number_same}
 use Rattle.cmm_parser.proofs.Expressions.{opened, operand_is, form_of_infix, level_of_infix, bound_by, small_level}
 use Rattle.cmm_parser.proofs.Lists.{takes_nothing}
 use Rattle.cmm_parser.proofs.Sounds.{same_number}
-use Rattle.cmm_parser.proofs.Tokens.{only_symbol, only_keyword, only_int, only_char, only_name, only_operator, symbol_complete, ident_complete, int_complete, pick_complete}
+use Rattle.cmm_parser.proofs.Tokens.{only_symbol, only_keyword, only_int, only_char, only_name, only_operator, symbol_complete, ident_complete, int_complete, pick_complete, some_is}
 
 -- ---- what may follow
 
@@ -373,20 +373,42 @@ joined_taken left op right r after e =
       right_taken = t.second;
     }
 
+the_operator : {fuel : ℕ} (op : InfixOperator) →
+    Complete fuel (operator_is (symbol_is (infix_symbol op))) tt skip_operator (Next (l.Symbol (symbol_number (infix_symbol op)))) Anything
+the_operator op = operator_complete (is_symbol (symbol_number (infix_symbol op))) (only_symbol (symbol_number (infix_symbol op)))
+
+operator_fewer : (op : InfixOperator) → Strict (operator_is (symbol_is (infix_symbol op)))
+operator_fewer op = operator_strict (only_symbol (symbol_number (infix_symbol op)))
+
 module _ (left : Expr) (op : InfixOperator) (right : Expr) (left_spine : (n : ℕ) → Spine n left.form) (right_spine : (n : ℕ) → Spine n right.form)
     (fuel : ℕ) where
-  the_operator : Complete fuel (operator_is (symbol_is (infix_symbol op))) tt skip_operator (Next (l.Symbol (symbol_number (infix_symbol op)))) Anything
-  the_operator = operator_complete (is_symbol (symbol_number (infix_symbol op))) (only_symbol (symbol_number (infix_symbol op)))
-
-  the_right : Complete fuel (operand_is (right_level op) right) right (operand fuel (right_level op)) Begins (Ends (right_level op))
-  the_right = operand_complete fuel (right_level op) right right_spine
+  right_read : Complete fuel (operand_is (right_level op) right) right (operand fuel (right_level op)) Begins (Ends (right_level op))
+  right_read = operand_complete fuel (right_level op) right right_spine
 
   -- from the operator on
   from_operator : (level token turns : ℕ) (limited : Bool) (r after : Reading) (j : Joined left op right r after) → token ≡ left.token →
       level ≤ infix_level op → Ends (right_level op) (next after.left) → length j.past_operator.left < fuel → passed limited j.between ≡ None →
       climb (suc turns) (operand fuel) level (record { token = token; form = left.form }) limited (point j.between)
       ≡ and_then (outcome limited (Infix left op right) after) (λ f p. climb turns (operand fuel) level (record { token = token; form = f }) limited p)
-  from_operator level token turns limited r after j same le ends less fits = ?
+  from_operator level token turns limited r after j same le ends less fits =
+      let l : Expr = record { token = token; form = left.form } in
+      let whole : ExprForm → Point → Answer Expr = λ f p. climb turns (operand fuel) level (record { token = token; form = f }) limited p in
+      let one : Expr → Point → Answer Expr = λ right p. climb turns (operand fuel) level (joined l op right) limited p in
+      let rest : Unit {0} → Point → Answer Expr = λ _ p. and_then (operand fuel (right_level op) limited p) one in
+      let answer : Answer Expr = and_then (outcome limited (Infix left op right) after) whole in
+      let stops : (t : ℕ) → passed limited after ≡ Some t → answer ≡ Stopped TooDeep t =
+          λ t e. ap (λ o. and_then o whole) (outcome_stopped limited (Infix left op right) after t e)
+      in
+      let symbol_next = (the_operator {fuel = 0} op).begins j.between j.past_operator j.operator_taken tt in
+      climbs turns fuel level l op (point j.between) limited
+      (ap (infix_next level left.form) symbol_next ∙ infix_next_is level left.form op le j.left_taken.high)
+      ∙ ap (λ o. and_then o rest)
+      ((the_operator {fuel = suc (length j.between.left)} op).complete limited j.between j.past_operator j.operator_taken tt (omega arith) fits)
+      ∙ after_outcome_if limited tt j.past_operator after rest answer (right_read.moves j.past_operator after j.right_taken) stops
+      (λ fits. ap (λ o. and_then o one) (right_read.complete limited j.past_operator after j.right_taken ends less fits)
+      ∙ after_outcome_if limited right after after one answer (record { shrinks = omega arith; stays = λ t e. e }) stops
+      (λ fits. ap (λ n. climb turns (operand fuel) level (record { token = token; form = Infix (record { token = n; form = left.form }) op right }) limited (point after)) same
+      ∙ sym (ap (λ o. and_then o whole) (outcome_read limited (Infix left op right) after fits))))
 
   infix_ends : (level : ℕ) (x : Option Lexeme) → level ≤ infix_level op → EndsFor level (Infix left op right) x → Ends (right_level op) x
   infix_ends level x le ends = record { no_more = ends.no_more; no_infix = λ other is. by other (ends.goes_on other is) } where
@@ -396,3 +418,168 @@ module _ (left : Expr) (op : InfixOperator) (right : Expr) (left_spine : (n : �
         let e : level_of (Infix left op right) ≡ infix_level op = level_of_infix left op right in
         let b = infix_below_left other in
         omega arith
+
+  left_ends : (level : ℕ) (between past_operator : Reading) → operator_is (symbol_is (infix_symbol op)) between ≡ Some past_operator →
+      left_level op ≤ level_of left.form → EndsFor level left.form (next between.left)
+  left_ends level between past_operator taken high =
+      let symbol_next = (the_operator {fuel = 0} op).begins between past_operator taken tt in
+      record {
+        no_more = rw symbol_next (infix_no_more op);
+        goes_on = λ other is.
+            let same : other ≡ op = some_is (sym (infix_in_is op) ∙ ap next_infix (sym symbol_next) ∙ is) in
+            inr (rw same high);
+      }
+
+  moves_on : (r after : Reading) (j : Joined left op right r after) → Moves j.between after
+  moves_on r after j =
+      moves_trans ((the_operator {fuel = 0} op).moves j.between j.past_operator j.operator_taken) (right_read.moves j.past_operator after j.right_taken)
+
+  infix_grown : (level : ℕ) (limited : Bool) (r after : Reading) (j : Joined left op right r after) → level ≤ infix_level op →
+      EndsFor level (Infix left op right) (next after.left) → length r.left < suc fuel → passed limited r ≡ None → (turns : ℕ) →
+      length j.between.left < turns →
+      and_then (look (unary_by fuel (operand fuel)) limited (point r))
+      (λ f p. climb (suc fuel) (operand fuel) level (record { token = r.taken; form = f }) limited p)
+      ≡ and_then (outcome limited left.form j.between) (λ f p. climb turns (operand fuel) level (record { token = r.taken; form = f }) limited p) →
+      Grown fuel level r.taken (Infix left op right) limited r after
+  infix_grown level limited r after j le ends less fits zero enough reads = absurd (omega arith)
+  infix_grown level limited r after j le ends less fits (suc turns) enough reads =
+      let m1 = ((left_spine 0).moves r j.between j.left_taken.form).shrinks in
+      let m2 = (operator_fewer op).strict j.between j.past_operator j.operator_taken in
+      let m3 = (right_read.moves j.past_operator after j.right_taken).shrinks in
+      let whole : ExprForm → Point → Answer Expr = λ f p. climb turns (operand fuel) level (record { token = r.taken; form = f }) limited p in
+      record {
+        turns = turns;
+        enough = omega arith;
+        reads = reads
+            ∙ after_outcome_if limited left.form j.between after
+            (λ f p. climb (suc turns) (operand fuel) level (record { token = r.taken; form = f }) limited p)
+            (and_then (outcome limited (Infix left op right) after) whole) (moves_on r after j)
+            (λ t e. ap (λ o. and_then o whole) (outcome_stopped limited (Infix left op right) after t e))
+            (λ fits. from_operator level r.taken turns limited r after j (sym j.left_taken.token) le (infix_ends level (next after.left) le ends)
+            (omega arith) fits);
+      }
+
+  pub infix_spine : Spine fuel (Infix left op right)
+  infix_spine = record {
+    moves = λ r after e.
+        let j = joined_taken left op right r after e in
+        moves_trans ((left_spine 0).moves r j.between j.left_taken.form) (moves_on r after j);
+    begins = λ r after e f.
+        let j = joined_taken left op right r after e in
+        (left_spine 0).begins r j.between j.left_taken.form (left_ends 0 j.between j.past_operator j.operator_taken j.left_taken.high).no_more;
+    grown = λ level limited r after e le ends less fits.
+        let j = joined_taken left op right r after e in
+        let low : level ≤ infix_level op = rw (level_of_infix left op right) at le in
+        let b = infix_below_left op in
+        let h = j.left_taken.high in
+        let g = (left_spine fuel).grown level limited r j.between j.left_taken.form (omega arith)
+            (left_ends level j.between j.past_operator j.operator_taken j.left_taken.high) less fits
+        in
+        infix_grown level limited r after j low ends less fits g.turns g.enough g.reads;
+  }
+
+-- ---- the forms without an operator between operands
+
+free : (p : Takes) (r : Reading) → (here_is r.taken ⨾ p) r ≡ p r
+free p r = rw (◌⨾◌, here_is, same_number r.taken) refl
+
+-- a tree may be told the number of the next token
+free_complete : {A : Type 0} {fuel : ℕ} {p : Takes} {a : A} {reads : Reads A} {first follow : Option Lexeme → Type 0} →
+    ((token : ℕ) → Complete fuel (here_is token ⨾ p) a reads first follow) → Complete fuel p a reads first follow
+free_complete {p = p} each = record {
+  moves = λ r after e. (each r.taken).moves r after (free p r ∙ e);
+  begins = λ r after e. (each r.taken).begins r after (free p r ∙ e);
+  complete = λ limited r after e. (each r.taken).complete limited r after (free p r ∙ e);
+}
+
+module _ (fuel : ℕ) where
+  Unary : ExprForm → Type 0
+  Unary form = Complete (suc fuel) (expr_form form) form (look (unary_by fuel (operand fuel))) Begins NoMore
+
+  no_square : (x : Option Lexeme) → NoMore x → passes (is_symbol (symbol_number OpenSquare)) x ≡ false
+  no_square (Some (l.Symbol n)) e = right_false (symbol_number Colons == n) (symbol_number OpenSquare == n) e
+  no_square (Some _) e = refl
+  no_square None e = refl
+
+  literal_unary : (n : Number) (width : Option TypeName) → Unary (Prim (Literal n width))
+  unfolding Unary
+  literal_unary (number.Int value) width =
+      follow_complete (λ x e. rw e refl) (λ x f. f)
+      (at_complete (unary_by fuel (operand fuel)) (l.Int value) (last_complete (λ p. Prim p) (literal_complete (number.Int value) width)))
+  literal_unary (number.Char byte) width =
+      follow_complete (λ x e. rw e refl) (λ x f. f)
+      (at_complete (unary_by fuel (operand fuel)) (l.Char byte) (last_complete (λ p. Prim p) (literal_complete (number.Char byte) width)))
+
+  named_by : (bytes : List ℕ) (token_ : ℕ) →
+      Complete (suc fuel) ((here_is token_ ⨾ token (is_name bytes)) ⨾ nothing) (Prim (NameOf bytes)) (name_or_memory (operand fuel)) (Next (l.Name bytes)) NoMore
+  named_by bytes token_ =
+      after_complete {b = λ i. Prim (NameOf i.name)} (ident_complete (record { name = bytes; token = token_ })) (λ x f. tt)
+      (λ i. fails_complete (is_symbol (symbol_number OpenSquare)) no_square (give_complete (Prim (NameOf i.name))))
+
+  name_unary : (bytes : List ℕ) → Unary (Prim (NameOf bytes))
+  unfolding Unary
+  name_unary bytes =
+      follow_complete (λ x e. rw e refl) (λ x f. f)
+      (at_complete (unary_by fuel (operand fuel)) (l.Name bytes)
+      (free_complete (λ t. subst (λ p. Complete (suc fuel) p (Prim (NameOf bytes)) (name_or_memory (operand fuel)) (Next (l.Name bytes)) NoMore)
+      (takes_nothing (here_is t ⨾ token (is_name bytes))) (named_by bytes t))))
+
+  module _ (e : Expr) (spine : (n : ℕ) → Spine n e.form) where
+    bracketed_complete : Complete (suc fuel) (prim_form (Bracketed e)) (Bracketed e) (bracketed (operand fuel)) (Next (l.Symbol (symbol_number Open))) Anything
+    unfolding opened
+    bracketed_complete =
+        last_complete (λ e. Bracketed e) (in_brackets_complete Open Close (λ x is. rw is (record { no_more = refl; no_infix = λ op is. absurd cc }))
+        (operand_complete fuel 0 e spine))
+
+    bracketed_unary : Unary (Prim (Bracketed e))
+    unfolding Unary
+    bracketed_unary =
+        follow_complete (λ x e. rw e refl) (λ x f. tt)
+        (at_complete (unary_by fuel (operand fuel)) (l.Symbol (symbol_number Open)) (last_complete (λ p. Prim p) bracketed_complete))
+
+    any_ends : (x : Option Lexeme) → NoMore x → Ends unary_level x
+    any_ends x none = record { no_more = none; no_infix = λ op is. small_level op }
+
+    prefix_complete : (op : PrefixOperator) →
+        Complete (suc fuel) (expr_form (Prefix op e)) (Prefix op e) (prefixed (operand fuel) (Some op)) (Next (l.Symbol (symbol_number (prefix_symbol op)))) NoMore
+    unfolding opened
+    prefix_complete op =
+        fewer_complete (operator_strict (only_symbol (symbol_number (prefix_symbol op))))
+        (operator_complete (is_symbol (symbol_number (prefix_symbol op))) (only_symbol (symbol_number (prefix_symbol op)))) (λ x f. tt)
+        (λ _. last_complete (λ e. Prefix op e) (follow_complete (λ x f. f) any_ends (operand_complete fuel unary_level e spine)))
+
+    prefix_unary : (op : PrefixOperator) → Unary (Prefix op e)
+    unfolding Unary
+    prefix_unary Negate =
+        follow_complete (λ x e. rw e refl) (λ x f. f) (at_complete (unary_by fuel (operand fuel)) (l.Symbol (symbol_number (prefix_symbol Negate))) (prefix_complete Negate))
+    prefix_unary Complement =
+        follow_complete (λ x e. rw e refl) (λ x f. f)
+        (at_complete (unary_by fuel (operand fuel)) (l.Symbol (symbol_number (prefix_symbol Complement))) (prefix_complete Complement))
+
+    located_complete : (bytes : Option Int) →
+        Complete fuel (operand_is 0 e ⨾ optional_is aligned_by bytes) (e, bytes) (located (operand fuel)) Begins (Next (l.Symbol (symbol_number CloseSquare)))
+    located_complete bytes =
+        after_complete {b = λ a. (a, bytes)} (operand_complete fuel 0 e spine) ends_address (λ a. last_complete (λ b. (a, b)) (aligned_complete bytes))
+
+    memory_complete : (width : TypeName) (bytes : Option Int) →
+        Complete (suc fuel) (square_is (operand_is 0 e ⨾ optional_is aligned_by bytes)) (roll-Memory (record { width = width; address = e; aligned = bytes }))
+        (memory (operand fuel) width) (Next (l.Symbol (symbol_number OpenSquare))) Anything
+    memory_complete width bytes =
+        last_complete (λ place. roll-Memory (record { width = width; address = place.0; aligned = place.1 }))
+        (in_brackets_complete OpenSquare CloseSquare (λ x is. is) (located_complete bytes))
+
+    memory_unary : (token_ : ℕ) (form : TypeForm) (bytes : Option Int) →
+        Unary (InMemory (roll-Memory (record { width = record { token = token_; form = form }; address = e; aligned = bytes })))
+    unfolding Unary opened
+    memory_unary token_ (Bits width) bytes =
+        follow_complete (λ x is. rw is ?) (λ x f. tt)
+        (at_complete (unary_by fuel (operand fuel)) (l.Word (keyword_number (width_word width)))
+        (after_complete {b = λ t. InMemory (roll-Memory (record { width = t; address = e; aligned = bytes }))}
+        (type_name_complete (record { token = token_; form = Bits width })) (λ x f. tt) (λ t. last_complete (λ m. InMemory m) (memory_complete t bytes))))
+    memory_unary token_ (OfName name_) bytes =
+        follow_complete (λ x is. rw is refl) (λ x f. tt)
+        (at_complete (unary_by fuel (operand fuel)) (l.Name name_)
+        (after_complete {b = λ i. InMemory (roll-Memory (record { width = named_type i; address = e; aligned = bytes }))}
+        (ident_complete (record { name = name_; token = token_ })) (λ x f. tt)
+        (λ i. holds_complete {fails = give (Prim (NameOf i.name))} (is_symbol (symbol_number OpenSquare)) (λ x is. rw is refl)
+        (last_complete (λ m. InMemory m) (memory_complete (named_type i) bytes)))))

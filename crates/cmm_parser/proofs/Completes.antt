@@ -26,19 +26,25 @@ passed_stays false r after moves token e = absurd cc
 pub outcome_read : {A : Type 0} (limited : Bool) (a : A) (r : Reading) → passed limited r ≡ None → outcome limited a r ≡ Read a (point r)
 outcome_read limited a r e = rw (outcome, e) refl
 
-outcome_stopped : {A : Type 0} (limited : Bool) (a : A) (r : Reading) (token : ℕ) → passed limited r ≡ Some token → outcome limited a r ≡ Stopped TooDeep token
+pub outcome_stopped : {A : Type 0} (limited : Bool) (a : A) (r : Reading) (token : ℕ) → passed limited r ≡ Some token → outcome limited a r ≡ Stopped TooDeep token
 outcome_stopped limited a r token e = rw (outcome, e) refl
 
 -- what is read after a part, or the token at which that part passed a limit
-pub after_outcome : {A B : Type 0} (limited : Bool) (a : A) (b : B) (between after : Reading) (rest : A → Point → Answer B) →
-    Moves between after → (passed limited between ≡ None → rest a (point between) ≡ outcome limited b after) →
-    and_then (outcome limited a between) rest ≡ outcome limited b after
-after_outcome limited a b between after rest moves then_ = by (passed limited between) refl where
-  by : (o : Option ℕ) → passed limited between ≡ o → and_then (outcome limited a between) rest ≡ outcome limited b after
+pub after_outcome_if : {A B : Type 0} (limited : Bool) (a : A) (between after : Reading) (rest : A → Point → Answer B) (answer : Answer B) →
+    Moves between after → ((token : ℕ) → passed limited after ≡ Some token → answer ≡ Stopped TooDeep token) →
+    (passed limited between ≡ None → rest a (point between) ≡ answer) → and_then (outcome limited a between) rest ≡ answer
+after_outcome_if limited a between after rest answer moves stops then_ = by (passed limited between) refl where
+  by : (o : Option ℕ) → passed limited between ≡ o → and_then (outcome limited a between) rest ≡ answer
   by None e = ap (λ o. and_then o rest) (outcome_read limited a between e) ∙ then_ e
   by (Some token) e =
       ap (λ o. and_then o rest) (outcome_stopped limited a between token e)
-      ∙ sym (outcome_stopped limited b after token (passed_stays limited between after moves token e))
+      ∙ sym (stops token (passed_stays limited between after moves token e))
+
+pub after_outcome : {A B : Type 0} (limited : Bool) (a : A) (b : B) (between after : Reading) (rest : A → Point → Answer B) →
+    Moves between after → (passed limited between ≡ None → rest a (point between) ≡ outcome limited b after) →
+    and_then (outcome limited a between) rest ≡ outcome limited b after
+after_outcome limited a b between after rest moves then_ =
+    after_outcome_if limited a between after rest (outcome limited b after) moves (outcome_stopped limited b after) then_
 
 -- ---- one after the other
 

@@ -9,3 +9,7 @@ pub mod CompleteExpressions
 pub mod LocalStatements
 pub mod Rows
 pub mod StatementForms
+pub mod Repeats
+pub mod Declarations
+pub mod Procedures
+pub mod Units

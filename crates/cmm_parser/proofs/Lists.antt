@@ -229,22 +229,36 @@ zero_complete one = record {
   complete = λ limited r after e f less fits. absurd (omega arith);
 }
 
-module _ {A : Type 0} {reads : Reads A} {p : A → Takes} {begins : Lexeme → Bool} {first follow_one follow : Option Lexeme → Type 0}
-    (parts : Parts begins first follow_one follow) {fuel : ℕ} (item : (a : A) → Complete fuel (p a) a reads first follow_one) where
-  more_listed_complete : (as_ so_far : List A) (turns : ℕ) → turns ≤ fuel →
-      Complete turns (rest_to p as_ may_comma) (so_far ++ as_) (more_listed turns begins reads so_far) (After follow) follow
-  more_listed_complete [] so_far zero le = rw (append-nil so_far) (zero_complete (listed_end reads parts 0 so_far))
-  more_listed_complete [] so_far (suc turns) le = rw (append-nil so_far) (listed_end reads parts turns so_far)
-  more_listed_complete (a ∷ as_) so_far zero le =
-      zero_complete {reads = more_listed 1 begins reads so_far}
-      (listed_step reads parts {tree = λ b. so_far ++ (b ∷ as_)} so_far (less_complete le (item a)) (λ b. rw (sym (append_assoc so_far (b ∷ []) as_))
-      (more_listed_complete as_ (so_far ++ (b ∷ [])) zero le)))
-  more_listed_complete (a ∷ as_) so_far (suc turns) le =
-      let less : turns ≤ fuel = omega arith in
-      listed_step reads parts {tree = λ b. so_far ++ (b ∷ as_)} so_far (less_complete less (item a)) (λ b. rw (sym (append_assoc so_far (b ∷ []) as_))
-      (more_listed_complete as_ (so_far ++ (b ∷ [])) turns less))
+-- what each part of a list owes
+abbrev pub Each : {A : Type 0} → (A → Type 0) → List A → Type 0
+Each p [] = Unit {0}
+Each p (a ∷ as_) = p a × Each p as_
 
-  pub listed_complete : {a : A} {as_ : List A} → Complete fuel (listed_is p (a ∷ as_)) (a ∷ as_) (listed fuel begins reads) first follow
-  listed_complete {a} {as_} =
+pub each_of : {A : Type 0} {p : A → Type 0} → ((a : A) → p a) → (as_ : List A) → Each p as_
+each_of every [] = tt
+each_of every (a ∷ as_) = (every a, each_of every as_)
+
+module _ {A : Type 0} (reads : Reads A) (p : A → Takes) {begins : Lexeme → Bool} {first follow_one follow : Option Lexeme → Type 0}
+    (parts : Parts begins first follow_one follow) {fuel : ℕ} where
+  pub more_listed_complete : (as_ so_far : List A) (turns : ℕ) → turns ≤ fuel → Each (λ a. Complete fuel (p a) a reads first follow_one) as_ →
+      Complete turns (rest_to p as_ may_comma) (so_far ++ as_) (more_listed turns begins reads so_far) (After follow) follow
+  more_listed_complete [] so_far zero le items = rw (append-nil so_far) (zero_complete (listed_end reads parts 0 so_far))
+  more_listed_complete [] so_far (suc turns) le items = rw (append-nil so_far) (listed_end reads parts turns so_far)
+  more_listed_complete (a ∷ as_) so_far zero le items =
+      zero_complete {reads = more_listed 1 begins reads so_far}
+      (listed_step reads parts {tree = λ b. so_far ++ (b ∷ as_)} so_far (less_complete le items.0) (λ b. rw (sym (append_assoc so_far (b ∷ []) as_))
+      (more_listed_complete as_ (so_far ++ (b ∷ [])) zero le items.1)))
+  more_listed_complete (a ∷ as_) so_far (suc turns) le items =
+      let less : turns ≤ fuel = omega arith in
+      listed_step reads parts {tree = λ b. so_far ++ (b ∷ as_)} so_far (less_complete less items.0) (λ b. rw (sym (append_assoc so_far (b ∷ []) as_))
+      (more_listed_complete as_ (so_far ++ (b ∷ [])) turns less items.1))
+
+  pub list_complete : (a : A) (as_ : List A) → Each (λ a. Complete fuel (p a) a reads first follow_one) (a ∷ as_) →
+      Complete fuel (p a ⨾ rest_to p as_ may_comma) (a ∷ as_) (listed fuel begins reads) first follow
+  list_complete a as_ items = after_complete items.0 parts.goes_on (λ b. more_listed_complete as_ (b ∷ []) fuel (le_refl fuel) items.1)
+
+  pub listed_complete : (a : A) (as_ : List A) → ((a : A) → Complete fuel (p a) a reads first follow_one) →
+      Complete fuel (listed_is p (a ∷ as_)) (a ∷ as_) (listed fuel begins reads) first follow
+  listed_complete a as_ item =
       subst (λ t. Complete fuel t (a ∷ as_) (listed fuel begins reads) first follow) (sym (commas_to p a as_ may_comma))
-      (after_complete (item a) parts.goes_on (λ b. more_listed_complete as_ (b ∷ []) fuel (le_refl fuel)))
+      (list_complete a as_ (each_of item (a ∷ as_)))

@@ -4,3 +4,6 @@ pub mod ExpressionReading
 pub mod CallReading
 pub mod TargetReading
 pub mod StatementReading
+pub mod DeclarationReading
+pub mod ProcedureReading
+pub mod UnitReading
