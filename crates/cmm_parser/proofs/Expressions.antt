@@ -248,7 +248,7 @@ rows_then n (more_of-Expr {n = m} token f rest) k =
     (item_then (here_is token) (expr_form f) (grammar.more_operands rest) k
     ∙ ap (λ t. (here_is token ⨾ expr_form f) ⨾ t) (rows_then m rest k))
 
-row_operands : (n : _) (row : Row_of-Expr n) (e : Expr) (es : List Expr) (k : Takes) → items-the_row-Expr n row ≡ e ∷ es →
+pub row_operands : (n : _) (row : Row_of-Expr n) (e : Expr) (es : List Expr) (k : Takes) → items-the_row-Expr n row ≡ e ∷ es →
     (grammar.operand_list row ⨾ k) ≡ (grammar.expr e ⨾ rest_to grammar.expr es k)
 row_operands n end_of-Expr e es k same = absurd cc
 row_operands n (more_of-Expr {n = m} token f rest) e es k same =
@@ -273,7 +273,7 @@ pub bound_by : (test : Bool) (next_ : Takes) → test ≡ true →
 bound_by true next_ e = refl
 bound_by false next_ e = absurd cc
 
-any_level : (e : Expr) → operand_is 0 e ≡ grammar.expr e
+pub any_level : (e : Expr) → operand_is 0 e ≡ grammar.expr e
 any_level e = bound_by (nat_le 0 (level_of e.form)) (grammar.expr e) (grind (arith, nat_tests))
 
 module _ (inner : ℕ → Reads Expr) (sound : (level : ℕ) → level ≤ unary_level → Sound (inner level) (operand_is level)) where
