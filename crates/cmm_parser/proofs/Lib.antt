@@ -6,3 +6,4 @@ pub mod Lists
 pub mod Expressions
 pub mod LocalExpressions
 pub mod CompleteExpressions
+pub mod OneExpression
