@@ -13,3 +13,4 @@ pub mod Repeats
 pub mod Declarations
 pub mod Procedures
 pub mod Units
+pub mod OneExpression

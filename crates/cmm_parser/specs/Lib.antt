@@ -7,3 +7,4 @@ pub mod StatementReading
 pub mod DeclarationReading
 pub mod ProcedureReading
 pub mod UnitReading
+pub mod ExpressionLaws
