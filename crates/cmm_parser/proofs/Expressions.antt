@@ -344,7 +344,7 @@ here_or : (n : ℕ) (test : Bool) (y : Takes) (r : Reading) → (n == r.taken) �
 here_or n true y r e = rw (◌⨾◌, here_is, e, e) refl
 here_or n false y r e = rw (◌⨾◌, here_is, e) refl
 
-here_twice : (n : ℕ) (y : Takes) → (here_is n ⨾ here_is n ⨾ y) ≡ (here_is n ⨾ y)
+pub here_twice : (n : ℕ) (y : Takes) → (here_is n ⨾ here_is n ⨾ y) ≡ (here_is n ⨾ y)
 here_twice n y = fun_ext (λ r. here_or n (n == r.taken) y r refl)
 
 joined_same : (n : ℕ) (f o r k form left_is : Takes) → form ≡ (left_is ⨾ o ⨾ r) → left_is ≡ (here_is n ⨾ f) →

@@ -13,4 +13,7 @@ pub mod Repeats
 pub mod Declarations
 pub mod Procedures
 pub mod Units
+pub mod Calls
+pub mod Targets
+pub mod Statements
 pub mod OneExpression

@@ -30,16 +30,11 @@ use Rattle.cmm_parser.specs.Reading.{Reads, ◌>>=◌, give, round, square, brac
 use Rattle.cmm_parser.specs.ReadingLaws.{Local}
 use Rattle.cmm_parser.specs.CallReading.{begins_actual, begins_kinded, begins_flow, is_quoted, is_named, optional_text, actual, kinded, arguments, place, callee_form, callee, may_comma, exits, also, flow_form, flow, annotations, call, convention, call_after}
 use Rattle.cmm_parser.specs.TargetReading.{Targets, Names, Lvalues, Results, lvalue, next_target, more_targets, called, assign, values, checked_operator, two_values, checked, after_names, assigned, assignment, callee_of_form, lvalues_of}
-use Rattle.cmm_parser.specs.StatementReading.{exit, range, case, span_ends, switch_span, jump, return_form, goto, cut, continuation, word_stmt, symbol_stmt, memory_stmt, name_stmt, PartForm, LocalReaders, of_stmt, of_local, name_part, text_part, word_part, flat_by, flat_part, if_form, chained, otherwise, is_within, arm, switch_form, span_form, part_form, part, block}
+use Rattle.cmm_parser.specs.StatementReading.{exit, range, case, span_ends, switch_span, jump, return_form, goto, cut, continuation, word_stmt, symbol_stmt, memory_stmt, name_stmt, PartForm, of_stmt, of_local, name_part, text_part, word_part, flat_by, flat_part, if_form, chained, otherwise, is_within, arm, switch_form, span_form, part_form, part, block}
 use Rattle.cmm_parser.proofs.Locals.{after_local, give_local, stop_local, here_local, look_local, next_local, skip_local, opening_local, outermost_local, enclosed_local, optional_local, many_local, commas_local, more_listed_local, listed_local, may_list_local}
 use Rattle.cmm_parser.proofs.LocalExpressions.{type_name_local, in_brackets_local, whole_local, whole_prim_local, whole_memory_local}
+use Rattle.cmm_parser.proofs.Procedures.{modifiers_local, variables_local, stackdata_local}
 use Rattle.cmm_parser.proofs.Tokens.{symbol_local, keyword_local, ident_local, text_local, pick_local}
-
--- what readers of declarations in bodies owe
-pub record LocalsLocal (readers : LocalReaders) : Type 0 where
-  pub modifiers : Local readers.modifiers
-  pub variables : (before : Modifiers) (width : TypeName) → Local (readers.variables before width)
-  pub stackdata : Local readers.stackdata
 
 pub round_local : {A : Type 0} {reads : Reads A} → Local reads → Local (round reads)
 round_local = in_brackets_local sign.Open sign.Close
@@ -246,25 +241,25 @@ of_stmt_local inner = after_local inner (λ form. give_local _)
 of_local_local : {reads : Reads LocalForm} → Local reads → Local (of_local reads)
 of_local_local inner = after_local inner (λ form. give_local _)
 
-module _ (fuel : ℕ) {readers : LocalReaders} (local : LocalsLocal readers) where
-  flat_by_local : (x : Option Lexeme) → Local (flat_by fuel readers x)
+module _ (fuel : ℕ) where
+  flat_by_local : (x : Option Lexeme) → Local (flat_by fuel x)
   flat_by_local (Some (l.Name bytes)) =
-      after_local ident_local (λ name. next_local _ (of_local_local (local.variables _ _)) (of_stmt_local (name_stmt_local fuel name)))
+      after_local ident_local (λ name. next_local _ (of_local_local (variables_local fuel _ _)) (of_stmt_local (name_stmt_local fuel name)))
   flat_by_local (Some (l.Text bytes)) =
       after_local text_local (λ kind.
-      next_local _ (after_local skip_local (λ _. after_local type_name_local (λ width. of_local_local (local.variables (before.KindInvariant kind) width))))
-      (next_local _ (after_local type_name_local (λ width. of_local_local (local.variables _ width)))
-      (after_local ident_local (λ name. next_local _ (of_local_local (local.variables _ _)) (of_stmt_local (assignment_local fuel _))))))
+      next_local _ (after_local skip_local (λ _. after_local type_name_local (λ width. of_local_local (variables_local fuel (before.KindInvariant kind) width))))
+      (next_local _ (after_local type_name_local (λ width. of_local_local (variables_local fuel _ width)))
+      (after_local ident_local (λ name. next_local _ (of_local_local (variables_local fuel _ _)) (of_stmt_local (assignment_local fuel _))))))
   flat_by_local (Some (l.Word n)) =
       next_local _
       (after_local type_name_local (λ width.
       next_local _ (of_stmt_local (after_local (whole_memory_local fuel width) (λ m. memory_stmt_local fuel m)))
-      (of_local_local (local.variables _ width))))
-      (next_local _ (after_local local.modifiers (λ found. after_local type_name_local (λ width. of_local_local (local.variables found width))))
-      (next_local _ (after_local skip_local (λ _. of_local_local local.stackdata)) (of_stmt_local (word_stmt_local fuel))))
+      (of_local_local (variables_local fuel _ width))))
+      (next_local _ (after_local modifiers_local (λ found. after_local type_name_local (λ width. of_local_local (variables_local fuel found width))))
+      (next_local _ (after_local skip_local (λ _. of_local_local (stackdata_local fuel))) (of_stmt_local (word_stmt_local fuel))))
   flat_by_local _ = of_stmt_local (symbol_stmt_local fuel)
 
-  pub flat_part_local : Local (flat_part fuel readers)
+  pub flat_part_local : Local (flat_part fuel)
   flat_part_local = look_local flat_by_local
 
 if_local : {blocks : Reads Block} {others : Reads Otherwise} → Local blocks → Local others → (fuel : ℕ) → Local (if_form fuel blocks others)
@@ -292,17 +287,15 @@ span_local : {blocks : Reads Block} → Local blocks → (fuel : ℕ) → Local 
 span_local inner fuel =
     after_local (whole_prim_local fuel) (λ key. after_local (whole_local fuel) (λ value. after_local inner (λ body. give_local _)))
 
-pub part_local : {readers : LocalReaders} {blocks : Reads Block} → LocalsLocal readers → Local blocks → (fuel : ℕ) → Local (part fuel readers blocks)
-part_local local inner fuel =
+pub part_local : {blocks : Reads Block} → Local blocks → (fuel : ℕ) → Local (part fuel blocks)
+part_local inner fuel =
     after_local here_local (λ token. after_local
     (next_local _ (after_local skip_local (λ _. of_stmt_local (if_local inner (otherwise_local inner fuel fuel) fuel)))
     (next_local _ (after_local skip_local (λ _. of_stmt_local (switch_local inner fuel)))
-    (next_local _ (after_local skip_local (λ _. of_stmt_local (span_local inner fuel))) (flat_part_local fuel local))))
+    (next_local _ (after_local skip_local (λ _. of_stmt_local (span_local inner fuel))) (flat_part_local fuel))))
     (λ form. after_local here_local (λ past. give_local _)))
 
-pub block_local : {readers : ℕ → LocalReaders} → ((fuel : ℕ) → LocalsLocal (readers fuel)) → (fuel : ℕ) → Local (block fuel readers)
-block_local local zero = stop_local
-block_local local (suc fuel) =
-    after_local
-    (braces_local (many_local is_within (part_local (local (suc fuel)) (block_local local fuel) (suc fuel)) (suc fuel) []))
-    (λ parts. give_local _)
+pub block_local : (fuel : ℕ) → Local (block fuel)
+block_local zero = stop_local
+block_local (suc fuel) =
+    after_local (braces_local (many_local is_within (part_local (block_local fuel) (suc fuel)) (suc fuel) [])) (λ parts. give_local _)

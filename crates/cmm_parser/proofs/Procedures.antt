@@ -50,7 +50,7 @@ modifiers_sound = whole_sound (if_next_sound _ (same_sound invariant_first_sound
       (give_sound (modifiers.Kind kind) (sym (takes_nothing (grammar.text kind))))
   by None = give_sound modifiers.Nothing refl
 
-modifiers_local : Local modifiers_of
+pub modifiers_local : Local modifiers_of
 modifiers_local =
     next_local _
     (after_local here_local (λ first. after_local (keyword_local Invariant) (λ _. after_local optional_text_local (λ kind. give_local (invariant_by first kind)))))

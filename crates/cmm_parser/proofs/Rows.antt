@@ -1,10 +1,11 @@
 -- Parts that may be left out, rows of parts without commas, and where operators are counted anew: what is read is taken.
-use Rattle.std.proofs.Common.{◌≡◌, ℕ, zero, suc, ◌==◌, Bool, true, false, List, [], ◌∷◌, ◌++◌, Option, Some, None, refl, sym, ap, ◌∙◌}
+use Rattle.std.proofs.Common.{◌≡◌, ℕ, zero, suc, ◌==◌, nat_lt, Bool, true, false, List, [], ◌∷◌, ◌++◌, Option, Some, None, refl, sym, ap, ◌∙◌}
 use Rattle.std.proofs.Math.Path.{fun_ext}
 use Rattle.cmm_lexer.specs.declared.piece.Lexeme.{Lexeme}
 use Rattle.cmm_ast.specs.declared.keyword.Symbol.{Symbol}
 use Rattle.cmm_ast.specs.declared.keyword.Symbol.TheVariants.{Comma}
-use Rattle.cmm_ast.specs.Taking.{Reading, Takes, ◌⨾◌, nothing, token, taken_if, symbol as symbol_is, here as here_is, optional as optional_is, many as many_is, commas as commas_is, may_comma as may_comma_is, outermost as outermost_is, opening as opening_is, in_brackets as in_brackets_is}
+use Rattle.cmm_ast.specs.Taking.{Reading, Takes, ◌⨾◌, nothing, token, taken_if, symbol as symbol_is, here as here_is, optional as optional_is, many as many_is, commas as commas_is, may_comma as may_comma_is, outermost as outermost_is, opening as opening_is, enclosed as enclosed_is, first_over, is_symbol, in_brackets as in_brackets_is}
+use Rattle.cmm_ast.specs.Numbers.{symbol_number}
 use Rattle.cmm_parser.specs.Reading.{Point, Read, Reads, ◌>>=◌, give, optional, many, next, skip, passes, is_comma, outermost}
 use Rattle.cmm_parser.specs.ReadingLaws.{within, Sound}
 use Rattle.cmm_parser.specs.CallReading.{may_comma}
@@ -106,6 +107,10 @@ pub outermost_goes : {B : Type 0} {so_far : Takes → Takes} {reads : Reads B} {
     Goes so_far (outermost reads) takes
 outermost_goes it = record { goes = λ r p before b after e. it.goes r (record p { operators = 0 }) (λ k. before (outermost_is k)) b after e }
 
+pub outermost_tree : {B : Type 0} {so_far : Takes → Takes} {reads : Reads B} {takes : B → Takes} → Goes so_far reads takes →
+    Goes (λ k. outermost_is (so_far k)) reads (λ b. outermost_is (takes b))
+outermost_tree it = record { goes = λ r p before b after e. it.goes (record r { operators = 0 }) p before b after e }
+
 -- takes tokens of which none is an operator
 pub record Apart (p : Takes) : Type 0 where
   pub apart : (k : Takes) → outermost_is (p ⨾ k) ≡ (p ⨾ outermost_is k)
@@ -138,3 +143,24 @@ pub both_apart : {p q : Takes} → Apart p → Apart q → Apart (p ⨾ q)
 both_apart {p} {q} one two = record {
   apart = λ k. ap (λ t. outermost_is t) (takes_assoc p q k) ∙ one.apart (q ⨾ k) ∙ ap (λ t. p ⨾ t) (two.apart k) ∙ sym (takes_assoc p q (outermost_is k));
 }
+
+after_apart : (o o' : Option Reading) (f : Reading → Reading) → ((x : Reading) → f (record x { operators = 0 }) ≡ record (f x) { operators = 0 }) →
+    o' ≡ elim o as (λ _. Option Reading) [ Some x ↦ Some record x { operators = 0 } | None ↦ None ] → (k : Takes) →
+    elim (elim o' as (λ _. Option Reading) [ Some x ↦ Some (f x) | None ↦ None ]) as (λ _. Option Reading) [ Some x ↦ k x | None ↦ None ]
+    ≡ elim (elim o as (λ _. Option Reading) [ Some x ↦ Some (f x) | None ↦ None ]) as (λ _. Option Reading) [ Some x ↦ outermost_is k x | None ↦ None ]
+after_apart (Some x) o' f same e k = rw e (ap k (same x))
+after_apart None o' f same e k = rw e refl
+
+counted : ℕ → Reading → Reading
+counted taken after = record after { open_brackets = suc after.open_brackets; over = first_over after.over (nat_lt 200 (suc after.open_brackets)) taken }
+
+pub opened_apart : (test : Lexeme → Bool) → Apart (opening_is (token test))
+unfolding counted
+opened_apart test = record {
+  apart = λ k. fun_ext (λ r. after_apart (token test r) (token test (record r { operators = 0 })) (counted r.taken) (λ x. refl)
+      (ap (λ t. t (record r { operators = 0 })) (sym (takes_nothing (token test))) ∙ ap (λ t. t r) ((token_apart test).apart nothing)) k);
+}
+
+pub outermost_brackets : (left : Symbol) (p : Takes) (right : Symbol) →
+    outermost_is (in_brackets_is left p right) ≡ in_brackets_is left (outermost_is p) right
+outermost_brackets left p right = ap enclosed_is ((opened_apart (is_symbol (symbol_number left))).apart (p ⨾ symbol_is right))

@@ -34,6 +34,7 @@ use Rattle.cmm_ast.specs.Taking.{is_keyword, is_symbol}
 use Rattle.cmm_parser.specs.Reading.{Reads, ◌>>=◌, give, stop, look, if_next, here, skip, skip_opening, keyword, symbol, ident, text, round, square, braces, enclosed, optional, many, commas, may_list}
 use Rattle.cmm_parser.specs.ExpressionReading.{type_name, named_type, whole, whole_prim, whole_memory}
 use Rattle.cmm_parser.specs.CallReading.{is_named, is_bits, begins_kinded, kinded, arguments, callee, annotations, call, call_after}
+use Rattle.cmm_parser.specs.ProcedureReading.{modifiers_of, variables, stackdata}
 use Rattle.cmm_parser.specs.TargetReading.{Names, Lvalues, Results, assignment}
 
 -- ---- parts of statements
@@ -118,12 +119,6 @@ pub data PartForm : Type 0 where
   OfLocal : LocalForm → PartForm
   OfStmt : StmtForm → PartForm
 
--- how variables are read after their type, stackdata after that word, and what stands before the type of variables
-pub record LocalReaders : Type 0 where
-  pub modifiers : Reads Modifiers
-  pub variables : Modifiers → TypeName → Reads LocalForm
-  pub stackdata : Reads LocalForm
-
 abbrev pub of_stmt : Reads StmtForm → Reads PartForm
 of_stmt reads = reads >>= λ form. give (OfStmt form)
 
@@ -131,38 +126,38 @@ abbrev pub of_local : Reads LocalForm → Reads PartForm
 of_local reads = reads >>= λ form. give (OfLocal form)
 
 -- where another name follows the first, that one is the type of variables
-abbrev pub name_part : ℕ → LocalReaders → Reads PartForm
-name_part fuel local =
-    ident >>= λ name. if_next is_named (of_local (local.variables before.Nothing (named_type name))) (of_stmt (name_stmt fuel name))
+abbrev pub name_part : ℕ → Reads PartForm
+name_part fuel =
+    ident >>= λ name. if_next is_named (of_local (variables fuel before.Nothing (named_type name))) (of_stmt (name_stmt fuel name))
 
 -- a text is the kind of variables or of a result
-abbrev pub text_part : ℕ → LocalReaders → Reads PartForm
-text_part fuel local =
+abbrev pub text_part : ℕ → Reads PartForm
+text_part fuel =
     text >>= λ kind.
-    if_next (is_keyword (keyword_number Invariant)) (skip >>= λ _. type_name >>= λ width. of_local (local.variables (before.KindInvariant kind) width))
-    (if_next is_bits (type_name >>= λ width. of_local (local.variables (before.Kind kind) width))
+    if_next (is_keyword (keyword_number Invariant)) (skip >>= λ _. type_name >>= λ width. of_local (variables fuel (before.KindInvariant kind) width))
+    (if_next is_bits (type_name >>= λ width. of_local (variables fuel (before.Kind kind) width))
     (ident >>= λ name.
-    if_next is_named (of_local (local.variables (before.Kind kind) (named_type name)))
+    if_next is_named (of_local (variables fuel (before.Kind kind) (named_type name)))
     (of_stmt (assignment fuel (Results (record { kind = Some kind; name = name } ∷ []))))))
 
-abbrev pub word_part : ℕ → LocalReaders → Reads PartForm
-word_part fuel local =
+abbrev pub word_part : ℕ → Reads PartForm
+word_part fuel =
     if_next is_bits
     (type_name >>= λ width.
     if_next (is_symbol (symbol_number OpenSquare)) (of_stmt (whole_memory fuel width >>= λ m. memory_stmt fuel m))
-    (of_local (local.variables before.Nothing width)))
+    (of_local (variables fuel before.Nothing width)))
     (if_next (is_keyword (keyword_number Invariant))
-    (local.modifiers >>= λ modifiers. type_name >>= λ width. of_local (local.variables modifiers width))
-    (if_next (is_keyword (keyword_number Stackdata)) (skip >>= λ _. of_local local.stackdata) (of_stmt (word_stmt fuel))))
+    (modifiers_of >>= λ modifiers. type_name >>= λ width. of_local (variables fuel modifiers width))
+    (if_next (is_keyword (keyword_number Stackdata)) (skip >>= λ _. of_local (stackdata fuel)) (of_stmt (word_stmt fuel))))
 
-abbrev pub flat_by : ℕ → LocalReaders → Option Lexeme → Reads PartForm
-flat_by fuel local (Some (l.Name bytes)) = name_part fuel local
-flat_by fuel local (Some (l.Text bytes)) = text_part fuel local
-flat_by fuel local (Some (l.Word n)) = word_part fuel local
-flat_by fuel local _ = of_stmt (symbol_stmt fuel)
+abbrev pub flat_by : ℕ → Option Lexeme → Reads PartForm
+flat_by fuel (Some (l.Name bytes)) = name_part fuel
+flat_by fuel (Some (l.Text bytes)) = text_part fuel
+flat_by fuel (Some (l.Word n)) = word_part fuel
+flat_by fuel _ = of_stmt (symbol_stmt fuel)
 
-abbrev pub flat_part : ℕ → LocalReaders → Reads PartForm
-flat_part fuel local = look (flat_by fuel local)
+abbrev pub flat_part : ℕ → Reads PartForm
+flat_part fuel = look (flat_by fuel)
 
 -- ---- statements that hold blocks, after their first word, by how blocks are read
 
@@ -207,15 +202,15 @@ abbrev pub part_of : ℕ → ℕ → PartForm → Part
 part_of token past (OfLocal form) = parts.Local record { token = token; past = past; form = form }
 part_of token past (OfStmt form) = parts.Stmt record { token = token; past = past; form = form }
 
-abbrev pub part_form : ℕ → LocalReaders → Reads Block → Reads PartForm
-part_form fuel local blocks =
+abbrev pub part_form : ℕ → Reads Block → Reads PartForm
+part_form fuel blocks =
     if_next (is_keyword (keyword_number If)) (skip >>= λ _. of_stmt (if_form fuel blocks (otherwise fuel fuel blocks)))
     (if_next (is_keyword (keyword_number Switch)) (skip >>= λ _. of_stmt (switch_form fuel blocks))
-    (if_next (is_keyword (keyword_number Span)) (skip >>= λ _. of_stmt (span_form fuel blocks)) (flat_part fuel local)))
+    (if_next (is_keyword (keyword_number Span)) (skip >>= λ _. of_stmt (span_form fuel blocks)) (flat_part fuel)))
 
-abbrev pub part : ℕ → LocalReaders → Reads Block → Reads Part
-part fuel local blocks = here >>= λ token. part_form fuel local blocks >>= λ form. here >>= λ past. give (part_of token past form)
+abbrev pub part : ℕ → Reads Block → Reads Part
+part fuel blocks = here >>= λ token. part_form fuel blocks >>= λ form. here >>= λ past. give (part_of token past form)
 
-abbrev pub block : ℕ → (ℕ → LocalReaders) → Reads Block
-block zero local = stop
-block (suc fuel) local = braces (many (suc fuel) is_within (part (suc fuel) (local (suc fuel)) (block fuel local)) []) >>= λ parts. give record { parts = parts }
+abbrev pub block : ℕ → Reads Block
+block zero = stop
+block (suc fuel) = braces (many (suc fuel) is_within (part (suc fuel) (block fuel)) []) >>= λ parts. give record { parts = parts }
