@@ -7,3 +7,7 @@ pub mod Expressions
 pub mod LocalExpressions
 pub mod CompleteExpressions
 pub mod OneExpression
+pub mod Options
+pub mod Parts
+pub mod LocalParts
+pub mod CompleteParts
