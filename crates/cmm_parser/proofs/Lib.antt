@@ -6,7 +6,8 @@ pub mod Lists
 pub mod Expressions
 pub mod LocalExpressions
 pub mod CompleteExpressions
-pub mod OneExpression
+pub mod Wholes
+pub mod ExpressionLaws
 pub mod Options
 pub mod Parts
 pub mod LocalParts
