@@ -5,6 +5,7 @@ use Rattle.cmm_ast.specs.Taking.{Reading, Takes}
 use Rattle.cmm_ast.specs.Derivation.{at_start}
 use Rattle.cmm_parser.specs.Reading.{Fault, Unexpected, TooDeep, Answer, Read, Stopped, Reads, next}
 use Rattle.cmm_parser.specs.ReadingLaws.{point, outcome, Complete, Local, Same, TakesAll, Answers}
+use Rattle.cmm_parser.proofs.Completes.{outcome_read}
 use Rattle.cmm_parser.proofs.Sounds.{read_same}
 
 -- the tokens are at their end
@@ -73,3 +74,9 @@ module _ {A : Type 0} {first : Option Lexeme → Type 0} (reads : ℕ → Reads 
       let fuel : ℕ = suc (length tokens) in
       let whole = (complete fuel a).complete true (at_start tokens) is.after is.taken (all_taken is.after.left is.all) (omega arith) refl in
       absurd (let o = (stopped_over is.after.over a is.after Unexpected token refl (sym whole ∙ stops fuel (omega arith))).0 in cc)
+
+  -- a tree within the limits is read
+  pub tree_is_read : (tokens : List Lexeme) (a : A) (is : TakesAll (takes a) tokens) → is.after.over ≡ None →
+      Answers reads tokens (Read a (point is.after))
+  tree_is_read tokens a is fits fuel less =
+      (complete fuel a).complete true (at_start tokens) is.after is.taken (all_taken is.after.left is.all) less refl ∙ outcome_read true a is.after fits

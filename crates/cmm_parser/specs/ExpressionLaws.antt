@@ -1,11 +1,11 @@
 -- What the grammar of expressions promises: tokens have one tree, and a reader stops at the first token that no expression
 -- goes on with, or that passes a limit in each that does.
-use Rattle.std.specs.Prelude.{◌≡◌, ℕ, suc, ◌<◌, List, length, take, ◌++◌, Some}
+use Rattle.std.specs.Prelude.{◌≡◌, ℕ, suc, ◌<◌, List, length, take, ◌++◌, true, Some, None}
 use Rattle.cmm_lexer.specs.declared.piece.Lexeme.{Lexeme}
 use Rattle.cmm_ast.specs.declared.expression.Expr.{Expr}
 use Rattle.cmm_ast.specs.ExpressionGrammar as grammar
-use Rattle.cmm_parser.specs.Reading.{Unexpected, TooDeep, Stopped}
-use Rattle.cmm_parser.specs.ReadingLaws.{TakesAll, Answers}
+use Rattle.cmm_parser.specs.Reading.{Point, Unexpected, TooDeep, Read, Stopped}
+use Rattle.cmm_parser.specs.ReadingLaws.{within, point, TakesAll, Answers}
 use Rattle.cmm_parser.specs.ExpressionReading.{whole}
 
 -- an expression takes all of these tokens, limits left aside
@@ -27,3 +27,12 @@ abbrev pub EachIsTooDeep : Type 0
 EachIsTooDeep =
     (tokens more : List Lexeme) (token : ℕ) (e : Expr) → Answers whole tokens (Stopped TooDeep token) → token < length tokens →
     (is : IsExpression (take (suc token) tokens ++ more) e) → is.after.over ≡ Some token
+
+-- an expression within the limits is read
+abbrev pub EachIsRead : Type 0
+EachIsRead = (tokens : List Lexeme) (e : Expr) (is : IsExpression tokens e) → is.after.over ≡ None → Answers whole tokens (Read e (point is.after))
+
+-- and what is read is an expression within the limits, which takes the tokens up to where the reader then stands
+abbrev pub WhatIsReadIsOne : Type 0
+WhatIsReadIsOne =
+    (fuel : ℕ) (p after : Point) (e : Expr) → whole fuel true p ≡ Read e after → grammar.whole e (within p) ≡ Some (within after)
