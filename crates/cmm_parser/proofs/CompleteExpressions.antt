@@ -601,7 +601,7 @@ each_expr : (fuel : ℕ) (es : List Expr) → Each HasSpine es → Each (λ e. C
 each_expr fuel [] spines = tt
 each_expr fuel (e ∷ es) spines = (expr_complete fuel e spines.0, each_expr fuel es spines.1)
 
-never_complete : {A : Type 0} {fuel : ℕ} {p : Takes} {a : A} {reads : Reads A} {first follow : Option Lexeme → Type 0} →
+pub never_complete : {A : Type 0} {fuel : ℕ} {p : Takes} {a : A} {reads : Reads A} {first follow : Option Lexeme → Type 0} →
     ((r after : Reading) → p r ≡ Some after → ⊥) → Complete fuel p a reads first follow
 never_complete never = record {
   moves = λ r after e. absurd (never r after e);

@@ -12,3 +12,4 @@ pub mod Options
 pub mod Parts
 pub mod LocalParts
 pub mod CompleteParts
+pub mod CompleteFlows

@@ -123,7 +123,7 @@ may_comma_sound =
 abbrev pub flow_is : FlowForm → Takes
 flow_is form = statements.flow_form form ⨾ may_comma_is
 
-named_same : (verb : Keyword) (names : List Ident) →
+pub named_same : (verb : Keyword) (names : List Ident) →
     (statements.names_to verb names ⨾ may_comma_is) ≡ (keyword_is Also ⨾ keyword_is verb ⨾ keyword_is To ⨾ listed_is grammar.ident names)
 named_same verb names =
     takes_assoc (keyword_is Also) (keyword_is verb ⨾ keyword_is To ⨾ commas_is grammar.ident names) may_comma_is
