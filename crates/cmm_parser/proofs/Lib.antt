@@ -17,3 +17,10 @@ pub mod Calls
 pub mod Targets
 pub mod Statements
 pub mod OneExpression
+pub mod Wholes
+pub mod ExpressionLaws
+pub mod Options
+pub mod Parts
+pub mod LocalParts
+pub mod CompleteParts
+pub mod CompleteFlows

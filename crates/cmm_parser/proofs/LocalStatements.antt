@@ -28,11 +28,13 @@ use Rattle.cmm_ast.specs.Numbers.{symbol_number}
 use Rattle.cmm_ast.specs.Taking.{is_symbol}
 use Rattle.cmm_parser.specs.Reading.{Reads, ◌>>=◌, give, round, square, braces}
 use Rattle.cmm_parser.specs.ReadingLaws.{Local}
-use Rattle.cmm_parser.specs.CallReading.{begins_actual, begins_kinded, begins_flow, is_quoted, is_named, optional_text, actual, kinded, arguments, place, callee_form, callee, may_comma, exits, also, flow_form, flow, annotations, call, convention, call_after}
-use Rattle.cmm_parser.specs.TargetReading.{Targets, Names, Lvalues, Results, lvalue, next_target, more_targets, called, assign, values, checked_operator, two_values, checked, after_names, assigned, assignment, callee_of_form, lvalues_of}
-use Rattle.cmm_parser.specs.StatementReading.{exit, range, case, span_ends, switch_span, jump, return_form, goto, cut, continuation, word_stmt, symbol_stmt, memory_stmt, name_stmt, PartForm, of_stmt, of_local, name_part, text_part, word_part, flat_by, flat_part, if_form, chained, otherwise, is_within, arm, switch_form, span_form, part_form, part, block}
+use Rattle.cmm_parser.specs.PartReading.{begins_kinded}
+use Rattle.cmm_parser.specs.CallReading.{call, convention, call_after}
+use Rattle.cmm_parser.specs.TargetReading.{Targets, Names, Lvalues, Results, next_target, more_targets, called, assign, values, checked_operator, two_values, checked, after_names, assigned, assignment, callee_of_form, lvalues_of}
+use Rattle.cmm_parser.specs.StatementReading.{case, span_ends, switch_span, jump, return_form, goto, cut, continuation, word_stmt, symbol_stmt, memory_stmt, name_stmt, PartForm, of_stmt, of_local, name_part, text_part, word_part, flat_by, flat_part, if_form, chained, otherwise, is_within, arm, switch_form, span_form, part_form, part, block}
 use Rattle.cmm_parser.proofs.Locals.{after_local, give_local, stop_local, here_local, look_local, next_local, skip_local, opening_local, outermost_local, enclosed_local, optional_local, many_local, commas_local, more_listed_local, listed_local, may_list_local}
 use Rattle.cmm_parser.proofs.LocalExpressions.{type_name_local, in_brackets_local, whole_local, whole_prim_local, whole_memory_local}
+use Rattle.cmm_parser.proofs.LocalParts.{kinded_local, arguments_local, lvalue_local, callee_local, annotations_local, exit_local, range_local}
 use Rattle.cmm_parser.proofs.Procedures.{modifiers_local, variables_local, stackdata_local}
 use Rattle.cmm_parser.proofs.Tokens.{symbol_local, keyword_local, ident_local, text_local, pick_local}
 
@@ -51,36 +53,6 @@ made_local make inner = after_local inner (λ a. give_local (make a))
 
 -- ---- calls
 
-optional_text_local : Local optional_text
-optional_text_local = optional_local is_quoted text_local
-
-kinded_local : Local kinded
-kinded_local = after_local optional_text_local (λ kind. after_local ident_local (λ name. give_local _))
-
-may_comma_local : Local may_comma
-may_comma_local = next_local _ skip_local (give_local tt)
-
-exits_local : (fuel : ℕ) → Local (exits fuel)
-exits_local fuel = after_local (keyword_local word.To) (λ _. listed_local is_named ident_local fuel)
-
-also_local : (fuel : ℕ) → Local (also fuel)
-also_local fuel =
-    next_local _ (after_local skip_local (λ _. made_local (λ _. flows.Aborts) may_comma_local))
-    (next_local _ (after_local skip_local (λ _. made_local flows.CutsTo (exits_local fuel)))
-    (next_local _ (after_local skip_local (λ _. made_local flows.UnwindsTo (exits_local fuel)))
-    (after_local (keyword_local word.Returns) (λ _. made_local flows.ReturnsTo (exits_local fuel)))))
-
-flow_form_local : (fuel : ℕ) → Local (flow_form fuel)
-flow_form_local fuel =
-    next_local _ (after_local skip_local (λ _. after_local (keyword_local word.Returns) (λ _. made_local (λ _. flows.NeverReturns) may_comma_local)))
-    (after_local (keyword_local word.Also) (λ _. also_local fuel))
-
-flow_local : (fuel : ℕ) → Local (flow fuel)
-flow_local fuel = after_local here_local (λ token. after_local (flow_form_local fuel) (λ form. give_local _))
-
-annotations_local : (fuel : ℕ) → Local (annotations fuel)
-annotations_local fuel = many_local begins_flow (flow_local fuel) fuel []
-
 convention_local : Local convention
 convention_local = next_local _ (after_local skip_local (λ _. after_local text_local (λ t. give_local (Some t)))) (give_local None)
 
@@ -95,23 +67,6 @@ chained_local inner =
     enclosed_local (after_local here_local (λ token. after_local (next_local _ opening_local stop_local) (λ _.
     after_local inner (λ form. after_local here_local (λ past. give_local _)))))
 
-actual_local : (fuel : ℕ) → Local (actual fuel)
-actual_local fuel = after_local optional_text_local (λ kind. after_local (whole_local fuel) (λ value. give_local _))
-
-arguments_local : (fuel : ℕ) → Local (arguments fuel)
-arguments_local fuel = outermost_local (round_local (may_list_local begins_actual (actual_local fuel) fuel))
-
-place_local : {A : Type 0} (fuel : ℕ) (of_name : Ident → A) (of_memory : Memory → A) → Local (place fuel of_name of_memory)
-place_local fuel of_name of_memory =
-    next_local _ (after_local type_name_local (λ width. after_local (whole_memory_local fuel width) (λ m. give_local _)))
-    (after_local ident_local (λ name. next_local _ (after_local (whole_memory_local fuel _) (λ m. give_local _)) (give_local _)))
-
-callee_form_local : (fuel : ℕ) → Local (callee_form fuel)
-callee_form_local fuel = next_local _ (made_local callees.Bracketed (round_local (whole_local fuel))) (place_local fuel _ _)
-
-callee_local : (fuel : ℕ) → Local (callee fuel)
-callee_local fuel = after_local here_local (λ token. after_local (callee_form_local fuel) (λ form. give_local _))
-
 call_local : (fuel : ℕ) (results : List Kinded) (by : Option Text) (what : Callee) → Local (call fuel results by what)
 call_local fuel results by what =
     after_local (arguments_local fuel) (λ actuals. after_local (annotations_local fuel) (λ fs. after_local (symbol_local sign.Semicolon) (λ _. give_local _)))
@@ -120,9 +75,6 @@ call_after_local : (fuel : ℕ) (results : List Kinded) → Local (call_after fu
 call_after_local fuel results = after_local convention_local (λ by. after_local (callee_local fuel) (λ what. call_local fuel results by what))
 
 -- ---- targets
-
-lvalue_local : (fuel : ℕ) → Local (lvalue fuel)
-lvalue_local fuel = place_local fuel _ _
 
 next_target_local : (fuel : ℕ) (targets : Targets) → Local (next_target fuel targets)
 next_target_local fuel (Names names) =
@@ -168,17 +120,6 @@ assignment_local fuel first =
     after_local (more_targets_local fuel fuel first) (λ targets. after_local (symbol_local sign.Assign) (λ _. assigned_local fuel targets))
 
 -- ---- parts of statements
-
-exit_local : (fuel : ℕ) → Local (exit fuel)
-exit_local fuel =
-    after_local here_local (λ token. after_local (symbol_local sign.Less) (λ _. after_local (whole_prim_local fuel) (λ index.
-    after_local (symbol_local sign.Slash) (λ _. after_local (whole_prim_local fuel) (λ count. after_local (symbol_local sign.Greater) (λ _.
-    give_local _))))))
-
-range_local : (fuel : ℕ) → Local (range fuel)
-range_local fuel =
-    after_local (whole_local fuel) (λ from.
-    next_local _ (after_local skip_local (λ _. made_local (λ to. record { from = from; to = Some to }) (whole_local fuel))) (give_local _))
 
 case_local : (fuel : ℕ) → Local (case fuel)
 case_local fuel =

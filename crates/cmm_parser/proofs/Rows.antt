@@ -1,4 +1,4 @@
--- Parts that may be left out, rows of parts without commas, and where operators are counted anew: what is read is taken.
+-- Rows of parts without commas, and where operators are counted anew: what is read is taken.
 use Rattle.std.proofs.Common.{◌≡◌, ℕ, zero, suc, ◌==◌, nat_lt, Bool, true, false, List, [], ◌∷◌, ◌++◌, Option, Some, None, refl, sym, ap, ◌∙◌}
 use Rattle.std.proofs.Math.Path.{fun_ext}
 use Rattle.cmm_lexer.specs.declared.piece.Lexeme.{Lexeme}
@@ -8,7 +8,6 @@ use Rattle.cmm_ast.specs.Taking.{Reading, Takes, ◌⨾◌, nothing, token, take
 use Rattle.cmm_ast.specs.Numbers.{symbol_number}
 use Rattle.cmm_parser.specs.Reading.{Point, Read, Reads, ◌>>=◌, give, optional, many, next, skip, passes, is_comma, outermost}
 use Rattle.cmm_parser.specs.ReadingLaws.{within, Sound}
-use Rattle.cmm_parser.specs.CallReading.{may_comma}
 use Rattle.cmm_parser.proofs.Sounds.{Goes, GoesAt, whole_sound, after_sound, last_sound, give_sound, at_sound, next_sound, bound, read_same, one_taken, taken_then}
 use Rattle.cmm_parser.proofs.Lists.{takes_assoc, takes_nothing, goes_same, may_comma_not}
 
@@ -19,16 +18,6 @@ takes_assoc3 p q s k = takes_assoc p (q ⨾ s) k ∙ ap (λ t. p ⨾ t) (takes_a
 
 pub takes_assoc4 : (p q s t k : Takes) → ((p ⨾ q ⨾ s ⨾ t) ⨾ k) ≡ (p ⨾ q ⨾ s ⨾ t ⨾ k)
 takes_assoc4 p q s t k = takes_assoc p (q ⨾ s ⨾ t) k ∙ ap (λ x. p ⨾ x) (takes_assoc3 q s t k)
-
--- a tree is read in parts, of which each is a tree from the start
-pub then_sound : {A B : Type 0} {so_far : Takes → Takes} {reads : Reads A} {is : A → Takes} {rest : A → Reads B} {takes : B → Takes} →
-    Goes so_far reads is → ((a : A) → Goes (λ k. is a ⨾ k) (rest a) takes) → Goes so_far (reads >>= rest) takes
-then_sound {reads = reads} {is = is} {rest = rest} first each = record {
-  goes = λ r p before b after e.
-      let q = bound (reads true p) (λ a after. rest a true after) b after e in
-      (each q.first).goes r q.between (λ k. taken_then (is q.first) k r (within q.between) (first.goes r p before q.first q.between q.read)) b after
-      q.then_read;
-}
 
 -- what was taken before stays before
 after_prefix : {B : Type 0} (so_far : Takes → Takes) (reads : Reads B) (takes : B → Takes) → Goes so_far reads takes → (o : Option Reading) (p : Point) →
@@ -48,12 +37,7 @@ pub never_sound : {B : Type 0} {so_far : Takes → Takes} {reads : Reads B} {tak
     Goes so_far reads takes
 never_sound none = record { goes = λ r p before b after e. absurd (let h = sym (before nothing) ∙ none nothing r in cc) }
 
--- ---- a part that may be left out, and rows
-
-pub optional_sound : {A : Type 0} {reads : Reads A} {is : A → Takes} (begins : Lexeme → Bool) → Sound reads is →
-    Sound (optional begins reads) (optional_is is)
-optional_sound begins inner =
-    whole_sound (next_sound (λ x passed. at_sound (last_sound (λ a. Some a) inner (λ a. refl))) (λ x none. at_sound (give_sound None refl)))
+-- ---- rows
 
 -- each of a row, and then what goes on
 abbrev pub many_to : {A : Type 0} → (A → Takes) → List A → Takes → Takes
@@ -63,10 +47,6 @@ many_to p (a ∷ as_) k = p a ⨾ many_to p as_ k
 pub many_to-append : {A : Type 0} (p : A → Takes) (as_ : List A) (b : A) (k : Takes) → many_to p (as_ ++ (b ∷ [])) k ≡ many_to p as_ (p b ⨾ k)
 many_to-append p [] b k = refl
 many_to-append p (a ∷ as_) b k = ap (λ t. p a ⨾ t) (many_to-append p as_ b k)
-
-pub many_same : {A : Type 0} (p : A → Takes) (as_ : List A) → many_is p as_ ≡ many_to p as_ nothing
-many_same p [] = refl
-many_same p (a ∷ as_) = ap (λ t. p a ⨾ t) (many_same p as_)
 
 module _ {A : Type 0} {reads : Reads A} {p : A → Takes} (item : Sound reads p) (takes : List A → Takes)
     (same : (as_ : List A) → takes as_ ≡ many_to p as_ nothing) (begins : Lexeme → Bool) where
@@ -80,26 +60,6 @@ module _ {A : Type 0} {reads : Reads A} {p : A → Takes} (item : Sound reads p)
   -- a row, in whatever form the grammar has it
   pub row_sound : (turns : ℕ) → Sound (many turns begins reads []) takes
   row_sound turns = whole_sound (many_goes turns [])
-
-pub many_sound : {A : Type 0} {reads : Reads A} {p : A → Takes} → Sound reads p → (begins : Lexeme → Bool) (turns : ℕ) →
-    Sound (many turns begins reads []) (many_is p)
-many_sound {p = p} item begins turns = row_sound item (many_is p) (many_same p) begins turns
-
-pub may_comma_sound : Sound may_comma (λ _. may_comma_is)
-may_comma_sound = whole_sound (next_sound at_comma without) where
-  at_comma : (x : Lexeme) → is_comma x ≡ true → GoesAt (Some x) (λ k. k) skip (λ _. may_comma_is)
-  at_comma x passed = record {
-    goes = λ r p is before b after e.
-        let o = read_same e in rw (o.1, before may_comma_is, may_comma_is, one_taken is_comma x (within p) is passed) refl;
-  }
-
-  without : (x : Option Lexeme) → passes is_comma x ≡ false → GoesAt x (λ k. k) (give {A = Unit {0}} tt) (λ _. may_comma_is)
-  without x none = record {
-    goes = λ r p is before b after e.
-        let o = read_same e in
-        let none_here : passes is_comma (next p.left) ≡ false = rw is none in
-        rw (o.1, before may_comma_is) (may_comma_not (within p) none_here);
-  }
 
 -- ---- where operators are counted anew
 

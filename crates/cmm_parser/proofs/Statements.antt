@@ -27,35 +27,22 @@ use Rattle.cmm_ast.specs.StatementGrammar as bodies
 use Rattle.cmm_parser.specs.Reading.{Reads, ◌>>=◌, give, skip, if_next, skip_opening, stop}
 use Rattle.cmm_parser.specs.ReadingLaws.{Sound}
 use Rattle.cmm_parser.specs.ExpressionReading.{named_type}
-use Rattle.cmm_parser.specs.CallReading.{begins_kinded}
+use Rattle.cmm_parser.specs.PartReading.{begins_kinded}
 use Rattle.cmm_parser.specs.TargetReading.{Targets, Names, Lvalues, Results}
-use Rattle.cmm_parser.specs.StatementReading.{exit, range, case, span_ends, switch_span, jump, return_form, goto, cut, continuation, word_stmt, symbol_stmt, memory_token, memory_stmt, name_stmt, PartForm, OfLocal, OfStmt, of_stmt, of_local, flat_by, flat_part, if_form, chained, otherwise, is_within, arm, switch_form, span_form, part_of, part_form, part, block}
+use Rattle.cmm_parser.specs.StatementReading.{case, span_ends, switch_span, jump, return_form, goto, cut, continuation, word_stmt, symbol_stmt, memory_token, memory_stmt, name_stmt, PartForm, OfLocal, OfStmt, of_stmt, of_local, flat_by, flat_part, if_form, chained, otherwise, is_within, arm, switch_form, span_form, part_of, part_form, part, block}
 use Rattle.cmm_parser.proofs.Sounds.{Goes, GoesAt, whole_sound, after_sound, last_sound, last_goes, same_sound, give_sound, at_sound, look_sound, next_sound, skip_sound, opening_last_sound, stop_sound, here_sound, enclosed_sound}
 use Rattle.cmm_parser.proofs.Lists.{takes_assoc, takes_nothing, goes_same, commas_sound, may_list_sound}
 use Rattle.cmm_parser.proofs.Tokens.{symbol_sound, keyword_sound, ident_sound, text_sound}
 use Rattle.cmm_parser.proofs.Expressions.{type_name_sound, whole_expr_sound, whole_prim_sound, in_brackets_sound, here_twice}
-use Rattle.cmm_parser.proofs.Rows.{takes_assoc3, then_sound, optional_sound, row_sound, many_to, here_apart}
+use Rattle.cmm_parser.proofs.Repeats.{goes_then, optional_sound}
+use Rattle.cmm_parser.proofs.Rows.{takes_assoc3, row_sound, many_to, here_apart}
 use Rattle.cmm_parser.proofs.Procedures.{modifiers_sound, variables_goes, stackdata_goes}
-use Rattle.cmm_parser.proofs.Calls.{whole_memory_goes, kinded_sound, arguments_sound, callee_sound, annotations_sound, call_goes, call_after_goes}
+use Rattle.cmm_parser.proofs.Parts.{whole_memory_goes, kinded_sound, arguments_sound, callee_sound, annotations_sound, exit_sound, range_sound}
+use Rattle.cmm_parser.proofs.Calls.{call_goes, call_after_goes}
 use Rattle.cmm_parser.proofs.Targets.{assignment_goes}
 use Rattle.cmm_parser.proofs.StatementForms.{form_of_if, chained_if, form_of_span, form_of_else, form_of_else_if, form_is, part_is, block_is, arm_, form_of_switch}
 
 -- ---- parts of statements
-
-exit_sound : (fuel : ℕ) → Sound (exit fuel) bodies.exit
-exit_sound fuel =
-    whole_sound
-    (after_sound here_sound (λ token. after_sound (symbol_sound sign.Less) (λ _. after_sound (whole_prim_sound fuel) (λ index.
-    after_sound (symbol_sound sign.Slash) (λ _. after_sound (whole_prim_sound fuel) (λ count.
-    last_sound (λ _. record { token = token; index = index; count = count }) (symbol_sound sign.Greater) (λ _. refl)))))))
-
-range_sound : (fuel : ℕ) → Sound (range fuel) bodies.range
-range_sound fuel =
-    whole_sound
-    (after_sound (whole_expr_sound fuel) (λ from.
-    next_sound (λ x passed. skip_sound (is_symbol (symbol_number sign.Range)) passed
-    (λ _. last_sound (λ to. record { from = from; to = Some to }) (whole_expr_sound fuel) (λ to. refl)))
-    (λ x none. at_sound (give_sound (record { from = from; to = None }) refl))))
 
 case_sound : (fuel : ℕ) → Sound (case fuel) bodies.case
 case_sound fuel =
@@ -137,7 +124,7 @@ name_stmt_goes fuel name =
     (λ x passed. skip_sound (is_symbol (symbol_number sign.Colon)) passed
     (λ _. give_sound (stmts.Label name) (ap (λ t. grammar.ident name ⨾ t) (sym (takes_nothing (symbol_is sign.Colon))))))
     (λ x none. at_sound (next_sound
-    (λ x passed. at_sound (then_sound (whole_memory_goes fuel (named_type name)) (λ m. memory_stmt_goes fuel m)))
+    (λ x passed. at_sound (goes_then (whole_memory_goes fuel (named_type name)) (λ m. memory_stmt_goes fuel m)))
     (λ x none. at_sound (next_sound
     (λ x passed. at_sound (call_goes fuel [] None (record { token = name.token; form = callees.Name name })
     (λ k. ap (λ t. t ⨾ outermost_is k) (sym (here_twice name.token _)))))
@@ -185,7 +172,7 @@ flat_part_sound fuel = whole_sound (look_sound by) where
       (λ x passed. at_sound
       (after_sound type_name_sound (λ width.
       next_sound
-      (λ x passed. at_sound (of_stmt_goes (then_sound (whole_memory_goes fuel width) (λ m. memory_stmt_goes fuel m))))
+      (λ x passed. at_sound (of_stmt_goes (goes_then (whole_memory_goes fuel width) (λ m. memory_stmt_goes fuel m))))
       (λ x none. at_sound (of_local_goes (goes_same (λ k. refl) (variables_goes fuel before.Nothing width)))))))
       (λ x none. at_sound (next_sound
       (λ x passed. at_sound (after_sound modifiers_sound (λ found. after_sound type_name_sound (λ width. of_local_goes (variables_goes fuel found width)))))
@@ -213,7 +200,7 @@ module _ {blocks : Reads Block} (inner : Sound blocks bodies.block) where
       enclosed_sound {is = λ s. here_is s.token ⨾ bodies.chained s.form ⨾ here_is s.past}
       (whole_sound
       (after_sound here_sound (λ token. after_sound opened_if_sound (λ _.
-      then_sound (if_goes {takes = λ form. here_is token ⨾ bodies.chained form} inner rest (λ c b o. ap (λ t. here_is token ⨾ t) (chained_if c b o)) fuel)
+      goes_then (if_goes {takes = λ form. here_is token ⨾ bodies.chained form} inner rest (λ c b o. ap (λ t. here_is token ⨾ t) (chained_if c b o)) fuel)
       (λ form. last_sound (λ past. record { token = token; past = past; form = form }) here_sound (λ past.
       sym (takes_assoc (here_is token) (bodies.chained form) (here_is past))))))))
 

@@ -27,14 +27,15 @@ use Rattle.cmm_ast.specs.StatementGrammar as bodies
 use Rattle.cmm_parser.specs.Reading.{Reads, ◌>>=◌, give, skip, is_comma, more_listed}
 use Rattle.cmm_parser.specs.ReadingLaws.{Sound}
 use Rattle.cmm_parser.specs.ExpressionReading.{begins_expression, whole}
-use Rattle.cmm_parser.specs.CallReading.{is_quoted, kinded}
-use Rattle.cmm_parser.specs.TargetReading.{Targets, Names, Lvalues, Results, lvalue, with_lvalue, next_target, more_targets, called, assign, values, checked_operator, two_values, checked, after_names, assigned, assignment, callee_of_form, callee_of_prim, lvalues_of, results_of}
+use Rattle.cmm_parser.specs.TargetReading.{Targets, Names, Lvalues, Results, with_lvalue, next_target, more_targets, called, assign, values, checked_operator, two_values, checked, after_names, assigned, assignment, callee_of_form, callee_of_prim, lvalues_of, results_of}
 use Rattle.cmm_parser.proofs.Sounds.{Goes, GoesAt, whole_sound, after_sound, last_sound, last_goes, same_sound, give_sound, at_sound, next_sound, skip_sound, stop_sound, here_sound}
 use Rattle.cmm_parser.proofs.Lists.{takes_assoc, takes_nothing, goes_same, listed_sound, rest_to, commas_to, more_listed_goes}
 use Rattle.cmm_parser.proofs.Tokens.{symbol_sound, ident_sound, pick_sound, checked_in_is}
 use Rattle.cmm_parser.proofs.Expressions.{whole_expr_sound, in_brackets_sound, bound_by, here_twice}
-use Rattle.cmm_parser.proofs.Rows.{takes_assoc3, then_sound, prefix_sound, never_sound, token_apart, here_apart, both_apart, outermost_brackets}
-use Rattle.cmm_parser.proofs.Calls.{kinded_sound, place_sound, annotations_sound, call_goes, call_after_goes}
+use Rattle.cmm_parser.proofs.Repeats.{goes_then}
+use Rattle.cmm_parser.proofs.Rows.{takes_assoc3, prefix_sound, never_sound, token_apart, here_apart, both_apart, outermost_brackets}
+use Rattle.cmm_parser.proofs.Parts.{kinded_sound, lvalue_sound, annotations_sound}
+use Rattle.cmm_parser.proofs.Calls.{call_goes, call_after_goes}
 
 -- ---- the targets
 
@@ -61,9 +62,6 @@ results_same [] = refl
 results_same (a ∷ []) = refl
 results_same (a ∷ b ∷ rest) = ap (λ t. grammar.ident a ⨾ symbol_is sign.Comma ⨾ t) (results_same (b ∷ rest))
 
-lvalue_sound : (fuel : ℕ) → Sound (lvalue fuel) bodies.lvalue
-lvalue_sound fuel = place_sound fuel {takes = bodies.lvalue} (λ i. refl) (λ m. refl)
-
 abbrev After_comma : Targets → Takes → Takes
 After_comma t k = targets_are t ⨾ symbol_is sign.Comma ⨾ k
 
@@ -89,7 +87,7 @@ next_target_goes fuel (Results (a ∷ as_)) = last_sound (λ k. Results ((a ∷ 
 more_targets_goes : (turns fuel : ℕ) (t : Targets) → Goes (λ k. targets_are t ⨾ k) (more_targets turns fuel t) targets_are
 more_targets_goes zero fuel t = record { goes = λ r p before b after e. absurd cc }
 more_targets_goes (suc turns) fuel t =
-    next_sound (λ x passed. skip_sound is_comma passed (λ _. then_sound (next_target_goes fuel t) (λ more. more_targets_goes turns fuel more)))
+    next_sound (λ x passed. skip_sound is_comma passed (λ _. goes_then (next_target_goes fuel t) (λ more. more_targets_goes turns fuel more)))
     (λ x none. at_sound (give_sound t (sym (takes_nothing (targets_are t)))))
 
 -- ---- what follows the `=`
@@ -156,7 +154,7 @@ values_goes fuel a as_ =
 
   assigned_values : (value : Expr) → Goes (λ k. targets_are (Names (a ∷ as_)) ⨾ symbol_is sign.Assign ⨾ grammar.whole value ⨾ k)
       (assign fuel (lvalues_of (a ∷ as_)) (more_listed fuel begins_expression (whole fuel) (value ∷ []))) bodies.stmt_form
-  assigned_values value = then_sound (first_values value) (λ vs.
+  assigned_values value = goes_then (first_values value) (λ vs.
       last_sound (λ _. stmts.Assign (lvalues_of (a ∷ as_)) vs) (symbol_sound sign.Semicolon) (λ _.
       ap (λ t. t ⨾ symbol_is sign.Assign ⨾ listed_is grammar.whole vs ⨾ symbol_is sign.Semicolon) (lvalues_same (a ∷ as_))
       ∙ sym (takes_assoc3 (targets_are (Names (a ∷ as_))) (symbol_is sign.Assign) (listed_is grammar.whole vs) (symbol_is sign.Semicolon))))
@@ -176,4 +174,4 @@ assigned_goes fuel (Results (a ∷ as_)) =
 -- the rest of an assignment or of a call with results, after the first target
 pub assignment_goes : (fuel : ℕ) (first : Targets) → Goes (λ k. targets_are first ⨾ k) (assignment fuel first) bodies.stmt_form
 assignment_goes fuel first =
-    then_sound (more_targets_goes fuel fuel first) (λ t. after_sound (symbol_sound sign.Assign) (λ _. assigned_goes fuel t))
+    goes_then (more_targets_goes fuel fuel first) (λ t. after_sound (symbol_sound sign.Assign) (λ _. assigned_goes fuel t))

@@ -8,3 +8,4 @@ pub mod DeclarationReading
 pub mod ProcedureReading
 pub mod UnitReading
 pub mod ExpressionLaws
+pub mod PartReading

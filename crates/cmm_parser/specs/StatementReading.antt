@@ -33,22 +33,12 @@ use Rattle.cmm_ast.specs.Numbers.{keyword_number, symbol_number}
 use Rattle.cmm_ast.specs.Taking.{is_keyword, is_symbol}
 use Rattle.cmm_parser.specs.Reading.{Reads, ◌>>=◌, give, stop, look, if_next, here, skip, skip_opening, keyword, symbol, ident, text, round, square, braces, enclosed, optional, many, commas, may_list}
 use Rattle.cmm_parser.specs.ExpressionReading.{type_name, named_type, whole, whole_prim, whole_memory}
-use Rattle.cmm_parser.specs.CallReading.{is_named, is_bits, begins_kinded, kinded, arguments, callee, annotations, call, call_after}
+use Rattle.cmm_parser.specs.PartReading.{is_any_name, is_width, begins_kinded, kinded, arguments, callee, annotations, exit, range}
+use Rattle.cmm_parser.specs.CallReading.{call, call_after}
 use Rattle.cmm_parser.specs.ProcedureReading.{modifiers_of, variables, stackdata}
 use Rattle.cmm_parser.specs.TargetReading.{Names, Lvalues, Results, assignment}
 
 -- ---- parts of statements
-
-abbrev pub exit : ℕ → Reads Exit
-exit fuel =
-    here >>= λ token. symbol Less >>= λ _. whole_prim fuel >>= λ index. symbol Slash >>= λ _. whole_prim fuel >>= λ count. symbol Greater >>= λ _.
-    give record { token = token; index = index; count = count }
-
-abbrev pub range : ℕ → Reads Range
-range fuel =
-    whole fuel >>= λ from.
-    if_next (is_symbol (symbol_number sign.Range)) (skip >>= λ _. whole fuel >>= λ to. give record { from = from; to = Some to })
-    (give record { from = from; to = None })
 
 abbrev pub case : ℕ → Reads Case
 case fuel =
@@ -128,21 +118,21 @@ of_local reads = reads >>= λ form. give (OfLocal form)
 -- where another name follows the first, that one is the type of variables
 abbrev pub name_part : ℕ → Reads PartForm
 name_part fuel =
-    ident >>= λ name. if_next is_named (of_local (variables fuel before.Nothing (named_type name))) (of_stmt (name_stmt fuel name))
+    ident >>= λ name. if_next is_any_name (of_local (variables fuel before.Nothing (named_type name))) (of_stmt (name_stmt fuel name))
 
 -- a text is the kind of variables or of a result
 abbrev pub text_part : ℕ → Reads PartForm
 text_part fuel =
     text >>= λ kind.
     if_next (is_keyword (keyword_number Invariant)) (skip >>= λ _. type_name >>= λ width. of_local (variables fuel (before.KindInvariant kind) width))
-    (if_next is_bits (type_name >>= λ width. of_local (variables fuel (before.Kind kind) width))
+    (if_next is_width (type_name >>= λ width. of_local (variables fuel (before.Kind kind) width))
     (ident >>= λ name.
-    if_next is_named (of_local (variables fuel (before.Kind kind) (named_type name)))
+    if_next is_any_name (of_local (variables fuel (before.Kind kind) (named_type name)))
     (of_stmt (assignment fuel (Results (record { kind = Some kind; name = name } ∷ []))))))
 
 abbrev pub word_part : ℕ → Reads PartForm
 word_part fuel =
-    if_next is_bits
+    if_next is_width
     (type_name >>= λ width.
     if_next (is_symbol (symbol_number OpenSquare)) (of_stmt (whole_memory fuel width >>= λ m. memory_stmt fuel m))
     (of_local (variables fuel before.Nothing width)))

@@ -25,7 +25,8 @@ use Rattle.cmm_ast.specs.Numbers.{keyword_number, symbol_number}
 use Rattle.cmm_ast.specs.Taking.{is_keyword, is_symbol}
 use Rattle.cmm_parser.specs.Reading.{Reads, ◌>>=◌, ◌>>◌, give, stop, look, if_next, here, skip, symbol, checked_in, pick, round, is_comma, listed, more_listed}
 use Rattle.cmm_parser.specs.ExpressionReading.{begins_expression, whole}
-use Rattle.cmm_parser.specs.CallReading.{is_quoted, kinded, place, annotations, call, call_after}
+use Rattle.cmm_parser.specs.PartReading.{is_any_text, kinded, lvalue, annotations}
+use Rattle.cmm_parser.specs.CallReading.{call, call_after}
 
 -- what stands before an `=`
 pub data Targets : Type 0 where
@@ -45,16 +46,13 @@ results_of names = map (λ name. record { kind = None; name = name }) names
 
 -- ---- the targets
 
-abbrev pub lvalue : ℕ → Reads Lvalue
-lvalue fuel = place fuel lvalues.Name lvalues.Memory
-
 abbrev pub with_lvalue : List Ident → Lvalue → Targets
 with_lvalue names (lvalues.Name name) = Names (names ++ (name ∷ []))
 with_lvalue names (lvalues.Memory m) = Lvalues (lvalues_of names ++ (lvalues.Memory m ∷ []))
 
 abbrev pub next_target : ℕ → Targets → Reads Targets
 next_target fuel (Names names) =
-    if_next is_quoted (kinded >>= λ k. give (Results (results_of names ++ (k ∷ [])))) (lvalue fuel >>= λ to. give (with_lvalue names to))
+    if_next is_any_text (kinded >>= λ k. give (Results (results_of names ++ (k ∷ [])))) (lvalue fuel >>= λ to. give (with_lvalue names to))
 next_target fuel (Lvalues to) = lvalue fuel >>= λ one. give (Lvalues (to ++ (one ∷ [])))
 next_target fuel (Results results) = kinded >>= λ k. give (Results (results ++ (k ∷ [])))
 
