@@ -37,7 +37,7 @@ use Rattle.cmm_ast.specs.declared.statement.Range.{Range}
 use Rattle.cmm_ast.specs.declared.statement.Span.{Span as SwitchSpan}
 use Rattle.cmm_ast.specs.declared.statement.StmtForm.{StmtForm, Row_of-Arm, end_of-Arm, more_of-Arm}
 use Rattle.cmm_ast.specs.declared.statement.StmtForm.TheVariants as stmts
-use Rattle.cmm_ast.specs.Taking.{Takes, ◌⨾◌, token, is_checked, keyword, symbol, here, nothing, opening, enclosed, round, square, braces, optional, many, commas, listed, may_list, may_comma}
+use Rattle.cmm_ast.specs.Taking.{Takes, ◌⨾◌, token, is_checked, keyword, symbol, here, nothing, opening, enclosed, outermost, round, square, braces, optional, many, commas, listed, may_list, may_comma}
 use Rattle.cmm_ast.specs.ExpressionGrammar.{ident, text, int, type_name, whole, whole_prim, whole_memory}
 
 -- ---- variables and stackdata
@@ -69,8 +69,9 @@ kinded k = optional text k.kind ⨾ ident k.name
 abbrev pub actual : Actual → Takes
 actual a = optional text a.kind ⨾ whole a.value
 
+-- operators are counted anew from here on
 abbrev pub arguments : List Actual → Takes
-arguments actuals = round (may_list actual actuals)
+arguments actuals = outermost (round (may_list actual actuals))
 
 abbrev pub lvalue : Lvalue → Takes
 lvalue (lvalues.Name name) = ident name
