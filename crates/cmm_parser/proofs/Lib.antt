@@ -10,3 +10,5 @@ pub mod Repeats
 pub mod Declarations
 pub mod Procedures
 pub mod Units
+pub mod CompleteRepeats
+pub mod CompleteDeclarations
