@@ -1,16 +1,15 @@
 -- Each type and expression that what follows does not go on is read.
-use Rattle.std.proofs.Common.{◌≡◌, ℕ, zero, suc, ◌<◌, ◌≤◌, max, ◌⊎◌, inl, inr, Bool, true, false, ◌&&◌, ◌||◌, ◌==◌, nat_le, List, [], ◌∷◌, ◌++◌, length, Option, Some, None, refl, sym, ap, ◌∙◌, arith, subst, le_trans, le_refl, All}
+use Rattle.std.proofs.Common.{◌≡◌, ℕ, zero, suc, ◌<◌, ◌≤◌, ◌⊎◌, inl, inr, Bool, true, false, ◌||◌, ◌==◌, nat_le, List, [], ◌∷◌, length, Option, Some, None, refl, sym, ap, ◌∙◌, arith, subst, is_some}
 use Rattle.std.proofs.lemmas.Bool.Decides.{nat_tests}
 use denote.Hole.Carrier as Carrier
 use Rattle.cmm_words.specs.declared.width.Width.{Width}
 use Rattle.cmm_words.specs.declared.width.Width.TheVariants.{W8, W16, W32, W64}
 use Rattle.cmm_lexer.specs.declared.piece.Lexeme.{Lexeme}
 use Rattle.cmm_lexer.specs.declared.piece.Lexeme.TheVariants as l
-use Rattle.cmm_ast.specs.declared.token.Ident.{Ident}
 use Rattle.cmm_ast.specs.declared.token.Int.{Int}
 use Rattle.cmm_ast.specs.declared.keyword.Keyword.TheVariants.{Align, Aligned}
 use Rattle.cmm_ast.specs.declared.keyword.Symbol.{Symbol}
-use Rattle.cmm_ast.specs.declared.keyword.Symbol.TheVariants.{Open, Close, OpenSquare, CloseSquare, Colons, Comma}
+use Rattle.cmm_ast.specs.declared.keyword.Symbol.TheVariants.{Open, Close, OpenSquare, CloseSquare, Colons}
 use Rattle.cmm_ast.specs.declared.expression.TypeName.{TypeName}
 use Rattle.cmm_ast.specs.declared.expression.TypeForm.{TypeForm}
 use Rattle.cmm_ast.specs.declared.expression.TypeForm.TheVariants.{Bits, Named as OfName}
@@ -21,22 +20,20 @@ use Rattle.cmm_ast.specs.declared.expression.Infix.TheVariants.{Eq, Ne, Lt, Le, 
 use Rattle.cmm_ast.specs.declared.expression.Prefix.{Prefix as PrefixOperator}
 use Rattle.cmm_ast.specs.declared.expression.Prefix.TheVariants.{Negate, Complement}
 use Rattle.cmm_ast.specs.declared.expression.Expr.{Expr}
-use Rattle.cmm_ast.specs.declared.expression.ExprForm.{ExprForm, Row_of-Expr, end_of-Expr, more_of-Expr, items-the_row-Expr}
-use Rattle.cmm_ast.specs.declared.expression.ExprForm.TheBlock as ExprForms
+use Rattle.cmm_ast.specs.declared.expression.ExprForm.{ExprForm, Row_of-Expr, end_of-Expr, more_of-Expr, items-the_row-Expr, items_shown-the_row-Expr-1, roll-ExprForm, out-ExprForm, roll-out-ExprForm}
 use Rattle.cmm_ast.specs.declared.expression.ExprForm.TheVariants.{Infix, Prefix, Prim, Memory as InMemory, Named, Infix', Prefix', Named'}
-use Rattle.cmm_ast.specs.declared.expression.PrimForm.{PrimForm}
 use Rattle.cmm_ast.specs.declared.expression.PrimForm.TheVariants.{Literal, Name as NameOf, Bracketed, Bracketed'}
-use Rattle.cmm_ast.specs.declared.expression.Memory.{Memory, Memory', roll-Memory}
+use Rattle.cmm_ast.specs.declared.expression.Memory.{Memory', roll-Memory}
 use Rattle.cmm_ast.specs.Numbers.{keyword_number, symbol_number}
-use Rattle.cmm_ast.specs.Taking.{Reading, Takes, ◌⨾◌, token, nothing, is_keyword, is_symbol, is_name, is_operator, is_int, is_char, keyword as keyword_is, symbol as symbol_is, here as here_is, operator as operator_is, opening as opening_is, optional as optional_is, round as round_is, square as square_is, in_brackets as in_brackets_is, may_comma}
+use Rattle.cmm_ast.specs.Taking.{Reading, Takes, ◌⨾◌, token, nothing, is_keyword, is_symbol, is_name, is_operator, is_int, is_char, keyword as keyword_is, symbol as symbol_is, here as here_is, operator as operator_is, optional as optional_is, square as square_is, in_brackets as in_brackets_is, may_comma}
 use Rattle.cmm_ast.specs.ExpressionGrammar as grammar
 use Rattle.cmm_ast.specs.ExpressionGrammar.{width_word, prefix_symbol, infix_symbol, infix_level, left_level, right_level, unary_level, level_of, binds, expr_form, prim_form, aligned_by, number_of}
-use Rattle.cmm_parser.specs.Reading.{Point, TooDeep, Answer, Read, Stopped, Reads, and_then, ◌>>=◌, give, next, look, choice, passes, if_next, here, skip, skip_opening, skip_operator, stop, in_brackets, round, square, pick, int, ident, name, listed}
+use Rattle.cmm_parser.specs.Reading.{Point, TooDeep, Answer, Read, Stopped, Reads, and_then, ◌>>=◌, give, next, look, passes, skip_operator, stop, in_brackets, pick, listed}
 use Rattle.cmm_parser.specs.ReadingLaws.{point, passed, outcome, Moves, Complete}
-use Rattle.cmm_parser.specs.ExpressionReading.{width_in, prefix_in, infix_in, sized, type_by, type_name, named_type, number_in, typed, literal, bracketed, aligned, located, memory, name_or_memory, prefixed, unary_by, begins_expression, tight, infix_next, joined, climb, operand}
-use Rattle.cmm_parser.proofs.Completes.{Next, Anything, Only, Strict, moves_trans, outcome_read, outcome_stopped, after_outcome, after_outcome_if, after_complete, fewer_complete, give_complete, last_complete, follow_complete, less_complete, at_complete, holds_complete, fails_complete, skip_complete, operator_complete, operator_strict, opening_complete, opening_strict, here_complete, enclosed_complete, both, number_same}
-use Rattle.cmm_parser.proofs.Expressions.{opened, operand_is, form_of_infix, level_of_infix, bound_by, small_level}
-use Rattle.cmm_parser.proofs.Lists.{takes_nothing}
+use Rattle.cmm_parser.specs.ExpressionReading.{width_in, prefix_in, infix_in, sized, type_by, type_name, named_type, number_in, typed, literal, bracketed, aligned, located, memory, name_or_memory, prefixed, unary_by, begins_expression, tight, infix_next, joined, climb, operand, whole}
+use Rattle.cmm_parser.proofs.Completes.{Next, Anything, Strict, moves_trans, outcome_read, outcome_stopped, after_outcome, after_outcome_if, after_complete, fewer_complete, give_complete, last_complete, follow_complete, less_complete, at_complete, holds_complete, fails_complete, skip_complete, operator_complete, operator_strict, opening_complete, opening_strict, here_complete, enclosed_complete, outermost_complete, both, number_same}
+use Rattle.cmm_parser.proofs.Expressions.{opened, operand_is, form_of_infix, level_of_infix, small_level, row_operands, any_level}
+use Rattle.cmm_parser.proofs.Lists.{takes_nothing, After, Parts, Each, list_complete}
 use Rattle.cmm_parser.proofs.Sounds.{same_number}
 use Rattle.cmm_parser.proofs.Tokens.{only_symbol, only_keyword, only_int, only_char, only_name, only_operator, symbol_complete, ident_complete, int_complete, pick_complete, some_is}
 
@@ -145,10 +142,10 @@ typed_complete (Some t) =
     (λ _. last_complete (λ t. Some t) (type_name_complete t))))
 typed_complete None =
     follow_complete (λ x f. tt) (λ x f. f) (fails_complete (is_symbol (symbol_number Colons)) no_colons (give_complete None)) where
-  no_colons : (x : Option Lexeme) → NoMore x → passes (is_symbol (symbol_number Colons)) x ≡ false
-  no_colons (Some (l.Symbol n)) e = left_false (symbol_number Colons == n) (symbol_number OpenSquare == n) e
-  no_colons (Some _) e = refl
-  no_colons None e = refl
+      no_colons : (x : Option Lexeme) → NoMore x → passes (is_symbol (symbol_number Colons)) x ≡ false
+      no_colons (Some (l.Symbol n)) e = left_false (symbol_number Colons == n) (symbol_number OpenSquare == n) e
+      no_colons (Some _) e = refl
+      no_colons None e = refl
 
 abbrev pub number_token : Number → Lexeme
 number_token (number.Int value) = l.Int value
@@ -191,18 +188,18 @@ either_complete {fuel = fuel} {first_kind = first_kind} {second_kind = second_ki
   complete = λ limited r after e f less fits. complete limited r after f less fits (kinds r after e);
 }
   where
-  moves : (r after : Reading) → (first_kind r ≡ Some after) ⊎ (second_kind r ≡ Some after) → Moves r after
-  moves r after (inl e) = one.moves r after e
-  moves r after (inr e) = two.moves r after e
+    moves : (r after : Reading) → (first_kind r ≡ Some after) ⊎ (second_kind r ≡ Some after) → Moves r after
+    moves r after (inl e) = one.moves r after e
+    moves r after (inr e) = two.moves r after e
 
-  begins : (r after : Reading) → follow (next after.left) → (first_kind r ≡ Some after) ⊎ (second_kind r ≡ Some after) → first (next r.left)
-  begins r after f (inl e) = one.begins r after e f
-  begins r after f (inr e) = two.begins r after e f
+    begins : (r after : Reading) → follow (next after.left) → (first_kind r ≡ Some after) ⊎ (second_kind r ≡ Some after) → first (next r.left)
+    begins r after f (inl e) = one.begins r after e f
+    begins r after f (inr e) = two.begins r after e f
 
-  complete : (limited : Bool) (r after : Reading) → follow (next after.left) → length r.left < fuel → passed limited r ≡ None →
-      (first_kind r ≡ Some after) ⊎ (second_kind r ≡ Some after) → reads limited (point r) ≡ outcome limited a after
-  complete limited r after f less fits (inl e) = one.complete limited r after e f less fits
-  complete limited r after f less fits (inr e) = two.complete limited r after e f less fits
+    complete : (limited : Bool) (r after : Reading) → follow (next after.left) → length r.left < fuel → passed limited r ≡ None →
+        (first_kind r ≡ Some after) ⊎ (second_kind r ≡ Some after) → reads limited (point r) ≡ outcome limited a after
+    complete limited r after f less fits (inl e) = one.complete limited r after e f less fits
+    complete limited r after f less fits (inr e) = two.complete limited r after e f less fits
 
 by_aligned : (o : Option Reading) (i : Int) (second : Takes) (r after : Reading) →
     elim o as (λ _. Option Reading) [ Some x ↦ grammar.int i x | None ↦ second r ] ≡ Some after →
@@ -316,17 +313,17 @@ operand_complete fuel level e spine = record {
   complete = λ limited r after is ends less fits. by fuel limited r after (operand_taken level e r after is) ends less fits;
 }
   where
-  by : (fuel : ℕ) (limited : Bool) (r after : Reading) → Operand level e r after → Ends level (next after.left) → length r.left < fuel →
-      passed limited r ≡ None → operand fuel level limited (point r) ≡ outcome limited e after
-  by zero limited r after taken ends less fits = absurd (omega arith)
-  by (suc fuel) limited r after taken ends less fits =
-      let g = (spine fuel).grown level limited r after taken.form taken.high
-          (record { no_more = ends.no_more; goes_on = λ op is. inl (ends.no_infix op is) }) less fits in
-      g.reads
-      ∙ after_outcome limited e.form e after after (λ f p. climb g.turns (operand fuel) level (record { token = r.taken; form = f }) limited p)
-      (record { shrinks = omega arith; stays = λ token is. is })
-      (λ fits. ended g.turns fuel level (record { token = r.taken; form = e.form }) after limited g.enough ends
-      ∙ ap (λ n. Read (record { token = n; form = e.form }) (point after)) (sym taken.token) ∙ sym (outcome_read limited e after fits))
+    by : (fuel : ℕ) (limited : Bool) (r after : Reading) → Operand level e r after → Ends level (next after.left) → length r.left < fuel →
+        passed limited r ≡ None → operand fuel level limited (point r) ≡ outcome limited e after
+    by zero limited r after taken ends less fits = absurd (omega arith)
+    by (suc fuel) limited r after taken ends less fits =
+        let g = (spine fuel).grown level limited r after taken.form taken.high
+        (record { no_more = ends.no_more; goes_on = λ op is. inl (ends.no_infix op is) }) less fits in
+        g.reads
+        ∙ after_outcome limited e.form e after after (λ f p. climb g.turns (operand fuel) level (record { token = r.taken; form = f }) limited p)
+        (record { shrinks = omega arith; stays = λ token is. is })
+        (λ fits. ended g.turns fuel level (record { token = r.taken; form = e.form }) after limited g.enough ends
+        ∙ ap (λ n. Read (record { token = n; form = e.form }) (point after)) (sym taken.token) ∙ sym (outcome_read limited e after fits))
 
 -- ---- an operator between operands
 
@@ -361,7 +358,7 @@ joined_taken : (left : Expr) (op : InfixOperator) (right : Expr) (r after : Read
     Joined left op right r after
 joined_taken left op right r after e =
     let f : (operand_is (left_level op) left ⨾ operator_is (symbol_is (infix_symbol op)) ⨾ operand_is (right_level op) right) r ≡ Some after =
-        ap (λ t. t r) (sym (form_of_infix left op right)) ∙ e
+    ap (λ t. t r) (sym (form_of_infix left op right)) ∙ e
     in
     let s = both (operand_is (left_level op) left) (operator_is (symbol_is (infix_symbol op)) ⨾ operand_is (right_level op) right) r after f in
     let t = both (operator_is (symbol_is (infix_symbol op))) (operand_is (right_level op) right) s.between after s.second in
@@ -397,7 +394,7 @@ module _ (left : Expr) (op : InfixOperator) (right : Expr) (left_spine : (n : �
       let rest : Unit {0} → Point → Answer Expr = λ _ p. and_then (operand fuel (right_level op) limited p) one in
       let answer : Answer Expr = and_then (outcome limited (Infix left op right) after) whole in
       let stops : (t : ℕ) → passed limited after ≡ Some t → answer ≡ Stopped TooDeep t =
-          λ t e. ap (λ o. and_then o whole) (outcome_stopped limited (Infix left op right) after t e)
+      λ t e. ap (λ o. and_then o whole) (outcome_stopped limited (Infix left op right) after t e)
       in
       let symbol_next = (the_operator {fuel = 0} op).begins j.between j.past_operator j.operator_taken tt in
       climbs turns fuel level l op (point j.between) limited
@@ -473,7 +470,7 @@ module _ (left : Expr) (op : InfixOperator) (right : Expr) (left_spine : (n : �
         let b = infix_below_left op in
         let h = j.left_taken.high in
         let g = (left_spine fuel).grown level limited r j.between j.left_taken.form (omega arith)
-            (left_ends level j.between j.past_operator j.operator_taken j.left_taken.high) less fits
+        (left_ends level j.between j.past_operator j.operator_taken j.left_taken.high) less fits
         in
         infix_grown level limited r after j low ends less fits g.turns g.enough g.reads;
   }
@@ -493,7 +490,7 @@ free_complete {p = p} each = record {
 }
 
 module _ (fuel : ℕ) where
-  Unary : ExprForm → Type 0
+  abbrev Unary : ExprForm → Type 0
   Unary form = Complete (suc fuel) (expr_form form) form (look (unary_by fuel (operand fuel))) Begins NoMore
 
   no_square : (x : Option Lexeme) → NoMore x → passes (is_symbol (symbol_number OpenSquare)) x ≡ false
@@ -502,7 +499,6 @@ module _ (fuel : ℕ) where
   no_square None e = refl
 
   literal_unary : (n : Number) (width : Option TypeName) → Unary (Prim (Literal n width))
-  unfolding Unary
   literal_unary (number.Int value) width =
       follow_complete (λ x e. rw e refl) (λ x f. f)
       (at_complete (unary_by fuel (operand fuel)) (l.Int value) (last_complete (λ p. Prim p) (literal_complete (number.Int value) width)))
@@ -517,7 +513,6 @@ module _ (fuel : ℕ) where
       (λ i. fails_complete (is_symbol (symbol_number OpenSquare)) no_square (give_complete (Prim (NameOf i.name))))
 
   name_unary : (bytes : List ℕ) → Unary (Prim (NameOf bytes))
-  unfolding Unary
   name_unary bytes =
       follow_complete (λ x e. rw e refl) (λ x f. f)
       (at_complete (unary_by fuel (operand fuel)) (l.Name bytes)
@@ -532,13 +527,12 @@ module _ (fuel : ℕ) where
         (operand_complete fuel 0 e spine))
 
     bracketed_unary : Unary (Prim (Bracketed e))
-    unfolding Unary
     bracketed_unary =
         follow_complete (λ x e. rw e refl) (λ x f. tt)
         (at_complete (unary_by fuel (operand fuel)) (l.Symbol (symbol_number Open)) (last_complete (λ p. Prim p) bracketed_complete))
 
     any_ends : (x : Option Lexeme) → NoMore x → Ends unary_level x
-    any_ends x none = record { no_more = none; no_infix = λ op is. small_level op }
+    any_ends x none = record { no_more = none; no_infix = λ op is. let s = small_level op in omega arith }
 
     prefix_complete : (op : PrefixOperator) →
         Complete (suc fuel) (expr_form (Prefix op e)) (Prefix op e) (prefixed (operand fuel) (Some op)) (Next (l.Symbol (symbol_number (prefix_symbol op)))) NoMore
@@ -549,7 +543,6 @@ module _ (fuel : ℕ) where
         (λ _. last_complete (λ e. Prefix op e) (follow_complete (λ x f. f) any_ends (operand_complete fuel unary_level e spine)))
 
     prefix_unary : (op : PrefixOperator) → Unary (Prefix op e)
-    unfolding Unary
     prefix_unary Negate =
         follow_complete (λ x e. rw e refl) (λ x f. f) (at_complete (unary_by fuel (operand fuel)) (l.Symbol (symbol_number (prefix_symbol Negate))) (prefix_complete Negate))
     prefix_unary Complement =
@@ -570,9 +563,9 @@ module _ (fuel : ℕ) where
 
     memory_unary : (token_ : ℕ) (form : TypeForm) (bytes : Option Int) →
         Unary (InMemory (roll-Memory (record { width = record { token = token_; form = form }; address = e; aligned = bytes })))
-    unfolding Unary opened
+    unfolding opened
     memory_unary token_ (Bits width) bytes =
-        follow_complete (λ x is. rw is ?) (λ x f. tt)
+        follow_complete (λ x is. rw is (ap is_some (width_in_is width))) (λ x f. tt)
         (at_complete (unary_by fuel (operand fuel)) (l.Word (keyword_number (width_word width)))
         (after_complete {b = λ t. InMemory (roll-Memory (record { width = t; address = e; aligned = bytes }))}
         (type_name_complete (record { token = token_; form = Bits width })) (λ x f. tt) (λ t. last_complete (λ m. InMemory m) (memory_complete t bytes))))
@@ -583,3 +576,87 @@ module _ (fuel : ℕ) where
         (ident_complete (record { name = name_; token = token_ })) (λ x f. tt)
         (λ i. holds_complete {fails = give (Prim (NameOf i.name))} (is_symbol (symbol_number OpenSquare)) (λ x is. rw is refl)
         (last_complete (λ m. InMemory m) (memory_complete (named_type i) bytes)))))
+
+-- ---- the operands of an operator that is written by its name
+
+pub expr_complete : (fuel : ℕ) (e : Expr) → ((n : ℕ) → Spine n e.form) → Complete fuel (grammar.expr e) e (operand fuel 0) Begins (Ends 0)
+expr_complete fuel e spine = subst (λ t. Complete fuel t e (operand fuel 0) Begins (Ends 0)) (any_level e) (operand_complete fuel 0 e spine)
+
+operands : Parts begins_expression Begins (Ends 0) (Next (l.Symbol (symbol_number Close)))
+operands = record {
+  starts = λ x b. b;
+  ends = λ x e. rw e refl;
+  no_comma = λ x e. rw e refl;
+  goes_on = after;
+}
+  where
+    after : (x : Option Lexeme) → After (Next (l.Symbol (symbol_number Close))) x → Ends 0 x
+    after x (inl e) = rw e (record { no_more = refl; no_infix = λ op is. absurd cc })
+    after x (inr e) = rw e (record { no_more = refl; no_infix = λ op is. absurd cc })
+
+abbrev pub HasSpine : Expr → Type 0
+HasSpine e = (n : ℕ) → Spine n e.form
+
+each_expr : (fuel : ℕ) (es : List Expr) → Each HasSpine es → Each (λ e. Complete fuel (grammar.expr e) e (operand fuel 0) Begins (Ends 0)) es
+each_expr fuel [] spines = tt
+each_expr fuel (e ∷ es) spines = (expr_complete fuel e spines.0, each_expr fuel es spines.1)
+
+never_complete : {A : Type 0} {fuel : ℕ} {p : Takes} {a : A} {reads : Reads A} {first follow : Option Lexeme → Type 0} →
+    ((r after : Reading) → p r ≡ Some after → ⊥) → Complete fuel p a reads first follow
+never_complete never = record {
+  moves = λ r after e. absurd (never r after e);
+  begins = λ r after e f. absurd (never r after e);
+  complete = λ limited r after e f less fits. absurd (never r after e);
+}
+
+operands_complete : (fuel : ℕ) (n : _) (row : Row_of-Expr n) → Each HasSpine (items-the_row-Expr n row) →
+    Complete fuel (grammar.operand_list row ⨾ may_comma) (items-the_row-Expr n row) (listed fuel begins_expression (operand fuel 0)) Begins
+    (Next (l.Symbol (symbol_number Close)))
+operands_complete fuel n end_of-Expr spines = never_complete (λ r after e. absurd cc)
+operands_complete fuel n (more_of-Expr {n = m} token_ f rest) spines =
+    let e : Expr = record { token = token_; form = f } in
+    let es : List Expr = items-the_row-Expr m rest in
+    subst
+    (λ t. Complete fuel t (e ∷ es) (listed fuel begins_expression (operand fuel 0)) Begins (Next (l.Symbol (symbol_number Close))))
+    (sym (row_operands n (more_of-Expr token_ f rest) e es may_comma refl))
+    (list_complete (operand fuel 0) grammar.expr operands e es (each_expr fuel (e ∷ es) spines))
+
+named_is : (bytes : List ℕ) (shape : _) (row : _) → Named bytes (items-the_row-Expr _ row) ≡ Named' bytes shape row
+unfolding opened roll-ExprForm out-ExprForm Carrier.out
+named_is bytes shape row = ap (λ es. Named bytes es) (sym (items_shown-the_row-Expr-1 shape row)) ∙ roll-out-ExprForm (Named' bytes shape row)
+
+named_unary : (fuel : ℕ) (bytes : List ℕ) (shape : _) (row : _) → Each HasSpine (items-the_row-Expr _ row) → Unary fuel (Named' bytes shape row)
+named_unary fuel bytes shape row spines =
+    subst
+    (λ f. Complete (suc fuel) (expr_form (Named' bytes shape row)) f (look (unary_by fuel (operand fuel))) Begins NoMore)
+    (named_is bytes shape row)
+    (follow_complete (λ x e. rw e refl) (λ x f. tt)
+    (at_complete (unary_by fuel (operand fuel)) (l.Op bytes)
+    (fewer_complete (operator_strict (only_operator bytes)) (operator_complete (is_operator bytes) (only_operator bytes)) (λ x f. tt)
+    (λ _. last_complete (λ es. Named bytes es)
+    (less_complete (omega arith) (in_brackets_complete Open Close (λ x e. e) (operands_complete fuel _ row spines)))))))
+
+-- ---- every expression
+
+mutual
+  unfolding opened
+
+  pub spine : (f : ExprForm) (fuel : ℕ) → Spine fuel f
+  spine (Infix' a (more_of-Expr t f end_of-Expr) op b (more_of-Expr u g end_of-Expr)) fuel =
+      infix_spine (record { token = t; form = f }) op (record { token = u; form = g }) (spine f) (spine g) fuel
+  spine (Prefix' op a (more_of-Expr t f end_of-Expr)) fuel =
+      spine_of_unary fuel _ (prefix_unary fuel (record { token = t; form = f }) (spine f) op)
+  spine (Prim (Literal n width)) fuel = spine_of_unary fuel _ (literal_unary fuel n width)
+  spine (Prim (NameOf bytes)) fuel = spine_of_unary fuel _ (name_unary fuel bytes)
+  spine (Prim (Bracketed' a (more_of-Expr t f end_of-Expr))) fuel =
+      spine_of_unary fuel _ (bracketed_unary fuel (record { token = t; form = f }) (spine f))
+  spine (InMemory (Memory' width a (more_of-Expr t f end_of-Expr) bytes)) fuel =
+      spine_of_unary fuel _ (memory_unary fuel (record { token = t; form = f }) (spine f) width.token width.form bytes)
+  spine (Named' bytes shape row) fuel = spine_of_unary fuel _ (named_unary fuel bytes shape row (spines row))
+
+  pub spines : {n : _} (row : Row_of-Expr n) → Each HasSpine (items-the_row-Expr n row)
+  spines end_of-Expr = tt
+  spines (more_of-Expr t f rest) = (spine f, spines rest)
+
+pub whole_complete : (fuel : ℕ) (e : Expr) → Complete fuel (grammar.whole e) e (whole fuel) Begins (Ends 0)
+whole_complete fuel e = outermost_complete (expr_complete fuel e (spine e.form))

@@ -1,11 +1,10 @@
 -- Each tree that what follows does not go on is read: for each way in which readers are put together.
-use Rattle.std.proofs.Common.{◌≡◌, ℕ, zero, suc, ◌<◌, ◌≤◌, Bool, true, false, ◌&&◌, List, [], ◌∷◌, ◌++◌, length, Option, Some, None, refl, sym, ap, ◌∙◌, arith, nat_lt, ◌==◌, le_trans, append_assoc, append-nil}
+use Rattle.std.proofs.Common.{◌≡◌, ℕ, suc, ◌<◌, ◌≤◌, Bool, true, false, ◌&&◌, List, [], ◌∷◌, length, Option, Some, None, refl, sym, ap, ◌∙◌, arith, nat_lt, ◌==◌, le_trans}
 use Rattle.std.proofs.lemmas.Bool.Decides.{nat_tests}
 use Rattle.cmm_lexer.specs.declared.piece.Lexeme.{Lexeme}
 use Rattle.cmm_ast.specs.Taking.{Reading, Takes, ◌⨾◌, here as here_is, nothing, token, taken_if, first_over, operator as operator_is, opening as opening_is, enclosed as enclosed_is, outermost as outermost_is}
 use Rattle.cmm_parser.specs.Reading.{Point, TooDeep, Answer, Read, Stopped, Reads, and_then, ◌>>=◌, give, next, past, look, choice, passes, if_next, here, skip, skip_opening, skip_operator, enclosed, outermost}
 use Rattle.cmm_parser.specs.ReadingLaws.{point, passed, outcome, Moves, Complete}
-use Rattle.cmm_parser.proofs.Sounds.{same_number}
 
 -- what follows: this token, or anything
 abbrev pub Next : Lexeme → Option Lexeme → Type 0
@@ -147,7 +146,7 @@ less_complete le one = record {
 
 pub look_complete : {A : Type 0} {fuel : ℕ} {p : Takes} {a : A} {by : Option Lexeme → Reads A} {first follow : Option Lexeme → Type 0} →
     ((x : Option Lexeme) → first x → Complete fuel p a (by x) first follow) →
-    ((r after : Reading) → p r ≡ Some after → Moves r after) → 
+    ((r after : Reading) → p r ≡ Some after → Moves r after) →
     ((r after : Reading) → p r ≡ Some after → follow (next after.left) → first (next r.left)) →
     Complete fuel p a (look by) first follow
 look_complete each moves begins = record {
@@ -373,18 +372,18 @@ enclosed_complete {A = A} {p = p} {a = a} {reads = reads} one = record {
       closes limited r after o.0 o.2 (one.complete limited r o.0 o.1 (rw o.2 at f) less fits);
 }
   where
-  closes : (limited : Bool) (r after between : Reading) → after ≡ record between { open_brackets = r.open_brackets } →
-      reads limited (point r) ≡ outcome limited a between → enclosed reads limited (point r) ≡ outcome limited a after
-  closes limited r after between is read =
-      let closed : Reading = record between { open_brackets = r.open_brackets } in
-      let rest : A → Point → Answer A = λ a after. Read a record after { open_brackets = r.open_brackets } in
-      ap (λ ans. and_then ans rest) read
-      ∙ rw is (after_outcome limited a a between closed rest (record { shrinks = omega arith; stays = λ token is. is })
-      (λ fits. sym (outcome_read limited a closed (passed_same limited between closed refl ∙ fits))))
+    closes : (limited : Bool) (r after between : Reading) → after ≡ record between { open_brackets = r.open_brackets } →
+        reads limited (point r) ≡ outcome limited a between → enclosed reads limited (point r) ≡ outcome limited a after
+    closes limited r after between is read =
+        let closed : Reading = record between { open_brackets = r.open_brackets } in
+        let rest : A → Point → Answer A = λ a after. Read a record after { open_brackets = r.open_brackets } in
+        ap (λ ans. and_then ans rest) read
+        ∙ rw is (after_outcome limited a a between closed rest (record { shrinks = omega arith; stays = λ token is. is })
+        (λ fits. sym (outcome_read limited a closed (passed_same limited between closed refl ∙ fits))))
 
-  closing : (r after : Reading) → enclosed_is p r ≡ Some after →
-      (between : Reading) × (p r ≡ Some between) × (after ≡ record between { open_brackets = r.open_brackets })
-  closing r after e = mapped (p r) (λ between. record between { open_brackets = r.open_brackets }) after e
+    closing : (r after : Reading) → enclosed_is p r ≡ Some after →
+        (between : Reading) × (p r ≡ Some between) × (after ≡ record between { open_brackets = r.open_brackets })
+    closing r after e = mapped (p r) (λ between. record between { open_brackets = r.open_brackets }) after e
 
 pub outermost_complete : {A : Type 0} {fuel : ℕ} {p : Takes} {a : A} {reads : Reads A} {first follow : Option Lexeme → Type 0} →
     Complete fuel p a reads first follow → Complete fuel (outermost_is p) a (outermost reads) first follow

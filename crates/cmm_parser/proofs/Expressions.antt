@@ -1,5 +1,5 @@
 -- Types and expressions that are read are trees of the tokens that they take.
-use Rattle.std.proofs.Common.{◌≡◌, ℕ, zero, suc, ◌+◌, max, ◌<◌, ◌≤◌, ◌⊎◌, inl, inr, Bool, true, false, ◌&&◌, ◌==◌, nat_le, List, [], ◌∷◌, ◌++◌, Option, Some, None, refl, sym, ap, ◌∙◌, arith, find, cond}
+use Rattle.std.proofs.Common.{◌≡◌, ℕ, zero, suc, ◌≤◌, ◌⊎◌, inl, inr, Bool, true, false, ◌&&◌, ◌==◌, nat_le, List, [], ◌∷◌, Option, Some, None, refl, sym, ap, ◌∙◌, arith, find, cond}
 use Rattle.std.proofs.Math.Path.{fun_ext}
 use Rattle.std.proofs.lemmas.Bool.Decides.{nat_tests}
 use denote.Hole.Carrier as Carrier
@@ -13,7 +13,6 @@ use Rattle.cmm_ast.specs.declared.keyword.Keyword.TheVariants.{Align, Aligned}
 use Rattle.cmm_ast.specs.declared.keyword.Symbol.{Symbol}
 use Rattle.cmm_ast.specs.declared.keyword.Symbol.TheVariants.{Open, Close, OpenSquare, CloseSquare, Colons, Comma}
 use Rattle.cmm_ast.specs.declared.expression.TypeName.{TypeName}
-use Rattle.cmm_ast.specs.declared.expression.TypeForm.{TypeForm}
 use Rattle.cmm_ast.specs.declared.expression.TypeForm.TheVariants.{Bits, Named as OfName}
 use Rattle.cmm_ast.specs.declared.expression.Number.{Number}
 use Rattle.cmm_ast.specs.declared.expression.Number.TheVariants as number
@@ -25,21 +24,19 @@ use Rattle.cmm_ast.specs.declared.expression.Expr.{Expr}
 use Rattle.cmm_ast.specs.declared.expression.ExprForm.{ExprForm, Row_of-Expr, end_of-Expr, more_of-Expr, items-the_row-Expr, items_hidden-the_row-Expr-1}
 use Rattle.cmm_ast.specs.declared.expression.ExprForm.TheBlock as ExprForms
 use Rattle.cmm_ast.specs.declared.expression.ExprForm.TheVariants.{Infix, Prefix, Prim, Memory as InMemory, Named}
-use Rattle.cmm_ast.specs.declared.expression.Prim.{Prim as PrimExpr}
-use Rattle.cmm_ast.specs.declared.expression.PrimForm.{PrimForm}
-use Rattle.cmm_ast.specs.declared.expression.PrimForm.TheVariants.{Literal, Name as NameOf, Bracketed}
-use Rattle.cmm_ast.specs.declared.expression.Memory.{Memory, roll-Memory}
+use Rattle.cmm_ast.specs.declared.expression.PrimForm.TheVariants.{Name as NameOf, Bracketed}
+use Rattle.cmm_ast.specs.declared.expression.Memory.{roll-Memory}
 use Rattle.cmm_ast.specs.Numbers.{keyword_number, symbol_number}
-use Rattle.cmm_ast.specs.Taking.{Reading, Takes, ◌⨾◌, token, nothing, is_keyword, is_symbol, is_name, is_operator, is_int, is_char, keyword as keyword_is, symbol as symbol_is, here as here_is, operator as operator_is, optional as optional_is, round as round_is, square as square_is, in_brackets as in_brackets_is, outermost as outermost_is, may_comma}
+use Rattle.cmm_ast.specs.Taking.{Reading, Takes, ◌⨾◌, token, nothing, is_keyword, is_symbol, is_name, is_operator, is_int, is_char, keyword as keyword_is, symbol as symbol_is, here as here_is, operator as operator_is, optional as optional_is, round as round_is, in_brackets as in_brackets_is, may_comma}
 use Rattle.cmm_ast.specs.ExpressionGrammar as grammar
 use Rattle.cmm_ast.specs.ExpressionGrammar.{width_word, prefix_symbol, infix_symbol, infix_level, left_level, right_level, unary_level, level_of, binds, expr_form, prim_form, aligned_by, number_of}
-use Rattle.cmm_parser.specs.Reading.{Point, Read, Reads, ◌>>=◌, give, next, look, choice, passes, if_next, here, skip, skip_opening, skip_operator, stop, in_brackets, round, square, pick, int, ident, name, listed}
+use Rattle.cmm_parser.specs.Reading.{Point, Read, Reads, ◌>>=◌, give, next, look, choice, passes, if_next, skip, skip_operator, in_brackets, pick, int, ident, name}
 use Rattle.cmm_parser.specs.ReadingLaws.{within, Sound}
-use Rattle.cmm_parser.specs.ExpressionReading.{width_in, prefix_in, infix_in, sized, type_by, type_name, named_type, number_in, typed, literal, bracketed, aligned, located, memory, name_or_memory, prefixed, unary_by, begins_expression, tight, infix_next, joined, climb, operand, expr, whole, prim_by, prim, whole_prim, whole_memory}
+use Rattle.cmm_parser.specs.ExpressionReading.{width_in, prefix_in, infix_in, sized, type_by, type_name, named_type, number_in, typed, literal, bracketed, aligned, located, memory, name_or_memory, prefixed, unary_by, begins_expression, tight, infix_next, joined, climb, operand, expr, whole, prim_by, prim, whole_prim}
 use Rattle.cmm_parser.proofs.Sounds.{Goes, GoesAt, whole_sound, after_sound, last_sound, last_goes, same_sound, give_sound, at_sound, look_sound, stop_sound, next_sound, skip_sound, skip_last_sound, operator_sound, opening_last_sound, here_sound, enclosed_sound, outermost_sound, same_number, bound, read_same, renamed, one_taken, none_taken, taken_then, look_at_sound, at_same, choice_sound}
-use Rattle.cmm_parser.proofs.Completes.{number_same, both}
+use Rattle.cmm_parser.proofs.Completes.{number_same}
 use Rattle.cmm_parser.proofs.Lists.{takes_assoc, takes_nothing, rest_to, listed_goes, goes_same, chosen}
-use Rattle.cmm_parser.proofs.Tokens.{symbol_sound, ident_sound, int_sound, name_sound, pick_sound, same_bytes, some_is}
+use Rattle.cmm_parser.proofs.Tokens.{symbol_sound, ident_sound, int_sound, pick_sound, same_bytes, some_is}
 
 -- what the laws of trees unfold beside definitions that always unfold
 unfoldable pub opened : Unit {0}
@@ -198,26 +195,26 @@ module _ (inner : ℕ → Reads Expr) (sound : Sound (inner 0) (operand_is 0)) w
         (give (Prim (NameOf q.first.name))) q.between f after q.then_read);
   }
     where
-    named : (n : ℕ) (o : Bool) (name : Takes) (r between : Reading) →
-        elim (elim o as (λ _. Option Reading) [ true ↦ Some r | false ↦ None ]) as (λ _. Option Reading) [ Some x ↦ name x | None ↦ None ] ≡ Some between →
-        name r ≡ Some between
-    named n true name r between e = e
-    named n false name r between e = absurd cc
+      named : (n : ℕ) (o : Bool) (name : Takes) (r between : Reading) →
+          elim (elim o as (λ _. Option Reading) [ true ↦ Some r | false ↦ None ]) as (λ _. Option Reading) [ Some x ↦ name x | None ↦ None ] ≡ Some between →
+          name r ≡ Some between
+      named n true name r between e = e
+      named n false name r between e = absurd cc
 
-    by : (p : Point) (i : Ident) (between : Point) (f : ExprForm) (after : Point) → grammar.ident i (within p) ≡ Some (within between) →
-        ((memory inner (named_type i) >>= λ m. give (InMemory m)) true between ≡ Read f after)
-        ⊎ (give (Prim (NameOf i.name)) true between ≡ Read f after) → unary_is f (within p) ≡ Some (within after)
-    by p i between f after taken (inl e) =
-        let q = bound (memory inner (named_type i) true between) (λ m after. give (InMemory m) true after) f after e in
-        let o = read_same q.then_read in
-        let m = (memory_goes (named_type i)).goes (within p) between (λ k. taken_then (grammar.ident i) k (within p) (within between) taken) q.first
-            q.between q.read
-        in
-        renamed unary_is f (InMemory q.first) after q.between (within p) o m
-    by p i between f after taken (inr e) =
-        let o = read_same e in
-        renamed unary_is f (Prim (NameOf i.name)) after between (within p) o
-        (named i.token (i.token == p.taken) (token (is_name i.name)) (within p) (within between) taken)
+      by : (p : Point) (i : Ident) (between : Point) (f : ExprForm) (after : Point) → grammar.ident i (within p) ≡ Some (within between) →
+          ((memory inner (named_type i) >>= λ m. give (InMemory m)) true between ≡ Read f after)
+          ⊎ (give (Prim (NameOf i.name)) true between ≡ Read f after) → unary_is f (within p) ≡ Some (within after)
+      by p i between f after taken (inl e) =
+          let q = bound (memory inner (named_type i) true between) (λ m after. give (InMemory m) true after) f after e in
+          let o = read_same q.then_read in
+          let m = (memory_goes (named_type i)).goes (within p) between (λ k. taken_then (grammar.ident i) k (within p) (within between) taken) q.first
+          q.between q.read
+          in
+          renamed unary_is f (InMemory q.first) after q.between (within p) o m
+      by p i between f after taken (inr e) =
+          let o = read_same e in
+          renamed unary_is f (Prim (NameOf i.name)) after between (within p) o
+          (named i.token (i.token == p.taken) (token (is_name i.name)) (within p) (within between) taken)
 
 pub prim_form_of_prefix : (op : PrefixOperator) (e : Expr) → expr_form (Prefix op e) ≡ (operator_is (symbol_is (prefix_symbol op)) ⨾ operand_is unary_level e)
 unfolding opened
@@ -248,7 +245,7 @@ rows_then n (more_of-Expr {n = m} token f rest) k =
     (item_then (here_is token) (expr_form f) (grammar.more_operands rest) k
     ∙ ap (λ t. (here_is token ⨾ expr_form f) ⨾ t) (rows_then m rest k))
 
-row_operands : (n : _) (row : Row_of-Expr n) (e : Expr) (es : List Expr) (k : Takes) → items-the_row-Expr n row ≡ e ∷ es →
+pub row_operands : (n : _) (row : Row_of-Expr n) (e : Expr) (es : List Expr) (k : Takes) → items-the_row-Expr n row ≡ e ∷ es →
     (grammar.operand_list row ⨾ k) ≡ (grammar.expr e ⨾ rest_to grammar.expr es k)
 row_operands n end_of-Expr e es k same = absurd cc
 row_operands n (more_of-Expr {n = m} token f rest) e es k same =
@@ -273,7 +270,7 @@ pub bound_by : (test : Bool) (next_ : Takes) → test ≡ true →
 bound_by true next_ e = refl
 bound_by false next_ e = absurd cc
 
-any_level : (e : Expr) → operand_is 0 e ≡ grammar.expr e
+pub any_level : (e : Expr) → operand_is 0 e ≡ grammar.expr e
 any_level e = bound_by (nat_le 0 (level_of e.form)) (grammar.expr e) (grind (arith, nat_tests))
 
 module _ (inner : ℕ → Reads Expr) (sound : (level : ℕ) → level ≤ unary_level → Sound (inner level) (operand_is level)) where
@@ -385,35 +382,37 @@ module _ (inner : ℕ → Reads Expr) (sound : (level : ℕ) → level ≤ unary
   climb_goes zero level left high = record { goes = λ r p before b after e. absurd cc }
   climb_goes (suc turns) level left high = look_sound (λ x. climb_at turns level left high (climb_goes turns level) x (infix_next level left.form x) refl)
     where
-    climb_at : (turns level : ℕ) (left : Expr) → nat_le level (level_of left.form) ≡ true →
-        ((left : Expr) → nat_le level (level_of left.form) ≡ true →
-        Goes (λ k. here_is left.token ⨾ expr_form left.form ⨾ k) (climb turns inner level left) (operand_is level)) → (x : Option Lexeme) (o : Option InfixOperator) →
-        infix_next level left.form x ≡ o →
-        GoesAt x (λ k. here_is left.token ⨾ expr_form left.form ⨾ k)
-        (elim o as (λ _. Reads Expr) [
-          | Some op ↦ skip_operator >>= λ _. inner (right_level op) >>= λ right. climb turns inner level (joined left op right)
-          | None ↦ give left
-        ]) (operand_is level)
-    climb_at turns level left high later x None e =
-        at_sound (give_sound left (at_least level left high ∙ ap (λ t. here_is left.token ⨾ t) (sym (takes_nothing (expr_form left.form)))))
-    climb_at turns level left high later x (Some op) e =
-        let g = grows level left.form x op e in
-        goes_at_is g.is_next
-        (operator_sound (is_symbol (symbol_number (infix_symbol op))) g.passed
-        (λ _. after_sound (sound (right_level op) (small_level op)) (λ right.
-        goes_same
-        (λ k. joined_same left.token (expr_form left.form) (operator_is (symbol_is (infix_symbol op))) (operand_is (right_level op) right) k
-        (expr_form (Infix left op right)) (operand_is (left_level op) left) (form_of_infix left op right)
-        (at_least (left_level op) left g.left_high))
-        (later (joined left op right) (rw (level_of_infix left op right) g.high)))))
+      climb_at : (turns level : ℕ) (left : Expr) → nat_le level (level_of left.form) ≡ true →
+          ((left : Expr) → nat_le level (level_of left.form) ≡ true →
+          Goes (λ k. here_is left.token ⨾ expr_form left.form ⨾ k) (climb turns inner level left) (operand_is level)) → (x : Option Lexeme) (o : Option InfixOperator) →
+          infix_next level left.form x ≡ o →
+          GoesAt x (λ k. here_is left.token ⨾ expr_form left.form ⨾ k)
+          (elim o as (λ _. Reads Expr) [
+            | Some op ↦ skip_operator >>= λ _. inner (right_level op) >>= λ right. climb turns inner level (joined left op right)
+            | None ↦ give left
+          ]) (operand_is level)
+      climb_at turns level left high later x None e =
+          at_sound (give_sound left (at_least level left high ∙ ap (λ t. here_is left.token ⨾ t) (sym (takes_nothing (expr_form left.form)))))
+      climb_at turns level left high later x (Some op) e =
+          let g = grows level left.form x op e in
+          goes_at_is g.is_next
+          (operator_sound (is_symbol (symbol_number (infix_symbol op))) g.passed
+          (λ _. after_sound (sound (right_level op) (small_level op)) (λ right.
+          goes_same
+          (λ k. joined_same left.token (expr_form left.form) (operator_is (symbol_is (infix_symbol op))) (operand_is (right_level op) right) k
+          (expr_form (Infix left op right)) (operand_is (left_level op) left) (form_of_infix left op right)
+          (at_least (left_level op) left g.left_high))
+          (later (joined left op right) (rw (level_of_infix left op right) g.high)))))
 
   start_goes : (turns level token : ℕ) (form : ExprForm) → level ≤ unary_level → (test : Bool) → nat_le unary_level (level_of form) ≡ test →
       Goes (λ k. here_is token ⨾ unary_is form ⨾ k) (climb turns inner level (record { token = token; form = form })) (operand_is level)
   start_goes turns level token form le true e =
       goes_same (λ k. ap (λ t. here_is token ⨾ t ⨾ k) (bound_by (nat_le unary_level (level_of form)) (expr_form form) e))
       (climb_goes turns level (record { token = token; form = form }) (grind (arith, nat_tests)))
-  start_goes turns level token form le false e = record { goes = λ r p before b after read. absurd (never token (unary_is form) r (within p)
-      (bound_never (nat_le unary_level (level_of form)) (expr_form form) e) (before nothing)) }
+  start_goes turns level token form le false e = record {
+    goes = λ r p before b after read. absurd (never token (unary_is form) r (within p)
+        (bound_never (nat_le unary_level (level_of form)) (expr_form form) e) (before nothing));
+  }
 
 pub operand_sound : (fuel level : ℕ) → level ≤ unary_level → Sound (operand fuel level) (operand_is level)
 operand_sound zero level le = record { sound = λ p a after e. absurd cc }

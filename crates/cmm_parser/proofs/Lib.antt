@@ -12,3 +12,4 @@ pub mod Procedures
 pub mod Units
 pub mod CompleteRepeats
 pub mod CompleteDeclarations
+pub mod OneExpression

@@ -1,15 +1,15 @@
 -- Lists: what their parts take one after the other, and how they are read.
-use Rattle.std.proofs.Common.{◌≡◌, ℕ, zero, suc, ◌<◌, ◌≤◌, ◌⊎◌, inl, inr, Bool, true, false, List, [], ◌∷◌, ◌++◌, length, Option, Some, None, refl, sym, ap, ◌∙◌, arith, append_assoc, append-nil, le_refl, subst}
+use Rattle.std.proofs.Common.{◌≡◌, ℕ, zero, suc, ◌≤◌, ◌⊎◌, inl, inr, Bool, true, false, List, [], ◌∷◌, ◌++◌, Option, Some, None, refl, sym, ap, ◌∙◌, arith, append_assoc, append-nil, le_refl, subst}
 use Rattle.std.proofs.Math.Path.{fun_ext}
 use Rattle.cmm_lexer.specs.declared.piece.Lexeme.{Lexeme}
 use Rattle.cmm_lexer.specs.declared.piece.Lexeme.TheVariants as l
 use Rattle.cmm_ast.specs.declared.keyword.Symbol.TheVariants.{Comma}
 use Rattle.cmm_ast.specs.Numbers.{symbol_number}
-use Rattle.cmm_ast.specs.Taking.{Reading, Takes, ◌⨾◌, nothing, token, taken_if, symbol as symbol_is, optional as optional_is, many as many_is, commas as commas_is, may_comma, listed as listed_is, may_list as may_list_is}
-use Rattle.cmm_parser.specs.Reading.{Point, Read, Reads, ◌>>=◌, give, next, past, choice, passes, if_next, skip, is_comma, optional, many, more_commas, commas, more_listed, listed, may_list}
+use Rattle.cmm_ast.specs.Taking.{Reading, Takes, ◌⨾◌, nothing, token, taken_if, symbol as symbol_is, commas as commas_is, may_comma, listed as listed_is, may_list as may_list_is}
+use Rattle.cmm_parser.specs.Reading.{Point, Read, Reads, ◌>>=◌, give, next, past, choice, passes, if_next, skip, is_comma, more_commas, commas, more_listed, listed, may_list}
 use Rattle.cmm_parser.specs.ReadingLaws.{within, point, passed, outcome, Moves, Sound, Complete}
 use Rattle.cmm_parser.proofs.Sounds.{Goes, GoesAt, whole_sound, after_sound, give_sound, same_sound, at_sound, next_sound, skip_sound, read_same, one_taken}
-use Rattle.cmm_parser.proofs.Completes.{Next, Only, Taken, moves_self, outcome_read, passed_same, after_complete, fewer_complete, follow_complete, less_complete, holds_complete, skip_complete, token_taken, token_strict, taken_moves, give_complete}
+use Rattle.cmm_parser.proofs.Completes.{Only, Taken, moves_self, outcome_read, passed_same, after_complete, fewer_complete, follow_complete, less_complete, holds_complete, skip_complete, token_taken, token_strict, taken_moves}
 use Rattle.cmm_parser.proofs.Tokens.{only_symbol}
 
 -- ---- takings one after the other
@@ -81,15 +81,15 @@ comma_sound {so_far = so_far} {takes = takes} begins item done x passed goes las
       by r p is before b after (chosen (passes begins (next there.left)) item (give done) there b after e);
 }
   where
-  by : (r : Reading) (p : Point) → next p.left ≡ Some x → ((k : Takes) → so_far k r ≡ k (within p)) → (b : _) (after : Point) →
-      (item true (record p { left = past p.left; taken = suc p.taken }) ≡ Read b after)
-      ⊎ (give done true (record p { left = past p.left; taken = suc p.taken }) ≡ Read b after) → takes b r ≡ Some (within after)
-  by r p is before b after (inl e) =
-      goes.goes r (record p { left = past p.left; taken = suc p.taken })
-      (λ k. before (symbol_is Comma ⨾ k) ∙ rw (◌⨾◌, one_taken is_comma x (within p) is passed) refl) b after e
-  by r p is before b after (inr e) =
-      let o = read_same e in
-      rw (o.0, o.1, last, before may_comma, may_comma_taken x (within p) is passed) refl
+    by : (r : Reading) (p : Point) → next p.left ≡ Some x → ((k : Takes) → so_far k r ≡ k (within p)) → (b : _) (after : Point) →
+        (item true (record p { left = past p.left; taken = suc p.taken }) ≡ Read b after)
+        ⊎ (give done true (record p { left = past p.left; taken = suc p.taken }) ≡ Read b after) → takes b r ≡ Some (within after)
+    by r p is before b after (inl e) =
+        goes.goes r (record p { left = past p.left; taken = suc p.taken })
+        (λ k. before (symbol_is Comma ⨾ k) ∙ rw (◌⨾◌, one_taken is_comma x (within p) is passed) refl) b after e
+    by r p is before b after (inr e) =
+        let o = read_same e in
+        rw (o.0, o.1, last, before may_comma, may_comma_taken x (within p) is passed) refl
 
 -- where there is none, the list ends
 end_sound : {B : Type 0} {x : Option Lexeme} {so_far : Takes → Takes} {takes : B → Takes} (done : B) → passes is_comma x ≡ false →
@@ -134,8 +134,8 @@ module _ {A : Type 0} {reads : Reads A} {p : A → Takes} (item : Sound reads p)
   pub may_list_sound : (begins : Lexeme → Bool) (turns : ℕ) → Sound (may_list turns begins reads) (may_list_is p)
   may_list_sound begins turns = whole_sound (next_sound (λ x passed. at_sound (same_sound inner (λ b. refl))) (λ x none. at_sound (give_sound [] refl)))
     where
-    inner : Sound (listed turns begins reads) (may_list_is p)
-    inner = listed_goes (may_list_is p) (λ a as_. commas_to p a as_ may_comma) begins turns
+      inner : Sound (listed turns begins reads) (may_list_is p)
+      inner = listed_goes (may_list_is p) (λ a as_. commas_to p a as_ may_comma) begins turns
 
 -- ---- what is taken is read
 
@@ -189,34 +189,34 @@ module _ {A : Type 0} (reads : Reads A) {begins : Lexeme → Bool} {first follow
     complete = λ limited r after e f less fits. read limited r after f fits (comma_or_not r after e);
   }
     where
-    Ended : Reading → Reading → Type 0
-    Ended r after = Taken (l.Symbol (symbol_number Comma)) r after ⊎ ((passes is_comma (next r.left) ≡ false) × (after ≡ r))
+      Ended : Reading → Reading → Type 0
+      Ended r after = Taken (l.Symbol (symbol_number Comma)) r after ⊎ ((passes is_comma (next r.left) ≡ false) × (after ≡ r))
 
-    moves : (r after : Reading) → Ended r after → Moves r after
-    moves r after (inl t) = taken_moves _ r after t
-    moves r after (inr o) = moves_self r after o.1
+      moves : (r after : Reading) → Ended r after → Moves r after
+      moves r after (inl t) = taken_moves _ r after t
+      moves r after (inr o) = moves_self r after o.1
 
-    starts : (r after : Reading) → follow (next after.left) → Ended r after → After follow (next r.left)
-    starts r after f (inl t) = inl t.next_was
-    starts r after f (inr o) = inr (rw o.1 at f)
+      starts : (r after : Reading) → follow (next after.left) → Ended r after → After follow (next r.left)
+      starts r after f (inl t) = inl t.next_was
+      starts r after f (inr o) = inr (rw o.1 at f)
 
-    item : Reads (List A)
-    item = reads >>= λ a. more_listed turns begins reads (so_far ++ (a ∷ []))
+      item : Reads (List A)
+      item = reads >>= λ a. more_listed turns begins reads (so_far ++ (a ∷ []))
 
-    after_comma : Reads (List A)
-    after_comma = skip >>= λ _. if_next begins item (give so_far)
+      after_comma : Reads (List A)
+      after_comma = skip >>= λ _. if_next begins item (give so_far)
 
-    read : (limited : Bool) (r after : Reading) → follow (next after.left) → passed limited r ≡ None → Ended r after →
-        more_listed (suc turns) begins reads so_far limited (point r) ≡ outcome limited so_far after
-    read limited r after f fits (inl t) =
-        let comma_next : passes is_comma (next r.left) ≡ true = rw t.next_was refl in
-        let item_next : passes begins (next (past r.left)) ≡ false = parts.ends (next (past r.left)) (rw t.after_is at f) in
-        let there : Reading = record r { left = past r.left; taken = suc r.taken } in
-        ap (λ b. choice b after_comma (give so_far) limited (point r)) comma_next
-        ∙ ap (λ b. choice b item (give so_far) limited (point there)) item_next
-        ∙ sym (rw t.after_is (outcome_read limited so_far there (passed_same limited r there refl ∙ fits)))
-    read limited r after f fits (inr o) =
-        ap (λ b. choice b after_comma (give so_far) limited (point r)) o.0 ∙ sym (rw o.1 (outcome_read limited so_far r fits))
+      read : (limited : Bool) (r after : Reading) → follow (next after.left) → passed limited r ≡ None → Ended r after →
+          more_listed (suc turns) begins reads so_far limited (point r) ≡ outcome limited so_far after
+      read limited r after f fits (inl t) =
+          let comma_next : passes is_comma (next r.left) ≡ true = rw t.next_was refl in
+          let item_next : passes begins (next (past r.left)) ≡ false = parts.ends (next (past r.left)) (rw t.after_is at f) in
+          let there : Reading = record r { left = past r.left; taken = suc r.taken } in
+          ap (λ b. choice b after_comma (give so_far) limited (point r)) comma_next
+          ∙ ap (λ b. choice b item (give so_far) limited (point there)) item_next
+          ∙ sym (rw t.after_is (outcome_read limited so_far there (passed_same limited r there refl ∙ fits)))
+      read limited r after f fits (inr o) =
+          ap (λ b. choice b after_comma (give so_far) limited (point r)) o.0 ∙ sym (rw o.1 (outcome_read limited so_far r fits))
 
 -- ---- whole lists
 

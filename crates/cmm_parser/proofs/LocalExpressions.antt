@@ -1,5 +1,5 @@
 -- How types and expressions are read hangs on no token beyond the one that is looked at.
-use Rattle.std.proofs.Common.{◌≡◌, ℕ, zero, suc, Bool, true, false, List, Option, Some, None}
+use Rattle.std.proofs.Common.{ℕ, zero, suc, Option, Some, None}
 use Rattle.cmm_words.specs.declared.width.Width.{Width}
 use Rattle.cmm_lexer.specs.declared.piece.Lexeme.{Lexeme}
 use Rattle.cmm_lexer.specs.declared.piece.Lexeme.TheVariants as l
@@ -14,9 +14,9 @@ use Rattle.cmm_ast.specs.declared.expression.Memory.{roll-Memory}
 use Rattle.cmm_ast.specs.declared.expression.TypeForm.TheVariants.{Bits, Named as OfName}
 use Rattle.cmm_ast.specs.declared.expression.TypeName.{TypeName}
 use Rattle.cmm_ast.specs.ExpressionGrammar.{unary_level, right_level}
-use Rattle.cmm_parser.specs.Reading.{Reads, ◌>>=◌, give, skip, int, look, skip_operator, in_brackets, pick}
+use Rattle.cmm_parser.specs.Reading.{Reads, ◌>>=◌, give, skip, int, skip_operator, in_brackets}
 use Rattle.cmm_parser.specs.ReadingLaws.{Local}
-use Rattle.cmm_parser.specs.ExpressionReading.{width_in, prefix_in, sized, type_by, type_name, number_in, typed, literal, bracketed, aligned, located, memory, name_or_memory, prefixed, unary_by, begins_expression, infix_next, joined, climb, operand, expr, whole, prim_by, prim, whole_prim, whole_memory}
+use Rattle.cmm_parser.specs.ExpressionReading.{width_in, prefix_in, sized, type_by, type_name, number_in, typed, literal, bracketed, aligned, located, memory, prefixed, unary_by, begins_expression, infix_next, joined, climb, operand, whole, prim_by, whole_prim, whole_memory}
 use Rattle.cmm_parser.proofs.Locals.{after_local, give_local, stop_local, here_local, look_local, next_local, skip_local, operator_local, opening_local, enclosed_local, outermost_local, listed_local}
 use Rattle.cmm_parser.proofs.Tokens.{symbol_local, ident_local, int_local, pick_local}
 

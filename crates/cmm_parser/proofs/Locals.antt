@@ -1,5 +1,5 @@
 -- An answer hangs on no token beyond the one that the reader looks at: for each way in which readers are put together.
-use Rattle.std.proofs.Common.{◌≡◌, ℕ, zero, suc, ◌-◌, ◌<◌, ◌≤◌, ◌⊎◌, inl, inr, Bool, true, false, List, [], ◌∷◌, ◌++◌, take, Option, Some, None, refl, sym, ap, ◌∙◌, arith, nat_lt, le_trans, true≢false}
+use Rattle.std.proofs.Common.{◌≡◌, ℕ, zero, suc, ◌-◌, ◌<◌, ◌≤◌, ◌⊎◌, inl, inr, Bool, true, false, List, [], ◌∷◌, ◌++◌, take, Option, Some, None, refl, sym, ap, arith, nat_lt, le_trans, true≢false}
 use Rattle.cmm_lexer.specs.declared.piece.Lexeme.{Lexeme}
 use Rattle.cmm_parser.specs.Reading.{Point, Answer, Unexpected, TooDeep, Read, Stopped, Reads, and_then, ◌>>=◌, give, stop, next, past, look, choice, passes, if_next, here, skip, skip_opening, skip_operator, enclosed, outermost, is_comma, optional, many, more_commas, commas, more_listed, listed, may_list}
 use Rattle.cmm_parser.specs.ReadingLaws.{Same, Agrees, Local}
@@ -106,7 +106,7 @@ pub skip_local : Local skip
 skip_local = record {
   local = λ token p q same. (
     omega arith,
-    λ le. (_, refl, record { left = left_same token p q same; taken = ap suc same.taken; open_brackets = same.open_brackets; operators = same.operators })
+    λ le. (_, refl, record { left = left_same token p q same; taken = ap suc same.taken; open_brackets = same.open_brackets; operators = same.operators }),
   );
 }
 
@@ -123,7 +123,7 @@ pub operator_local : Local skip_operator
 operator_local = record {
   local = λ token p q same.
       let after : Same token (record p { left = past p.left; taken = suc p.taken; operators = suc p.operators })
-          (record q { left = past q.left; taken = suc q.taken; operators = suc q.operators }) = record {
+      (record q { left = past q.left; taken = suc q.taken; operators = suc q.operators }) = record {
         left = left_same token p q same;
         taken = ap suc same.taken;
         open_brackets = same.open_brackets;
@@ -138,7 +138,7 @@ pub opening_local : Local skip_opening
 opening_local = record {
   local = λ token p q same.
       let after : Same token (record p { left = past p.left; taken = suc p.taken; open_brackets = suc p.open_brackets })
-          (record q { left = past q.left; taken = suc q.taken; open_brackets = suc q.open_brackets }) = record {
+      (record q { left = past q.left; taken = suc q.taken; open_brackets = suc q.open_brackets }) = record {
         left = left_same token p q same;
         taken = ap suc same.taken;
         open_brackets = ap suc same.open_brackets;
@@ -161,11 +161,16 @@ enclosed_agrees : {A : Type 0} (token opens others : ℕ) (p : Point) (ans other
     Agrees token p (and_then ans (λ a after. Read a record after { open_brackets = opens }))
     (and_then other (λ a after. Read a record after { open_brackets = others }))
 enclosed_agrees token opens others p (Stopped fault at) other e h = (h.0, λ le. rw (h.1 le) refl)
-enclosed_agrees token opens others p (Read a mid) other e h = (h.0, λ le.
-    let o = h.1 le in
-    let same = o.2 in
-    (record o.0 { open_brackets = others }, rw (o.1) refl,
-    record { left = same.left; taken = same.taken; open_brackets = e; operators = same.operators }))
+enclosed_agrees token opens others p (Read a mid) other e h = (
+  h.0,
+  λ le.
+      let o = h.1 le in
+      let same = o.2 in (
+        record o.0 { open_brackets = others },
+        rw (o.1) refl,
+        record { left = same.left; taken = same.taken; open_brackets = e; operators = same.operators },
+      ),
+)
 
 pub enclosed_local : {A : Type 0} {reads : Reads A} → Local reads → Local (enclosed reads)
 enclosed_local {reads = reads} inner = record {

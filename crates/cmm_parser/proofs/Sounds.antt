@@ -1,8 +1,8 @@
 -- What is read is a tree of the tokens that are taken: for each way in which readers are put together.
-use Rattle.std.proofs.Common.{◌≡◌, ℕ, suc, Bool, true, false, List, [], ◌∷◌, Option, Some, None, refl, sym, ap, ◌∙◌, subst, nat_lt, ◌==◌, arith}
+use Rattle.std.proofs.Common.{◌≡◌, ℕ, suc, Bool, true, false, List, [], ◌∷◌, Option, Some, None, refl, sym, ap, ◌∙◌, nat_lt, ◌==◌, arith}
 use Rattle.std.proofs.lemmas.Bool.Decides.{nat_tests}
 use Rattle.cmm_lexer.specs.declared.piece.Lexeme.{Lexeme}
-use Rattle.cmm_ast.specs.Taking.{Reading, Takes, ◌⨾◌, here as here_is, nothing, token, taken_if, operator as operator_is, opening as opening_is, enclosed as enclosed_is, outermost as outermost_is}
+use Rattle.cmm_ast.specs.Taking.{Reading, Takes, ◌⨾◌, here as here_is, nothing, token, operator as operator_is, opening as opening_is, enclosed as enclosed_is, outermost as outermost_is}
 use Rattle.cmm_parser.specs.Reading.{Point, TooDeep, Answer, Read, Stopped, Reads, and_then, ◌>>=◌, give, stop, next, past, look, choice, passes, if_next, here, skip, skip_opening, skip_operator, enclosed, outermost}
 use Rattle.cmm_parser.specs.ReadingLaws.{within, Sound}
 
@@ -118,8 +118,8 @@ at_same same it = record {
       same b r (ap (λ q. next q.left) there ∙ is) ∙ it.goes r p is before b after e;
 }
   where
-  some_reading : {q s : Reading} → Some q ≡ Some s → q ≡ s
-  some_reading e = cc
+    some_reading : {q s : Reading} → Some q ≡ Some s → q ≡ s
+    some_reading e = cc
 
 pub stop_sound : {B : Type 0} {x : Option Lexeme} {so_far : Takes → Takes} {takes : B → Takes} → GoesAt x so_far stop takes
 stop_sound = record { goes = λ r p is before b after e. absurd cc }
@@ -238,11 +238,11 @@ opening_last_sound {so_far = so_far} {takes = takes} test {x} passed same = reco
       rw (same, before (opening_is (token test))) (counted_opening p after o.1 (opened test x p is passed o.0));
 }
   where
-  counted_opening : (p after : Point) → after ≡ record p { left = past p.left; taken = suc p.taken; open_brackets = suc p.open_brackets } →
-      opening_is (token test) (within p)
-      ≡ Some (within record p { left = past p.left; taken = suc p.taken; open_brackets = suc p.open_brackets }) →
-      opening_is (token test) (within p) ≡ Some (within after)
-  counted_opening p after e is = rw e is
+    counted_opening : (p after : Point) → after ≡ record p { left = past p.left; taken = suc p.taken; open_brackets = suc p.open_brackets } →
+        opening_is (token test) (within p)
+        ≡ Some (within record p { left = past p.left; taken = suc p.taken; open_brackets = suc p.open_brackets }) →
+        opening_is (token test) (within p) ≡ Some (within after)
+    counted_opening p after e is = rw e is
 
 -- ---- the number of the next token, brackets and outermost expressions
 

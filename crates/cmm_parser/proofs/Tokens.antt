@@ -1,6 +1,5 @@
 -- Single tokens: what each has taken, and how it is read.
-use Rattle.std.proofs.Common.{◌≡◌, ℕ, suc, Bool, true, false, List, [], ◌∷◌, Option, Some, None, refl, sym, ap, ◌∙◌, ◌==◌, bytes_eq, arith}
-use Rattle.std.proofs.lemmas.Bool.Decides.{nat_tests}
+use Rattle.std.proofs.Common.{◌≡◌, ℕ, Bool, true, List, Option, Some, None, refl, sym, ap, bytes_eq}
 use Rattle.std.proofs.lemmas.Slice.Eq.{bytes_eq-Decides}
 use Rattle.cmm_lexer.specs.declared.piece.Lexeme.{Lexeme}
 use Rattle.cmm_lexer.specs.declared.piece.Lexeme.TheVariants as l
@@ -10,9 +9,9 @@ use Rattle.cmm_ast.specs.declared.token.Int.{Int}
 use Rattle.cmm_ast.specs.declared.keyword.Keyword.{Keyword}
 use Rattle.cmm_ast.specs.declared.keyword.Symbol.{Symbol}
 use Rattle.cmm_ast.specs.Numbers.{keyword_number, symbol_number}
-use Rattle.cmm_ast.specs.Taking.{Takes, token, is_keyword, is_symbol, is_name, is_text, is_operator, is_checked, is_int, is_char, keyword as keyword_is, symbol as symbol_is}
+use Rattle.cmm_ast.specs.Taking.{token, is_keyword, is_symbol, is_name, is_text, is_operator, is_checked, is_int, is_char, keyword as keyword_is, symbol as symbol_is}
 use Rattle.cmm_ast.specs.ExpressionGrammar.{ident as ident_is, text as text_is, int as int_is}
-use Rattle.cmm_parser.specs.Reading.{Reads, give, skip, stop, look, passes, expect, keyword, symbol, picked, held, pick, name_in, text_in, int_in, checked_in, name, ident, text, int}
+use Rattle.cmm_parser.specs.Reading.{expect, keyword, symbol, picked, held, pick, name_in, text_in, int_in, checked_in, name, ident, text, int}
 use Rattle.cmm_parser.specs.ReadingLaws.{Sound, Complete, Local}
 use Rattle.cmm_parser.proofs.Sounds.{GoesAt, whole_sound, after_sound, last_sound, look_sound, stop_sound, next_sound, skip_last_sound, here_sound, same_number}
 use Rattle.cmm_parser.proofs.Completes.{Next, Anything, Only, after_complete, last_complete, at_complete, holds_complete, skip_complete, here_complete, number_same}

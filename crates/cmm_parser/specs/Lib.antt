@@ -4,3 +4,4 @@ pub mod ExpressionReading
 pub mod DeclarationReading
 pub mod ProcedureReading
 pub mod UnitReading
+pub mod ExpressionLaws

@@ -1,6 +1,6 @@
 -- How a parser reads: from the point where it stands to an answer, with one token in hand. Readers are put together as the
 -- grammar is: one after the other, by the next token, in brackets.
-use Rattle.std.specs.Prelude.{ℕ, zero, suc, ◌==◌, nat_lt, Bool, true, false, ◌&&◌, List, [], ◌∷◌, ◌++◌, Option, Some, None}
+use Rattle.std.specs.Prelude.{ℕ, zero, suc, nat_lt, Bool, true, false, ◌&&◌, List, [], ◌∷◌, ◌++◌, Option, Some, None}
 use Rattle.cmm_lexer.specs.declared.piece.Lexeme.{Lexeme}
 use Rattle.cmm_lexer.specs.declared.piece.Lexeme.TheVariants.{Name, Int as Number, Text as Quoted, Checked}
 use Rattle.cmm_ast.specs.declared.token.Ident.{Ident}

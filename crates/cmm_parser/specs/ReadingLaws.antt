@@ -1,9 +1,9 @@
 -- What a reader owes the grammar: what it reads is a tree of the tokens that it takes, it reads each tree that what follows
 -- does not go on, and its answer hangs on no token beyond the one that it looks at.
-use Rattle.std.specs.Prelude.{◌≡◌, ℕ, suc, ◌-◌, ◌<◌, ◌≤◌, Bool, true, false, List, length, take, Option, Some, None}
+use Rattle.std.specs.Prelude.{◌≡◌, ℕ, suc, ◌-◌, ◌<◌, ◌≤◌, Bool, true, false, length, take, Option, Some, None}
 use Rattle.cmm_lexer.specs.declared.piece.Lexeme.{Lexeme}
 use Rattle.cmm_ast.specs.Taking.{Reading, Takes}
-use Rattle.cmm_parser.specs.Reading.{Point, Fault, TooDeep, Answer, Read, Stopped, Reads, next}
+use Rattle.cmm_parser.specs.Reading.{Point, TooDeep, Answer, Read, Stopped, Reads, next}
 
 -- a reader keeps nothing of tokens over a limit: it stops there
 abbrev pub within : Point → Reading

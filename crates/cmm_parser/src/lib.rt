@@ -1,11 +1,4 @@
-//! The parser.
+//! The parser of C-- (C-- Language Specification 2.0, syntax), and what its grammar promises.
 #![tactic(auto)]
 
-ghost use Rattle.std.specs.Prelude.{◌≡◌};
-
-/// To be replaced.
-pub fn echo(x: usize) -> usize
-    ensures { result ≡ x }
-{
-    x
-}
+pub mod laws;
