@@ -82,7 +82,7 @@ name_head_complete i =
 -- ---- what declarations list
 
 -- a text and a name begin an import; an expression's type is neither
-type_no_text : (form : TypeForm) (x : Option Lexeme) → Next (type_token form) x → Not any_text x
+pub type_no_text : (form : TypeForm) (x : Option Lexeme) → Next (type_token form) x → Not any_text x
 type_no_text (Bits width) x e = rw e refl
 type_no_text (OfName bytes) x e = rw e refl
 

@@ -13,3 +13,4 @@ pub mod Units
 pub mod CompleteRepeats
 pub mod CompleteDeclarations
 pub mod OneExpression
+pub mod CompleteProcedures
