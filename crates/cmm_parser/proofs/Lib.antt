@@ -14,3 +14,4 @@ pub mod CompleteRepeats
 pub mod CompleteDeclarations
 pub mod OneExpression
 pub mod CompleteProcedures
+pub mod CompleteUnits
