@@ -99,7 +99,7 @@ prefix_in_is : (op : PrefixOperator) → prefix_in (symbol_number (prefix_symbol
 prefix_in_is Negate = refl
 prefix_in_is Complement = refl
 
-width_in_is : (width : Width) → width_in (keyword_number (width_word width)) ≡ Some width
+pub width_in_is : (width : Width) → width_in (keyword_number (width_word width)) ≡ Some width
 width_in_is W8 = refl
 width_in_is W16 = refl
 width_in_is W32 = refl
@@ -125,11 +125,11 @@ type_name_complete t =
 
 -- ---- literals
 
-left_false : (a b : Bool) → (a || b) ≡ false → a ≡ false
+pub left_false : (a b : Bool) → (a || b) ≡ false → a ≡ false
 left_false true b e = absurd cc
 left_false false b e = refl
 
-right_false : (a b : Bool) → (a || b) ≡ false → b ≡ false
+pub right_false : (a b : Bool) → (a || b) ≡ false → b ≡ false
 right_false true b e = absurd cc
 right_false false b e = e
 
@@ -179,7 +179,7 @@ AfterAddress x =
     (x ≡ Some (l.Word (keyword_number Aligned))) ⊎ (x ≡ Some (l.Word (keyword_number Align))) ⊎ (x ≡ Some (l.Symbol (symbol_number CloseSquare)))
 
 -- trees of two kinds
-either_complete : {A : Type 0} {fuel : ℕ} {p first_kind second_kind : Takes} {a : A} {reads : Reads A} {first follow : Option Lexeme → Type 0} →
+pub either_complete : {A : Type 0} {fuel : ℕ} {p first_kind second_kind : Takes} {a : A} {reads : Reads A} {first follow : Option Lexeme → Type 0} →
     ((r after : Reading) → p r ≡ Some after → (first_kind r ≡ Some after) ⊎ (second_kind r ≡ Some after)) →
     Complete fuel first_kind a reads first follow → Complete fuel second_kind a reads first follow → Complete fuel p a reads first follow
 either_complete {fuel = fuel} {first_kind = first_kind} {second_kind = second_kind} {a = a} {reads = reads} {first = first} {follow = follow} kinds one two = record {
@@ -520,7 +520,7 @@ module _ (fuel : ℕ) where
       (takes_nothing (here_is t ⨾ token (is_name bytes))) (named_by bytes t))))
 
   module _ (e : Expr) (spine : (n : ℕ) → Spine n e.form) where
-    bracketed_complete : Complete (suc fuel) (prim_form (Bracketed e)) (Bracketed e) (bracketed (operand fuel)) (Next (l.Symbol (symbol_number Open))) Anything
+    pub bracketed_complete : Complete (suc fuel) (prim_form (Bracketed e)) (Bracketed e) (bracketed (operand fuel)) (Next (l.Symbol (symbol_number Open))) Anything
     unfolding opened
     bracketed_complete =
         last_complete (λ e. Bracketed e) (in_brackets_complete Open Close (λ x is. rw is (record { no_more = refl; no_infix = λ op is. absurd cc }))
@@ -554,7 +554,7 @@ module _ (fuel : ℕ) where
     located_complete bytes =
         after_complete {b = λ a. (a, bytes)} (operand_complete fuel 0 e spine) ends_address (λ a. last_complete (λ b. (a, b)) (aligned_complete bytes))
 
-    memory_complete : (width : TypeName) (bytes : Option Int) →
+    pub memory_complete : (width : TypeName) (bytes : Option Int) →
         Complete (suc fuel) (square_is (operand_is 0 e ⨾ optional_is aligned_by bytes)) (roll-Memory (record { width = width; address = e; aligned = bytes }))
         (memory (operand fuel) width) (Next (l.Symbol (symbol_number OpenSquare))) Anything
     memory_complete width bytes =
@@ -601,7 +601,7 @@ each_expr : (fuel : ℕ) (es : List Expr) → Each HasSpine es → Each (λ e. C
 each_expr fuel [] spines = tt
 each_expr fuel (e ∷ es) spines = (expr_complete fuel e spines.0, each_expr fuel es spines.1)
 
-never_complete : {A : Type 0} {fuel : ℕ} {p : Takes} {a : A} {reads : Reads A} {first follow : Option Lexeme → Type 0} →
+pub never_complete : {A : Type 0} {fuel : ℕ} {p : Takes} {a : A} {reads : Reads A} {first follow : Option Lexeme → Type 0} →
     ((r after : Reading) → p r ≡ Some after → ⊥) → Complete fuel p a reads first follow
 never_complete never = record {
   moves = λ r after e. absurd (never r after e);

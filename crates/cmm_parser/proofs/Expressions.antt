@@ -175,7 +175,7 @@ module _ (inner : ℕ → Reads Expr) (sound : Sound (inner 0) (operand_is 0)) w
   unfolding opened
   bracketed_sound = whole_sound (last_sound Bracketed (in_brackets_sound Open Close sound) (λ e. refl))
 
-  located_sound : Sound (located inner) (λ place. operand_is 0 place.0 ⨾ optional_is aligned_by place.1)
+  pub located_sound : Sound (located inner) (λ place. operand_is 0 place.0 ⨾ optional_is aligned_by place.1)
   located_sound = whole_sound (after_sound sound (λ address. last_sound _ aligned_sound (λ bytes. refl)))
 
   pub memory_goes : (width : TypeName) → Goes (λ k. grammar.type_name width ⨾ k) (memory inner width) grammar.memory

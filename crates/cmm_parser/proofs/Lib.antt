@@ -12,6 +12,12 @@ pub mod Procedures
 pub mod Units
 pub mod CompleteRepeats
 pub mod CompleteDeclarations
-pub mod OneExpression
 pub mod CompleteProcedures
 pub mod CompleteUnits
+pub mod Wholes
+pub mod ExpressionLaws
+pub mod Options
+pub mod Parts
+pub mod LocalParts
+pub mod CompleteParts
+pub mod CompleteFlows

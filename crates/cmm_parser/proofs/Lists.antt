@@ -9,7 +9,7 @@ use Rattle.cmm_ast.specs.Taking.{Reading, Takes, ◌⨾◌, nothing, token, take
 use Rattle.cmm_parser.specs.Reading.{Point, Read, Reads, ◌>>=◌, give, next, past, choice, passes, if_next, skip, is_comma, more_commas, commas, more_listed, listed, may_list}
 use Rattle.cmm_parser.specs.ReadingLaws.{within, point, passed, outcome, Moves, Sound, Complete}
 use Rattle.cmm_parser.proofs.Sounds.{Goes, GoesAt, whole_sound, after_sound, give_sound, same_sound, at_sound, next_sound, skip_sound, read_same, one_taken}
-use Rattle.cmm_parser.proofs.Completes.{Only, Taken, moves_self, outcome_read, passed_same, after_complete, fewer_complete, follow_complete, less_complete, holds_complete, skip_complete, token_taken, token_strict, taken_moves}
+use Rattle.cmm_parser.proofs.Completes.{Only, Taken, moves_self, outcome_read, passed_same, after_complete, give_complete, fewer_complete, follow_complete, less_complete, holds_complete, fails_complete, skip_complete, token_taken, token_strict, taken_moves}
 use Rattle.cmm_parser.proofs.Tokens.{only_symbol}
 
 -- ---- takings one after the other
@@ -62,7 +62,7 @@ no_comma (x ∷ xs) taken opens operators over e = rw (may_comma, e) refl
 pub may_comma_not : (r : Reading) → passes is_comma (next r.left) ≡ false → may_comma r ≡ Some r
 may_comma_not r e = no_comma r.left r.taken r.open_brackets r.operators r.over e
 
-may_comma_taken : (x : Lexeme) (r : Reading) → next r.left ≡ Some x → is_comma x ≡ true →
+pub may_comma_taken : (x : Lexeme) (r : Reading) → next r.left ≡ Some x → is_comma x ≡ true →
     may_comma r ≡ Some record r { left = past r.left; taken = suc r.taken }
 may_comma_taken x r is passed = rw (may_comma, one_taken is_comma x r is passed) refl
 
@@ -92,7 +92,7 @@ comma_sound {so_far = so_far} {takes = takes} begins item done x passed goes las
         rw (o.0, o.1, last, before may_comma, may_comma_taken x (within p) is passed) refl
 
 -- where there is none, the list ends
-end_sound : {B : Type 0} {x : Option Lexeme} {so_far : Takes → Takes} {takes : B → Takes} (done : B) → passes is_comma x ≡ false →
+pub end_sound : {B : Type 0} {x : Option Lexeme} {so_far : Takes → Takes} {takes : B → Takes} (done : B) → passes is_comma x ≡ false →
     takes done ≡ so_far may_comma → GoesAt x so_far (give done) takes
 end_sound {so_far = so_far} {takes = takes} done none last = record {
   goes = λ r p is before b after e.
@@ -221,8 +221,8 @@ module _ {A : Type 0} (reads : Reads A) {begins : Lexeme → Bool} {first follow
 -- ---- whole lists
 
 -- no reader is asked for anything where there can be no tokens
-pub zero_complete : {A : Type 0} {p : Takes} {a : A} {reads other : Reads A} {first follow : Option Lexeme → Type 0} →
-    Complete (suc zero) p a reads first follow → Complete zero p a other first follow
+pub zero_complete : {A : Type 0} {fuel : ℕ} {p : Takes} {a : A} {reads other : Reads A} {first follow : Option Lexeme → Type 0} →
+    Complete fuel p a reads first follow → Complete zero p a other first follow
 zero_complete one = record {
   moves = one.moves;
   begins = one.begins;
@@ -242,7 +242,7 @@ module _ {A : Type 0} (reads : Reads A) (p : A → Takes) {begins : Lexeme → B
     (parts : Parts begins first follow_one follow) {fuel : ℕ} where
   pub more_listed_complete : (as_ so_far : List A) (turns : ℕ) → turns ≤ fuel → Each (λ a. Complete fuel (p a) a reads first follow_one) as_ →
       Complete turns (rest_to p as_ may_comma) (so_far ++ as_) (more_listed turns begins reads so_far) (After follow) follow
-  more_listed_complete [] so_far zero le items = rw (append-nil so_far) (zero_complete (listed_end reads parts 0 so_far))
+  more_listed_complete [] so_far zero le items = rw (append-nil so_far) (zero_complete {fuel = zero} (listed_end reads parts 0 so_far))
   more_listed_complete [] so_far (suc turns) le items = rw (append-nil so_far) (listed_end reads parts turns so_far)
   more_listed_complete (a ∷ as_) so_far zero le items =
       zero_complete {reads = more_listed 1 begins reads so_far}
@@ -262,3 +262,10 @@ module _ {A : Type 0} (reads : Reads A) (p : A → Takes) {begins : Lexeme → B
   listed_complete a as_ item =
       subst (λ t. Complete fuel t (a ∷ as_) (listed fuel begins reads) first follow) (sym (commas_to p a as_ may_comma))
       (list_complete a as_ (each_of item (a ∷ as_)))
+
+  -- a list, or nothing
+  pub may_list_complete : (as_ : List A) → ((a : A) → Complete fuel (p a) a reads first follow_one) →
+      Complete fuel (may_list_is p as_) as_ (may_list fuel begins reads) (λ x. first x ⊎ follow x) follow
+  may_list_complete [] item = follow_complete (λ x f. inr f) (λ x f. f) (fails_complete begins parts.ends (give_complete []))
+  may_list_complete (a ∷ as_) item =
+      follow_complete (λ x f. inl f) (λ x f. f) (holds_complete {fails = give []} begins parts.starts (listed_complete a as_ item))

@@ -5,3 +5,4 @@ pub mod DeclarationReading
 pub mod ProcedureReading
 pub mod UnitReading
 pub mod ExpressionLaws
+pub mod PartReading

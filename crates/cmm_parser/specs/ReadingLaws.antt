@@ -1,8 +1,9 @@
 -- What a reader owes the grammar: what it reads is a tree of the tokens that it takes, it reads each tree that what follows
 -- does not go on, and its answer hangs on no token beyond the one that it looks at.
-use Rattle.std.specs.Prelude.{◌≡◌, ℕ, suc, ◌-◌, ◌<◌, ◌≤◌, Bool, true, false, length, take, Option, Some, None}
+use Rattle.std.specs.Prelude.{◌≡◌, ℕ, suc, ◌-◌, ◌<◌, ◌≤◌, Bool, true, false, List, [], length, take, Option, Some, None}
 use Rattle.cmm_lexer.specs.declared.piece.Lexeme.{Lexeme}
 use Rattle.cmm_ast.specs.Taking.{Reading, Takes}
+use Rattle.cmm_ast.specs.Derivation.{at_start}
 use Rattle.cmm_parser.specs.Reading.{Point, TooDeep, Answer, Read, Stopped, Reads, next}
 
 -- a reader keeps nothing of tokens over a limit: it stops there
@@ -55,3 +56,15 @@ Agrees token p (Stopped fault at) other = (p.taken ≤ at) × (at ≤ token → 
 
 pub record Local {A : Type 0} (reads : Reads A) : Type 0 where
   pub local : (token : ℕ) (p q : Point) → Same token p q → Agrees token p (reads true p) (reads true q)
+
+-- ---- what a reader then says of all of some tokens
+
+-- these are all of the tokens that a tree takes, limits left aside
+pub record TakesAll (takes : Takes) (tokens : List Lexeme) : Type 0 where
+  pub after : Reading
+  pub taken : takes (at_start tokens) ≡ Some after
+  pub all : after.left ≡ []
+
+-- the answer on these tokens, whatever number of tokens above theirs is allowed for
+abbrev pub Answers : {A : Type 0} → (ℕ → Reads A) → List Lexeme → Answer A → Type 0
+Answers reads tokens answer = (fuel : ℕ) → length tokens < fuel → reads fuel true (point (at_start tokens)) ≡ answer

@@ -1,4 +1,4 @@
-use Rattle.cmm_parser.proofs.OneExpression.{one_expression}
+use Rattle.cmm_parser.proofs.ExpressionLaws.{one_expression}
 use Rattle.cmm_parser.proofs.laws.expressions_are_one.Goals as goal
 
 pub returns : goal.returns
