@@ -139,7 +139,7 @@ register_goes turns =
     after_sound (names_sound turns) (λ named. last_sound _ (symbol_sound Semicolon) (λ _. refl))))))
 
 -- what is listed with its type, and what goes on, after a word
-regrouped : (word p q s : Takes) → (word ⨾ p ⨾ q ⨾ s) ≡ (word ⨾ (p ⨾ q) ⨾ s)
+pub regrouped : (word p q s : Takes) → (word ⨾ p ⨾ q ⨾ s) ≡ (word ⨾ (p ⨾ q) ⨾ s)
 regrouped word p q s = ap (λ t. word ⨾ t) (sym (takes_assoc p q s))
 
 pub decl_form_sound : (fuel : ℕ) → Sound (decl_form fuel) units.decl_form

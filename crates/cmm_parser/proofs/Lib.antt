@@ -16,7 +16,10 @@ pub mod Units
 pub mod Calls
 pub mod Targets
 pub mod Statements
-pub mod OneExpression
+pub mod CompleteRepeats
+pub mod CompleteDeclarations
+pub mod CompleteProcedures
+pub mod CompleteUnits
 pub mod Wholes
 pub mod ExpressionLaws
 pub mod Options

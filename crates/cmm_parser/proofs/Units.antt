@@ -98,7 +98,7 @@ align_item_sound =
     after_sound (keyword_sound Align) (λ _.
     after_sound int_sound (λ bytes. last_sound (λ _. datum_at token (data_forms.Align bytes)) (symbol_sound Semicolon) (λ _. refl)))))
 
-row_is : (n : _) (row : Row_of-Item n) → units.item_row row ≡ many_is units.item (items-the_row-Item n row)
+pub row_is : (n : _) (row : Row_of-Item n) → units.item_row row ≡ many_is units.item (items-the_row-Item n row)
 row_is n end_of-Item = refl
 row_is n (more_of-Item {n = m} i rest) = ap (λ t. units.item i ⨾ t) (row_is m rest)
 
