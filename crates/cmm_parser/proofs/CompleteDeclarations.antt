@@ -1,5 +1,5 @@
 -- Each declaration is read.
-use Rattle.std.proofs.Common.{◌≡◌, ℕ, zero, suc, ◌⊎◌, inl, inr, Bool, true, false, List, [], ◌∷◌, Option, Some, None, refl, sym, ap, ◌∙◌, subst, le_refl}
+use Rattle.std.proofs.Common.{◌≡◌, ℕ, ◌⊎◌, inl, inr, Bool, true, false, List, [], ◌∷◌, Option, Some, None, refl, sym, ◌∙◌, subst, le_refl}
 use Rattle.cmm_lexer.specs.declared.piece.Lexeme.{Lexeme}
 use Rattle.cmm_lexer.specs.declared.piece.Lexeme.TheVariants as l
 use Rattle.cmm_words.specs.declared.width.Width.{Width}
@@ -9,7 +9,7 @@ use Rattle.cmm_ast.specs.declared.token.Text.{Text}
 use Rattle.cmm_ast.specs.declared.keyword.Keyword.{Keyword}
 use Rattle.cmm_ast.specs.declared.keyword.Keyword.TheVariants.{As, Big, Byteorder, Const, Export as ExportWord, Import as ImportWord, Invariant, Little, Memsize, Pointersize, Register, Target, Typedef, Wordsize}
 use Rattle.cmm_ast.specs.declared.keyword.Symbol.{Symbol}
-use Rattle.cmm_ast.specs.declared.keyword.Symbol.TheVariants.{Assign, Comma, Semicolon}
+use Rattle.cmm_ast.specs.declared.keyword.Symbol.TheVariants.{Assign, Semicolon}
 use Rattle.cmm_ast.specs.declared.expression.Expr.{Expr}
 use Rattle.cmm_ast.specs.declared.expression.Infix.{Infix as InfixOperator}
 use Rattle.cmm_ast.specs.declared.expression.TypeName.{TypeName}
@@ -26,20 +26,20 @@ use Rattle.cmm_ast.specs.declared.declaration.PropertyForm.TheVariants as proper
 use Rattle.cmm_ast.specs.declared.declaration.ByteOrder.{ByteOrder}
 use Rattle.cmm_ast.specs.declared.declaration.ByteOrder.TheVariants as orders
 use Rattle.cmm_ast.specs.Numbers.{keyword_number, symbol_number}
-use Rattle.cmm_ast.specs.Taking.{Reading, Takes, ◌⨾◌, nothing, is_keyword, here as here_is, keyword as keyword_is, symbol as symbol_is, optional as optional_is, listed as listed_is, many as many_is, may_comma}
+use Rattle.cmm_ast.specs.Taking.{Reading, ◌⨾◌, nothing, is_keyword, keyword as keyword_is, symbol as symbol_is, optional as optional_is, listed as listed_is, many as many_is, may_comma}
 use Rattle.cmm_ast.specs.ExpressionGrammar as grammar
 use Rattle.cmm_ast.specs.ExpressionGrammar.{width_word}
 use Rattle.cmm_ast.specs.UnitGrammar as units
-use Rattle.cmm_parser.specs.Reading.{Reads, ◌>>=◌, give, passes, symbol, keyword, optional, listed, more_listed, ident, text}
+use Rattle.cmm_parser.specs.Reading.{◌>>=◌, give, symbol, keyword, optional, ident}
 use Rattle.cmm_parser.specs.ReadingLaws.{Complete}
-use Rattle.cmm_parser.specs.ExpressionReading.{infix_in, type_name, named_type, whole}
-use Rattle.cmm_parser.specs.DeclarationReading.{any_name, any_text, is_other, begins_bits, bits, begins_name, Head, TypeFirst, NameFirst, Neither, name_head, head_by, head, optional_text, names, text_as, import_name, import_of, as_text, export_of, export_name, imports_by, exports_by, typed_name_by, byte_order, property_form, property, imports, exports, constant, typedef, target, is_invariant, register, decl_form, decl}
-use Rattle.cmm_parser.proofs.Completes.{Next, Anything, follow_complete, after_complete, give_complete, last_complete, holds_complete, fails_complete, here_complete}
+use Rattle.cmm_parser.specs.ExpressionReading.{infix_in, type_name}
+use Rattle.cmm_parser.specs.DeclarationReading.{any_name, any_text, is_other, begins_bits, bits, begins_name, TypeFirst, NameFirst, Neither, head_by, head, optional_text, names, import_name, import_of, as_text, export_name, imports_by, exports_by, typed_name_by, byte_order, property_form, property, imports, exports, constant, typedef, target, is_invariant, register, decl_form, decl}
+use Rattle.cmm_parser.proofs.Completes.{Next, Anything, follow_complete, after_complete, give_complete, last_complete, holds_complete, fails_complete}
 use Rattle.cmm_parser.proofs.Tokens.{symbol_complete, keyword_complete, ident_complete, text_complete, int_complete}
-use Rattle.cmm_parser.proofs.Lists.{After, Parts, takes_assoc, takes_nothing, commas_to, each_of, rest_to, more_listed_complete, listed_complete}
-use Rattle.cmm_parser.proofs.CompleteExpressions.{more, Begins, Ends, type_token, type_name_complete, whole_complete}
-use Rattle.cmm_parser.proofs.Declarations.{head_is, property_is, regrouped}
-use Rattle.cmm_parser.proofs.CompleteRepeats.{Passes, Not, then_complete, start_complete, end_complete, flat_complete, never_complete, strict_then, strict_second, follow_spends, if_word_complete, only_word_complete, some_complete, none_complete, parts_before, Spends, if_word_spends, keyword_spends, not_next_spends, here_spends, Rows, many_complete}
+use Rattle.cmm_parser.proofs.Lists.{After, Parts, takes_assoc, commas_to, each_of, rest_to, more_listed_complete, listed_complete}
+use Rattle.cmm_parser.proofs.CompleteExpressions.{more, Ends, type_token, type_name_complete, whole_complete}
+use Rattle.cmm_parser.proofs.Declarations.{property_is}
+use Rattle.cmm_parser.proofs.CompleteRepeats.{Passes, Not, then_complete, start_complete, end_complete, flat_complete, never_complete, strict_second, follow_spends, only_word_complete, some_complete, none_complete, parts_before, Spends, if_word_spends, keyword_spends, not_next_spends, here_spends, Rows, many_complete}
 
 -- ---- what a type begins with, and an expression ends before
 
@@ -53,8 +53,8 @@ pub ends_before : (s : Symbol) → more (l.Symbol (symbol_number s)) ≡ false �
     Next (l.Symbol (symbol_number s)) x → Ends 0 x
 ends_before s no_more no_infix x e = rw e (record { no_more = no_more; no_infix = λ op is. absurd (no (infix_in (symbol_number s)) op no_infix is) })
   where
-  no : (o : Option InfixOperator) (op : InfixOperator) → o ≡ None → o ≡ Some op → ⊥
-  no o op e f = absurd cc
+    no : (o : Option InfixOperator) (op : InfixOperator) → o ≡ None → o ≡ Some op → ⊥
+    no o op e f = absurd cc
 
 -- ---- types that may be left out
 
@@ -366,11 +366,11 @@ decl_form_spends (decls.Register invariant kind width names) =
     (not_next_spends _ (no_other invariant Typedef refl refl)
     (not_next_spends _ (no_other invariant Target refl refl) (registers_spends invariant kind width names)))))
   where
-  no_other : (invariant : Bool) (word : Keyword) → is_keyword (keyword_number word) (l.Word (keyword_number Invariant)) ≡ false →
-      is_keyword (keyword_number word) (l.Word (keyword_number Register)) ≡ false → (x : Option Lexeme) →
-      Next (l.Word (keyword_number (elim invariant [ true ↦ Invariant | false ↦ Register ]))) x → Not (is_keyword (keyword_number word)) x
-  no_other true word one two x e = rw e one
-  no_other false word one two x e = rw e two
+    no_other : (invariant : Bool) (word : Keyword) → is_keyword (keyword_number word) (l.Word (keyword_number Invariant)) ≡ false →
+        is_keyword (keyword_number word) (l.Word (keyword_number Register)) ≡ false → (x : Option Lexeme) →
+        Next (l.Word (keyword_number (elim invariant [ true ↦ Invariant | false ↦ Register ]))) x → Not (is_keyword (keyword_number word)) x
+    no_other true word one two x e = rw e one
+    no_other false word one two x e = rw e two
 
 pub decl_spends : {fuel : ℕ} (d : Decl) → Spends fuel (units.decl d) d (decl fuel) (Next (l.Word (keyword_number (decl_word d.form)))) Anything
 decl_spends d = here_spends (λ token form. record { token = token; form = form }) d.token (decl_form_spends d.form)

@@ -1,5 +1,5 @@
 -- Each list of annotations that what follows does not go on is read.
-use Rattle.std.proofs.Common.{◌≡◌, ℕ, suc, ◌<◌, ◌≤◌, ◌⊎◌, inl, inr, Bool, true, false, ◌||◌, List, [], ◌∷◌, length, Option, Some, None, refl, sym, ap, ◌∙◌, arith, subst, le_refl}
+use Rattle.std.proofs.Common.{◌≡◌, ℕ, suc, ◌⊎◌, inl, inr, Bool, true, false, List, [], ◌∷◌, Option, Some, None, refl, sym, ap, ◌∙◌, subst, le_refl}
 use Rattle.cmm_lexer.specs.declared.piece.Lexeme.{Lexeme}
 use Rattle.cmm_lexer.specs.declared.piece.Lexeme.TheVariants as l
 use Rattle.cmm_ast.specs.declared.token.Ident.{Ident}
@@ -10,17 +10,17 @@ use Rattle.cmm_ast.specs.declared.statement.Flow.{Flow}
 use Rattle.cmm_ast.specs.declared.statement.FlowForm.{FlowForm}
 use Rattle.cmm_ast.specs.declared.statement.FlowForm.TheVariants as flows
 use Rattle.cmm_ast.specs.Numbers.{keyword_number, symbol_number}
-use Rattle.cmm_ast.specs.Taking.{Reading, Takes, ◌⨾◌, is_keyword, here as here_is, keyword as keyword_is, commas as commas_is, listed as listed_is, may_comma as may_comma_is}
+use Rattle.cmm_ast.specs.Taking.{Reading, Takes, ◌⨾◌, is_keyword, here as here_is, keyword as keyword_is, listed as listed_is, may_comma as may_comma_is}
 use Rattle.cmm_ast.specs.ExpressionGrammar as grammar
 use Rattle.cmm_ast.specs.StatementGrammar as statements
-use Rattle.cmm_parser.specs.Reading.{Point, Reads, ◌>>=◌, give, next, past, choice, passes, if_next, skip, is_comma, keyword, ident}
+use Rattle.cmm_parser.specs.Reading.{Reads, ◌>>=◌, give, next, past, choice, passes, skip, is_comma, keyword, ident}
 use Rattle.cmm_parser.specs.ReadingLaws.{point, passed, outcome, Moves, Complete}
 use Rattle.cmm_parser.specs.PartReading.{is_any_name, begins_flow, may_comma, names_to, also, flow_form, flow, annotations}
 use Rattle.cmm_parser.proofs.Completes.{Next, Anything, Strict, Taken, moves_self, taken_moves, outcome_read, passed_same, after_complete, last_complete, follow_complete, holds_complete, fails_complete, skip_complete, here_complete, token_strict, both}
 use Rattle.cmm_parser.proofs.CompleteExpressions.{never_complete}
 use Rattle.cmm_parser.proofs.CompleteParts.{Passing, Failing}
 use Rattle.cmm_parser.proofs.Parts.{flow_is, named_same}
-use Rattle.cmm_parser.proofs.Lists.{takes_assoc, Parts, After, Each, each_of, comma_or_not, listed_complete}
+use Rattle.cmm_parser.proofs.Lists.{takes_assoc, Parts, each_of, comma_or_not, listed_complete}
 use Rattle.cmm_parser.proofs.Options.{strict_first, strict_then, many_complete}
 use Rattle.cmm_parser.proofs.Tokens.{only_keyword, keyword_complete, ident_complete}
 
@@ -61,8 +61,8 @@ names_to_complete : (fuel : ℕ) (make : List Ident → FlowForm) (names_ : List
     Complete fuel (keyword_is To ⨾ listed_is grammar.ident names_) (make names_) (names_to fuel make) (Next (l.Word (keyword_number To))) FlowEnd
 names_to_complete fuel make [] =
     never_complete (λ r after e. let s = both (keyword_is To) (listed_is grammar.ident []) r after e in no_names s.between after s.second) where
-  no_names : (r after : Reading) → listed_is grammar.ident [] r ≡ Some after → ⊥
-  no_names r after e = absurd cc
+      no_names : (r after : Reading) → listed_is grammar.ident [] r ≡ Some after → ⊥
+      no_names r after e = absurd cc
 names_to_complete fuel make (i ∷ is) =
     after_complete {b = λ _. make (i ∷ is)} (keyword_complete To) (λ x f. tt)
     (λ _. last_complete make (listed_complete ident grammar.ident names i is
@@ -121,8 +121,8 @@ flow_law fuel (flows.ReturnsTo ns) =
     (after_complete {b = λ _. flows.ReturnsTo ns} (keyword_complete Returns) (λ x f. tt) (λ _. names_to_complete fuel (λ n. flows.ReturnsTo n) ns)))))
 flow_law fuel flows.NeverReturns =
     let rest : Complete fuel (keyword_is Returns ⨾ may_comma_is) flows.NeverReturns (keyword Returns >>= λ _. may_comma >>= λ _. give flows.NeverReturns)
-        (Next (l.Word (keyword_number Returns))) FlowEnd =
-        after_complete {b = λ _. flows.NeverReturns} (keyword_complete Returns) (λ x f. tt) (λ _. last_complete (λ _. flows.NeverReturns) may_comma_complete)
+    (Next (l.Word (keyword_number Returns))) FlowEnd =
+    after_complete {b = λ _. flows.NeverReturns} (keyword_complete Returns) (λ x f. tt) (λ _. last_complete (λ _. flows.NeverReturns) may_comma_complete)
     in
     law_of fuel flows.NeverReturns Never (keyword_is Returns ⨾ may_comma_is) (takes_assoc (keyword_is Never) (keyword_is Returns) may_comma_is) rest.moves
     (follow_complete (λ x e. rw e refl) (λ x f. f)
@@ -133,9 +133,10 @@ flow_complete : (fuel : ℕ) (f : Flow) →
     Strict (here_is f.token ⨾ flow_is f.form) × Complete fuel (here_is f.token ⨾ flow_is f.form) f (flow fuel) (Passing begins_flow) FlowEnd
 flow_complete fuel f =
     let law = flow_law fuel f.form in
-    let here_law = here_complete {fuel = fuel} {follow = Anything} f.token in
-    (strict_then here_law.moves law.strict,
-    after_complete (here_complete f.token) (λ x g. g) (λ token. last_complete (λ form. record { token = token; form = form }) law.complete))
+    let here_law = here_complete {fuel = fuel} {follow = Anything} f.token in (
+      strict_then here_law.moves law.strict,
+      after_complete (here_complete f.token) (λ x g. g) (λ token. last_complete (λ form. record { token = token; form = form }) law.complete),
+    )
 
 -- no annotation goes on there
 abbrev pub NoFlow : Option Lexeme → Type 0

@@ -1,16 +1,14 @@
 -- Each part of a statement that what follows does not go on is read.
-use Rattle.std.proofs.Common.{◌≡◌, ℕ, suc, ◌≤◌, ◌⊎◌, inl, inr, Bool, true, false, ◌==◌, ◌||◌, List, [], ◌∷◌, Option, Some, None, refl, sym, ap, ◌∙◌, arith, subst, is_some}
-use denote.Hole.Carrier as Carrier
+use Rattle.std.proofs.Common.{◌≡◌, ℕ, ◌⊎◌, inl, inr, Bool, true, false, ◌==◌, ◌||◌, List, Option, Some, None, refl, sym, ap, arith, subst, is_some}
 use Rattle.cmm_lexer.specs.declared.piece.Lexeme.{Lexeme}
 use Rattle.cmm_lexer.specs.declared.piece.Lexeme.TheVariants as l
-use Rattle.cmm_ast.specs.declared.token.Ident.{Ident}
 use Rattle.cmm_ast.specs.declared.keyword.Symbol.TheVariants.{Open, Close, OpenSquare, CloseSquare, Comma, Less, Greater, Slash}
 use Rattle.cmm_ast.specs.declared.keyword.Symbol.TheVariants as sign
 use Rattle.cmm_ast.specs.declared.expression.Expr.{Expr}
 use Rattle.cmm_ast.specs.declared.expression.TypeName.{TypeName}
 use Rattle.cmm_ast.specs.declared.expression.TypeForm.TheVariants.{Bits, Named as OfName}
 use Rattle.cmm_ast.specs.declared.expression.ExprForm.{end_of-Expr, more_of-Expr}
-use Rattle.cmm_ast.specs.declared.expression.Memory.{Memory, Memory', roll-Memory}
+use Rattle.cmm_ast.specs.declared.expression.Memory.{Memory', roll-Memory}
 use Rattle.cmm_ast.specs.declared.expression.Number.TheVariants as number
 use Rattle.cmm_ast.specs.declared.expression.Prim.{Prim as PrimExpr}
 use Rattle.cmm_ast.specs.declared.expression.PrimForm.TheVariants.{Literal, Name as NameOf, Bracketed'}
@@ -24,16 +22,16 @@ use Rattle.cmm_ast.specs.declared.statement.Lvalue.{Lvalue}
 use Rattle.cmm_ast.specs.declared.statement.Lvalue.TheVariants as lvalues
 use Rattle.cmm_ast.specs.declared.statement.Range.{Range}
 use Rattle.cmm_ast.specs.Numbers.{keyword_number, symbol_number}
-use Rattle.cmm_ast.specs.Taking.{Takes, ◌⨾◌, nothing, is_name, is_symbol, square as square_is, outermost as outermost_is, optional as optional_is, symbol as symbol_is}
+use Rattle.cmm_ast.specs.Taking.{◌⨾◌, is_name, is_symbol, square as square_is, outermost as outermost_is, optional as optional_is, symbol as symbol_is}
 use Rattle.cmm_ast.specs.ExpressionGrammar as grammar
 use Rattle.cmm_ast.specs.ExpressionGrammar.{width_word, aligned_by}
 use Rattle.cmm_ast.specs.StatementGrammar as statements
-use Rattle.cmm_parser.specs.Reading.{Reads, ◌>>=◌, give, passes, look, if_next, skip, round}
+use Rattle.cmm_parser.specs.Reading.{Reads, ◌>>=◌, give, passes, look, if_next, round}
 use Rattle.cmm_parser.specs.ReadingLaws.{Complete}
 use Rattle.cmm_parser.specs.ExpressionReading.{width_in, begins_expression, named_type, operand, whole, whole_memory, prim_by, whole_prim}
 use Rattle.cmm_parser.specs.PartReading.{is_any_text, is_any_name, is_width, begins_kinded, kinded, begins_actual, actual, arguments, lvalue, called, callee, exit, range_end, range}
 use Rattle.cmm_parser.proofs.Completes.{Next, Anything, after_complete, give_complete, last_complete, follow_complete, less_complete, holds_complete, fails_complete, here_complete, outermost_complete, skip_complete, at_complete}
-use Rattle.cmm_parser.proofs.CompleteExpressions.{Begins, Ends, NoMore, HasSpine, spine, width_in_is, number_token, literal_complete, bracketed_complete, type_name_complete, in_brackets_complete, memory_complete, whole_complete}
+use Rattle.cmm_parser.proofs.CompleteExpressions.{Begins, Ends, NoMore, spine, width_in_is, literal_complete, bracketed_complete, type_name_complete, in_brackets_complete, memory_complete, whole_complete}
 use Rattle.cmm_parser.proofs.Expressions.{opened, operand_is}
 use Rattle.cmm_parser.proofs.Parts.{outer_type}
 use Rattle.cmm_parser.proofs.Lists.{takes_nothing, After, Parts, may_list_complete}
@@ -238,6 +236,6 @@ pub range_complete : (fuel : ℕ) (r : Range) →
 range_complete fuel r =
     after_complete {b = λ from. record { from = from; to = r.to }} (whole_complete fuel r.from) ends
     (λ from. last_complete (λ to. record { from = from; to = to }) (range_ends fuel r.to)) where
-  ends : (x : Option Lexeme) → (x ≡ Some (l.Symbol (symbol_number sign.Range))) ⊎ (Ends 0 x × Failing (is_symbol (symbol_number sign.Range)) x) → Ends 0 x
-  ends x (inl e) = rw e (record { no_more = refl; no_infix = λ op is. absurd cc })
-  ends x (inr f) = f.0
+      ends : (x : Option Lexeme) → (x ≡ Some (l.Symbol (symbol_number sign.Range))) ⊎ (Ends 0 x × Failing (is_symbol (symbol_number sign.Range)) x) → Ends 0 x
+      ends x (inl e) = rw e (record { no_more = refl; no_infix = λ op is. absurd cc })
+      ends x (inr f) = f.0

@@ -1,12 +1,10 @@
 -- Each procedure, and what it declares, is read.
-use Rattle.std.proofs.Common.{◌≡◌, ℕ, zero, suc, ◌⊎◌, inl, inr, Bool, true, false, List, [], ◌∷◌, Option, Some, None, refl, sym, ap, ◌∙◌, arith}
+use Rattle.std.proofs.Common.{ℕ, ◌⊎◌, inl, inr, List, Option, Some, None, refl, arith}
 use Rattle.cmm_lexer.specs.declared.piece.Lexeme.{Lexeme}
 use Rattle.cmm_lexer.specs.declared.piece.Lexeme.TheVariants as l
-use Rattle.cmm_words.specs.declared.width.Width.{Width}
 use Rattle.cmm_words.specs.declared.width.Width.TheVariants.{W8, W16, W32, W64}
 use Rattle.cmm_ast.specs.declared.token.Ident.{Ident}
-use Rattle.cmm_ast.specs.declared.token.Text.{Text}
-use Rattle.cmm_ast.specs.declared.keyword.Keyword.TheVariants.{Align, Invariant, Stackdata}
+use Rattle.cmm_ast.specs.declared.keyword.Keyword.TheVariants.{Align, Invariant}
 use Rattle.cmm_ast.specs.declared.keyword.Symbol.TheVariants.{Open, Close, Colon, OpenBrace, CloseBrace, OpenSquare, CloseSquare, Semicolon}
 use Rattle.cmm_ast.specs.declared.expression.Expr.{Expr}
 use Rattle.cmm_ast.specs.declared.expression.TypeName.{TypeName}
@@ -22,21 +20,21 @@ use Rattle.cmm_ast.specs.declared.procedure.RoomForm.{RoomForm}
 use Rattle.cmm_ast.specs.declared.procedure.RoomForm.TheVariants as rooms
 use Rattle.cmm_ast.specs.declared.statement.Block.{Block}
 use Rattle.cmm_ast.specs.Numbers.{keyword_number, symbol_number}
-use Rattle.cmm_ast.specs.Taking.{Takes, ◌⨾◌, nothing, is_keyword, is_symbol, here as here_is, keyword as keyword_is, symbol as symbol_is, optional as optional_is, listed as listed_is, many as many_is, may_list as may_list_is, round as round_is, square as square_is, braces as braces_is}
+use Rattle.cmm_ast.specs.Taking.{◌⨾◌, is_keyword, is_symbol, symbol as symbol_is, optional as optional_is, listed as listed_is, many as many_is, may_list as may_list_is, round as round_is, square as square_is, braces as braces_is}
 use Rattle.cmm_ast.specs.ExpressionGrammar as grammar
 use Rattle.cmm_ast.specs.ExpressionGrammar.{width_word}
 use Rattle.cmm_ast.specs.StatementGrammar as bodies
-use Rattle.cmm_parser.specs.Reading.{Reads, ◌>>=◌, give, ident}
+use Rattle.cmm_parser.specs.Reading.{Reads, ◌>>=◌, give}
 use Rattle.cmm_parser.specs.ReadingLaws.{Complete}
-use Rattle.cmm_parser.specs.ExpressionReading.{type_name, named_type, whole}
-use Rattle.cmm_parser.specs.DeclarationReading.{any_name, any_text, is_other, begins_bits, optional_text, bits, names}
-use Rattle.cmm_parser.specs.ProcedureReading.{invariant_by, invariant_first, kind_by, modifiers_of, begins_formal, formal, variables, room_count, sized_room, room_by, room_form, room, stackdata, procedure, proc}
+use Rattle.cmm_parser.specs.ExpressionReading.{named_type}
+use Rattle.cmm_parser.specs.DeclarationReading.{any_name, any_text, is_other, begins_bits, optional_text, bits}
+use Rattle.cmm_parser.specs.ProcedureReading.{invariant_by, kind_by, modifiers_of, begins_formal, formal, variables, room_count, sized_room, room_by, room_form, room, stackdata, procedure}
 use Rattle.cmm_parser.proofs.Completes.{Next, Anything, Strict, follow_complete, less_complete, after_complete, give_complete, last_complete, holds_complete, fails_complete, here_complete, token_strict}
 use Rattle.cmm_parser.proofs.Tokens.{only_name, only_keyword, symbol_complete, keyword_complete, ident_complete, text_complete, int_complete}
 use Rattle.cmm_parser.proofs.Lists.{Parts, each_of}
 use Rattle.cmm_parser.proofs.CompleteExpressions.{type_token, type_name_complete, in_brackets_complete, whole_complete}
 use Rattle.cmm_parser.proofs.Procedures.{room_is}
-use Rattle.cmm_parser.proofs.CompleteRepeats.{Passes, Not, then_complete, start_complete, end_complete, if_word_complete, only_word_complete, only_symbol_complete, some_complete, none_complete, parts_before, may_list_complete, strict_then, here_strict, Spends, if_word_spends, not_next_spends, follow_spends, here_spends, Rows, many_complete}
+use Rattle.cmm_parser.proofs.CompleteRepeats.{Passes, Not, then_complete, start_complete, end_complete, only_word_complete, only_symbol_complete, some_complete, none_complete, parts_before, may_list_complete, strict_then, here_strict, Spends, if_word_spends, not_next_spends, follow_spends, here_spends, Rows, many_complete}
 use Rattle.cmm_parser.proofs.CompleteDeclarations.{bits_begin, ends_before, type_no_text, names_complete}
 
 -- ---- what stands before the type of a variable

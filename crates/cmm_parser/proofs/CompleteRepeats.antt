@@ -1,16 +1,16 @@
 -- Parts that may be missing, rows, and words that say what follows: each that what follows does not go on is read.
-use Rattle.std.proofs.Common.{◌≡◌, ℕ, zero, suc, ◌<◌, ◌≤◌, ◌⊎◌, inl, inr, Bool, true, false, List, [], ◌∷◌, ◌++◌, length, Option, Some, None, refl, sym, ap, ◌∙◌, arith, append_assoc, append-nil, subst, ◌==◌, le_refl, le_trans}
+use Rattle.std.proofs.Common.{◌≡◌, ℕ, zero, suc, ◌≤◌, ◌⊎◌, inl, inr, Bool, true, false, List, [], ◌∷◌, ◌++◌, Option, Some, None, sym, ap, ◌∙◌, arith, append_assoc, append-nil, subst, le_refl}
 use Rattle.cmm_lexer.specs.declared.piece.Lexeme.{Lexeme}
 use Rattle.cmm_lexer.specs.declared.piece.Lexeme.TheVariants as l
 use Rattle.cmm_ast.specs.declared.keyword.Keyword.{Keyword}
 use Rattle.cmm_ast.specs.declared.keyword.Symbol.{Symbol}
 use Rattle.cmm_ast.specs.Numbers.{keyword_number, symbol_number}
-use Rattle.cmm_ast.specs.Taking.{Reading, Takes, ◌⨾◌, nothing, here as here_is, is_keyword, is_symbol, keyword as keyword_is, symbol as symbol_is, optional as optional_is, many as many_is, may_list as may_list_is}
-use Rattle.cmm_parser.specs.Reading.{Reads, and_then, ◌>>=◌, give, next, passes, if_next, here, skip, keyword, optional, many, may_list, is_comma}
-use Rattle.cmm_parser.specs.ReadingLaws.{point, passed, outcome, Moves, Complete}
+use Rattle.cmm_ast.specs.Taking.{Reading, Takes, ◌⨾◌, nothing, here as here_is, is_keyword, is_symbol, keyword as keyword_is, symbol as symbol_is, many as many_is, may_list as may_list_is}
+use Rattle.cmm_parser.specs.Reading.{Reads, and_then, ◌>>=◌, give, next, passes, if_next, here, keyword, optional, many, may_list, is_comma}
+use Rattle.cmm_parser.specs.ReadingLaws.{Moves, Complete}
 use Rattle.cmm_parser.specs.DeclarationReading.{if_word, if_symbol}
 use Rattle.cmm_parser.proofs.Sounds.{same_number}
-use Rattle.cmm_parser.proofs.Completes.{Next, Anything, Only, Strict, moves_trans, moves_self, after_outcome, both, follow_complete, less_complete, fewer_complete, after_complete, give_complete, last_complete, holds_complete, fails_complete, skip_complete, here_complete, token_strict, number_same}
+use Rattle.cmm_parser.proofs.Completes.{Next, Anything, Strict, moves_trans, after_outcome, both, follow_complete, less_complete, fewer_complete, after_complete, give_complete, last_complete, holds_complete, fails_complete, skip_complete, here_complete, token_strict}
 use Rattle.cmm_parser.proofs.Tokens.{only_keyword, only_symbol, keyword_complete}
 use Rattle.cmm_parser.proofs.Lists.{After, Parts, Each, takes_assoc, takes_nothing, listed_complete}
 
@@ -68,8 +68,8 @@ never_complete {p = p} never = record {
   complete = λ limited r after e f less fits. absurd (no (p r) after (never r) e);
 }
   where
-  no : (o : Option Reading) (after : Reading) → o ≡ None → o ≡ Some after → ⊥
-  no o after e f = absurd cc
+    no : (o : Option Reading) (after : Reading) → o ≡ None → o ≡ Some after → ⊥
+    no o after e f = absurd cc
 
 -- ---- words and symbols that say what follows
 

@@ -1,11 +1,10 @@
 -- Declarations that are read are trees of the tokens that they take, and their answers hang on no token beyond the one that is
 -- looked at.
-use Rattle.std.proofs.Common.{◌≡◌, ℕ, Bool, true, false, List, [], ◌∷◌, Option, Some, None, refl, sym, ap, ◌∙◌}
+use Rattle.std.proofs.Common.{◌≡◌, ℕ, true, false, List, [], Option, Some, None, refl, sym, ap}
 use Rattle.cmm_ast.specs.declared.token.Ident.{Ident}
 use Rattle.cmm_ast.specs.declared.keyword.Keyword.TheVariants.{As, Big, Byteorder, Const, Export as ExportWord, Import as ImportWord, Invariant, Little, Memsize, Pointersize, Register, Target, Typedef, Wordsize}
 use Rattle.cmm_ast.specs.declared.keyword.Symbol.TheVariants.{Assign, Semicolon}
 use Rattle.cmm_ast.specs.declared.expression.TypeName.{TypeName}
-use Rattle.cmm_ast.specs.declared.declaration.DeclForm.{DeclForm}
 use Rattle.cmm_ast.specs.declared.declaration.DeclForm.TheVariants as decls
 use Rattle.cmm_ast.specs.declared.declaration.Import.{Import}
 use Rattle.cmm_ast.specs.declared.declaration.Export.{Export}
@@ -15,11 +14,11 @@ use Rattle.cmm_ast.specs.declared.declaration.ByteOrder.TheVariants as orders
 use Rattle.cmm_ast.specs.Taking.{Takes, ◌⨾◌, nothing, here as here_is, keyword as keyword_is, symbol as symbol_is, optional as optional_is, listed as listed_is, may_comma}
 use Rattle.cmm_ast.specs.ExpressionGrammar as grammar
 use Rattle.cmm_ast.specs.UnitGrammar as units
-use Rattle.cmm_parser.specs.Reading.{Reads, ◌>>=◌, give, symbol, optional, listed, more_listed}
+use Rattle.cmm_parser.specs.Reading.{◌>>=◌, give, symbol}
 use Rattle.cmm_parser.specs.ReadingLaws.{Sound, Local}
-use Rattle.cmm_parser.specs.ExpressionReading.{type_name, named_type}
-use Rattle.cmm_parser.specs.DeclarationReading.{any_name, any_text, is_other, begins_bits, bits, begins_name, Head, TypeFirst, NameFirst, Neither, name_head, head_by, head, optional_text, names, text_as, import_name, import_of, as_text, export_of, export_name, imports_by, exports_by, typed_name_by, byte_order, property_form, property, imports, exports, constant, typedef, target, is_invariant, register, decl_form, decl}
-use Rattle.cmm_parser.proofs.Sounds.{Goes, whole_sound, after_sound, last_sound, same_sound, give_sound, at_sound, next_sound, here_sound}
+use Rattle.cmm_parser.specs.ExpressionReading.{named_type}
+use Rattle.cmm_parser.specs.DeclarationReading.{any_name, any_text, is_other, begins_bits, bits, begins_name, Head, TypeFirst, NameFirst, Neither, head_by, head, optional_text, names, import_name, import_of, export_of, export_name, imports_by, exports_by, typed_name_by, byte_order, property_form, property, is_invariant, register, decl_form, decl}
+use Rattle.cmm_parser.proofs.Sounds.{Goes, whole_sound, after_sound, last_sound, same_sound, give_sound, here_sound}
 use Rattle.cmm_parser.proofs.Locals.{after_local, give_local, here_local, next_local, optional_local, many_local, listed_local, more_listed_local}
 use Rattle.cmm_parser.proofs.Tokens.{symbol_sound, symbol_local, keyword_sound, keyword_local, ident_sound, ident_local, text_sound, text_local, int_sound, int_local}
 use Rattle.cmm_parser.proofs.Lists.{takes_assoc, takes_nothing, commas_to, more_listed_goes, listed_sound}

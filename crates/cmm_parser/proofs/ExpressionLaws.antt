@@ -1,13 +1,12 @@
 -- What readers say of all of some tokens, used on expressions.
-use Rattle.std.proofs.Common.{ℕ, List, [], refl}
-use Rattle.cmm_lexer.specs.declared.piece.Lexeme.{Lexeme}
+use Rattle.std.proofs.Common.{ℕ, refl}
 use Rattle.cmm_ast.specs.declared.expression.Expr.{Expr}
 use Rattle.cmm_ast.specs.ExpressionGrammar as grammar
 use Rattle.cmm_parser.specs.ReadingLaws.{Complete}
 use Rattle.cmm_parser.specs.ExpressionReading.{whole}
 use Rattle.cmm_parser.specs.ExpressionLaws.{OneExpression, NoneGoesOn, EachIsTooDeep, EachIsRead, WhatIsReadIsOne}
 use Rattle.cmm_parser.proofs.Completes.{follow_complete}
-use Rattle.cmm_parser.proofs.CompleteExpressions.{Begins, Ends, whole_complete}
+use Rattle.cmm_parser.proofs.CompleteExpressions.{Begins, whole_complete}
 use Rattle.cmm_parser.proofs.LocalExpressions.{whole_local}
 use Rattle.cmm_parser.proofs.Wholes.{AtEnd, one_tree, none_goes_on_with, each_passes_a_limit, tree_is_read}
 use Rattle.cmm_parser.proofs.Expressions.{whole_expr_sound}

@@ -1,25 +1,19 @@
 -- What is read of statements hangs on no token beyond the one that the reader looks at.
-use Rattle.std.proofs.Common.{ℕ, zero, suc, List, [], ◌∷◌, ◌++◌, Option, Some, None}
+use Rattle.std.proofs.Common.{ℕ, zero, suc, List, [], ◌∷◌, Option, Some, None}
 use Rattle.cmm_lexer.specs.declared.piece.Lexeme.{Lexeme}
 use Rattle.cmm_lexer.specs.declared.piece.Lexeme.TheVariants as l
 use Rattle.cmm_ast.specs.declared.token.Ident.{Ident}
 use Rattle.cmm_ast.specs.declared.token.Text.{Text}
 use Rattle.cmm_ast.specs.declared.keyword.Keyword.TheVariants as word
-use Rattle.cmm_ast.specs.declared.keyword.Symbol.{Symbol}
 use Rattle.cmm_ast.specs.declared.keyword.Symbol.TheVariants as sign
 use Rattle.cmm_ast.specs.declared.expression.Memory.{Memory}
-use Rattle.cmm_ast.specs.declared.expression.TypeName.{TypeName}
 use Rattle.cmm_ast.specs.declared.procedure.LocalForm.{LocalForm}
-use Rattle.cmm_ast.specs.declared.procedure.Modifiers.{Modifiers}
 use Rattle.cmm_ast.specs.declared.procedure.Modifiers.TheVariants as before
 use Rattle.cmm_ast.specs.declared.statement.Block.{Block}
 use Rattle.cmm_ast.specs.declared.statement.Callee.{Callee}
 use Rattle.cmm_ast.specs.declared.statement.CalleeForm.{CalleeForm}
-use Rattle.cmm_ast.specs.declared.statement.CalleeForm.TheVariants as callees
 use Rattle.cmm_ast.specs.declared.statement.Case.TheVariants as cases
-use Rattle.cmm_ast.specs.declared.statement.FlowForm.TheVariants as flows
 use Rattle.cmm_ast.specs.declared.statement.Kinded.{Kinded}
-use Rattle.cmm_ast.specs.declared.statement.Lvalue.{Lvalue}
 use Rattle.cmm_ast.specs.declared.statement.Otherwise.{Otherwise}
 use Rattle.cmm_ast.specs.declared.statement.Otherwise.TheVariants as otherwises
 use Rattle.cmm_ast.specs.declared.statement.StmtForm.{StmtForm}
@@ -30,9 +24,9 @@ use Rattle.cmm_parser.specs.Reading.{Reads, ◌>>=◌, give, round, square, brac
 use Rattle.cmm_parser.specs.ReadingLaws.{Local}
 use Rattle.cmm_parser.specs.PartReading.{begins_kinded}
 use Rattle.cmm_parser.specs.CallReading.{call, convention, call_after}
-use Rattle.cmm_parser.specs.TargetReading.{Targets, Names, Lvalues, Results, next_target, more_targets, called, assign, values, checked_operator, two_values, checked, after_names, assigned, assignment, callee_of_form, lvalues_of}
-use Rattle.cmm_parser.specs.StatementReading.{case, span_ends, switch_span, jump, return_form, goto, cut, continuation, word_stmt, symbol_stmt, memory_stmt, name_stmt, PartForm, of_stmt, of_local, name_part, text_part, word_part, flat_by, flat_part, if_form, chained, otherwise, is_within, arm, switch_form, span_form, part_form, part, block}
-use Rattle.cmm_parser.proofs.Locals.{after_local, give_local, stop_local, here_local, look_local, next_local, skip_local, opening_local, outermost_local, enclosed_local, optional_local, many_local, commas_local, more_listed_local, listed_local, may_list_local}
+use Rattle.cmm_parser.specs.TargetReading.{Targets, Names, Lvalues, Results, next_target, more_targets, called, values, checked_operator, two_values, checked, assigned, assignment, callee_of_form}
+use Rattle.cmm_parser.specs.StatementReading.{case, switch_span, jump, return_form, goto, cut, continuation, word_stmt, symbol_stmt, memory_stmt, name_stmt, of_stmt, of_local, flat_by, flat_part, if_form, chained, otherwise, is_within, arm, switch_form, span_form, part, block}
+use Rattle.cmm_parser.proofs.Locals.{after_local, give_local, stop_local, here_local, look_local, next_local, skip_local, opening_local, enclosed_local, optional_local, many_local, commas_local, more_listed_local, listed_local, may_list_local}
 use Rattle.cmm_parser.proofs.LocalExpressions.{type_name_local, in_brackets_local, whole_local, whole_prim_local, whole_memory_local}
 use Rattle.cmm_parser.proofs.LocalParts.{kinded_local, arguments_local, lvalue_local, callee_local, annotations_local, exit_local, range_local}
 use Rattle.cmm_parser.proofs.Procedures.{modifiers_local, variables_local, stackdata_local}

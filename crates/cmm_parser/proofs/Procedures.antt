@@ -1,6 +1,6 @@
 -- Procedures, and what they declare, that are read are trees of the tokens that they take, and their answers hang on no token
 -- beyond the one that is looked at.
-use Rattle.std.proofs.Common.{◌≡◌, ℕ, Bool, true, false, List, [], ◌∷◌, Option, Some, None, refl, sym, ap, ◌∙◌}
+use Rattle.std.proofs.Common.{◌≡◌, ℕ, [], Option, Some, None, refl, sym, ap}
 use Rattle.cmm_ast.specs.declared.token.Ident.{Ident}
 use Rattle.cmm_ast.specs.declared.token.Text.{Text}
 use Rattle.cmm_ast.specs.declared.keyword.Keyword.TheVariants.{Align, Invariant, Stackdata}
@@ -12,18 +12,18 @@ use Rattle.cmm_ast.specs.declared.procedure.LocalForm.TheVariants as locals
 use Rattle.cmm_ast.specs.declared.procedure.Room.{Room}
 use Rattle.cmm_ast.specs.declared.procedure.RoomForm.TheVariants as rooms
 use Rattle.cmm_ast.specs.declared.statement.Block.{Block}
-use Rattle.cmm_ast.specs.Taking.{Takes, ◌⨾◌, nothing, here as here_is, keyword as keyword_is, symbol as symbol_is, optional as optional_is, listed as listed_is, square as square_is}
+use Rattle.cmm_ast.specs.Taking.{Takes, ◌⨾◌, here as here_is, keyword as keyword_is, symbol as symbol_is, optional as optional_is}
 use Rattle.cmm_ast.specs.ExpressionGrammar as grammar
 use Rattle.cmm_ast.specs.StatementGrammar as bodies
-use Rattle.cmm_parser.specs.Reading.{Reads, ◌>>=◌, give}
+use Rattle.cmm_parser.specs.Reading.{Reads}
 use Rattle.cmm_parser.specs.ReadingLaws.{Sound, Local}
-use Rattle.cmm_parser.specs.ExpressionReading.{type_name, named_type}
-use Rattle.cmm_parser.specs.DeclarationReading.{any_text, is_other, optional_text, bits, names}
-use Rattle.cmm_parser.specs.ProcedureReading.{invariant_by, invariant_first, kind_by, modifiers_of, begins_formal, formal, variables, room_count, sized_room, room_by, room_form, room, stackdata, procedure, proc}
+use Rattle.cmm_parser.specs.ExpressionReading.{named_type}
+use Rattle.cmm_parser.specs.DeclarationReading.{is_other}
+use Rattle.cmm_parser.specs.ProcedureReading.{invariant_by, invariant_first, kind_by, modifiers_of, begins_formal, formal, variables, sized_room, room_by, room_form, room, stackdata, procedure}
 use Rattle.cmm_parser.proofs.Sounds.{Goes, whole_sound, after_sound, last_sound, same_sound, give_sound, here_sound}
 use Rattle.cmm_parser.proofs.Locals.{after_local, give_local, here_local, next_local, optional_local, many_local, may_list_local}
-use Rattle.cmm_parser.proofs.Tokens.{symbol_sound, symbol_local, keyword_sound, keyword_local, ident_sound, ident_local, text_sound, text_local, int_sound, int_local}
-use Rattle.cmm_parser.proofs.Lists.{takes_assoc, takes_nothing, may_list_sound}
+use Rattle.cmm_parser.proofs.Tokens.{symbol_sound, symbol_local, keyword_sound, keyword_local, ident_sound, ident_local, int_sound, int_local}
+use Rattle.cmm_parser.proofs.Lists.{takes_nothing, may_list_sound}
 use Rattle.cmm_parser.proofs.Expressions.{type_name_sound, in_brackets_sound, whole_expr_sound}
 use Rattle.cmm_parser.proofs.LocalExpressions.{type_name_local, in_brackets_local, whole_local}
 use Rattle.cmm_parser.proofs.Repeats.{if_word_sound, if_symbol_sound, if_next_sound, optional_sound, many_sound, if_word_local, if_symbol_local}
@@ -56,9 +56,9 @@ modifiers_local =
     (after_local here_local (λ first. after_local (keyword_local Invariant) (λ _. after_local optional_text_local (λ kind. give_local (invariant_by first kind)))))
     (after_local optional_text_local by)
   where
-  by : (o : Option Text) → Local (kind_by o)
-  by (Some kind) = if_word_local Invariant (give_local _) (give_local _)
-  by None = give_local _
+    by : (o : Option Text) → Local (kind_by o)
+    by (Some kind) = if_word_local Invariant (give_local _) (give_local _)
+    by None = give_local _
 
 pub formal_sound : Sound formal bodies.formal
 formal_sound =
@@ -93,12 +93,12 @@ room_form_sound fuel =
     (if_word_sound Align (after_sound int_sound (λ bytes. last_sound (λ _. rooms.Align bytes) (symbol_sound Semicolon) (λ _. refl)))
     (after_sound bits_sound by))
   where
-  by : (o : Option TypeName) → Goes (λ k. optional_is grammar.type_name o ⨾ k) (room_by fuel o) bodies.room_form
-  by (Some width) = sized_room_goes fuel width
-  by None =
-      after_sound ident_sound (λ name.
-      if_symbol_sound Colon (give_sound (rooms.Label name) (ap (λ t. grammar.ident name ⨾ t) (sym (takes_nothing (symbol_is Colon)))))
-      (sized_room_goes fuel (named_type name)))
+    by : (o : Option TypeName) → Goes (λ k. optional_is grammar.type_name o ⨾ k) (room_by fuel o) bodies.room_form
+    by (Some width) = sized_room_goes fuel width
+    by None =
+        after_sound ident_sound (λ name.
+        if_symbol_sound Colon (give_sound (rooms.Label name) (ap (λ t. grammar.ident name ⨾ t) (sym (takes_nothing (symbol_is Colon)))))
+        (sized_room_goes fuel (named_type name)))
 
 room_sound : (fuel : ℕ) → Sound (room fuel) room_is
 room_sound fuel = whole_sound (after_sound here_sound (λ token. last_sound _ (room_form_sound fuel) (λ form. refl)))
@@ -119,9 +119,9 @@ room_local fuel =
     (if_word_local Align (after_local int_local (λ bytes. after_local (symbol_local Semicolon) (λ _. give_local _))) (after_local bits_local by))
     (λ form. give_local _))
   where
-  by : (o : Option TypeName) → Local (room_by fuel o)
-  by (Some width) = sized_room_local fuel width
-  by None = after_local ident_local (λ name. if_symbol_local Colon (give_local _) (sized_room_local fuel (named_type name)))
+    by : (o : Option TypeName) → Local (room_by fuel o)
+    by (Some width) = sized_room_local fuel width
+    by None = after_local ident_local (λ name. if_symbol_local Colon (give_local _) (sized_room_local fuel (named_type name)))
 
 pub stackdata_local : (fuel : ℕ) → Local (stackdata fuel)
 stackdata_local fuel =

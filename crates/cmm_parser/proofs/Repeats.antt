@@ -1,16 +1,14 @@
 -- Parts that may be missing, rows, and words that say what follows: what they take, and how they are read.
-use Rattle.std.proofs.Common.{◌≡◌, ℕ, zero, suc, ◌<◌, ◌≤◌, ◌⊎◌, inl, inr, Bool, true, false, List, [], ◌∷◌, ◌++◌, length, Option, Some, None, refl, sym, ap, ◌∙◌, arith, append_assoc, append-nil, subst}
+use Rattle.std.proofs.Common.{◌≡◌, ℕ, zero, suc, Bool, true, List, [], ◌∷◌, ◌++◌, Some, None, refl, sym, ap, ◌∙◌}
 use Rattle.cmm_lexer.specs.declared.piece.Lexeme.{Lexeme}
-use Rattle.cmm_lexer.specs.declared.piece.Lexeme.TheVariants as l
 use Rattle.cmm_ast.specs.declared.keyword.Keyword.{Keyword}
 use Rattle.cmm_ast.specs.declared.keyword.Symbol.{Symbol}
-use Rattle.cmm_ast.specs.Numbers.{keyword_number, symbol_number}
-use Rattle.cmm_ast.specs.Taking.{Reading, Takes, ◌⨾◌, nothing, here as here_is, is_keyword, is_symbol, keyword as keyword_is, symbol as symbol_is, optional as optional_is, many as many_is}
-use Rattle.cmm_parser.specs.Reading.{Point, Read, Reads, ◌>>=◌, give, next, passes, if_next, here, skip, optional, many}
-use Rattle.cmm_parser.specs.ReadingLaws.{within, Moves, Sound, Complete, Local}
+use Rattle.cmm_ast.specs.Taking.{Takes, ◌⨾◌, nothing, keyword as keyword_is, symbol as symbol_is, optional as optional_is, many as many_is}
+use Rattle.cmm_parser.specs.Reading.{Reads, ◌>>=◌, give, if_next, optional, many}
+use Rattle.cmm_parser.specs.ReadingLaws.{within, Sound, Local}
 use Rattle.cmm_parser.specs.DeclarationReading.{if_word, if_symbol}
-use Rattle.cmm_parser.proofs.Sounds.{Goes, GoesAt, whole_sound, after_sound, last_sound, give_sound, at_sound, next_sound, skip_sound, bound, taken_then}
-use Rattle.cmm_parser.proofs.Locals.{after_local, give_local, stop_local, next_local, skip_local}
+use Rattle.cmm_parser.proofs.Sounds.{Goes, whole_sound, after_sound, last_sound, give_sound, at_sound, next_sound, skip_sound, bound, taken_then}
+use Rattle.cmm_parser.proofs.Locals.{after_local, next_local, skip_local}
 use Rattle.cmm_parser.proofs.Lists.{takes_nothing, goes_same}
 
 -- ---- what is read is taken

@@ -3,13 +3,12 @@ use Rattle.std.proofs.Common.{◌≡◌, ℕ, zero, suc, ◌==◌, nat_lt, Bool,
 use Rattle.std.proofs.Math.Path.{fun_ext}
 use Rattle.cmm_lexer.specs.declared.piece.Lexeme.{Lexeme}
 use Rattle.cmm_ast.specs.declared.keyword.Symbol.{Symbol}
-use Rattle.cmm_ast.specs.declared.keyword.Symbol.TheVariants.{Comma}
-use Rattle.cmm_ast.specs.Taking.{Reading, Takes, ◌⨾◌, nothing, token, taken_if, symbol as symbol_is, here as here_is, optional as optional_is, many as many_is, commas as commas_is, may_comma as may_comma_is, outermost as outermost_is, opening as opening_is, enclosed as enclosed_is, first_over, is_symbol, in_brackets as in_brackets_is}
+use Rattle.cmm_ast.specs.Taking.{Reading, Takes, ◌⨾◌, nothing, token, taken_if, symbol as symbol_is, here as here_is, outermost as outermost_is, opening as opening_is, enclosed as enclosed_is, first_over, is_symbol, in_brackets as in_brackets_is}
 use Rattle.cmm_ast.specs.Numbers.{symbol_number}
-use Rattle.cmm_parser.specs.Reading.{Point, Read, Reads, ◌>>=◌, give, optional, many, next, skip, passes, is_comma, outermost}
+use Rattle.cmm_parser.specs.Reading.{Point, Read, Reads, many, outermost}
 use Rattle.cmm_parser.specs.ReadingLaws.{within, Sound}
-use Rattle.cmm_parser.proofs.Sounds.{Goes, GoesAt, whole_sound, after_sound, last_sound, give_sound, at_sound, next_sound, bound, read_same, one_taken, taken_then}
-use Rattle.cmm_parser.proofs.Lists.{takes_assoc, takes_nothing, goes_same, may_comma_not}
+use Rattle.cmm_parser.proofs.Sounds.{Goes, whole_sound, after_sound, give_sound, at_sound, next_sound}
+use Rattle.cmm_parser.proofs.Lists.{takes_assoc, takes_nothing, goes_same}
 
 -- ---- takings one after the other
 

@@ -1,25 +1,22 @@
 -- What statements, blocks and parts take, in terms of the parts that a tree is made of.
-use Rattle.std.proofs.Common.{◌≡◌, ℕ, List, [], ◌∷◌, Option, Some, None, refl, sym, ap, ◌∙◌}
+use Rattle.std.proofs.Common.{◌≡◌, ℕ, List, Option, refl, sym, ap, ◌∙◌}
 use denote.Hole.Carrier as Carrier
 use Rattle.cmm_ast.specs.declared.keyword.Keyword.TheVariants.{Else, If, Span, Switch}
 use Rattle.cmm_ast.specs.declared.expression.Expr.{Expr}
 use Rattle.cmm_ast.specs.declared.expression.Prim.{Prim as PrimExpr}
-use Rattle.cmm_ast.specs.declared.procedure.LocalForm.{LocalForm}
 use Rattle.cmm_ast.specs.declared.statement.Arm.{Arm}
 use Rattle.cmm_ast.specs.declared.statement.Block.{Block, Row_of-Part, end_of-Part, more_of-Part, items-the_row-Part, items_hidden-the_row-Part-0, items_shown-the_row-Part-0}
-use Rattle.cmm_ast.specs.declared.statement.Case.{Case}
 use Rattle.cmm_ast.specs.declared.statement.Otherwise.{Otherwise}
 use Rattle.cmm_ast.specs.declared.statement.Otherwise.TheVariants as otherwises
 use Rattle.cmm_ast.specs.declared.statement.Part.{Part}
-use Rattle.cmm_ast.specs.declared.statement.Part.TheVariants as parts
 use Rattle.cmm_ast.specs.declared.statement.Span.{Span as SwitchSpan}
 use Rattle.cmm_ast.specs.declared.statement.Stmt.{Stmt}
-use Rattle.cmm_ast.specs.declared.statement.StmtForm.{StmtForm, Row_of-Arm, end_of-Arm, more_of-Arm, items-the_row-Arm, items_hidden-the_row-Arm-2}
+use Rattle.cmm_ast.specs.declared.statement.StmtForm.{Row_of-Arm, end_of-Arm, more_of-Arm, items-the_row-Arm, items_hidden-the_row-Arm-2}
 use Rattle.cmm_ast.specs.declared.statement.StmtForm.TheVariants as stmts
 use Rattle.cmm_ast.specs.declared.statement.Otherwise.TheBlock as OtherwiseForms
 use Rattle.cmm_ast.specs.Taking.{Takes, ◌⨾◌, nothing, keyword, here, opening, enclosed, braces, optional}
 use Rattle.cmm_ast.specs.ExpressionGrammar.{whole, whole_prim}
-use Rattle.cmm_ast.specs.StatementGrammar.{case, switch_span, local_form, stmt_form, otherwise_, chained, part_row, part_, arm_row, inside, block}
+use Rattle.cmm_ast.specs.StatementGrammar.{case, switch_span, local_form, stmt_form, otherwise_, chained, part_row, part_, arm_row, block}
 use Rattle.cmm_parser.specs.StatementReading.{PartForm, OfLocal, OfStmt, part_of}
 use Rattle.cmm_parser.proofs.Rows.{takes_assoc3, many_to}
 
@@ -83,6 +80,7 @@ arm_rows n (more_of-Arm {n = m} first what _ body rest) =
     ap (λ t. here first ⨾ case what ⨾ braces (part_row body) ⨾ t) (arm_rows m rest)
     ∙ ap (λ t. here first ⨾ case what ⨾ braces t ⨾ many_to arm_ (items-the_row-Arm m rest) nothing) (sym (shown_is _ body))
     ∙ sym (takes_assoc3 (here first) (case what) (block (record { parts = OtherwiseForms.shown-the_row-Part-0 _ body })) (many_to arm_ (items-the_row-Arm m rest) nothing))
+
 pub arms_are : (as_ : List Arm) → arm_row (OtherwiseForms.hidden-the_row-Arm-2 as_) ≡ many_to arm_ as_ nothing
 arms_are as_ = arm_rows _ (OtherwiseForms.hidden-the_row-Arm-2 as_) ∙ ap (λ xs. many_to arm_ xs nothing) (items_hidden-the_row-Arm-2 as_)
 

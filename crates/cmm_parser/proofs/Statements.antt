@@ -1,16 +1,14 @@
 -- What is read of statements, declarations in bodies and blocks is a tree of the tokens that are taken.
-use Rattle.std.proofs.Common.{◌≡◌, ℕ, zero, suc, Bool, true, false, List, [], ◌∷◌, ◌++◌, Option, Some, None, refl, sym, ap, ◌∙◌}
+use Rattle.std.proofs.Common.{◌≡◌, ℕ, zero, suc, [], ◌∷◌, Option, Some, None, refl, sym, ap, ◌∙◌}
 use Rattle.cmm_lexer.specs.declared.piece.Lexeme.{Lexeme}
 use Rattle.cmm_lexer.specs.declared.piece.Lexeme.TheVariants as l
 use Rattle.cmm_ast.specs.declared.token.Ident.{Ident}
-use Rattle.cmm_ast.specs.declared.token.Text.{Text}
 use Rattle.cmm_ast.specs.declared.keyword.Keyword.TheVariants as word
 use Rattle.cmm_ast.specs.declared.keyword.Symbol.TheVariants as sign
 use Rattle.cmm_ast.specs.declared.expression.Expr.{Expr}
 use Rattle.cmm_ast.specs.declared.expression.Memory.{Memory, Memory'}
 use Rattle.cmm_ast.specs.declared.procedure.LocalForm.{LocalForm}
 use Rattle.cmm_ast.specs.declared.procedure.Modifiers.TheVariants as before
-use Rattle.cmm_ast.specs.declared.statement.Arm.{Arm}
 use Rattle.cmm_ast.specs.declared.statement.Block.{Block}
 use Rattle.cmm_ast.specs.declared.statement.CalleeForm.TheVariants as callees
 use Rattle.cmm_ast.specs.declared.statement.Case.TheVariants as cases
@@ -20,22 +18,22 @@ use Rattle.cmm_ast.specs.declared.statement.Otherwise.TheVariants as otherwises
 use Rattle.cmm_ast.specs.declared.statement.StmtForm.{StmtForm}
 use Rattle.cmm_ast.specs.declared.statement.StmtForm.TheVariants as stmts
 use Rattle.cmm_ast.specs.Numbers.{keyword_number, symbol_number}
-use Rattle.cmm_ast.specs.Taking.{Reading, Takes, ◌⨾◌, nothing, is_keyword, is_symbol, keyword as keyword_is, symbol as symbol_is, here as here_is, optional as optional_is, square as square_is, enclosed as enclosed_is, opening as opening_is, outermost as outermost_is}
+use Rattle.cmm_ast.specs.Taking.{Takes, ◌⨾◌, nothing, is_keyword, is_symbol, keyword as keyword_is, symbol as symbol_is, here as here_is, optional as optional_is, square as square_is, enclosed as enclosed_is, opening as opening_is, outermost as outermost_is}
 use Rattle.cmm_ast.specs.ExpressionGrammar as grammar
 use Rattle.cmm_ast.specs.ExpressionGrammar.{operand, aligned_by}
 use Rattle.cmm_ast.specs.StatementGrammar as bodies
-use Rattle.cmm_parser.specs.Reading.{Reads, ◌>>=◌, give, skip, if_next, skip_opening, stop}
+use Rattle.cmm_parser.specs.Reading.{Reads, if_next, skip_opening, stop}
 use Rattle.cmm_parser.specs.ReadingLaws.{Sound}
 use Rattle.cmm_parser.specs.ExpressionReading.{named_type}
 use Rattle.cmm_parser.specs.PartReading.{begins_kinded}
-use Rattle.cmm_parser.specs.TargetReading.{Targets, Names, Lvalues, Results}
-use Rattle.cmm_parser.specs.StatementReading.{case, span_ends, switch_span, jump, return_form, goto, cut, continuation, word_stmt, symbol_stmt, memory_token, memory_stmt, name_stmt, PartForm, OfLocal, OfStmt, of_stmt, of_local, flat_by, flat_part, if_form, chained, otherwise, is_within, arm, switch_form, span_form, part_of, part_form, part, block}
+use Rattle.cmm_parser.specs.TargetReading.{Names, Lvalues, Results}
+use Rattle.cmm_parser.specs.StatementReading.{case, switch_span, jump, return_form, goto, cut, continuation, word_stmt, symbol_stmt, memory_token, memory_stmt, name_stmt, OfLocal, OfStmt, of_stmt, of_local, flat_by, flat_part, if_form, chained, otherwise, is_within, arm, switch_form, span_form, part_of, part_form, part, block}
 use Rattle.cmm_parser.proofs.Sounds.{Goes, GoesAt, whole_sound, after_sound, last_sound, last_goes, same_sound, give_sound, at_sound, look_sound, next_sound, skip_sound, opening_last_sound, stop_sound, here_sound, enclosed_sound}
 use Rattle.cmm_parser.proofs.Lists.{takes_assoc, takes_nothing, goes_same, commas_sound, may_list_sound}
 use Rattle.cmm_parser.proofs.Tokens.{symbol_sound, keyword_sound, ident_sound, text_sound}
 use Rattle.cmm_parser.proofs.Expressions.{type_name_sound, whole_expr_sound, whole_prim_sound, in_brackets_sound, here_twice}
 use Rattle.cmm_parser.proofs.Repeats.{goes_then, optional_sound}
-use Rattle.cmm_parser.proofs.Rows.{takes_assoc3, row_sound, many_to, here_apart}
+use Rattle.cmm_parser.proofs.Rows.{row_sound, many_to, here_apart}
 use Rattle.cmm_parser.proofs.Procedures.{modifiers_sound, variables_goes, stackdata_goes}
 use Rattle.cmm_parser.proofs.Parts.{whole_memory_goes, kinded_sound, arguments_sound, callee_sound, annotations_sound, exit_sound, range_sound}
 use Rattle.cmm_parser.proofs.Calls.{call_goes, call_after_goes}
@@ -71,29 +69,29 @@ word_stmt_sound fuel =
     (λ x none. at_sound (next_sound (λ x passed. skip_sound (is_keyword (keyword_number word.Cut)) passed (λ _. cut_goes))
     (λ x none. at_sound (next_sound (λ x passed. skip_sound (is_keyword (keyword_number word.Continuation)) passed (λ _. continuation_goes))
     (λ x none. at_sound (next_sound (λ x passed. at_sound (goes_same (λ k. refl) (call_after_goes fuel []))) (λ x none. stop_sound)))))))))))) where
-  return_goes : Goes (λ k. keyword_is word.Return ⨾ k) (return_form fuel) bodies.stmt_form
-  return_goes =
-      after_sound (optional_sound _ (exit_sound fuel)) (λ by. after_sound (optional_sound _ (arguments_sound fuel)) (λ found.
-      last_sound (λ _. stmts.Return by found) (symbol_sound sign.Semicolon) (λ _. refl)))
+      return_goes : Goes (λ k. keyword_is word.Return ⨾ k) (return_form fuel) bodies.stmt_form
+      return_goes =
+          after_sound (optional_sound _ (exit_sound fuel)) (λ by. after_sound (optional_sound _ (arguments_sound fuel)) (λ found.
+          last_sound (λ _. stmts.Return by found) (symbol_sound sign.Semicolon) (λ _. refl)))
 
-  goto_goes : Goes (λ k. keyword_is word.Goto ⨾ k) goto bodies.stmt_form
-  goto_goes = after_sound ident_sound (λ name. last_sound (λ _. stmts.Goto name) (symbol_sound sign.Semicolon) (λ _. refl))
+      goto_goes : Goes (λ k. keyword_is word.Goto ⨾ k) goto bodies.stmt_form
+      goto_goes = after_sound ident_sound (λ name. last_sound (λ _. stmts.Goto name) (symbol_sound sign.Semicolon) (λ _. refl))
 
-  jump_goes : Goes (λ k. keyword_is word.Jump ⨾ k) (jump fuel) bodies.stmt_form
-  jump_goes =
-      after_sound (callee_sound fuel) (λ what. after_sound (arguments_sound fuel) (λ actuals.
-      last_sound (λ _. stmts.Jump what actuals) (symbol_sound sign.Semicolon) (λ _. refl)))
+      jump_goes : Goes (λ k. keyword_is word.Jump ⨾ k) (jump fuel) bodies.stmt_form
+      jump_goes =
+          after_sound (callee_sound fuel) (λ what. after_sound (arguments_sound fuel) (λ actuals.
+          last_sound (λ _. stmts.Jump what actuals) (symbol_sound sign.Semicolon) (λ _. refl)))
 
-  cut_goes : Goes (λ k. keyword_is word.Cut ⨾ k) (cut fuel) bodies.stmt_form
-  cut_goes =
-      after_sound (keyword_sound word.To) (λ _. after_sound (callee_sound fuel) (λ what. after_sound (arguments_sound fuel) (λ actuals.
-      after_sound (annotations_sound fuel) (λ fs. last_sound (λ _. stmts.Cut what actuals fs) (symbol_sound sign.Semicolon) (λ _. refl)))))
+      cut_goes : Goes (λ k. keyword_is word.Cut ⨾ k) (cut fuel) bodies.stmt_form
+      cut_goes =
+          after_sound (keyword_sound word.To) (λ _. after_sound (callee_sound fuel) (λ what. after_sound (arguments_sound fuel) (λ actuals.
+          after_sound (annotations_sound fuel) (λ fs. last_sound (λ _. stmts.Cut what actuals fs) (symbol_sound sign.Semicolon) (λ _. refl)))))
 
-  continuation_goes : Goes (λ k. keyword_is word.Continuation ⨾ k) (continuation fuel) bodies.stmt_form
-  continuation_goes =
-      after_sound ident_sound (λ name.
-      after_sound (in_brackets_sound sign.Open sign.Close (may_list_sound kinded_sound begins_kinded fuel)) (λ parameters.
-      last_sound (λ _. stmts.Continuation name parameters) (symbol_sound sign.Colon) (λ _. refl)))
+      continuation_goes : Goes (λ k. keyword_is word.Continuation ⨾ k) (continuation fuel) bodies.stmt_form
+      continuation_goes =
+          after_sound ident_sound (λ name.
+          after_sound (in_brackets_sound sign.Open sign.Close (may_list_sound kinded_sound begins_kinded fuel)) (λ parameters.
+          last_sound (λ _. stmts.Continuation name parameters) (symbol_sound sign.Colon) (λ _. refl)))
 
 symbol_stmt_sound : (fuel : ℕ) → Sound (symbol_stmt fuel) bodies.stmt_form
 symbol_stmt_sound fuel =
@@ -228,17 +226,17 @@ module _ {blocks : Reads Block} (inner : Sound blocks bodies.block) where
       (λ x none. at_sound (next_sound (λ x passed. skip_sound (is_keyword (keyword_number word.Span)) passed (λ _. of_stmt_goes span_goes))
       (λ x none. at_sound (whole_goes (flat_part_sound fuel))))))))
     where
-    switch_goes : Goes (λ k. keyword_is word.Switch ⨾ k) (switch_form fuel blocks) bodies.stmt_form
-    switch_goes =
-        after_sound (optional_sound _ (switch_span_sound fuel)) (λ over. after_sound (whole_expr_sound fuel) (λ v.
-        last_sound (λ arms. stmts.Switch over v arms)
-        (in_brackets_sound sign.OpenBrace sign.CloseBrace (row_sound (arm_sound fuel) (λ as_. many_to arm_ as_ nothing) (λ as_. refl) is_within fuel))
-        (λ arms. form_of_switch over v arms)))
+      switch_goes : Goes (λ k. keyword_is word.Switch ⨾ k) (switch_form fuel blocks) bodies.stmt_form
+      switch_goes =
+          after_sound (optional_sound _ (switch_span_sound fuel)) (λ over. after_sound (whole_expr_sound fuel) (λ v.
+          last_sound (λ arms. stmts.Switch over v arms)
+          (in_brackets_sound sign.OpenBrace sign.CloseBrace (row_sound (arm_sound fuel) (λ as_. many_to arm_ as_ nothing) (λ as_. refl) is_within fuel))
+          (λ arms. form_of_switch over v arms)))
 
-    span_goes : Goes (λ k. keyword_is word.Span ⨾ k) (span_form fuel blocks) bodies.stmt_form
-    span_goes =
-        after_sound (whole_prim_sound fuel) (λ key. after_sound (whole_expr_sound fuel) (λ v.
-        last_sound (λ body. stmts.Span key v body) inner (λ body. form_of_span key v body)))
+      span_goes : Goes (λ k. keyword_is word.Span ⨾ k) (span_form fuel blocks) bodies.stmt_form
+      span_goes =
+          after_sound (whole_prim_sound fuel) (λ key. after_sound (whole_expr_sound fuel) (λ v.
+          last_sound (λ body. stmts.Span key v body) inner (λ body. form_of_span key v body)))
 
   pub part_sound : (fuel : ℕ) → Sound (part fuel blocks) bodies.part_
   part_sound fuel =

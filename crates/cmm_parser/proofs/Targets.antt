@@ -1,36 +1,28 @@
 -- What is read of targets, and of the statements that they begin, is a tree of the tokens that are taken.
-use Rattle.std.proofs.Common.{◌≡◌, ℕ, zero, suc, ◌==◌, Bool, true, false, List, [], ◌∷◌, ◌++◌, map, Option, Some, None, refl, sym, ap, ◌∙◌, nat_le, arith}
+use Rattle.std.proofs.Common.{◌≡◌, ℕ, zero, suc, List, [], ◌∷◌, ◌++◌, Option, Some, None, refl, sym, ap, ◌∙◌, nat_le, arith}
 use Rattle.std.proofs.lemmas.Bool.Decides.{nat_tests}
-use Rattle.std.proofs.Math.Path.{fun_ext}
-use Rattle.cmm_lexer.specs.declared.piece.Lexeme.{Lexeme}
-use Rattle.cmm_lexer.specs.declared.piece.Lexeme.TheVariants as l
 use Rattle.cmm_ast.specs.declared.token.Ident.{Ident}
-use Rattle.cmm_ast.specs.declared.keyword.Keyword.TheVariants as word
 use Rattle.cmm_ast.specs.declared.keyword.Symbol.TheVariants as sign
 use Rattle.cmm_ast.specs.declared.expression.Expr.{Expr}
 use Rattle.cmm_ast.specs.declared.expression.ExprForm.{ExprForm, more_of-Expr}
 use Rattle.cmm_ast.specs.declared.expression.ExprForm.TheVariants.{Prim, Memory as InMemory}
-use Rattle.cmm_ast.specs.declared.expression.PrimForm.{PrimForm}
 use Rattle.cmm_ast.specs.declared.expression.PrimForm.TheVariants.{Name as NameOf, Bracketed'}
 use Rattle.cmm_ast.specs.declared.statement.CalleeForm.{CalleeForm}
 use Rattle.cmm_ast.specs.declared.statement.CalleeForm.TheVariants as callees
-use Rattle.cmm_ast.specs.declared.statement.Kinded.{Kinded}
 use Rattle.cmm_ast.specs.declared.statement.Lvalue.{Lvalue}
 use Rattle.cmm_ast.specs.declared.statement.Lvalue.TheVariants as lvalues
-use Rattle.cmm_ast.specs.declared.statement.StmtForm.{StmtForm}
 use Rattle.cmm_ast.specs.declared.statement.StmtForm.TheVariants as stmts
-use Rattle.cmm_ast.specs.Numbers.{keyword_number, symbol_number}
-use Rattle.cmm_ast.specs.Taking.{Reading, Takes, ◌⨾◌, nothing, token, is_keyword, is_symbol, is_name, is_checked, symbol as symbol_is, here as here_is, optional as optional_is, commas as commas_is, listed as listed_is, may_comma as may_comma_is, outermost as outermost_is, round as round_is}
+use Rattle.cmm_ast.specs.Taking.{Takes, ◌⨾◌, token, is_name, is_checked, symbol as symbol_is, here as here_is, commas as commas_is, listed as listed_is, may_comma as may_comma_is, outermost as outermost_is, round as round_is}
 use Rattle.cmm_ast.specs.ExpressionGrammar as grammar
 use Rattle.cmm_ast.specs.ExpressionGrammar.{expr_form, level_of}
 use Rattle.cmm_ast.specs.StatementGrammar as bodies
-use Rattle.cmm_parser.specs.Reading.{Reads, ◌>>=◌, give, skip, is_comma, more_listed}
+use Rattle.cmm_parser.specs.Reading.{is_comma, more_listed}
 use Rattle.cmm_parser.specs.ReadingLaws.{Sound}
 use Rattle.cmm_parser.specs.ExpressionReading.{begins_expression, whole}
-use Rattle.cmm_parser.specs.TargetReading.{Targets, Names, Lvalues, Results, with_lvalue, next_target, more_targets, called, assign, values, checked_operator, two_values, checked, after_names, assigned, assignment, callee_of_form, callee_of_prim, lvalues_of, results_of}
-use Rattle.cmm_parser.proofs.Sounds.{Goes, GoesAt, whole_sound, after_sound, last_sound, last_goes, same_sound, give_sound, at_sound, next_sound, skip_sound, stop_sound, here_sound}
-use Rattle.cmm_parser.proofs.Lists.{takes_assoc, takes_nothing, goes_same, listed_sound, rest_to, commas_to, more_listed_goes}
-use Rattle.cmm_parser.proofs.Tokens.{symbol_sound, ident_sound, pick_sound, checked_in_is}
+use Rattle.cmm_parser.specs.TargetReading.{Targets, Names, Lvalues, Results, with_lvalue, next_target, more_targets, called, assign, values, checked_operator, two_values, checked, assigned, assignment, callee_of_form, lvalues_of, results_of}
+use Rattle.cmm_parser.proofs.Sounds.{Goes, whole_sound, after_sound, last_sound, give_sound, at_sound, next_sound, skip_sound, here_sound}
+use Rattle.cmm_parser.proofs.Lists.{takes_assoc, takes_nothing, goes_same, listed_sound, commas_to, more_listed_goes}
+use Rattle.cmm_parser.proofs.Tokens.{symbol_sound, pick_sound, checked_in_is}
 use Rattle.cmm_parser.proofs.Expressions.{whole_expr_sound, in_brackets_sound, bound_by, here_twice}
 use Rattle.cmm_parser.proofs.Repeats.{goes_then}
 use Rattle.cmm_parser.proofs.Rows.{takes_assoc3, prefix_sound, never_sound, token_apart, here_apart, both_apart, outermost_brackets}
@@ -74,11 +66,11 @@ next_target_goes fuel (Names (a ∷ as_)) =
     commas_more bodies.kinded (record { kind = None; name = a }) (results_of as_) k ∙ ap (λ t. t ⨾ symbol_is sign.Comma ⨾ bodies.kinded k) (results_same (a ∷ as_)))))
     (λ x none. at_sound (last_sound (λ to. with_lvalue (a ∷ as_) to) (lvalue_sound fuel) same))
   where
-  same : (to : Lvalue) → targets_are (with_lvalue (a ∷ as_) to) ≡ (commas_is grammar.ident (a ∷ as_) ⨾ symbol_is sign.Comma ⨾ bodies.lvalue to)
-  same (lvalues.Name n) = commas_more grammar.ident a as_ n
-  same (lvalues.Memory m) =
-      commas_more bodies.lvalue (lvalues.Name a) (lvalues_of as_) (lvalues.Memory m)
-      ∙ ap (λ t. t ⨾ symbol_is sign.Comma ⨾ bodies.lvalue (lvalues.Memory m)) (lvalues_same (a ∷ as_))
+    same : (to : Lvalue) → targets_are (with_lvalue (a ∷ as_) to) ≡ (commas_is grammar.ident (a ∷ as_) ⨾ symbol_is sign.Comma ⨾ bodies.lvalue to)
+    same (lvalues.Name n) = commas_more grammar.ident a as_ n
+    same (lvalues.Memory m) =
+        commas_more bodies.lvalue (lvalues.Name a) (lvalues_of as_) (lvalues.Memory m)
+        ∙ ap (λ t. t ⨾ symbol_is sign.Comma ⨾ bodies.lvalue (lvalues.Memory m)) (lvalues_same (a ∷ as_))
 next_target_goes fuel (Lvalues []) = never_sound (λ k r. refl)
 next_target_goes fuel (Lvalues (a ∷ as_)) = last_sound (λ one. Lvalues ((a ∷ as_) ++ (one ∷ []))) (lvalue_sound fuel) (λ one. commas_more bodies.lvalue a as_ one)
 next_target_goes fuel (Results []) = never_sound (λ k r. refl)
@@ -139,25 +131,25 @@ values_goes fuel a as_ =
     after_sound (whole_expr_sound fuel) (λ value.
     next_sound (λ x passed. at_sound (by value (callee_of_form value.token value.form) refl)) (λ x none. at_sound (assigned_values value)))
   where
-  by : (value : Expr) (o : Option CalleeForm) → callee_of_form value.token value.form ≡ o →
-      Goes (λ k. targets_are (Names (a ∷ as_)) ⨾ symbol_is sign.Assign ⨾ grammar.whole value ⨾ k) (called fuel (a ∷ as_) value.token o) bodies.stmt_form
-  by value (Some form) is =
-      call_goes fuel (results_of (a ∷ as_)) None (record { token = value.token; form = form })
-      (λ k. ap (λ t. targets_are (Names (a ∷ as_)) ⨾ symbol_is sign.Assign ⨾ t) (called_form value.token value.form form is k) ∙ assigned_results a as_ _)
-  by value None is = record { goes = λ r p before b after e. absurd cc }
+    by : (value : Expr) (o : Option CalleeForm) → callee_of_form value.token value.form ≡ o →
+        Goes (λ k. targets_are (Names (a ∷ as_)) ⨾ symbol_is sign.Assign ⨾ grammar.whole value ⨾ k) (called fuel (a ∷ as_) value.token o) bodies.stmt_form
+    by value (Some form) is =
+        call_goes fuel (results_of (a ∷ as_)) None (record { token = value.token; form = form })
+        (λ k. ap (λ t. targets_are (Names (a ∷ as_)) ⨾ symbol_is sign.Assign ⨾ t) (called_form value.token value.form form is k) ∙ assigned_results a as_ _)
+    by value None is = record { goes = λ r p before b after e. absurd cc }
 
-  first_values : (value : Expr) → Goes (λ k. targets_are (Names (a ∷ as_)) ⨾ symbol_is sign.Assign ⨾ grammar.whole value ⨾ k)
-      (more_listed fuel begins_expression (whole fuel) (value ∷ []))
-      (λ vs. targets_are (Names (a ∷ as_)) ⨾ symbol_is sign.Assign ⨾ listed_is grammar.whole vs)
-  first_values value = prefix_sound (targets_are (Names (a ∷ as_))) (prefix_sound (symbol_is sign.Assign)
-      (more_listed_goes (whole_expr_sound fuel) (listed_is grammar.whole) (λ a as_. commas_to grammar.whole a as_ may_comma_is) begins_expression fuel value []))
+    first_values : (value : Expr) → Goes (λ k. targets_are (Names (a ∷ as_)) ⨾ symbol_is sign.Assign ⨾ grammar.whole value ⨾ k)
+        (more_listed fuel begins_expression (whole fuel) (value ∷ []))
+        (λ vs. targets_are (Names (a ∷ as_)) ⨾ symbol_is sign.Assign ⨾ listed_is grammar.whole vs)
+    first_values value = prefix_sound (targets_are (Names (a ∷ as_))) (prefix_sound (symbol_is sign.Assign)
+        (more_listed_goes (whole_expr_sound fuel) (listed_is grammar.whole) (λ a as_. commas_to grammar.whole a as_ may_comma_is) begins_expression fuel value []))
 
-  assigned_values : (value : Expr) → Goes (λ k. targets_are (Names (a ∷ as_)) ⨾ symbol_is sign.Assign ⨾ grammar.whole value ⨾ k)
-      (assign fuel (lvalues_of (a ∷ as_)) (more_listed fuel begins_expression (whole fuel) (value ∷ []))) bodies.stmt_form
-  assigned_values value = goes_then (first_values value) (λ vs.
-      last_sound (λ _. stmts.Assign (lvalues_of (a ∷ as_)) vs) (symbol_sound sign.Semicolon) (λ _.
-      ap (λ t. t ⨾ symbol_is sign.Assign ⨾ listed_is grammar.whole vs ⨾ symbol_is sign.Semicolon) (lvalues_same (a ∷ as_))
-      ∙ sym (takes_assoc3 (targets_are (Names (a ∷ as_))) (symbol_is sign.Assign) (listed_is grammar.whole vs) (symbol_is sign.Semicolon))))
+    assigned_values : (value : Expr) → Goes (λ k. targets_are (Names (a ∷ as_)) ⨾ symbol_is sign.Assign ⨾ grammar.whole value ⨾ k)
+        (assign fuel (lvalues_of (a ∷ as_)) (more_listed fuel begins_expression (whole fuel) (value ∷ []))) bodies.stmt_form
+    assigned_values value = goes_then (first_values value) (λ vs.
+        last_sound (λ _. stmts.Assign (lvalues_of (a ∷ as_)) vs) (symbol_sound sign.Semicolon) (λ _.
+        ap (λ t. t ⨾ symbol_is sign.Assign ⨾ listed_is grammar.whole vs ⨾ symbol_is sign.Semicolon) (lvalues_same (a ∷ as_))
+        ∙ sym (takes_assoc3 (targets_are (Names (a ∷ as_))) (symbol_is sign.Assign) (listed_is grammar.whole vs) (symbol_is sign.Semicolon))))
 
 assigned_goes : (fuel : ℕ) (t : Targets) → Goes (After_assign t) (assigned fuel t) bodies.stmt_form
 assigned_goes fuel (Names []) = never_sound (λ k r. refl)

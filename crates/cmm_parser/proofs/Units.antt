@@ -1,15 +1,12 @@
 -- Data, sections and units that are read are trees of the tokens that they take, and their answers hang on no token beyond the
 -- one that is looked at.
-use Rattle.std.proofs.Common.{◌≡◌, ℕ, zero, suc, Bool, true, false, List, [], ◌∷◌, Option, Some, None, refl, sym, ap, ◌∙◌, ◌==◌}
-use Rattle.std.proofs.Math.Path.{fun_ext}
-use denote.Hole.Carrier as Carrier
+use Rattle.std.proofs.Common.{◌≡◌, ℕ, zero, suc, Bool, true, false, List, [], Option, Some, None, refl, sym, ap, ◌∙◌, ◌==◌}
 use Rattle.cmm_ast.specs.declared.token.Ident.{Ident}
 use Rattle.cmm_ast.specs.declared.keyword.Keyword.TheVariants.{Align, Section as SectionWord, Span}
-use Rattle.cmm_ast.specs.declared.keyword.Symbol.TheVariants.{Colon, OpenBrace, CloseBrace, OpenSquare, CloseSquare, Open, Semicolon}
+use Rattle.cmm_ast.specs.declared.keyword.Symbol.TheVariants.{Colon, OpenBrace, CloseBrace, OpenSquare, CloseSquare, Semicolon}
 use Rattle.cmm_ast.specs.declared.expression.TypeName.{TypeName}
 use Rattle.cmm_ast.specs.declared.expression.Expr.{Expr}
 use Rattle.cmm_ast.specs.declared.statement.Block.{Block}
-use Rattle.cmm_ast.specs.declared.unit.TopLevel.{TopLevel}
 use Rattle.cmm_ast.specs.declared.unit.TopLevel.TheVariants as tops
 use Rattle.cmm_ast.specs.declared.unit.Item.{Item, Row_of-Item, end_of-Item, more_of-Item, items-the_row-Item, items_hidden-the_row-Item-0}
 use Rattle.cmm_ast.specs.declared.unit.Item.TheVariants as items
@@ -23,16 +20,15 @@ use Rattle.cmm_ast.specs.Taking.{Reading, Takes, ◌⨾◌, nothing, token, is_n
 use Rattle.cmm_ast.specs.ExpressionGrammar as grammar
 use Rattle.cmm_ast.specs.StatementGrammar as bodies
 use Rattle.cmm_ast.specs.UnitGrammar as units
-use Rattle.cmm_parser.specs.Reading.{Reads, ◌>>=◌, give}
+use Rattle.cmm_parser.specs.Reading.{Reads}
 use Rattle.cmm_parser.specs.ReadingLaws.{within, Sound, Local}
-use Rattle.cmm_parser.specs.ExpressionReading.{named_type, begins_expression, whole, whole_prim}
-use Rattle.cmm_parser.specs.DeclarationReading.{any_name, any_text, is_other, bits, decl}
-use Rattle.cmm_parser.specs.ProcedureReading.{procedure}
-use Rattle.cmm_parser.specs.UnitReading.{count_in, count_of, count, values, initial, values_of, named_datum, datum_at, named_item, align_item, item_by, flat_item, in_braces, span, item, section, top_level, any_token, parts}
-use Rattle.cmm_parser.proofs.Sounds.{Goes, whole_sound, after_sound, last_sound, same_sound, give_sound, stop_sound, here_sound}
+use Rattle.cmm_parser.specs.ExpressionReading.{named_type, begins_expression, whole}
+use Rattle.cmm_parser.specs.DeclarationReading.{any_name, any_text, is_other}
+use Rattle.cmm_parser.specs.UnitReading.{count_in, count_of, count, initial, values_of, named_datum, datum_at, named_item, align_item, item_by, flat_item, in_braces, span, item, section, top_level, any_token, parts}
+use Rattle.cmm_parser.proofs.Sounds.{Goes, whole_sound, after_sound, last_sound, same_sound, give_sound, here_sound}
 use Rattle.cmm_parser.proofs.Locals.{after_local, give_local, stop_local, here_local, next_local, many_local, listed_local}
 use Rattle.cmm_parser.proofs.Tokens.{symbol_sound, symbol_local, keyword_sound, keyword_local, ident_sound, ident_local, text_sound, text_local, int_sound, int_local}
-use Rattle.cmm_parser.proofs.Lists.{takes_assoc, takes_nothing, listed_sound}
+use Rattle.cmm_parser.proofs.Lists.{takes_nothing, listed_sound}
 use Rattle.cmm_parser.proofs.Expressions.{in_brackets_sound, whole_expr_sound, whole_prim_sound}
 use Rattle.cmm_parser.proofs.LocalExpressions.{in_brackets_local, whole_local, whole_prim_local}
 use Rattle.cmm_parser.proofs.Repeats.{goes_made, if_symbol_sound, if_next_sound, many_sound, if_symbol_local}
@@ -46,14 +42,14 @@ begun {is = is} n part goes = record {
   goes = λ r p before b after e. by (n == r.taken) r (within p) (within after) (is b) (before nothing) (goes.goes r p before b after e);
 }
   where
-  by : (test : Bool) (r between after : Reading) (whole : Takes) →
-      elim (elim (elim test as (λ _. Option Reading) [ true ↦ Some r | false ↦ None ]) as (λ _. Option Reading) [ Some x ↦ part x | None ↦ None ])
-      as (λ _. Option Reading) [ Some x ↦ Some x | None ↦ None ]
-      ≡ Some between →
-      whole r ≡ Some after →
-      elim (elim test as (λ _. Option Reading) [ true ↦ Some r | false ↦ None ]) as (λ _. Option Reading) [ Some x ↦ whole x | None ↦ None ] ≡ Some after
-  by true r between after whole before e = e
-  by false r between after whole before e = absurd cc
+    by : (test : Bool) (r between after : Reading) (whole : Takes) →
+        elim (elim (elim test as (λ _. Option Reading) [ true ↦ Some r | false ↦ None ]) as (λ _. Option Reading) [ Some x ↦ part x | None ↦ None ])
+        as (λ _. Option Reading) [ Some x ↦ Some x | None ↦ None ]
+        ≡ Some between →
+        whole r ≡ Some after →
+        elim (elim test as (λ _. Option Reading) [ true ↦ Some r | false ↦ None ]) as (λ _. Option Reading) [ Some x ↦ whole x | None ↦ None ] ≡ Some after
+    by true r between after whole before e = e
+    by false r between after whole before e = absurd cc
 
 -- ---- data
 
@@ -65,8 +61,8 @@ count_sound : (fuel : ℕ) → Sound (count fuel) units.count
 count_sound fuel =
     whole_sound (if_next_sound _ (last_sound count_of (in_brackets_sound OpenSquare CloseSquare inside) count_of_is) (give_sound counts.One refl))
   where
-  inside : Sound (count_in fuel) (optional_is grammar.whole)
-  inside = whole_sound (if_next_sound _ (give_sound None refl) (last_sound (λ e. Some e) (whole_expr_sound fuel) (λ e. refl)))
+    inside : Sound (count_in fuel) (optional_is grammar.whole)
+    inside = whole_sound (if_next_sound _ (give_sound None refl) (last_sound (λ e. Some e) (whole_expr_sound fuel) (λ e. refl)))
 
 initial_sound : (fuel : ℕ) → Sound (initial fuel) units.initial
 initial_sound fuel =
@@ -134,9 +130,9 @@ module _ {block : Reads Block} (block_sound : Sound block bodies.block) where
       (if_next_sound any_name (after_sound ident_sound (λ name. named_item_goes fuel name))
       (if_next_sound _ (same_sound align_item_sound (λ i. refl)) (after_sound bits_sound by)))
     where
-    by : (o : Option TypeName) → Goes (λ k. optional_is grammar.type_name o ⨾ k) (item_by fuel o) units.item
-    by (Some width) = goes_made (datum_at width.token) (begun width.token (grammar.type_form width.form) (values_goes fuel width)) (λ form. refl)
-    by None = last_sound items.Decl (decl_sound fuel) (λ d. refl)
+      by : (o : Option TypeName) → Goes (λ k. optional_is grammar.type_name o ⨾ k) (item_by fuel o) units.item
+      by (Some width) = goes_made (datum_at width.token) (begun width.token (grammar.type_form width.form) (values_goes fuel width)) (λ form. refl)
+      by None = last_sound items.Decl (decl_sound fuel) (λ d. refl)
 
 module _ (block : ℕ → Reads Block) (block_sound : (fuel : ℕ) → Sound (block fuel) bodies.block) where
   item_sound : (fuel : ℕ) → Sound (item fuel block) units.item
@@ -171,15 +167,15 @@ values_local fuel width =
     after_local (next_local _ (after_local (in_brackets_local OpenSquare CloseSquare inside) (λ e. give_local _)) (give_local _)) (λ how_many.
     after_local first (λ first. after_local (symbol_local Semicolon) (λ _. give_local _)))
   where
-  inside : Local (count_in fuel)
-  inside = next_local _ (give_local _) (after_local (whole_local fuel) (λ e. give_local _))
+    inside : Local (count_in fuel)
+    inside = next_local _ (give_local _) (after_local (whole_local fuel) (λ e. give_local _))
 
-  first : Local (initial fuel)
-  first =
-      next_local any_text (after_local text_local (λ t. give_local _))
-      (next_local _
-      (after_local (in_brackets_local OpenBrace CloseBrace (listed_local begins_expression (whole_local fuel) fuel)) (λ found. give_local _))
-      (give_local _))
+    first : Local (initial fuel)
+    first =
+        next_local any_text (after_local text_local (λ t. give_local _))
+        (next_local _
+        (after_local (in_brackets_local OpenBrace CloseBrace (listed_local begins_expression (whole_local fuel) fuel)) (λ found. give_local _))
+        (give_local _))
 
 named_datum_local : (fuel : ℕ) (name : Ident) → Local (named_datum fuel name)
 named_datum_local fuel name = if_symbol_local Colon (give_local _) (values_local fuel (named_type name))
@@ -199,9 +195,9 @@ flat_item_local block fuel =
     next_local _ (after_local (procedure_local block fuel name) (λ p. give_local _)) (after_local (named_datum_local fuel name) (λ form. give_local _))))
     (next_local _ align_item_local (after_local bits_local by))
   where
-  by : (o : Option TypeName) → Local (item_by fuel o)
-  by (Some width) = after_local (values_local fuel width) (λ form. give_local _)
-  by None = after_local (decl_local fuel) (λ d. give_local _)
+    by : (o : Option TypeName) → Local (item_by fuel o)
+    by (Some width) = after_local (values_local fuel width) (λ form. give_local _)
+    by None = after_local (decl_local fuel) (λ d. give_local _)
 
 module _ (block : ℕ → Reads Block) (block_local : (fuel : ℕ) → Local (block fuel)) where
   item_local : (fuel : ℕ) → Local (item fuel block)

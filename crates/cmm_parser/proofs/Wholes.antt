@@ -3,7 +3,7 @@ use Rattle.std.proofs.Common.{◌≡◌, ℕ, zero, suc, ◌+◌, ◌-◌, ◌<�
 use Rattle.cmm_lexer.specs.declared.piece.Lexeme.{Lexeme}
 use Rattle.cmm_ast.specs.Taking.{Reading, Takes}
 use Rattle.cmm_ast.specs.Derivation.{at_start}
-use Rattle.cmm_parser.specs.Reading.{Fault, Unexpected, TooDeep, Answer, Read, Stopped, Reads, next}
+use Rattle.cmm_parser.specs.Reading.{Fault, Unexpected, TooDeep, Read, Stopped, Reads, next}
 use Rattle.cmm_parser.specs.ReadingLaws.{point, outcome, Complete, Local, Same, TakesAll, Answers}
 use Rattle.cmm_parser.proofs.Completes.{outcome_read}
 use Rattle.cmm_parser.proofs.Sounds.{read_same}

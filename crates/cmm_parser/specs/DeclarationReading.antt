@@ -1,7 +1,6 @@
 -- How declarations are read: by the word that they begin with. Where a type may be left out, a name is one if a name or a
 -- text follows it.
 use Rattle.std.specs.Prelude.{ℕ, Bool, true, false, ◌||◌, List, [], ◌∷◌, Option, Some, None, is_some}
-use Rattle.cmm_words.specs.declared.width.Width.{Width}
 use Rattle.cmm_lexer.specs.declared.piece.Lexeme.{Lexeme}
 use Rattle.cmm_lexer.specs.declared.piece.Lexeme.TheVariants as l
 use Rattle.cmm_ast.specs.declared.token.Ident.{Ident}
@@ -11,7 +10,6 @@ use Rattle.cmm_ast.specs.declared.keyword.Keyword.TheVariants.{As, Big, Byteorde
 use Rattle.cmm_ast.specs.declared.keyword.Symbol.{Symbol}
 use Rattle.cmm_ast.specs.declared.keyword.Symbol.TheVariants.{Assign, Semicolon}
 use Rattle.cmm_ast.specs.declared.expression.TypeName.{TypeName}
-use Rattle.cmm_ast.specs.declared.expression.TypeForm.TheVariants.{Bits}
 use Rattle.cmm_ast.specs.declared.declaration.Decl.{Decl}
 use Rattle.cmm_ast.specs.declared.declaration.DeclForm.{DeclForm}
 use Rattle.cmm_ast.specs.declared.declaration.DeclForm.TheVariants as decls
@@ -24,7 +22,7 @@ use Rattle.cmm_ast.specs.declared.declaration.ByteOrder.{ByteOrder}
 use Rattle.cmm_ast.specs.declared.declaration.ByteOrder.TheVariants as orders
 use Rattle.cmm_ast.specs.Numbers.{keyword_number, symbol_number}
 use Rattle.cmm_ast.specs.Taking.{is_keyword, is_symbol}
-use Rattle.cmm_parser.specs.Reading.{Reads, ◌>>=◌, ◌>>◌, give, look, if_next, here, skip, keyword, symbol, ident, text, int, optional, many, more_listed, listed}
+use Rattle.cmm_parser.specs.Reading.{Reads, ◌>>=◌, give, if_next, here, skip, keyword, symbol, ident, text, int, optional, many, more_listed, listed}
 use Rattle.cmm_parser.specs.ExpressionReading.{width_in, type_name, named_type, whole}
 
 -- ---- by the next token

@@ -1,5 +1,5 @@
 -- How the parts of statements are read: what is passed, called and assigned to, annotations and exits.
-use Rattle.std.specs.Prelude.{ℕ, Bool, true, false, ◌||◌, List, [], ◌∷◌, Option, Some, None, is_some}
+use Rattle.std.specs.Prelude.{ℕ, Bool, true, false, ◌||◌, List, [], Option, Some, None, is_some}
 use Rattle.cmm_lexer.specs.declared.piece.Lexeme.{Lexeme}
 use Rattle.cmm_lexer.specs.declared.piece.Lexeme.TheVariants as l
 use Rattle.cmm_ast.specs.declared.token.Ident.{Ident}
@@ -21,7 +21,7 @@ use Rattle.cmm_ast.specs.declared.statement.Lvalue.TheVariants as lvalues
 use Rattle.cmm_ast.specs.declared.statement.Range.{Range}
 use Rattle.cmm_ast.specs.Numbers.{keyword_number, symbol_number}
 use Rattle.cmm_ast.specs.Taking.{is_keyword, is_symbol}
-use Rattle.cmm_parser.specs.Reading.{Reads, ◌>>=◌, give, look, if_next, here, skip, keyword, symbol, ident, text, round, outermost, optional, many, listed, may_list, is_comma}
+use Rattle.cmm_parser.specs.Reading.{Reads, ◌>>=◌, give, if_next, here, skip, keyword, symbol, ident, text, round, outermost, optional, many, listed, may_list, is_comma}
 use Rattle.cmm_parser.specs.ExpressionReading.{width_in, type_name, named_type, begins_expression, whole, whole_prim, whole_memory}
 
 abbrev pub is_any_text : Lexeme → Bool

@@ -1,30 +1,25 @@
 -- How statements, declarations in bodies and blocks are read: told apart by their first tokens, with one token in hand.
-use Rattle.std.specs.Prelude.{ℕ, zero, suc, Bool, true, false, List, [], ◌∷◌, ◌++◌, Option, Some, None}
+use Rattle.std.specs.Prelude.{ℕ, zero, suc, Bool, true, false, [], ◌∷◌, Option, Some, None}
 use Rattle.cmm_lexer.specs.declared.piece.Lexeme.{Lexeme}
 use Rattle.cmm_lexer.specs.declared.piece.Lexeme.TheVariants as l
 use Rattle.cmm_ast.specs.declared.token.Ident.{Ident}
-use Rattle.cmm_ast.specs.declared.token.Text.{Text}
 use Rattle.cmm_ast.specs.declared.keyword.Keyword.TheVariants.{Continuation, Cut, Default, Else, Foreign, Goto, If, Invariant, Jump, Return, Span, Stackdata, Switch, To}
 use Rattle.cmm_ast.specs.declared.keyword.Keyword.TheVariants as word
 use Rattle.cmm_ast.specs.declared.keyword.Symbol.TheVariants.{Open, OpenBrace, CloseBrace, OpenSquare, Colon, Less, Greater, Semicolon, Slash}
 use Rattle.cmm_ast.specs.declared.keyword.Symbol.TheVariants as sign
 use Rattle.cmm_ast.specs.declared.expression.Memory.{Memory, Memory'}
-use Rattle.cmm_ast.specs.declared.expression.TypeName.{TypeName}
 use Rattle.cmm_ast.specs.declared.procedure.LocalForm.{LocalForm}
-use Rattle.cmm_ast.specs.declared.procedure.Modifiers.{Modifiers}
 use Rattle.cmm_ast.specs.declared.procedure.Modifiers.TheVariants as before
 use Rattle.cmm_ast.specs.declared.statement.Arm.{Arm}
 use Rattle.cmm_ast.specs.declared.statement.Block.{Block}
 use Rattle.cmm_ast.specs.declared.statement.CalleeForm.TheVariants as callees
 use Rattle.cmm_ast.specs.declared.statement.Case.{Case}
 use Rattle.cmm_ast.specs.declared.statement.Case.TheVariants as cases
-use Rattle.cmm_ast.specs.declared.statement.Exit.{Exit}
 use Rattle.cmm_ast.specs.declared.statement.Lvalue.TheVariants as lvalues
 use Rattle.cmm_ast.specs.declared.statement.Otherwise.{Otherwise}
 use Rattle.cmm_ast.specs.declared.statement.Otherwise.TheVariants as otherwises
 use Rattle.cmm_ast.specs.declared.statement.Part.{Part}
 use Rattle.cmm_ast.specs.declared.statement.Part.TheVariants as parts
-use Rattle.cmm_ast.specs.declared.statement.Range.{Range}
 use Rattle.cmm_ast.specs.declared.statement.Span.{Span as SwitchSpan}
 use Rattle.cmm_ast.specs.declared.statement.Stmt.{Stmt}
 use Rattle.cmm_ast.specs.declared.statement.StmtForm.{StmtForm}

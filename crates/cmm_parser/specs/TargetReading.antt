@@ -1,10 +1,8 @@
 -- How what stands before an `=` is read, and the statements that it begins. Names alone may be assigned to or be results of a
 -- call, so the first kind, the first word in memory or else what follows the `=` decides.
-use Rattle.std.specs.Prelude.{ℕ, zero, suc, Bool, true, false, List, [], ◌∷◌, ◌++◌, map, Option, Some, None, is_some}
+use Rattle.std.specs.Prelude.{ℕ, zero, suc, Bool, List, [], ◌∷◌, ◌++◌, map, Option, Some, None, is_some}
 use Rattle.cmm_lexer.specs.declared.piece.Lexeme.{Lexeme}
-use Rattle.cmm_lexer.specs.declared.piece.Lexeme.TheVariants as l
 use Rattle.cmm_ast.specs.declared.token.Ident.{Ident}
-use Rattle.cmm_ast.specs.declared.token.Text.{Text}
 use Rattle.cmm_ast.specs.declared.keyword.Keyword.TheVariants.{Foreign}
 use Rattle.cmm_ast.specs.declared.keyword.Symbol.TheVariants.{Open, Comma, Semicolon}
 use Rattle.cmm_ast.specs.declared.keyword.Symbol.TheVariants as sign
@@ -13,7 +11,6 @@ use Rattle.cmm_ast.specs.declared.expression.ExprForm.{ExprForm, more_of-Expr}
 use Rattle.cmm_ast.specs.declared.expression.ExprForm.TheVariants.{Prim, Memory as InMemory}
 use Rattle.cmm_ast.specs.declared.expression.PrimForm.{PrimForm}
 use Rattle.cmm_ast.specs.declared.expression.PrimForm.TheVariants.{Name as NameOf, Bracketed'}
-use Rattle.cmm_ast.specs.declared.statement.Callee.{Callee}
 use Rattle.cmm_ast.specs.declared.statement.CalleeForm.{CalleeForm}
 use Rattle.cmm_ast.specs.declared.statement.CalleeForm.TheVariants as callees
 use Rattle.cmm_ast.specs.declared.statement.Kinded.{Kinded}
@@ -23,7 +20,7 @@ use Rattle.cmm_ast.specs.declared.statement.StmtForm.{StmtForm}
 use Rattle.cmm_ast.specs.declared.statement.StmtForm.TheVariants as stmts
 use Rattle.cmm_ast.specs.Numbers.{keyword_number, symbol_number}
 use Rattle.cmm_ast.specs.Taking.{is_keyword, is_symbol}
-use Rattle.cmm_parser.specs.Reading.{Reads, ◌>>=◌, ◌>>◌, give, stop, look, if_next, here, skip, symbol, checked_in, pick, round, is_comma, listed, more_listed}
+use Rattle.cmm_parser.specs.Reading.{Reads, ◌>>=◌, give, stop, if_next, here, skip, symbol, checked_in, pick, round, is_comma, listed, more_listed}
 use Rattle.cmm_parser.specs.ExpressionReading.{begins_expression, whole}
 use Rattle.cmm_parser.specs.PartReading.{is_any_text, kinded, lvalue, annotations}
 use Rattle.cmm_parser.specs.CallReading.{call, call_after}
