@@ -16,7 +16,6 @@ pub mod Units
 pub mod Calls
 pub mod Targets
 pub mod Statements
-pub mod OneExpression
 pub mod Wholes
 pub mod ExpressionLaws
 pub mod Options

@@ -10,7 +10,7 @@ use Rattle.cmm_ast.specs.declared.statement.Lvalue.TheVariants as lvalues
 use Rattle.cmm_parser.specs.ReadingLaws.{Local}
 use Rattle.cmm_parser.specs.ExpressionReading.{named_type}
 use Rattle.cmm_parser.specs.PartReading.{is_any_text, is_any_name, kinded, actual, arguments, begins_actual, lvalue, called, callee, begins_flow, may_comma, names_to, also, flow_form, flow, annotations, exit, range_end, range}
-use Rattle.cmm_parser.proofs.Locals.{after_local, give_local, here_local, next_local, skip_local, optional_local, many_local, listed_local, may_list_local}
+use Rattle.cmm_parser.proofs.Locals.{outermost_local, after_local, give_local, here_local, next_local, skip_local, optional_local, many_local, listed_local, may_list_local}
 use Rattle.cmm_parser.proofs.LocalExpressions.{in_brackets_local, type_name_local, whole_local, whole_prim_local, whole_memory_local}
 use Rattle.cmm_parser.proofs.Tokens.{keyword_local, symbol_local, ident_local, text_local}
 

@@ -20,11 +20,11 @@ use Rattle.cmm_ast.specs.declared.statement.FlowForm.TheVariants as flows
 use Rattle.cmm_ast.specs.declared.statement.Lvalue.{Lvalue}
 use Rattle.cmm_ast.specs.declared.statement.Lvalue.TheVariants as lvalues
 use Rattle.cmm_ast.specs.Numbers.{keyword_number, symbol_number}
-use Rattle.cmm_ast.specs.Taking.{Reading, Takes, ◌⨾◌, token, taken_if, nothing, is_keyword, is_symbol, here as here_is, keyword as keyword_is, symbol as symbol_is, square as square_is, outermost as outermost_is, optional as optional_is, commas as commas_is, listed as listed_is, many as many_is, may_comma as may_comma_is}
+use Rattle.cmm_ast.specs.Taking.{Reading, Takes, ◌⨾◌, token, taken_if, nothing, is_keyword, is_symbol, here as here_is, keyword as keyword_is, symbol as symbol_is, round as round_is, may_list as may_list_is, square as square_is, outermost as outermost_is, optional as optional_is, commas as commas_is, listed as listed_is, many as many_is, may_comma as may_comma_is}
 use Rattle.cmm_ast.specs.ExpressionGrammar as grammar
 use Rattle.cmm_ast.specs.ExpressionGrammar.{whole_memory as whole_memory_is, aligned_by}
 use Rattle.cmm_ast.specs.StatementGrammar as statements
-use Rattle.cmm_parser.specs.Reading.{is_comma, Reads, ◌>>=◌, give, if_next, here, skip, keyword, symbol, ident, text, optional, many, listed, round, square, outermost}
+use Rattle.cmm_parser.specs.Reading.{is_comma, Reads, ◌>>=◌, give, if_next, here, skip, keyword, symbol, ident, text, optional, many, listed, round, square, outermost, may_list}
 use Rattle.cmm_parser.specs.ReadingLaws.{within, Sound}
 use Rattle.cmm_parser.specs.ExpressionReading.{type_name, named_type, located, memory, operand, whole, whole_prim, whole_memory}
 use Rattle.cmm_parser.specs.PartReading.{is_any_text, is_any_name, kinded, actual, arguments, begins_actual, lvalue, called, callee, begins_flow, may_comma, names_to, also, flow_form, flow, annotations, exit, range_end, range}
