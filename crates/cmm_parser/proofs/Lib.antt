@@ -16,6 +16,7 @@ pub mod Units
 pub mod Calls
 pub mod Targets
 pub mod Statements
+pub mod CompleteCalls
 pub mod Wholes
 pub mod ExpressionLaws
 pub mod Options
