@@ -20,6 +20,7 @@ pub mod CompleteRepeats
 pub mod CompleteDeclarations
 pub mod CompleteProcedures
 pub mod CompleteUnits
+pub mod CompleteCalls
 pub mod Wholes
 pub mod ExpressionLaws
 pub mod Options
