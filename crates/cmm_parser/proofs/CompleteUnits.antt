@@ -49,6 +49,7 @@ use Rattle.cmm_parser.proofs.Completes.{Next, Anything, Strict, follow_complete,
 use Rattle.cmm_parser.proofs.Tokens.{only_keyword, symbol_complete, keyword_complete, ident_complete, text_complete, int_complete}
 use Rattle.cmm_parser.proofs.Lists.{After, Parts, Each, each_of, zero_complete, listed_complete}
 use Rattle.cmm_parser.proofs.CompleteExpressions.{Begins, Ends, NoMore, type_token, type_name_complete, in_brackets_complete, whole_complete}
+use Rattle.cmm_parser.proofs.CompleteParts.{whole_prim_complete}
 use Rattle.cmm_parser.proofs.Units.{row_is}
 use Rattle.cmm_parser.proofs.CompleteRepeats.{Passes, Not, then_complete, start_complete, end_complete, never_complete, only_symbol_complete, some_complete, none_complete, parts_before, strict_then, here_strict, Spends, keyword_spends, if_next_spends, not_next_spends, follow_spends, here_spends, Rows, many_complete}
 use Rattle.cmm_parser.proofs.CompleteDeclarations.{bits_begin, ends_before, decl_word, decl_spends}
@@ -305,8 +306,10 @@ span_is : (at : ℕ) (key : Prim) (value : Expr) (shape : _) (row : _) → items
 unfolding roll-Item out-Item Carrier.out Carrier.roll Items.hidden-the_row-Item-0 Carrier.hidden
 span_is at key value shape row = ap (λ its. items.Span at key value its) (sym (items_shown-the_row-Item-0 shape row)) ∙ roll-out-Item (Span' at key value shape row)
 
-module _ (whole_prim_complete : (fuel : ℕ) (p : Prim) → Complete fuel (grammar.whole_prim p) p (whole_prim fuel) Anything NoMore)
-    (block : ℕ → Reads Block) (block_complete : (fuel : ℕ) (b : Block) → Complete fuel (bodies.block b) b (block fuel) Anything Anything) where
+any_prim_complete : (fuel : ℕ) (p : Prim) → Complete fuel (grammar.whole_prim p) p (whole_prim fuel) Anything NoMore
+any_prim_complete fuel p = follow_complete (λ x f. tt) (λ x f. f) (whole_prim_complete fuel p)
+
+module _ (block : ℕ → Reads Block) (block_complete : (fuel : ℕ) (b : Block) → Complete fuel (bodies.block b) b (block fuel) Anything Anything) where
   -- how an item is read, for any count of tokens
   HasItem : Item → Type 0
   HasItem i = (fuel : ℕ) → Spends fuel (units.item i) i (item fuel block) NotClose Anything
@@ -342,7 +345,7 @@ module _ (whole_prim_complete : (fuel : ℕ) (p : Prim) → Complete fuel (gramm
         (whole_prim fuel >>= λ key. whole fuel >>= λ value. in_braces fuel (item fuel block) >>= λ inside. give (items.Span n key value inside))
         Anything Anything
     from n =
-        after_complete {b = λ k. items.Span n k value its} (whole_prim_complete fuel key) begins_no_more (λ k.
+        after_complete {b = λ k. items.Span n k value its} (any_prim_complete fuel key) begins_no_more (λ k.
         after_complete {b = λ v. items.Span n k v its} (whole_complete fuel value) (ends_before OpenBrace refl refl) (λ v.
         last_complete (λ inside. items.Span n k v inside) (in_braces_complete fuel its each)))
 

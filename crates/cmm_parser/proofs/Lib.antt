@@ -21,3 +21,4 @@ pub mod Parts
 pub mod LocalParts
 pub mod CompleteParts
 pub mod CompleteFlows
+pub mod UnitLaws
