@@ -28,3 +28,4 @@ pub mod Parts
 pub mod LocalParts
 pub mod CompleteParts
 pub mod CompleteFlows
+pub mod UnitLaws
