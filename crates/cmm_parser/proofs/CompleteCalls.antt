@@ -52,8 +52,8 @@ call_complete fuel to by what actuals fs =
     after_complete {b = λ fs. stmts.Call to by what as_ fs} (annotations_complete fuel fs) no_flow (λ fs.
     last_complete (λ _. stmts.Call to by what as_ fs) (symbol_complete Semicolon)))
   where
-  no_flow : (x : Option Lexeme) → x ≡ Some (l.Symbol (symbol_number Semicolon)) → NoFlow x
-  no_flow x is = rw is (refl, (refl, refl))
+    no_flow : (x : Option Lexeme) → x ≡ Some (l.Symbol (symbol_number Semicolon)) → NoFlow x
+    no_flow x is = rw is (refl, (refl, refl))
 
 abbrev NotForeign : Option Lexeme → Type 0
 NotForeign = Failing (is_keyword (keyword_number Foreign))
@@ -75,7 +75,7 @@ not_foreign (Some (l.Word n)) e = by (keyword_number Foreign == n) refl where
   by : (b : Bool) → (keyword_number Foreign == n) ≡ b → (keyword_number Foreign == n) ≡ false
   by true is =
       let at_word : begins_callee (l.Word (keyword_number Foreign)) ≡ true =
-          subst (λ m. begins_callee (l.Word m) ≡ true) (sym (number_same (keyword_number Foreign) n is)) e
+      subst (λ m. begins_callee (l.Word m) ≡ true) (sym (number_same (keyword_number Foreign) n is)) e
       in
       absurd cc
   by false is = is

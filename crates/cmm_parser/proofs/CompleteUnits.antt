@@ -1,5 +1,5 @@
 -- Each piece of data, section and unit is read.
-use Rattle.std.proofs.Common.{◌≡◌, ℕ, zero, suc, ◌⊎◌, inl, inr, Bool, true, false, ◌==◌, List, [], ◌∷◌, Option, Some, None, refl, sym, ap, ◌∙◌, subst, arith, le_refl}
+use Rattle.std.proofs.Common.{◌≡◌, ℕ, zero, suc, ◌⊎◌, inl, inr, Bool, true, false, ◌==◌, List, [], ◌∷◌, Option, Some, None, refl, sym, ap, ◌∙◌, subst, arith}
 use denote.Hole.Carrier as Carrier
 use Rattle.cmm_lexer.specs.declared.piece.Lexeme.{Lexeme}
 use Rattle.cmm_lexer.specs.declared.piece.Lexeme.TheVariants as l
@@ -34,24 +34,24 @@ use Rattle.cmm_ast.specs.declared.unit.Count.TheVariants as counts
 use Rattle.cmm_ast.specs.declared.unit.Initial.{Initial}
 use Rattle.cmm_ast.specs.declared.unit.Initial.TheVariants as initials
 use Rattle.cmm_ast.specs.Numbers.{keyword_number, symbol_number}
-use Rattle.cmm_ast.specs.Taking.{Reading, Takes, ◌⨾◌, nothing, token, is_name, is_keyword, is_symbol, here as here_is, keyword as keyword_is, symbol as symbol_is, optional as optional_is, square as square_is, braces as braces_is, many as many_is, round as round_is, may_list as may_list_is}
+use Rattle.cmm_ast.specs.Taking.{Reading, Takes, ◌⨾◌, token, is_name, is_keyword, is_symbol, here as here_is, keyword as keyword_is, symbol as symbol_is, braces as braces_is, many as many_is, round as round_is, may_list as may_list_is}
 use Rattle.cmm_ast.specs.ExpressionGrammar as grammar
 use Rattle.cmm_ast.specs.ExpressionGrammar.{width_word}
 use Rattle.cmm_ast.specs.StatementGrammar as bodies
 use Rattle.cmm_ast.specs.UnitGrammar as units
-use Rattle.cmm_parser.specs.Reading.{Reads, ◌>>=◌, give, next, passes, keyword, symbol, int, text, listed}
-use Rattle.cmm_parser.specs.ReadingLaws.{point, passed, outcome, Moves, Complete}
+use Rattle.cmm_parser.specs.Reading.{Reads, ◌>>=◌, give, keyword, symbol, int, text, listed}
+use Rattle.cmm_parser.specs.ReadingLaws.{Complete}
 use Rattle.cmm_parser.specs.ExpressionReading.{named_type, begins_expression, whole, whole_prim}
-use Rattle.cmm_parser.specs.DeclarationReading.{any_name, any_text, is_other, begins_bits, bits, decl}
+use Rattle.cmm_parser.specs.DeclarationReading.{any_name, any_text, begins_bits}
 use Rattle.cmm_parser.specs.ProcedureReading.{procedure}
-use Rattle.cmm_parser.specs.UnitReading.{count_in, count_of, count, values, initial, values_of, named_datum, datum_at, named_item, align_item, item_by, flat_item, in_braces, span, item, section, top_level, any_token, parts}
-use Rattle.cmm_parser.proofs.Completes.{Next, Anything, Strict, follow_complete, less_complete, after_complete, fewer_complete, give_complete, last_complete, holds_complete, fails_complete, here_complete, token_strict, both, number_same}
+use Rattle.cmm_parser.specs.UnitReading.{count_of, count, values, initial, values_of, datum_at, named_item, item_by, flat_item, in_braces, span, item, section, top_level, any_token, parts}
+use Rattle.cmm_parser.proofs.Completes.{Next, Anything, follow_complete, less_complete, after_complete, fewer_complete, give_complete, last_complete, holds_complete, fails_complete, here_complete, token_strict, both, number_same}
 use Rattle.cmm_parser.proofs.Tokens.{only_keyword, symbol_complete, keyword_complete, ident_complete, text_complete, int_complete}
 use Rattle.cmm_parser.proofs.Lists.{After, Parts, Each, each_of, zero_complete, listed_complete}
 use Rattle.cmm_parser.proofs.CompleteExpressions.{Begins, Ends, NoMore, type_token, type_name_complete, in_brackets_complete, whole_complete}
 use Rattle.cmm_parser.proofs.CompleteParts.{whole_prim_complete}
 use Rattle.cmm_parser.proofs.Units.{row_is}
-use Rattle.cmm_parser.proofs.CompleteRepeats.{Passes, Not, then_complete, start_complete, end_complete, never_complete, only_symbol_complete, some_complete, none_complete, parts_before, strict_then, here_strict, Spends, keyword_spends, if_next_spends, not_next_spends, follow_spends, here_spends, Rows, many_complete}
+use Rattle.cmm_parser.proofs.CompleteRepeats.{Passes, Not, then_complete, start_complete, never_complete, only_symbol_complete, some_complete, none_complete, parts_before, strict_then, here_strict, Spends, keyword_spends, if_next_spends, not_next_spends, follow_spends, Rows, many_complete}
 use Rattle.cmm_parser.proofs.CompleteDeclarations.{bits_begin, ends_before, decl_word, decl_spends}
 use Rattle.cmm_parser.proofs.CompleteProcedures.{ident_strict, type_strict, NotClose, brace_rows, procedure_complete}
 
@@ -170,15 +170,15 @@ again_spends n m p q one = record {
   strict = record { strict = λ r after e. let o = inside r after e in (one o.0).strict.strict r after o.1 };
 }
   where
-  inside : (r after : Reading) → (here_is n ⨾ (here_is m ⨾ p) ⨾ q) r ≡ Some after → (n ≡ m) × (((here_is m ⨾ p) ⨾ q) r ≡ Some after)
-  inside r after e =
-      let s = both (here_is n) ((here_is m ⨾ p) ⨾ q) r after e in
-      let o = number_taken n (n == r.taken) r s.between s.first in
-      let second : ((here_is m ⨾ p) ⨾ q) r ≡ Some after = rw (sym o.1) s.second in
-      let t = both (here_is m ⨾ p) q r after second in
-      let u = both (here_is m) p r t.between t.first in
-      let v = number_taken m (m == r.taken) r u.between u.first in
-      (number_same n r.taken o.0 ∙ sym (number_same m r.taken v.0), second)
+    inside : (r after : Reading) → (here_is n ⨾ (here_is m ⨾ p) ⨾ q) r ≡ Some after → (n ≡ m) × (((here_is m ⨾ p) ⨾ q) r ≡ Some after)
+    inside r after e =
+        let s = both (here_is n) ((here_is m ⨾ p) ⨾ q) r after e in
+        let o = number_taken n (n == r.taken) r s.between s.first in
+        let second : ((here_is m ⨾ p) ⨾ q) r ≡ Some after = rw (sym o.1) s.second in
+        let t = both (here_is m ⨾ p) q r after second in
+        let u = both (here_is m) p r t.between t.first in
+        let v = number_taken m (m == r.taken) r u.between u.first in
+        (number_same n r.taken o.0 ∙ sym (number_same m r.taken v.0), second)
 
 -- ---- items that hold no other
 
@@ -258,14 +258,14 @@ module _ {fuel : ℕ} (block : Reads Block) (block_complete : (b : Block) → Co
     strict = here_strict at (from at).strict;
   }
     where
-    from : (n : ℕ) →
-        Spends fuel (keyword_is Align ⨾ grammar.int bytes ⨾ symbol_is Semicolon) (datum_at n (data_forms.Align bytes))
-        (keyword Align >>= λ _. int >>= λ bytes. symbol Semicolon >>= λ _. give (datum_at n (data_forms.Align bytes)))
-        (Next (l.Word (keyword_number Align))) Anything
-    from n =
-        keyword_spends Align
-        (after_complete {b = λ i. datum_at n (data_forms.Align i)} (int_complete bytes) (λ x f. tt) (λ i.
-        last_complete (λ _. datum_at n (data_forms.Align i)) (symbol_complete Semicolon)))
+      from : (n : ℕ) →
+          Spends fuel (keyword_is Align ⨾ grammar.int bytes ⨾ symbol_is Semicolon) (datum_at n (data_forms.Align bytes))
+          (keyword Align >>= λ _. int >>= λ bytes. symbol Semicolon >>= λ _. give (datum_at n (data_forms.Align bytes)))
+          (Next (l.Word (keyword_number Align))) Anything
+      from n =
+          keyword_spends Align
+          (after_complete {b = λ i. datum_at n (data_forms.Align i)} (int_complete bytes) (λ x f. tt) (λ i.
+          last_complete (λ _. datum_at n (data_forms.Align i)) (symbol_complete Semicolon)))
 
   type_flat : (form : TypeForm) (x : Option Lexeme) → Next (type_token form) x → Flat x
   type_flat (Bits width) x e = (rw e refl, bits_no_span width x e)
@@ -297,8 +297,8 @@ module _ {fuel : ℕ} (block : Reads Block) (block_complete : (b : Block) → Co
     strict = (decl_spends {fuel = fuel} d).strict;
   }
     where
-    other : (x : Option Lexeme) → Next (l.Word (keyword_number (decl_word d.form))) x → NotClose x
-    other x e = rw e refl
+      other : (x : Option Lexeme) → Next (l.Word (keyword_number (decl_word d.form))) x → NotClose x
+      other x e = rw e refl
 
 -- ---- items
 
@@ -340,14 +340,14 @@ module _ (block : ℕ → Reads Block) (block_complete : (fuel : ℕ) (b : Block
     strict = here_strict at (strict_then (token_strict (only_keyword _)) (from at).moves);
   }
     where
-    from : (n : ℕ) →
-        Complete fuel (grammar.whole_prim key ⨾ grammar.whole value ⨾ braces_is (many_is units.item its)) (items.Span n key value its)
-        (whole_prim fuel >>= λ key. whole fuel >>= λ value. in_braces fuel (item fuel block) >>= λ inside. give (items.Span n key value inside))
-        Anything Anything
-    from n =
-        after_complete {b = λ k. items.Span n k value its} (any_prim_complete fuel key) begins_no_more (λ k.
-        after_complete {b = λ v. items.Span n k v its} (whole_complete fuel value) (ends_before OpenBrace refl refl) (λ v.
-        last_complete (λ inside. items.Span n k v inside) (in_braces_complete fuel its each)))
+      from : (n : ℕ) →
+          Complete fuel (grammar.whole_prim key ⨾ grammar.whole value ⨾ braces_is (many_is units.item its)) (items.Span n key value its)
+          (whole_prim fuel >>= λ key. whole fuel >>= λ value. in_braces fuel (item fuel block) >>= λ inside. give (items.Span n key value inside))
+          Anything Anything
+      from n =
+          after_complete {b = λ k. items.Span n k value its} (any_prim_complete fuel key) begins_no_more (λ k.
+          after_complete {b = λ v. items.Span n k v its} (whole_complete fuel value) (ends_before OpenBrace refl refl) (λ v.
+          last_complete (λ inside. items.Span n k v inside) (in_braces_complete fuel its each)))
 
   flat_spends : (i : Item) → ((fuel : ℕ) → Spends (suc fuel) (units.item i) i (flat_item (suc fuel) (block (suc fuel))) Flat Anything) → HasItem i
   flat_spends i each =
@@ -387,18 +387,18 @@ module _ (block : ℕ → Reads Block) (block_complete : (fuel : ℕ) (b : Block
     strict = here_strict s.token (from s.token).strict;
   }
     where
-    made : ℕ → Section
-    made n = record { token = n; name = s.name; items = s.items }
+      made : ℕ → Section
+      made n = record { token = n; name = s.name; items = s.items }
 
-    from : (n : ℕ) →
-        Spends fuel (keyword_is SectionWord ⨾ grammar.text s.name ⨾ braces_is (many_is units.item s.items)) (made n)
-        (keyword SectionWord >>= λ _.
-        text >>= λ name. in_braces fuel (item fuel block) >>= λ inside. give record { token = n; name = name; items = inside })
-        (Next (l.Word (keyword_number SectionWord))) Anything
-    from n =
-        keyword_spends SectionWord
-        (after_complete {b = λ name. record { token = n; name = name; items = s.items }} (text_complete s.name) (λ x f. tt) (λ name.
-        last_complete (λ inside. record { token = n; name = name; items = inside }) (in_braces_complete fuel s.items (each_of item_spends s.items))))
+      from : (n : ℕ) →
+          Spends fuel (keyword_is SectionWord ⨾ grammar.text s.name ⨾ braces_is (many_is units.item s.items)) (made n)
+          (keyword SectionWord >>= λ _.
+          text >>= λ name. in_braces fuel (item fuel block) >>= λ inside. give record { token = n; name = name; items = inside })
+          (Next (l.Word (keyword_number SectionWord))) Anything
+      from n =
+          keyword_spends SectionWord
+          (after_complete {b = λ name. record { token = n; name = name; items = s.items }} (text_complete s.name) (λ x f. tt) (λ name.
+          last_complete (λ inside. record { token = n; name = name; items = inside }) (in_braces_complete fuel s.items (each_of item_spends s.items))))
 
   top_level_spends : {fuel : ℕ} (t : TopLevel) → Spends fuel (units.top_level t) t (top_level fuel block) (Passes any_token) Anything
   top_level_spends {fuel} (tops.Section s) = record {
@@ -419,13 +419,13 @@ module _ (block : ℕ → Reads Block) (block_complete : (fuel : ℕ) (b : Block
     strict = strict_then (ident_strict p.name) (rest p.name).moves;
   }
     where
-    named : Ident → Proc
-    named n = record { name = n; formals = p.formals; body = p.body }
+      named : Ident → Proc
+      named n = record { name = n; formals = p.formals; body = p.body }
 
-    rest : (n : Ident) →
-        Complete fuel (round_is (may_list_is bodies.formal p.formals) ⨾ bodies.block p.body) (named n)
-        (procedure fuel (block fuel) n) (Next (l.Symbol (symbol_number Open))) Anything
-    rest n = procedure_complete (block_complete fuel) p n
+      rest : (n : Ident) →
+          Complete fuel (round_is (may_list_is bodies.formal p.formals) ⨾ bodies.block p.body) (named n)
+          (procedure fuel (block fuel) n) (Next (l.Symbol (symbol_number Open))) Anything
+      rest n = procedure_complete (block_complete fuel) p n
 
   -- at the end of the tokens
   AtEnd : Option Lexeme → Type 0

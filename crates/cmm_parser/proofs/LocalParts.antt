@@ -1,7 +1,7 @@
 -- How the parts of statements are read hangs on no token beyond the one that is looked at.
-use Rattle.std.proofs.Common.{ℕ, Bool, List, Option, Some, None}
+use Rattle.std.proofs.Common.{ℕ, List, Some, None}
 use Rattle.cmm_ast.specs.declared.token.Ident.{Ident}
-use Rattle.cmm_ast.specs.declared.keyword.Keyword.TheVariants.{Also, Cuts, Returns, To, Unwinds}
+use Rattle.cmm_ast.specs.declared.keyword.Keyword.TheVariants.{Also, Returns, To}
 use Rattle.cmm_ast.specs.declared.keyword.Symbol.TheVariants.{Open, Close, Less, Greater, Slash}
 use Rattle.cmm_ast.specs.declared.statement.CalleeForm.TheVariants as callees
 use Rattle.cmm_ast.specs.declared.statement.FlowForm.{FlowForm}
@@ -9,7 +9,7 @@ use Rattle.cmm_ast.specs.declared.statement.FlowForm.TheVariants as flows
 use Rattle.cmm_ast.specs.declared.statement.Lvalue.TheVariants as lvalues
 use Rattle.cmm_parser.specs.ReadingLaws.{Local}
 use Rattle.cmm_parser.specs.ExpressionReading.{named_type}
-use Rattle.cmm_parser.specs.PartReading.{is_any_text, is_any_name, kinded, actual, arguments, begins_actual, lvalue, called, callee, begins_flow, may_comma, names_to, also, flow_form, flow, annotations, exit, range_end, range}
+use Rattle.cmm_parser.specs.PartReading.{is_any_text, is_any_name, kinded, actual, arguments, begins_actual, lvalue, called, callee, begins_flow, may_comma, names_to, also, flow_form, annotations, exit, range_end, range}
 use Rattle.cmm_parser.proofs.Locals.{outermost_local, after_local, give_local, here_local, next_local, skip_local, optional_local, many_local, listed_local, may_list_local}
 use Rattle.cmm_parser.proofs.LocalExpressions.{in_brackets_local, type_name_local, whole_local, whole_prim_local, whole_memory_local}
 use Rattle.cmm_parser.proofs.Tokens.{keyword_local, symbol_local, ident_local, text_local}

@@ -1,5 +1,5 @@
 -- The parts of statements that are read are trees of the tokens that they take.
-use Rattle.std.proofs.Common.{◌≡◌, ℕ, suc, ◌==◌, Bool, true, false, List, [], ◌∷◌, Option, Some, None, refl, sym, ap, ◌∙◌, arith}
+use Rattle.std.proofs.Common.{◌≡◌, ℕ, ◌==◌, Bool, true, false, List, [], ◌∷◌, Option, Some, None, refl, sym, ap, ◌∙◌, arith}
 use Rattle.std.proofs.Math.Path.{fun_ext}
 use Rattle.cmm_lexer.specs.declared.piece.Lexeme.{Lexeme}
 use Rattle.cmm_ast.specs.declared.token.Ident.{Ident}
@@ -7,28 +7,25 @@ use Rattle.cmm_ast.specs.declared.keyword.Keyword.{Keyword}
 use Rattle.cmm_ast.specs.declared.keyword.Keyword.TheVariants.{Aborts, Also, Cuts, Never, Returns, To, Unwinds}
 use Rattle.cmm_ast.specs.declared.keyword.Symbol.TheVariants.{Open, Close, OpenSquare, CloseSquare, Comma, Less, Greater, Slash}
 use Rattle.cmm_ast.specs.declared.keyword.Symbol.TheVariants as sign
-use Rattle.cmm_ast.specs.declared.expression.Expr.{Expr}
 use Rattle.cmm_ast.specs.declared.expression.TypeName.{TypeName}
 use Rattle.cmm_ast.specs.declared.expression.TypeForm.{TypeForm}
 use Rattle.cmm_ast.specs.declared.expression.TypeForm.TheVariants.{Bits, Named as OfName}
-use Rattle.cmm_ast.specs.declared.expression.Memory.{Memory, roll-Memory}
-use Rattle.cmm_ast.specs.declared.statement.CalleeForm.{CalleeForm}
+use Rattle.cmm_ast.specs.declared.expression.Memory.{roll-Memory}
 use Rattle.cmm_ast.specs.declared.statement.CalleeForm.TheVariants as callees
-use Rattle.cmm_ast.specs.declared.statement.Flow.{Flow}
 use Rattle.cmm_ast.specs.declared.statement.FlowForm.{FlowForm}
 use Rattle.cmm_ast.specs.declared.statement.FlowForm.TheVariants as flows
 use Rattle.cmm_ast.specs.declared.statement.Lvalue.{Lvalue}
 use Rattle.cmm_ast.specs.declared.statement.Lvalue.TheVariants as lvalues
 use Rattle.cmm_ast.specs.Numbers.{keyword_number, symbol_number}
-use Rattle.cmm_ast.specs.Taking.{Reading, Takes, ◌⨾◌, token, taken_if, nothing, is_keyword, is_symbol, here as here_is, keyword as keyword_is, symbol as symbol_is, round as round_is, may_list as may_list_is, square as square_is, outermost as outermost_is, optional as optional_is, commas as commas_is, listed as listed_is, many as many_is, may_comma as may_comma_is}
+use Rattle.cmm_ast.specs.Taking.{Reading, Takes, ◌⨾◌, token, taken_if, is_keyword, is_symbol, here as here_is, keyword as keyword_is, symbol as symbol_is, round as round_is, may_list as may_list_is, square as square_is, outermost as outermost_is, optional as optional_is, commas as commas_is, listed as listed_is, may_comma as may_comma_is}
 use Rattle.cmm_ast.specs.ExpressionGrammar as grammar
 use Rattle.cmm_ast.specs.ExpressionGrammar.{whole_memory as whole_memory_is, aligned_by}
 use Rattle.cmm_ast.specs.StatementGrammar as statements
-use Rattle.cmm_parser.specs.Reading.{is_comma, Reads, ◌>>=◌, give, if_next, here, skip, keyword, symbol, ident, text, optional, many, listed, round, square, outermost, may_list}
-use Rattle.cmm_parser.specs.ReadingLaws.{within, Sound}
-use Rattle.cmm_parser.specs.ExpressionReading.{type_name, named_type, located, memory, operand, whole, whole_prim, whole_memory}
+use Rattle.cmm_parser.specs.Reading.{is_comma, ◌>>=◌, give, if_next, round, square, outermost, may_list}
+use Rattle.cmm_parser.specs.ReadingLaws.{Sound}
+use Rattle.cmm_parser.specs.ExpressionReading.{named_type, located, operand, whole, whole_memory}
 use Rattle.cmm_parser.specs.PartReading.{is_any_text, is_any_name, kinded, actual, arguments, begins_actual, lvalue, called, callee, begins_flow, may_comma, names_to, also, flow_form, flow, annotations, exit, range_end, range}
-use Rattle.cmm_parser.proofs.Sounds.{Goes, GoesAt, whole_sound, after_sound, last_sound, last_goes, same_sound, give_sound, at_sound, at_same, next_sound, skip_sound, skip_last_sound, one_taken, here_sound, outermost_sound}
+use Rattle.cmm_parser.proofs.Sounds.{Goes, whole_sound, after_sound, last_sound, last_goes, give_sound, at_sound, at_same, next_sound, skip_sound, skip_last_sound, one_taken, here_sound, outermost_sound}
 use Rattle.cmm_parser.proofs.Expressions.{opened, operand_is, in_brackets_sound, type_name_sound, operand_sound, located_sound, whole_expr_sound, whole_prim_sound}
 use Rattle.cmm_parser.proofs.Lists.{takes_assoc, takes_nothing, may_comma_taken, may_list_sound, listed_sound, end_sound}
 use Rattle.cmm_parser.proofs.Options.{optional_sound, many_sound}

@@ -1,10 +1,10 @@
 -- What the reader of units says of all of some tokens, over how a block is read.
-use Rattle.std.proofs.Common.{◌≡◌, ℕ, zero, suc, ◌<◌, Bool, true, false, List, [], ◌∷◌, ◌++◌, length, take, Option, Some, None, refl, sym, ap, ◌∙◌}
+use Rattle.std.proofs.Common.{◌≡◌, ℕ, zero, suc, ◌<◌, true, List, [], ◌∷◌, ◌++◌, length, take, Option, Some, None, refl}
 use Rattle.cmm_lexer.specs.declared.piece.Lexeme.{Lexeme}
 use Rattle.cmm_ast.specs.declared.statement.Block.{Block}
 use Rattle.cmm_ast.specs.declared.unit.Unit.{Unit as UnitTree}
 use Rattle.cmm_ast.specs.declared.unit.TopLevel.{TopLevel}
-use Rattle.cmm_ast.specs.Taking.{Takes, many as many_is}
+use Rattle.cmm_ast.specs.Taking.{many as many_is}
 use Rattle.cmm_ast.specs.StatementGrammar as bodies
 use Rattle.cmm_ast.specs.UnitGrammar as units
 use Rattle.cmm_ast.specs.Derivation.{at_start, Derives, DerivesWithin, Begins}
