@@ -33,17 +33,18 @@ use Rattle.cmm_ast.specs.UnitGrammar as units
 use Rattle.cmm_parser.specs.Reading.{◌>>=◌, give, symbol, keyword, optional, ident}
 use Rattle.cmm_parser.specs.ReadingLaws.{Complete}
 use Rattle.cmm_parser.specs.ExpressionReading.{infix_in, type_name}
-use Rattle.cmm_parser.specs.DeclarationReading.{any_name, any_text, is_other, begins_bits, bits, begins_name, TypeFirst, NameFirst, Neither, head_by, head, optional_text, names, import_name, import_of, as_text, export_name, imports_by, exports_by, typed_name_by, byte_order, property_form, property, imports, exports, constant, typedef, target, is_invariant, register, decl_form, decl}
+use Rattle.cmm_parser.specs.DeclarationReading.{is_other, bits, begins_name, TypeFirst, NameFirst, Neither, head_by, head, optional_text, names, import_name, import_of, as_text, export_name, imports_by, exports_by, typed_name_by, byte_order, property_form, property, imports, exports, constant, typedef, target, is_invariant, register, decl_form, decl}
 use Rattle.cmm_parser.proofs.Completes.{Next, Anything, follow_complete, after_complete, give_complete, last_complete, holds_complete, fails_complete}
 use Rattle.cmm_parser.proofs.Tokens.{symbol_complete, keyword_complete, ident_complete, text_complete, int_complete}
 use Rattle.cmm_parser.proofs.Lists.{After, Parts, takes_assoc, commas_to, each_of, rest_to, more_listed_complete, listed_complete}
 use Rattle.cmm_parser.proofs.CompleteExpressions.{more, Ends, type_token, type_name_complete, whole_complete}
 use Rattle.cmm_parser.proofs.Declarations.{property_is}
 use Rattle.cmm_parser.proofs.CompleteRepeats.{Passes, Not, then_complete, start_complete, end_complete, flat_complete, never_complete, strict_second, follow_spends, only_word_complete, some_complete, none_complete, parts_before, Spends, if_word_spends, keyword_spends, not_next_spends, here_spends, Rows, many_complete}
+use Rattle.cmm_parser.specs.PartReading.{is_any_name, is_any_text, is_width}
 
 -- ---- what a type begins with, and an expression ends before
 
-pub bits_begin : (width : Width) → begins_bits (l.Word (keyword_number (width_word width))) ≡ true
+pub bits_begin : (width : Width) → is_width (l.Word (keyword_number (width_word width))) ≡ true
 bits_begin W8 = refl
 bits_begin W16 = refl
 bits_begin W32 = refl
@@ -66,37 +67,37 @@ type_head_complete {fuel} w = by w.token w.form where
       Complete fuel (grammar.type_name (record { token = token; form = form })) (TypeFirst (record { token = token; form = form })) head (Next (type_token form)) (Passes begins_name)
   by token (Bits width) =
       end_complete head_by
-      (some_complete begins_bits (λ x e. rw e (bits_begin width)) (type_name_complete (record { token = token; form = Bits width })))
+      (some_complete is_width (λ x e. rw e (bits_begin width)) (type_name_complete (record { token = token; form = Bits width })))
       (λ x f. tt) (give_complete (TypeFirst (record { token = token; form = Bits width })))
   by token (OfName bytes) =
-      start_complete head_by (none_complete begins_bits (λ x e. rw e refl)) (λ x f. f)
-      (holds_complete any_name (λ x e. rw e refl)
+      start_complete head_by (none_complete is_width (λ x e. rw e refl)) (λ x f. f)
+      (holds_complete is_any_name (λ x e. rw e refl)
       (end_complete _ (ident_complete (record { name = bytes; token = token })) (λ x f. tt) (holds_complete begins_name (λ x f. f) (give_complete _))))
 
 pub name_head_complete : {fuel : ℕ} (i : Ident) → Complete fuel (grammar.ident i) (NameFirst i) head (Next (l.Name i.name)) (Not begins_name)
 name_head_complete i =
-    start_complete head_by (none_complete begins_bits (λ x e. rw e refl)) (λ x f. f)
-    (holds_complete any_name (λ x e. rw e refl)
+    start_complete head_by (none_complete is_width (λ x e. rw e refl)) (λ x f. f)
+    (holds_complete is_any_name (λ x e. rw e refl)
     (end_complete _ (ident_complete i) (λ x f. tt) (fails_complete begins_name (λ x f. f) (give_complete _))))
 
 -- ---- what declarations list
 
 -- a text and a name begin an import; an expression's type is neither
-pub type_no_text : (form : TypeForm) (x : Option Lexeme) → Next (type_token form) x → Not any_text x
+pub type_no_text : (form : TypeForm) (x : Option Lexeme) → Next (type_token form) x → Not is_any_text x
 type_no_text (Bits width) x e = rw e refl
 type_no_text (OfName bytes) x e = rw e refl
 
-pub optional_text_complete : {fuel : ℕ} {follow : Option Lexeme → Type 0} → ((x : Option Lexeme) → follow x → Not any_text x) → (kind : Option Text) →
-    Complete fuel (optional_is grammar.text kind) kind optional_text (λ x. Passes any_text x ⊎ follow x) follow
+pub optional_text_complete : {fuel : ℕ} {follow : Option Lexeme → Type 0} → ((x : Option Lexeme) → follow x → Not is_any_text x) → (kind : Option Text) →
+    Complete fuel (optional_is grammar.text kind) kind optional_text (λ x. Passes is_any_text x ⊎ follow x) follow
 optional_text_complete ends (Some t) =
-    follow_complete (λ x e. inl (rw e refl)) (λ x f. tt) (some_complete any_text (λ x e. rw e refl) (text_complete t))
-optional_text_complete ends None = follow_complete (λ x f. inr f) (λ x f. f) (none_complete any_text ends)
+    follow_complete (λ x e. inl (rw e refl)) (λ x f. tt) (some_complete is_any_text (λ x e. rw e refl) (text_complete t))
+optional_text_complete ends None = follow_complete (λ x f. inr f) (λ x f. f) (none_complete is_any_text ends)
 
-name_parts : Parts any_name (Passes any_name) Anything (Next (l.Symbol (symbol_number Semicolon)))
-name_parts = parts_before any_name Semicolon refl refl (λ x f. tt)
+name_parts : Parts is_any_name (Passes is_any_name) Anything (Next (l.Symbol (symbol_number Semicolon)))
+name_parts = parts_before is_any_name Semicolon refl refl (λ x f. tt)
 
 pub names_complete : {fuel : ℕ} (is : List Ident) →
-    Complete fuel (listed_is grammar.ident is) is (names fuel) (Passes any_name) (Next (l.Symbol (symbol_number Semicolon)))
+    Complete fuel (listed_is grammar.ident is) is (names fuel) (Passes is_any_name) (Next (l.Symbol (symbol_number Semicolon)))
 names_complete [] = never_complete (λ r. refl)
 names_complete (i ∷ is) =
     listed_complete ident grammar.ident name_parts i is (λ i. follow_complete (λ x e. rw e refl) (λ x f. tt) (ident_complete i))
@@ -116,10 +117,10 @@ import_of_complete : {fuel : ℕ} (link : Option Text) (name : Ident) →
 unfolding import_token
 import_of_complete (Some t) name =
     after_complete
-    (some_complete any_text (λ x e. rw e refl) (after_complete (text_complete t) (λ x f. tt) (λ t. last_complete (λ _. t) (keyword_complete As))))
+    (some_complete is_any_text (λ x e. rw e refl) (after_complete (text_complete t) (λ x f. tt) (λ t. last_complete (λ _. t) (keyword_complete As))))
     (λ x f. tt) (λ link. last_complete (λ name. record { link = link; name = name }) (ident_complete name))
 import_of_complete None name =
-    start_complete (λ link. ident >>= λ name. give record { link = link; name = name }) (none_complete any_text (λ x e. rw e refl)) (λ x e. e)
+    start_complete (λ link. ident >>= λ name. give record { link = link; name = name }) (none_complete is_any_text (λ x e. rw e refl)) (λ x e. e)
     (last_complete (λ name. record { link = None; name = name }) (ident_complete name))
 
 import_complete : {fuel : ℕ} (i : Import) → Complete fuel (units.import_name i) i import_name (Passes begins_name) Anything
@@ -138,7 +139,7 @@ after_no_name x (inr e) = rw e refl
 
 text_head_complete : {fuel : ℕ} (bytes : List ℕ) → Complete fuel nothing Neither head (Next (l.Text bytes)) (Next (l.Text bytes))
 text_head_complete bytes =
-    start_complete head_by (none_complete begins_bits (λ x e. rw e refl)) (λ x e. e) (fails_complete any_name (λ x e. rw e refl) (give_complete Neither))
+    start_complete head_by (none_complete is_width (λ x e. rw e refl)) (λ x e. e) (fails_complete is_any_name (λ x e. rw e refl) (give_complete Neither))
 
 untyped_imports : {fuel : ℕ} (link : Option Text) (name : Ident) (is : List Import) →
     Complete fuel (units.import_name (record { link = link; name = name }) ⨾ rest_to units.import_name is may_comma)
@@ -180,7 +181,7 @@ as_text_complete ends (Some t) =
     (some_complete _ (λ x e. rw e refl) (after_complete (keyword_complete As) (λ x f. tt) (λ _. text_complete t)))
 as_text_complete ends None = follow_complete (λ x f. inr f) (λ x f. f) (none_complete _ ends)
 
-export_complete : {fuel : ℕ} (e : Export) → Complete fuel (units.export_name e) e export_name (Passes any_name) NotAs
+export_complete : {fuel : ℕ} (e : Export) → Complete fuel (units.export_name e) e export_name (Passes is_any_name) NotAs
 export_complete e =
     follow_complete (λ x is. rw is refl) (λ x f. f)
     (after_complete (ident_complete e.name) (λ x f. tt) (λ name. last_complete (λ link. record { name = name; link = link }) (as_text_complete (λ x f. f) e.link)))
@@ -193,10 +194,10 @@ link_no_name : (x : Option Lexeme) → Next (l.Word (keyword_number As)) x ⊎ A
 link_no_name x (inl e) = rw e refl
 link_no_name x (inr f) = after_no_name x f
 
-export_parts : Parts any_name (Passes any_name) NotAs (Next (l.Symbol (symbol_number Semicolon)))
-export_parts = parts_before any_name Semicolon refl refl after_not_as
+export_parts : Parts is_any_name (Passes is_any_name) NotAs (Next (l.Symbol (symbol_number Semicolon)))
+export_parts = parts_before is_any_name Semicolon refl refl after_not_as
 
-name_begins : (x : Option Lexeme) → Passes any_name x → Passes begins_name x
+name_begins : (x : Option Lexeme) → Passes is_any_name x → Passes begins_name x
 name_begins (Some (l.Name bytes)) e = refl
 name_begins (Some _) e = absurd cc
 name_begins None e = absurd cc

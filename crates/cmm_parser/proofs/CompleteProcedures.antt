@@ -27,7 +27,7 @@ use Rattle.cmm_ast.specs.StatementGrammar as bodies
 use Rattle.cmm_parser.specs.Reading.{Reads, ◌>>=◌, give}
 use Rattle.cmm_parser.specs.ReadingLaws.{Complete}
 use Rattle.cmm_parser.specs.ExpressionReading.{named_type}
-use Rattle.cmm_parser.specs.DeclarationReading.{any_name, any_text, is_other, begins_bits, optional_text, bits}
+use Rattle.cmm_parser.specs.DeclarationReading.{is_other, optional_text, bits}
 use Rattle.cmm_parser.specs.ProcedureReading.{invariant_by, kind_by, modifiers_of, begins_formal, formal, variables, room_count, sized_room, room_by, room_form, room, stackdata, procedure}
 use Rattle.cmm_parser.proofs.Completes.{Next, Anything, Strict, follow_complete, less_complete, after_complete, give_complete, last_complete, holds_complete, fails_complete, here_complete, token_strict}
 use Rattle.cmm_parser.proofs.Tokens.{only_name, only_keyword, symbol_complete, keyword_complete, ident_complete, text_complete, int_complete}
@@ -36,6 +36,7 @@ use Rattle.cmm_parser.proofs.CompleteExpressions.{type_token, type_name_complete
 use Rattle.cmm_parser.proofs.Procedures.{room_is}
 use Rattle.cmm_parser.proofs.CompleteRepeats.{Passes, Not, then_complete, start_complete, end_complete, only_word_complete, only_symbol_complete, some_complete, none_complete, parts_before, may_list_complete, strict_then, here_strict, Spends, if_word_spends, not_next_spends, follow_spends, here_spends, Rows, many_complete}
 use Rattle.cmm_parser.proofs.CompleteDeclarations.{bits_begin, ends_before, type_no_text, names_complete}
+use Rattle.cmm_parser.specs.PartReading.{is_any_name, is_any_text, is_width}
 
 -- ---- what stands before the type of a variable
 
@@ -58,28 +59,28 @@ pub modifiers_complete : {fuel : ℕ} (form : TypeForm) (m : Modifiers) →
 modifiers_complete form modifiers.Nothing =
     follow_complete (type_begins form) (λ x f. f)
     (fails_complete _ (type_no_invariant form)
-    (start_complete kind_by (none_complete any_text (type_no_text form)) (λ x e. e) (give_complete modifiers.Nothing)))
+    (start_complete kind_by (none_complete is_any_text (type_no_text form)) (λ x e. e) (give_complete modifiers.Nothing)))
 modifiers_complete form (modifiers.Kind kind) =
     follow_complete (λ x e. rw e refl) (λ x f. f)
     (fails_complete _ (λ x e. rw e refl)
-    (end_complete kind_by (some_complete any_text (λ x e. rw e refl) (text_complete kind)) (λ x f. tt)
+    (end_complete kind_by (some_complete is_any_text (λ x e. rw e refl) (text_complete kind)) (λ x f. tt)
     (fails_complete _ (type_no_invariant form) (give_complete (modifiers.Kind kind)))))
 modifiers_complete form (modifiers.KindInvariant kind) =
     follow_complete (λ x e. rw e refl) (λ x f. tt)
     (fails_complete _ (λ x e. rw e refl)
-    (then_complete kind_by (some_complete any_text (λ x e. rw e refl) (text_complete kind)) (λ x f. tt) (only_word_complete Invariant)))
+    (then_complete kind_by (some_complete is_any_text (λ x e. rw e refl) (text_complete kind)) (λ x f. tt) (only_word_complete Invariant)))
 modifiers_complete form (modifiers.Invariant first) =
     follow_complete (λ x e. rw e refl) (λ x f. f)
     (holds_complete _ (λ x e. rw e refl)
     (after_complete {b = λ n. modifiers.Invariant n} (here_complete first) (λ x f. f) (λ n.
     end_complete (λ _. optional_text >>= λ kind. give (invariant_by n kind)) (keyword_complete Invariant) (λ x f. tt)
-    (last_complete (invariant_by n) (none_complete any_text (type_no_text form))))))
+    (last_complete (invariant_by n) (none_complete is_any_text (type_no_text form))))))
 modifiers_complete form (modifiers.InvariantKind first kind) =
     follow_complete (λ x e. rw e refl) (λ x f. tt)
     (holds_complete _ (λ x e. rw e refl)
     (after_complete {b = λ n. modifiers.InvariantKind n kind} (here_complete first) (λ x f. f) (λ n.
     after_complete (keyword_complete Invariant) (λ x f. tt) (λ _.
-    last_complete (invariant_by n) (some_complete any_text (λ x e. rw e refl) (text_complete kind))))))
+    last_complete (invariant_by n) (some_complete is_any_text (λ x e. rw e refl) (text_complete kind))))))
 
 pub formal_complete : {fuel : ℕ} (f : Formal) → Complete fuel (bodies.formal f) f formal (Passes begins_formal) Anything
 formal_complete f =
@@ -91,7 +92,7 @@ formal_complete f =
 
 pub variables_complete : {fuel : ℕ} (before : Modifiers) (width : TypeName) (named : List Ident) →
     Complete fuel (listed_is grammar.ident named ⨾ symbol_is Semicolon) (locals.Variables before width named) (variables fuel before width)
-    (Passes any_name) Anything
+    (Passes is_any_name) Anything
 variables_complete before width named =
     after_complete (names_complete named) (λ x e. e) (λ named. last_complete (λ _. locals.Variables before width named) (symbol_complete Semicolon))
 
@@ -150,10 +151,10 @@ typed_room_complete : {fuel : ℕ} (token : ℕ) (form : TypeForm) (count : Opti
     (rooms.Data (record { token = token; form = form }) count) (bits >>= room_by fuel) (Next (type_token form)) Anything
 typed_room_complete {fuel} token (Bits width) count =
     then_complete (room_by fuel)
-    (some_complete begins_bits (λ x e. rw e (bits_begin width)) (type_name_complete (record { token = token; form = Bits width }))) (λ x f. tt)
+    (some_complete is_width (λ x e. rw e (bits_begin width)) (type_name_complete (record { token = token; form = Bits width }))) (λ x f. tt)
     (sized_room_complete (record { token = token; form = Bits width }) count)
 typed_room_complete {fuel} token (OfName bytes) count =
-    start_complete (room_by fuel) (none_complete begins_bits (λ x e. rw e refl)) (λ x e. e)
+    start_complete (room_by fuel) (none_complete is_width (λ x e. rw e refl)) (λ x e. e)
     (after_complete {b = λ name. rooms.Data (named_type name) count} (ident_complete (record { name = bytes; token = token })) (λ x f. tt) (λ name.
     fails_complete _ sized_no_colon (sized_room_complete (named_type name) count)))
 
@@ -162,7 +163,7 @@ room_form_spends {fuel} (rooms.Label name) =
     follow_spends (λ x e. rw e refl) (λ x f. f)
     (not_next_spends _ (λ x e. rw e refl)
     record {
-      complete = start_complete (room_by fuel) (none_complete begins_bits (λ x e. rw e refl)) (λ x e. e)
+      complete = start_complete (room_by fuel) (none_complete is_width (λ x e. rw e refl)) (λ x e. e)
           (after_complete {b = λ name. rooms.Label name} (ident_complete name) (λ x f. tt) (λ name. only_symbol_complete Colon));
       strict = strict_then (ident_strict name) (symbol_complete {fuel = 0} Colon).moves;
     })

@@ -42,7 +42,6 @@ use Rattle.cmm_ast.specs.UnitGrammar as units
 use Rattle.cmm_parser.specs.Reading.{Reads, ◌>>=◌, give, keyword, symbol, int, text, listed}
 use Rattle.cmm_parser.specs.ReadingLaws.{Complete}
 use Rattle.cmm_parser.specs.ExpressionReading.{named_type, begins_expression, whole, whole_prim}
-use Rattle.cmm_parser.specs.DeclarationReading.{any_name, any_text, begins_bits}
 use Rattle.cmm_parser.specs.ProcedureReading.{procedure}
 use Rattle.cmm_parser.specs.UnitReading.{count_of, count, values, initial, values_of, datum_at, named_item, item_by, flat_item, in_braces, span, item, section, top_level, any_token, parts}
 use Rattle.cmm_parser.proofs.Completes.{Next, Anything, follow_complete, less_complete, after_complete, fewer_complete, give_complete, last_complete, holds_complete, fails_complete, here_complete, token_strict, both, number_same}
@@ -54,18 +53,19 @@ use Rattle.cmm_parser.proofs.Units.{row_is}
 use Rattle.cmm_parser.proofs.CompleteRepeats.{Passes, Not, then_complete, start_complete, never_complete, only_symbol_complete, some_complete, none_complete, parts_before, strict_then, here_strict, Spends, keyword_spends, if_next_spends, not_next_spends, follow_spends, Rows, many_complete}
 use Rattle.cmm_parser.proofs.CompleteDeclarations.{bits_begin, ends_before, decl_word, decl_spends}
 use Rattle.cmm_parser.proofs.CompleteProcedures.{ident_strict, type_strict, NotClose, brace_rows, procedure_complete}
+use Rattle.cmm_parser.specs.PartReading.{is_any_name, is_any_text, is_width}
 
 -- ---- data
 
 -- what may follow a datum's type, and its count
 abbrev Valued : Option Lexeme → Type 0
 Valued x =
-    Next (l.Symbol (symbol_number OpenBrace)) x ⊎ Passes any_text x ⊎ Next (l.Symbol (symbol_number Semicolon)) x
+    Next (l.Symbol (symbol_number OpenBrace)) x ⊎ Passes is_any_text x ⊎ Next (l.Symbol (symbol_number Semicolon)) x
 
 abbrev Counted : Option Lexeme → Type 0
 Counted x = Next (l.Symbol (symbol_number OpenSquare)) x ⊎ Valued x
 
-text_no_symbol : (n : ℕ) (x : Option Lexeme) → Passes any_text x → Not (is_symbol n) x
+text_no_symbol : (n : ℕ) (x : Option Lexeme) → Passes is_any_text x → Not (is_symbol n) x
 text_no_symbol n (Some (l.Text bytes)) e = refl
 text_no_symbol n (Some _) e = absurd cc
 text_no_symbol n None e = refl
@@ -218,7 +218,7 @@ module _ {fuel : ℕ} (block : Reads Block) (block_complete : (b : Block) → Co
       ((n : Ident) → Complete fuel q (tree n) (named_item fuel block n) begins Anything) →
       Spends fuel (grammar.ident name ⨾ q) (tree name) (flat_item fuel block) (Next (l.Name name.name)) Anything
   named_spends tree name each = record {
-    complete = holds_complete any_name (λ x e. rw e refl) (after_complete {b = tree} (ident_complete name) (λ x f. tt) each);
+    complete = holds_complete is_any_name (λ x e. rw e refl) (after_complete {b = tree} (ident_complete name) (λ x f. tt) each);
     strict = strict_then (ident_strict name) (each name).moves;
   }
 
@@ -240,10 +240,10 @@ module _ {fuel : ℕ} (block : Reads Block) (block_complete : (b : Block) → Co
       named_spends (λ n. datum_at n.token (data_forms.Data (named_type n) how_many first)) (record { name = bytes; token = at }) (λ n.
       fails_complete _ counted_no_open (last_complete (datum_at n.token) (fails_complete _ counted_no_colon (datum_complete (named_type n) how_many first))))
   data_spends at (Bits width) how_many first = record {
-    complete = fails_complete any_name (λ x e. rw e refl)
+    complete = fails_complete is_any_name (λ x e. rw e refl)
         (fails_complete _ (bits_no_align width)
         (then_complete (item_by fuel)
-        (some_complete begins_bits (λ x e. rw e (bits_begin width)) (type_name_complete (record { token = at; form = Bits width }))) (λ x f. tt)
+        (some_complete is_width (λ x e. rw e (bits_begin width)) (type_name_complete (record { token = at; form = Bits width }))) (λ x f. tt)
         (last_complete (datum_at at) (datum_complete (record { token = at; form = Bits width }) how_many first))));
     strict = strict_then (type_strict (record { token = at; form = Bits width })) (datum_complete {fuel = fuel} (record { token = at; form = Bits width }) how_many first).moves;
   }
@@ -252,7 +252,7 @@ module _ {fuel : ℕ} (block : Reads Block) (block_complete : (b : Block) → Co
       Spends fuel (here_is at ⨾ keyword_is Align ⨾ grammar.int bytes ⨾ symbol_is Semicolon) (datum_at at (data_forms.Align bytes)) (flat_item fuel block)
       (Next (l.Word (keyword_number Align))) Anything
   align_spends at bytes = record {
-    complete = fails_complete any_name (λ x e. rw e refl)
+    complete = fails_complete is_any_name (λ x e. rw e refl)
         (holds_complete _ (λ x e. rw e refl)
         (after_complete {b = λ n. datum_at n (data_forms.Align bytes)} (here_complete at) (λ x f. f) (λ n. (from n).complete)));
     strict = here_strict at (from at).strict;
@@ -290,9 +290,9 @@ module _ {fuel : ℕ} (block : Reads Block) (block_complete : (b : Block) → Co
   declared_spends : (d : Decl) → Spends fuel (units.decl d) (items.Decl d) (flat_item fuel block) Flat Anything
   declared_spends d = record {
     complete = follow_complete (λ x e. (other x e, decl_fails (is_keyword (keyword_number Span)) refl refl refl refl refl refl refl d.form x e)) (λ x f. f)
-        (fails_complete any_name (λ x e. rw e refl)
+        (fails_complete is_any_name (λ x e. rw e refl)
         (fails_complete _ (decl_fails (is_keyword (keyword_number Align)) refl refl refl refl refl refl refl d.form)
-        (start_complete (item_by fuel) (none_complete begins_bits (decl_fails begins_bits refl refl refl refl refl refl refl d.form)) (λ x e. e)
+        (start_complete (item_by fuel) (none_complete is_width (decl_fails is_width refl refl refl refl refl refl refl d.form)) (λ x e. e)
         (last_complete items.Decl (decl_spends d).complete))));
     strict = (decl_spends {fuel = fuel} d).strict;
   }
@@ -409,13 +409,13 @@ module _ (block : ℕ → Reads Block) (block_complete : (fuel : ℕ) (b : Block
   top_level_spends {fuel} (tops.Decl d) = record {
     complete = follow_complete (λ x e. rw e refl) (λ x f. f)
         (fails_complete _ (decl_fails (is_keyword (keyword_number SectionWord)) refl refl refl refl refl refl refl d.form)
-        (fails_complete any_name (λ x e. rw e refl) (last_complete tops.Decl (decl_spends d).complete)));
+        (fails_complete is_any_name (λ x e. rw e refl) (last_complete tops.Decl (decl_spends d).complete)));
     strict = (decl_spends {fuel = fuel} d).strict;
   }
   top_level_spends {fuel} (tops.Proc p) = record {
     complete = follow_complete (λ x e. rw e refl) (λ x f. f)
         (fails_complete _ (λ x e. rw e refl)
-        (holds_complete any_name (λ x e. rw e refl) (last_complete tops.Proc (after_complete {b = named} (ident_complete p.name) (λ x f. tt) rest))));
+        (holds_complete is_any_name (λ x e. rw e refl) (last_complete tops.Proc (after_complete {b = named} (ident_complete p.name) (λ x f. tt) rest))));
     strict = strict_then (ident_strict p.name) (rest p.name).moves;
   }
     where

@@ -17,7 +17,7 @@ use Rattle.cmm_ast.specs.UnitGrammar as units
 use Rattle.cmm_parser.specs.Reading.{◌>>=◌, give, symbol}
 use Rattle.cmm_parser.specs.ReadingLaws.{Sound, Local}
 use Rattle.cmm_parser.specs.ExpressionReading.{named_type}
-use Rattle.cmm_parser.specs.DeclarationReading.{any_name, any_text, is_other, begins_bits, bits, begins_name, Head, TypeFirst, NameFirst, Neither, head_by, head, optional_text, names, import_name, import_of, export_of, export_name, imports_by, exports_by, typed_name_by, byte_order, property_form, property, is_invariant, register, decl_form, decl}
+use Rattle.cmm_parser.specs.DeclarationReading.{is_other, bits, begins_name, Head, TypeFirst, NameFirst, Neither, head_by, head, optional_text, names, import_name, import_of, export_of, export_name, imports_by, exports_by, typed_name_by, byte_order, property_form, property, is_invariant, register, decl_form, decl}
 use Rattle.cmm_parser.proofs.Sounds.{Goes, whole_sound, after_sound, last_sound, same_sound, give_sound, here_sound}
 use Rattle.cmm_parser.proofs.Locals.{after_local, give_local, here_local, next_local, optional_local, many_local, listed_local, more_listed_local}
 use Rattle.cmm_parser.proofs.Tokens.{symbol_sound, symbol_local, keyword_sound, keyword_local, ident_sound, ident_local, text_sound, text_local, int_sound, int_local}
@@ -25,17 +25,18 @@ use Rattle.cmm_parser.proofs.Lists.{takes_assoc, takes_nothing, commas_to, more_
 use Rattle.cmm_parser.proofs.Expressions.{type_name_sound, whole_expr_sound}
 use Rattle.cmm_parser.proofs.LocalExpressions.{type_name_local, whole_local}
 use Rattle.cmm_parser.proofs.Repeats.{goes_then, goes_made, if_word_sound, if_next_sound, optional_sound, many_sound, if_word_local}
+use Rattle.cmm_parser.specs.PartReading.{is_any_name, is_any_text, is_width}
 
 -- ---- types that may be left out
 
 pub bits_sound : Sound bits (optional_is grammar.type_name)
-bits_sound = optional_sound begins_bits type_name_sound
+bits_sound = optional_sound is_width type_name_sound
 
 pub optional_text_sound : Sound optional_text (optional_is grammar.text)
-optional_text_sound = optional_sound any_text text_sound
+optional_text_sound = optional_sound is_any_text text_sound
 
 pub names_sound : (turns : ℕ) → Sound (names turns) (listed_is grammar.ident)
-names_sound turns = listed_sound ident_sound any_name turns
+names_sound turns = listed_sound ident_sound is_any_name turns
 
 -- what a declaration takes to its first name
 abbrev pub head_is : Head → Takes
@@ -48,7 +49,7 @@ head_sound = whole_sound (after_sound bits_sound by) where
   by : (o : Option TypeName) → Goes (λ k. optional_is grammar.type_name o ⨾ k) (head_by o) head_is
   by (Some width) = give_sound (TypeFirst width) (sym (takes_nothing (grammar.type_name width)))
   by None =
-      if_next_sound any_name
+      if_next_sound is_any_name
       (after_sound ident_sound (λ name.
       if_next_sound begins_name (give_sound (TypeFirst (named_type name)) (sym (takes_nothing (grammar.ident name))))
       (give_sound (NameFirst name) (sym (takes_nothing (grammar.ident name))))))
@@ -59,7 +60,7 @@ head_sound = whole_sound (after_sound bits_sound by) where
 pub import_name_sound : Sound import_name units.import_name
 import_name_sound =
     whole_sound
-    (after_sound (optional_sound any_text (whole_sound (after_sound text_sound (λ t. last_sound (λ _. t) (keyword_sound As) (λ _. refl)))))
+    (after_sound (optional_sound is_any_text (whole_sound (after_sound text_sound (λ t. last_sound (λ _. t) (keyword_sound As) (λ _. refl)))))
     (λ link. last_sound _ ident_sound (λ name. refl)))
 
 export_of_goes : (name : Ident) → Goes (λ k. grammar.ident name ⨾ k) (export_of name) units.export_name
@@ -85,12 +86,12 @@ exports_is found = optional_is grammar.type_name found.0 ⨾ listed_is units.exp
 export_list_sound : (turns : ℕ) → Sound (head >>= exports_by turns) exports_is
 export_list_sound turns = whole_sound (after_sound head_sound by) where
   by : (h : Head) → Goes (λ k. head_is h ⨾ k) (exports_by turns h) exports_is
-  by (TypeFirst width) = last_sound _ (listed_sound export_name_sound any_name turns) (λ found. refl)
+  by (TypeFirst width) = last_sound _ (listed_sound export_name_sound is_any_name turns) (λ found. refl)
   by (NameFirst name) =
       goes_made _
-      (goes_then (export_of_goes name) (λ e. more_listed_goes export_name_sound (listed_is units.export_name) (λ a as_. commas_to units.export_name a as_ may_comma) any_name turns e []))
+      (goes_then (export_of_goes name) (λ e. more_listed_goes export_name_sound (listed_is units.export_name) (λ a as_. commas_to units.export_name a as_ may_comma) is_any_name turns e []))
       (λ found. refl)
-  by Neither = last_sound _ (listed_sound export_name_sound any_name turns) (λ found. refl)
+  by Neither = last_sound _ (listed_sound export_name_sound is_any_name turns) (λ found. refl)
 
 abbrev typed_name_is : Option TypeName × Ident → Takes
 typed_name_is found = optional_is grammar.type_name found.0 ⨾ grammar.ident found.1
@@ -164,23 +165,23 @@ decl_sound fuel = whole_sound (after_sound here_sound (λ token. last_sound _ (d
 -- ---- answers hang on no token beyond the one that is looked at
 
 pub bits_local : Local bits
-bits_local = optional_local begins_bits type_name_local
+bits_local = optional_local is_width type_name_local
 
 pub optional_text_local : Local optional_text
-optional_text_local = optional_local any_text text_local
+optional_text_local = optional_local is_any_text text_local
 
 pub names_local : (turns : ℕ) → Local (names turns)
-names_local turns = listed_local any_name ident_local turns
+names_local turns = listed_local is_any_name ident_local turns
 
 head_local : Local head
 head_local = after_local bits_local by where
   by : (o : Option TypeName) → Local (head_by o)
   by (Some width) = give_local _
-  by None = next_local any_name (after_local ident_local (λ name. next_local begins_name (give_local _) (give_local _))) (give_local _)
+  by None = next_local is_any_name (after_local ident_local (λ name. next_local begins_name (give_local _) (give_local _))) (give_local _)
 
 import_name_local : Local import_name
 import_name_local =
-    after_local (optional_local any_text (after_local text_local (λ t. after_local (keyword_local As) (λ _. give_local _))))
+    after_local (optional_local is_any_text (after_local text_local (λ t. after_local (keyword_local As) (λ _. give_local _))))
     (λ link. after_local ident_local (λ name. give_local _))
 
 export_of_local : (name : Ident) → Local (export_of name)
@@ -199,10 +200,10 @@ import_list_local turns = after_local head_local by where
 export_list_local : (turns : ℕ) → Local (head >>= exports_by turns)
 export_list_local turns = after_local head_local by where
   by : (h : Head) → Local (exports_by turns h)
-  by (TypeFirst width) = after_local (listed_local any_name export_name_local turns) (λ found. give_local _)
+  by (TypeFirst width) = after_local (listed_local is_any_name export_name_local turns) (λ found. give_local _)
   by (NameFirst name) =
-      after_local (after_local (export_of_local name) (λ e. more_listed_local any_name export_name_local turns _)) (λ found. give_local _)
-  by Neither = after_local (listed_local any_name export_name_local turns) (λ found. give_local _)
+      after_local (after_local (export_of_local name) (λ e. more_listed_local is_any_name export_name_local turns _)) (λ found. give_local _)
+  by Neither = after_local (listed_local is_any_name export_name_local turns) (λ found. give_local _)
 
 typed_name_local : Local (head >>= typed_name_by)
 typed_name_local = after_local head_local by where

@@ -23,7 +23,7 @@ use Rattle.cmm_ast.specs.UnitGrammar as units
 use Rattle.cmm_parser.specs.Reading.{Reads}
 use Rattle.cmm_parser.specs.ReadingLaws.{within, Sound, Local}
 use Rattle.cmm_parser.specs.ExpressionReading.{named_type, begins_expression, whole}
-use Rattle.cmm_parser.specs.DeclarationReading.{any_name, any_text, is_other}
+use Rattle.cmm_parser.specs.DeclarationReading.{is_other}
 use Rattle.cmm_parser.specs.UnitReading.{count_in, count_of, count, initial, values_of, named_datum, datum_at, named_item, align_item, item_by, flat_item, in_braces, span, item, section, top_level, any_token, parts}
 use Rattle.cmm_parser.proofs.Sounds.{Goes, whole_sound, after_sound, last_sound, same_sound, give_sound, here_sound}
 use Rattle.cmm_parser.proofs.Locals.{after_local, give_local, stop_local, here_local, next_local, many_local, listed_local}
@@ -34,6 +34,7 @@ use Rattle.cmm_parser.proofs.LocalExpressions.{in_brackets_local, whole_local, w
 use Rattle.cmm_parser.proofs.Repeats.{goes_made, if_symbol_sound, if_next_sound, many_sound, if_symbol_local}
 use Rattle.cmm_parser.proofs.Declarations.{bits_sound, bits_local, decl_sound, decl_local}
 use Rattle.cmm_parser.proofs.Procedures.{procedure_goes, procedure_local}
+use Rattle.cmm_parser.specs.PartReading.{is_any_name, is_any_text}
 
 -- a tree that begins with what was read of it
 begun : {A : Type 0} {reads : Reads A} {is : A → Takes} (n : ℕ) (part : Takes) → Goes (λ k. (here_is n ⨾ part) ⨾ k) reads is →
@@ -67,7 +68,7 @@ count_sound fuel =
 initial_sound : (fuel : ℕ) → Sound (initial fuel) units.initial
 initial_sound fuel =
     whole_sound
-    (if_next_sound any_text (last_sound initials.Text text_sound (λ t. refl))
+    (if_next_sound is_any_text (last_sound initials.Text text_sound (λ t. refl))
     (if_next_sound _
     (last_sound initials.Values (in_brackets_sound OpenBrace CloseBrace (listed_sound (whole_expr_sound fuel) begins_expression fuel)) (λ found. refl))
     (give_sound initials.Zeros refl)))
@@ -127,7 +128,7 @@ module _ {block : Reads Block} (block_sound : Sound block bodies.block) where
   flat_item_sound : (fuel : ℕ) → Sound (flat_item fuel block) units.item
   flat_item_sound fuel =
       whole_sound
-      (if_next_sound any_name (after_sound ident_sound (λ name. named_item_goes fuel name))
+      (if_next_sound is_any_name (after_sound ident_sound (λ name. named_item_goes fuel name))
       (if_next_sound _ (same_sound align_item_sound (λ i. refl)) (after_sound bits_sound by)))
     where
       by : (o : Option TypeName) → Goes (λ k. optional_is grammar.type_name o ⨾ k) (item_by fuel o) units.item
@@ -153,7 +154,7 @@ module _ (block : ℕ → Reads Block) (block_sound : (fuel : ℕ) → Sound (bl
   top_level_sound fuel =
       whole_sound
       (if_next_sound _ (last_sound tops.Section (section_sound fuel) (λ s. refl))
-      (if_next_sound any_name
+      (if_next_sound is_any_name
       (last_sound tops.Proc (whole_sound (after_sound ident_sound (λ name. procedure_goes (block_sound fuel) fuel name))) (λ p. refl))
       (last_sound tops.Decl (decl_sound fuel) (λ d. refl))))
 
@@ -172,7 +173,7 @@ values_local fuel width =
 
     first : Local (initial fuel)
     first =
-        next_local any_text (after_local text_local (λ t. give_local _))
+        next_local is_any_text (after_local text_local (λ t. give_local _))
         (next_local _
         (after_local (in_brackets_local OpenBrace CloseBrace (listed_local begins_expression (whole_local fuel) fuel)) (λ found. give_local _))
         (give_local _))
@@ -190,7 +191,7 @@ in_braces_local turns inner = in_brackets_local OpenBrace CloseBrace (many_local
 
 flat_item_local : {block : Reads Block} → Local block → (fuel : ℕ) → Local (flat_item fuel block)
 flat_item_local block fuel =
-    next_local any_name
+    next_local is_any_name
     (after_local ident_local (λ name.
     next_local _ (after_local (procedure_local block fuel name) (λ p. give_local _)) (after_local (named_datum_local fuel name) (λ form. give_local _))))
     (next_local _ align_item_local (after_local bits_local by))
@@ -219,7 +220,7 @@ module _ (block : ℕ → Reads Block) (block_local : (fuel : ℕ) → Local (bl
   top_level_local : (fuel : ℕ) → Local (top_level fuel block)
   top_level_local fuel =
       next_local _ (after_local (section_local fuel) (λ s. give_local _))
-      (next_local any_name
+      (next_local is_any_name
       (after_local (after_local ident_local (λ name. procedure_local (block_local fuel) fuel name)) (λ p. give_local _))
       (after_local (decl_local fuel) (λ d. give_local _)))
 

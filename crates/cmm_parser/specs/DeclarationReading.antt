@@ -1,8 +1,7 @@
 -- How declarations are read: by the word that they begin with. Where a type may be left out, a name is one if a name or a
 -- text follows it.
-use Rattle.std.specs.Prelude.{ℕ, Bool, true, false, ◌||◌, List, [], ◌∷◌, Option, Some, None, is_some}
+use Rattle.std.specs.Prelude.{ℕ, Bool, true, false, ◌||◌, List, [], ◌∷◌, Option, Some, None}
 use Rattle.cmm_lexer.specs.declared.piece.Lexeme.{Lexeme}
-use Rattle.cmm_lexer.specs.declared.piece.Lexeme.TheVariants as l
 use Rattle.cmm_ast.specs.declared.token.Ident.{Ident}
 use Rattle.cmm_ast.specs.declared.token.Text.{Text}
 use Rattle.cmm_ast.specs.declared.keyword.Keyword.{Keyword}
@@ -23,17 +22,10 @@ use Rattle.cmm_ast.specs.declared.declaration.ByteOrder.TheVariants as orders
 use Rattle.cmm_ast.specs.Numbers.{keyword_number, symbol_number}
 use Rattle.cmm_ast.specs.Taking.{is_keyword, is_symbol}
 use Rattle.cmm_parser.specs.Reading.{Reads, ◌>>=◌, give, if_next, here, skip, keyword, symbol, ident, text, int, optional, many, more_listed, listed}
-use Rattle.cmm_parser.specs.ExpressionReading.{width_in, type_name, named_type, whole}
+use Rattle.cmm_parser.specs.ExpressionReading.{type_name, named_type, whole}
+use Rattle.cmm_parser.specs.PartReading.{is_any_name, is_any_text, is_width}
 
 -- ---- by the next token
-
-abbrev pub any_name : Lexeme → Bool
-any_name (l.Name bytes) = true
-any_name _ = false
-
-abbrev pub any_text : Lexeme → Bool
-any_text (l.Text bytes) = true
-any_text _ = false
 
 -- not the token that ends a row
 abbrev pub is_other : Symbol → Lexeme → Bool
@@ -47,17 +39,13 @@ abbrev pub if_symbol : {A : Type 0} → Symbol → Reads A → Reads A → Reads
 if_symbol sign holds fails = if_next (is_symbol (symbol_number sign)) (skip >>= λ _. holds) fails
 
 abbrev pub optional_text : Reads (Option Text)
-optional_text = optional any_text text
+optional_text = optional is_any_text text
 
 -- ---- types
 
-abbrev pub begins_bits : Lexeme → Bool
-begins_bits (l.Word n) = is_some (width_in n)
-begins_bits _ = false
-
 -- a type that is one of the words for bits, where such a word is next
 abbrev pub bits : Reads (Option TypeName)
-bits = optional begins_bits type_name
+bits = optional is_width type_name
 
 -- what a declaration with a type that may be left out begins with: its type, or its first name where there is none
 pub data Head : Type 0 where
@@ -66,14 +54,14 @@ pub data Head : Type 0 where
   Neither : Head
 
 abbrev pub begins_name : Lexeme → Bool
-begins_name x = any_name x || any_text x
+begins_name x = is_any_name x || is_any_text x
 
 abbrev pub name_head : Reads Head
 name_head = ident >>= λ name. if_next begins_name (give (TypeFirst (named_type name))) (give (NameFirst name))
 
 abbrev pub head_by : Option TypeName → Reads Head
 head_by (Some width) = give (TypeFirst width)
-head_by None = if_next any_name name_head (give Neither)
+head_by None = if_next is_any_name name_head (give Neither)
 
 abbrev pub head : Reads Head
 head = bits >>= head_by
@@ -81,14 +69,14 @@ head = bits >>= head_by
 -- ---- what declarations list
 
 abbrev pub names : ℕ → Reads (List Ident)
-names turns = listed turns any_name ident
+names turns = listed turns is_any_name ident
 
 -- the name under which another unit exports it, before `as`
 abbrev pub text_as : Reads Text
 text_as = text >>= λ t. keyword As >>= λ _. give t
 
 abbrev pub import_name : Reads Import
-import_name = optional any_text text_as >>= λ link. ident >>= λ name. give record { link = link; name = name }
+import_name = optional is_any_text text_as >>= λ link. ident >>= λ name. give record { link = link; name = name }
 
 abbrev pub import_of : Ident → Import
 import_of name = record { link = None; name = name }
@@ -111,10 +99,10 @@ imports_by turns (NameFirst name) = more_listed turns begins_name import_name (i
 imports_by turns Neither = listed turns begins_name import_name >>= λ imports. give (None, imports)
 
 abbrev pub exports_by : ℕ → Head → Reads (Option TypeName × List Export)
-exports_by turns (TypeFirst width) = listed turns any_name export_name >>= λ exports. give (Some width, exports)
+exports_by turns (TypeFirst width) = listed turns is_any_name export_name >>= λ exports. give (Some width, exports)
 exports_by turns (NameFirst name) =
-    (export_of name >>= λ e. more_listed turns any_name export_name (e ∷ [])) >>= λ exports. give (None, exports)
-exports_by turns Neither = listed turns any_name export_name >>= λ exports. give (None, exports)
+    (export_of name >>= λ e. more_listed turns is_any_name export_name (e ∷ [])) >>= λ exports. give (None, exports)
+exports_by turns Neither = listed turns is_any_name export_name >>= λ exports. give (None, exports)
 
 abbrev pub typed_name_by : Head → Reads (Option TypeName × Ident)
 typed_name_by (TypeFirst width) = ident >>= λ name. give (Some width, name)

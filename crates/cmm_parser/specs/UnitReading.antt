@@ -22,8 +22,9 @@ use Rattle.cmm_ast.specs.Numbers.{keyword_number, symbol_number}
 use Rattle.cmm_ast.specs.Taking.{is_keyword, is_symbol}
 use Rattle.cmm_parser.specs.Reading.{Reads, ◌>>=◌, give, stop, if_next, here, keyword, symbol, ident, text, int, many, listed, square, braces}
 use Rattle.cmm_parser.specs.ExpressionReading.{named_type, begins_expression, whole, whole_prim}
-use Rattle.cmm_parser.specs.DeclarationReading.{any_name, any_text, is_other, if_symbol, bits, decl}
+use Rattle.cmm_parser.specs.DeclarationReading.{is_other, if_symbol, bits, decl}
 use Rattle.cmm_parser.specs.ProcedureReading.{procedure}
+use Rattle.cmm_parser.specs.PartReading.{is_any_name, is_any_text}
 
 -- ---- data
 
@@ -43,7 +44,7 @@ values fuel = braces (listed fuel begins_expression (whole fuel)) >>= λ found. 
 
 abbrev pub initial : ℕ → Reads Initial
 initial fuel =
-    if_next any_text (text >>= λ t. give (initials.Text t))
+    if_next is_any_text (text >>= λ t. give (initials.Text t))
     (if_next (is_symbol (symbol_number OpenBrace)) (values fuel) (give initials.Zeros))
 
 -- data after its type
@@ -75,7 +76,7 @@ item_by fuel None = decl fuel >>= λ d. give (items.Decl d)
 -- an item that holds no other
 abbrev pub flat_item : ℕ → Reads Block → Reads Item
 flat_item fuel block =
-    if_next any_name (ident >>= λ name. named_item fuel block name)
+    if_next is_any_name (ident >>= λ name. named_item fuel block name)
     (if_next (is_keyword (keyword_number Align)) align_item (bits >>= λ width. item_by fuel width))
 
 -- items in their braces
@@ -104,7 +105,7 @@ section fuel block =
 abbrev pub top_level : ℕ → (ℕ → Reads Block) → Reads TopLevel
 top_level fuel block =
     if_next (is_keyword (keyword_number SectionWord)) (section fuel block >>= λ s. give (tops.Section s))
-    (if_next any_name ((ident >>= λ name. procedure fuel (block fuel) name) >>= λ p. give (tops.Proc p))
+    (if_next is_any_name ((ident >>= λ name. procedure fuel (block fuel) name) >>= λ p. give (tops.Proc p))
     (decl fuel >>= λ d. give (tops.Decl d)))
 
 abbrev pub any_token : Lexeme → Bool
