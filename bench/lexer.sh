@@ -4,16 +4,9 @@
 # Usage: bench/lexer.sh [FOLDER]. The folder, a temporary one by default, gets a copy of the crates that the lexer stands on and a
 # program that lexes units of 1 MiB: names, different names, symbols, numbers, one text, one comment. Nothing of it belongs to the repository.
 set -eu
-here=$(cd "$(dirname "$0")/.." && pwd)
+. "$(dirname "$0")/copy_crates.sh"
 work=${1:-$(mktemp -d)}
-mkdir -p "$work/crates"
-for crate in cmm_items cmm_lexer; do
-    rm -rf "$work/crates/$crate"
-    mkdir "$work/crates/$crate"
-    for part in src specs proofs; do
-        if [ -d "$here/crates/$crate/$part" ]; then cp -r "$here/crates/$crate/$part" "$work/crates/$crate/"; fi
-    done
-done
+copy_crates "$work" cmm_items cmm_lexer
 mkdir -p "$work/crates/lexer_speed/src"
 printf 'Handles allowed: none.\n' >"$work/HANDLES"
 printf 'cmm_items:\ncmm_lexer: cmm_items indexmap thiserror\nlexer_speed: cmm_lexer cmm_items\n' >"$work/crates.txt"

@@ -5,16 +5,9 @@
 # program that runs two loops, and decodes alone. Where QEMU or the assembler is missing, its figures are left out.
 # Nothing of it belongs to the repository.
 set -eu
-here=$(cd "$(dirname "$0")/.." && pwd)
+. "$(dirname "$0")/copy_crates.sh"
 work=${1:-$(mktemp -d)}
-mkdir -p "$work/crates"
-for crate in rv_table rv_code rv_memory rv_sim; do
-    rm -rf "$work/crates/$crate"
-    mkdir "$work/crates/$crate"
-    for part in src specs proofs; do
-        if [ -d "$here/crates/$crate/$part" ]; then cp -r "$here/crates/$crate/$part" "$work/crates/$crate/"; fi
-    done
-done
+copy_crates "$work" rv_table rv_code rv_memory rv_sim
 mkdir -p "$work/crates/sim_speed/src"
 printf 'Handles allowed: none.\n' >"$work/HANDLES"
 printf 'rv_table:\nrv_code: rv_table\nrv_memory: rv_table byteorder\nrv_sim: rv_table rv_code rv_memory\n' >"$work/crates.txt"
