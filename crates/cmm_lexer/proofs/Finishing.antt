@@ -53,6 +53,7 @@ finished unit place ts r h s =
       tokens = sym (append-nil _) ∙ (rw none at r.tokens);
       numbered = r.numbered;
       distinct = AllPairs-from_IsDistinct (λ xs ys. slice_eq-Decides Decides-eqb xs ys (pointwise nat_eq xs ys) refl) ts.spellings.keys r.distinct;
+      few = rw (← all) r.counted;
       line = rw (← all) r.line;
       column = rw (← all) r.column;
     }

@@ -1,5 +1,6 @@
 -- Numbers of spellings, as more spellings come.
-use Rattle.std.proofs.Common.{◌≡◌, ℕ, ◌<◌, ◌≤◌, Bool, true, false, ◌&&◌, nat_eq, nat_lt, List, [], ◌∷◌, ◌++◌, length, get_or, map, Some, refl, ap, sym, ◌∙◌, arith, length-append}
+use Rattle.std.proofs.Common.{◌≡◌, ℕ, ◌<◌, ◌≤◌, Bool, true, false, ◌&&◌, nat_eq, nat_lt, List, [], ◌∷◌, ◌++◌, length, get_or, map, Some, refl, ap, sym, ◌∙◌, ◌+◌, arith, length-append}
+use Rattle.std.proofs.Math.ListN.{length-map}
 use Rattle.std.proofs.lemmas.Bool.Decides.{nat_tests}
 use Rattle.std.proofs.lemmas.Grind.{common_steps}
 use Rattle.std.proofs.lemmas.Option.{get_or_from_slice_get}
@@ -10,7 +11,9 @@ use Rattle.cmm_lexer.specs.declared.token.TokenKind.{TokenKind}
 use Rattle.cmm_lexer.specs.declared.token.TokenKind.TheVariants.{Name, Int, Char, Text, Op, Checked, Word, Symbol}
 use Rattle.cmm_lexer.specs.declared.piece.Lexeme.TheVariants as lexeme
 use Rattle.cmm_lexer.specs.declared.piece.Lexeme.{Lexeme}
-use Rattle.cmm_lexer.specs.Lexing.{spelled, lexeme_of, is_numbered, are_numbered}
+use Rattle.cmm_lexer.specs.declared.piece.Part.{Part}
+use Rattle.cmm_lexer.specs.declared.piece.Part.TheVariants.{Skipped, Lexed, Broken}
+use Rattle.cmm_lexer.specs.Lexing.{spelled, lexeme_of, is_numbered, are_numbered, token_in}
 
 -- a spelling that is found is the one that was sought
 pub found-same : (names : List (List ℕ)) (i : ℕ) (s : List ℕ) → ((k : List ℕ) × (slice_get names i ≡ Some k) × (pointwise nat_eq s k ≡ true)) → get_or names i [] ≡ s
@@ -71,3 +74,15 @@ pub are_numbered-pushed : (names later : List (List ℕ)) (ts us : List Token) (
 are_numbered-pushed names later ts us t (more, few, grown) e h n =
     let l : length names ≤ length later = omega (arith, ap length grown, length-append names more) in
     rw e (are_numbered-push (length names) (length later) l ts t h n)
+
+-- a part of a text is one token at most
+token_in-few : (part : Part) (start past line column : ℕ) → length (token_in part start past line column) ≤ 1
+token_in-few Skipped start past line column = omega arith
+token_in-few (Lexed x) start past line column = omega arith
+token_in-few (Broken r) start past line column = omega arith
+
+pub counted-taken : (keys more : List (List ℕ)) (old new : List Token) (part : Part) (start past line column : ℕ) →
+    map (spelled more) new ≡ map (spelled keys) old ++ token_in part start past line column → length new ≤ length old + 1
+counted-taken keys more old new part start past line column e =
+    let few = token_in-few part start past line column in
+    omega (arith, simp (length-append, length-map) at (ap length e))

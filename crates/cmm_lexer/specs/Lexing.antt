@@ -1,5 +1,5 @@
 -- The tokens of a unit, with their places and spellings, and its first fault (C-- Language Specification 2.0, lexical form).
-use Rattle.std.specs.Prelude.{◌≡◌, ◌≢◌, ℕ, Bool, true, ◌+◌, nat_lt, if◌then◌else◌, List, [], ◌∷◌, length, map, slice_get, slice_index_or, Option, Some, None}
+use Rattle.std.specs.Prelude.{◌≡◌, ◌≤◌, ◌≢◌, ℕ, Bool, true, ◌+◌, nat_lt, if◌then◌else◌, List, [], ◌∷◌, length, map, slice_get, slice_index_or, Option, Some, None}
 use Rattle.std.specs.List.{AllPairs, flat_map, list_all}
 use Rattle.cmm_lexer.specs.declared.piece.Lexeme.{Lexeme}
 use Rattle.cmm_lexer.specs.declared.piece.Lexeme.TheVariants as lexeme
@@ -104,5 +104,7 @@ pub record Lexes (unit : List ℕ) (ts : Tokens) : Type 0 where
   pub tokens : map (spelled ts.spellings.keys) ts.list ≡ tokens_of unit
   pub numbered : are_numbered (length ts.spellings.keys) ts.list ≡ true
   pub distinct : AllPairs (λ xs ys. xs ≢ ys) ts.spellings.keys
+  -- there are no more tokens than bytes
+  pub few : length ts.list ≤ length unit
   pub line : ts.line ≡ line_at unit (length unit)
   pub column : ts.column ≡ column_at unit (length unit)

@@ -19,5 +19,6 @@ pub record Reached (unit : List ℕ) (place : ℕ) (ts : Tokens) : Type 0 where
   pub numbered : are_numbered (length ts.spellings.keys) ts.list ≡ true
   pub distinct : IsDistinct (pointwise nat_eq) ts.spellings.keys
   pub few : length ts.spellings.keys ≤ place
+  pub counted : length ts.list ≤ place
   pub line : ts.line ≡ line_at unit place
   pub column : ts.column ≡ column_at unit place

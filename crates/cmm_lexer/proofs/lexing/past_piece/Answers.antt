@@ -4,6 +4,7 @@ use Rattle.cmm_lexer.specs.Pieces.{piece_at}
 use Rattle.cmm_lexer.specs.Lexing.{token_of, fault_of, IsFirstFault}
 use Rattle.cmm_lexer.proofs.Placing.{line_at-add, column_at-add, column_at-le}
 use Rattle.cmm_lexer.proofs.Splitting.{pieces_at-step, given-step, nothing-step}
+use Rattle.cmm_lexer.proofs.Numbered.{counted-taken}
 use Rattle.cmm_lexer.proofs.Finishing.{blamed, err-passed}
 use Rattle.cmm_lexer.proofs.lexing.past_piece.Goals as goal
 
@@ -28,6 +29,9 @@ returns-clause-reached c =
       numbered = rw (c.pass.ensures.list, c.pass.ensures.spellings) c.in_ok-take.ensures.numbered;
       distinct = rw c.pass.ensures.spellings c.in_ok-take.ensures.distinct;
       few = rw c.pass.ensures.spellings (omega (arith, c.in_ok-take.ensures.few, c.requires.reached.few, c.in_ok-piece.ensures.within));
+      counted =
+          rw c.pass.ensures.list
+          (omega (arith, counted-taken _ _ _ _ _ _ _ _ _ c.in_ok-take.ensures.list, c.requires.reached.counted, c.in_ok-piece.ensures.within));
       line = rw (line_at-add, ← c.split_at.ensures.back, ← c.split_at-2.ensures.front, ← c.requires.reached.line, ← c.in_ok-take.ensures.place.0) c.pass.ensures.line;
       column = rw (column_at-add, ← c.split_at.ensures.back, ← c.split_at-2.ensures.front, ← c.requires.reached.column, ← c.in_ok-take.ensures.place.1) c.pass.ensures.column;
     }
