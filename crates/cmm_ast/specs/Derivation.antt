@@ -1,5 +1,5 @@
 -- Which tokens a unit derives, and what the limits on nesting say of them (C-- Language Specification 2.0, syntax).
-use Rattle.std.specs.Prelude.{◌≡◌, ℕ, suc, List, [], ◌++◌, take, Some, None}
+use Rattle.std.specs.Prelude.{◌≡◌, ℕ, suc, ◌<◌, ◌≤◌, List, [], ◌++◌, length, take, Some, None}
 use Rattle.cmm_lexer.specs.declared.piece.Lexeme.{Lexeme}
 use Rattle.cmm_ast.specs.declared.unit.Unit.{Unit as UnitTree}
 use Rattle.cmm_ast.specs.Taking.{Reading}
@@ -24,9 +24,19 @@ pub record DerivesWithin (tokens : List Lexeme) (u : UnitTree) : Type 0 where
 abbrev pub Begins : List Lexeme → Type 0
 Begins tokens = (u : UnitTree) × (more : List Lexeme) × Derives (tokens ++ more) u
 
--- some unit begins with the tokens up to and including one, which is the first to pass a limit
+-- some unit begins with the tokens up to and including one of these, which is the first to pass a limit
 pub record IsTooDeep (tokens : List Lexeme) (token : ℕ) : Type 0 where
+  pub inside : token < length tokens
   pub tree : UnitTree
   pub more : List Lexeme
   pub derives : Derives (take (suc token) tokens ++ more) tree
   pub over : derives.after.over ≡ Some token
+
+-- some unit begins with the tokens before this one, and none with those up to and including it; past the last, the tokens are no whole
+-- unit; and none of them passes a limit
+pub record IsUnexpected (tokens : List Lexeme) (token : ℕ) : Type 0 where
+  pub inside : token ≤ length tokens
+  pub begins : Begins (take token tokens)
+  pub refused : token < length tokens → Begins (take (suc token) tokens) → ⊥
+  pub past : token ≡ length tokens → (u : UnitTree) → Derives tokens u → ⊥
+  pub shallow : (other : ℕ) → IsTooDeep tokens other → ⊥

@@ -22,7 +22,7 @@ use Rattle.cmm_ast.specs.declared.expression.Prefix.TheVariants.{Negate, Complem
 use Rattle.cmm_ast.specs.declared.expression.Expr.{Expr}
 use Rattle.cmm_ast.specs.declared.expression.ExprForm.{ExprForm, Row_of-Expr, end_of-Expr, more_of-Expr}
 use Rattle.cmm_ast.specs.declared.expression.ExprForm.TheVariants.{Infix', Prefix', Prim, Memory as InMemory, Named'}
-use Rattle.cmm_ast.specs.declared.expression.Prim.{Prim as PrimExpr}
+use Rattle.cmm_ast.specs.declared.expression.Primary.{Primary}
 use Rattle.cmm_ast.specs.declared.expression.PrimForm.{PrimForm}
 use Rattle.cmm_ast.specs.declared.expression.PrimForm.TheVariants.{Literal, Name as NameOf, Bracketed'}
 use Rattle.cmm_ast.specs.declared.expression.Memory.{Memory, Memory'}
@@ -152,14 +152,14 @@ abbrev mutual
 abbrev pub expr : Expr → Takes
 expr e = here e.token ⨾ expr_form e.form
 
-abbrev pub prim : PrimExpr → Takes
+abbrev pub prim : Primary → Takes
 prim p = here p.token ⨾ prim_form p.form
 
 -- an expression that stands in no other
 abbrev pub whole : Expr → Takes
 whole e = outermost (expr e)
 
-abbrev pub whole_prim : PrimExpr → Takes
+abbrev pub whole_prim : Primary → Takes
 whole_prim p = outermost (prim p)
 
 abbrev pub whole_memory : Memory → Takes

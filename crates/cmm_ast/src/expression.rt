@@ -91,7 +91,7 @@ pub enum ExprForm {
 
 /// A primary expression.
 #[derive(Debug, Drop)]
-pub struct Prim {
+pub struct Primary {
     pub token: u32,
     pub form: PrimForm,
 }

@@ -11,7 +11,7 @@ mod unit;
 
 pub use declaration::{ByteOrder, Decl, DeclForm, Export, Import, Property, PropertyForm};
 pub use expression::{
-    Expr, ExprForm, Infix, Memory, Number, Prefix, Prim, PrimForm, TypeForm, TypeName,
+    Expr, ExprForm, Infix, Memory, Number, Prefix, PrimForm, Primary, TypeForm, TypeName,
 };
 pub use keyword::{Keyword, Symbol};
 pub use procedure::{Formal, Local, LocalForm, Modifiers, Proc, Room, RoomForm};

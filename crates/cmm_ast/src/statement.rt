@@ -1,7 +1,7 @@
 //! Statements (C-- Language Specification 2.0, statements and call-site annotations). The token of a node is the number of
 //! its first token in the unit, from 0.
 
-use crate::expression::{Expr, Memory, Prim};
+use crate::expression::{Expr, Memory, Primary};
 use crate::procedure::Local;
 use crate::token::{Ident, Text};
 use cmm_items::{Boxed, Items};
@@ -49,7 +49,7 @@ pub enum StmtForm {
     },
     /// `span t v { .. }`
     Span {
-        key: Prim,
+        key: Primary,
         value: Expr,
         body: Block,
     },
@@ -180,8 +180,8 @@ pub enum CalleeForm {
 pub struct Exit {
     /// The number of the token `<`.
     pub token: u32,
-    pub index: Prim,
-    pub count: Prim,
+    pub index: Primary,
+    pub count: Primary,
 }
 
 /// An annotation of a call site or of a cut.

@@ -2,7 +2,7 @@
 //! a node is the number of its first token in the unit, from 0.
 
 use crate::declaration::Decl;
-use crate::expression::{Expr, Prim, TypeName};
+use crate::expression::{Expr, Primary, TypeName};
 use crate::procedure::Proc;
 use crate::token::{Ident, Int, Text};
 use cmm_items::Items;
@@ -49,7 +49,7 @@ pub enum Item {
     /// `span t v { .. }`
     Span {
         token: u32,
-        key: Prim,
+        key: Primary,
         value: Expr,
         items: Items<Item>,
     },

@@ -1,0 +1,525 @@
+-- Each statement that holds blocks, and each block, is read.
+use Rattle.std.proofs.Common.{◌≡◌, ℕ, zero, suc, ◌≤◌, ◌⊎◌, inl, inr, List, [], ◌∷◌, Option, Some, None, refl, sym, ap, ◌∙◌, arith, subst, le_refl}
+use denote.Hole.Carrier as Carrier
+use Rattle.cmm_lexer.specs.declared.piece.Lexeme.{Lexeme}
+use Rattle.cmm_lexer.specs.declared.piece.Lexeme.TheVariants as l
+use Rattle.cmm_ast.specs.declared.token.Ident.{Ident}
+use Rattle.cmm_ast.specs.declared.token.Text.{Text}
+use Rattle.cmm_ast.specs.declared.keyword.Keyword.{Keyword}
+use Rattle.cmm_ast.specs.declared.keyword.Keyword.TheVariants.{Continuation, Cut, Else, Foreign, Goto, If, Jump, Return, Span, Stackdata, Switch, To}
+use Rattle.cmm_ast.specs.declared.keyword.Symbol.{Symbol}
+use Rattle.cmm_ast.specs.declared.keyword.Symbol.TheVariants.{Assign, Colon, Comma, OpenBrace, CloseBrace, OpenSquare, Open, Close, Semicolon}
+use Rattle.cmm_ast.specs.declared.expression.Expr.{Expr}
+use Rattle.cmm_ast.specs.declared.expression.Primary.{Primary}
+use Rattle.cmm_ast.specs.declared.procedure.LocalForm.{LocalForm}
+use Rattle.cmm_ast.specs.declared.procedure.LocalForm.TheVariants as locals
+use Rattle.cmm_ast.specs.declared.statement.Actual.{Actual}
+use Rattle.cmm_ast.specs.declared.statement.Arm.{Arm}
+use Rattle.cmm_ast.specs.declared.statement.Block.{Block, Row_of-Part, end_of-Part, more_of-Part, items-the_row-Part, items_shown-the_row-Part-0}
+use Rattle.cmm_ast.specs.declared.statement.Flow.{Flow}
+use Rattle.cmm_ast.specs.declared.statement.Kinded.{Kinded}
+use Rattle.cmm_ast.specs.declared.statement.Otherwise.{Otherwise, end_of-Stmt, more_of-Stmt, roll-Otherwise, out-Otherwise, roll-out-Otherwise}
+use Rattle.cmm_ast.specs.declared.statement.Otherwise.TheVariants as otherwises
+use Rattle.cmm_ast.specs.declared.statement.Otherwise.TheVariants.{Else', ElseIf'}
+use Rattle.cmm_ast.specs.declared.statement.Part.{Part}
+use Rattle.cmm_ast.specs.declared.statement.Part.TheVariants as parts
+use Rattle.cmm_ast.specs.declared.statement.Part.TheVariants.{Stmt'}
+use Rattle.cmm_ast.specs.declared.statement.Span.{Span as SwitchSpan}
+use Rattle.cmm_ast.specs.declared.statement.Stmt.{Stmt}
+use Rattle.cmm_ast.specs.declared.statement.StmtForm.{StmtForm, Row_of-Arm, end_of-Arm, more_of-Arm, items-the_row-Arm, items_shown-the_row-Arm-2, roll-StmtForm, out-StmtForm, roll-out-StmtForm}
+use Rattle.cmm_ast.specs.declared.statement.StmtForm.TheVariants as stmts
+use Rattle.cmm_ast.specs.declared.statement.StmtForm.TheVariants.{If', Switch', Span'}
+use Rattle.cmm_ast.specs.Numbers.{keyword_number, symbol_number}
+use Rattle.cmm_ast.specs.Taking.{Reading, Takes, ◌⨾◌, nothing, is_keyword, is_symbol, keyword as keyword_is, symbol as symbol_is, here as here_is, opening as opening_is, enclosed as enclosed_is, in_brackets as in_brackets_is, braces as braces_is, optional as optional_is, commas as commas_is, listed as listed_is, many as many_is, may_list as may_list_is, is_checked}
+use Rattle.cmm_ast.specs.ExpressionGrammar as grammar
+use Rattle.cmm_ast.specs.StatementGrammar as bodies
+use Rattle.cmm_readers.specs.Reading.{Reads, ◌>>=◌, give, stop, if_next, here, skip, skip_opening}
+use Rattle.cmm_readers.specs.ReadingLaws.{Moves, Complete}
+use Rattle.cmm_readers.specs.StatementReading.{PartForm, OfLocal, OfStmt, flat_part, if_form, chained, otherwise, is_within, arm, switch_form, span_form, part_of, part_form, part, block}
+use Rattle.cmm_readers.proofs.Completes.{Next, Anything, Strict, moves_trans, both, follow_complete, less_complete, after_complete, fewer_complete, give_complete, last_complete, holds_complete, fails_complete, skip_complete, opening_complete, here_complete, enclosed_complete, token_strict, never_complete}
+use Rattle.cmm_readers.proofs.Tokens.{only_keyword, only_symbol, only_checked, symbol_complete, keyword_complete, ident_complete, text_complete}
+use Rattle.cmm_readers.proofs.Lists.{takes_assoc, zero_complete, Each, each_of}
+use Rattle.cmm_readers.proofs.Rows.{many_to-nothing}
+use Rattle.cmm_readers.proofs.CompleteExpressions.{Begins, in_brackets_complete, whole_complete, ends_before}
+use Rattle.cmm_readers.proofs.CompleteParts.{kinded_complete, arguments_complete, lvalue_complete, callee_complete, whole_prim_complete, exit_complete}
+use Rattle.cmm_readers.proofs.CompleteFlows.{may_comma_complete, annotations_complete}
+use Rattle.cmm_readers.proofs.CompleteProcedures.{modifiers_complete, variables_complete, ident_strict, type_strict, stackdata_complete}
+use Rattle.cmm_readers.proofs.CompleteUnits.{begins_no_more}
+use Rattle.cmm_readers.proofs.CompleteCalls.{switch_span_complete}
+use Rattle.cmm_readers.proofs.CompleteCases.{arm_spends}
+use Rattle.cmm_readers.proofs.CompleteRepeats.{Passes, Not, Spends, strict_second, here_strict, follow_spends, not_next_spends, if_next_spends, Rows, many_complete, strict_then, optional_complete, other_symbol}
+use Rattle.cmm_readers.proofs.CompleteFlatParts.{FlatStart, HoldsNoBlock, local_complete, stmt_complete}
+use Rattle.cmm_readers.proofs.StatementForms.{opened, form_of_if, chained_if, form_of_span, form_of_else, form_of_else_if, form_is, part_is, block_is, arm_, form_of_switch}
+use Rattle.cmm_readers.specs.ExpressionReading.{begins_expression}
+
+-- ---- what a part begins with
+
+abbrev pub NotElse : Option Lexeme → Type 0
+NotElse = Not (is_keyword (keyword_number Else))
+
+-- a part of a block begins with no brace that ends the block, and with no `else`
+abbrev pub PartStart : Option Lexeme → Type 0
+PartStart x = Passes is_within x × NotElse x
+
+-- ---- what holds no block takes a token or more
+
+-- leaves no more tokens, and a token over a limit the first
+record Forward (takes : Takes) : Type 0 where
+  moves : (r after : Reading) → takes r ≡ Some after → Moves r after
+
+of_complete : {A : Type 0} {fuel : ℕ} {p : Takes} {a : A} {reads : Reads A} {first follow : Option Lexeme → Type 0} →
+    Complete fuel p a reads first follow → Forward p
+of_complete one = record { moves = one.moves }
+
+then_forward : {p q : Takes} → Forward p → Forward q → Forward (p ⨾ q)
+then_forward {p} {q} one two = record {
+  moves = λ r after e. let s = both p q r after e in moves_trans (one.moves r s.between s.first) (two.moves s.between after s.second);
+}
+
+nothing_forward : Forward nothing
+nothing_forward = of_complete (give_complete {A = Unit {0}} {fuel = 0} {follow = Anything} tt)
+
+symbol_forward : (s : Symbol) → Forward (symbol_is s)
+symbol_forward s = of_complete (symbol_complete {fuel = 0} s)
+
+keyword_forward : (k : Keyword) → Forward (keyword_is k)
+keyword_forward k = of_complete (keyword_complete {fuel = 0} k)
+
+optional_forward : {A : Type 0} (p : A → Takes) → ((a : A) → Forward (p a)) → (o : Option A) → Forward (optional_is p o)
+optional_forward p each (Some a) = each a
+optional_forward p each None = nothing_forward
+
+commas_forward : {A : Type 0} (p : A → Takes) → ((a : A) → Forward (p a)) → (as_ : List A) → Forward (commas_is p as_)
+commas_forward p each [] = record { moves = λ r after e. absurd cc }
+commas_forward p each (a ∷ []) = each a
+commas_forward p each (a ∷ b ∷ rest) = then_forward (each a) (then_forward (symbol_forward Comma) (commas_forward p each (b ∷ rest)))
+
+listed_forward : {A : Type 0} (p : A → Takes) → ((a : A) → Forward (p a)) → (as_ : List A) → Forward (listed_is p as_)
+listed_forward p each as_ = then_forward (commas_forward p each as_) (of_complete (may_comma_complete {fuel = 0} {follow = Anything}))
+
+may_list_forward : {A : Type 0} (p : A → Takes) → ((a : A) → Forward (p a)) → (as_ : List A) → Forward (may_list_is p as_)
+may_list_forward p each [] = nothing_forward
+may_list_forward p each (a ∷ as_) = listed_forward p each (a ∷ as_)
+
+brackets_forward : (left : Symbol) (p : Takes) (right : Symbol) → Forward p → Forward (in_brackets_is left p right)
+brackets_forward left p right inner = of_complete (in_brackets_complete left right (λ x e. tt) no_tokens) where
+  no_tokens : Complete {A = Unit {0}} 0 p tt stop Anything Anything
+  no_tokens = record {
+    moves = inner.moves;
+    begins = λ r after e f. tt;
+    complete = λ limited r after e f less fits. absurd (omega arith);
+  }
+
+results_forward : (to : List Kinded) → Forward (bodies.results to)
+results_forward [] = nothing_forward
+results_forward (k ∷ ks) =
+    then_forward (commas_forward bodies.kinded (λ k. of_complete (kinded_complete {fuel = 0} k)) (k ∷ ks)) (symbol_forward Assign)
+
+whole_forward : (e : Expr) → Forward (grammar.whole e)
+whole_forward e = of_complete (whole_complete 0 e)
+
+checked_forward : (op : Ident) → Forward (bodies.checked op)
+checked_forward op =
+    then_forward (of_complete (here_complete {fuel = 0} {follow = Anything} op.token))
+    (of_complete (skip_complete {fuel = 0} (is_checked op.name) (only_checked op.name)))
+
+convention_forward : (by : Option Text) → Forward (optional_is (λ t. keyword_is Foreign ⨾ grammar.text t) by)
+convention_forward by =
+    optional_forward (λ t. keyword_is Foreign ⨾ grammar.text t) (λ t. then_forward (keyword_forward Foreign) (of_complete (text_complete {fuel = 0} t))) by
+
+-- up to a symbol that ends it
+before_symbol : {p : Takes} (s : Symbol) → Forward p → Strict (p ⨾ symbol_is s)
+before_symbol s one = strict_second one.moves (token_strict (only_symbol (symbol_number s)))
+
+after_word : {p : Takes} (k : Keyword) → Forward p → Strict (keyword_is k ⨾ p)
+after_word k one = strict_then (token_strict (only_keyword (keyword_number k))) one.moves
+
+call_forward : (actuals : List Actual) (fs : List Flow) → Forward (bodies.arguments actuals ⨾ bodies.annotated fs ⨾ symbol_is Semicolon)
+call_forward actuals fs =
+    then_forward (of_complete (arguments_complete 0 actuals)) (then_forward (of_complete (annotations_complete 0 fs)) (symbol_forward Semicolon))
+
+call_strict : (actuals : List Actual) (fs : List Flow) → Strict (bodies.arguments actuals ⨾ bodies.annotated fs ⨾ symbol_is Semicolon)
+call_strict actuals fs =
+    strict_second (arguments_complete 0 actuals).moves (before_symbol Semicolon (of_complete (annotations_complete 0 fs)))
+
+stmt_strict : (f : StmtForm) → HoldsNoBlock f → Strict (bodies.stmt_form f)
+stmt_strict stmts.Empty none = token_strict (only_symbol (symbol_number Semicolon))
+stmt_strict (If' condition _ body otherwise) none = absurd none
+stmt_strict (Switch' over value _ arms) none = absurd none
+stmt_strict (Span' key value _ body) none = absurd none
+stmt_strict (stmts.Assign to found) none =
+    strict_second (commas_forward bodies.lvalue (λ v. of_complete (lvalue_complete 0 v)) to).moves
+    (strict_then (token_strict (only_symbol (symbol_number Assign)))
+    (then_forward (listed_forward grammar.whole whole_forward found) (symbol_forward Semicolon)).moves)
+stmt_strict (stmts.Checked result op left right fs) none =
+    strict_then (ident_strict result)
+    (then_forward (symbol_forward Assign)
+    (then_forward (checked_forward op)
+    (then_forward
+    (brackets_forward Open (grammar.whole left ⨾ symbol_is Comma ⨾ grammar.whole right) Close
+    (then_forward (whole_forward left) (then_forward (symbol_forward Comma) (whole_forward right))))
+    (then_forward (of_complete (annotations_complete 0 fs)) (symbol_forward Semicolon))))).moves
+stmt_strict (stmts.Call to by what actuals fs) none =
+    strict_second (results_forward to).moves
+    (strict_second (convention_forward by).moves (strict_second (callee_complete 0 what).moves (call_strict actuals fs)))
+stmt_strict (stmts.Jump what actuals) none =
+    after_word Jump
+    (then_forward (of_complete (callee_complete 0 what)) (then_forward (of_complete (arguments_complete 0 actuals)) (symbol_forward Semicolon)))
+stmt_strict (stmts.Return by found) none =
+    after_word Return
+    (then_forward (optional_forward bodies.exit (λ e. of_complete (exit_complete 0 e)) by)
+    (then_forward (optional_forward bodies.arguments (λ as_. of_complete (arguments_complete 0 as_)) found) (symbol_forward Semicolon)))
+stmt_strict (stmts.Label name) none = strict_then (ident_strict name) (symbol_forward Colon).moves
+stmt_strict (stmts.Continuation name ks) none =
+    after_word Continuation
+    (then_forward (of_complete (ident_complete {fuel = 0} name))
+    (then_forward
+    (brackets_forward Open (may_list_is bodies.kinded ks) Close (may_list_forward bodies.kinded (λ k. of_complete (kinded_complete {fuel = 0} k)) ks))
+    (symbol_forward Colon)))
+stmt_strict (stmts.Goto name) none = after_word Goto (then_forward (of_complete (ident_complete {fuel = 0} name)) (symbol_forward Semicolon))
+stmt_strict (stmts.Cut what actuals fs) none =
+    after_word Cut (then_forward (keyword_forward To) (then_forward (of_complete (callee_complete 0 what)) (call_forward actuals fs)))
+
+local_strict : (f : LocalForm) → Strict (bodies.local_form f)
+local_strict (locals.Variables before width names) =
+    strict_second (modifiers_complete {fuel = 0} width.form before).moves
+    (strict_then (type_strict width) (variables_complete {fuel = 0} before width names).moves)
+local_strict (locals.Stackdata found) = after_word Stackdata (of_complete (stackdata_complete {fuel = 0} found))
+
+-- ---- how each tree is made of its parts
+
+if_is : (c : Expr) (shape : _) (row : _) (o : Otherwise) → stmts.If c (record { parts = items-the_row-Part _ row }) o ≡ If' c shape row o
+unfolding opened roll-StmtForm out-StmtForm Carrier.out
+if_is c shape row o = ap (λ ps. stmts.If c (record { parts = ps }) o) (sym (items_shown-the_row-Part-0 shape row)) ∙ roll-out-StmtForm (If' c shape row o)
+
+switch_is : (over : Option SwitchSpan) (v : Expr) (shape : _) (row : _) → stmts.Switch over v (items-the_row-Arm _ row) ≡ Switch' over v shape row
+unfolding opened roll-StmtForm out-StmtForm Carrier.out
+switch_is over v shape row = ap (λ as_. stmts.Switch over v as_) (sym (items_shown-the_row-Arm-2 shape row)) ∙ roll-out-StmtForm (Switch' over v shape row)
+
+span_is : (key : Primary) (v : Expr) (shape : _) (row : _) → stmts.Span key v (record { parts = items-the_row-Part _ row }) ≡ Span' key v shape row
+unfolding opened roll-StmtForm out-StmtForm Carrier.out
+span_is key v shape row =
+    ap (λ ps. stmts.Span key v (record { parts = ps })) (sym (items_shown-the_row-Part-0 shape row)) ∙ roll-out-StmtForm (Span' key v shape row)
+
+else_is : (shape : _) (row : _) → otherwises.Else (record { parts = items-the_row-Part _ row }) ≡ Else' shape row
+unfolding opened roll-Otherwise out-Otherwise Carrier.out
+else_is shape row = ap (λ ps. otherwises.Else (record { parts = ps })) (sym (items_shown-the_row-Part-0 shape row)) ∙ roll-out-Otherwise (Else' shape row)
+
+else_if_is : (shape : _) (first past : ℕ) (form : StmtForm) →
+    otherwises.ElseIf (record { token = first; past = past; form = form }) ≡ ElseIf' shape (more_of-Stmt first past form end_of-Stmt)
+unfolding opened roll-Otherwise out-Otherwise Carrier.out
+else_if_is shape first past form = refl
+
+stmt_is : (first past : ℕ) (form : StmtForm) → parts.Stmt (record { token = first; past = past; form = form }) ≡ Stmt' first past form
+unfolding opened
+stmt_is first past form = refl
+
+-- ---- blocks, over their parts
+
+abbrev Opened : Option Lexeme → Type 0
+Opened = Next (l.Symbol (symbol_number OpenBrace))
+
+-- how each tree is read, for any count of tokens
+record BlockLaw (b : Block) : Type 0 where
+  complete : (n : ℕ) → Complete n (bodies.block b) b (block n) Opened Anything
+
+record PartLaw (p : Part) : Type 0 where
+  spends : (n : ℕ) → Spends (suc n) (bodies.part_ p) p (part (suc n) (block n)) PartStart NotElse
+
+part_rows : Rows is_within PartStart NotElse (Next (l.Symbol (symbol_number CloseBrace)))
+part_rows = record { starts = λ x f. f.0; ends = λ x e. rw e refl; goes_on = after } where
+  after : (x : Option Lexeme) → PartStart x ⊎ Next (l.Symbol (symbol_number CloseBrace)) x → NotElse x
+  after x (inl f) = f.1
+  after x (inr e) = rw e refl
+
+each_part : (n : ℕ) (ps : List Part) → Each PartLaw ps → Each (λ p. Spends (suc n) (bodies.part_ p) p (part (suc n) (block n)) PartStart NotElse) ps
+each_part n [] laws = tt
+each_part n (p ∷ ps) laws = (laws.0.spends n, each_part n ps laws.1)
+
+block_law : (ps : List Part) → Each PartLaw ps → BlockLaw (record { parts = ps })
+block_law ps laws = record { complete = by } where
+  row : (n : ℕ) → Complete (suc n) (braces_is (many_is bodies.part_ ps)) (record { parts = ps }) (block (suc n)) Opened Anything
+  row n =
+      last_complete (λ ps. record { parts = ps })
+      (less_complete (omega arith)
+      (in_brackets_complete OpenBrace CloseBrace (λ x e. e)
+      (many_complete (part (suc n) (block n)) bodies.part_ part_rows ps (each_part n ps laws))))
+
+  same : bodies.block (record { parts = ps }) ≡ braces_is (many_is bodies.part_ ps)
+  same = block_is ps ∙ ap braces_is (sym (many_to-nothing bodies.part_ ps))
+
+  again : (n : ℕ) → Complete (suc n) (bodies.block (record { parts = ps })) (record { parts = ps }) (block (suc n)) Opened Anything
+  again n = subst (λ t. Complete (suc n) t (record { parts = ps }) (block (suc n)) Opened Anything) (sym same) (row n)
+
+  by : (n : ℕ) → Complete n (bodies.block (record { parts = ps })) (record { parts = ps }) (block n) Opened Anything
+  by zero = zero_complete (again 0)
+  by (suc n) = again n
+
+-- ---- an `if` and what follows its block
+
+record OtherwiseLaw (o : Otherwise) : Type 0 where
+  complete : (n turns : ℕ) → turns ≤ suc n → Complete turns (bodies.otherwise_ o) o (otherwise turns (suc n) (block n)) Anything NotElse
+
+-- how an `if` is read after its first word
+abbrev after_if : ℕ → ℕ → Reads StmtForm
+after_if n turns = if_form (suc n) (block n) (otherwise turns (suc n) (block n))
+
+-- a statement is read after an `else`
+abbrev Chained : StmtForm → Type 0
+Chained f =
+    (first past n turns : ℕ) → turns ≤ n →
+    Complete turns (enclosed_is (here_is first ⨾ bodies.chained f ⨾ here_is past)) (record { token = first; past = past; form = f })
+    (chained (after_if n turns)) (Next (l.Word (keyword_number If))) NotElse
+
+record FormLaw (f : StmtForm) : Type 0 where
+  form : (n : ℕ) → Spends (suc n) (bodies.stmt_form f) (OfStmt f) (part_form (suc n) (block n)) PartStart NotElse
+  chained : Chained f
+
+-- a statement that begins with a word of its own
+word_law : {n : ℕ} {rest : Takes} {form : Reads PartForm} {f : PartForm} {first follow : Option Lexeme → Type 0} (word : Keyword) →
+    Complete n rest f form first follow →
+    Spends (suc n) (keyword_is word ⨾ rest) f (skip >>= λ _. form) (Next (l.Word (keyword_number word))) follow
+word_law {f = f} word rest = record {
+  complete = fewer_complete {b = λ _. f} (token_strict (only_keyword _)) (skip_complete (is_keyword (keyword_number word)) (only_keyword _)) (λ x f. tt)
+      (λ _. rest);
+  strict = strict_then (token_strict (only_keyword _)) rest.moves;
+}
+
+if_complete : {fuel n : ℕ} {blocks : Reads Block} {others : Reads Otherwise} (c : Expr) (b : Block) (o : Otherwise) → fuel ≤ n →
+    Complete fuel (bodies.block b) b blocks Opened Anything → Complete fuel (bodies.otherwise_ o) o others Anything NotElse →
+    Complete fuel (grammar.whole c ⨾ bodies.block b ⨾ bodies.otherwise_ o) (stmts.If c b o) (if_form n blocks others) Begins NotElse
+if_complete {n = n} c b o le body rest =
+    after_complete {b = λ c. stmts.If c b o} (less_complete le (whole_complete n c)) (ends_before OpenBrace refl refl) (λ c.
+    after_complete {b = λ b. stmts.If c b o} body (λ x f. tt) (λ b. last_complete (λ o. stmts.If c b o) rest))
+
+-- the number of its first token, and that after its last
+chained_complete : {fuel : ℕ} (form : Reads StmtForm) (first past : ℕ) (f : StmtForm) →
+    ((n : ℕ) → Complete {A = Stmt} fuel (bodies.chained f ⨾ here_is past) (record { token = n; past = past; form = f })
+    (if_next (is_keyword (keyword_number If)) skip_opening stop >>= λ _. form >>= λ form. here >>= λ past.
+    give record { token = n; past = past; form = form }) (Next (l.Word (keyword_number If))) NotElse) →
+    Complete fuel (enclosed_is (here_is first ⨾ bodies.chained f ⨾ here_is past)) (record { token = first; past = past; form = f })
+    (chained form) (Next (l.Word (keyword_number If))) NotElse
+chained_complete form first past f each =
+    enclosed_complete (after_complete {b = λ n. record { token = n; past = past; form = f }} (here_complete first) (λ x f. f) each)
+
+-- no other statement follows an `else`
+never_chained : (f : StmtForm) → ((r : Reading) → bodies.chained f r ≡ None) → Chained f
+never_chained f never first past n turns le =
+    chained_complete _ first past f (λ m.
+    never_complete (λ r after e. let s = both (bodies.chained f) (here_is past) r after e in no (bodies.chained f r) s.between (never r) s.first))
+  where
+    no : (o : Option Reading) (between : Reading) → o ≡ None → o ≡ Some between → ⊥
+    no o between e f = absurd cc
+
+if_law : (c : Expr) (b : Block) (o : Otherwise) → BlockLaw b → OtherwiseLaw o → FormLaw (stmts.If c b o)
+if_law c b o body rest = record { form = form; chained = chain } where
+  takes : Takes
+  takes = grammar.whole c ⨾ bodies.block b ⨾ bodies.otherwise_ o
+
+  inner : (n turns : ℕ) → turns ≤ n → Complete turns takes (stmts.If c b o) (after_if n turns) Begins NotElse
+  inner n turns le =
+      let le' : turns ≤ suc n = omega arith in
+      if_complete c b o le' (less_complete le (body.complete n)) (rest.complete n turns le')
+
+  outer : (n : ℕ) → Complete n takes (stmts.If c b o) (after_if n (suc n)) Begins NotElse
+  outer n = if_complete {n = suc n} c b o (omega arith) (body.complete n) (less_complete (omega arith) (rest.complete n (suc n) (le_refl (suc n))))
+
+  form : (n : ℕ) → Spends (suc n) (bodies.stmt_form (stmts.If c b o)) (OfStmt (stmts.If c b o)) (part_form (suc n) (block n)) PartStart NotElse
+  form n =
+      subst (λ t. Spends (suc n) t (OfStmt (stmts.If c b o)) (part_form (suc n) (block n)) PartStart NotElse) (sym (form_of_if c b o))
+      (follow_spends (λ x e. rw e (refl, refl)) (λ x f. f)
+      (if_next_spends _ (λ x e. rw e refl) (word_law If (last_complete OfStmt (outer n)))))
+
+  chain_takes : (past : ℕ) → (bodies.chained (stmts.If c b o) ⨾ here_is past) ≡ (opening_is (keyword_is If) ⨾ takes ⨾ here_is past)
+  chain_takes past = ap (λ t. t ⨾ here_is past) (chained_if c b o) ∙ takes_assoc (opening_is (keyword_is If)) takes (here_is past)
+
+  chain : Chained (stmts.If c b o)
+  chain first past n turns le =
+      chained_complete _ first past (stmts.If c b o) (λ m.
+      subst
+      (λ t. Complete {A = Stmt} turns t (record { token = m; past = past; form = stmts.If c b o })
+      (if_next (is_keyword (keyword_number If)) skip_opening stop >>= λ _.
+      after_if n turns >>= λ form. here >>= λ past. give record { token = m; past = past; form = form })
+      (Next (l.Word (keyword_number If))) NotElse)
+      (sym (chain_takes past))
+      (after_complete {b = λ _. record { token = m; past = past; form = stmts.If c b o }}
+      (holds_complete {fails = stop} (is_keyword (keyword_number If)) (λ x e. rw e refl) (opening_complete (is_keyword (keyword_number If)) (only_keyword _)))
+      (λ x f. tt) (λ _.
+      after_complete {b = λ form. record { token = m; past = past; form = form }} (inner n turns le) (λ x f. f) (λ form.
+      last_complete (λ past. record { token = m; past = past; form = form }) (here_complete past)))))
+
+-- by how many turns are left
+each_turn : (o : Otherwise) →
+    ((n turns : ℕ) → turns ≤ n → Complete (suc turns) (bodies.otherwise_ o) o (otherwise (suc turns) (suc n) (block n)) Anything NotElse) → OtherwiseLaw o
+each_turn o each = record { complete = by } where
+  by : (n turns : ℕ) → turns ≤ suc n → Complete turns (bodies.otherwise_ o) o (otherwise turns (suc n) (block n)) Anything NotElse
+  by n zero le = zero_complete (each n 0 (omega arith))
+  by n (suc turns) le = each n turns (omega arith)
+
+nothing_law : OtherwiseLaw otherwises.Nothing
+nothing_law =
+    each_turn otherwises.Nothing (λ n turns le.
+    follow_complete (λ x f. tt) (λ x f. f) (fails_complete (is_keyword (keyword_number Else)) (λ x f. f) (give_complete otherwises.Nothing)))
+
+-- what follows an `else`
+after_else : {turns : ℕ} {rest : Takes} {o : Otherwise} {reads : Reads Otherwise} {first follow : Option Lexeme → Type 0} →
+    Complete turns rest o reads first follow →
+    Complete (suc turns) (keyword_is Else ⨾ rest) o (if_next (is_keyword (keyword_number Else)) (skip >>= λ _. reads) (give otherwises.Nothing))
+    (Next (l.Word (keyword_number Else))) follow
+after_else {o = o} rest =
+    holds_complete (is_keyword (keyword_number Else)) (λ x e. rw e refl)
+    (fewer_complete {b = λ _. o} (token_strict (only_keyword _)) (skip_complete (is_keyword (keyword_number Else)) (only_keyword _)) (λ x f. tt) (λ _. rest))
+
+else_law : (b : Block) → BlockLaw b → OtherwiseLaw (otherwises.Else b)
+else_law b body =
+    each_turn (otherwises.Else b) (λ n turns le.
+    subst (λ t. Complete (suc turns) t (otherwises.Else b) (otherwise (suc turns) (suc n) (block n)) Anything NotElse) (sym (form_of_else b))
+    (follow_complete (λ x f. tt) (λ x f. tt)
+    (after_else
+    (holds_complete {fails = chained (after_if n turns) >>= λ s. give (otherwises.ElseIf s)}
+    (is_symbol (symbol_number OpenBrace)) (λ x e. rw e refl) (last_complete otherwises.Else (less_complete le (body.complete n)))))))
+
+else_if_law : (s : Stmt) → FormLaw s.form → OtherwiseLaw (otherwises.ElseIf s)
+else_if_law s law =
+    each_turn (otherwises.ElseIf s) (λ n turns le.
+    subst (λ t. Complete (suc turns) t (otherwises.ElseIf s) (otherwise (suc turns) (suc n) (block n)) Anything NotElse) (sym (form_of_else_if s))
+    (follow_complete (λ x f. tt) (λ x f. f)
+    (after_else
+    (fails_complete {holds = block n >>= λ body. give (otherwises.Else body)} (is_symbol (symbol_number OpenBrace)) (λ x e. rw e refl)
+    (last_complete otherwises.ElseIf (law.chained s.token s.past n turns le))))))
+
+-- ---- a switch and a span
+
+begins_no_square : (x : Option Lexeme) → Begins x → Not (is_symbol (symbol_number OpenSquare)) x
+begins_no_square = other_symbol begins_expression OpenSquare refl
+
+arm_rows : Rows is_within (Passes is_within) Anything (Next (l.Symbol (symbol_number CloseBrace)))
+arm_rows = record { starts = λ x f. f; ends = λ x e. rw e refl; goes_on = λ x f. tt }
+
+each_arm : (n : ℕ) (as_ : List Arm) → Each (λ a. BlockLaw a.body) as_ →
+    Each (λ a. Spends (suc n) (arm_ a) a (arm (suc n) (block n)) (Passes is_within) Anything) as_
+each_arm n [] laws = tt
+each_arm n (a ∷ as_) laws = (arm_spends a (laws.0.complete n), each_arm n as_ laws.1)
+
+switch_complete : (n : ℕ) (over : Option SwitchSpan) (v : Expr) (as_ : List Arm) → Each (λ a. BlockLaw a.body) as_ →
+    Complete n (optional_is bodies.switch_span over ⨾ grammar.whole v ⨾ braces_is (many_is arm_ as_)) (stmts.Switch over v as_)
+    (switch_form (suc n) (block n)) Anything Anything
+switch_complete n over v as_ laws =
+    less_complete (omega arith)
+    (follow_complete (λ x f. tt) (λ x f. f)
+    (after_complete {fuel = suc n} {b = λ over. stmts.Switch over v as_}
+    (optional_complete {follow = Begins} (is_symbol (symbol_number OpenSquare)) (λ x e. rw e refl) begins_no_square
+    (λ s. follow_complete (λ x f. f) (λ x f. tt) (switch_span_complete (suc n) s)) over)
+    (λ x f. f) (λ over.
+    after_complete {b = λ v. stmts.Switch over v as_} (whole_complete (suc n) v) (ends_before OpenBrace refl refl) (λ v.
+    last_complete (λ as_. stmts.Switch over v as_)
+    (less_complete (omega arith)
+    (in_brackets_complete OpenBrace CloseBrace (λ x e. e) (many_complete (arm (suc n) (block n)) arm_ arm_rows as_ (each_arm n as_ laws))))))))
+
+span_complete : (n : ℕ) (key : Primary) (v : Expr) (b : Block) → BlockLaw b →
+    Complete n (grammar.whole_prim key ⨾ grammar.whole v ⨾ bodies.block b) (stmts.Span key v b) (span_form (suc n) (block n)) Anything Anything
+span_complete n key v b law =
+    follow_complete (λ x f. tt) (λ x f. f)
+    (after_complete {b = λ key. stmts.Span key v b} (less_complete (omega arith) (whole_prim_complete (suc n) key)) begins_no_more (λ key.
+    after_complete {b = λ v. stmts.Span key v b} (less_complete (omega arith) (whole_complete (suc n) v)) (ends_before OpenBrace refl refl) (λ v.
+    last_complete (λ body. stmts.Span key v body) (law.complete n))))
+
+switch_law : (over : Option SwitchSpan) (v : Expr) (as_ : List Arm) → Each (λ a. BlockLaw a.body) as_ → FormLaw (stmts.Switch over v as_)
+switch_law over v as_ laws = record {
+  form = λ n.
+      subst (λ t. Spends (suc n) t (OfStmt (stmts.Switch over v as_)) (part_form (suc n) (block n)) PartStart NotElse) (sym same)
+      (follow_spends (λ x e. rw e (refl, refl)) (λ x f. tt)
+      (not_next_spends _ (λ x e. rw e refl)
+      (if_next_spends _ (λ x e. rw e refl) (word_law Switch (last_complete OfStmt (switch_complete n over v as_ laws))))));
+  chained = never_chained (stmts.Switch over v as_) (λ r. refl);
+}
+  where
+    same : bodies.stmt_form (stmts.Switch over v as_)
+        ≡ (keyword_is Switch ⨾ optional_is bodies.switch_span over ⨾ grammar.whole v ⨾ braces_is (many_is arm_ as_))
+    same =
+        form_of_switch over v as_
+        ∙ ap (λ t. keyword_is Switch ⨾ optional_is bodies.switch_span over ⨾ grammar.whole v ⨾ braces_is t) (sym (many_to-nothing arm_ as_))
+
+span_law : (key : Primary) (v : Expr) (b : Block) → BlockLaw b → FormLaw (stmts.Span key v b)
+span_law key v b law = record {
+  form = λ n.
+      subst (λ t. Spends (suc n) t (OfStmt (stmts.Span key v b)) (part_form (suc n) (block n)) PartStart NotElse) (sym (form_of_span key v b))
+      (follow_spends (λ x e. rw e (refl, refl)) (λ x f. tt)
+      (not_next_spends _ (λ x e. rw e refl)
+      (not_next_spends _ (λ x e. rw e refl)
+      (if_next_spends _ (λ x e. rw e refl) (word_law Span (last_complete OfStmt (span_complete n key v b law)))))));
+  chained = never_chained (stmts.Span key v b) (λ r. refl);
+}
+
+-- ---- every block
+
+-- a part, with the number of its first token and that after its last
+part_law_of : (first past : ℕ) (f : PartForm) →
+    ((n : ℕ) → Spends (suc n) (form_is f) f (part_form (suc n) (block n)) PartStart NotElse) → PartLaw (part_of first past f)
+part_law_of first past f law = record {
+  spends = λ n.
+      subst (λ t. Spends (suc n) t (part_of first past f) (part (suc n) (block n)) PartStart NotElse) (sym (part_is first past f)) record {
+        complete = after_complete {b = λ m. part_of m past f} (here_complete first) (λ x f. f) (λ m.
+            after_complete {b = λ f. part_of m past f} (law n).complete (λ x f. f) (λ f. last_complete (λ past. part_of m past f) (here_complete past)));
+        strict = here_strict first (strict_then (law n).strict (here_complete {fuel = 0} {follow = Anything} past).moves);
+      };
+}
+
+flat_spends : {p : Takes} (n : ℕ) (f : PartForm) → Spends (suc n) p f (flat_part (suc n)) FlatStart Anything →
+    Spends (suc n) p f (part_form (suc n) (block n)) PartStart NotElse
+flat_spends n f one =
+    follow_spends {first = FlatStart} (λ x s. (s.within, s.no_else)) (λ x f. tt)
+    (not_next_spends _ (λ x s. s.no_if) (not_next_spends _ (λ x s. s.no_switch) (not_next_spends _ (λ x s. s.no_span) one)))
+
+flat_law : (f : StmtForm) → HoldsNoBlock f → ((r : Reading) → bodies.chained f r ≡ None) → FormLaw f
+flat_law f none never = record {
+  form = λ n. flat_spends n (OfStmt f) record { complete = stmt_complete f none; strict = stmt_strict f none };
+  chained = never_chained f never;
+}
+
+mutual
+  form_law : (f : StmtForm) → FormLaw f
+  form_law (If' c shape row o) =
+      subst (λ f. FormLaw f) (if_is c shape row o)
+      (if_law c (record { parts = items-the_row-Part _ row }) o (block_law (items-the_row-Part _ row) (parts_law row)) (otherwise_law o))
+  form_law (Switch' over v shape row) =
+      subst (λ f. FormLaw f) (switch_is over v shape row) (switch_law over v (items-the_row-Arm _ row) (arms_law row))
+  form_law (Span' key v shape row) =
+      subst (λ f. FormLaw f) (span_is key v shape row)
+      (span_law key v (record { parts = items-the_row-Part _ row }) (block_law (items-the_row-Part _ row) (parts_law row)))
+  form_law stmts.Empty = flat_law stmts.Empty tt (λ r. refl)
+  form_law (stmts.Assign to found) = flat_law (stmts.Assign to found) tt (λ r. refl)
+  form_law (stmts.Checked result op left right fs) = flat_law (stmts.Checked result op left right fs) tt (λ r. refl)
+  form_law (stmts.Call to by what actuals fs) = flat_law (stmts.Call to by what actuals fs) tt (λ r. refl)
+  form_law (stmts.Jump what actuals) = flat_law (stmts.Jump what actuals) tt (λ r. refl)
+  form_law (stmts.Return by found) = flat_law (stmts.Return by found) tt (λ r. refl)
+  form_law (stmts.Label name) = flat_law (stmts.Label name) tt (λ r. refl)
+  form_law (stmts.Continuation name ks) = flat_law (stmts.Continuation name ks) tt (λ r. refl)
+  form_law (stmts.Goto name) = flat_law (stmts.Goto name) tt (λ r. refl)
+  form_law (stmts.Cut what actuals fs) = flat_law (stmts.Cut what actuals fs) tt (λ r. refl)
+
+  otherwise_law : (o : Otherwise) → OtherwiseLaw o
+  otherwise_law otherwises.Nothing = nothing_law
+  otherwise_law (Else' shape row) =
+      subst (λ o. OtherwiseLaw o) (else_is shape row)
+      (else_law (record { parts = items-the_row-Part _ row }) (block_law (items-the_row-Part _ row) (parts_law row)))
+  otherwise_law (ElseIf' shape (more_of-Stmt first past form end_of-Stmt)) =
+      subst (λ o. OtherwiseLaw o) (else_if_is shape first past form) (else_if_law (record { token = first; past = past; form = form }) (form_law form))
+
+  part_law : (p : Part) → PartLaw p
+  part_law (parts.Local found) =
+      part_law_of found.token found.past (OfLocal found.form) (λ n.
+      flat_spends n (OfLocal found.form) record { complete = local_complete found.form; strict = local_strict found.form })
+  part_law (Stmt' first past form) = subst (λ p. PartLaw p) (stmt_is first past form) (part_law_of first past (OfStmt form) (form_law form).form)
+
+  parts_law : {n : _} (row : Row_of-Part n) → Each PartLaw (items-the_row-Part n row)
+  parts_law end_of-Part = tt
+  parts_law (more_of-Part p rest) = (part_law p, parts_law rest)
+
+  arms_law : {n : _} (row : Row_of-Arm n) → Each (λ a. BlockLaw a.body) (items-the_row-Arm n row)
+  arms_law end_of-Arm = tt
+  arms_law (more_of-Arm first what shape body rest) =
+      (block_law _ (subst (λ ps. Each PartLaw ps) (sym (items_shown-the_row-Part-0 shape body)) (parts_law body)), arms_law rest)
+
+pub blocks_complete : (fuel : ℕ) (b : Block) → Complete fuel (bodies.block b) b (block fuel) Anything Anything
+blocks_complete fuel b = follow_complete (λ x f. tt) (λ x f. f) ((block_law b.parts (each_of part_law b.parts)).complete fuel)

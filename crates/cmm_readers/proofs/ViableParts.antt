@@ -1,0 +1,104 @@
+-- Where a reader of a part of a statement stops, some tree begins with the tokens gone through.
+use Rattle.std.proofs.Common.{◌≡◌, ℕ, true, false, List, Some, None, refl, sym, ap, ◌∙◌}
+use Rattle.cmm_ast.specs.declared.token.Ident.{Ident}
+use Rattle.cmm_ast.specs.declared.keyword.Keyword.{Keyword}
+use Rattle.cmm_ast.specs.declared.keyword.Keyword.TheVariants.{Aborts, Also, Cuts, Never, Returns, To, Unwinds}
+use Rattle.cmm_ast.specs.declared.keyword.Symbol.TheVariants.{Open, OpenSquare, Less, Greater, Slash}
+use Rattle.cmm_ast.specs.declared.keyword.Symbol.TheVariants as sign
+use Rattle.cmm_ast.specs.declared.statement.CalleeForm.TheVariants as callees
+use Rattle.cmm_ast.specs.declared.statement.FlowForm.{FlowForm}
+use Rattle.cmm_ast.specs.declared.statement.FlowForm.TheVariants as flows
+use Rattle.cmm_ast.specs.declared.statement.Lvalue.TheVariants as lvalues
+use Rattle.cmm_ast.specs.Numbers.{symbol_number}
+use Rattle.cmm_ast.specs.Taking.{◌⨾◌, is_symbol, here as here_is, keyword as keyword_is, symbol as symbol_is, round as round_is, may_list as may_list_is, optional as optional_is, may_comma as may_comma_is}
+use Rattle.cmm_ast.specs.ExpressionGrammar as grammar
+use Rattle.cmm_ast.specs.StatementGrammar as statements
+use Rattle.cmm_readers.specs.Reading.{◌>>=◌, give, if_next, round, may_list}
+use Rattle.cmm_readers.specs.ExpressionReading.{named_type, whole}
+use Rattle.cmm_readers.specs.PartReading.{is_any_text, is_any_name, is_width, kinded, actual, arguments, begins_actual, lvalue, called, callee, begins_flow, names_to, also, flow_form, flow, annotations, exit, range_end, range}
+use Rattle.cmm_readers.proofs.Lists.{takes_assoc, takes_nothing}
+use Rattle.cmm_readers.proofs.SoundParts.{flow_is, named_same, called_is}
+use Rattle.cmm_readers.proofs.Viables.{Leads, Extends, after_leads, whole_viable, give_leads, last_leads, made_leads, if_next_leads, viable_first}
+use Rattle.cmm_readers.proofs.ViableTokens.{here_viable, outermost_viable}
+use Rattle.cmm_readers.proofs.ViableLists.{symbol_viable, keyword_viable, ident_viable, text_viable, if_word_leads, if_symbol_leads, round_viable, optional_viable, many_viable, may_comma_viable, listed_viable, may_list_viable}
+use Rattle.cmm_readers.proofs.ViableExpressions.{type_name_viable}
+use Rattle.cmm_readers.proofs.ViableOperands.{whole_expr_viable, whole_prim_viable, whole_memory_leads}
+
+-- ---- results and parameters
+
+pub kinded_viable : Extends true true kinded statements.kinded
+kinded_viable = whole_viable (after_leads (optional_viable is_any_text text_viable) (λ kind. last_leads _ ident_viable (λ name. refl)))
+
+-- ---- annotations
+
+names_leads : (fuel : ℕ) (verb : Keyword) (make : List Ident → FlowForm) → ((names : List Ident) → statements.flow_form (make names) ≡ statements.names_to verb names) →
+    Leads false true false (λ k. keyword_is Also ⨾ keyword_is verb ⨾ k) (names_to fuel make) flow_is
+names_leads fuel verb make same =
+    after_leads (keyword_viable To) (λ _.
+    last_leads make (listed_viable ident_viable is_any_name fuel) (λ names. ap (λ t. t ⨾ may_comma_is) (same names) ∙ named_same verb names))
+
+also_leads : (fuel : ℕ) → Leads false true false (λ k. keyword_is Also ⨾ k) (also fuel) flow_is
+also_leads fuel =
+    if_word_leads Aborts (last_leads (λ _. flows.Aborts) may_comma_viable (λ _. takes_assoc (keyword_is Also) (keyword_is Aborts) may_comma_is))
+    (if_word_leads Cuts (names_leads fuel Cuts (λ n. flows.CutsTo n) (λ n. refl))
+    (if_word_leads Unwinds (names_leads fuel Unwinds (λ n. flows.UnwindsTo n) (λ n. refl))
+    (after_leads (keyword_viable Returns) (λ _. names_leads fuel Returns (λ n. flows.ReturnsTo n) (λ n. refl)))))
+
+-- after another, or after a list
+flow_form_viable : (fuel : ℕ) → Extends false false (flow_form fuel) flow_is
+flow_form_viable fuel =
+    whole_viable
+    (if_word_leads Never
+    (after_leads (keyword_viable Returns) (λ _.
+    last_leads (λ _. flows.NeverReturns) may_comma_viable (λ _. takes_assoc (keyword_is Never) (keyword_is Returns) may_comma_is)))
+    (after_leads (keyword_viable Also) (λ _. also_leads fuel)))
+
+flow_viable : (fuel : ℕ) → Extends false false (flow fuel) (λ f. here_is f.token ⨾ flow_is f.form)
+flow_viable fuel = whole_viable (after_leads here_viable (λ token. last_leads _ (flow_form_viable fuel) (λ form. refl)))
+
+pub annotations_viable : (fuel : ℕ) → Extends true false (annotations fuel) statements.annotated
+annotations_viable fuel = viable_first (many_viable (flow_viable fuel) begins_flow fuel)
+
+-- ---- what holds expressions
+
+module _ (fuel : ℕ) where
+  actual_viable : Extends true true (actual fuel) statements.actual
+  actual_viable = whole_viable (after_leads (optional_viable is_any_text text_viable) (λ kind. last_leads _ (whole_expr_viable fuel) (λ value. refl)))
+
+  pub listed_arguments_viable : Extends true true (round (may_list fuel begins_actual (actual fuel))) (λ as_. round_is (may_list_is statements.actual as_))
+  listed_arguments_viable = round_viable (may_list_viable actual_viable begins_actual fuel)
+
+  pub arguments_viable : Extends true true (arguments fuel) statements.arguments
+  arguments_viable = outermost_viable listed_arguments_viable
+
+  -- ---- what is assigned to and called
+
+  pub lvalue_viable : Extends true true (lvalue fuel) statements.lvalue
+  lvalue_viable =
+      whole_viable
+      (if_next_leads is_width (after_leads type_name_viable (λ width. made_leads (λ m. lvalues.Memory m) (whole_memory_leads fuel width) (λ m. refl)))
+      (after_leads ident_viable (λ name.
+      if_next_leads (is_symbol (symbol_number OpenSquare)) (made_leads (λ m. lvalues.Memory m) (whole_memory_leads fuel (named_type name)) (λ m. refl))
+      (give_leads (lvalues.Name name) (sym (takes_nothing (grammar.ident name)))))))
+
+  pub callee_viable : Extends true true (callee fuel) statements.callee
+  callee_viable = whole_viable (after_leads here_viable (λ token. last_leads _ form_viable (λ form. refl))) where
+    form_viable : Extends true true (if_next (is_symbol (symbol_number Open)) (round (whole fuel) >>= λ e. give (callees.Bracketed e)) (lvalue fuel >>= λ v. give (called v)))
+        statements.callee_form
+    form_viable =
+        whole_viable
+        (if_next_leads (is_symbol (symbol_number Open)) (last_leads (λ e. callees.Bracketed e) (round_viable (whole_expr_viable fuel)) (λ e. refl))
+        (last_leads called lvalue_viable called_is))
+
+  -- ---- exits and ranges
+
+  pub exit_viable : Extends true true (exit fuel) statements.exit
+  exit_viable =
+      whole_viable (after_leads here_viable (λ token. after_leads (symbol_viable Less) (λ _. after_leads (whole_prim_viable fuel) (λ index.
+      after_leads (symbol_viable Slash) (λ _. after_leads (whole_prim_viable fuel) (λ count. last_leads _ (symbol_viable Greater) (λ _. refl)))))))
+
+  range_end_viable : Extends true true (range_end fuel) (optional_is (λ e. symbol_is sign.Range ⨾ grammar.whole e))
+  range_end_viable = whole_viable (if_symbol_leads sign.Range (last_leads Some (whole_expr_viable fuel) (λ e. refl)) (give_leads None refl))
+
+  pub range_viable : Extends true true (range fuel) statements.range
+  range_viable = whole_viable (after_leads (whole_expr_viable fuel) (λ from. last_leads _ range_end_viable (λ to. refl)))

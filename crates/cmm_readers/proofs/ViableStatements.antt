@@ -1,0 +1,165 @@
+-- Where a reader of a part of a body that holds no block stops, some tree begins with the tokens gone through.
+use Rattle.std.proofs.Common.{ℕ, true, [], ◌∷◌, Option, Some, None, refl, sym, ap}
+use Rattle.cmm_lexer.specs.declared.piece.Lexeme.{Lexeme}
+use Rattle.cmm_lexer.specs.declared.piece.Lexeme.TheVariants as l
+use Rattle.cmm_ast.specs.declared.token.Ident.{Ident}
+use Rattle.cmm_ast.specs.declared.keyword.Keyword.TheVariants as word
+use Rattle.cmm_ast.specs.declared.keyword.Symbol.TheVariants as sign
+use Rattle.cmm_ast.specs.declared.expression.Memory.{Memory}
+use Rattle.cmm_ast.specs.declared.procedure.LocalForm.{LocalForm}
+use Rattle.cmm_ast.specs.declared.procedure.Modifiers.TheVariants as before
+use Rattle.cmm_ast.specs.declared.statement.CalleeForm.TheVariants as callees
+use Rattle.cmm_ast.specs.declared.statement.Case.TheVariants as cases
+use Rattle.cmm_ast.specs.declared.statement.Lvalue.TheVariants as lvalues
+use Rattle.cmm_ast.specs.declared.statement.StmtForm.{StmtForm}
+use Rattle.cmm_ast.specs.declared.statement.StmtForm.TheVariants as stmts
+use Rattle.cmm_ast.specs.Numbers.{keyword_number, symbol_number}
+use Rattle.cmm_ast.specs.Taking.{Takes, ◌⨾◌, is_keyword, is_symbol, keyword as keyword_is, symbol as symbol_is, outermost as outermost_is}
+use Rattle.cmm_ast.specs.ExpressionGrammar as grammar
+use Rattle.cmm_ast.specs.StatementGrammar as bodies
+use Rattle.cmm_readers.specs.Reading.{Reads}
+use Rattle.cmm_readers.specs.ExpressionReading.{named_type}
+use Rattle.cmm_readers.specs.PartReading.{is_any_name, is_width, begins_kinded}
+use Rattle.cmm_readers.specs.CallReading.{call_after}
+use Rattle.cmm_readers.specs.TargetReading.{Names, Lvalues, Results}
+use Rattle.cmm_readers.specs.StatementReading.{case, span_ends, switch_span, jump, return_form, goto, cut, continuation, word_stmt, symbol_stmt, memory_token, memory_stmt, name_stmt, OfLocal, OfStmt, of_stmt, of_local, name_part, text_part, word_part, flat_by, flat_part}
+use Rattle.cmm_readers.proofs.SoundExpressions.{here_twice}
+use Rattle.cmm_readers.proofs.Lists.{takes_assoc, takes_nothing}
+use Rattle.cmm_readers.proofs.SoundStatements.{memory_here}
+use Rattle.cmm_readers.proofs.StatementForms.{form_is}
+use Rattle.cmm_readers.proofs.Viables.{Leads, LeadsAt, Extends, after_leads, then_leads, whole_viable, give_leads, last_leads, made_leads, leads_same, at_leads, look_leads, stop_leads, if_next_leads}
+use Rattle.cmm_readers.proofs.ViableLists.{symbol_viable, closing_viable, keyword_viable, ident_viable, text_viable, if_word_leads, if_symbol_leads, round_viable, square_viable, optional_viable, commas_viable, may_list_viable}
+use Rattle.cmm_readers.proofs.ViableExpressions.{type_name_viable}
+use Rattle.cmm_readers.proofs.ViableParts.{kinded_viable, arguments_viable, callee_viable, annotations_viable, exit_viable, range_viable}
+use Rattle.cmm_readers.proofs.ViableTargets.{call_leads, call_after_leads, assignment_leads}
+use Rattle.cmm_readers.proofs.ViableOperands.{whole_expr_viable, whole_memory_leads}
+use Rattle.cmm_readers.proofs.ViableProcedures.{modifiers_viable, variables_leads, stackdata_leads}
+
+module _ (fuel : ℕ) where
+  -- ---- parts of statements
+
+  pub case_viable : Extends true true (case fuel) bodies.case
+  case_viable =
+      whole_viable
+      (if_word_leads word.Default (last_leads (λ _. cases.Default) (symbol_viable sign.Colon) (λ _. refl))
+      (after_leads (keyword_viable word.Case) (λ _. after_leads (commas_viable (range_viable fuel) fuel) (λ ranges.
+      last_leads (λ _. cases.Ranges ranges) (symbol_viable sign.Colon) (λ _. refl)))))
+
+  pub switch_span_viable : Extends true true (switch_span fuel) bodies.switch_span
+  switch_span_viable = square_viable {is = λ s. grammar.whole s.from ⨾ symbol_is sign.Range ⨾ grammar.whole s.to} ends_viable where
+    ends_viable : Extends true true (span_ends fuel) (λ s. grammar.whole s.from ⨾ symbol_is sign.Range ⨾ grammar.whole s.to)
+    ends_viable =
+        whole_viable
+        (after_leads (whole_expr_viable fuel) (λ from. after_leads (symbol_viable sign.Range) (λ _.
+        last_leads (λ to. record { from = from; to = to }) (whole_expr_viable fuel) (λ to. refl))))
+
+  -- ---- statements that begin with a reserved word
+
+  return_leads : Leads true true true (λ k. keyword_is word.Return ⨾ k) (return_form fuel) bodies.stmt_form
+  return_leads =
+      after_leads (optional_viable (is_symbol (symbol_number sign.Less)) (exit_viable fuel)) (λ by.
+      after_leads (optional_viable (is_symbol (symbol_number sign.Open)) (arguments_viable fuel)) (λ found.
+      last_leads (λ _. stmts.Return by found) (symbol_viable sign.Semicolon) (λ _. refl)))
+
+  goto_leads : Leads true true true (λ k. keyword_is word.Goto ⨾ k) goto bodies.stmt_form
+  goto_leads = after_leads ident_viable (λ name. last_leads (λ _. stmts.Goto name) (symbol_viable sign.Semicolon) (λ _. refl))
+
+  jump_leads : Leads true true true (λ k. keyword_is word.Jump ⨾ k) (jump fuel) bodies.stmt_form
+  jump_leads =
+      after_leads (callee_viable fuel) (λ what. after_leads (arguments_viable fuel) (λ actuals.
+      last_leads (λ _. stmts.Jump what actuals) (symbol_viable sign.Semicolon) (λ _. refl)))
+
+  cut_leads : Leads true true true (λ k. keyword_is word.Cut ⨾ k) (cut fuel) bodies.stmt_form
+  cut_leads =
+      after_leads (keyword_viable word.To) (λ _. after_leads (callee_viable fuel) (λ what. after_leads (arguments_viable fuel) (λ actuals.
+      after_leads (annotations_viable fuel) (λ fs. last_leads (λ _. stmts.Cut what actuals fs) (closing_viable sign.Semicolon refl) (λ _. refl)))))
+
+  continuation_leads : Leads true true true (λ k. keyword_is word.Continuation ⨾ k) (continuation fuel) bodies.stmt_form
+  continuation_leads =
+      after_leads ident_viable (λ name. after_leads (round_viable (may_list_viable kinded_viable begins_kinded fuel)) (λ parameters.
+      last_leads (λ _. stmts.Continuation name parameters) (symbol_viable sign.Colon) (λ _. refl)))
+
+  -- a call without results
+  plain_call_leads : Leads true true true (λ k. k) (call_after fuel []) bodies.stmt_form
+  plain_call_leads = leads_same (λ k. refl) (call_after_leads fuel [])
+
+  word_stmt_leads : Leads true true true (λ k. k) (word_stmt fuel) bodies.stmt_form
+  word_stmt_leads =
+      if_word_leads word.Return return_leads (if_word_leads word.Goto goto_leads (if_word_leads word.Jump jump_leads (if_word_leads word.Cut cut_leads
+      (if_word_leads word.Continuation continuation_leads
+      (if_next_leads (is_keyword (keyword_number word.Foreign)) plain_call_leads (stop_leads plain_call_leads.ends))))))
+
+  symbol_stmt_leads : Leads true true true (λ k. k) (symbol_stmt fuel) bodies.stmt_form
+  symbol_stmt_leads =
+      if_next_leads (is_symbol (symbol_number sign.Open)) plain_call_leads (last_leads (λ _. stmts.Empty) (symbol_viable sign.Semicolon) (λ _. refl))
+
+  -- ---- statements that begin with a name or a word in memory
+
+  memory_stmt_leads : (m : Memory) → Leads true true true (λ k. grammar.whole_memory m ⨾ k) (memory_stmt fuel m) bodies.stmt_form
+  memory_stmt_leads m =
+      if_next_leads (is_symbol (symbol_number sign.Open))
+      (call_leads fuel [] None (record { token = memory_token m; form = callees.Memory m }) (λ k. ap (λ t. t ⨾ outermost_is k) (sym (memory_here m))))
+      (leads_same (λ k. refl) (assignment_leads fuel (Lvalues (lvalues.Memory m ∷ []))))
+
+  name_stmt_leads : (name : Ident) → Leads true true true (λ k. grammar.ident name ⨾ k) (name_stmt fuel name) bodies.stmt_form
+  name_stmt_leads name =
+      if_symbol_leads sign.Colon (give_leads (stmts.Label name) (ap (λ t. grammar.ident name ⨾ t) (sym (takes_nothing (symbol_is sign.Colon)))))
+      (if_next_leads (is_symbol (symbol_number sign.OpenSquare)) (then_leads (whole_memory_leads fuel (named_type name)) memory_stmt_leads)
+      (if_next_leads (is_symbol (symbol_number sign.Open))
+      (call_leads fuel [] None (record { token = name.token; form = callees.Name name })
+      (λ k. ap (λ t. t ⨾ outermost_is k) (sym (here_twice name.token _))))
+      (leads_same (λ k. refl) (assignment_leads fuel (Names (name ∷ []))))))
+
+-- ---- parts that hold no block
+
+pub of_stmt_leads : {so_far : Takes → Takes} {reads : Reads StmtForm} → Leads true true true so_far reads bodies.stmt_form →
+    Leads true true true so_far (of_stmt reads) form_is
+of_stmt_leads it = made_leads OfStmt it (λ form. refl)
+
+of_local_leads : {so_far : Takes → Takes} {reads : Reads LocalForm} → Leads true true true so_far reads bodies.local_form →
+    Leads true true true so_far (of_local reads) form_is
+of_local_leads it = made_leads OfLocal it (λ form. refl)
+
+module _ (fuel : ℕ) where
+  name_part_leads : Leads true true true (λ k. k) (name_part fuel) form_is
+  name_part_leads =
+      after_leads ident_viable (λ name.
+      if_next_leads is_any_name (of_local_leads (leads_same (λ k. refl) (variables_leads fuel before.Nothing (named_type name))))
+      (of_stmt_leads (name_stmt_leads fuel name)))
+
+  text_part_leads : Leads true true true (λ k. k) (text_part fuel) form_is
+  text_part_leads =
+      after_leads text_viable (λ kind.
+      if_word_leads word.Invariant
+      (after_leads type_name_viable (λ width.
+      of_local_leads
+      (leads_same (λ k. sym (takes_assoc (grammar.text kind) (keyword_is word.Invariant) (grammar.type_name width ⨾ k)))
+      (variables_leads fuel (before.KindInvariant kind) width))))
+      (if_next_leads is_width (after_leads type_name_viable (λ width. of_local_leads (variables_leads fuel (before.Kind kind) width)))
+      (after_leads ident_viable (λ name.
+      if_next_leads is_any_name (of_local_leads (leads_same (λ k. refl) (variables_leads fuel (before.Kind kind) (named_type name))))
+      (of_stmt_leads
+      (leads_same (λ k. sym (takes_assoc (grammar.text kind) (grammar.ident name) k))
+      (assignment_leads fuel (Results (record { kind = Some kind; name = name } ∷ [])))))))))
+
+  word_part_leads : Leads true true true (λ k. k) (word_part fuel) form_is
+  word_part_leads =
+      if_next_leads is_width
+      (after_leads type_name_viable (λ width.
+      if_next_leads (is_symbol (symbol_number sign.OpenSquare))
+      (of_stmt_leads (then_leads (whole_memory_leads fuel width) (memory_stmt_leads fuel)))
+      (of_local_leads (leads_same (λ k. refl) (variables_leads fuel before.Nothing width)))))
+      (if_next_leads (is_keyword (keyword_number word.Invariant))
+      (after_leads modifiers_viable (λ found. after_leads type_name_viable (λ width. of_local_leads (variables_leads fuel found width))))
+      (if_word_leads word.Stackdata (of_local_leads (stackdata_leads fuel)) (of_stmt_leads (word_stmt_leads fuel))))
+
+  pub flat_part_leads : Leads true true true (λ k. k) (flat_part fuel) form_is
+  flat_part_leads = look_leads other.ends by where
+    other : Leads true true true (λ k. k) (of_stmt (symbol_stmt fuel)) form_is
+    other = of_stmt_leads (symbol_stmt_leads fuel)
+
+    by : (x : Option Lexeme) → LeadsAt x true true true (λ k. k) (flat_by fuel x) form_is
+    by (Some (l.Name bytes)) = at_leads name_part_leads
+    by (Some (l.Text bytes)) = at_leads text_part_leads
+    by (Some (l.Word n)) = at_leads word_part_leads
+    by _ = at_leads other

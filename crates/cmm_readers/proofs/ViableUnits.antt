@@ -1,0 +1,218 @@
+-- Where a reader of data, sections or units stops, some tree begins with the tokens gone through.
+use Rattle.std.proofs.Common.{◌≡◌, ℕ, zero, suc, ◌-◌, ◌≤◌, ◌==◌, inr, Bool, true, false, List, [], ◌++◌, length, take, Option, Some, None, refl, sym, ap, ◌∙◌, arith}
+use Rattle.cmm_lexer.specs.declared.piece.Lexeme.{Lexeme}
+use Rattle.cmm_ast.specs.declared.token.Ident.{Ident}
+use Rattle.cmm_ast.specs.declared.keyword.Keyword.TheVariants.{Align, Section as SectionWord, Span}
+use Rattle.cmm_ast.specs.declared.keyword.Symbol.TheVariants.{Colon, CloseBrace, Semicolon}
+use Rattle.cmm_ast.specs.declared.expression.TypeName.{TypeName}
+use Rattle.cmm_ast.specs.declared.unit.Unit.{Unit as UnitTree}
+use Rattle.cmm_ast.specs.declared.unit.TopLevel.{TopLevel}
+use Rattle.cmm_ast.specs.declared.unit.TopLevel.TheVariants as tops
+use Rattle.cmm_ast.specs.declared.unit.Item.{Item}
+use Rattle.cmm_ast.specs.declared.unit.Item.TheVariants as items
+use Rattle.cmm_ast.specs.declared.unit.DatumForm.TheVariants as data_forms
+use Rattle.cmm_ast.specs.declared.unit.Count.TheVariants as counts
+use Rattle.cmm_ast.specs.declared.unit.Initial.TheVariants as initials
+use Rattle.cmm_ast.specs.Taking.{Reading, Takes, ◌⨾◌, nothing, token as token_is, is_name, here as here_is, symbol as symbol_is, optional as optional_is, braces as braces_is, many as many_is}
+use Rattle.cmm_ast.specs.ExpressionGrammar as grammar
+use Rattle.cmm_ast.specs.UnitGrammar as units
+use Rattle.cmm_ast.specs.Derivation.{at_start, Derives, Begins}
+use Rattle.cmm_readers.specs.Reading.{Fault, Unexpected, TooDeep, Stopped, Reads, next}
+use Rattle.cmm_readers.specs.ReadingLaws.{point, reach, Begun, Answers}
+use Rattle.cmm_readers.specs.ExpressionReading.{named_type, begins_expression}
+use Rattle.cmm_readers.specs.PartReading.{is_any_name, is_any_text}
+use Rattle.cmm_readers.specs.DeclarationReading.{is_other}
+use Rattle.cmm_readers.specs.UnitReading.{count_in, count_of, count, initial, values_of, named_datum, datum_at, named_item, align_item, item_by, flat_item, in_braces, span, item, section, top_level, any_token, parts}
+use Rattle.cmm_readers.proofs.Sounds.{taken_then}
+use Rattle.cmm_readers.proofs.Lists.{takes_nothing}
+use Rattle.cmm_readers.proofs.SoundUnits.{count_of_is, span_is}
+use Rattle.cmm_readers.proofs.Viables.{put, Led, Ended, Leads, Extends, led_taken, after_leads, whole_viable, give_leads, last_leads, made_leads, same_leads, stop_leads, if_next_leads, is_viable}
+use Rattle.cmm_readers.proofs.ViableTokens.{here_viable}
+use Rattle.cmm_readers.proofs.ViableLists.{symbol_viable, keyword_viable, ident_viable, text_viable, int_viable, if_symbol_leads, square_viable, braces_viable, many_viable, listed_viable}
+use Rattle.cmm_readers.proofs.ViableDeclarations.{bits_viable, decl_viable}
+use Rattle.cmm_readers.proofs.ViableProcedures.{procedure_leads, proc_viable}
+use Rattle.cmm_readers.proofs.ViableOperands.{whole_expr_viable, whole_prim_viable}
+use Rattle.cmm_readers.proofs.ViableBlocks.{block_viable}
+use Rattle.cmm_readers.specs.StatementReading.{block}
+use Rattle.cmm_readers.specs.UnitLaws.{whole_unit, WhatIsOverIsTooDeep}
+
+-- ---- a tree that begins with what was read of it
+
+module _ (n : ℕ) (part : Takes) where
+  -- the first token has the number that was read
+  numbered : {first free : Bool} {was now : Option Lexeme} {r q : Reading} {xs : List Lexeme} → Led first free was now (λ k. (here_is n ⨾ part) ⨾ k) r xs q →
+      (n == r.taken) ≡ true
+  numbered {r = r} {q = q} {xs = xs} led =
+      by (n == r.taken) (put (xs ++ []) r) (put [] q) (led.again nothing [] (inr (λ e. refl)))
+    where
+      by : (test : Bool) (r after : Reading) →
+          elim (elim (elim test as (λ _. Option Reading) [ true ↦ Some r | false ↦ None ]) as (λ _. Option Reading) [ Some x ↦ part x | None ↦ None ])
+          as (λ _. Option Reading) [ Some x ↦ Some x | None ↦ None ]
+          ≡ Some after →
+          test ≡ true
+      by true r after e = refl
+      by false r after e = absurd cc
+
+  led_begun : {first later : Bool} {was now : Option Lexeme} (is : Takes) {r q : Reading} {xs : List Lexeme} → (n == r.taken) ≡ true →
+      Led first later was now (λ k. is ⨾ k) r xs q → Led first later was now (λ k. (here_is n ⨾ is) ⨾ k) r xs q
+  led_begun is {r = r} {q = q} {xs = xs} same led = record {
+    again = λ k rest may.
+        taken_then (here_is n ⨾ is) k (put (xs ++ rest) r) (put rest q)
+        (taken_then (here_is n) is (put (xs ++ rest) r) (put (xs ++ rest) r) (rw (here_is, same) refl) ∙ led_taken is led rest may);
+    quiet = led.quiet;
+  }
+
+  begun_leads : {A : Type 0} {first free later : Bool} {reads : Reads A} {is : A → Takes} → Leads first free later (λ k. (here_is n ⨾ part) ⨾ k) reads is →
+      Leads first free later (λ k. (here_is n ⨾ part) ⨾ k) reads (λ a. here_is n ⨾ is a)
+  begun_leads {A = A} {first = first} {later = later} {is = is} it = record {
+    reached = λ r p before a after e.
+        let there = it.reached r p before a after e in
+        record { tokens = there.tokens; left = there.left; taken = there.taken; led = led_begun (is a) (numbered before.led) there.led };
+    ends = record { ends = λ was now r tokens q led. ended was r tokens q.over (numbered led) (it.ends.ends was now r tokens q led) };
+    halts = λ r p before fault token e.
+        let h = it.halts r p before fault token e in
+        record {
+          front = h.front;
+          back = h.back;
+          split = h.split;
+          reaches = h.reaches;
+          ended = ended (next r.left) r h.front _ (numbered before.led) h.ended;
+        };
+  }
+    where
+      ended : (was : Option Lexeme) (r : Reading) (xs : List Lexeme) (over : Option ℕ) → (n == r.taken) ≡ true → Ended first later was is r xs over →
+          Ended first later was (λ a. here_is n ⨾ is a) r xs over
+      ended was r xs over same e = record { tree = e.tree; more = e.more; after = e.after; led = led_begun (is e.tree) same e.led; stays = e.stays }
+
+-- ---- data
+
+count_viable : (fuel : ℕ) → Extends true true (count fuel) units.count
+count_viable fuel =
+    whole_viable (if_next_leads _ (last_leads count_of (square_viable inside) count_of_is) (give_leads counts.One refl))
+  where
+    inside : Extends true true (count_in fuel) (optional_is grammar.whole)
+    inside = whole_viable (if_next_leads _ (give_leads None refl) (last_leads (λ e. Some e) (whole_expr_viable fuel) (λ e. refl)))
+
+initial_viable : (fuel : ℕ) → Extends true true (initial fuel) units.initial
+initial_viable fuel =
+    whole_viable
+    (if_next_leads is_any_text (last_leads initials.Text text_viable (λ t. refl))
+    (if_next_leads _
+    (last_leads initials.Values (braces_viable (listed_viable (whole_expr_viable fuel) begins_expression fuel)) (λ found. refl))
+    (give_leads initials.Zeros refl)))
+
+values_leads : (fuel : ℕ) (width : TypeName) → Leads true true true (λ k. grammar.type_name width ⨾ k) (values_of fuel width) units.datum_form
+values_leads fuel width =
+    after_leads (count_viable fuel) (λ how_many. after_leads (initial_viable fuel) (λ first. last_leads _ (symbol_viable Semicolon) (λ _. refl)))
+
+named_datum_leads : (fuel : ℕ) (name : Ident) → Leads true true true (λ k. grammar.ident name ⨾ k) (named_datum fuel name) units.datum_form
+named_datum_leads fuel name =
+    if_symbol_leads Colon (give_leads (data_forms.Label name) (ap (λ t. grammar.ident name ⨾ t) (sym (takes_nothing (symbol_is Colon)))))
+    (values_leads fuel (named_type name))
+
+-- ---- items of a section
+
+align_item_viable : Extends true true align_item units.item
+align_item_viable =
+    whole_viable
+    (after_leads here_viable (λ token.
+    after_leads (keyword_viable Align) (λ _.
+    after_leads int_viable (λ bytes. last_leads (λ _. datum_at token (data_forms.Align bytes)) (symbol_viable Semicolon) (λ _. refl)))))
+
+in_braces_viable : (turns : ℕ) {inner : Reads Item} → Extends true true inner units.item →
+    Extends true true (in_braces turns inner) (λ inside. braces_is (many_is units.item inside))
+in_braces_viable turns inner = braces_viable (many_viable inner (is_other CloseBrace) turns)
+
+span_viable : (fuel : ℕ) {inner : Reads Item} → Extends true true inner units.item → Extends true true (span fuel inner) units.item
+span_viable fuel inner =
+    whole_viable
+    (after_leads here_viable (λ token.
+    after_leads (keyword_viable Span) (λ _.
+    after_leads (whole_prim_viable fuel) (λ key.
+    after_leads (whole_expr_viable fuel) (λ value.
+    last_leads (λ inside. items.Span token key value inside) (in_braces_viable fuel inner) (span_is token key value))))))
+
+-- a procedure, or data, after its name
+named_item_leads : (fuel : ℕ) (name : Ident) → Leads true true true (λ k. grammar.ident name ⨾ k) (named_item fuel (block fuel) name) units.item
+named_item_leads fuel name =
+    if_next_leads _ (made_leads items.Proc (procedure_leads (block_viable fuel) fuel name) (λ p. refl))
+    (made_leads (datum_at name.token) (begun_leads name.token (token_is (is_name name.name)) (named_datum_leads fuel name)) (λ form. refl))
+
+flat_item_leads : (fuel : ℕ) → Leads true true true (λ k. k) (flat_item fuel (block fuel)) units.item
+flat_item_leads fuel =
+    if_next_leads is_any_name (after_leads ident_viable (λ name. named_item_leads fuel name))
+    (if_next_leads _ (same_leads align_item_viable (λ i. refl)) (after_leads bits_viable by))
+  where
+    by : (o : Option TypeName) → Leads true true true (λ k. optional_is grammar.type_name o ⨾ k) (item_by fuel o) units.item
+    by (Some width) = made_leads (datum_at width.token) (begun_leads width.token (grammar.type_form width.form) (values_leads fuel width)) (λ form. refl)
+    by None = last_leads items.Decl (decl_viable fuel) (λ d. refl)
+
+item_viable : (fuel : ℕ) → Extends true true (item fuel block) units.item
+item_viable zero = whole_viable (stop_leads (flat_item_leads zero).ends)
+item_viable (suc fuel) =
+    whole_viable
+    (if_next_leads _ (same_leads (span_viable fuel (item_viable fuel)) (λ i. refl)) (flat_item_leads (suc fuel)))
+
+section_viable : (fuel : ℕ) → Extends true true (section fuel block) units.section
+section_viable fuel =
+    whole_viable
+    (after_leads here_viable (λ token.
+    after_leads (keyword_viable SectionWord) (λ _.
+    after_leads text_viable (λ name. last_leads _ (in_braces_viable fuel (item_viable fuel)) (λ inside. refl)))))
+
+top_level_viable : (fuel : ℕ) → Extends true true (top_level fuel block) units.top_level
+top_level_viable fuel =
+    whole_viable
+    (if_next_leads _ (last_leads tops.Section (section_viable fuel) (λ s. refl))
+    (if_next_leads is_any_name (last_leads tops.Proc (proc_viable (block_viable fuel) fuel) (λ p. refl))
+    (last_leads tops.Decl (decl_viable fuel) (λ d. refl))))
+
+pub parts_viable : (fuel : ℕ) → Extends true true (parts fuel block) (many_is units.top_level)
+parts_viable fuel = many_viable (top_level_viable fuel) any_token fuel
+
+-- ---- what a stop says of units
+
+abbrev unit_of : List TopLevel → UnitTree
+unit_of found = record { parts = found; places = [] }
+
+-- the parts that begin with the tokens gone through are those of a unit
+derived : (tokens : List Lexeme) (fault : Fault) (token : ℕ) (begun : Begun (many_is units.top_level) fault token (point (at_start tokens))) →
+    Derives (take (reach fault token) tokens ++ begun.more) (unit_of begun.tree)
+derived tokens fault token begun =
+    let all : reach fault token - 0 ≡ reach fault token = omega arith in
+    record {
+      after = begun.after;
+      takes = ap (λ n. many_is units.top_level begun.tree (at_start (take n tokens ++ begun.more))) (sym all) ∙ begun.taken;
+      all = begun.all;
+    }
+
+stopped : (tokens : List Lexeme) (fault : Fault) (token : ℕ) → Answers whole_unit tokens (Stopped fault token) →
+    Begun (many_is units.top_level) fault token (point (at_start tokens))
+stopped tokens fault token stops =
+    let more = suc (length tokens) in
+    (is_viable (parts_viable more)).viable (point (at_start tokens)) fault token
+    (stops more (omega arith))
+
+-- some unit begins with the tokens before one that is refused, or before their end
+pub begins_before : (tokens : List Lexeme) (token : ℕ) → Answers whole_unit tokens (Stopped Unexpected token) → Begins (take token tokens)
+begins_before tokens token stops =
+    let begun = stopped tokens Unexpected token stops in
+    (unit_of begun.tree, begun.more, derived tokens Unexpected token begun)
+
+-- what is refused is one of the tokens, or their end
+pub stops_inside : (tokens : List Lexeme) (fault : Fault) (token : ℕ) → Answers whole_unit tokens (Stopped fault token) →
+    reach fault token ≤ length tokens
+stops_inside tokens fault token stops = let up_to = (stopped tokens fault token stops).up_to in omega arith
+
+-- some unit passes a limit first at the token that is refused for that
+pub is_too_deep : WhatIsOverIsTooDeep
+unfolding derived
+is_too_deep tokens token stops =
+    let begun = stopped tokens TooDeep token stops in
+    record {
+      inside = stops_inside tokens TooDeep token stops;
+      tree = unit_of begun.tree;
+      more = begun.more;
+      derives = derived tokens TooDeep token begun;
+      over = begun.over refl;
+    }

@@ -1,0 +1,12 @@
+pub mod Reading
+pub mod ReadingLaws
+pub mod ExpressionReading
+pub mod CallReading
+pub mod TargetReading
+pub mod StatementReading
+pub mod DeclarationReading
+pub mod ProcedureReading
+pub mod UnitReading
+pub mod ExpressionLaws
+pub mod PartReading
+pub mod UnitLaws
