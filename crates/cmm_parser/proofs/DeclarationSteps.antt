@@ -1,0 +1,60 @@
+-- Steps of declarations, procedures and units: what may be left out, and the number of the first token.
+use Rattle.std.proofs.Common.{◌≡◌, subst, ℕ, zero, suc, pred, ◌<◌, Bool, true, false, IsTrue, IsFalse, length, Option, Some, None, MatchOption, Result, Ok, refl, arith}
+use Rattle.cmm_lexer.specs.declared.piece.Lexeme.{Lexeme}
+use Rattle.cmm_ast.specs.declared.expression.TypeName.{TypeName}
+use Rattle.cmm_readers.specs.Reading.{Point, Reads, ◌>>=◌, if_next, skip, give, here}
+use Rattle.cmm_readers.specs.ExpressionReading.{type_name}
+use Rattle.cmm_readers.specs.PartReading.{is_width}
+use Rattle.cmm_readers.specs.DeclarationReading.{bits}
+use Rattle.cmm_readers.specs.StatementReading.{block}
+use Rattle.cmm_readers.specs.UnitReading.{span, item, flat_item}
+use Rattle.cmm_ast.specs.Numbers.{keyword_number}
+use Rattle.cmm_ast.specs.Taking.{is_keyword}
+use Rattle.cmm_ast.specs.declared.keyword.Keyword.TheVariants.{Span as SpanWord}
+use Rattle.cmm_ast.specs.declared.unit.Item.{Item}
+use Rattle.cmm_parser.specs.declared.fault.Stop.{Stop}
+use Rattle.cmm_parser.specs.Parsing.{Answered, Parses, Skips, Stays, Bits}
+use Rattle.cmm_parser.proofs.Steps.{steps, holds, takes, leaves, gives}
+
+-- a word that may be left out was next or not
+pub accepted : {test : Lexeme → Bool} {before between : Point} (found : Bool) → (IsTrue found → Skips test before between) → (IsFalse found → Stays test before between) →
+    Parses (λ fuel. if_next test (skip >>= λ _. give true) (give false)) before (Ok found) between
+accepted true taken kept = takes (taken refl) gives
+accepted false taken kept = leaves (kept refl) gives
+
+-- the number of the next token is kept
+pub from_here : {A : Type 0} {before after : Point} {token : ℕ} {result : Result A Stop} (rest : ℕ → ℕ → Reads A) → token ≡ before.taken →
+    Parses (rest token) before result after → Parses (λ fuel. here >>= λ token. rest token fuel) before result after
+from_here {A} {before} {after} {token} {result} rest is one = record {
+  answers = λ fuel less. subst (λ token. Answered (rest token fuel true before) result after) is (one.answers fuel less);
+  fewer = one.fewer;
+}
+
+-- a reader of a value by another name
+pub reads_same : {A B : Type 0} {before after : Point} {a b : A} {result : Result B Stop} (rest : A → ℕ → Reads B) → a ≡ b → Parses (rest a) before result after →
+    Parses (rest b) before result after
+reads_same {before = before} {after = after} {result = result} rest same one = subst (λ a. Parses (rest a) before result after) same one
+
+-- a word for bits was next or not
+pub bits_next : {before after : Point} {width : TypeName} → Bits width before after → Parses (λ fuel. bits) before (Ok (Some width)) after
+bits_next found =
+    let typed : Parses (λ fuel. type_name) _ (Ok _) _ = record { answers = λ fuel less. found.reads; fewer = let less = found.fewer in omega arith } in
+    holds found.passing (steps _ typed gives)
+
+pub no_bits : {before after : Point} → Stays is_width before after → Parses (λ fuel. bits) before (Ok None) after
+no_bits stays = leaves stays gives
+
+pub may_bits : {before after : Point} (found : Option TypeName) → MatchOption found (Stays is_width before after) (λ width. Bits width before after) →
+    Parses (λ fuel. bits) before (Ok found) after
+may_bits (Some width) is = bits_next is
+may_bits None is = no_bits is
+
+-- an item of a section by its first word: what a span holds is read with one turn less
+abbrev pub item_turn : ℕ → Reads Item
+item_turn fuel = if_next (is_keyword (keyword_number SpanWord)) (span (pred fuel) (item (pred fuel) block)) (flat_item fuel (block fuel))
+
+pub item_turned : {before after : Point} {result : Result Item Stop} → Parses item_turn before result after → Parses (λ fuel. item fuel block) before result after
+item_turned {before} {after} {result} one = record { answers = by; fewer = one.fewer } where
+  by : (fuel : ℕ) → length before.left < fuel → Answered (item fuel block true before) result after
+  by zero less = absurd (omega arith)
+  by (suc fuel) less = one.answers (suc fuel) less

@@ -1,0 +1,28 @@
+use Rattle.std.proofs.Common.{rules}
+use Rattle.cmm_parser.proofs.Steps.{steps, stops, gives}
+use Rattle.cmm_parser.proofs.DeclarationSteps.{accepted}
+use Rattle.cmm_parser.proofs.parser.Parser.register.Goals as goal
+
+pub returns-in_err-width-clause-answers : goal.returns-in_err-width-clause-answers
+returns-in_err-width-clause-answers c =
+    steps _ (accepted _ c.accept_word-invariant.ensures.taken c.accept_word-invariant.ensures.kept)
+    (steps _ c.in_ok-expect_word.ensures.answers (steps _ c.in_ok-kind.ensures (stops _ c.in_err-width.ensures.answers (search rules))))
+
+pub returns-in_err-names-clause-answers : goal.returns-in_err-names-clause-answers
+returns-in_err-names-clause-answers c =
+    steps _ (accepted _ c.accept_word-invariant.ensures.taken c.accept_word-invariant.ensures.kept)
+    (steps _ c.in_ok-expect_word.ensures.answers
+    (steps _ c.in_ok-kind.ensures (steps _ c.in_ok-width.ensures.answers (stops _ c.in_err-names.ensures (search rules)))))
+
+pub returns-in_err-expect-clause-answers : goal.returns-in_err-expect-clause-answers
+returns-in_err-expect-clause-answers c =
+    steps _ (accepted _ c.accept_word-invariant.ensures.taken c.accept_word-invariant.ensures.kept)
+    (steps _ c.in_ok-expect_word.ensures.answers
+    (steps _ c.in_ok-kind.ensures
+    (steps _ c.in_ok-width.ensures.answers (steps _ c.in_ok-names.ensures (stops _ c.in_err-expect.ensures.answers (search rules))))))
+
+pub returns-clause-answers : goal.returns-clause-answers
+returns-clause-answers c =
+    steps _ (accepted _ c.accept_word-invariant.ensures.taken c.accept_word-invariant.ensures.kept)
+    (steps _ c.in_ok-expect_word.ensures.answers
+    (steps _ c.in_ok-kind.ensures (steps _ c.in_ok-width.ensures.answers (steps _ c.in_ok-names.ensures (steps _ c.in_ok-expect.ensures.answers gives)))))

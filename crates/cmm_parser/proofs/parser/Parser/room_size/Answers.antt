@@ -1,0 +1,14 @@
+use Rattle.std.proofs.Common.{rules}
+use Rattle.cmm_ast.specs.declared.keyword.Symbol.TheVariants.{OpenSquare, CloseSquare}
+use Rattle.cmm_parser.proofs.Steps.{stopped, stops_inside, stops_closing}
+use Rattle.cmm_parser.proofs.parser.Parser.room_size.Goals as goal
+
+pub returns-in_err-size-clause-answers : goal.returns-in_err-size-clause-answers
+returns-in_err-size-clause-answers c =
+    stopped (stops_inside OpenSquare CloseSquare c.in_ok-outside.ensures.answers c.in_err-size.ensures.answers) (search rules)
+
+pub returns-in_err-leave-clause-answers : goal.returns-in_err-leave-clause-answers
+returns-in_err-leave-clause-answers c =
+    stopped
+    (stops_closing OpenSquare CloseSquare c.in_ok-outside.ensures.answers c.in_ok-outside.ensures.outside c.in_ok-size.ensures.answers c.in_err-leave.ensures.answers)
+    (search rules)

@@ -1,0 +1,33 @@
+-- What the parser's answer says of the tokens of a unit.
+use Rattle.std.specs.Prelude.{◌≡◌, ◌⊎◌, List, [], ◌∷◌, ◌++◌, map}
+use Rattle.cmm_lexer.specs.declared.piece.Lexeme.{Lexeme}
+use Rattle.cmm_lexer.specs.declared.token.Token.{Token}
+use Rattle.cmm_lexer.specs.declared.tokens.Tokens.{Tokens}
+use Rattle.cmm_ast.specs.declared.unit.Place.{Place}
+use Rattle.cmm_ast.specs.Derivation.{IsUnexpected, IsTooDeep}
+use Rattle.cmm_parser.specs.declared.fault.SyntaxFault.{SyntaxFault}
+use Rattle.cmm_parser.specs.declared.fault.SyntaxFault.TheVariants.{At, Memory}
+use Rattle.cmm_parser.specs.declared.fault.Stop.{Stop}
+use Rattle.cmm_parser.specs.declared.fault.Stop.TheVariants as stop
+use Rattle.cmm_parser.specs.Parsing.{lexemes}
+
+-- the tokens of a unit, with their spellings
+abbrev pub lexemes_of : Tokens → List Lexeme
+lexemes_of ts = lexemes ts ts.list
+
+-- where each of them stands, and the end of the unit
+abbrev pub place_of : Token → Place
+place_of t = record { line = t.line; column = t.column }
+
+abbrev pub places_of : Tokens → List Place
+places_of ts = map place_of ts.list ++ record { line = ts.line; column = ts.column } ∷ []
+
+-- rule 10 names the token that no unit goes on with, rule 11 the first that passes a limit on nesting
+abbrev pub IsFaultOf : List Lexeme → SyntaxFault → Type 0
+IsFaultOf tokens (At rule token) = ((rule ≡ 10) × IsUnexpected tokens token) ⊎ ((rule ≡ 11) × IsTooDeep tokens token)
+IsFaultOf tokens Memory = Unit {0}
+
+abbrev pub fault_of : Stop → SyntaxFault
+fault_of (stop.Unexpected token) = At 10 token
+fault_of (stop.TooDeep token) = At 11 token
+fault_of stop.Memory = Memory

@@ -1,0 +1,79 @@
+-- What a method of the parser owes the reader of the same name: where there is memory, it answers what the reader answers.
+use Rattle.std.specs.Prelude.{◌≡◌, ℕ, suc, ◌<◌, ◌≤◌, Bool, true, false, List, map, length, Result, Ok, Err, OnOk}
+use Rattle.cmm_lexer.specs.declared.piece.Lexeme.{Lexeme}
+use Rattle.cmm_lexer.specs.declared.token.Token.{Token}
+use Rattle.cmm_lexer.specs.declared.token.TokenKind.{TokenKind}
+use Rattle.cmm_lexer.specs.declared.tokens.Tokens.{Tokens}
+use Rattle.cmm_lexer.specs.Lexing.{lexeme_of}
+use Rattle.cmm_readers.specs.Reading.{Point, Unexpected, TooDeep, Answer, Read, Stopped, Reads, next, past, passes, and_then, if_next, skip_opening, stop as refuse, symbol}
+use Rattle.cmm_ast.specs.Numbers.{keyword_number, symbol_number}
+use Rattle.cmm_ast.specs.Taking.{is_keyword, is_symbol}
+use Rattle.cmm_ast.specs.declared.keyword.Keyword.TheVariants.{If}
+use Rattle.cmm_ast.specs.declared.keyword.Symbol.{Symbol}
+use Rattle.cmm_ast.specs.declared.expression.TypeName.{TypeName}
+use Rattle.cmm_readers.specs.ExpressionReading.{type_name}
+use Rattle.cmm_readers.specs.PartReading.{is_width}
+use Rattle.cmm_parser.specs.declared.fault.Stop.{Stop}
+use Rattle.cmm_parser.specs.declared.fault.Stop.TheVariants as stop
+use Rattle.cmm_parser.specs.declared.parser.Parser.{Parser}
+
+-- what a token is, as a reader sees it
+abbrev pub lexeme_in : Tokens → TokenKind → Lexeme
+lexeme_in tokens kind = lexeme_of tokens.spellings.keys kind
+
+abbrev pub lexemes : Tokens → List Token → List Lexeme
+lexemes tokens list = map (λ t. lexeme_in tokens t.kind) list
+
+-- where a parser stands, as a reader sees it
+unfoldable pub point_of : Parser → Point
+point_of p = record { left = lexemes p.tokens.now p.rest.now; taken = p.taken; open_brackets = p.open; operators = p.operators }
+
+-- the parser's answer is the reader's, want of memory aside
+abbrev pub Answered : {A : Type 0} → Answer A → Result A Stop → Point → Type 0
+Answered answer (Ok a) after = answer ≡ Read a after
+Answered answer (Err (stop.Unexpected token)) after = answer ≡ Stopped Unexpected token
+Answered answer (Err (stop.TooDeep token)) after = answer ≡ Stopped TooDeep token
+Answered answer (Err stop.Memory) after = Unit {0}
+
+-- from one point to another a parser answers what this reader answers, for any count above the tokens that are left
+pub record Parses {A : Type 0} (reads : ℕ → Reads A) (before : Point) (result : Result A Stop) (after : Point) : Type 0 where
+  pub answers : (fuel : ℕ) → length before.left < fuel → Answered (reads fuel true before) result after
+  pub fewer : OnOk result (length after.left ≤ length before.left)
+
+-- after the next token
+abbrev pub skipped : Point → Point
+skipped p = record p { left = past p.left; taken = suc p.taken }
+
+-- the next token passes a test, and is taken
+pub record Skips (test : Lexeme → Bool) (before after : Point) : Type 0 where
+  pub passing : passes test (next before.left) ≡ true
+  pub there : after ≡ skipped before
+  pub fewer : length after.left < length before.left
+
+-- the next token does not, and nothing is taken
+pub record Stays (test : Lexeme → Bool) (before after : Point) : Type 0 where
+  pub failing : passes test (next before.left) ≡ false
+  pub there : after ≡ before
+
+-- the next token, which opens this bracket
+abbrev pub opening : Symbol → Reads (Unit {0})
+opening bracket = if_next (is_symbol (symbol_number bracket)) skip_opening refuse
+
+-- the `if` after an `else`, which counts as an opening bracket
+abbrev pub chaining : Reads (Unit {0})
+chaining = if_next (is_keyword (keyword_number If)) skip_opening refuse
+
+-- the next token, which closes this bracket, outside of which so many are open
+abbrev pub closing : Symbol → ℕ → Reads (Unit {0})
+closing bracket outside limited p = and_then (symbol bracket limited p) (λ _ after. Read tt record after { open_brackets = outside })
+
+-- what was given is left aside
+abbrev pub without : {A : Type 0} → Result A Stop → Result (Unit {0}) Stop
+without (Ok a) = Ok tt
+without (Err e) = Err e
+
+-- the next token is a word for bits, which is taken as a type
+pub record Bits (width : TypeName) (before after : Point) : Type 0 where
+  pub passing : passes is_width (next before.left) ≡ true
+  pub reads : type_name true before ≡ Read width after
+  pub fewer : length after.left < length before.left

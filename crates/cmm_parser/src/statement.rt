@@ -1,0 +1,186 @@
+//! Blocks, and the statements that hold blocks.
+
+ghost use Rattle.std.specs.Prelude.{◌≡◌, ◌+◌, ◌-◌, ◌<◌, ◌≤◌, ℕ, [], length, OnOk};
+ghost use Rattle.cmm_ast.specs.declared.keyword.Symbol.TheVariants.{OpenSquare};
+ghost use Rattle.cmm_ast.specs.Numbers.{symbol_number};
+ghost use Rattle.cmm_ast.specs.Taking.{is_symbol};
+ghost use Rattle.cmm_readers.specs.Reading.{optional, many};
+ghost use Rattle.cmm_readers.specs.StatementReading as readers;
+ghost use Rattle.cmm_readers.specs.StatementReading.{is_within};
+ghost use Rattle.cmm_parser.specs.Parsing.{Parses, point_of};
+
+use crate::fault::Stop;
+use crate::parser::Parser;
+use cmm_ast::{Arm, Block, Keyword, Local, Otherwise, Part, Span, Stmt, StmtForm, Symbol};
+use cmm_items::{Boxed, Items};
+use cmm_readers::PartForm;
+
+/// The part with these numbers of its first token and of the token after its last.
+fn part_of(token: u32, past: u32, form: PartForm) -> Part
+    ensures { result ≡ readers.part_of token past form }
+{
+    match form {
+        PartForm::OfLocal(form) => Part::Local(Local { token, past, form }),
+        PartForm::OfStmt(form) => Part::Stmt(Stmt { token, past, form }),
+    }
+}
+
+impl Parser<'_> {
+    /// Statements and declarations in braces.
+    #[cycle(statement)]
+    pub(crate) fn block(&mut self) -> Result<Block, Stop>
+        ensures answers { Parses (λ fuel. readers.block fuel) (point_of self.old) result (point_of self.new) }
+        ensures taken { OnOk result (length (point_of self.new).left < length (point_of self.old).left) }
+    {
+        let outside = self.enter(Symbol::OpenBrace)?;
+        let parts = self.body()?;
+        self.leave(Symbol::CloseBrace, outside)?;
+        Ok(Block { parts })
+    }
+
+    /// The parts of a block, up to its closing brace.
+    #[cycle(statement)]
+    fn body(&mut self) -> Result<Items<Part>, Stop>
+        ensures { (depth : ℕ) → length (point_of self.old).left < depth → Parses (λ fuel. many fuel is_within (readers.part fuel (readers.block depth)) []) (point_of self.old) result (point_of self.new) }
+    {
+        let mut parts = Items::new(self.alloc);
+        while self.is_within(Symbol::CloseBrace) {
+            parts.push(self.part()?)?;
+        }
+        Ok(parts)
+    }
+
+    /// A statement or a declaration.
+    #[cycle(statement)]
+    pub(crate) fn part(&mut self) -> Result<Part, Stop>
+        ensures answers { (depth : ℕ) → length (point_of self.old).left < depth → Parses (λ fuel. readers.part fuel (readers.block depth)) (point_of self.old) result (point_of self.new) }
+        ensures taken { OnOk result (length (point_of self.new).left < length (point_of self.old).left) }
+    {
+        let token = self.here();
+        let form = self.part_form()?;
+        let past = self.here();
+        Ok(part_of(token, past, form))
+    }
+
+    /// What a part of a block is, by its first token.
+    #[cycle(statement)]
+    fn part_form(&mut self) -> Result<PartForm, Stop>
+        ensures answers { (depth : ℕ) → length (point_of self.old).left < depth → Parses (λ fuel. readers.part_form fuel (readers.block depth)) (point_of self.old) result (point_of self.new) }
+        ensures taken { OnOk result (length (point_of self.new).left < length (point_of self.old).left) }
+    {
+        if self.accept_word(Keyword::If) {
+            Ok(PartForm::OfStmt(self.if_form()?))
+        } else if self.accept_word(Keyword::Switch) {
+            Ok(PartForm::OfStmt(self.switch_form()?))
+        } else if self.accept_word(Keyword::Span) {
+            Ok(PartForm::OfStmt(self.span_form()?))
+        } else {
+            self.flat_part()
+        }
+    }
+
+    /// What follows an `if`.
+    #[cycle(statement)]
+    fn if_form(&mut self) -> Result<StmtForm, Stop>
+        ensures answers { (turns depth : ℕ) → length (point_of self.old).left < turns → length (point_of self.old).left < depth → Parses (λ fuel. readers.if_form fuel (readers.block depth) (readers.otherwise turns fuel (readers.block depth))) (point_of self.old) result (point_of self.new) }
+        ensures taken { OnOk result (length (point_of self.new).left < length (point_of self.old).left) }
+    {
+        let condition = self.whole()?;
+        let then = self.block()?;
+        let otherwise = self.otherwise()?;
+        Ok(StmtForm::If {
+            condition,
+            then,
+            otherwise,
+        })
+    }
+
+    /// What stands after the block of an `if`.
+    #[cycle(statement)]
+    fn otherwise(&mut self) -> Result<Otherwise, Stop>
+        ensures { (turns depth : ℕ) → length (point_of self.old).left < turns → length (point_of self.old).left < depth → Parses (λ fuel. readers.otherwise turns fuel (readers.block depth)) (point_of self.old) result (point_of self.new) }
+    {
+        if self.accept_word(Keyword::Else) {
+            if self.is_symbol(Symbol::OpenBrace) {
+                return Ok(Otherwise::Else(self.block()?));
+            }
+            let chained = self.chained()?;
+            return Ok(Otherwise::ElseIf(Boxed::new(self.alloc, chained)?));
+        }
+        Ok(Otherwise::Nothing)
+    }
+
+    /// An `if` after an `else`, which counts as an open bracket until its chain ends.
+    #[cycle(statement)]
+    fn chained(&mut self) -> Result<Stmt, Stop>
+        ensures answers { (turns depth : ℕ) → length (point_of self.old).left < turns → length (point_of self.old).left < depth → Parses (λ fuel. readers.chained (readers.if_form fuel (readers.block depth) (readers.otherwise turns fuel (readers.block depth)))) (point_of self.old) result (point_of self.new) }
+        ensures taken { OnOk result (length (point_of self.new).left < length (point_of self.old).left) }
+    {
+        let token = self.here();
+        let outside = self.enter_if()?;
+        let form = self.if_form()?;
+        let past = self.here();
+        self.close(outside);
+        Ok(Stmt { token, past, form })
+    }
+
+    /// What follows a `switch`.
+    #[cycle(statement)]
+    fn switch_form(&mut self) -> Result<StmtForm, Stop>
+        ensures answers { (depth : ℕ) → length (point_of self.old).left < depth → Parses (λ fuel. readers.switch_form fuel (readers.block depth)) (point_of self.old) result (point_of self.new) }
+        ensures taken { OnOk result (length (point_of self.new).left < length (point_of self.old).left) }
+    {
+        let range = self.optional_span()?;
+        let value = self.whole()?;
+        let outside = self.enter(Symbol::OpenBrace)?;
+        let arms = self.arms()?;
+        self.leave(Symbol::CloseBrace, outside)?;
+        Ok(StmtForm::Switch { range, value, arms })
+    }
+
+    /// The values that a switch is over, where they stand in square brackets.
+    fn optional_span(&mut self) -> Result<Option<Span>, Stop>
+        ensures { Parses (λ fuel. optional (is_symbol (symbol_number OpenSquare)) (readers.switch_span fuel)) (point_of self.old) result (point_of self.new) }
+    {
+        if self.is_symbol(Symbol::OpenSquare) {
+            Ok(Some(self.switch_span()?))
+        } else {
+            Ok(None)
+        }
+    }
+
+    /// The arms of a switch, up to its closing brace.
+    #[cycle(statement)]
+    fn arms(&mut self) -> Result<Items<Arm>, Stop>
+        ensures { (depth : ℕ) → length (point_of self.old).left < depth → Parses (λ fuel. many fuel is_within (readers.arm fuel (readers.block depth)) []) (point_of self.old) result (point_of self.new) }
+    {
+        let mut arms = Items::new(self.alloc);
+        while self.is_within(Symbol::CloseBrace) {
+            arms.push(self.arm()?)?;
+        }
+        Ok(arms)
+    }
+
+    #[cycle(statement)]
+    fn arm(&mut self) -> Result<Arm, Stop>
+        ensures answers { (depth : ℕ) → length (point_of self.old).left < depth → Parses (λ fuel. readers.arm fuel (readers.block depth)) (point_of self.old) result (point_of self.new) }
+        ensures taken { OnOk result (length (point_of self.new).left < length (point_of self.old).left) }
+    {
+        let token = self.here();
+        let case = self.case()?;
+        let body = self.block()?;
+        Ok(Arm { token, case, body })
+    }
+
+    /// What follows a `span`.
+    #[cycle(statement)]
+    fn span_form(&mut self) -> Result<StmtForm, Stop>
+        ensures answers { (depth : ℕ) → length (point_of self.old).left < depth → Parses (λ fuel. readers.span_form fuel (readers.block depth)) (point_of self.old) result (point_of self.new) }
+        ensures taken { OnOk result (length (point_of self.new).left < length (point_of self.old).left) }
+    {
+        let key = self.whole_prim()?;
+        let value = self.whole()?;
+        let body = self.block()?;
+        Ok(StmtForm::Span { key, value, body })
+    }
+}

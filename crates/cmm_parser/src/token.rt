@@ -1,0 +1,207 @@
+//! One token at a time.
+
+ghost use Rattle.std.specs.Prelude.{◌≡◌, ◌+◌, ◌-◌, ◌^◌, ◌<◌, ◌≤◌, length, Ok, Some, IsTrue, IsFalse, OnOk, OnSome, MatchOption, option_map};
+ghost use Rattle.cmm_ast.specs.Numbers.{keyword_number, symbol_number};
+ghost use Rattle.cmm_ast.specs.Taking.{is_keyword, is_symbol};
+ghost use Rattle.cmm_readers.specs.Reading.{next, past, passes};
+ghost use Rattle.cmm_readers.specs.Reading as readers;
+ghost use Rattle.cmm_readers.specs.ExpressionReading.{operator_name};
+ghost use Rattle.cmm_readers.specs.PartReading.{is_any_name, is_any_text};
+ghost use Rattle.cmm_readers.specs.DeclarationReading.{is_other, optional_text};
+ghost use Rattle.cmm_parser.specs.Parsing.{Parses, Skips, Stays, skipped, point_of, lexeme_in};
+ghost use Rattle.cmm_parser.specs.declared.fault.Stop.{Stop};
+
+use crate::fault::Stop;
+use crate::parser::Parser;
+use cmm_ast::{Ident, Int, Keyword, Symbol, Text};
+use cmm_items::Items;
+use cmm_lexer::TokenKind;
+use cmm_words::Name;
+
+impl Parser<'_> {
+    /// What the next token is, if there is one.
+    #[tactic(auto, unfolding(crate::specs::Parsing::point_of))]
+    pub(crate) fn next(&self) -> Option<TokenKind>
+        ensures { next (point_of self.now).left ≡ option_map (lexeme_in self.now.tokens.now) result }
+    {
+        match self.rest.first() {
+            Some(token) => Some(token.kind),
+            None => None,
+        }
+    }
+
+    /// The number of the next token.
+    #[tactic(auto, unfolding(crate::specs::Parsing::point_of))]
+    pub(crate) fn here(&self) -> u32
+        ensures { result ≡ (point_of self.now).taken }
+    {
+        self.taken
+    }
+
+    /// The fault that the next token is none that may stand there.
+    #[tactic(auto, unfolding(crate::specs::Parsing::point_of))]
+    pub(crate) fn unexpected(&self) -> Stop
+        ensures { result ≡ Stop.Unexpected (point_of self.now).taken }
+    {
+        Stop::Unexpected(self.taken)
+    }
+
+    pub(crate) fn is_word(&self, word: Keyword) -> bool
+        ensures { passes (is_keyword (keyword_number word)) (next (point_of self.now).left) ≡ result }
+    {
+        matches!(self.next(), Some(TokenKind::Word(number)) if number == word.number())
+    }
+
+    pub(crate) fn is_symbol(&self, symbol: Symbol) -> bool
+        ensures { passes (is_symbol (symbol_number symbol)) (next (point_of self.now).left) ≡ result }
+    {
+        matches!(self.next(), Some(TokenKind::Symbol(number)) if number == symbol.number())
+    }
+
+    /// Takes the next token, if there is one.
+    #[tactic(auto, unfolding(crate::specs::Parsing::point_of))]
+    pub(crate) fn take(&mut self)
+        ensures there { 0 < length (point_of self.old).left → point_of self.new ≡ skipped (point_of self.old) }
+        ensures fewer { 0 < length (point_of self.old).left → length (point_of self.new).left < length (point_of self.old).left }
+    {
+        if let Some((_, rest)) = self.rest.split_first() {
+            self.rest = rest;
+            self.taken += 1;
+        }
+    }
+
+    pub(crate) fn is_name(&self) -> bool
+        ensures { passes is_any_name (next (point_of self.now).left) ≡ result }
+    {
+        matches!(self.next(), Some(TokenKind::Name(_)))
+    }
+
+    pub(crate) fn is_text(&self) -> bool
+        ensures { passes is_any_text (next (point_of self.now).left) ≡ result }
+    {
+        matches!(self.next(), Some(TokenKind::Text(_)))
+    }
+
+    /// A token is next, and it is not this one, which ends a row.
+    pub(crate) fn is_within(&self, end: Symbol) -> bool
+        ensures { passes (is_other «end») (next (point_of self.now).left) ≡ result }
+    {
+        self.next().is_some() && !self.is_symbol(end)
+    }
+
+    /// Takes the word where it is next, and says whether it was.
+    pub(crate) fn accept_word(&mut self, word: Keyword) -> bool
+        ensures taken { IsTrue result → Skips (is_keyword (keyword_number word)) (point_of self.old) (point_of self.new) }
+        ensures kept { IsFalse result → Stays (is_keyword (keyword_number word)) (point_of self.old) (point_of self.new) }
+    {
+        let found = self.is_word(word);
+        if found {
+            self.take();
+        }
+        found
+    }
+
+    /// Takes the symbol where it is next, and says whether it was.
+    pub(crate) fn accept(&mut self, symbol: Symbol) -> bool
+        ensures taken { IsTrue result → Skips (is_symbol (symbol_number symbol)) (point_of self.old) (point_of self.new) }
+        ensures kept { IsFalse result → Stays (is_symbol (symbol_number symbol)) (point_of self.old) (point_of self.new) }
+    {
+        let found = self.is_symbol(symbol);
+        if found {
+            self.take();
+        }
+        found
+    }
+
+    pub(crate) fn expect(&mut self, symbol: Symbol) -> Result<(), Stop>
+        ensures answers { Parses (λ fuel. readers.symbol symbol) (point_of self.old) result (point_of self.new) }
+        ensures taken { OnOk result (length (point_of self.new).left < length (point_of self.old).left) }
+    {
+        if self.accept(symbol) {
+            Ok(())
+        } else {
+            Err(self.unexpected())
+        }
+    }
+
+    pub(crate) fn expect_word(&mut self, word: Keyword) -> Result<(), Stop>
+        ensures answers { Parses (λ fuel. readers.keyword word) (point_of self.old) result (point_of self.new) }
+        ensures taken { OnOk result (length (point_of self.new).left < length (point_of self.old).left) }
+    {
+        if self.accept_word(word) {
+            Ok(())
+        } else {
+            Err(self.unexpected())
+        }
+    }
+
+    pub(crate) fn name(&mut self) -> Result<Name, Stop>
+        ensures answers { Parses (λ fuel. readers.name) (point_of self.old) result (point_of self.new) }
+        ensures taken { OnOk result (length (point_of self.new).left < length (point_of self.old).left) }
+    {
+        let Some(TokenKind::Name(number)) = self.next() else {
+            return Err(self.unexpected());
+        };
+        let name = Name::from_slice(self.alloc, self.tokens.spelling(number))?;
+        self.take();
+        Ok(name)
+    }
+
+    pub(crate) fn ident(&mut self) -> Result<Ident, Stop>
+        ensures answers { Parses (λ fuel. readers.ident) (point_of self.old) result (point_of self.new) }
+        ensures taken { OnOk result (length (point_of self.new).left < length (point_of self.old).left) }
+    {
+        let token = self.here();
+        let name = self.name()?;
+        Ok(Ident { name, token })
+    }
+
+    pub(crate) fn text(&mut self) -> Result<Text, Stop>
+        ensures answers { Parses (λ fuel. readers.text) (point_of self.old) result (point_of self.new) }
+        ensures taken { OnOk result (length (point_of self.new).left < length (point_of self.old).left) }
+    {
+        let token = self.here();
+        let Some(TokenKind::Text(number)) = self.next() else {
+            return Err(self.unexpected());
+        };
+        let bytes = Items::from_slice(self.alloc, self.tokens.spelling(number))?;
+        self.take();
+        Ok(Text { bytes, token })
+    }
+
+    /// The text that may stand here.
+    pub(crate) fn optional_text(&mut self) -> Result<Option<Text>, Stop>
+        ensures { Parses (λ fuel. optional_text) (point_of self.old) result (point_of self.new) }
+    {
+        if self.is_text() {
+            Ok(Some(self.text()?))
+        } else {
+            Ok(None)
+        }
+    }
+
+    pub(crate) fn int(&mut self) -> Result<Int, Stop>
+        ensures answers { Parses (λ fuel. readers.int) (point_of self.old) result (point_of self.new) }
+        ensures taken { OnOk result (length (point_of self.new).left < length (point_of self.old).left) }
+    {
+        let token = self.here();
+        let Some(TokenKind::Int(value)) = self.next() else {
+            return Err(self.unexpected());
+        };
+        self.take();
+        Ok(Int { value, token })
+    }
+
+    /// The operator that is next by its name, of which an outermost expression may have one more.
+    pub(crate) fn operator_name(&mut self) -> Result<Name, Stop>
+        ensures answers { Parses (λ fuel. operator_name) (point_of self.old) result (point_of self.new) }
+        ensures taken { OnOk result (length (point_of self.new).left < length (point_of self.old).left) }
+    {
+        let Some(TokenKind::Op(number)) = self.next() else {
+            return Err(self.unexpected());
+        };
+        let name = Name::from_slice(self.alloc, self.tokens.spelling(number))?;
+        self.operator()?;
+        Ok(name)
+    }
+}
