@@ -1,21 +1,18 @@
 -- Agreement with a factor: it comes from following at that cost a step.
 use Rattle.std.proofs.Common.{◌≡◌, ℕ, suc, ◌+◌, ◌*◌, ◌≤◌, sym, ap, ◌∙◌, arith, le-mul_of_pos_right, mul_comm}
-use Rattle.std.specs.Prelude.{false, Option, Some, None}
+use Rattle.std.specs.Prelude.{false, Option, Some}
 use Rattle.cmm_following.proofs.Prefixes.{within_trans}
 use Rattle.cmm_following.proofs.Runs.{grows_until, over_until, right_until, spent-constant}
 use Rattle.cmm_following.specs.Agreement.{Agrees}
 use Rattle.cmm_following.specs.Following.{Follows}
 use Rattle.cmm_following.specs.Machine.{Machine, Lasts, after}
 use Rattle.cmm_following.specs.Observing.{Level, Passes}
-use Rattle.cmm_following.specs.Seen.{Event, Input, Client, End, but_input}
+use Rattle.cmm_following.specs.Seen.{Event, End, but_input}
 
 -- an event that is no input is an event
 event_of_but_input : {C E : Type 0} (asks : Option (Event C E)) (event : Event C E) → but_input asks ≡ Some event →
     asks ≡ Some event
-event_of_but_input None event is = absurd (cc)
-event_of_but_input (Some Input) event is = absurd (cc)
-event_of_but_input (Some (Client call)) event is = is
-event_of_but_input (Some (End ending)) event is = is
+event_of_but_input asks event is = grind arith
 
 module _ {S T L C E : Type 0} {A : Machine S L C E} {B : Machine T L C E} {factor : ℕ} {s : S} {t : T} where
   -- where A is after m steps, B is level after at most factor of its own steps for each

@@ -1,8 +1,8 @@
 -- Following: it comes from a simulation, composes and scales.
-use Rattle.std.proofs.Common.{◌≡◌, ℕ, zero, suc, ◌*◌, ◌≤◌, sym, ◌∙◌, arith, le_trans, mul-le-mul_left}
+use Rattle.std.proofs.Common.{◌≡◌, ℕ, zero, suc, ◌*◌, ◌≤◌, sym, ◌∙◌, arith, mul-le-mul_left}
 use Rattle.std.specs.Prelude.{false}
 use Rattle.cmm_following.proofs.Paths.{arrived, joined, weaker}
-use Rattle.cmm_following.proofs.Runs.{false_unless, right_until, spent_above, spent_below}
+use Rattle.cmm_following.proofs.Runs.{false_unless, right_until, spent_scaled}
 use Rattle.cmm_following.proofs.Simulations.{level_trans, passes_trans}
 use Rattle.cmm_following.specs.Following.{Follows}
 use Rattle.cmm_following.specs.Machine.{Machine, Lasts, after, spent}
@@ -66,6 +66,8 @@ module _ {S T L C E : Type 0} {A : Machine S L C E} {a : S → ℕ} {B : Machine
     down = λ m right.
         let p = follows.down m right in
         let e = mul-le-mul_left k p.1 in
-        (p.0, le_trans (spent_below B k b' b cheaper p.0 t) (le_trans e (spent_above A k a a' dearer m s)), p.2);
+        let below = spent_scaled B 1 k b' b (λ x. omega (arith, cheaper x)) p.0 t in
+        let above = spent_scaled A k 1 a a' (λ x. omega (arith, dearer x)) m s in
+        (p.0, omega arith, p.2);
     up = follows.up;
   }

@@ -1,5 +1,5 @@
 -- Paths: how they begin, go on and are joined.
-use Rattle.std.proofs.Common.{◌≡◌, ℕ, ◌+◌, ◌-◌, ◌<◌, ◌≤◌, ◌⊎◌, inl, inr, refl, arith}
+use Rattle.std.proofs.Common.{◌≡◌, ℕ, ◌+◌, ◌-◌, ◌≤◌, refl, arith}
 use Rattle.cmm_following.proofs.Runs.{after-add, after-until, spent-add}
 use Rattle.cmm_following.specs.Machine.{Machine, after}
 use Rattle.cmm_following.specs.Simulation.{Leads}
@@ -43,16 +43,11 @@ module _ {S L C E : Type 0} {M : Machine S L C E} {cost : S → ℕ} where
       let second = go (after M first.steps t) first.arrives in
       record {
         steps = first.steps + second.steps;
-        through = λ i less. through second.through i less (grind arith);
+        through = λ i less. grind (arith, first.through i, second.through (i - first.steps), after-until M first.steps i t);
         arrives = rw (after-add M first.steps second.steps t) second.arrives;
         enough = omega (arith, first.enough, second.enough);
         within = rw (spent-add M cost first.steps second.steps t) (omega (arith, first.within, second.within));
       }
-    where
-      through : {k : ℕ} → ((i : ℕ) → i < k → P (after M i (after M first.steps t))) →
-          (i : ℕ) → i < first.steps + k → (i < first.steps) ⊎ (first.steps ≤ i) → P (after M i t)
-      through second i less (inl here) = first.through i here
-      through second i less (inr there) = rw (← after-until M first.steps i t there) (second (i - first.steps) (omega arith))
 
   -- a step and then a path from where it leads
   pub then_leads : {P Q : S → Type 0} {l m : ℕ} {t : S} → P t → Leads M cost P Q l m (M.step t) →

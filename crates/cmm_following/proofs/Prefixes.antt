@@ -6,6 +6,10 @@ use Rattle.cmm_following.specs.Seen.{Seen, IsPrefix, IsWithin}
 pub prefix_refl : {A : Type 0} (xs : List A) → IsPrefix xs xs
 prefix_refl xs = record { rest = []; whole = sym (append-nil xs) }
 
+-- a list begins what it becomes by more behind it
+pub prefix_more : {A : Type 0} (xs more : List A) → IsPrefix xs (xs ++ more)
+prefix_more xs more = record { rest = more; whole = refl }
+
 -- a beginning of a beginning is a beginning
 pub prefix_trans : {A : Type 0} {xs ys zs : List A} → IsPrefix xs ys → IsPrefix ys zs → IsPrefix xs zs
 prefix_trans {xs = xs} p q =

@@ -1,5 +1,5 @@
 -- Runs of one machine: how steps and costs add up, and what lasts.
-use Rattle.std.proofs.Common.{◌≡◌, ℕ, zero, suc, ◌+◌, ◌*◌, ◌-◌, ◌≤◌, ◌⊎◌, inl, inr, refl, sym, ap, ◌∙◌, arith, add-zero, add-suc, mul-zero, mul-add, mul-suc}
+use Rattle.std.proofs.Common.{◌≡◌, ℕ, zero, suc, ◌+◌, ◌*◌, ◌-◌, ◌≤◌, refl, sym, ap, ◌∙◌, arith, add-zero, add-suc, mul-zero, mul-add, mul-suc}
 use Rattle.std.specs.Prelude.{Bool, true, false, Some}
 use Rattle.cmm_following.proofs.Prefixes.{within_refl, within_trans}
 use Rattle.cmm_following.specs.Machine.{Machine, Lasts, after, spent}
@@ -7,8 +7,7 @@ use Rattle.cmm_following.specs.Seen.{IsWithin, End}
 
 -- a test that is true only where another one is true is false where that one is false
 pub false_unless : (b c : Bool) → (b ≡ true → c ≡ true) → c ≡ false → b ≡ false
-false_unless true c h is = absurd (let e = h refl in cc)
-false_unless false c h is = refl
+false_unless b c h is = grind arith
 
 module _ {S L C E : Type 0} (M : Machine S L C E) where
   -- so many steps and then so many more
@@ -32,21 +31,13 @@ module _ {S L C E : Type 0} (M : Machine S L C E) where
   spent-constant k zero s = rw (mul-zero k) refl
   spent-constant k (suc n) s = let e = spent-constant k n s in rw (mul-suc k n) (omega arith)
 
-  -- costs that are at most k times others add up to at most k times as much
-  pub spent_below : (k : ℕ) (c d : S → ℕ) → ((s : S) → c s ≤ k * d s) → (n : ℕ) (s : S) → spent M c n s ≤ k * spent M d n s
-  spent_below k c d below zero s = omega arith
-  spent_below k c d below (suc n) s =
-      let e = spent_below k c d below n s in
-      let f = below (after M n s) in
-      rw (mul-add k (spent M d n s) (d (after M n s))) (omega arith)
-
-  -- and costs that are at least k times others to at least k times as much
-  pub spent_above : (k : ℕ) (c d : S → ℕ) → ((s : S) → k * c s ≤ d s) → (n : ℕ) (s : S) → k * spent M c n s ≤ spent M d n s
-  spent_above k c d above zero s = rw (mul-zero k) (omega arith)
-  spent_above k c d above (suc n) s =
-      let e = spent_above k c d above n s in
-      let f = above (after M n s) in
-      rw (mul-add k (spent M c n s) (c (after M n s))) (omega arith)
+  -- costs of which j times one are at most k times another add up to no more
+  pub spent_scaled : (j k : ℕ) (c d : S → ℕ) → ((s : S) → j * c s ≤ k * d s) → (n : ℕ) (s : S) → j * spent M c n s ≤ k * spent M d n s
+  spent_scaled j k c d scaled zero s = rw (mul-zero j) (omega arith)
+  spent_scaled j k c d scaled (suc n) s =
+      let e = spent_scaled j k c d scaled n s in
+      let f = scaled (after M n s) in
+      rw (mul-add j (spent M c n s) (c (after M n s)), mul-add k (spent M d n s) (d (after M n s))) (omega arith)
 
   -- what holds, and every step keeps, holds after any number of steps
   kept_after : (P : S → Type 0) → ((u : S) → P u → P (M.step u)) → (n : ℕ) (s : S) → P s → P (after M n s)
@@ -78,8 +69,4 @@ module _ {S L C E : Type 0} (M : Machine S L C E) (lasts : Lasts M) where
 
   -- two ends of a run are the same
   pub one_end : (e f : E) (m n : ℕ) (s : S) → M.asks (after M m s) ≡ Some (End e) → M.asks (after M n s) ≡ Some (End f) → e ≡ f
-  one_end e f m n s p q = by_order (grind arith)
-    where
-      by_order : (m ≤ n) ⊎ (n ≤ m) → e ≡ f
-      by_order (inl le) = let o = (over_until e m n s le p).0 in cc
-      by_order (inr le) = let o = (over_until f n m s le q).0 in cc
+  one_end e f m n s p q = grind (arith, over_until e m n s, over_until f n m s)

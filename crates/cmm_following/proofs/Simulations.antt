@@ -1,9 +1,9 @@
 -- Simulations: how they compose and scale, and machines in lock-step.
-use Rattle.std.proofs.Common.{◌≡◌, ℕ, zero, suc, ◌*◌, ◌<◌, ◌≤◌, ap, ◌∙◌, arith, le_trans, mul-le-mul_left}
+use Rattle.std.proofs.Common.{◌≡◌, ℕ, zero, suc, ◌*◌, ◌<◌, ◌≤◌, ap, ◌∙◌, arith, mul-le-mul_left}
 use Rattle.std.specs.Prelude.{false}
 use Rattle.cmm_following.proofs.Paths.{arrived, one_step, joined, weaker}
 use Rattle.cmm_following.proofs.Prefixes.{within_refl, within_trans}
-use Rattle.cmm_following.proofs.Runs.{false_unless, spent_below}
+use Rattle.cmm_following.proofs.Runs.{false_unless, spent_scaled}
 use Rattle.cmm_following.specs.Machine.{Machine, after, spent}
 use Rattle.cmm_following.specs.Observing.{Level, Passes}
 use Rattle.cmm_following.specs.Seen.{but_input}
@@ -61,7 +61,9 @@ module _ {S T L C E : Type 0} {A : Machine S L C E} {a : S → ℕ} {B : Machine
           through = path.through;
           arrives = path.arrives;
           enough = path.enough;
-          within = le_trans (spent_below B k b' b cheaper path.steps t) (le_trans (mul-le-mul_left k path.within) (dearer s));
+          within =
+              let below = spent_scaled B 1 k b' b (λ x. omega (arith, cheaper x)) path.steps t in
+              omega (arith, mul-le-mul_left k path.within, dearer s);
         };
   }
 

@@ -1,49 +1,38 @@
 -- The small machines: what lasts in them, and the two simulations.
-use Rattle.std.proofs.Common.{◌≡◌, ℕ, zero, suc, List, [], ◌∷◌, ◌++◌, refl, ap, ◌∙◌, arith}
+use Rattle.std.proofs.Common.{◌≡◌, ℕ, zero, suc, [], ◌∷◌, refl, ap, ◌∙◌, arith}
 use Rattle.std.specs.Prelude.{Bool, true, false, Some}
 use Rattle.cmm_following.proofs.Paths.{one_step, then_leads, weaker}
-use Rattle.cmm_following.proofs.Prefixes.{prefix_refl, within_refl, within_trans}
+use Rattle.cmm_following.proofs.Prefixes.{prefix_more, prefix_refl, within_refl, within_trans}
 use Rattle.cmm_following.proofs.Simulations.{in_lock_step}
 use Rattle.cmm_following.specs.Machine.{Machine, Lasts}
 use Rattle.cmm_following.specs.Observing.{Passes}
 use Rattle.cmm_following.specs.Predecessors.{Predecessors, Ready, Waiting, Failed, predecessors, predecessors_step, predecessors_seen, predecessors_asks, predecessors_wrong, with_put}
-use Rattle.cmm_following.specs.Seen.{Seen, IsPrefix, IsWithin, End}
+use Rattle.cmm_following.specs.Seen.{Seen, IsWithin, End}
 use Rattle.cmm_following.specs.Simulation.{Leads, Simulates}
 use Rattle.cmm_following.specs.Ticking.{Ticking, Ticks, tick, ticking, unfetched}
-
--- a list begins what it becomes by one more element
-prefix_more : (xs : List ℕ) (x : ℕ) → IsPrefix xs (xs ++ x ∷ [])
-prefix_more xs x = record { rest = x ∷ []; whole = refl }
 
 -- what is seen is within what is seen once a number has been put
 within_put : (seen : Seen ℕ) (number less : ℕ) → IsWithin seen (with_put seen number less)
 within_put seen number less =
-    record { output = prefix_more seen.output less; log = prefix_refl seen.log; taken = prefix_more seen.taken number }
+    record { output = prefix_more seen.output (less ∷ []); log = prefix_refl seen.log; taken = prefix_more seen.taken (number ∷ []) }
 
 -- a step takes nothing back that has been seen
 grows : (checks : Bool) (s : Predecessors) → IsWithin (predecessors_seen s) (predecessors_seen (predecessors_step checks s))
-grows checks (Ready [] seen) = within_refl seen
-grows true (Ready (zero ∷ left) seen) = within_refl seen
 grows false (Ready (zero ∷ left) seen) = within_put seen 0 0
 grows checks (Ready (suc less ∷ left) seen) = within_put seen (suc less) less
 grows checks (Waiting less left seen) =
-    record { output = prefix_refl seen.output; log = prefix_more seen.log less; taken = prefix_refl seen.taken }
-grows checks (Failed seen) = within_refl seen
+    record { output = prefix_refl seen.output; log = prefix_more seen.log (less ∷ []); taken = prefix_refl seen.taken }
+grows checks s = within_refl (predecessors_seen s)
 
 -- a run that is over stays in its state
 over_stays : (checks : Bool) (s : Predecessors) (ending : ℕ) → predecessors_asks s ≡ Some (End ending) →
     predecessors_step checks s ≡ s
-over_stays checks (Ready [] seen) ending is = refl
-over_stays checks (Ready (number ∷ left) seen) ending is = absurd (cc)
-over_stays checks (Waiting less left seen) ending is = absurd (cc)
-over_stays checks (Failed seen) ending is = absurd (cc)
+over_stays checks s ending is = grind arith
 
 -- a run that has gone wrong stays so
 wrong_stays : (checks : Bool) (s : Predecessors) → predecessors_wrong s ≡ true →
     predecessors_wrong (predecessors_step checks s) ≡ true
-wrong_stays checks (Ready left seen) is = absurd (cc)
-wrong_stays checks (Waiting less left seen) is = absurd (cc)
-wrong_stays checks (Failed seen) is = is
+wrong_stays checks s is = grind arith
 
 -- so the machine lasts
 pub predecessors_last : (checks : Bool) → Lasts (predecessors checks)
@@ -58,11 +47,7 @@ predecessors_last checks = record {
 -- where the check finds no 0, it makes no difference
 same_step : (s : Predecessors) → predecessors_wrong (predecessors_step true s) ≡ false →
     predecessors_step true s ≡ predecessors_step false s
-same_step (Ready [] seen) right = refl
-same_step (Ready (zero ∷ left) seen) right = absurd (cc)
-same_step (Ready (suc less ∷ left) seen) right = refl
-same_step (Waiting less left seen) right = refl
-same_step (Failed seen) right = refl
+same_step s right = grind arith
 
 -- so the machines go in lock-step until the check goes wrong
 pub unchecked_simulates : Simulates (predecessors true) (λ _. 1) (predecessors false) (λ _. 1) (λ s t. s ≡ t)

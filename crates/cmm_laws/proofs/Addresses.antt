@@ -1,6 +1,6 @@
 -- Addresses on a valid placement: the parts of a frame lie inside it, and frames adjoin.
-use Rattle.std.proofs.Common.{◌≡◌, ℕ, replicate, zero, suc, ◌+◌, ◌-◌, ◌%◌, ◌<◌, ◌≤◌, ◌⊎◌, inl, inr, nat_le, nat_lt, true, false, Bool, List, [], ◌∷◌, map, drop, length, slice_get, slice_index_or, Option, Some, None, refl, sym, ap, subst, ◌∙◌, arith, add-one}
-use Rattle.std.proofs.lemmas.Bool.{and_parts, and_right, le-ltb, cases_order}
+use Rattle.std.proofs.Common.{◌≡◌, ℕ, zero, suc, ◌+◌, ◌-◌, ◌%◌, ◌<◌, ◌≤◌, true, false, Bool, List, [], ◌∷◌, map, drop, length, slice_get, slice_index_or, Option, Some, refl, sym, ap, ◌∙◌, arith, add-one}
+use Rattle.std.proofs.lemmas.Bool.{and_parts}
 use Rattle.std.proofs.lemmas.Bool.Decides.{nat_tests}
 use Rattle.std.proofs.lemmas.List.{drop-map, drop-drop, length-replicate}
 use Rattle.std.proofs.lemmas.List.Sums.{sum_by-cons, sum_by-take-drop}
@@ -9,7 +9,7 @@ use Rattle.cmm_program.specs.declared.placement.PlaceRow.{PlaceRow}
 use Rattle.cmm_program.specs.Layout.{data_base, data_bytes, stack_size}
 use Rattle.cmm_program.specs.Memory.{Room, is_in}
 use Rattle.cmm_program.specs.State.{Setting, Frame, Store}
-use Rattle.cmm_program.specs.Frames.{procedure_at, place_row, frame_size, sum_of_sizes, frame_address, continuation_value, stackdata_offset, room_of}
+use Rattle.cmm_program.specs.Frames.{procedure_at, place_row, frame_size, sum_of_sizes, frame_address, continuation_value, stackdata_offset}
 use Rattle.cmm_program.specs.Placed.{every, is_pair_in, is_stackdata_at, is_stackdata, is_row_placed, are_rows_placed}
 use Rattle.cmm_laws.specs.Stacks.{Extent, extent, stack_of, stackdata_at, stackdata_of, IsStack, IsSet, IsFrameAddress, pairs_of, IsOf, Pair, Stackdata}
 use Rattle.cmm_laws.proofs.Steps.{stack_dropped}
@@ -27,9 +27,8 @@ record Fits (procedure : Option Proc) (row : PlaceRow) : Type 0 where
 
 -- a test that every number passes, at one of them
 every_at : (test : ℕ → Bool) (ns : List ℕ) → every test ns ≡ true → (k : ℕ) → k < length ns → test (slice_index_or ns k 0) ≡ true
-every_at test [] all k less = absurd (omega arith)
-every_at test (n ∷ ns) all zero less = (and_parts (test n) (every test ns) all).0
-every_at test (n ∷ ns) all (suc k) less = every_at test ns (and_parts (test n) (every test ns) all).1 k (omega arith)
+every_at test (n ∷ ns) all (suc k) less = grind (arith, nat_tests, every_at test ns)
+every_at test ns all k less = grind (arith, nat_tests)
 
 -- stackdata that is placed ends inside the frame
 stackdata_fits : (p : Proc) (row : PlaceRow) → is_stackdata p row ≡ true → (offset : ℕ) → stackdata_offset p row ≡ Some offset →
@@ -39,24 +38,17 @@ stackdata_fits p row placed offset at =
 
 -- the row of a procedure, and each row of a valid placement
 fits_row : (p : Proc) (row : PlaceRow) → is_row_placed p row ≡ true → Fits (Some p) row
-fits_row p row placed =
-    let stackdata : is_stackdata p row ≡ true = grind (arith, nat_tests) in
-    let pairs : every (is_pair_in row.frame) row.pairs ≡ true = grind (arith, nat_tests) in
-    record {
-      size = grind (arith, nat_tests);
-      pairs = λ k less. let pair = every_at (is_pair_in row.frame) row.pairs pairs k less in grind (arith, nat_tests);
-      stackdata = λ q offset is at. let same : p ≡ q = cc in
-          stackdata_fits q row (subst (λ x. is_stackdata x row ≡ true) same stackdata) offset at;
-    }
+fits_row p row placed = record {
+  size = grind (arith, nat_tests);
+  pairs = λ k less. grind (arith, nat_tests, every_at (is_pair_in row.frame) row.pairs);
+  stackdata = λ q offset is at. grind (arith, nat_tests, stackdata_fits p row);
+}
 
 fits_rows : (ps : List Proc) (rows : List PlaceRow) → are_rows_placed ps rows ≡ true → (n : ℕ) →
     Fits (slice_get ps n) (slice_index_or rows n (record { code = 0; frame = 0; pairs = []; stack = [] }))
-fits_rows [] [] placed n =
-    record { size = refl; pairs = λ k less. absurd (omega arith); stackdata = λ p offset is at. absurd (cc) }
-fits_rows [] (row ∷ rows) placed n = absurd (cc)
-fits_rows (p ∷ ps) [] placed n = absurd (cc)
 fits_rows (p ∷ ps) (row ∷ rows) placed zero = fits_row p row (and_parts _ _ placed).0
 fits_rows (p ∷ ps) (row ∷ rows) placed (suc n) = fits_rows ps rows (and_parts _ _ placed).1 n
+fits_rows ps rows placed n = grind arith
 
 module _ (s : Setting) (set : IsSet s) where
   fits : (n : ℕ) → Fits (procedure_at s n) (place_row s n)
@@ -86,24 +78,7 @@ module _ (s : Setting) (set : IsSet s) where
   -- the stackdata of a frame lies inside it
   stackdata_inside : (f : Frame) (address : ℕ) → let e = stackdata_at s f address in
       (address ≤ e.address) × (e.address + e.length ≤ address + frame_size s f)
-  stackdata_inside f address = by (procedure_at s f.procedure) (fits f.procedure)
-    where
-      by : (o : Option Proc) → Fits o (place_row s f.procedure) → let e = (elim o as (λ _. Extent) [
-        | Some p ↦ extent (room_of address p (place_row s f.procedure))
-        | None ↦ record { address = address; length = 0 }
-      ]) in (address ≤ e.address) × (e.address + e.length ≤ address + frame_size s f)
-      by None fits = (omega arith, omega arith)
-      by (Some p) fits = at_offset (stackdata_offset p (place_row s f.procedure)) (fits.stackdata p)
-        where
-          at_offset : (o : Option ℕ) → ((offset : ℕ) → Some p ≡ Some p → o ≡ Some offset → offset + stack_size p.stack ≤ frame_size s f) →
-              let e = extent (elim o as (λ _. Room) [
-                | Some offset ↦ record { address = address + offset; cells = replicate (stack_size p.stack) None }
-                | None ↦ record { address = address; cells = [] }
-              ]) in (address ≤ e.address) × (e.address + e.length ≤ address + frame_size s f)
-          at_offset None fits = (omega arith, omega arith)
-          at_offset (Some offset) fits =
-              let inside = fits offset refl refl in
-              rw (length-replicate (stack_size p.stack)) (omega arith, omega arith)
+  stackdata_inside f address = grind (arith, (fits f.procedure).stackdata, length-replicate)
 
   -- an address inside the youngest of these frames
   abbrev IsIn : List Frame → ℕ → Type 0
@@ -112,21 +87,14 @@ module _ (s : Setting) (set : IsSet s) where
   -- each byte of a pair, and of a room, is
   pair_inside : (fs : List Frame) → sum_of_sizes s fs ≤ s.top - s.base → (k a : ℕ) → k < length (pairs_of s fs) →
       continuation_value s fs k ≤ a → a < continuation_value s fs k + 16 → IsIn fs a
-  pair_inside [] fit k a less from to = absurd (omega arith)
-  pair_inside (f ∷ fs) fit k a less from to =
-      let pair : slice_index_or (place_row s f.procedure).pairs k 0 + 16 ≤ frame_size s f = (fits f.procedure).pairs k less in
-      let next = adjoin f fs fit in
-      (omega arith, omega arith)
+  pair_inside [] fit k a less from to = grind arith
+  pair_inside (f ∷ fs) fit k a less from to = grind (arith, (fits f.procedure).pairs k, adjoin f fs fit)
 
   room_inside : (fs : List Frame) → sum_of_sizes s fs ≤ s.top - s.base → (room : Room) (older : List Extent) (a : ℕ) →
       extent room ∷ older ≡ stackdata_of s fs → is_in room a ≡ true → IsIn fs a
-  room_inside [] fit room older a is inside = absurd (cc)
+  room_inside [] fit room older a is inside = grind arith
   room_inside (f ∷ fs) fit room older a is inside =
-      let same : extent room ≡ stackdata_at s f (frame_address s (f ∷ fs)) = cc in
-      let lies = stackdata_inside f (frame_address s (f ∷ fs)) in
-      let e = subst (λ e. (frame_address s (f ∷ fs) ≤ e.address) × (e.address + e.length ≤ frame_address s (f ∷ fs) + frame_size s f)) (sym same) lies in
-      let next = adjoin f fs fit in
-      grind (arith, nat_tests)
+      grind (arith, nat_tests, stackdata_inside f (frame_address s (f ∷ fs)), adjoin f fs fit)
 
   -- the addresses of an activation lie in its own frame
   pub own : (store : Store) → IsStack s (stack_of store) → (younger a : ℕ) → IsOf s store younger a →
@@ -140,8 +108,8 @@ module _ (s : Setting) (set : IsSet s) where
       rw (← drop_suc younger store.frames) (room_inside (drop younger store.frames) left.fits room (map extent older) a rooms inside)
 
   -- a frame ends before an older one begins
-  not_both : (store : Store) → IsStack s (stack_of store) → (i j a : ℕ) → i < j → IsOf s store i a → IsOf s store j a → ⊥
-  not_both store h i j a less first second =
+  not_both : (store : Store) → IsStack s (stack_of store) → (i j a : ℕ) → IsOf s store i a → IsOf s store j a → i < j → ⊥
+  not_both store h i j a first second less =
       let below = own store h i a first in
       let above = own store h j a second in
       let e : suc i + (j - suc i) ≡ j = omega arith in
@@ -152,25 +120,13 @@ module _ (s : Setting) (set : IsSet s) where
 
   -- so an address is of one activation at most
   pub of_one : (store : Store) → IsStack s (stack_of store) → (i j a : ℕ) → IsOf s store i a → IsOf s store j a → i ≡ j
-  of_one store h i j a first second = by (cases_order i j)
-    where
-      by : (i ≡ j) ⊎ ((i < j) ⊎ (j < i)) → i ≡ j
-      by (inl same) = same
-      by (inr (inl less)) = absurd (not_both store h i j a less first second)
-      by (inr (inr more)) = absurd (not_both store h j i a more second first)
+  of_one store h i j a first second =
+      omega (arith, not_both store h i j a first second, not_both store h j i a second first)
 
   -- and lies in the stack, where no data is
   pub in_stack : (store : Store) → IsStack s (stack_of store) → (younger a : ℕ) → IsOf s store younger a →
       (s.base ≤ a) × (a < s.top)
       × (data_base + length (data_bytes s.program s.placement) ≤ s.base → is_in store.memory.globals a ≡ false)
   in_stack store h younger a is =
-      let between = own store h younger a is in
       let first = frame_aligned (drop younger store.frames) (stack_dropped s younger (stack_of store) h).fits in
-      let above : s.base ≤ a = omega (arith, first.above) in
-      let past = store.memory.globals.address + length store.memory.globals.cells in
-      let address : store.memory.globals.address ≡ data_base = ap (λ e. e.address) h.globals in
-      let size : length store.memory.globals.cells ≡ length (data_bytes s.program s.placement) = ap (λ e. e.length) h.globals in (
-        above,
-        omega (arith, between.1),
-        λ below. and_right (nat_le store.memory.globals.address a) (nat_lt a past) (le-ltb a past (omega arith)),
-      )
+      grind (arith, nat_tests, own store h younger a is, first, h.globals)

@@ -1,22 +1,24 @@
 -- What is seen only grows: the steps of any control, whatever act comes next.
-use Rattle.std.proofs.Common.{◌≡◌, ◌⊎◌, ℕ, ◌%◌, ◌++◌, List, [], ◌∷◌, Option, Some, None, refl, sym, ap, ap₂, ◌∙◌, inl, inr, subst, append_assoc}
-use Rattle.cmm_following.specs.Seen.{IsWithin}
-use Rattle.cmm_following.proofs.Prefixes.{prefix_refl, within_refl, within_trans}
-use Rattle.cmm_script.specs.Lines.{yield_line}
-use Rattle.cmm_program.specs.declared.procedure.Target.{Target}
-use Rattle.cmm_program.specs.Values.{Reads, Value}
-use Rattle.cmm_program.specs.State.{Setting, Store, Running}
-use Rattle.cmm_program.specs.Acts.{Act, Nothing, Assign, Choose, PutByte, GetByte, Call, Yield, Checked, Jump, Return, Cut, Fail, Order, Put, Get, Suspend, evaluated, checked_order}
-use Rattle.cmm_program.specs.Exits.{Instead}
-use Rattle.cmm_program.specs.Client.{answered}
-use Rattle.cmm_program.specs.Control.{Control, State, next_act}
-use Rattle.cmm_program.specs.Machine.{step_of, steps_of, first_store, start_of}
+use Rattle.std.proofs.lemmas.List.{take_at, take-append-drop}
+use Rattle.cmm_following.proofs.Prefixes.{prefix_more, prefix_trans, prefix_refl, within_refl, within_trans}
+use Rattle.cmm_following.specs.Seen.{IsPrefix, IsWithin}
+use Rattle.cmm_laws.specs.Observed.{LineUnseen, log_seen, store_seen}
+use Rattle.std.proofs.Common.{length-append, length, drop, arith, subst₂, ◌-◌, List, None, Option, Some, [], ap, append_assoc, inl, inr, refl, subst, sym, ℕ, ◌++◌, ◌∙◌, ◌∷◌, ◌≡◌, ◌⊎◌}
 use Rattle.cmm_laws.specs.Runs as runs
-use Rattle.cmm_laws.specs.Runs.{Traffic, traffic, yielded, Adds, seen_in, Takes}
-use Rattle.cmm_laws.proofs.Kept.{KeptBy, kept_ok, kept_err, kept_and_then, keeping}
-use Rattle.cmm_laws.proofs.Outlines.{performed, traffic_after, yielded_by}
-use Rattle.cmm_laws.proofs.Commands.{answer_does}
-use Rattle.cmm_laws.proofs.Steps.{step_has, kept_by_steps, landed_keeps, done_keeps, done_yielded}
+use Rattle.cmm_following.specs.Machine.{after}
+use Rattle.cmm_laws.proofs.Doing.{Suspends, passed_by}
+use Rattle.cmm_laws.proofs.Kept.{KeptBy, keeping, kept_and_then, kept_ok, kept_weaker}
+use Rattle.cmm_laws.proofs.Steps.{order_done, answer_comes, kept_by_steps, landed_keeps, step_has}
+use Rattle.cmm_laws.specs.Runs.{Adds, Takes, Traffic, seen_in, traffic, yielded}
+use Rattle.cmm_program.specs.Acts.{Act, Checked, Get, GetByte, Order, Put, PutByte, Suspend, checked_order, evaluated}
+use Rattle.cmm_program.specs.Control.{Control, State, answer_done, next_act}
+use Rattle.cmm_program.specs.Exits.{Instead}
+use Rattle.cmm_program.specs.Machine.{first_store, start_of, step_of, steps_of}
+use Rattle.cmm_program.specs.Orders.{perform}
+use Rattle.cmm_program.specs.State.{Running, Setting, Store}
+use Rattle.cmm_program.specs.Values.{Reads, Value}
+use Rattle.cmm_program.specs.declared.procedure.Target.{Target}
+use Rattle.cmm_script.specs.Lines.{yield_line}
 
 -- the act that an order with traffic comes from
 abbrev Asks : Act → Order → Type 0
@@ -30,95 +32,103 @@ checked_asks act site targets (Some value) = tt
 checked_asks act site targets None = tt
 
 evaluated_asks : (r : Reads) (act : Act) → KeptBy (Asks act) (evaluated r act)
-evaluated_asks r Nothing = kept_ok tt
-evaluated_asks r (Assign aims values) = search (keeping, tt)
-evaluated_asks r (Choose way) = search (keeping, tt)
 evaluated_asks r (PutByte value) = kept_and_then (value r) _ (λ n is. kept_ok (value, refl))
-evaluated_asks r (GetByte target) = kept_ok refl
-evaluated_asks r (Call site callee actuals) = search (keeping, tt)
-evaluated_asks r (Yield site values) = search (keeping, tt)
 evaluated_asks r (Checked site targets op width left right) = search (keeping, checked_asks)
-evaluated_asks r (Jump callee actuals) = search (keeping, tt)
-evaluated_asks r (Return exit alternates values) = search (keeping, tt)
-evaluated_asks r (Cut to values own) = search (keeping, tt)
-evaluated_asks r (Fail error) = kept_err
+evaluated_asks r act = grind arith
 
-module _ {C : Type 0} (k : Control C) (st : State C) (running : st.store.status ≡ Running) (after : Store) where
-  -- the traffic of an order is one of the five things that a step may add
-  order_adds : (order : Order) → Asks (next_act k st.controls) order → traffic after ≡ traffic_after order (traffic st.store) →
-      yielded after.status ≡ yielded_by order → Adds k st after
-  order_adds (Put n) asks is waits = runs.Output asks.0 n running asks.1 is waits
-  order_adds (Get target) asks is waits = by st.store.input refl is
+module _ {C : Type 0} (k : Control C) (s : Setting) (st : State C) where
+  -- an order that does not suspend adds what it puts or takes
+  order_adds : (order : Order) → (Suspends order → ⊥) → st.store.status ≡ Running → Asks (next_act k st.controls) order → (after : Store) →
+      traffic after ≡ traffic (passed_by order st.store) → yielded after.status ≡ None → Adds k st after
+  order_adds (Put n) suspends running asks after is waits = runs.Output asks.0 n running asks.1 is waits
+  order_adds (Get target) suspends running asks after is waits = by st.store.input refl is
     where
-      by : (input : List ℕ) → st.store.input ≡ input → traffic after ≡ (elim input [
-        | [] ↦ traffic st.store
-        | byte ∷ rest ↦ record (traffic st.store) { input = rest; taken = st.store.taken ++ byte ∷ [] }
+      by : (input : List ℕ) → st.store.input ≡ input → traffic after ≡ traffic (elim input as (λ _. Store) [
+        | [] ↦ st.store
+        | byte ∷ rest ↦ record st.store { input = rest; taken = st.store.taken ++ byte ∷ [] }
       ]) → Adds k st after
       by [] left is = runs.Nothing is waits
       by (byte ∷ rest) left is = runs.Input target byte rest running asks left is waits
-  order_adds (Suspend site values) asks is waits = runs.Line values running is waits
-  order_adds order asks is waits = runs.Nothing is waits
+  order_adds (Suspend site values) suspends running asks after is waits = absurd (suspends tt)
+  order_adds order suspends running asks after is waits = runs.Nothing is waits
 
-module _ {C : Type 0} (k : Control C) (s : Setting) where
-  -- each step adds what it may
-  pub step_adds : (st : State C) → Adds k st (step_of k s st).store
-  step_adds st = step_has k s (Adds k st) st (λ order running is. record {
-    holds = λ answer e.
-        let does = (performed s st.store running order).holds answer e in
-        order_adds k st running _ order ((evaluated_asks _ _).holds order is)
-        ((done_keeps k s answer st.controls).0 ∙ ap (λ o. o.traffic) does.outline)
-        (done_yielded k s answer st.controls ∙ does.yielded);
-  })
+  -- each order adds what it may
+  performed_adds : (order : Order) → st.store.status ≡ Running → Asks (next_act k st.controls) order →
+      KeptBy (λ answer. Adds k st (answer_done k s answer st.controls).store) (perform s order st.store)
+  performed_adds (Suspend site values) running asks = kept_ok (runs.Line values running refl refl)
+  performed_adds order running asks =
+      kept_weaker (λ answer done. order_adds order (λ never. never) running asks _ done.0 done.2)
+      (order_done k s st.store order st.controls running (λ never. never))
+
+  -- and so does each step
+  pub step_adds : Adds k st (step_of k s st).store
+  step_adds = step_has k s (λ next. Adds k st next.store) st
+      (λ order running is. performed_adds order running ((evaluated_asks _ _).holds order is))
       (λ error. runs.Nothing refl refl)
-      (λ values is.
-      let answer = answered s values st.store in
-      let logged = answer_does s values st.store in
-      runs.Lines values logged.text is ((done_keeps k s answer st.controls).0 ∙ ap (λ o. o.traffic) logged.does.outline)
-      (done_yielded k s answer st.controls ∙ logged.does.yielded))
+      (λ values is. let done = answer_comes k s values st.store st.controls in runs.Lines values done.0 is done.1.0 done.1.2)
       (λ rests. runs.Nothing refl rests)
 
--- what a step tells of the traffic after it: it grew, no input was lost, and only one act takes some
-record Told {C : Type 0} (k : Control C) (st : State C) (t : Traffic) : Type 0 where
+-- ---- what grows
+
+-- what is seen of a log begins it
+log_begins : (values : Option (List ℕ)) (log : List ℕ) → IsPrefix (log_seen values log) log
+log_begins None log = prefix_refl log
+log_begins (Some values) log =
+    let n = length log - length (yield_line values) in record { rest = drop n log; whole = sym (take-append-drop n log) }
+
+-- the line of a yield is not seen while the client is waited for
+pub line_unseen : LineUnseen
+line_unseen values log =
+    let line = yield_line values in
+    take_at log line (length (log ++ line) - length line) (omega (arith, length-append log line))
+
+-- What a step tells of the traffic after it, and of the values for the client: it grew, also as it is seen, no input was
+-- lost, and only one act takes some.
+record Told {C : Type 0} (k : Control C) (st : State C) (t : Traffic) (values : Option (List ℕ)) : Type 0 where
   within : IsWithin (seen_in (traffic st.store)) (seen_in t)
+  shown : IsPrefix st.store.log (log_seen values t.log)
   whole : t.taken ++ t.input ≡ st.store.taken ++ st.store.input
   taken : (t.input ≡ st.store.input) × (t.taken ≡ st.store.taken) ⊎ Takes k st
 
--- traffic that adds to output and log alone
-told : {C : Type 0} (k : Control C) (st : State C) (t : Traffic) → IsWithin (seen_in (traffic st.store)) (seen_in t) →
-    t.input ≡ st.store.input → t.taken ≡ st.store.taken → Told k st t
-told k st t within left taken = record { within = within; whole = ap₂ (λ xs ys. xs ++ ys) taken left; taken = inl (left, taken) }
+module _ {C : Type 0} (k : Control C) (st : State C) where
+  -- traffic that adds to output and log alone
+  told : {output log : List ℕ} (values : Option (List ℕ)) → IsPrefix st.store.output output → IsPrefix st.store.log log →
+      IsPrefix st.store.log (log_seen values log) → Told k st (record (traffic st.store) { output = output; log = log }) values
+  told values output log shown = record {
+    within = record { output = output; log = log; taken = prefix_refl _ };
+    shown = shown;
+    whole = refl;
+    taken = inl (refl, refl);
+  }
 
--- each of the five things that a step may add tells so
-adds_tells : {C : Type 0} (k : Control C) (st : State C) (after : Store) → Adds k st after → Told k st (traffic after)
-adds_tells k st after adds = by adds
-  where
-    by : Adds k st after → Told k st (traffic after)
-    by (runs.Nothing is waits) = subst (Told k st) (sym is) (told k st _ (within_refl _) refl refl)
-    by (runs.Output value n running next is waits) = subst (Told k st) (sym is) (told k st _ (record {
-      output = record { rest = n % 256 ∷ []; whole = refl };
-      log = prefix_refl _;
-      taken = prefix_refl _;
-    }) refl refl)
-    by (runs.Input target byte rest running next left is waits) = subst (Told k st) (sym is) (record {
-      within = record { output = prefix_refl _; log = prefix_refl _; taken = record { rest = byte ∷ []; whole = refl } };
-      whole = append_assoc st.store.taken (byte ∷ []) rest ∙ ap (λ xs. st.store.taken ++ xs) (sym left);
-      taken = inr (record { target = target; running = running; next = next });
-    })
-    by (runs.Line values running is waits) = subst (Told k st) (sym is) (told k st _ (record {
-      output = prefix_refl _;
-      log = record { rest = yield_line values; whole = refl };
-      taken = prefix_refl _;
-    }) refl refl)
-    by (runs.Lines values text waiting is waits) = subst (Told k st) (sym is) (told k st _ (record {
-      output = prefix_refl _;
-      log = record { rest = text; whole = refl };
-      taken = prefix_refl _;
-    }) refl refl)
+  -- each of the five things that a step may add tells so
+  adds_tells : (after : Store) → Adds k st after → Told k st (traffic after) (yielded after.status)
+  adds_tells after (runs.Nothing is waits) =
+      subst₂ (Told k st) (sym is) (sym waits) (told None (prefix_refl _) (prefix_refl _) (prefix_refl _))
+  adds_tells after (runs.Output value n running next is waits) =
+      subst₂ (Told k st) (sym is) (sym waits) (told None (prefix_more _ _) (prefix_refl _) (prefix_refl _))
+  adds_tells after (runs.Line values running is waits) =
+      subst₂ (Told k st) (sym is) (sym waits) (told (Some values) (prefix_refl _) (prefix_more _ _)
+      (subst (IsPrefix st.store.log) (sym (line_unseen values st.store.log)) (prefix_refl _)))
+  adds_tells after (runs.Lines values text waiting is waits) =
+      subst₂ (Told k st) (sym is) (sym waits) (told None (prefix_refl _) (prefix_more _ _) (prefix_more _ _))
+  adds_tells after (runs.Input target byte rest running next left is waits) = subst₂ (Told k st) (sym is) (sym waits) (record {
+    within = record { output = prefix_refl _; log = prefix_refl _; taken = prefix_more _ _ };
+    shown = prefix_refl _;
+    whole = append_assoc st.store.taken (byte ∷ []) rest ∙ ap (λ xs. st.store.taken ++ xs) (sym left);
+    taken = inr (record { target = target; running = running; next = next });
+  })
 
 module _ {C : Type 0} (k : Control C) (s : Setting) where
   -- a step takes back nothing that was seen
   pub step_grows : (st : State C) → IsWithin (seen_in (traffic st.store)) (seen_in (traffic (step_of k s st).store))
   step_grows st = (adds_tells k st _ (step_adds k s st)).within
+
+  -- nor of what is seen while the client is waited for
+  pub step_shows : (st : State C) → IsWithin (store_seen st.store) (store_seen (step_of k s st).store)
+  step_shows st =
+      let told = adds_tells k st _ (step_adds k s st) in
+      record { output = told.within.output; log = prefix_trans (log_begins _ _) told.shown; taken = told.within.taken }
 
   -- and takes input only at its call
   pub step_takes : (st : State C) →

@@ -1,4 +1,5 @@
 pub mod Kept
+pub mod Doing
 pub mod Outlines
 pub mod Commands
 pub mod Steps
@@ -13,13 +14,12 @@ pub mod GraphStands
 pub mod Lasting
 pub mod LockSteps
 mod GraphRows
-pub mod Fitting
 mod FittingActs
-mod FittingBodies
-mod FittingClient
+mod Bodies
+mod FittingExits
 mod FittingExpressions
-mod FittingKept
-mod FittingLandings
-mod FittingOrders
-mod FittingStart
+mod Lists
 mod FittingStores
+mod FittingLandings
+mod FittingStart
+pub mod Fitting

@@ -1,5 +1,5 @@
 -- Machines whose controls come to the same acts go in lock-step, and so the C-- machine and its graph.
-use Rattle.std.proofs.Common.{ℕ, List, [], ap, ap₂, arith}
+use Rattle.std.proofs.Common.{ℕ, List, [], arith}
 use Rattle.cmm_program.specs.State.{Setting}
 use Rattle.cmm_program.specs.Exits.{Instead}
 use Rattle.cmm_program.specs.Control.{Control}
@@ -13,7 +13,7 @@ use Rattle.cmm_laws.proofs.GraphStands.{graph_same_acts}
 use Rattle.cmm_laws.proofs.Lasting.{machine_lasts}
 use Rattle.cmm_laws.proofs.SameActs.{SameActs, landed_together, next_together, steps_together}
 use Rattle.cmm_laws.specs.LockStep.{AreInLockStep, StandsFor, GraphSimulates, GraphFollows, GraphAgrees}
-use Rattle.cmm_laws.specs.Observed.{machine_of, store_seen, event_at, is_wrong}
+use Rattle.cmm_laws.specs.Observed.{machine_of}
 use Rattle.cmm_laws.specs.StatementGraph.{graph_control}
 
 module _ {C D : Type 0} (k : Control C) (l : Control D) (W : C → D → Type 0) (same : SameActs k l W) (s : Setting) where
@@ -21,12 +21,7 @@ module _ {C D : Type 0} (k : Control C) (l : Control D) (W : C → D → Type 0)
   pub simulates_of_same : Simulates (machine_of k s) (λ _. 1) (machine_of l s) (λ _. 1) (AreInLockStep W)
   simulates_of_same =
       in_lock_step
-      (λ a b together. (
-        ap store_seen together.store,
-        ap₂ (λ store act. event_at s store.status store act) together.store (next_together k l W same s a.controls b.controls together.controls),
-        ap (λ store. is_wrong store.status) together.store,
-        omega arith,
-      ))
+      (λ a b together. grind (arith, together.store, next_together k l W same a.controls b.controls together.controls))
       (λ a b together right. steps_together k l W same s a b together)
 
   -- both start together

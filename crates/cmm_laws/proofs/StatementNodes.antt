@@ -1,16 +1,19 @@
 -- The nodes of a body stand for its statements: what holds where statements lead holds where they are entered.
-use Rattle.std.proofs.Common.{◌≡◌, ℕ, zero, suc, ◌==◌, Bool, true, false, List, [], ◌∷◌, ◌++◌, map, length, slice_index_or, Option, Some, None, refl, sym, ap, subst, ◌∙◌, arith, append_assoc, length-append}
-use Rattle.std.proofs.lemmas.Bool.{eq-eqb, ne_eqb}
+use Rattle.std.proofs.lemmas.Bool.Decides.{nat_tests}
+use Rattle.std.proofs.Common.{◌≡◌, ℕ, zero, suc, Bool, true, false, List, [], ◌∷◌, ◌++◌, map, length, slice_index_or, Option, Some, None, refl, sym, ◌∙◌, arith, append_assoc, length-append}
 use Rattle.std.proofs.lemmas.List.{length-map}
 use Rattle.cmm_program.specs.declared.statement.Form.{Form, Row_of-Arm, end_of-Arm, more_of-Arm}
 use Rattle.cmm_program.specs.declared.statement.Form.TheVariants.{If', Switch', Span', Goto}
 use Rattle.cmm_program.specs.declared.statement.Arm.{Arm', Row_of-Statement, end_of-Statement, more_of-Statement}
 use Rattle.cmm_program.specs.declared.statement.Statement.{Statement}
 use Rattle.cmm_program.specs.declared.procedure.Proc.{Proc}
-use Rattle.cmm_program.specs.Bodies.{Mark, AtLabel, AtContinuation, AtSite, is_mark, statements, branches, branch_body, first_of_two, outward, after_inside, after_in, after_in_arms, follow}
+use Rattle.cmm_program.specs.Bodies.{Mark, AtLabel, is_mark, statements, branches, branch_body, after_inside, after_in, after_in_arms, follow}
 use Rattle.cmm_program.specs.Todo.{rest_after}
-use Rattle.cmm_laws.proofs.Cells.{pick, picked}
 use Rattle.cmm_laws.specs.StatementGraph.{Node, Laid, LaidArms, end_node, node_at, by_way, with_node, form_laid, laid, arms_laid, is_node, found, entry, next_of, directed, body_laid, nodes_of}
+
+-- one of two by a test
+abbrev pick : {A : Type 0} → Bool → A → A → A
+pick t x y = elim t [ true ↦ x | false ↦ y ]
 
 -- ---- numbers stay while nodes are put in front
 
@@ -26,56 +29,36 @@ behind_first node nodes all b =
 
 -- a node has the number of those behind it
 number_of_node : (front : List Node) (node : Node) (nodes : List Node) → node_at (front ++ node ∷ nodes) (length nodes) ≡ node
-number_of_node [] node nodes =
-    ap (λ t. pick t node (node_at nodes (length nodes))) (eq-eqb (length nodes) (length nodes) refl)
+number_of_node [] node nodes = grind (arith, nat_tests)
 number_of_node (first ∷ front) node nodes =
-    let more : length (front ++ node ∷ nodes) ≡ length nodes → ⊥ = λ e. absurd (omega (arith, e, length-append front (node ∷ nodes))) in
-    ap (λ t. pick t first (node_at (front ++ node ∷ nodes) (length nodes))) (ne_eqb (length (front ++ node ∷ nodes)) (length nodes) more)
-    ∙ number_of_node front node nodes
+    grind (arith, nat_tests, number_of_node front node nodes, length-append front (node ∷ nodes))
 
 -- a node by its number when every node is changed, but for the end
 map_at : (f : Node → Node) → f end_node ≡ end_node → (nodes : List Node) (n : ℕ) → node_at (map f nodes) n ≡ f (node_at nodes n)
 map_at f is [] n = sym is
-map_at f is (node ∷ nodes) n =
-    ap (λ m. pick (m == n) (f node) (node_at (map f nodes) n)) (length-map nodes f) ∙ by (map_at f is nodes n) (length nodes == n)
-  where
-    by : node_at (map f nodes) n ≡ f (node_at nodes n) → (t : Bool) →
-        pick t (f node) (node_at (map f nodes) n) ≡ f (pick t node (node_at nodes n))
-    by later true = refl
-    by later false = later
+map_at f is (node ∷ nodes) n = grind (arith, length-map nodes f, map_at f is nodes n)
 
 -- a node of the body, in the graph
 pub in_graph : (p : Proc) (node : Node) (nodes : List Node) → IsBehind (node ∷ nodes) (body_laid p).nodes →
     node_at (nodes_of p) (length nodes) ≡ directed (body_laid p).nodes node
 in_graph p node nodes b =
     let all = (body_laid p).nodes in
-    map_at (directed all) refl all (length nodes)
-    ∙ ap (directed all) (ap (λ list. node_at list (length nodes)) b.whole ∙ number_of_node b.front node nodes)
+    grind (arith, map_at (directed all) refl all (length nodes), number_of_node b.front node nodes, b.whole)
 
 -- ---- marks are found where they are, whether each `goto` is directed or not
 
--- a `goto` is no mark
-no_goto : (m : Mark) (n : ℕ) → is_mark m (Goto n) ≡ false
-no_goto (AtLabel l) n = refl
-no_goto (AtContinuation k) n = refl
-no_goto (AtSite site) n = refl
-
--- so a node with a mark leads where it did before it was directed
+-- a `goto` is no mark, so a node with a mark leads where it did before it was directed
 marked_next : (m : Mark) (all : List Node) (form : Option Form) (next : ℕ) → is_node m form ≡ true → next_of all form next ≡ next
-marked_next m all (Some (Goto n)) next is = absurd (let e = no_goto m n in cc)
+marked_next m all (Some (Goto n)) next is = grind arith
 marked_next m all form next is = refl
 
--- and marks are found as before
+-- and marks are found as before, also by who looks for where they lead
 found_directed : (m : Mark) (all nodes : List Node) → found m (map (directed all) nodes) ≡ found m nodes
 found_directed m all [] = refl
-found_directed m all (node ∷ nodes) =
-    picked (is_node m node.form) (λ is. ap Some (marked_next m all node.form node.next is)) (λ _. found_directed m all nodes)
+found_directed m all (node ∷ nodes) = grind (arith, marked_next m all node.form node.next, found_directed m all nodes)
 
--- also by who looks for where they lead
 pub entry_in_graph : (m : Mark) (p : Proc) → entry m (nodes_of p) ≡ entry m (body_laid p).nodes
-entry_in_graph m p =
-    let all = (body_laid p).nodes in
-    ap (λ (o : Option ℕ). elim o as (λ _. ℕ) [ Some number ↦ number | None ↦ 0 ]) (found_directed m all all)
+entry_in_graph m p = grind (arith, found_directed m (body_laid p).nodes (body_laid p).nodes)
 
 -- ---- what holds where statements lead holds where they are entered
 
@@ -112,67 +95,23 @@ module _ (p : Proc) (W V : ℕ → List Statement → Type 0) where
     finds : (m : Mark) (rest : List Statement) → W after.start rest →
         Finds (after_in_arms m arms) (found m before.nodes) (found m after.nodes) rest
 
-  -- what is found in one of two pieces, the second behind the first
-  finds_either : (a b : Option (List Statement)) (x y z : Option ℕ) (rest : List Statement) → Finds a x y rest → Finds b y z rest →
-      Finds (first_of_two a b) x z rest
-  finds_either (Some inner) b x y z rest first second = first
-  finds_either None b x y z rest first second = subst (λ o. Finds b o z rest) (sym first) second
-
-  -- what is found in a block, seen from what follows the block
-  finds_outward : (a : Option (List Statement)) (x y : Option ℕ) (tail rest : List Statement) → Finds a x y (tail ++ rest) →
-      Finds (outward a tail) x y rest
-  finds_outward (Some inner) x y tail rest (n, e, w) = (n, e, subst (W n) (sym (append_assoc inner tail rest)) w)
-  finds_outward None x y tail rest e = e
-
   -- what follows a mark in one statement
   abbrev inside_of : Form → Mark → Option (List Statement)
   inside_of form m = pick (is_mark m form) (Some []) (after_inside m form)
 
-  -- what follows a mark in a statement and those behind it, as the body tells it
-  in_order : (t : Bool) (inner : Option (List Statement)) (tail : List Statement) (other : Option (List Statement)) →
-      first_of_two (outward (pick t (Some []) inner) tail) other ≡ pick t (Some tail) (first_of_two (outward inner tail) other)
-  in_order true inner tail other = refl
-  in_order false inner tail other = refl
-
-  -- a statement without blocks may itself be the mark
-  finds_leaf : (t : Bool) (next : ℕ) (z : Option ℕ) (rest : List Statement) → W next rest →
-      Finds (pick t (Some []) None) (pick t (Some next) z) z rest
-  finds_leaf true next z rest w = (next, refl, w)
-  finds_leaf false next z rest w = refl
-
-  -- one with blocks is none
-  finds_block : (t : Bool) (next : ℕ) (inner : Option (List Statement)) (x z : Option ℕ) (rest : List Statement) → t ≡ false →
-      Finds inner x z rest → Finds (pick t (Some []) inner) (pick t (Some next) x) z rest
-  finds_block true next inner x z rest never finds = absurd (cc)
-  finds_block false next inner x z rest is finds = finds
-
   module _ (levels : Levels) where
-    -- a statement without blocks
-    leaf : (form : Form) (tokens : ℕ) (after : Laid) →
-        ((way : ℕ) (rest : List Statement) → W after.start rest → V (next_of all (Some form) after.start) (rest_after p way form rest)) →
-        ((m : Mark) → after_inside m form ≡ None) → IsBehind (with_node form [] after.start after.nodes).nodes all →
-        Stands (record { tokens = tokens; form = form } ∷ []) (inside_of form) (with_node form [] after.start after.nodes) after
-    leaf form tokens after later none behind = record {
-      behind = behind_first _ after.nodes all behind;
-      enters = λ rest w.
-          levels.built (length after.nodes) tokens form rest _ (in_graph p _ after.nodes behind) refl (λ way. later way rest w);
-      finds = λ m rest w.
-          subst (λ o. Finds (pick (is_mark m form) (Some []) o)
-          (found m (with_node form [] after.start after.nodes).nodes) (found m after.nodes) rest) (sym (none m))
-          (finds_leaf (is_mark m form) after.start (found m after.nodes) rest w);
-    }
-
-    -- a statement with blocks, which is no mark: marks are found inside it
-    block : (form : Form) (tokens : ℕ) (ways : List ℕ) (next : ℕ) (nodes : List Node) (after : Laid) →
-        ((m : Mark) → is_mark m form ≡ false) → IsBehind (with_node form ways next nodes).nodes all → IsBehind after.nodes all →
+    -- one statement, by where its node leads and where a mark is found in it or behind it
+    node_stands : (form : Form) (tokens : ℕ) (ways : List ℕ) (next : ℕ) (nodes : List Node) (after : Laid) →
+        IsBehind (with_node form ways next nodes).nodes all → IsBehind after.nodes all →
         ((rest : List Statement) → W after.start rest → (way : ℕ) →
         V (slice_index_or ways way (next_of all (Some form) next)) (rest_after p way form rest)) →
-        ((m : Mark) (rest : List Statement) → W after.start rest → Finds (after_inside m form) (found m nodes) (found m after.nodes) rest) →
+        ((m : Mark) (rest : List Statement) → W after.start rest →
+        Finds (inside_of form m) (found m (with_node form ways next nodes).nodes) (found m after.nodes) rest) →
         Stands (record { tokens = tokens; form = form } ∷ []) (inside_of form) (with_node form ways next nodes) after
-    block form tokens ways next nodes after unmarked behind ends leads finds = record {
+    node_stands form tokens ways next nodes after behind ends leads finds = record {
       behind = ends;
       enters = λ rest w. levels.built (length nodes) tokens form rest _ (in_graph p _ nodes behind) refl (leads rest w);
-      finds = λ m rest w. finds_block (is_mark m form) next _ _ _ rest (unmarked m) (finds m rest w);
+      finds = finds;
     }
 
     mutual
@@ -183,22 +122,21 @@ module _ (p : Proc) (W V : ℕ → List Statement → Type 0) where
           let other = laid otherwise after in
           let first = row_stands then_ (record { nodes = other.nodes; start = after.start }) (behind_first _ _ all behind) in
           let second = row_stands otherwise after first.behind in
-          block (If' condition n then_ k otherwise) tokens _ _ _ after
-          (elim [ AtLabel l ↦ refl | AtContinuation c ↦ refl | AtSite site ↦ refl ]) behind second.behind
+          node_stands (If' condition n then_ k otherwise) tokens _ _ _ after behind second.behind
           (λ rest w. elim [ zero ↦ levels.weaker _ _ (first.enters rest w) | suc way ↦ levels.weaker _ _ (second.enters rest w) ])
-          (λ m rest w. finds_either _ _ _ _ _ rest (first.finds m rest w) (second.finds m rest w))
+          (λ m rest w. grind (arith, first.finds m rest w, second.finds m rest w))
       form_stands (Switch' value n arms) tokens after behind =
           let inside = arms_stand arms after (behind_first _ _ all behind) in
-          block (Switch' value n arms) tokens _ _ _ after
-          (elim [ AtLabel l ↦ refl | AtContinuation c ↦ refl | AtSite site ↦ refl ]) behind inside.behind
-          (λ rest w way. levels.weaker _ _ (inside.enters rest w way)) inside.finds
+          node_stands (Switch' value n arms) tokens _ _ _ after behind inside.behind
+          (λ rest w way. levels.weaker _ _ (inside.enters rest w way)) (λ m rest w. grind (arith, inside.finds m rest w))
       form_stands (Span' n body) tokens after behind =
           let inside = row_stands body after (behind_first _ _ all behind) in
-          block (Span' n body) tokens _ _ _ after
-          (elim [ AtLabel l ↦ refl | AtContinuation c ↦ refl | AtSite site ↦ refl ]) behind inside.behind
-          (λ rest w way. levels.weaker _ _ (inside.enters rest w)) inside.finds
-      form_stands (Goto n) tokens after behind = leaf (Goto n) tokens after (λ way rest w. levels.jumps n) (λ m. refl) behind
-      form_stands form tokens after behind = leaf form tokens after (λ way rest w. levels.weaker _ _ w) (λ m. refl) behind
+          node_stands (Span' n body) tokens _ _ _ after behind inside.behind
+          (λ rest w way. levels.weaker _ _ (inside.enters rest w)) (λ m rest w. grind (arith, inside.finds m rest w))
+      form_stands (Goto n) tokens after behind =
+          node_stands (Goto n) tokens _ _ _ after behind (behind_first _ after.nodes all behind) (λ rest w way. levels.jumps n) (λ m rest w. grind arith)
+      form_stands form tokens after behind =
+          node_stands form tokens _ _ _ after behind (behind_first _ after.nodes all behind) (λ rest w way. levels.weaker _ _ w) (λ m rest w. grind arith)
 
       -- the statements of a block
       pub row_stands : {n : _} (row : Row_of-Statement n) (after : Laid) → IsBehind (laid row after).nodes all →
@@ -212,11 +150,7 @@ module _ (p : Proc) (W V : ℕ → List Statement → Type 0) where
             behind = second.behind;
             enters = λ last w. first.enters (statements rest ++ last) (second.enters last w);
             finds = λ m last w.
-                subst (λ o. Finds o (found m (form_laid form (laid rest after)).nodes) (found m after.nodes) last)
-                (in_order (is_mark m form) (after_inside m form) (statements rest) (after_in m rest))
-                (finds_either _ _ _ _ _ last
-                (finds_outward _ _ _ (statements rest) last (first.finds m (statements rest ++ last) (second.enters last w)))
-                (second.finds m last w));
+                grind (arith, append_assoc, first.finds m (statements rest ++ last) (second.enters last w), second.finds m last w);
           }
 
       -- the arms of a switch
@@ -230,5 +164,5 @@ module _ (p : Proc) (W V : ℕ → List Statement → Type 0) where
           record {
             behind = second.behind;
             enters = λ last w. elim [ zero ↦ first.enters last w | suc way ↦ second.enters last w way ];
-            finds = λ m last w. finds_either _ _ _ _ _ last (first.finds m last w) (second.finds m last w);
+            finds = λ m last w. grind (arith, first.finds m last w, second.finds m last w);
           }

@@ -1,25 +1,33 @@
 -- Landings and steps of any control, by what they come from, and what landings keep: they are no traffic, and the frames
 -- stay in the stack.
-use Rattle.std.proofs.Common.{◌≡◌, ℕ, zero, suc, ◌+◌, List, Option, Some, None, Ok, Err, refl, ap, zero-add, suc-add, ◌-◌, [], ◌∷◌, map, drop, sym, ap₂, ◌∙◌, subst, arith}
-use Rattle.std.proofs.lemmas.Bool.{leb-true}
-use Rattle.std.proofs.lemmas.List.Folds.{fold-map}
-use Rattle.std.proofs.lemmas.List.Sums.{sum_by-take-drop}
-use Rattle.cmm_program.specs.Errors.{Tried, UncheckedError}
-use Rattle.cmm_program.specs.State.{Setting, Store, Status, Running, Waiting, Ended, Wrong, Outcome, StackLimit, Frame}
+use Rattle.cmm_laws.proofs.Doing.{Suspends, answered_kept, passed_by, passes, perform_kept}
+use Rattle.cmm_laws.proofs.Kept.{kept_weaker, KeptBy, KeptIn, kept_and_then, kept_if, kept_some, kept_with_some}
+use Rattle.cmm_laws.proofs.Lists.{at_result, at_option}
+use Rattle.cmm_laws.proofs.Outlines.{Outline, ComesFrom, bare, bare_with_site, logs, outline, outline_asks, outline_does, outline_gone_on, stack_without}
+use Rattle.cmm_laws.specs.Runs.{traffic, yielded}
+use Rattle.cmm_laws.specs.Stacks.{IsStack, Stack, stack_of, stackdata_at, stackdata_of}
 use Rattle.cmm_program.specs.Acts.{Order, evaluated}
-use Rattle.cmm_program.specs.Writes.{reads_of}
-use Rattle.cmm_program.specs.Exits.{Landing, land, Called, Instead, Back, Resumed, entered, gone_on, results_of, parameters_of}
-use Rattle.cmm_program.specs.Orders.{Answer, perform, Stay, Wait, Away, Over}
 use Rattle.cmm_program.specs.Client.{answered}
-use Rattle.cmm_program.specs.Control.{Control, State, next_act, arrived, over, landed, answer_done, ran}
+use Rattle.cmm_program.specs.Control.{Control, State, answer_done, arrived, landed, next_act, over, ran}
+use Rattle.cmm_program.specs.Errors.{UncheckedError}
+use Rattle.cmm_program.specs.Exits.{Back, Called, Instead, Landing, Resumed, entered, gone_on, land, parameters_of, results_of}
+use Rattle.cmm_program.specs.Frames.{fits_stack, frame_size, new_frame, procedure_at, sum_of_sizes}
+use Rattle.cmm_program.specs.Layout.{data_base, data_bytes}
 use Rattle.cmm_program.specs.Machine.{step_of, steps_of}
+use Rattle.cmm_program.specs.Orders.{Wait, Away, Over, Stay, Answer, perform}
+use Rattle.cmm_program.specs.State.{Ended, Frame, Outcome, Running, Setting, StackLimit, Status, Store, Waiting, Wrong}
+use Rattle.cmm_program.specs.Writes.{reads_of}
 use Rattle.cmm_program.specs.declared.procedure.Proc.{Proc}
 use Rattle.cmm_program.specs.declared.procedure.Target.{Target}
-use Rattle.cmm_program.specs.Frames.{procedure_at, place_row, fits_stack, frame_size, sum_of_sizes, frame_address, new_frame, room_of}
-use Rattle.cmm_laws.specs.Runs.{yielded, Traffic, traffic}
-use Rattle.cmm_laws.proofs.Kept.{KeptBy, KeptIn, kept_and_then, kept_some, kept_with_some, kept_if}
-use Rattle.cmm_laws.specs.Stacks.{extent, Stack, stack_of, stackdata_at, stackdata_of, IsStack}
-use Rattle.cmm_laws.proofs.Outlines.{bare, outline, stack_without, bare_with_site, outline_gone_on, Does, store_in, gone_in, yielded_in}
+use Rattle.std.proofs.Common.{List, None, Ok, Some, [], ap, append-nil, ap₂, arith, drop, length, map, refl, suc, suc-add, sym, zero, zero-add, ℕ, ◌+◌, ◌-◌, ◌∙◌, ◌∷◌, ◌≡◌, ◌≤◌}
+use Rattle.std.proofs.lemmas.Bool.{leb-true}
+use Rattle.std.proofs.lemmas.List.{drop-map}
+use Rattle.std.proofs.lemmas.List.Folds.{fold-map}
+use Rattle.std.proofs.lemmas.List.Sums.{sum_by-take-drop}
+
+-- a procedure, where none is known
+no_procedure : Proc
+no_procedure = record { name = []; unit = 0; tokens = 0; formals = 0; vars = []; stack = []; conts = []; sites = []; body = [] }
 
 module _ (s : Setting) where
   -- sizes and stackdata of frames depend on their procedures alone
@@ -31,61 +39,60 @@ module _ (s : Setting) where
   stackdata_bare (f ∷ fs) =
       ap₂ (λ n es. stackdata_at s f (s.top - n) ∷ es) (sizes_bare (f ∷ fs)) (stackdata_bare fs)
 
-  -- so it makes no difference to a stack that its frames are bare
-  to_bare : (k : Stack) → IsStack s k → IsStack s (record k { frames = map bare k.frames })
-  to_bare k h =
-      record { fits = rw (sizes_bare k.frames) h.fits; rooms = h.rooms ∙ sym (stackdata_bare k.frames); globals = h.globals }
-
-  from_bare : (k : Stack) → IsStack s (record k { frames = map bare k.frames }) → IsStack s k
-  from_bare k h =
-      record { fits = rw (sizes_bare k.frames) at h.fits; rooms = h.rooms ∙ stackdata_bare k.frames; globals = h.globals }
-
   -- without some of the youngest frames
   stackdata_drop : (n : ℕ) (fs : List Frame) → drop n (stackdata_of s fs) ≡ stackdata_of s (drop n fs)
   stackdata_drop zero fs = refl
-  stackdata_drop (suc n) [] = refl
-  stackdata_drop (suc n) (f ∷ fs) = stackdata_drop n fs
+  stackdata_drop (suc n) fs = grind (arith, stackdata_drop n)
 
+  -- frames fit the stack, and rooms and data stand where they should
+  abbrev pub FitsIn : Stack → Type 0
+  FitsIn k = sum_of_sizes s k.frames ≤ s.top - s.base
+
+  abbrev pub RoomsStand : Stack → Type 0
+  RoomsStand k = (k.rooms ≡ stackdata_of s k.frames) × (k.globals ≡ record { address = data_base; length = length (data_bytes s.program s.placement) })
+
+  -- what is kept of a stack by what comes after
+  abbrev pub KeepsStack : Stack → Stack → Type 0
+  KeepsStack before after = (FitsIn before → FitsIn after) × (RoomsStand before → RoomsStand after)
+
+  -- it is kept where only some of the youngest frames are gone, whatever is in the others
+  pub left_keeps : (n : ℕ) (before after : Stack) →
+      record after { frames = map bare after.frames } ≡ stack_without n (record before { frames = map bare before.frames }) → KeepsStack before after
+  left_keeps n before after is =
+      let bares = map bare before.frames in
+      let frames : map bare after.frames ≡ drop n bares = ap (λ k. k.frames) is in
+      let size = sym (sizes_bare after.frames) ∙ ap (sum_of_sizes s) frames in (
+        λ fit. omega (arith, sum_by-take-drop (frame_size s) bares n, sizes_bare before.frames, size, fit),
+        λ stand. grind (arith, is, stackdata_bare before.frames, stackdata_bare after.frames, stackdata_drop n bares, stand),
+      )
+
+  -- so of a whole stack
   pub stack_dropped : (n : ℕ) (k : Stack) → IsStack s k → IsStack s (stack_without n k)
-  stack_dropped n k h = record {
-    fits = omega (arith, sum_by-take-drop (frame_size s) k.frames n, h.fits);
-    rooms = ap (drop n) h.rooms ∙ stackdata_drop n k.frames;
-    globals = h.globals;
-  }
-
-  -- what an answer leaves
-  pub stack_left : (store : Store) (t : Traffic) (values : Option (List ℕ)) (answer : Answer) → IsStack s (stack_of store) →
-      Does (record (outline store) { traffic = t }) values answer → IsStack s (stack_of (store_in answer))
-  stack_left store t values answer h does = from_bare (stack_of (store_in answer)) (subst (λ o. IsStack s o.stack)
-      (sym does.outline) (stack_dropped (gone_in answer) (outline store).stack (to_bare (stack_of store) h)))
+  stack_dropped n k h =
+      let kept = left_keeps n k (stack_without n k) (ap (λ fs. record (stack_without n k) { frames = fs }) (sym (drop-map bare n k.frames))) in
+      grind (arith, kept.0 h.fits, kept.1 (h.rooms, h.globals))
 
   -- what a landing keeps
   abbrev pub Keeps : Store → Store → Type 0
-  Keeps before after = (traffic after ≡ traffic before) × (IsStack s (stack_of before) → IsStack s (stack_of after))
+  Keeps before after = (traffic after ≡ traffic before) × KeepsStack (stack_of before) (stack_of after)
+
+  -- nothing is changed
+  nothing_keeps : (store : Store) → Keeps store store
+  nothing_keeps store = (refl, (λ h. h, λ h. h))
 
   -- going on with values, in the youngest activation
   gone_on_keeps : (targets : List Target) (values : List ℕ) (store : Store) → Keeps store (gone_on targets values store)
   gone_on_keeps targets values store =
-      let after = gone_on targets values store in
       let same = outline_gone_on targets values store in
-      (ap (λ o. o.traffic) same, λ h. from_bare (stack_of after) (subst (λ o. IsStack s o.stack) (sym same) (to_bare (stack_of store) h)))
-
-  -- the stackdata of a frame whose procedure is known
-  stackdata_some : (f : Frame) (address : ℕ) (p : Proc) → procedure_at s f.procedure ≡ Some p →
-      stackdata_at s f address ≡ extent (room_of address p (place_row s f.procedure))
-  stackdata_some f address p is = rw (is, stackdata_at) refl
+      (ap (λ o. o.traffic) same, left_keeps 0 (stack_of store) (stack_of (gone_on targets values store)) (ap (λ o. o.stack) same))
 
   -- a new activation, above frames of the same procedures
   entered_keeps : (n : ℕ) (values : List ℕ) (older : List Frame) (store : Store) → map bare older ≡ map bare store.frames →
       KeptIn (Keeps store) (entered s n values older store)
   entered_keeps n values older store same = kept_with_some (procedure_at s n) _ (λ p is.
-      kept_if (fits_stack s (new_frame n p values ∷ older)) _ (λ fit. (
-        refl,
-        λ h.
-            let below = from_bare (record (stack_of store) { frames = older }) (rw same (to_bare (stack_of store) h)) in
-            let first = stackdata_some (new_frame n p values) (frame_address s (new_frame n p values ∷ older)) p is in
-            record { fits = leb-true _ _ fit; rooms = ap₂ (λ e es. e ∷ es) (sym first) below.rooms; globals = h.globals },
-      )))
+      kept_if (fits_stack s (new_frame n p values ∷ older)) _ (λ fit.
+      let below = left_keeps 0 (stack_of store) (record (stack_of store) { frames = older }) (ap (λ fs. record (stack_of store) { frames = fs }) same) in
+      (refl, (λ h. leb-true _ _ fit, λ h. grind (arith, is, below.1 h)))))
 
   -- each landing
   land_keeps : (landing : Landing) (store : Store) → KeptIn (Keeps store) (land s landing store)
@@ -103,66 +110,53 @@ module _ {C : Type 0} (k : Control C) (s : Setting) where
   pub wrong_stays : (st : State C) (error : UncheckedError) → st.store.status ≡ Wrong error → step_of k s st ≡ st
   wrong_stays st error is = rw is refl
 
-  -- what the store has after a landing, and when it ends the run
-  pub landed_has : (P : Store → Type 0) (landing : Landing) (store : Store) (cs : List C) →
-      KeptIn (λ after. P (over Running after)) (land s landing store) → P (over (Ended StackLimit) store) →
-      P (landed k s landing store cs).store
-  landed_has P landing store cs lands ends = by (land s landing store) lands.holds
-    where
-      by : (o : Option Store) → ((after : Store) → o ≡ Some after → P (over Running after)) → P (elim o as (λ _. State C) [
-        | Some after ↦ record { store = over Running after; controls = arrived k landing cs }
-        | None ↦ record { store = over (Ended StackLimit) store; controls = cs }
-      ]).store
-      by (Some after) holds = holds after refl
-      by None holds = ends
+  -- what a state has after a landing, and when it ends the run
+  pub landed_has : (P : State C → Type 0) (landing : Landing) (store : Store) (cs : List C) →
+      KeptIn (λ after. P record { store = over Running after; controls = arrived k landing cs }) (land s landing store) →
+      P record { store = over (Ended StackLimit) store; controls = cs } → P (landed k s landing store cs)
+  landed_has P landing store cs lands ends = at_option (land s landing store) _ _ P lands.holds ends
 
-  -- so a landing done keeps it, and each answer done
+  -- so a landing done keeps what landings keep
   pub landed_keeps : (landing : Landing) (store : Store) (cs : List C) → Keeps s store (landed k s landing store cs).store
-  landed_keeps landing store cs = landed_has (Keeps s store) landing store cs (land_keeps s landing store) (refl, λ h. h)
+  landed_keeps landing store cs = landed_has (λ st. Keeps s store st.store) landing store cs (land_keeps s landing store) (nothing_keeps s store)
 
-  pub done_keeps : (answer : Answer) (cs : List C) → Keeps s (store_in answer) (answer_done k s answer cs).store
-  done_keeps (Stay way store) cs = (refl, λ h. h)
-  done_keeps (Wait store) cs = (refl, λ h. h)
-  done_keeps (Away gone store landing) cs = landed_keeps landing store (drop gone cs)
-  done_keeps (Over gone store) cs = (refl, λ h. h)
+  -- What comes after a store, where what went in and out is that of an outline: the stack is kept, and no values are for the
+  -- client. So it is after an answer that comes from that outline.
+  abbrev pub After : Store → Outline → Store → Type 0
+  After before o after =
+      (traffic after ≡ o.traffic) × KeepsStack s (stack_of before) (stack_of after) × (yielded after.status ≡ None)
 
-  -- the state after an answer waits where that says so
-  pub done_yielded : (answer : Answer) (cs : List C) → yielded (answer_done k s answer cs).store.status ≡ yielded_in answer
-  done_yielded (Stay way store) cs = refl
-  done_yielded (Wait store) cs = refl
-  done_yielded (Away gone store landing) cs =
-      landed_has (λ after. yielded after.status ≡ None) landing store (drop gone cs) (record { holds = λ after is. refl }) refl
-  done_yielded (Over gone store) cs = refl
+  done_after : (before : Store) (o : Outline) → o.stack ≡ (outline before).stack → (answer : Answer) (cs : List C) → ComesFrom o answer →
+      After before o (answer_done k s answer cs).store
+  done_after before o same (Stay way store) cs (from, waits) = (from.0, left_keeps s 0 (stack_of before) (stack_of store) (from.1 ∙ same), waits)
+  done_after before o same (Over gone store) cs (from, waits) =
+      (from.0, left_keeps s gone (stack_of before) (stack_of store) (from.1 ∙ ap (stack_without gone) same), waits)
+  done_after before o same (Away gone store landing) cs from =
+      let left = left_keeps s gone (stack_of before) (stack_of store) (from.1 ∙ ap (stack_without gone) same) in
+      let landed = landed_keeps landing store (drop gone cs) in
+      (landed.0 ∙ from.0, (λ h. landed.1.0 (left.0 h), λ h. landed.1.1 (left.1 h)), grind arith)
+  done_after before o same (Wait store) cs from = absurd from
 
-  -- what the store has after an order, an unchecked error and a client's answer, and where the state stays
-  pub step_has : (P : Store → Type 0) (st : State C) →
+  -- what a state has after an order, an unchecked error and a client's answer, and where it stays
+  pub step_has : (P : State C → Type 0) (st : State C) →
       ((order : Order) → st.store.status ≡ Running → evaluated (reads_of s st.store) (next_act k st.controls) ≡ Ok order →
-      KeptBy (λ answer. P (answer_done k s answer st.controls).store) (perform s order st.store)) →
-      ((error : UncheckedError) → P (over (Wrong error) st.store)) →
+      KeptBy (λ answer. P (answer_done k s answer st.controls)) (perform s order st.store)) →
+      ((error : UncheckedError) → P (record st { store = over (Wrong error) st.store })) →
       ((values : List ℕ) → st.store.status ≡ Waiting values →
-      P (answer_done k s (answered s values st.store) st.controls).store) →
-      (yielded st.store.status ≡ None → P st.store) → P (step_of k s st).store
+      P (answer_done k s (answered s values st.store) st.controls)) →
+      (yielded st.store.status ≡ None → P st) → P (step_of k s st)
   step_has P st does goes_wrong answers stays = by st.store.status refl
     where
-      by_answer : (t : Tried Answer) → ((answer : Answer) → t ≡ Ok answer → P (answer_done k s answer st.controls).store) →
-          P (elim t as (λ _. State C) [
-            | Ok answer ↦ answer_done k s answer st.controls
-            | Err error ↦ record st { store = over (Wrong error) st.store }
-          ]).store
-      by_answer (Ok answer) holds = holds answer refl
-      by_answer (Err error) holds = goes_wrong error
-
       by : (status : Status) → st.store.status ≡ status → P (elim status as (λ _. State C) [
         | Running ↦ ran k s st
         | Waiting values ↦ answer_done k s (answered s values st.store) st.controls
         | Ended outcome ↦ st
         | Wrong error ↦ st
-      ]).store
-      by Running is = by_answer _ (kept_and_then (evaluated (reads_of s st.store) (next_act k st.controls)) _
-          (λ order e. does order is e)).holds
+      ])
+      by Running is = at_result _ _ _ P (kept_and_then (evaluated (reads_of s st.store) (next_act k st.controls)) _
+          (λ order e. does order is e)).holds goes_wrong
       by (Waiting values) is = answers values is
-      by (Ended outcome) is = stays (ap yielded is)
-      by (Wrong error) is = stays (ap yielded is)
+      by status is = stays (ap yielded is)
 
   -- what each step keeps holds after any number of steps
   pub kept_by_steps : (P : State C → Type 0) → ((st : State C) → P st → P (step_of k s st)) → (n : ℕ) (st : State C) → P st →
@@ -174,3 +168,26 @@ module _ {C : Type 0} (k : Control C) (s : Setting) where
   pub steps_add : (m n : ℕ) (st : State C) → steps_of k s (m + n) st ≡ steps_of k s n (steps_of k s m st)
   steps_add zero n st = rw (zero-add n) refl
   steps_add (suc m) n st = rw (suc-add m n) (steps_add m n (step_of k s st))
+
+  -- ---- what comes after orders and answers
+
+  -- after an order that does not suspend, what it puts and takes has gone in and out
+  pub order_done : (store : Store) (order : Order) (cs : List C) → store.status ≡ Running → (Suspends order → ⊥) →
+      KeptBy (λ answer. After store (outline (passed_by order store)) (answer_done k s answer cs).store) (perform s order store)
+  order_done store order cs running suspends =
+      let o = outline (passed_by order store) in
+      let same = passes (λ now. (outline now).stack ≡ (outline store).stack) store (λ left gone written log. refl) order in
+      let runs = passes (λ now. now.status ≡ Running) store (λ left gone written log. running) order in
+      kept_weaker (λ answer. done_after store o same answer cs)
+      (perform_kept s no_procedure ⊥ ⊥ (λ now. outline now ≡ o) (ComesFrom o) (outline_does s no_procedure o runs)
+      order store suspends (λ never. absurd never) (λ never. absurd never) refl)
+
+  -- and after the client's answer some text is logged
+  pub answer_comes : (values : List ℕ) (store : Store) (cs : List C) →
+      (text : List ℕ) × After store (logs text (outline store)) (answer_done k s (answered s values store) cs).store
+  answer_comes values store cs =
+      let o = outline store in
+      let from = answered_kept s values (λ after. (text : List ℕ) × (outline after ≡ logs text o))
+      (λ answer. (text : List ℕ) × ComesFrom (logs text o) answer) (outline_asks s o) store
+      ([], ap (λ log. record o { traffic = record o.traffic { log = log } }) (sym (append-nil store.log))) in
+      (from.0, done_after store (logs from.0 o) refl (answered s values store) cs from.1)

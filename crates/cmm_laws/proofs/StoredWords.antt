@@ -1,15 +1,15 @@
 -- The bytes of a number and back, and words stored and loaded again.
-use Rattle.std.proofs.Common.{◌≡◌, ℕ, zero, suc, ◌+◌, ◌*◌, ◌/◌, ◌%◌, ◌<◌, ◌^◌, ◌==◌, ◌&&◌, true, false, Bool, List, [], ◌∷◌, length, map, get_or, Ok, refl, ap, ap₂, subst, ◌∙◌, ⊎_elim, arith, mod-lt, mod-eq_of_lt, pow-suc, add-zero}
+use Rattle.std.proofs.lemmas.Bool.Decides.{nat_tests}
+use Rattle.std.proofs.Common.{◌≡◌, ℕ, zero, suc, ◌+◌, ◌*◌, ◌/◌, ◌%◌, ◌<◌, ◌^◌, ◌==◌, true, List, [], ◌∷◌, length, map, get_or, Ok, refl, ap, ap₂, ◌∙◌, arith, mod-lt, mod-eq_of_lt, pow-suc}
 use Rattle.std.proofs.Math.Nat.{one-le-pow, add-mul-div_left, add-mul-mod_self_left, div-eq_of_lt}
 use Rattle.std.proofs.Math.Arith.{mod-mul}
-use Rattle.std.proofs.lemmas.Bool.{and_parts, and_from, cases_eq}
+use Rattle.std.proofs.lemmas.Bool.{and_parts}
 use Rattle.std.proofs.lemmas.List.Elements.{All-cons}
 use Rattle.cmm_words.specs.declared.width.Width.{Width}
-use Rattle.cmm_words.specs.declared.width.Width.TheVariants.{W8, W16, W32, W64}
 use Rattle.cmm_words.specs.Widths.{bytes, IsWord}
-use Rattle.cmm_program.specs.Errors.{BadAccess, and_then, provided, all_of}
+use Rattle.cmm_program.specs.Errors.{all_of}
 use Rattle.cmm_program.specs.Layout.{bytes_of}
-use Rattle.cmm_program.specs.Memory.{Cell, Outside, Unwritten, Byte, Memory, cell_at, with_byte, with_bytes, number_of, addresses}
+use Rattle.cmm_program.specs.Memory.{Cell, Byte, Memory, cell_at, with_byte, with_bytes, number_of, addresses}
 use Rattle.cmm_program.specs.State.{Store}
 use Rattle.cmm_program.specs.Values.{Reads, is_there, all_there, may_access, byte_of, loaded}
 use Rattle.cmm_program.specs.Writes.{reads_of, put}
@@ -60,35 +60,24 @@ bytes_read : (cell : ℕ → Cell) (address : ℕ) (bytes : List ℕ) →
     all_of (map (λ at. byte_of (cell at)) (addresses address (length bytes))) ≡ Ok bytes
 bytes_read cell address [] stand = refl
 bytes_read cell address (byte ∷ bytes) stand =
-    let here : cell address ≡ Byte byte = rw (add-zero address) at (stand 0 (omega arith)) in
-    let rest = bytes_read cell (suc address) bytes (λ i less.
-    let e : suc address + i ≡ address + suc i = omega arith in rw e (stand (suc i) (omega arith))) in
-    rw (here, rest)
+    grind (arith, stand 0, bytes_read cell (suc address) bytes (λ i less. grind (arith, stand (suc i))))
 
 -- each of so many cells is there where all are
 each_there : (cell : ℕ → Cell) (address size i : ℕ) → all_there (map cell (addresses address size)) ≡ true → i < size →
     is_there (cell (address + i)) ≡ true
-each_there cell address zero i all less = absurd (omega arith)
-each_there cell address (suc size) zero all less = rw (add-zero address) (and_parts _ _ all).0
-each_there cell address (suc size) (suc i) all less =
-    let e : address + suc i ≡ suc address + i = omega arith in
-    rw e (each_there cell (suc address) size i (and_parts _ _ all).1 (omega arith))
+each_there cell address (suc size) (suc i) all less = grind (arith, nat_tests, each_there cell (suc address) size i)
+each_there cell address size i all less = grind (arith, nat_tests)
 
 -- all are there where each is
 all_are_there : (cell : ℕ → Cell) (address size : ℕ) → ((i : ℕ) → i < size → is_there (cell (address + i)) ≡ true) →
     all_there (map cell (addresses address size)) ≡ true
 all_are_there cell address zero each = refl
 all_are_there cell address (suc size) each =
-    let here : is_there (cell address) ≡ true = rw (add-zero address) at (each 0 (omega arith)) in
-    let rest = all_are_there cell (suc address) size (λ i less.
-    let e : suc address + i ≡ address + suc i = omega arith in rw e (each (suc i) (omega arith))) in
-    and_from _ _ here rest
+    grind (arith, nat_tests, each 0, all_are_there cell (suc address) size (λ i less. grind (arith, each (suc i))))
 
 -- a cell that is there takes a byte
 there_taken : (cell : Cell) (byte : ℕ) → is_there cell ≡ true → written cell byte ≡ Byte byte
-there_taken Outside byte there = absurd (cc)
-there_taken Unwritten byte there = refl
-there_taken (Byte before) byte there = refl
+there_taken cell byte there = grind arith
 
 -- where the bytes of a word stand, at an address that is aligned, the number that they spell is loaded
 word_read : (r : Reads) (width : Width) (aligned address : ℕ) (found : List ℕ) → length found ≡ bytes width →
@@ -96,17 +85,11 @@ word_read : (r : Reads) (width : Width) (aligned address : ℕ) (found : List �
     loaded r width aligned address ≡ Ok (number_of found)
 word_read r width aligned address found size is_aligned stand =
     let there = all_are_there r.byte address (length found) (λ i less. ap is_there (stand i less)) in
-    let access = and_from (address % aligned == 0) (all_there (map r.byte (addresses address (length found)))) is_aligned there in
-    subst (λ n. provided (may_access r.byte n aligned address) BadAccess
-    (and_then (all_of (map (λ a. byte_of (r.byte a)) (addresses address n))) (λ all. Ok (number_of all))) ≡ Ok (number_of found)) size
-    (rw (access, bytes_read r.byte address found stand) refl)
+    grind (arith, nat_tests, there, bytes_read r.byte address found stand)
 
 -- the words of a width are the numbers of its bytes
 small_word : (width : Width) (value : ℕ) → IsWord width value → value < 256 ^ bytes width
-small_word W8 value small = small
-small_word W16 value small = small
-small_word W32 value small = small
-small_word W64 value small = small
+small_word width value small = grind arith
 
 -- the store with a word put into memory
 abbrev with_word : Width → ℕ → ℕ → Store → Store
@@ -115,12 +98,7 @@ with_word width address value store = record store { memory = with_bytes store.m
 -- a word is put where the address may be accessed
 put_done : (width : Width) (aligned address value : ℕ) (before after : Store) → put (place.Memory width aligned address) value before ≡ Ok after →
     (may_access (cell_at before.memory) (bytes width) aligned address ≡ true) × (with_word width address value before ≡ after)
-put_done width aligned address value before after = by (may_access (cell_at before.memory) (bytes width) aligned address)
-  where
-    by : (access : Bool) → provided access BadAccess (Ok (with_word width address value before)) ≡ Ok after →
-        (access ≡ true) × (with_word width address value before ≡ after)
-    by true is = (refl, cc)
-    by false is = absurd (cc)
+put_done width aligned address value before after is = grind arith
 
 -- a stored word is loaded again
 pub stored_is_loaded : StoredIsLoaded
@@ -141,16 +119,13 @@ same_cells : {A : Type 0} (show : Cell → A) (f g : ℕ → Cell) (address size
     map (λ at. show (f at)) (addresses address size) ≡ map (λ at. show (g at)) (addresses address size)
 same_cells show f g address zero same = refl
 same_cells show f g address (suc size) same =
-    let first : f address ≡ g address = rw (add-zero address) at (same 0 (omega arith)) in
-    ap₂ (λ a rest. a ∷ rest) (ap show first) (same_cells show f g (suc address) size (λ i less.
-    let e : suc address + i ≡ address + suc i = omega arith in rw e (same (suc i) (omega arith))))
+    grind (arith, same 0, same_cells show f g (suc address) size (λ i less. grind (arith, same (suc i))))
 
 -- the same bytes load the same word
 same_word : (r r' : Reads) (width : Width) (aligned address : ℕ) → ((i : ℕ) → i < bytes width → r.byte (address + i) ≡ r'.byte (address + i)) →
     loaded r width aligned address ≡ loaded r' width aligned address
 same_word r r' width aligned address same =
-    ap₂ (λ cells found. provided ((address % aligned == 0) && all_there cells) BadAccess (and_then (all_of found) (λ all. Ok (number_of all))))
-    (same_cells (λ cell. cell) r.byte r'.byte address (bytes width) same) (same_cells byte_of r.byte r'.byte address (bytes width) same)
+    grind (arith, same_cells (λ cell. cell) r.byte r'.byte address (bytes width) same, same_cells byte_of r.byte r'.byte address (bytes width) same)
 
 -- a store leaves the words elsewhere
 pub words_elsewhere_stay : WordsElsewhereStay
@@ -159,33 +134,27 @@ words_elsewhere_stay s width width' aligned aligned' address other value before 
     let size = (bytes_of_number (bytes width) value).0 in
     let word = bytes_of (bytes width) value in
     rw (← done.1) (same_word (reads_of s (with_word width address value before)) (reads_of s before) width' aligned' other (λ i less.
-    other_addresses before.memory address word (other + i) (λ j within e. ⊎_elim (λ below. absurd (omega (arith, below, e)))
-    (λ above. absurd (omega (arith, above, e, size))) apart)))
+    other_addresses before.memory address word (other + i) (λ j within e. grind (arith, size))))
 
 -- ---- access
 
 -- a write leaves what is there
 there_written : (cell : Cell) (byte : ℕ) → is_there (written cell byte) ≡ is_there cell
-there_written Outside byte = refl
-there_written Unwritten byte = refl
-there_written (Byte before) byte = refl
+there_written cell byte = grind arith
 
 -- at every address
 there_stays : (m : Memory) (address byte other : ℕ) → is_there (cell_at (with_byte m address byte) other) ≡ is_there (cell_at m other)
-there_stays m address byte other = ⊎_elim
-    (λ e. rw e (ap is_there (same_address m address byte) ∙ there_written (cell_at m address) byte))
-    (λ differs. ap is_there (other_address m address byte other differs)) (cases_eq other address)
+there_stays m address byte other = grind (arith, same_address m address byte, other_address m address byte other, there_written)
 
 -- at so many addresses
 all_there_stay : (m : Memory) (address byte other size : ℕ) →
     all_there (map (cell_at (with_byte m address byte)) (addresses other size)) ≡ all_there (map (cell_at m) (addresses other size))
 all_there_stay m address byte other zero = refl
 all_there_stay m address byte other (suc size) =
-    ap₂ (λ a b. a && b) (there_stays m address byte other) (all_there_stay m address byte (suc other) size)
+    grind (arith, there_stays m address byte other, all_there_stay m address byte (suc other) size)
 
 -- so it leaves which addresses may be accessed
 pub access_stays : AccessStays
 access_stays m address [] size aligned other = refl
 access_stays m address (byte ∷ more) size aligned other =
-    access_stays (with_byte m address byte) (suc address) more size aligned other
-    ∙ ap (λ there. (other % aligned == 0) && there) (all_there_stay m address byte other size)
+    grind (arith, access_stays (with_byte m address byte) (suc address) more size aligned other, all_there_stay m address byte other size)

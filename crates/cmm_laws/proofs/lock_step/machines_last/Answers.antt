@@ -1,5 +1,6 @@
 use Rattle.cmm_program.specs.Todo.{todo_control}
-use Rattle.cmm_laws.proofs.Lasting.{line_unseen, machine_lasts}
+use Rattle.cmm_laws.proofs.Lasting.{machine_lasts}
+use Rattle.cmm_laws.proofs.Growing.{line_unseen}
 use Rattle.cmm_laws.proofs.lock_step.machines_last.Goals as goal
 use Rattle.cmm_laws.specs.StatementGraph.{graph_control}
 
