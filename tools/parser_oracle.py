@@ -1,3 +1,7 @@
+"""An independent recognizer of the grammar: it tries every alternative at every place, and knows neither the parser nor its readers.
+Reads texts from standard input, one a line, each a whole unit, and prints for each the tree as the parser's types print it, or the token at
+which rule 10 is broken, or that the text has more trees than one. `parse(text, start)` does so for another part of the grammar, as `part`.
+The expected values of crates/cmm_parser/src/tests.rt come from it."""
 import re,sys
 sys.setrecursionlimit(100000)
 WORDS="aborts align aligned also as big bits8 bits16 bits32 bits64 bool byteorder case const continuation cut cuts default else export float foreign goto if import in invariant jump little memsize never pointersize pragma reads register return returns section span stackdata string16 switch target to typedef unicode unwinds wordsize writes".split()

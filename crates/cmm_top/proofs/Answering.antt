@@ -1,6 +1,6 @@
 -- From what a file comes to, and its line in the log, to what the top call answers.
 use Rattle.std.proofs.Common.{◌≡◌, ℕ, ◌⊎◌, inl, inr, List, Option, Some, None, refl, ap, sym, ◌∙◌, subst}
-use Rattle.std.proofs.lemmas.Option.{same_Some}
+use Rattle.std.proofs.lemmas.Option.{none-some, same_Some}
 use Rattle.cmm_outside.specs.Faults.{Rose}
 use Rattle.cmm_outside.specs.Output.{Appends}
 use Rattle.cmm_outside.specs.Storage.{Contents, FailedCall}
@@ -8,23 +8,20 @@ use Rattle.cmm_top.specs.declared.ending.Ending.{Ending}
 use Rattle.cmm_top.specs.declared.ending.Ending.TheVariants.{Usage, Refused, Result, FileFault, OutOfMemory}
 use Rattle.cmm_top.specs.declared.status.Status.{Status}
 use Rattle.cmm_top.specs.declared.status.Status.TheVariants as status
-use Rattle.cmm_top.specs.declared.term.Sign.TheVariants.{Plus}
-use Rattle.cmm_top.specs.Causes.{IsLine, WritesFront}
+use Rattle.cmm_top.specs.Causes.{HasValue, IsLine, IsNotBuilt, WritesFront}
 use Rattle.cmm_top.specs.Command.{file_in}
 use Rattle.cmm_top.specs.Ending.{IsCaused, Closes, line_of, status_of}
-use Rattle.cmm_top.specs.Expression.{Expression, tokens, value}
-use Rattle.cmm_top.specs.Form.{Derives}
 use Rattle.cmm_top.specs.Headline.{RunsSums}
 use Rattle.cmm_top.specs.Lines.{result_line}
-use Rattle.cmm_top.specs.Reading.{terms}
-use Rattle.cmm_top.proofs.Compiling.{terms_read}
-use Rattle.cmm_top.proofs.Values.{total-terms}
-use Rattle.cmm_top.specs.Code.{total}
+use Rattle.cmm_top.proofs.UnitCode.{same_value}
 
 -- a unit has one value
-pub one_value : (unit : List ℕ) (e f : Expression) → Derives unit e → Derives unit f → value e ≡ value f
-one_value unit e f d g =
-    sym (total-terms e) ∙ (ap (total 0) (same_Some (terms Plus e) (terms Plus f) (sym (terms_read unit (tokens e) e d d.spelled) ∙ terms_read unit (tokens e) f g d.spelled)) ∙ total-terms f)
+one_value : (unit : List ℕ) (v w : ℕ) → HasValue v unit → HasValue w unit → v ≡ w
+one_value unit v w one other = same_Some v w (sym one.value ∙ (same_value unit one.tree other.tree one.is_tree other.is_tree ∙ other.value))
+
+-- and what has one is of the form
+not_both : (unit : List ℕ) (v : ℕ) → IsNotBuilt unit → HasValue v unit → ⊥
+not_both unit v none one = none-some v (sym (none one.tree one.is_tree) ∙ one.value)
 
 -- the line of an ending has its cause
 line_caused : (words : List (List ℕ)) (name : List ℕ) (contents : Option Contents) (a b : ℕ) (last : Option FailedCall) (ending : Ending) → file_in words ≡ Some name →
@@ -48,23 +45,23 @@ pub front_written : (words : List (List ℕ)) (name : List ℕ) (contents : Opti
 front_written words name contents a b last ending before after f g answer asked cause (inl (is, written, same)) fault = absurd (not_output_fault ending (sym is ∙ fault))
 front_written words name contents a b last ending before after f g answer asked cause (inr (is, front, rose)) fault = (line_of name ending, line_caused words name contents a b last ending asked cause, front)
 
--- what a file that is a unit comes to, where nothing outside fails
-sum_by : (files : Contents) (name unit : List ℕ) (e : Expression) (a b : ℕ) (last : Option FailedCall) (ending : Ending) (before after : Option (List ℕ)) (answer : Status) →
-    files name ≡ Some unit → Derives unit e → (Rose a b → ⊥) → IsCaused name (Some files) a b last ending → answer ≡ status_of ending → Appends before after (line_of name ending) →
-    ((answer ≡ status.Done) × Appends before after (result_line (value e))) ⊎ (answer ≡ status.Memory)
-sum_by files name unit e a b last Usage before after answer told d sure cause is written = absurd cause
-sum_by files name unit e a b last (Refused fault) before after answer told d sure (file, there, (none, broken)) is written =
-    absurd (none e (subst (λ (u : List ℕ). Derives u e) (same_Some unit file (sym told ∙ there)) d))
-sum_by files name unit e a b last (Result v) before after answer told d sure (file, there, (f, derives, v_is)) is written =
-    let same : v ≡ value e = v_is ∙ one_value unit f e (subst (λ (u : List ℕ). Derives u f) (same_Some file unit (sym there ∙ told)) derives) d in
+-- what a file that is a unit of the form comes to, where nothing outside fails
+sum_by : (files : Contents) (name unit : List ℕ) (value : ℕ) (a b : ℕ) (last : Option FailedCall) (ending : Ending) (before after : Option (List ℕ)) (answer : Status) →
+    files name ≡ Some unit → HasValue value unit → (Rose a b → ⊥) → IsCaused name (Some files) a b last ending → answer ≡ status_of ending → Appends before after (line_of name ending) →
+    ((answer ≡ status.Done) × Appends before after (result_line value)) ⊎ (answer ≡ status.Memory)
+sum_by files name unit value a b last Usage before after answer told has sure cause is written = absurd cause
+sum_by files name unit value a b last (Refused fault) before after answer told has sure (file, there, (none, broken)) is written =
+    absurd (not_both file value none (subst (HasValue value) (same_Some unit file (sym told ∙ there)) has))
+sum_by files name unit value a b last (Result v) before after answer told has sure (file, there, has_too) is written =
+    let same : v ≡ value = one_value unit v value (subst (HasValue v) (same_Some file unit (sym there ∙ told)) has_too) has in
     inl (is, subst (λ (n : ℕ). Appends before after (result_line n)) same written)
-sum_by files name unit e a b last FileFault before after answer told d sure cause is written = absurd (sure cause.0)
-sum_by files name unit e a b last OutOfMemory before after answer told d sure cause is written = inr is
+sum_by files name unit value a b last FileFault before after answer told has sure cause is written = absurd (sure cause.0)
+sum_by files name unit value a b last OutOfMemory before after answer told has sure cause is written = inr is
 
 pub sums_run : (words : List (List ℕ)) (name : List ℕ) (contents : Option Contents) (a b : ℕ) (last : Option FailedCall) (ending : Ending) (before after : Option (List ℕ)) (f g : ℕ) (answer : Status) →
     file_in words ≡ Some name → IsCaused name contents a b last ending → Closes name ending before after f g answer → RunsSums words contents before after (Rose a b) (Rose f g) answer
 sums_run words name None a b last ending before after f g answer asked cause closes = tt
 sums_run words name (Some files) a b last ending before after f g answer asked cause (inl (is, written, same)) =
-    λ other unit e asked' told d sure steady. sum_by files name unit e a b last ending before after answer (ap files (same_Some name other (sym asked ∙ asked')) ∙ told) d sure cause is written
+    λ other unit value asked' told has sure steady. sum_by files name unit value a b last ending before after answer (ap files (same_Some name other (sym asked ∙ asked')) ∙ told) has sure cause is written
 sums_run words name (Some files) a b last ending before after f g answer asked cause (inr (is, front, rose)) =
-    λ other unit e asked' told d sure steady. absurd (steady rose)
+    λ other unit value asked' told has sure steady. absurd (steady rose)

@@ -1,15 +1,25 @@
--- The terms of an expression add up to its value.
-use Rattle.std.proofs.Common.{◌≡◌, ℕ, ◌+◌, ◌-◌, ◌%◌, ◌^◌, ◌<◌, List, [], ◌∷◌, ◌++◌, length, refl, ap, sym, ◌∙◌, arith, length-append}
+-- The terms of a sum add up to its value.
+use mathlib.Core.Former.{one_more}
+use Rattle.std.proofs.Common.{◌≡◌, ℕ, ◌+◌, ◌-◌, ◌%◌, ◌^◌, ◌<◌, List, [], ◌∷◌, ◌++◌, Option, Some, None, refl, ap, sym, ◌∙◌, arith}
 use Rattle.std.proofs.lemmas.Int.{ints}
 use Rattle.std.specs.Prelude.{ℤ, pos, negsuc, ◌-ℤ◌}
+use Rattle.cmm_ast.specs.declared.expression.ExprForm.{ExprForm, Row_of-Expr, more_of-Expr}
+use Rattle.cmm_ast.specs.declared.expression.ExprForm.TheVariants.{Infix', Prefix', Prim, Memory as InMemory, Named'}
+use Rattle.cmm_ast.specs.declared.expression.Number.{Number}
+use Rattle.cmm_ast.specs.declared.expression.Number.TheVariants.{Int, Char}
+use Rattle.cmm_ast.specs.declared.expression.PrimForm.{PrimForm}
+use Rattle.cmm_ast.specs.declared.expression.PrimForm.TheVariants.{Literal, Name, Bracketed'}
+use Rattle.cmm_ast.specs.declared.expression.TypeName.{TypeName}
+use Rattle.cmm_ast.specs.declared.unit.Unit.{Unit as UnitTree}
 use Rattle.cmm_words.specs.Integers.{wrapped}
 use Rattle.cmm_top.specs.declared.term.Sign.{Sign}
 use Rattle.cmm_top.specs.declared.term.Sign.TheVariants.{Plus, Minus}
 use Rattle.cmm_top.specs.declared.term.Term.{Term}
-use Rattle.cmm_top.specs.Sign.{combined}
+use Rattle.cmm_top.specs.Sign.{sign_of, combined}
 use Rattle.cmm_top.specs.Code.{total}
-use Rattle.cmm_top.specs.Expression.{Operand, Expression, Literal, Bracketed, Alone, Joined, with_sign, operand_value, value, operand_signs, signs}
-use Rattle.cmm_top.specs.Reading.{operand_terms, terms}
+use Rattle.cmm_top.specs.Expression.{with_sign, joined, literal_value, sum_value, boxed_value, prim_value}
+use Rattle.cmm_top.specs.Form.{returned, form_value, value_of}
+use Rattle.cmm_top.specs.Terms.{and_terms, boxed_terms, combined_to, form_terms, literal_terms, prim_terms, sum_terms, terms_of, under}
 
 pub with_sign-Plus : (a b : ℕ) → with_sign a Plus b ≡ (a + b) % 2 ^ 64
 with_sign-Plus a b = refl
@@ -34,44 +44,81 @@ with_sign-combined a b c Plus Minus = omega (arith, with_sign-Minus b c, with_si
 with_sign-combined a b c Minus Plus = omega (arith, with_sign-Minus a (with_sign b Plus c), with_sign-Minus a b, with_sign-Minus (with_sign a Minus b) c)
 with_sign-combined a b c Minus Minus = omega (arith, with_sign-Minus b c, with_sign-Minus a (with_sign b Minus c), with_sign-Minus a b)
 
+with_sign-< : (a : ℕ) (s : Sign) (b : ℕ) → with_sign a s b < 2 ^ 64
+with_sign-< a Plus b = omega arith
+with_sign-< a Minus b = omega (arith, with_sign-Minus a b)
+
 pub total-append : (a : ℕ) (ts us : List Term) → total a (ts ++ us) ≡ total (total a ts) us
 total-append a [] us = refl
 total-append a (t ∷ ts) us = total-append (with_sign a t.sign t.number) ts us
 
--- the terms of an expression under a sign add its value under that sign
+-- there are terms where there is a value, and under a sign they add the value under that sign
+abbrev pub Amounts : Sign → Option (List Term) → Option ℕ → Type 0
+Amounts s (Some ts) (Some v) = ((a : ℕ) → total a ts ≡ with_sign a s v) × (v < 2 ^ 64)
+Amounts s None None = Unit {0}
+Amounts s _ _ = ⊥
+
+amounts_joined : (s t : Sign) (ts us : List Term) (v w : ℕ) → ((a : ℕ) → total a ts ≡ with_sign a s v) → ((a : ℕ) → total a us ≡ with_sign a (combined s t) w) →
+    (a : ℕ) → total a (ts ++ us) ≡ with_sign a s (with_sign v t w)
+amounts_joined s t ts us v w left right a =
+    total-append a ts us ∙ (ap (λ b. total b us) (left a) ∙ (right (with_sign a s v) ∙ sym (with_sign-combined a v w s t)))
+
+joined_under : (s t : Sign) (x : Option (List Term)) (v : Option ℕ) (y : Option (List Term)) (w : Option ℕ) → Amounts s x v → Amounts (combined s t) y w →
+    Amounts s (and_terms x y) (joined (Some t) v w)
+joined_under s t (Some ts) (Some v) (Some us) (Some w) left right = (amounts_joined s t ts us v w left.0 right.0, with_sign-< v t w)
+joined_under s t (Some ts) (Some v) None None left right = tt
+joined_under s t (Some ts) (Some v) (Some us) None left right = absurd right
+joined_under s t (Some ts) (Some v) None (Some w) left right = absurd right
+joined_under s t None None (Some us) w left right = tt
+joined_under s t None None None w left right = tt
+joined_under s t (Some ts) None y w left right = absurd left
+joined_under s t None (Some v) y w left right = absurd left
+
+none_joined : (s : Sign) (x : Option (List Term)) (y : Sign → Option (List Term)) (v w : Option ℕ) → Amounts s (and_terms x (under None y)) (joined None v w)
+none_joined s None y v w = tt
+none_joined s (Some ts) y v w = tt
+
+amounts_infix : (s : Sign) (o : Option Sign) (x : Option (List Term)) (y : Sign → Option (List Term)) (v w : Option ℕ) → Amounts s x v →
+    ((t : Sign) → Amounts t (y t) w) → Amounts s (and_terms x (under (combined_to s o) y)) (joined o v w)
+amounts_infix s (Some t) x y v w left right = joined_under s t x v (y (combined s t)) w left (right (combined s t))
+amounts_infix s None x y v w left right = none_joined s x y v w
+
+amounts_literal : (s : Sign) (number : Number) (width : Option TypeName) → Amounts s (literal_terms s number width) (literal_value number width)
+amounts_literal s (Int n) None = (λ a. sym (with_sign-low a s n), omega arith)
+amounts_literal s (Int n) (Some t) = tt
+amounts_literal s (Char b) width = tt
+
 mutual
-  total-operand : (a : ℕ) (s : Sign) (o : Operand) → total a (operand_terms s o) ≡ with_sign a s (operand_value o)
-  total-operand a s (Literal n) = sym (with_sign-low a s n)
-  total-operand a s (Bracketed e) = total-expression a s e
+  pub amounts : (s : Sign) (form : ExprForm) → Amounts s (sum_terms s form) (sum_value form)
+  amounts s (Infix' _ left op _ right) =
+      amounts_infix s (sign_of op) (boxed_terms s left) (λ t. boxed_terms t right) (boxed_value left) (boxed_value right) (amounts_boxed s left) (λ t. amounts_boxed t right)
+  amounts s (Prefix' op _ inner) = tt
+  amounts s (Prim prim) = amounts_prim s prim
+  amounts s (InMemory m) = tt
+  amounts s (Named' name _ operands) = tt
 
-  total-expression : (a : ℕ) (s : Sign) (e : Expression) → total a (terms s e) ≡ with_sign a s (value e)
-  total-expression a s (Alone o) = total-operand a s o
-  total-expression a s (Joined e t o) =
-      total-append a (terms s e) (operand_terms (combined s t) o)
-      ∙ (ap (λ (b : ℕ). total b (operand_terms (combined s t) o)) (total-expression a s e)
-      ∙ (total-operand (with_sign a s (value e)) (combined s t) o
-      ∙ sym (with_sign-combined a (value e) (operand_value o) s t)))
+  amounts_boxed : {n : _} (s : Sign) (row : Row_of-Expr (one_more n)) → Amounts s (boxed_terms s row) (boxed_value row)
+  amounts_boxed s (more_of-Expr first form rest) = amounts s form
 
-mutual
-  operand_value-< : (o : Operand) → operand_value o < 2 ^ 64
-  operand_value-< (Literal n) = omega arith
-  operand_value-< (Bracketed e) = value-< e
+  amounts_prim : (s : Sign) (prim : PrimForm) → Amounts s (prim_terms s prim) (prim_value prim)
+  amounts_prim s (Literal number width) = amounts_literal s number width
+  amounts_prim s (Name name) = tt
+  amounts_prim s (Bracketed' _ inner) = amounts_boxed s inner
 
-  pub value-< : (e : Expression) → value e < 2 ^ 64
-  value-< (Alone o) = operand_value-< o
-  value-< (Joined e Plus o) = omega arith
-  value-< (Joined e Minus o) = omega (arith, with_sign-Minus (value e) (operand_value o))
+-- from 0 on, the terms of a unit of the form add up to its value, and it has terms where it has a value
+abbrev pub AddUpTo : Option (List Term) → Option ℕ → Type 0
+AddUpTo (Some ts) (Some v) = total 0 ts ≡ v
+AddUpTo None None = Unit {0}
+AddUpTo _ _ = ⊥
 
--- from 0 on, the terms of an expression add up to its value
-pub total-terms : (e : Expression) → total 0 (terms Plus e) ≡ value e
-total-terms e = total-expression 0 Plus e ∙ omega (arith, value-< e)
+adds_up : (x : Option (List Term)) (v : Option ℕ) → Amounts Plus x v → AddUpTo x v
+adds_up (Some ts) (Some v) is = is.0 0 ∙ (let below = is.1 in omega arith)
+adds_up None None is = tt
+adds_up (Some ts) None is = absurd is
+adds_up None (Some v) is = absurd is
 
--- an expression has a term more than signs
-mutual
-  length-operand_terms : (s : Sign) (o : Operand) → length (operand_terms s o) ≡ operand_signs o + 1
-  length-operand_terms s (Literal n) = refl
-  length-operand_terms s (Bracketed e) = length-terms s e
-
-  pub length-terms : (s : Sign) (e : Expression) → length (terms s e) ≡ signs e + 1
-  length-terms s (Alone o) = length-operand_terms s o
-  length-terms s (Joined e t o) = omega (arith, length-append (terms s e) (operand_terms (combined s t) o), length-terms s e, length-operand_terms (combined s t) o)
+pub form_adds_up : (u : UnitTree) → AddUpTo (form_terms u) (form_value u)
+form_adds_up u = by (returned u.parts) where
+  by : (e : Option _) → AddUpTo (terms_of e) (value_of e)
+  by (Some e) = adds_up (sum_terms Plus e.form) (sum_value e.form) (amounts Plus e.form)
+  by None = tt

@@ -1,29 +1,74 @@
 -- Why a call writes what it does: for each line that may go to the log, what must have happened.
-use Rattle.std.specs.Prelude.{◌≡◌, ℕ, ◌⊎◌, List, Option, Some, None}
+use Rattle.std.specs.Prelude.{◌≡◌, ℕ, ◌⊎◌, List, [], ◌∷◌, ◌++◌, drop, length, map, slice_get, Option, Some, None}
+use Rattle.cmm_ast.specs.declared.unit.Place.{Place}
+use Rattle.cmm_ast.specs.declared.unit.Unit.{Unit as UnitTree}
+use Rattle.cmm_ast.specs.Derivation.{DerivesWithin}
+use Rattle.cmm_lexer.specs.declared.piece.Lexeme.{Lexeme}
 use Rattle.cmm_lexer.specs.declared.tokens.LexFault.TheVariants.{At}
-use Rattle.cmm_lexer.specs.Lexing.{first_fault, IsFirstFault}
+use Rattle.cmm_lexer.specs.Lexing.{Spelled, first_fault, tokens_of, IsFirstFault}
+use Rattle.cmm_lexer.specs.Places.{line_at, column_at}
 use Rattle.cmm_outside.specs.declared.storage.CallKind.TheVariants.{Read}
 use Rattle.cmm_outside.specs.Faults.{Rose}
 use Rattle.cmm_outside.specs.Output.{Appends, AppendsFront}
 use Rattle.cmm_outside.specs.Storage.{Contents, FailedCall, HasFile}
-use Rattle.cmm_top.specs.declared.ending.Fault.{Fault}
+use Rattle.cmm_parser.specs.declared.fault.SyntaxFault.TheVariants as syntax
+use Rattle.cmm_parser.specs.Faults.{IsFaultOf}
+use Rattle.cmm_top.specs.declared.first.Fault.{Fault}
+use Rattle.cmm_top.specs.declared.first.FirstFault.{FirstFault}
+use Rattle.cmm_top.specs.declared.first.FirstFault.TheVariants.{Refused, Memory}
 use Rattle.cmm_top.specs.Command.{file_in}
-use Rattle.cmm_top.specs.Expression.{Expression, value}
-use Rattle.cmm_top.specs.Form.{Derives}
+use Rattle.cmm_top.specs.Form.{form_value, main_at}
 use Rattle.cmm_top.specs.Lines.{usage_line, refused_line, result_line, file_fault_line, memory_line}
 
+-- the tokens of a unit
+abbrev pub lexemes_in : List ℕ → List Lexeme
+lexemes_in unit = map (λ t. t.lexeme) (tokens_of unit)
+
+-- a unit breaks no rule of the lexical form, and its tokens derive this tree within the limits
+pub record IsTreeOf (unit : List ℕ) (tree : UnitTree) : Type 0 where
+  pub unbroken : first_fault unit ≡ None
+  pub derives : DerivesWithin (lexemes_in unit) tree
+
 -- a unit of the first form whose expression has this value, and what is no unit of the form
-abbrev pub HasValue : ℕ → List ℕ → Type 0
-HasValue result unit = (e : Expression) × Derives unit e × (result ≡ value e)
+pub record HasValue (result : ℕ) (unit : List ℕ) : Type 0 where
+  pub tree : UnitTree
+  pub is_tree : IsTreeOf unit tree
+  pub value : form_value tree ≡ Some result
 
 abbrev pub IsNotBuilt : List ℕ → Type 0
-IsNotBuilt unit = (e : Expression) → Derives unit e → ⊥
+IsNotBuilt unit = (tree : UnitTree) → IsTreeOf unit tree → form_value tree ≡ None
 
--- why a unit is refused: for the first rule of the lexical form that it breaks, or else because it is not of the first form
+-- the tokens of `main`: those of the unit from its name on
+abbrev pub main_tokens : List ℕ → UnitTree → List Spelled
+main_tokens unit tree = drop (main_at tree.parts) (tokens_of unit)
+
+-- where the tokens of a unit stand, and its end
+abbrev pub places_in : List ℕ → List Place
+places_in unit = map (λ t. record { line = t.line; column = t.column }) (tokens_of unit) ++ record { line = line_at unit (length unit); column = column_at unit (length unit) } ∷ []
+
+-- a unit whose tokens are no unit of the language, or none within the limits, and the place of the token where that shows
+pub record BreaksSyntax (fault : Fault) (unit : List ℕ) : Type 0 where
+  pub unbroken : first_fault unit ≡ None
+  pub token : ℕ
+  pub broken : IsFaultOf (lexemes_in unit) (syntax.At fault.rule token)
+  pub place : slice_get (places_in unit) token ≡ Some record { line = fault.line; column = fault.column }
+
+-- a unit of the language that is not of the first form
+pub record IsOtherForm (fault : Fault) (unit : List ℕ) : Type 0 where
+  pub tree : UnitTree
+  pub is_tree : IsTreeOf unit tree
+  pub value : form_value tree ≡ None
+  pub says : fault ≡ record { rule = 90; line = 1; column = 1 }
+
+-- why a unit is refused: for the first rule of the lexical form that it breaks, or else for its syntax, or else because it is not of the
+-- first form
 abbrev pub IsFault : Fault → List ℕ → Type 0
-IsFault fault unit =
-    IsFirstFault unit (At fault.rule fault.line fault.column)
-    ⊎ ((fault ≡ record { rule = 90; line = 1; column = 1 }) × (first_fault unit ≡ None) × IsNotBuilt unit)
+IsFault fault unit = IsFirstFault unit (At fault.rule fault.line fault.column) ⊎ (BreaksSyntax fault unit ⊎ IsOtherForm fault unit)
+
+-- why a unit has no code
+abbrev pub HasNoCode : List ℕ → FirstFault → Type 0
+HasNoCode unit (Refused fault) = IsNotBuilt unit × IsFault fault unit
+HasNoCode unit Memory = Unit {0}
 
 -- the words ask for no file to be run
 abbrev pub IsUsage : List (List ℕ) → List ℕ → Type 0

@@ -19,12 +19,6 @@ IsCaused name contents before after last_failed (Result result) = HasFile conten
 IsCaused name contents before after last_failed FileFault = Rose before after × (last_failed ≡ Some (record { kind = Read; name = name }))
 IsCaused name contents before after last_failed OutOfMemory = Unit {0}
 
--- what a unit that is not of the first form comes to
-abbrev pub IsRefusal : List ℕ → Ending → Type 0
-IsRefusal unit (Refused fault) = IsFault fault unit
-IsRefusal unit OutOfMemory = Unit {0}
-IsRefusal unit _ = ⊥
-
 -- the line of an ending, for the file of this name
 abbrev pub line_of : List ℕ → Ending → List ℕ
 line_of name Usage = usage_line

@@ -1,11 +1,9 @@
-pub mod Text
-pub mod Tokens
 pub mod Sign
 pub mod Expression
-pub mod Reading
 pub mod Code
 pub mod Run
 pub mod Form
+pub mod Terms
 pub mod Command
 pub mod Lines
 pub mod Parts

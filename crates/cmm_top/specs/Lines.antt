@@ -1,6 +1,6 @@
 -- The lines of the log, each with the byte 10 at its end.
 use Rattle.std.specs.Prelude.{ℕ, ◌==◌, if◌then◌else◌, List, [], ◌++◌, codes, decimal}
-use Rattle.cmm_top.specs.declared.ending.Fault.{Fault}
+use Rattle.cmm_top.specs.declared.first.Fault.{Fault}
 
 abbrev pub usage_line : List ℕ
 usage_line = codes "usage\n"
@@ -13,6 +13,8 @@ rule_text rule =
     else if rule == 3 then codes "open text"
     else if rule == 4 then codes "bad number"
     else if rule == 5 then codes "unit too long"
+    else if rule == 10 then codes "syntax"
+    else if rule == 11 then codes "too deep"
     else if rule == 90 then codes "form not built"
     else []
 

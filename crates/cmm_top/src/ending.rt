@@ -5,37 +5,21 @@ ghost use Rattle.std.specs.List.{flat_map};
 ghost use Rattle.cmm_outside.specs.Faults.{Rose};
 ghost use Rattle.cmm_outside.specs.Output.{Appends, AppendsFront};
 ghost use Rattle.cmm_outside.specs.declared.storage.TheConstants.{NAME_LIMIT};
-ghost use Rattle.cmm_top.specs.Causes.{IsNotBuilt};
-ghost use Rattle.cmm_top.specs.Ending.{IsCaused, IsRefusal, Closes, line_of, status_of as status_of_ending};
+ghost use Rattle.cmm_top.specs.Ending.{IsCaused, Closes, line_of, status_of as status_of_ending};
 ghost use Rattle.cmm_top.specs.Lines.{refused_line, rule_text as rule_text_of};
 ghost use Rattle.cmm_top.specs.Parts.{part_text};
 
-use crate::first::{FirstFault, compile_first};
+use crate::first::{Fault, FirstFault, compile_first};
 use crate::run::run;
 use crate::status::Status;
-use cmm_lexer::{LexFault, UNIT_LIMIT, lex};
+use cmm_lexer::UNIT_LIMIT;
 use cmm_outside::{Failed, FileError, Files, Sink, read_file, write_all};
 use cmm_report::put_number;
 use std::alloc::{AllocError, Global};
 
-/// A rule that a unit breaks, and where: its line and its column, in bytes, from 1.
-#[derive(Clone, Copy, Debug, PartialEq, Eq)]
-pub struct Fault {
-    pub rule: u8,
-    pub line: u32,
-    pub column: u32,
-}
-
 /// The fault of a unit that is longer than any may be.
 const TOO_LONG: Fault = Fault {
     rule: 5,
-    line: 1,
-    column: 1,
-};
-
-/// The fault of a unit that breaks no rule of the lexical form and still is not of the first form.
-const NOT_BUILT: Fault = Fault {
-    rule: 90,
     line: 1,
     column: 1,
 };
@@ -68,20 +52,8 @@ pub fn exec<F: Files>(alloc: Global, name: &str, files: &mut F) -> Ending
             Ok(value) => Ending::Result(value),
             Err(AllocError) => Ending::OutOfMemory,
         },
-        Err(FirstFault::NotBuilt) => refused(alloc, &unit),
+        Err(FirstFault::Refused(fault)) => Ending::Refused(fault),
         Err(FirstFault::Memory) => Ending::OutOfMemory,
-    }
-}
-
-/// Refuses a unit that is not of the first form.
-fn refused(alloc: Global, unit: &[u8]) -> Ending
-    requires { IsNotBuilt unit.now }
-    ensures { IsRefusal unit.now result }
-{
-    match lex(alloc, unit) {
-        Ok(_) => Ending::Refused(NOT_BUILT),
-        Err(LexFault::At { rule, line, column }) => Ending::Refused(Fault { rule, line, column }),
-        Err(LexFault::Memory) => Ending::OutOfMemory,
     }
 }
 
@@ -171,6 +143,8 @@ fn rule_text(rule: u8) -> &'static str
         3 => "open text",
         4 => "bad number",
         5 => "unit too long",
+        10 => "syntax",
+        11 => "too deep",
         90 => "form not built",
         _ => "",
     }

@@ -1,67 +1,67 @@
 //! `compile_first`: from the bytes of a unit of the first form to its code.
 
-ghost use Rattle.std.specs.Prelude.{◌≡◌, ◌≢◌, ◌+◌, ◌*◌, ◌≤◌, List, length, IfOk, OnOk, IsErrOf, IfSome, IfNone, OnSome};
+ghost use Rattle.std.specs.Prelude.{◌≡◌, ℕ, ◌+◌, ◌*◌, ◌≤◌, Some, length, slice_get, option_map, IfOk, OnOk, IfErr};
 ghost use Rattle.std.specs.List.{All};
 ghost use Rattle.rv_table.specs.Stands.{code_of as words_of};
 ghost use Rattle.rv_table.specs.Table.{IsValid};
-ghost use Rattle.cmm_top.specs.declared.token.Token.{Token};
-ghost use Rattle.cmm_top.specs.Expression.{Expression, tokens, value};
-ghost use Rattle.cmm_top.specs.Form.{Derives, main_tokens, unit_tokens};
-ghost use Rattle.cmm_top.specs.Reading.{terms};
+ghost use Rattle.cmm_ast.specs.declared.unit.Unit.{Unit as UnitTree};
+ghost use Rattle.cmm_lexer.specs.Lexing.{tokens_of};
+ghost use Rattle.cmm_lexer.specs.declared.tokens.TheConstants.{UNIT_LIMIT};
+ghost use Rattle.cmm_parser.specs.Faults.{places_of};
+ghost use Rattle.cmm_top.specs.Causes.{HasValue, HasNoCode, IsTreeOf, main_tokens};
+ghost use Rattle.cmm_top.specs.Form.{form_value};
 ghost use Rattle.cmm_top.specs.Run.{EndsWithin};
+ghost use Rattle.cmm_top.specs.Terms.{form_terms};
 
 use crate::code::code_of;
-use crate::term::{Sign, Term, terms_in};
-use crate::token::{Token, tokens_in};
-use cmm_lexer::UNIT_LIMIT;
+use crate::form::returned;
+use crate::term::{Term, terms_in};
+use cmm_ast::Unit;
+use cmm_lexer::{LexFault, Tokens, lex};
+use cmm_parser::{SyntaxFault, parse};
 use rv_code::encode;
 use rv_table::Instr;
 use rv_table::laws::{code_stands, runs};
 use std::alloc::{AllocError, Global};
 use thiserror::Error;
 
-/// The most signs of an expression.
-pub const SIGN_LIMIT: usize = 500;
+/// A rule that a unit breaks, and where: its line and its column, in bytes, from 1.
+#[derive(Clone, Copy, Debug, PartialEq, Eq)]
+pub struct Fault {
+    pub rule: u8,
+    pub line: u32,
+    pub column: u32,
+}
 
-/// The most brackets of all sorts that may be open at once, the brace of the body and the bracket after `return` among them.
-pub const BRACKET_LIMIT: usize = 200;
-
-/// The tokens before the expression of a unit.
-const HEAD: [Token; 9] = [
-    Token::Export,
-    Token::Main,
-    Token::Semicolon,
-    Token::Main,
-    Token::Open,
-    Token::Close,
-    Token::OpenBrace,
-    Token::Return,
-    Token::Open,
-];
-
-/// The tokens after it.
-const TAIL: [Token; 3] = [Token::Close, Token::Semicolon, Token::CloseBrace];
+/// The fault of a unit that breaks no other rule and still is not of the first form.
+const NOT_BUILT: Fault = Fault {
+    rule: 90,
+    line: 1,
+    column: 1,
+};
 
 /// Why a unit has no code.
 #[derive(Debug, Drop, Error)]
 pub enum FirstFault {
     /// It is not of the first form.
-    #[error("form not built")]
-    NotBuilt,
+    #[error("refused")]
+    Refused(Fault),
     #[error("out of memory")]
     Memory,
 }
 
 /// The code of a unit of the first form. Run from its start, it asks to end with the value of the unit's expression, within 64
-/// instructions for each token of `main`. It fits the place that a memory has for code. A unit that is not of the form is `NotBuilt`.
+/// instructions for each token of `main`. It fits the place that a memory has for code. A unit that is not of the form is `Refused`.
 pub fn compile_first(alloc: Global, unit: &[u8]) -> Result<Vec<u8>, FirstFault>
-    ensures ok { IfOk result (λ code. (e : Expression) → Derives unit.now e → EndsWithin code.items (64 * length (main_tokens (tokens e))) (value e)) }
+    ensures ok { IfOk result (λ code. (tree : UnitTree) (value : ℕ) → IsTreeOf unit.now tree → form_value tree ≡ Some value → EndsWithin code.items (64 * length (main_tokens unit.now tree)) value) }
     ensures short { IfOk result (λ code. length code.items ≤ 0x3fff0000) }
-    ensures form { OnOk result ((e : Expression) × Derives unit.now e) }
-    ensures not_built { IsErrOf result FirstFault.NotBuilt → (e : Expression) → Derives unit.now e → ⊥ }
+    ensures form { OnOk result ((value : ℕ) × HasValue value unit.now) }
+    ensures few { OnOk result (length (tokens_of unit.now) ≤ UNIT_LIMIT) }
+    ensures err { IfErr result (HasNoCode unit.now) }
 {
-    let Some(terms) = terms_of_unit(alloc, unit)? else {
-        return Err(FirstFault::NotBuilt);
+    let tree = tree_of(alloc, unit)?;
+    let Some(terms) = terms_of(alloc, &tree)? else {
+        return Err(FirstFault::Refused(NOT_BUILT));
     };
     let code = code_of(alloc, &terms)?;
     code_stands();
@@ -69,36 +69,58 @@ pub fn compile_first(alloc: Global, unit: &[u8]) -> Result<Vec<u8>, FirstFault>
     Ok(bytes_of(alloc, &code)?)
 }
 
-/// The terms of the expression that a unit returns; none where the unit is not of the first form.
-fn terms_of_unit(alloc: Global, unit: &[u8]) -> Result<Option<Vec<Term>>, AllocError>
-    ensures terms { IfOk result (λ found. IfSome found (λ all. (e : Expression) → Derives unit.now e → all.items ≡ terms Sign.Plus e)) }
-    ensures few { IfOk result (λ found. IfSome found (λ all. length all.items ≤ SIGN_LIMIT + 1)) }
-    ensures form { IfOk result (λ found. OnSome found ((e : Expression) × Derives unit.now e)) }
-    ensures none { IfOk result (λ found. IfNone found ((e : Expression) → Derives unit.now e → ⊥)) }
+/// The tree of a unit.
+fn tree_of(alloc: Global, unit: &[u8]) -> Result<Unit, FirstFault>
+    ensures ok { IfOk result (IsTreeOf unit.now) }
+    ensures few { OnOk result (length (tokens_of unit.now) ≤ UNIT_LIMIT) }
+    ensures err { IfErr result (HasNoCode unit.now) }
 {
-    if unit.len() > UNIT_LIMIT {
-        return Ok(None);
-    }
-    let tokens = tokens_in(alloc, unit)?;
-    let Some(expression) = expression_in(&tokens) else {
-        return Ok(None);
+    let tokens = match lex(alloc, unit) {
+        Ok(tokens) => tokens,
+        Err(LexFault::At { rule, line, column }) => {
+            return Err(FirstFault::Refused(Fault { rule, line, column }));
+        }
+        Err(LexFault::Memory) => return Err(FirstFault::Memory),
     };
-    let Some(terms) = terms_in(alloc, expression)? else {
-        return Ok(None);
-    };
-    if terms.len() > SIGN_LIMIT + 1 {
-        return Ok(None);
+    match parse(alloc, &tokens) {
+        Ok(tree) => Ok(tree),
+        Err(fault) => match fault {
+            SyntaxFault::At { rule, token } => {
+                Err(FirstFault::Refused(fault_at(rule, token, &tokens)))
+            }
+            SyntaxFault::Memory => Err(FirstFault::Memory),
+        },
     }
-    Ok(Some(terms))
 }
 
-/// The tokens of the expression that a unit returns; none where other tokens stand round it than the form has.
-fn expression_in(unit: &[Token]) -> Option<&[Token]>
-    ensures some { IfSome result (λ expression. unit.now ≡ unit_tokens expression.now) }
-    ensures none { IfNone result ((expression : List Token) → unit.now ≢ unit_tokens expression) }
+/// A rule that is broken at a token, or past the last one at the end of the unit.
+fn fault_at(rule: u8, token: u32, tokens: &Tokens) -> Fault
+    requires { token ≤ length tokens.now.list }
+    ensures rule { result.rule ≡ rule }
+    ensures place { slice_get (places_of tokens.now) token ≡ Some record { line = result.line; column = result.column } }
 {
-    unit.strip_prefix(HEAD.as_slice())?
-        .strip_suffix(TAIL.as_slice())
+    match tokens.list.get(token as usize) {
+        Some(at) => Fault {
+            rule,
+            line: at.line,
+            column: at.column,
+        },
+        None => Fault {
+            rule,
+            line: tokens.line,
+            column: tokens.column,
+        },
+    }
+}
+
+/// The terms of the sum that a unit returns; none where it is not of the first form.
+fn terms_of(alloc: Global, tree: &Unit) -> Result<Option<Vec<Term>>, AllocError>
+    ensures { IfOk result (λ terms. option_map (λ v. v.items) terms ≡ form_terms tree.now) }
+{
+    match returned(tree) {
+        Some(sum) => terms_in(alloc, sum),
+        None => Ok(None),
+    }
 }
 
 /// The bytes of the instructions, one after another, the low byte of each word first.

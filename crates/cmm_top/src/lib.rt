@@ -7,7 +7,7 @@
 //! - `top`: `cmm_main`.
 //! - `command`, `ending`, `status`: what the words ask for, what a file comes to and its line in the log, exit statuses.
 //! - `first`: `compile_first`, from the bytes of a unit to its code.
-//! - `token`, `term`, `code`: from bytes to tokens, from tokens to signed numbers, and from these to instructions.
+//! - `form`, `term`, `code`: from a tree to the sum that it returns, from that to signed numbers, and from these to instructions.
 //! - `run`: runs that code.
 #![tactic(auto)]
 
@@ -15,14 +15,14 @@ mod code;
 mod command;
 mod ending;
 mod first;
+mod form;
 mod run;
 mod status;
 mod term;
 #[cfg(test)]
 mod tests;
-mod token;
 mod top;
 
-pub use first::{FirstFault, compile_first};
+pub use first::{Fault, FirstFault, compile_first};
 pub use status::{Finish, Status};
 pub use top::cmm_main;

@@ -1,15 +1,11 @@
-//! The terms that an expression adds up, read from its tokens.
+//! The terms that a sum adds up, read from its tree.
 
-ghost use Rattle.std.specs.Prelude.{◌≡◌, ◌∷◌, [], List, Some, None, reverse, option_map, IfOk, MatchBool};
-ghost use Rattle.cmm_top.specs.declared.token.Token.{Token};
-ghost use Rattle.cmm_top.specs.Reading.{innermost as innermost_of, scan};
+ghost use Rattle.std.specs.Prelude.{◌≡◌, ◌++◌, Some, None, [], cond, option_map, IfOk};
+ghost use Rattle.cmm_top.specs.Terms.{sum_terms};
+ghost use Rattle.cmm_top.specs.Sign.{sign_of as sign_of_operator};
 
-use crate::token::Token;
+use cmm_ast::{Expr, ExprForm, Infix, Number, PrimForm};
 use std::alloc::{AllocError, Global};
-
-/// The most brackets of an expression that may be open at once: with the brace of the body and the bracket
-/// after `return` they are 200.
-const OPEN_LIMIT: usize = 198;
 
 /// Whether a term is added or taken away.
 #[derive(Clone, Copy, Debug, PartialEq, Eq)]
@@ -40,76 +36,61 @@ pub struct Term {
     pub number: u64,
 }
 
-/// Reads an expression, token by token.
-#[derive(Drop)]
-struct Reader {
-    terms: Vec<Term>,
-    /// The sign of each bracket that is open, from the outside in.
-    outer: Vec<Sign>,
-    /// The sign of the operand that is due; none where a sign or a closing bracket is.
-    due: Option<Sign>,
-}
-
-impl Reader {
-    ghost use Rattle.cmm_top.specs.Reading.{scanned};
-
-    fn new(alloc: Global) -> Reader
-        ensures terms { result.terms.items ≡ [] }
-        ensures outer { result.outer.items ≡ [] }
-        ensures due { result.due ≡ Some Sign.Plus }
-    {
-        Reader {
-            terms: Vec::new(alloc),
-            outer: Vec::new(alloc),
-            due: Some(Sign::Plus),
-        }
-    }
-
-    /// Reads one more token. The answer is whether it may stand here.
-    fn read(&mut self, token: Token) -> Result<bool, AllocError>
-        ensures taken { IfOk result (λ taken. MatchBool taken
-            ((ts : List Token) → scanned self.new ts ≡ scanned self.old (token ∷ ts))
-            ((ts : List Token) → scanned self.old (token ∷ ts) ≡ None)) }
-    {
-        match (self.due, token) {
-            (Some(sign), Token::Number(number)) => {
-                self.terms.push(Term { sign, number })?;
-                self.due = None;
-            }
-            (Some(sign), Token::Open) => {
-                if self.outer.len() >= OPEN_LIMIT {
-                    return Ok(false);
-                }
-                self.outer.push(sign)?;
-            }
-            (None, Token::Plus) => self.due = Some(self.innermost()),
-            (None, Token::Minus) => self.due = Some(Sign::Minus.under(self.innermost())),
-            (None, Token::Close) => return Ok(self.outer.pop().is_some()),
-            _ => return Ok(false),
-        }
-        Ok(true)
-    }
-
-    /// The sign that holds inside the brackets that are open.
-    fn innermost(&self) -> Sign
-        ensures { result ≡ innermost_of (reverse self.now.outer.items) }
-    {
-        self.outer.last().copied().unwrap_or(Sign::Plus)
-    }
-}
-
-/// The terms that an expression adds up. None where the tokens are no expression.
-pub fn terms_in(alloc: Global, tokens: &[Token]) -> Result<Option<Vec<Term>>, AllocError>
-    ensures { IfOk result (λ terms. option_map (λ v. v.items) terms ≡ scan tokens.now (Some Sign.Plus) []) }
+/// The terms that an expression adds up. None where it is no sum.
+pub fn terms_in(alloc: Global, sum: &Expr) -> Result<Option<Vec<Term>>, AllocError>
+    ensures { IfOk result (λ terms. option_map (λ v. v.items) terms ≡ sum_terms Sign.Plus sum.now.form) }
 {
-    let mut reader = Reader::new(alloc);
-    for token in tokens {
-        if !reader.read(*token)? {
-            return Ok(None);
+    let mut terms = Vec::new(alloc);
+    if add_terms(Sign::Plus, sum, &mut terms)? {
+        Ok(Some(terms))
+    } else {
+        Ok(None)
+    }
+}
+
+/// Adds the terms of an expression under a sign. The answer is whether it is a sum.
+fn add_terms(sign: Sign, sum: &Expr, terms: &mut Vec<Term>) -> Result<bool, AllocError>
+    ensures { IfOk result (λ is. cond is (Some terms.new.items) None ≡ option_map (λ ts. terms.old.items ++ ts) (sum_terms sign sum.now.form)) }
+{
+    match &sum.form {
+        ExprForm::Infix {
+            left,
+            operator,
+            right,
+        } => {
+            if !add_terms(sign, left.get(), terms)? {
+                return Ok(false);
+            }
+            let Some(inner) = sign_of(*operator) else {
+                return Ok(false);
+            };
+            add_terms(inner.under(sign), right.get(), terms)
         }
+        ExprForm::Prim(prim) => match prim {
+            PrimForm::Literal {
+                number: Number::Int(number),
+                width: None,
+            } => {
+                terms.push(Term {
+                    sign,
+                    number: *number,
+                })?;
+                Ok(true)
+            }
+            PrimForm::Bracketed(inner) => add_terms(sign, inner.get(), terms),
+            _ => Ok(false),
+        },
+        _ => Ok(false),
     }
-    if reader.due.is_some() || !reader.outer.is_empty() {
-        return Ok(None);
+}
+
+/// The sign that an operator adds its right operand with; none where it is neither `+` nor `-`.
+fn sign_of(operator: Infix) -> Option<Sign>
+    ensures { result ≡ sign_of_operator operator }
+{
+    match operator {
+        Infix::Add => Some(Sign::Plus),
+        Infix::Sub => Some(Sign::Minus),
+        _ => None,
     }
-    Ok(Some(reader.terms))
 }

@@ -43,7 +43,7 @@ fn call(
 }
 
 /// Units and what the log must say of each.
-const UNITS: [(&str, &str); 36] = [
+const UNITS: [(&str, &str); 49] = [
     ("export main; main() { return (2 + 3); }", "result 5\n"),
     (
         "export main; main() { return (0 - 1); }",
@@ -87,21 +87,15 @@ const UNITS: [(&str, &str); 36] = [
         "export main; main() { return (1 - 2 - 3); }",
         "result 18446744073709551612\n",
     ),
-    (
-        "export main; main() { return (01); }",
-        "a.cmm:1:1: 90 form not built\n",
-    ),
-    (
-        "export main; main() { return (0x1); }",
-        "a.cmm:1:1: 90 form not built\n",
-    ),
+    ("export main; main() { return (01); }", "result 1\n"),
+    ("export main; main() { return (0x1); }", "result 1\n"),
     (
         "export main; main() { return (1a); }",
         "a.cmm:1:31: 4 bad number\n",
     ),
     (
         "export main; main() { return (1 2); }",
-        "a.cmm:1:1: 90 form not built\n",
+        "a.cmm:1:33: 10 syntax\n",
     ),
     (
         "export main; main() { return (); }",
@@ -109,11 +103,11 @@ const UNITS: [(&str, &str); 36] = [
     ),
     (
         "export main; main() { return (1 +); }",
-        "a.cmm:1:1: 90 form not built\n",
+        "a.cmm:1:34: 10 syntax\n",
     ),
     (
         "export main; main() { return (+ 1); }",
-        "a.cmm:1:1: 90 form not built\n",
+        "a.cmm:1:31: 10 syntax\n",
     ),
     (
         "export main; main() { return (-1); }",
@@ -121,27 +115,27 @@ const UNITS: [(&str, &str); 36] = [
     ),
     (
         "export main; main() { return (1 + + 2); }",
-        "a.cmm:1:1: 90 form not built\n",
+        "a.cmm:1:35: 10 syntax\n",
     ),
     (
         "export main; main() { return ((1); }",
-        "a.cmm:1:1: 90 form not built\n",
+        "a.cmm:1:34: 10 syntax\n",
     ),
     (
         "export main; main() { return (1)); }",
-        "a.cmm:1:1: 90 form not built\n",
+        "a.cmm:1:33: 10 syntax\n",
     ),
     (
         "export main; main() { return (1)(2); }",
-        "a.cmm:1:1: 90 form not built\n",
+        "a.cmm:1:33: 10 syntax\n",
     ),
     (
         "export main; main() { return (()); }",
-        "a.cmm:1:1: 90 form not built\n",
+        "a.cmm:1:32: 10 syntax\n",
     ),
     (
         "exportmain; main() { return (1); }",
-        "a.cmm:1:1: 90 form not built\n",
+        "a.cmm:1:11: 10 syntax\n",
     ),
     (
         "export main; main() { return1 (1); }",
@@ -149,16 +143,13 @@ const UNITS: [(&str, &str); 36] = [
     ),
     (
         "export main; main() { return (1) }",
-        "a.cmm:1:1: 90 form not built\n",
+        "a.cmm:1:34: 10 syntax\n",
     ),
     (
         "export main; main() { return (1); } }",
-        "a.cmm:1:1: 90 form not built\n",
+        "a.cmm:1:37: 10 syntax\n",
     ),
-    (
-        "export main; /* x */ main() { return (1); }",
-        "a.cmm:1:1: 90 form not built\n",
-    ),
+    ("export main; /* x */ main() { return (1); }", "result 1\n"),
     (
         "export main; main() { return (1\x0b); }",
         "a.cmm:1:32: 1 bad byte\n",
@@ -166,6 +157,43 @@ const UNITS: [(&str, &str); 36] = [
     (
         "export main; main() { return (main); }",
         "a.cmm:1:1: 90 form not built\n",
+    ),
+    (
+        "export main; main() { return (0x10 + 010); }",
+        "result 24\n",
+    ),
+    (
+        "export main; main() { return ('a'); }",
+        "a.cmm:1:1: 90 form not built\n",
+    ),
+    (
+        "export main; main() { return (1::bits64); }",
+        "a.cmm:1:1: 90 form not built\n",
+    ),
+    ("export main; main() { return (1,); }", "result 1\n"),
+    (
+        "export main; main() { return (1, 2); }",
+        "a.cmm:1:1: 90 form not built\n",
+    ),
+    (
+        "export main; main() { return <0/0> (1); }",
+        "a.cmm:1:1: 90 form not built\n",
+    ),
+    ("export main,; main() { return (1); }", "result 1\n"),
+    ("main() { return (1); }", "a.cmm:1:1: 90 form not built\n"),
+    (
+        "export main; main(bits64 x) { return (1); }",
+        "a.cmm:1:1: 90 form not built\n",
+    ),
+    (
+        "export main as \"m\"; main() { return (1); }",
+        "a.cmm:1:1: 90 form not built\n",
+    ),
+    ("export main; main() { return (1", "a.cmm:1:32: 10 syntax\n"),
+    ("export main;\nmain() {\n", "a.cmm:3:1: 10 syntax\n"),
+    (
+        "export main;\nmain() {\n  return (2 +;\n}\n",
+        "a.cmm:3:14: 10 syntax\n",
     ),
     ("", "a.cmm:1:1: 90 form not built\n"),
     ("export main; /* x", "a.cmm:1:14: 2 open comment\n"),
@@ -355,9 +383,9 @@ fn unit_of(
 fn limits_hold_at_both_ends(rt: HostRuntime) -> Result<(), Fail> {
     let table = [
         (198, 0, 0, "result 1\n"),
-        (199, 0, 0, UNITS[2].1),
+        (199, 0, 0, "a.cmm:1:229: 11 too deep\n"),
         (0, 500, 0, "result 501\n"),
-        (0, 501, 0, UNITS[2].1),
+        (0, 501, 0, "a.cmm:1:1032: 11 too deep\n"),
         (198, 500, 0, "result 501\n"),
         (0, 0, 1_048_576 - 35, "result 1\n"),
         (0, 0, 1_048_577 - 35, "a.cmm:1:1: 5 unit too long\n"),
