@@ -1,8 +1,10 @@
 pub mod Agreements
+pub mod Composing
 pub mod Followings
 pub mod Paths
 pub mod Prefixes
 mod Rows
 pub mod Runs
+pub mod Scaling
 pub mod Simulations
-mod SmallMachines
+pub mod SmallMachines

@@ -1,56 +1,37 @@
--- Paths: how they begin, go on and are joined.
-use Rattle.std.proofs.Common.{◌≡◌, ℕ, ◌+◌, ◌-◌, ◌≤◌, refl, arith}
-use Rattle.cmm_following.proofs.Runs.{after-add, after-until, spent-add}
-use Rattle.cmm_following.specs.Machine.{Machine, after}
+-- Paths: how they begin and are joined, and what else they are paths of.
+use Rattle.std.proofs.Common.{ℕ, ◌+◌, ◌-◌, ◌*◌, ◌≤◌, arith, mul-le-mul_left}
+use Rattle.cmm_following.proofs.Runs.{after-add, spent-add, spent_scaled}
+use Rattle.cmm_following.specs.Machine.{Machine, after, spent}
 use Rattle.cmm_following.specs.Simulation.{Leads}
 
-module _ {S L C E : Type 0} {M : Machine S L C E} {cost : S → ℕ} where
-  -- a path of no steps
-  pub arrived : {P Q : S → Type 0} {t : S} → Q t → Leads M cost P Q 0 0 t
-  arrived here = record {
-    steps = 0;
-    through = λ i less. absurd (omega arith);
-    arrives = here;
-    enough = omega arith;
-    within = omega arith;
-  }
-
+module _ {S L C E : Type 0} {M : Machine S L C E} {cost : S → ℕ} {P Q : S → Type 0} {t : S} where
   -- a path of one step
-  pub one_step : {P Q : S → Type 0} {t : S} → P t → Q (M.step t) → Leads M cost P Q 1 (cost t) t
-  one_step here there = record {
-    steps = 1;
-    through = λ i less. let e : i ≡ 0 = omega arith in rw e here;
-    arrives = there;
-    enough = omega arith;
-    within = omega arith;
-  }
-
-  -- a path is also one through and to states of which less is asked, of fewer steps and at a higher cost
-  pub weaker : {P P' Q Q' : S → Type 0} {l l' m m' : ℕ} {t : S} → Leads M cost P Q l m t →
-      ((u : S) → P u → P' u) → ((u : S) → Q u → Q' u) → l' ≤ l → m ≤ m' → Leads M cost P' Q' l' m' t
-  weaker {t = t} path passes arrives least most = record {
-    steps = path.steps;
-    through = λ i less. passes (after M i t) (path.through i less);
-    arrives = arrives (after M path.steps t) path.arrives;
-    enough = omega (arith, path.enough);
-    within = omega (arith, path.within);
-  }
+  pub one_step : {most : ℕ} → P t → Q (M.step t) → cost t ≤ most → Leads M cost P Q 1 most t
+  one_step here there within =
+      record { steps = 1; through = λ i less. grind arith; arrives = there; enough = omega arith; within = omega arith }
 
   -- a path and then, from wherever it arrives, another
-  pub joined : {P Q R : S → Type 0} {l m n o : ℕ} {t : S} → Leads M cost P Q l m t →
-      ((u : S) → Q u → Leads M cost P R n o u) → Leads M cost P R (l + n) (m + o) t
-  joined {P = P} {t = t} first go =
+  pub joined : {R : S → Type 0} {l m n o least most : ℕ} → Leads M cost P Q l m t → ((u : S) → Q u → Leads M cost P R n o u) →
+      least ≤ l + n → m + o ≤ most → Leads M cost P R least most t
+  joined first go least most =
       let second = go (after M first.steps t) first.arrives in
       record {
         steps = first.steps + second.steps;
-        through = λ i less. grind (arith, first.through i, second.through (i - first.steps), after-until M first.steps i t);
+        through = λ i less. grind (arith, first.through i, second.through (i - first.steps), after-add M first.steps (i - first.steps) t);
         arrives = rw (after-add M first.steps second.steps t) second.arrives;
-        enough = omega (arith, first.enough, second.enough);
-        within = rw (spent-add M cost first.steps second.steps t) (omega (arith, first.within, second.within));
+        enough = omega arith;
+        within = omega (arith, spent-add M cost first.steps second.steps t);
       }
 
-  -- a step and then a path from where it leads
-  pub then_leads : {P Q : S → Type 0} {l m : ℕ} {t : S} → P t → Leads M cost P Q l m (M.step t) →
-      Leads M cost P Q (1 + l) (cost t + m) t
-  then_leads {P = P} {Q = Q} {l = l} {m = m} {t = t} here path =
-      joined (one_step {P = P} {Q = λ u. u ≡ M.step t} here refl) (λ u is. rw is path)
+  -- a path is one through and to states of which less is asked, of fewer steps, and at other costs, where these come to no more
+  pub weaker : {P' Q' : S → Type 0} {cost' : S → ℕ} {l l' m m' : ℕ} → Leads M cost P Q l m t → ((u : S) → P u → P' u) →
+      ((u : S) → Q u → Q' u) → l' ≤ l → ((n : ℕ) → spent M cost n t ≤ m → spent M cost' n t ≤ m') → Leads M cost' P' Q' l' m' t
+  weaker path passes arrives least within =
+      record { steps = path.steps; through = search path.through; arrives = search; enough = omega arith; within = search }
+
+  -- a path at costs that are at most k times as high
+  pub scaled : {l m m' : ℕ} {cost' : S → ℕ} (k : ℕ) → ((u : S) → cost' u ≤ k * cost u) → k * m ≤ m' → Leads M cost P Q l m t →
+      Leads M cost' P Q l m' t
+  scaled {cost' = cost'} k cheaper le path =
+      weaker path (λ u p. p) (λ u q. q) (omega arith)
+      (λ n within. omega (arith, mul-le-mul_left k within, spent_scaled M 1 k cost' cost (λ u. omega arith) n t))

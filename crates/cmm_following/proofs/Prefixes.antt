@@ -12,17 +12,12 @@ prefix_more xs more = record { rest = more; whole = refl }
 
 -- a beginning of a beginning is a beginning
 pub prefix_trans : {A : Type 0} {xs ys zs : List A} → IsPrefix xs ys → IsPrefix ys zs → IsPrefix xs zs
-prefix_trans {xs = xs} p q =
-    record { rest = p.rest ++ q.rest; whole = rw (q.whole, p.whole, append_assoc xs p.rest q.rest) refl }
+prefix_trans {xs = xs} p q = record { rest = p.rest ++ q.rest; whole = rw (q.whole, p.whole, append_assoc xs p.rest q.rest) refl }
 
 -- what is seen is within itself
 pub within_refl : {L : Type 0} (a : Seen L) → IsWithin a a
-within_refl a = record { output = prefix_refl a.output; log = prefix_refl a.log; taken = prefix_refl a.taken }
+within_refl a = search prefix_refl
 
 -- what is within what is within a third is within the third
 pub within_trans : {L : Type 0} {a b c : Seen L} → IsWithin a b → IsWithin b c → IsWithin a c
-within_trans p q = record {
-  output = prefix_trans p.output q.output;
-  log = prefix_trans p.log q.log;
-  taken = prefix_trans p.taken q.taken;
-}
+within_trans p q = search prefix_trans

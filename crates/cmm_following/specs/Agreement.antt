@@ -1,38 +1,23 @@
 -- Agreement with a factor: what follows for the two runs in plain counts of steps.
-use Rattle.std.specs.Prelude.{◌≡◌, ℕ, ◌+◌, ◌*◌, ◌≤◌, false, Some}
-use Rattle.cmm_following.specs.Machine.{Machine, after}
+use Rattle.std.specs.Prelude.{◌≡◌, ℕ, ◌+◌, ◌*◌, ◌≤◌, false, Option, Some}
+use Rattle.cmm_following.specs.Machine.{Machine, Stands, after}
 use Rattle.cmm_following.specs.Seen.{IsWithin, Event, End, but_input}
 
--- unless A goes wrong first, the first factor * (m + 1) steps of B do all that m steps of A do, and n steps of B do nothing that the
--- first factor * (n + 1) steps of A do not
-pub record Agrees
-    {S T Line Call Ending : Type 0}
-    (A : Machine S Line Call Ending)
-    (B : Machine T Line Call Ending)
-    (factor : ℕ)
-    (s : S)
-    (t : T) :
-    Type 0 where
-  -- B shows all that A shows
-  pub down : (m : ℕ) → A.wrong (after A m s) ≡ false →
-      IsWithin (A.seen (after A m s)) (B.seen (after B (factor * (m + 1)) t))
-  -- where A is over, B is over with the same ending, and the same is seen
-  pub ends_down : (m : ℕ) (ending : Ending) → A.wrong (after A m s) ≡ false → A.asks (after A m s) ≡ Some (End ending) →
-      (B.asks (after B (factor * (m + 1)) t) ≡ Some (End ending))
-      × (A.seen (after A m s) ≡ B.seen (after B (factor * (m + 1)) t))
-  -- where A stands at an event that is no input, B has come to stand at it, and the same is seen
-  pub stands_down : (m : ℕ) (event : Event Call Ending) → A.wrong (after A m s) ≡ false →
-      but_input (A.asks (after A m s)) ≡ Some event →
-      (n : ℕ) × (n ≤ factor * m) × (B.asks (after B n t) ≡ Some event) × (A.seen (after A m s) ≡ B.seen (after B n t))
-  -- B shows nothing that A does not show
-  pub up : (n : ℕ) → A.wrong (after A (factor * (n + 1)) s) ≡ false →
-      IsWithin (B.seen (after B n t)) (A.seen (after A (factor * (n + 1)) s))
-  -- where B is over, A is over with the same ending, and the same is seen
-  pub ends_up : (n : ℕ) (ending : Ending) → A.wrong (after A (factor * (n + 1)) s) ≡ false →
-      B.asks (after B n t) ≡ Some (End ending) →
-      (A.asks (after A (factor * (n + 1)) s) ≡ Some (End ending))
-      × (A.seen (after A (factor * (n + 1)) s) ≡ B.seen (after B n t))
-  -- where B stands at an event, an input too, A has stood at it after no more steps, and the same was seen
-  pub stands_up : (n : ℕ) (event : Event Call Ending) → A.wrong (after A (factor * (n + 1)) s) ≡ false →
-      B.asks (after B n t) ≡ Some event →
-      (m : ℕ) × (m ≤ n) × (A.asks (after A m s) ≡ Some event) × (A.seen (after A m s) ≡ B.seen (after B n t))
+module _ {S T Line Call Ending : Type 0} (A : Machine S Line Call Ending) (B : Machine T Line Call Ending) where
+  -- what B does, run from t, of what A has done in the state s; B need not have come yet to an event that does not count
+  pub record Does (counts : Option (Event Call Ending) → Option (Event Call Ending)) (soon late : ℕ) (s : S) (t : T) : Type 0 where
+    -- all that A has shown, B has shown after the late count of steps
+    pub seen : IsWithin (A.seen s) (B.seen (after B late t))
+    -- if A is over, B is over by then, with the same ending, and the same is seen
+    pub ends : (ending : Ending) → A.asks s ≡ Some (End ending) → Stands B (End ending) (A.seen s) (after B late t)
+    -- if A stands at an event that counts, B stood at it after no more than the soon count of steps, and the same was seen
+    pub stands : (event : Event Call Ending) → counts (A.asks s) ≡ Some event →
+        (n : ℕ) × (n ≤ soon) × Stands B event (A.seen s) (after B n t)
+
+module _ {S T Line Call Ending : Type 0} (A : Machine S Line Call Ending) (B : Machine T Line Call Ending) where
+  -- unless A goes wrong first, B does in factor * (m + 1) steps all that A does in m, but for the inputs at which it still waits, and
+  -- A does in factor * (n + 1) steps all that B does in n, inputs too
+  pub record Agrees (factor : ℕ) (s : S) (t : T) : Type 0 where
+    pub down : (m : ℕ) → A.wrong (after A m s) ≡ false → Does A B but_input (factor * m) (factor * (m + 1)) (after A m s) t
+    pub up : (n : ℕ) → A.wrong (after A (factor * (n + 1)) s) ≡ false →
+        Does B A (λ event. event) n (factor * (n + 1)) (after B n t) s

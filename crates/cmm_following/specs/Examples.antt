@@ -3,38 +3,33 @@ use Rattle.std.specs.Prelude.{◌≡◌, ℕ, List, Bool, true, false, Some}
 use Rattle.cmm_following.specs.Agreement.{Agrees}
 use Rattle.cmm_following.specs.Following.{Follows}
 use Rattle.cmm_following.specs.Machine.{after}
-use Rattle.cmm_following.specs.Predecessors.{predecessors, start}
+use Rattle.cmm_following.specs.Reader.{reader, start}
 use Rattle.cmm_following.specs.Seen.{End}
 use Rattle.cmm_following.specs.Simulation.{Simulates, Through}
-use Rattle.cmm_following.specs.Ticking.{ticking, unfetched, Ticks}
+use Rattle.cmm_following.specs.Ticking.{ticking}
 
--- in lock-step, the machine that does not check for 0 simulates the one that does, in the same states
+-- in lock-step, the reader that does not check for 0 simulates the one that does, in the same states
 abbrev pub UncheckedSimulates : Type 0
-UncheckedSimulates = Simulates (predecessors true) (λ _. 1) (predecessors false) (λ _. 1) (λ s t. s ≡ t)
+UncheckedSimulates = Simulates (reader true) (λ _. 1) (reader false) (λ _. 1) (λ s t. s ≡ t)
 
--- done in two ticks a step, a machine simulates itself, whether it checks or not
+-- done in two ticks a step, a reader simulates itself: in the same state, its step still to be fetched
 abbrev pub TickingSimulates : Type 0
-TickingSimulates = (checks : Bool) → Simulates (predecessors checks) (λ _. 2) (ticking (predecessors checks)) (λ _. 1) Ticks
+TickingSimulates = (checks : Bool) → Simulates (reader checks) (λ _. 2) (ticking (reader checks)) (λ _. 1) (λ s u. u ≡ (s, false))
 
--- so the unchecked machine done in ticks simulates the checked one, at two ticks a step
+-- so the unchecked reader done in ticks simulates the checked one, at two ticks a step
 abbrev pub TicksSimulate : Type 0
-TicksSimulate =
-    Simulates (predecessors true) (λ _. 2) (ticking (predecessors false)) (λ _. 1) (Through (λ s t. s ≡ t) Ticks)
+TicksSimulate = Simulates (reader true) (λ _. 2) (ticking (reader false)) (λ _. 1) (Through (λ s t. s ≡ t) (λ t u. u ≡ (t, false)))
 
--- on every input, the unchecked machine done in ticks follows the checked one at two ticks a step
+-- on every input, the unchecked reader done in ticks follows the checked one at two ticks a step
 abbrev pub TicksFollow : Type 0
-TicksFollow =
-    (input : List ℕ) →
-    Follows (predecessors true) (λ _. 2) (ticking (predecessors false)) (λ _. 1) (start input) (unfetched (start input))
+TicksFollow = (input : List ℕ) → Follows (reader true) (λ _. 2) (ticking (reader false)) (λ _. 1) (start input) (start input, false)
 
 -- and agrees with it with the factor 2
 abbrev pub TicksAgree : Type 0
-TicksAgree =
-    (input : List ℕ) → Agrees (predecessors true) (ticking (predecessors false)) 2 (start input) (unfetched (start input))
+TicksAgree = (input : List ℕ) → Agrees (reader true) (ticking (reader false)) 2 (start input) (start input, false)
 
--- a run of the machine has one ending at most
+-- a run of a reader has one ending at most
 abbrev pub EndsOnce : Type 0
-EndsOnce =
-    (checks : Bool) (input : List ℕ) (first second m n : ℕ) →
-    (predecessors checks).asks (after (predecessors checks) m (start input)) ≡ Some (End first) →
-    (predecessors checks).asks (after (predecessors checks) n (start input)) ≡ Some (End second) → first ≡ second
+EndsOnce = (checks : Bool) (input : List ℕ) (first second m n : ℕ) →
+    (reader checks).asks (after (reader checks) m (start input)) ≡ Some (End first) →
+    (reader checks).asks (after (reader checks) n (start input)) ≡ Some (End second) → first ≡ second

@@ -20,9 +20,13 @@ abbrev pub spent : {State Line Call Ending : Type 0} → Machine State Line Call
 spent M cost zero s = 0
 spent M cost (suc n) s = spent M cost n s + cost (after M n s)
 
--- nothing that is seen is taken back, a run that is over stays over and shows nothing more, and one that is wrong stays wrong
-pub record Lasts {State Line Call Ending : Type 0} (M : Machine State Line Call Ending) : Type 0 where
-  pub grows : (s : State) → IsWithin (M.seen s) (M.seen (M.step s))
-  pub over : (s : State) (ending : Ending) → M.asks s ≡ Some (End ending) →
-      (M.asks (M.step s) ≡ Some (End ending)) × (M.seen (M.step s) ≡ M.seen s)
-  pub wrong : (s : State) → M.wrong s ≡ true → M.wrong (M.step s) ≡ true
+module _ {State Line Call Ending : Type 0} (M : Machine State Line Call Ending) where
+  -- a state stands at an event, once so much has been seen
+  abbrev pub Stands : Event Call Ending → Seen Line → State → Type 0
+  Stands event seen s = (M.asks s ≡ Some event) × (M.seen s ≡ seen)
+
+  -- nothing that is seen is taken back, a run that is over stays over and shows nothing more, and one that is wrong stays wrong
+  pub record Lasts : Type 0 where
+    pub grows : (s : State) → IsWithin (M.seen s) (M.seen (M.step s))
+    pub over : (s : State) (ending : Ending) → M.asks s ≡ Some (End ending) → Stands (End ending) (M.seen s) (M.step s)
+    pub wrong : (s : State) → M.wrong s ≡ true → M.wrong (M.step s) ≡ true

@@ -28,7 +28,5 @@ pub data Event (Call Ending : Type 0) : Type 0 where
 
 -- an event that is no input: a second machine gets there as soon as the first does, while it still prepares to take an input
 abbrev pub but_input : {Call Ending : Type 0} → Option (Event Call Ending) → Option (Event Call Ending)
-but_input None = None
 but_input (Some Input) = None
-but_input (Some (Client call)) = Some (Client call)
-but_input (Some (End ending)) = Some (End ending)
+but_input asks = asks

@@ -14,13 +14,13 @@
 //! - `Machine`: a machine, its runs, what they cost, and what lasts in them.
 //! - `Observing`: two states that are level, and a state that is passed.
 //! - `Simulation`: paths with a cost, and simulations.
-//! - `Following`: both directions, with costs.
+//! - `Following`: both directions, with costs: any number of steps of the first is done by one path of the second.
 //! - `Agreement`: both directions, in counts of steps.
 //!
 //! The laws hold for all machines, which a contract cannot say, so they are the public lemmas of `proofs/`: of runs in `Runs`, of
-//! paths in `Paths`, of simulations (compose, scale, lock-step) in `Simulations`, of following (from a simulation, compose, scale)
-//! in `Followings`, and of agreement (from following) in `Agreements`. Each is used on the small machines of `examples`, so that
-//! a contract names what it gives.
+//! paths in `Paths`, of simulations in `Simulations` (lock-step) and `Followings` (what follows for whole runs), of both in
+//! `Composing` and `Scaling`, and of agreement (from following) in `Agreements`. Each is used on the small machines of `examples`,
+//! so that a contract names what it gives.
 #![tactic(auto)]
 
 pub mod examples;
