@@ -1,5 +1,5 @@
 -- Worked rows, by computing: the graph of a small procedure, written by hand.
-use Rattle.std.proofs.Common.{◌≡◌, List, [], ◌∷◌, map, refl}
+use Rattle.std.proofs.Common.{List, ◌≡◌, [], ◌∷◌, map, refl}
 use denote.Hole.Carrier as Carrier
 use Rattle.cmm_program.specs.declared.expression.Expression.TheBlock as Expression
 use Rattle.cmm_program.specs.declared.statement.Form.TheBlock as Form
@@ -14,63 +14,35 @@ use Rattle.cmm_program.specs.declared.statement.Form.TheVariants.{Empty, If, Swi
 use Rattle.cmm_program.specs.declared.statement.Statement.{Statement}
 use Rattle.cmm_program.specs.declared.statement.Arm.{roll-Arm}
 use Rattle.cmm_program.specs.declared.procedure.Proc.{Proc}
-use Rattle.cmm_program.specs.Bodies.{AtLabel, AtContinuation}
-use Rattle.cmm_laws.specs.StatementGraph.{by_way, body_laid, nodes_of, entry}
+use Rattle.cmm_program.specs.Bodies.{AtContinuation}
+use Rattle.cmm_laws.specs.StatementGraph.{by_way, body_laid, entry}
 
 -- what a row unfolds beside definitions that always unfold
 unfoldable opened : Unit {0}
 unfolding Expression.hidden-the_row-Expression-0 Form.hidden-the_row-Statement-0 Form.hidden-the_row-Arm-1 roll-Arm Carrier.roll Carrier.hidden
 opened = tt
 
+-- a statement by its form
 abbrev is : Form → Statement
 is form = record { tokens = 1; form = form }
 
-abbrev with_body : List Statement → Proc
-with_body body =
+-- 9: 0: 8: if 0 == 0 { 7: goto 0; } else { 6: 1: } 5: switch 0 { 0: 4: ; default: 3: { 2: goto 1; } } 1: continuation 2:
+abbrev small : Proc
+small =
+    let body : List Statement =
+    is (Label 0) ∷ is (If (Compare Eq W64 (Known (Number 0 W64)) (Known (Number 0 W64))) (is (Goto 0) ∷ []) (is (Label 1) ∷ []))
+    ∷ is (Switch (Known (Number 0 W64)) (roll-Arm record { case = In []; body = is Empty ∷ [] }
+    ∷ roll-Arm record { case = Default; body = is (Span (is (Goto 1) ∷ [])) ∷ [] } ∷ [])) ∷ is (Continuation 2) ∷ [] in
     record { name = []; unit = 0; tokens = 9; formals = 0; vars = []; stack = []; conts = []; sites = []; body = body }
 
---     0: if 0 == 0 { goto 0; } else { 1: } span { ; } goto 1; goto 7; continuation 2:
-abbrev branching : Proc
-branching = with_body
-    (is (Label 0)
-    ∷ is (If (Compare Eq W64 (Known (Number 0 W64)) (Known (Number 0 W64))) (is (Goto 0) ∷ []) (is (Label 1) ∷ []))
-    ∷ is (Span (is Empty ∷ []))
-    ∷ is (Goto 1)
-    ∷ is (Goto 7)
-    ∷ is (Continuation 2)
-    ∷ [])
+-- where the nodes lead by each of the first three ways, the first node first
+nodes_lead :
+    map (λ way. map (by_way small way) (body_laid small).nodes) (0 ∷ 1 ∷ 2 ∷ [])
+    ≡ (8 ∷ 7 ∷ 8 ∷ 5 ∷ 4 ∷ 1 ∷ 2 ∷ 5 ∷ 0 ∷ []) ∷ (8 ∷ 6 ∷ 8 ∷ 5 ∷ 3 ∷ 1 ∷ 2 ∷ 5 ∷ 0 ∷ []) ∷ (8 ∷ 6 ∷ 8 ∷ 5 ∷ 1 ∷ 1 ∷ 2 ∷ 5 ∷ 0 ∷ []) ∷ []
+unfolding opened body_laid
+nodes_lead = refl
 
--- where each node leads by its ways 0 and 1, the first node first; the last one is the end
-branches_lead :
-    map (λ node. by_way 0 node ∷ by_way 1 node ∷ []) (nodes_of branching)
-    ≡ (8 ∷ 8 ∷ []) ∷ (7 ∷ 6 ∷ []) ∷ (8 ∷ 8 ∷ []) ∷ (5 ∷ 5 ∷ []) ∷ (4 ∷ 4 ∷ []) ∷ (3 ∷ 3 ∷ []) ∷ (5 ∷ 5 ∷ []) ∷ (0 ∷ 0 ∷ [])
-    ∷ (0 ∷ 0 ∷ []) ∷ (0 ∷ 0 ∷ []) ∷ []
-unfolding opened
-branches_lead = refl
-
-starts_at_first : (body_laid branching).start ≡ 9
-unfolding opened
-starts_at_first = refl
-
-continuation_begins : entry (AtContinuation 2) (nodes_of branching) ≡ 0
-unfolding opened
-continuation_begins = refl
-
-label_is_found : entry (AtLabel 1) (nodes_of branching) ≡ 5
-unfolding opened
-label_is_found = refl
-
---     switch 0 { 0: ; ; default: goto 3; } 3:
-abbrev switching : Proc
-switching = with_body
-    (is (Switch (Known (Number 0 W64)) (roll-Arm record { case = In (record { from = 0; to = 0 } ∷ []); body = is Empty ∷ is Empty ∷ [] }
-    ∷ roll-Arm record { case = Default; body = is (Goto 3) ∷ [] }
-    ∷ []))
-    ∷ is (Label 3)
-    ∷ [])
-
-arms_lead :
-    map (λ node. by_way 0 node ∷ by_way 1 node ∷ by_way 2 node ∷ []) (nodes_of switching)
-    ≡ (4 ∷ 2 ∷ 1 ∷ []) ∷ (3 ∷ 3 ∷ 3 ∷ []) ∷ (1 ∷ 1 ∷ 1 ∷ []) ∷ (0 ∷ 0 ∷ 0 ∷ []) ∷ (0 ∷ 0 ∷ 0 ∷ []) ∷ (0 ∷ 0 ∷ 0 ∷ []) ∷ []
-unfolding opened
-arms_lead = refl
+-- where the body and the continuation begin
+begins : (body_laid small).start 0 ∷ entry (AtContinuation 2) (body_laid small).nodes ∷ [] ≡ 9 ∷ 0 ∷ []
+unfolding opened body_laid
+begins = refl

@@ -1,147 +1,142 @@
--- What is seen only grows: the steps of any control, whatever act comes next.
+-- What a step adds, and that what is seen only grows: for any control, whatever act comes next.
 use Rattle.std.proofs.lemmas.List.{take_at, take-append-drop}
-use Rattle.cmm_following.proofs.Prefixes.{prefix_more, prefix_trans, prefix_refl, within_refl, within_trans}
+use Rattle.cmm_following.proofs.Prefixes.{prefix_more, prefix_refl, within_refl, within_trans}
 use Rattle.cmm_following.specs.Seen.{IsPrefix, IsWithin}
 use Rattle.cmm_laws.specs.Observed.{LineUnseen, log_seen, store_seen}
-use Rattle.std.proofs.Common.{length-append, length, drop, arith, subst₂, ◌-◌, List, None, Option, Some, [], ap, append_assoc, inl, inr, refl, subst, sym, ℕ, ◌++◌, ◌∙◌, ◌∷◌, ◌≡◌, ◌⊎◌}
+use Rattle.std.proofs.Common.{Option, refl, length-append, drop, arith, take, ◌+◌, List, Some, [], ap, append-nil, append_assoc, suc, suc-add, sym, zero, zero-add, ℕ, ◌++◌, ◌∙◌, ◌∷◌, ◌≡◌, ◌⊎◌}
 use Rattle.cmm_laws.specs.Runs as runs
-use Rattle.cmm_following.specs.Machine.{after}
-use Rattle.cmm_laws.proofs.Doing.{Suspends, passed_by}
-use Rattle.cmm_laws.proofs.Kept.{KeptBy, keeping, kept_and_then, kept_ok, kept_weaker}
-use Rattle.cmm_laws.proofs.Steps.{order_done, answer_comes, kept_by_steps, landed_keeps, step_has}
-use Rattle.cmm_laws.specs.Runs.{Adds, Takes, Traffic, seen_in, traffic, yielded}
-use Rattle.cmm_program.specs.Acts.{Act, Checked, Get, GetByte, Order, Put, PutByte, Suspend, checked_order, evaluated}
-use Rattle.cmm_program.specs.Control.{Control, State, answer_done, next_act}
-use Rattle.cmm_program.specs.Exits.{Instead}
-use Rattle.cmm_program.specs.Machine.{first_store, start_of, step_of, steps_of}
-use Rattle.cmm_program.specs.Orders.{perform}
-use Rattle.cmm_program.specs.State.{Running, Setting, Store}
+use Rattle.cmm_laws.proofs.Doing.{answered_kept}
+use Rattle.cmm_laws.proofs.Kept.{KeptBy, keeping, kept_after, kept_and_then, kept_ok}
+use Rattle.cmm_laws.proofs.StackKept.{After, Leads, bytes_after, nothing_after, put_all_after, site_after, stack_with_value, without_after}
+use Rattle.cmm_laws.proofs.Steps.{kept_by_steps, lands, start_keeps, step_has}
+use Rattle.cmm_laws.specs.Runs.{Adds, Takes, NextOrder, Traffic, seen_in, traffic, yielded}
 use Rattle.cmm_program.specs.Values.{Reads, Value}
 use Rattle.cmm_program.specs.declared.procedure.Target.{Target}
-use Rattle.cmm_script.specs.Lines.{yield_line}
-
--- the act that an order with traffic comes from
-abbrev Asks : Act → Order → Type 0
-Asks act (Put n) = (value : Value) × (act ≡ PutByte value)
-Asks act (Get target) = act ≡ GetByte target
-Asks act _ = Unit {0}
-
--- no other act does
-checked_asks : (act : Act) (site : ℕ) (targets : List Target) (o : Option ℕ) → Asks act (checked_order site targets o)
-checked_asks act site targets (Some value) = tt
-checked_asks act site targets None = tt
-
-evaluated_asks : (r : Reads) (act : Act) → KeptBy (Asks act) (evaluated r act)
-evaluated_asks r (PutByte value) = kept_and_then (value r) _ (λ n is. kept_ok (value, refl))
-evaluated_asks r (Checked site targets op width left right) = search (keeping, checked_asks)
-evaluated_asks r act = grind arith
-
-module _ {C : Type 0} (k : Control C) (s : Setting) (st : State C) where
-  -- an order that does not suspend adds what it puts or takes
-  order_adds : (order : Order) → (Suspends order → ⊥) → st.store.status ≡ Running → Asks (next_act k st.controls) order → (after : Store) →
-      traffic after ≡ traffic (passed_by order st.store) → yielded after.status ≡ None → Adds k st after
-  order_adds (Put n) suspends running asks after is waits = runs.Output asks.0 n running asks.1 is waits
-  order_adds (Get target) suspends running asks after is waits = by st.store.input refl is
-    where
-      by : (input : List ℕ) → st.store.input ≡ input → traffic after ≡ traffic (elim input as (λ _. Store) [
-        | [] ↦ st.store
-        | byte ∷ rest ↦ record st.store { input = rest; taken = st.store.taken ++ byte ∷ [] }
-      ]) → Adds k st after
-      by [] left is = runs.Nothing is waits
-      by (byte ∷ rest) left is = runs.Input target byte rest running asks left is waits
-  order_adds (Suspend site values) suspends running asks after is waits = absurd (suspends tt)
-  order_adds order suspends running asks after is waits = runs.Nothing is waits
-
-  -- each order adds what it may
-  performed_adds : (order : Order) → st.store.status ≡ Running → Asks (next_act k st.controls) order →
-      KeptBy (λ answer. Adds k st (answer_done k s answer st.controls).store) (perform s order st.store)
-  performed_adds (Suspend site values) running asks = kept_ok (runs.Line values running refl refl)
-  performed_adds order running asks =
-      kept_weaker (λ answer done. order_adds order (λ never. never) running asks _ done.0 done.2)
-      (order_done k s st.store order st.controls running (λ never. never))
-
-  -- and so does each step
-  pub step_adds : Adds k st (step_of k s st).store
-  step_adds = step_has k s (λ next. Adds k st next.store) st
-      (λ order running is. performed_adds order running ((evaluated_asks _ _).holds order is))
-      (λ error. runs.Nothing refl refl)
-      (λ values is. let done = answer_comes k s values st.store st.controls in runs.Lines values done.0 is done.1.0 done.1.2)
-      (λ rests. runs.Nothing refl rests)
-
--- ---- what grows
-
--- what is seen of a log begins it
-log_begins : (values : Option (List ℕ)) (log : List ℕ) → IsPrefix (log_seen values log) log
-log_begins None log = prefix_refl log
-log_begins (Some values) log =
-    let n = length log - length (yield_line values) in record { rest = drop n log; whole = sym (take-append-drop n log) }
+use Rattle.std.specs.Prelude.{⊤}
+use Rattle.cmm_program.specs.Acts.{Act, PutByte, GetByte, Checked, checked_order, evaluated, Get, Order, Put, Suspend, WriteAll, Leave, Word}
+use Rattle.cmm_program.specs.Client.{answered, logged}
+use Rattle.cmm_program.specs.Control.{Control, State, answer_done}
+use Rattle.cmm_program.specs.Layout.{bytes_of}
+use Rattle.cmm_program.specs.Machine.{start_of, step_of, steps_of}
+use Rattle.cmm_program.specs.Orders.{Answer, returned, Stay, perform}
+use Rattle.cmm_program.specs.State.{Frame, Running, Setting, Store, Waiting}
+use Rattle.cmm_script.specs.Lines.{yield_line, ok_line, resume_line}
 
 -- the line of a yield is not seen while the client is waited for
 pub line_unseen : LineUnseen
-line_unseen values log =
-    let line = yield_line values in
-    take_at log line (length (log ++ line) - length line) (omega (arith, length-append log line))
+line_unseen values log = take_at log (yield_line values) _ (omega (arith, length-append log (yield_line values)))
 
--- What a step tells of the traffic after it, and of the values for the client: it grew, also as it is seen, no input was
--- lost, and only one act takes some.
-record Told {C : Type 0} (k : Control C) (st : State C) (t : Traffic) (values : Option (List ℕ)) : Type 0 where
-  within : IsWithin (seen_in (traffic st.store)) (seen_in t)
-  shown : IsPrefix st.store.log (log_seen values t.log)
-  whole : t.taken ++ t.input ≡ st.store.taken ++ st.store.input
-  taken : (t.input ≡ st.store.input) × (t.taken ≡ st.store.taken) ⊎ Takes k st
+-- what is seen begins what is there
+prefix_take : (n : ℕ) (log : List ℕ) → IsPrefix (take n log) log
+prefix_take n log = record { rest = drop n log; whole = sym (take-append-drop n log) }
 
-module _ {C : Type 0} (k : Control C) (st : State C) where
-  -- traffic that adds to output and log alone
-  told : {output log : List ℕ} (values : Option (List ℕ)) → IsPrefix st.store.output output → IsPrefix st.store.log log →
-      IsPrefix st.store.log (log_seen values log) → Told k st (record (traffic st.store) { output = output; log = log }) values
-  told values output log shown = record {
-    within = record { output = output; log = log; taken = prefix_refl _ };
-    shown = shown;
-    whole = refl;
-    taken = inl (refl, refl);
-  }
+seen_begins : {C : Type 0} (st : State C) → IsWithin (store_seen st.store) (seen_in st)
+seen_begins st = grind (arith, prefix_refl, prefix_take)
 
-  -- each of the five things that a step may add tells so
-  adds_tells : (after : Store) → Adds k st after → Told k st (traffic after) (yielded after.status)
-  adds_tells after (runs.Nothing is waits) =
-      subst₂ (Told k st) (sym is) (sym waits) (told None (prefix_refl _) (prefix_refl _) (prefix_refl _))
-  adds_tells after (runs.Output value n running next is waits) =
-      subst₂ (Told k st) (sym is) (sym waits) (told None (prefix_more _ _) (prefix_refl _) (prefix_refl _))
-  adds_tells after (runs.Line values running is waits) =
-      subst₂ (Told k st) (sym is) (sym waits) (told (Some values) (prefix_refl _) (prefix_more _ _)
-      (subst (IsPrefix st.store.log) (sym (line_unseen values st.store.log)) (prefix_refl _)))
-  adds_tells after (runs.Lines values text waiting is waits) =
-      subst₂ (Told k st) (sym is) (sym waits) (told None (prefix_refl _) (prefix_more _ _) (prefix_more _ _))
-  adds_tells after (runs.Input target byte rest running next left is waits) = subst₂ (Told k st) (sym is) (sym waits) (record {
-    within = record { output = prefix_refl _; log = prefix_refl _; taken = prefix_more _ _ };
-    shown = prefix_refl _;
-    whole = append_assoc st.store.taken (byte ∷ []) rest ∙ ap (λ xs. st.store.taken ++ xs) (sym left);
-    taken = inr (record { target = target; running = running; next = next });
-  })
+-- the act that an order comes from, where that is a foreign call
+abbrev CalledBy : Act → Order → Type 0
+CalledBy act (Put n) = (value : Value) × (act ≡ PutByte value)
+CalledBy act (Get target) = act ≡ GetByte target
+CalledBy act order = ⊤
 
-module _ {C : Type 0} (k : Control C) (s : Setting) where
+-- no other act comes to such an order
+checked_called : (act : Act) (site : ℕ) (targets : List Target) (o : Option ℕ) → CalledBy act (checked_order site targets o)
+checked_called act site targets o = grind arith
+
+called_by : (r : Reads) (act : Act) → KeptBy (CalledBy act) (evaluated r act)
+called_by r (PutByte value) = kept_and_then (value r) _ (λ n is. kept_ok (value, refl))
+called_by r (Checked site targets op width left right) = search (keeping, checked_called)
+called_by r act = grind arith
+
+module _ {C : Type 0} (k : Control C) (s : Setting) (st : State C) where
+  -- what an answer leads to
+  abbrev AnswerLeads : Answer → Type 0
+  AnswerLeads answer = Leads s st.store (Adds k s st) (answer_done k s answer st.controls).store
+
+  -- the store of the state comes after itself
+  start : After s st.store (Adds k s st) st.store
+  start = nothing_after s st.store runs.Nothing
+
+  -- the youngest activation goes on
+  stays : (way : ℕ) (store : Store) → st.store.status ≡ Running → After s st.store (Adds k s st) store → AnswerLeads (Stay way store)
+  stays way store running here = grind arith
+
+  -- a return
+  returned_leads : (exit alternates : ℕ) (words : List Word) (fs : List Frame) → KeptBy AnswerLeads (returned s exit alternates words fs st.store)
+  returned_leads exit alternates words [] = grind (arith, without_after 1 st.store start)
+  returned_leads exit alternates words (f ∷ fs) = search (keeping, lands k s, without_after, start) depth 10
+
+  -- each order
+  performed : (order : Order) → NextOrder k s st order → KeptBy AnswerLeads (perform s order st.store)
+  performed (WriteAll ws) next = kept_after (put_all_after ws st.store start) (λ after here. kept_ok (stays 0 after next.running here))
+  performed (Put n) next =
+      let call = (called_by _ _).holds (Put n) next.next in grind (arith, runs.Output call.0 n call.1 next)
+  performed (Get target) next =
+      let takes : Takes k st = (target, next.running, (called_by _ _).holds (Get target) next.next) in grind (arith, runs.Nothing, runs.Input)
+  performed (Suspend site values) next = kept_ok (runs.Line site values next, (site_after (Some site) st.store start).stack)
+  performed (Leave exit alternates words) next = grind (arith, returned_leads exit alternates words)
+  performed order next = search (keeping, stays, start, lands k s, without_after) depth 10
+
+  -- what the client's answer adds, which any more text may follow
+  abbrev Answers : Traffic → Type 0
+  Answers t = (more : List ℕ) → Adds k s st (record t { log = t.log ++ more })
+
+  logged_after : (text : List ℕ) (store : Store) → After s st.store Answers store → After s st.store Answers (logged text store)
+  logged_after text store here = grind (arith, append_assoc, λ (more : List ℕ). here.passed (text ++ more))
+
+  -- the client's answer
+  answer_leads : (values : List ℕ) → st.store.status ≡ Waiting values → AnswerLeads (answered s values st.store)
+  answer_leads values waiting =
+      let leads = answered_kept s values (After s st.store Answers)
+      (λ answer. Leads s st.store Answers (answer_done k s answer st.controls).store) (λ store here. record {
+        logs = λ cursor text. logged_after text store here;
+        sets = λ cursor n value a info at is fit. logged_after ok_line _ (grind (arith, stack_with_value s cursor n value store.frames));
+        pokes = λ cursor address value may. logged_after ok_line _ (bytes_after address (bytes_of 8 value) store here);
+        goes = λ gone e vs leads fit. lands k s (e.landing vs) _ _ (without_after gone _ (logged_after resume_line store here));
+        stops = (here.passed, here.stack);
+      }) st.store (nothing_after s st.store (λ more. runs.Lines values more waiting)) in
+      (simp append-nil at (leads.0 []), leads.1)
+
+  -- each step
+  pub step_leads : Leads s st.store (Adds k s st) (step_of k s st).store
+  step_leads = step_has k s (λ next. Leads s st.store (Adds k s st) next.store) st performed
+      (λ error. (runs.Nothing, (λ h. h, λ h. h))) answer_leads (λ rests. grind (arith, start))
+
+  -- ---- what grows
+
+  -- what is seen after what a step adds has all there was
+  adds_grow : (t : Traffic) → Adds k s st t →
+      IsWithin (seen_in st) (record { output = t.output; log = log_seen t.yielded t.log; taken = t.taken })
+  adds_grow t (runs.Line site values next) = search (line_unseen values st.store.log, prefix_refl)
+  adds_grow t adds = search (prefix_refl, prefix_more)
+
   -- a step takes back nothing that was seen
-  pub step_grows : (st : State C) → IsWithin (seen_in (traffic st.store)) (seen_in (traffic (step_of k s st).store))
-  step_grows st = (adds_tells k st _ (step_adds k s st)).within
+  pub step_grows : IsWithin (seen_in st) (seen_in (step_of k s st))
+  step_grows = within_trans (adds_grow _ step_leads.0) (seen_begins (step_of k s st))
 
   -- nor of what is seen while the client is waited for
-  pub step_shows : (st : State C) → IsWithin (store_seen st.store) (store_seen (step_of k s st).store)
-  step_shows st =
-      let told = adds_tells k st _ (step_adds k s st) in
-      record { output = told.within.output; log = prefix_trans (log_begins _ _) told.shown; taken = told.within.taken }
+  pub step_shows : IsWithin (store_seen st.store) (store_seen (step_of k s st).store)
+  step_shows = within_trans (seen_begins st) (adds_grow _ step_leads.0)
 
   -- and takes input only at its call
-  pub step_takes : (st : State C) →
-      ((step_of k s st).store.input ≡ st.store.input) × ((step_of k s st).store.taken ≡ st.store.taken) ⊎ Takes k st
-  step_takes st = (adds_tells k st _ (step_adds k s st)).taken
+  adds_takes : (t : Traffic) → Adds k s st t → (t.input ≡ st.store.input) × (t.taken ≡ st.store.taken) ⊎ Takes k st
+  adds_takes t adds = grind arith
 
-  -- and so do many steps
-  pub steps_grow : (n : ℕ) (st : State C) → IsWithin (seen_in (traffic st.store)) (seen_in (traffic (steps_of k s n st).store))
-  steps_grow n st = kept_by_steps k s (λ later. IsWithin (seen_in (traffic st.store)) (seen_in (traffic later.store)))
-      (λ later within. within_trans within (step_grows later)) n st (within_refl _)
+  pub step_takes : let now = (step_of k s st).store in (now.input ≡ st.store.input) × (now.taken ≡ st.store.taken) ⊎ Takes k st
+  step_takes = adds_takes _ step_leads.0
+
+  -- of which none is lost
+  none_lost : (t : Traffic) → Adds k s st t → t.taken ++ t.input ≡ st.store.taken ++ st.store.input
+  none_lost t adds = grind (arith, append_assoc)
+
+module _ {C : Type 0} (k : Control C) (s : Setting) where
+  -- nor do many steps take back what was seen
+  pub steps_grow : (m n : ℕ) (st : State C) → IsWithin (seen_in (steps_of k s m st)) (seen_in (steps_of k s (m + n) st))
+  steps_grow zero n st = rw (zero-add n) (kept_by_steps k s (λ later. IsWithin (seen_in st) (seen_in later))
+      (λ later within. within_trans within (step_grows k s later)) n st (within_refl _))
+  steps_grow (suc m) n st = rw (suc-add m n) (steps_grow m n (step_of k s st))
 
   -- what was taken and what is left are the input
   pub input_kept : (input : List ℕ) (m : ℕ) → let store = (steps_of k s m (start_of k s input)).store in store.taken ++ store.input ≡ input
   input_kept input m = kept_by_steps k s (λ st. st.store.taken ++ st.store.input ≡ input)
-      (λ st is. (adds_tells k st _ (step_adds k s st)).whole ∙ is) m (start_of k s input)
-      (ap (λ t. t.taken ++ t.input) (landed_keeps k s (Instead s.program.main []) (first_store s input) []).0)
+      (λ st h. none_lost k s st _ (step_leads k s st).0 ∙ h) m (start_of k s input) (ap (λ t. t.taken ++ t.input) (start_keeps k s input).0)

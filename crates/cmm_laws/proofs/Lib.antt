@@ -1,6 +1,6 @@
 pub mod Kept
 pub mod Doing
-pub mod Outlines
+pub mod StackKept
 pub mod Commands
 pub mod Steps
 pub mod Growing

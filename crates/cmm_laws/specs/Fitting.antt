@@ -1,6 +1,6 @@
 -- What holds of every state of the C-- machine, for a program in range at a valid placement: what an activation has to do is
 -- in range in its own procedure, each suspended one waits at a site of it, and each value fits the width of what holds it.
-use Rattle.std.specs.Prelude.{◌≡◌, ℕ, ◌-◌, ◌^◌, ◌<◌, ◌≤◌, IsTrue, IsSome, IsNone, IfSome, ⊤, All, List, [], ◌∷◌, length, Option, Some, None, Ok}
+use Rattle.std.specs.Prelude.{◌≡◌, ℕ, ◌-◌, ◌^◌, ◌<◌, ◌≤◌, IsTrue, IsSome, IfSome, ⊤, All, List, [], ◌∷◌, length, Option, Some, None, Ok}
 use Rattle.std.specs.List.{AllZip}
 use Rattle.cmm_words.specs.declared.width.Width.{Width}
 use Rattle.cmm_words.specs.declared.width.Width.TheVariants.{W64}
@@ -15,9 +15,10 @@ use Rattle.cmm_program.specs.InRange.{IsInRange, is_statement, is_body_in}
 use Rattle.cmm_program.specs.Machine.{start, step, state_after}
 use Rattle.cmm_program.specs.Memory.{Memory, Room}
 use Rattle.cmm_program.specs.Placed.{IsPlaced}
-use Rattle.cmm_program.specs.State.{Setting, Frame, Store, Status, Running, Waiting, Ended, Wrong}
+use Rattle.cmm_program.specs.State.{Setting, Frame, Status, Running, Waiting}
 use Rattle.cmm_program.specs.Todo.{Todo}
 use Rattle.cmm_program.specs.Typing.{typed}
+use Rattle.cmm_laws.specs.Runs.{Traffic, traffic, yielded}
 use Rattle.cmm_program.specs.Values.{value_of}
 use Rattle.cmm_program.specs.Writes.{reads_of}
 
@@ -46,69 +47,58 @@ Demand = Option (Option ℕ) → Type 0
 
 -- it is suspended, if there is one
 abbrev pub IsSuspended : Demand
-IsSuspended None = ⊤
-IsSuspended (Some site) = IsSome site
+IsSuspended youngest = IfSome youngest IsSome
 
 -- As many activations stand somewhere as there are frames, youngest first. The youngest is as demanded, and each older one is
 -- suspended.
 abbrev pub AreActivations : Setting → Demand → List Frame → List Todo → Type 0
 AreActivations s P [] [] = P None
-AreActivations s P [] (t ∷ ts) = ⊥
-AreActivations s P (f ∷ fs) [] = ⊥
 AreActivations s P (f ∷ fs) (t ∷ ts) = P (Some f.site) × IsActivation s f t × AreActivations s IsSuspended fs ts
+AreActivations s P frames todos = ⊥
 
 -- In a running state there is an activation, which isn't suspended; in one that waits for the client there is a suspended one.
 abbrev pub Youngest : Status → Demand
-Youngest Running None = ⊥
-Youngest Running (Some site) = IsNone site
-Youngest (Waiting values) None = ⊥
-Youngest (Waiting values) (Some site) = IsSome site
-Youngest (Ended outcome) youngest = ⊤
-Youngest (Wrong error) youngest = ⊤
+Youngest Running youngest = youngest ≡ Some None
+Youngest (Waiting values) youngest = (site : ℕ) × (youngest ≡ Some (Some site))
+Youngest status youngest = ⊤
 
 -- ---- values
 
+-- a byte
 abbrev pub IsByte : ℕ → Type 0
 IsByte n = n < 256
 
--- what was written into a cell, and into a room, is bytes
+-- what was written into a cell is a byte, and so in every cell of a room
 abbrev pub CellFits : Option ℕ → Type 0
 CellFits cell = IfSome cell IsByte
 
 abbrev pub RoomFits : Room → Type 0
 RoomFits room = All CellFits room.cells
 
+-- and so in all of memory
 pub record MemoryFits (memory : Memory) : Type 0 where
   pub globals : RoomFits memory.globals
   pub rooms : All RoomFits memory.rooms
 
--- values of a store: each register has one, of its width, and memory, input, what was taken of it and output are bytes
-pub record ValuesFit (s : Setting) (held : List ℕ) (m : Memory) (left gone written : List ℕ) : Type 0 where
-  pub registers : AllZip (λ g value. IsWord g.width value) s.program.globals held
-  pub memory : MemoryFits m
-  pub input : All IsByte left
-  pub taken : All IsByte gone
-  pub output : All IsByte written
-
-abbrev pub StoreFits : Setting → Store → Type 0
-StoreFits s store = ValuesFit s store.registers store.memory store.input store.taken store.output
-
--- the values for the client
-abbrev pub AreYielded : Status → Type 0
-AreYielded (Waiting values) = All (IsWord W64) values
-AreYielded _ = ⊤
+-- input, what was taken of it, and output are bytes
+abbrev pub ArePassed : Traffic → Type 0
+ArePassed t = All IsByte t.input × All IsByte t.taken × All IsByte t.output
 
 -- ---- states
 
--- a store and where its activations stand: its values fit, its frames fit the stack, and its youngest activation is as demanded
-pub record Fits (s : Setting) (P : Demand) (ts : List Todo) (now : Store) : Type 0 where
-  pub store : StoreFits s now
-  pub stack : sum_of_sizes s now.frames ≤ s.top - s.base
-  pub activations : AreActivations s P now.frames ts
+-- Each register has a value, of its width, memory has bytes, activations stand where they may, the youngest as the status
+-- demands, and the values for the client are words.
+pub record StateFits (s : Setting) (st : State Todo) : Type 0 where
+  pub registers : AllZip (λ g value. IsWord g.width value) s.program.globals st.store.registers
+  pub memory : MemoryFits st.store.memory
+  pub activations : AreActivations s (Youngest st.store.status) st.store.frames st.controls
+  pub yielded : IfSome (yielded st.store.status) (All (IsWord W64))
 
+-- a state of which that holds: what goes in and out of it is bytes, and its frames fit the stack
 pub record IsSound (s : Setting) (st : State Todo) : Type 0 where
-  pub fits : Fits s (Youngest st.store.status) st.controls st.store
-  pub yielded : AreYielded st.store.status
+  pub fits : StateFits s st
+  pub passed : ArePassed (traffic st.store)
+  pub stack : sum_of_sizes s st.store.frames ≤ s.top - s.base
 
 -- what a run needs for that: a program in range at a valid placement, and a stack whose addresses are words
 pub record IsSetUp (s : Setting) : Type 0 where
@@ -116,17 +106,12 @@ pub record IsSetUp (s : Setting) : Type 0 where
   pub placement : IsPlaced s.program s.placement
   pub top : s.top < 2 ^ 64
 
--- with an input of bytes, the first state is sound
-abbrev pub StartIsSound : Type 0
-StartIsSound = (s : Setting) (input : List ℕ) → IsSetUp s → All IsByte input → IsSound s (start s input)
-
--- a step leads from a sound state to a sound one
-abbrev pub StepIsSound : Type 0
-StepIsSound = (s : Setting) (st : State Todo) → IsSetUp s → IsSound s st → IsSound s (step s st)
-
--- so with an input of bytes every state is sound
-abbrev pub EveryStateIsSound : Type 0
-EveryStateIsSound = (s : Setting) (input : List ℕ) → IsSetUp s → All IsByte input → (m : ℕ) → IsSound s (state_after s input m)
+-- With an input of bytes the first state is sound, each step leads from a sound state to a sound one, and so every state is
+-- sound.
+pub record StatesAreSound : Type 0 where
+  pub first : (s : Setting) → IsSetUp s → (input : List ℕ) → All IsByte input → IsSound s (start s input)
+  pub next : (s : Setting) → IsSetUp s → (st : State Todo) → IsSound s st → IsSound s (step s st)
+  pub every : (s : Setting) → IsSetUp s → (input : List ℕ) → All IsByte input → (m : ℕ) → IsSound s (state_after s input m)
 
 -- In a sound state, an expression of the youngest activation's procedure that keeps the rules on widths has a value of its
 -- width, if it has one.

@@ -1,5 +1,5 @@
 -- What is seen of a machine with any control: so each of them stands in the theory of following.
-use Rattle.std.specs.Prelude.{◌≡◌, ℕ, ◌-◌, Bool, true, false, List, ◌++◌, length, take, Option, Some, None}
+use Rattle.std.specs.Prelude.{◌≡◌, ℕ, ◌-◌, true, false, List, ◌++◌, length, take, Option, Some, None}
 use Rattle.cmm_script.specs.Lines.{yield_line}
 use Rattle.cmm_script.specs.Walk.{Activation}
 use Rattle.cmm_program.specs.State.{Setting, Store, Status, Running, Waiting, Ended, Wrong, Outcome}
@@ -29,21 +29,12 @@ LineUnseen = (values log : List ℕ) → log_seen (Some values) (log ++ yield_li
 abbrev pub store_seen : Store → Seen ℕ
 store_seen store = record { output = store.output; log = log_seen (yielded store.status) store.log; taken = store.taken }
 
--- an act that takes from the input
-abbrev pub act_event : Act → Option (Event Call Outcome)
-act_event (GetByte target) = Some Input
-act_event act = None
-
--- what a state with this status and this next act stands at
+-- what a state with this status and this next act stands at; an act that takes from the input stands at that
 abbrev pub event_at : Setting → Status → Store → Act → Option (Event Call Outcome)
-event_at s Running store act = act_event act
 event_at s (Waiting values) store act = Some (Client record { values = values; walk = walk_of s store })
 event_at s (Ended outcome) store act = Some (End outcome)
-event_at s (Wrong error) store act = None
-
-abbrev pub is_wrong : Status → Bool
-is_wrong (Wrong error) = true
-is_wrong status = false
+event_at s Running store (GetByte target) = Some Input
+event_at s status store act = None
 
 -- the machine of any control, in the theory of following
 abbrev pub machine_of : {C : Type 0} → Control C → Setting → Machine (State C) ℕ Call Outcome
@@ -51,5 +42,5 @@ machine_of k s = record {
   step = step_of k s;
   seen = λ st. store_seen st.store;
   asks = λ st. event_at s st.store.status st.store (next_act k st.controls);
-  wrong = λ st. is_wrong st.store.status;
+  wrong = λ st. elim st.store.status [ Wrong error ↦ true | _ ↦ false ];
 }

@@ -1,17 +1,18 @@
 -- What runs do step by step: which states stay, what a step adds to what was seen, who takes the input, and what the
 -- client's commands leave as it is.
-use Rattle.std.specs.Prelude.{◌≡◌, ◌⊎◌, ℕ, ◌+◌, ◌%◌, true, List, [], ◌∷◌, ◌++◌, map, Err, Option, Some, None}
+use Rattle.std.specs.Prelude.{◌≡◌, ◌⊎◌, ℕ, ◌+◌, ◌%◌, true, List, [], ◌∷◌, ◌++◌, map, Ok, Err, Option, Some, None}
 use Rattle.cmm_script.specs.declared.script.Command.{Command}
 use Rattle.cmm_script.specs.Refusals.{Refusal}
 use Rattle.cmm_script.specs.Lines.{yield_line, ok_line, refused_line}
 use Rattle.cmm_following.specs.Seen.{Seen, IsWithin}
 use Rattle.cmm_program.specs.declared.procedure.Target.{Target}
 use Rattle.cmm_program.specs.Errors.{UncheckedError}
-use Rattle.cmm_program.specs.Values.{Value}
 use Rattle.cmm_program.specs.Layout.{bytes_of}
 use Rattle.cmm_program.specs.Memory.{with_bytes}
 use Rattle.cmm_program.specs.State.{Setting, Frame, Store, Status, Running, Waiting, Ended, Wrong, Outcome}
-use Rattle.cmm_program.specs.Acts.{PutByte, GetByte}
+use Rattle.cmm_program.specs.Acts.{Order, Put, Suspend, PutByte, GetByte, evaluated}
+use Rattle.cmm_program.specs.Values.{Value}
+use Rattle.cmm_program.specs.Writes.{reads_of}
 use Rattle.cmm_program.specs.Control.{Control, State, next_act}
 use Rattle.cmm_program.specs.Todo.{Todo, todo_control}
 use Rattle.cmm_program.specs.Client.{Then, logged, with_value, may_poke, asked, reply}
@@ -29,101 +30,92 @@ WrongStays = (s : Setting) (st : State Todo) (error : UncheckedError) → st.sto
 
 -- ---- what a step adds
 
--- what went in and out so far: the input that is left and that was taken, the output and the log
+-- what went in and out so far (the input that is left and that was taken, the output and the log), and the values that a yield
+-- gave the client, while it is waited for
 pub record Traffic : Type 0 where
   pub input : List ℕ
   pub taken : List ℕ
   pub output : List ℕ
   pub log : List ℕ
+  pub yielded : Option (List ℕ)
+
+abbrev pub yielded : Status → Option (List ℕ)
+yielded (Waiting values) = Some values
+yielded status = None
 
 abbrev pub traffic : Store → Traffic
-traffic store = record { input = store.input; taken = store.taken; output = store.output; log = store.log }
+traffic store = record { input = store.input; taken = store.taken; output = store.output; log = store.log; yielded = yielded store.status }
 
--- the values that a yield gave the client, while it is waited for
-abbrev pub yielded : Status → Option (List ℕ)
-yielded Running = None
-yielded (Waiting values) = Some values
-yielded (Ended outcome) = None
-yielded (Wrong error) = None
+-- the state runs, and its next step does this order
+pub record NextOrder {C : Type 0} (k : Control C) (s : Setting) (st : State C) (order : Order) : Type 0 where
+  pub running : st.store.status ≡ Running
+  pub next : evaluated (reads_of s st.store) (next_act k st.controls) ≡ Ok order
 
--- What the step from a state to the store after it adds, for any control. Only a yield makes a state wait.
-pub data Adds {C : Type 0} (k : Control C) (st : State C) (after : Store) : Type 0 where
-  Nothing : traffic after ≡ traffic st.store → yielded after.status ≡ None → Adds k st after
+-- the state runs, and its next step is that of the foreign call which takes a byte
+abbrev pub Takes : {C : Type 0} → Control C → State C → Type 0
+Takes k st = (target : Target) × (st.store.status ≡ Running) × (next_act k st.controls ≡ GetByte target)
+
+-- the traffic after a step from a state, for any control, by what the step adds
+pub data Adds {C : Type 0} (k : Control C) (s : Setting) (st : State C) : Traffic → Type 0 where
+  Nothing : Adds k s st (record (traffic st.store) { yielded = None })
   -- a foreign call puts the low byte of a value
-  Output : (value : Value) (n : ℕ) → st.store.status ≡ Running → next_act k st.controls ≡ PutByte value →
-      traffic after ≡ record (traffic st.store) { output = st.store.output ++ n % 256 ∷ [] } →
-      yielded after.status ≡ None → Adds k st after
+  Output : (value : Value) (n : ℕ) → next_act k st.controls ≡ PutByte value → NextOrder k s st (Put n) →
+      Adds k s st (record (traffic st.store) { output = st.store.output ++ n % 256 ∷ []; yielded = None })
   -- a foreign call takes the next byte of the input
-  Input : (target : Target) (byte : ℕ) (rest : List ℕ) → st.store.status ≡ Running →
-      next_act k st.controls ≡ GetByte target → st.store.input ≡ byte ∷ rest →
-      traffic after ≡ record (traffic st.store) { input = rest; taken = st.store.taken ++ byte ∷ [] } →
-      yielded after.status ≡ None → Adds k st after
+  Input : (byte : ℕ) (rest : List ℕ) → Takes k st → st.store.input ≡ byte ∷ rest →
+      Adds k s st (record (traffic st.store) { input = rest; taken = st.store.taken ++ byte ∷ []; yielded = None })
   -- a yield writes its line, and the client is waited for
-  Line : (values : List ℕ) → st.store.status ≡ Running →
-      traffic after ≡ record (traffic st.store) { log = st.store.log ++ yield_line values } →
-      yielded after.status ≡ Some values → Adds k st after
+  Line : (site : ℕ) (values : List ℕ) → NextOrder k s st (Suspend site values) →
+      Adds k s st (record (traffic st.store) { log = st.store.log ++ yield_line values; yielded = Some values })
   -- the client answers with lines of its own
   Lines : (values text : List ℕ) → st.store.status ≡ Waiting values →
-      traffic after ≡ record (traffic st.store) { log = st.store.log ++ text } →
-      yielded after.status ≡ None → Adds k st after
+      Adds k s st (record (traffic st.store) { log = st.store.log ++ text; yielded = None })
 
 -- a step adds nothing, or one of these: a byte to the output, a byte to the input taken, the line of a yield, an answer
 abbrev pub StepAdds : Type 0
-StepAdds = (s : Setting) (st : State Todo) → Adds (todo_control s.program) st (step s st).store
+StepAdds = (s : Setting) (st : State Todo) → Adds (todo_control s.program) s st (traffic (step s st).store)
 
 -- ---- what only grows
 
--- what is seen of it
-abbrev pub seen_in : Traffic → Seen ℕ
-seen_in t = record { output = t.output; log = t.log; taken = t.taken }
+-- what is seen of a state, with its whole log
+abbrev pub seen_in : {C : Type 0} → State C → Seen ℕ
+seen_in st = record { output = st.store.output; log = st.store.log; taken = st.store.taken }
 
 -- what was put, logged and taken before a step is the beginning of what was after it
 abbrev pub StepGrows : Type 0
-StepGrows = (s : Setting) (st : State Todo) → IsWithin (seen_in (traffic st.store)) (seen_in (traffic (step s st).store))
+StepGrows = (s : Setting) (st : State Todo) → IsWithin (seen_in st) (seen_in (step s st))
 
 -- and so from any state of a run to any later one
 abbrev pub RunGrows : Type 0
-RunGrows = (s : Setting) (input : List ℕ) (m n : ℕ) →
-    IsWithin (seen_in (traffic (state_after s input m).store)) (seen_in (traffic (state_after s input (m + n)).store))
+RunGrows = (s : Setting) (input : List ℕ) (m n : ℕ) → IsWithin (seen_in (state_after s input m)) (seen_in (state_after s input (m + n)))
 
 -- ---- who takes the input
 
--- the next step is that of the foreign call which takes a byte
-pub record Takes {C : Type 0} (k : Control C) (st : State C) : Type 0 where
-  pub target : Target
-  pub running : st.store.status ≡ Running
-  pub next : next_act k st.controls ≡ GetByte target
-
--- any other step leaves the input and what was taken of it
+-- any step but that of a call which takes a byte leaves the input and what was taken of it
 abbrev pub OnlyCallTakes : Type 0
-OnlyCallTakes = (s : Setting) (st : State Todo) →
-    ((step s st).store.input ≡ st.store.input) × ((step s st).store.taken ≡ st.store.taken)
-    ⊎ Takes (todo_control s.program) st
+OnlyCallTakes = (s : Setting) (st : State Todo) → let after = (step s st).store in
+    (after.input ≡ st.store.input) × (after.taken ≡ st.store.taken) ⊎ Takes (todo_control s.program) st
 
 -- what was taken and what is left are together the whole input
 abbrev pub InputIsKept : Type 0
-InputIsKept = (s : Setting) (input : List ℕ) (m : ℕ) →
-    (state_after s input m).store.taken ++ (state_after s input m).store.input ≡ input
+InputIsKept = (s : Setting) (input : List ℕ) (m : ℕ) → let store = (state_after s input m).store in store.taken ++ store.input ≡ input
 
 -- ---- the client's commands
 
 -- a command that is refused only writes a line of the log
 abbrev pub RefusedOnlyLogs : Type 0
-RefusedOnlyLogs = (s : Setting) (yielded : List ℕ) (cursor : ℕ) (command : Command) (store : Store) (refusal : Refusal) →
-    asked s yielded cursor command store ≡ Err refusal →
-    reply s yielded cursor command store ≡ Then cursor (logged (refused_line refusal) store)
+RefusedOnlyLogs = (s : Setting) (yielded : List ℕ) (cursor : ℕ) (command : Command) (store : Store) (why : Refusal) →
+    asked s yielded cursor command store ≡ Err why → reply s yielded cursor command store ≡ Then cursor (logged (refused_line why) store)
 
--- What a command does that does not resume. What is not named stays: other variables, each activation's procedure and
--- site, registers, stackdata, input, output and status.
-pub data Changes (cursor : ℕ) (before after : Store) : Type 0 where
-  Log : (text : List ℕ) → after ≡ logged text before → Changes cursor before after
+-- What a command makes of a store that does not resume. What is not named stays: other variables, each activation's procedure
+-- and site, registers, stackdata, input, output and status.
+pub data Changes (cursor : ℕ) (before : Store) : Store → Type 0 where
+  Log : (text : List ℕ) → Changes cursor before (logged text before)
   -- a variable of the activation at the cursor
-  Variable : (n value : ℕ) →
-      after ≡ logged ok_line record before { frames = with_value cursor n value before.frames } → Changes cursor before after
+  Variable : (n value : ℕ) → Changes cursor before (logged ok_line record before { frames = with_value cursor n value before.frames })
   -- eight bytes of data
   Data : (address value : ℕ) → may_poke before.memory.globals address ≡ true →
-      after ≡ logged ok_line record before { memory = with_bytes before.memory address (bytes_of 8 value) } →
-      Changes cursor before after
+      Changes cursor before (logged ok_line record before { memory = with_bytes before.memory address (bytes_of 8 value) })
 
 -- a command that does not resume changes a variable or data, if anything, and writes to the log
 abbrev pub CommandChanges : Type 0
@@ -134,16 +126,8 @@ CommandChanges = (s : Setting) (yielded : List ℕ) (cursor cursor' : ℕ) (comm
 abbrev pub places : List Frame → List (ℕ × Option ℕ)
 places frames = map (λ f. (f.procedure, f.site)) frames
 
--- what a command that does not resume leaves
-pub record Spares (before after : Store) : Type 0 where
-  pub registers : after.registers ≡ before.registers
-  pub places : places after.frames ≡ places before.frames
-  pub input : after.input ≡ before.input
-  pub taken : after.taken ≡ before.taken
-  pub output : after.output ≡ before.output
-  pub status : after.status ≡ before.status
-
--- it leaves everything else
+-- and leaves everything else
 abbrev pub CommandSpares : Type 0
 CommandSpares = (s : Setting) (yielded : List ℕ) (cursor cursor' : ℕ) (command : Command) (store after : Store) →
-    reply s yielded cursor command store ≡ Then cursor' after → Spares store after
+    reply s yielded cursor command store ≡ Then cursor' after →
+    (after ≡ record store { frames = after.frames; memory = after.memory; log = after.log }) × (places after.frames ≡ places store.frames)

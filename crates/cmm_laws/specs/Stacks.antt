@@ -1,10 +1,10 @@
 -- The stack of every state: its frames fit, stand one after the other, and each has its own continuations' pairs and
 -- its own stackdata.
-use Rattle.std.specs.Prelude.{◌≡◌, ℕ, suc, ◌+◌, ◌-◌, ◌%◌, ◌<◌, ◌≤◌, true, false, List, [], ◌∷◌, map, drop, length, Some, None}
+use Rattle.std.specs.Prelude.{◌≡◌, ℕ, suc, ◌+◌, ◌-◌, ◌%◌, ◌<◌, ◌≤◌, List, [], ◌∷◌, map, drop, length, Some, None}
 use Rattle.cmm_program.specs.Layout.{data_base, data_bytes}
-use Rattle.cmm_program.specs.Memory.{Room, is_in}
+use Rattle.cmm_program.specs.Memory.{Room}
 use Rattle.cmm_program.specs.State.{Setting, Frame, Store}
-use Rattle.cmm_program.specs.Frames.{procedure_at, place_row, frame_size, sum_of_sizes, frame_address, continuation_value, room_of}
+use Rattle.cmm_program.specs.Frames.{procedure_at, place_row, frame_size, sum_of_sizes, frame_address, continuation_value, room_of, without}
 use Rattle.cmm_program.specs.Placed.{IsPlaced}
 use Rattle.cmm_program.specs.Machine.{state_after}
 
@@ -13,6 +13,7 @@ pub record Extent : Type 0 where
   pub address : ℕ
   pub length : ℕ
 
+-- the extent of a room
 abbrev pub extent : Room → Extent
 extent room = record { address = room.address; length = length room.cells }
 
@@ -22,6 +23,7 @@ pub record Stack : Type 0 where
   pub globals : Extent
   pub rooms : List Extent
 
+-- the stack of a store
 abbrev pub stack_of : Store → Stack
 stack_of store = record { frames = store.frames; globals = extent store.memory.globals; rooms = map extent store.memory.rooms }
 
@@ -32,6 +34,7 @@ stackdata_at s f address = elim (procedure_at s f.procedure) [
   | None ↦ record { address = address; length = 0 }
 ]
 
+-- the stackdata of each of these frames, the youngest first
 abbrev pub stackdata_of : Setting → List Frame → List Extent
 stackdata_of s [] = []
 stackdata_of s (f ∷ fs) = stackdata_at s f (frame_address s (f ∷ fs)) ∷ stackdata_of s fs
@@ -42,14 +45,22 @@ pub record IsStack (s : Setting) (stack : Stack) : Type 0 where
   pub rooms : stack.rooms ≡ stackdata_of s stack.frames
   pub globals : stack.globals ≡ record { address = data_base; length = length (data_bytes s.program s.placement) }
 
--- in every state of every run, whatever the placement
+-- what holds of the stack of every state of every run, also when some of its youngest activations are left out
+pub record InEachState (P : Setting → Stack → Type 0) : Type 0 where
+  pub holds : (s : Setting) (input : List ℕ) (m younger : ℕ) → P s (stack_of (without younger (state_after s input m).store))
+
+-- it is as it should be, whatever the placement
 abbrev pub EachStateHasStack : Type 0
-EachStateHasStack = (s : Setting) (input : List ℕ) (m : ℕ) → IsStack s (stack_of (state_after s input m).store)
+EachStateHasStack = InEachState IsStack
 
 -- there are as many rooms as activations
 abbrev pub OneRoomEach : Type 0
-OneRoomEach = (s : Setting) (input : List ℕ) (m : ℕ) →
-    let store = (state_after s input m).store in length store.memory.rooms ≡ length store.frames
+OneRoomEach = InEachState (λ s stack. length stack.rooms ≡ length stack.frames)
+
+-- a frame ends where the next older one begins
+abbrev pub FramesAdjoin : Type 0
+FramesAdjoin = InEachState (λ s stack. (f : Frame) (fs : List Frame) → stack.frames ≡ f ∷ fs →
+    frame_address s (f ∷ fs) + frame_size s f ≡ frame_address s fs)
 
 -- ---- on a valid placement
 
@@ -59,52 +70,34 @@ pub record IsSet (s : Setting) : Type 0 where
   pub order : s.base ≤ s.top
   pub aligned : s.top % 16 ≡ 0
 
--- an address at which a frame may begin
-pub record IsFrameAddress (s : Setting) (address : ℕ) : Type 0 where
-  pub aligned : address % 16 ≡ 0
-  pub above : s.base ≤ address
-  pub below : address ≤ s.top
-
--- each frame begins at one: the youngest that is left without so many younger ones
+-- each frame begins at a multiple of 16 inside the stack
 abbrev pub FramesAreAligned : Type 0
-FramesAreAligned = (s : Setting) (input : List ℕ) (m younger : ℕ) → IsSet s →
-    IsFrameAddress s (frame_address s (drop younger (state_after s input m).store.frames))
-
--- a frame ends where the next older one begins
-abbrev pub FramesAdjoin : Type 0
-FramesAdjoin = (s : Setting) (input : List ℕ) (m younger : ℕ) (f : Frame) (fs : List Frame) → IsSet s →
-    drop younger (state_after s input m).store.frames ≡ f ∷ fs →
-    frame_address s (f ∷ fs) + frame_size s f ≡ frame_address s fs
+FramesAreAligned = InEachState (λ s stack. IsSet s →
+    let address = frame_address s stack.frames in (address % 16 ≡ 0) × (s.base ≤ address) × (address ≤ s.top))
 
 -- ---- whose address is whose
 
--- the offsets of the pairs in the youngest frame
-abbrev pub pairs_of : Setting → List Frame → List ℕ
-pairs_of s [] = []
-pairs_of s (f ∷ fs) = (place_row s f.procedure).pairs
+-- a part of the youngest activation: the pair of a continuation, or its room
+pub data IsPart (s : Setting) (frames : List Frame) (rooms : List Extent) (part : Extent) : Type 0 where
+  Pair : (f : Frame) (fs : List Frame) (k : ℕ) → frames ≡ f ∷ fs → k < length (place_row s f.procedure).pairs →
+      part ≡ record { address = continuation_value s frames k; length = 16 } → IsPart s frames rooms part
+  Stackdata : (older : List Extent) → rooms ≡ part ∷ older → IsPart s frames rooms part
 
--- an address in the pair of a continuation, or in the room, of the activation with so many younger ones
-pub data IsOf (s : Setting) (store : Store) (younger address : ℕ) : Type 0 where
-  Pair : (k : ℕ) → k < length (pairs_of s (drop younger store.frames)) →
-      continuation_value s (drop younger store.frames) k ≤ address →
-      address < continuation_value s (drop younger store.frames) k + 16 → IsOf s store younger address
-  Stackdata : (room : Room) (older : List Room) → drop younger store.memory.rooms ≡ room ∷ older → is_in room address ≡ true →
-      IsOf s store younger address
+-- a part lies inside the youngest of these frames
+abbrev pub LiesIn : Setting → List Frame → Extent → Type 0
+LiesIn s frames part = (frame_address s frames ≤ part.address) × (part.address + part.length ≤ frame_address s (drop 1 frames))
 
--- each pair and each room lies inside its own frame
+-- each part lies inside its own frame
 abbrev pub PartsLieInFrame : Type 0
-PartsLieInFrame = (s : Setting) (input : List ℕ) (m younger address : ℕ) → IsSet s →
-    let store = (state_after s input m).store in IsOf s store younger address →
-    (frame_address s (drop younger store.frames) ≤ address) × (address < frame_address s (drop (suc younger) store.frames))
+PartsLieInFrame = InEachState (λ s stack. IsSet s → (part : Extent) → IsPart s stack.frames stack.rooms part → LiesIn s stack.frames part)
 
--- so those of different activations have no address in common
+-- and so ends before any part of an older activation
 abbrev pub PartsLieApart : Type 0
-PartsLieApart = (s : Setting) (input : List ℕ) (m i j address : ℕ) → IsSet s →
-    let store = (state_after s input m).store in IsOf s store i address → IsOf s store j address → i ≡ j
+PartsLieApart = InEachState (λ s stack. IsSet s → (n : ℕ) (part other : Extent) → IsPart s stack.frames stack.rooms part →
+    IsPart s (drop (suc n) stack.frames) (drop (suc n) stack.rooms) other → part.address + part.length ≤ other.address)
 
--- and all lie in the stack, so apart from data if that ends below it
+-- all lie in the stack, so behind data if that ends below the stack
 abbrev pub PartsLieInStack : Type 0
-PartsLieInStack = (s : Setting) (input : List ℕ) (m younger address : ℕ) → IsSet s →
-    let store = (state_after s input m).store in IsOf s store younger address →
-    (s.base ≤ address) × (address < s.top)
-    × (data_base + length (data_bytes s.program s.placement) ≤ s.base → is_in store.memory.globals address ≡ false)
+PartsLieInStack = InEachState (λ s stack. IsSet s → (part : Extent) → IsPart s stack.frames stack.rooms part →
+    (s.base ≤ part.address) × (part.address + part.length ≤ s.top)
+    × (data_base + length (data_bytes s.program s.placement) ≤ s.base → stack.globals.address + stack.globals.length ≤ part.address))

@@ -10,6 +10,7 @@ pub fn over_is_over()
 
 /// Output, log and input taken only grow: by one step, which adds at most one byte, the line of a yield or a client's
 /// answer, and so over a whole run.
+#[tactic(auto, using(crate::proofs::Growing::step_leads))]
 pub fn what_was_seen_grows()
     ensures adds { StepAdds }
     ensures step { StepGrows }
@@ -25,6 +26,7 @@ pub fn input_is_taken_by_calls()
 
 /// A refused command of the client changes nothing but the log, and one that does not resume at most a variable of the
 /// activation at the cursor or bytes of data.
+#[tactic(auto, using(crate::proofs::Commands::command_changes, crate::proofs::Commands::command_spares))]
 pub fn commands_change_little()
     ensures refused { RefusedOnlyLogs }
     ensures changes { CommandChanges }

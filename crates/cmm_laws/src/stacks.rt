@@ -2,12 +2,14 @@
 ghost use Rattle.cmm_laws.specs.Stacks.{EachStateHasStack, OneRoomEach, FramesAreAligned, FramesAdjoin, PartsLieInFrame, PartsLieApart, PartsLieInStack};
 
 /// In every state the frames fit the stack, and the rooms of stackdata stand in step with them.
+#[tactic(auto, using(crate::proofs::Addresses::each_stack, crate::proofs::Addresses::one_room_each))]
 pub fn every_state_has_its_stack()
     ensures stack { EachStateHasStack }
     ensures rooms { OneRoomEach }
 {}
 
 /// On a valid placement each frame lies in the stack at a multiple of 16, and ends where the next older one begins.
+#[tactic(auto, using(crate::proofs::Addresses::frames_aligned, crate::proofs::Addresses::frames_adjoin))]
 pub fn frames_adjoin()
     ensures aligned { FramesAreAligned }
     ensures adjoin { FramesAdjoin }
@@ -15,6 +17,7 @@ pub fn frames_adjoin()
 
 /// The pairs of continuations and the stackdata of an activation lie in its own frame, so those of different
 /// activations lie apart, and none overlaps data below the stack.
+#[tactic(auto, using(crate::proofs::Addresses::parts_in_frame, crate::proofs::Addresses::parts_apart, crate::proofs::Addresses::parts_in_stack))]
 pub fn parts_of_frames_lie_apart()
     ensures own { PartsLieInFrame }
     ensures apart { PartsLieApart }
