@@ -11,8 +11,10 @@ use Rattle.cmm_ast.specs.Taking.{is_keyword, is_symbol}
 use Rattle.cmm_ast.specs.declared.keyword.Keyword.TheVariants.{If}
 use Rattle.cmm_ast.specs.declared.keyword.Symbol.{Symbol}
 use Rattle.cmm_ast.specs.declared.expression.TypeName.{TypeName}
+use Rattle.cmm_ast.specs.declared.statement.Block.{Block}
 use Rattle.cmm_readers.specs.ExpressionReading.{type_name}
 use Rattle.cmm_readers.specs.PartReading.{is_width}
+use Rattle.cmm_readers.specs.StatementReading.{block}
 use Rattle.cmm_parser.specs.declared.fault.Stop.{Stop}
 use Rattle.cmm_parser.specs.declared.fault.Stop.TheVariants as stop
 use Rattle.cmm_parser.specs.declared.parser.Parser.{Parser}
@@ -39,6 +41,17 @@ Answered answer (Err stop.Memory) after = Unit {0}
 pub record Parses {A : Type 0} (reads : ℕ → Reads A) (before : Point) (result : Result A Stop) (after : Point) : Type 0 where
   pub answers : (fuel : ℕ) → length before.left < fuel → Answered (reads fuel true before) result after
   pub fewer : OnOk result (length after.left ≤ length before.left)
+
+-- as `Parses`, of what may hold blocks, which are read by any count above the tokens that are left
+abbrev pub ParsesBlocks : {A : Type 0} → (ℕ → Reads Block → Reads A) → Point → Result A Stop → Point → Type 0
+ParsesBlocks reads before result after =
+    (depth : ℕ) → length before.left < depth → Parses (λ fuel. reads fuel (block depth)) before result after
+
+-- as `ParsesBlocks`, of a chain of `if`s, whose turns are counted by any such count too
+abbrev pub ParsesChain : {A : Type 0} → (ℕ → ℕ → Reads Block → Reads A) → Point → Result A Stop → Point → Type 0
+ParsesChain reads before result after =
+    (turns depth : ℕ) → length before.left < turns → length before.left < depth →
+    Parses (λ fuel. reads turns fuel (block depth)) before result after
 
 -- after the next token
 abbrev pub skipped : Point → Point

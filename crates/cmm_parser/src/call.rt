@@ -1,12 +1,8 @@
 //! Calls: what is called, what is passed, and the annotations.
 
 ghost use Rattle.std.specs.Prelude.{◌≡◌, ◌+◌, ◌-◌, ◌<◌, ◌≤◌, length, OnOk};
-ghost use Rattle.cmm_readers.specs.Reading.{◌>>=◌ as followed_by, next, passes, if_next, give, keyword, listed, round};
-ghost use Rattle.cmm_ast.specs.Numbers.{symbol_number};
-ghost use Rattle.cmm_ast.specs.Taking.{is_symbol};
-ghost use Rattle.cmm_ast.specs.declared.keyword.Symbol.TheVariants as sign;
+ghost use Rattle.cmm_readers.specs.Reading.{◌>>=◌ as followed_by, next, passes, keyword, listed, round};
 ghost use Rattle.cmm_ast.specs.declared.keyword.Keyword.TheVariants.{To};
-ghost use Rattle.cmm_ast.specs.declared.statement.CalleeForm.TheVariants as callees;
 ghost use Rattle.cmm_readers.specs.ExpressionReading.{whole};
 ghost use Rattle.cmm_readers.specs.Reading as readers;
 ghost use Rattle.cmm_readers.specs.PartReading as parts;
@@ -106,7 +102,7 @@ impl Parser<'_> {
 
     /// What is called: an expression in round brackets, a name or a word in memory.
     fn callee_form(&mut self) -> Result<CalleeForm, Stop>
-        ensures answers { Parses (λ fuel. if_next (is_symbol (symbol_number sign.Open)) (followed_by (round (whole fuel)) (λ e. give (callees.Bracketed e))) (followed_by (parts.lvalue fuel) (λ v. give (parts.called v)))) (point_of self.old) result (point_of self.new) }
+        ensures answers { Parses (λ fuel. parts.callee_form fuel) (point_of self.old) result (point_of self.new) }
         ensures taken { OnOk result (length (point_of self.new).left < length (point_of self.old).left) }
     {
         if self.is_symbol(Symbol::Open) {

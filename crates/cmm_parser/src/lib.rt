@@ -20,6 +20,8 @@ mod datum;
 mod declaration;
 mod expression;
 mod fault;
+#[cfg(test)]
+mod fault_tests;
 mod list;
 mod operators;
 mod parser;

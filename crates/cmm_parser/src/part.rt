@@ -1,17 +1,14 @@
 //! The parts of a body that hold no block: most statements, told apart by their first tokens, and the declarations.
 
 ghost use Rattle.std.specs.Prelude.{◌≡◌, ◌-◌, ◌<◌, ◌≤◌, ◌∷◌, [], None, Some, length, IfOk, OnOk};
-ghost use Rattle.cmm_ast.specs.Numbers.{keyword_number, symbol_number};
-ghost use Rattle.cmm_ast.specs.Taking.{is_keyword, is_symbol};
-ghost use Rattle.cmm_ast.specs.declared.keyword.Keyword.TheVariants.{Invariant, Stackdata};
-ghost use Rattle.cmm_ast.specs.declared.keyword.Symbol.TheVariants.{Open, OpenSquare, Less};
-ghost use Rattle.cmm_ast.specs.declared.procedure.Modifiers.TheVariants as modifiers;
+ghost use Rattle.cmm_ast.specs.Numbers.{symbol_number};
+ghost use Rattle.cmm_ast.specs.Taking.{is_symbol};
+ghost use Rattle.cmm_ast.specs.declared.keyword.Symbol.TheVariants.{Open, Less};
 ghost use Rattle.cmm_ast.specs.declared.statement.Lvalue.TheVariants as lvalues;
 ghost use Rattle.cmm_readers.specs.declared.told_apart.Targets.TheVariants as targets;
-ghost use Rattle.cmm_readers.specs.Reading.{◌>>=◌ as followed_by, if_next, skip, ident, optional, round, may_list};
-ghost use Rattle.cmm_readers.specs.ExpressionReading.{named_type, type_name, whole_memory};
-ghost use Rattle.cmm_readers.specs.ProcedureReading.{modifiers_of, stackdata, variables};
-ghost use Rattle.cmm_readers.specs.TargetReading.{assignment};
+ghost use Rattle.cmm_readers.specs.Reading.{◌>>=◌ as followed_by, optional, round, may_list};
+ghost use Rattle.cmm_readers.specs.ExpressionReading.{whole_memory};
+ghost use Rattle.cmm_readers.specs.ProcedureReading.{variables};
 ghost use Rattle.cmm_readers.specs.PartReading as parts;
 ghost use Rattle.cmm_readers.specs.StatementReading as readers;
 ghost use Rattle.cmm_parser.specs.Parsing.{Parses, point_of};
@@ -130,7 +127,7 @@ impl Parser<'_> {
 
     /// What follows a kind that no `invariant` follows.
     fn kind_part(&mut self, kind: Text) -> Result<PartForm, Stop>
-        ensures answers { Parses (λ fuel. if_next parts.is_width (followed_by type_name (λ width. readers.of_local (variables fuel (modifiers.Kind kind) width))) (followed_by ident (λ name. if_next parts.is_any_name (readers.of_local (variables fuel (modifiers.Kind kind) (named_type name))) (readers.of_stmt (assignment fuel (targets.Results (record { kind = Some kind; name = name } ∷ []))))))) (point_of self.old) result (point_of self.new) }
+        ensures answers { Parses (λ fuel. readers.kind_part fuel kind) (point_of self.old) result (point_of self.new) }
         ensures taken { OnOk result (length (point_of self.new).left < length (point_of self.old).left) }
     {
         match self.bits() {
@@ -144,7 +141,7 @@ impl Parser<'_> {
 
     /// What follows a kind and a name, which is the type of variables or a result.
     fn kinded_part(&mut self, kind: Text, name: Ident) -> Result<PartForm, Stop>
-        ensures answers { Parses (λ fuel. if_next parts.is_any_name (readers.of_local (variables fuel (modifiers.Kind kind) (named_type name))) (readers.of_stmt (assignment fuel (targets.Results (record { kind = Some kind; name = name } ∷ []))))) (point_of self.old) result (point_of self.new) }
+        ensures answers { Parses (λ fuel. readers.kinded_part fuel kind name) (point_of self.old) result (point_of self.new) }
         ensures taken { OnOk result (length (point_of self.new).left < length (point_of self.old).left) }
     {
         if self.is_name() {
@@ -169,7 +166,7 @@ impl Parser<'_> {
 
     /// What follows a type: a word in memory or variables.
     fn width_part(&mut self, width: TypeName) -> Result<PartForm, Stop>
-        ensures answers { Parses (λ fuel. if_next (is_symbol (symbol_number OpenSquare)) (readers.of_stmt (followed_by (whole_memory fuel width) (λ m. readers.memory_stmt fuel m))) (readers.of_local (variables fuel modifiers.Nothing width))) (point_of self.old) result (point_of self.new) }
+        ensures answers { Parses (λ fuel. readers.width_part fuel width) (point_of self.old) result (point_of self.new) }
         ensures taken { OnOk result (length (point_of self.new).left < length (point_of self.old).left) }
     {
         if self.is_symbol(Symbol::OpenSquare) {
@@ -182,7 +179,7 @@ impl Parser<'_> {
 
     /// A part that begins with a reserved word that is no type.
     fn other_part(&mut self) -> Result<PartForm, Stop>
-        ensures answers { Parses (λ fuel. if_next (is_keyword (keyword_number Invariant)) (followed_by modifiers_of (λ modifiers. followed_by type_name (λ width. readers.of_local (variables fuel modifiers width)))) (if_next (is_keyword (keyword_number Stackdata)) (followed_by skip (λ _. readers.of_local (stackdata fuel))) (readers.of_stmt (readers.word_stmt fuel)))) (point_of self.old) result (point_of self.new) }
+        ensures answers { Parses (λ fuel. readers.other_part fuel) (point_of self.old) result (point_of self.new) }
         ensures taken { OnOk result (length (point_of self.new).left < length (point_of self.old).left) }
     {
         if self.is_word(Keyword::Invariant) {

@@ -1,13 +1,13 @@
 //! Blocks, and the statements that hold blocks.
 
-ghost use Rattle.std.specs.Prelude.{◌≡◌, ◌+◌, ◌-◌, ◌<◌, ◌≤◌, ℕ, [], length, OnOk};
+ghost use Rattle.std.specs.Prelude.{◌≡◌, ◌+◌, ◌-◌, ◌<◌, ◌≤◌, [], length, OnOk};
 ghost use Rattle.cmm_ast.specs.declared.keyword.Symbol.TheVariants.{OpenSquare};
 ghost use Rattle.cmm_ast.specs.Numbers.{symbol_number};
 ghost use Rattle.cmm_ast.specs.Taking.{is_symbol};
 ghost use Rattle.cmm_readers.specs.Reading.{optional, many};
 ghost use Rattle.cmm_readers.specs.StatementReading as readers;
 ghost use Rattle.cmm_readers.specs.StatementReading.{is_within};
-ghost use Rattle.cmm_parser.specs.Parsing.{Parses, point_of};
+ghost use Rattle.cmm_parser.specs.Parsing.{Parses, ParsesBlocks, ParsesChain, point_of};
 
 use crate::fault::Stop;
 use crate::parser::Parser;
@@ -41,7 +41,7 @@ impl Parser<'_> {
     /// The parts of a block, up to its closing brace.
     #[cycle(statement)]
     fn body(&mut self) -> Result<Items<Part>, Stop>
-        ensures { (depth : ℕ) → length (point_of self.old).left < depth → Parses (λ fuel. many fuel is_within (readers.part fuel (readers.block depth)) []) (point_of self.old) result (point_of self.new) }
+        ensures { ParsesBlocks (λ fuel blocks. many fuel is_within (readers.part fuel blocks) []) (point_of self.old) result (point_of self.new) }
     {
         let mut parts = Items::new(self.alloc);
         while self.is_within(Symbol::CloseBrace) {
@@ -53,7 +53,7 @@ impl Parser<'_> {
     /// A statement or a declaration.
     #[cycle(statement)]
     pub(crate) fn part(&mut self) -> Result<Part, Stop>
-        ensures answers { (depth : ℕ) → length (point_of self.old).left < depth → Parses (λ fuel. readers.part fuel (readers.block depth)) (point_of self.old) result (point_of self.new) }
+        ensures answers { ParsesBlocks readers.part (point_of self.old) result (point_of self.new) }
         ensures taken { OnOk result (length (point_of self.new).left < length (point_of self.old).left) }
     {
         let token = self.here();
@@ -65,7 +65,7 @@ impl Parser<'_> {
     /// What a part of a block is, by its first token.
     #[cycle(statement)]
     fn part_form(&mut self) -> Result<PartForm, Stop>
-        ensures answers { (depth : ℕ) → length (point_of self.old).left < depth → Parses (λ fuel. readers.part_form fuel (readers.block depth)) (point_of self.old) result (point_of self.new) }
+        ensures answers { ParsesBlocks readers.part_form (point_of self.old) result (point_of self.new) }
         ensures taken { OnOk result (length (point_of self.new).left < length (point_of self.old).left) }
     {
         if self.accept_word(Keyword::If) {
@@ -82,7 +82,7 @@ impl Parser<'_> {
     /// What follows an `if`.
     #[cycle(statement)]
     fn if_form(&mut self) -> Result<StmtForm, Stop>
-        ensures answers { (turns depth : ℕ) → length (point_of self.old).left < turns → length (point_of self.old).left < depth → Parses (λ fuel. readers.if_form fuel (readers.block depth) (readers.otherwise turns fuel (readers.block depth))) (point_of self.old) result (point_of self.new) }
+        ensures answers { ParsesChain (λ turns fuel blocks. readers.if_form fuel blocks (readers.otherwise turns fuel blocks)) (point_of self.old) result (point_of self.new) }
         ensures taken { OnOk result (length (point_of self.new).left < length (point_of self.old).left) }
     {
         let condition = self.whole()?;
@@ -98,7 +98,7 @@ impl Parser<'_> {
     /// What stands after the block of an `if`.
     #[cycle(statement)]
     fn otherwise(&mut self) -> Result<Otherwise, Stop>
-        ensures { (turns depth : ℕ) → length (point_of self.old).left < turns → length (point_of self.old).left < depth → Parses (λ fuel. readers.otherwise turns fuel (readers.block depth)) (point_of self.old) result (point_of self.new) }
+        ensures { ParsesChain readers.otherwise (point_of self.old) result (point_of self.new) }
     {
         if self.accept_word(Keyword::Else) {
             if self.is_symbol(Symbol::OpenBrace) {
@@ -113,7 +113,7 @@ impl Parser<'_> {
     /// An `if` after an `else`, which counts as an open bracket until its chain ends.
     #[cycle(statement)]
     fn chained(&mut self) -> Result<Stmt, Stop>
-        ensures answers { (turns depth : ℕ) → length (point_of self.old).left < turns → length (point_of self.old).left < depth → Parses (λ fuel. readers.chained (readers.if_form fuel (readers.block depth) (readers.otherwise turns fuel (readers.block depth)))) (point_of self.old) result (point_of self.new) }
+        ensures answers { ParsesChain (λ turns fuel blocks. readers.chained (readers.if_form fuel blocks (readers.otherwise turns fuel blocks))) (point_of self.old) result (point_of self.new) }
         ensures taken { OnOk result (length (point_of self.new).left < length (point_of self.old).left) }
     {
         let token = self.here();
@@ -127,7 +127,7 @@ impl Parser<'_> {
     /// What follows a `switch`.
     #[cycle(statement)]
     fn switch_form(&mut self) -> Result<StmtForm, Stop>
-        ensures answers { (depth : ℕ) → length (point_of self.old).left < depth → Parses (λ fuel. readers.switch_form fuel (readers.block depth)) (point_of self.old) result (point_of self.new) }
+        ensures answers { ParsesBlocks readers.switch_form (point_of self.old) result (point_of self.new) }
         ensures taken { OnOk result (length (point_of self.new).left < length (point_of self.old).left) }
     {
         let range = self.optional_span()?;
@@ -152,7 +152,7 @@ impl Parser<'_> {
     /// The arms of a switch, up to its closing brace.
     #[cycle(statement)]
     fn arms(&mut self) -> Result<Items<Arm>, Stop>
-        ensures { (depth : ℕ) → length (point_of self.old).left < depth → Parses (λ fuel. many fuel is_within (readers.arm fuel (readers.block depth)) []) (point_of self.old) result (point_of self.new) }
+        ensures { ParsesBlocks (λ fuel blocks. many fuel is_within (readers.arm fuel blocks) []) (point_of self.old) result (point_of self.new) }
     {
         let mut arms = Items::new(self.alloc);
         while self.is_within(Symbol::CloseBrace) {
@@ -163,7 +163,7 @@ impl Parser<'_> {
 
     #[cycle(statement)]
     fn arm(&mut self) -> Result<Arm, Stop>
-        ensures answers { (depth : ℕ) → length (point_of self.old).left < depth → Parses (λ fuel. readers.arm fuel (readers.block depth)) (point_of self.old) result (point_of self.new) }
+        ensures answers { ParsesBlocks readers.arm (point_of self.old) result (point_of self.new) }
         ensures taken { OnOk result (length (point_of self.new).left < length (point_of self.old).left) }
     {
         let token = self.here();
@@ -175,7 +175,7 @@ impl Parser<'_> {
     /// What follows a `span`.
     #[cycle(statement)]
     fn span_form(&mut self) -> Result<StmtForm, Stop>
-        ensures answers { (depth : ℕ) → length (point_of self.old).left < depth → Parses (λ fuel. readers.span_form fuel (readers.block depth)) (point_of self.old) result (point_of self.new) }
+        ensures answers { ParsesBlocks readers.span_form (point_of self.old) result (point_of self.new) }
         ensures taken { OnOk result (length (point_of self.new).left < length (point_of self.old).left) }
     {
         let key = self.whole_prim()?;

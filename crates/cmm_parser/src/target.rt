@@ -2,12 +2,8 @@
 //! first kind, the first word in memory or else what follows the `=` decides.
 
 ghost use Rattle.std.specs.Prelude.{◌≡◌, ◌≢◌, ◌-◌, ◌<◌, ◌≤◌, ◌∷◌, [], length, IfOk, MatchOption, OnOk};
-ghost use Rattle.cmm_ast.specs.Numbers.{symbol_number};
-ghost use Rattle.cmm_ast.specs.Taking.{is_symbol};
-ghost use Rattle.cmm_ast.specs.declared.keyword.Symbol.TheVariants.{OpenSquare};
-ghost use Rattle.cmm_ast.specs.declared.statement.Lvalue.TheVariants as lvalues;
-ghost use Rattle.cmm_readers.specs.Reading.{◌>>=◌ as followed_by, next, passes, if_next, give, listed, round};
-ghost use Rattle.cmm_readers.specs.ExpressionReading.{begins_expression, whole, whole_memory, named_type};
+ghost use Rattle.cmm_readers.specs.Reading.{next, passes, listed, round};
+ghost use Rattle.cmm_readers.specs.ExpressionReading.{begins_expression, whole};
 ghost use Rattle.cmm_readers.specs.PartReading as parts;
 ghost use Rattle.cmm_readers.specs.TargetReading as readers;
 ghost use Rattle.cmm_readers.specs.declared.told_apart.Targets.TheVariants.{Names};
@@ -116,7 +112,7 @@ impl Parser<'_> {
 
     /// What this name begins: a name alone, or a word in memory.
     fn lvalue_from(&mut self, name: Ident) -> Result<Lvalue, Stop>
-        ensures { Parses (λ fuel. if_next (is_symbol (symbol_number OpenSquare)) (followed_by (whole_memory fuel (named_type name)) (λ m. give (lvalues.Memory m))) (give (lvalues.Name name))) (point_of self.old) result (point_of self.new) }
+        ensures { Parses (λ fuel. parts.lvalue_from fuel name) (point_of self.old) result (point_of self.new) }
     {
         if self.is_symbol(Symbol::OpenSquare) {
             Ok(Lvalue::Memory(self.whole_memory(named_type(name))?))

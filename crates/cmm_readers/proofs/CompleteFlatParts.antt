@@ -35,13 +35,13 @@ use Rattle.cmm_ast.specs.Taking.{Reading, Takes, here as here_is, is_keyword, is
 use Rattle.cmm_ast.specs.ExpressionGrammar as grammar
 use Rattle.cmm_ast.specs.ExpressionGrammar.{width_word, aligned_by}
 use Rattle.cmm_ast.specs.StatementGrammar as bodies
-use Rattle.cmm_readers.specs.Reading.{Reads, ident, if_next, next, skip, ◌>>=◌}
+use Rattle.cmm_readers.specs.Reading.{Reads, if_next, next, skip, ◌>>=◌}
 use Rattle.cmm_readers.specs.ReadingLaws.{Complete}
-use Rattle.cmm_readers.specs.ExpressionReading.{named_type, type_name, whole_memory}
+use Rattle.cmm_readers.specs.ExpressionReading.{named_type, type_name}
 use Rattle.cmm_readers.specs.PartReading.{is_any_name, is_width}
 use Rattle.cmm_readers.specs.ProcedureReading.{stackdata, variables}
-use Rattle.cmm_readers.specs.StatementReading.{OfLocal, PartForm, flat_by, flat_part, is_within, memory_stmt, name_part, name_stmt, of_local, of_stmt, text_part, OfStmt, memory_token, word_stmt}
-use Rattle.cmm_readers.specs.TargetReading.{Results, assignment}
+use Rattle.cmm_readers.specs.StatementReading.{OfLocal, PartForm, flat_by, flat_part, is_within, memory_stmt, name_part, name_stmt, of_local, of_stmt, text_part, kind_part, kinded_part, width_part, OfStmt, memory_token, word_stmt}
+use Rattle.cmm_readers.specs.TargetReading.{Results}
 use Rattle.cmm_readers.proofs.Completes.{Anything, Next, at_complete, both, fails_complete, follow_complete, holds_complete, last_complete, skip_complete, token_taken, number_taken, never_complete}
 use Rattle.cmm_readers.proofs.Tokens.{ident_complete, only_keyword, text_complete}
 use Rattle.cmm_readers.proofs.Lists.{takes_assoc, takes_nothing, commas_to, rest_to}
@@ -116,22 +116,11 @@ module _ {fuel : ℕ} {p : Takes} {form : PartForm} where
 abbrev after_name : ℕ → Ident → Reads PartForm
 after_name fuel name = if_next is_any_name (of_local (variables fuel before.Nothing (named_type name))) (of_stmt (name_stmt fuel name))
 
--- a width, at its word
-abbrev after_width : ℕ → TypeName → Reads PartForm
-after_width fuel width =
-    if_next (is_symbol (symbol_number sign.OpenSquare)) (of_stmt (whole_memory fuel width >>= λ m. memory_stmt fuel m))
-    (of_local (variables fuel before.Nothing width))
-
--- what follows a text, and a name after it
-abbrev after_kind_name : ℕ → Text → Ident → Reads PartForm
-after_kind_name fuel kind name =
-    if_next is_any_name (of_local (variables fuel (before.Kind kind) (named_type name)))
-    (of_stmt (assignment fuel (Results (record { kind = Some kind; name = name } ∷ []))))
-
+-- what follows a text
 abbrev after_kind : ℕ → Text → Reads PartForm
 after_kind fuel kind =
     if_next (is_keyword (keyword_number word.Invariant)) (skip >>= λ _. type_name >>= λ width. of_local (variables fuel (before.KindInvariant kind) width))
-    (if_next is_width (type_name >>= λ width. of_local (variables fuel (before.Kind kind) width)) (ident >>= λ name. after_kind_name fuel kind name))
+    (kind_part fuel kind)
 
 -- a part that begins with a name, a width, or a kind, by what follows that
 module _ {fuel : ℕ} {p : Takes} {form : PartForm} {first : Option Lexeme → Type 0} where
@@ -139,22 +128,22 @@ module _ {fuel : ℕ} {p : Takes} {form : PartForm} {first : Option Lexeme → T
       Complete fuel (grammar.ident name ⨾ p) form (flat_part fuel) FlatStart Anything
   by_name name one = at_name name.name (then_complete (after_name fuel) (ident_complete name) (λ x f. tt) one)
 
-  by_width : (token_ : ℕ) (width : Width) → Complete fuel p form (after_width fuel (record { token = token_; form = Bits width })) first Anything →
+  by_width : (token_ : ℕ) (width : Width) → Complete fuel p form (width_part fuel (record { token = token_; form = Bits width })) first Anything →
       Complete fuel (grammar.type_name (record { token = token_; form = Bits width }) ⨾ p) form (flat_part fuel) FlatStart Anything
   by_width token_ width one =
       at_token (l.Word (keyword_number (width_word width))) refl (width_of_no_block width)
       (holds_complete is_width (λ x is. rw is (bits_begin width))
-      (then_complete (after_width fuel) (type_name_complete (record { token = token_; form = Bits width })) (λ x f. tt) one))
+      (then_complete (width_part fuel) (type_name_complete (record { token = token_; form = Bits width })) (λ x f. tt) one))
 
   by_kind : (kind : Text) → Complete fuel p form (after_kind fuel kind) first Anything →
       Complete fuel (grammar.text kind ⨾ p) form (flat_part fuel) FlatStart Anything
   by_kind kind one = at_text kind.bytes (then_complete (after_kind fuel) (text_complete kind) (λ x f. tt) one)
 
-  by_kind_name : (kind : Text) (name : Ident) → Complete fuel p form (after_kind_name fuel kind name) first Anything →
+  by_kind_name : (kind : Text) (name : Ident) → Complete fuel p form (kinded_part fuel kind name) first Anything →
       Complete fuel (grammar.ident name ⨾ p) form (after_kind fuel kind) (Next (l.Name name.name)) Anything
   by_kind_name kind name one =
       fails_complete (is_keyword (keyword_number word.Invariant)) (λ x is. rw is refl)
-      (fails_complete is_width (λ x is. rw is refl) (then_complete (after_kind_name fuel kind) (ident_complete name) (λ x f. tt) one))
+      (fails_complete is_width (λ x is. rw is refl) (then_complete (kinded_part fuel kind) (ident_complete name) (λ x f. tt) one))
 
 -- ---- variables and stackdata
 

@@ -26,10 +26,10 @@ use Rattle.cmm_ast.specs.Taking.{◌⨾◌, is_name, is_symbol, square as square
 use Rattle.cmm_ast.specs.ExpressionGrammar as grammar
 use Rattle.cmm_ast.specs.ExpressionGrammar.{width_word, aligned_by}
 use Rattle.cmm_ast.specs.StatementGrammar as statements
-use Rattle.cmm_readers.specs.Reading.{Reads, ◌>>=◌, give, look, if_next, round}
+use Rattle.cmm_readers.specs.Reading.{◌>>=◌, give, look}
 use Rattle.cmm_readers.specs.ReadingLaws.{Complete}
-use Rattle.cmm_readers.specs.ExpressionReading.{width_in, begins_expression, named_type, operand, whole, whole_memory, prim_by, whole_prim}
-use Rattle.cmm_readers.specs.PartReading.{is_any_text, is_any_name, is_width, begins_kinded, kinded, begins_actual, actual, arguments, lvalue, called, callee, exit, range_end, range}
+use Rattle.cmm_readers.specs.ExpressionReading.{width_in, begins_expression, named_type, operand, whole_memory, prim_by, whole_prim}
+use Rattle.cmm_readers.specs.PartReading.{is_any_text, is_any_name, is_width, begins_kinded, kinded, begins_actual, actual, arguments, lvalue, called, callee_form, callee, exit, range_end, range}
 use Rattle.cmm_readers.proofs.Completes.{Next, Anything, after_complete, give_complete, last_complete, follow_complete, less_complete, holds_complete, fails_complete, here_complete, outermost_complete, skip_complete, at_complete}
 use Rattle.cmm_readers.proofs.CompleteExpressions.{Begins, Ends, NoMore, spine, width_in_is, literal_complete, bracketed_complete, type_name_complete, in_brackets_complete, memory_complete, whole_complete, ends_after}
 use Rattle.cmm_readers.proofs.SoundExpressions.{opened, operand_is}
@@ -145,10 +145,6 @@ begins_callee x = is_symbol (symbol_number Open) x || begins_lvalue x
 
 ends_bracket : (x : Option Lexeme) → x ≡ Some (l.Symbol (symbol_number Close)) → Ends 0 x
 ends_bracket x e = rw e (record { no_more = refl; no_infix = λ op is. absurd cc })
-
-abbrev callee_form : ℕ → Reads CalleeForm
-callee_form fuel =
-    if_next (is_symbol (symbol_number Open)) (round (whole fuel) >>= λ e. give (callees.Bracketed e)) (lvalue fuel >>= λ v. give (called v))
 
 of_lvalue : (fuel : ℕ) (v : Lvalue) → Complete fuel (statements.lvalue v) (called v) (callee_form fuel) (Passes begins_callee) NoSquare
 of_lvalue fuel v =

@@ -21,10 +21,10 @@ use Rattle.cmm_ast.specs.Taking.{Reading, Takes, ◌⨾◌, token, taken_if, is_
 use Rattle.cmm_ast.specs.ExpressionGrammar as grammar
 use Rattle.cmm_ast.specs.ExpressionGrammar.{whole_memory as whole_memory_is, aligned_by}
 use Rattle.cmm_ast.specs.StatementGrammar as statements
-use Rattle.cmm_readers.specs.Reading.{is_comma, ◌>>=◌, give, if_next, round, square, outermost, may_list}
+use Rattle.cmm_readers.specs.Reading.{is_comma, round, square, outermost, may_list}
 use Rattle.cmm_readers.specs.ReadingLaws.{Sound}
-use Rattle.cmm_readers.specs.ExpressionReading.{named_type, located, operand, whole, whole_memory}
-use Rattle.cmm_readers.specs.PartReading.{is_any_text, is_any_name, kinded, actual, arguments, begins_actual, lvalue, called, callee, begins_flow, may_comma, names_to, also, flow_form, flow, annotations, exit, range_end, range}
+use Rattle.cmm_readers.specs.ExpressionReading.{named_type, located, operand, whole_memory}
+use Rattle.cmm_readers.specs.PartReading.{is_any_text, is_any_name, kinded, actual, arguments, begins_actual, lvalue, called, callee_form, callee, begins_flow, may_comma, names_to, also, flow_form, flow, annotations, exit, range_end, range}
 use Rattle.cmm_readers.proofs.Sounds.{Goes, whole_sound, after_sound, last_sound, last_goes, give_sound, at_sound, at_same, next_sound, skip_sound, skip_last_sound, one_taken, here_sound, outermost_sound}
 use Rattle.cmm_readers.proofs.SoundExpressions.{opened, operand_is, in_brackets_sound, type_name_sound, operand_sound, located_sound, whole_expr_sound, whole_prim_sound}
 use Rattle.cmm_readers.proofs.Lists.{takes_assoc, takes_nothing, may_comma_taken, may_list_sound, listed_sound, end_sound}
@@ -104,7 +104,7 @@ called_is (lvalues.Memory m) = refl
 
 pub callee_sound : (fuel : ℕ) → Sound (callee fuel) statements.callee
 callee_sound fuel = whole_sound (after_sound here_sound (λ token. last_sound _ form_sound (λ form. refl))) where
-  form_sound : Sound (if_next (is_symbol (symbol_number Open)) (round (whole fuel) >>= λ e. give (callees.Bracketed e)) (lvalue fuel >>= λ v. give (called v))) statements.callee_form
+  form_sound : Sound (callee_form fuel) statements.callee_form
   form_sound =
       whole_sound
       (next_sound (λ x passed. at_sound (last_sound (λ e. callees.Bracketed e) (in_brackets_sound Open Close (whole_expr_sound fuel)) (λ e. refl)))

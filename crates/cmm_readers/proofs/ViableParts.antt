@@ -13,9 +13,9 @@ use Rattle.cmm_ast.specs.Numbers.{symbol_number}
 use Rattle.cmm_ast.specs.Taking.{◌⨾◌, is_symbol, here as here_is, keyword as keyword_is, symbol as symbol_is, round as round_is, may_list as may_list_is, optional as optional_is, may_comma as may_comma_is}
 use Rattle.cmm_ast.specs.ExpressionGrammar as grammar
 use Rattle.cmm_ast.specs.StatementGrammar as statements
-use Rattle.cmm_readers.specs.Reading.{◌>>=◌, give, if_next, round, may_list}
-use Rattle.cmm_readers.specs.ExpressionReading.{named_type, whole}
-use Rattle.cmm_readers.specs.PartReading.{is_any_text, is_any_name, is_width, kinded, actual, arguments, begins_actual, lvalue, called, callee, begins_flow, names_to, also, flow_form, flow, annotations, exit, range_end, range}
+use Rattle.cmm_readers.specs.Reading.{round, may_list}
+use Rattle.cmm_readers.specs.ExpressionReading.{named_type}
+use Rattle.cmm_readers.specs.PartReading.{is_any_text, is_any_name, is_width, kinded, actual, arguments, begins_actual, lvalue, called, callee_form, callee, begins_flow, names_to, also, flow_form, flow, annotations, exit, range_end, range}
 use Rattle.cmm_readers.proofs.Lists.{takes_assoc, takes_nothing}
 use Rattle.cmm_readers.proofs.SoundParts.{flow_is, named_same, called_is}
 use Rattle.cmm_readers.proofs.Viables.{Leads, Extends, after_leads, whole_viable, give_leads, last_leads, made_leads, if_next_leads, viable_first}
@@ -83,8 +83,7 @@ module _ (fuel : ℕ) where
 
   pub callee_viable : Extends true true (callee fuel) statements.callee
   callee_viable = whole_viable (after_leads here_viable (λ token. last_leads _ form_viable (λ form. refl))) where
-    form_viable : Extends true true (if_next (is_symbol (symbol_number Open)) (round (whole fuel) >>= λ e. give (callees.Bracketed e)) (lvalue fuel >>= λ v. give (called v)))
-        statements.callee_form
+    form_viable : Extends true true (callee_form fuel) statements.callee_form
     form_viable =
         whole_viable
         (if_next_leads (is_symbol (symbol_number Open)) (last_leads (λ e. callees.Bracketed e) (round_viable (whole_expr_viable fuel)) (λ e. refl))

@@ -56,22 +56,29 @@ abbrev pub is_width : Lexeme → Bool
 is_width (l.Word n) = is_some (width_in n)
 is_width _ = false
 
+-- what a name begins: a word in memory, or that name alone
+abbrev pub lvalue_from : ℕ → Ident → Reads Lvalue
+lvalue_from fuel name =
+    if_next (is_symbol (symbol_number OpenSquare)) (whole_memory fuel (named_type name) >>= λ m. give (lvalues.Memory m))
+    (give (lvalues.Name name))
+
 -- a name, or a word in memory
 abbrev pub lvalue : ℕ → Reads Lvalue
 lvalue fuel =
     if_next is_width (type_name >>= λ width. whole_memory fuel width >>= λ m. give (lvalues.Memory m))
-    (ident >>= λ name.
-    if_next (is_symbol (symbol_number OpenSquare)) (whole_memory fuel (named_type name) >>= λ m. give (lvalues.Memory m)) (give (lvalues.Name name)))
+    (ident >>= λ name. lvalue_from fuel name)
 
 abbrev pub called : Lvalue → CalleeForm
 called (lvalues.Name name) = callees.Name name
 called (lvalues.Memory m) = callees.Memory m
 
-abbrev pub callee : ℕ → Reads Callee
-callee fuel =
-    here >>= λ token.
+-- what is called: an expression in round brackets, a name or a word in memory
+abbrev pub callee_form : ℕ → Reads CalleeForm
+callee_form fuel =
     if_next (is_symbol (symbol_number Open)) (round (whole fuel) >>= λ e. give (callees.Bracketed e)) (lvalue fuel >>= λ v. give (called v))
-    >>= λ form. give record { token = token; form = form }
+
+abbrev pub callee : ℕ → Reads Callee
+callee fuel = here >>= λ token. callee_form fuel >>= λ form. give record { token = token; form = form }
 
 -- ---- annotations
 

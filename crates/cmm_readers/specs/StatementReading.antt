@@ -5,11 +5,13 @@ use Rattle.std.specs.Prelude.{ℕ, zero, suc, Bool, true, false, [], ◌∷◌, 
 use Rattle.cmm_lexer.specs.declared.piece.Lexeme.{Lexeme}
 use Rattle.cmm_lexer.specs.declared.piece.Lexeme.TheVariants as l
 use Rattle.cmm_ast.specs.declared.token.Ident.{Ident}
+use Rattle.cmm_ast.specs.declared.token.Text.{Text}
 use Rattle.cmm_ast.specs.declared.keyword.Keyword.TheVariants.{Continuation, Cut, Default, Else, Foreign, Goto, If, Invariant, Jump, Return, Span, Stackdata, Switch, To}
 use Rattle.cmm_ast.specs.declared.keyword.Keyword.TheVariants as word
 use Rattle.cmm_ast.specs.declared.keyword.Symbol.TheVariants.{Open, OpenBrace, CloseBrace, OpenSquare, Colon, Less, Greater, Semicolon, Slash}
 use Rattle.cmm_ast.specs.declared.keyword.Symbol.TheVariants as sign
 use Rattle.cmm_ast.specs.declared.expression.Memory.{Memory, Memory'}
+use Rattle.cmm_ast.specs.declared.expression.TypeName.{TypeName}
 use Rattle.cmm_ast.specs.declared.procedure.LocalForm.{LocalForm}
 use Rattle.cmm_ast.specs.declared.procedure.Modifiers.TheVariants as before
 use Rattle.cmm_ast.specs.declared.statement.Arm.{Arm}
@@ -112,25 +114,41 @@ abbrev pub name_part : ℕ → Reads PartForm
 name_part fuel =
     ident >>= λ name. if_next is_any_name (of_local (variables fuel before.Nothing (named_type name))) (of_stmt (name_stmt fuel name))
 
+-- what follows a kind and a name, which is the type of variables or a result
+abbrev pub kinded_part : ℕ → Text → Ident → Reads PartForm
+kinded_part fuel kind name =
+    if_next is_any_name (of_local (variables fuel (before.Kind kind) (named_type name)))
+    (of_stmt (assignment fuel (Results (record { kind = Some kind; name = name } ∷ []))))
+
+-- what follows a kind that no `invariant` follows
+abbrev pub kind_part : ℕ → Text → Reads PartForm
+kind_part fuel kind =
+    if_next is_width (type_name >>= λ width. of_local (variables fuel (before.Kind kind) width))
+    (ident >>= λ name. kinded_part fuel kind name)
+
 -- a text is the kind of variables or of a result
 abbrev pub text_part : ℕ → Reads PartForm
 text_part fuel =
     text >>= λ kind.
-    if_next (is_keyword (keyword_number Invariant)) (skip >>= λ _. type_name >>= λ width. of_local (variables fuel (before.KindInvariant kind) width))
-    (if_next is_width (type_name >>= λ width. of_local (variables fuel (before.Kind kind) width))
-    (ident >>= λ name.
-    if_next is_any_name (of_local (variables fuel (before.Kind kind) (named_type name)))
-    (of_stmt (assignment fuel (Results (record { kind = Some kind; name = name } ∷ []))))))
+    if_next (is_keyword (keyword_number Invariant))
+    (skip >>= λ _. type_name >>= λ width. of_local (variables fuel (before.KindInvariant kind) width)) (kind_part fuel kind)
 
-abbrev pub word_part : ℕ → Reads PartForm
-word_part fuel =
-    if_next is_width
-    (type_name >>= λ width.
+-- what follows a type that is a word: a word in memory or variables
+abbrev pub width_part : ℕ → TypeName → Reads PartForm
+width_part fuel width =
     if_next (is_symbol (symbol_number OpenSquare)) (of_stmt (whole_memory fuel width >>= λ m. memory_stmt fuel m))
-    (of_local (variables fuel before.Nothing width)))
-    (if_next (is_keyword (keyword_number Invariant))
+    (of_local (variables fuel before.Nothing width))
+
+-- a part that begins with a reserved word that is no type
+abbrev pub other_part : ℕ → Reads PartForm
+other_part fuel =
+    if_next (is_keyword (keyword_number Invariant))
     (modifiers_of >>= λ modifiers. type_name >>= λ width. of_local (variables fuel modifiers width))
-    (if_next (is_keyword (keyword_number Stackdata)) (skip >>= λ _. of_local (stackdata fuel)) (of_stmt (word_stmt fuel))))
+    (if_next (is_keyword (keyword_number Stackdata)) (skip >>= λ _. of_local (stackdata fuel)) (of_stmt (word_stmt fuel)))
+
+-- a part that begins with a reserved word
+abbrev pub word_part : ℕ → Reads PartForm
+word_part fuel = if_next is_width (type_name >>= λ width. width_part fuel width) (other_part fuel)
 
 abbrev pub flat_by : ℕ → Option Lexeme → Reads PartForm
 flat_by fuel (Some (l.Name bytes)) = name_part fuel
