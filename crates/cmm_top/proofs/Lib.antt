@@ -9,6 +9,5 @@ pub mod Adding
 pub mod CodeEnds
 pub mod StepsLeft
 pub mod UnitCode
-pub mod Pieced
 pub mod Answering
 pub mod FormRows

@@ -6,10 +6,11 @@ ghost use Rattle.cmm_outside.specs.Faults.{Rose};
 ghost use Rattle.cmm_outside.specs.Output.{Appends, AppendsFront};
 ghost use Rattle.cmm_outside.specs.declared.storage.TheConstants.{NAME_LIMIT};
 ghost use Rattle.cmm_top.specs.Ending.{IsCaused, Closes, line_of, status_of as status_of_ending};
-ghost use Rattle.cmm_top.specs.Lines.{refused_line, rule_text as rule_text_of};
+ghost use Rattle.cmm_top.specs.Lines.{refused_line};
 ghost use Rattle.cmm_top.specs.Parts.{part_text};
 
 use crate::first::{Fault, FirstFault, compile_first};
+use crate::rule::{UNIT_TOO_LONG, rule_text};
 use crate::run::run;
 use crate::status::Status;
 use cmm_lexer::UNIT_LIMIT;
@@ -19,7 +20,7 @@ use std::alloc::{AllocError, Global};
 
 /// The fault of a unit that is longer than any may be.
 const TOO_LONG: Fault = Fault {
-    rule: 5,
+    rule: UNIT_TOO_LONG,
     line: 1,
     column: 1,
 };
@@ -131,23 +132,6 @@ fn write_fault<E: Sink>(fault: Fault, name: &str, log: &mut E) -> Result<(), Fai
             Part::Text(b"\n"),
         ],
     )
-}
-
-/// What a rule says, shortly.
-fn rule_text(rule: u8) -> &'static str
-    ensures { result.now ≡ rule_text_of rule }
-{
-    match rule {
-        1 => "bad byte",
-        2 => "open comment",
-        3 => "open text",
-        4 => "bad number",
-        5 => "unit too long",
-        10 => "syntax",
-        11 => "too deep",
-        90 => "form not built",
-        _ => "",
-    }
 }
 
 /// A part of a line.

@@ -15,6 +15,7 @@ ghost use Rattle.cmm_top.specs.Terms.{form_terms};
 
 use crate::code::code_of;
 use crate::form::returned;
+use crate::rule::FORM_NOT_BUILT;
 use crate::term::{Term, terms_in};
 use cmm_ast::Unit;
 use cmm_lexer::{LexFault, Tokens, lex};
@@ -35,7 +36,7 @@ pub struct Fault {
 
 /// The fault of a unit that breaks no other rule and still is not of the first form.
 const NOT_BUILT: Fault = Fault {
-    rule: 90,
+    rule: FORM_NOT_BUILT,
     line: 1,
     column: 1,
 };

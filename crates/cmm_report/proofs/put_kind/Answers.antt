@@ -1,5 +1,5 @@
 use Rattle.cmm_report.specs.Texts.{kind_byte}
-use Rattle.cmm_report.proofs.Pieced.{AppendsFront-pieces, OnErr-always}
+use Rattle.cmm_outside.proofs.Pieces.{AppendsFront-pieces, OnErr-always}
 use Rattle.cmm_report.proofs.put_kind.Goals as goal
 
 pub returns-in_err-put_kind_byte-clause-err : goal.returns-in_err-put_kind_byte-clause-err

@@ -1,17 +1,12 @@
 -- Writing pieces, one of which is written in part.
 use Rattle.std.proofs.Common.{◌≡◌, ℕ, suc, ◌+◌, ◌<◌, List, ◌∷◌, ◌++◌, length, take, drop, get_or, Option, Some, None, Result, Ok, Err, ap, sym, ◌∙◌, subst, arith, length-append, append_assoc}
-use Rattle.std.proofs.Math.Seq.{take-append-add}
+use Rattle.std.proofs.Math.Seq.{take-append-add, drop-cons}
 use Rattle.std.proofs.lemmas.List.{take-append-le, take-append-drop}
 use Rattle.std.proofs.lemmas.Grind.{flat_map-append}
 use Rattle.std.specs.List.{flat_map}
 use Rattle.std.specs.Result.{OnErr}
-use Rattle.std.proofs.Math.Seq.{drop-cons}
 use Rattle.cmm_outside.specs.Output.{Appends, AppendsFront}
-
--- what is written before a front of the next piece
-Appends-then : (before mid after : Option (List ℕ)) (first second : List ℕ) → Appends before mid first → Appends mid after second → Appends before after (first ++ second)
-Appends-then None mid after first second a b = tt
-Appends-then (Some taken) mid after first second a b = (rw a at b) ∙ ap Some (append_assoc taken first second)
+use Rattle.cmm_outside.proofs.Appending.{Appends-append}
 
 -- the pieces from one on
 flat_map-from : {X : Type 0} (f : X → List ℕ) (xs : List X) (i : ℕ) (d : X) → i < length xs → flat_map f xs ≡ flat_map f (take i xs) ++ (f (get_or xs i d) ++ flat_map f (drop (i + 1) xs))
@@ -32,7 +27,7 @@ AppendsFront-pieces f xs i d before mid after h a (n, within, b) =
     ap (take (length done + n)) all ∙ (take-append-add done (piece ++ rest) n ∙ ap (λ (ys : List ℕ). done ++ ys) (take-append-le n piece rest within)) in (
       length done + n,
       omega (arith, ap length all, length-append done (piece ++ rest), length-append piece rest),
-      subst (λ (bs : List ℕ). Appends before after bs) (sym front) (Appends-then before mid after done (take n piece) a b),
+      subst (λ (bs : List ℕ). Appends before after bs) (sym front) (Appends-append before mid after done (take n piece) a b),
     )
 
 -- what holds in any case holds on an error
