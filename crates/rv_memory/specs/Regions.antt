@@ -1,6 +1,7 @@
 -- What a memory holds, region by region, and how it reads as the byte at each address.
 use Rattle.std.specs.Prelude.{ℕ, ◌+◌, ◌-◌, ◌%◌, ◌≤◌, ◌==◌, ◌&&◌, nat_le, Bool, true, false, List, length, replicate, slice_index, Option, Some, None}
-use Rattle.rv_table.specs.Memory.{MemoryMap, data_base, region_base, stack_base}
+use Rattle.rv_table.specs.declared.memory_map.TheConstants.{BELOW_STACK, CODE_LENGTH_LIMIT, DATA_LENGTH_LIMIT, STACK_SIZE_LIMIT}
+use Rattle.rv_table.specs.Memory.{MemoryMap, data_base, region_base}
 
 -- the bytes of each region, from its base on
 pub record Regions : Type 0 where
@@ -9,20 +10,16 @@ pub record Regions : Type 0 where
   -- the argument area, the global registers and the stack
   pub region_bytes : List ℕ
 
--- how many bytes of the region lie below the stack
-abbrev pub below_stack : ℕ
-below_stack = stack_base - region_base
-
 -- no region reaches the next one
 pub record Fits (r : Regions) : Type 0 where
-  pub code : length r.code_bytes ≤ 0x3fff0000
-  pub initial : length r.data_bytes ≤ 67_108_864
-  pub region : below_stack ≤ length r.region_bytes
-  pub stack : length r.region_bytes ≤ below_stack + 268_435_456
+  pub code : length r.code_bytes ≤ CODE_LENGTH_LIMIT
+  pub initial : length r.data_bytes ≤ DATA_LENGTH_LIMIT
+  pub region : BELOW_STACK ≤ length r.region_bytes
+  pub stack : length r.region_bytes ≤ BELOW_STACK + STACK_SIZE_LIMIT
 
 -- what stays as it is in a run
 abbrev pub map_of : Regions → MemoryMap
-map_of r = record { code = r.code_bytes; data_length = length r.data_bytes; stack_size = length r.region_bytes - below_stack }
+map_of r = record { code = r.code_bytes; data_length = length r.data_bytes; stack_size = length r.region_bytes - BELOW_STACK }
 
 -- the byte at an address of data or region, and 0 elsewhere
 abbrev pub memory_of : Regions → ℕ → ℕ
@@ -38,7 +35,7 @@ abbrev pub started : List ℕ → List ℕ → ℕ → Regions
 started code initial stack = record {
   code_bytes = code;
   data_bytes = initial;
-  region_bytes = replicate (below_stack + stack) 0;
+  region_bytes = replicate (BELOW_STACK + stack) 0;
 }
 
 -- an access is aligned, and lies wholly in a region of this base and length

@@ -8,6 +8,7 @@ use Rattle.rv_table.specs.declared.instruction.Instr.{Instr}
 use Rattle.rv_table.specs.Row.{row}
 use Rattle.rv_table.specs.declared.effects.Effect.TheVariants.{Load, Store}
 use Rattle.rv_table.specs.declared.registers.Regs.{Regs}
+use Rattle.rv_table.specs.declared.trap.TrapKind.{TrapKind}
 use Rattle.rv_table.specs.Machine.{MemoryMap, State, Traps, instruction_step, done, extended, goes_to, is_accessible, loaded, stored, with_set}
 use Rattle.rv_table.specs.Registers.{with_register}
 use Rattle.rv_sim.specs.Stepping.{found_step, state_of, state_with, state_after}
@@ -25,7 +26,7 @@ jumped s x rd link target aligned written =
     rw (goes_to, a, written) refl
 
 -- what was done was not refused
-pub not_refused : {T : Type 0} (test : Bool) (result : Result T ℕ) (u : T) (kind : ℕ) → result ≡ Ok u → (IsFalse test → result ≡ Err kind) → IsTrue test
+pub not_refused : {T : Type 0} (test : Bool) (result : Result T TrapKind) (u : T) (kind : TrapKind) → result ≡ Ok u → (IsFalse test → result ≡ Err kind) → IsTrue test
 not_refused true result u kind was refused = refl
 not_refused false result u kind was refused =
     let e : result ≡ Err kind = refused refl in
@@ -42,7 +43,7 @@ store_done m n r q address size value h wrote on =
 -- a load that wasn't refused gives what stood there
 pub load_done : (m : Regions) (r q : Regs) (rd address size value gives : ℕ) (signed : Bool) →
     IsTrue (is_accessible (map_of m) address size) →
-    ◌≡◌ {A = Result ℕ ℕ} (Ok value) (Ok (loaded (memory_of m) address size)) → gives ≡ extended signed size value →
+    ◌≡◌ {A = Result ℕ TrapKind} (Ok value) (Ok (loaded (memory_of m) address size)) → gives ≡ extended signed size value →
     state_of q m ≡ with_set (state_of r m) rd gives →
     state_of q m ≡ state_after (state_of r m) (done (map_of m) (state_of r m) (Load rd address size signed))
 load_done m r q rd address size value gives signed h read extends on =
@@ -50,11 +51,11 @@ load_done m r q rd address size value gives signed h read extends on =
     rw (done, h) (on ∙ ap (λ (n : ℕ). with_set (state_of r m) rd n) (extends ∙ ap (λ (n : ℕ). extended signed size n) same))
 
 -- the step where no instruction was found
-pub step-missing : (m : MemoryMap) (s : State) (found : Result Instr ℕ) (kind : ℕ) → instruction_step m s ≡ found_step m s found →
+pub step-missing : (m : MemoryMap) (s : State) (found : Result Instr TrapKind) (kind : TrapKind) → instruction_step m s ≡ found_step m s found →
     found ≡ Err kind → instruction_step m s ≡ Traps kind
 step-missing m s found kind step was = step ∙ ap (found_step m s) was
 
 -- the step where one was found, by its effect
-pub step-found : (m : MemoryMap) (s : State) (found : Result Instr ℕ) (i : Instr) (effect : Effect) →
+pub step-found : (m : MemoryMap) (s : State) (found : Result Instr TrapKind) (i : Instr) (effect : Effect) →
     instruction_step m s ≡ found_step m s found → found ≡ Ok i → effect ≡ row s.registers s.pc i → instruction_step m s ≡ done m s effect
 step-found m s found i effect step was effects = step ∙ ap (found_step m s) was ∙ ap (done m s) (sym effects)

@@ -2,11 +2,12 @@
 use Rattle.std.specs.Prelude.{ℕ, Result, Ok, Err}
 use Rattle.rv_memory.specs.Regions.{Regions, map_of, memory_of}
 use Rattle.rv_sim.specs.declared.event.Event.{Event}
-use Rattle.rv_sim.specs.declared.event.Event.TheVariants.{Next, PutByte, GetByte, Yield, StackLimit, End, Trap}
+use Rattle.rv_sim.specs.declared.event.Event.TheVariants.{Next, Asks, Trap}
 use Rattle.rv_table.specs.declared.instruction.Instr.{Instr}
 use Rattle.rv_table.specs.declared.registers.Regs.{Regs}
+use Rattle.rv_table.specs.declared.trap.TrapKind.{TrapKind}
 use Rattle.rv_table.specs.Machine as machine
-use Rattle.rv_table.specs.Machine.{MemoryMap, State, Request, Outcome, done, instruction_step}
+use Rattle.rv_table.specs.Machine.{MemoryMap, State, Outcome, done, instruction_step}
 use Rattle.rv_table.specs.Registers.{registers_of}
 use Rattle.rv_table.specs.Row.{row}
 
@@ -21,28 +22,20 @@ state_of r m = state_with r (memory_of m)
 abbrev pub outcome_of : Regs → Regions → Outcome
 outcome_of r m = instruction_step (map_of m) (state_of r m)
 
--- the event of a request
-abbrev pub asked : Request → Event
-asked (machine.PutByte byte) = PutByte byte
-asked machine.GetByte = GetByte
-asked machine.Yield = Yield
-asked machine.StackLimit = StackLimit
-asked (machine.End value) = End value
-
 -- the event, or the kind of the trap
-abbrev pub answer_of : Outcome → Result Event ℕ
+abbrev pub answer_of : Outcome → Result Event TrapKind
 answer_of (machine.Next _) = Ok Next
-answer_of (machine.Asks request) = Ok (asked request)
+answer_of (machine.Asks request) = Ok (Asks request)
 answer_of (machine.Traps kind) = Err kind
 
 -- the event of what came of the instruction at pc
 abbrev pub event_of : ℕ → Outcome → Event
 event_of pc (machine.Next _) = Next
-event_of pc (machine.Asks request) = asked request
+event_of pc (machine.Asks request) = Asks request
 event_of pc (machine.Traps kind) = Trap (record { kind = kind; pc = pc })
 
 -- what comes of an instruction that was looked for, or of the trap in its place
-abbrev pub found_step : MemoryMap → State → Result Instr ℕ → Outcome
+abbrev pub found_step : MemoryMap → State → Result Instr TrapKind → Outcome
 found_step m s (Ok i) = done m s (row s.registers s.pc i)
 found_step m s (Err kind) = machine.Traps kind
 

@@ -1,5 +1,5 @@
 //! What a step ends in.
-use rv_table::Trap;
+use rv_table::{Request, Trap};
 
 /// What one instruction ends in. After every event but `Next`, registers, pc and memory are as they were before the instruction:
 /// whoever answers a request moves pc on by 4.
@@ -7,16 +7,8 @@ use rv_table::Trap;
 pub enum Event {
     /// The instruction is done, and pc is the address of the one that comes next.
     Next,
-    /// An ECALL asks to write this byte.
-    PutByte(u8),
-    /// An ECALL asks for a byte in register 10.
-    GetByte,
-    /// An ECALL yields.
-    Yield,
-    /// An ECALL says that the stack would pass its limit.
-    StackLimit,
-    /// An ECALL ends the run with this result.
-    End(u64),
+    /// An ECALL asks for this.
+    Asks(Request),
     /// The instruction trapped.
     Trap(Trap),
 }

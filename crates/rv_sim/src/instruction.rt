@@ -1,30 +1,17 @@
 //! One step: an instruction is fetched, decoded and done.
 ghost use Rattle.std.specs.Prelude.{◌≡◌, ◌≢◌, ◌<◌, ◌+◌, ◌^◌, ℕ, Ok, IfOk, IsTrue};
-ghost use Rattle.std.specs.Option.{option_map};
 ghost use Rattle.rv_memory.specs.Regions.{map_of};
 ghost use Rattle.rv_sim.specs.declared.event.Event.TheVariants.{Next};
-ghost use Rattle.rv_sim.specs.Stepping.{state_of, state_with, found_step, outcome_of, answer_of, asked, event_of, state_after};
+ghost use Rattle.rv_sim.specs.Stepping.{state_of, state_with, found_step, outcome_of, answer_of, event_of, state_after};
 ghost use Rattle.rv_table.specs.Bounds.{HasASize, WritesARegister, is_size};
-ghost use Rattle.rv_table.specs.Machine.{State, done, extended, goes_to, instruction_step, request_of, with_set};
+ghost use Rattle.rv_table.specs.Machine.{State, done, extended, goes_to, instruction_step, with_set};
 ghost use Rattle.rv_table.specs.Registers.{registers_of};
 ghost use Rattle.rv_table.specs.Table.{IsValid};
 
 use crate::event::Event;
 use rv_code::decode;
 use rv_memory::Memory;
-use rv_table::{Effect, Instr, Regs, Trap, effect_of};
-
-/// The kind of the trap at a word that is no instruction.
-const NO_INSTRUCTION: u8 = 1;
-
-/// The kind of the trap at a jump or a taken branch to an address that is no multiple of 4.
-const BAD_TARGET: u8 = 2;
-
-/// The kind of the trap at EBREAK.
-const BREAKPOINT: u8 = 5;
-
-/// The kind of the trap at an ECALL whose number means nothing.
-const NO_REQUEST: u8 = 6;
+use rv_table::{Effect, Instr, Regs, Request, Trap, TrapKind, effect_of};
 
 /// Does the instruction at pc, and says what it ends in.
 pub fn step(r: &mut Regs, m: &mut Memory) -> Event
@@ -41,7 +28,7 @@ pub fn step(r: &mut Regs, m: &mut Memory) -> Event
 }
 
 /// Does the instruction at pc. The error is the trap's kind.
-fn attempt(r: &mut Regs, m: &mut Memory) -> Result<Event, u8>
+fn attempt(r: &mut Regs, m: &mut Memory) -> Result<Event, TrapKind>
     ensures answer { result ≡ answer_of (outcome_of r.old m.old) }
     ensures state { state_of r.new m.new ≡ state_after (state_of r.old m.old) (outcome_of r.old m.old) }
     ensures map { map_of m.new ≡ map_of m.old }
@@ -54,17 +41,17 @@ fn attempt(r: &mut Regs, m: &mut Memory) -> Result<Event, u8>
 }
 
 /// The instruction at an address. The error is the trap's kind.
-fn instruction_at(pc: u64, m: &Memory) -> Result<Instr, u8>
+fn instruction_at(pc: u64, m: &Memory) -> Result<Instr, TrapKind>
     ensures found { (s : State) → s.pc ≡ pc → instruction_step (map_of m.now) s ≡ found_step (map_of m.now) s result }
     ensures valid { IfOk result IsValid }
     ensures room { IfOk result (λ _. pc + 4 < 2 ^ 64) }
 {
     let word = m.fetch(pc)?;
-    decode(word).ok_or(NO_INSTRUCTION)
+    decode(word).ok_or(TrapKind::NoInstruction)
 }
 
 /// Does an effect. The error is the trap's kind.
-fn perform(effect: Effect, r: &mut Regs, m: &mut Memory) -> Result<Event, u8>
+fn perform(effect: Effect, r: &mut Regs, m: &mut Memory) -> Result<Event, TrapKind>
     requires register { WritesARegister effect }
     requires size { HasASize effect }
     requires room { r.old.pc + 4 < 2 ^ 64 }
@@ -101,8 +88,11 @@ fn perform(effect: Effect, r: &mut Regs, m: &mut Memory) -> Result<Event, u8>
             m.store(address, size, value)?;
             Ok(set(r, 0, 0))
         }
-        Effect::Ask => request(r).ok_or(NO_REQUEST),
-        Effect::Break => Err(BREAKPOINT),
+        Effect::Ask => {
+            let request = Request::asked_by(r).ok_or(TrapKind::NoRequest)?;
+            Ok(Event::Asks(request))
+        }
+        Effect::Break => Err(TrapKind::Breakpoint),
     }
 }
 
@@ -119,7 +109,7 @@ fn set(r: &mut Regs, rd: u8, value: u64) -> Event
 }
 
 /// Gives the register a value, and goes to the target. The error is the kind of the trap at a target that is no multiple of 4.
-fn jump(r: &mut Regs, rd: u8, link: u64, target: u64) -> Result<Event, u8>
+fn jump(r: &mut Regs, rd: u8, link: u64, target: u64) -> Result<Event, TrapKind>
     requires { rd < 32 }
     ensures answer { (memory : ℕ → ℕ) → result ≡ answer_of (goes_to (state_with r.old memory) rd link target) }
     ensures state { (memory : ℕ → ℕ) →
@@ -127,25 +117,11 @@ fn jump(r: &mut Regs, rd: u8, link: u64, target: u64) -> Result<Event, u8>
     ensures kept { result ≢ Ok Next → r.new ≡ r.old }
 {
     if target % 4 != 0 {
-        return Err(BAD_TARGET);
+        return Err(TrapKind::BadTarget);
     }
     r.write(rd, link);
     r.pc = target;
     Ok(Event::Next)
-}
-
-/// What an ECALL asks for, by register 5; none where its number means nothing.
-fn request(r: &Regs) -> Option<Event>
-    ensures { result ≡ option_map asked (request_of (registers_of r.now)) }
-{
-    match r.read(5) {
-        1 => Some(Event::PutByte((r.read(10) % 256) as u8)),
-        2 => Some(Event::GetByte),
-        3 => Some(Event::Yield),
-        4 => Some(Event::StackLimit),
-        5 => Some(Event::End(r.read(10))),
-        _ => None,
-    }
 }
 
 /// What a load of `size` bytes gives: the number that stands there, sign-extended or zero-extended to 64 bits.

@@ -3,7 +3,7 @@ ghost use Rattle.std.specs.Prelude.{◌≡◌, ◌<◌};
 
 use super::{Event, step};
 use rv_memory::Memory;
-use rv_table::{Regs, Trap};
+use rv_table::{Regs, Request, Trap, TrapKind};
 use std::test::Fail;
 
 mod program;
@@ -20,21 +20,21 @@ fn each_event_and_trap(rt: HostRuntime) -> Result<(), Fail> {
     let steps: [(u32, u64, Event, u64); 17] = [
         (0x0010_0513, 0, Event::Next, pc + 4), // addi x10, x0, 1
         (0x0000_006f, 0, Event::Next, pc), // jal x0, .
-        (0x0000_0073, 1, Event::PutByte(0x2a), pc), // ecall
-        (0x0000_0073, 2, Event::GetByte, pc),
-        (0x0000_0073, 3, Event::Yield, pc),
-        (0x0000_0073, 4, Event::StackLimit, pc),
-        (0x0000_0073, 5, Event::End(0x12a), pc),
-        (0x0000_000f, 0, trap(1), pc), // fence
-        (0x0020_006f, 0, trap(2), pc), // jal x0, .+2
-        (0x0000_0163, 0, trap(2), pc), // beq x0, x0, .+2
+        (0x0000_0073, 1, Event::Asks(Request::PutByte(0x2a)), pc), // ecall
+        (0x0000_0073, 2, Event::Asks(Request::GetByte), pc),
+        (0x0000_0073, 3, Event::Asks(Request::Yield), pc),
+        (0x0000_0073, 4, Event::Asks(Request::StackLimit), pc),
+        (0x0000_0073, 5, Event::Asks(Request::End(0x12a)), pc),
+        (0x0000_000f, 0, trap(TrapKind::NoInstruction), pc), // fence
+        (0x0020_006f, 0, trap(TrapKind::BadTarget), pc), // jal x0, .+2
+        (0x0000_0163, 0, trap(TrapKind::BadTarget), pc), // beq x0, x0, .+2
         (0x0000_1163, 0, Event::Next, pc + 4), // bne x0, x0, .+2
-        (0x0000_0083, 0, trap(3), pc), // lb x1, 0(x0)
-        (0x0010_3083, 0, trap(3), pc), // ld x1, 1(x0)
-        (0x0000_0023, 0, trap(4), pc), // sb x0, 0(x0)
-        (0x0010_0073, 0, trap(5), pc), // ebreak
-        (0x0000_0073, 0, trap(6), pc),
-        (0x0000_0073, 0x1_0000_0005, trap(6), pc),
+        (0x0000_0083, 0, trap(TrapKind::BadLoad), pc), // lb x1, 0(x0)
+        (0x0010_3083, 0, trap(TrapKind::BadLoad), pc), // ld x1, 1(x0)
+        (0x0000_0023, 0, trap(TrapKind::BadStore), pc), // sb x0, 0(x0)
+        (0x0010_0073, 0, trap(TrapKind::Breakpoint), pc), // ebreak
+        (0x0000_0073, 0, trap(TrapKind::NoRequest), pc),
+        (0x0000_0073, 0x1_0000_0005, trap(TrapKind::NoRequest), pc),
     ];
     for &(word, number, event, after) in &steps {
         let mut m = Memory::new(rt.alloc(), &word.to_le_bytes(), &[], 0)?;
@@ -94,7 +94,13 @@ fn a_fetch_outside_the_code_traps(rt: HostRuntime) -> Result<(), Fail> {
     let mut m = Memory::new(rt.alloc(), &[0x13, 0, 0, 0], &[], 0)?;
     for pc in [0x1_0004u64, 0x1_0002, 0xfffc, 0x4000_0000, 0] {
         let mut r = Regs { x: [0; 32], pc };
-        assert_eq!(rt; step(&mut r, &mut m), Event::Trap(Trap { kind: 2, pc }));
+        assert_eq!(rt;
+            step(&mut r, &mut m),
+            Event::Trap(Trap {
+                kind: TrapKind::BadTarget,
+                pc,
+            })
+        );
     }
     Ok(())
 }
@@ -113,7 +119,7 @@ fn a_program_leaves_what_it_does_in_the_emulator(rt: HostRuntime) -> Result<(), 
             break;
         }
     }
-    assert_eq!(rt; event, Event::End(1));
+    assert_eq!(rt; event, Event::Asks(Request::End(1)));
     let mut address = 0x4000_0000u64;
     for &byte in &AFTER {
         assert_eq!(rt; m.load(address, 1), Ok(byte as u64), "{address:#x}");

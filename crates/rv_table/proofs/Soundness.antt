@@ -7,9 +7,11 @@ use Rattle.std.proofs.Math.Pow.{pow_pos, pow_mono}
 use Rattle.rv_table.specs.declared.effects.Effect.{Effect}
 use Rattle.rv_table.specs.declared.effects.Effect.TheVariants.{Set, Jump, Branch, Load, Store, Ask, Break}
 use Rattle.rv_table.specs.declared.instruction.Instr.{Instr}
+use Rattle.rv_table.specs.declared.request.Request.{Request}
+use Rattle.rv_table.specs.declared.trap.TrapKind.TheVariants.{NoRequest}
 use Rattle.rv_table.specs.Bounds.{ValuesFit, HasASize, IsSound, is_size}
 use Rattle.rv_table.specs.Decoding.{instr_of}
-use Rattle.rv_table.specs.Machine.{MemoryMap, State, Outcome, Next, Asks, Traps, Request, and_then, extended, fetched, instruction_step, fetched_step, decoded_step, done, goes_to, with_set, steps, start, request_of, no_request, is_accessible, loaded, stored, stack_base, region_base}
+use Rattle.rv_table.specs.Machine.{MemoryMap, State, Outcome, Next, Asks, Traps, and_then, extended, fetched, instruction_step, fetched_step, decoded_step, done, goes_to, with_set, steps, start, request_of, is_accessible, loaded, stored, stack_base, region_base}
 use Rattle.rv_table.specs.Row.{row}
 use Rattle.rv_table.proofs.Immediates.{modulo-lt}
 use Rattle.rv_table.proofs.MemoryFacts.{loaded-lt}
@@ -26,7 +28,7 @@ either_soundly : (b : Bool) (o p : Outcome) → LeadsSoundly o → LeadsSoundly 
 either_soundly true o p h k = h
 either_soundly false o p h k = k
 
-request_soundly : (o : Option Request) → LeadsSoundly (elim o [ Some r ↦ Asks r | None ↦ Traps no_request ])
+request_soundly : (o : Option Request) → LeadsSoundly (elim o [ Some r ↦ Asks r | None ↦ Traps NoRequest ])
 request_soundly None = tt
 request_soundly (Some r) = tt
 

@@ -4,8 +4,10 @@ use Rattle.std.specs.Prelude.{List, [], ◌∷◌, Some, None}
 use Rattle.std.specs.Int.{w32, to_le_bytes}
 use Rattle.rv_table.specs.declared.instruction.Instr.{Instr}
 use Rattle.rv_table.specs.declared.instruction.Instr.TheVariants.{Addi, Jalr, Sd, Beq, Mul, Jal, Lui, Bne, Add, Ecall, Ld}
+use Rattle.rv_table.specs.declared.request.Request.TheVariants.{End}
+use Rattle.rv_table.specs.declared.memory_map.TheConstants.{CODE_LENGTH_LIMIT, DATA_LENGTH_LIMIT, GLOBALS_OFFSET, STACK_SIZE_LIMIT}
 use Rattle.rv_table.specs.Decoding.{instr_of}
-use Rattle.rv_table.specs.Machine.{MemoryMap, Outcome, Asks, End, steps, start, instruction_step}
+use Rattle.rv_table.specs.Machine.{MemoryMap, Outcome, Asks, code_base, data_base, region_base, stack_base, steps, start, instruction_step}
 use Rattle.rv_table.specs.Stands.{code_of}
 use Rattle.rv_table.specs.Table.{word_of}
 
@@ -37,6 +39,19 @@ zeros = refl
 
 fence : instr_of 0x0000000f ≡ None
 fence = refl
+
+-- ---- where everything lies
+code : (code_base ≡ 0x10000) × (CODE_LENGTH_LIMIT ≡ 0x3fff0000)
+code = (refl, refl)
+
+static_data : (data_base ≡ 0x40000000) × (DATA_LENGTH_LIMIT ≡ 67_108_864)
+static_data = (refl, refl)
+
+region : (region_base ≡ 0x60000000) × (GLOBALS_OFFSET ≡ 448)
+region = (refl, refl)
+
+stack : (stack_base ≡ 0x60001000) × (STACK_SIZE_LIMIT ≡ 268_435_456)
+stack = (refl, refl)
 
 -- ---- a run: the sum of 100 down to 1 by a loop, left on the stack, loaded back and given as the result
 summing : List Instr

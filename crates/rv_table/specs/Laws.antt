@@ -4,9 +4,11 @@ use Rattle.std.specs.List.{All}
 use Rattle.std.specs.Option.{option_and_then}
 use Rattle.rv_table.specs.declared.effects.Effect.TheVariants.{Set}
 use Rattle.rv_table.specs.declared.instruction.Instr.{Instr}
+use Rattle.rv_table.specs.declared.request.Request.{Request}
+use Rattle.rv_table.specs.declared.trap.TrapKind.{TrapKind}
 use Rattle.rv_table.specs.Bounds.{ValuesFit, HasASize, WritesARegister, IsSound}
 use Rattle.rv_table.specs.Decoding.{instr_of}
-use Rattle.rv_table.specs.Machine.{MemoryMap, State, Next, Asks, Traps, Request, code_base, stack_base, loaded, stored, with_set, done, instruction_step, steps, start}
+use Rattle.rv_table.specs.Machine.{MemoryMap, State, Next, Asks, Traps, code_base, stack_base, loaded, stored, with_set, done, instruction_step, steps, start}
 use Rattle.rv_table.specs.Registers.{with_register}
 use Rattle.rv_table.specs.Row.{row}
 use Rattle.rv_table.specs.Stands.{standing, Stands, code_of}
@@ -84,8 +86,7 @@ pub record StoresAreRead : Type 0 where
   pub above : (memory : ℕ → ℕ) (address size value from count : ℕ) → address + size ≤ from →
       loaded (stored memory address size value) from count ≡ loaded memory from count
 
--- a request or a trap ends a run in the state that it found, and a trap has one of six kinds
+-- a request or a trap ends a run in the state that it found
 pub record StopsEndRuns : Type 0 where
   pub request : (m : MemoryMap) (s : State) (r : Request) (n : ℕ) → instruction_step m s ≡ Asks r → steps m (suc n) s ≡ None
-  pub trap : (m : MemoryMap) (s : State) (kind n : ℕ) → instruction_step m s ≡ Traps kind → steps m (suc n) s ≡ None
-  pub kinds : (m : MemoryMap) (s : State) (kind : ℕ) → instruction_step m s ≡ Traps kind → (1 ≤ kind) × (kind ≤ 6)
+  pub trap : (m : MemoryMap) (s : State) (kind : TrapKind) (n : ℕ) → instruction_step m s ≡ Traps kind → steps m (suc n) s ≡ None

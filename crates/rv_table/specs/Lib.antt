@@ -5,8 +5,10 @@ pub mod Laws
 pub mod Machine
 pub mod Memory
 pub mod Registers
+pub mod Requests
 pub mod Row
 pub mod Stands
 pub mod Straight
 pub mod Table
+pub mod Traps
 pub mod Words

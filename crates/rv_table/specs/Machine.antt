@@ -1,11 +1,15 @@
 -- A machine that runs instructions: registers, pc and memory by regions, and what one instruction does to them.
-use Rattle.std.specs.Prelude.{ℕ, zero, suc, ◌+◌, ◌*◌, ◌%◌, ◌==◌, Bool, true, false, List, [], ◌∷◌, Option, Some, None}
+use Rattle.std.specs.Prelude.{ℕ, zero, suc, ◌+◌, ◌*◌, ◌%◌, ◌==◌, Bool, true, false, Option, Some, None}
 use Rattle.rv_table.specs.declared.effects.Effect.{Effect}
 use Rattle.rv_table.specs.declared.effects.Effect.TheVariants.{Set, Jump, Branch, Load, Store, Ask, Break}
 use Rattle.rv_table.specs.declared.instruction.Instr.{Instr}
+use Rattle.rv_table.specs.declared.request.Request.{Request}
+use Rattle.rv_table.specs.declared.trap.TrapKind.{TrapKind}
+use Rattle.rv_table.specs.declared.trap.TrapKind.TheVariants.{NoInstruction, BadTarget, BadLoad, BadStore, Breakpoint, NoRequest}
 use Rattle.rv_table.specs.Decoding.{instr_of}
 pub use Rattle.rv_table.specs.Memory.{MemoryMap, code_base, data_base, region_base, stack_base, is_fetchable, fetched, is_accessible, loaded, stored}
 use Rattle.rv_table.specs.Registers.{with_register}
+pub use Rattle.rv_table.specs.Requests.{request_of}
 use Rattle.rv_table.specs.Row.{row}
 use Rattle.rv_table.specs.Words.{sign_extended}
 
@@ -15,53 +19,11 @@ pub record State : Type 0 where
   -- the byte at each address of data and region
   pub memory : ℕ → ℕ
 
--- what an ECALL asks for, by register 5
-pub data Request : Type 0 where
-  PutByte : ℕ → Request
-  GetByte : Request
-  Yield : Request
-  StackLimit : Request
-  End : ℕ → Request
-
--- the request that stands at a number
-abbrev pub numbered : ℕ → List (ℕ × Request) → Option Request
-numbered n [] = None
-numbered n ((k, r) ∷ rest) = elim (n == k) [ true ↦ Some r | false ↦ numbered n rest ]
-
-abbrev pub request_of : (ℕ → ℕ) → Option Request
-request_of x =
-    numbered (x 5) (
-    (1, PutByte (x 10 % 256))
-    ∷ (2, GetByte)
-    ∷ (3, Yield)
-    ∷ (4, StackLimit)
-    ∷ (5, End (x 10))
-    ∷ [])
-
 -- what comes of one instruction: the next state; a request, which is answered above, or a trap, which both leave the state as it was
 pub data Outcome : Type 0 where
   Next : State → Outcome
   Asks : Request → Outcome
-  Traps : ℕ → Outcome
-
--- the kinds of trap
-abbrev pub no_instruction : ℕ
-no_instruction = 1
-
-abbrev pub bad_target : ℕ
-bad_target = 2
-
-abbrev pub bad_load : ℕ
-bad_load = 3
-
-abbrev pub bad_store : ℕ
-bad_store = 4
-
-abbrev pub breakpoint : ℕ
-breakpoint = 5
-
-abbrev pub no_request : ℕ
-no_request = 6
+  Traps : TrapKind → Outcome
 
 -- the state once a register has its value and control goes on
 abbrev pub with_set : State → ℕ → ℕ → State
@@ -73,7 +35,7 @@ abbrev pub goes_to : State → ℕ → ℕ → ℕ → Outcome
 goes_to s rd link target =
     elim (target % 4 == 0) [
       | true ↦ Next (record { registers = with_register s.registers rd link; pc = target; memory = s.memory })
-      | false ↦ Traps bad_target
+      | false ↦ Traps BadTarget
     ]
 
 -- what is read, sign-extended or zero-extended
@@ -88,7 +50,7 @@ done m s (Branch taken target) = elim taken [ true ↦ goes_to s 0 0 target | fa
 done m s (Load rd address size signed) =
     elim (is_accessible m address size) [
       | true ↦ Next (with_set s rd (extended signed size (loaded s.memory address size)))
-      | false ↦ Traps bad_load
+      | false ↦ Traps BadLoad
     ]
 done m s (Store address size value) =
     elim (is_accessible m address size) [
@@ -97,18 +59,18 @@ done m s (Store address size value) =
         pc = s.pc + 4;
         memory = stored s.memory address size value;
       })
-      | false ↦ Traps bad_store
+      | false ↦ Traps BadStore
     ]
-done m s Ask = elim (request_of s.registers) [ Some r ↦ Asks r | None ↦ Traps no_request ]
-done m s Break = Traps breakpoint
+done m s Ask = elim (request_of s.registers) [ Some r ↦ Asks r | None ↦ Traps NoRequest ]
+done m s Break = Traps Breakpoint
 
 -- one instruction: its word is fetched, it is decoded, and its row's effect is done
 abbrev pub decoded_step : MemoryMap → State → Option Instr → Outcome
-decoded_step m s None = Traps no_instruction
+decoded_step m s None = Traps NoInstruction
 decoded_step m s (Some i) = done m s (row s.registers s.pc i)
 
 abbrev pub fetched_step : MemoryMap → State → Option ℕ → Outcome
-fetched_step m s None = Traps bad_target
+fetched_step m s None = Traps BadTarget
 fetched_step m s (Some word) = decoded_step m s (instr_of word)
 
 abbrev pub instruction_step : MemoryMap → State → Outcome

@@ -1,6 +1,7 @@
 -- Memory by regions: the code, which is only fetched, the data, and the region of argument area, global registers and stack.
 use Rattle.std.specs.Prelude.{ℕ, zero, suc, ◌+◌, ◌-◌, ◌*◌, ◌/◌, ◌%◌, ◌^◌, ◌==◌, nat_lt, nat_le, Bool, true, false, ◌&&◌, ◌||◌, List, length, take, drop, Option, Some, None}
 use Rattle.std.specs.Int.{w32, from_le_bytes}
+use Rattle.rv_table.specs.declared.memory_map.TheConstants.{CODE_BASE, DATA_BASE, REGION_BASE, STACK_BASE}
 
 -- what stays as it is in a run: the bytes of the code, and the lengths of the data and of the stack
 pub record MemoryMap : Type 0 where
@@ -9,17 +10,17 @@ pub record MemoryMap : Type 0 where
   pub stack_size : ℕ
 
 abbrev pub code_base : ℕ
-code_base = 0x10000
+code_base = CODE_BASE
 
 abbrev pub data_base : ℕ
-data_base = 0x40000000
+data_base = DATA_BASE
 
--- the argument area and the global registers, 4,096 bytes below the stack
+-- the argument area and the global registers, below the stack
 abbrev pub region_base : ℕ
-region_base = 0x60000000
+region_base = REGION_BASE
 
 abbrev pub stack_base : ℕ
-stack_base = 0x60001000
+stack_base = STACK_BASE
 
 -- an address is aligned, and a word from there on lies in the code
 abbrev pub is_fetchable : List ℕ → ℕ → Bool

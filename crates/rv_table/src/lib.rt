@@ -6,7 +6,9 @@
 //!
 //! - `instruction`: `Instr`, one variant a row, and `valid`, the test that its operands fit their fields.
 //! - `word_fields`: the six fields that every word is cut into.
-//! - `registers`: the registers and pc, and a trap.
+//! - `registers`: the registers and pc.
+//! - `memory_map`: where code, data, argument area, global registers and stack lie.
+//! - `request` and `trap`: what an ECALL asks for, and why a run stops.
 //! - `effects`: what a row asks for, and `effect_of`.
 //! - `arithmetic`: the operations on words that the rows need.
 //! - `laws`: what is proved of the definitions.
@@ -16,10 +18,15 @@ mod arithmetic;
 mod effects;
 mod instruction;
 pub mod laws;
+pub mod memory_map;
 mod registers;
+mod request;
+mod trap;
 mod word_fields;
 
 pub use effects::{Effect, effect_of};
 pub use instruction::{Instr, valid};
-pub use registers::{Regs, Trap};
+pub use registers::Regs;
+pub use request::Request;
+pub use trap::{Trap, TrapKind};
 pub use word_fields::Fields;

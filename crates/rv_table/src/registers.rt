@@ -1,4 +1,4 @@
-//! The registers, pc, and the trap that stops a run.
+//! The registers and pc.
 ghost use Rattle.std.specs.Prelude.{◌≡◌, ◌<◌};
 
 /// The 32 registers and the program counter.
@@ -33,15 +33,4 @@ impl Regs {
     {
         self.x[register as usize] = value;
     }
-}
-
-/// Why a run stopped at an instruction, and that instruction's address.
-#[derive(Clone, Copy, Debug, PartialEq, Eq)]
-pub struct Trap {
-    /// 1: a word that is no instruction. 2: a jump or taken branch to an address that is no multiple of 4, or a fetch outside the
-    /// code. 3 and 4: a load and a store outside data and region, or not aligned to its size. 5: EBREAK. 6: an ECALL whose number
-    /// means nothing.
-    pub kind: u8,
-    /// The address of the instruction that trapped.
-    pub pc: u64,
 }

@@ -1,8 +1,9 @@
 use Rattle.std.proofs.Common.{◌≡◌, refl, sym, ◌∙◌}
 use Rattle.rv_table.specs.declared.effects.Effect.TheVariants.{Branch}
+use Rattle.rv_table.specs.declared.trap.TrapKind.TheVariants.{BadLoad, BadStore}
 use Rattle.rv_sim.specs.Stepping.{state_of}
 use Rattle.rv_memory.specs.Regions.{map_of, memory_of}
-use Rattle.rv_table.specs.Machine.{Next, bad_load, bad_store, done, is_accessible, with_set}
+use Rattle.rv_table.specs.Machine.{Next, done, is_accessible, with_set}
 use Rattle.rv_sim.proofs.States.{load_done, not_refused, store_done}
 use Rattle.rv_sim.proofs.instruction.perform.Goals as goal
 
@@ -12,7 +13,7 @@ returns-in_ok-store-in-Store-clause-state c =
     let address = c.in-Store.address in
     let size = c.in-Store.size in
     let value = c.in-Store.value in
-    let accessible = not_refused (is_accessible (map_of m) address size) c.store.result c.in_ok-store-in-Store.field-0 bad_store c.in_ok-store-in-Store.was c.store.ensures.refused in
+    let accessible = not_refused (is_accessible (map_of m) address size) c.store.result c.in_ok-store-in-Store.field-0 BadStore c.in_ok-store-in-Store.was c.store.ensures.refused in
     rw c.in-Store.is (store_done m c.store.new.self c.args.r.now c.set-in-Store.new.r address size value accessible (c.store.ensures.memory accessible)
     (c.set-in-Store.ensures.state (memory_of c.store.new.self)))
 
@@ -24,7 +25,7 @@ returns-in_ok-value-in-Load-clause-state c =
     let m = c.args.m.now in
     let address = c.in-Load.address in
     let size = c.in-Load.size in
-    let accessible = not_refused (is_accessible (map_of m) address size) c.load.result c.in_ok-value-in-Load.value bad_load c.in_ok-value-in-Load.was c.load.ensures.refused in
+    let accessible = not_refused (is_accessible (map_of m) address size) c.load.result c.in_ok-value-in-Load.value BadLoad c.in_ok-value-in-Load.was c.load.ensures.refused in
     rw c.in-Load.is (load_done m c.args.r.now c.set-in-Load.new.r c.in-Load.rd address size c.in_ok-value-in-Load.value c.extended.result c.in-Load.signed accessible
     (sym c.in_ok-value-in-Load.was ∙ c.load.ensures.value accessible) c.extended.ensures (c.set-in-Load.ensures.state (memory_of m)))
 

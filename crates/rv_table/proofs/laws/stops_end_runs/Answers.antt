@@ -1,5 +1,5 @@
-use Rattle.rv_table.proofs.Stops.{steps_none_if_asks, steps_none_if_traps, trap_kinds}
+use Rattle.rv_table.proofs.Stops.{steps_none_if_asks, steps_none_if_traps}
 use Rattle.rv_table.proofs.laws.stops_end_runs.Goals as goal
 
 pub returns : goal.returns
-returns c = record { request = steps_none_if_asks; trap = steps_none_if_traps; kinds = trap_kinds }
+returns c = record { request = steps_none_if_asks; trap = steps_none_if_traps }

@@ -1,0 +1,17 @@
+-- What an ECALL asks for: the number that register 5 has, and the value that register 10 has.
+use Rattle.std.specs.Prelude.{ℕ, ◌%◌, ◌==◌, [], ◌∷◌, find, Option}
+use Rattle.rv_table.specs.declared.request.Request.{Request}
+use Rattle.rv_table.specs.declared.request.Request.TheVariants.{PutByte, GetByte, Yield, StackLimit, End}
+
+abbrev pub request_number : Request → ℕ
+request_number (PutByte _) = 1
+request_number GetByte = 2
+request_number Yield = 3
+request_number StackLimit = 4
+request_number (End _) = 5
+
+-- the request of the number in register 5, if it has one
+abbrev pub request_of : (ℕ → ℕ) → Option Request
+request_of x =
+    find (λ r. request_number r == x 5)
+    (PutByte (x 10 % 256) ∷ GetByte ∷ Yield ∷ StackLimit ∷ End (x 10) ∷ [])
