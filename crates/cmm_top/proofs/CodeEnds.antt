@@ -18,6 +18,7 @@ use Rattle.rv_table.specs.Stands.{standing, Stands, code_of}
 use Rattle.rv_table.specs.Straight.{on_set, straight}
 use Rattle.std.specs.Int.{w32, to_le_bytes}
 use Rattle.rv_table.specs.Table.{IsValid, word_of}
+use Rattle.rv_table.proofs.Shared.{length-code_of}
 use Rattle.cmm_top.specs.declared.term.Term.{Term}
 use Rattle.cmm_top.specs.Code.{Leads, Emits, EndsWith, total}
 use Rattle.cmm_top.specs.Run.{Ends, EndsWithin}
@@ -70,8 +71,10 @@ record Placed (code : List ℕ) (is : List Instr) : Type 0 where
 
 placed : CodeStands → (is : List Instr) → All IsValid is → Placed (code_of (is ++ Ecall ∷ [])) is
 placed stands is valid = record {
-  sum = subst (λ (code : List ℕ). Stands code code_base is) (sym (code_of-append is (Ecall ∷ []))) (stands [] is (code_of (Ecall ∷ [])) valid);
-  end = subst (λ (code : List ℕ). standing code (code_base + 4 * length is) ≡ Some Ecall) (sym (code_of-append is (Ecall ∷ []))) (stands is (Ecall ∷ []) [] all_valid_ecall).0;
+  sum = subst (λ (code : List ℕ). Stands code code_base is) (sym (code_of-append is (Ecall ∷ []))) (stands [] is (code_of (Ecall ∷ [])) refl valid);
+  end = subst (λ (code : List ℕ). standing code (code_base + 4 * length is) ≡ Some Ecall) (sym (code_of-append is (Ecall ∷ [])))
+      (subst (λ (n : ℕ). standing (code_of is ++ code_of (Ecall ∷ [])) (code_base + n) ≡ Some Ecall) (length-code_of is)
+      (stands (code_of is) (Ecall ∷ []) [] (rw (length-code_of is) (omega arith)) all_valid_ecall).0);
 }
 
 -- from a state at the code's start the sum is added, and then the end is asked for

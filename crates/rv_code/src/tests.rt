@@ -1,6 +1,6 @@
 //! Encoding, decoding and effects against a stock assembler and emulator.
-use super::{decode, encode};
-use rv_table::{Effect, Regs, effect_of, valid};
+use super::{bytes_of, decode, encode};
+use rv_table::{Effect, Instr, Regs, effect_of, valid};
 use std::test::Fail;
 
 mod results;
@@ -24,6 +24,29 @@ fn words_are_the_assemblers(rt: HostRuntime) {
         assert_eq!(rt; encode(i), word, "{i:?}");
         assert_eq!(rt; decode(word), Some(i));
     }
+}
+
+#[test]
+fn bytes_are_the_assemblers(rt: HostRuntime) -> Result<(), Fail> {
+    let code = [
+        Instr::Addi {
+            rd: 5,
+            rs1: 0,
+            imm: 3,
+        },
+        Instr::Sd {
+            rs1: 2,
+            rs2: 1,
+            imm: 8,
+        },
+    ];
+    let bytes = bytes_of(rt.alloc(), &code)?;
+    assert_eq!(rt;
+        &bytes[..],
+        &[0x93, 0x02, 0x30, 0x00, 0x23, 0x34, 0x11, 0x00][..]
+    );
+    assert_eq!(rt; bytes_of(rt.alloc(), &[])?.len(), 0);
+    Ok(())
 }
 
 #[test]

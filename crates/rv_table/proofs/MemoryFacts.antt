@@ -1,5 +1,5 @@
 -- Loads after stores.
-use Rattle.std.proofs.Common.{◌≡◌, ℕ, zero, suc, ◌+◌, ◌-◌, ◌*◌, ◌/◌, ◌%◌, ◌<◌, ◌≤◌, ◌^◌, refl, sym, arith, add-zero}
+use Rattle.std.proofs.Common.{◌≡◌, ℕ, zero, suc, ◌+◌, ◌-◌, ◌*◌, ◌/◌, ◌%◌, ◌<◌, ◌≤◌, ◌^◌, ◌⊎◌, inl, inr, refl, sym, arith, add-zero}
 use Rattle.std.proofs.Math.Nat.{div-one, div-div-eq-div-mul}
 use Rattle.std.specs.Prelude.{nat_lt, nat_le, true, false}
 use Rattle.std.proofs.lemmas.Bool.Decides.{nat_tests}
@@ -7,9 +7,9 @@ use Rattle.std.proofs.lemmas.Nat.{pow-add, mod-pow-add}
 use Rattle.rv_table.specs.Memory.{loaded, stored}
 
 -- a byte within what was stored, and one outside of it
-stored-within : (memory : ℕ → ℕ) (address size value at : ℕ) → address ≤ at → at < address + size →
+pub stored-inside : (memory : ℕ → ℕ) (address size value at : ℕ) → address ≤ at → at < address + size →
     stored memory address size value at ≡ value / 2 ^ (8 * (at - address)) % 256
-stored-within memory address size value at low high =
+stored-inside memory address size value at low high =
     let a : nat_le address at ≡ true = grind (arith, nat_tests) in
     let b : nat_lt at (address + size) ≡ true = grind (arith, nat_tests) in
     rw (stored, a, b)
@@ -25,6 +25,11 @@ stored-above memory address size value at h =
     let a : nat_le address at ≡ true = grind (arith, nat_tests) in
     let b : nat_lt at (address + size) ≡ false = grind (arith, nat_tests) in
     rw (stored, a, b)
+
+pub stored-outside : (memory : ℕ → ℕ) (address size value at : ℕ) → (at < address) ⊎ (address + size ≤ at) →
+    stored memory address size value at ≡ memory at
+stored-outside memory address size value at (inl below) = stored-below memory address size value at below
+stored-outside memory address size value at (inr above) = stored-above memory address size value at above
 
 -- what ends where the store begins, or below
 pub loaded-below : (memory : ℕ → ℕ) (address size value from count : ℕ) → from + count ≤ address →
@@ -63,7 +68,7 @@ pub loaded-within : (memory : ℕ → ℕ) (address size value offset count : �
 loaded-within memory address size value offset zero h = omega arith
 loaded-within memory address size value offset (suc count) h =
     let here : stored memory address size value (address + offset) ≡ value / 2 ^ (8 * (address + offset - address)) % 256 =
-    stored-within memory address size value (address + offset) (omega arith) (omega arith)
+    stored-inside memory address size value (address + offset) (omega arith) (omega arith)
     in
     let at : address + offset - address ≡ offset = omega arith in
     let on : address + offset + 1 ≡ address + (offset + 1) = omega arith in

@@ -1,14 +1,14 @@
 -- What holds of the table and the machine, at every instruction, code and state.
-use Rattle.std.specs.Prelude.{◌≡◌, ◌≢◌, ℕ, suc, ◌+◌, ◌*◌, ◌/◌, ◌%◌, ◌<◌, ◌≤◌, ◌^◌, ◌↔◌, List, ◌++◌, length, Some, None}
+use Rattle.std.specs.Prelude.{◌≡◌, ◌≢◌, ◌⊎◌, ℕ, suc, ◌+◌, ◌-◌, ◌*◌, ◌/◌, ◌%◌, ◌<◌, ◌≤◌, ◌^◌, ◌↔◌, Bool, true, false, IsTrue, List, ◌++◌, length, Some, None}
 use Rattle.std.specs.List.{All}
 use Rattle.std.specs.Option.{option_and_then}
-use Rattle.rv_table.specs.declared.effects.Effect.TheVariants.{Set}
+use Rattle.rv_table.specs.declared.effects.Effect.TheVariants.{Set, Jump, Branch, Load, Store, Ask}
 use Rattle.rv_table.specs.declared.instruction.Instr.{Instr}
 use Rattle.rv_table.specs.declared.request.Request.{Request}
 use Rattle.rv_table.specs.declared.trap.TrapKind.{TrapKind}
 use Rattle.rv_table.specs.Bounds.{ValuesFit, HasASize, WritesARegister, IsSound}
 use Rattle.rv_table.specs.Decoding.{instr_of}
-use Rattle.rv_table.specs.Machine.{MemoryMap, State, Next, Asks, Traps, code_base, stack_base, loaded, stored, with_set, done, instruction_step, steps, start}
+use Rattle.rv_table.specs.Machine.{MemoryMap, State, Next, Asks, Traps, code_base, stack_base, is_accessible, loaded, stored, extended, with_set, with_jump, with_store, request_of, done, instruction_step, steps, start}
 use Rattle.rv_table.specs.Registers.{with_register}
 use Rattle.rv_table.specs.Row.{row}
 use Rattle.rv_table.specs.Stands.{standing, Stands, code_of}
@@ -24,11 +24,16 @@ DecodingIsExact =
 abbrev pub WordsFit : Type 0
 WordsFit = (i : Instr) → IsValid i → word_of i < 2 ^ 32
 
--- valid instructions stand one after another from the place of their code on, whatever is before and after it
+-- valid instructions stand one after another from the place of their code on, whatever whole words are before it and whatever
+-- bytes are after it
 abbrev pub CodeStands : Type 0
 CodeStands =
-    (before is : List Instr) (after : List ℕ) → All IsValid is →
-    Stands (code_of before ++ (code_of is ++ after)) (code_base + 4 * length before) is
+    (front : List ℕ) (is : List Instr) (back : List ℕ) → length front % 4 ≡ 0 → All IsValid is →
+    Stands (front ++ (code_of is ++ back)) (code_base + length front) is
+
+-- each instruction has four bytes
+abbrev pub CodeHasLength : Type 0
+CodeHasLength = (is : List Instr) → length (code_of is) ≡ 4 * length is
 
 -- so many steps and then so many more are one run
 abbrev pub StepsJoin : Type 0
@@ -59,6 +64,19 @@ SetsAreDone =
     (m : MemoryMap) (s : State) (i : Instr) (rd value : ℕ) → standing m.code s.pc ≡ Some i →
     row s.registers s.pc i ≡ Set rd value → instruction_step m s ≡ Next (with_set s rd value)
 
+-- what comes of each effect that doesn't trap
+pub record EffectsAreDone (m : MemoryMap) (s : State) : Type 0 where
+  pub set : (rd value : ℕ) → done m s (Set rd value) ≡ Next (with_set s rd value)
+  pub jump : (rd link target : ℕ) → target % 4 ≡ 0 → done m s (Jump rd link target) ≡ Next (with_jump s rd link target)
+  -- a branch that is taken, and one that isn't
+  pub taken : (target : ℕ) → target % 4 ≡ 0 → done m s (Branch true target) ≡ Next (record s { pc = target })
+  pub passed : (target : ℕ) → done m s (Branch false target) ≡ Next (record s { pc = s.pc + 4 })
+  pub load : (rd address size : ℕ) (signed : Bool) → IsTrue (is_accessible m address size) →
+      done m s (Load rd address size signed) ≡ Next (with_set s rd (extended signed size (loaded s.memory address size)))
+  pub store : (address size value : ℕ) → IsTrue (is_accessible m address size) →
+      done m s (Store address size value) ≡ Next (with_store s address size value)
+  pub ask : (r : Request) → request_of s.registers ≡ Some r → done m s Ask ≡ Asks r
+
 -- the values and addresses of every row have 64 bits where the registers do, its accesses have one of four sizes, and a valid
 -- instruction writes a register
 pub record RowsAreBounded : Type 0 where
@@ -72,7 +90,7 @@ pub record RunsAreSound : Type 0 where
       ((address : ℕ) → memory address < 2 ^ 8) → IsSound (start m memory)
   pub stay : (m : MemoryMap) (n : ℕ) (s t : State) → IsSound s → steps m n s ≡ Some t → IsSound t
 
--- what is loaded after a store
+-- what is read after a store
 pub record StoresAreRead : Type 0 where
   -- at the same address and of the same size
   pub same : (memory : ℕ → ℕ) (address size value : ℕ) →
@@ -85,6 +103,11 @@ pub record StoresAreRead : Type 0 where
       loaded (stored memory address size value) from count ≡ loaded memory from count
   pub above : (memory : ℕ → ℕ) (address size value from count : ℕ) → address + size ≤ from →
       loaded (stored memory address size value) from count ≡ loaded memory from count
+  -- a byte of what was stored, and one outside of it
+  pub inside : (memory : ℕ → ℕ) (address size value at : ℕ) → address ≤ at → at < address + size →
+      stored memory address size value at ≡ value / 2 ^ (8 * (at - address)) % 256
+  pub outside : (memory : ℕ → ℕ) (address size value at : ℕ) → (at < address) ⊎ (address + size ≤ at) →
+      stored memory address size value at ≡ memory at
 
 -- a request or a trap ends a run in the state that it found
 pub record StopsEndRuns : Type 0 where

@@ -30,13 +30,20 @@ abbrev pub with_set : State → ℕ → ℕ → State
 with_set s rd value =
     record { registers = with_register s.registers rd value; pc = s.pc + 4; memory = s.memory }
 
+-- the state once a register has the link and control is at the target
+abbrev pub with_jump : State → ℕ → ℕ → ℕ → State
+with_jump s rd link target =
+    record { registers = with_register s.registers rd link; pc = target; memory = s.memory }
+
+-- the state once the low bytes of a number are written and control goes on
+abbrev pub with_store : State → ℕ → ℕ → ℕ → State
+with_store s address size value =
+    record { registers = s.registers; pc = s.pc + 4; memory = stored s.memory address size value }
+
 -- the register gets the link, and control goes to the target if it is aligned
 abbrev pub goes_to : State → ℕ → ℕ → ℕ → Outcome
 goes_to s rd link target =
-    elim (target % 4 == 0) [
-      | true ↦ Next (record { registers = with_register s.registers rd link; pc = target; memory = s.memory })
-      | false ↦ Traps BadTarget
-    ]
+    elim (target % 4 == 0) [ true ↦ Next (with_jump s rd link target) | false ↦ Traps BadTarget ]
 
 -- what is read, sign-extended or zero-extended
 abbrev pub extended : Bool → ℕ → ℕ → ℕ
@@ -53,14 +60,7 @@ done m s (Load rd address size signed) =
       | false ↦ Traps BadLoad
     ]
 done m s (Store address size value) =
-    elim (is_accessible m address size) [
-      | true ↦ Next (record {
-        registers = s.registers;
-        pc = s.pc + 4;
-        memory = stored s.memory address size value;
-      })
-      | false ↦ Traps BadStore
-    ]
+    elim (is_accessible m address size) [ true ↦ Next (with_store s address size value) | false ↦ Traps BadStore ]
 done m s Ask = elim (request_of s.registers) [ Some r ↦ Asks r | None ↦ Traps NoRequest ]
 done m s Break = Traps Breakpoint
 

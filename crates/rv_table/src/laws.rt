@@ -1,5 +1,6 @@
 //! What is proved of the table and the machine: laws about definitions, each the contract of a function that does nothing.
-ghost use Rattle.rv_table.specs.Laws.{DecodingIsExact, WordsFit, CodeStands, RegistersAreKept, RowsAreBounded, RowsAreDone, RunsAreSound, SetsAreDone, StepsJoin, StopsEndRuns, StoresAreRead, StraightPiecesRun};
+ghost use Rattle.rv_table.specs.Laws.{DecodingIsExact, WordsFit, CodeHasLength, CodeStands, EffectsAreDone, RegistersAreKept, RowsAreBounded, RowsAreDone, RunsAreSound, SetsAreDone, StepsJoin, StopsEndRuns, StoresAreRead, StraightPiecesRun};
+ghost use Rattle.rv_table.specs.Machine.{MemoryMap, State};
 
 /// Decoding gives an instruction exactly for its word, and encoding gives words of 32 bits.
 pub fn words_and_instructions()
@@ -7,9 +8,10 @@ pub fn words_and_instructions()
     ensures fit { WordsFit }
 {}
 
-/// The code of a list of instructions has each of them at its place.
+/// The code of a list of instructions has each of them at its place, whatever bytes are around it.
 pub fn code_stands()
-    ensures { CodeStands }
+    ensures stands { CodeStands }
+    ensures length { CodeHasLength }
 {}
 
 /// Writing a register changes that one alone.
@@ -17,10 +19,11 @@ pub fn registers_are_kept()
     ensures { RegistersAreKept }
 {}
 
-/// What stands at pc is done, runs join, and a straight piece is run as its rows say.
+/// What stands at pc is done, each effect comes to its next state, runs join, and a straight piece is run as its rows say.
 pub fn runs()
     ensures done { RowsAreDone }
     ensures set { SetsAreDone }
+    ensures effects { (m : MemoryMap) (s : State) → EffectsAreDone m s }
     ensures join { StepsJoin }
     ensures straight { StraightPiecesRun }
 {}
@@ -31,7 +34,7 @@ pub fn numbers_stay_in_range()
     ensures runs { RunsAreSound }
 {}
 
-/// A load gives what a store left there.
+/// A load gives what a store left there, and every byte outside of a store is as it was.
 pub fn stores_are_read()
     ensures { StoresAreRead }
 {}

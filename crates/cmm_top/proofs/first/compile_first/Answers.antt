@@ -15,7 +15,7 @@ bytes_of-requires c =
 pub returns-clause-ok : goal.returns-clause-ok
 returns-clause-ok c tree value is_tree value_is =
     let read : Some c.in-Some.terms.items ≡ form_terms c.in_ok-tree.tree = rw c.in-Some.is at c.in_ok-terms.ensures in
-    unit_code_ends c.code_stands.ensures c.runs.ensures.straight c.in_ok-code.code.items c.in_ok-code.ensures.ends.0 c.in_ok-bytes_of.field-0.items c.deref.result.now c.args.unit.now
+    unit_code_ends c.code_stands.ensures.stands c.runs.ensures.straight c.in_ok-code.code.items c.in_ok-code.ensures.ends.0 c.in_ok-bytes_of.field-0.items c.deref.result.now c.args.unit.now
     c.in_ok-tree.tree tree value c.in_ok-tree.ensures.ok (ap Some c.deref.ensures.value ∙ read) is_tree value_is
     c.in_ok-code.ensures.few c.in_ok-code.ensures.ends.1 c.in_ok-code.ensures.ends.2 (c.in_ok-bytes_of.ensures ∙ ap code_of c.deref-2.ensures.value)
 

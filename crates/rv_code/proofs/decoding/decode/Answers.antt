@@ -1,4 +1,4 @@
-use Rattle.rv_table.proofs.Decodes.{instr_of-is, instr_of-none}
+use Rattle.rv_table.proofs.Shared.{instr_of-is, instr_of-none}
 use Rattle.rv_code.proofs.decoding.decode.Goals as goal
 
 pub returns-clause-exact : goal.returns-clause-exact

@@ -1,4 +1,4 @@
-use Rattle.rv_table.proofs.Encodes.{word_of-lt}
+use Rattle.rv_table.proofs.Shared.{word_of-lt}
 use Rattle.rv_code.proofs.encoding.encode.Goals as goal
 
 pub pack-requires : goal.pack-requires

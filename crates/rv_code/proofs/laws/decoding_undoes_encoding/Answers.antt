@@ -1,4 +1,4 @@
-use Rattle.rv_table.proofs.Encodes.{instr_of-word_of}
+use Rattle.rv_table.proofs.Shared.{instr_of-word_of}
 use Rattle.rv_code.proofs.laws.decoding_undoes_encoding.Goals as goal
 
 pub returns : goal.returns
