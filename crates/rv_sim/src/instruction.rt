@@ -1,5 +1,5 @@
 //! One step: an instruction is fetched, decoded and done.
-ghost use Rattle.std.specs.Prelude.{◌≡◌, ◌≢◌, ◌<◌, ◌+◌, ◌^◌, ℕ, Ok, IfOk, IsTrue};
+ghost use Rattle.std.specs.Prelude.{◌≡◌, ◌≢◌, ◌<◌, ◌+◌, ◌^◌, ℕ, Ok, IfOk, IsTrue, slice_index};
 ghost use Rattle.rv_memory.specs.Regions.{map_of};
 ghost use Rattle.rv_sim.specs.declared.event.Event.TheVariants.{Next};
 ghost use Rattle.rv_sim.specs.Stepping.{state_of, state_with, found_step, outcome_of, answer_of, event_of, state_after};
@@ -18,6 +18,7 @@ pub fn step(r: &mut Regs, m: &mut Memory) -> Event
     ensures event { result ≡ event_of r.old.pc (outcome_of r.old m.old) }
     ensures state { state_of r.new m.new ≡ state_after (state_of r.old m.old) (outcome_of r.old m.old) }
     ensures map { map_of m.new ≡ map_of m.old }
+    ensures zero { slice_index r.new.x 0 ≡ slice_index r.old.x 0 }
     ensures registers_kept { result ≢ Next → r.new ≡ r.old }
     ensures memory_kept { result ≢ Next → m.new ≡ m.old }
 {
@@ -32,6 +33,7 @@ fn attempt(r: &mut Regs, m: &mut Memory) -> Result<Event, TrapKind>
     ensures answer { result ≡ answer_of (outcome_of r.old m.old) }
     ensures state { state_of r.new m.new ≡ state_after (state_of r.old m.old) (outcome_of r.old m.old) }
     ensures map { map_of m.new ≡ map_of m.old }
+    ensures zero { slice_index r.new.x 0 ≡ slice_index r.old.x 0 }
     ensures registers_kept { result ≢ Ok Next → r.new ≡ r.old }
     ensures memory_kept { result ≢ Ok Next → m.new ≡ m.old }
 {
@@ -58,6 +60,7 @@ fn perform(effect: Effect, r: &mut Regs, m: &mut Memory) -> Result<Event, TrapKi
     ensures answer { result ≡ answer_of (done (map_of m.old) (state_of r.old m.old) effect) }
     ensures state { state_of r.new m.new ≡ state_after (state_of r.old m.old) (done (map_of m.old) (state_of r.old m.old) effect) }
     ensures map { map_of m.new ≡ map_of m.old }
+    ensures zero { slice_index r.new.x 0 ≡ slice_index r.old.x 0 }
     ensures registers_kept { result ≢ Ok Next → r.new ≡ r.old }
     ensures memory_kept { result ≢ Ok Next → m.new ≡ m.old }
 {
@@ -102,6 +105,7 @@ fn set(r: &mut Regs, rd: u8, value: u64) -> Event
     requires room { r.old.pc + 4 < 2 ^ 64 }
     ensures event { result ≡ Next }
     ensures state { (memory : ℕ → ℕ) → state_with r.new memory ≡ with_set (state_with r.old memory) rd value }
+    ensures zero { slice_index r.new.x 0 ≡ slice_index r.old.x 0 }
 {
     r.write(rd, value);
     r.pc += 4;
@@ -114,6 +118,7 @@ fn jump(r: &mut Regs, rd: u8, link: u64, target: u64) -> Result<Event, TrapKind>
     ensures answer { (memory : ℕ → ℕ) → result ≡ answer_of (goes_to (state_with r.old memory) rd link target) }
     ensures state { (memory : ℕ → ℕ) →
         state_with r.new memory ≡ state_after (state_with r.old memory) (goes_to (state_with r.old memory) rd link target) }
+    ensures zero { slice_index r.new.x 0 ≡ slice_index r.old.x 0 }
     ensures kept { result ≢ Ok Next → r.new ≡ r.old }
 {
     if target % 4 != 0 {

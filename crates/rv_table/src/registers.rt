@@ -1,10 +1,10 @@
 //! The registers and pc.
-ghost use Rattle.std.specs.Prelude.{◌≡◌, ◌<◌};
+ghost use Rattle.std.specs.Prelude.{◌≡◌, ◌<◌, slice_index};
 
 /// The 32 registers and the program counter.
 #[derive(Clone, Copy, Debug, PartialEq, Eq)]
 pub struct Regs {
-    /// The registers' values by number. Register 0 reads as 0 whatever stands here.
+    /// The registers' values by number. Register 0 reads as 0 whatever stands here, and no instruction changes it.
     pub x: [u64; 32],
     /// The address of the instruction that comes next.
     pub pc: u64,
@@ -25,12 +25,15 @@ impl Regs {
         }
     }
 
-    /// Gives the register a value; register 0 stays 0.
+    /// Gives the register a value. A write to register 0 does nothing, so that its 0 stands in `x` too.
     pub fn write(&mut self, register: u8, value: u64)
         requires { register < 32 }
         ensures register { registers_of self.new ≡ with_register (registers_of self.old) register value }
+        ensures zero { slice_index self.new.x 0 ≡ slice_index self.old.x 0 }
         ensures pc { self.new.pc ≡ self.old.pc }
     {
-        self.x[register as usize] = value;
+        if register != 0 {
+            self.x[register as usize] = value;
+        }
     }
 }
