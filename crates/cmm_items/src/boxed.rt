@@ -3,10 +3,11 @@
 ghost use Rattle.std.specs.Prelude.{◌≡◌, IfOk};
 
 use std::alloc::{AllocError, Global};
+use std::fmt;
 use std::marker::Model;
 
 /// A `Box` that contracts see as its value.
-#[derive(Debug, Drop)]
+#[derive(Drop)]
 pub struct Boxed<T> {
     inner: Box<T>,
 }
@@ -43,6 +44,13 @@ impl<T> Boxed<T> {
     {
         let Boxed { inner } = self;
         Box::into_inner(inner)
+    }
+}
+
+/// The value, as it prints without its box.
+impl<T: fmt::Debug> fmt::Debug for Boxed<T> {
+    fn fmt<W: fmt::Write>(&self, f: &mut fmt::Formatter<W>) -> fmt::Result {
+        fmt::Debug::fmt(self.get(), f)
     }
 }
 

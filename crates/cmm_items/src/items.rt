@@ -10,12 +10,13 @@ ghost use Rattle.std.specs.Slice.Iter.{iter_rest};
 
 use std::alloc::{AllocError, AllocFailed, Global};
 use std::cmp::Ordering;
+use std::fmt;
 use std::hash::{Hash, Hasher};
 use std::marker::Model;
 use std::slice::Iter;
 
 /// A `Vec` that contracts see as the list of its elements.
-#[derive(Debug, Drop)]
+#[derive(Drop)]
 pub struct Items<T> {
     items: Vec<T>,
 }
@@ -150,6 +151,13 @@ impl<T: Copy> Items<T> {
     {
         let items = Vec::from_slice(alloc, items)?;
         Ok(Items { items })
+    }
+}
+
+/// The items as a list: `[a, b]`.
+impl<T: fmt::Debug> fmt::Debug for Items<T> {
+    fn fmt<W: fmt::Write>(&self, f: &mut fmt::Formatter<W>) -> fmt::Result {
+        fmt::Debug::fmt(&self.items, f)
     }
 }
 
