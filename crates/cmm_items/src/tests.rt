@@ -106,8 +106,7 @@ fn a_tree_prints_what_it_holds(rt: HostRuntime) -> Result<(), Fail> {
     let alloc = rt.alloc();
     let tree = five(alloc)?;
     let text = format!(in alloc; "{tree:?}")?;
-    assert_eq!(
-        rt;
+    assert_eq!(rt;
         text.as_str(),
         "Tree { number: 5, form: Pair(Tree { number: 3, form: Row([Tree { number: 1, form: Row([]) }, Tree { number: 2, form: Row([]) }]) }, Some(Tree { number: 4, form: Row([]) })) }"
     );

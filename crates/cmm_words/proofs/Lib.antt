@@ -8,3 +8,5 @@ pub mod WordLaws
 pub mod Rows
 pub mod Sums
 pub mod Rounding
+pub mod Carried
+pub mod Shared

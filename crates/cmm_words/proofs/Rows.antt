@@ -1,9 +1,10 @@
 -- Worked rows: the formulas, computed on values written by hand.
-use Rattle.std.proofs.Common.{◌≡◌, Some, None, true, false, refl}
+use Rattle.std.proofs.Common.{◌≡◌, Some, None, [], true, false, refl, codes}
 use Rattle.cmm_words.specs.declared.width.Width.TheVariants.{W8, W16, W32, W64}
 use Rattle.cmm_words.specs.declared.operators.Op1.TheVariants.{Com, Neg}
 use Rattle.cmm_words.specs.declared.operators.Op2.TheVariants.{Sub, Shl, Shrl, Shra, Rotl, Rotr, Divu, Div, Mod, Quot, Rem}
 use Rattle.cmm_words.specs.declared.operators.Cmp.TheVariants.{Lt, Ltu}
+use Rattle.cmm_words.specs.Digits.{written}
 use Rattle.cmm_words.specs.Words.{value1, value2, holds, sign_extended, low_bits}
 
 -- -7 by 2, at each width: rounded down the quotient is -4 and the remainder 1, and toward zero they are -3 and -1
@@ -141,3 +142,27 @@ extended_high = refl
 
 cut : low_bits W8 65409 ≡ 129
 cut = refl
+
+-- the digits of each base, of which the first counts the most
+octal : written 8 (codes "0777") ≡ Some 511
+octal = refl
+
+decimal : written 10 (codes "1907") ≡ Some 1907
+decimal = refl
+
+hexadecimal : written 16 (codes "fF") ≡ Some 255
+hexadecimal = refl
+
+-- a digit of another base, and no digit at all, are no number
+octal_8 : written 8 (codes "18") ≡ None
+octal_8 = refl
+
+no_digit : written 10 [] ≡ None
+no_digit = refl
+
+-- the greatest number, and the first that is too great
+greatest : written 10 (codes "18446744073709551615") ≡ Some 18446744073709551615
+greatest = refl
+
+too_great : written 16 (codes "10000000000000000") ≡ None
+too_great = refl

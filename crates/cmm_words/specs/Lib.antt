@@ -2,4 +2,5 @@ pub mod Widths
 pub mod Integers
 pub mod Words
 pub mod Constants
+pub mod Digits
 pub mod Laws

@@ -9,7 +9,9 @@
 //! - `apply`: `apply1` and `apply2`, the operators applied, over `shift` and `division`.
 //! - `comparison`: `compare`.
 //! - `laws`: what the layers above use of the operators, as contracts.
+//! - `digits`: `Radix`, and the number that digits write.
 //! - `name`: `Name`, which is bytes.
+//! - `quoted`: `Quoted`, bytes that print as a text literal.
 //! - `constant`: `Constant`, a value that is known before the program runs.
 #![tactic(auto)]
 
@@ -17,10 +19,12 @@ mod apply;
 mod comparison;
 mod constant;
 mod conversion;
+mod digits;
 mod division;
 pub mod laws;
 mod name;
 mod operators;
+mod quoted;
 mod shift;
 mod width;
 
@@ -28,8 +32,10 @@ pub use apply::{apply1, apply2};
 pub use comparison::compare;
 pub use constant::Constant;
 pub use conversion::{extend, low};
+pub use digits::Radix;
 pub use name::Name;
 pub use operators::{Cmp, Op1, Op2};
+pub use quoted::Quoted;
 pub use width::Width;
 
 #[cfg(test)]

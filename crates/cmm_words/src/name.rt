@@ -4,12 +4,14 @@ ghost use Rattle.std.specs.Prelude.{◌≡◌, ◌↔◌, IsTrue, IfOk, bytes_eq
 ghost use Rattle.std.specs.Cmp.{partial_equiv_from_equiv};
 ghost use Rattle.std.specs.Cmp.Lexicographic.{nat_list_eq_equiv};
 
+use crate::quoted::Quoted;
 use cmm_items::Items;
 use std::alloc::{AllocError, Global};
+use std::fmt;
 use std::marker::Model;
 
 /// A name: bytes, of which contracts see the list. Names are ordered as their bytes are.
-#[derive(Debug, Drop, Eq, PartialOrd, Ord, Hash)]
+#[derive(Drop, Eq, PartialOrd, Ord, Hash)]
 pub struct Name {
     bytes: Items<u8>,
 }
@@ -44,6 +46,13 @@ impl Name {
         ensures { result.now ≡ self.now }
     {
         self.bytes.as_slice()
+    }
+}
+
+/// A name prints as its bytes between quotes.
+impl fmt::Debug for Name {
+    fn fmt<W: fmt::Write>(&self, f: &mut fmt::Formatter<W>) -> fmt::Result {
+        fmt::Debug::fmt(&Quoted(self.as_bytes()), f)
     }
 }
 

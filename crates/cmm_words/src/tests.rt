@@ -174,3 +174,26 @@ fn names_are_bytes(rt: HostRuntime) -> Result<(), Fail> {
     assert_eq!(rt; main.as_bytes(), b"main".as_slice());
     Ok(())
 }
+
+#[test]
+fn names_print_their_bytes(rt: HostRuntime) -> Result<(), Fail> {
+    let name = Name::from_slice(rt.alloc(), b"a \"b\\\n\x7F\xFF~")?;
+    let text = format!(in rt.alloc(); "{name:?}")?;
+    assert_eq!(rt; text.as_str(), r#""a \"b\\\x0a\x7f\xff~""#);
+    Ok(())
+}
+
+#[test]
+fn digits_write_numbers(rt: HostRuntime) {
+    assert_eq!(rt; Radix::Octal.number(b"0777"), Some(511));
+    assert_eq!(rt;
+        Radix::Decimal.number(b"18446744073709551615"),
+        Some(u64::MAX)
+    );
+    assert_eq!(rt; Radix::Decimal.number(b"18446744073709551616"), None);
+    assert_eq!(rt; Radix::Hexadecimal.number(b"00fF"), Some(255));
+    assert_eq!(rt; Radix::Octal.number(b"8"), None);
+    assert_eq!(rt; Radix::Decimal.number(b""), None);
+    assert!(rt; Radix::Octal.is_digit(b'7'));
+    assert!(rt; !Radix::Octal.is_digit(b'8'));
+}

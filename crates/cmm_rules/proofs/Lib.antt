@@ -1,0 +1,3 @@
+mod RuleLemmas
+mod RulesRows
+pub mod Shared
