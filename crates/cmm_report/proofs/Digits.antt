@@ -4,7 +4,8 @@ use Rattle.std.proofs.Math.Nat.{div-div-eq-div-mul}
 use Rattle.std.specs.Result.{IsOk, OnOk}
 use Rattle.std.specs.Int.{to_be_bytes, w64}
 use Rattle.hex.specs.Hex.{encode_with, encode_lower}
-use Rattle.cmm_report.specs.Texts.{hex_digit, address_text, is_plain, kind_byte}
+use Rattle.cmm_report.specs.Texts.{address_text}
+use Rattle.cmm_script.specs.Kinds.{hex_digit, is_plain, kind_byte}
 
 pub kind_byte-plain : (b : ℕ) → is_plain b ≡ true → kind_byte b ≡ b ∷ []
 unfolding kind_byte

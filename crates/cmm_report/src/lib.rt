@@ -7,7 +7,8 @@
 ghost use Rattle.std.specs.Prelude.{◌≡◌, false, decimal, OnOk, OnErr};
 ghost use Rattle.cmm_outside.specs.Faults.{Rose};
 ghost use Rattle.cmm_outside.specs.Output.{Appends, AppendsFront};
-ghost use Rattle.cmm_report.specs.Texts.{address_text, is_plain as is_plain_byte, kind_byte, kind_text};
+ghost use Rattle.cmm_report.specs.Texts.{address_text};
+ghost use Rattle.cmm_script.specs.Kinds.{is_plain as is_plain_byte, kind_byte, kind_text};
 
 use cmm_outside::{Failed, Sink, write_all};
 use itoa::Buffer;

@@ -6,8 +6,8 @@ use Rattle.std.specs.Cmp.{nat_eq_equiv}
 use Rattle.std.specs.Cmp.Lexicographic.{options_equiv}
 use Rattle.std.specs.List.{AllByRecursion, IsDistinct, list_any}
 use Rattle.std.specs.Option.{option_eq}
-use Rattle.cmm_script.specs.declared.fault.Rule.{Rule}
-use Rattle.cmm_script.specs.declared.fault.Rule.TheVariants.{Form, Repeat, Length}
+use Rattle.cmm_rules.specs.declared.rule.Rule.{Rule}
+use Rattle.cmm_rules.specs.declared.rule.Rule.TheVariants.{UnknownLine, RepeatedBlock}
 use Rattle.cmm_script.specs.declared.line.Line.{Line}
 use Rattle.cmm_script.specs.declared.line.Line.TheVariants.{Begins, Does}
 use Rattle.cmm_script.specs.declared.script.Block.{Block}
@@ -69,7 +69,7 @@ stops bs rule l ls e = ap (after_line l.number ls) e
 
 -- a block begins, where its code is new or is not
 abbrev headed : List Block → Option ℕ → Bool → Result (List Block) Rule
-headed bs code t = cond t (Err Repeat) (Ok (bs ++ begun code ∷ []))
+headed bs code t = cond t (Err RepeatedBlock) (Ok (bs ++ begun code ∷ []))
 
 -- the commands of the last block
 commands-made : (ls : List Said) (cs : List Command) (ns : List ℕ) (done : List Block) (b : Block) (more : List Said) → SpellsCommands ls cs ns
@@ -165,29 +165,28 @@ none-some o x e h = let both : None ≡ Some x = sym e ∙ h in cc
 -- why a rule is broken
 line-breaks : (bs : List Block) (ws : List Word) (n : ℕ) (rule : Rule) (o : Option Line) → line_of ws ≡ o → with_line bs n o ≡ Err rule → Breaks bs ws rule
 line-breaks bs ws n rule None read e =
-    let form : Form ≡ rule = cc in
-    subst (Breaks bs ws) form (inl (λ code h. none-some (line_of ws) (Begins code) read (line-read ws (Begins code) h), λ c h. none-some (line_of ws) (Does c) read (line-read ws (Does c) h)))
+    let form : rule ≡ UnknownLine = cc in
+    inl (form, inl (λ code h. none-some (line_of ws) (Begins code) read (line-read ws (Begins code) h), λ c h. none-some (line_of ws) (Does c) read (line-read ws (Does c) h)))
 line-breaks bs ws n rule (Some (Begins code)) read e = by (has_code code bs) refl e
   where
     by : (t : Bool) → has_code code bs ≡ t → headed bs code t ≡ Err rule → Breaks bs ws rule
-    by true has e = let repeat : Repeat ≡ rule = cc in subst (Breaks bs ws) repeat (code, line-spelled ws (Begins code) read, has)
+    by true has e = let repeat : rule ≡ RepeatedBlock = cc in inr (repeat, code, line-spelled ws (Begins code) read, has)
     by false has e = absurd cc
 line-breaks [] ws n rule (Some (Does c)) read e =
-    let form : Form ≡ rule = cc in
-    subst (Breaks [] ws) form (inr (refl, c, line-spelled ws (Does c) read))
+    let form : rule ≡ UnknownLine = cc in
+    inl (form, inr (refl, c, line-spelled ws (Does c) read))
 line-breaks (b ∷ bs) ws n rule (Some (Does c)) read e = absurd cc
 
 -- a line that breaks a rule is refused
 breaks-made : (bs : List Block) (ws : List Word) (n : ℕ) (rule : Rule) → Breaks bs ws rule → with_line bs n (line_of ws) ≡ Err rule
-breaks-made bs ws n Form (inl none) = by (line_of ws) refl
+breaks-made bs ws n rule (inl (form, inl none)) = rw form (by (line_of ws) refl)
   where
-    by : (o : Option Line) → line_of ws ≡ o → with_line bs n (line_of ws) ≡ Err Form
+    by : (o : Option Line) → line_of ws ≡ o → with_line bs n (line_of ws) ≡ Err UnknownLine
     by None e = rw e refl
     by (Some (Begins code)) e = absurd (none.0 code (line-spelled ws (Begins code) e))
     by (Some (Does c)) e = absurd (none.1 c (line-spelled ws (Does c) e))
-breaks-made bs ws n Form (inr (first, c, h)) = rw (line-read ws (Does c) h, first) refl
-breaks-made bs ws n Repeat (code, h, has) = rw (line-read ws (Begins code) h) (ap (headed bs code) has)
-breaks-made bs ws n Length h = absurd h
+breaks-made bs ws n rule (inl (form, inr (first, c, h))) = rw (form, line-read ws (Does c) h, first) refl
+breaks-made bs ws n rule (inr (repeat, code, h, has)) = rw (repeat, line-read ws (Begins code) h) (ap (headed bs code) has)
 
 -- ---- both
 

@@ -1,4 +1,3 @@
-mod Digits
 mod Values
 mod Stepping
 mod Forms

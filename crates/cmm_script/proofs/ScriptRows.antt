@@ -1,7 +1,7 @@
 -- Rows of the format of scripts, by computing.
 use Rattle.std.proofs.Common.{◌≡◌, [], ◌∷◌, map, codes, Some, None, refl, lit≤}
 use Rattle.std.specs.List.{IsDistinct}
-use Rattle.cmm_script.specs.declared.fault.Rule.TheVariants.{Form, Repeat}
+use Rattle.cmm_rules.specs.declared.rule.Rule.TheVariants.{UnknownLine, RepeatedBlock}
 use Rattle.cmm_script.specs.declared.fault.ScriptFault.TheVariants.{At}
 use Rattle.cmm_script.specs.declared.line.Line.TheVariants.{Begins, Does}
 use Rattle.cmm_script.specs.declared.script.Command.TheVariants.{List as ListAll, Youngest, Next, Desc, Seek, Var, Set, Poke, Return, Unwind, Cut, Stop}
@@ -93,14 +93,14 @@ row_script = made-script (codes "# c\nat 1\n\nlist\nother\nvar 2\nstop\n") _ (li
 -- a line of none of the forms
 row_jump : ScriptFaultAt (codes "at 1\nlist\njump 1") (At 80 3)
 unfolding opened
-row_jump = made-fault (codes "at 1\nlist\njump 1") (At 80 3) (lit≤ tt) (Form, refl, refl)
+row_jump = made-fault (codes "at 1\nlist\njump 1") (At 80 3) (lit≤ tt) (UnknownLine, refl, refl)
 
 -- a command before the first block
 row_no_block : ScriptFaultAt (codes "\nlist\nat 1") (At 80 2)
 unfolding opened
-row_no_block = made-fault (codes "\nlist\nat 1") (At 80 2) (lit≤ tt) (Form, refl, refl)
+row_no_block = made-fault (codes "\nlist\nat 1") (At 80 2) (lit≤ tt) (UnknownLine, refl, refl)
 
 -- two spellings of one code
 row_repeat : ScriptFaultAt (codes "at 1\nother\nat 0x01\njump") (At 81 3)
 unfolding opened
-row_repeat = made-fault (codes "at 1\nother\nat 0x01\njump") (At 81 3) (lit≤ tt) (Repeat, refl, refl)
+row_repeat = made-fault (codes "at 1\nother\nat 0x01\njump") (At 81 3) (lit≤ tt) (RepeatedBlock, refl, refl)

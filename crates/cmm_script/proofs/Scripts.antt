@@ -1,31 +1,24 @@
 -- What whole texts are.
 use Rattle.std.proofs.Common.{◌≡◌, ℕ, ◌≤◌, ◌<◌, List, [], length, Result, Ok, Err, refl, sym, ap, ◌∙◌, arith, inl, inr, ◌⊎◌}
 use Rattle.std.proofs.lemmas.Bool.{cases_lt}
-use Rattle.cmm_script.specs.declared.fault.Rule.{Rule}
-use Rattle.cmm_script.specs.declared.fault.Rule.TheVariants.{Form, Repeat, Length}
+use Rattle.cmm_rules.specs.declared.rule.Rule.{Rule}
+use Rattle.cmm_rules.specs.declared.rule.Rule.TheVariants.{ScriptTooLong}
 use Rattle.cmm_script.specs.declared.fault.ScriptFault.{ScriptFault}
 use Rattle.cmm_script.specs.declared.fault.ScriptFault.TheVariants.{At, Memory}
 use Rattle.cmm_script.specs.declared.script.Block.{Block}
 use Rattle.cmm_script.specs.declared.script.Script.{Script}
 use Rattle.cmm_script.specs.Words.{said_in}
-use Rattle.cmm_script.specs.Rules.{rule_number}
+use Rattle.cmm_rules.specs.Rules.{rule_number}
 use Rattle.cmm_script.specs.Building.{blocks_after, Makes}
 use Rattle.cmm_script.specs.Spelling.{SpellsScript}
-use Rattle.cmm_script.specs.Faults.{BreaksFirst, IsFirstFault, ScriptFaultAt, IsScript, IsRefusal}
+use Rattle.cmm_script.specs.Faults.{IsFirstFault, ScriptFaultAt, IsScript, IsRefusal}
 use Rattle.cmm_script.specs.Laws.{OneScript, OneFault, ScriptOrFault, NeverBoth}
 use Rattle.cmm_script.proofs.Blocks.{Comes, comes, spelled-made, broken-made}
 
--- a rule that lines break is not the one on the length
-first-fault : (bytes : List ℕ) (rule : Rule) (line : ℕ) → length bytes ≤ 65536 → BreaksFirst (said_in bytes) rule line → IsFirstFault bytes rule line
-first-fault bytes Form line short h = (short, h)
-first-fault bytes Repeat line short h = (short, h)
-first-fault bytes Length line short h = absurd h.breaks
-
 -- the first fault of bytes that are not too long
 fault-made : (bytes : List ℕ) (rule : Rule) (line : ℕ) → length bytes ≤ 65536 → IsFirstFault bytes rule line → blocks_after [] (said_in bytes) ≡ Err (rule, line)
-fault-made bytes Form line short (_, h) = broken-made (said_in bytes) Form line h
-fault-made bytes Repeat line short (_, h) = broken-made (said_in bytes) Repeat line h
-fault-made bytes Length line short (long, _) = absurd (omega arith)
+fault-made bytes rule line short (inl (long, _, _)) = absurd (omega arith)
+fault-made bytes rule line short (inr (_, h)) = broken-made (said_in bytes) rule line h
 
 -- what the blocks that were made say of the text
 comes-of : (bytes : List ℕ) (r : Result (List Block) (Rule × ℕ)) → blocks_after [] (said_in bytes) ≡ r → Comes (said_in bytes) r
@@ -37,7 +30,7 @@ made-script bytes bs short e = record { short = short; blocks = comes-of bytes (
 -- what a fault that was made says of the text
 pub made-fault : (bytes : List ℕ) (e : ScriptFault) → length bytes ≤ 65536 → Makes (Err e) (blocks_after [] (said_in bytes)) → ScriptFaultAt bytes e
 made-fault bytes Memory short h = tt
-made-fault bytes (At r line) short (rule, number, h) = (rule, number, first-fault bytes rule line short (comes-of bytes (Err (rule, line)) h))
+made-fault bytes (At r line) short (rule, number, h) = (rule, number, inr (short, comes-of bytes (Err (rule, line)) h))
 
 abbrev Made : Type 0
 Made = Result (List Block) (Rule × ℕ)
@@ -87,10 +80,9 @@ one-of-lines : (bytes : List ℕ) (rule other : Rule) (line n : ℕ) → length 
 one-of-lines bytes rule other line n short h k =
     err-parts rule other line n (same-made (Err (rule, line)) (Err (other, n)) (blocks_after [] (said_in bytes)) (fault-made bytes rule line short h) (fault-made bytes other n short k))
 
-too-long : (bytes : List ℕ) (rule : Rule) (line : ℕ) → 65536 < length bytes → IsFirstFault bytes rule line → (rule ≡ Length) × (line ≡ 1)
-too-long bytes Form line long (short, h) = absurd (omega arith)
-too-long bytes Repeat line long (short, h) = absurd (omega arith)
-too-long bytes Length line long (_, h) = (refl, h)
+too-long : (bytes : List ℕ) (rule : Rule) (line : ℕ) → 65536 < length bytes → IsFirstFault bytes rule line → (rule ≡ ScriptTooLong) × (line ≡ 1)
+too-long bytes rule line long (inl (_, rule-is, line-is)) = (rule-is, line-is)
+too-long bytes rule line long (inr (short, _)) = absurd (omega arith)
 
 pub one-fault : OneFault
 one-fault bytes rule other line n h k =
@@ -102,13 +94,13 @@ one-fault bytes rule other line n h k =
 pub script-or-fault : ScriptOrFault
 script-or-fault bytes =
     elim (cases_lt 65536 (length bytes)) [
-      | inl long ↦ inr (Length, 1, (long, refl))
+      | inl long ↦ inr (ScriptTooLong, 1, inl (long, refl, refl))
       | inr short ↦ by short (blocks_after [] (said_in bytes)) refl
     ]
   where
     by : length bytes ≤ 65536 → (r : Result (List Block) (Rule × ℕ)) → blocks_after [] (said_in bytes) ≡ r → ((s : Script) × SpellsScript bytes s) ⊎ ((rule : Rule) × (line : ℕ) × IsFirstFault bytes rule line)
     by short (Ok bs) e = inl (record { blocks = bs }, made-script bytes bs short e)
-    by short (Err (rule, line)) e = inr (rule, line, first-fault bytes rule line short (comes-of bytes (Err (rule, line)) e))
+    by short (Err (rule, line)) e = inr (rule, line, inr (short, comes-of bytes (Err (rule, line)) e))
 
 pub never-both : NeverBoth
 never-both bytes s rule line h k = no-fault bytes s rule line (fault-made bytes rule line h.short k) h

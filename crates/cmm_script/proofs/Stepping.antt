@@ -2,7 +2,7 @@
 use Rattle.std.proofs.Common.{◌≡◌, ℕ, zero, suc, ◌+◌, ◌<◌, Bool, true, false, List, [], ◌∷◌, ◌++◌, length, get_or, set, drop, Result, Ok, Err, refl, sym, ap, ◌∙◌, arith, add-one}
 use Rattle.std.proofs.Math.Seq.{drop-cons}
 use Rattle.std.proofs.lemmas.List.{drop_all}
-use Rattle.cmm_script.specs.declared.fault.Rule.{Rule}
+use Rattle.cmm_rules.specs.declared.rule.Rule.{Rule}
 use Rattle.cmm_script.specs.declared.fault.ScriptFault.{ScriptFault}
 use Rattle.cmm_script.specs.declared.fault.ScriptFault.TheVariants.{At, Memory}
 use Rattle.cmm_script.specs.declared.script.Block.{Block}

@@ -1,7 +1,8 @@
 -- The blocks that lines make, from the first line on.
 use Rattle.std.specs.Prelude.{◌≡◌, ℕ, true, false, if◌then◌else◌, List, [], ◌∷◌, ◌++◌, Option, Some, None, Result, Ok, Err}
-use Rattle.cmm_script.specs.declared.fault.Rule.{Rule}
-use Rattle.cmm_script.specs.declared.fault.Rule.TheVariants.{Form, Repeat}
+use Rattle.cmm_rules.specs.declared.rule.Rule.{Rule}
+use Rattle.cmm_rules.specs.declared.rule.Rule.TheVariants.{UnknownLine, RepeatedBlock}
+use Rattle.cmm_rules.specs.Rules.{rule_number}
 use Rattle.cmm_script.specs.declared.fault.ScriptFault.{ScriptFault}
 use Rattle.cmm_script.specs.declared.fault.ScriptFault.TheVariants.{At, Memory}
 use Rattle.cmm_script.specs.declared.line.Line.{Line}
@@ -9,7 +10,6 @@ use Rattle.cmm_script.specs.declared.line.Line.TheVariants.{Begins, Does}
 use Rattle.cmm_script.specs.declared.script.Block.{Block}
 use Rattle.cmm_script.specs.declared.script.Command.{Command}
 use Rattle.cmm_script.specs.Words.{Word, Said, is_skipped}
-use Rattle.cmm_script.specs.Rules.{rule_number}
 use Rattle.cmm_script.specs.Reading.{line_of}
 use Rattle.cmm_script.specs.Spelling.{has_code}
 
@@ -29,16 +29,16 @@ onto_last f (b ∷ c ∷ bs) = b ∷ onto_last f (c ∷ bs)
 
 -- a block begins
 abbrev pub with_head : List Block → Option ℕ → Result (List Block) Rule
-with_head bs code = if has_code code bs then Err Repeat else Ok (bs ++ begun code ∷ [])
+with_head bs code = if has_code code bs then Err RepeatedBlock else Ok (bs ++ begun code ∷ [])
 
 -- the last block has a command more
 abbrev pub with_last : List Block → ℕ → Command → Result (List Block) Rule
-with_last [] n c = Err Form
+with_last [] n c = Err UnknownLine
 with_last (b ∷ bs) n c = Ok (onto_last (with_command n c) (b ∷ bs))
 
 -- the blocks with what one more line says
 abbrev pub with_line : List Block → ℕ → Option Line → Result (List Block) Rule
-with_line bs n None = Err Form
+with_line bs n None = Err UnknownLine
 with_line bs n (Some (Begins code)) = with_head bs code
 with_line bs n (Some (Does c)) = with_last bs n c
 

@@ -1,7 +1,8 @@
 -- Why bytes are no script: the first fault.
 use Rattle.std.specs.Prelude.{◌≡◌, ℕ, true, ◌<◌, ◌≤◌, ◌⊎◌, List, [], ◌∷◌, ◌++◌, length, Option, Result, Ok, Err}
-use Rattle.cmm_script.specs.declared.fault.Rule.{Rule}
-use Rattle.cmm_script.specs.declared.fault.Rule.TheVariants.{Form, Repeat, Length}
+use Rattle.cmm_rules.specs.declared.rule.Rule.{Rule}
+use Rattle.cmm_rules.specs.declared.rule.Rule.TheVariants.{UnknownLine, RepeatedBlock, ScriptTooLong}
+use Rattle.cmm_rules.specs.Rules.{rule_number}
 use Rattle.cmm_script.specs.declared.fault.ScriptFault.{ScriptFault}
 use Rattle.cmm_script.specs.declared.fault.ScriptFault.TheVariants.{At, Memory}
 use Rattle.cmm_script.specs.declared.reader.TheConstants.{SCRIPT_LIMIT}
@@ -9,7 +10,6 @@ use Rattle.cmm_script.specs.declared.script.Script.{Script}
 use Rattle.cmm_script.specs.declared.script.Block.{Block}
 use Rattle.cmm_script.specs.declared.script.Command.{Command}
 use Rattle.cmm_script.specs.Words.{Word, Said, said_in}
-use Rattle.cmm_script.specs.Rules.{rule_number}
 use Rattle.cmm_script.specs.Spelling.{has_code, SpellsHead, SpellsCommand, AreBlocks}
 
 -- words are no line of a script
@@ -18,9 +18,9 @@ IsNoLine ws = ((code : Option ℕ) → SpellsHead ws code → ⊥) × ((c : Comm
 
 -- a line breaks a rule after the lines of these blocks
 abbrev pub Breaks : List Block → List Word → Rule → Type 0
-Breaks bs ws Form = IsNoLine ws ⊎ ((bs ≡ []) × (c : Command) × SpellsCommand ws c)
-Breaks bs ws Repeat = (code : Option ℕ) × SpellsHead ws code × (has_code code bs ≡ true)
-Breaks bs ws Length = ⊥
+Breaks bs ws rule =
+    ((rule ≡ UnknownLine) × (IsNoLine ws ⊎ ((bs ≡ []) × (c : Command) × SpellsCommand ws c)))
+    ⊎ ((rule ≡ RepeatedBlock) × (code : Option ℕ) × SpellsHead ws code × (has_code code bs ≡ true))
 
 -- the lines before one are blocks, and it breaks a rule
 pub record BreaksFirst (ls : List Said) (rule : Rule) (line : ℕ) : Type 0 where
@@ -35,9 +35,9 @@ pub record BreaksFirst (ls : List Said) (rule : Rule) (line : ℕ) : Type 0 wher
 
 -- The first fault of bytes. The length comes before the lines.
 abbrev pub IsFirstFault : List ℕ → Rule → ℕ → Type 0
-IsFirstFault bytes Length line = (SCRIPT_LIMIT < length bytes) × (line ≡ 1)
-IsFirstFault bytes Form line = (length bytes ≤ SCRIPT_LIMIT) × BreaksFirst (said_in bytes) Form line
-IsFirstFault bytes Repeat line = (length bytes ≤ SCRIPT_LIMIT) × BreaksFirst (said_in bytes) Repeat line
+IsFirstFault bytes rule line =
+    ((SCRIPT_LIMIT < length bytes) × (rule ≡ ScriptTooLong) × (line ≡ 1))
+    ⊎ ((length bytes ≤ SCRIPT_LIMIT) × BreaksFirst (said_in bytes) rule line)
 
 -- the fault of bytes that are no script is this one
 abbrev pub ScriptFaultAt : List ℕ → ScriptFault → Type 0

@@ -1,23 +1,10 @@
 -- What a word of digits means.
-use Rattle.std.specs.Prelude.{ℕ, Bool, true, false, ◌&&◌, ◌+◌, ◌*◌, ◌^◌, nat_lt, if◌then◌else◌, List, [], ◌∷◌, drop, length, Option, Some, None}
-use Rattle.std.specs.Char.{is_digit, digit_value}
-use Rattle.std.specs.List.{list_all}
+use Rattle.std.specs.Prelude.{ℕ, true, false, ◌&&◌, ◌^◌, nat_lt, if◌then◌else◌, List, drop, Option, Some, None}
 use Rattle.std.specs.Option.{option_map}
 use Rattle.cmm_script.specs.declared.script.Value.{Value}
 use Rattle.cmm_script.specs.declared.script.Value.TheVariants.{Number, Yielded}
 use Rattle.cmm_script.specs.Words.{begins_with}
-
--- what digits count, the first of them the most
-abbrev pub sum_of : ℕ → List ℕ → ℕ
-sum_of base [] = 0
-sum_of base (d ∷ ds) = digit_value d * base ^ length ds + sum_of base ds
-
--- bytes write a number: there is one, each is a digit of the base, and the number is below 2 ^ 64
-abbrev pub is_written : ℕ → List ℕ → Bool
-is_written base ds = nat_lt 0 (length ds) && list_all (λ d. is_digit d base) ds && nat_lt (sum_of base ds) (2 ^ 64)
-
-abbrev pub written : ℕ → List ℕ → Option ℕ
-written base ds = if is_written base ds then Some (sum_of base ds) else None
+use Rattle.cmm_words.specs.Digits.{written}
 
 -- hexadecimal digits after `0x`, or decimal digits
 abbrev pub number_of : List ℕ → Option ℕ

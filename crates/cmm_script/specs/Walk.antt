@@ -1,8 +1,8 @@
 -- A walk of a stopped program's activations, as plain data, and its text (C-- Language Specification 2.0, the
 -- run-time interface).
 use Rattle.std.specs.Prelude.{ℕ, suc, List, [], ◌∷◌, ◌++◌, flat_map, Option, Some, None, codes, decimal}
-use Rattle.cmm_report.specs.Texts.{kind_text}
-unfoldable pub use Rattle.cmm_report.specs.Texts.{kind_byte}
+use Rattle.cmm_script.specs.Kinds.{kind_text}
+unfoldable pub use Rattle.cmm_script.specs.Kinds.{kind_byte}
 
 -- a variable: its width in bits, the kind that its declaration has, and its value where it is live
 pub record Shown : Type 0 where

@@ -1,7 +1,6 @@
 //! Why bytes are no script.
 
 ghost use Rattle.std.specs.Prelude.{◌≡◌};
-ghost use Rattle.cmm_script.specs.Rules.{rule_number};
 
 use std::alloc::{AllocError, AllocFailed};
 use thiserror::Error;
@@ -9,8 +8,8 @@ use thiserror::Error;
 /// Why there is no script.
 #[derive(Debug, Drop, Error)]
 pub enum ScriptFault {
-    /// This rule is broken at this line, counted from 1. 80: the line is of none of the forms, or it is a command before the first
-    /// block. 81: it begins a block whose code an earlier block has, or a second `other`. 82: the script is longer than
+    /// The rule of this number is broken at this line, counted from 1. 80: the line is of none of the forms, or it is a command before
+    /// the first block. 81: it begins a block whose code an earlier block has, or a second `other`. 82: the script is longer than
     /// `SCRIPT_LIMIT`, at line 1. 82 is tested first; of the other rules the first line that breaks one is named.
     #[error("rule {rule} line {line}")]
     At { rule: u8, line: u32 },
@@ -35,30 +34,6 @@ impl<T: Drop> From<AllocFailed<T>> for ScriptFault {
 
     fn from(_: AllocFailed<T>) -> ScriptFault {
         ScriptFault::Memory
-    }
-}
-
-/// A rule of the format.
-#[derive(Clone, Copy, Debug, PartialEq, Eq)]
-pub enum Rule {
-    /// Each line is of one of the forms, and each command stands in a block.
-    Form,
-    /// No two blocks have the same code.
-    Repeat,
-    /// A script has at most `SCRIPT_LIMIT` bytes.
-    Length,
-}
-
-impl Rule {
-    /// The number that users see.
-    pub fn number(self) -> u8
-        ensures { result ≡ rule_number self }
-    {
-        match self {
-            Rule::Form => 80,
-            Rule::Repeat => 81,
-            Rule::Length => 82,
-        }
     }
 }
 

@@ -4,18 +4,19 @@ ghost use Rattle.std.specs.Prelude.{◌≡◌, ◌≤◌, ℕ, [], length, map, 
 ghost use Rattle.cmm_script.specs.Building.{Leaves, Makes, with_head, with_last, with_line, with_words, blocks_after};
 ghost use Rattle.cmm_script.specs.Faults.{ScriptFaultAt, IsFirstFault, IsScript, IsRefusal};
 ghost use Rattle.cmm_script.specs.Reading.{line_of as line_in_words};
-ghost use Rattle.cmm_script.specs.Rules.{rule_number};
-ghost use Rattle.cmm_script.specs.declared.fault.Rule.{Rule};
+ghost use Rattle.cmm_rules.specs.Rules.{rule_number};
+ghost use Rattle.cmm_rules.specs.declared.rule.Rule.{Rule};
 ghost use Rattle.cmm_script.specs.declared.fault.ScriptFault.{ScriptFault};
 ghost use Rattle.cmm_script.specs.declared.script.Script.{Script};
 ghost use Rattle.cmm_script.specs.Spelling.{SpellsScript, has_code as has_code_in};
 ghost use Rattle.cmm_script.specs.Words.{words_in, said_in};
 
-use crate::fault::{Rule, ScriptFault, Unread};
+use crate::fault::{ScriptFault, Unread};
 use crate::line::{Line, line_of};
 use crate::script::{Block, Command, Script};
 use crate::words::{is_skipped, words_of};
 use cmm_items::Items;
+use cmm_rules::Rule;
 use std::alloc::Global;
 
 /// The longest script, in bytes.
@@ -34,7 +35,7 @@ pub fn parse_script(alloc: Global, bytes: &[u8]) -> Result<Script, ScriptFault>
     ensures refused { (rule : Rule) (line : ℕ) → IsFirstFault bytes.now rule line → IsRefusal rule line result }
 {
     if bytes.len() > SCRIPT_LIMIT {
-        return Err(fault(Rule::Length, 1));
+        return Err(fault(Rule::ScriptTooLong, 1));
     }
     let blocks = blocks_of(alloc, bytes)?;
     Ok(Script { blocks })
@@ -82,7 +83,7 @@ fn add_line(
     match line_of(alloc, words) {
         Ok(Line::Begins(code)) => begin_block(alloc, blocks, number, code),
         Ok(Line::Does(command)) => add_command(blocks, number, command),
-        Err(Unread::Form) => Err(fault(Rule::Form, number)),
+        Err(Unread::Form) => Err(fault(Rule::UnknownLine, number)),
         Err(Unread::Memory) => Err(ScriptFault::Memory),
     }
 }
@@ -97,7 +98,7 @@ fn begin_block(
     ensures { Leaves result number blocks.new.items (with_head blocks.old.items code) }
 {
     if has_code(code, blocks) {
-        return Err(fault(Rule::Repeat, number));
+        return Err(fault(Rule::RepeatedBlock, number));
     }
     blocks.push(Block {
         code,
@@ -119,7 +120,7 @@ fn add_command(blocks: &mut Vec<Block>, number: u32, command: Command) -> Result
     ensures { Leaves result number blocks.new.items (with_last blocks.old.items number command) }
 {
     let Some(block) = blocks.last_mut() else {
-        return Err(fault(Rule::Form, number));
+        return Err(fault(Rule::UnknownLine, number));
     };
     block.commands.push(command)?;
     block.lines.push(number)?;

@@ -1,4 +1,4 @@
-use Rattle.cmm_report.specs.Texts.{kind_byte}
+use Rattle.cmm_script.specs.Kinds.{kind_byte}
 use Rattle.cmm_outside.proofs.Pieces.{AppendsFront-pieces, OnErr-always}
 use Rattle.cmm_report.proofs.put_kind.Goals as goal
 

@@ -1,6 +1,6 @@
 use Rattle.std.proofs.Common.{◌≡◌, take}
 use Rattle.cmm_outside.specs.Output.{Appends}
-use Rattle.cmm_report.specs.Texts.{kind_text}
+use Rattle.cmm_script.specs.Kinds.{kind_text}
 use Rattle.cmm_report.proofs.put_kind.Given as goal
 
 -- the bytes so far are written, and no call has failed
