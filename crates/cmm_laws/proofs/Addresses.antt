@@ -1,4 +1,5 @@
 -- Addresses on a valid placement: frames adjoin, and the parts of each lie inside it.
+use Rattle.std.specs.List.{list_all}
 use Rattle.std.proofs.Common.{Option, ◌≡◌, ℕ, suc, ◌+◌, ◌%◌, ◌<◌, ◌≤◌, IsTrue, List, [], ◌∷◌, drop, length, slice_get, slice_index_or, Some, None, refl, ap, ◌∙◌, arith}
 use Rattle.std.proofs.lemmas.Bool.Decides.{nat_tests}
 use Rattle.std.proofs.lemmas.List.{drop-drop, length-replicate}
@@ -7,8 +8,8 @@ use Rattle.cmm_program.specs.declared.procedure.Proc.{Proc}
 use Rattle.cmm_program.specs.declared.placement.PlaceRow.{PlaceRow}
 use Rattle.cmm_program.specs.Frames.{frame_size, sum_of_sizes}
 use Rattle.cmm_program.specs.Machine.{state_after}
-use Rattle.cmm_program.specs.Placed.{IsPlaced, every, is_pair_in, is_row_placed, are_rows_placed}
-use Rattle.cmm_program.specs.State.{Setting, Frame}
+use Rattle.cmm_program.specs.Placed.{IsPlaced, is_pair_in, is_row_placed, are_rows_placed}
+use Rattle.cmm_program.specs.State.{Setting, Activation}
 use Rattle.cmm_laws.specs.Stacks.{IsSet, Stack, Extent, IsStack, IsPart, LiesIn, InEachState, EachStateHasStack, OneRoomEach, FramesAdjoin, FramesAreAligned, PartsLieInFrame, PartsLieApart, PartsLieInStack}
 use Rattle.cmm_laws.proofs.Stacking.{length_stackdata, steps_stack}
 use Rattle.cmm_laws.proofs.StackKept.{stackdata_drop, without_keeps}
@@ -25,27 +26,27 @@ row_at (p ∷ ps) (row ∷ rows) placed (suc n) = grind (arith, nat_tests, row_a
 row_at ps rows placed n = grind (arith, nat_tests)
 
 -- a pair that is placed ends inside the frame
-pub pairs_inside : (frame : ℕ) (pairs : List ℕ) (k : ℕ) → IsTrue (every (is_pair_in frame) pairs) →
+pub pairs_inside : (frame : ℕ) (pairs : List ℕ) (k : ℕ) → IsTrue (list_all (is_pair_in frame) pairs) →
     (slice_index_or pairs k 0 ≤ frame) × (k < length pairs → slice_index_or pairs k 0 + 16 ≤ frame)
 pairs_inside frame (o ∷ os) (suc k) are = grind (arith, nat_tests, pairs_inside frame os k)
 pairs_inside frame pairs k are = grind (arith, nat_tests)
 
 -- frames fill multiples of 16 bytes
-sizes_aligned : (s : Setting) → IsPlaced s.program s.placement → (fs : List Frame) → sum_of_sizes s fs % 16 ≡ 0
+sizes_aligned : (s : Setting) → IsPlaced s.program s.placement → (fs : List Activation) → sum_of_sizes s fs % 16 ≡ 0
 sizes_aligned s placed [] = refl
 sizes_aligned s placed (f ∷ fs) =
     grind (arith, nat_tests, row_at s.program.procs s.placement.rows, sizes_aligned s placed fs, sum_by-cons (frame_size s))
 
 -- a part of an activation lies inside its frame
-part_inside : (s : Setting) {frames : List Frame} {globals part : Extent} {rooms : List Extent} → IsSet s →
-    IsStack s record { frames = frames; globals = globals; rooms = rooms } → IsPart s frames rooms part → LiesIn s frames part
-part_inside s {frames = []} set h is = grind arith
-part_inside s {frames = f ∷ fs} set h is =
+part_inside : (s : Setting) {activations : List Activation} {data_room part : Extent} {rooms : List Extent} → IsSet s →
+    IsStack s record { activations = activations; data_room = data_room; rooms = rooms } → IsPart s activations rooms part → LiesIn s activations part
+part_inside s {activations = []} set h is = grind arith
+part_inside s {activations = f ∷ fs} set h is =
     grind (arith, nat_tests, row_at s.program.procs s.placement.rows, pairs_inside, length-replicate, sum_by-cons (frame_size s) f fs)
 
 -- a stack without some of its youngest activations is as it should be
-stack_dropped : (s : Setting) (n : ℕ) (k : Stack) → IsStack s k → IsStack s record k { frames = drop n k.frames; rooms = drop n k.rooms }
-stack_dropped s n k h = grind (arith, stackdata_drop s n k.frames, sum_by-take-drop (frame_size s) k.frames n)
+stack_dropped : (s : Setting) (n : ℕ) (k : Stack) → IsStack s k → IsStack s record k { activations = drop n k.activations; rooms = drop n k.rooms }
+stack_dropped s n k h = grind (arith, stackdata_drop s n k.activations, sum_by-take-drop (frame_size s) k.activations n)
 
 -- ---- the laws
 
@@ -59,14 +60,14 @@ pub each_stack : EachStateHasStack
 each_stack = in_each_state IsStack (λ s stack h. h)
 
 pub one_room_each : OneRoomEach
-one_room_each = in_each_state _ (λ s stack h. ap (length {A = Extent}) h.rooms ∙ length_stackdata s stack.frames)
+one_room_each = in_each_state _ (λ s stack h. ap (length {A = Extent}) h.rooms ∙ length_stackdata s stack.activations)
 
 -- frames adjoin, each at a multiple of 16
 pub frames_adjoin : FramesAdjoin
 frames_adjoin = in_each_state _ (λ s stack h f fs is. grind (arith, sum_by-cons (frame_size s) f fs))
 
 pub frames_aligned : FramesAreAligned
-frames_aligned = in_each_state _ (λ s stack h set. grind (arith, sizes_aligned s set.placed stack.frames))
+frames_aligned = in_each_state _ (λ s stack h set. grind (arith, sizes_aligned s set.placed stack.activations))
 
 -- parts lie inside their frames, apart from those of older activations, and in the stack
 pub parts_in_frame : PartsLieInFrame
@@ -74,7 +75,7 @@ parts_in_frame = in_each_state _ (λ s stack h set part. part_inside s set h)
 
 pub parts_apart : PartsLieApart
 parts_apart = in_each_state _ (λ s stack h set n part other first second.
-    let sizes = rw (drop-drop n 1) at (sum_by-take-drop (frame_size s) (drop 1 stack.frames) n) in
+    let sizes = rw (drop-drop n 1) at (sum_by-take-drop (frame_size s) (drop 1 stack.activations) n) in
     grind (arith, part_inside s set h first, part_inside s set (stack_dropped s (suc n) stack h) second, sizes))
 
 pub parts_in_stack : PartsLieInStack

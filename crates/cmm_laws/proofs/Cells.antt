@@ -1,5 +1,5 @@
 -- Laws of memory, over the cell at an address.
-use Rattle.std.proofs.Common.{◌≡◌, ℕ, suc, ◌==◌, ◌&&◌, cond, List, [], ◌∷◌, map, refl, arith}
+use Rattle.std.proofs.Common.{◌+◌, ◌≡◌, ℕ, suc, ◌==◌, ◌&&◌, cond, List, [], ◌∷◌, map, refl, arith}
 use Rattle.std.proofs.lemmas.Bool.Decides.{nat_tests}
 use Rattle.std.proofs.lemmas.Grind.{common_steps, get_or_head, get_or_tail}
 use Rattle.std.proofs.lemmas.List.{get_or-replicate, length-replicate, drop-map}
@@ -17,8 +17,8 @@ written_in (room ∷ rooms) address byte at = grind (arith, nat_tests, common_st
 pub read_after_write : ReadAfterWrite
 read_after_write m address [] at = grind (arith, nat_tests)
 read_after_write m address (byte ∷ bytes) at =
-    let rest = read_after_write (with_byte m address byte) (suc address) bytes at in
-    grind (arith, nat_tests, get_or_head, get_or_tail, rest, written_in (m.globals ∷ m.rooms) address byte at)
+    let rest = read_after_write (with_byte m address byte) (address + 1) bytes at in
+    grind (arith, nat_tests, get_or_head, get_or_tail, rest, written_in (m.data_room ∷ m.rooms) address byte at)
 
 -- rooms that lack an address stay when a byte is written there
 pub outside_stays : OutsideStays

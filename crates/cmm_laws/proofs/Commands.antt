@@ -11,7 +11,7 @@ use Rattle.std.specs.Prelude.{⊤}
 -- what a command may come to
 abbrev Replies : Store → Reply → Type 0
 Replies store (Then cursor after) = Changes cursor store after
-Replies store (Resumes answer) = ⊤
+Replies store (Resumes transfer) = ⊤
 
 -- a command that does not resume changes little
 pub command_changes : CommandChanges

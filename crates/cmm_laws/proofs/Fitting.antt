@@ -3,7 +3,7 @@ use Rattle.cmm_laws.specs.Runs as runs
 use Rattle.cmm_program.specs.Memory as cells
 use Rattle.cmm_laws.proofs.Doing.{answered_kept}
 use Rattle.cmm_laws.proofs.FittingActs.{OrderFits, order_fits, PlaceFits, WordFits, WriteFits}
-use Rattle.cmm_laws.proofs.FittingExits.{LandingFits, Left, FormalsFit, found_fits, return_fits, words_zip}
+use Rattle.cmm_laws.proofs.FittingExits.{LandingFits, Left, FormalsFit, found_fits, suspended_fits, words_zip}
 use Rattle.cmm_laws.proofs.FittingExpressions.{ReadsFit, width_gives}
 use Rattle.cmm_laws.proofs.FittingLandings.{land_fits, dropped_keeps, any_site, moved_keeps, proc_in_range}
 use Rattle.cmm_laws.proofs.FittingStart.{data_cells, parts_inside}
@@ -15,16 +15,18 @@ use Rattle.cmm_laws.proofs.Steps.{kept_by_steps, landed_has, start_keeps, step_h
 use Rattle.cmm_laws.proofs.StoredWords.{bytes_of_number}
 use Rattle.cmm_laws.specs.Fitting.{StateFits, MemoryFits, AreActivations, Demand, ExpressionsFit, IsByte, IsSound, IsStatementOf, IsSuspended, RoomFits, Youngest, ArePassed, IsSetUp, StatesAreSound}
 use Rattle.cmm_laws.specs.Runs.{Adds, Traffic, traffic, yielded}
-use Rattle.cmm_program.specs.Acts.{Memory, Order, evaluated, Get, Held, Leave, Place, Suspend, Word, Write, WriteAll}
-use Rattle.cmm_program.specs.Client.{answered, Suspended, logged, suspended_at, with_value, fits, variable_info}
-use Rattle.cmm_program.specs.Control.{Control, State, answer_done, next_act, over}
-use Rattle.cmm_program.specs.Exits.{Instead, Landing, have_widths, numbers}
-use Rattle.cmm_program.specs.Frames.{procedure_at, without}
+use Rattle.cmm_program.specs.Acts.{evaluated}
+use Rattle.cmm_program.specs.Orders as order
+use Rattle.cmm_program.specs.Orders.{Memory, Order, Held, Place, Word, Write}
+use Rattle.cmm_program.specs.Client.{answered, logged, with_value, fits, variable_info}
+use Rattle.cmm_program.specs.Control.{Control, State, transferred, next_act, over}
+use Rattle.cmm_program.specs.Exits.{Exit, Instead, Landing, have_widths, numbers}
+use Rattle.cmm_program.specs.Frames.{Suspended, procedure_at, suspended_at, without}
 use Rattle.cmm_program.specs.Layout.{bytes_of}
 use Rattle.cmm_program.specs.Machine.{first_store, start, step}
 use Rattle.cmm_program.specs.Memory.{with_bytes}
-use Rattle.cmm_program.specs.Orders.{Answer, Away, Over, Stay, perform}
-use Rattle.cmm_program.specs.State.{Ended, Frame, Outcome, Running, Setting, Store, Waiting, StackLimit}
+use Rattle.cmm_program.specs.Performing.{Transfer, Away, Over, Stay, perform}
+use Rattle.cmm_program.specs.State.{Ended, Activation, Outcome, Running, Setting, Store, Waiting, StackLimit}
 use Rattle.cmm_program.specs.Todo.{Todo, todo_control}
 use Rattle.cmm_program.specs.Values.{Reads}
 use Rattle.cmm_program.specs.Writes.{reads_of, put, put_all}
@@ -43,7 +45,7 @@ use Rattle.std.specs.Prelude.{⊤}
 
 module _ (s : Setting) (n value : ℕ) (a : Suspended) (v : VarInfo) (is : variable_info a n ≡ Some v) (fit : IsTrue (fits v.width value)) where
   -- a variable of the activation at the cursor with a value of its width
-  set_keeps : (P : Demand) (cursor : ℕ) (fs : List Frame) (ts : List Todo) → AreActivations s P fs ts → suspended_at s (drop cursor fs) ≡ Some a →
+  set_keeps : (P : Demand) (cursor : ℕ) (fs : List Activation) (ts : List Todo) → AreActivations s P fs ts → suspended_at s (drop cursor fs) ≡ Some a →
       AreActivations s P (with_value cursor n value fs) ts
   set_keeps P zero (f ∷ fs) (t ∷ ts) are at =
       let word = ltb-true _ _ fit in
@@ -69,26 +71,26 @@ formals_fit s n p words is have fit q same = words_zip (map (λ v. v.width) (tak
 
 module _ (s : Setting) (set : IsSetUp s) (ts : List Todo) where
   -- what an answer leads to fits, for activations that stand at these places
-  abbrev AnswerFits : Answer → Type 0
-  AnswerFits answer = StateFits s (answer_done (todo_control s.program) s answer ts)
+  abbrev TransferFits : Transfer → Type 0
+  TransferFits transfer = StateFits s (transferred (todo_control s.program) s transfer ts)
 
   module _ (P : Demand) (store : Store) (old : Leaves s P ts store) where
     -- once some activations are gone
     left_fits : (gone : ℕ) → Leaves s (Left gone) (drop gone ts) (without gone store)
-    left_fits gone = search (All-drop RoomFits gone store.memory.rooms old.0.1.rooms, dropped_keeps s P gone store.frames ts old.1)
+    left_fits gone = search (All-drop RoomFits gone store.memory.rooms old.0.1.rooms, dropped_keeps s P gone store.activations ts old.1)
 
     -- the run ends
-    ends : (gone : ℕ) (outcome : Outcome) → AnswerFits (Over gone (over (Ended outcome) (without gone store)))
+    ends : (gone : ℕ) (outcome : Outcome) → TransferFits (Over gone (over (Ended outcome) (without gone store)))
     ends gone outcome = search (left_fits gone, any_site s (Left gone))
 
     -- or control lands
-    goes : (gone : ℕ) (landing : Landing) → LandingFits s gone landing (drop gone store.frames) → AnswerFits (Away gone (without gone store) landing)
+    goes : (gone : ℕ) (landing : Landing) → LandingFits s gone landing (drop gone store.activations) → TransferFits (Away gone (without gone store) landing)
     goes gone landing fits = landed_has (todo_control s.program) s (StateFits s) landing _ _ (kept_in (λ after new. search new)
         (land_fits s set.program gone landing _ _ (left_fits gone) fits)) (ends gone StackLimit)
 
   -- the client's answer
-  answered_fits : (P : Demand) (values : List ℕ) (store : Store) → Leaves s P ts store → AnswerFits (answered s values store)
-  answered_fits P values = answered_kept s values (Leaves s P ts) AnswerFits
+  answered_fits : (P : Demand) (values : List ℕ) (store : Store) → Leaves s P ts store → TransferFits (answered s values store)
+  answered_fits P values = answered_kept s values (Leaves s P ts) TransferFits
       (λ store old. search (set_keeps s, stored store.memory, goes P (logged resume_line store) old, ends P store old 0) depth 10)
 
   -- ---- orders
@@ -110,27 +112,28 @@ module _ (s : Setting) (set : IsSetUp s) (ts : List Todo) where
         (λ after. put_all_fit ws after (All-tail (WriteFits s.program q) w ws fits))
 
     -- the activation goes on
-    stays : (way : ℕ) (store : Store) → Runs store → AnswerFits (Stay way store)
-    stays way store here = rw here.2 (search (moved_keeps s set.program (Youngest Running) way store.frames ts here.0.1))
+    stays : (way : ℕ) (store : Store) → Runs store → TransferFits (Stay way store)
+    stays way store here = rw here.2 (search (moved_keeps s set.program (Youngest Running) way store.activations ts here.0.1))
 
     -- a return, by how many frames there are
-    returns : (exit alternates : ℕ) (frames : List Frame) (words : List Word) (base : Store) → let store : Store = record base { frames = frames } in
-        All WordFits words → Runs store → KeptBy AnswerFits (perform s (Leave exit alternates words) store)
+    returns : (exit alternates : ℕ) (activations : List Activation) (words : List Word) (base : Store) → let store : Store = record base { activations = activations } in
+        All WordFits words → Runs store → KeptBy TransferFits (perform s (order.Return exit alternates words) store)
     returns exit alternates (f ∷ []) [] base fit here = search keeping
-    returns exit alternates frames words base fit here =
-        let store : Store = record base { frames = frames } in
-        search (keeping, goes (Youngest Running) store here.0 1, ends (Youngest Running) store here.0 1, return_fits s, words_zip) depth 10
+    returns exit alternates activations words base fit here =
+        let store : Store = record base { activations = activations } in
+        let back = λ (older : List Activation) (a : Suspended) (at : suspended_at s older ≡ Some a) (n : ℕ) (e : Exit). (suspended_fits s older a at n e).0 in
+        search (keeping, goes (Youngest Running) store here.0 1, ends (Youngest Running) store here.0 1, back, words_zip) depth 10
 
     -- every order
     perform_fits : (order : Order) (store : Store) → OrderFits s.program q order → All IsByte store.input → Runs store →
-        KeptBy AnswerFits (perform s order store)
-    perform_fits (WriteAll ws) store fits bytes here = kept_after (put_all_fit ws store fits here) (λ after h. kept_ok (stays 0 after h))
-    perform_fits (Get target) store fits bytes here =
+        KeptBy TransferFits (perform s order store)
+    perform_fits (order.Assign ws) store fits bytes here = kept_after (put_all_fit ws store fits here) (λ after h. kept_ok (stays 0 after h))
+    perform_fits (order.GetByte target) store fits bytes here =
         kept_ok (stays 0 _ (assigned_works s q _ _ ts target _ _ (grind arith) (fits.0, grind (arith, nat_tests, bytes 0 0))))
-    perform_fits (Suspend site values) store fits bytes here =
+    perform_fits (order.Yield site values) store fits bytes here =
         let waits = with_site_keeps s q _ (Youngest (Waiting values)) (Some site) _ ts (site, refl) fits.0 here.0.1 here.1 in
         search (keeping, moved_keeps s set.program _ 0 _ ts waits)
-    perform_fits (Leave exit alternates words) store fits bytes here = returns exit alternates store.frames words store fits here
+    perform_fits (order.Return exit alternates words) store fits bytes here = returns exit alternates store.activations words store fits here
     perform_fits order store fits bytes here =
         search (keeping, lit<, stays, goes (Youngest Running) store here.0, here.1, formals_fit, words_zip, found_fits s) depth 10
 
@@ -138,20 +141,20 @@ module _ (s : Setting) (set : IsSetUp s) (ts : List Todo) where
 
 module _ (s : Setting) (set : IsSetUp s) where
   -- there is a youngest activation in a running state
-  youngest : (frames : List Frame) (ts : List Todo) → AreActivations s (Youngest Running) frames ts → (q : Proc) × IsYoungest s q frames
+  youngest : (activations : List Activation) (ts : List Todo) → AreActivations s (Youngest Running) activations ts → (q : Proc) × IsYoungest s q activations
   youngest (f ∷ fs) (t ∷ ts) are = some_get s.program.procs f.procedure are.1.known
-  youngest frames ts are = grind arith
+  youngest activations ts are = grind arith
 
   -- the order of what it does fits
-  act_fits : (P : Demand) (frames : List Frame) (ts : List Todo) (q : Proc) (r : Reads) → AreActivations s P frames ts → IsYoungest s q frames →
+  act_fits : (P : Demand) (activations : List Activation) (ts : List Todo) (q : Proc) (r : Reads) → AreActivations s P activations ts → IsYoungest s q activations →
       ReadsFit s.program q r → KeptBy (OrderFits s.program q) (evaluated r (next_act (todo_control s.program) ts))
   act_fits P (f ∷ fs) (t ∷ ts) q r are is reads =
       let fits = λ (x : Statement). order_fits s.program q r reads x.form (proc_in_range s set.program f.procedure q is).sites in
       grind (arith, nat_tests, fits, λ (x : Statement). all_get (IsStatementOf s.program q) t.rest 0 x (are.1.procedure q is).statements)
-  act_fits P frames ts q r are is reads = grind arith
+  act_fits P activations ts q r are is reads = grind arith
 
   -- what the youngest activation of a sound state reads fits
-  sound_reads : (st : State Todo) (q : Proc) → IsSound s st → IsYoungest s q st.store.frames → ReadsFit s.program q (reads_of s st.store)
+  sound_reads : (st : State Todo) (q : Proc) → IsSound s st → IsYoungest s q st.store.activations → ReadsFit s.program q (reads_of s st.store)
   sound_reads st q sound youngest = reads_fit s set.top (parts_inside s set.program set.placement) q _ _ _ st.store sound.stack
       (((sound.fits.registers, sound.fits.memory), sound.fits.activations), youngest, refl)
 
@@ -162,8 +165,8 @@ module _ (s : Setting) (set : IsSetUp s) where
       step_has (todo_control s.program) s (StateFits s) st
       (λ order next.
       let here = rw next.running at held in
-      let q = youngest st.store.frames st.controls here.1 in
-      let fits = act_fits _ st.store.frames st.controls q.0 (reads_of s st.store) here.1 q.1 (sound_reads st q.0 old q.1) in
+      let q = youngest st.store.activations st.controls here.1 in
+      let fits = act_fits _ st.store.activations st.controls q.0 (reads_of s st.store) here.1 q.1 (sound_reads st q.0 old q.1) in
       perform_fits s set st.controls q.0 order st.store (fits.holds order next.next) old.passed.0 (here, q.1, next.running))
       (λ error. search (held, any_site s (Youngest st.store.status)))
       (λ values is. answered_fits s set st.controls (Youngest st.store.status) values st.store held)
@@ -174,7 +177,7 @@ module _ (s : Setting) (set : IsSetUp s) where
   first_sound input are =
       let kept = start_keeps (todo_control s.program) s input in
       let fits = goes s set [] (λ x. ⊤) (first_store s input)
-      ((zip_zeros _ s.program.globals (λ g. pow_pos (bits g.width)), record { globals = data_cells s; rooms = All-nil RoomFits }), tt)
+      ((zip_zeros _ s.program.globals (λ g. pow_pos (bits g.width)), record { data_room = data_cells s; rooms = All-nil RoomFits }), tt)
       1 (Instead s.program.main []) (omega arith, λ q is. rw (set.program.main_formals q is) tt) in
       search (fits, subst ArePassed (sym kept.0) (are, All-nil IsByte, All-nil IsByte), kept.1.0 (omega arith))
 

@@ -18,15 +18,17 @@ use Rattle.cmm_program.specs.declared.statement.Lvalue.{Lvalue}
 use Rattle.cmm_program.specs.declared.procedure.Proc.{Proc}
 use Rattle.cmm_program.specs.declared.procedure.Site.{Site}
 use Rattle.cmm_program.specs.declared.program.Program.{Program}
-use Rattle.cmm_program.specs.Acts.{Place, Held, Memory, Word, Write, Order, WriteAll, Get, Enter, Suspend, Replace, Leave, CutTo, target_width, words_of, values_of, places_of, writes, checked_order, evaluated}
+use Rattle.cmm_program.specs.Acts.{words_of, values_of, places_of, checked_order, evaluated}
+use Rattle.cmm_program.specs.Orders as order
+use Rattle.cmm_program.specs.Orders.{Place, Held, Memory, Word, Write, Order, target_width, writes}
 use Rattle.cmm_program.specs.InRange.{is_form, is_site, lvalue_width, are_assigned, at_site, is_checked_site}
-use Rattle.cmm_program.specs.Placed.{every}
+use Rattle.std.specs.List.{list_all}
 use Rattle.cmm_program.specs.Todo.{aim_of, passed, act_of, site_results}
 use Rattle.cmm_program.specs.Typing.{is_target, is_typed, same_width}
 use Rattle.cmm_program.specs.Values.{Reads, value_of}
 use Rattle.cmm_laws.proofs.FittingExpressions.{ReadsFit, width_gives, typed_gives}
 use Rattle.cmm_laws.proofs.Kept.{KeptBy, kept_ok, kept_after}
-use Rattle.cmm_laws.proofs.Lists.{every_get}
+use Rattle.cmm_laws.proofs.Lists.{list_all_get}
 
 -- ---- what fits
 
@@ -46,28 +48,28 @@ module _ (p : Program) (q : Proc) where
 
   -- what an order passes and writes fits, and the site that it names is there
   abbrev pub OrderFits : Order → Type 0
-  OrderFits (WriteAll ws) = All WriteFits ws
-  OrderFits (Get target) = IsTrue (is_target p q target) × IsTrue (same_width (target_width target) W64)
-  OrderFits (Enter site address words) = (site < length q.sites) × All WordFits words
-  OrderFits (Suspend site values) = (site < length q.sites) × All (IsWord W64) values
-  OrderFits (Replace address words) = All WordFits words
-  OrderFits (Leave exit alternates words) = All WordFits words
-  OrderFits (CutTo value words own) = All WordFits words
+  OrderFits (order.Assign ws) = All WriteFits ws
+  OrderFits (order.GetByte target) = IsTrue (is_target p q target) × IsTrue (same_width (target_width target) W64)
+  OrderFits (order.Call site address words) = (site < length q.sites) × All WordFits words
+  OrderFits (order.Yield site values) = (site < length q.sites) × All (IsWord W64) values
+  OrderFits (order.Jump address words) = All WordFits words
+  OrderFits (order.Return exit alternates words) = All WordFits words
+  OrderFits (order.Cut value words own) = All WordFits words
   OrderFits _ = ⊤
 
   -- what takes the values of a site's normal exit
-  pub results_fit : (n : ℕ) (site : Site) → IsTrue (every (is_site p q) q.sites) → slice_get q.sites n ≡ Some site →
-      IsTrue (every (is_target p q) site.results)
-  results_fit n site sites is = grind (arith, nat_tests, every_get (is_site p q) q.sites n site sites is)
+  pub results_fit : (n : ℕ) (site : Site) → IsTrue (list_all (is_site p q) q.sites) → slice_get q.sites n ≡ Some site →
+      IsTrue (list_all (is_target p q) site.results)
+  results_fit n site sites is = grind (arith, nat_tests, list_all_get (is_site p q) q.sites n site sites is)
 
   -- the order of a checked operator writes what fits, or yields 1
-  checked_fits : (n : ℕ) (width : Width) (value : Option ℕ) → IsTrue (every (is_site p q) q.sites) →
+  checked_fits : (n : ℕ) (width : Width) (value : Option ℕ) → IsTrue (list_all (is_site p q) q.sites) →
       IsTrue (at_site p q n (is_checked_site p q width)) → IfSome value (IsWord width) → OrderFits (checked_order n (site_results q n) value)
   checked_fits n width value sites here fits = grind (arith, nat_tests, results_fit n, nil_from_length, slice_get_within)
 
   module _ (r : Reads) (reads : ReadsFit p q r) where
     -- expressions that are passed give words that fit, and those that are yielded give words of 64 bits
-    listed_fit : (es : List Expression) → IsTrue (every (is_typed p q) es) →
+    listed_fit : (es : List Expression) → IsTrue (list_all (is_typed p q) es) →
         KeptBy (All WordFits) (words_of r (map passed es)) × KeptBy (All (IsWord W64)) (values_of r (map value_of es))
     listed_fit [] is = grind (arith, All-nil WordFits, All-nil (IsWord W64))
     listed_fit (e ∷ es) is = grind (arith, nat_tests, typed_gives p q r reads e, listed_fit es, word_64, All-cons)
@@ -80,7 +82,7 @@ module _ (p : Program) (q : Proc) where
     assigned_fit ls es ps vs is places values = grind arith
 
     -- each statement in range has an order that fits
-    pub order_fits : (form : Form) → IsTrue (every (is_site p q) q.sites) → IsTrue (is_form p q form) → KeptBy OrderFits (evaluated r (act_of q form))
+    pub order_fits : (form : Form) → IsTrue (list_all (is_site p q) q.sites) → IsTrue (is_form p q form) → KeptBy OrderFits (evaluated r (act_of q form))
     order_fits (Assign to values) sites is = grind (arith, assigned_fit to values, All-from_recursion WriteFits)
     order_fits (Call site callee actuals) sites is = grind (arith, nat_tests, listed_fit actuals, slice_get_within)
     order_fits (Yield site values) sites is = grind (arith, nat_tests, listed_fit values, slice_get_within)

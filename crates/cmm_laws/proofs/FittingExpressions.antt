@@ -1,6 +1,7 @@
 -- The value of an expression that keeps the rules on widths fits its width, where what it reads does.
+use Rattle.std.specs.List.{range_with_len}
 use Rattle.std.proofs.lemmas.Bool.Decides.{nat_tests}
-use Rattle.std.proofs.Common.{ℕ, zero, suc, ◌^◌, ◌<◌, map, IsTrue, arith, pow-suc}
+use Rattle.std.proofs.Common.{◌+◌, ℕ, zero, suc, ◌^◌, ◌<◌, map, IsTrue, arith, pow-suc}
 use Rattle.std.specs.Result.{IfOk}
 use Rattle.std.proofs.lemmas.Nat.{pow_pos}
 use Rattle.cmm_words.specs.declared.width.Width.{Width}
@@ -14,7 +15,7 @@ use Rattle.cmm_program.specs.declared.expression.Expression.TheVariants.{Load', 
 use Rattle.cmm_program.specs.declared.procedure.Proc.{Proc}
 use Rattle.cmm_program.specs.declared.program.Program.{Program}
 use Rattle.cmm_program.specs.Errors.{Tried, all_of}
-use Rattle.cmm_program.specs.Memory.{Cell, number_of, addresses}
+use Rattle.cmm_program.specs.Memory.{Cell, number_of}
 use Rattle.cmm_program.specs.Typing.{has_variable, has_register, has_width, is_typed}
 use Rattle.cmm_program.specs.Values.{Reads, value_of, width_of, known_width, byte_of}
 use Rattle.cmm_laws.specs.Fitting.{IsByte}
@@ -39,9 +40,9 @@ pub record ReadsFit (p : Program) (q : Proc) (r : Reads) : Type 0 where
 
 module _ (p : Program) (q : Proc) (r : Reads) (reads : ReadsFit p q r) where
   -- so many bytes that are read make a number below a power of 256
-  number_fits : (n address : ℕ) → KeptBy (λ found. number_of found < 256 ^ n) (all_of (map (λ a. byte_of (r.byte a)) (addresses address n)))
+  number_fits : (n address : ℕ) → KeptBy (λ found. number_of found < 256 ^ n) (all_of (map (λ a. byte_of (r.byte a)) (range_with_len address n)))
   number_fits zero address = grind arith
-  number_fits (suc n) address = grind (arith, pow-suc 256 n, reads.byte address, number_fits n (suc address))
+  number_fits (suc n) address = grind (arith, pow-suc 256 n, reads.byte address, number_fits n (address + 1))
 
   -- a value that fits an expression's own width fits each width that the expression has
   of_width : (w : Width) (e : Expression) {value : Tried ℕ} → (IsTrue (is_typed p q e) → KeptBy (IsWord (width_of e)) value) →

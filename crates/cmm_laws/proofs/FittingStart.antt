@@ -1,5 +1,6 @@
 -- What a run begins with: frames whose parts lie inside them, and data that is bytes.
 use Rattle.cmm_laws.proofs.StoredWords.{bytes_of_number}
+use Rattle.std.specs.List.{list_all}
 use Rattle.std.proofs.lemmas.Bool.Decides.{nat_tests}
 use Rattle.std.proofs.Common.{◌≢◌, ℕ, ◌+◌, ◌≤◌, Some, None, List, [], ◌∷◌, map, flat_map, All, IsTrue, arith, slice_get}
 use Rattle.std.proofs.lemmas.List.Elements.{All-nil, All-append, All-replicate, All-map}
@@ -12,8 +13,9 @@ use Rattle.cmm_program.specs.declared.program.Datum.{Datum}
 use Rattle.cmm_program.specs.declared.program.Program.{Program}
 use Rattle.cmm_program.specs.Frames.{place_row}
 use Rattle.cmm_program.specs.InRange.{IsInRange, IsProcInRange, is_item}
-use Rattle.cmm_program.specs.Layout.{end_of, item_piece, stack_labels_from, bytes_of, constant_value, datum_bytes, bytes_from, data_bytes, data_base}
-use Rattle.cmm_program.specs.Placed.{IsPlaced, every, are_labels}
+use Rattle.cmm_program.specs.Layout.{end_of, item_piece, stackdata_labels_from, bytes_of, constant_value, datum_bytes, bytes_from, data_bytes}
+use Rattle.rv_table.specs.Memory.{data_base}
+use Rattle.cmm_program.specs.Placed.{IsPlaced, are_labels}
 use Rattle.cmm_program.specs.State.{Setting}
 use Rattle.cmm_program.proofs.Places.{end_of-grows}
 use Rattle.cmm_laws.specs.Fitting.{IsByte, CellFits}
@@ -24,8 +26,8 @@ use Rattle.cmm_laws.proofs.FittingStores.{AreUpTo, PartsInside}
 -- ---- parts of frames
 
 -- labels lie below a limit if their stackdata does, which need be known only where there is a label
-labels_within : (base place limit : ℕ) (items : List StackItem) (offsets : List ℕ) → IsTrue (every is_item items) →
-    IsTrue (are_labels base place items offsets) → (slice_get offsets 0 ≢ None → slice_get (stack_labels_from place items) 0 ≢ None →
+labels_within : (base place limit : ℕ) (items : List StackItem) (offsets : List ℕ) → IsTrue (list_all is_item items) →
+    IsTrue (are_labels base place items offsets) → (slice_get offsets 0 ≢ None → slice_get (stackdata_labels_from place items) 0 ≢ None →
     base + end_of place (map item_piece items) ≤ limit) → AreUpTo limit offsets
 labels_within base place limit [] offsets are labels fit n = grind arith
 labels_within base place limit (i ∷ is) offsets are labels fit n =

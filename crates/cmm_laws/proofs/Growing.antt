@@ -13,13 +13,15 @@ use Rattle.cmm_laws.specs.Runs.{Adds, Takes, NextOrder, Traffic, seen_in, traffi
 use Rattle.cmm_program.specs.Values.{Reads, Value}
 use Rattle.cmm_program.specs.declared.procedure.Target.{Target}
 use Rattle.std.specs.Prelude.{⊤}
-use Rattle.cmm_program.specs.Acts.{Act, PutByte, GetByte, Checked, checked_order, evaluated, Get, Order, Put, Suspend, WriteAll, Leave, Word}
+use Rattle.cmm_program.specs.Acts.{Act, PutByte, GetByte, Checked, checked_order, evaluated}
+use Rattle.cmm_program.specs.Orders as order
+use Rattle.cmm_program.specs.Orders.{Order, Word}
 use Rattle.cmm_program.specs.Client.{answered, logged}
-use Rattle.cmm_program.specs.Control.{Control, State, answer_done}
+use Rattle.cmm_program.specs.Control.{Control, State, transferred}
 use Rattle.cmm_program.specs.Layout.{bytes_of}
 use Rattle.cmm_program.specs.Machine.{start_of, step_of, steps_of}
-use Rattle.cmm_program.specs.Orders.{Answer, returned, Stay, perform}
-use Rattle.cmm_program.specs.State.{Frame, Running, Setting, Store, Waiting}
+use Rattle.cmm_program.specs.Performing.{Transfer, returned, Stay, perform}
+use Rattle.cmm_program.specs.State.{Activation, Running, Setting, Store, Waiting}
 use Rattle.cmm_script.specs.Lines.{yield_line, ok_line, resume_line}
 
 -- the line of a yield is not seen while the client is waited for
@@ -35,8 +37,8 @@ seen_begins st = grind (arith, prefix_refl, prefix_take)
 
 -- the act that an order comes from, where that is a foreign call
 abbrev CalledBy : Act → Order → Type 0
-CalledBy act (Put n) = (value : Value) × (act ≡ PutByte value)
-CalledBy act (Get target) = act ≡ GetByte target
+CalledBy act (order.PutByte n) = (value : Value) × (act ≡ PutByte value)
+CalledBy act (order.GetByte target) = act ≡ GetByte target
 CalledBy act order = ⊤
 
 -- no other act comes to such an order
@@ -50,31 +52,31 @@ called_by r act = grind arith
 
 module _ {C : Type 0} (k : Control C) (s : Setting) (st : State C) where
   -- what an answer leads to
-  abbrev AnswerLeads : Answer → Type 0
-  AnswerLeads answer = Leads s st.store (Adds k s st) (answer_done k s answer st.controls).store
+  abbrev TransferLeads : Transfer → Type 0
+  TransferLeads transfer = Leads s st.store (Adds k s st) (transferred k s transfer st.controls).store
 
   -- the store of the state comes after itself
   start : After s st.store (Adds k s st) st.store
   start = nothing_after s st.store runs.Nothing
 
   -- the youngest activation goes on
-  stays : (way : ℕ) (store : Store) → st.store.status ≡ Running → After s st.store (Adds k s st) store → AnswerLeads (Stay way store)
+  stays : (way : ℕ) (store : Store) → st.store.status ≡ Running → After s st.store (Adds k s st) store → TransferLeads (Stay way store)
   stays way store running here = grind arith
 
   -- a return
-  returned_leads : (exit alternates : ℕ) (words : List Word) (fs : List Frame) → KeptBy AnswerLeads (returned s exit alternates words fs st.store)
+  returned_leads : (exit alternates : ℕ) (words : List Word) (fs : List Activation) → KeptBy TransferLeads (returned s exit alternates words fs st.store)
   returned_leads exit alternates words [] = grind (arith, without_after 1 st.store start)
   returned_leads exit alternates words (f ∷ fs) = search (keeping, lands k s, without_after, start) depth 10
 
   -- each order
-  performed : (order : Order) → NextOrder k s st order → KeptBy AnswerLeads (perform s order st.store)
-  performed (WriteAll ws) next = kept_after (put_all_after ws st.store start) (λ after here. kept_ok (stays 0 after next.running here))
-  performed (Put n) next =
-      let call = (called_by _ _).holds (Put n) next.next in grind (arith, runs.Output call.0 n call.1 next)
-  performed (Get target) next =
-      let takes : Takes k st = (target, next.running, (called_by _ _).holds (Get target) next.next) in grind (arith, runs.Nothing, runs.Input)
-  performed (Suspend site values) next = kept_ok (runs.Line site values next, (site_after (Some site) st.store start).stack)
-  performed (Leave exit alternates words) next = grind (arith, returned_leads exit alternates words)
+  performed : (order : Order) → NextOrder k s st order → KeptBy TransferLeads (perform s order st.store)
+  performed (order.Assign ws) next = kept_after (put_all_after ws st.store start) (λ after here. kept_ok (stays 0 after next.running here))
+  performed (order.PutByte n) next =
+      let call = (called_by _ _).holds (order.PutByte n) next.next in grind (arith, runs.Output call.0 n call.1 next)
+  performed (order.GetByte target) next =
+      let takes : Takes k st = (target, next.running, (called_by _ _).holds (order.GetByte target) next.next) in grind (arith, runs.Nothing, runs.Input)
+  performed (order.Yield site values) next = kept_ok (runs.Line site values next, (site_after (Some site) st.store start).stack)
+  performed (order.Return exit alternates words) next = grind (arith, returned_leads exit alternates words)
   performed order next = search (keeping, stays, start, lands k s, without_after) depth 10
 
   -- what the client's answer adds, which any more text may follow
@@ -85,12 +87,12 @@ module _ {C : Type 0} (k : Control C) (s : Setting) (st : State C) where
   logged_after text store here = grind (arith, append_assoc, λ (more : List ℕ). here.passed (text ++ more))
 
   -- the client's answer
-  answer_leads : (values : List ℕ) → st.store.status ≡ Waiting values → AnswerLeads (answered s values st.store)
+  answer_leads : (values : List ℕ) → st.store.status ≡ Waiting values → TransferLeads (answered s values st.store)
   answer_leads values waiting =
       let leads = answered_kept s values (After s st.store Answers)
-      (λ answer. Leads s st.store Answers (answer_done k s answer st.controls).store) (λ store here. record {
+      (λ transfer. Leads s st.store Answers (transferred k s transfer st.controls).store) (λ store here. record {
         logs = λ cursor text. logged_after text store here;
-        sets = λ cursor n value a info at is fit. logged_after ok_line _ (grind (arith, stack_with_value s cursor n value store.frames));
+        sets = λ cursor n value a info at is fit. logged_after ok_line _ (grind (arith, stack_with_value s cursor n value store.activations));
         pokes = λ cursor address value may. logged_after ok_line _ (bytes_after address (bytes_of 8 value) store here);
         goes = λ gone e vs leads fit. lands k s (e.landing vs) _ _ (without_after gone _ (logged_after resume_line store here));
         stops = (here.passed, here.stack);

@@ -4,7 +4,7 @@ use Rattle.std.proofs.Common.{Err, Ok, Result, ◌≡◌, ℕ, suc, ◌-◌, ◌
 use Rattle.std.specs.List.{AllZip}
 use Rattle.std.proofs.lemmas.List.{get_or_past}
 use Rattle.std.proofs.lemmas.Option.{get_or_from_slice_get, slice_get_cases, slice_get_within}
-use Rattle.cmm_program.specs.Placed.{every}
+use Rattle.std.specs.List.{list_all}
 
 -- ---- options and answers
 
@@ -20,9 +20,9 @@ at_result t f g P ok err = grind arith
 -- ---- elements
 
 -- of one of the elements
-pub every_get : {A : Type 0} (test : A → Bool) (xs : List A) (n : ℕ) (x : A) → IsTrue (every test xs) → slice_get xs n ≡ Some x → IsTrue (test x)
-every_get test (y ∷ ys) (suc n) x all is = grind (arith, nat_tests, every_get test ys n x)
-every_get test xs n x all is = grind (arith, nat_tests)
+pub list_all_get : {A : Type 0} (test : A → Bool) (xs : List A) (n : ℕ) (x : A) → IsTrue (list_all test xs) → slice_get xs n ≡ Some x → IsTrue (test x)
+list_all_get test (y ∷ ys) (suc n) x all is = grind (arith, nat_tests, list_all_get test ys n x)
+list_all_get test xs n x all is = grind (arith, nat_tests)
 
 pub all_get : {A : Type 0} (P : A → Type 0) (xs : List A) (n : ℕ) (x : A) → All P xs → slice_get xs n ≡ Some x → P x
 all_get P xs n x all is = grind (arith, get_or_from_slice_get, slice_get_within)

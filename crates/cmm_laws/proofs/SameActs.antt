@@ -6,8 +6,8 @@ use Rattle.cmm_program.specs.State.{Setting, Store, Wrong}
 use Rattle.cmm_program.specs.Acts.{Act, evaluated}
 use Rattle.cmm_program.specs.Writes.{reads_of}
 use Rattle.cmm_program.specs.Exits.{Landing}
-use Rattle.cmm_program.specs.Orders.{Answer, perform}
-use Rattle.cmm_program.specs.Control.{Control, State, over, landed, answer_done, next_act}
+use Rattle.cmm_program.specs.Performing.{Transfer, perform}
+use Rattle.cmm_program.specs.Control.{Control, State, over, landed, transferred, next_act}
 use Rattle.cmm_program.specs.Machine.{step_of}
 use Rattle.cmm_laws.specs.LockStep.{AreInLockStep}
 
@@ -32,16 +32,16 @@ module _ {C D : Type 0} {k : Control C} {l : Control D} {W : C → D → Type 0}
   landed_together s landing store cs ds are = grind (arith, same.begin, same.later, same.back, same.resume)
 
   -- after an answer
-  answered_together : (s : Setting) (answer : Answer) (cs : List C) (ds : List D) → AllZip W cs ds →
-      AreInLockStep W (answer_done k s answer cs) (answer_done l s answer ds)
-  answered_together s answer cs ds are = grind (arith, same.on, same.later, landed_together, dropped_together)
+  answered_together : (s : Setting) (transfer : Transfer) (cs : List C) (ds : List D) → AllZip W cs ds →
+      AreInLockStep W (transferred k s transfer cs) (transferred l s transfer ds)
+  answered_together s transfer cs ds are = grind (arith, same.on, same.later, landed_together, dropped_together)
 
   -- a state after an order that has come to an answer, or to an error
-  abbrev done : {E : Type 0} → Control E → Setting → State E → Tried Answer → State E
-  done j s st tried = elim tried [ Ok answer ↦ answer_done j s answer st.controls | Err e ↦ record st { store = over (Wrong e) st.store } ]
+  abbrev done : {E : Type 0} → Control E → Setting → State E → Tried Transfer → State E
+  done j s st tried = elim tried [ Ok transfer ↦ transferred j s transfer st.controls | Err e ↦ record st { store = over (Wrong e) st.store } ]
 
   -- after the next act, whatever it does
-  done_together : (s : Setting) (does : Act → Tried Answer) (a : State C) (b : State D) → AreInLockStep W a b →
+  done_together : (s : Setting) (does : Act → Tried Transfer) (a : State C) (b : State D) → AreInLockStep W a b →
       AreInLockStep W (done k s a (does (next_act k a.controls))) (done l s b (does (next_act l b.controls)))
   done_together s does a b together = grind (arith, together.store, same.act, answered_together)
 

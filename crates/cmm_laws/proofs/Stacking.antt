@@ -4,7 +4,7 @@ use Rattle.cmm_laws.proofs.Steps.{kept_by_steps, start_keeps}
 use Rattle.cmm_laws.specs.Stacks.{IsStack, stack_of, stackdata_of}
 use Rattle.cmm_program.specs.Control.{Control}
 use Rattle.cmm_program.specs.Machine.{start_of, steps_of}
-use Rattle.cmm_program.specs.State.{Frame, Setting}
+use Rattle.cmm_program.specs.State.{Activation, Setting}
 use Rattle.std.proofs.Common.{arith, List, [], ap, length, refl, suc, ℕ, ◌∷◌, ◌≡◌}
 use Rattle.std.proofs.lemmas.List.{length-map}
 
@@ -15,6 +15,6 @@ module _ {C : Type 0} (k : Control C) (s : Setting) where
       ((start_keeps k s input).1.1 (grind (arith, length-map)))
 
 -- one room for each frame
-pub length_stackdata : (s : Setting) (fs : List Frame) → length (stackdata_of s fs) ≡ length fs
+pub length_stackdata : (s : Setting) (fs : List Activation) → length (stackdata_of s fs) ≡ length fs
 length_stackdata s [] = refl
 length_stackdata s (f ∷ fs) = ap suc (length_stackdata s fs)

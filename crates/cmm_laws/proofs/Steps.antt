@@ -3,13 +3,13 @@ use Rattle.cmm_laws.proofs.Kept.{KeptBy, KeptIn, kept_and_then, kept_in}
 use Rattle.cmm_laws.proofs.Lists.{at_result, at_option}
 use Rattle.cmm_laws.proofs.StackKept.{After, Leads, land_after, nothing_after}
 use Rattle.cmm_laws.specs.Runs.{NextOrder, Traffic, traffic, yielded}
-use Rattle.cmm_program.specs.Acts.{Order}
+use Rattle.cmm_program.specs.Orders.{Order}
 use Rattle.cmm_program.specs.Client.{answered}
-use Rattle.cmm_program.specs.Control.{Control, State, answer_done, arrived, landed, over, ran}
+use Rattle.cmm_program.specs.Control.{Control, State, transferred, arrived, landed, over, ran}
 use Rattle.cmm_program.specs.Errors.{UncheckedError}
 use Rattle.cmm_program.specs.Exits.{Instead, Landing, land}
 use Rattle.cmm_program.specs.Machine.{first_store, start_of, step_of, steps_of}
-use Rattle.cmm_program.specs.Orders.{perform}
+use Rattle.cmm_program.specs.Performing.{perform}
 use Rattle.cmm_program.specs.State.{Ended, Outcome, Running, Setting, StackLimit, Store, Waiting, Wrong}
 use Rattle.std.proofs.Common.{arith, [], List, None, refl, suc, zero, ℕ, ◌≡◌}
 
@@ -42,9 +42,9 @@ module _ {C : Type 0} (k : Control C) (s : Setting) where
 
   -- what a state has after an order, an unchecked error and a client's answer, and where it stays
   pub step_has : (P : State C → Type 0) (st : State C) →
-      ((order : Order) → NextOrder k s st order → KeptBy (λ answer. P (answer_done k s answer st.controls)) (perform s order st.store)) →
+      ((order : Order) → NextOrder k s st order → KeptBy (λ transfer. P (transferred k s transfer st.controls)) (perform s order st.store)) →
       ((error : UncheckedError) → P (record st { store = over (Wrong error) st.store })) →
-      ((values : List ℕ) → st.store.status ≡ Waiting values → P (answer_done k s (answered s values st.store) st.controls)) →
+      ((values : List ℕ) → st.store.status ≡ Waiting values → P (transferred k s (answered s values st.store) st.controls)) →
       (yielded st.store.status ≡ None → P st) → P (step_of k s st)
   step_has P st does fails answers stays =
       let runs : st.store.status ≡ Running → P (ran k s st) =

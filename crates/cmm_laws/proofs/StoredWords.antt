@@ -1,4 +1,5 @@
 -- The bytes of a number and back, and words stored and loaded again.
+use Rattle.std.specs.List.{list_all, range_with_len}
 use Rattle.std.proofs.lemmas.Bool.Decides.{nat_tests}
 use Rattle.std.proofs.lemmas.Grind.{get_or_head, get_or_tail}
 use Rattle.std.proofs.Common.{◌≡◌, ◌⊎◌, ℕ, zero, suc, ◌+◌, ◌/◌, ◌%◌, ◌≤◌, ◌==◌, ◌&&◌, true, List, [], ◌∷◌, length, map, Ok, refl, ap, arith, pow-suc, mod-eq_of_lt}
@@ -7,8 +8,8 @@ use Rattle.std.proofs.Math.Arith.{mod-mul}
 use Rattle.cmm_words.specs.Widths.{bytes}
 use Rattle.cmm_program.specs.Errors.{all_of}
 use Rattle.cmm_program.specs.Layout.{bytes_of}
-use Rattle.cmm_program.specs.Memory.{Memory, cell_at, with_byte, with_bytes, addresses}
-use Rattle.cmm_program.specs.Values.{all_there, byte_of}
+use Rattle.cmm_program.specs.Memory.{Memory, cell_at, with_byte, with_bytes}
+use Rattle.cmm_program.specs.Values.{is_there, byte_of}
 use Rattle.cmm_laws.proofs.Cells.{read_after_write}
 use Rattle.cmm_laws.specs.StoredWords.{BytesOfNumber, NumberOfBytes, BytesOfSpelled, StoredIsLoaded, WordsElsewhereStay, AccessStays}
 
@@ -33,9 +34,10 @@ bytes_of_spelled (byte ∷ bytes) are = grind (arith, are 0 0, bytes_of_spelled 
 
 -- a write leaves which of so many cells are there
 all_there_stay : (m : Memory) (address : ℕ) (bytes : List ℕ) (other size : ℕ) →
-    all_there (map (cell_at (with_bytes m address bytes)) (addresses other size)) ≡ all_there (map (cell_at m) (addresses other size))
+    list_all is_there (map (cell_at (with_bytes m address bytes)) (range_with_len other size))
+    ≡ list_all is_there (map (cell_at m) (range_with_len other size))
 all_there_stay m address bytes other zero = refl
-all_there_stay m address bytes other (suc size) = grind (arith, read_after_write, all_there_stay m address bytes (suc other) size)
+all_there_stay m address bytes other (suc size) = grind (arith, read_after_write, all_there_stay m address bytes (other + 1) size)
 
 -- so it leaves which addresses may be accessed
 pub access_stays : AccessStays
@@ -44,19 +46,19 @@ access_stays m address bytes size aligned other = ap (λ all. (other % aligned =
 -- ---- words stored
 
 -- bytes written where all cells are there are read again
-bytes_read : (m : Memory) (address size value : ℕ) → all_there (map (cell_at m) (addresses address size)) ≡ true →
-    all_of (map (λ at. byte_of (cell_at (with_bytes m address (bytes_of size value)) at)) (addresses address size)) ≡ Ok (bytes_of size value)
+bytes_read : (m : Memory) (address size value : ℕ) → list_all is_there (map (cell_at m) (range_with_len address size)) ≡ true →
+    all_of (map (λ at. byte_of (cell_at (with_bytes m address (bytes_of size value)) at)) (range_with_len address size)) ≡ Ok (bytes_of size value)
 bytes_read m address zero value there = refl
 bytes_read m address (suc size) value there =
     let here = read_after_write m address (bytes_of (suc size) value) address in
     let kept = all_there_stay m address (value % 256 ∷ []) in
-    grind (arith, nat_tests, get_or_head, here, kept, bytes_read (with_byte m address (value % 256)) (suc address) size)
+    grind (arith, nat_tests, get_or_head, here, kept, bytes_read (with_byte m address (value % 256)) (address + 1) size)
 
 -- bytes elsewhere stay
 bytes_stay : (m : Memory) (address : ℕ) (bytes : List ℕ) (other size : ℕ) → (other + size ≤ address) ⊎ (address + length bytes ≤ other) →
-    map (λ at. byte_of (cell_at (with_bytes m address bytes) at)) (addresses other size) ≡ map (λ at. byte_of (cell_at m at)) (addresses other size)
+    map (λ at. byte_of (cell_at (with_bytes m address bytes) at)) (range_with_len other size) ≡ map (λ at. byte_of (cell_at m at)) (range_with_len other size)
 bytes_stay m address bytes other zero apart = refl
-bytes_stay m address bytes other (suc size) apart = grind (arith, nat_tests, read_after_write, bytes_stay m address bytes (suc other) size)
+bytes_stay m address bytes other (suc size) apart = grind (arith, nat_tests, read_after_write, bytes_stay m address bytes (other + 1) size)
 
 -- a stored word is loaded again
 pub stored_is_loaded : StoredIsLoaded

@@ -15,7 +15,7 @@ use Rattle.cmm_program.specs.InRange.{IsInRange, is_statement, is_body_in}
 use Rattle.cmm_program.specs.Machine.{start, step, state_after}
 use Rattle.cmm_program.specs.Memory.{Memory, Room}
 use Rattle.cmm_program.specs.Placed.{IsPlaced}
-use Rattle.cmm_program.specs.State.{Setting, Frame, Status, Running, Waiting}
+use Rattle.cmm_program.specs.State.{Setting, Activation, Status, Running, Waiting, stack_top}
 use Rattle.cmm_program.specs.Todo.{Todo}
 use Rattle.cmm_program.specs.Typing.{typed}
 use Rattle.cmm_laws.specs.Runs.{Traffic, traffic, yielded}
@@ -30,16 +30,16 @@ IsStatementOf p q statement = IsTrue (is_statement p q statement.tokens statemen
 
 -- An activation of a procedure: each of its variables has a value, of the variable's width; it waits at one of its sites,
 -- if it is suspended; and each statement that it has still to do is in range in the procedure.
-pub record IsActivationOf (p : Program) (q : Proc) (f : Frame) (t : Todo) : Type 0 where
-  pub variables : AllZip (λ v value. IsWord v.width value) q.vars f.variables
-  pub site : IfSome f.site (λ n. n < length q.sites)
+pub record IsActivationOf (p : Program) (q : Proc) (a : Activation) (t : Todo) : Type 0 where
+  pub variables : AllZip (λ v value. IsWord v.width value) q.vars a.variables
+  pub site : IfSome a.site (λ n. n < length q.sites)
   pub statements : All (IsStatementOf p q) t.rest
 
 -- a frame, and where its activation stands: both name one procedure of the program
-pub record IsActivation (s : Setting) (f : Frame) (t : Todo) : Type 0 where
-  pub known : f.procedure < length s.program.procs
-  pub control : t.procedure ≡ f.procedure
-  pub procedure : (q : Proc) → procedure_at s f.procedure ≡ Some q → IsActivationOf s.program q f t
+pub record IsActivation (s : Setting) (a : Activation) (t : Todo) : Type 0 where
+  pub known : a.procedure < length s.program.procs
+  pub control : t.procedure ≡ a.procedure
+  pub procedure : (q : Proc) → procedure_at s a.procedure ≡ Some q → IsActivationOf s.program q a t
 
 -- what is demanded of the youngest activation, by its site, or of there being none
 abbrev pub Demand : Type 1
@@ -51,10 +51,10 @@ IsSuspended youngest = IfSome youngest IsSome
 
 -- As many activations stand somewhere as there are frames, youngest first. The youngest is as demanded, and each older one is
 -- suspended.
-abbrev pub AreActivations : Setting → Demand → List Frame → List Todo → Type 0
+abbrev pub AreActivations : Setting → Demand → List Activation → List Todo → Type 0
 AreActivations s P [] [] = P None
-AreActivations s P (f ∷ fs) (t ∷ ts) = P (Some f.site) × IsActivation s f t × AreActivations s IsSuspended fs ts
-AreActivations s P frames todos = ⊥
+AreActivations s P (a ∷ older) (t ∷ ts) = P (Some a.site) × IsActivation s a t × AreActivations s IsSuspended older ts
+AreActivations s P activations todos = ⊥
 
 -- In a running state there is an activation, which isn't suspended; in one that waits for the client there is a suspended one.
 abbrev pub Youngest : Status → Demand
@@ -77,7 +77,7 @@ RoomFits room = All CellFits room.cells
 
 -- and so in all of memory
 pub record MemoryFits (memory : Memory) : Type 0 where
-  pub globals : RoomFits memory.globals
+  pub data_room : RoomFits memory.data_room
   pub rooms : All RoomFits memory.rooms
 
 -- input, what was taken of it, and output are bytes
@@ -91,31 +91,31 @@ ArePassed t = All IsByte t.input × All IsByte t.taken × All IsByte t.output
 pub record StateFits (s : Setting) (st : State Todo) : Type 0 where
   pub registers : AllZip (λ g value. IsWord g.width value) s.program.globals st.store.registers
   pub memory : MemoryFits st.store.memory
-  pub activations : AreActivations s (Youngest st.store.status) st.store.frames st.controls
+  pub activations : AreActivations s (Youngest st.store.status) st.store.activations st.controls
   pub yielded : IfSome (yielded st.store.status) (All (IsWord W64))
 
 -- a state of which that holds: what goes in and out of it is bytes, and its frames fit the stack
 pub record IsSound (s : Setting) (st : State Todo) : Type 0 where
   pub fits : StateFits s st
   pub passed : ArePassed (traffic st.store)
-  pub stack : sum_of_sizes s st.store.frames ≤ s.top - s.base
+  pub stack : sum_of_sizes s st.store.activations ≤ s.stack_size
 
 -- what a run needs for that: a program in range at a valid placement, and a stack whose addresses are words
 pub record IsSetUp (s : Setting) : Type 0 where
   pub program : IsInRange s.program
   pub placement : IsPlaced s.program s.placement
-  pub top : s.top < 2 ^ 64
+  pub top : stack_top s < 2 ^ 64
 
 -- With an input of bytes the first state is sound, each step leads from a sound state to a sound one, and so every state is
 -- sound.
 pub record StatesAreSound : Type 0 where
   pub first : (s : Setting) → IsSetUp s → (input : List ℕ) → All IsByte input → IsSound s (start s input)
   pub next : (s : Setting) → IsSetUp s → (st : State Todo) → IsSound s st → IsSound s (step s st)
-  pub every : (s : Setting) → IsSetUp s → (input : List ℕ) → All IsByte input → (m : ℕ) → IsSound s (state_after s input m)
+  pub list_all : (s : Setting) → IsSetUp s → (input : List ℕ) → All IsByte input → (m : ℕ) → IsSound s (state_after s input m)
 
 -- In a sound state, an expression of the youngest activation's procedure that keeps the rules on widths has a value of its
 -- width, if it has one.
 abbrev pub ExpressionsFit : Type 0
-ExpressionsFit = (s : Setting) (st : State Todo) (f : Frame) (fs : List Frame) (q : Proc) (e : Expression) (w : Width) (value : ℕ) →
-    IsSetUp s → IsSound s st → st.store.frames ≡ f ∷ fs → procedure_at s f.procedure ≡ Some q →
+ExpressionsFit = (s : Setting) (st : State Todo) (a : Activation) (older : List Activation) (q : Proc) (e : Expression) (w : Width) (value : ℕ) →
+    IsSetUp s → IsSound s st → st.store.activations ≡ a ∷ older → procedure_at s a.procedure ≡ Some q →
     typed s.program q e ≡ Some w → value_of e (reads_of s st.store) ≡ Ok value → IsWord w value

@@ -9,8 +9,10 @@ use Rattle.cmm_program.specs.declared.procedure.Target.{Target}
 use Rattle.cmm_program.specs.Errors.{UncheckedError}
 use Rattle.cmm_program.specs.Layout.{bytes_of}
 use Rattle.cmm_program.specs.Memory.{with_bytes}
-use Rattle.cmm_program.specs.State.{Setting, Frame, Store, Status, Running, Waiting, Ended, Wrong, Outcome}
-use Rattle.cmm_program.specs.Acts.{Order, Put, Suspend, PutByte, GetByte, evaluated}
+use Rattle.cmm_program.specs.State.{Setting, Activation, Store, Status, Running, Waiting, Ended, Wrong, Outcome}
+use Rattle.cmm_program.specs.Acts.{PutByte, GetByte, evaluated}
+use Rattle.cmm_program.specs.Orders as order
+use Rattle.cmm_program.specs.Orders.{Order}
 use Rattle.cmm_program.specs.Values.{Value}
 use Rattle.cmm_program.specs.Writes.{reads_of}
 use Rattle.cmm_program.specs.Control.{Control, State, next_act}
@@ -59,13 +61,13 @@ Takes k st = (target : Target) × (st.store.status ≡ Running) × (next_act k s
 pub data Adds {C : Type 0} (k : Control C) (s : Setting) (st : State C) : Traffic → Type 0 where
   Nothing : Adds k s st (record (traffic st.store) { yielded = None })
   -- a foreign call puts the low byte of a value
-  Output : (value : Value) (n : ℕ) → next_act k st.controls ≡ PutByte value → NextOrder k s st (Put n) →
+  Output : (value : Value) (n : ℕ) → next_act k st.controls ≡ PutByte value → NextOrder k s st (order.PutByte n) →
       Adds k s st (record (traffic st.store) { output = st.store.output ++ n % 256 ∷ []; yielded = None })
   -- a foreign call takes the next byte of the input
   Input : (byte : ℕ) (rest : List ℕ) → Takes k st → st.store.input ≡ byte ∷ rest →
       Adds k s st (record (traffic st.store) { input = rest; taken = st.store.taken ++ byte ∷ []; yielded = None })
   -- a yield writes its line, and the client is waited for
-  Line : (site : ℕ) (values : List ℕ) → NextOrder k s st (Suspend site values) →
+  Line : (site : ℕ) (values : List ℕ) → NextOrder k s st (order.Yield site values) →
       Adds k s st (record (traffic st.store) { log = st.store.log ++ yield_line values; yielded = Some values })
   -- the client answers with lines of its own
   Lines : (values text : List ℕ) → st.store.status ≡ Waiting values →
@@ -112,9 +114,9 @@ RefusedOnlyLogs = (s : Setting) (yielded : List ℕ) (cursor : ℕ) (command : C
 pub data Changes (cursor : ℕ) (before : Store) : Store → Type 0 where
   Log : (text : List ℕ) → Changes cursor before (logged text before)
   -- a variable of the activation at the cursor
-  Variable : (n value : ℕ) → Changes cursor before (logged ok_line record before { frames = with_value cursor n value before.frames })
+  Variable : (n value : ℕ) → Changes cursor before (logged ok_line record before { activations = with_value cursor n value before.activations })
   -- eight bytes of data
-  Data : (address value : ℕ) → may_poke before.memory.globals address ≡ true →
+  Data : (address value : ℕ) → may_poke before.memory.data_room address ≡ true →
       Changes cursor before (logged ok_line record before { memory = with_bytes before.memory address (bytes_of 8 value) })
 
 -- a command that does not resume changes a variable or data, if anything, and writes to the log
@@ -123,11 +125,11 @@ CommandChanges = (s : Setting) (yielded : List ℕ) (cursor cursor' : ℕ) (comm
     reply s yielded cursor command store ≡ Then cursor' after → Changes cursor' store after
 
 -- the procedures and the sites of activations
-abbrev pub places : List Frame → List (ℕ × Option ℕ)
-places frames = map (λ f. (f.procedure, f.site)) frames
+abbrev pub places : List Activation → List (ℕ × Option ℕ)
+places activations = map (λ a. (a.procedure, a.site)) activations
 
 -- and leaves everything else
 abbrev pub CommandSpares : Type 0
 CommandSpares = (s : Setting) (yielded : List ℕ) (cursor cursor' : ℕ) (command : Command) (store after : Store) →
     reply s yielded cursor command store ≡ Then cursor' after →
-    (after ≡ record store { frames = after.frames; memory = after.memory; log = after.log }) × (places after.frames ≡ places store.frames)
+    (after ≡ record store { activations = after.activations; memory = after.memory; log = after.log }) × (places after.activations ≡ places store.activations)

@@ -6,7 +6,7 @@ use Rattle.cmm_program.specs.Layout.{bytes_of}
 use Rattle.cmm_program.specs.Memory.{Memory, cell_at, with_bytes, number_of}
 use Rattle.cmm_program.specs.State.{Setting, Store}
 use Rattle.cmm_program.specs.Values.{may_access, loaded}
-use Rattle.cmm_program.specs.Acts as place
+use Rattle.cmm_program.specs.Orders as place
 use Rattle.cmm_program.specs.Writes.{reads_of, put}
 
 -- so many bytes of a number are so many bytes

@@ -8,9 +8,9 @@ use Rattle.cmm_program.specs.declared.procedure.Proc.{Proc}
 use Rattle.cmm_program.specs.declared.procedure.StackItem.{StackItem}
 use Rattle.cmm_program.specs.declared.placement.Placement.{Placement}
 use Rattle.cmm_program.specs.declared.placement.PlaceRow.{PlaceRow}
-use Rattle.cmm_program.specs.Layout.{label_addresses, data_bytes, stack_labels, stack_size}
+use Rattle.cmm_program.specs.Layout.{label_addresses, data_bytes, stackdata_labels, stackdata_size}
 use Rattle.cmm_program.specs.Bounds.{frame_bound, step_factor}
-use Rattle.cmm_program.specs.Placed.{is_row_placed, is_placed}
+use Rattle.cmm_program.specs.Placed.{IsPlaced, ascend_from, is_row_placed, are_rows_placed}
 use Rattle.cmm_program.proofs.Yielding.{divide, divide-placed}
 use Rattle.cmm_program.proofs.Calls.{sum-main, deep, deep-placed, cutting, cutting-placed}
 
@@ -65,10 +65,10 @@ items =
     ∷ record { align = 16; length = 0; label = false }
     ∷ []
 
-item_labels : stack_labels items ≡ 8 ∷ 17 ∷ []
+item_labels : stackdata_labels items ≡ 8 ∷ 17 ∷ []
 item_labels = refl
 
-item_size : stack_size items ≡ 32
+item_size : stackdata_size items ≡ 32
 item_size = refl
 
 -- ---- bounds
@@ -76,11 +76,11 @@ factor : step_factor deep ≡ 2368
 factor = refl
 
 -- ---- placements
-deep_is_placed : is_placed deep deep-placed ≡ true
-deep_is_placed = refl
+deep_is_placed : IsPlaced deep deep-placed
+deep_is_placed = record { rows = refl; ascending = refl }
 
-cutting_is_placed : is_placed cutting cutting-placed ≡ true
-cutting_is_placed = refl
+cutting_is_placed : IsPlaced cutting cutting-placed
+cutting_is_placed = record { rows = refl; ascending = refl }
 
 -- two continuations and the items above, in 22 tokens: a frame has at most 368 bytes
 abbrev both : Proc
@@ -141,11 +141,9 @@ stackdata_outside : is_row_placed both record row { stack = 72 ∷ 81 ∷ [] } �
 stackdata_outside = refl
 
 -- a row for each procedure, in ascending order of code
-row_missing : is_placed deep record { rows = [] } ≡ false
+row_missing : are_rows_placed deep.procs [] ≡ false
 row_missing = refl
 
-codes_fall : is_placed deep record {
-  rows =
-      record { code = 0x10010; frame = 48; pairs = []; stack = [] } ∷ record { code = 0x10000; frame = 32; pairs = []; stack = [] } ∷ [];
-} ≡ false
+codes_fall : ascend_from 0
+    (record { code = 0x10010; frame = 48; pairs = []; stack = [] } ∷ record { code = 0x10000; frame = 32; pairs = []; stack = [] } ∷ []) ≡ false
 codes_fall = refl

@@ -1,5 +1,5 @@
 -- A notation for programs, settings and scripts of worked rows.
-use Rattle.std.proofs.Common.{ℕ, ◌+◌, Bool, false, List, [], Some, None}
+use Rattle.std.proofs.Common.{ℕ, Bool, false, List, [], Some, None}
 use Rattle.std.specs.Fmt as Fmt
 use denote.Hole.Carrier as Carrier
 use Rattle.cmm_program.specs.declared.expression.Expression.TheBlock as Expression
@@ -21,6 +21,7 @@ use Rattle.cmm_program.specs.declared.statement.Case.{Case}
 use Rattle.cmm_program.specs.declared.procedure.VarInfo.{VarInfo}
 use Rattle.cmm_program.specs.declared.program.Program.{Program}
 use Rattle.cmm_program.specs.declared.placement.Placement.{Placement}
+use Rattle.rv_table.specs.Memory.{stack_base}
 use Rattle.cmm_program.specs.State.{Setting, Status}
 use Rattle.cmm_program.specs.Control.{State}
 use Rattle.cmm_program.specs.Todo.{Todo}
@@ -49,7 +50,7 @@ arm case body = roll-Arm record { case = case; body = body }
 -- a stack of so many bytes, and a client
 abbrev pub setting : Program → Placement → ℕ → Script → Setting
 setting program placement stack script =
-    record { program = program; placement = placement; base = 0x60001000; top = 0x60001000 + stack; script = script }
+    record { program = program; placement = placement; stack_base = stack_base; stack_size = stack; script = script }
 
 -- a client that answers no yield, and one that answers every yield alike
 abbrev pub no_client : Script

@@ -40,8 +40,7 @@ main_in_range = record {
   formals = refl;
   variables = omega arith;
   kinds = refl;
-  items = refl;
-  stackdata = omega arith;
+  frames = record { items = refl; stackdata = omega arith; tokens = omega arith };
   continuations = refl;
   sites = refl;
   body = refl;
@@ -49,7 +48,6 @@ main_in_range = record {
   continuations_numbered = refl;
   sites_numbered = refl;
   counts = omega arith;
-  tokens = omega arith;
 }
 
 framed_in_range : IsProcInRange two_procedures framed
@@ -60,8 +58,7 @@ framed_in_range = record {
   formals = refl;
   variables = omega arith;
   kinds = refl;
-  items = refl;
-  stackdata = omega arith;
+  frames = record { items = refl; stackdata = omega arith; tokens = omega arith };
   continuations = refl;
   sites = refl;
   body = refl;
@@ -69,7 +66,6 @@ framed_in_range = record {
   continuations_numbered = refl;
   sites_numbered = refl;
   counts = omega arith;
-  tokens = omega arith;
 }
 
 in_range : IsInRange two_procedures

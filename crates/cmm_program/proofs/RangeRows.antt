@@ -1,4 +1,5 @@
 -- Worked rows: resolved programs are in range, with counts of tokens that were counted in their texts.
+use Rattle.std.specs.List.{range_with_len}
 use Rattle.std.proofs.Common.{◌≡◌, ◌+◌, Bool, true, false, refl}
 use Rattle.std.specs.Prelude.{◌&&◌, nat_le, None}
 use Rattle.cmm_words.specs.declared.width.Width.TheVariants.{W8, W64}
@@ -9,8 +10,8 @@ use Rattle.cmm_program.specs.declared.statement.Form.TheVariants as f
 use Rattle.cmm_program.specs.declared.procedure.Proc.{Proc}
 use Rattle.cmm_program.specs.declared.program.Program.{Program}
 use Rattle.cmm_program.specs.InRange.{is_body_in, is_site, is_continuation}
-use Rattle.cmm_program.specs.Numbering.{counted, body_numbers, label_number, continuation_number, site_number, body_tokens}
-use Rattle.cmm_program.specs.Placed.{every}
+use Rattle.cmm_program.specs.Numbering.{body_numbers, label_number, continuation_number, site_number, body_tokens}
+use Rattle.std.specs.List.{list_all}
 use Rattle.cmm_program.specs.Tokens.{heading_tokens}
 use Rattle.cmm_program.specs.Typing.{typed}
 use Rattle.cmm_program.proofs.Notation.{opened, num}
@@ -20,7 +21,7 @@ use Rattle.cmm_program.proofs.Yielding.{unwinding, unwinding-mid, checked, check
 -- the statements, sites, continuations and counts of a procedure
 abbrev keeps_rules : Program → Proc → Bool
 keeps_rules p q =
-    is_body_in p q (f.Span q.body) && every (is_site p q) q.sites && every (is_continuation p q) q.conts
+    is_body_in p q (f.Span q.body) && list_all (is_site p q) q.sites && list_all (is_continuation p q) q.conts
     && nat_le (heading_tokens q + body_tokens q) q.tokens
 
 alternates_main : keeps_rules alternates alternates-main ≡ true
@@ -86,14 +87,14 @@ unfolding opened
 widths_differ = refl
 
 -- numbers stand in textual order
-alternates_continuations : body_numbers continuation_number alternates-t ≡ counted 0 3
+alternates_continuations : body_numbers continuation_number alternates-t ≡ range_with_len 0 3
 unfolding opened
 alternates_continuations = refl
 
-divide_sites : body_numbers site_number divide-main ≡ counted 0 2
+divide_sites : body_numbers site_number divide-main ≡ range_with_len 0 2
 unfolding opened
 divide_sites = refl
 
-divide_labels : body_numbers label_number divide-put ≡ counted 0 1
+divide_labels : body_numbers label_number divide-put ≡ range_with_len 0 1
 unfolding opened
 divide_labels = refl

@@ -48,7 +48,7 @@ ends_at_call : seen (state_after (setting tail tail-placed 16 no_client) [] 1) �
 unfolding opened
 ends_at_call = refl
 
-caller_not_suspended : map (λ f. f.site) (state_after (setting tail tail-placed 16 no_client) [] 1).store.frames ≡ None ∷ []
+caller_not_suspended : map (λ f. f.site) (state_after (setting tail tail-placed 16 no_client) [] 1).store.activations ≡ None ∷ []
 unfolding opened
 caller_not_suspended = refl
 

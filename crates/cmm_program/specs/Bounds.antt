@@ -2,7 +2,7 @@
 use Rattle.std.specs.Prelude.{ℕ, ◌+◌, ◌*◌, max, List, [], ◌∷◌}
 use Rattle.cmm_program.specs.declared.procedure.Proc.{Proc}
 use Rattle.cmm_program.specs.declared.program.Program.{Program}
-use Rattle.cmm_program.specs.Layout.{stack_size}
+use Rattle.cmm_program.specs.Layout.{stackdata_size}
 
 abbrev pub longest : List Proc → ℕ
 longest [] = 0
@@ -14,7 +14,7 @@ step_factor p = 64 * longest p.procs
 
 -- the greatest frame of a procedure, in bytes
 abbrev pub frame_bound : Proc → ℕ
-frame_bound p = 8 * p.tokens + stack_size p.stack + 160
+frame_bound p = 8 * p.tokens + stackdata_size p.stack + 160
 
 -- the most code that units with so many tokens may have, in bytes
 abbrev pub code_bound : ℕ → ℕ

@@ -17,12 +17,12 @@ use Rattle.cmm_program.specs.declared.procedure.Site.{Site}
 use Rattle.cmm_program.specs.declared.procedure.VarInfo.{VarInfo}
 use Rattle.cmm_program.specs.declared.program.Label.{Label}
 use Rattle.cmm_program.specs.Errors.{and_then, provided, given, all_of, with_some}
-use Rattle.cmm_program.specs.Layout.{label_of, bytes_of}
+use Rattle.cmm_program.specs.Layout.{label_address, bytes_of}
 use Rattle.cmm_program.specs.Memory.{Room, is_in, with_bytes}
-use Rattle.cmm_program.specs.State.{Setting, Frame, Store, Ended, Stopped}
-use Rattle.cmm_program.specs.Frames.{procedure_at, site_cuts, without}
+use Rattle.cmm_program.specs.State.{Setting, Activation, Store, Ended, Stopped}
+use Rattle.cmm_program.specs.Frames.{Suspended, suspended_at, site_cuts, without}
 use Rattle.cmm_program.specs.Exits.{Exit, return_exit, unwind_exit}
-use Rattle.cmm_program.specs.Orders.{Answer, Away, Over, cut_among, found_exit}
+use Rattle.cmm_program.specs.Performing.{Transfer, Away, Over, cut_among, found_exit}
 use Rattle.cmm_program.specs.Liveness.{is_live_at}
 use Rattle.cmm_program.specs.Walks.{walk_of, live_value, spans_shown}
 
@@ -31,7 +31,7 @@ pub data Reply : Type 0 where
   -- the next command runs, with the cursor this many activations above the youngest
   Then : ℕ → Store → Reply
   -- the run goes on, or ends
-  Resumes : Answer → Reply
+  Resumes : Transfer → Reply
 
 -- a command that is refused answers why
 abbrev pub Asked : Type 0
@@ -42,20 +42,8 @@ logged text store = record store { log = store.log ++ text }
 
 -- ---- the activation at the cursor
 
--- a suspended activation: its frame, its procedure, and its site with the site's number
-pub record Suspended : Type 0 where
-  pub frame : Frame
-  pub procedure : Proc
-  pub number : ℕ
-  pub site : Site
-
-abbrev pub suspended_at : Setting → List Frame → Option Suspended
-suspended_at s [] = None
-suspended_at s (f ∷ fs) = with_some f.site (λ n. with_some (procedure_at s f.procedure) (λ p. with_some (slice_get p.sites n) (λ site.
-    Some record { frame = f; procedure = p; number = n; site = site })))
-
 abbrev pub at_cursor : Setting → ℕ → Store → Option Suspended
-at_cursor s cursor store = suspended_at s (drop cursor store.frames)
+at_cursor s cursor store = suspended_at s (drop cursor store.activations)
 
 -- the cursor stands here now
 abbrev pub stands : ℕ → Suspended → Store → Reply
@@ -69,11 +57,11 @@ span_value token (s ∷ ss) = elim (token == s.token) [ true ↦ s.value | false
 abbrev pub descriptor : Setting → ℕ → Suspended → ℕ
 descriptor s token a = span_value token (spans_shown s a.site)
 
--- the first activation with a descriptor, from these frames' youngest towards older ones
-abbrev pub sought : Setting → ℕ → ℕ → ℕ → List Frame → Store → Asked
+-- the first activation with a descriptor, from the youngest of these towards older ones
+abbrev pub sought : Setting → ℕ → ℕ → ℕ → List Activation → Store → Asked
 sought s token value cursor [] store = Err NoActivation
-sought s token value cursor (f ∷ fs) store = given (suspended_at s (f ∷ fs)) NoActivation (λ a.
-    elim (descriptor s token a == value) [ true ↦ Ok (stands cursor a store) | false ↦ sought s token value (suc cursor) fs store ])
+sought s token value cursor (a ∷ older) store = given (suspended_at s (a ∷ older)) NoActivation (λ here.
+    elim (descriptor s token here == value) [ true ↦ Ok (stands cursor here store) | false ↦ sought s token value (suc cursor) older store ])
 
 -- ---- values
 
@@ -102,13 +90,13 @@ resumed gone exit values store =
 
 -- ---- changes
 
-abbrev pub with_value : ℕ → ℕ → ℕ → List Frame → List Frame
+abbrev pub with_value : ℕ → ℕ → ℕ → List Activation → List Activation
 with_value cursor n value [] = []
-with_value zero n value (f ∷ fs) = record f { variables = slice_set f.variables n value } ∷ fs
-with_value (suc cursor) n value (f ∷ fs) = f ∷ with_value cursor n value fs
+with_value zero n value (a ∷ older) = record a { variables = slice_set a.variables n value } ∷ older
+with_value (suc cursor) n value (a ∷ older) = a ∷ with_value cursor n value older
 
 abbrev pub set_done : ℕ → ℕ → ℕ → Store → Reply
-set_done cursor n value store = Then cursor (logged ok_line record store { frames = with_value cursor n value store.frames })
+set_done cursor n value store = Then cursor (logged ok_line record store { activations = with_value cursor n value store.activations })
 
 abbrev pub is_linked : List ℕ → List (List ℕ) → Bool
 is_linked name [] = false
@@ -119,13 +107,13 @@ abbrev pub linked_label : List ℕ → List Label → Option Label
 linked_label name [] = None
 linked_label name (l ∷ ls) = elim (is_linked name l.links) [ true ↦ Some l | false ↦ linked_label name ls ]
 
--- 8 bytes may be written at an address where it is a multiple of 8 and all of them lie in data
+-- 8 bytes may be written at an address where it is a multiple of 8 and all of them lie in the room of data
 abbrev pub may_poke : Room → ℕ → Bool
-may_poke globals address = (address % 8 == 0) && is_in globals address && is_in globals (address + 7)
+may_poke room address = (address % 8 == 0) && is_in room address && is_in room (address + 7)
 
 abbrev pub poked : ℕ → ℕ → ℕ → Store → Asked
 poked cursor address value store =
-    provided (may_poke store.memory.globals address) NoPlace
+    provided (may_poke store.memory.data_room address) NoPlace
     (Ok (Then cursor (logged ok_line record store { memory = with_bytes store.memory address (bytes_of 8 value) })))
 
 -- ---- the commands
@@ -140,11 +128,11 @@ asked s yielded cursor Next store = given (at_cursor s (suc cursor) store) NoAct
 asked s yielded cursor (Desc token) store =
     given (at_cursor s cursor store) NoActivation (λ a. Ok (Then cursor (logged (descriptor_line (descriptor s token a)) store)))
 asked s yielded cursor (Seek token value) store =
-    and_then (number_given yielded value) (λ v. sought s token v cursor (drop cursor store.frames) store)
+    and_then (number_given yielded value) (λ v. sought s token v cursor (drop cursor store.activations) store)
 asked s yielded cursor (Var n) store =
     given (at_cursor s cursor store) NoActivation (λ a.
     given (variable_info a n) NoVariable (λ info.
-    Ok (Then cursor (logged (var_line n (live_value a.procedure a.number a.frame.variables n)) store))))
+    Ok (Then cursor (logged (var_line n (live_value a.procedure a.number a.activation.variables n)) store))))
 asked s yielded cursor (Set n value) store =
     and_then (number_given yielded value) (λ v.
     given (at_cursor s cursor store) NoActivation (λ a.
@@ -154,7 +142,7 @@ asked s yielded cursor (Set n value) store =
     (provided (fits info.width v) DoesNotFit (Ok (set_done cursor n v store)))))))
 asked s yielded cursor (Poke name offset value) store =
     and_then (number_given yielded value) (λ v.
-    given (linked_label name s.program.labels) NoPlace (λ l. poked cursor (label_of s.program l + offset) v store))
+    given (linked_label name s.program.labels) NoPlace (λ l. poked cursor (label_address s.program l + offset) v store))
 asked s yielded cursor (Return exit values) store =
     and_then (numbers_given yielded values) (λ vs.
     given (at_cursor s 0 store) NoActivation (λ a. resumed 0 (return_exit a.procedure a.site exit) vs store))
@@ -164,7 +152,7 @@ asked s yielded cursor (Unwind exit values) store =
 asked s yielded cursor (Cut to values) store =
     and_then (number_given yielded to) (λ k.
     and_then (numbers_given yielded values) (λ vs.
-    given (cut_among s 0 (site_cuts s store.frames) k store.frames) NoCut (λ found.
+    given (cut_among s 0 (site_cuts s store.activations) k store.activations) NoCut (λ found.
     resumed found.younger (found_exit s found) vs store)))
 asked s yielded cursor Stop store = Ok (Resumes (Over 0 record store { status = Ended Stopped }))
 
@@ -176,11 +164,11 @@ reply s yielded cursor command store = elim (asked s yielded cursor command stor
 ]
 
 -- one command after the other, until one resumes or stops; at their end the run is stopped
-abbrev pub commands_run : Setting → List ℕ → ℕ → List Command → Store → Answer
+abbrev pub commands_run : Setting → List ℕ → ℕ → List Command → Store → Transfer
 commands_run s yielded cursor [] store = Over 0 record store { status = Ended Stopped }
 commands_run s yielded cursor (c ∷ cs) store = elim (reply s yielded cursor c store) [
   | Then cursor' store' ↦ commands_run s yielded cursor' cs store'
-  | Resumes answer ↦ answer
+  | Resumes transfer ↦ transfer
 ]
 
 -- ---- the block that answers
@@ -206,5 +194,5 @@ commands_for yielded script = elim (block_with (is_for_code yielded) script.bloc
 ]
 
 -- the client's answer to a yield of these values
-abbrev pub answered : Setting → List ℕ → Store → Answer
+abbrev pub answered : Setting → List ℕ → Store → Transfer
 answered s yielded store = commands_run s yielded 0 (commands_for yielded s.script) store

@@ -5,7 +5,7 @@ use Rattle.cmm_program.specs.State.{Setting, Store, Status, Running, Ended, Wron
 use Rattle.cmm_program.specs.Acts.{Act, Nothing, evaluated}
 use Rattle.cmm_program.specs.Writes.{reads_of}
 use Rattle.cmm_program.specs.Exits.{Landing, Called, Instead, Back, Resumed, land}
-use Rattle.cmm_program.specs.Orders.{Answer, Stay, Wait, Away, Over, perform}
+use Rattle.cmm_program.specs.Performing.{Transfer, Stay, Wait, Away, Over, perform}
 
 -- A control C says where one activation stands.
 pub record Control (C : Type 0) : Type 0 where
@@ -51,12 +51,12 @@ abbrev pub moved : {C : Type 0} → (C → C) → List C → List C
 moved f [] = []
 moved f (c ∷ cs) = f c ∷ cs
 
--- what an answer makes of a state
-abbrev pub answer_done : {C : Type 0} → Control C → Setting → Answer → List C → State C
-answer_done k s (Stay way store) controls = record { store = store; controls = moved (k.on way) controls }
-answer_done k s (Wait store) controls = record { store = store; controls = moved k.later controls }
-answer_done k s (Away gone store landing) controls = landed k s landing store (drop gone controls)
-answer_done k s (Over gone store) controls = record { store = store; controls = drop gone controls }
+-- what is made of a state by how control goes on
+abbrev pub transferred : {C : Type 0} → Control C → Setting → Transfer → List C → State C
+transferred k s (Stay way store) controls = record { store = store; controls = moved (k.on way) controls }
+transferred k s (Wait store) controls = record { store = store; controls = moved k.later controls }
+transferred k s (Away gone store landing) controls = landed k s landing store (drop gone controls)
+transferred k s (Over gone store) controls = record { store = store; controls = drop gone controls }
 
 -- what the youngest activation does
 abbrev pub next_act : {C : Type 0} → Control C → List C → Act
@@ -66,6 +66,6 @@ next_act k (c ∷ cs) = k.act c
 -- one step of a running state
 abbrev pub ran : {C : Type 0} → Control C → Setting → State C → State C
 ran k s st = elim (and_then (evaluated (reads_of s st.store) (next_act k st.controls)) (λ order. perform s order st.store)) [
-  | Ok answer ↦ answer_done k s answer st.controls
+  | Ok transfer ↦ transferred k s transfer st.controls
   | Err error ↦ record st { store = over (Wrong error) st.store }
 ]

@@ -9,9 +9,9 @@ use Rattle.cmm_program.specs.declared.procedure.Site.{Site}
 use Rattle.cmm_program.specs.declared.procedure.Target.{Target}
 use Rattle.cmm_program.specs.declared.procedure.Target.TheVariants.{Variable}
 use Rattle.cmm_program.specs.Errors.{with_some}
-use Rattle.cmm_program.specs.State.{Setting, Frame, Store}
-use Rattle.cmm_program.specs.Frames.{procedure_at, place_row, frame_address, fits_stack, room_of, new_frame, with_site, site_at, parameters}
-use Rattle.cmm_program.specs.Acts.{Word, target_width}
+use Rattle.cmm_program.specs.State.{Setting, Activation, Store}
+use Rattle.cmm_program.specs.Frames.{procedure_at, place_row, frame_address, fits_stack, room_of, new_activation, with_site, suspended_at, parameters}
+use Rattle.cmm_program.specs.Orders.{Word, target_width}
 use Rattle.cmm_program.specs.Writes.{all_assigned}
 
 -- where control arrives, with the values that it brings
@@ -61,37 +61,36 @@ numbers words = map (λ w. w.value) words
 
 -- ---- what a landing does to the store
 
--- a new activation above these frames, unless the stack is too small for it
-abbrev pub entered : Setting → ℕ → List ℕ → List Frame → Store → Option Store
+-- a new activation above these, unless the stack is too small for it
+abbrev pub entered : Setting → ℕ → List ℕ → List Activation → Store → Option Store
 entered s n values older store = with_some (procedure_at s n) (λ p.
-    let frames = new_frame n p values ∷ older in
-    elim (fits_stack s frames) [
+    let activations = new_activation n p values ∷ older in
+    elim (fits_stack s activations) [
       | true ↦ Some record store {
-        frames = frames;
-        memory = record store.memory { rooms = room_of (frame_address s frames) p (place_row s n) ∷ store.memory.rooms };
+        activations = activations;
+        memory = record store.memory { rooms = room_of (frame_address s activations) p (place_row s n) ∷ store.memory.rooms };
       }
       | false ↦ None
     ])
 
 -- what takes the values at the normal exit of the youngest activation's site, and at one of its continuations
-abbrev pub results_of : Setting → List Frame → List Target
-results_of s [] = []
-results_of s (f ∷ fs) = elim (site_at s f) [ Some site ↦ site.results | None ↦ [] ]
+abbrev pub results_of : Setting → List Activation → List Target
+results_of s activations = elim (suspended_at s activations) [ Some a ↦ a.site.results | None ↦ [] ]
 
-abbrev pub parameters_of : Setting → ℕ → List Frame → List Target
+abbrev pub parameters_of : Setting → ℕ → List Activation → List Target
 parameters_of s k [] = []
-parameters_of s k (f ∷ fs) = elim (procedure_at s f.procedure) [
+parameters_of s k (a ∷ older) = elim (procedure_at s a.procedure) [
   | Some p ↦ map (λ n. Variable n (variable_width p n)) (parameters p k)
   | None ↦ []
 ]
 
 -- the youngest activation goes on, with its values assigned
 abbrev pub gone_on : List Target → List ℕ → Store → Store
-gone_on targets values store = let after = all_assigned targets values store in record after { frames = with_site None after.frames }
+gone_on targets values store = let after = all_assigned targets values store in record after { activations = with_site None after.activations }
 
 -- the store after a landing, or none where the stack is too small
 abbrev pub land : Setting → Landing → Store → Option Store
-land s (Called site n values) store = entered s n values (with_site (Some site) store.frames) store
-land s (Instead n values) store = entered s n values store.frames store
-land s (Back values) store = Some (gone_on (results_of s store.frames) values store)
-land s (Resumed k values) store = Some (gone_on (parameters_of s k store.frames) values store)
+land s (Called site n values) store = entered s n values (with_site (Some site) store.activations) store
+land s (Instead n values) store = entered s n values store.activations store
+land s (Back values) store = Some (gone_on (results_of s store.activations) values store)
+land s (Resumed k values) store = Some (gone_on (parameters_of s k store.activations) values store)

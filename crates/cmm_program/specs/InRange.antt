@@ -1,6 +1,9 @@
 -- Programs in range: each number names what is there, the rules that a resolved program can show are kept, and no
 -- count of tokens is less than a text with the same parts can have. What `check` answers is in range, and whatever
 -- works on a program may rely on it (C-- Language Specification 2.0, static semantics).
+use Rattle.std.specs.List.{list_all}
+use Rattle.std.specs.Option.{is_some}
+use Rattle.rv_table.specs.Memory.{data_base}
 use Rattle.std.specs.Prelude.{◌≡◌, ℕ, ◌+◌, ◌*◌, ◌^◌, ◌<◌, ◌≤◌, ◌==◌, ◌&&◌, ◌||◌, not, nat_le, nat_lt, Bool, true, false, IsTrue, All, List, [], ◌∷◌, ◌++◌, length, sum_by, slice_get, Option, Some, None}
 use Rattle.cmm_words.specs.declared.width.Width.{Width}
 use Rattle.cmm_words.specs.declared.width.Width.TheVariants.{W64}
@@ -22,11 +25,10 @@ use Rattle.cmm_program.specs.declared.procedure.Cont.{Cont}
 use Rattle.cmm_program.specs.declared.program.Program.{Program}
 use Rattle.cmm_program.specs.declared.program.Datum.{Datum}
 use Rattle.cmm_program.specs.declared.program.Label.{Label as DataLabel}
-use Rattle.cmm_program.specs.Acts.{target_width}
+use Rattle.cmm_program.specs.Orders.{target_width}
 use Rattle.cmm_program.specs.Bodies.{Mark, AtLabel, Branch, branches, after_inside}
 use Rattle.cmm_program.specs.Numbering.{AreNumbered, body_numbers, label_number, continuation_number, site_number, body_tokens}
-use Rattle.cmm_program.specs.Layout.{end_before, data_base, stack_size}
-use Rattle.cmm_program.specs.Placed.{every}
+use Rattle.cmm_program.specs.Layout.{end_before, stackdata_size}
 use Rattle.cmm_program.specs.Tokens.{own_tokens, heading_tokens}
 use Rattle.cmm_program.specs.Typing.{is_alignment, same_width, constant_width, is_target, typed, has_width, is_typed, is_condition}
 
@@ -51,7 +53,7 @@ do_not_meet a b = nat_lt a.to b.from || nat_lt b.to a.from
 
 abbrev pub none_meet : List Range → Bool
 none_meet [] = true
-none_meet (r ∷ rs) = every (do_not_meet r) rs && none_meet rs
+none_meet (r ∷ rs) = list_all (do_not_meet r) rs && none_meet rs
 
 abbrev pub all_ranges : List Branch → List Range
 all_ranges [] = []
@@ -63,18 +65,14 @@ defaults (b ∷ bs) = elim b.case [ In ranges ↦ defaults bs | Default ↦ 1 + 
 
 abbrev pub are_arms : Option Width → List Branch → Bool
 are_arms None bs = false
-are_arms (Some width) bs = every (is_range width) (all_ranges bs) && none_meet (all_ranges bs) && nat_le (defaults bs) 1
+are_arms (Some width) bs = list_all (is_range width) (all_ranges bs) && none_meet (all_ranges bs) && nat_le (defaults bs) 1
 
 -- ---- a statement: what it names, its widths and its counts
-
-abbrev pub is_there : {A : Type 0} → Option A → Bool
-is_there (Some a) = true
-is_there None = false
 
 module _ (p : Program) (q : Proc) where
   -- the body has this place
   abbrev pub has_mark : Mark → Bool
-  has_mark m = is_there (after_inside m (Span q.body))
+  has_mark m = is_some (after_inside m (Span q.body))
 
   abbrev pub is_lvalue : Lvalue → Bool
   is_lvalue (lvalue.Target target) = is_target p q target
@@ -91,13 +89,13 @@ module _ (p : Program) (q : Proc) where
   are_assigned _ _ = false
 
   abbrev pub are_passed : List Expression → Bool
-  are_passed es = at_most_64 es && every (is_typed p q) es
+  are_passed es = at_most_64 es && list_all (is_typed p q) es
 
   abbrev pub at_site : ℕ → (Site → Bool) → Bool
   at_site n test = elim (slice_get q.sites n) [ Some site ↦ test site | None ↦ false ]
 
   abbrev pub is_call_site : Site → Bool
-  is_call_site site = not (is_there site.yield_values)
+  is_call_site site = not (is_some site.yield_values)
 
   abbrev pub is_yield_site : ℕ → Site → Bool
   is_yield_site count site = elim site.yield_values [ Some n ↦ n == count | None ↦ false ]
@@ -127,7 +125,7 @@ module _ (p : Program) (q : Proc) where
   is_form (Label n) = true
   is_form (Goto n) = has_mark (AtLabel n)
   is_form (Continuation n) = below (length q.conts) n
-  is_form (Cut to values own) = has_width p q W64 to && are_passed values && every (below (length q.conts)) own
+  is_form (Cut to values own) = has_width p q W64 to && are_passed values && list_all (below (length q.conts)) own
 
   -- and it has at least the tokens that its parts have
   abbrev pub is_statement : ℕ → Form → Bool
@@ -153,18 +151,18 @@ module _ (p : Program) (q : Proc) where
   -- ascending, each token once
   abbrev pub are_spans : List (ℕ × Constant) → Bool
   are_spans [] = true
-  are_spans (s ∷ []) = is_there (constant_width p s.1)
-  are_spans (s ∷ t ∷ rest) = is_there (constant_width p s.1) && nat_lt s.0 t.0 && are_spans (t ∷ rest)
+  are_spans (s ∷ []) = is_some (constant_width p s.1)
+  are_spans (s ∷ t ∷ rest) = is_some (constant_width p s.1) && nat_lt s.0 t.0 && are_spans (t ∷ rest)
 
   abbrev pub is_site : Site → Bool
   is_site site =
-      at_most_64 site.results && every (is_target p q) site.results
-      && at_most_64 site.returns && every (below (length q.conts)) site.returns
-      && every (below (length q.conts)) site.unwinds && every (below (length q.conts)) site.cuts
+      at_most_64 site.results && list_all (is_target p q) site.results
+      && at_most_64 site.returns && list_all (below (length q.conts)) site.returns
+      && list_all (below (length q.conts)) site.unwinds && list_all (below (length q.conts)) site.cuts
       && are_spans site.spans
 
   abbrev pub is_continuation : Cont → Bool
-  is_continuation c = at_most_64 c.params && every (below (length q.vars)) c.params
+  is_continuation c = at_most_64 c.params && list_all (below (length q.vars)) c.params
 
 -- ---- procedures
 
@@ -174,8 +172,8 @@ is_item i = is_alignment i.align && (not i.label || (i.length == 0))
 
 -- what a test of a frame relies on: its parts are small
 pub record FitsFrames (q : Proc) : Type 0 where
-  pub items : IsTrue (every is_item q.stack)
-  pub stackdata : stack_size q.stack ≤ 65536
+  pub items : IsTrue (list_all is_item q.stack)
+  pub stackdata : stackdata_size q.stack ≤ 65536
   pub tokens : q.tokens ≤ 131072
 
 pub record IsProcInRange (p : Program) (q : Proc) : Type 0 where
@@ -183,17 +181,15 @@ pub record IsProcInRange (p : Program) (q : Proc) : Type 0 where
   pub unit : q.unit < 256
   pub formals : IsTrue (nat_le q.formals (length q.vars) && nat_le q.formals 64)
   pub variables : length q.vars ≤ 1024
-  pub kinds : IsTrue (every (λ v. is_name v.kind) q.vars)
-  pub items : IsTrue (every is_item q.stack)
-  pub stackdata : stack_size q.stack ≤ 65536
-  pub continuations : IsTrue (every (is_continuation p q) q.conts)
-  pub sites : IsTrue (every (is_site p q) q.sites)
+  pub kinds : IsTrue (list_all (λ v. is_name v.kind) q.vars)
+  pub frames : FitsFrames q
+  pub continuations : IsTrue (list_all (is_continuation p q) q.conts)
+  pub sites : IsTrue (list_all (is_site p q) q.sites)
   pub body : IsTrue (is_body_in p q (Span q.body))
   pub labels_numbered : AreNumbered label_number (length (body_numbers label_number q)) q
   pub continuations_numbered : AreNumbered continuation_number (length q.conts) q
   pub sites_numbered : AreNumbered site_number (length q.sites) q
   pub counts : heading_tokens q + body_tokens q ≤ q.tokens
-  pub tokens : q.tokens ≤ 131072
 
 -- ---- data
 
@@ -204,11 +200,11 @@ is_initial p width c = elim (constant_width p c) [ Some found ↦ same_width fou
 abbrev pub is_datum : Program → Datum → Bool
 is_datum p d = is_alignment d.align && elim d.values [
   | [] ↦ true
-  | _ ∷ _ ↦ (d.length == length d.values * bytes d.width) && every (is_initial p d.width) d.values
+  | _ ∷ _ ↦ (d.length == length d.values * bytes d.width) && list_all (is_initial p d.width) d.values
 ]
 
 abbrev pub is_label : Program → DataLabel → Bool
-is_label p l = is_name l.name && every is_name l.links && elim l.at_end [ true ↦ nat_le l.datum (length p.datums) | false ↦ nat_lt l.datum (length p.datums) ]
+is_label p l = is_name l.name && list_all is_name l.links && elim l.at_end [ true ↦ nat_le l.datum (length p.datums) | false ↦ nat_lt l.datum (length p.datums) ]
 
 -- ---- programs
 
@@ -217,11 +213,11 @@ pub record IsInRange (p : Program) : Type 0 where
   pub procedure_count : length p.procs ≤ 65535
   pub main : p.main < length p.procs
   pub main_formals : (q : Proc) → slice_get p.procs p.main ≡ Some q → q.formals ≡ 0
-  pub datums : IsTrue (every (is_datum p) p.datums)
+  pub datums : IsTrue (list_all (is_datum p) p.datums)
   pub data_size : end_before p (length p.datums) ≤ data_base + 67108864
-  pub labels : IsTrue (every (is_label p) p.labels)
+  pub labels : IsTrue (list_all (is_label p) p.labels)
   pub registers : length p.globals ≤ 256
-  pub register_names : IsTrue (every (λ g. is_name g.name) p.globals)
+  pub register_names : IsTrue (list_all (λ g. is_name g.name) p.globals)
   pub tokens : sum_by (λ q. q.tokens) p.procs ≤ 1000000
   pub site_variables : sum_by (λ q. length q.sites * length q.vars) p.procs ≤ 8000000
   pub site_spans : sum_by (λ q. sum_by (λ site. length site.spans) q.sites) p.procs ≤ 1000000

@@ -4,6 +4,7 @@ use Rattle.std.specs.Prelude.{ℕ, zero, suc, pred, ◌+◌, ◌-◌, ◌*◌, �
 use Rattle.cmm_words.specs.declared.constant.Constant.{Constant}
 use Rattle.cmm_words.specs.declared.constant.Constant.TheVariants.{Number, Code, Address}
 use Rattle.cmm_words.specs.Widths.{bytes}
+use Rattle.rv_table.specs.Memory.{data_base}
 use Rattle.cmm_program.specs.declared.program.Program.{Program}
 use Rattle.cmm_program.specs.declared.program.Datum.{Datum}
 use Rattle.cmm_program.specs.declared.program.Label.{Label}
@@ -31,9 +32,6 @@ end_of place (p ∷ ps) = end_of (aligned_up p.align place + p.length) ps
 
 -- ---- data
 
-abbrev pub data_base : ℕ
-data_base = 0x40000000
-
 abbrev pub datum_piece : Datum → Piece
 datum_piece d = record { align = d.align; length = d.length }
 
@@ -44,14 +42,11 @@ datum_address p n = slice_index_or (starts data_base (map datum_piece p.datums))
 abbrev pub end_before : Program → ℕ → ℕ
 end_before p n = end_of data_base (take n (map datum_piece p.datums))
 
-abbrev pub label_of : Program → Label → ℕ
-label_of p l = elim l.at_end [ true ↦ end_before p l.datum | false ↦ datum_address p l.datum ]
+abbrev pub label_address : Program → Label → ℕ
+label_address p l = elim l.at_end [ true ↦ end_before p l.datum | false ↦ datum_address p l.datum ]
 
 abbrev pub label_addresses : Program → List ℕ
-label_addresses p = map (label_of p) p.labels
-
-abbrev pub label_address : Program → ℕ → ℕ
-label_address p n = slice_index_or (label_addresses p) n 0
+label_addresses p = map (label_address p) p.labels
 
 -- ---- constants
 
@@ -61,7 +56,7 @@ row_of placement n = slice_index_or placement.rows n record { code = 0; frame = 
 abbrev pub constant_value : Program → Placement → Constant → ℕ
 constant_value p placement (Number n width) = n
 constant_value p placement (Code proc plus) = ((row_of placement proc).code + plus) % 2 ^ 64
-constant_value p placement (Address label plus) = (label_address p label + plus) % 2 ^ 64
+constant_value p placement (Address label plus) = (slice_index_or (label_addresses p) label 0 + plus) % 2 ^ 64
 
 -- so many bytes of a number, the lowest first
 abbrev pub bytes_of : ℕ → ℕ → List ℕ
@@ -90,14 +85,14 @@ data_bytes p placement = bytes_from p placement data_base p.datums
 abbrev pub item_piece : StackItem → Piece
 item_piece i = record { align = i.align; length = i.length }
 
-abbrev pub stack_size : List StackItem → ℕ
-stack_size items = end_of 0 (map item_piece items)
+abbrev pub stackdata_size : List StackItem → ℕ
+stackdata_size items = end_of 0 (map item_piece items)
 
 -- the place of each label
-abbrev pub stack_labels_from : ℕ → List StackItem → List ℕ
-stack_labels_from place [] = []
-stack_labels_from place (i ∷ is) = let here = aligned_up i.align place in
-    elim i.label [ true ↦ here ∷ stack_labels_from (here + i.length) is | false ↦ stack_labels_from (here + i.length) is ]
+abbrev pub stackdata_labels_from : ℕ → List StackItem → List ℕ
+stackdata_labels_from place [] = []
+stackdata_labels_from place (i ∷ is) = let here = aligned_up i.align place in
+    elim i.label [ true ↦ here ∷ stackdata_labels_from (here + i.length) is | false ↦ stackdata_labels_from (here + i.length) is ]
 
-abbrev pub stack_labels : List StackItem → List ℕ
-stack_labels items = stack_labels_from 0 items
+abbrev pub stackdata_labels : List StackItem → List ℕ
+stackdata_labels items = stackdata_labels_from 0 items

@@ -1,9 +1,10 @@
 -- The C-- machine: its states, one after the other (Ramsey and Peyton Jones, PLDI 2000, the abstract machine).
 use Rattle.std.specs.Prelude.{ℕ, zero, suc, List, [], map, length, replicate, Some}
-use Rattle.cmm_program.specs.Layout.{data_base, data_bytes}
+use Rattle.rv_table.specs.Memory.{data_base}
+use Rattle.cmm_program.specs.Layout.{data_bytes}
 use Rattle.cmm_program.specs.State.{Setting, Store, Running, Waiting, Ended, Wrong}
 use Rattle.cmm_program.specs.Exits.{Instead}
-use Rattle.cmm_program.specs.Control.{Control, State, landed, answer_done, ran}
+use Rattle.cmm_program.specs.Control.{Control, State, landed, transferred, ran}
 use Rattle.cmm_program.specs.Todo.{Todo, todo_control}
 use Rattle.cmm_program.specs.Client.{answered}
 
@@ -11,7 +12,7 @@ use Rattle.cmm_program.specs.Client.{answered}
 abbrev pub step_of : {C : Type 0} → Control C → Setting → State C → State C
 step_of k s st = elim st.store.status [
   | Running ↦ ran k s st
-  | Waiting values ↦ answer_done k s (answered s values st.store) st.controls
+  | Waiting values ↦ transferred k s (answered s values st.store) st.controls
   | Ended outcome ↦ st
   | Wrong error ↦ st
 ]
@@ -23,9 +24,9 @@ steps_of k s (suc m) st = steps_of k s m (step_of k s st)
 -- data as it is at the start, no activation, and the whole input left
 abbrev pub first_store : Setting → List ℕ → Store
 first_store s input = record {
-  memory = record { globals = record { address = data_base; cells = map Some (data_bytes s.program s.placement) }; rooms = [] };
+  memory = record { data_room = record { address = data_base; cells = map Some (data_bytes s.program s.placement) }; rooms = [] };
   registers = replicate (length s.program.globals) 0;
-  frames = [];
+  activations = [];
   input = input;
   taken = [];
   output = [];

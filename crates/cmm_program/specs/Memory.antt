@@ -1,5 +1,5 @@
 -- Memory: the bytes of data, and those of the stackdata of each present activation.
-use Rattle.std.specs.Prelude.{ℕ, zero, suc, ◌+◌, ◌-◌, ◌*◌, ◌&&◌, Bool, true, false, nat_lt, nat_le, List, [], ◌∷◌, length, map, slice_index_or, slice_set, Option, Some, None}
+use Rattle.std.specs.Prelude.{ℕ, suc, ◌+◌, ◌-◌, ◌*◌, ◌&&◌, Bool, true, false, nat_lt, nat_le, List, [], ◌∷◌, length, map, slice_index_or, slice_set, Option, Some, None}
 
 -- what stands at an address
 pub data Cell : Type 0 where
@@ -14,9 +14,9 @@ pub record Room : Type 0 where
   pub address : ℕ
   pub cells : List (Option ℕ)
 
--- the data, and one room for each activation, youngest first
+-- the room of data, and one of stackdata for each activation, youngest first
 pub record Memory : Type 0 where
-  pub globals : Room
+  pub data_room : Room
   pub rooms : List Room
 
 abbrev pub is_in : Room → ℕ → Bool
@@ -35,7 +35,7 @@ cell_in (room ∷ rooms) address = elim (is_in room address) [
 ]
 
 abbrev pub cell_at : Memory → ℕ → Cell
-cell_at memory address = cell_in (memory.globals ∷ memory.rooms) address
+cell_at memory address = cell_in (memory.data_room ∷ memory.rooms) address
 
 abbrev pub with_byte_in : Room → ℕ → ℕ → Room
 with_byte_in room address byte = elim (is_in room address) [
@@ -46,21 +46,16 @@ with_byte_in room address byte = elim (is_in room address) [
 -- memory with a byte at an address; the same where nothing stands there
 abbrev pub with_byte : Memory → ℕ → ℕ → Memory
 with_byte memory address byte = record {
-  globals = with_byte_in memory.globals address byte;
+  data_room = with_byte_in memory.data_room address byte;
   rooms = map (λ room. with_byte_in room address byte) memory.rooms;
 }
 
 -- memory with bytes from an address on
 abbrev pub with_bytes : Memory → ℕ → List ℕ → Memory
 with_bytes memory address [] = memory
-with_bytes memory address (byte ∷ bytes) = with_bytes (with_byte memory address byte) (suc address) bytes
+with_bytes memory address (byte ∷ bytes) = with_bytes (with_byte memory address byte) (address + 1) bytes
 
 -- the number that some bytes spell, the lowest first
 abbrev pub number_of : List ℕ → ℕ
 number_of [] = 0
 number_of (byte ∷ bytes) = byte + 256 * number_of bytes
-
--- so many addresses, from one on
-abbrev pub addresses : ℕ → ℕ → List ℕ
-addresses from zero = []
-addresses from (suc n) = from ∷ addresses (suc from) n

@@ -1,17 +1,13 @@
 -- What a body holds, over all its blocks: the numbers of its labels, continuations and call sites, in textual order, and
 -- the sum of its statements' counts of tokens.
-use Rattle.std.specs.Prelude.{◌≡◌, ℕ, zero, suc, ◌+◌, List, [], ◌∷◌, ◌++◌}
+use Rattle.std.specs.List.{range_with_len}
+use Rattle.std.specs.Prelude.{◌≡◌, ℕ, ◌+◌, List, [], ◌∷◌, ◌++◌}
 use Rattle.cmm_program.specs.declared.statement.Form.{Form, Row_of-Arm, end_of-Arm, more_of-Arm}
 use Rattle.cmm_program.specs.declared.statement.Form.TheVariants.{If', Switch', Span', Span, Call, Yield, Checked, Label, Continuation}
 use Rattle.cmm_program.specs.declared.statement.Arm.{Arm', Row_of-Statement, end_of-Statement, more_of-Statement}
 use Rattle.cmm_program.specs.declared.procedure.Proc.{Proc}
 
 -- ---- numbers in textual order
-
--- numbers from one on, so many
-abbrev pub counted : ℕ → ℕ → List ℕ
-counted from zero = []
-counted from (suc n) = from ∷ counted (suc from) n
 
 abbrev pub label_number : Form → List ℕ
 label_number (Label n) = n ∷ []
@@ -48,7 +44,7 @@ body_numbers number q = numbers_inside number (Span q.body)
 
 -- a body has each of so many numbers once, in textual order
 abbrev pub AreNumbered : (Form → List ℕ) → ℕ → Proc → Type 0
-AreNumbered number count q = body_numbers number q ≡ counted 0 count
+AreNumbered number count q = body_numbers number q ≡ range_with_len 0 count
 
 -- ---- counts of tokens
 

@@ -1,118 +1,48 @@
--- Orders done to the store (C-- Language Specification 2.0, statements; Ramsey and Peyton Jones, PLDI 2000, the
--- abstract machine).
-use Rattle.std.specs.Prelude.{ℕ, suc, ◌%◌, ◌^◌, ◌-◌, ◌==◌, true, false, List, [], ◌∷◌, ◌++◌, map, take, length, find, Ok, Err, Option, Some, None}
-use Rattle.cmm_words.specs.declared.width.Width.TheVariants.{W64}
-use Rattle.cmm_script.specs.Lines.{yield_line}
-use Rattle.cmm_program.specs.declared.placement.PlaceRow.{PlaceRow}
-use Rattle.cmm_program.specs.Errors.{Tried, NotAProcedure, WrongValues, WrongAlternates, NeverReturns, NoSuchCut, EndOfBody, and_then, provided, given, with_some}
-use Rattle.cmm_program.specs.State.{Setting, Frame, Store, Waiting, Ended, Done}
-use Rattle.cmm_program.specs.Frames.{procedure_at, continuation_value, site_at, site_cuts, with_site, without}
-use Rattle.cmm_program.specs.Acts.{Word, Order, GoOn, WriteAll, GoBy, Put, Get, Enter, Suspend, Replace, Leave, CutTo}
-use Rattle.cmm_program.specs.Writes.{assigned, put_all}
-use Rattle.cmm_program.specs.Exits.{Landing, Called, Instead, Exit, return_exit, continuation_exit, have_widths, numbers}
+-- Orders: what an activation does next, with all its numbers (C-- Language Specification 2.0, statements). An act is the
+-- same before its values are known, and the two have the same names.
+use Rattle.std.specs.Prelude.{ℕ, List, [], ◌∷◌}
+use Rattle.cmm_words.specs.declared.width.Width.{Width}
+use Rattle.cmm_program.specs.declared.procedure.Target.{Target}
+use Rattle.cmm_program.specs.declared.procedure.Target.TheVariants.{Variable, Register}
 
--- what an order leads to
-pub data Answer : Type 0 where
-  -- the youngest activation goes on, by the way of this number; 0 where there is only one
-  Stay : ℕ → Store → Answer
-  -- the youngest activation waits at its site, and the state for the client
-  Wait : Store → Answer
-  -- so many of the youngest activations are gone, and control lands
-  Away : ℕ → Store → Landing → Answer
-  -- so many of the youngest activations are gone, and the run has ended
-  Over : ℕ → Store → Answer
+-- where a value is put: a variable or a register, or the word of a width in memory, at an address that is to be a
+-- multiple of so many bytes
+pub data Place : Type 0 where
+  Held : Target → Place
+  Memory : Width → ℕ → ℕ → Place
 
--- ---- calls and jumps
+abbrev pub target_width : Target → Width
+target_width (Variable number width) = width
+target_width (Register number width) = width
 
--- the procedure whose code has this address
-abbrev pub procedure_from : ℕ → ℕ → List PlaceRow → Option ℕ
-procedure_from n address [] = None
-procedure_from n address (row ∷ rows) = elim (row.code == address) [ true ↦ Some n | false ↦ procedure_from (suc n) address rows ]
+-- a value that is passed, with its width
+pub record Word : Type 0 where
+  pub width : Width
+  pub value : ℕ
 
--- the procedure at an address is entered with values, of which it has just the widths
-abbrev pub entering : Setting → ℕ → List Word → (ℕ → Tried Answer) → Tried Answer
-entering s address words next =
-    given (procedure_from 0 address s.placement.rows) NotAProcedure (λ n.
-    given (procedure_at s n) NotAProcedure (λ p.
-    provided (have_widths (map (λ v. v.width) (take p.formals p.vars)) words) WrongValues (next n)))
+pub record Write : Type 0 where
+  pub place : Place
+  pub value : ℕ
 
--- ---- returns
+pub data Order : Type 0 where
+  Nothing : Order
+  -- one after the other
+  Assign : List Write → Order
+  -- to go on by the way of this number
+  Choose : ℕ → Order
+  PutByte : ℕ → Order
+  GetByte : Target → Order
+  -- at a site, of the procedure at an address
+  Call : ℕ → ℕ → List Word → Order
+  -- at a site
+  Yield : ℕ → List ℕ → Order
+  Jump : ℕ → List Word → Order
+  -- by an exit, of a site with so many alternate exits
+  Return : ℕ → ℕ → List Word → Order
+  -- to a continuation value; the last list has the continuations of its own activation
+  Cut : ℕ → List Word → List ℕ → Order
 
--- by an exit, if its widths are those of the values
-abbrev pub leaving : ℕ → Store → Exit → List Word → Tried Answer
-leaving gone store exit words = provided (have_widths exit.widths words) WrongValues (Ok (Away gone store (exit.landing (numbers words))))
-
--- The oldest activation is called from a site that has one result, of 64 bits, and no alternate exit.
-abbrev pub after_the_oldest : ℕ → ℕ → List Word → Store → Tried Answer
-after_the_oldest exit alternates words store =
-    provided (alternates == 0) WrongAlternates
-    (provided (have_widths (W64 ∷ []) words) WrongValues
-    (elim (numbers words) [
-      | v ∷ _ ↦ Ok (Over 1 (record (without 1 store) { status = Ended (Done v) }))
-      | [] ↦ Err WrongValues
-    ]))
-
--- to the site of the older frames' youngest
-abbrev pub returned : Setting → ℕ → ℕ → List Word → List Frame → Store → Tried Answer
-returned s exit alternates words [] store = after_the_oldest exit alternates words store
-returned s exit alternates words (f ∷ fs) store =
-    given (procedure_at s f.procedure) WrongAlternates (λ p.
-    given (site_at s f) WrongAlternates (λ site.
-    provided (alternates == length site.returns) WrongAlternates
-    (given (return_exit p site exit) NeverReturns (λ e. leaving 1 (without 1 store) e words))))
-
--- ---- cuts
-
--- a continuation that a present activation lists: how many activations are younger, and its procedure and number
-pub record Found : Type 0 where
-  pub younger : ℕ
-  pub procedure : ℕ
-  pub continuation : ℕ
-
--- The first activation, youngest first, that lists a continuation of this value. The youngest lists `own`, an older
--- one what its site also cuts to.
-abbrev pub cut_among : Setting → ℕ → List ℕ → ℕ → List Frame → Option Found
-cut_among s younger own value [] = None
-cut_among s younger own value (f ∷ fs) = elim (find (λ k. continuation_value s (f ∷ fs) k == value) own) [
-  | Some k ↦ Some record { younger = younger; procedure = f.procedure; continuation = k }
-  | None ↦ cut_among s (suc younger) (site_cuts s fs) value fs
-]
-
-abbrev pub found_exit : Setting → Found → Option Exit
-found_exit s found = with_some (procedure_at s found.procedure) (λ p. continuation_exit p found.continuation)
-
--- ---- input
-
--- the next byte of the input, or all ones at its end, where nothing is taken
-abbrev pub next_byte : List ℕ → ℕ
-next_byte [] = 2 ^ 64 - 1
-next_byte (byte ∷ rest) = byte
-
-abbrev pub one_taken : Store → Store
-one_taken store = elim store.input [
-  | [] ↦ store
-  | byte ∷ rest ↦ record store { input = rest; taken = store.taken ++ byte ∷ [] }
-]
-
--- ---- every order
-
-abbrev pub perform : Setting → Order → Store → Tried Answer
-perform s GoOn store = Ok (Stay 0 store)
-perform s (WriteAll ws) store = and_then (put_all ws store) (λ after. Ok (Stay 0 after))
-perform s (GoBy way) store = Ok (Stay way store)
-perform s (Put value) store = Ok (Stay 0 record store { output = store.output ++ value % 256 ∷ [] })
-perform s (Get target) store = Ok (Stay 0 (assigned target (next_byte store.input) (one_taken store)))
-perform s (Enter site address words) store = entering s address words (λ n. Ok (Away 0 store (Called site n (numbers words))))
-perform s (Suspend site values) store = Ok (Wait record store {
-  frames = with_site (Some site) store.frames;
-  log = store.log ++ yield_line values;
-  status = Waiting values;
-})
-perform s (Replace address words) store = entering s address words (λ n. Ok (Away 1 (without 1 store) (Instead n (numbers words))))
-perform s (Leave exit alternates words) store = elim store.frames [
-  | [] ↦ Err EndOfBody
-  | f ∷ fs ↦ returned s exit alternates words fs store
-]
-perform s (CutTo value words own) store =
-    given (cut_among s 0 own value store.frames) NoSuchCut (λ found.
-    given (found_exit s found) NoSuchCut (λ exit. leaving found.younger (without found.younger store) exit words))
+abbrev pub writes : List Place → List ℕ → List Write
+writes [] values = []
+writes (p ∷ ps) [] = []
+writes (p ∷ ps) (v ∷ vs) = record { place = p; value = v } ∷ writes ps vs

@@ -1,22 +1,19 @@
 -- Which placements of a program are valid.
+use Rattle.std.specs.List.{list_all}
 use Rattle.std.specs.Prelude.{ℕ, ◌+◌, ◌%◌, ◌==◌, ◌&&◌, ◌||◌, nat_le, nat_lt, Bool, true, false, IsTrue, List, [], ◌∷◌, length, Some, None}
 use Rattle.cmm_program.specs.declared.procedure.Proc.{Proc}
 use Rattle.cmm_program.specs.declared.procedure.StackItem.{StackItem}
 use Rattle.cmm_program.specs.declared.program.Program.{Program}
 use Rattle.cmm_program.specs.declared.placement.Placement.{Placement}
 use Rattle.cmm_program.specs.declared.placement.PlaceRow.{PlaceRow}
-use Rattle.cmm_program.specs.Layout.{aligned_up, stack_size}
+use Rattle.rv_table.specs.Memory.{code_base, data_base}
+use Rattle.cmm_program.specs.Layout.{aligned_up, stackdata_size}
 use Rattle.cmm_program.specs.Bounds.{frame_bound}
 use Rattle.cmm_program.specs.Frames.{stackdata_offset}
 
--- every element passes the test
-abbrev pub every : {A : Type 0} → (A → Bool) → List A → Bool
-every test [] = true
-every test (a ∷ as_) = test a && every test as_
-
--- code has the addresses from 0x10000 up to 0x40000000 for itself
+-- code has the addresses from its base up to that of data for itself
 abbrev pub is_code_address : ℕ → Bool
-is_code_address address = (address % 4 == 0) && nat_le 0x10000 address && nat_lt address 0x40000000
+is_code_address address = (address % 4 == 0) && nat_le code_base address && nat_lt address data_base
 
 abbrev pub is_frame_size : Proc → ℕ → Bool
 is_frame_size p size = (size % 16 == 0) && nat_le size (frame_bound p)
@@ -32,10 +29,10 @@ apart offset size pair = (size == 0) || nat_le (offset + size) pair || nat_le (p
 
 abbrev pub pairs_apart : List ℕ → Bool
 pairs_apart [] = true
-pairs_apart (offset ∷ offsets) = every (λ other. apart offset 16 other) offsets && pairs_apart offsets
+pairs_apart (offset ∷ offsets) = list_all (λ other. apart offset 16 other) offsets && pairs_apart offsets
 
 abbrev pub are_pairs : Proc → PlaceRow → Bool
-are_pairs p row = (length row.pairs == length p.conts) && every (is_pair_in row.frame) row.pairs && pairs_apart row.pairs
+are_pairs p row = (length row.pairs == length p.conts) && list_all (is_pair_in row.frame) row.pairs && pairs_apart row.pairs
 
 -- ---- stackdata
 
@@ -54,8 +51,8 @@ are_labels base place (i ∷ is) offsets = let here = aligned_up i.align place i
 -- Stackdata from a base, inside the frame and apart from the pairs.
 abbrev pub is_stackdata_at : ℕ → Proc → PlaceRow → Bool
 is_stackdata_at base p row =
-    (base % 16 == 0) && nat_le (base + stack_size p.stack) row.frame && are_labels base 0 p.stack row.stack
-    && every (λ offset. apart base (stack_size p.stack) offset) row.pairs
+    (base % 16 == 0) && nat_le (base + stackdata_size p.stack) row.frame && are_labels base 0 p.stack row.stack
+    && list_all (λ offset. apart base (stackdata_size p.stack) offset) row.pairs
 
 -- The first label shows the base. Stackdata without a label has no addresses, and the row then names none.
 abbrev pub is_stackdata : Proc → PlaceRow → Bool
@@ -79,9 +76,6 @@ are_rows_placed _ _ = false
 abbrev pub ascend_from : ℕ → List PlaceRow → Bool
 ascend_from address [] = true
 ascend_from address (row ∷ rows) = nat_lt address row.code && ascend_from row.code rows
-
-abbrev pub is_placed : Program → Placement → Bool
-is_placed program placement = are_rows_placed program.procs placement.rows && ascend_from 0 placement.rows
 
 -- a placement that a machine may use
 pub record IsPlaced (program : Program) (placement : Placement) : Type 0 where

@@ -12,7 +12,8 @@ use Rattle.cmm_program.specs.declared.program.Program.{Program}
 use Rattle.cmm_program.specs.Errors.{NoArm, EndOfBody, ContinuationFromAbove, and_then, given}
 use Rattle.cmm_program.specs.Values.{Value, Test, value_of, test_of, width_of}
 use Rattle.cmm_program.specs.Acts as act
-use Rattle.cmm_program.specs.Acts.{Act, Aim, Passed, Held, Memory}
+use Rattle.cmm_program.specs.Acts.{Act, Aim, Passed}
+use Rattle.cmm_program.specs.Orders.{Held, Memory}
 use Rattle.cmm_program.specs.Bodies.{AtLabel, AtContinuation, statements, Branch, branches, arm_for, branch_body, follow}
 use Rattle.cmm_program.specs.Control.{Control}
 

@@ -16,7 +16,7 @@ use Rattle.cmm_program.specs.declared.procedure.Target.TheVariants.{Variable, Re
 use Rattle.cmm_program.specs.declared.program.Program.{Program}
 use Rattle.cmm_program.specs.Errors.{with_some}
 use Rattle.cmm_program.specs.Folds.{fold_expression, fold_condition}
-use Rattle.cmm_program.specs.Layout.{stack_labels}
+use Rattle.cmm_program.specs.Layout.{stackdata_labels}
 
 abbrev pub same_width : Width → Width → Bool
 same_width a b = bits a == bits b
@@ -52,7 +52,7 @@ module _ (p : Program) (q : Proc) where
   width_step (e.Known known) = constant_width p known
   width_step (e.Variable n width) = if_holds (has_variable q n width) width
   width_step (e.Register n width) = if_holds (has_register p n width) width
-  width_step (e.Stackdata n) = if_holds (nat_lt n (length (stack_labels q.stack))) W64
+  width_step (e.Stackdata n) = if_holds (nat_lt n (length (stackdata_labels q.stack))) W64
   width_step (e.Continuation n) = if_holds (nat_lt n (length q.conts)) W64
   width_step (e.Load width aligned address) = with_some (if_width address W64 width) (λ w. if_holds (is_alignment aligned) w)
   width_step (e.Unary op width a) = if_width a width width

@@ -1,4 +1,5 @@
 -- What expressions and conditions give (C-- Language Specification 2.0, expressions).
+use Rattle.std.specs.List.{list_all, range_with_len}
 use Rattle.std.specs.Prelude.{ℕ, ◌%◌, ◌==◌, ◌&&◌, ◌||◌, not, Bool, true, false, List, [], ◌∷◌, map, Ok, Err}
 use Rattle.cmm_words.specs.declared.width.Width.{Width}
 use Rattle.cmm_words.specs.declared.width.Width.TheVariants.{W64}
@@ -12,7 +13,7 @@ use Rattle.cmm_program.specs.declared.expression.Condition.{Condition, Condition
 use Rattle.cmm_program.specs.declared.expression.Condition.TheOpen.{Compare, Not, Both, Either}
 use Rattle.cmm_program.specs.Errors.{Tried, ZeroDivisor, BadAccess, UnwrittenRead, and_then, provided, given, all_of}
 use Rattle.cmm_program.specs.Folds.{fold_expression, fold_condition}
-use Rattle.cmm_program.specs.Memory.{Cell, Outside, Unwritten, Byte, number_of, addresses}
+use Rattle.cmm_program.specs.Memory.{Cell, Outside, Unwritten, Byte, number_of}
 
 -- what an expression may look at
 pub record Reads : Type 0 where
@@ -35,13 +36,9 @@ is_there Outside = false
 is_there Unwritten = true
 is_there (Byte byte) = true
 
-abbrev pub all_there : List Cell → Bool
-all_there [] = true
-all_there (c ∷ cs) = is_there c && all_there cs
-
 -- an address may be accessed where it is aligned and each byte is data or stackdata
 abbrev pub may_access : (ℕ → Cell) → ℕ → ℕ → ℕ → Bool
-may_access cell size aligned address = (address % aligned == 0) && all_there (map cell (addresses address size))
+may_access cell size aligned address = (address % aligned == 0) && list_all is_there (map cell (range_with_len address size))
 
 abbrev pub byte_of : Cell → Tried ℕ
 byte_of Outside = Err BadAccess
@@ -52,7 +49,7 @@ byte_of (Byte byte) = Ok byte
 abbrev pub loaded : Reads → Width → ℕ → ℕ → Tried ℕ
 loaded r width aligned address =
     provided (may_access r.byte (bytes width) aligned address) BadAccess
-    (and_then (all_of (map (λ a. byte_of (r.byte a)) (addresses address (bytes width)))) (λ found. Ok (number_of found)))
+    (and_then (all_of (map (λ a. byte_of (r.byte a)) (range_with_len address (bytes width)))) (λ found. Ok (number_of found)))
 
 abbrev pub with_operand : Value → (ℕ → ℕ) → Value
 with_operand a f r = and_then (a r) (λ x. Ok (f x))

@@ -1,14 +1,14 @@
 -- The walk of a state: its suspended activations, youngest first, as the client sees them (C-- Language Specification
 -- 2.0, the run-time interface).
-use Rattle.std.specs.Prelude.{ℕ, suc, true, false, List, [], ◌∷◌, ◌++◌, map, slice_get, slice_index_or, Option, Some, None}
+use Rattle.std.specs.Prelude.{ℕ, suc, true, false, List, [], ◌∷◌, map, slice_index_or, Option, Some, None}
 use Rattle.cmm_words.specs.Widths.{bits}
-use Rattle.cmm_script.specs.Walk.{Shown, Spanned, Activation}
+use Rattle.cmm_script.specs.Walk.{Shown, Spanned, Activation as ShownActivation}
 use Rattle.cmm_program.specs.declared.procedure.Proc.{Proc}
 use Rattle.cmm_program.specs.declared.procedure.Site.{Site}
 use Rattle.cmm_program.specs.declared.procedure.VarInfo.{VarInfo}
 use Rattle.cmm_program.specs.Layout.{constant_value}
-use Rattle.cmm_program.specs.State.{Setting, Frame, Store}
-use Rattle.cmm_program.specs.Frames.{procedure_at}
+use Rattle.cmm_program.specs.State.{Setting, Activation, Store}
+use Rattle.cmm_program.specs.Frames.{Suspended, suspended_at}
 use Rattle.cmm_program.specs.Liveness.{is_live_at}
 
 -- the value of a variable, where it is live at the site
@@ -23,27 +23,21 @@ variables_shown p site values n (v ∷ vs) =
 abbrev pub spans_shown : Setting → Site → List Spanned
 spans_shown s site = map (λ span. record { token = span.0; value = constant_value s.program s.placement span.1 }) site.spans
 
-abbrev pub activation_shown : Setting → Frame → ℕ → Proc → Site → Activation
-activation_shown s f n p site = record {
-  procedure = p.name;
-  site = n;
-  spans = spans_shown s site;
-  variables = variables_shown p n f.variables 0 p.vars;
+abbrev pub activation_shown : Setting → Suspended → ShownActivation
+activation_shown s a = record {
+  procedure = a.procedure.name;
+  site = a.number;
+  spans = spans_shown s a.site;
+  variables = variables_shown a.procedure a.number a.activation.variables 0 a.procedure.vars;
 }
 
--- an activation that is suspended
-abbrev pub frame_shown : Setting → Frame → List Activation
-frame_shown s f = elim f.site [
-  | None ↦ []
-  | Some n ↦ elim (procedure_at s f.procedure) [
-    | None ↦ []
-    | Some p ↦ elim (slice_get p.sites n) [ None ↦ [] | Some site ↦ activation_shown s f n p site ∷ [] ]
-  ]
+-- those of these activations that are suspended
+abbrev pub activations_shown : Setting → List Activation → List ShownActivation
+activations_shown s [] = []
+activations_shown s (a ∷ older) = elim (suspended_at s (a ∷ older)) [
+  | Some here ↦ activation_shown s here ∷ activations_shown s older
+  | None ↦ activations_shown s older
 ]
 
-abbrev pub frames_shown : Setting → List Frame → List Activation
-frames_shown s [] = []
-frames_shown s (f ∷ fs) = frame_shown s f ++ frames_shown s fs
-
-abbrev pub walk_of : Setting → Store → List Activation
-walk_of s store = frames_shown s store.frames
+abbrev pub walk_of : Setting → Store → List ShownActivation
+walk_of s store = activations_shown s store.activations

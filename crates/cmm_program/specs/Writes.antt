@@ -7,33 +7,33 @@ use Rattle.cmm_program.specs.declared.procedure.Target.TheVariants.{Variable, Re
 use Rattle.cmm_program.specs.Errors.{Tried, BadAccess, and_then, provided}
 use Rattle.cmm_program.specs.Layout.{constant_value, bytes_of}
 use Rattle.cmm_program.specs.Memory.{cell_at, with_bytes}
-use Rattle.cmm_program.specs.State.{Setting, Frame, Store}
+use Rattle.cmm_program.specs.State.{Setting, Activation, Store}
 use Rattle.cmm_program.specs.Frames.{continuation_value, stackdata_address}
 use Rattle.cmm_program.specs.Values.{Reads, may_access}
-use Rattle.cmm_program.specs.Acts.{Place, Held, Memory, Write}
+use Rattle.cmm_program.specs.Orders.{Place, Held, Memory, Write}
 
-abbrev pub variables_of : List Frame → List ℕ
+abbrev pub variables_of : List Activation → List ℕ
 variables_of [] = []
-variables_of (f ∷ fs) = f.variables
+variables_of (a ∷ older) = a.variables
 
 -- what the youngest activation of a store reads
 abbrev pub reads_of : Setting → Store → Reads
 reads_of s store = record {
   constant = constant_value s.program s.placement;
-  variable = λ n. slice_index_or (variables_of store.frames) n 0;
+  variable = λ n. slice_index_or (variables_of store.activations) n 0;
   register = λ n. slice_index_or store.registers n 0;
-  stackdata = stackdata_address s store.frames;
-  continuation = continuation_value s store.frames;
+  stackdata = stackdata_address s store.activations;
+  continuation = continuation_value s store.activations;
   byte = cell_at store.memory;
 }
 
-abbrev pub with_variable : List Frame → ℕ → ℕ → List Frame
+abbrev pub with_variable : List Activation → ℕ → ℕ → List Activation
 with_variable [] number value = []
-with_variable (f ∷ fs) number value = record f { variables = slice_set f.variables number value } ∷ fs
+with_variable (a ∷ older) number value = record a { variables = slice_set a.variables number value } ∷ older
 
 -- a variable of the youngest activation, or a register, with a value
 abbrev pub assigned : Target → ℕ → Store → Store
-assigned (Variable number width) value store = record store { frames = with_variable store.frames number value }
+assigned (Variable number width) value store = record store { activations = with_variable store.activations number value }
 assigned (Register number width) value store = record store { registers = slice_set store.registers number value }
 
 -- from left to right

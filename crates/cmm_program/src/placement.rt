@@ -1,9 +1,10 @@
 //! Where the code of each procedure and the parts of its frames lie, and the test whether a program may run there.
 
+ghost use Rattle.std.specs.List.{list_all};
 ghost use Rattle.std.specs.Prelude.{◌≡◌, ◌↔◌, ◌+◌, ◌≤◌, ◌<◌, ◌^◌, IsTrue, All, IfSome, slice_get};
-ghost use Rattle.cmm_program.specs.Layout.{aligned_up, stack_size, stack_labels};
+ghost use Rattle.cmm_program.specs.Layout.{aligned_up, stackdata_size, stackdata_labels};
 ghost use Rattle.cmm_program.specs.Frames.{stackdata_offset};
-ghost use Rattle.cmm_program.specs.Placed.{every, is_code_address, is_frame_size, is_pair_in, apart, pairs_apart, are_pairs, are_labels, is_stackdata_at, is_stackdata, is_row_placed, are_rows_placed, ascend_from, IsPlaced};
+ghost use Rattle.cmm_program.specs.Placed.{is_code_address, is_frame_size, is_pair_in, apart, pairs_apart, are_pairs, are_labels, is_stackdata_at, is_stackdata, is_row_placed, are_rows_placed, ascend_from, IsPlaced};
 ghost use Rattle.cmm_program.specs.InRange.{FitsFrames, IsInRange, is_item};
 
 use crate::procedure::{Proc, StackItem};
@@ -42,9 +43,9 @@ fn next_aligned(align: u32, place: u64) -> u64
 
 /// The bytes of stackdata, from the first item to the end of the last.
 fn size_of_stackdata(items: &[StackItem]) -> u64
-    requires items { IsTrue (every is_item items.now) }
-    requires size { stack_size items.now ≤ 65536 }
-    ensures { result ≡ stack_size items.now }
+    requires items { IsTrue (list_all is_item items.now) }
+    requires size { stackdata_size items.now ≤ 65536 }
+    ensures { result ≡ stackdata_size items.now }
 {
     let mut place = 0;
     for item in items {
@@ -55,9 +56,9 @@ fn size_of_stackdata(items: &[StackItem]) -> u64
 
 /// The place of the first stackdata label, if there is one.
 fn first_label(items: &[StackItem]) -> Option<u64>
-    requires items { IsTrue (every is_item items.now) }
-    requires size { stack_size items.now ≤ 65536 }
-    ensures { result ≡ slice_get (stack_labels items.now) 0 }
+    requires items { IsTrue (list_all is_item items.now) }
+    requires size { stackdata_size items.now ≤ 65536 }
+    ensures { result ≡ slice_get (stackdata_labels items.now) 0 }
 {
     let mut place = 0;
     for item in items {
@@ -73,8 +74,8 @@ fn first_label(items: &[StackItem]) -> Option<u64>
 /// Whether the labels among some items stand just at these offsets, from a base on.
 fn labels_stand_at(base: u64, items: &[StackItem], offsets: &[u32]) -> bool
     requires base { base < 2 ^ 32 }
-    requires items { IsTrue (every is_item items.now) }
-    requires size { stack_size items.now ≤ 65536 }
+    requires items { IsTrue (list_all is_item items.now) }
+    requires size { stackdata_size items.now ≤ 65536 }
     ensures { result ≡ are_labels base 0 items.now offsets.now }
 {
     let mut place = 0;
@@ -120,7 +121,7 @@ fn is_pair_offset(frame: u32, offset: u32) -> bool
 
 /// Whether each pair lies in a frame of this size.
 fn pairs_lie_inside(frame: u32, pairs: &[u32]) -> bool
-    ensures { result ≡ every (is_pair_in frame) pairs.now }
+    ensures { result ≡ list_all (is_pair_in frame) pairs.now }
 {
     for offset in pairs {
         if !is_pair_offset(frame, *offset) {
@@ -133,7 +134,7 @@ fn pairs_lie_inside(frame: u32, pairs: &[u32]) -> bool
 /// Whether so many bytes from a place on have none in common with the pairs at these offsets.
 fn lies_apart(place: u64, size: u64, pairs: &[u32]) -> bool
     requires { place + size < 2 ^ 63 }
-    ensures { result ≡ every (λ other. apart place size other) pairs.now }
+    ensures { result ≡ list_all (λ other. apart place size other) pairs.now }
 {
     for other in pairs {
         let other = u64::from(*other);

@@ -1,13 +1,14 @@
 use Rattle.std.proofs.Common.{◌≡◌, drop, map}
 use Rattle.std.specs.Prelude.{IsTrue}
-use Rattle.cmm_program.specs.Layout.{end_of, item_piece, stack_size}
-use Rattle.cmm_program.specs.Placed.{every, are_labels}
+use Rattle.cmm_program.specs.Layout.{end_of, item_piece, stackdata_size}
+use Rattle.std.specs.List.{list_all}
+use Rattle.cmm_program.specs.Placed.{are_labels}
 use Rattle.cmm_program.specs.InRange.{is_item}
 use Rattle.cmm_program.proofs.placement.labels_stand_at.Given as goal
 
 -- the answer depends on what is left alone
 abbrev pub invariant-loop-item : goal.invariant-loop-item
 invariant-loop-item l =
-    (end_of l.place (map item_piece (drop l.item-index l.items)) ≡ stack_size l.items)
-    × IsTrue (every is_item (drop l.item-index l.items))
+    (end_of l.place (map item_piece (drop l.item-index l.items)) ≡ stackdata_size l.items)
+    × IsTrue (list_all is_item (drop l.item-index l.items))
     × (are_labels l.base 0 l.items l.offsets ≡ are_labels l.base l.place (drop l.item-index l.items) l.left)
