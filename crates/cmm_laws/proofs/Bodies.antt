@@ -1,7 +1,10 @@
 -- What an activation has still to do are statements of its procedure: what a block has, what follows a mark, and what is
 -- left after a statement.
+use Rattle.std.specs.List.{list_all}
+use Rattle.std.proofs.lemmas.Bool.{and_parts}
 use Rattle.std.proofs.lemmas.Bool.Decides.{nat_tests}
-use Rattle.std.proofs.Common.{◌∙◌, arith, ◌≡◌, ℕ, List, ◌∷◌, ◌++◌, All, IsTrue, IfSome, refl, ap, subst}
+use Rattle.std.proofs.lemmas.List.Folds.{list_all-append}
+use Rattle.std.proofs.Common.{◌∙◌, arith, ◌≡◌, ℕ, zero, suc, List, ◌∷◌, ◌++◌, All, IsTrue, IfSome, refl, ap, subst}
 use mathlib.Core.Former.{Count, arity, this}
 use Rattle.cmm_items.specs.formers.items.Items.{the_former as items}
 use Rattle.std.proofs.lemmas.List.Elements.{All-nil, All-cons, All-append}
@@ -12,8 +15,8 @@ use Rattle.cmm_program.specs.declared.statement.Statement.{Statement}
 use Rattle.cmm_program.specs.declared.statement.Arm.{items-the_row-Statement, items_hidden-the_row-Statement-0, Arm', Row_of-Statement, end_of-Statement, more_of-Statement}
 use Rattle.cmm_program.specs.declared.procedure.Proc.{Proc}
 use Rattle.cmm_program.specs.declared.program.Program.{Program}
-use Rattle.cmm_program.specs.Bodies.{Mark, AtLabel, statements, branches, branch_body, after_inside, after_in, after_in_arms, follow}
-use Rattle.cmm_program.specs.InRange.{is_body_in, is_block, are_bodies}
+use Rattle.cmm_program.specs.Bodies.{Mark, AtLabel, statements, branches, branch_body, within, within_block, within_arms, after_inside, after_in, after_in_arms, follow}
+use Rattle.cmm_program.specs.InRange.{is_body_in, is_statement}
 use Rattle.cmm_program.specs.Todo.{rest_after}
 use Rattle.cmm_laws.specs.Fitting.{IsStatementOf}
 
@@ -37,6 +40,13 @@ module _ (p : Program) (q : Proc) where
   abbrev InRange : List Statement → Type 0
   InRange = All (IsStatementOf p q)
 
+  -- statements that keep the rules, and those of two lists apart
+  abbrev Keep : List Statement → Type 0
+  Keep ss = IsTrue (list_all (is_statement p q) ss)
+
+  apart : (xs ys : List Statement) → Keep (xs ++ ys) → Keep xs × Keep ys
+  apart xs ys keep = and_parts _ _ (subst IsTrue (list_all-append (is_statement p q) xs ys) keep)
+
   -- some in front of others
   before : (rest front : List Statement) → InRange front → InRange rest → InRange (front ++ rest)
   before rest front = All-append (IsStatementOf p q) front rest
@@ -44,23 +54,29 @@ module _ (p : Program) (q : Proc) where
   mutual
     -- what follows a mark inside a statement
     form_of : (form : Form) → IsTrue (is_body_in p q form) → (m : Mark) → IfSome (after_inside m form) InRange
-    form_of (If' condition _ then_ _ otherwise) is m = grind (arith, nat_tests, row_of then_, row_of otherwise)
+    form_of (If' condition _ then_ _ otherwise) is m =
+        let both = apart (within_block then_) (within_block otherwise) is in grind (arith, row_of then_ both.0, row_of otherwise both.1)
     form_of (Switch' value _ arms) is m = grind (arith, nat_tests, arms_of arms)
     form_of (Span' _ body) is m = grind (arith, nat_tests, row_of body)
     form_of _ is m = tt
 
     -- the statements of a block, and what follows a mark in it
-    row_of : {n : _} (row : Row_of-Statement n) → IsTrue (is_block p q row) → InRange (statements row) × ((m : _) → IfSome (after_in m row) InRange)
+    row_of : {n : _} (row : Row_of-Statement n) → Keep (within_block row) → InRange (statements row) × ((m : _) → IfSome (after_in m row) InRange)
     row_of (more_of-Statement tokens form rest) is =
-        let h : IsTrue (is_body_in p q form) × IsTrue (is_block p q rest) = grind (arith, nat_tests) in
-        (grind (arith, nat_tests, row_of rest, All-cons), λ m. grind (arith, row_of rest h.1, form_of form h.0 m, before (statements rest)))
+        let s : Statement = record { tokens = tokens; form = form } in
+        let both = and_parts (is_statement p q s) _ is in
+        let inner = apart (within form) (within_block rest) both.1 in (
+          All-cons (IsStatementOf p q) s (statements rest) (both.0, inner.0) (row_of rest inner.1).0,
+          λ m. grind (arith, row_of rest inner.1, form_of form inner.0 m, before (statements rest)),
+        )
     row_of row is = (All-nil (IsStatementOf p q), λ m. tt)
 
     -- the body of each arm, and what follows a mark in the arms
-    arms_of : {n : _} (row : Row_of-Arm n) → IsTrue (are_bodies p q row) →
+    arms_of : {n : _} (row : Row_of-Arm n) → Keep (within_arms row) →
         ((way : ℕ) → InRange (branch_body (branches row) way)) × ((m : _) → IfSome (after_in_arms m row) InRange)
     arms_of (more_of-Arm (Arm' case _ body) rest) is =
-        (λ way. grind (arith, nat_tests, row_of body, arms_of rest), λ m. grind (arith, nat_tests, row_of body, arms_of rest))
+        let both = apart (within_block body) (within_arms rest) is in
+        (λ way. grind (arith, row_of body both.0, arms_of rest both.1), λ m. grind (arith, row_of body both.0, arms_of rest both.1))
     arms_of row is = grind (arith, All-nil (IsStatementOf p q))
 
   -- what follows a mark in the procedure's body
@@ -74,5 +90,11 @@ module _ (p : Program) (q : Proc) where
   -- the statements still to do after a statement
   pub rest_of : (way : ℕ) (form : Form) (rest : List Statement) → IsTrue (is_body_in p q (Span q.body)) → IsTrue (is_body_in p q form) →
       InRange rest → InRange (rest_after q way form rest)
+  rest_of zero (If' condition _ then_ _ otherwise) rest body is old =
+      before rest (statements then_) (row_of then_ (apart (within_block then_) (within_block otherwise) is).0).0 old
+  rest_of (suc way) (If' condition _ then_ _ otherwise) rest body is old =
+      before rest (statements otherwise) (row_of otherwise (apart (within_block then_) (within_block otherwise) is).1).0 old
+  rest_of way (Switch' value _ arms) rest body is old = before rest (branch_body (branches arms) way) ((arms_of arms is).0 way) old
+  rest_of way (Span' _ block) rest body is old = before rest (statements block) (row_of block is).0 old
   rest_of way (Goto n) rest body is old = follow_of (AtLabel n) body
-  rest_of way form rest body is old = grind (arith, nat_tests, row_of, arms_of, before rest)
+  rest_of way form rest body is old = old

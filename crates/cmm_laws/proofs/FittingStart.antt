@@ -2,7 +2,8 @@
 use Rattle.cmm_laws.proofs.StoredWords.{bytes_of_number}
 use Rattle.std.specs.List.{list_all}
 use Rattle.std.proofs.lemmas.Bool.Decides.{nat_tests}
-use Rattle.std.proofs.Common.{◌≢◌, ℕ, ◌+◌, ◌≤◌, Some, None, List, [], ◌∷◌, map, flat_map, All, IsTrue, arith, slice_get}
+use Rattle.std.proofs.lemmas.Slice.Eq.{bytes_eq-Decides}
+use Rattle.std.proofs.Common.{◌≢◌, ℕ, ◌+◌, ◌≤◌, Some, None, List, [], ◌∷◌, map, flat_map, All, IsTrue, arith, slice_get, subst, sym, ◌≡◌}
 use Rattle.std.proofs.lemmas.List.Elements.{All-nil, All-append, All-replicate, All-map}
 use Rattle.cmm_words.specs.declared.constant.Constant.{Constant}
 use Rattle.cmm_words.specs.Widths.{bytes}
@@ -13,7 +14,7 @@ use Rattle.cmm_program.specs.declared.program.Datum.{Datum}
 use Rattle.cmm_program.specs.declared.program.Program.{Program}
 use Rattle.cmm_program.specs.Frames.{place_row}
 use Rattle.cmm_program.specs.InRange.{IsInRange, IsProcInRange, is_item}
-use Rattle.cmm_program.specs.Layout.{end_of, item_piece, stackdata_labels_from, bytes_of, constant_value, datum_bytes, bytes_from, data_bytes}
+use Rattle.cmm_program.specs.Layout.{end_of, item_piece, stackdata_labels, stackdata_labels_from, stackdata_size, bytes_of, constant_value, datum_bytes, bytes_from, data_bytes}
 use Rattle.rv_table.specs.Memory.{data_base}
 use Rattle.cmm_program.specs.Placed.{IsPlaced, are_labels}
 use Rattle.cmm_program.specs.State.{Setting}
@@ -26,18 +27,32 @@ use Rattle.cmm_laws.proofs.FittingStores.{AreUpTo, PartsInside}
 -- ---- parts of frames
 
 -- labels lie below a limit if their stackdata does, which need be known only where there is a label
-labels_within : (base place limit : ℕ) (items : List StackItem) (offsets : List ℕ) → IsTrue (list_all is_item items) →
-    IsTrue (are_labels base place items offsets) → (slice_get offsets 0 ≢ None → slice_get (stackdata_labels_from place items) 0 ≢ None →
-    base + end_of place (map item_piece items) ≤ limit) → AreUpTo limit offsets
-labels_within base place limit [] offsets are labels fit n = grind arith
-labels_within base place limit (i ∷ is) offsets are labels fit n =
-    grind (arith, nat_tests, end_of-grows, λ (place : ℕ) (os : List ℕ). labels_within base place limit is os)
+labels_within : (base place limit : ℕ) (items : List StackItem) → IsTrue (list_all is_item items) →
+    (slice_get (stackdata_labels_from place items) 0 ≢ None → base + end_of place (map item_piece items) ≤ limit) →
+    AreUpTo limit (map (λ label. base + label) (stackdata_labels_from place items))
+labels_within base place limit [] are fit n = grind arith
+labels_within base place limit (i ∷ is) are fit n =
+    grind (arith, nat_tests, end_of-grows, λ (place : ℕ). labels_within base place limit is)
+
+-- where labels have a first one, so have the offsets that stand for them
+first_mapped : (f : ℕ → ℕ) (xs : List ℕ) → slice_get xs 0 ≢ None → slice_get (map f xs) 0 ≢ None
+first_mapped f [] is = is
+first_mapped f (x ∷ xs) is = grind arith
+
+-- so do offsets that are a base plus the labels' places
+labels_inside : (base limit : ℕ) (items : List StackItem) (offsets : List ℕ) → IsTrue (list_all is_item items) → IsTrue (are_labels base items offsets) →
+    (slice_get offsets 0 ≢ None → slice_get (stackdata_labels items) 0 ≢ None → base + stackdata_size items ≤ limit) → AreUpTo limit offsets
+labels_inside base limit items offsets are labels =
+    let places = stackdata_labels items in
+    let same : offsets ≡ map (λ place. base + place) places = (bytes_eq-Decides offsets _).0 labels in
+    subst (λ os. (slice_get os 0 ≢ None → slice_get places 0 ≢ None → base + stackdata_size items ≤ limit) → AreUpTo limit os) (sym same)
+    (λ fit. labels_within base 0 limit items are (λ first. fit (first_mapped (λ place. base + place) places first) first))
 
 -- so pairs and labels lie inside the frame of the row that places them
 pub parts_inside : (s : Setting) → IsInRange s.program → IsPlaced s.program s.placement → (n : ℕ) → PartsInside (place_row s n)
 parts_inside s range placed n =
     let items = λ (p : Proc). all_get (IsProcInRange s.program) s.program.procs n p range.procedures in
-    let labels = λ (p : Proc) (base : ℕ). labels_within base 0 (place_row s n).frame p.stack (place_row s n).stack in
+    let labels = λ (p : Proc) (base : ℕ). labels_inside base (place_row s n).frame p.stack (place_row s n).stack in
     grind (arith, nat_tests, row_at s.program.procs s.placement.rows, pairs_inside, items, labels)
 
 -- ---- data

@@ -1,6 +1,6 @@
 -- What may be missing or wrong, elements of lists, and lists in step.
 use Rattle.std.proofs.lemmas.Bool.Decides.{nat_tests}
-use Rattle.std.proofs.Common.{Err, Ok, Result, ◌≡◌, ℕ, suc, ◌-◌, ◌<◌, Bool, Option, Some, None, List, [], ◌∷◌, ◌++◌, map, take, replicate, length, slice_get, slice_index_or, All, IsTrue, arith}
+use Rattle.std.proofs.Common.{Err, Ok, Result, ◌≡◌, ℕ, suc, ◌<◌, Bool, Option, Some, None, List, [], ◌∷◌, ◌++◌, map, take, drop, length, slice_get, slice_index_or, All, IsTrue, arith}
 use Rattle.std.specs.List.{AllZip}
 use Rattle.std.proofs.lemmas.List.{get_or_past}
 use Rattle.std.proofs.lemmas.Option.{get_or_from_slice_get, slice_get_cases, slice_get_within}
@@ -38,12 +38,12 @@ any_place P xs n d all default = grind (arith, slice_get_cases xs n, get_or_past
 -- ---- lists in step
 
 -- zeros in step with a list
-pub zip_zeros : {A : Type 0} (R : A → ℕ → Type 0) (xs : List A) → ((x : A) → R x 0) → AllZip R xs (replicate (length xs) 0)
+pub zip_zeros : {A : Type 0} (R : A → ℕ → Type 0) (xs : List A) → ((x : A) → R x 0) → AllZip R xs (map (λ x. 0) xs)
 zip_zeros R [] zeros = tt
 zip_zeros R (x ∷ xs) zeros = (zeros x, zip_zeros R xs zeros)
 
 -- values in step with what the first of a list give, filled up by zeros
 pub zip_filled : {A B : Type 0} (R : B → ℕ → Type 0) (f : A → B) (n : ℕ) (xs : List A) (ys : List ℕ) → ((y : B) → R y 0) →
-    AllZip R (map f (take n xs)) ys → AllZip (λ x y. R (f x) y) xs (ys ++ replicate (length xs - length ys) 0)
+    AllZip R (map f (take n xs)) ys → AllZip (λ x y. R (f x) y) xs (ys ++ map (λ x. 0) (drop (length ys) xs))
 zip_filled R f (suc n) (x ∷ xs) (y ∷ ys) zeros old = grind (arith, zip_filled R f n xs ys zeros)
 zip_filled R f n xs ys zeros old = grind (arith, zip_zeros (λ x. R (f x)) xs (λ x. zeros (f x)))

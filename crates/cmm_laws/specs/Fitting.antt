@@ -26,7 +26,7 @@ use Rattle.cmm_program.specs.Writes.{reads_of}
 
 -- a statement that is in range in a procedure, with the blocks inside it
 abbrev pub IsStatementOf : Program → Proc → Statement → Type 0
-IsStatementOf p q statement = IsTrue (is_statement p q statement.tokens statement.form) × IsTrue (is_body_in p q statement.form)
+IsStatementOf p q statement = IsTrue (is_statement p q statement) × IsTrue (is_body_in p q statement.form)
 
 -- An activation of a procedure: each of its variables has a value, of the variable's width; it waits at one of its sites,
 -- if it is suspended; and each statement that it has still to do is in range in the procedure.

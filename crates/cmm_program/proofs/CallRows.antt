@@ -1,8 +1,9 @@
 -- Worked rows: calls, returns, cuts and input, run to their ends.
-use Rattle.std.proofs.Common.{◌≡◌, refl, [], ◌∷◌}
-use Rattle.cmm_program.specs.State.{Ended, Done, StackLimit}
+use Rattle.std.proofs.Common.{◌≡◌, refl, List, [], ◌∷◌}
+use Rattle.cmm_program.specs.State.{Activation, Ended, Done, StackLimit}
 use Rattle.cmm_program.specs.Machine.{state_after}
-use Rattle.cmm_program.proofs.Notation.{opened, setting, no_client, seen, silent}
+use Rattle.cmm_program.proofs.Commanding.{jumping, jumping-placed}
+use Rattle.cmm_program.proofs.Notation.{opened, setting, no_client, Seen, seen, silent}
 use Rattle.cmm_program.proofs.Calls.{sum, sum-placed, tail, tail-placed, deep, deep-placed, alternates, alternates-placed, cutting, cutting-placed, parallel, parallel-placed, input, input-placed}
 
 sum_runs : seen (state_after (setting sum sum-placed 64 no_client) [] 1) ≡ silent (Ended (Done 5)) []
@@ -47,3 +48,13 @@ input_runs = refl
 input_taken : (state_after (setting input input-placed 64 no_client) (255 ∷ 7 ∷ []) 5).store.taken ≡ 255 ∷ []
 unfolding opened
 input_taken = refl
+
+-- a jump from a frame of 16 bytes to one of 48: the first is gone, and in 32 bytes there is no room for the second
+jump_ends : let st = state_after (setting jumping jumping-placed 32 no_client) [] 1 in
+    ◌≡◌ {A = Seen × List Activation} (seen st, st.store.activations) (silent (Ended StackLimit) [], [])
+unfolding opened
+jump_ends = refl
+
+jump_fits : seen (state_after (setting jumping jumping-placed 48 no_client) [] 2) ≡ silent (Ended (Done 1)) []
+unfolding opened
+jump_fits = refl

@@ -8,6 +8,7 @@ use Rattle.cmm_program.specs.State.{Ended, Done, Stopped}
 use Rattle.cmm_program.specs.Walks.{walk_of}
 use Rattle.cmm_program.specs.Machine.{state_after}
 use Rattle.cmm_program.proofs.Notation.{opened, setting, no_client, client, other, at, seen, logs}
+use Rattle.cmm_program.proofs.Commanding.{told, told-placed, alike, alike-placed}
 use Rattle.cmm_program.proofs.Yielding.{spans, spans-placed, unwinding, unwinding-placed, checked, checked-placed, changing, changing-placed, divide, divide-placed}
 
 spans_run :
@@ -126,3 +127,21 @@ pokes :
     ≡ logs (Ended Stopped) (codes "yield 100 3" ∷ codes "refused 68" ∷ codes "refused 68" ∷ codes "refused 68" ∷ codes "ok" ∷ [])
 unfolding opened
 pokes = refl
+
+-- a cut to the continuation that the yield tells, the pair in the frame of `main`, 32 bytes below the top
+cut_resumes :
+    seen (state_after (setting told told-placed 64 (client (other (Cut (Yielded 0) [] ∷ Cut (Yielded 0) (Number 41 ∷ []) ∷ []) ∷ []))) [] 10)
+    ≡ logs (Ended (Done 42)) (codes "yield 1610616864" ∷ codes "refused 65" ∷ codes "resume" ∷ [])
+unfolding opened
+cut_resumes = refl
+
+-- the activation at the cursor is sought too, wherever the cursor was moved, and a refusal leaves the cursor
+seeks_from_cursor :
+    seen (state_after (setting alike alike-placed 64 (client (other (
+    Seek 1 (Number 10) ∷ Seek 1 (Number 10) ∷ Next ∷ Seek 1 (Number 10) ∷ Seek 1 (Number 11) ∷ Desc 1 ∷ Next ∷ Youngest ∷ Next ∷ Seek 2 (Number 0)
+    ∷ Stop ∷ []) ∷ []))) [] 10)
+    ≡ logs (Ended Stopped) (
+    codes "yield 0" ∷ codes "at a site 0" ∷ codes "at a site 0" ∷ codes "at main site 0" ∷ codes "at main site 0" ∷ codes "refused 60"
+    ∷ codes "desc 10" ∷ codes "refused 60" ∷ codes "at b site 0" ∷ codes "at a site 0" ∷ codes "at a site 0" ∷ [])
+unfolding opened
+seeks_from_cursor = refl

@@ -7,11 +7,14 @@ mod Notation
 mod Calls
 mod Yielding
 mod Erring
+mod Commanding
 mod CallRows
 mod ErrorRows
 mod ClientRows
 mod LayoutRows
 mod RangeRows
+mod TokenRows
+mod ValueRows
 mod Storing
 mod StoreRows
 mod Flowing

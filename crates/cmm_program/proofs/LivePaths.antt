@@ -13,7 +13,7 @@ use Rattle.cmm_program.specs.Laws.{LivenessIsByPaths}
 use Rattle.cmm_program.specs.Liveness.{Way, ways, exits_at, read_in, is_among, along, is_read_within, is_read_from, is_live_at}
 use Rattle.cmm_program.specs.LivePaths.{IsReadFrom, Here, Onward, IsLiveAt}
 use Rattle.cmm_program.proofs.Leading.{Leads, lead_inside, exits_at_lead, holds_after}
-use Rattle.cmm_program.proofs.Positions.{positions, positions_inside-tokens}
+use Rattle.cmm_program.proofs.Positions.{positions, positions-tokens}
 use Rattle.cmm_program.proofs.Settling.{IsStill, settles}
 
 each : {A : Type 0} (P : A → Type 0) (list : List A) → ((a : A) → P a) → AllByRecursion P list
@@ -156,7 +156,7 @@ module _ (q : Proc) (v : ℕ) where
       holds_after IsEnough q m (settles test grows (positions q) lasts q.tokens few) (λ n h. nothing_at_end n (IsTrue (test q.tokens [])) h)
     where
       few : length (positions q) ≤ q.tokens
-      few = omega (arith, positions_inside-tokens p q (Span q.body) [] good.body, good.counts)
+      few = omega (arith, positions-tokens p q good.body, good.counts)
 
 pub liveness_is_by_paths : LivenessIsByPaths
 liveness_is_by_paths p q site v good = (sound, complete)

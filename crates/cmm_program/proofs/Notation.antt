@@ -3,6 +3,7 @@ use Rattle.std.proofs.Common.{ℕ, Bool, false, List, [], Some, None}
 use Rattle.std.specs.Fmt as Fmt
 use denote.Hole.Carrier as Carrier
 use Rattle.cmm_program.specs.declared.expression.Expression.TheBlock as Expression
+use Rattle.cmm_program.specs.declared.expression.Condition.TheBlock as Condition
 use Rattle.cmm_program.specs.declared.statement.Form.TheBlock as Form
 use Rattle.std.specs.Prelude.{flat_map}
 use Rattle.cmm_words.specs.declared.width.Width.{Width}
@@ -28,7 +29,7 @@ use Rattle.cmm_program.specs.Todo.{Todo}
 
 -- what a row unfolds beside definitions that always unfold
 unfoldable pub opened : Unit {0}
-unfolding Expression.hidden-the_row-Expression-0 Form.hidden-the_row-Statement-0 Form.hidden-the_row-Arm-1 roll-Arm Carrier.roll Carrier.hidden Fmt.digits
+unfolding Expression.hidden-the_row-Expression-0 Condition.hidden-the_row-Condition-0 Form.hidden-the_row-Statement-0 Form.hidden-the_row-Arm-1 roll-Arm Carrier.roll Carrier.hidden Fmt.digits
 opened = tt
 
 abbrev pub num : ℕ → Expression

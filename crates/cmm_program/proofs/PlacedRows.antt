@@ -23,7 +23,7 @@ main_only = bare 5 [] [] []
 --     f() { stackdata { l: bits8[32]; } continuation j: continuation k: }
 abbrev pub framed : Proc
 framed =
-    bare 19 (record { align = 1; length = 0; label = true } ∷ record { align = 1; length = 32; label = false } ∷ [])
+    bare 25 (record { align = 1; length = 0; label = true } ∷ record { align = 1; length = 32; label = false } ∷ [])
     (record { params = [] } ∷ record { params = [] } ∷ []) (is 5 (f.Continuation 0) ∷ is 5 (f.Continuation 1) ∷ [])
 
 abbrev pub program_of : Proc → Proc → Program
@@ -47,6 +47,7 @@ main_in_range = record {
   labels_numbered = refl;
   continuations_numbered = refl;
   sites_numbered = refl;
+  shortest = omega arith;
   counts = omega arith;
 }
 
@@ -65,6 +66,7 @@ framed_in_range = record {
   labels_numbered = refl;
   continuations_numbered = refl;
   sites_numbered = refl;
+  shortest = omega arith;
   counts = omega arith;
 }
 
@@ -77,8 +79,10 @@ in_range = record {
   main = omega arith;
   main_formals = λ q e. ap (λ (q : Proc). q.formals) (sym (same_Some main_only q e));
   datums = refl;
+  datum_count = omega arith;
   data_size = omega arith;
   labels = refl;
+  label_count = omega arith;
   registers = omega arith;
   register_names = refl;
   tokens = omega arith;

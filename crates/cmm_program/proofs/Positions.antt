@@ -1,6 +1,9 @@
 -- The positions of a body: the lists of statements still to do that begin at one of its statements, over all its blocks.
 -- There are no more of them than tokens.
-use Rattle.std.proofs.Common.{ℕ, ◌≤◌, ◌&&◌, nat_le, IsTrue, List, [], ◌∷◌, ◌++◌, length, arith, length-append}
+use Rattle.std.specs.List.{list_all}
+use Rattle.std.specs.Prelude.{sum_by}
+use Rattle.std.proofs.lemmas.List.Sums.{sum_by-cons}
+use Rattle.std.proofs.Common.{◌≡◌, ℕ, ◌≤◌, ◌&&◌, nat_le, IsTrue, List, [], ◌∷◌, ◌++◌, length, arith, length-append}
 use Rattle.std.proofs.lemmas.Bool.{and_parts, leb-true}
 use Rattle.cmm_program.specs.declared.expression.Expression.{Expression}
 use Rattle.cmm_program.specs.declared.statement.Form.{Form, Row_of-Arm, end_of-Arm, more_of-Arm}
@@ -9,9 +12,9 @@ use Rattle.cmm_program.specs.declared.statement.Arm.{Arm', Row_of-Statement, end
 use Rattle.cmm_program.specs.declared.statement.Statement.{Statement}
 use Rattle.cmm_program.specs.declared.procedure.Proc.{Proc}
 use Rattle.cmm_program.specs.declared.program.Program.{Program}
-use Rattle.cmm_program.specs.Bodies.{statements}
-use Rattle.cmm_program.specs.InRange.{is_form, is_statement, is_body_in, is_block, are_bodies}
-use Rattle.cmm_program.specs.Numbering.{tokens_inside, tokens_of, tokens_of_arms}
+use Rattle.cmm_program.specs.Bodies.{body_statements, statements, within, within_block, within_arms}
+use Rattle.cmm_program.specs.InRange.{is_form, is_statement, is_body_in}
+use Rattle.cmm_program.specs.Numbering.{body_tokens}
 use Rattle.cmm_program.specs.Tokens.{own_tokens, return_tokens}
 
 abbrev mutual
@@ -47,30 +50,34 @@ one_token : (q : Proc) (form : Form) → 1 ≤ own_tokens q form
 one_token q (Return exit alternates values) = one_to_return alternates values
 one_token q _ = omega arith
 
-module _ (p : Program) (q : Proc) where
-  mutual
-    pub positions_inside-tokens : (form : Form) (rest : List Statement) → IsTrue (is_body_in p q form) →
-        length (positions_inside form rest) ≤ tokens_inside form
-    positions_inside-tokens (If' condition _ then_ _ otherwise) rest good =
-        let both = and_parts (is_block p q then_) (is_block p q otherwise) good in
-        omega (arith, length-append (positions_in then_ rest) (positions_in otherwise rest), positions_in-tokens then_ rest both.0, positions_in-tokens otherwise rest both.1)
-    positions_inside-tokens (Switch' value _ arms) rest good = positions_in_arms-tokens arms rest good
-    positions_inside-tokens (Span' _ body) rest good = positions_in-tokens body rest good
-    positions_inside-tokens _ rest good = omega arith
+-- so statements in range have at least as many tokens as there are of them
+counted : (p : Program) (q : Proc) (ss : List Statement) → IsTrue (list_all (is_statement p q) ss) → length ss ≤ sum_by (λ s. s.tokens) ss
+counted p q [] good = omega arith
+counted p q (s ∷ ss) good =
+    let both = and_parts (is_statement p q s) (list_all (is_statement p q) ss) good in
+    let here = leb-true (own_tokens q s.form) s.tokens (and_parts (is_form p q s.form) (nat_le (own_tokens q s.form) s.tokens) both.0).1 in
+    omega (arith, counted p q ss both.1, here, one_token q s.form, sum_by-cons (λ (s : Statement). s.tokens) s ss)
 
-    positions_in-tokens : {n : _} (row : Row_of-Statement n) (rest : List Statement) → IsTrue (is_block p q row) →
-        length (positions_in row rest) ≤ tokens_of row
-    positions_in-tokens end_of-Statement rest good = omega arith
-    positions_in-tokens (more_of-Statement tokens form row) rest good =
-        let next = statements row ++ rest in
-        let others = and_parts (is_statement p q tokens form && is_body_in p q form) (is_block p q row) good in
-        let here = and_parts (is_statement p q tokens form) (is_body_in p q form) others.0 in
-        let counted = leb-true (own_tokens q form) tokens (and_parts (is_form p q form) (nat_le (own_tokens q form) tokens) here.0).1 in
-        omega (arith, length-append (positions_inside form next) (positions_in row rest), positions_inside-tokens form next here.1, positions_in-tokens row rest others.1, one_token q form)
+-- there is a position for each statement
+mutual
+  inside-count : (form : Form) (rest : List Statement) → length (positions_inside form rest) ≡ length (within form)
+  inside-count (If' condition _ then_ _ otherwise) rest =
+      omega (arith, length-append (positions_in then_ rest) (positions_in otherwise rest), length-append (within_block then_) (within_block otherwise), in-count then_ rest, in-count otherwise rest)
+  inside-count (Switch' value _ arms) rest = in_arms-count arms rest
+  inside-count (Span' _ body) rest = in-count body rest
+  inside-count _ rest = omega arith
 
-    positions_in_arms-tokens : {n : _} (row : Row_of-Arm n) (rest : List Statement) → IsTrue (are_bodies p q row) →
-        length (positions_in_arms row rest) ≤ tokens_of_arms row
-    positions_in_arms-tokens end_of-Arm rest good = omega arith
-    positions_in_arms-tokens (more_of-Arm (Arm' case _ body) row) rest good =
-        let both = and_parts (is_block p q body) (are_bodies p q row) good in
-        omega (arith, length-append (positions_in body rest) (positions_in_arms row rest), positions_in-tokens body rest both.0, positions_in_arms-tokens row rest both.1)
+  in-count : {n : _} (row : Row_of-Statement n) (rest : List Statement) → length (positions_in row rest) ≡ length (within_block row)
+  in-count end_of-Statement rest = omega arith
+  in-count (more_of-Statement tokens form row) rest =
+      let next = statements row ++ rest in
+      omega (arith, length-append (positions_inside form next) (positions_in row rest), length-append (within form) (within_block row), inside-count form next, in-count row rest)
+
+  in_arms-count : {n : _} (row : Row_of-Arm n) (rest : List Statement) → length (positions_in_arms row rest) ≡ length (within_arms row)
+  in_arms-count end_of-Arm rest = omega arith
+  in_arms-count (more_of-Arm (Arm' case _ body) row) rest =
+      omega (arith, length-append (positions_in body rest) (positions_in_arms row rest), length-append (within_block body) (within_arms row), in-count body rest, in_arms-count row rest)
+
+-- no more positions than the statements have tokens
+pub positions-tokens : (p : Program) (q : Proc) → IsTrue (is_body_in p q (Span q.body)) → length (positions q) ≤ body_tokens q
+positions-tokens p q good = omega (arith, inside-count (Span q.body) [], counted p q (body_statements q) good)

@@ -1,6 +1,6 @@
 -- Worked rows: resolved programs are in range, with counts of tokens that were counted in their texts.
-use Rattle.std.specs.List.{range_with_len}
-use Rattle.std.proofs.Common.{◌≡◌, ◌+◌, Bool, true, false, refl}
+use Rattle.std.specs.List.{list_all}
+use Rattle.std.proofs.Common.{◌≡◌, ℕ, Bool, true, false, List, [], ◌∷◌, refl}
 use Rattle.std.specs.Prelude.{◌&&◌, nat_le, None}
 use Rattle.cmm_words.specs.declared.width.Width.TheVariants.{W8, W64}
 use Rattle.cmm_words.specs.declared.operators.Op2.TheVariants.{Add}
@@ -9,20 +9,26 @@ use Rattle.cmm_program.specs.declared.expression.Expression.TheVariants as e
 use Rattle.cmm_program.specs.declared.statement.Form.TheVariants as f
 use Rattle.cmm_program.specs.declared.procedure.Proc.{Proc}
 use Rattle.cmm_program.specs.declared.program.Program.{Program}
-use Rattle.cmm_program.specs.InRange.{is_body_in, is_site, is_continuation}
-use Rattle.cmm_program.specs.Numbering.{body_numbers, label_number, continuation_number, site_number, body_tokens}
-use Rattle.std.specs.List.{list_all}
-use Rattle.cmm_program.specs.Tokens.{heading_tokens}
+use Rattle.cmm_program.specs.InRange.{is_body_in, is_form, is_site, is_continuation}
+use Rattle.cmm_program.specs.declared.statement.Case.TheVariants.{In}
+use Rattle.cmm_program.specs.declared.statement.Statement.{Statement}
+use Rattle.cmm_program.specs.Numbering.{are_each_once, body_numbers, label_number, continuation_number, site_number, body_tokens}
+use Rattle.cmm_program.specs.Tokens.{procedure_tokens}
 use Rattle.cmm_program.specs.Typing.{typed}
-use Rattle.cmm_program.proofs.Notation.{opened, num}
+use Rattle.cmm_program.proofs.Notation.{opened, num, is, arm}
 use Rattle.cmm_program.proofs.Calls.{alternates, alternates-main, alternates-t, alternates-h, cutting, cutting-c, cutting-d, cutting-e, tail, tail-f}
 use Rattle.cmm_program.proofs.Yielding.{unwinding, unwinding-mid, checked, checked-main, changing, changing-main, divide, divide-put, divide-main, divide-divide}
+
+-- a procedure without declarations
+abbrev bare : ℕ → List Statement → Proc
+bare tokens body =
+    record { name = []; unit = 0; tokens = tokens; formals = 0; vars = []; stack = []; conts = []; sites = []; body = body }
 
 -- the statements, sites, continuations and counts of a procedure
 abbrev keeps_rules : Program → Proc → Bool
 keeps_rules p q =
     is_body_in p q (f.Span q.body) && list_all (is_site p q) q.sites && list_all (is_continuation p q) q.conts
-    && nat_le (heading_tokens q + body_tokens q) q.tokens
+    && nat_le (procedure_tokens q) q.tokens && nat_le (body_tokens q) q.tokens
 
 alternates_main : keeps_rules alternates alternates-main ≡ true
 unfolding opened
@@ -76,6 +82,29 @@ divide_divide : keeps_rules divide divide-divide ≡ true
 unfolding opened
 divide_divide = refl
 
+-- `f() { ; }`, with one token more counted to the statement than it needs, as the whole leaves room for it
+spare_token : keeps_rules tail (bare 6 (is 2 f.Empty ∷ [])) ≡ true
+unfolding opened
+spare_token = refl
+
+-- but not where the statements' counts come to more than the procedure's, nor where a statement has too few
+too_many_counted : keeps_rules tail (bare 6 (is 7 f.Empty ∷ [])) ≡ false
+unfolding opened
+too_many_counted = refl
+
+too_few_counted : keeps_rules tail (bare 6 (is 0 f.Empty ∷ [])) ≡ false
+unfolding opened
+too_few_counted = refl
+
+-- nothing assigned, and a case without a range
+nothing_assigned : is_form tail tail-f (f.Assign [] []) ≡ false
+unfolding opened
+nothing_assigned = refl
+
+no_range : is_form tail tail-f (f.Switch (num 1) (arm (In []) [] ∷ [])) ≡ false
+unfolding opened
+no_range = refl
+
 -- a procedure with a token less than its text has
 too_few_tokens : keeps_rules tail record tail-f { tokens = 25 } ≡ false
 unfolding opened
@@ -86,15 +115,24 @@ widths_differ : typed tail tail-f (e.Binary Add W64 (num 1) (e.Known (Number 1 W
 unfolding opened
 widths_differ = refl
 
--- numbers stand in textual order
-alternates_continuations : body_numbers continuation_number alternates-t ≡ range_with_len 0 3
+-- numbers stand once each
+alternates_continuations : body_numbers continuation_number alternates-t ≡ 0 ∷ 1 ∷ 2 ∷ []
 unfolding opened
 alternates_continuations = refl
 
-divide_sites : body_numbers site_number divide-main ≡ range_with_len 0 2
+divide_sites : body_numbers site_number divide-main ≡ 0 ∷ 1 ∷ []
 unfolding opened
 divide_sites = refl
 
-divide_labels : body_numbers label_number divide-put ≡ range_with_len 0 1
+divide_labels : body_numbers label_number divide-put ≡ 0 ∷ []
 unfolding opened
 divide_labels = refl
+
+in_any_order : are_each_once 3 (2 ∷ 0 ∷ 1 ∷ []) ≡ true
+in_any_order = refl
+
+one_twice : are_each_once 3 (2 ∷ 0 ∷ 2 ∷ []) ≡ false
+one_twice = refl
+
+one_above : are_each_once 2 (0 ∷ 1 ∷ 2 ∷ []) ≡ false
+one_above = refl

@@ -25,6 +25,26 @@ abbrev pub branches : {n : _} → Row_of-Arm n → List Branch
 branches end_of-Arm = []
 branches (more_of-Arm (Arm' case _ body) rest) = record { case = case; body = statements body } ∷ branches rest
 
+-- every statement inside a statement's blocks, over all of them, in textual order
+abbrev mutual
+  pub within : Form → List Statement
+  within (If' condition _ then_ _ otherwise) = within_block then_ ++ within_block otherwise
+  within (Switch' value _ arms) = within_arms arms
+  within (Span' _ body) = within_block body
+  within _ = []
+
+  pub within_block : {n : _} → Row_of-Statement n → List Statement
+  within_block end_of-Statement = []
+  within_block (more_of-Statement tokens form rest) = record { tokens = tokens; form = form } ∷ (within form ++ within_block rest)
+
+  pub within_arms : {n : _} → Row_of-Arm n → List Statement
+  within_arms end_of-Arm = []
+  within_arms (more_of-Arm (Arm' case _ body) rest) = within_block body ++ within_arms rest
+
+-- every statement of a procedure's body
+abbrev pub body_statements : Proc → List Statement
+body_statements q = within (Span q.body)
+
 -- ---- what follows a mark
 
 -- a place of a body: a label, the beginning of a continuation, or the statement at a call site

@@ -1,7 +1,7 @@
 -- Activations and their frames: the sizes and addresses of frames, what is in them, and how activations come and go. Each
 -- activation has a frame, a stretch of the stack. Activations stand youngest first; a list of them stands for its youngest,
 -- whose older ones follow.
-use Rattle.std.specs.Prelude.{ℕ, ◌+◌, ◌-◌, Bool, nat_le, List, [], ◌∷◌, ◌++◌, length, drop, replicate, sum_by, slice_get, slice_index_or, Option, Some, None}
+use Rattle.std.specs.Prelude.{ℕ, ◌+◌, ◌-◌, Bool, nat_le, List, [], ◌∷◌, ◌++◌, length, map, drop, replicate, sum_by, slice_get, slice_index_or, Option, Some, None}
 use Rattle.cmm_program.specs.declared.procedure.Proc.{Proc}
 use Rattle.cmm_program.specs.declared.procedure.Site.{Site}
 use Rattle.cmm_program.specs.declared.placement.PlaceRow.{PlaceRow}
@@ -46,8 +46,8 @@ stackdata_address s (a ∷ older) n = part_address s (a ∷ older) (place_row s 
 
 -- ---- stackdata
 
--- The offset of a procedure's stackdata in its frame, which that of its first label shows. Without a label its
--- stackdata has no addresses.
+-- The offset of a procedure's stackdata in its frame, which that of its first label shows: on a valid placement that is the
+-- label's place more. Without a label its stackdata has no addresses.
 abbrev pub stackdata_offset : Proc → PlaceRow → Option ℕ
 stackdata_offset p row = with_some (slice_get row.stack 0) (λ offset. with_some (slice_get (stackdata_labels p.stack) 0) (λ place. Some (offset - place)))
 
@@ -85,7 +85,7 @@ site_cuts s activations = elim (suspended_at s activations) [ Some a ↦ a.site.
 abbrev pub new_activation : ℕ → Proc → List ℕ → Activation
 new_activation n p values = record {
   procedure = n;
-  variables = values ++ replicate (length p.vars - length values) 0;
+  variables = values ++ map (λ v. 0) (drop (length values) p.vars);
   site = None;
 }
 

@@ -1,5 +1,6 @@
--- Programs in range: each number names what is there, the rules that a resolved program can show are kept, and no
--- count of tokens is less than a text with the same parts can have. What `check` answers is in range, and whatever
+-- Programs in range: each number names what is there, the rules that a resolved program can show are kept, no count of
+-- tokens is less than the shortest text with the same parts has, and the counts of a procedure's statements come to at most
+-- the procedure's. What `check` answers is in range, and whatever
 -- works on a program may rely on it (C-- Language Specification 2.0, static semantics).
 use Rattle.std.specs.List.{list_all}
 use Rattle.std.specs.Option.{is_some}
@@ -11,11 +12,12 @@ use Rattle.cmm_words.specs.declared.constant.Constant.{Constant}
 use Rattle.cmm_words.specs.Widths.{bits, bytes}
 use Rattle.cmm_words.specs.Words.{is_division}
 use Rattle.cmm_program.specs.declared.expression.Expression.{Expression}
-use Rattle.cmm_program.specs.declared.statement.Form.{Form, Row_of-Arm, end_of-Arm, more_of-Arm}
+use Rattle.cmm_program.specs.declared.statement.Form.{Form}
 use Rattle.cmm_program.specs.declared.statement.Form.TheVariants.{Empty, If', Switch', Span', Span, Assign, Call, Yield, Checked, PutByte, GetByte, Jump, Return, Label, Goto, Continuation, Cut}
-use Rattle.cmm_program.specs.declared.statement.Arm.{Arm', Row_of-Statement, end_of-Statement, more_of-Statement}
+use Rattle.cmm_program.specs.declared.statement.Statement.{Statement}
 use Rattle.cmm_program.specs.declared.statement.Lvalue.{Lvalue}
 use Rattle.cmm_program.specs.declared.statement.Lvalue.TheVariants as lvalue
+use Rattle.cmm_program.specs.declared.statement.Case.{Case}
 use Rattle.cmm_program.specs.declared.statement.Case.TheVariants.{In, Default}
 use Rattle.cmm_program.specs.declared.statement.Range.{Range}
 use Rattle.cmm_program.specs.declared.procedure.Proc.{Proc}
@@ -26,10 +28,10 @@ use Rattle.cmm_program.specs.declared.program.Program.{Program}
 use Rattle.cmm_program.specs.declared.program.Datum.{Datum}
 use Rattle.cmm_program.specs.declared.program.Label.{Label as DataLabel}
 use Rattle.cmm_program.specs.Orders.{target_width}
-use Rattle.cmm_program.specs.Bodies.{Mark, AtLabel, Branch, branches, after_inside}
+use Rattle.cmm_program.specs.Bodies.{Mark, AtLabel, Branch, branches, within, after_inside}
 use Rattle.cmm_program.specs.Numbering.{AreNumbered, body_numbers, label_number, continuation_number, site_number, body_tokens}
 use Rattle.cmm_program.specs.Layout.{end_before, stackdata_size}
-use Rattle.cmm_program.specs.Tokens.{own_tokens, heading_tokens}
+use Rattle.cmm_program.specs.Tokens.{own_tokens, procedure_tokens}
 use Rattle.cmm_program.specs.Typing.{is_alignment, same_width, constant_width, is_target, typed, has_width, is_typed, is_condition}
 
 -- at most 64 values are passed at once
@@ -43,7 +45,12 @@ is_name name = nat_le (length name) 255
 abbrev pub below : ℕ → ℕ → Bool
 below limit n = nat_lt n limit
 
--- ---- the arms of a switch on values of a width: no range falls, none leaves the width, and no two meet
+-- ---- the arms of a switch on values of a width: each but the default has a range, no range falls, none leaves the width, and no
+-- two meet
+
+abbrev pub has_ranges : Case → Bool
+has_ranges (In ranges) = nat_lt 0 (length ranges)
+has_ranges Default = true
 
 abbrev pub is_range : Width → Range → Bool
 is_range width r = nat_le r.from r.to && nat_lt r.to (2 ^ bits width)
@@ -65,7 +72,8 @@ defaults (b ∷ bs) = elim b.case [ In ranges ↦ defaults bs | Default ↦ 1 + 
 
 abbrev pub are_arms : Option Width → List Branch → Bool
 are_arms None bs = false
-are_arms (Some width) bs = list_all (is_range width) (all_ranges bs) && none_meet (all_ranges bs) && nat_le (defaults bs) 1
+are_arms (Some width) bs =
+    list_all (λ b. has_ranges b.case) bs && list_all (is_range width) (all_ranges bs) && none_meet (all_ranges bs) && nat_le (defaults bs) 1
 
 -- ---- a statement: what it names, its widths and its counts
 
@@ -113,7 +121,7 @@ module _ (p : Program) (q : Proc) where
   is_form (If' condition _ then_ _ otherwise) = is_condition p q condition
   is_form (Switch' value _ arms) = are_arms (typed p q value) (branches arms)
   is_form (Span' _ body) = true
-  is_form (Assign to values) = are_assigned to values
+  is_form (Assign to values) = nat_lt 0 (length to) && are_assigned to values
   is_form (Call site callee actuals) = at_site site is_call_site && has_width p q W64 callee && are_passed actuals
   is_form (Yield site values) = at_site site (is_yield_site (length values)) && are_passed values
   is_form (Checked site op width left right) =
@@ -127,24 +135,13 @@ module _ (p : Program) (q : Proc) where
   is_form (Continuation n) = below (length q.conts) n
   is_form (Cut to values own) = has_width p q W64 to && are_passed values && list_all (below (length q.conts)) own
 
-  -- and it has at least the tokens that its parts have
-  abbrev pub is_statement : ℕ → Form → Bool
-  is_statement tokens form = is_form form && nat_le (own_tokens q form) tokens
+  -- and its count is at least that of its shortest text
+  abbrev pub is_statement : Statement → Bool
+  is_statement statement = is_form statement.form && nat_le (own_tokens q statement.form) statement.tokens
 
-  abbrev mutual
-    pub is_body_in : Form → Bool
-    is_body_in (If' condition _ then_ _ otherwise) = is_block then_ && is_block otherwise
-    is_body_in (Switch' value _ arms) = are_bodies arms
-    is_body_in (Span' _ body) = is_block body
-    is_body_in _ = true
-
-    pub is_block : {n : _} → Row_of-Statement n → Bool
-    is_block end_of-Statement = true
-    is_block (more_of-Statement tokens form rest) = is_statement tokens form && is_body_in form && is_block rest
-
-    pub are_bodies : {n : _} → Row_of-Arm n → Bool
-    are_bodies end_of-Arm = true
-    are_bodies (more_of-Arm (Arm' case _ body) rest) = is_block body && are_bodies rest
+  -- the statements inside a statement's blocks
+  abbrev pub is_body_in : Form → Bool
+  is_body_in form = list_all is_statement (within form)
 
   -- ---- the sites
 
@@ -189,7 +186,9 @@ pub record IsProcInRange (p : Program) (q : Proc) : Type 0 where
   pub labels_numbered : AreNumbered label_number (length (body_numbers label_number q)) q
   pub continuations_numbered : AreNumbered continuation_number (length q.conts) q
   pub sites_numbered : AreNumbered site_number (length q.sites) q
-  pub counts : heading_tokens q + body_tokens q ≤ q.tokens
+  -- the shortest text of the procedure has at most its count of tokens, and so have its statements, as they are counted
+  pub shortest : procedure_tokens q ≤ q.tokens
+  pub counts : body_tokens q ≤ q.tokens
 
 -- ---- data
 
@@ -214,8 +213,10 @@ pub record IsInRange (p : Program) : Type 0 where
   pub main : p.main < length p.procs
   pub main_formals : (q : Proc) → slice_get p.procs p.main ≡ Some q → q.formals ≡ 0
   pub datums : IsTrue (list_all (is_datum p) p.datums)
+  pub datum_count : length p.datums < 2 ^ 32
   pub data_size : end_before p (length p.datums) ≤ data_base + 67108864
   pub labels : IsTrue (list_all (is_label p) p.labels)
+  pub label_count : length p.labels < 2 ^ 32
   pub registers : length p.globals ≤ 256
   pub register_names : IsTrue (list_all (λ g. is_name g.name) p.globals)
   pub tokens : sum_by (λ q. q.tokens) p.procs ≤ 1000000

@@ -1,5 +1,11 @@
--- The C-- machine: its states, one after the other (Ramsey and Peyton Jones, PLDI 2000, the abstract machine).
-use Rattle.std.specs.Prelude.{ℕ, zero, suc, List, [], map, length, replicate, Some}
+-- The C-- machine: its states, one after the other (Ramsey and Peyton Jones, PLDI 2000, the abstract machine). One step:
+-- 1. the control of the youngest activation says what it does next, an act (`Todo.act_of`, `Control.next_act`);
+-- 2. the act gets its values from what can be read of the store, and is an order, or an unchecked error (`Acts.evaluated`);
+-- 3. the order is done to the store, and says how control goes on, a transfer (`Performing.perform`);
+-- 4. the controls move along, and where control lands, in an activation that comes or that waited, the store takes the values
+--    that it brings (`Control.transferred`, `Exits.land`);
+-- 5. a state that waits makes the client's answer its step (`Client.answered`), and an ended or wrong one stays.
+use Rattle.std.specs.Prelude.{ℕ, zero, suc, List, [], map, Some}
 use Rattle.rv_table.specs.Memory.{data_base}
 use Rattle.cmm_program.specs.Layout.{data_bytes}
 use Rattle.cmm_program.specs.State.{Setting, Store, Running, Waiting, Ended, Wrong}
@@ -25,7 +31,7 @@ steps_of k s (suc m) st = steps_of k s m (step_of k s st)
 abbrev pub first_store : Setting → List ℕ → Store
 first_store s input = record {
   memory = record { data_room = record { address = data_base; cells = map Some (data_bytes s.program s.placement) }; rooms = [] };
-  registers = replicate (length s.program.globals) 0;
+  registers = map (λ g. 0) s.program.globals;
   activations = [];
   input = input;
   taken = [];

@@ -1,13 +1,14 @@
 -- Which placements of a program are valid.
 use Rattle.std.specs.List.{list_all}
-use Rattle.std.specs.Prelude.{ℕ, ◌+◌, ◌%◌, ◌==◌, ◌&&◌, ◌||◌, nat_le, nat_lt, Bool, true, false, IsTrue, List, [], ◌∷◌, length, Some, None}
+use Rattle.std.specs.Str.{bytes_eq}
+use Rattle.std.specs.Prelude.{ℕ, ◌+◌, ◌%◌, ◌==◌, ◌&&◌, ◌||◌, nat_le, nat_lt, Bool, true, false, IsTrue, List, [], ◌∷◌, length, map, Some, None}
 use Rattle.cmm_program.specs.declared.procedure.Proc.{Proc}
 use Rattle.cmm_program.specs.declared.procedure.StackItem.{StackItem}
 use Rattle.cmm_program.specs.declared.program.Program.{Program}
 use Rattle.cmm_program.specs.declared.placement.Placement.{Placement}
 use Rattle.cmm_program.specs.declared.placement.PlaceRow.{PlaceRow}
 use Rattle.rv_table.specs.Memory.{code_base, data_base}
-use Rattle.cmm_program.specs.Layout.{aligned_up, stackdata_size}
+use Rattle.cmm_program.specs.Layout.{stackdata_labels, stackdata_size}
 use Rattle.cmm_program.specs.Bounds.{frame_bound}
 use Rattle.cmm_program.specs.Frames.{stackdata_offset}
 
@@ -36,29 +37,21 @@ are_pairs p row = (length row.pairs == length p.conts) && list_all (is_pair_in r
 
 -- ---- stackdata
 
--- the offsets are those of the labels of some items, which begin at a place, moved by a base
-abbrev pub are_labels : ℕ → ℕ → List StackItem → List ℕ → Bool
-are_labels base place [] [] = true
-are_labels base place [] (offset ∷ offsets) = false
-are_labels base place (i ∷ is) offsets = let here = aligned_up i.align place in elim i.label [
-  | false ↦ are_labels base (here + i.length) is offsets
-  | true ↦ elim offsets [
-    | [] ↦ false
-    | offset ∷ rest ↦ (offset == base + here) && are_labels base (here + i.length) is rest
-  ]
-]
+-- the offsets are one base plus the places of the labels
+abbrev pub are_labels : ℕ → List StackItem → List ℕ → Bool
+are_labels base items offsets = bytes_eq offsets (map (λ place. base + place) (stackdata_labels items))
 
--- Stackdata from a base, inside the frame and apart from the pairs.
+-- stackdata from a base, a multiple of 16, inside the frame and apart from the pairs
 abbrev pub is_stackdata_at : ℕ → Proc → PlaceRow → Bool
 is_stackdata_at base p row =
-    (base % 16 == 0) && nat_le (base + stackdata_size p.stack) row.frame && are_labels base 0 p.stack row.stack
+    (base % 16 == 0) && nat_le (base + stackdata_size p.stack) row.frame && are_labels base p.stack row.stack
     && list_all (λ offset. apart base (stackdata_size p.stack) offset) row.pairs
 
 -- The first label shows the base. Stackdata without a label has no addresses, and the row then names none.
 abbrev pub is_stackdata : Proc → PlaceRow → Bool
 is_stackdata p row = elim (stackdata_offset p row) [
   | Some base ↦ is_stackdata_at base p row
-  | None ↦ are_labels 0 0 p.stack row.stack
+  | None ↦ are_labels 0 p.stack row.stack
 ]
 
 -- ---- a row, and a whole placement

@@ -76,7 +76,7 @@ fn labels_stand_at(base: u64, items: &[StackItem], offsets: &[u32]) -> bool
     requires base { base < 2 ^ 32 }
     requires items { IsTrue (list_all is_item items.now) }
     requires size { stackdata_size items.now ≤ 65536 }
-    ensures { result ≡ are_labels base 0 items.now offsets.now }
+    ensures { result ≡ are_labels base items.now offsets.now }
 {
     let mut place = 0;
     let mut left = offsets;

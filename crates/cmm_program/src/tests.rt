@@ -101,7 +101,7 @@ fn framed(alloc: Global) -> Result<Proc, AllocError>
     ensures { IfOk result (λ q. q ≡ record {
       name = [];
       unit = 0;
-      tokens = 19;
+      tokens = 25;
       formals = 0;
       vars = [];
       sites = [];
@@ -113,7 +113,7 @@ fn framed(alloc: Global) -> Result<Proc, AllocError>
     let conts = two(alloc, continuation(alloc), continuation(alloc))?;
     let stack = stackdata(alloc)?;
     let body = body(alloc)?;
-    Ok(procedure(alloc, 19, stack, conts, body))
+    Ok(procedure(alloc, 25, stack, conts, body))
 }
 
 /// A program of two procedures.
@@ -180,7 +180,7 @@ fn right_placements(rt: HostRuntime) -> Result<(), Fail> {
     let right: [(u64, u64, u32, [u32; 2], u32); 6] = [
         (0x1_0000, 0x1_0004, 96, [0, 80], 32),
         (0x1_0000, 0x3fff_fffc, 96, [0, 80], 32),
-        (0x1_0004, 0x1_0008, 336, [0, 320], 288),
+        (0x1_0004, 0x1_0008, 384, [0, 368], 336),
         (0x1_0000, 0x1_0004, 64, [32, 48], 0),
         (0x1_0000, 0x1_0004, 64, [16, 0], 32),
         (0x1_0000, 0x1_0004, 80, [64, 8], 32),
@@ -200,7 +200,7 @@ fn wrong_placements(rt: HostRuntime) -> Result<(), Fail> {
         ("code that does not ascend", 0x1_0000, 96, &[0, 80], &[32]),
         ("code past its range", 0x4000_0000, 96, &[0, 80], &[32]),
         ("a frame of 104 bytes", 0x1_0004, 104, &[0, 80], &[32]),
-        ("a frame past its bound", 0x1_0004, 352, &[0, 80], &[32]),
+        ("a frame past its bound", 0x1_0004, 400, &[0, 80], &[32]),
         ("a pair outside the frame", 0x1_0004, 96, &[0, 88], &[32]),
         ("a pair at 4", 0x1_0004, 96, &[4, 80], &[32]),
         ("pairs that overlap", 0x1_0004, 96, &[0, 8], &[32]),
