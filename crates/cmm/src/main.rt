@@ -1,27 +1,76 @@
 //! The program `cmm`: the top call over the real files and streams. Its log is standard error.
 #![tactic(auto)]
 
-use cmm_outside::{StdFiles, StdSink, StdSource};
+ghost use Rattle.std.specs.Prelude.{◌≡◌, ◌<◌, ◌≤◌, ◌^◌, length, IfOk, OnErr};
+ghost use Rattle.cmm_top.specs.declared.status.Status.TheVariants.{Usage, Memory};
+ghost use Rattle.cmm_top.specs.Answers.{EndsWith};
+ghost use Rattle.cmm_top.specs.Call.{Call};
+ghost use Rattle.cmm_top.specs.Command.{texts};
+ghost use Rattle.cmm_top.specs.Status.{number_of};
+
+use cmm_outside::{Files, Sink, Source, StdFiles, StdSink, StdSource};
 use cmm_top::{Status, cmm_main};
 use std::alloc::{AllocError, Global};
 use std::process::ExitCode;
 use std::{env, io};
 
+#[cfg(test)]
+mod tests;
+
 fn main(rt: HostRuntime) -> ExitCode {
-    let words = match words(&rt) {
-        Ok(words) if words.len() < 0x1_0000_0000 => words,
-        Ok(_) => return ExitCode::from(Status::Usage.number()),
-        Err(_) => return ExitCode::from(Status::Memory.number()),
-    };
-    let finish = cmm_main(
+    let words = words(&rt);
+    ExitCode::from(run(
         rt.alloc(),
-        &words,
+        words,
         &mut StdFiles::new(rt),
         &mut StdSource::new(rt.stdin()),
         &mut StdSink::new(rt.stdout()),
         &mut StdSink::new(rt.stderr()),
-    );
-    ExitCode::from(finish.status.number())
+    ))
+}
+
+/// Does what the words ask for over these files and streams, and gives the exit status. Words that could not be had for want of memory,
+/// and 2^32 words or more, have a status of their own and no line.
+fn run<F: Files, I: Source, O: Sink, E: Sink>(
+    alloc: Global,
+    words: Result<Vec<String>, AllocError>,
+    files: &mut F,
+    input: &mut I,
+    out: &mut O,
+    log: &mut E,
+) -> u8
+    ensures none { OnErr words (result ≡ number_of Memory) }
+    ensures many { IfOk words (λ given. 2 ^ 32 ≤ length given.items → result ≡ number_of Usage) }
+    ensures answers { IfOk words (λ given. length given.items < 2 ^ 32 → EndsWith (λ status. record {
+      words = texts given.items;
+      before = record {
+        files = F.contents files.old;
+        file_faults = F.faults files.old;
+        last_failed = F.last_failed files.old;
+        log = E.taken log.old;
+        log_faults = E.faults log.old;
+      };
+      after = record {
+        files = F.contents files.new;
+        file_faults = F.faults files.new;
+        last_failed = F.last_failed files.new;
+        log = E.taken log.new;
+        log_faults = E.faults log.new;
+      };
+      status = status;
+    }) result) }
+    ensures input { input.new ≡ input.old }
+    ensures out { out.new ≡ out.old }
+{
+    let Ok(words) = words else {
+        return Status::Memory.number();
+    };
+    if words.len() >= 0x1_0000_0000 {
+        return Status::Usage.number();
+    }
+    cmm_main(alloc, &words, files, input, out, log)
+        .status
+        .number()
 }
 
 /// The words of the command line after the program's name; none of them where one is not text, which no command takes.

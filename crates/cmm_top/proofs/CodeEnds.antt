@@ -12,7 +12,10 @@ use Rattle.rv_table.specs.declared.instruction.Instr.{Instr}
 use Rattle.rv_table.specs.declared.instruction.Instr.TheVariants.{Ecall}
 use Rattle.rv_table.specs.Decoding.{instr_of}
 use Rattle.rv_table.specs.Laws.{CodeStands, StraightPiecesRun}
-use Rattle.rv_table.specs.Machine.{MemoryMap, State, Outcome, Request, Asks, Traps, End, code_base, no_request, request_of, with_set, fetched, done, fetched_step, decoded_step, instruction_step, start}
+use Rattle.rv_table.specs.declared.request.Request.{Request}
+use Rattle.rv_table.specs.declared.request.Request.TheVariants.{End}
+use Rattle.rv_table.specs.declared.trap.TrapKind.TheVariants.{NoRequest}
+use Rattle.rv_table.specs.Machine.{MemoryMap, State, Outcome, Asks, Traps, code_base, request_of, with_set, fetched, done, fetched_step, decoded_step, instruction_step, start}
 use Rattle.rv_table.specs.Row.{row}
 use Rattle.rv_table.specs.Stands.{standing, Stands, code_of}
 use Rattle.rv_table.specs.Straight.{on_set, straight}
@@ -45,7 +48,7 @@ step_of_fetched m s i (Some word) h = ap (decoded_step m s) h
 
 abbrev answered : Option Request → Outcome
 answered (Some r) = Asks r
-answered None = Traps no_request
+answered None = Traps NoRequest
 
 request_end : (x : ℕ → ℕ) → x 5 ≡ 5 → request_of x ≡ Some (End (x 10))
 request_end x five = rw (five, request_of) refl

@@ -1,10 +1,9 @@
 -- `main` has enough tokens for the terms of the sum that it returns.
 use mathlib.Core.Former.{one_more}
-use Rattle.std.proofs.Common.{◌≡◌, ℕ, suc, ◌+◌, ◌-◌, ◌*◌, ◌≤◌, Bool, true, false, cond, nat_le, List, [], ◌∷◌, ◌++◌, length, length-append, length-drop, Option, Some, None, refl, ap, sym, ◌∙◌, subst, arith}
+use Rattle.std.proofs.Common.{◌≡◌, ℕ, ◌+◌, ◌-◌, ◌*◌, ◌≤◌, Bool, true, false, cond, nat_le, List, [], ◌∷◌, ◌++◌, length, length-append, length-drop, Option, Some, None, refl, ap, sym, ◌∙◌, subst, arith}
 use Rattle.std.specs.Prelude.{◌&&◌}
 use Rattle.cmm_ast.specs.declared.declaration.DeclForm.{DeclForm}
 use Rattle.cmm_ast.specs.declared.declaration.DeclForm.TheVariants as decls
-use Rattle.cmm_ast.specs.declared.declaration.Export.{Export}
 use Rattle.cmm_ast.specs.declared.expression.ExprForm.{ExprForm, Row_of-Expr, more_of-Expr}
 use Rattle.cmm_ast.specs.declared.expression.ExprForm.TheVariants.{Infix', Prefix', Prim, Memory as InMemory, Named'}
 use Rattle.cmm_ast.specs.declared.expression.Infix.{Infix as Operator}

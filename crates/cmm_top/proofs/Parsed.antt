@@ -1,13 +1,13 @@
 -- What the lexer and the parser say of the tokens of a unit, said of its bytes.
 use Rattle.std.proofs.Common.{◌≡◌, ℕ, List, [], ◌∷◌, ◌++◌, length, inl, inr, Some, refl, ap, sym, ◌∙◌, subst, arith}
-use Rattle.std.specs.Prelude.{◌⊎◌, ◌≤◌, Bool, true, false, cond, nat_lt, None, map, slice_get}
+use Rattle.std.specs.Prelude.{◌≤◌, Bool, true, false, cond, nat_lt, None, map, slice_get}
 use Rattle.std.proofs.lemmas.Bool.Decides.{nat_tests}
 use Rattle.std.proofs.lemmas.List.{length-map}
 use Rattle.cmm_lexer.specs.declared.piece.Rule.TheVariants.{TooLong}
 use Rattle.cmm_lexer.specs.declared.tokens.TheConstants.{UNIT_LIMIT}
 use Rattle.cmm_ast.specs.declared.unit.Place.{Place}
 use Rattle.cmm_ast.specs.declared.unit.Unit.{Unit as UnitTree}
-use Rattle.cmm_ast.specs.Derivation.{DerivesWithin, IsTooDeep, IsUnexpected}
+use Rattle.cmm_ast.specs.Derivation.{DerivesWithin}
 use Rattle.cmm_lexer.specs.declared.token.Token.{Token}
 use Rattle.cmm_lexer.specs.declared.tokens.Tokens.{Tokens}
 use Rattle.cmm_lexer.specs.Lexing.{Lexes, faults_of, Spelled, lexeme_of, spelled, tokens_of}

@@ -1,12 +1,14 @@
 -- A run that comes to its end goes on step by step until it asks for that.
-use Rattle.std.proofs.Common.{◌≡◌, ◌≢◌, ℕ, zero, suc, ◌+◌, ◌<◌, ◌≤◌, List, Option, Some, None, refl, ap, sym, ◌∙◌, subst, arith}
+use Rattle.std.proofs.Common.{◌≡◌, ℕ, zero, suc, ◌+◌, ◌<◌, ◌≤◌, List, Option, Some, None, refl, ap, sym, ◌∙◌, subst, arith}
 use Rattle.std.proofs.lemmas.Option.{same_Some}
 use Rattle.rv_memory.specs.Regions.{Regions, map_of, memory_of}
-use Rattle.rv_sim.specs.declared.event.Event.{Event}
 use Rattle.rv_sim.specs.declared.event.Event.TheVariants as event
-use Rattle.rv_sim.specs.Stepping.{asked, event_of, outcome_of, state_after, state_of}
+use Rattle.rv_sim.specs.Stepping.{event_of, outcome_of, state_after, state_of}
 use Rattle.rv_table.specs.declared.registers.Regs.{Regs}
-use Rattle.rv_table.specs.Machine.{MemoryMap, State, Outcome, Next, Asks, Traps, End, and_then, code_base, instruction_step, region_base, stack_base, start, steps}
+use Rattle.rv_table.specs.declared.request.Request.{Request}
+use Rattle.rv_table.specs.declared.trap.Trap.{Trap}
+use Rattle.rv_table.specs.declared.request.Request.TheVariants.{End}
+use Rattle.rv_table.specs.Machine.{MemoryMap, State, Outcome, Next, Asks, Traps, and_then, code_base, instruction_step, region_base, stack_base, start, steps}
 use Rattle.rv_table.specs.Registers.{registers_of, with_register}
 use Rattle.cmm_top.specs.Run.{Ends, EndsWithin}
 
@@ -40,7 +42,7 @@ left m s limit less result fewer e = left_by m s limit less result e.count e.at 
 -- after a step the run ends within one instruction fewer
 next_by : (m : MemoryMap) (s : State) (less result pc : ℕ) (o : Outcome) → Left m less result o → event_of pc o ≡ event.Next → Ends m (state_after s o) less result
 next_by m s less result pc (Next t) l is = l
-next_by m s less result pc (Asks r) l is = let e : event.End result ≡ event.Next = ap asked (sym l) ∙ is in absurd (cc e)
+next_by m s less result pc (Asks r) l is = absurd (cc is)
 next_by m s less result pc (Traps kind) l is = absurd l
 
 pub next_ends : (r q : Regs) (m n : Regions) (limit less result : ℕ) → limit ≤ less + 1 → Ends (map_of m) (state_of r m) limit result → event_of r.pc (outcome_of r m) ≡ event.Next →
@@ -50,24 +52,27 @@ next_ends r q m n limit less result fewer e is state map =
     (subst (λ (s : State). Ends (map_of m) s less result) (sym state)
     (next_by (map_of m) (state_of r m) less result r.pc (outcome_of r m) (left (map_of m) (state_of r m) limit less result fewer e) is))
 
--- the end that it asks for is the result
-end_by : (m : MemoryMap) (less result pc value : ℕ) (o : Outcome) → Left m less result o → event_of pc o ≡ event.End value → value ≡ result
-end_by m less result pc value (Next t) l is = absurd (cc is)
-end_by m less result pc value (Asks r) l is = let e : event.End result ≡ event.End value = ap asked (sym l) ∙ is in cc
-end_by m less result pc value (Traps kind) l is = absurd l
+-- what it asks for is the end with the result
+asks_by : (m : MemoryMap) (less result pc : ℕ) (request : Request) (o : Outcome) → Left m less result o → event_of pc o ≡ event.Asks request → request ≡ End result
+asks_by m less result pc request (Next t) l is = absurd (cc is)
+asks_by m less result pc request (Asks r) l is = let e : event.Asks r ≡ event.Asks request = is in cc
+asks_by m less result pc request (Traps kind) l is = absurd l
 
-pub end_is : (r : Regs) (m : Regions) (limit result value : ℕ) → Ends (map_of m) (state_of r m) limit result → event_of r.pc (outcome_of r m) ≡ event.End value → value ≡ result
-end_is r m limit result value e is = end_by (map_of m) limit result r.pc value (outcome_of r m) (left (map_of m) (state_of r m) limit limit result (omega arith) e) is
+pub asks_end : (r : Regs) (m : Regions) (limit result : ℕ) (request : Request) → Ends (map_of m) (state_of r m) limit result → event_of r.pc (outcome_of r m) ≡ event.Asks request → request ≡ End result
+asks_end r m limit result request e is = asks_by (map_of m) limit result r.pc request (outcome_of r m) (left (map_of m) (state_of r m) limit limit result (omega arith) e) is
 
--- nothing else comes of a step
-other_by : (m : MemoryMap) (less result pc : ℕ) (found : Event) (o : Outcome) → Left m less result o → found ≡ event_of pc o → found ≢ event.Next → ((value : ℕ) → found ≢ event.End value) → ⊥
-other_by m less result pc found (Next t) l is next end = next is
-other_by m less result pc found (Asks r) l is next end = end result (is ∙ ap asked l)
-other_by m less result pc found (Traps kind) l is next end = l
+pub end_is : (r : Regs) (m : Regions) (limit result value : ℕ) (request : Request) → Ends (map_of m) (state_of r m) limit result → event_of r.pc (outcome_of r m) ≡ event.Asks request →
+    request ≡ End value → value ≡ result
+end_is r m limit result value request e is end = let same : End value ≡ End result = sym end ∙ asks_end r m limit result request e is in cc
 
-pub no_other : (r : Regs) (m : Regions) (limit result : ℕ) (found : Event) → Ends (map_of m) (state_of r m) limit result → found ≡ event_of r.pc (outcome_of r m) →
-    found ≢ event.Next → ((value : ℕ) → found ≢ event.End value) → ⊥
-no_other r m limit result found e is = other_by (map_of m) limit result r.pc found (outcome_of r m) (left (map_of m) (state_of r m) limit limit result (omega arith) e) is
+-- it does not trap
+trap_by : (m : MemoryMap) (less result pc : ℕ) (trap : Trap) (o : Outcome) → Left m less result o → event_of pc o ≡ event.Trap trap → ⊥
+trap_by m less result pc trap (Next t) l is = cc is
+trap_by m less result pc trap (Asks r) l is = cc is
+trap_by m less result pc trap (Traps kind) l is = l
+
+pub no_trap : (r : Regs) (m : Regions) (limit result : ℕ) (trap : Trap) → Ends (map_of m) (state_of r m) limit result → event_of r.pc (outcome_of r m) ≡ event.Trap trap → ⊥
+no_trap r m limit result trap e is = trap_by (map_of m) limit result r.pc trap (outcome_of r m) (left (map_of m) (state_of r m) limit limit result (omega arith) e) is
 
 -- a run begins in the state of its registers and its memory
 pub begins : (r : Regs) (m : Regions) (code : List ℕ) (limit result : ℕ) → EndsWithin code limit result → (map_of m).code ≡ code →

@@ -1,7 +1,6 @@
 -- What grammars take: so many tokens at least, and no token is lost.
-use Rattle.std.proofs.Common.{◌≡◌, ℕ, suc, ◌+◌, ◌≤◌, ◌==◌, Bool, true, false, List, [], ◌∷◌, length, Option, Some, None, refl, ap, sym, ◌∙◌, arith}
+use Rattle.std.proofs.Common.{◌≡◌, ℕ, suc, ◌+◌, ◌≤◌, ◌==◌, Bool, true, false, List, [], ◌∷◌, length, Option, Some, None, refl, ap, ◌∙◌, arith}
 use Rattle.std.proofs.lemmas.Bool.{eqb-true}
-use Rattle.cmm_ast.specs.declared.keyword.Keyword.{Keyword}
 use Rattle.cmm_ast.specs.declared.keyword.Symbol.{Symbol}
 use Rattle.cmm_ast.specs.declared.keyword.Symbol.TheVariants.{Comma, Open, Close, OpenBrace, CloseBrace}
 use Rattle.cmm_ast.specs.Numbers.{symbol_number}

@@ -1,5 +1,5 @@
--- Why a call writes what it does: for each line that may go to the log, what must have happened.
-use Rattle.std.specs.Prelude.{◌≡◌, ℕ, ◌⊎◌, List, [], ◌∷◌, ◌++◌, drop, length, map, slice_get, Option, Some, None}
+-- Why a unit is refused, or run: what its bytes are.
+use Rattle.std.specs.Prelude.{◌≡◌, ℕ, ◌⊎◌, List, [], ◌∷◌, ◌++◌, drop, length, map, slice_get, Some, None}
 use Rattle.cmm_ast.specs.declared.unit.Place.{Place}
 use Rattle.cmm_ast.specs.declared.unit.Unit.{Unit as UnitTree}
 use Rattle.cmm_ast.specs.Derivation.{DerivesWithin}
@@ -7,18 +7,12 @@ use Rattle.cmm_lexer.specs.declared.piece.Lexeme.{Lexeme}
 use Rattle.cmm_lexer.specs.declared.tokens.LexFault.TheVariants.{At}
 use Rattle.cmm_lexer.specs.Lexing.{Spelled, first_fault, tokens_of, IsFirstFault}
 use Rattle.cmm_lexer.specs.Places.{line_at, column_at}
-use Rattle.cmm_outside.specs.declared.storage.CallKind.TheVariants.{Read}
-use Rattle.cmm_outside.specs.Faults.{Rose}
-use Rattle.cmm_outside.specs.Output.{Appends, AppendsFront}
-use Rattle.cmm_outside.specs.Storage.{Contents, FailedCall, HasFile}
 use Rattle.cmm_parser.specs.declared.fault.SyntaxFault.TheVariants as syntax
 use Rattle.cmm_parser.specs.Faults.{IsFaultOf}
 use Rattle.cmm_top.specs.declared.first.Fault.{Fault}
 use Rattle.cmm_top.specs.declared.first.FirstFault.{FirstFault}
 use Rattle.cmm_top.specs.declared.first.FirstFault.TheVariants.{Refused, Memory}
-use Rattle.cmm_top.specs.Command.{file_in}
 use Rattle.cmm_top.specs.Form.{form_value, main_at}
-use Rattle.cmm_top.specs.Lines.{usage_line, refused_line, result_line, file_fault_line, memory_line}
 
 -- the tokens of a unit
 abbrev pub lexemes_in : List ℕ → List Lexeme
@@ -69,48 +63,3 @@ IsFault fault unit = IsFirstFault unit (At fault.rule fault.line fault.column) �
 abbrev pub HasNoCode : List ℕ → FirstFault → Type 0
 HasNoCode unit (Refused fault) = IsNotBuilt unit × IsFault fault unit
 HasNoCode unit Memory = Unit {0}
-
--- the words ask for no file to be run
-abbrev pub IsUsage : List (List ℕ) → List ℕ → Type 0
-IsUsage words line = (file_in words ≡ None) × (line ≡ usage_line)
-
--- the file is no unit of the first form, and the line says which rule it breaks, and where
-pub record IsRefused (words : List (List ℕ)) (contents : Option Contents) (line : List ℕ) : Type 0 where
-  pub name : List ℕ
-  pub fault : Fault
-  pub asked : file_in words ≡ Some name
-  pub file : HasFile contents name (λ unit. IsNotBuilt unit × IsFault fault unit)
-  pub writes : line ≡ refused_line name fault
-
--- the file is a unit of the first form, and the result is the value of its expression
-pub record IsDone (words : List (List ℕ)) (contents : Option Contents) (line : List ℕ) : Type 0 where
-  pub name : List ℕ
-  pub result : ℕ
-  pub asked : file_in words ≡ Some name
-  pub file : HasFile contents name (HasValue result)
-  pub writes : line ≡ result_line result
-
--- the count of faults rose, and the last call that failed is a read of the file that the words name
-pub record IsFileFault (words : List (List ℕ)) (before after : ℕ) (last_failed : Option FailedCall) (line : List ℕ) : Type 0 where
-  pub name : List ℕ
-  pub asked : file_in words ≡ Some name
-  pub rose : Rose before after
-  pub failed : last_failed ≡ Some (record { kind = Read; name = name })
-  pub writes : line ≡ file_fault_line name
-
--- memory ran out: no cause is asked
-abbrev pub IsOutOfMemory : List ℕ → Type 0
-IsOutOfMemory line = line ≡ memory_line
-
--- a line that a call with these words over these files may write
-abbrev pub IsLine : List (List ℕ) → Option Contents → ℕ → ℕ → Option FailedCall → List ℕ → Type 0
-IsLine words contents before after last_failed line =
-    IsUsage words line ⊎ (IsRefused words contents line ⊎ (IsDone words contents line ⊎ (IsFileFault words before after last_failed line ⊎ IsOutOfMemory line)))
-
--- the log has such a line more
-abbrev pub Writes : (List ℕ → Type 0) → Option (List ℕ) → Option (List ℕ) → Type 0
-Writes P before after = (line : List ℕ) × P line × Appends before after line
-
--- the log has a front of such a line more
-abbrev pub WritesFront : (List ℕ → Type 0) → Option (List ℕ) → Option (List ℕ) → Type 0
-WritesFront P before after = (line : List ℕ) × P line × AppendsFront before after line

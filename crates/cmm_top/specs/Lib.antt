@@ -10,4 +10,6 @@ pub mod Parts
 pub mod Status
 pub mod Causes
 pub mod Ending
+pub mod Call
 pub mod Headline
+pub mod Answers

@@ -1,6 +1,7 @@
 -- What is asked of the code of a unit: run from its start, it asks to end with a result.
 use Rattle.std.specs.Prelude.{◌≡◌, ℕ, ◌<◌, List, Some}
-use Rattle.rv_table.specs.Machine.{MemoryMap, State, Asks, End, start, steps, instruction_step}
+use Rattle.rv_table.specs.declared.request.Request.TheVariants.{End}
+use Rattle.rv_table.specs.Machine.{MemoryMap, State, Asks, start, steps, instruction_step}
 
 -- after n instructions, which are fewer than the limit, the next one is the ECALL that asks to end with this result
 pub record Ends (m : MemoryMap) (from : State) (limit result : ℕ) : Type 0 where

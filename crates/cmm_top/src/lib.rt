@@ -1,7 +1,7 @@
 //! The call that the program makes, and what stands in it until the whole language is built.
 //!
 //! `cmm_main` promises, for all words, files and sinks, that a unit of the first form is run and its result told, and that each other
-//! answer has its cause; `Causes` and `Headline` in `specs/` say how. `compile_first` promises that the code of a unit of the form,
+//! answer has its cause; `specs/Answers` is that promise, over a `Call` of `specs/Call`. `compile_first` promises that the code of a unit of the form,
 //! run by the RISC-V machine, comes to the value of its expression, within 64 instructions for each token of `main`.
 //!
 //! - `top`: `cmm_main`.

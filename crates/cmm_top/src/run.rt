@@ -8,14 +8,9 @@ ghost use Rattle.cmm_top.specs.Run.{EndsWithin};
 use cmm_lexer::UNIT_LIMIT;
 use rv_memory::{Memory, NoMemory};
 use rv_sim::{Event, step};
-use rv_table::Regs;
+use rv_table::memory_map::{CODE_BASE, CODE_LENGTH_LIMIT, REGION_BASE};
+use rv_table::{Regs, Request};
 use std::alloc::Global;
-
-/// Where code stands.
-const CODE_BASE: u64 = 0x1_0000;
-
-/// Where the argument area and the global registers stand, which register 4 has.
-const REGION_BASE: u64 = 0x6000_0000;
 
 /// The bytes of the stack.
 const STACK_SIZE: u64 = 0x10_0000;
@@ -25,7 +20,7 @@ pub const STEP_LIMIT: u64 = 64 * UNIT_LIMIT as u64;
 
 /// Runs code that asks to end, and answers its result.
 pub fn run(alloc: Global, code: &[u8]) -> Result<u64, NoMemory>
-    requires short { length code.now ≤ 0x3fff0000 }
+    requires short { length code.now ≤ CODE_LENGTH_LIMIT }
     requires ends { (value : ℕ) × EndsWithin code.now STEP_LIMIT value }
     ensures { (value : ℕ) → EndsWithin code.now STEP_LIMIT value → IfOk result (λ found. found ≡ value) }
 {
@@ -34,8 +29,11 @@ pub fn run(alloc: Global, code: &[u8]) -> Result<u64, NoMemory>
     for _ in 0..STEP_LIMIT {
         match step(&mut regs, &mut memory) {
             Event::Next => {}
-            Event::End(value) => return Ok(value),
-            _ => unreachable!(),
+            Event::Asks(request) => match request {
+                Request::End(value) => return Ok(value),
+                _ => unreachable!(),
+            },
+            Event::Trap(_) => unreachable!(),
         }
     }
     unreachable!()

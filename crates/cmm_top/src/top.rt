@@ -1,11 +1,9 @@
 //! `cmm_main`: the call that the program makes.
 
-ghost use Rattle.std.specs.Prelude.{◌≡◌, ◌<◌, ◌^◌, ◌⊎◌, length};
-ghost use Rattle.cmm_outside.specs.Faults.{Rose};
-ghost use Rattle.cmm_top.specs.declared.status.Status.{Status};
-ghost use Rattle.cmm_top.specs.Causes.{IsUsage, IsRefused, IsDone, IsFileFault, IsOutOfMemory, IsLine, Writes, WritesFront};
+ghost use Rattle.std.specs.Prelude.{◌≡◌, ◌<◌, ◌^◌, length};
+ghost use Rattle.cmm_top.specs.Answers.{Answers};
+ghost use Rattle.cmm_top.specs.Call.{Call};
 ghost use Rattle.cmm_top.specs.Command.{texts};
-ghost use Rattle.cmm_top.specs.Headline.{RunsSums};
 
 use crate::command::file_in;
 use crate::ending::{Ending, close, exec};
@@ -25,32 +23,26 @@ pub fn cmm_main<F: Files, I: Source, O: Sink, E: Sink>(
 ) -> Finish
     requires { length words.now < 2 ^ 32 }
 
-    // A unit of the first form is run, unless memory runs out or a call outside fails.
-    ensures sums { RunsSums (texts words.now) (F.contents files.old) (E.taken log.old) (E.taken log.new)
-        (Rose (F.faults files.old) (F.faults files.new)) (Rose (E.faults log.old) (E.faults log.new)) result.status }
+    ensures answers { Answers (record {
+      words = texts words.now;
+      before = record {
+        files = F.contents files.old;
+        file_faults = F.faults files.old;
+        last_failed = F.last_failed files.old;
+        log = E.taken log.old;
+        log_faults = E.faults log.old;
+      };
+      after = record {
+        files = F.contents files.new;
+        file_faults = F.faults files.new;
+        last_failed = F.last_failed files.new;
+        log = E.taken log.new;
+        log_faults = E.faults log.new;
+      };
+      status = result.status;
+    }) }
 
-    // Each answer has its cause, and its line is in the log.
-    ensures usage { result.status ≡ Status.Usage → Writes (IsUsage (texts words.now)) (E.taken log.old) (E.taken log.new) }
-    ensures refused { result.status ≡ Status.Refused →
-        Writes (IsRefused (texts words.now) (F.contents files.old)) (E.taken log.old) (E.taken log.new) }
-    ensures done { result.status ≡ Status.Done →
-        Writes (IsDone (texts words.now) (F.contents files.old)) (E.taken log.old) (E.taken log.new) }
-    ensures file_fault { result.status ≡ Status.FileFault →
-        Writes (IsFileFault (texts words.now) (F.faults files.old) (F.faults files.new) (F.last_failed files.new)) (E.taken log.old) (E.taken log.new) }
-    ensures memory { result.status ≡ Status.Memory → Writes IsOutOfMemory (E.taken log.old) (E.taken log.new) }
-
-    // Where the log fails, a front of the line is in it.
-    ensures output_fault { result.status ≡ Status.OutputFault → Rose (E.faults log.old) (E.faults log.new) }
-    ensures output_front { result.status ≡ Status.OutputFault →
-        WritesFront (IsLine (texts words.now) (F.contents files.old) (F.faults files.old) (F.faults files.new) (F.last_failed files.new)) (E.taken log.old) (E.taken log.new) }
-
-    // A count that rose has its own answer, the log's first.
-    ensures log_rose { E.faults log.old < E.faults log.new → result.status ≡ Status.OutputFault }
-    ensures files_rose { F.faults files.old < F.faults files.new →
-        (result.status ≡ Status.FileFault) ⊎ (result.status ≡ Status.OutputFault) }
-
-    // Nothing else is touched.
-    ensures files { F.contents files.new ≡ F.contents files.old }
+    // The input is not read, and nothing is written to the output.
     ensures input { input.new ≡ input.old }
     ensures out { out.new ≡ out.old }
 {

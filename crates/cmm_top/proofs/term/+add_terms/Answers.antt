@@ -1,7 +1,7 @@
-use Rattle.std.proofs.Common.{◌≡◌, ap, sym, ◌∙◌, ℕ, refl}
+use Rattle.std.proofs.Common.{ap, ◌∙◌}
 use Rattle.cmm_ast.specs.declared.expression.ExprForm.TheVariants.{Prim}
 use Rattle.cmm_top.specs.Terms.{sum_terms}
-use Rattle.cmm_top.proofs.Gathering.{after, added_same, left_is_none, sign_is_none, both_added, inside_added}
+use Rattle.cmm_top.proofs.Gathering.{after, added_same, left_is_none, both_added, inside_added}
 use Rattle.cmm_top.proofs.term.+add_terms.Goals as goal
 
 pub returns-then-not-branch : goal.returns-then-not-branch

@@ -1,16 +1,32 @@
 use Rattle.std.proofs.Common.{sym}
+use Rattle.cmm_top.specs.Call.{Call}
 use Rattle.cmm_top.specs.Command.{texts}
-use Rattle.cmm_top.proofs.Answering.{sums_run, front_written}
+use Rattle.cmm_top.proofs.Answering.{answered, due_of}
 use Rattle.cmm_top.proofs.top.cmm_main.Goals as goal
 
-pub returns-clause-sums : goal.returns-clause-sums
-returns-clause-sums g c =
-    sums_run (texts c.args.words.now) c.in-Some.name.now (g.F.Files.contents c.args.files.now) (g.F.Files.faults c.args.files.now) (g.F.Files.faults c.exec-ending.new.files)
-    (g.F.Files.last_failed c.exec-ending.new.files) c.exec-ending.result (g.E.Sink.taken c.args.log.now) (g.E.Sink.taken c.close-2.new.log)
-    (g.E.Sink.faults c.args.log.now) (g.E.Sink.faults c.close-2.new.log) c.close-2.result (sym c.in-Some.ensures) c.exec-ending.ensures.cause c.close-2.ensures
-
-pub returns-clause-output_front : goal.returns-clause-output_front
-returns-clause-output_front g c fault =
-    front_written (texts c.args.words.now) c.in-Some.name.now (g.F.Files.contents c.args.files.now) (g.F.Files.faults c.args.files.now) (g.F.Files.faults c.exec-ending.new.files)
-    (g.F.Files.last_failed c.exec-ending.new.files) c.exec-ending.result (g.E.Sink.taken c.args.log.now) (g.E.Sink.taken c.close-2.new.log)
-    (g.E.Sink.faults c.args.log.now) (g.E.Sink.faults c.close-2.new.log) c.close-2.result (sym c.in-Some.ensures) c.exec-ending.ensures.cause c.close-2.ensures fault
+pub returns-clause-answers : goal.returns-clause-answers
+returns-clause-answers g c =
+    let call : Call = record {
+      words = texts c.args.words.now;
+      before = record {
+        files = g.F.Files.contents c.args.files.now;
+        file_faults = g.F.Files.faults c.args.files.now;
+        last_failed = g.F.Files.last_failed c.args.files.now;
+        log = g.E.Sink.taken c.args.log.now;
+        log_faults = g.E.Sink.faults c.args.log.now;
+      };
+      after = record {
+        files = g.F.Files.contents c.exec-ending.new.files;
+        file_faults = g.F.Files.faults c.exec-ending.new.files;
+        last_failed = g.F.Files.last_failed c.exec-ending.new.files;
+        log = g.E.Sink.taken c.close-2.new.log;
+        log_faults = g.E.Sink.faults c.close-2.new.log;
+      };
+      status = c.close-2.result;
+    } in
+    answered call c.in-Some.name.now c.exec-ending.result (record {
+      due = due_of call c.in-Some.name.now c.exec-ending.result (sym c.in-Some.ensures) c.exec-ending.ensures.cause;
+      closes = c.close-2.ensures;
+      files_fail = c.exec-ending.ensures.no_fault;
+      files = c.exec-ending.ensures.same;
+    })
