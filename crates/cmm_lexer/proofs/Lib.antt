@@ -1,6 +1,7 @@
 mod Digits
 mod Finishing
 mod Numbered
+mod Numbering
 mod Placing
 mod Positions
 mod Quoting

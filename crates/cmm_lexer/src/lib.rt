@@ -8,20 +8,25 @@
 //! - `token`, `tokens`: a token, and the tokens of a unit with the spellings that they have numbers of.
 //! - `lexing`: `lex`, one loop over the pieces.
 //! - `piece`: the piece at the front of a text.
-//! - `character`, `number`, `spelling`, `bytes`: what characters, numbers, names and symbols are made of.
+//! - `keyword`, `symbol`: the reserved words and the symbols, with their spellings and numbers.
+//! - `character`, `number`, `spelling`, `bytes`: what characters, numbers and names are made of.
 #![tactic(auto)]
 
 mod bytes;
 mod character;
+mod keyword;
 mod lexing;
 mod number;
 mod piece;
 mod spelling;
+mod symbol;
 #[cfg(test)]
 mod tests;
 mod token;
 mod tokens;
 
+pub use keyword::Keyword;
 pub use lexing::lex;
+pub use symbol::Symbol;
 pub use token::{Token, TokenKind};
 pub use tokens::{LexFault, Tokens, UNIT_LIMIT};

@@ -7,11 +7,12 @@ ghost use Rattle.cmm_lexer.specs.Pieces.{skipped, lexed, broken, line_len as lin
 
 use crate::bytes::{is_digit, is_separator};
 use crate::character::character_at;
+use crate::keyword::Keyword;
 use crate::number::{digits_len, number_of, radix_of};
 use crate::spelling::{
-    begins_with, begins_with_operator, begins_with_word, name_len, operator_len, reserved_number,
-    symbol_number,
+    begins_with, begins_with_operator, begins_with_word, name_len, operator_len,
 };
+use crate::symbol::Symbol;
 use cmm_items::Items;
 use std::alloc::{AllocError, Global};
 
@@ -27,7 +28,9 @@ pub enum Lexeme {
     Op(Items<u8>),
     /// The bytes after the percent signs.
     Checked(Items<u8>),
+    /// The number of a reserved word.
     Word(u8),
+    /// The number of a symbol.
     Symbol(u8),
 }
 
@@ -118,8 +121,8 @@ fn name_piece(alloc: Global, text: &[u8]) -> Result<Piece, AllocError>
     ensures within { IfOk result (λ piece. (0 < piece.len) × (piece.len ≤ length text.now)) }
 {
     let (spelling, _) = text.split_at(name_len(text));
-    let lexeme = match reserved_number(spelling) {
-        Some(number) => Lexeme::Word(number),
+    let lexeme = match Keyword::of_spelling(spelling) {
+        Some(word) => Lexeme::Word(word.number()),
         None => Lexeme::Name(Items::from_slice(alloc, spelling)?),
     };
     Ok(Piece::lexed(spelling.len(), lexeme))
@@ -191,10 +194,10 @@ fn symbol_piece(text: &[u8]) -> Piece
     ensures within { (0 < result.len) × (result.len ≤ length text.now) }
 {
     let (longest, _) = text.split_at(text.len().min(2));
-    match symbol_number(longest) {
-        Some(number) => Piece::lexed(longest.len(), Lexeme::Symbol(number)),
-        None => match symbol_number(text.split_at(1).0) {
-            Some(number) => Piece::lexed(1, Lexeme::Symbol(number)),
+    match Symbol::of_spelling(longest) {
+        Some(symbol) => Piece::lexed(longest.len(), Lexeme::Symbol(symbol.number())),
+        None => match Symbol::of_spelling(text.split_at(1).0) {
+            Some(symbol) => Piece::lexed(1, Lexeme::Symbol(symbol.number())),
             None => Piece::broken(Rule::BadByte),
         },
     }

@@ -1,100 +1,11 @@
-//! The words and symbols of the language, and how far a name reaches.
+//! How far names reach, and what a text begins with.
 
-ghost use Rattle.std.specs.Prelude.{◌≡◌, ◌+◌, ◌<◌, ◌≤◌, List, ℕ, map, length, position, nat_eq, IsTrue};
+ghost use Rattle.std.specs.Prelude.{◌≡◌, ◌+◌, ◌<◌, ◌≤◌, List, ℕ, length, nat_eq, IsTrue};
 ghost use Rattle.std.specs.List.{prefix_len};
-ghost use Rattle.std.specs.Cmp.Lexicographic.{pointwise};
 ghost use Rattle.cmm_lexer.specs.Bytes.{is_operator_byte as is_operator_byte_of, begins_word as begins_word_of, begins_operator as begins_operator_of, begins};
-ghost use Rattle.cmm_lexer.specs.Spellings.{number_of as number_in, reserved, symbols, goes_on as goes_on_by, name_len as name_len_of};
+ghost use Rattle.cmm_lexer.specs.Spellings.{goes_on as goes_on_by, name_len as name_len_of};
 
 use crate::bytes::{begins_operator, begins_word, is_operator_byte, is_word_byte};
-
-/// The words that are no names, by number.
-const RESERVED: [&str; 49] = [
-    "aborts",
-    "align",
-    "aligned",
-    "also",
-    "as",
-    "big",
-    "bits8",
-    "bits16",
-    "bits32",
-    "bits64",
-    "bool",
-    "byteorder",
-    "case",
-    "const",
-    "continuation",
-    "cut",
-    "cuts",
-    "default",
-    "else",
-    "export",
-    "float",
-    "foreign",
-    "goto",
-    "if",
-    "import",
-    "in",
-    "invariant",
-    "jump",
-    "little",
-    "memsize",
-    "never",
-    "pointersize",
-    "pragma",
-    "reads",
-    "register",
-    "return",
-    "returns",
-    "section",
-    "span",
-    "stackdata",
-    "string16",
-    "switch",
-    "target",
-    "to",
-    "typedef",
-    "unicode",
-    "unwinds",
-    "wordsize",
-    "writes",
-];
-
-/// The symbols, by number.
-const SYMBOLS: [&str; 29] = [
-    "{", "}", "(", ")", "[", "]", ",", ";", ":", "::", "=", "==", "!=", "<", "<=", ">", ">=", "+",
-    "-", "*", "/", "%", "&", "|", "^", "~", "<<", ">>", "..",
-];
-
-/// The number of a reserved word.
-#[tactic(auto, unfolding(crate::specs::Spellings::number_of, crate::specs::Spellings::reserved))]
-pub fn reserved_number(spelling: &[u8]) -> Option<u8>
-    ensures { result ≡ number_in reserved spelling.now }
-{
-    number_of(&RESERVED, spelling)
-}
-
-/// The number of a symbol.
-#[tactic(auto, unfolding(crate::specs::Spellings::number_of, crate::specs::Spellings::symbols))]
-pub fn symbol_number(spelling: &[u8]) -> Option<u8>
-    ensures { result ≡ number_in symbols spelling.now }
-{
-    number_of(&SYMBOLS, spelling)
-}
-
-/// The number of a spelling in a table.
-fn number_of(table: &[&str], spelling: &[u8]) -> Option<u8>
-    requires { length table.now ≤ 256 }
-    ensures { result ≡ position (λ word. pointwise nat_eq spelling.now word.now) table.now }
-{
-    for (number, word) in table.iter().enumerate() {
-        if spelling == word.as_bytes() {
-            return Some(number as u8);
-        }
-    }
-    None
-}
 
 /// How many bytes from the front go on a name.
 pub fn name_len(text: &[u8]) -> usize
