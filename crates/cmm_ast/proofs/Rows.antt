@@ -2,12 +2,13 @@
 use Rattle.std.proofs.Common.{◌≡◌, ℕ, zero, suc, ◌++◌, refl, List, [], ◌∷◌, Some, None}
 use Rattle.std.specs.Prelude.{codes, map, length, replicate, option_map, Option}
 use denote.Hole.Carrier as Carrier
+use Rattle.cmm_words.specs.declared.width.Width.TheVariants.{W64}
 use Rattle.cmm_lexer.specs.declared.piece.Lexeme.{Lexeme}
 use Rattle.cmm_lexer.specs.declared.piece.Lexeme.TheVariants as lexeme
 use Rattle.cmm_lexer.specs.Spellings.{number_of, reserved, symbols}
 use Rattle.cmm_lexer.specs.Pieces.{comment_piece, name_piece, number_piece, character_piece, text_piece, symbol_piece, percent_piece, piece_at, pieces_from}
 use Rattle.cmm_lexer.specs.Lexing.{tokens_of}
-use Rattle.cmm_ast.specs.declared.keyword.Symbol.TheVariants as sign
+use Rattle.cmm_lexer.specs.declared.symbol.Symbol.TheVariants as sign
 use Rattle.cmm_ast.specs.declared.token.Ident.{Ident}
 use Rattle.cmm_ast.specs.declared.expression.Expr.{Expr}
 use Rattle.cmm_ast.specs.declared.expression.ExprForm.TheBlock as ExprForms
@@ -16,17 +17,20 @@ use Rattle.cmm_ast.specs.declared.expression.PrimForm.TheVariants.{Literal, Name
 use Rattle.cmm_ast.specs.declared.expression.Number.TheVariants as number
 use Rattle.cmm_ast.specs.declared.expression.Infix.{Infix as Operator}
 use Rattle.cmm_ast.specs.declared.expression.Infix.TheVariants.{Add, Mul, Eq}
+use Rattle.cmm_ast.specs.declared.expression.TypeForm.TheVariants.{Bits}
 use Rattle.cmm_ast.specs.declared.declaration.DeclForm.TheVariants as decls
+use Rattle.cmm_ast.specs.declared.procedure.Modifiers.TheVariants.{Nothing}
+use Rattle.cmm_ast.specs.declared.procedure.Proc.{Proc}
 use Rattle.cmm_ast.specs.declared.statement.CalleeForm.TheVariants as callees
 use Rattle.cmm_ast.specs.declared.statement.FlowForm.TheVariants as flows
 use Rattle.cmm_ast.specs.declared.statement.Otherwise.TheBlock as Otherwises
 use Rattle.cmm_ast.specs.declared.statement.Part.TheVariants as parts
 use Rattle.cmm_ast.specs.declared.statement.StmtForm.TheVariants as stmts
 use Rattle.cmm_ast.specs.declared.unit.TopLevel.TheVariants as tops
-use Rattle.cmm_ast.specs.Numbers.{symbol_number}
+use Rattle.cmm_lexer.specs.Spellings.{symbol_number}
 use Rattle.cmm_ast.specs.Taking.{Takes}
 use Rattle.cmm_ast.specs.ExpressionGrammar.{whole}
-use Rattle.cmm_ast.specs.StatementGrammar.{stmt_form}
+use Rattle.cmm_ast.specs.StatementGrammar.{stmt_form, proc}
 use Rattle.cmm_ast.specs.UnitGrammar.{unit}
 use Rattle.cmm_ast.specs.Derivation.{at_start}
 
@@ -120,6 +124,30 @@ row_call : seen (stmt_form (stmts.Call (record { kind = None; name = ident_at 0 
 unfolding opened
 row_call = refl
 
+-- ---- procedures
+
+-- a procedure with one formal and an empty body, up to a token
+abbrev one_formal : ℕ → Proc
+one_formal past = record {
+  name = ident_at 0 (codes "f");
+  formals = record { modifiers = Nothing; width = record { token = 2; form = Bits W64 }; name = ident_at 3 (codes "a") } ∷ [];
+  body = record { parts = [] };
+  past = past;
+}
+
+-- a comma after the last formal is seen in the tree: the token after the closing brace has the next number
+row_procedure : seen (proc (one_formal 7)) (spelled (codes "f(bits64 a) { }")) ≡ all_with 0
+unfolding opened
+row_procedure = refl
+
+row_comma : seen (proc (one_formal 8)) (spelled (codes "f(bits64 a,) { }")) ≡ all_with 0
+unfolding opened
+row_comma = refl
+
+row_no_comma : seen (proc (one_formal 8)) (spelled (codes "f(bits64 a) { }")) ≡ None
+unfolding opened
+row_no_comma = refl
+
 -- ---- a unit
 
 row_unit : seen (unit record {
@@ -134,6 +162,7 @@ row_unit : seen (unit record {
             form = stmts.Return None (Some (record { kind = None; value = both (int_at 9 1) Add (int_at 11 2) } ∷ []));
           } ∷ [];
         };
+        past = 15;
       } ∷ [];
   places = [];
 })

@@ -2,11 +2,11 @@
 -- alternative.
 use Rattle.std.specs.Prelude.{List, [], ◌∷◌, None}
 use Rattle.cmm_ast.specs.declared.token.Ident.{Ident}
-use Rattle.cmm_ast.specs.declared.keyword.Keyword.{Keyword}
-use Rattle.cmm_ast.specs.declared.keyword.Keyword.TheVariants.{Aborts, Align, Also, Cut, Cuts, Default, Else, Foreign, Goto, If, Invariant, Jump, Never, Return, Returns, Span, Stackdata, Switch, To, Unwinds}
-use Rattle.cmm_ast.specs.declared.keyword.Keyword.TheVariants as word
-use Rattle.cmm_ast.specs.declared.keyword.Symbol.TheVariants.{Assign, Colon, Comma, Less, Greater, Semicolon, Slash}
-use Rattle.cmm_ast.specs.declared.keyword.Symbol.TheVariants as sign
+use Rattle.cmm_lexer.specs.declared.keyword.Keyword.{Keyword}
+use Rattle.cmm_lexer.specs.declared.keyword.Keyword.TheVariants.{Aborts, Align, Also, Cut, Cuts, Default, Else, Foreign, Goto, If, Invariant, Jump, Never, Return, Returns, Span, Stackdata, Switch, To, Unwinds}
+use Rattle.cmm_lexer.specs.declared.keyword.Keyword.TheVariants as word
+use Rattle.cmm_lexer.specs.declared.symbol.Symbol.TheVariants.{Assign, Colon, Comma, Less, Greater, Semicolon, Slash}
+use Rattle.cmm_lexer.specs.declared.symbol.Symbol.TheVariants as sign
 use Rattle.cmm_ast.specs.declared.procedure.Proc.{Proc}
 use Rattle.cmm_ast.specs.declared.procedure.Formal.{Formal}
 use Rattle.cmm_ast.specs.declared.procedure.Modifiers.{Modifiers}
@@ -172,4 +172,4 @@ block b = inside (ElseBlock b)
 -- ---- procedures
 
 abbrev pub proc : Proc → Takes
-proc p = ident p.name ⨾ round (may_list formal p.formals) ⨾ block p.body
+proc p = ident p.name ⨾ round (may_list formal p.formals) ⨾ block p.body ⨾ here p.past

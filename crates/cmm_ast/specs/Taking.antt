@@ -3,10 +3,10 @@
 use Rattle.std.specs.Prelude.{ℕ, suc, ◌==◌, nat_lt, Bool, true, false, List, [], ◌∷◌, bytes_eq, Option, Some, None}
 use Rattle.cmm_lexer.specs.declared.piece.Lexeme.{Lexeme}
 use Rattle.cmm_lexer.specs.declared.piece.Lexeme.TheVariants.{Name, Int, Char, Text, Op, Checked, Word, Symbol as Sign}
-use Rattle.cmm_ast.specs.declared.keyword.Keyword.{Keyword}
-use Rattle.cmm_ast.specs.declared.keyword.Symbol.{Symbol}
-use Rattle.cmm_ast.specs.declared.keyword.Symbol.TheVariants.{Open, Close, OpenBrace, CloseBrace, OpenSquare, CloseSquare, Comma}
-use Rattle.cmm_ast.specs.Numbers.{keyword_number, symbol_number}
+use Rattle.cmm_lexer.specs.declared.keyword.Keyword.{Keyword}
+use Rattle.cmm_lexer.specs.declared.symbol.Symbol.{Symbol}
+use Rattle.cmm_lexer.specs.declared.symbol.Symbol.TheVariants.{Open, Close, OpenBrace, CloseBrace, OpenSquare, CloseSquare, Comma}
+use Rattle.cmm_lexer.specs.Spellings.{keyword_number, symbol_number}
 
 -- where a spelling stands
 pub record Reading : Type 0 where
@@ -36,13 +36,13 @@ taken_if test left r = elim test [ true ↦ Some record r { left = left; taken =
 abbrev pub token : (Lexeme → Bool) → Takes
 token test r = elim r.left [ [] ↦ None | x ∷ xs ↦ taken_if (test x) xs r ]
 
-abbrev pub is_keyword : ℕ → Lexeme → Bool
-is_keyword n (Word m) = n == m
-is_keyword n _ = false
+abbrev pub is_word : Keyword → Lexeme → Bool
+is_word k (Word n) = keyword_number k == n
+is_word k _ = false
 
-abbrev pub is_symbol : ℕ → Lexeme → Bool
-is_symbol n (Sign m) = n == m
-is_symbol n _ = false
+abbrev pub is_sign : Symbol → Lexeme → Bool
+is_sign s (Sign n) = symbol_number s == n
+is_sign s _ = false
 
 abbrev pub is_name : List ℕ → Lexeme → Bool
 is_name bytes (Name spelled) = bytes_eq bytes spelled
@@ -69,10 +69,10 @@ is_char byte (Char b) = byte == b
 is_char byte _ = false
 
 abbrev pub keyword : Keyword → Takes
-keyword k = token (is_keyword (keyword_number k))
+keyword k = token (is_word k)
 
 abbrev pub symbol : Symbol → Takes
-symbol s = token (is_symbol (symbol_number s))
+symbol s = token (is_sign s)
 
 -- takes nothing; the next token has this number
 abbrev pub here : ℕ → Takes

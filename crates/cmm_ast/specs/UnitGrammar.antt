@@ -1,8 +1,8 @@
 -- The grammar of declarations, of sections and of units (C-- Language Specification 2.0, syntax): a line for each
 -- alternative.
 use Rattle.std.specs.Prelude.{Bool, true, false}
-use Rattle.cmm_ast.specs.declared.keyword.Keyword.TheVariants.{Align, As, Big, Byteorder, Const, Export as ExportWord, Import as ImportWord, Invariant, Little, Memsize, Pointersize, Register, Section as SectionWord, Span, Target, Typedef, Wordsize}
-use Rattle.cmm_ast.specs.declared.keyword.Symbol.TheVariants.{Assign, Colon, Semicolon}
+use Rattle.cmm_lexer.specs.declared.keyword.Keyword.TheVariants.{Align, As, Big, Byteorder, Const, Export as ExportWord, Import as ImportWord, Invariant, Little, Memsize, Pointersize, Register, Section as SectionWord, Span, Target, Typedef, Wordsize}
+use Rattle.cmm_lexer.specs.declared.symbol.Symbol.TheVariants.{Assign, Colon, Semicolon}
 use Rattle.cmm_ast.specs.declared.declaration.Decl.{Decl}
 use Rattle.cmm_ast.specs.declared.declaration.DeclForm.{DeclForm}
 use Rattle.cmm_ast.specs.declared.declaration.DeclForm.TheVariants as decls

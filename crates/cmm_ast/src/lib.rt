@@ -3,7 +3,6 @@
 
 mod declaration;
 mod expression;
-mod keyword;
 mod procedure;
 mod statement;
 mod token;
@@ -13,7 +12,6 @@ pub use declaration::{ByteOrder, Decl, DeclForm, Export, Import, Property, Prope
 pub use expression::{
     Expr, ExprForm, Infix, Memory, Number, Prefix, PrimForm, Primary, TypeForm, TypeName,
 };
-pub use keyword::{Keyword, Symbol};
 pub use procedure::{Formal, Local, LocalForm, Modifiers, Proc, Room, RoomForm};
 pub use statement::{
     Actual, Arm, Block, Callee, CalleeForm, Case, Exit, Flow, FlowForm, Kinded, Lvalue, Otherwise,

@@ -12,6 +12,8 @@ pub struct Proc {
     pub name: Ident,
     pub formals: Items<Formal>,
     pub body: Block,
+    /// The number of the token after its closing brace.
+    pub past: u32,
 }
 
 /// A formal parameter.

@@ -5,10 +5,10 @@ use Rattle.cmm_lexer.specs.declared.piece.Lexeme.{Lexeme}
 use Rattle.cmm_lexer.specs.declared.piece.Lexeme.TheVariants as l
 use Rattle.cmm_ast.specs.declared.token.Ident.{Ident}
 use Rattle.cmm_ast.specs.declared.token.Text.{Text}
-use Rattle.cmm_ast.specs.declared.keyword.Keyword.{Keyword}
-use Rattle.cmm_ast.specs.declared.keyword.Keyword.TheVariants.{Continuation, Cut, Else, Foreign, Goto, If, Jump, Return, Span, Stackdata, Switch, To}
-use Rattle.cmm_ast.specs.declared.keyword.Symbol.{Symbol}
-use Rattle.cmm_ast.specs.declared.keyword.Symbol.TheVariants.{Assign, Colon, Comma, OpenBrace, CloseBrace, OpenSquare, Open, Close, Semicolon}
+use Rattle.cmm_lexer.specs.declared.keyword.Keyword.{Keyword}
+use Rattle.cmm_lexer.specs.declared.keyword.Keyword.TheVariants.{Continuation, Cut, Else, Foreign, Goto, If, Jump, Return, Span, Stackdata, Switch, To}
+use Rattle.cmm_lexer.specs.declared.symbol.Symbol.{Symbol}
+use Rattle.cmm_lexer.specs.declared.symbol.Symbol.TheVariants.{Assign, Colon, Comma, OpenBrace, CloseBrace, OpenSquare, Open, Close, Semicolon}
 use Rattle.cmm_ast.specs.declared.expression.Expr.{Expr}
 use Rattle.cmm_ast.specs.declared.expression.Primary.{Primary}
 use Rattle.cmm_ast.specs.declared.procedure.LocalForm.{LocalForm}
@@ -29,8 +29,8 @@ use Rattle.cmm_ast.specs.declared.statement.Stmt.{Stmt}
 use Rattle.cmm_ast.specs.declared.statement.StmtForm.{StmtForm, Row_of-Arm, end_of-Arm, more_of-Arm, items-the_row-Arm, items_shown-the_row-Arm-2, roll-StmtForm, out-StmtForm, roll-out-StmtForm}
 use Rattle.cmm_ast.specs.declared.statement.StmtForm.TheVariants as stmts
 use Rattle.cmm_ast.specs.declared.statement.StmtForm.TheVariants.{If', Switch', Span'}
-use Rattle.cmm_ast.specs.Numbers.{keyword_number, symbol_number}
-use Rattle.cmm_ast.specs.Taking.{Reading, Takes, ◌⨾◌, nothing, is_keyword, is_symbol, keyword as keyword_is, symbol as symbol_is, here as here_is, opening as opening_is, enclosed as enclosed_is, in_brackets as in_brackets_is, braces as braces_is, optional as optional_is, commas as commas_is, listed as listed_is, many as many_is, may_list as may_list_is, is_checked}
+use Rattle.cmm_lexer.specs.Spellings.{keyword_number, symbol_number}
+use Rattle.cmm_ast.specs.Taking.{Reading, Takes, ◌⨾◌, nothing, is_word, is_sign, keyword as keyword_is, symbol as symbol_is, here as here_is, opening as opening_is, enclosed as enclosed_is, in_brackets as in_brackets_is, braces as braces_is, optional as optional_is, commas as commas_is, listed as listed_is, many as many_is, may_list as may_list_is, is_checked}
 use Rattle.cmm_ast.specs.ExpressionGrammar as grammar
 use Rattle.cmm_ast.specs.StatementGrammar as bodies
 use Rattle.cmm_readers.specs.Reading.{Reads, ◌>>=◌, give, stop, if_next, here, skip, skip_opening}
@@ -55,7 +55,7 @@ use Rattle.cmm_readers.specs.ExpressionReading.{begins_expression}
 -- ---- what a part begins with
 
 abbrev pub NotElse : Option Lexeme → Type 0
-NotElse = Not (is_keyword (keyword_number Else))
+NotElse = Not (is_word Else)
 
 -- a part of a block begins with no brace that ends the block, and with no `else`
 abbrev pub PartStart : Option Lexeme → Type 0
@@ -129,10 +129,10 @@ convention_forward by =
 
 -- up to a symbol that ends it
 before_symbol : {p : Takes} (s : Symbol) → Forward p → Strict (p ⨾ symbol_is s)
-before_symbol s one = strict_second one.moves (token_strict (only_symbol (symbol_number s)))
+before_symbol s one = strict_second one.moves (token_strict (only_symbol s))
 
 after_word : {p : Takes} (k : Keyword) → Forward p → Strict (keyword_is k ⨾ p)
-after_word k one = strict_then (token_strict (only_keyword (keyword_number k))) one.moves
+after_word k one = strict_then (token_strict (only_keyword k)) one.moves
 
 call_forward : (actuals : List Actual) (fs : List Flow) → Forward (bodies.arguments actuals ⨾ bodies.annotated fs ⨾ symbol_is Semicolon)
 call_forward actuals fs =
@@ -143,13 +143,13 @@ call_strict actuals fs =
     strict_second (arguments_complete 0 actuals).moves (before_symbol Semicolon (of_complete (annotations_complete 0 fs)))
 
 stmt_strict : (f : StmtForm) → HoldsNoBlock f → Strict (bodies.stmt_form f)
-stmt_strict stmts.Empty none = token_strict (only_symbol (symbol_number Semicolon))
+stmt_strict stmts.Empty none = token_strict (only_symbol Semicolon)
 stmt_strict (If' condition _ body otherwise) none = absurd none
 stmt_strict (Switch' over value _ arms) none = absurd none
 stmt_strict (Span' key value _ body) none = absurd none
 stmt_strict (stmts.Assign to found) none =
     strict_second (commas_forward bodies.lvalue (λ v. of_complete (lvalue_complete 0 v)) to).moves
-    (strict_then (token_strict (only_symbol (symbol_number Assign)))
+    (strict_then (token_strict (only_symbol Assign))
     (then_forward (listed_forward grammar.whole whole_forward found) (symbol_forward Semicolon)).moves)
 stmt_strict (stmts.Checked result op left right fs) none =
     strict_then (ident_strict result)
@@ -280,9 +280,9 @@ word_law : {n : ℕ} {rest : Takes} {form : Reads PartForm} {f : PartForm} {firs
     Complete n rest f form first follow →
     Spends (suc n) (keyword_is word ⨾ rest) f (skip >>= λ _. form) (Next (l.Word (keyword_number word))) follow
 word_law {f = f} word rest = record {
-  complete = fewer_complete {b = λ _. f} (token_strict (only_keyword _)) (skip_complete (is_keyword (keyword_number word)) (only_keyword _)) (λ x f. tt)
+  complete = fewer_complete {b = λ _. f} (token_strict (only_keyword word)) (skip_complete (is_word word) (only_keyword word)) (λ x f. tt)
       (λ _. rest);
-  strict = strict_then (token_strict (only_keyword _)) rest.moves;
+  strict = strict_then (token_strict (only_keyword word)) rest.moves;
 }
 
 if_complete : {fuel n : ℕ} {blocks : Reads Block} {others : Reads Otherwise} (c : Expr) (b : Block) (o : Otherwise) → fuel ≤ n →
@@ -295,7 +295,7 @@ if_complete {n = n} c b o le body rest =
 -- the number of its first token, and that after its last
 chained_complete : {fuel : ℕ} (form : Reads StmtForm) (first past : ℕ) (f : StmtForm) →
     ((n : ℕ) → Complete {A = Stmt} fuel (bodies.chained f ⨾ here_is past) (record { token = n; past = past; form = f })
-    (if_next (is_keyword (keyword_number If)) skip_opening stop >>= λ _. form >>= λ form. here >>= λ past.
+    (if_next (is_word If) skip_opening stop >>= λ _. form >>= λ form. here >>= λ past.
     give record { token = n; past = past; form = form }) (Next (l.Word (keyword_number If))) NotElse) →
     Complete fuel (enclosed_is (here_is first ⨾ bodies.chained f ⨾ here_is past)) (record { token = first; past = past; form = f })
     (chained form) (Next (l.Word (keyword_number If))) NotElse
@@ -338,12 +338,12 @@ if_law c b o body rest = record { form = form; chained = chain } where
       chained_complete _ first past (stmts.If c b o) (λ m.
       subst
       (λ t. Complete {A = Stmt} turns t (record { token = m; past = past; form = stmts.If c b o })
-      (if_next (is_keyword (keyword_number If)) skip_opening stop >>= λ _.
+      (if_next (is_word If) skip_opening stop >>= λ _.
       after_if n turns >>= λ form. here >>= λ past. give record { token = m; past = past; form = form })
       (Next (l.Word (keyword_number If))) NotElse)
       (sym (chain_takes past))
       (after_complete {b = λ _. record { token = m; past = past; form = stmts.If c b o }}
-      (holds_complete {fails = stop} (is_keyword (keyword_number If)) (λ x e. rw e refl) (opening_complete (is_keyword (keyword_number If)) (only_keyword _)))
+      (holds_complete {fails = stop} (is_word If) (λ x e. rw e refl) (opening_complete (is_word If) (only_keyword If)))
       (λ x f. tt) (λ _.
       after_complete {b = λ form. record { token = m; past = past; form = form }} (inner n turns le) (λ x f. f) (λ form.
       last_complete (λ past. record { token = m; past = past; form = form }) (here_complete past)))))
@@ -359,16 +359,16 @@ each_turn o each = record { complete = by } where
 nothing_law : OtherwiseLaw otherwises.Nothing
 nothing_law =
     each_turn otherwises.Nothing (λ n turns le.
-    follow_complete (λ x f. tt) (λ x f. f) (fails_complete (is_keyword (keyword_number Else)) (λ x f. f) (give_complete otherwises.Nothing)))
+    follow_complete (λ x f. tt) (λ x f. f) (fails_complete (is_word Else) (λ x f. f) (give_complete otherwises.Nothing)))
 
 -- what follows an `else`
 after_else : {turns : ℕ} {rest : Takes} {o : Otherwise} {reads : Reads Otherwise} {first follow : Option Lexeme → Type 0} →
     Complete turns rest o reads first follow →
-    Complete (suc turns) (keyword_is Else ⨾ rest) o (if_next (is_keyword (keyword_number Else)) (skip >>= λ _. reads) (give otherwises.Nothing))
+    Complete (suc turns) (keyword_is Else ⨾ rest) o (if_next (is_word Else) (skip >>= λ _. reads) (give otherwises.Nothing))
     (Next (l.Word (keyword_number Else))) follow
 after_else {o = o} rest =
-    holds_complete (is_keyword (keyword_number Else)) (λ x e. rw e refl)
-    (fewer_complete {b = λ _. o} (token_strict (only_keyword _)) (skip_complete (is_keyword (keyword_number Else)) (only_keyword _)) (λ x f. tt) (λ _. rest))
+    holds_complete (is_word Else) (λ x e. rw e refl)
+    (fewer_complete {b = λ _. o} (token_strict (only_keyword Else)) (skip_complete (is_word Else) (only_keyword Else)) (λ x f. tt) (λ _. rest))
 
 else_law : (b : Block) → BlockLaw b → OtherwiseLaw (otherwises.Else b)
 else_law b body =
@@ -377,7 +377,7 @@ else_law b body =
     (follow_complete (λ x f. tt) (λ x f. tt)
     (after_else
     (holds_complete {fails = chained (after_if n turns) >>= λ s. give (otherwises.ElseIf s)}
-    (is_symbol (symbol_number OpenBrace)) (λ x e. rw e refl) (last_complete otherwises.Else (less_complete le (body.complete n)))))))
+    (is_sign OpenBrace) (λ x e. rw e refl) (last_complete otherwises.Else (less_complete le (body.complete n)))))))
 
 else_if_law : (s : Stmt) → FormLaw s.form → OtherwiseLaw (otherwises.ElseIf s)
 else_if_law s law =
@@ -385,12 +385,12 @@ else_if_law s law =
     subst (λ t. Complete (suc turns) t (otherwises.ElseIf s) (otherwise (suc turns) (suc n) (block n)) Anything NotElse) (sym (form_of_else_if s))
     (follow_complete (λ x f. tt) (λ x f. f)
     (after_else
-    (fails_complete {holds = block n >>= λ body. give (otherwises.Else body)} (is_symbol (symbol_number OpenBrace)) (λ x e. rw e refl)
+    (fails_complete {holds = block n >>= λ body. give (otherwises.Else body)} (is_sign OpenBrace) (λ x e. rw e refl)
     (last_complete otherwises.ElseIf (law.chained s.token s.past n turns le))))))
 
 -- ---- a switch and a span
 
-begins_no_square : (x : Option Lexeme) → Begins x → Not (is_symbol (symbol_number OpenSquare)) x
+begins_no_square : (x : Option Lexeme) → Begins x → Not (is_sign OpenSquare) x
 begins_no_square = other_symbol begins_expression OpenSquare refl
 
 arm_rows : Rows is_within (Passes is_within) Anything (Next (l.Symbol (symbol_number CloseBrace)))
@@ -408,7 +408,7 @@ switch_complete n over v as_ laws =
     less_complete (omega arith)
     (follow_complete (λ x f. tt) (λ x f. f)
     (after_complete {fuel = suc n} {b = λ over. stmts.Switch over v as_}
-    (optional_complete {follow = Begins} (is_symbol (symbol_number OpenSquare)) (λ x e. rw e refl) begins_no_square
+    (optional_complete {follow = Begins} (is_sign OpenSquare) (λ x e. rw e refl) begins_no_square
     (λ s. follow_complete (λ x f. f) (λ x f. tt) (switch_span_complete (suc n) s)) over)
     (λ x f. f) (λ over.
     after_complete {b = λ v. stmts.Switch over v as_} (whole_complete (suc n) v) (ends_before OpenBrace refl refl) (λ v.

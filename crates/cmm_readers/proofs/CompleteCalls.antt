@@ -3,17 +3,17 @@ use Rattle.std.proofs.Common.{◌≡◌, ℕ, ◌⊎◌, inl, inr, List, Option,
 use Rattle.cmm_lexer.specs.declared.piece.Lexeme.{Lexeme}
 use Rattle.cmm_lexer.specs.declared.piece.Lexeme.TheVariants as l
 use Rattle.cmm_ast.specs.declared.token.Text.{Text}
-use Rattle.cmm_ast.specs.declared.keyword.Keyword.TheVariants.{Foreign}
-use Rattle.cmm_ast.specs.declared.keyword.Symbol.TheVariants.{Open, OpenSquare, CloseSquare, Semicolon}
-use Rattle.cmm_ast.specs.declared.keyword.Symbol.TheVariants as sign
+use Rattle.cmm_lexer.specs.declared.keyword.Keyword.TheVariants.{Foreign}
+use Rattle.cmm_lexer.specs.declared.symbol.Symbol.TheVariants.{Open, OpenSquare, CloseSquare, Semicolon}
+use Rattle.cmm_lexer.specs.declared.symbol.Symbol.TheVariants as sign
 use Rattle.cmm_ast.specs.declared.statement.Actual.{Actual}
 use Rattle.cmm_ast.specs.declared.statement.Callee.{Callee}
 use Rattle.cmm_ast.specs.declared.statement.Flow.{Flow}
 use Rattle.cmm_ast.specs.declared.statement.Kinded.{Kinded}
 use Rattle.cmm_ast.specs.declared.statement.Span.{Span as SwitchSpan}
 use Rattle.cmm_ast.specs.declared.statement.StmtForm.TheVariants as stmts
-use Rattle.cmm_ast.specs.Numbers.{keyword_number, symbol_number}
-use Rattle.cmm_ast.specs.Taking.{◌⨾◌, is_keyword, keyword as keyword_is, symbol as symbol_is, optional as optional_is}
+use Rattle.cmm_lexer.specs.Spellings.{keyword_number, symbol_number}
+use Rattle.cmm_ast.specs.Taking.{◌⨾◌, is_word, keyword as keyword_is, symbol as symbol_is, optional as optional_is}
 use Rattle.cmm_ast.specs.ExpressionGrammar as grammar
 use Rattle.cmm_ast.specs.StatementGrammar as bodies
 use Rattle.cmm_readers.specs.Reading.{give}
@@ -57,18 +57,18 @@ call_complete fuel to by what actuals fs =
     no_flow x is = rw is (refl, (refl, refl))
 
 abbrev NotForeign : Option Lexeme → Type 0
-NotForeign = Not (is_keyword (keyword_number Foreign))
+NotForeign = Not (is_word Foreign)
 
 convention_complete : {fuel : ℕ} (by : Option Text) →
     Complete fuel (optional_is (λ t. keyword_is Foreign ⨾ grammar.text t) by) by convention
     (λ x. (x ≡ Some (l.Word (keyword_number Foreign))) ⊎ NotForeign x) NotForeign
 convention_complete (Some t) =
     follow_complete (λ x f. inl f) (λ x f. tt)
-    (holds_complete {fails = give None} (is_keyword (keyword_number Foreign)) (λ x is. rw is refl)
-    (after_complete {b = λ _. Some t} (skip_complete (is_keyword (keyword_number Foreign)) (only_keyword (keyword_number Foreign))) (λ x f. tt)
+    (holds_complete {fails = give None} (is_word Foreign) (λ x is. rw is refl)
+    (after_complete {b = λ _. Some t} (skip_complete (is_word Foreign) (only_keyword Foreign)) (λ x f. tt)
     (λ _. last_complete (λ t. Some t) (text_complete t))))
 convention_complete None =
-    follow_complete (λ x f. inr f) (λ x f. f) (fails_complete (is_keyword (keyword_number Foreign)) (λ x f. f) (give_complete None))
+    follow_complete (λ x f. inr f) (λ x f. f) (fails_complete (is_word Foreign) (λ x f. f) (give_complete None))
 
 -- no callee begins with this word
 not_foreign : (x : Option Lexeme) → Passes begins_callee x → NotForeign x

@@ -2,16 +2,16 @@
 use Rattle.std.proofs.Common.{ℕ, zero, suc, ◌≤◌, inl, inr, List, [], ◌∷◌, ◌++◌, Option, refl, sym, ◌∙◌, arith, subst, append_assoc, append-nil, le_refl}
 use Rattle.cmm_lexer.specs.declared.piece.Lexeme.{Lexeme}
 use Rattle.cmm_lexer.specs.declared.piece.Lexeme.TheVariants as l
-use Rattle.cmm_ast.specs.declared.keyword.Keyword.TheVariants.{Case as CaseWord, Default}
-use Rattle.cmm_ast.specs.declared.keyword.Symbol.TheVariants.{Colon, Comma, OpenBrace}
-use Rattle.cmm_ast.specs.declared.keyword.Symbol.TheVariants as sign
+use Rattle.cmm_lexer.specs.declared.keyword.Keyword.TheVariants.{Case as CaseWord, Default}
+use Rattle.cmm_lexer.specs.declared.symbol.Symbol.TheVariants.{Colon, Comma, OpenBrace}
+use Rattle.cmm_lexer.specs.declared.symbol.Symbol.TheVariants as sign
 use Rattle.cmm_ast.specs.declared.statement.Arm.{Arm}
 use Rattle.cmm_ast.specs.declared.statement.Block.{Block}
 use Rattle.cmm_ast.specs.declared.statement.Case.{Case}
 use Rattle.cmm_ast.specs.declared.statement.Case.TheVariants as cases
 use Rattle.cmm_ast.specs.declared.statement.Range.{Range}
-use Rattle.cmm_ast.specs.Numbers.{symbol_number}
-use Rattle.cmm_ast.specs.Taking.{Takes, ◌⨾◌, nothing, is_symbol, symbol as symbol_is, commas as commas_is}
+use Rattle.cmm_lexer.specs.Spellings.{symbol_number}
+use Rattle.cmm_ast.specs.Taking.{Takes, ◌⨾◌, nothing, is_sign, symbol as symbol_is, commas as commas_is}
 use Rattle.cmm_ast.specs.StatementGrammar as bodies
 use Rattle.cmm_readers.specs.Reading.{Reads, ◌>>=◌, give, skip, is_comma, more_commas, commas}
 use Rattle.cmm_readers.specs.ReadingLaws.{Complete}
@@ -36,7 +36,7 @@ module _ {A : Type 0} (reads : Reads A) (p : A → Takes) (first : Option Lexeme
   commas_step so_far item rest =
       follow_complete (λ x e. inl e) (λ x f. f)
       (holds_complete {fails = give so_far} is_comma (λ x e. rw e refl)
-      (fewer_complete (token_strict (only_symbol (symbol_number Comma))) (skip_complete is_comma (only_symbol (symbol_number Comma))) (λ x f. tt)
+      (fewer_complete (token_strict (only_symbol Comma)) (skip_complete is_comma (only_symbol Comma)) (λ x f. tt)
       (λ _. after_complete item goes_on rest)))
 
   more_commas_complete : {fuel : ℕ} (as_ so_far : List A) (turns : ℕ) → turns ≤ fuel → Each (λ a. Complete fuel (p a) a reads first follow_one) as_ →
@@ -68,7 +68,7 @@ module _ {A : Type 0} (reads : Reads A) (p : A → Takes) (first : Option Lexeme
 
 -- a range of a case ends before it
 abbrev RangeEnd : Option Lexeme → Type 0
-RangeEnd x = Ends 0 x × Not (is_symbol (symbol_number sign.Range)) x
+RangeEnd x = Ends 0 x × Not (is_sign sign.Range) x
 
 range_end : (x : Option Lexeme) → After (Next (l.Symbol (symbol_number Colon))) x → RangeEnd x
 range_end x (inl e) = (ends_before Comma refl refl x e, rw e refl)

@@ -6,9 +6,9 @@ use Rattle.cmm_words.specs.declared.width.Width.{Width}
 use Rattle.cmm_words.specs.declared.width.Width.TheVariants.{W8, W16, W32, W64}
 use Rattle.cmm_ast.specs.declared.token.Ident.{Ident}
 use Rattle.cmm_ast.specs.declared.token.Text.{Text}
-use Rattle.cmm_ast.specs.declared.keyword.Keyword.{Keyword}
-use Rattle.cmm_ast.specs.declared.keyword.Keyword.TheVariants.{As, Big, Byteorder, Const, Export as ExportWord, Import as ImportWord, Invariant, Little, Memsize, Pointersize, Register, Target, Typedef, Wordsize}
-use Rattle.cmm_ast.specs.declared.keyword.Symbol.TheVariants.{Assign, Semicolon}
+use Rattle.cmm_lexer.specs.declared.keyword.Keyword.{Keyword}
+use Rattle.cmm_lexer.specs.declared.keyword.Keyword.TheVariants.{As, Big, Byteorder, Const, Export as ExportWord, Import as ImportWord, Invariant, Little, Memsize, Pointersize, Register, Target, Typedef, Wordsize}
+use Rattle.cmm_lexer.specs.declared.symbol.Symbol.TheVariants.{Assign, Semicolon}
 use Rattle.cmm_ast.specs.declared.expression.Expr.{Expr}
 use Rattle.cmm_ast.specs.declared.expression.TypeName.{TypeName}
 use Rattle.cmm_ast.specs.declared.expression.TypeForm.{TypeForm}
@@ -23,8 +23,8 @@ use Rattle.cmm_ast.specs.declared.declaration.PropertyForm.{PropertyForm}
 use Rattle.cmm_ast.specs.declared.declaration.PropertyForm.TheVariants as properties
 use Rattle.cmm_ast.specs.declared.declaration.ByteOrder.{ByteOrder}
 use Rattle.cmm_ast.specs.declared.declaration.ByteOrder.TheVariants as orders
-use Rattle.cmm_ast.specs.Numbers.{keyword_number, symbol_number}
-use Rattle.cmm_ast.specs.Taking.{◌⨾◌, nothing, is_keyword, keyword as keyword_is, symbol as symbol_is, optional as optional_is, listed as listed_is, many as many_is, may_comma}
+use Rattle.cmm_lexer.specs.Spellings.{keyword_number, symbol_number}
+use Rattle.cmm_ast.specs.Taking.{◌⨾◌, nothing, is_word, keyword as keyword_is, symbol as symbol_is, optional as optional_is, listed as listed_is, many as many_is, may_comma}
 use Rattle.cmm_ast.specs.ExpressionGrammar as grammar
 use Rattle.cmm_ast.specs.ExpressionGrammar.{width_word}
 use Rattle.cmm_ast.specs.UnitGrammar as units
@@ -159,10 +159,10 @@ imports_complete {fuel} None (i ∷ is) =
 
 -- exports
 abbrev NotAs : Option Lexeme → Type 0
-NotAs = Not (is_keyword (keyword_number As))
+NotAs = Not (is_word As)
 
 as_text_complete : {fuel : ℕ} {follow : Option Lexeme → Type 0} → ((x : Option Lexeme) → follow x → NotAs x) → (link : Option Text) →
-    Complete fuel (optional_is (λ t. keyword_is As ⨾ grammar.text t) link) link (optional (is_keyword (keyword_number As)) as_text)
+    Complete fuel (optional_is (λ t. keyword_is As ⨾ grammar.text t) link) link (optional (is_word As) as_text)
     (λ x. Next (l.Word (keyword_number As)) x ⊎ follow x) follow
 as_text_complete ends (Some t) =
     follow_complete (λ x f. inl f) (λ x f. tt)
@@ -355,9 +355,9 @@ decl_form_spends (decls.Register invariant kind width names) =
     (not_next_spends _ (no_other invariant Typedef refl refl)
     (not_next_spends _ (no_other invariant Target refl refl) (registers_spends invariant kind width names)))))
   where
-    no_other : (invariant : Bool) (word : Keyword) → is_keyword (keyword_number word) (l.Word (keyword_number Invariant)) ≡ false →
-        is_keyword (keyword_number word) (l.Word (keyword_number Register)) ≡ false → (x : Option Lexeme) →
-        Next (l.Word (keyword_number (elim invariant [ true ↦ Invariant | false ↦ Register ]))) x → Not (is_keyword (keyword_number word)) x
+    no_other : (invariant : Bool) (word : Keyword) → is_word word (l.Word (keyword_number Invariant)) ≡ false →
+        is_word word (l.Word (keyword_number Register)) ≡ false → (x : Option Lexeme) →
+        Next (l.Word (keyword_number (elim invariant [ true ↦ Invariant | false ↦ Register ]))) x → Not (is_word word) x
     no_other true word one two x e = rw e one
     no_other false word one two x e = rw e two
 

@@ -7,9 +7,9 @@ use Rattle.cmm_words.specs.declared.width.Width.TheVariants.{W8, W16, W32, W64}
 use Rattle.cmm_lexer.specs.declared.piece.Lexeme.{Lexeme}
 use Rattle.cmm_lexer.specs.declared.piece.Lexeme.TheVariants as l
 use Rattle.cmm_ast.specs.declared.token.Int.{Int}
-use Rattle.cmm_ast.specs.declared.keyword.Keyword.TheVariants.{Align, Aligned}
-use Rattle.cmm_ast.specs.declared.keyword.Symbol.{Symbol}
-use Rattle.cmm_ast.specs.declared.keyword.Symbol.TheVariants.{Open, Close, OpenSquare, CloseSquare, Colons, Comma}
+use Rattle.cmm_lexer.specs.declared.keyword.Keyword.TheVariants.{Align, Aligned}
+use Rattle.cmm_lexer.specs.declared.symbol.Symbol.{Symbol}
+use Rattle.cmm_lexer.specs.declared.symbol.Symbol.TheVariants.{Open, Close, OpenSquare, CloseSquare, Colons, Comma}
 use Rattle.cmm_ast.specs.declared.expression.TypeName.{TypeName}
 use Rattle.cmm_ast.specs.declared.expression.TypeForm.{TypeForm}
 use Rattle.cmm_ast.specs.declared.expression.TypeForm.TheVariants.{Bits, Named as OfName}
@@ -24,8 +24,8 @@ use Rattle.cmm_ast.specs.declared.expression.ExprForm.{ExprForm, Row_of-Expr, en
 use Rattle.cmm_ast.specs.declared.expression.ExprForm.TheVariants.{Infix, Prefix, Prim, Memory as InMemory, Named, Infix', Prefix', Named'}
 use Rattle.cmm_ast.specs.declared.expression.PrimForm.TheVariants.{Literal, Name as NameOf, Bracketed, Bracketed'}
 use Rattle.cmm_ast.specs.declared.expression.Memory.{Memory', roll-Memory}
-use Rattle.cmm_ast.specs.Numbers.{keyword_number, symbol_number}
-use Rattle.cmm_ast.specs.Taking.{Reading, Takes, ◌⨾◌, token, nothing, is_keyword, is_symbol, is_name, is_operator, is_int, is_char, keyword as keyword_is, symbol as symbol_is, here as here_is, operator as operator_is, optional as optional_is, square as square_is, in_brackets as in_brackets_is, may_comma}
+use Rattle.cmm_lexer.specs.Spellings.{keyword_number, symbol_number}
+use Rattle.cmm_ast.specs.Taking.{Reading, Takes, ◌⨾◌, token, nothing, is_word, is_sign, is_name, is_operator, is_int, is_char, keyword as keyword_is, symbol as symbol_is, here as here_is, operator as operator_is, optional as optional_is, square as square_is, in_brackets as in_brackets_is, may_comma}
 use Rattle.cmm_ast.specs.ExpressionGrammar as grammar
 use Rattle.cmm_ast.specs.ExpressionGrammar.{width_word, prefix_symbol, infix_symbol, infix_level, left_level, right_level, unary_level, level_of, binds, expr_form, prim_form, aligned_by, number_of}
 use Rattle.cmm_readers.specs.Reading.{Point, TooDeep, Answer, Read, Stopped, Reads, and_then, ◌>>=◌, give, next, look, passes, skip_operator, stop, in_brackets, pick, listed}
@@ -111,7 +111,7 @@ type_token (OfName bytes) = l.Name bytes
 type_form_complete : {fuel : ℕ} (form : TypeForm) → Complete fuel (grammar.type_form form) form (look type_by) (Next (type_token form)) Anything
 type_form_complete (Bits width) =
     at_complete type_by (l.Word (keyword_number (width_word width)))
-    (rw (ap sized (width_in_is width)) (last_complete (λ _. Bits width) (skip_complete (is_keyword (keyword_number (width_word width))) (only_keyword _))))
+    (rw (ap sized (width_in_is width)) (last_complete (λ _. Bits width) (skip_complete (is_word (width_word width)) (only_keyword (width_word width)))))
 type_form_complete (OfName bytes) =
     at_complete type_by (l.Name bytes) (last_complete (λ _. OfName bytes) (skip_complete (is_name bytes) (only_name bytes)))
 
@@ -134,12 +134,12 @@ typed_complete : {fuel : ℕ} (width : Option TypeName) →
     Complete fuel (optional_is (λ t. symbol_is Colons ⨾ grammar.type_name t) width) width typed Anything NoMore
 typed_complete (Some t) =
     follow_complete (λ x f. tt) (λ x f. tt)
-    (holds_complete (is_symbol (symbol_number Colons)) (λ x e. rw e refl)
-    (after_complete (skip_complete (is_symbol (symbol_number Colons)) (only_symbol _)) (λ x f. tt)
+    (holds_complete (is_sign Colons) (λ x e. rw e refl)
+    (after_complete (skip_complete (is_sign Colons) (only_symbol Colons)) (λ x f. tt)
     (λ _. last_complete (λ t. Some t) (type_name_complete t))))
 typed_complete None =
-    follow_complete (λ x f. tt) (λ x f. f) (fails_complete (is_symbol (symbol_number Colons)) no_colons (give_complete None)) where
-      no_colons : (x : Option Lexeme) → NoMore x → passes (is_symbol (symbol_number Colons)) x ≡ false
+    follow_complete (λ x f. tt) (λ x f. f) (fails_complete (is_sign Colons) no_colons (give_complete None)) where
+      no_colons : (x : Option Lexeme) → NoMore x → passes (is_sign Colons) x ≡ false
       no_colons (Some (l.Symbol n)) e = left_false (symbol_number Colons == n) (symbol_number OpenSquare == n) e
       no_colons (Some _) e = refl
       no_colons None e = refl
@@ -164,9 +164,9 @@ pub in_brackets_complete : {A : Type 0} {fuel : ℕ} {p : Takes} {a : A} {reads 
     Complete (suc fuel) (in_brackets_is opened_by p closed_by) a (in_brackets opened_by reads closed_by) (Next (l.Symbol (symbol_number opened_by))) Anything
 in_brackets_complete opened_by closed_by ends inner =
     enclosed_complete
-    (fewer_complete (opening_strict (only_symbol _))
-    (holds_complete {fails = stop} (is_symbol (symbol_number opened_by)) (λ x e. rw e (same_number (symbol_number opened_by)))
-    (opening_complete (is_symbol (symbol_number opened_by)) (only_symbol _)))
+    (fewer_complete (opening_strict (only_symbol opened_by))
+    (holds_complete {fails = stop} (is_sign opened_by) (λ x e. rw e (same_number (symbol_number opened_by)))
+    (opening_complete (is_sign opened_by) (only_symbol opened_by)))
     (λ x f. tt) (λ _. after_complete inner ends (λ a. last_complete (λ _. a) (symbol_complete closed_by))))
 
 -- ---- what is aligned
@@ -209,16 +209,16 @@ aligned_complete : {fuel : ℕ} (bytes : Option Int) →
 aligned_complete (Some i) =
     either_complete (λ r after e. by_aligned (keyword_is Aligned r) i (keyword_is Align ⨾ grammar.int i) r after e)
     (follow_complete (λ x e. inl e) (λ x e. tt)
-    (holds_complete (is_keyword (keyword_number Aligned)) (λ x e. rw e refl)
-    (after_complete (skip_complete (is_keyword (keyword_number Aligned)) (only_keyword _)) (λ x f. tt) (λ _. last_complete (λ i. Some i) (int_complete i)))))
+    (holds_complete (is_word Aligned) (λ x e. rw e refl)
+    (after_complete (skip_complete (is_word Aligned) (only_keyword Aligned)) (λ x f. tt) (λ _. last_complete (λ i. Some i) (int_complete i)))))
     (follow_complete (λ x e. inr (inl e)) (λ x e. tt)
-    (fails_complete (is_keyword (keyword_number Aligned)) (λ x e. rw e refl)
-    (holds_complete {fails = give None} (is_keyword (keyword_number Align)) (λ x e. rw e refl)
-    (after_complete (skip_complete (is_keyword (keyword_number Align)) (only_keyword _)) (λ x f. tt) (λ _. last_complete (λ i. Some i) (int_complete i))))))
+    (fails_complete (is_word Aligned) (λ x e. rw e refl)
+    (holds_complete {fails = give None} (is_word Align) (λ x e. rw e refl)
+    (after_complete (skip_complete (is_word Align) (only_keyword Align)) (λ x f. tt) (λ _. last_complete (λ i. Some i) (int_complete i))))))
 aligned_complete None =
     follow_complete (λ x e. inr (inr e)) (λ x e. e)
-    (fails_complete (is_keyword (keyword_number Aligned)) (λ x e. rw e refl)
-    (fails_complete (is_keyword (keyword_number Align)) (λ x e. rw e refl) (give_complete None)))
+    (fails_complete (is_word Aligned) (λ x e. rw e refl)
+    (fails_complete (is_word Align) (λ x e. rw e refl) (give_complete None)))
 
 ends_address : (x : Option Lexeme) → AfterAddress x → Ends 0 x
 ends_address x (inl e) = rw e (record { no_more = refl; no_infix = λ op is. absurd cc })
@@ -369,10 +369,10 @@ joined_taken left op right r after e =
 
 the_operator : {fuel : ℕ} (op : InfixOperator) →
     Complete fuel (operator_is (symbol_is (infix_symbol op))) tt skip_operator (Next (l.Symbol (symbol_number (infix_symbol op)))) Anything
-the_operator op = operator_complete (is_symbol (symbol_number (infix_symbol op))) (only_symbol (symbol_number (infix_symbol op)))
+the_operator op = operator_complete (is_sign (infix_symbol op)) (only_symbol (infix_symbol op))
 
 operator_fewer : (op : InfixOperator) → Strict (operator_is (symbol_is (infix_symbol op)))
-operator_fewer op = operator_strict (only_symbol (symbol_number (infix_symbol op)))
+operator_fewer op = operator_strict (only_symbol (infix_symbol op))
 
 module _ (left : Expr) (op : InfixOperator) (right : Expr) (left_spine : (n : ℕ) → Spine n left.form) (right_spine : (n : ℕ) → Spine n right.form)
     (fuel : ℕ) where
@@ -490,7 +490,7 @@ module _ (fuel : ℕ) where
   abbrev Unary : ExprForm → Type 0
   Unary form = Complete (suc fuel) (expr_form form) form (look (unary_by fuel (operand fuel))) Begins NoMore
 
-  no_square : (x : Option Lexeme) → NoMore x → passes (is_symbol (symbol_number OpenSquare)) x ≡ false
+  no_square : (x : Option Lexeme) → NoMore x → passes (is_sign OpenSquare) x ≡ false
   no_square (Some (l.Symbol n)) e = right_false (symbol_number Colons == n) (symbol_number OpenSquare == n) e
   no_square (Some _) e = refl
   no_square None e = refl
@@ -507,7 +507,7 @@ module _ (fuel : ℕ) where
       Complete (suc fuel) ((here_is token_ ⨾ token (is_name bytes)) ⨾ nothing) (Prim (NameOf bytes)) (name_or_memory (operand fuel)) (Next (l.Name bytes)) NoMore
   named_by bytes token_ =
       after_complete {b = λ i. Prim (NameOf i.name)} (ident_complete (record { name = bytes; token = token_ })) (λ x f. tt)
-      (λ i. fails_complete (is_symbol (symbol_number OpenSquare)) no_square (give_complete (Prim (NameOf i.name))))
+      (λ i. fails_complete (is_sign OpenSquare) no_square (give_complete (Prim (NameOf i.name))))
 
   name_unary : (bytes : List ℕ) → Unary (Prim (NameOf bytes))
   name_unary bytes =
@@ -535,8 +535,8 @@ module _ (fuel : ℕ) where
         Complete (suc fuel) (expr_form (Prefix op e)) (Prefix op e) (prefixed (operand fuel) (Some op)) (Next (l.Symbol (symbol_number (prefix_symbol op)))) NoMore
     unfolding opened
     prefix_complete op =
-        fewer_complete (operator_strict (only_symbol (symbol_number (prefix_symbol op))))
-        (operator_complete (is_symbol (symbol_number (prefix_symbol op))) (only_symbol (symbol_number (prefix_symbol op)))) (λ x f. tt)
+        fewer_complete (operator_strict (only_symbol (prefix_symbol op)))
+        (operator_complete (is_sign (prefix_symbol op)) (only_symbol (prefix_symbol op))) (λ x f. tt)
         (λ _. last_complete (λ e. Prefix op e) (follow_complete (λ x f. f) any_ends (operand_complete fuel unary_level e spine)))
 
     prefix_unary : (op : PrefixOperator) → Unary (Prefix op e)
@@ -571,7 +571,7 @@ module _ (fuel : ℕ) where
         (at_complete (unary_by fuel (operand fuel)) (l.Name name_)
         (after_complete {b = λ i. InMemory (roll-Memory (record { width = named_type i; address = e; aligned = bytes }))}
         (ident_complete (record { name = name_; token = token_ })) (λ x f. tt)
-        (λ i. holds_complete {fails = give (Prim (NameOf i.name))} (is_symbol (symbol_number OpenSquare)) (λ x is. rw is refl)
+        (λ i. holds_complete {fails = give (Prim (NameOf i.name))} (is_sign OpenSquare) (λ x is. rw is refl)
         (last_complete (λ m. InMemory m) (memory_complete (named_type i) bytes)))))
 
 -- ---- the operands of an operator that is written by its name

@@ -7,9 +7,9 @@ use Rattle.cmm_lexer.specs.declared.piece.Lexeme.{Lexeme}
 use Rattle.cmm_ast.specs.declared.token.Ident.{Ident}
 use Rattle.cmm_ast.specs.declared.token.Int.{Int}
 use Rattle.cmm_ast.specs.declared.token.Text.{Text}
-use Rattle.cmm_ast.specs.declared.keyword.Keyword.TheVariants as word
-use Rattle.cmm_ast.specs.declared.keyword.Keyword.{Keyword}
-use Rattle.cmm_ast.specs.declared.keyword.Symbol.TheVariants as sign
+use Rattle.cmm_lexer.specs.declared.keyword.Keyword.TheVariants as word
+use Rattle.cmm_lexer.specs.declared.keyword.Keyword.{Keyword}
+use Rattle.cmm_lexer.specs.declared.symbol.Symbol.TheVariants as sign
 use Rattle.cmm_ast.specs.declared.expression.Expr.{Expr}
 use Rattle.cmm_ast.specs.declared.expression.ExprForm.{more_of-Expr, end_of-Expr}
 use Rattle.cmm_ast.specs.declared.expression.Memory.{Memory', Memory}
@@ -30,8 +30,8 @@ use Rattle.cmm_ast.specs.declared.statement.Lvalue.TheVariants as lvalues
 use Rattle.cmm_ast.specs.declared.statement.Lvalue.{Lvalue}
 use Rattle.cmm_ast.specs.declared.statement.StmtForm.TheVariants as stmts
 use Rattle.cmm_ast.specs.declared.statement.StmtForm.{StmtForm}
-use Rattle.cmm_ast.specs.Numbers.{keyword_number, symbol_number}
-use Rattle.cmm_ast.specs.Taking.{Reading, Takes, here as here_is, is_keyword, is_symbol, keyword as keyword_is, listed as listed_is, nothing, symbol as symbol_is, token, ◌⨾◌, commas as commas_is, is_name, optional as optional_is, square as square_is}
+use Rattle.cmm_lexer.specs.Spellings.{keyword_number, symbol_number}
+use Rattle.cmm_ast.specs.Taking.{Reading, Takes, here as here_is, is_word, is_sign, keyword as keyword_is, listed as listed_is, nothing, symbol as symbol_is, token, ◌⨾◌, commas as commas_is, is_name, optional as optional_is, square as square_is}
 use Rattle.cmm_ast.specs.ExpressionGrammar as grammar
 use Rattle.cmm_ast.specs.ExpressionGrammar.{width_word, aligned_by}
 use Rattle.cmm_ast.specs.StatementGrammar as bodies
@@ -58,22 +58,22 @@ use Rattle.cmm_readers.proofs.CompleteWords.{return_stmt, goto_stmt, jump_stmt, 
 -- what a part that holds no block begins with
 pub record FlatStart (x : Option Lexeme) : Type 0 where
   pub within : Passes is_within x
-  pub no_else : Not (is_keyword (keyword_number word.Else)) x
-  pub no_if : Not (is_keyword (keyword_number word.If)) x
-  pub no_switch : Not (is_keyword (keyword_number word.Switch)) x
-  pub no_span : Not (is_keyword (keyword_number word.Span)) x
+  pub no_else : Not (is_word word.Else) x
+  pub no_if : Not (is_word word.If) x
+  pub no_switch : Not (is_word word.Switch) x
+  pub no_span : Not (is_word word.Span) x
 
 -- a token is none of these words
 abbrev is_none : List Keyword → Lexeme → Bool
 is_none [] x = true
-is_none (k ∷ ks) x = elim (is_keyword (keyword_number k) x) [ true ↦ false | false ↦ is_none ks x ]
+is_none (k ∷ ks) x = elim (is_word k x) [ true ↦ false | false ↦ is_none ks x ]
 
 none_first : (test rest : Bool) → elim test as (λ _. Bool) [ true ↦ false | false ↦ rest ] ≡ true → (test ≡ false) × (rest ≡ true)
 none_first true rest e = absurd cc
 none_first false rest e = (refl, e)
 
-is_none_first : (k : Keyword) (ks : List Keyword) (x : Lexeme) → is_none (k ∷ ks) x ≡ true → (is_keyword (keyword_number k) x ≡ false) × (is_none ks x ≡ true)
-is_none_first k ks x e = none_first (is_keyword (keyword_number k) x) (is_none ks x) e
+is_none_first : (k : Keyword) (ks : List Keyword) (x : Lexeme) → is_none (k ∷ ks) x ≡ true → (is_word k x ≡ false) × (is_none ks x ≡ true)
+is_none_first k ks x e = none_first (is_word k x) (is_none ks x) e
 
 -- these go on with a statement that holds blocks, or begin one
 abbrev of_blocks : List Keyword
@@ -119,7 +119,7 @@ after_name fuel name = if_next is_any_name (of_local (variables fuel before.Noth
 -- what follows a text
 abbrev after_kind : ℕ → Text → Reads PartForm
 after_kind fuel kind =
-    if_next (is_keyword (keyword_number word.Invariant)) (skip >>= λ _. type_name >>= λ width. of_local (variables fuel (before.KindInvariant kind) width))
+    if_next (is_word word.Invariant) (skip >>= λ _. type_name >>= λ width. of_local (variables fuel (before.KindInvariant kind) width))
     (kind_part fuel kind)
 
 -- a part that begins with a name, a width, or a kind, by what follows that
@@ -142,12 +142,12 @@ module _ {fuel : ℕ} {p : Takes} {form : PartForm} {first : Option Lexeme → T
   by_kind_name : (kind : Text) (name : Ident) → Complete fuel p form (kinded_part fuel kind name) first Anything →
       Complete fuel (grammar.ident name ⨾ p) form (after_kind fuel kind) (Next (l.Name name.name)) Anything
   by_kind_name kind name one =
-      fails_complete (is_keyword (keyword_number word.Invariant)) (λ x is. rw is refl)
+      fails_complete (is_word word.Invariant) (λ x is. rw is refl)
       (fails_complete is_width (λ x is. rw is refl) (then_complete (kinded_part fuel kind) (ident_complete name) (λ x f. tt) one))
 
 -- ---- variables and stackdata
 
-name_no_square : (x : Option Lexeme) → Passes is_any_name x → Not (is_symbol (symbol_number sign.OpenSquare)) x
+name_no_square : (x : Option Lexeme) → Passes is_any_name x → Not (is_sign sign.OpenSquare) x
 name_no_square = other_symbol is_any_name sign.OpenSquare refl
 
 -- variables after their type
@@ -170,7 +170,7 @@ module _ (fuel : ℕ) (named : List Ident) where
 
   plain_variables : (token_ : ℕ) (form : TypeForm) → Variables before.Nothing (record { token = token_; form = form })
   plain_variables token_ (Bits width) =
-      by_width token_ width (fails_complete (is_symbol (symbol_number sign.OpenSquare)) name_no_square (after_type before.Nothing (record { token = token_; form = Bits width })))
+      by_width token_ width (fails_complete (is_sign sign.OpenSquare) name_no_square (after_type before.Nothing (record { token = token_; form = Bits width })))
   plain_variables token_ (OfName bytes) =
       by_name (record { name = bytes; token = token_ })
       (holds_complete is_any_name (λ x e. e) (after_type before.Nothing (record { token = token_; form = OfName bytes })))
@@ -178,7 +178,7 @@ module _ (fuel : ℕ) (named : List Ident) where
   kind_variables : (kind : Text) (token_ : ℕ) (form : TypeForm) → Variables (before.Kind kind) (record { token = token_; form = form })
   kind_variables kind token_ (Bits width) =
       by_kind kind
-      (fails_complete (is_keyword (keyword_number word.Invariant)) (type_no_invariant (Bits width))
+      (fails_complete (is_word word.Invariant) (type_no_invariant (Bits width))
       (holds_complete is_width (λ x is. rw is (bits_begin width)) (typed (before.Kind kind) (record { token = token_; form = Bits width }))))
   kind_variables kind token_ (OfName bytes) =
       by_kind kind
@@ -190,9 +190,9 @@ module _ (fuel : ℕ) (named : List Ident) where
       subst (λ t. Complete fuel t (OfLocal (locals.Variables (before.KindInvariant kind) width named)) (flat_part fuel) FlatStart Anything)
       (sym (takes_assoc (grammar.text kind) (keyword_is word.Invariant) (grammar.type_name width ⨾ Named named)))
       (by_kind kind
-      (holds_complete (is_keyword (keyword_number word.Invariant)) (λ x is. rw is refl)
+      (holds_complete (is_word word.Invariant) (λ x is. rw is refl)
       (then_complete (λ _. type_name >>= λ width. of_local (variables fuel (before.KindInvariant kind) width))
-      (skip_complete (is_keyword (keyword_number word.Invariant)) (only_keyword _)) (λ x f. tt) (typed (before.KindInvariant kind) width))))
+      (skip_complete (is_word word.Invariant) (only_keyword word.Invariant)) (λ x f. tt) (typed (before.KindInvariant kind) width))))
 
   -- the word first
   invariant_variables : (m : Modifiers) (width : TypeName) →
@@ -201,7 +201,7 @@ module _ (fuel : ℕ) (named : List Ident) where
   invariant_variables m width first =
       at_token (l.Word (keyword_number word.Invariant)) refl refl
       (fails_complete is_width (λ x is. rw is refl)
-      (holds_complete (is_keyword (keyword_number word.Invariant)) (λ x is. rw is refl)
+      (holds_complete (is_word word.Invariant) (λ x is. rw is refl)
       (first_complete first
       (then_complete (λ m. type_name >>= λ width. of_local (variables fuel m width)) (modifiers_complete width.form m) (λ x e. e) (typed m width)))))
 
@@ -211,7 +211,7 @@ invariant_next : (n : ℕ) (p q : Takes) (r after : Reading) → ((here_is n ⨾
 invariant_next n p q r after e =
     let s = both (here_is n ⨾ keyword_is word.Invariant ⨾ p) q r after e in
     let t = both (keyword_is word.Invariant) p r s.between (number_taken n (keyword_is word.Invariant ⨾ p) r s.between s.first).1 in
-    (token_taken (is_keyword (keyword_number word.Invariant)) (l.Word (keyword_number word.Invariant)) r t.between (only_keyword _) t.first).next_was
+    (token_taken (is_word word.Invariant) (l.Word (keyword_number word.Invariant)) r t.between (only_keyword word.Invariant) t.first).next_was
 
 pub local_complete : {fuel : ℕ} (form : LocalForm) → Complete fuel (bodies.local_form form) (OfLocal form) (flat_part fuel) FlatStart Anything
 local_complete {fuel} (locals.Variables before.Nothing width named) = plain_variables fuel named width.token width.form
@@ -226,9 +226,9 @@ local_complete {fuel} (locals.Variables (before.InvariantKind n kind) width name
 local_complete {fuel} (locals.Stackdata rooms) =
     at_token (l.Word (keyword_number word.Stackdata)) refl refl
     (fails_complete is_width (λ x is. rw is refl)
-    (fails_complete (is_keyword (keyword_number word.Invariant)) (λ x is. rw is refl)
-    (holds_complete (is_keyword (keyword_number word.Stackdata)) (λ x is. rw is refl)
-    (then_complete (λ _. of_local (stackdata fuel)) (skip_complete (is_keyword (keyword_number word.Stackdata)) (only_keyword _)) (λ x f. tt)
+    (fails_complete (is_word word.Invariant) (λ x is. rw is refl)
+    (holds_complete (is_word word.Stackdata) (λ x is. rw is refl)
+    (then_complete (λ _. of_local (stackdata fuel)) (skip_complete (is_word word.Stackdata) (only_keyword word.Stackdata)) (λ x f. tt)
     (last_complete OfLocal (stackdata_complete rooms))))))
 
 -- ---- statements that begin with a name or a word in memory
@@ -243,7 +243,7 @@ stmt_after_type : {fuel : ℕ} {p : Takes} {form : StmtForm} {first : Option Lex
     Complete fuel (grammar.type_name (record { token = token_; form = width }) ⨾ Located e bytes ⨾ p) (OfStmt form) (flat_part fuel) FlatStart Anything
 stmt_after_type token_ (Bits width) e bytes one =
     by_width token_ width
-    (holds_complete (is_symbol (symbol_number sign.OpenSquare)) (λ x is. rw is refl)
+    (holds_complete (is_sign sign.OpenSquare) (λ x is. rw is refl)
     (last_complete OfStmt (located_stmt (record { token = token_; form = Bits width }) e bytes one)))
 stmt_after_type token_ (OfName name) e bytes one =
     stmt_after_name (record { name = name; token = token_ }) (λ x is. rw is refl) (name_located (record { name = name; token = token_ }) e bytes one)
@@ -364,8 +364,8 @@ at_word k none no_width e one =
     let after_stackdata = is_none_first word.Stackdata [] x after_invariant.1 in
     at_token x refl none
     (fails_complete is_width (λ y is. rw is no_width)
-    (fails_complete (is_keyword (keyword_number word.Invariant)) (λ y is. rw is after_invariant.0)
-    (fails_complete (is_keyword (keyword_number word.Stackdata)) (λ y is. rw is after_stackdata.0) (last_complete OfStmt one))))
+    (fails_complete (is_word word.Invariant) (λ y is. rw is after_invariant.0)
+    (fails_complete (is_word word.Stackdata) (λ y is. rw is after_stackdata.0) (last_complete OfStmt one))))
 
 -- a tree that holds no block
 abbrev pub HoldsNoBlock : StmtForm → Type 0

@@ -3,14 +3,14 @@ use Rattle.std.proofs.Common.{◌≡◌, ℕ, suc, ◌⊎◌, inl, inr, Bool, tr
 use Rattle.cmm_lexer.specs.declared.piece.Lexeme.{Lexeme}
 use Rattle.cmm_lexer.specs.declared.piece.Lexeme.TheVariants as l
 use Rattle.cmm_ast.specs.declared.token.Ident.{Ident}
-use Rattle.cmm_ast.specs.declared.keyword.Keyword.{Keyword}
-use Rattle.cmm_ast.specs.declared.keyword.Keyword.TheVariants.{Aborts, Also, Cuts, Never, Returns, To, Unwinds}
-use Rattle.cmm_ast.specs.declared.keyword.Symbol.TheVariants.{Comma}
+use Rattle.cmm_lexer.specs.declared.keyword.Keyword.{Keyword}
+use Rattle.cmm_lexer.specs.declared.keyword.Keyword.TheVariants.{Aborts, Also, Cuts, Never, Returns, To, Unwinds}
+use Rattle.cmm_lexer.specs.declared.symbol.Symbol.TheVariants.{Comma}
 use Rattle.cmm_ast.specs.declared.statement.Flow.{Flow}
 use Rattle.cmm_ast.specs.declared.statement.FlowForm.{FlowForm}
 use Rattle.cmm_ast.specs.declared.statement.FlowForm.TheVariants as flows
-use Rattle.cmm_ast.specs.Numbers.{keyword_number, symbol_number}
-use Rattle.cmm_ast.specs.Taking.{Reading, Takes, ◌⨾◌, is_keyword, here as here_is, keyword as keyword_is, listed as listed_is, may_comma as may_comma_is}
+use Rattle.cmm_lexer.specs.Spellings.{keyword_number, symbol_number}
+use Rattle.cmm_ast.specs.Taking.{Reading, Takes, ◌⨾◌, is_word, here as here_is, keyword as keyword_is, listed as listed_is, may_comma as may_comma_is}
 use Rattle.cmm_ast.specs.ExpressionGrammar as grammar
 use Rattle.cmm_ast.specs.StatementGrammar as statements
 use Rattle.cmm_readers.specs.Reading.{Reads, ◌>>=◌, give, next, past, choice, passes, skip, is_comma, keyword, ident}
@@ -77,7 +77,7 @@ law_of : (fuel : ℕ) (form : FlowForm) (word : Keyword) (rest : Takes) → flow
     ((r after : Reading) → rest r ≡ Some after → Moves r after) → Complete fuel (keyword_is word ⨾ rest) form (flow_form fuel) (Passes begins_flow) FlowEnd →
     FlowLaw fuel form
 law_of fuel form word rest same moves complete = record {
-  strict = subst (λ t. Strict t) (sym same) (strict_then (token_strict (only_keyword (keyword_number word))) moves);
+  strict = subst (λ t. Strict t) (sym same) (strict_then (token_strict (only_keyword word)) moves);
   complete = subst (λ t. Complete fuel t form (flow_form fuel) (Passes begins_flow) FlowEnd) (sym same) complete;
 }
 
@@ -86,36 +86,36 @@ also_law : (fuel : ℕ) (form : FlowForm) (rest : Takes) {first : Option Lexeme 
 also_law fuel form rest same complete =
     law_of fuel form Also rest same complete.moves
     (follow_complete (λ x e. rw e refl) (λ x f. f)
-    (fails_complete (is_keyword (keyword_number Never)) (λ x e. rw e refl)
+    (fails_complete (is_word Never) (λ x e. rw e refl)
     (after_complete {b = λ _. form} (keyword_complete Also) (λ x f. tt) (λ _. complete))))
 
 word_then : (fuel : ℕ) (form : FlowForm) (verb : Keyword) (rest : Takes) (reads : Reads FlowForm) {first : Option Lexeme → Type 0} →
     Complete fuel rest form reads first FlowEnd →
     Complete fuel (keyword_is verb ⨾ rest) form (skip >>= λ _. reads) (Next (l.Word (keyword_number verb))) FlowEnd
 word_then fuel form verb rest reads complete =
-    after_complete {b = λ _. form} (skip_complete (is_keyword (keyword_number verb)) (only_keyword (keyword_number verb))) (λ x f. tt) (λ _. complete)
+    after_complete {b = λ _. form} (skip_complete (is_word verb) (only_keyword verb)) (λ x f. tt) (λ _. complete)
 
 pub flow_law : (fuel : ℕ) (form : FlowForm) → FlowLaw fuel form
 flow_law fuel flows.Aborts =
     also_law fuel flows.Aborts (keyword_is Aborts ⨾ may_comma_is) (takes_assoc (keyword_is Also) (keyword_is Aborts) may_comma_is)
-    (holds_complete (is_keyword (keyword_number Aborts)) (λ x e. rw e refl)
+    (holds_complete (is_word Aborts) (λ x e. rw e refl)
     (word_then fuel flows.Aborts Aborts may_comma_is _ (last_complete (λ _. flows.Aborts) may_comma_complete)))
 flow_law fuel (flows.CutsTo ns) =
     also_law fuel (flows.CutsTo ns) _ (named_same Cuts ns)
-    (fails_complete (is_keyword (keyword_number Aborts)) (λ x e. rw e refl)
-    (holds_complete (is_keyword (keyword_number Cuts)) (λ x e. rw e refl)
+    (fails_complete (is_word Aborts) (λ x e. rw e refl)
+    (holds_complete (is_word Cuts) (λ x e. rw e refl)
     (word_then fuel (flows.CutsTo ns) Cuts _ _ (names_to_complete fuel (λ n. flows.CutsTo n) ns))))
 flow_law fuel (flows.UnwindsTo ns) =
     also_law fuel (flows.UnwindsTo ns) _ (named_same Unwinds ns)
-    (fails_complete (is_keyword (keyword_number Aborts)) (λ x e. rw e refl)
-    (fails_complete (is_keyword (keyword_number Cuts)) (λ x e. rw e refl)
-    (holds_complete (is_keyword (keyword_number Unwinds)) (λ x e. rw e refl)
+    (fails_complete (is_word Aborts) (λ x e. rw e refl)
+    (fails_complete (is_word Cuts) (λ x e. rw e refl)
+    (holds_complete (is_word Unwinds) (λ x e. rw e refl)
     (word_then fuel (flows.UnwindsTo ns) Unwinds _ _ (names_to_complete fuel (λ n. flows.UnwindsTo n) ns)))))
 flow_law fuel (flows.ReturnsTo ns) =
     also_law fuel (flows.ReturnsTo ns) _ (named_same Returns ns)
-    (fails_complete (is_keyword (keyword_number Aborts)) (λ x e. rw e refl)
-    (fails_complete (is_keyword (keyword_number Cuts)) (λ x e. rw e refl)
-    (fails_complete (is_keyword (keyword_number Unwinds)) (λ x e. rw e refl)
+    (fails_complete (is_word Aborts) (λ x e. rw e refl)
+    (fails_complete (is_word Cuts) (λ x e. rw e refl)
+    (fails_complete (is_word Unwinds) (λ x e. rw e refl)
     (after_complete {b = λ _. flows.ReturnsTo ns} (keyword_complete Returns) (λ x f. tt) (λ _. names_to_complete fuel (λ n. flows.ReturnsTo n) ns)))))
 flow_law fuel flows.NeverReturns =
     let rest : Complete fuel (keyword_is Returns ⨾ may_comma_is) flows.NeverReturns (keyword Returns >>= λ _. may_comma >>= λ _. give flows.NeverReturns)
@@ -124,7 +124,7 @@ flow_law fuel flows.NeverReturns =
     in
     law_of fuel flows.NeverReturns Never (keyword_is Returns ⨾ may_comma_is) (takes_assoc (keyword_is Never) (keyword_is Returns) may_comma_is) rest.moves
     (follow_complete (λ x e. rw e refl) (λ x f. f)
-    (holds_complete (is_keyword (keyword_number Never)) (λ x e. rw e refl)
+    (holds_complete (is_word Never) (λ x e. rw e refl)
     (word_then fuel flows.NeverReturns Never (keyword_is Returns ⨾ may_comma_is) _ rest)))
 
 flow_spends : (fuel : ℕ) (f : Flow) → Spends fuel (here_is f.token ⨾ flow_is f.form) f (flow fuel) (Passes begins_flow) FlowEnd

@@ -5,7 +5,7 @@ use Rattle.cmm_lexer.specs.declared.piece.Lexeme.{Lexeme}
 use Rattle.cmm_ast.specs.declared.token.Ident.{Ident}
 use Rattle.cmm_ast.specs.declared.token.Int.{Int}
 use Rattle.cmm_ast.specs.declared.token.Text.{Text}
-use Rattle.cmm_ast.specs.declared.keyword.Symbol.TheVariants as sign
+use Rattle.cmm_lexer.specs.declared.symbol.Symbol.TheVariants as sign
 use Rattle.cmm_ast.specs.declared.expression.Expr.{Expr}
 use Rattle.cmm_ast.specs.declared.expression.Memory.{Memory, roll-Memory}
 use Rattle.cmm_ast.specs.declared.expression.TypeName.{TypeName}
@@ -18,8 +18,8 @@ use Rattle.cmm_ast.specs.declared.statement.Lvalue.TheVariants as lvalues
 use Rattle.cmm_ast.specs.declared.statement.Lvalue.{Lvalue}
 use Rattle.cmm_ast.specs.declared.statement.StmtForm.TheVariants as stmts
 use Rattle.cmm_ast.specs.declared.statement.StmtForm.{StmtForm}
-use Rattle.cmm_ast.specs.Numbers.{symbol_number}
-use Rattle.cmm_ast.specs.Taking.{Takes, is_symbol, optional as optional_is, outermost as outermost_is, square as square_is, symbol as symbol_is, ◌⨾◌}
+use Rattle.cmm_lexer.specs.Spellings.{symbol_number}
+use Rattle.cmm_ast.specs.Taking.{Takes, is_sign, optional as optional_is, outermost as outermost_is, square as square_is, symbol as symbol_is, ◌⨾◌}
 use Rattle.cmm_ast.specs.ExpressionGrammar.{aligned_by}
 use Rattle.cmm_readers.specs.Reading.{◌>>=◌}
 use Rattle.cmm_readers.specs.ReadingLaws.{Complete}
@@ -39,11 +39,11 @@ abbrev pub AtOpen : Option Lexeme → Type 0
 AtOpen = Next (l.Symbol (symbol_number sign.Open))
 
 -- a target goes on with none of these
-target_no_open : (x : Option Lexeme) → AfterTarget x → Not (is_symbol (symbol_number sign.Open)) x
+target_no_open : (x : Option Lexeme) → AfterTarget x → Not (is_sign sign.Open) x
 target_no_open x (inl e) = rw e refl
 target_no_open x (inr e) = rw e refl
 
-target_no_colon : (x : Option Lexeme) → AfterTarget x → Not (is_symbol (symbol_number sign.Colon)) x
+target_no_colon : (x : Option Lexeme) → AfterTarget x → Not (is_sign sign.Colon) x
 target_no_colon x (inl e) = rw e refl
 target_no_colon x (inr e) = rw e refl
 
@@ -53,37 +53,37 @@ pub memory_call : (fuel : ℕ) (m : Memory) (actuals : List Actual) (fs : List F
     Complete fuel (CallRest actuals fs) (stmts.Call [] None (record { token = memory_token m; form = callees.Memory m }) actuals fs) (memory_stmt fuel m) AtOpen
     Anything
 memory_call fuel m actuals fs =
-    holds_complete (is_symbol (symbol_number sign.Open)) (λ x e. rw e refl)
+    holds_complete (is_sign sign.Open) (λ x e. rw e refl)
     (call_complete fuel [] None (record { token = memory_token m; form = callees.Memory m }) actuals fs)
 
 pub memory_values : (fuel : ℕ) (m : Memory) (to : List Lvalue) (vs : List Expr) →
     Complete fuel (ValuesRest to vs) (stmts.Assign (lvalues.Memory m ∷ to) vs) (memory_stmt fuel m) AfterTarget Anything
 memory_values fuel m to vs =
-    fails_complete (is_symbol (symbol_number sign.Open)) target_no_open (assignment_values fuel (Lvalues (lvalues.Memory m ∷ [])) tt to vs)
+    fails_complete (is_sign sign.Open) target_no_open (assignment_values fuel (Lvalues (lvalues.Memory m ∷ [])) tt to vs)
 
 -- ---- after a name
 
 pub name_label : (fuel : ℕ) (name : Ident) →
     Complete fuel (symbol_is sign.Colon) (stmts.Label name) (name_stmt fuel name) (Next (l.Symbol (symbol_number sign.Colon))) Anything
 name_label fuel name =
-    holds_complete (is_symbol (symbol_number sign.Colon)) (λ x e. rw e refl)
-    (last_complete (λ _. stmts.Label name) (skip_complete (is_symbol (symbol_number sign.Colon)) (only_symbol _)))
+    holds_complete (is_sign sign.Colon) (λ x e. rw e refl)
+    (last_complete (λ _. stmts.Label name) (skip_complete (is_sign sign.Colon) (only_symbol sign.Colon)))
 
 pub name_call : (fuel : ℕ) (name : Ident) (actuals : List Actual) (fs : List Flow) →
     Complete fuel (CallRest actuals fs) (stmts.Call [] None (record { token = name.token; form = callees.Name name }) actuals fs) (name_stmt fuel name) AtOpen
     Anything
 name_call fuel name actuals fs =
-    fails_complete (is_symbol (symbol_number sign.Colon)) (λ x e. rw e refl)
-    (fails_complete (is_symbol (symbol_number sign.OpenSquare)) (λ x e. rw e refl)
-    (holds_complete (is_symbol (symbol_number sign.Open)) (λ x e. rw e refl)
+    fails_complete (is_sign sign.Colon) (λ x e. rw e refl)
+    (fails_complete (is_sign sign.OpenSquare) (λ x e. rw e refl)
+    (holds_complete (is_sign sign.Open) (λ x e. rw e refl)
     (call_complete fuel [] None (record { token = name.token; form = callees.Name name }) actuals fs)))
 
 -- the name is a target
 name_target : {fuel : ℕ} {p : Takes} {form : StmtForm} (name : Ident) → Complete fuel p form (assignment fuel (Names (name ∷ []))) AfterTarget Anything →
     Complete fuel p form (name_stmt fuel name) AfterTarget Anything
 name_target name one =
-    fails_complete (is_symbol (symbol_number sign.Colon)) target_no_colon
-    (fails_complete (is_symbol (symbol_number sign.OpenSquare)) target_no_square (fails_complete (is_symbol (symbol_number sign.Open)) target_no_open one))
+    fails_complete (is_sign sign.Colon) target_no_colon
+    (fails_complete (is_sign sign.OpenSquare) target_no_square (fails_complete (is_sign sign.Open) target_no_open one))
 
 pub name_values : (fuel : ℕ) (name : Ident) (to : List Lvalue) (vs : List Expr) →
     Complete fuel (ValuesRest to vs) (stmts.Assign (lvalues.Name name ∷ to) vs) (name_stmt fuel name) AfterTarget Anything
@@ -118,5 +118,5 @@ pub name_located : {fuel : ℕ} {p : Takes} {form : StmtForm} {first : Option Le
     Complete fuel p form (memory_stmt fuel (word_at (named_type name) e bytes)) first Anything →
     Complete fuel (Located e bytes ⨾ p) form (name_stmt fuel name) (Next (l.Symbol (symbol_number sign.OpenSquare))) Anything
 name_located name e bytes one =
-    fails_complete (is_symbol (symbol_number sign.Colon)) (λ x is. rw is refl)
-    (holds_complete (is_symbol (symbol_number sign.OpenSquare)) (λ x is. rw is refl) (located_stmt (named_type name) e bytes one))
+    fails_complete (is_sign sign.Colon) (λ x is. rw is refl)
+    (holds_complete (is_sign sign.OpenSquare) (λ x is. rw is refl) (located_stmt (named_type name) e bytes one))

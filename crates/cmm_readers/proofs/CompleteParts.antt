@@ -2,8 +2,8 @@
 use Rattle.std.proofs.Common.{◌≡◌, ℕ, ◌⊎◌, inl, inr, Bool, true, false, ◌==◌, ◌||◌, List, Option, Some, None, refl, sym, ap, arith, subst, is_some}
 use Rattle.cmm_lexer.specs.declared.piece.Lexeme.{Lexeme}
 use Rattle.cmm_lexer.specs.declared.piece.Lexeme.TheVariants as l
-use Rattle.cmm_ast.specs.declared.keyword.Symbol.TheVariants.{Open, Close, OpenSquare, CloseSquare, Comma, Less, Greater, Slash}
-use Rattle.cmm_ast.specs.declared.keyword.Symbol.TheVariants as sign
+use Rattle.cmm_lexer.specs.declared.symbol.Symbol.TheVariants.{Open, Close, OpenSquare, CloseSquare, Comma, Less, Greater, Slash}
+use Rattle.cmm_lexer.specs.declared.symbol.Symbol.TheVariants as sign
 use Rattle.cmm_ast.specs.declared.expression.Expr.{Expr}
 use Rattle.cmm_ast.specs.declared.expression.TypeName.{TypeName}
 use Rattle.cmm_ast.specs.declared.expression.TypeForm.TheVariants.{Bits, Named as OfName}
@@ -21,8 +21,8 @@ use Rattle.cmm_ast.specs.declared.statement.Kinded.{Kinded}
 use Rattle.cmm_ast.specs.declared.statement.Lvalue.{Lvalue}
 use Rattle.cmm_ast.specs.declared.statement.Lvalue.TheVariants as lvalues
 use Rattle.cmm_ast.specs.declared.statement.Range.{Range}
-use Rattle.cmm_ast.specs.Numbers.{keyword_number, symbol_number}
-use Rattle.cmm_ast.specs.Taking.{◌⨾◌, is_name, is_symbol, square as square_is, outermost as outermost_is, optional as optional_is, symbol as symbol_is}
+use Rattle.cmm_lexer.specs.Spellings.{keyword_number, symbol_number}
+use Rattle.cmm_ast.specs.Taking.{◌⨾◌, is_name, is_sign, square as square_is, outermost as outermost_is, optional as optional_is, symbol as symbol_is}
 use Rattle.cmm_ast.specs.ExpressionGrammar as grammar
 use Rattle.cmm_ast.specs.ExpressionGrammar.{width_word, aligned_by}
 use Rattle.cmm_ast.specs.StatementGrammar as statements
@@ -97,7 +97,7 @@ begins_lvalue x = is_width x || is_any_name x
 
 -- a name goes on with this
 abbrev pub NoSquare : Option Lexeme → Type 0
-NoSquare = Not (is_symbol (symbol_number OpenSquare))
+NoSquare = Not (is_sign OpenSquare)
 
 whole_memory_complete : (fuel : ℕ) (width : TypeName) (e : Expr) (bytes : Option _) →
     Complete fuel (outermost_is (square_is (operand_is 0 e ⨾ optional_is aligned_by bytes))) (roll-Memory (record { width = width; address = e; aligned = bytes }))
@@ -120,7 +120,7 @@ word_complete fuel token_ (OfName name_) e bytes =
     (fails_complete is_width (λ x is. rw is refl)
     (after_complete {b = λ i. lvalues.Memory (roll-Memory (record { width = named_type i; address = e; aligned = bytes }))}
     (ident_complete (record { name = name_; token = token_ })) (λ x f. tt)
-    (λ i. holds_complete {fails = give (lvalues.Name i)} (is_symbol (symbol_number OpenSquare)) (λ x is. rw is refl)
+    (λ i. holds_complete {fails = give (lvalues.Name i)} (is_sign OpenSquare) (λ x is. rw is refl)
     (last_complete (λ m. lvalues.Memory m) (whole_memory_complete fuel (named_type i) e bytes)))))
 
 pub lvalue_complete : (fuel : ℕ) (v : Lvalue) → Complete fuel (statements.lvalue v) v (lvalue fuel) (Passes begins_lvalue) NoSquare
@@ -130,33 +130,33 @@ lvalue_complete fuel (lvalues.Name i) =
     (follow_complete (λ x is. rw is refl) (λ x f. f)
     (fails_complete is_width (λ x is. rw is refl)
     (after_complete {b = λ i. lvalues.Name i} (ident_complete i) (λ x f. tt)
-    (λ i. fails_complete (is_symbol (symbol_number OpenSquare)) (λ x f. f) (give_complete (lvalues.Name i))))))
+    (λ i. fails_complete (is_sign OpenSquare) (λ x f. f) (give_complete (lvalues.Name i))))))
 lvalue_complete fuel (lvalues.Memory (Memory' width a (more_of-Expr t f end_of-Expr) bytes)) =
     subst (λ p. Complete fuel p (lvalues.Memory (Memory' width a (more_of-Expr t f end_of-Expr) bytes)) (lvalue fuel) (Passes begins_lvalue) NoSquare)
     (sym (outer_type width (square_is (operand_is 0 (record { token = t; form = f }) ⨾ optional_is aligned_by bytes))))
     (word_complete fuel width.token width.form (record { token = t; form = f }) bytes)
 
 -- an expression in round brackets begins with this, and a name or a word in memory does not
-lvalue_no_bracket : (x : Option Lexeme) → Passes begins_lvalue x → Not (is_symbol (symbol_number Open)) x
+lvalue_no_bracket : (x : Option Lexeme) → Passes begins_lvalue x → Not (is_sign Open) x
 lvalue_no_bracket = other_symbol begins_lvalue Open refl
 
 abbrev pub begins_callee : Lexeme → Bool
-begins_callee x = is_symbol (symbol_number Open) x || begins_lvalue x
+begins_callee x = is_sign Open x || begins_lvalue x
 
 ends_bracket : (x : Option Lexeme) → x ≡ Some (l.Symbol (symbol_number Close)) → Ends 0 x
 ends_bracket x e = rw e (record { no_more = refl; no_infix = λ op is. absurd cc })
 
 of_lvalue : (fuel : ℕ) (v : Lvalue) → Complete fuel (statements.lvalue v) (called v) (callee_form fuel) (Passes begins_callee) NoSquare
 of_lvalue fuel v =
-    follow_complete (λ x f. either_passes (is_symbol (symbol_number Open)) begins_lvalue x (inr f)) (λ x f. f)
-    (fails_complete (is_symbol (symbol_number Open)) lvalue_no_bracket (last_complete (λ v. called v) (lvalue_complete fuel v)))
+    follow_complete (λ x f. either_passes (is_sign Open) begins_lvalue x (inr f)) (λ x f. f)
+    (fails_complete (is_sign Open) lvalue_no_bracket (last_complete (λ v. called v) (lvalue_complete fuel v)))
 
 callee_form_complete : (fuel : ℕ) (c : CalleeForm) → Complete fuel (statements.callee_form c) c (callee_form fuel) (Passes begins_callee) NoSquare
 callee_form_complete fuel (callees.Name name) = of_lvalue fuel (lvalues.Name name)
 callee_form_complete fuel (callees.Memory m) = of_lvalue fuel (lvalues.Memory m)
 callee_form_complete fuel (callees.Bracketed e) =
     follow_complete (λ x is. rw is refl) (λ x f. tt)
-    (holds_complete {fails = lvalue fuel >>= λ v. give (called v)} (is_symbol (symbol_number Open)) (λ x is. rw is refl)
+    (holds_complete {fails = lvalue fuel >>= λ v. give (called v)} (is_sign Open) (λ x is. rw is refl)
     (last_complete (λ e. callees.Bracketed e) (less_complete (omega arith) (in_brackets_complete Open Close ends_bracket (whole_complete fuel e)))))
 
 pub callee_complete : (fuel : ℕ) (c : Callee) → Complete fuel (statements.callee c) c (callee fuel) (Passes begins_callee) NoSquare
@@ -206,20 +206,20 @@ exit_complete fuel e =
 
 range_ends : (fuel : ℕ) (to : Option Expr) →
     Complete fuel (optional_is (λ e. symbol_is sign.Range ⨾ grammar.whole e) to) to (range_end fuel)
-    (λ x. (x ≡ Some (l.Symbol (symbol_number sign.Range))) ⊎ (Ends 0 x × Not (is_symbol (symbol_number sign.Range)) x))
-    (λ x. Ends 0 x × Not (is_symbol (symbol_number sign.Range)) x)
+    (λ x. (x ≡ Some (l.Symbol (symbol_number sign.Range))) ⊎ (Ends 0 x × Not (is_sign sign.Range) x))
+    (λ x. Ends 0 x × Not (is_sign sign.Range) x)
 range_ends fuel (Some e) =
     follow_complete (λ x f. inl f) (λ x f. f.0)
-    (holds_complete {fails = give None} (is_symbol (symbol_number sign.Range)) (λ x is. rw is refl)
-    (after_complete {b = λ _. Some e} (skip_complete (is_symbol (symbol_number sign.Range)) (only_symbol (symbol_number sign.Range))) (λ x f. tt)
+    (holds_complete {fails = give None} (is_sign sign.Range) (λ x is. rw is refl)
+    (after_complete {b = λ _. Some e} (skip_complete (is_sign sign.Range) (only_symbol sign.Range)) (λ x f. tt)
     (λ _. last_complete (λ e. Some e) (whole_complete fuel e))))
-range_ends fuel None = follow_complete (λ x f. inr f) (λ x f. f) (fails_complete (is_symbol (symbol_number sign.Range)) (λ x f. f.1) (give_complete None))
+range_ends fuel None = follow_complete (λ x f. inr f) (λ x f. f) (fails_complete (is_sign sign.Range) (λ x f. f.1) (give_complete None))
 
 pub range_complete : (fuel : ℕ) (r : Range) →
-    Complete fuel (statements.range r) r (range fuel) Begins (λ x. Ends 0 x × Not (is_symbol (symbol_number sign.Range)) x)
+    Complete fuel (statements.range r) r (range fuel) Begins (λ x. Ends 0 x × Not (is_sign sign.Range) x)
 range_complete fuel r =
     after_complete {b = λ from. record { from = from; to = r.to }} (whole_complete fuel r.from) ends
     (λ from. last_complete (λ to. record { from = from; to = to }) (range_ends fuel r.to)) where
-      ends : (x : Option Lexeme) → (x ≡ Some (l.Symbol (symbol_number sign.Range))) ⊎ (Ends 0 x × Not (is_symbol (symbol_number sign.Range)) x) → Ends 0 x
+      ends : (x : Option Lexeme) → (x ≡ Some (l.Symbol (symbol_number sign.Range))) ⊎ (Ends 0 x × Not (is_sign sign.Range) x) → Ends 0 x
       ends x (inl e) = rw e (record { no_more = refl; no_infix = λ op is. absurd cc })
       ends x (inr f) = f.0

@@ -4,8 +4,8 @@ use Rattle.cmm_lexer.specs.declared.piece.Lexeme.{Lexeme}
 use Rattle.cmm_lexer.specs.declared.piece.Lexeme.TheVariants as l
 use Rattle.cmm_words.specs.declared.width.Width.TheVariants.{W8, W16, W32, W64}
 use Rattle.cmm_ast.specs.declared.token.Ident.{Ident}
-use Rattle.cmm_ast.specs.declared.keyword.Keyword.TheVariants.{Align, Invariant}
-use Rattle.cmm_ast.specs.declared.keyword.Symbol.TheVariants.{Open, Close, Colon, OpenBrace, CloseBrace, OpenSquare, CloseSquare, Semicolon}
+use Rattle.cmm_lexer.specs.declared.keyword.Keyword.TheVariants.{Align, Invariant}
+use Rattle.cmm_lexer.specs.declared.symbol.Symbol.TheVariants.{Open, Close, Colon, OpenBrace, CloseBrace, OpenSquare, CloseSquare, Semicolon}
 use Rattle.cmm_ast.specs.declared.expression.Expr.{Expr}
 use Rattle.cmm_ast.specs.declared.expression.TypeName.{TypeName}
 use Rattle.cmm_ast.specs.declared.expression.TypeForm.{TypeForm}
@@ -19,8 +19,8 @@ use Rattle.cmm_ast.specs.declared.procedure.Room.{Room}
 use Rattle.cmm_ast.specs.declared.procedure.RoomForm.{RoomForm}
 use Rattle.cmm_ast.specs.declared.procedure.RoomForm.TheVariants as rooms
 use Rattle.cmm_ast.specs.declared.statement.Block.{Block}
-use Rattle.cmm_ast.specs.Numbers.{keyword_number, symbol_number}
-use Rattle.cmm_ast.specs.Taking.{◌⨾◌, is_keyword, is_symbol, symbol as symbol_is, optional as optional_is, listed as listed_is, many as many_is, may_list as may_list_is, round as round_is, square as square_is, braces as braces_is}
+use Rattle.cmm_lexer.specs.Spellings.{symbol_number}
+use Rattle.cmm_ast.specs.Taking.{◌⨾◌, is_word, is_sign, here as here_is, symbol as symbol_is, optional as optional_is, listed as listed_is, many as many_is, may_list as may_list_is, round as round_is, square as square_is, braces as braces_is}
 use Rattle.cmm_ast.specs.ExpressionGrammar as grammar
 use Rattle.cmm_ast.specs.ExpressionGrammar.{width_word}
 use Rattle.cmm_ast.specs.StatementGrammar as bodies
@@ -40,7 +40,7 @@ use Rattle.cmm_readers.specs.PartReading.{is_any_name, is_any_text, is_width}
 
 -- ---- what stands before the type of a variable
 
-pub type_no_invariant : (form : TypeForm) (x : Option Lexeme) → Next (type_token form) x → Not (is_keyword (keyword_number Invariant)) x
+pub type_no_invariant : (form : TypeForm) (x : Option Lexeme) → Next (type_token form) x → Not (is_word Invariant) x
 type_no_invariant (Bits W8) x e = rw e refl
 type_no_invariant (Bits W16) x e = rw e refl
 type_no_invariant (Bits W32) x e = rw e refl
@@ -102,7 +102,7 @@ variables_complete before width named =
 abbrev Sized : Option Lexeme → Type 0
 Sized x = Next (l.Symbol (symbol_number OpenSquare)) x ⊎ Next (l.Symbol (symbol_number Semicolon)) x
 
-sized_no_colon : (x : Option Lexeme) → Sized x → Not (is_symbol (symbol_number Colon)) x
+sized_no_colon : (x : Option Lexeme) → Sized x → Not (is_sign Colon) x
 sized_no_colon x (inl e) = rw e refl
 sized_no_colon x (inr e) = rw e refl
 
@@ -126,7 +126,7 @@ ident_strict i = here_strict i.token (token_strict (only_name i.name))
 pub type_strict : (t : TypeName) → Strict (grammar.type_name t)
 type_strict t = here_strict t.token (by t.form) where
   by : (form : TypeForm) → Strict (grammar.type_form form)
-  by (Bits width) = token_strict (only_keyword _)
+  by (Bits width) = token_strict (only_keyword (width_word width))
   by (OfName bytes) = token_strict (only_name bytes)
 
 -- not the end of the stackdata
@@ -137,7 +137,7 @@ type_not_close : (form : TypeForm) (x : Option Lexeme) → Next (type_token form
 type_not_close (Bits width) x e = rw e refl
 type_not_close (OfName bytes) x e = rw e refl
 
-type_no_align : (form : TypeForm) (x : Option Lexeme) → Next (type_token form) x → Not (is_keyword (keyword_number Align)) x
+type_no_align : (form : TypeForm) (x : Option Lexeme) → Next (type_token form) x → Not (is_word Align) x
 type_no_align (Bits W8) x e = rw e refl
 type_no_align (Bits W16) x e = rw e refl
 type_no_align (Bits W32) x e = rw e refl
@@ -200,9 +200,12 @@ formal_parts = parts_before begins_formal Close refl refl (λ x f. tt)
 
 pub procedure_complete : {fuel : ℕ} {block : Reads Block} → ((b : Block) → Complete fuel (bodies.block b) b block Anything Anything) → (p : Proc) →
     (name : Ident) →
-    Complete fuel (round_is (may_list_is bodies.formal p.formals) ⨾ bodies.block p.body) (record { name = name; formals = p.formals; body = p.body })
+    Complete fuel (round_is (may_list_is bodies.formal p.formals) ⨾ bodies.block p.body ⨾ here_is p.past)
+    (record { name = name; formals = p.formals; body = p.body; past = p.past })
     (procedure fuel block name) (Next (l.Symbol (symbol_number Open))) Anything
 procedure_complete {fuel} block p name =
-    after_complete {b = λ formals. record { name = name; formals = formals; body = p.body }}
+    after_complete {b = λ formals. record { name = name; formals = formals; body = p.body; past = p.past }}
     (less_complete (omega arith) (in_brackets_complete Open Close (λ x e. e) (may_list_complete formal bodies.formal formal_parts p.formals formal_complete)))
-    (λ x f. tt) (λ formals. last_complete (λ body. record { name = name; formals = formals; body = body }) (block p.body))
+    (λ x f. tt) (λ formals.
+    after_complete {b = λ body. record { name = name; formals = formals; body = body; past = p.past }} (block p.body) (λ x f. tt) (λ body.
+    last_complete (λ past. record { name = name; formals = formals; body = body; past = past }) (here_complete p.past)))

@@ -2,10 +2,10 @@
 use Rattle.std.proofs.Common.{◌≡◌, ℕ, zero, suc, ◌≤◌, ◌⊎◌, inl, inr, Bool, true, false, List, [], ◌∷◌, ◌++◌, Option, Some, None, sym, ap, ◌∙◌, arith, append_assoc, append-nil, subst, le_refl, ◌==◌, refl}
 use Rattle.cmm_lexer.specs.declared.piece.Lexeme.{Lexeme}
 use Rattle.cmm_lexer.specs.declared.piece.Lexeme.TheVariants as l
-use Rattle.cmm_ast.specs.declared.keyword.Keyword.{Keyword}
-use Rattle.cmm_ast.specs.declared.keyword.Symbol.{Symbol}
-use Rattle.cmm_ast.specs.Numbers.{keyword_number, symbol_number}
-use Rattle.cmm_ast.specs.Taking.{Reading, Takes, ◌⨾◌, nothing, here as here_is, is_keyword, is_symbol, keyword as keyword_is, symbol as symbol_is, many as many_is, optional as optional_is}
+use Rattle.cmm_lexer.specs.declared.keyword.Keyword.{Keyword}
+use Rattle.cmm_lexer.specs.declared.symbol.Symbol.{Symbol}
+use Rattle.cmm_lexer.specs.Spellings.{keyword_number, symbol_number}
+use Rattle.cmm_ast.specs.Taking.{Reading, Takes, ◌⨾◌, nothing, here as here_is, is_word, is_sign, keyword as keyword_is, symbol as symbol_is, many as many_is, optional as optional_is}
 use Rattle.cmm_readers.specs.Reading.{Reads, and_then, ◌>>=◌, give, next, passes, if_next, here, keyword, optional, many, is_comma}
 use Rattle.cmm_readers.specs.ReadingLaws.{Moves, Complete}
 use Rattle.cmm_readers.specs.DeclarationReading.{if_word, if_symbol}
@@ -29,13 +29,13 @@ other_number test make k n none e = by (k == n) refl where
   by false is = refl
 
 pub other_word : (test : Lexeme → Bool) (word : Keyword) → test (l.Word (keyword_number word)) ≡ false → (x : Option Lexeme) → Passes test x →
-    Not (is_keyword (keyword_number word)) x
+    Not (is_word word) x
 other_word test word none (Some (l.Word n)) e = other_number test l.Word (keyword_number word) n none e
 other_word test word none (Some _) e = refl
 other_word test word none None e = refl
 
 pub other_symbol : (test : Lexeme → Bool) (sign : Symbol) → test (l.Symbol (symbol_number sign)) ≡ false → (x : Option Lexeme) → Passes test x →
-    Not (is_symbol (symbol_number sign)) x
+    Not (is_sign sign) x
 other_symbol test sign none (Some (l.Symbol n)) e = other_number test l.Symbol (symbol_number sign) n none e
 other_symbol test sign none (Some _) e = refl
 other_symbol test sign none None e = refl
@@ -84,21 +84,21 @@ pub if_word_complete : {A : Type 0} {fuel : ℕ} {q : Takes} {a : A} {holds fail
     Complete fuel q a holds begins follow →
     Complete fuel (keyword_is word ⨾ q) a (if_word word holds fails) (Next (l.Word (keyword_number word))) follow
 if_word_complete {fails = fails} word rest =
-    holds_complete {fails = fails} (is_keyword (keyword_number word)) (λ x e. rw e (same_number (keyword_number word)))
-    (after_complete (skip_complete (is_keyword (keyword_number word)) (only_keyword _)) (λ x f. tt) (λ _. rest))
+    holds_complete {fails = fails} (is_word word) (λ x e. rw e (same_number (keyword_number word)))
+    (after_complete (skip_complete (is_word word) (only_keyword word)) (λ x f. tt) (λ _. rest))
 
 -- the word is all
 pub only_word_complete : {A : Type 0} {fuel : ℕ} {a : A} {fails : Reads A} (word : Keyword) →
     Complete fuel (keyword_is word) a (if_word word (give a) fails) (Next (l.Word (keyword_number word))) Anything
 only_word_complete {a = a} {fails = fails} word =
-    holds_complete {fails = fails} (is_keyword (keyword_number word)) (λ x e. rw e (same_number (keyword_number word)))
-    (last_complete (λ _. a) (skip_complete (is_keyword (keyword_number word)) (only_keyword _)))
+    holds_complete {fails = fails} (is_word word) (λ x e. rw e (same_number (keyword_number word)))
+    (last_complete (λ _. a) (skip_complete (is_word word) (only_keyword word)))
 
 pub only_symbol_complete : {A : Type 0} {fuel : ℕ} {a : A} {fails : Reads A} (sign : Symbol) →
     Complete fuel (symbol_is sign) a (if_symbol sign (give a) fails) (Next (l.Symbol (symbol_number sign))) Anything
 only_symbol_complete {a = a} {fails = fails} sign =
-    holds_complete {fails = fails} (is_symbol (symbol_number sign)) (λ x e. rw e (same_number (symbol_number sign)))
-    (last_complete (λ _. a) (skip_complete (is_symbol (symbol_number sign)) (only_symbol _)))
+    holds_complete {fails = fails} (is_sign sign) (λ x e. rw e (same_number (symbol_number sign)))
+    (last_complete (λ _. a) (skip_complete (is_sign sign) (only_symbol sign)))
 
 -- ---- parts that may be missing
 
@@ -162,14 +162,14 @@ here_strict n strict = strict_second (here_complete {fuel = 0} {follow = Anythin
 pub if_word_spends : {A : Type 0} {fuel : ℕ} {q : Takes} {a : A} {holds fails : Reads A} {begins follow : Option Lexeme → Type 0} (word : Keyword) →
     Complete fuel q a holds begins follow →
     Spends fuel (keyword_is word ⨾ q) a (if_word word holds fails) (Next (l.Word (keyword_number word))) follow
-if_word_spends word rest = record { complete = if_word_complete word rest; strict = strict_then (token_strict (only_keyword _)) rest.moves }
+if_word_spends word rest = record { complete = if_word_complete word rest; strict = strict_then (token_strict (only_keyword word)) rest.moves }
 
 -- a word that must be next
 pub keyword_spends : {A : Type 0} {fuel : ℕ} {q : Takes} {a : A} {rest : Reads A} {begins follow : Option Lexeme → Type 0} (word : Keyword) →
     Complete fuel q a rest begins follow → Spends fuel (keyword_is word ⨾ q) a (keyword word >>= λ _. rest) (Next (l.Word (keyword_number word))) follow
 keyword_spends word rest = record {
   complete = after_complete (keyword_complete word) (λ x f. tt) (λ _. rest);
-  strict = strict_then (token_strict (only_keyword _)) rest.moves;
+  strict = strict_then (token_strict (only_keyword word)) rest.moves;
 }
 
 pub follow_spends : {A : Type 0} {fuel : ℕ} {p : Takes} {a : A} {reads : Reads A} {first first' follow follow' : Option Lexeme → Type 0} →

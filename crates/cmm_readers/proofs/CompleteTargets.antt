@@ -5,8 +5,8 @@ use Rattle.cmm_lexer.specs.declared.piece.Lexeme.TheVariants as l
 use Rattle.cmm_lexer.specs.declared.piece.Lexeme.{Lexeme}
 use Rattle.cmm_ast.specs.declared.token.Ident.{Ident}
 use Rattle.cmm_ast.specs.declared.token.Text.{Text}
-use Rattle.cmm_ast.specs.declared.keyword.Keyword.TheVariants.{Foreign}
-use Rattle.cmm_ast.specs.declared.keyword.Symbol.TheVariants as sign
+use Rattle.cmm_lexer.specs.declared.keyword.Keyword.TheVariants.{Foreign}
+use Rattle.cmm_lexer.specs.declared.symbol.Symbol.TheVariants as sign
 use Rattle.cmm_ast.specs.declared.expression.Expr.{Expr}
 use Rattle.cmm_ast.specs.declared.expression.ExprForm.TheVariants.{Memory as InMemory, Prim}
 use Rattle.cmm_ast.specs.declared.expression.ExprForm.{ExprForm}
@@ -21,8 +21,8 @@ use Rattle.cmm_ast.specs.declared.statement.Lvalue.TheVariants as lvalues
 use Rattle.cmm_ast.specs.declared.statement.Lvalue.{Lvalue}
 use Rattle.cmm_ast.specs.declared.statement.StmtForm.TheVariants as stmts
 use Rattle.cmm_ast.specs.declared.statement.StmtForm.{StmtForm}
-use Rattle.cmm_ast.specs.Numbers.{symbol_number, keyword_number}
-use Rattle.cmm_ast.specs.Taking.{Takes, ◌⨾◌, nothing, symbol as symbol_is, optional as optional_is, Reading, here as here_is, is_name, is_symbol, listed as listed_is, may_comma as may_comma_is, may_list as may_list_is, outermost as outermost_is, round as round_is, token, is_checked, is_keyword, keyword as keyword_is}
+use Rattle.cmm_lexer.specs.Spellings.{symbol_number, keyword_number}
+use Rattle.cmm_ast.specs.Taking.{Takes, ◌⨾◌, nothing, symbol as symbol_is, optional as optional_is, Reading, here as here_is, is_name, is_sign, listed as listed_is, may_comma as may_comma_is, may_list as may_list_is, outermost as outermost_is, round as round_is, token, is_checked, is_word, keyword as keyword_is}
 use Rattle.cmm_ast.specs.ExpressionGrammar as grammar
 use Rattle.cmm_ast.specs.StatementGrammar as bodies
 use Rattle.cmm_readers.specs.Reading.{is_comma, symbol, Reads, if_next, more_listed, next, checked_in, ◌>>=◌}
@@ -118,7 +118,7 @@ module _ {A : Type 0} {fuel : ℕ} {p : A → Takes} {add : Targets → A → Ta
   one_more t a as_ turns le of rest =
       follow_complete (λ x e. inl e) (λ x f. f)
       (holds_complete is_comma (λ x e. rw e refl)
-      (fewer_complete {b = λ _. adds add (add t a) as_} (token_strict (only_symbol _)) (skip_complete is_comma (only_symbol _)) (λ x f. tt)
+      (fewer_complete {b = λ _. adds add (add t a) as_} (token_strict (only_symbol sign.Comma)) (skip_complete is_comma (only_symbol sign.Comma)) (λ x f. tt)
       (λ _. then_complete (λ more. more_targets turns fuel more) (less_complete le (sort.read t a of)) (λ x f. f) rest)))
 
   more_from : (as_ : List A) (t : Targets) (turns : ℕ) → turns ≤ fuel → Of t →
@@ -278,7 +278,7 @@ numbers_same n m p k r after e =
 
 -- ---- values
 
-value_no_open : (x : Option Lexeme) → After (Next (l.Symbol (symbol_number sign.Semicolon))) x → Not (is_symbol (symbol_number sign.Open)) x
+value_no_open : (x : Option Lexeme) → After (Next (l.Symbol (symbol_number sign.Semicolon))) x → Not (is_sign sign.Open) x
 value_no_open x (inl e) = rw e refl
 value_no_open x (inr e) = rw e refl
 
@@ -288,7 +288,7 @@ value_parts = parts_before begins_expression sign.Semicolon refl refl (ends_afte
 -- after what may be the first value or a callee
 abbrev after_first : ℕ → List Ident → Expr → Reads StmtForm
 after_first fuel names value =
-    if_next (is_symbol (symbol_number sign.Open)) (called fuel names value.token (callee_of_form value.token value.form))
+    if_next (is_sign sign.Open) (called fuel names value.token (callee_of_form value.token value.form))
     (assign fuel (lvalues_of names) (more_listed fuel begins_expression (whole fuel) (value ∷ [])))
 
 values_assigned : (fuel : ℕ) (names : List Ident) (vs : List Expr) →
@@ -300,7 +300,7 @@ values_assigned fuel names (v ∷ vs) =
     (ap (λ t. t ⨾ symbol_is sign.Semicolon) (commas_to grammar.whole v vs may_comma_is)
     ∙ takes_assoc (grammar.whole v) (rest_to grammar.whole vs may_comma_is) (symbol_is sign.Semicolon)))
     (then_complete (after_first fuel names) (whole_complete fuel v) (ends_after sign.Semicolon refl refl)
-    (fails_complete (is_symbol (symbol_number sign.Open)) value_no_open
+    (fails_complete (is_sign sign.Open) value_no_open
     (after_complete {b = λ vs. stmts.Assign (lvalues_of names) vs}
     (more_listed_complete (whole fuel) grammar.whole value_parts vs (v ∷ []) fuel (le_refl fuel) (each_of (whole_complete fuel) vs)) (λ x e. e)
     (λ vs. last_complete (λ _. stmts.Assign (lvalues_of names) vs) (symbol_complete sign.Semicolon)))))
@@ -322,7 +322,7 @@ module _ (fuel : ℕ) (names : List Ident) (actuals : List Actual) (fs : List Fl
       let rest : Takes = round_is (may_list_is bodies.actual actuals) ⨾ bodies.annotated fs ⨾ symbol_is sign.Semicolon in
       subst (λ t. Complete fuel t tree (values fuel names) Begins Anything) (called_form n value form is rest)
       (then_complete (after_first fuel names) (whole_complete fuel (record { token = n; form = value })) (ends_before sign.Open refl refl)
-      (holds_complete (is_symbol (symbol_number sign.Open)) (λ x e. rw e refl)
+      (holds_complete (is_sign sign.Open) (λ x e. rw e refl)
       (subst (λ o. Complete fuel (outermost_is rest) tree (called fuel names n o) (Next (l.Symbol (symbol_number sign.Open))) Anything) (sym is)
       (call_complete fuel (results_of names) None what actuals fs))))
 
@@ -344,7 +344,7 @@ module _ (fuel : ℕ) (names : List Ident) (actuals : List Actual) (fs : List Fl
 -- ---- what follows the `=`
 
 -- neither a convention nor a checked operator begins an expression
-value_no_foreign : (x : Option Lexeme) → Begins x → Not (is_keyword (keyword_number Foreign)) x
+value_no_foreign : (x : Option Lexeme) → Begins x → Not (is_word Foreign) x
 value_no_foreign = other_word begins_expression Foreign refl
 
 value_no_checked : (x : Option Lexeme) → Begins x → Not is_checked_operator x
@@ -355,7 +355,7 @@ value_no_checked None e = refl
 values_after_names : {fuel : ℕ} {p : Takes} {form : StmtForm} (names : List Ident) → Complete fuel p form (values fuel names) Begins Anything →
     Complete fuel p form (after_names fuel names) Begins Anything
 values_after_names names one =
-    fails_complete (is_keyword (keyword_number Foreign)) value_no_foreign (fails_complete is_checked_operator value_no_checked one)
+    fails_complete (is_word Foreign) value_no_foreign (fails_complete is_checked_operator value_no_checked one)
 
 assigned_values : (fuel : ℕ) (t : Targets) → OfLvalues t → (vs : List Expr) →
     Complete fuel (ValuesAfter vs) (stmts.Assign (all_lvalues t) vs) (assigned fuel t) Begins Anything
@@ -381,9 +381,9 @@ assigned_call fuel (Names names) of None what actuals fs =
     follow_complete (λ x f. tt) (λ x f. f) (values_after_names names (values_called fuel names actuals fs what))
 assigned_call fuel (Names names) of (Some kind) what actuals fs =
     follow_complete (λ x f. tt) (λ x f. f)
-    (holds_complete (is_keyword (keyword_number Foreign)) (λ x e. rw e refl)
+    (holds_complete (is_word Foreign) (λ x e. rw e refl)
     (first_complete {first = Next (l.Word (keyword_number Foreign))}
-    (token_first (only_keyword (keyword_number Foreign)) (grammar.text kind)
+    (token_first (only_keyword Foreign) (grammar.text kind)
     (bodies.callee what ⨾ CallRest actuals fs))
     (call_after_complete fuel (results_of names) (Some kind) what actuals fs)))
 assigned_call fuel (Lvalues to) of by what actuals fs = absurd of
@@ -404,7 +404,7 @@ two_values_complete fuel left right =
 assigned_checked : (fuel : ℕ) (name op : Ident) (left right : Expr) (fs : List Flow) →
     Complete fuel (CheckedAfter op left right fs) (stmts.Checked name op left right fs) (assigned fuel (Names (name ∷ []))) (Next (l.Checked op.name)) Anything
 assigned_checked fuel name op left right fs =
-    fails_complete (is_keyword (keyword_number Foreign)) (λ x e. rw e refl)
+    fails_complete (is_word Foreign) (λ x e. rw e refl)
     (holds_complete is_checked_operator (λ x e. rw e refl)
     (after_complete {b = λ op. stmts.Checked name op left right fs} (checked_operator_complete op) (λ x f. tt) (λ op.
     after_complete {b = λ two. stmts.Checked name op two.0 two.1 fs}

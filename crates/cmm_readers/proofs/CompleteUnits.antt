@@ -7,9 +7,9 @@ use Rattle.cmm_words.specs.declared.width.Width.{Width}
 use Rattle.cmm_words.specs.declared.width.Width.TheVariants.{W8, W16, W32, W64}
 use Rattle.cmm_ast.specs.declared.token.Ident.{Ident}
 use Rattle.cmm_ast.specs.declared.token.Int.{Int}
-use Rattle.cmm_ast.specs.declared.keyword.Keyword.{Keyword}
-use Rattle.cmm_ast.specs.declared.keyword.Keyword.TheVariants.{Align, Const, Export as ExportWord, Import as ImportWord, Invariant, Register, Target, Typedef, Section as SectionWord, Span}
-use Rattle.cmm_ast.specs.declared.keyword.Symbol.TheVariants.{Open, Colon, Colons, OpenBrace, CloseBrace, OpenSquare, CloseSquare, Semicolon}
+use Rattle.cmm_lexer.specs.declared.keyword.Keyword.{Keyword}
+use Rattle.cmm_lexer.specs.declared.keyword.Keyword.TheVariants.{Align, Const, Export as ExportWord, Import as ImportWord, Invariant, Register, Target, Typedef, Section as SectionWord, Span}
+use Rattle.cmm_lexer.specs.declared.symbol.Symbol.TheVariants.{Open, Colon, Colons, OpenBrace, CloseBrace, OpenSquare, CloseSquare, Semicolon}
 use Rattle.cmm_ast.specs.declared.expression.Expr.{Expr}
 use Rattle.cmm_ast.specs.declared.expression.Primary.{Primary}
 use Rattle.cmm_ast.specs.declared.expression.TypeName.{TypeName}
@@ -33,8 +33,8 @@ use Rattle.cmm_ast.specs.declared.unit.Count.{Count}
 use Rattle.cmm_ast.specs.declared.unit.Count.TheVariants as counts
 use Rattle.cmm_ast.specs.declared.unit.Initial.{Initial}
 use Rattle.cmm_ast.specs.declared.unit.Initial.TheVariants as initials
-use Rattle.cmm_ast.specs.Numbers.{keyword_number, symbol_number}
-use Rattle.cmm_ast.specs.Taking.{Reading, Takes, ◌⨾◌, token, is_name, is_keyword, is_symbol, here as here_is, keyword as keyword_is, symbol as symbol_is, braces as braces_is, many as many_is, round as round_is, may_list as may_list_is, listed as listed_is}
+use Rattle.cmm_lexer.specs.Spellings.{keyword_number, symbol_number}
+use Rattle.cmm_ast.specs.Taking.{Reading, Takes, ◌⨾◌, token, is_name, is_word, is_sign, here as here_is, keyword as keyword_is, symbol as symbol_is, braces as braces_is, many as many_is, round as round_is, may_list as may_list_is, listed as listed_is}
 use Rattle.cmm_ast.specs.ExpressionGrammar as grammar
 use Rattle.cmm_ast.specs.ExpressionGrammar.{width_word}
 use Rattle.cmm_ast.specs.StatementGrammar as bodies
@@ -66,25 +66,25 @@ Valued x =
 abbrev Counted : Option Lexeme → Type 0
 Counted x = Next (l.Symbol (symbol_number OpenSquare)) x ⊎ Valued x
 
-valued_no_square : (x : Option Lexeme) → Valued x → Not (is_symbol (symbol_number OpenSquare)) x
+valued_no_square : (x : Option Lexeme) → Valued x → Not (is_sign OpenSquare) x
 valued_no_square x (inl e) = rw e refl
 valued_no_square x (inr (inl f)) = other_symbol is_any_text OpenSquare refl x f
 valued_no_square x (inr (inr e)) = rw e refl
 
-counted_no_open : (x : Option Lexeme) → Counted x → Not (is_symbol (symbol_number Open)) x
+counted_no_open : (x : Option Lexeme) → Counted x → Not (is_sign Open) x
 counted_no_open x (inl e) = rw e refl
 counted_no_open x (inr (inl e)) = rw e refl
 counted_no_open x (inr (inr (inl f))) = other_symbol is_any_text Open refl x f
 counted_no_open x (inr (inr (inr e))) = rw e refl
 
-counted_no_colon : (x : Option Lexeme) → Counted x → Not (is_symbol (symbol_number Colon)) x
+counted_no_colon : (x : Option Lexeme) → Counted x → Not (is_sign Colon) x
 counted_no_colon x (inl e) = rw e refl
 counted_no_colon x (inr (inl e)) = rw e refl
 counted_no_colon x (inr (inr (inl f))) = other_symbol is_any_text Colon refl x f
 counted_no_colon x (inr (inr (inr e))) = rw e refl
 
 -- an expression begins with neither `::` nor a square bracket
-begins_no_close : (x : Option Lexeme) → Begins x → Not (is_symbol (symbol_number CloseSquare)) x
+begins_no_close : (x : Option Lexeme) → Begins x → Not (is_sign CloseSquare) x
 begins_no_close = other_symbol begins_expression CloseSquare refl
 
 pub begins_no_more : (x : Option Lexeme) → Begins x → NoMore x
@@ -161,13 +161,13 @@ again_spends n m p q one = record {
 
 -- ---- items that hold no other
 
-bits_no_align : (width : Width) (x : Option Lexeme) → Next (l.Word (keyword_number (width_word width))) x → Not (is_keyword (keyword_number Align)) x
+bits_no_align : (width : Width) (x : Option Lexeme) → Next (l.Word (keyword_number (width_word width))) x → Not (is_word Align) x
 bits_no_align W8 x e = rw e refl
 bits_no_align W16 x e = rw e refl
 bits_no_align W32 x e = rw e refl
 bits_no_align W64 x e = rw e refl
 
-bits_no_span : (width : Width) (x : Option Lexeme) → Next (l.Word (keyword_number (width_word width))) x → Not (is_keyword (keyword_number Span)) x
+bits_no_span : (width : Width) (x : Option Lexeme) → Next (l.Word (keyword_number (width_word width))) x → Not (is_word Span) x
 bits_no_span W8 x e = rw e refl
 bits_no_span W16 x e = rw e refl
 bits_no_span W32 x e = rw e refl
@@ -189,7 +189,7 @@ decl_fails test a b c d e f g (decls.Register false kind width names) x is = rw 
 
 -- no item with others in it begins there, and the items don't end
 abbrev Flat : Option Lexeme → Type 0
-Flat x = NotClose x × Not (is_keyword (keyword_number Span)) x
+Flat x = NotClose x × Not (is_word Span) x
 
 module _ {fuel : ℕ} (block : Reads Block) (block_complete : (b : Block) → Complete fuel (bodies.block b) b block Anything Anything) where
   -- what begins with a name
@@ -209,7 +209,7 @@ module _ {fuel : ℕ} (block : Reads Block) (block_complete : (b : Block) → Co
 
   proc_spends : (p : Proc) → Spends fuel (bodies.proc p) (items.Proc p) (flat_item fuel block) (Next (l.Name p.name.name)) Anything
   proc_spends p =
-      named_spends (λ n. items.Proc record { name = n; formals = p.formals; body = p.body }) p.name (λ n.
+      named_spends (λ n. items.Proc record { name = n; formals = p.formals; body = p.body; past = p.past }) p.name (λ n.
       holds_complete _ (λ x e. rw e refl) (last_complete items.Proc (procedure_complete block_complete p n)))
 
   data_spends : (at : ℕ) (form : TypeForm) (how_many : Count) (first : Initial) →
@@ -268,9 +268,9 @@ module _ {fuel : ℕ} (block : Reads Block) (block_complete : (b : Block) → Co
 
   declared_spends : (d : Decl) → Spends fuel (units.decl d) (items.Decl d) (flat_item fuel block) Flat Anything
   declared_spends d = record {
-    complete = follow_complete (λ x e. (other x e, decl_fails (is_keyword (keyword_number Span)) refl refl refl refl refl refl refl d.form x e)) (λ x f. f)
+    complete = follow_complete (λ x e. (other x e, decl_fails (is_word Span) refl refl refl refl refl refl refl d.form x e)) (λ x f. f)
         (fails_complete is_any_name (λ x e. rw e refl)
-        (fails_complete _ (decl_fails (is_keyword (keyword_number Align)) refl refl refl refl refl refl refl d.form)
+        (fails_complete _ (decl_fails (is_word Align) refl refl refl refl refl refl refl d.form)
         (start_complete (item_by fuel) (none_complete is_width (decl_fails is_width refl refl refl refl refl refl refl d.form)) (λ x e. e)
         (last_complete items.Decl (decl_spends d).complete))));
     strict = (decl_spends {fuel = fuel} d).strict;
@@ -315,8 +315,8 @@ module _ (block : ℕ → Reads Block) (block_complete : (fuel : ℕ) (b : Block
       (items.Span at key value its) (span fuel (item fuel block)) (Next (l.Word (keyword_number Span))) Anything
   span_spends fuel at key value its each = record {
     complete = after_complete {b = λ n. items.Span n key value its} (here_complete at) (λ x f. f) (λ n.
-        fewer_complete {b = λ _. items.Span n key value its} (token_strict (only_keyword _)) (keyword_complete Span) (λ x f. tt) (λ _. from n));
-    strict = here_strict at (strict_then (token_strict (only_keyword _)) (from at).moves);
+        fewer_complete {b = λ _. items.Span n key value its} (token_strict (only_keyword Span)) (keyword_complete Span) (λ x f. tt) (λ _. from n));
+    strict = here_strict at (strict_then (token_strict (only_keyword Span)) (from at).moves);
   }
     where
       from : (n : ℕ) →
@@ -332,7 +332,7 @@ module _ (block : ℕ → Reads Block) (block_complete : (fuel : ℕ) (b : Block
   flat_spends i each =
       zero_item i (λ fuel.
       follow_spends {first = Flat} (λ x f. f.0) (λ x f. f)
-      (not_next_spends (is_keyword (keyword_number Span)) (λ x f. f.1) (each fuel)))
+      (not_next_spends (is_word Span) (λ x f. f.1) (each fuel)))
 
   span_item : (at : ℕ) (key : Primary) (value : Expr) (shape : _) (row : _) → Each HasItem (items-the_row-Item _ row) → HasItem (Span' at key value shape row)
   span_item at key value shape row each =
@@ -343,7 +343,7 @@ module _ (block : ℕ → Reads Block) (block_complete : (fuel : ℕ) (b : Block
       (items.Span at key value (items-the_row-Item _ row)) (item (suc fuel) block) NotClose Anything)
       (sym (row_is _ row))
       (follow_spends (λ x e. rw e refl) (λ x f. f)
-      (if_next_spends (is_keyword (keyword_number Span)) (λ x e. rw e refl) (span_spends fuel at key value (items-the_row-Item _ row) each)))))
+      (if_next_spends (is_word Span) (λ x e. rw e refl) (span_spends fuel at key value (items-the_row-Item _ row) each)))))
 
   mutual
     item_spends : (i : Item) → HasItem i
@@ -387,7 +387,7 @@ module _ (block : ℕ → Reads Block) (block_complete : (fuel : ℕ) (b : Block
   }
   top_level_spends {fuel} (tops.Decl d) = record {
     complete = follow_complete (λ x e. rw e refl) (λ x f. f)
-        (fails_complete _ (decl_fails (is_keyword (keyword_number SectionWord)) refl refl refl refl refl refl refl d.form)
+        (fails_complete _ (decl_fails (is_word SectionWord) refl refl refl refl refl refl refl d.form)
         (fails_complete is_any_name (λ x e. rw e refl) (last_complete tops.Decl (decl_spends d).complete)));
     strict = (decl_spends {fuel = fuel} d).strict;
   }
@@ -399,10 +399,10 @@ module _ (block : ℕ → Reads Block) (block_complete : (fuel : ℕ) (b : Block
   }
     where
       named : Ident → Proc
-      named n = record { name = n; formals = p.formals; body = p.body }
+      named n = record { name = n; formals = p.formals; body = p.body; past = p.past }
 
       rest : (n : Ident) →
-          Complete fuel (round_is (may_list_is bodies.formal p.formals) ⨾ bodies.block p.body) (named n)
+          Complete fuel (round_is (may_list_is bodies.formal p.formals) ⨾ bodies.block p.body ⨾ here_is p.past) (named n)
           (procedure fuel (block fuel) n) (Next (l.Symbol (symbol_number Open))) Anything
       rest n = procedure_complete (block_complete fuel) p n
 

@@ -4,9 +4,9 @@ use Rattle.cmm_lexer.specs.declared.piece.Lexeme.{Lexeme}
 use Rattle.cmm_lexer.specs.declared.piece.Lexeme.TheVariants as l
 use Rattle.cmm_ast.specs.declared.token.Ident.{Ident}
 use Rattle.cmm_ast.specs.declared.token.Text.{Text}
-use Rattle.cmm_ast.specs.declared.keyword.Keyword.{Keyword}
-use Rattle.cmm_ast.specs.declared.keyword.Keyword.TheVariants.{Continuation, Cut, Foreign, Goto, Jump, Return, To}
-use Rattle.cmm_ast.specs.declared.keyword.Symbol.TheVariants.{Open, Close, Colon, Less, Semicolon}
+use Rattle.cmm_lexer.specs.declared.keyword.Keyword.{Keyword}
+use Rattle.cmm_lexer.specs.declared.keyword.Keyword.TheVariants.{Continuation, Cut, Foreign, Goto, Jump, Return, To}
+use Rattle.cmm_lexer.specs.declared.symbol.Symbol.TheVariants.{Open, Close, Colon, Less, Semicolon}
 use Rattle.cmm_ast.specs.declared.expression.Expr.{Expr}
 use Rattle.cmm_ast.specs.declared.statement.Actual.{Actual}
 use Rattle.cmm_ast.specs.declared.statement.Callee.{Callee}
@@ -16,8 +16,8 @@ use Rattle.cmm_ast.specs.declared.statement.Flow.{Flow}
 use Rattle.cmm_ast.specs.declared.statement.Kinded.{Kinded}
 use Rattle.cmm_ast.specs.declared.statement.StmtForm.{StmtForm}
 use Rattle.cmm_ast.specs.declared.statement.StmtForm.TheVariants as stmts
-use Rattle.cmm_ast.specs.Numbers.{keyword_number, symbol_number}
-use Rattle.cmm_ast.specs.Taking.{Takes, ◌⨾◌, is_keyword, is_symbol, keyword as keyword_is, symbol as symbol_is, optional as optional_is, round as round_is, may_list as may_list_is}
+use Rattle.cmm_lexer.specs.Spellings.{keyword_number, symbol_number}
+use Rattle.cmm_ast.specs.Taking.{Takes, ◌⨾◌, is_word, is_sign, keyword as keyword_is, symbol as symbol_is, optional as optional_is, round as round_is, may_list as may_list_is}
 use Rattle.cmm_ast.specs.ExpressionGrammar as grammar
 use Rattle.cmm_ast.specs.StatementGrammar as bodies
 use Rattle.cmm_readers.specs.Reading.{Reads, ◌>>=◌, give, skip}
@@ -40,7 +40,7 @@ use Rattle.cmm_readers.proofs.Tokens.{only_keyword, symbol_complete, keyword_com
 abbrev AfterExit : Option Lexeme → Type 0
 AfterExit x = Next (l.Symbol (symbol_number Open)) x ⊎ Next (l.Symbol (symbol_number Semicolon)) x
 
-no_exit : (x : Option Lexeme) → AfterExit x → Not (is_symbol (symbol_number Less)) x
+no_exit : (x : Option Lexeme) → AfterExit x → Not (is_sign Less) x
 no_exit x (inl e) = rw e refl
 no_exit x (inr e) = rw e refl
 
@@ -50,11 +50,11 @@ return_complete : (fuel : ℕ) (by : Option Exit) (values : Option (List Actual)
 return_complete fuel by values =
     follow_complete (λ x f. tt) (λ x f. f)
     (after_complete {b = λ by. stmts.Return by values}
-    (optional_complete {follow = AfterExit} (is_symbol (symbol_number Less)) (λ x e. rw e refl) no_exit
+    (optional_complete {follow = AfterExit} (is_sign Less) (λ x e. rw e refl) no_exit
     (λ e. follow_complete (λ x f. f) (λ x f. tt) (exit_complete fuel e)) by)
     (λ x f. f) (λ by.
     after_complete {b = λ values. stmts.Return by values}
-    (optional_complete {follow = Next (l.Symbol (symbol_number Semicolon))} (is_symbol (symbol_number Open)) (λ x e. rw e refl) (λ x e. rw e refl)
+    (optional_complete {follow = Next (l.Symbol (symbol_number Semicolon))} (is_sign Open) (λ x e. rw e refl) (λ x e. rw e refl)
     (λ as_. follow_complete (λ x f. f) (λ x f. tt) (arguments_complete fuel as_)) values)
     (λ x f. f) (λ values. last_complete (λ _. stmts.Return by values) (symbol_complete Semicolon))))
 
@@ -108,7 +108,7 @@ continuation_complete fuel name ks =
 word_read : {fuel : ℕ} {rest : Takes} {form : StmtForm} {reads : Reads StmtForm} (word : Keyword) → Complete fuel rest form reads Anything Anything →
     Complete fuel (keyword_is word ⨾ rest) form (skip >>= λ _. reads) (Next (l.Word (keyword_number word))) Anything
 word_read {form = form} word rest =
-    after_complete {b = λ _. form} (skip_complete (is_keyword (keyword_number word)) (only_keyword (keyword_number word))) (λ x f. tt) (λ _. rest)
+    after_complete {b = λ _. form} (skip_complete (is_word word) (only_keyword word)) (λ x f. tt) (λ _. rest)
 
 pub return_stmt : (fuel : ℕ) (by : Option Exit) (values : Option (List Actual)) →
     Complete fuel (bodies.stmt_form (stmts.Return by values)) (stmts.Return by values) (word_stmt fuel) (Next (l.Word (keyword_number Return))) Anything
@@ -149,8 +149,8 @@ foreign_complete : (fuel : ℕ) (t : Text) (what : Callee) (actuals : List Actua
     (Next (l.Word (keyword_number Foreign))) Anything
 foreign_complete fuel t what actuals fs =
     then_complete (λ by. callee fuel >>= λ what. call fuel [] by what)
-    (holds_complete {fails = give None} (is_keyword (keyword_number Foreign)) (λ x e. rw e refl)
-    (after_complete {b = λ _. Some t} (skip_complete (is_keyword (keyword_number Foreign)) (only_keyword (keyword_number Foreign))) (λ x f. tt)
+    (holds_complete {fails = give None} (is_word Foreign) (λ x e. rw e refl)
+    (after_complete {b = λ _. Some t} (skip_complete (is_word Foreign) (only_keyword Foreign)) (λ x f. tt)
     (λ _. last_complete (λ t. Some t) (text_complete t))))
     (λ x f. tt)
     (after_complete {b = λ what. stmts.Call [] (Some t) what actuals fs} (callee_complete fuel what) no_square (λ what.
@@ -173,7 +173,7 @@ bracketed_complete : (fuel token : ℕ) (e : Expr) →
 bracketed_complete fuel token e =
     after_complete {b = λ n. record { token = n; form = callees.Bracketed e }} (here_complete token) (λ x f. f) (λ n.
     last_complete (λ form. record { token = n; form = form })
-    (holds_complete {fails = lvalue fuel >>= λ v. give (called v)} (is_symbol (symbol_number Open)) (λ x e. rw e refl)
+    (holds_complete {fails = lvalue fuel >>= λ v. give (called v)} (is_sign Open) (λ x e. rw e refl)
     (last_complete callees.Bracketed (less_complete (omega arith) (in_brackets_complete Open Close (ends_before Close refl refl) (whole_complete fuel e))))))
 
 pub bracketed_stmt : (fuel token : ℕ) (e : Expr) (actuals : List Actual) (fs : List Flow) →
@@ -183,7 +183,7 @@ pub bracketed_stmt : (fuel token : ℕ) (e : Expr) (actuals : List Actual) (fs :
 bracketed_stmt fuel token e actuals fs =
     holds_complete _ (λ x e. rw e refl)
     (start_complete (λ by. callee fuel >>= λ what. call fuel [] by what)
-    (fails_complete (is_keyword (keyword_number Foreign)) (λ x e. rw e refl) (give_complete None)) (λ x f. f)
+    (fails_complete (is_word Foreign) (λ x e. rw e refl) (give_complete None)) (λ x f. f)
     (after_complete {b = λ what. stmts.Call [] None what actuals fs} (bracketed_complete fuel token e) (λ x f. tt) (λ what.
     call_complete fuel [] None what actuals fs)))
 

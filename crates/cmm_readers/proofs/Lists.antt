@@ -3,8 +3,8 @@ use Rattle.std.proofs.Common.{◌≡◌, ℕ, zero, suc, ◌≤◌, ◌⊎◌, i
 use Rattle.std.proofs.Math.Path.{fun_ext}
 use Rattle.cmm_lexer.specs.declared.piece.Lexeme.{Lexeme}
 use Rattle.cmm_lexer.specs.declared.piece.Lexeme.TheVariants as l
-use Rattle.cmm_ast.specs.declared.keyword.Symbol.TheVariants.{Comma}
-use Rattle.cmm_ast.specs.Numbers.{symbol_number}
+use Rattle.cmm_lexer.specs.declared.symbol.Symbol.TheVariants.{Comma}
+use Rattle.cmm_lexer.specs.Spellings.{symbol_number}
 use Rattle.cmm_ast.specs.Taking.{Reading, Takes, ◌⨾◌, nothing, token, taken_if, symbol as symbol_is, commas as commas_is, may_comma, listed as listed_is, may_list as may_list_is}
 use Rattle.cmm_readers.specs.Reading.{Point, Read, Reads, ◌>>=◌, give, next, past, choice, passes, if_next, skip, is_comma, more_commas, commas, more_listed, listed, may_list}
 use Rattle.cmm_readers.specs.ReadingLaws.{within, point, passed, outcome, Moves, Sound, Complete}
@@ -151,7 +151,7 @@ pub record Parts (begins : Lexeme → Bool) (first follow_one follow : Option Le
   pub goes_on : (x : Option Lexeme) → After follow x → follow_one x
 
 only_comma : Only is_comma (l.Symbol (symbol_number Comma))
-only_comma = only_symbol (symbol_number Comma)
+only_comma = only_symbol Comma
 
 not_taken : (test : Lexeme → Bool) (left : List Lexeme) (taken opens operators : ℕ) (over : Option ℕ) →
     token test (record { left = left; taken = taken; open_brackets = opens; operators = operators; over = over }) ≡ None → passes test (next left) ≡ false

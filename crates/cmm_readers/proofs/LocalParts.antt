@@ -1,8 +1,8 @@
 -- How the parts of statements are read hangs on no token beyond the one that is looked at.
 use Rattle.std.proofs.Common.{ℕ, List, Some, None}
 use Rattle.cmm_ast.specs.declared.token.Ident.{Ident}
-use Rattle.cmm_ast.specs.declared.keyword.Keyword.TheVariants.{Also, Returns, To}
-use Rattle.cmm_ast.specs.declared.keyword.Symbol.TheVariants.{Open, Close, Less, Greater, Slash}
+use Rattle.cmm_lexer.specs.declared.keyword.Keyword.TheVariants.{Also, Returns, To}
+use Rattle.cmm_lexer.specs.declared.symbol.Symbol.TheVariants.{Open, Close, Less, Greater, Slash}
 use Rattle.cmm_ast.specs.declared.statement.CalleeForm.TheVariants as callees
 use Rattle.cmm_ast.specs.declared.statement.FlowForm.{FlowForm}
 use Rattle.cmm_ast.specs.declared.statement.FlowForm.TheVariants as flows

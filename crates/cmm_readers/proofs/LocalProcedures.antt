@@ -2,8 +2,8 @@
 use Rattle.std.proofs.Common.{ℕ, [], Option, Some, None}
 use Rattle.cmm_ast.specs.declared.token.Ident.{Ident}
 use Rattle.cmm_ast.specs.declared.token.Text.{Text}
-use Rattle.cmm_ast.specs.declared.keyword.Keyword.TheVariants.{Align, Invariant}
-use Rattle.cmm_ast.specs.declared.keyword.Symbol.TheVariants.{Open, Close, Colon, OpenBrace, CloseBrace, OpenSquare, CloseSquare, Semicolon}
+use Rattle.cmm_lexer.specs.declared.keyword.Keyword.TheVariants.{Align, Invariant}
+use Rattle.cmm_lexer.specs.declared.symbol.Symbol.TheVariants.{Open, Close, Colon, OpenBrace, CloseBrace, OpenSquare, CloseSquare, Semicolon}
 use Rattle.cmm_ast.specs.declared.expression.TypeName.{TypeName}
 use Rattle.cmm_ast.specs.declared.procedure.Modifiers.{Modifiers}
 use Rattle.cmm_ast.specs.declared.statement.Block.{Block}
@@ -57,4 +57,4 @@ module _ {block : Reads Block} (block_local : Local block) where
   pub procedure_local : (fuel : ℕ) (name : Ident) → Local (procedure fuel block name)
   procedure_local fuel name =
       after_local (in_brackets_local Open Close (may_list_local begins_formal formal_local fuel))
-      (λ formals. after_local block_local (λ body. give_local _))
+      (λ formals. after_local block_local (λ body. after_local here_local (λ past. give_local _)))

@@ -4,8 +4,8 @@ use Rattle.cmm_lexer.specs.declared.piece.Lexeme.{Lexeme}
 use Rattle.cmm_lexer.specs.declared.piece.Lexeme.TheVariants as l
 use Rattle.cmm_ast.specs.declared.token.Ident.{Ident}
 use Rattle.cmm_ast.specs.declared.token.Text.{Text}
-use Rattle.cmm_ast.specs.declared.keyword.Keyword.TheVariants as word
-use Rattle.cmm_ast.specs.declared.keyword.Symbol.TheVariants as sign
+use Rattle.cmm_lexer.specs.declared.keyword.Keyword.TheVariants as word
+use Rattle.cmm_lexer.specs.declared.symbol.Symbol.TheVariants as sign
 use Rattle.cmm_ast.specs.declared.expression.Memory.{Memory}
 use Rattle.cmm_ast.specs.declared.procedure.LocalForm.{LocalForm}
 use Rattle.cmm_ast.specs.declared.procedure.Modifiers.TheVariants as before
@@ -18,8 +18,7 @@ use Rattle.cmm_ast.specs.declared.statement.Otherwise.{Otherwise}
 use Rattle.cmm_ast.specs.declared.statement.Otherwise.TheVariants as otherwises
 use Rattle.cmm_ast.specs.declared.statement.StmtForm.{StmtForm}
 use Rattle.cmm_ast.specs.declared.statement.StmtForm.TheVariants as stmts
-use Rattle.cmm_ast.specs.Numbers.{symbol_number}
-use Rattle.cmm_ast.specs.Taking.{is_symbol}
+use Rattle.cmm_ast.specs.Taking.{is_sign}
 use Rattle.cmm_readers.specs.Reading.{Reads, ◌>>=◌, give, round, square, braces}
 use Rattle.cmm_readers.specs.ReadingLaws.{Local}
 use Rattle.cmm_readers.specs.PartReading.{begins_kinded}
@@ -206,7 +205,7 @@ otherwise_local inner zero fuel = stop_local
 otherwise_local inner (suc turns) fuel =
     next_local _
     (after_local skip_local (λ _.
-    next_local (is_symbol (symbol_number sign.OpenBrace)) (made_local otherwises.Else inner)
+    next_local (is_sign sign.OpenBrace) (made_local otherwises.Else inner)
     (made_local otherwises.ElseIf (chained_local (if_local inner (otherwise_local inner turns fuel) fuel)))))
     (give_local _)
 

@@ -1,8 +1,8 @@
 -- The answers of the readers of data, sections and units hang on no token beyond the one that is looked at.
 use Rattle.std.proofs.Common.{ℕ, zero, suc, [], Option, Some, None}
 use Rattle.cmm_ast.specs.declared.token.Ident.{Ident}
-use Rattle.cmm_ast.specs.declared.keyword.Keyword.TheVariants.{Align, Section as SectionWord, Span}
-use Rattle.cmm_ast.specs.declared.keyword.Symbol.TheVariants.{Colon, OpenBrace, CloseBrace, OpenSquare, CloseSquare, Semicolon}
+use Rattle.cmm_lexer.specs.declared.keyword.Keyword.TheVariants.{Align, Section as SectionWord, Span}
+use Rattle.cmm_lexer.specs.declared.symbol.Symbol.TheVariants.{Colon, OpenBrace, CloseBrace, OpenSquare, CloseSquare, Semicolon}
 use Rattle.cmm_ast.specs.declared.expression.TypeName.{TypeName}
 use Rattle.cmm_ast.specs.declared.statement.Block.{Block}
 use Rattle.cmm_ast.specs.declared.unit.Item.{Item}

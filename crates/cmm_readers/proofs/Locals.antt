@@ -4,8 +4,8 @@ use Rattle.cmm_lexer.specs.declared.piece.Lexeme.{Lexeme}
 use Rattle.cmm_readers.specs.Reading.{Point, Answer, Unexpected, TooDeep, Read, Stopped, Reads, and_then, ◌>>=◌, give, stop, next, past, look, choice, passes, if_next, here, skip, skip_opening, skip_operator, enclosed, outermost, is_comma, optional, many, more_commas, commas, more_listed, listed, may_list}
 use Rattle.cmm_readers.specs.ReadingLaws.{Same, Agrees, Local}
 use Rattle.cmm_readers.specs.DeclarationReading.{if_word, if_symbol}
-use Rattle.cmm_ast.specs.declared.keyword.Keyword.{Keyword}
-use Rattle.cmm_ast.specs.declared.keyword.Symbol.{Symbol}
+use Rattle.cmm_lexer.specs.declared.keyword.Keyword.{Keyword}
+use Rattle.cmm_lexer.specs.declared.symbol.Symbol.{Symbol}
 
 -- ---- answers
 

@@ -2,9 +2,8 @@
 use Rattle.std.proofs.Common.{◌≡◌, ℕ, zero, suc, ◌==◌, nat_lt, Bool, true, false, List, [], ◌∷◌, ◌++◌, Option, Some, None, refl, sym, ap, ◌∙◌}
 use Rattle.std.proofs.Math.Path.{fun_ext}
 use Rattle.cmm_lexer.specs.declared.piece.Lexeme.{Lexeme}
-use Rattle.cmm_ast.specs.declared.keyword.Symbol.{Symbol}
-use Rattle.cmm_ast.specs.Taking.{Reading, Takes, ◌⨾◌, nothing, token, taken_if, symbol as symbol_is, here as here_is, outermost as outermost_is, opening as opening_is, enclosed as enclosed_is, many as many_is, first_over, is_symbol, in_brackets as in_brackets_is}
-use Rattle.cmm_ast.specs.Numbers.{symbol_number}
+use Rattle.cmm_lexer.specs.declared.symbol.Symbol.{Symbol}
+use Rattle.cmm_ast.specs.Taking.{Reading, Takes, ◌⨾◌, nothing, token, taken_if, symbol as symbol_is, here as here_is, outermost as outermost_is, opening as opening_is, enclosed as enclosed_is, many as many_is, first_over, is_sign, in_brackets as in_brackets_is}
 use Rattle.cmm_readers.specs.Reading.{Point, Read, Reads, many, outermost}
 use Rattle.cmm_readers.specs.ReadingLaws.{within, Sound}
 use Rattle.cmm_readers.proofs.Sounds.{Goes, whole_sound, after_sound, give_sound, at_sound, next_sound}
@@ -119,4 +118,4 @@ opened_apart test = record {
 
 pub outermost_brackets : (left : Symbol) (p : Takes) (right : Symbol) →
     outermost_is (in_brackets_is left p right) ≡ in_brackets_is left (outermost_is p) right
-outermost_brackets left p right = ap enclosed_is ((opened_apart (is_symbol (symbol_number left))).apart (p ⨾ symbol_is right))
+outermost_brackets left p right = ap enclosed_is ((opened_apart (is_sign left)).apart (p ⨾ symbol_is right))

@@ -1,13 +1,12 @@
 -- What is read of calls is a tree of the tokens that are taken.
 use Rattle.std.proofs.Common.{◌≡◌, ℕ, List, Option, Some, None, refl}
 use Rattle.cmm_ast.specs.declared.token.Text.{Text}
-use Rattle.cmm_ast.specs.declared.keyword.Keyword.TheVariants as word
-use Rattle.cmm_ast.specs.declared.keyword.Symbol.TheVariants as sign
+use Rattle.cmm_lexer.specs.declared.keyword.Keyword.TheVariants as word
+use Rattle.cmm_lexer.specs.declared.symbol.Symbol.TheVariants as sign
 use Rattle.cmm_ast.specs.declared.statement.Callee.{Callee}
 use Rattle.cmm_ast.specs.declared.statement.Kinded.{Kinded}
 use Rattle.cmm_ast.specs.declared.statement.StmtForm.TheVariants as stmts
-use Rattle.cmm_ast.specs.Numbers.{keyword_number}
-use Rattle.cmm_ast.specs.Taking.{Takes, ◌⨾◌, is_keyword, keyword as keyword_is, optional as optional_is, outermost as outermost_is}
+use Rattle.cmm_ast.specs.Taking.{Takes, ◌⨾◌, is_word, keyword as keyword_is, optional as optional_is, outermost as outermost_is}
 use Rattle.cmm_ast.specs.ExpressionGrammar as grammar
 use Rattle.cmm_ast.specs.StatementGrammar as bodies
 use Rattle.cmm_readers.specs.ReadingLaws.{Sound}
@@ -32,7 +31,7 @@ call_goes fuel to by what same =
 convention_sound : Sound convention (optional_is (λ t. keyword_is word.Foreign ⨾ grammar.text t))
 convention_sound =
     whole_sound
-    (next_sound (λ x passed. skip_sound (is_keyword (keyword_number word.Foreign)) passed (λ _. last_sound (λ t. Some t) text_sound (λ t. refl)))
+    (next_sound (λ x passed. skip_sound (is_word word.Foreign) passed (λ _. last_sound (λ t. Some t) text_sound (λ t. refl)))
     (λ x none. at_sound (give_sound None refl)))
 
 pub call_after_goes : (fuel : ℕ) (to : List Kinded) → Goes (λ k. bodies.results to ⨾ k) (call_after fuel to) bodies.stmt_form

@@ -9,9 +9,9 @@ use Rattle.cmm_lexer.specs.declared.piece.Lexeme.{Lexeme}
 use Rattle.cmm_lexer.specs.declared.piece.Lexeme.TheVariants as l
 use Rattle.cmm_ast.specs.declared.token.Ident.{Ident}
 use Rattle.cmm_ast.specs.declared.token.Int.{Int}
-use Rattle.cmm_ast.specs.declared.keyword.Keyword.TheVariants.{Align, Aligned}
-use Rattle.cmm_ast.specs.declared.keyword.Symbol.{Symbol}
-use Rattle.cmm_ast.specs.declared.keyword.Symbol.TheVariants.{Open, Close, OpenSquare, CloseSquare, Colons, Comma}
+use Rattle.cmm_lexer.specs.declared.keyword.Keyword.TheVariants.{Align, Aligned}
+use Rattle.cmm_lexer.specs.declared.symbol.Symbol.{Symbol}
+use Rattle.cmm_lexer.specs.declared.symbol.Symbol.TheVariants.{Open, Close, OpenSquare, CloseSquare, Colons, Comma}
 use Rattle.cmm_ast.specs.declared.expression.TypeName.{TypeName}
 use Rattle.cmm_ast.specs.declared.expression.TypeForm.TheVariants.{Bits, Named as OfName}
 use Rattle.cmm_ast.specs.declared.expression.Number.{Number}
@@ -26,15 +26,13 @@ use Rattle.cmm_ast.specs.declared.expression.ExprForm.TheBlock as ExprForms
 use Rattle.cmm_ast.specs.declared.expression.ExprForm.TheVariants.{Infix, Prefix, Prim, Memory as InMemory, Named}
 use Rattle.cmm_ast.specs.declared.expression.PrimForm.TheVariants.{Name as NameOf, Bracketed}
 use Rattle.cmm_ast.specs.declared.expression.Memory.{roll-Memory}
-use Rattle.cmm_ast.specs.Numbers.{keyword_number, symbol_number}
-use Rattle.cmm_ast.specs.Taking.{Reading, Takes, ◌⨾◌, token, nothing, is_keyword, is_symbol, is_name, is_operator, is_int, is_char, keyword as keyword_is, symbol as symbol_is, here as here_is, operator as operator_is, optional as optional_is, in_brackets as in_brackets_is, may_comma}
+use Rattle.cmm_ast.specs.Taking.{Reading, Takes, ◌⨾◌, token, nothing, is_word, is_sign, is_name, is_operator, is_int, is_char, keyword as keyword_is, symbol as symbol_is, here as here_is, operator as operator_is, optional as optional_is, in_brackets as in_brackets_is, may_comma}
 use Rattle.cmm_ast.specs.ExpressionGrammar as grammar
 use Rattle.cmm_ast.specs.ExpressionGrammar.{width_word, prefix_symbol, infix_symbol, infix_level, left_level, right_level, unary_level, level_of, binds, expr_form, prim_form, aligned_by, number_of}
 use Rattle.cmm_readers.specs.Reading.{Point, Read, Reads, ◌>>=◌, give, next, look, choice, passes, if_next, skip, skip_operator, in_brackets, pick, int, ident, name}
 use Rattle.cmm_readers.specs.ReadingLaws.{within, Sound}
 use Rattle.cmm_readers.specs.ExpressionReading.{width_in, prefix_in, infix_in, sized, type_by, type_name, named_type, number_in, typed, literal, bracketed, aligned, located, memory, name_or_memory, prefixed, unary_by, begins_expression, tight, infix_next, joined, climb, operand, expr, whole, prim_by, prim, whole_prim}
 use Rattle.cmm_readers.proofs.Sounds.{Goes, GoesAt, whole_sound, after_sound, last_sound, last_goes, same_sound, give_sound, at_sound, look_sound, stop_sound, next_sound, skip_sound, skip_last_sound, operator_sound, opening_last_sound, here_sound, enclosed_sound, outermost_sound, same_number, bound, read_same, renamed, one_taken, none_taken, taken_then, look_at_sound, at_same, choice_sound}
-use Rattle.cmm_readers.proofs.Completes.{number_same}
 use Rattle.cmm_readers.proofs.Lists.{takes_assoc, takes_nothing, rest_to, listed_goes, goes_same, chosen}
 use Rattle.cmm_readers.proofs.Tokens.{symbol_sound, ident_sound, int_sound, pick_sound, same_bytes, some_is}
 
@@ -54,9 +52,6 @@ pub found : {A : Type 0} (test : A → Bool) (as_ : List A) (a : A) → find tes
 found test [] a e = absurd cc
 found test (b ∷ bs) a e = found_by test b a bs (test b) refl (found test bs a) e
 
-pub turned : (n m : ℕ) → (n == m) ≡ true → (m == n) ≡ true
-turned n m e = rw (number_same n m e) (same_number m)
-
 abbrev pub all_infix : List InfixOperator
 all_infix = Eq ∷ Ne ∷ Lt ∷ Le ∷ Gt ∷ Ge ∷ Or ∷ Xor ∷ And ∷ Shl ∷ Shr ∷ Add ∷ Sub ∷ Mul ∷ Div ∷ Mod ∷ []
 
@@ -65,9 +60,8 @@ all_infix = Eq ∷ Ne ∷ Lt ∷ Le ∷ Gt ∷ Ge ∷ Or ∷ Xor ∷ And ∷ Shl
 pub type_form_sound : Sound (look type_by) grammar.type_form
 type_form_sound = whole_sound (look_sound by) where
   of_word : (n : ℕ) (o : Option Width) → width_in n ≡ o → GoesAt (Some (l.Word n)) (λ k. k) (sized o) grammar.type_form
-  of_word n (Some width) e = skip_last_sound (is_keyword (keyword_number (width_word width))) (Bits width)
-      (turned n (keyword_number (width_word width))
-      (found (λ w. n == keyword_number (width_word w)) (W8 ∷ W16 ∷ W32 ∷ W64 ∷ []) width e)) refl
+  of_word n (Some width) e = skip_last_sound (is_word (width_word width)) (Bits width)
+      (found (λ w. is_word (width_word w) (l.Word n)) (W8 ∷ W16 ∷ W32 ∷ W64 ∷ []) width e) refl
   of_word n None e = stop_sound
 
   by : (x : Option Lexeme) → GoesAt x (λ k. k) (type_by x) grammar.type_form
@@ -105,7 +99,7 @@ typed_is = optional_is (λ t. symbol_is Colons ⨾ grammar.type_name t)
 pub typed_sound : Sound typed typed_is
 typed_sound =
     whole_sound
-    (next_sound (λ x passed. skip_sound (is_symbol (symbol_number Colons)) passed (λ _. last_sound (λ t. Some t) type_name_sound (λ t. refl))) (λ x none. at_sound (give_sound None refl)))
+    (next_sound (λ x passed. skip_sound (is_sign Colons) passed (λ _. last_sound (λ t. Some t) type_name_sound (λ t. refl))) (λ x none. at_sound (give_sound None refl)))
 
 pub literal_sound : Sound literal prim_form
 literal_sound = whole_sound (after_sound number_sound (λ n. last_sound _ typed_sound (λ width. refl)))
@@ -121,50 +115,50 @@ in_brackets_sound opened_by closed_by inner =
 abbrev pub operand_is : ℕ → Expr → Takes
 operand_is level e = binds level e.form ⨾ here_is e.token ⨾ expr_form e.form
 
-aligned_first : (x : Lexeme) (i : Int) (r : Reading) → next r.left ≡ Some x → is_keyword (keyword_number Aligned) x ≡ true →
+aligned_first : (x : Lexeme) (i : Int) (r : Reading) → next r.left ≡ Some x → is_word Aligned x ≡ true →
     aligned_by i r ≡ (keyword_is Aligned ⨾ grammar.int i) r
 aligned_first x i r is passed =
-    let t = one_taken (is_keyword (keyword_number Aligned)) x r is passed in
+    let t = one_taken (is_word Aligned) x r is passed in
     ap (λ o. elim o as (λ _. Option Reading) [ Some after ↦ grammar.int i after | None ↦ (keyword_is Align ⨾ grammar.int i) r ]) t
     ∙ sym (taken_then (keyword_is Aligned) (grammar.int i) r _ t)
 
-align_first : (i : Int) (r : Reading) → passes (is_keyword (keyword_number Aligned)) (next r.left) ≡ false →
+align_first : (i : Int) (r : Reading) → passes (is_word Aligned) (next r.left) ≡ false →
     aligned_by i r ≡ (keyword_is Align ⨾ grammar.int i) r
 align_first i r none =
     ap (λ o. elim o as (λ _. Option Reading) [ Some after ↦ grammar.int i after | None ↦ (keyword_is Align ⨾ grammar.int i) r ])
-    (none_taken (is_keyword (keyword_number Aligned)) r none)
+    (none_taken (is_word Aligned) r none)
 
 pub aligned_sound : Sound aligned (optional_is aligned_by)
 aligned_sound = whole_sound (next_sound first then_) where
-  by_aligned : (x : Lexeme) → is_keyword (keyword_number Aligned) x ≡ true → (o : Option Int) (r : Reading) → next r.left ≡ Some x →
+  by_aligned : (x : Lexeme) → is_word Aligned x ≡ true → (o : Option Int) (r : Reading) → next r.left ≡ Some x →
       optional_is aligned_by o r ≡ optional_is (λ i. keyword_is Aligned ⨾ grammar.int i) o r
   by_aligned x passed (Some i) r is = aligned_first x i r is passed
   by_aligned x passed None r is = refl
 
-  by_align : (x : Lexeme) → is_keyword (keyword_number Aligned) x ≡ false → (o : Option Int) (r : Reading) → next r.left ≡ Some x →
+  by_align : (x : Lexeme) → is_word Aligned x ≡ false → (o : Option Int) (r : Reading) → next r.left ≡ Some x →
       optional_is aligned_by o r ≡ optional_is (λ i. keyword_is Align ⨾ grammar.int i) o r
   by_align x none (Some i) r is = align_first i r (rw is none)
   by_align x none None r is = refl
 
-  first : (x : Lexeme) → is_keyword (keyword_number Aligned) x ≡ true →
+  first : (x : Lexeme) → is_word Aligned x ≡ true →
       GoesAt (Some x) (λ k. k) (skip >>= λ _. int >>= λ bytes. give (Some bytes)) (optional_is aligned_by)
   first x passed = at_same (by_aligned x passed) (skip_sound _ passed (λ _. last_sound (λ i. Some i) int_sound (λ i. refl)))
 
-  second : (x : Option Lexeme) → passes (is_keyword (keyword_number Aligned)) x ≡ false →
+  second : (x : Option Lexeme) → passes (is_word Aligned) x ≡ false →
       GoesAt x (λ k. k)
-      (choice (passes (is_keyword (keyword_number Align)) x) (skip >>= λ _. int >>= λ bytes. give (Some bytes)) (give None))
+      (choice (passes (is_word Align) x) (skip >>= λ _. int >>= λ bytes. give (Some bytes)) (give None))
       (optional_is aligned_by)
   second (Some x) none =
       choice_sound (λ passed. at_same (by_align x none) (skip_sound _ passed (λ _. last_sound (λ i. Some i) int_sound (λ i. refl))))
       (λ fails. at_sound (give_sound None refl))
   second None none = at_sound (give_sound None refl)
 
-  then_ : (x : Option Lexeme) → passes (is_keyword (keyword_number Aligned)) x ≡ false →
+  then_ : (x : Option Lexeme) → passes (is_word Aligned) x ≡ false →
       GoesAt x (λ k. k)
-      (if_next (is_keyword (keyword_number Align)) (skip >>= λ _. int >>= λ bytes. give (Some bytes)) (give None))
+      (if_next (is_word Align) (skip >>= λ _. int >>= λ bytes. give (Some bytes)) (give None))
       (optional_is aligned_by)
   then_ x none =
-      look_at_sound (λ y. choice (passes (is_keyword (keyword_number Align)) y) (skip >>= λ _. int >>= λ bytes. give (Some bytes)) (give None))
+      look_at_sound (λ y. choice (passes (is_word Align) y) (skip >>= λ _. int >>= λ bytes. give (Some bytes)) (give None))
       (second x none)
 
 -- an expression without an operator between operands
@@ -188,11 +182,11 @@ module _ (inner : ℕ → Reads Expr) (sound : Sound (inner 0) (operand_is 0)) w
   name_or_memory_sound = record {
     sound = λ p f after e.
         let rest : Ident → Reads ExprForm = λ name.
-        if_next (is_symbol (symbol_number OpenSquare)) (memory inner (named_type name) >>= λ m. give (InMemory m)) (give (Prim (NameOf name.name)))
+        if_next (is_sign OpenSquare) (memory inner (named_type name) >>= λ m. give (InMemory m)) (give (Prim (NameOf name.name)))
         in
         let q = bound (ident true p) (λ a after. rest a true after) f after e in
         by p q.first q.between f after (ident_sound.sound p q.first q.between q.read)
-        (chosen (passes (is_symbol (symbol_number OpenSquare)) (next q.between.left)) (memory inner (named_type q.first) >>= λ m. give (InMemory m))
+        (chosen (passes (is_sign OpenSquare) (next q.between.left)) (memory inner (named_type q.first) >>= λ m. give (InMemory m))
         (give (Prim (NameOf q.first.name))) q.between f after q.then_read);
   }
     where
@@ -271,8 +265,8 @@ module _ (inner : ℕ → Reads Expr) (sound : (level : ℕ) → level ≤ unary
   prefixed_sound : (n : ℕ) (o : Option PrefixOperator) → prefix_in n ≡ o → GoesAt (Some (l.Symbol n)) (λ k. k) (prefixed inner o) unary_is
   unfolding opened
   prefixed_sound n (Some op) e =
-      operator_sound (is_symbol (symbol_number (prefix_symbol op)))
-      (turned n (symbol_number (prefix_symbol op)) (found (λ op. n == symbol_number (prefix_symbol op)) (Negate ∷ Complement ∷ []) op e))
+      operator_sound (is_sign (prefix_symbol op))
+      (found (λ op. is_sign (prefix_symbol op) (l.Symbol n)) (Negate ∷ Complement ∷ []) op e)
       (λ _. last_sound (λ x. Prefix op x) (sound unary_level (omega arith)) (λ x. refl))
   prefixed_sound n None e = at_sound (last_sound (λ x. Prim x) (bracketed_sound inner (sound 0 (omega arith))) (λ x. refl))
 
@@ -295,7 +289,7 @@ module _ (inner : ℕ → Reads Expr) (sound : (level : ℕ) → level ≤ unary
 pub record Grows (level : ℕ) (left : ExprForm) (x : Option Lexeme) (op : InfixOperator) : Type 0 where
   pub symbol : Lexeme
   pub is_next : x ≡ Some symbol
-  pub passed : is_symbol (symbol_number (infix_symbol op)) symbol ≡ true
+  pub passed : is_sign (infix_symbol op) symbol ≡ true
   pub high : nat_le level (infix_level op) ≡ true
   pub left_high : nat_le (left_level op) (level_of left) ≡ true
 
@@ -309,7 +303,7 @@ grows level left (Some (l.Symbol n)) op e = of_symbol (infix_in n) refl e where
       record {
         symbol = l.Symbol n;
         is_next = refl;
-        passed = rw (sym same) (turned n (symbol_number (infix_symbol o)) (found (λ x. n == symbol_number (infix_symbol x)) all_infix o is));
+        passed = rw (sym same) (found (λ x. is_sign (infix_symbol x) (l.Symbol n)) all_infix o is);
         high = rw (sym same) h;
         left_high = rw (sym same) lh;
       }
@@ -391,7 +385,7 @@ module _ (inner : ℕ → Reads Expr) (sound : (level : ℕ) → level ≤ unary
       climb_at turns level left high later x (Some op) e =
           let g = grows level left.form x op e in
           goes_at_is g.is_next
-          (operator_sound (is_symbol (symbol_number (infix_symbol op))) g.passed
+          (operator_sound (is_sign (infix_symbol op)) g.passed
           (λ _. after_sound (sound (right_level op) (small_level op)) (λ right.
           goes_same
           (λ k. joined_same left.token (expr_form left.form) (operator_is (symbol_is (infix_symbol op))) (operand_is (right_level op) right) k

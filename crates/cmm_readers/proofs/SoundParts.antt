@@ -3,10 +3,10 @@ use Rattle.std.proofs.Common.{◌≡◌, ℕ, ◌==◌, Bool, true, false, List,
 use Rattle.std.proofs.Math.Path.{fun_ext}
 use Rattle.cmm_lexer.specs.declared.piece.Lexeme.{Lexeme}
 use Rattle.cmm_ast.specs.declared.token.Ident.{Ident}
-use Rattle.cmm_ast.specs.declared.keyword.Keyword.{Keyword}
-use Rattle.cmm_ast.specs.declared.keyword.Keyword.TheVariants.{Aborts, Also, Cuts, Never, Returns, To, Unwinds}
-use Rattle.cmm_ast.specs.declared.keyword.Symbol.TheVariants.{Open, Close, OpenSquare, CloseSquare, Comma, Less, Greater, Slash}
-use Rattle.cmm_ast.specs.declared.keyword.Symbol.TheVariants as sign
+use Rattle.cmm_lexer.specs.declared.keyword.Keyword.{Keyword}
+use Rattle.cmm_lexer.specs.declared.keyword.Keyword.TheVariants.{Aborts, Also, Cuts, Never, Returns, To, Unwinds}
+use Rattle.cmm_lexer.specs.declared.symbol.Symbol.TheVariants.{Open, Close, OpenSquare, CloseSquare, Comma, Less, Greater, Slash}
+use Rattle.cmm_lexer.specs.declared.symbol.Symbol.TheVariants as sign
 use Rattle.cmm_ast.specs.declared.expression.TypeName.{TypeName}
 use Rattle.cmm_ast.specs.declared.expression.TypeForm.{TypeForm}
 use Rattle.cmm_ast.specs.declared.expression.TypeForm.TheVariants.{Bits, Named as OfName}
@@ -16,8 +16,7 @@ use Rattle.cmm_ast.specs.declared.statement.FlowForm.{FlowForm}
 use Rattle.cmm_ast.specs.declared.statement.FlowForm.TheVariants as flows
 use Rattle.cmm_ast.specs.declared.statement.Lvalue.{Lvalue}
 use Rattle.cmm_ast.specs.declared.statement.Lvalue.TheVariants as lvalues
-use Rattle.cmm_ast.specs.Numbers.{keyword_number, symbol_number}
-use Rattle.cmm_ast.specs.Taking.{Reading, Takes, ◌⨾◌, token, taken_if, is_keyword, is_symbol, here as here_is, keyword as keyword_is, symbol as symbol_is, round as round_is, may_list as may_list_is, square as square_is, outermost as outermost_is, optional as optional_is, commas as commas_is, listed as listed_is, may_comma as may_comma_is}
+use Rattle.cmm_ast.specs.Taking.{Reading, Takes, ◌⨾◌, token, taken_if, is_word, is_sign, here as here_is, keyword as keyword_is, symbol as symbol_is, round as round_is, may_list as may_list_is, square as square_is, outermost as outermost_is, optional as optional_is, commas as commas_is, listed as listed_is, may_comma as may_comma_is}
 use Rattle.cmm_ast.specs.ExpressionGrammar as grammar
 use Rattle.cmm_ast.specs.ExpressionGrammar.{whole_memory as whole_memory_is, aligned_by}
 use Rattle.cmm_ast.specs.StatementGrammar as statements
@@ -140,19 +139,19 @@ names_goes fuel verb make same =
 also_goes : (fuel : ℕ) → Goes (λ k. keyword_is Also ⨾ k) (also fuel) flow_is
 also_goes fuel =
     next_sound
-    (λ x passed. skip_sound (is_keyword (keyword_number Aborts)) passed (λ _.
+    (λ x passed. skip_sound (is_word Aborts) passed (λ _.
     last_sound (λ _. flows.Aborts) may_comma_sound (λ _. takes_assoc (keyword_is Also) (keyword_is Aborts) may_comma_is)))
     (λ x none. at_sound (next_sound
-    (λ x passed. skip_sound (is_keyword (keyword_number Cuts)) passed (λ _. names_goes fuel Cuts (λ n. flows.CutsTo n) (λ n. refl)))
+    (λ x passed. skip_sound (is_word Cuts) passed (λ _. names_goes fuel Cuts (λ n. flows.CutsTo n) (λ n. refl)))
     (λ x none. at_sound (next_sound
-    (λ x passed. skip_sound (is_keyword (keyword_number Unwinds)) passed (λ _. names_goes fuel Unwinds (λ n. flows.UnwindsTo n) (λ n. refl)))
+    (λ x passed. skip_sound (is_word Unwinds) passed (λ _. names_goes fuel Unwinds (λ n. flows.UnwindsTo n) (λ n. refl)))
     (λ x none. at_sound (after_sound (keyword_sound Returns) (λ _. names_goes fuel Returns (λ n. flows.ReturnsTo n) (λ n. refl))))))))
 
 flow_form_sound : (fuel : ℕ) → Sound (flow_form fuel) flow_is
 flow_form_sound fuel =
     whole_sound
     (next_sound
-    (λ x passed. skip_sound (is_keyword (keyword_number Never)) passed (λ _. after_sound (keyword_sound Returns) (λ _.
+    (λ x passed. skip_sound (is_word Never) passed (λ _. after_sound (keyword_sound Returns) (λ _.
     last_sound (λ _. flows.NeverReturns) may_comma_sound (λ _. takes_assoc (keyword_is Never) (keyword_is Returns) may_comma_is))))
     (λ x none. at_sound (after_sound (keyword_sound Also) (λ _. also_goes fuel))))
 
@@ -173,7 +172,7 @@ range_end_sound : (fuel : ℕ) → Sound (range_end fuel) (optional_is (λ e. sy
 range_end_sound fuel =
     whole_sound
     (next_sound
-    (λ x passed. skip_sound (is_symbol (symbol_number sign.Range)) passed (λ _. last_sound (λ e. Some e) (whole_expr_sound fuel) (λ e. refl)))
+    (λ x passed. skip_sound (is_sign sign.Range) passed (λ _. last_sound (λ e. Some e) (whole_expr_sound fuel) (λ e. refl)))
     (λ x none. at_sound (give_sound None refl)))
 
 pub range_sound : (fuel : ℕ) → Sound (range fuel) statements.range

@@ -2,8 +2,8 @@
 use Rattle.std.proofs.Common.{◌≡◌, ℕ, Option, Some, None, refl, sym, ap}
 use Rattle.cmm_ast.specs.declared.token.Ident.{Ident}
 use Rattle.cmm_ast.specs.declared.token.Text.{Text}
-use Rattle.cmm_ast.specs.declared.keyword.Keyword.TheVariants.{Align, Invariant, Stackdata}
-use Rattle.cmm_ast.specs.declared.keyword.Symbol.TheVariants.{Open, Close, Colon, OpenBrace, CloseBrace, OpenSquare, CloseSquare, Semicolon}
+use Rattle.cmm_lexer.specs.declared.keyword.Keyword.TheVariants.{Align, Invariant, Stackdata}
+use Rattle.cmm_lexer.specs.declared.symbol.Symbol.TheVariants.{Open, Close, Colon, OpenBrace, CloseBrace, OpenSquare, CloseSquare, Semicolon}
 use Rattle.cmm_ast.specs.declared.expression.TypeName.{TypeName}
 use Rattle.cmm_ast.specs.declared.procedure.Modifiers.{Modifiers}
 use Rattle.cmm_ast.specs.declared.procedure.Modifiers.TheVariants as modifiers
@@ -94,4 +94,4 @@ module _ {block : Reads Block} (block_sound : Sound block bodies.block) where
   pub procedure_goes : (fuel : ℕ) (name : Ident) → Goes (λ k. grammar.ident name ⨾ k) (procedure fuel block name) bodies.proc
   procedure_goes fuel name =
       after_sound (in_brackets_sound Open Close (may_list_sound formal_sound begins_formal fuel))
-      (λ formals. last_sound _ block_sound (λ body. refl))
+      (λ formals. after_sound block_sound (λ body. last_sound _ here_sound (λ past. refl)))

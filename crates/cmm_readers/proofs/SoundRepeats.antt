@@ -1,8 +1,8 @@
 -- Parts that may be missing, rows, and words that say what follows: what they take, and how they are read.
 use Rattle.std.proofs.Common.{ℕ, Bool, true, [], Some, None, refl}
 use Rattle.cmm_lexer.specs.declared.piece.Lexeme.{Lexeme}
-use Rattle.cmm_ast.specs.declared.keyword.Keyword.{Keyword}
-use Rattle.cmm_ast.specs.declared.keyword.Symbol.{Symbol}
+use Rattle.cmm_lexer.specs.declared.keyword.Keyword.{Keyword}
+use Rattle.cmm_lexer.specs.declared.symbol.Symbol.{Symbol}
 use Rattle.cmm_ast.specs.Taking.{Takes, ◌⨾◌, keyword as keyword_is, symbol as symbol_is, optional as optional_is, many as many_is}
 use Rattle.cmm_readers.specs.Reading.{Reads, ◌>>=◌, if_next, optional, many}
 use Rattle.cmm_readers.specs.ReadingLaws.{within, Sound}

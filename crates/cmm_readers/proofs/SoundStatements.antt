@@ -3,8 +3,8 @@ use Rattle.std.proofs.Common.{◌≡◌, ℕ, zero, suc, [], ◌∷◌, Option, 
 use Rattle.cmm_lexer.specs.declared.piece.Lexeme.{Lexeme}
 use Rattle.cmm_lexer.specs.declared.piece.Lexeme.TheVariants as l
 use Rattle.cmm_ast.specs.declared.token.Ident.{Ident}
-use Rattle.cmm_ast.specs.declared.keyword.Keyword.TheVariants as word
-use Rattle.cmm_ast.specs.declared.keyword.Symbol.TheVariants as sign
+use Rattle.cmm_lexer.specs.declared.keyword.Keyword.TheVariants as word
+use Rattle.cmm_lexer.specs.declared.symbol.Symbol.TheVariants as sign
 use Rattle.cmm_ast.specs.declared.expression.Expr.{Expr}
 use Rattle.cmm_ast.specs.declared.expression.Memory.{Memory, Memory'}
 use Rattle.cmm_ast.specs.declared.procedure.LocalForm.{LocalForm}
@@ -17,8 +17,7 @@ use Rattle.cmm_ast.specs.declared.statement.Otherwise.{Otherwise}
 use Rattle.cmm_ast.specs.declared.statement.Otherwise.TheVariants as otherwises
 use Rattle.cmm_ast.specs.declared.statement.StmtForm.{StmtForm}
 use Rattle.cmm_ast.specs.declared.statement.StmtForm.TheVariants as stmts
-use Rattle.cmm_ast.specs.Numbers.{keyword_number, symbol_number}
-use Rattle.cmm_ast.specs.Taking.{Takes, ◌⨾◌, nothing, is_keyword, is_symbol, keyword as keyword_is, symbol as symbol_is, here as here_is, optional as optional_is, square as square_is, enclosed as enclosed_is, opening as opening_is, outermost as outermost_is}
+use Rattle.cmm_ast.specs.Taking.{Takes, ◌⨾◌, nothing, is_word, is_sign, keyword as keyword_is, symbol as symbol_is, here as here_is, optional as optional_is, square as square_is, enclosed as enclosed_is, opening as opening_is, outermost as outermost_is}
 use Rattle.cmm_ast.specs.ExpressionGrammar as grammar
 use Rattle.cmm_ast.specs.ExpressionGrammar.{operand, aligned_by}
 use Rattle.cmm_ast.specs.StatementGrammar as bodies
@@ -45,7 +44,7 @@ use Rattle.cmm_readers.proofs.StatementForms.{form_of_if, chained_if, form_of_sp
 case_sound : (fuel : ℕ) → Sound (case fuel) bodies.case
 case_sound fuel =
     whole_sound
-    (next_sound (λ x passed. skip_sound (is_keyword (keyword_number word.Default)) passed
+    (next_sound (λ x passed. skip_sound (is_word word.Default) passed
     (λ _. last_sound (λ _. cases.Default) (symbol_sound sign.Colon) (λ _. refl)))
     (λ x none. at_sound
     (after_sound (keyword_sound word.Case) (λ _. after_sound (commas_sound (range_sound fuel) fuel) (λ ranges.
@@ -63,11 +62,11 @@ switch_span_sound fuel =
 word_stmt_sound : (fuel : ℕ) → Sound (word_stmt fuel) bodies.stmt_form
 word_stmt_sound fuel =
     whole_sound
-    (next_sound (λ x passed. skip_sound (is_keyword (keyword_number word.Return)) passed (λ _. return_goes))
-    (λ x none. at_sound (next_sound (λ x passed. skip_sound (is_keyword (keyword_number word.Goto)) passed (λ _. goto_goes))
-    (λ x none. at_sound (next_sound (λ x passed. skip_sound (is_keyword (keyword_number word.Jump)) passed (λ _. jump_goes))
-    (λ x none. at_sound (next_sound (λ x passed. skip_sound (is_keyword (keyword_number word.Cut)) passed (λ _. cut_goes))
-    (λ x none. at_sound (next_sound (λ x passed. skip_sound (is_keyword (keyword_number word.Continuation)) passed (λ _. continuation_goes))
+    (next_sound (λ x passed. skip_sound (is_word word.Return) passed (λ _. return_goes))
+    (λ x none. at_sound (next_sound (λ x passed. skip_sound (is_word word.Goto) passed (λ _. goto_goes))
+    (λ x none. at_sound (next_sound (λ x passed. skip_sound (is_word word.Jump) passed (λ _. jump_goes))
+    (λ x none. at_sound (next_sound (λ x passed. skip_sound (is_word word.Cut) passed (λ _. cut_goes))
+    (λ x none. at_sound (next_sound (λ x passed. skip_sound (is_word word.Continuation) passed (λ _. continuation_goes))
     (λ x none. at_sound (next_sound (λ x passed. at_sound (goes_same (λ k. refl) (call_after_goes fuel []))) (λ x none. stop_sound)))))))))))) where
       return_goes : Goes (λ k. keyword_is word.Return ⨾ k) (return_form fuel) bodies.stmt_form
       return_goes =
@@ -119,7 +118,7 @@ memory_stmt_goes fuel m =
 name_stmt_goes : (fuel : ℕ) (name : Ident) → Goes (λ k. grammar.ident name ⨾ k) (name_stmt fuel name) bodies.stmt_form
 name_stmt_goes fuel name =
     next_sound
-    (λ x passed. skip_sound (is_symbol (symbol_number sign.Colon)) passed
+    (λ x passed. skip_sound (is_sign sign.Colon) passed
     (λ _. give_sound (stmts.Label name) (ap (λ t. grammar.ident name ⨾ t) (sym (takes_nothing (symbol_is sign.Colon))))))
     (λ x none. at_sound (next_sound
     (λ x passed. at_sound (goes_then (whole_memory_goes fuel (named_type name)) (λ m. memory_stmt_goes fuel m)))
@@ -151,7 +150,7 @@ flat_part_sound fuel = whole_sound (look_sound by) where
       at_sound
       (after_sound text_sound (λ kind.
       next_sound
-      (λ x passed. skip_sound (is_keyword (keyword_number word.Invariant)) passed (λ _. after_sound type_name_sound (λ width.
+      (λ x passed. skip_sound (is_word word.Invariant) passed (λ _. after_sound type_name_sound (λ width.
       of_local_goes
       (goes_same (λ k. sym (takes_assoc (grammar.text kind) (keyword_is word.Invariant) (grammar.type_name width ⨾ k)))
       (variables_goes fuel (before.KindInvariant kind) width)))))
@@ -175,7 +174,7 @@ flat_part_sound fuel = whole_sound (look_sound by) where
       (λ x none. at_sound (next_sound
       (λ x passed. at_sound (after_sound modifiers_sound (λ found. after_sound type_name_sound (λ width. of_local_goes (variables_goes fuel found width)))))
       (λ x none. at_sound (next_sound
-      (λ x passed. skip_sound (is_keyword (keyword_number word.Stackdata)) passed (λ _. of_local_goes (stackdata_goes fuel)))
+      (λ x passed. skip_sound (is_word word.Stackdata) passed (λ _. of_local_goes (stackdata_goes fuel)))
       (λ x none. at_sound (of_stmt_goes (whole_goes (word_stmt_sound fuel)))))))))
   by _ = at_sound (of_stmt_goes (whole_goes (symbol_stmt_sound fuel)))
 
@@ -188,7 +187,7 @@ if_goes : {so_far : Takes → Takes} {takes : StmtForm → Takes} {blocks : Read
 if_goes inner rest same fuel =
     after_sound (whole_expr_sound fuel) (λ c. after_sound inner (λ b. last_sound (λ o. stmts.If c b o) rest (λ o. same c b o)))
 
-opened_if_sound : Sound (if_next (is_keyword (keyword_number word.If)) skip_opening stop) (λ _. opening_is (keyword_is word.If))
+opened_if_sound : Sound (if_next (is_word word.If) skip_opening stop) (λ _. opening_is (keyword_is word.If))
 opened_if_sound = whole_sound (next_sound (λ x passed. opening_last_sound _ passed refl) (λ x none. stop_sound))
 
 module _ {blocks : Reads Block} (inner : Sound blocks bodies.block) where
@@ -207,8 +206,8 @@ module _ {blocks : Reads Block} (inner : Sound blocks bodies.block) where
   otherwise_sound (suc turns) fuel =
       whole_sound
       (next_sound
-      (λ x passed. skip_sound (is_keyword (keyword_number word.Else)) passed (λ _.
-      next_sound {test = is_symbol (symbol_number sign.OpenBrace)} (λ x passed. at_sound (last_sound otherwises.Else inner form_of_else))
+      (λ x passed. skip_sound (is_word word.Else) passed (λ _.
+      next_sound {test = is_sign sign.OpenBrace} (λ x passed. at_sound (last_sound otherwises.Else inner form_of_else))
       (λ x none. at_sound (last_sound otherwises.ElseIf (chained_sound (otherwise_sound turns fuel) fuel) form_of_else_if))))
       (λ x none. at_sound (give_sound otherwises.Nothing refl)))
 
@@ -220,10 +219,10 @@ module _ {blocks : Reads Block} (inner : Sound blocks bodies.block) where
   part_form_sound : (fuel : ℕ) → Sound (part_form fuel blocks) form_is
   part_form_sound fuel =
       whole_sound
-      (next_sound (λ x passed. skip_sound (is_keyword (keyword_number word.If)) passed
+      (next_sound (λ x passed. skip_sound (is_word word.If) passed
       (λ _. of_stmt_goes (if_goes inner (otherwise_sound fuel fuel) form_of_if fuel)))
-      (λ x none. at_sound (next_sound (λ x passed. skip_sound (is_keyword (keyword_number word.Switch)) passed (λ _. of_stmt_goes switch_goes))
-      (λ x none. at_sound (next_sound (λ x passed. skip_sound (is_keyword (keyword_number word.Span)) passed (λ _. of_stmt_goes span_goes))
+      (λ x none. at_sound (next_sound (λ x passed. skip_sound (is_word word.Switch) passed (λ _. of_stmt_goes switch_goes))
+      (λ x none. at_sound (next_sound (λ x passed. skip_sound (is_word word.Span) passed (λ _. of_stmt_goes span_goes))
       (λ x none. at_sound (whole_goes (flat_part_sound fuel))))))))
     where
       switch_goes : Goes (λ k. keyword_is word.Switch ⨾ k) (switch_form fuel blocks) bodies.stmt_form

@@ -1,8 +1,8 @@
 -- Data, sections and units that are read are trees of the tokens that they take.
 use Rattle.std.proofs.Common.{◌≡◌, ℕ, zero, suc, Bool, true, false, List, Option, Some, None, refl, sym, ap, ◌∙◌, ◌==◌}
 use Rattle.cmm_ast.specs.declared.token.Ident.{Ident}
-use Rattle.cmm_ast.specs.declared.keyword.Keyword.TheVariants.{Align, Section as SectionWord, Span}
-use Rattle.cmm_ast.specs.declared.keyword.Symbol.TheVariants.{Colon, OpenBrace, CloseBrace, OpenSquare, CloseSquare, Semicolon}
+use Rattle.cmm_lexer.specs.declared.keyword.Keyword.TheVariants.{Align, Section as SectionWord, Span}
+use Rattle.cmm_lexer.specs.declared.symbol.Symbol.TheVariants.{Colon, OpenBrace, CloseBrace, OpenSquare, CloseSquare, Semicolon}
 use Rattle.cmm_ast.specs.declared.expression.TypeName.{TypeName}
 use Rattle.cmm_ast.specs.declared.expression.Expr.{Expr}
 use Rattle.cmm_ast.specs.declared.statement.Block.{Block}

@@ -1,7 +1,7 @@
 -- What statements, blocks and parts take, in terms of the parts that a tree is made of.
 use Rattle.std.proofs.Common.{◌≡◌, ℕ, List, Option, refl, sym, ap, ◌∙◌}
 use denote.Hole.Carrier as Carrier
-use Rattle.cmm_ast.specs.declared.keyword.Keyword.TheVariants.{Else, If, Span, Switch}
+use Rattle.cmm_lexer.specs.declared.keyword.Keyword.TheVariants.{Else, If, Span, Switch}
 use Rattle.cmm_ast.specs.declared.expression.Expr.{Expr}
 use Rattle.cmm_ast.specs.declared.expression.Primary.{Primary}
 use Rattle.cmm_ast.specs.declared.statement.Arm.{Arm}

@@ -6,10 +6,10 @@ use Rattle.cmm_lexer.specs.declared.piece.Lexeme.TheVariants as l
 use Rattle.cmm_ast.specs.declared.token.Ident.{Ident}
 use Rattle.cmm_ast.specs.declared.token.Text.{Text}
 use Rattle.cmm_ast.specs.declared.token.Int.{Int}
-use Rattle.cmm_ast.specs.declared.keyword.Keyword.{Keyword}
-use Rattle.cmm_ast.specs.declared.keyword.Symbol.{Symbol}
-use Rattle.cmm_ast.specs.Numbers.{keyword_number, symbol_number}
-use Rattle.cmm_ast.specs.Taking.{token, is_keyword, is_symbol, is_name, is_text, is_operator, is_checked, is_int, is_char, keyword as keyword_is, symbol as symbol_is}
+use Rattle.cmm_lexer.specs.declared.keyword.Keyword.{Keyword}
+use Rattle.cmm_lexer.specs.declared.symbol.Symbol.{Symbol}
+use Rattle.cmm_lexer.specs.Spellings.{keyword_number, symbol_number}
+use Rattle.cmm_ast.specs.Taking.{token, is_word, is_sign, is_name, is_text, is_operator, is_checked, is_int, is_char, keyword as keyword_is, symbol as symbol_is}
 use Rattle.cmm_ast.specs.ExpressionGrammar.{ident as ident_is, text as text_is, int as int_is}
 use Rattle.cmm_readers.specs.Reading.{expect, keyword, symbol, picked, held, pick, name_in, text_in, int_in, checked_in, name, ident, text, int}
 use Rattle.cmm_readers.specs.ReadingLaws.{Sound, Complete, Local}
@@ -19,13 +19,13 @@ use Rattle.cmm_readers.proofs.Locals.{after_local, give_local, stop_local, here_
 
 -- ---- tests that one token alone passes
 
-pub only_symbol : (n : ℕ) → Only (is_symbol n) (l.Symbol n)
-only_symbol n (l.Symbol m) e = ap (λ k. l.Symbol k) (sym (number_same n m e))
-only_symbol n _ e = absurd cc
+pub only_symbol : (s : Symbol) → Only (is_sign s) (l.Symbol (symbol_number s))
+only_symbol s (l.Symbol n) e = ap (λ k. l.Symbol k) (sym (number_same (symbol_number s) n e))
+only_symbol s _ e = absurd cc
 
-pub only_keyword : (n : ℕ) → Only (is_keyword n) (l.Word n)
-only_keyword n (l.Word m) e = ap (λ k. l.Word k) (sym (number_same n m e))
-only_keyword n _ e = absurd cc
+pub only_keyword : (k : Keyword) → Only (is_word k) (l.Word (keyword_number k))
+only_keyword k (l.Word n) e = ap (λ k. l.Word k) (sym (number_same (keyword_number k) n e))
+only_keyword k _ e = absurd cc
 
 pub only_int : (n : ℕ) → Only (is_int n) (l.Int n)
 only_int n (l.Int m) e = ap (λ k. l.Int k) (sym (number_same n m e))
@@ -73,7 +73,7 @@ pub symbol_sound : (s : Symbol) → Sound (symbol s) (λ _. symbol_is s)
 symbol_sound s = expect_sound _
 
 pub symbol_complete : {fuel : ℕ} (s : Symbol) → Complete fuel (symbol_is s) tt (symbol s) (Next (l.Symbol (symbol_number s))) Anything
-symbol_complete s = expect_complete _ _ (only_symbol (symbol_number s)) (same_number (symbol_number s))
+symbol_complete s = expect_complete _ _ (only_symbol s) (same_number (symbol_number s))
 
 pub symbol_local : (s : Symbol) → Local (symbol s)
 symbol_local s = expect_local _
@@ -82,7 +82,7 @@ pub keyword_sound : (k : Keyword) → Sound (keyword k) (λ _. keyword_is k)
 keyword_sound k = expect_sound _
 
 pub keyword_complete : {fuel : ℕ} (k : Keyword) → Complete fuel (keyword_is k) tt (keyword k) (Next (l.Word (keyword_number k))) Anything
-keyword_complete k = expect_complete _ _ (only_keyword (keyword_number k)) (same_number (keyword_number k))
+keyword_complete k = expect_complete _ _ (only_keyword k) (same_number (keyword_number k))
 
 pub keyword_local : (k : Keyword) → Local (keyword k)
 keyword_local k = expect_local _

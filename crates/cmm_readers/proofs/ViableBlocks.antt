@@ -1,8 +1,8 @@
 -- Where a reader of a statement that holds blocks, or of a block, stops, some tree begins with the tokens gone through.
 use Rattle.std.proofs.Common.{◌≡◌, ℕ, zero, suc, true, List, [], refl, sym, ap}
 use Rattle.cmm_lexer.specs.declared.piece.Lexeme.TheVariants as l
-use Rattle.cmm_ast.specs.declared.keyword.Keyword.TheVariants as word
-use Rattle.cmm_ast.specs.declared.keyword.Symbol.TheVariants as sign
+use Rattle.cmm_lexer.specs.declared.keyword.Keyword.TheVariants as word
+use Rattle.cmm_lexer.specs.declared.symbol.Symbol.TheVariants as sign
 use Rattle.cmm_ast.specs.declared.expression.Expr.{Expr}
 use Rattle.cmm_ast.specs.declared.statement.Block.{Block}
 use Rattle.cmm_ast.specs.declared.statement.Otherwise.{Otherwise}
@@ -10,8 +10,8 @@ use Rattle.cmm_ast.specs.declared.statement.Otherwise.TheVariants as otherwises
 use Rattle.cmm_ast.specs.declared.statement.Part.{Part}
 use Rattle.cmm_ast.specs.declared.statement.StmtForm.{StmtForm}
 use Rattle.cmm_ast.specs.declared.statement.StmtForm.TheVariants as stmts
-use Rattle.cmm_ast.specs.Numbers.{keyword_number, symbol_number}
-use Rattle.cmm_ast.specs.Taking.{Takes, ◌⨾◌, nothing, is_keyword, is_symbol, keyword as keyword_is, here as here_is, enclosed as enclosed_is, opening as opening_is}
+use Rattle.cmm_lexer.specs.Spellings.{keyword_number}
+use Rattle.cmm_ast.specs.Taking.{Takes, ◌⨾◌, nothing, is_word, is_sign, keyword as keyword_is, here as here_is, enclosed as enclosed_is, opening as opening_is}
 use Rattle.cmm_ast.specs.ExpressionGrammar as grammar
 use Rattle.cmm_ast.specs.StatementGrammar as bodies
 use Rattle.cmm_readers.specs.Reading.{Reads, give, if_next, skip_opening, stop}
@@ -26,8 +26,8 @@ use Rattle.cmm_readers.proofs.ViableLists.{if_word_leads, braces_viable, optiona
 use Rattle.cmm_readers.proofs.ViableStatements.{case_viable, switch_span_viable, of_stmt_leads, flat_part_leads}
 use Rattle.cmm_readers.proofs.ViableOperands.{whole_expr_viable, whole_prim_viable}
 
-opened_if_viable : Extends true true (if_next (is_keyword (keyword_number word.If)) skip_opening stop) (λ _. opening_is (keyword_is word.If))
-opened_if_viable = opening_viable (is_keyword (keyword_number word.If)) (l.Word (keyword_number word.If)) (same_number (keyword_number word.If)) (λ e. refl)
+opened_if_viable : Extends true true (if_next (is_word word.If) skip_opening stop) (λ _. opening_is (keyword_is word.If))
+opened_if_viable = opening_viable (is_word word.If) (l.Word (keyword_number word.If)) (same_number (keyword_number word.If)) (λ e. refl)
 
 -- a block of these parts
 abbrev block_of : List Part → Block
@@ -56,7 +56,7 @@ module _ {blocks : Reads Block} (inner : Extends true true blocks bodies.block) 
   otherwise_viable (suc turns) fuel =
       whole_viable
       (if_word_leads word.Else
-      (if_next_leads (is_symbol (symbol_number sign.OpenBrace)) (last_leads otherwises.Else inner form_of_else)
+      (if_next_leads (is_sign sign.OpenBrace) (last_leads otherwises.Else inner form_of_else)
       (last_leads otherwises.ElseIf (chained_viable (otherwise_viable turns fuel) fuel) form_of_else_if))
       (give_leads otherwises.Nothing refl))
 
@@ -68,7 +68,7 @@ module _ {blocks : Reads Block} (inner : Extends true true blocks bodies.block) 
 
   switch_leads : (fuel : ℕ) → Leads true true true (λ k. keyword_is word.Switch ⨾ k) (switch_form fuel blocks) bodies.stmt_form
   switch_leads fuel =
-      after_leads (optional_viable (is_symbol (symbol_number sign.OpenSquare)) (switch_span_viable fuel)) (λ over.
+      after_leads (optional_viable (is_sign sign.OpenSquare) (switch_span_viable fuel)) (λ over.
       after_leads (whole_expr_viable fuel) (λ v.
       last_leads (λ arms. stmts.Switch over v arms)
       (braces_viable (row_viable (arm_viable fuel) (λ as_. many_to arm_ as_ nothing) (λ as_. refl) is_within fuel))

@@ -1,8 +1,8 @@
 -- Where a reader of declarations stops, some tree begins with the tokens gone through.
 use Rattle.std.proofs.Common.{ℕ, true, false, [], Option, Some, None, refl, sym}
 use Rattle.cmm_ast.specs.declared.token.Ident.{Ident}
-use Rattle.cmm_ast.specs.declared.keyword.Keyword.TheVariants.{As, Big, Byteorder, Const, Export as ExportWord, Import as ImportWord, Invariant, Little, Memsize, Pointersize, Register, Target, Typedef, Wordsize}
-use Rattle.cmm_ast.specs.declared.keyword.Symbol.TheVariants.{Assign, Semicolon}
+use Rattle.cmm_lexer.specs.declared.keyword.Keyword.TheVariants.{As, Big, Byteorder, Const, Export as ExportWord, Import as ImportWord, Invariant, Little, Memsize, Pointersize, Register, Target, Typedef, Wordsize}
+use Rattle.cmm_lexer.specs.declared.symbol.Symbol.TheVariants.{Assign, Semicolon}
 use Rattle.cmm_ast.specs.declared.expression.TypeName.{TypeName}
 use Rattle.cmm_ast.specs.declared.declaration.PropertyForm.TheVariants as properties
 use Rattle.cmm_ast.specs.declared.declaration.ByteOrder.TheVariants as orders

@@ -1,23 +1,22 @@
 -- Where a reader of a type or of an expression stops, some tree begins with the tokens gone through.
-use Rattle.std.proofs.Common.{◌≡◌, ℕ, Bool, true, false, ◌||◌, ◌==◌, List, [], ◌∷◌, Option, Some, None, refl, sym}
+use Rattle.std.proofs.Common.{◌≡◌, ℕ, Bool, true, false, ◌||◌, List, [], ◌∷◌, Option, Some, None, refl, sym}
 use Rattle.std.proofs.Math.Path.{fun_ext}
 use Rattle.cmm_words.specs.declared.width.Width.{Width}
 use Rattle.cmm_words.specs.declared.width.Width.TheVariants.{W8, W16, W32, W64}
 use Rattle.cmm_lexer.specs.declared.piece.Lexeme.{Lexeme}
 use Rattle.cmm_lexer.specs.declared.piece.Lexeme.TheVariants as l
 use Rattle.cmm_ast.specs.declared.token.Int.{Int}
-use Rattle.cmm_ast.specs.declared.keyword.Keyword.TheVariants.{Align, Aligned}
+use Rattle.cmm_lexer.specs.declared.keyword.Keyword.TheVariants.{Align, Aligned}
 use Rattle.cmm_ast.specs.declared.expression.TypeForm.TheVariants.{Bits, Named as OfName}
 use Rattle.cmm_ast.specs.declared.expression.Number.TheVariants as number
-use Rattle.cmm_ast.specs.Numbers.{keyword_number}
-use Rattle.cmm_ast.specs.Taking.{Reading, ◌⨾◌, token, taken_if, is_keyword, is_name, optional as optional_is}
+use Rattle.cmm_ast.specs.Taking.{Reading, ◌⨾◌, token, taken_if, is_word, is_name, optional as optional_is}
 use Rattle.cmm_ast.specs.ExpressionGrammar as grammar
 use Rattle.cmm_ast.specs.ExpressionGrammar.{width_word, number_of, prim_form, aligned_by}
 use Rattle.cmm_readers.specs.Reading.{◌>>=◌, give, look, skip, pick, int}
 use Rattle.cmm_readers.specs.ExpressionReading.{width_in, sized, type_by, type_name, number_in, typed, literal, aligned}
 use Rattle.cmm_readers.proofs.Tokens.{same_bytes}
 use Rattle.cmm_readers.proofs.Lists.{takes_nothing}
-use Rattle.cmm_readers.proofs.SoundExpressions.{found, turned, typed_is, number_test, number_is, number_in_is}
+use Rattle.cmm_readers.proofs.SoundExpressions.{found, typed_is, number_test, number_is, number_in_is}
 use Rattle.cmm_readers.proofs.Viables.{Ends, Leads, LeadsAt, Extends, after_leads, whole_viable, give_leads, last_leads, viable_same, at_leads, look_leads, stop_leads, next_leads}
 use Rattle.cmm_readers.proofs.ViableTokens.{ends_token, skip_leads, skip_last_leads, here_viable}
 use Rattle.cmm_readers.proofs.ViableLists.{pick_viable, int_viable}
@@ -33,9 +32,8 @@ type_form_viable {first} = whole_viable (look_leads some by) where
 
   of_word : (n : ℕ) (o : Option Width) → width_in n ≡ o → LeadsAt (Some (l.Word n)) first first true (λ k. k) (sized o) grammar.type_form
   of_word n (Some width) e =
-      skip_last_leads (is_keyword (keyword_number (width_word width))) (Bits width)
-      (turned n (keyword_number (width_word width))
-      (found (λ w. n == keyword_number (width_word w)) (W8 ∷ W16 ∷ W32 ∷ W64 ∷ []) width e)) refl
+      skip_last_leads (is_word (width_word width)) (Bits width)
+      (found (λ w. is_word (width_word w) (l.Word n)) (W8 ∷ W16 ∷ W32 ∷ W64 ∷ []) width e) refl
   of_word n None e = at_leads (stop_leads some)
 
   by : (x : Option Lexeme) → LeadsAt x first first true (λ k. k) (type_by x) grammar.type_form
@@ -62,7 +60,7 @@ literal_viable = whole_viable (after_leads number_viable (λ n. last_leads _ typ
 -- ---- what an address is said to be a multiple of
 
 abbrev either_word : Lexeme → Bool
-either_word x = is_keyword (keyword_number Aligned) x || is_keyword (keyword_number Align) x
+either_word x = is_word Aligned x || is_word Align x
 
 -- either word does
 aligned_same : (i : Int) → aligned_by i ≡ (token either_word ⨾ grammar.int i)
@@ -79,7 +77,7 @@ aligned_same i = fun_ext (λ r. at r.left r.taken r.open_brackets r.operators r.
       ≡ (token either_word ⨾ grammar.int i) (record { left = left; taken = taken; open_brackets = opens; operators = operators; over = over })
   at [] taken opens operators over = refl
   at (x ∷ xs) taken opens operators over =
-      by (is_keyword (keyword_number Aligned) x) (is_keyword (keyword_number Align) x) xs
+      by (is_word Aligned x) (is_word Align x) xs
       (record { left = x ∷ xs; taken = taken; open_brackets = opens; operators = operators; over = over })
 
 pub aligned_viable : Extends true true aligned (optional_is aligned_by)
@@ -91,11 +89,11 @@ aligned_viable =
     none : Leads true true true (λ k. k) (give None) (optional_is aligned_by)
     none = give_leads None refl
 
-    first : (x : Lexeme) → is_keyword (keyword_number Aligned) x ≡ true → either_word x ≡ true
+    first : (x : Lexeme) → is_word Aligned x ≡ true → either_word x ≡ true
     first x passed = rw passed refl
 
-    second : (x : Lexeme) → is_keyword (keyword_number Align) x ≡ true → either_word x ≡ true
-    second x passed = rw passed (or-true (is_keyword (keyword_number Aligned) x))
+    second : (x : Lexeme) → is_word Align x ≡ true → either_word x ≡ true
+    second x passed = rw passed (or-true (is_word Aligned x))
 
     some : (x : Lexeme) → either_word x ≡ true →
         LeadsAt (Some x) true true true (λ k. k) (skip >>= λ _. int >>= λ bytes. give (Some bytes)) (optional_is aligned_by)

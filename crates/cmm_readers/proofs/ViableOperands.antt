@@ -3,7 +3,7 @@ use Rattle.std.proofs.Common.{◌≡◌, ℕ, zero, suc, ◌≤◌, Bool, true, 
 use Rattle.std.proofs.lemmas.Bool.Decides.{nat_tests}
 use Rattle.cmm_lexer.specs.declared.piece.Lexeme.{Lexeme}
 use Rattle.cmm_lexer.specs.declared.piece.Lexeme.TheVariants as l
-use Rattle.cmm_ast.specs.declared.keyword.Symbol.TheVariants.{OpenSquare}
+use Rattle.cmm_lexer.specs.declared.symbol.Symbol.TheVariants.{OpenSquare}
 use Rattle.cmm_ast.specs.declared.expression.TypeName.{TypeName}
 use Rattle.cmm_ast.specs.declared.expression.Infix.{Infix as InfixOperator}
 use Rattle.cmm_ast.specs.declared.expression.Prefix.{Prefix as PrefixOperator}
@@ -13,8 +13,7 @@ use Rattle.cmm_ast.specs.declared.expression.ExprForm.{ExprForm}
 use Rattle.cmm_ast.specs.declared.expression.ExprForm.TheVariants.{Infix, Prefix, Prim, Memory as InMemory, Named}
 use Rattle.cmm_ast.specs.declared.expression.PrimForm.TheVariants.{Name as NameOf, Bracketed}
 use Rattle.cmm_ast.specs.declared.expression.Memory.{roll-Memory}
-use Rattle.cmm_ast.specs.Numbers.{symbol_number}
-use Rattle.cmm_ast.specs.Taking.{Reading, Takes, ◌⨾◌, token, nothing, is_symbol, is_name, is_operator, symbol as symbol_is, here as here_is, operator as operator_is, optional as optional_is, square as square_is}
+use Rattle.cmm_ast.specs.Taking.{Reading, Takes, ◌⨾◌, token, nothing, is_sign, is_name, is_operator, symbol as symbol_is, here as here_is, operator as operator_is, optional as optional_is, square as square_is}
 use Rattle.cmm_ast.specs.ExpressionGrammar as grammar
 use Rattle.cmm_ast.specs.ExpressionGrammar.{prefix_symbol, infix_symbol, left_level, right_level, unary_level, level_of, expr_form, prim_form, aligned_by}
 use Rattle.cmm_readers.specs.Reading.{Reads, ◌>>=◌, give, look, skip_operator, square, outermost}
@@ -22,7 +21,7 @@ use Rattle.cmm_readers.specs.ExpressionReading.{prefix_in, bracketed, located, m
 use Rattle.cmm_readers.proofs.Sounds.{taken_then}
 use Rattle.cmm_readers.proofs.Lists.{takes_assoc, takes_nothing}
 use Rattle.cmm_readers.proofs.Tokens.{same_bytes}
-use Rattle.cmm_readers.proofs.SoundExpressions.{opened, found, turned, operand_is, unary_is, level_of_infix, form_of_infix, operands_are, operands_same, bound_by, any_level, grows, small_level, joined_same, at_least, bound_never}
+use Rattle.cmm_readers.proofs.SoundExpressions.{opened, found, operand_is, unary_is, level_of_infix, form_of_infix, operands_are, operands_same, bound_by, any_level, grows, small_level, joined_same, at_least, bound_never}
 use Rattle.cmm_readers.proofs.SoundParts.{outer_type}
 use Rattle.cmm_readers.proofs.Viables.{put, Led, Ends, Leads, LeadsAt, Extends, after_leads, whole_viable, give_leads, last_leads, made_leads, same_leads, viable_same, leads_same, never_leads, at_leads, look_leads, stop_leads, if_next_leads, leads_led}
 use Rattle.cmm_readers.proofs.ViableTokens.{ends_token, skip_last_leads, operator_leads, here_viable, outermost_viable}
@@ -62,7 +61,7 @@ module _ (inner : ℕ → Reads Expr) (viable : Extends true true (inner 0) (ope
   -- a name, or the word in memory whose type it names
   name_or_memory_viable : {first : Bool} → Extends first true (name_or_memory inner) unary_is
   name_or_memory_viable = whole_viable (after_leads ident_viable (λ i.
-      if_next_leads (is_symbol (symbol_number OpenSquare)) (made_leads (λ m. InMemory m) (memory_leads (named_type i)) (λ m. refl))
+      if_next_leads (is_sign OpenSquare) (made_leads (λ m. InMemory m) (memory_leads (named_type i)) (λ m. refl))
       (leads_led (led_dropped i.token (token (is_name i.name))) (give_leads (Prim (NameOf i.name)) (sym (takes_nothing (token (is_name i.name))))))))
 
 -- ---- operands
@@ -72,8 +71,8 @@ module _ (inner : ℕ → Reads Expr) (viable : (level : ℕ) → level ≤ unar
       LeadsAt (Some (l.Symbol n)) first first true (λ k. k) (prefixed inner o) unary_is
   unfolding opened
   prefixed_leads n (Some op) e =
-      operator_leads (is_symbol (symbol_number (prefix_symbol op)))
-      (turned n (symbol_number (prefix_symbol op)) (found (λ op. n == symbol_number (prefix_symbol op)) (Negate ∷ Complement ∷ []) op e))
+      operator_leads (is_sign (prefix_symbol op))
+      (found (λ op. is_sign (prefix_symbol op) (l.Symbol n)) (Negate ∷ Complement ∷ []) op e)
       (λ _. last_leads (λ x. Prefix op x) (viable unary_level (omega arith)) (λ x. refl))
   prefixed_leads n None e = at_leads (last_leads (λ x. Prim x) (bracketed_viable inner (viable 0 (omega arith))) (λ x. refl))
 
@@ -130,7 +129,7 @@ module _ (inner : ℕ → Reads Expr) (viable : (level : ℕ) → level ≤ unar
       climb_at turns level left high later x (Some op) e =
           let g = grows level left.form x op e in
           leads_at_is g.is_next
-          (operator_leads (is_symbol (symbol_number (infix_symbol op))) g.passed
+          (operator_leads (is_sign (infix_symbol op)) g.passed
           (λ _. after_leads (viable (right_level op) (small_level op)) (λ right.
           leads_same
           (λ k. joined_same left.token (expr_form left.form) (operator_is (symbol_is (infix_symbol op))) (operand_is (right_level op) right) k

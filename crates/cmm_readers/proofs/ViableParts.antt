@@ -1,16 +1,15 @@
 -- Where a reader of a part of a statement stops, some tree begins with the tokens gone through.
 use Rattle.std.proofs.Common.{◌≡◌, ℕ, true, false, List, Some, None, refl, sym, ap, ◌∙◌}
 use Rattle.cmm_ast.specs.declared.token.Ident.{Ident}
-use Rattle.cmm_ast.specs.declared.keyword.Keyword.{Keyword}
-use Rattle.cmm_ast.specs.declared.keyword.Keyword.TheVariants.{Aborts, Also, Cuts, Never, Returns, To, Unwinds}
-use Rattle.cmm_ast.specs.declared.keyword.Symbol.TheVariants.{Open, OpenSquare, Less, Greater, Slash}
-use Rattle.cmm_ast.specs.declared.keyword.Symbol.TheVariants as sign
+use Rattle.cmm_lexer.specs.declared.keyword.Keyword.{Keyword}
+use Rattle.cmm_lexer.specs.declared.keyword.Keyword.TheVariants.{Aborts, Also, Cuts, Never, Returns, To, Unwinds}
+use Rattle.cmm_lexer.specs.declared.symbol.Symbol.TheVariants.{Open, OpenSquare, Less, Greater, Slash}
+use Rattle.cmm_lexer.specs.declared.symbol.Symbol.TheVariants as sign
 use Rattle.cmm_ast.specs.declared.statement.CalleeForm.TheVariants as callees
 use Rattle.cmm_ast.specs.declared.statement.FlowForm.{FlowForm}
 use Rattle.cmm_ast.specs.declared.statement.FlowForm.TheVariants as flows
 use Rattle.cmm_ast.specs.declared.statement.Lvalue.TheVariants as lvalues
-use Rattle.cmm_ast.specs.Numbers.{symbol_number}
-use Rattle.cmm_ast.specs.Taking.{◌⨾◌, is_symbol, here as here_is, keyword as keyword_is, symbol as symbol_is, round as round_is, may_list as may_list_is, optional as optional_is, may_comma as may_comma_is}
+use Rattle.cmm_ast.specs.Taking.{◌⨾◌, is_sign, here as here_is, keyword as keyword_is, symbol as symbol_is, round as round_is, may_list as may_list_is, optional as optional_is, may_comma as may_comma_is}
 use Rattle.cmm_ast.specs.ExpressionGrammar as grammar
 use Rattle.cmm_ast.specs.StatementGrammar as statements
 use Rattle.cmm_readers.specs.Reading.{round, may_list}
@@ -78,7 +77,7 @@ module _ (fuel : ℕ) where
       whole_viable
       (if_next_leads is_width (after_leads type_name_viable (λ width. made_leads (λ m. lvalues.Memory m) (whole_memory_leads fuel width) (λ m. refl)))
       (after_leads ident_viable (λ name.
-      if_next_leads (is_symbol (symbol_number OpenSquare)) (made_leads (λ m. lvalues.Memory m) (whole_memory_leads fuel (named_type name)) (λ m. refl))
+      if_next_leads (is_sign OpenSquare) (made_leads (λ m. lvalues.Memory m) (whole_memory_leads fuel (named_type name)) (λ m. refl))
       (give_leads (lvalues.Name name) (sym (takes_nothing (grammar.ident name)))))))
 
   pub callee_viable : Extends true true (callee fuel) statements.callee
@@ -86,7 +85,7 @@ module _ (fuel : ℕ) where
     form_viable : Extends true true (callee_form fuel) statements.callee_form
     form_viable =
         whole_viable
-        (if_next_leads (is_symbol (symbol_number Open)) (last_leads (λ e. callees.Bracketed e) (round_viable (whole_expr_viable fuel)) (λ e. refl))
+        (if_next_leads (is_sign Open) (last_leads (λ e. callees.Bracketed e) (round_viable (whole_expr_viable fuel)) (λ e. refl))
         (last_leads called lvalue_viable called_is))
 
   -- ---- exits and ranges

@@ -2,8 +2,8 @@
 use Rattle.std.proofs.Common.{ℕ, Bool, true, Option, Some, None, refl, sym, ap}
 use Rattle.cmm_ast.specs.declared.token.Ident.{Ident}
 use Rattle.cmm_ast.specs.declared.token.Text.{Text}
-use Rattle.cmm_ast.specs.declared.keyword.Keyword.TheVariants.{Align, Invariant, Stackdata}
-use Rattle.cmm_ast.specs.declared.keyword.Symbol.TheVariants.{Colon, CloseBrace, Semicolon}
+use Rattle.cmm_lexer.specs.declared.keyword.Keyword.TheVariants.{Align, Invariant, Stackdata}
+use Rattle.cmm_lexer.specs.declared.symbol.Symbol.TheVariants.{Colon, CloseBrace, Semicolon}
 use Rattle.cmm_ast.specs.declared.expression.TypeName.{TypeName}
 use Rattle.cmm_ast.specs.declared.procedure.Modifiers.{Modifiers}
 use Rattle.cmm_ast.specs.declared.procedure.Modifiers.TheVariants as modifiers
@@ -84,7 +84,8 @@ module _ {block : Reads Block} (block_viable : Extends true true block bodies.bl
   -- after its name
   pub procedure_leads : {first : Bool} (fuel : ℕ) (name : Ident) → Leads first true true (λ k. grammar.ident name ⨾ k) (procedure fuel block name) bodies.proc
   procedure_leads fuel name =
-      after_leads (round_viable (may_list_viable formal_viable begins_formal fuel)) (λ formals. last_leads _ block_viable (λ body. refl))
+      after_leads (round_viable (may_list_viable formal_viable begins_formal fuel)) (λ formals.
+      after_leads block_viable (λ body. last_leads _ here_viable (λ past. refl)))
 
   pub proc_viable : (fuel : ℕ) → Extends true true (proc fuel block) bodies.proc
   proc_viable fuel = whole_viable (after_leads ident_viable (procedure_leads fuel))

@@ -3,8 +3,8 @@ use Rattle.std.proofs.Common.{ℕ, true, [], ◌∷◌, Option, Some, None, refl
 use Rattle.cmm_lexer.specs.declared.piece.Lexeme.{Lexeme}
 use Rattle.cmm_lexer.specs.declared.piece.Lexeme.TheVariants as l
 use Rattle.cmm_ast.specs.declared.token.Ident.{Ident}
-use Rattle.cmm_ast.specs.declared.keyword.Keyword.TheVariants as word
-use Rattle.cmm_ast.specs.declared.keyword.Symbol.TheVariants as sign
+use Rattle.cmm_lexer.specs.declared.keyword.Keyword.TheVariants as word
+use Rattle.cmm_lexer.specs.declared.symbol.Symbol.TheVariants as sign
 use Rattle.cmm_ast.specs.declared.expression.Memory.{Memory}
 use Rattle.cmm_ast.specs.declared.procedure.LocalForm.{LocalForm}
 use Rattle.cmm_ast.specs.declared.procedure.Modifiers.TheVariants as before
@@ -13,8 +13,7 @@ use Rattle.cmm_ast.specs.declared.statement.Case.TheVariants as cases
 use Rattle.cmm_ast.specs.declared.statement.Lvalue.TheVariants as lvalues
 use Rattle.cmm_ast.specs.declared.statement.StmtForm.{StmtForm}
 use Rattle.cmm_ast.specs.declared.statement.StmtForm.TheVariants as stmts
-use Rattle.cmm_ast.specs.Numbers.{keyword_number, symbol_number}
-use Rattle.cmm_ast.specs.Taking.{Takes, ◌⨾◌, is_keyword, is_symbol, keyword as keyword_is, symbol as symbol_is, outermost as outermost_is}
+use Rattle.cmm_ast.specs.Taking.{Takes, ◌⨾◌, is_word, is_sign, keyword as keyword_is, symbol as symbol_is, outermost as outermost_is}
 use Rattle.cmm_ast.specs.ExpressionGrammar as grammar
 use Rattle.cmm_ast.specs.StatementGrammar as bodies
 use Rattle.cmm_readers.specs.Reading.{Reads}
@@ -57,8 +56,8 @@ module _ (fuel : ℕ) where
 
   return_leads : Leads true true true (λ k. keyword_is word.Return ⨾ k) (return_form fuel) bodies.stmt_form
   return_leads =
-      after_leads (optional_viable (is_symbol (symbol_number sign.Less)) (exit_viable fuel)) (λ by.
-      after_leads (optional_viable (is_symbol (symbol_number sign.Open)) (arguments_viable fuel)) (λ found.
+      after_leads (optional_viable (is_sign sign.Less) (exit_viable fuel)) (λ by.
+      after_leads (optional_viable (is_sign sign.Open) (arguments_viable fuel)) (λ found.
       last_leads (λ _. stmts.Return by found) (symbol_viable sign.Semicolon) (λ _. refl)))
 
   goto_leads : Leads true true true (λ k. keyword_is word.Goto ⨾ k) goto bodies.stmt_form
@@ -87,25 +86,25 @@ module _ (fuel : ℕ) where
   word_stmt_leads =
       if_word_leads word.Return return_leads (if_word_leads word.Goto goto_leads (if_word_leads word.Jump jump_leads (if_word_leads word.Cut cut_leads
       (if_word_leads word.Continuation continuation_leads
-      (if_next_leads (is_keyword (keyword_number word.Foreign)) plain_call_leads (stop_leads plain_call_leads.ends))))))
+      (if_next_leads (is_word word.Foreign) plain_call_leads (stop_leads plain_call_leads.ends))))))
 
   symbol_stmt_leads : Leads true true true (λ k. k) (symbol_stmt fuel) bodies.stmt_form
   symbol_stmt_leads =
-      if_next_leads (is_symbol (symbol_number sign.Open)) plain_call_leads (last_leads (λ _. stmts.Empty) (symbol_viable sign.Semicolon) (λ _. refl))
+      if_next_leads (is_sign sign.Open) plain_call_leads (last_leads (λ _. stmts.Empty) (symbol_viable sign.Semicolon) (λ _. refl))
 
   -- ---- statements that begin with a name or a word in memory
 
   memory_stmt_leads : (m : Memory) → Leads true true true (λ k. grammar.whole_memory m ⨾ k) (memory_stmt fuel m) bodies.stmt_form
   memory_stmt_leads m =
-      if_next_leads (is_symbol (symbol_number sign.Open))
+      if_next_leads (is_sign sign.Open)
       (call_leads fuel [] None (record { token = memory_token m; form = callees.Memory m }) (λ k. ap (λ t. t ⨾ outermost_is k) (sym (memory_here m))))
       (leads_same (λ k. refl) (assignment_leads fuel (Lvalues (lvalues.Memory m ∷ []))))
 
   name_stmt_leads : (name : Ident) → Leads true true true (λ k. grammar.ident name ⨾ k) (name_stmt fuel name) bodies.stmt_form
   name_stmt_leads name =
       if_symbol_leads sign.Colon (give_leads (stmts.Label name) (ap (λ t. grammar.ident name ⨾ t) (sym (takes_nothing (symbol_is sign.Colon)))))
-      (if_next_leads (is_symbol (symbol_number sign.OpenSquare)) (then_leads (whole_memory_leads fuel (named_type name)) memory_stmt_leads)
-      (if_next_leads (is_symbol (symbol_number sign.Open))
+      (if_next_leads (is_sign sign.OpenSquare) (then_leads (whole_memory_leads fuel (named_type name)) memory_stmt_leads)
+      (if_next_leads (is_sign sign.Open)
       (call_leads fuel [] None (record { token = name.token; form = callees.Name name })
       (λ k. ap (λ t. t ⨾ outermost_is k) (sym (here_twice name.token _))))
       (leads_same (λ k. refl) (assignment_leads fuel (Names (name ∷ []))))))
@@ -146,10 +145,10 @@ module _ (fuel : ℕ) where
   word_part_leads =
       if_next_leads is_width
       (after_leads type_name_viable (λ width.
-      if_next_leads (is_symbol (symbol_number sign.OpenSquare))
+      if_next_leads (is_sign sign.OpenSquare)
       (of_stmt_leads (then_leads (whole_memory_leads fuel width) (memory_stmt_leads fuel)))
       (of_local_leads (leads_same (λ k. refl) (variables_leads fuel before.Nothing width)))))
-      (if_next_leads (is_keyword (keyword_number word.Invariant))
+      (if_next_leads (is_word word.Invariant)
       (after_leads modifiers_viable (λ found. after_leads type_name_viable (λ width. of_local_leads (variables_leads fuel found width))))
       (if_word_leads word.Stackdata (of_local_leads (stackdata_leads fuel)) (of_stmt_leads (word_stmt_leads fuel))))
 

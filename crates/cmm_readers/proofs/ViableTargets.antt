@@ -3,15 +3,14 @@ use Rattle.std.proofs.Common.{◌≡◌, ℕ, zero, suc, true, false, List, [], 
 use Rattle.cmm_lexer.specs.declared.piece.Lexeme.TheVariants as l
 use Rattle.cmm_ast.specs.declared.token.Ident.{Ident}
 use Rattle.cmm_ast.specs.declared.token.Text.{Text}
-use Rattle.cmm_ast.specs.declared.keyword.Keyword.TheVariants.{Foreign}
-use Rattle.cmm_ast.specs.declared.keyword.Symbol.TheVariants as sign
+use Rattle.cmm_lexer.specs.declared.keyword.Keyword.TheVariants.{Foreign}
+use Rattle.cmm_lexer.specs.declared.symbol.Symbol.TheVariants as sign
 use Rattle.cmm_ast.specs.declared.expression.Expr.{Expr}
 use Rattle.cmm_ast.specs.declared.statement.Callee.{Callee}
 use Rattle.cmm_ast.specs.declared.statement.CalleeForm.{CalleeForm}
 use Rattle.cmm_ast.specs.declared.statement.Kinded.{Kinded}
 use Rattle.cmm_ast.specs.declared.statement.StmtForm.TheVariants as stmts
-use Rattle.cmm_ast.specs.Numbers.{keyword_number, symbol_number}
-use Rattle.cmm_ast.specs.Taking.{Takes, ◌⨾◌, is_keyword, is_symbol, is_checked, keyword as keyword_is, symbol as symbol_is, optional as optional_is, commas as commas_is, listed as listed_is, may_comma as may_comma_is, outermost as outermost_is}
+use Rattle.cmm_ast.specs.Taking.{Takes, ◌⨾◌, is_word, is_sign, is_checked, keyword as keyword_is, symbol as symbol_is, optional as optional_is, commas as commas_is, listed as listed_is, may_comma as may_comma_is, outermost as outermost_is}
 use Rattle.cmm_ast.specs.ExpressionGrammar as grammar
 use Rattle.cmm_ast.specs.StatementGrammar as bodies
 use Rattle.cmm_readers.specs.Reading.{is_comma, more_listed, checked_in}
@@ -88,7 +87,7 @@ module _ (fuel : ℕ) where
   values_leads : (a : Ident) (as_ : List Ident) → Leads true true true (After_assign (Names (a ∷ as_))) (values fuel (a ∷ as_)) bodies.stmt_form
   values_leads a as_ =
       after_leads (whole_expr_viable fuel) (λ value.
-      if_next_leads (is_symbol (symbol_number sign.Open)) (by value (callee_of_form value.token value.form) refl) (assigned_values value))
+      if_next_leads (is_sign sign.Open) (by value (callee_of_form value.token value.form) refl) (assigned_values value))
     where
       first_values : (value : Expr) → Leads true true false (λ k. targets_are (Names (a ∷ as_)) ⨾ symbol_is sign.Assign ⨾ grammar.whole value ⨾ k)
           (more_listed fuel begins_expression (whole fuel) (value ∷ []))
@@ -122,7 +121,7 @@ module _ (fuel : ℕ) where
   assigned_leads : (t : Targets) → Leads true true true (After_assign t) (assigned fuel t) bodies.stmt_form
   assigned_leads (Names []) = never_leads (λ k r. refl)
   assigned_leads (Names (a ∷ as_)) =
-      if_next_leads (is_keyword (keyword_number Foreign)) (leads_same (assigned_results a as_) (call_after_leads (results_of (a ∷ as_))))
+      if_next_leads (is_word Foreign) (leads_same (assigned_results a as_) (call_after_leads (results_of (a ∷ as_))))
       (if_next_leads is_checked_operator (checked_leads a as_) (values_leads a as_))
   assigned_leads (Lvalues to) =
       after_leads (listed_viable (whole_expr_viable fuel) begins_expression fuel)

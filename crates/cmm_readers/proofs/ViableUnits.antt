@@ -2,8 +2,8 @@
 use Rattle.std.proofs.Common.{◌≡◌, ℕ, zero, suc, ◌-◌, ◌≤◌, ◌==◌, inr, Bool, true, false, List, [], ◌++◌, length, take, Option, Some, None, refl, sym, ap, ◌∙◌, arith}
 use Rattle.cmm_lexer.specs.declared.piece.Lexeme.{Lexeme}
 use Rattle.cmm_ast.specs.declared.token.Ident.{Ident}
-use Rattle.cmm_ast.specs.declared.keyword.Keyword.TheVariants.{Align, Section as SectionWord, Span}
-use Rattle.cmm_ast.specs.declared.keyword.Symbol.TheVariants.{Colon, CloseBrace, Semicolon}
+use Rattle.cmm_lexer.specs.declared.keyword.Keyword.TheVariants.{Align, Section as SectionWord, Span}
+use Rattle.cmm_lexer.specs.declared.symbol.Symbol.TheVariants.{Colon, CloseBrace, Semicolon}
 use Rattle.cmm_ast.specs.declared.expression.TypeName.{TypeName}
 use Rattle.cmm_ast.specs.declared.unit.Unit.{Unit as UnitTree}
 use Rattle.cmm_ast.specs.declared.unit.TopLevel.{TopLevel}

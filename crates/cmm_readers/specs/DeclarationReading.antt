@@ -6,10 +6,10 @@ use Rattle.std.specs.Prelude.{ℕ, Bool, true, false, ◌||◌, List, [], ◌∷
 use Rattle.cmm_lexer.specs.declared.piece.Lexeme.{Lexeme}
 use Rattle.cmm_ast.specs.declared.token.Ident.{Ident}
 use Rattle.cmm_ast.specs.declared.token.Text.{Text}
-use Rattle.cmm_ast.specs.declared.keyword.Keyword.{Keyword}
-use Rattle.cmm_ast.specs.declared.keyword.Keyword.TheVariants.{As, Big, Byteorder, Const, Export as ExportWord, Import as ImportWord, Invariant, Little, Memsize, Pointersize, Register, Target, Typedef, Wordsize}
-use Rattle.cmm_ast.specs.declared.keyword.Symbol.{Symbol}
-use Rattle.cmm_ast.specs.declared.keyword.Symbol.TheVariants.{Assign, Semicolon}
+use Rattle.cmm_lexer.specs.declared.keyword.Keyword.{Keyword}
+use Rattle.cmm_lexer.specs.declared.keyword.Keyword.TheVariants.{As, Big, Byteorder, Const, Export as ExportWord, Import as ImportWord, Invariant, Little, Memsize, Pointersize, Register, Target, Typedef, Wordsize}
+use Rattle.cmm_lexer.specs.declared.symbol.Symbol.{Symbol}
+use Rattle.cmm_lexer.specs.declared.symbol.Symbol.TheVariants.{Assign, Semicolon}
 use Rattle.cmm_ast.specs.declared.expression.TypeName.{TypeName}
 use Rattle.cmm_ast.specs.declared.declaration.Decl.{Decl}
 use Rattle.cmm_ast.specs.declared.declaration.DeclForm.{DeclForm}
@@ -21,8 +21,7 @@ use Rattle.cmm_ast.specs.declared.declaration.PropertyForm.{PropertyForm}
 use Rattle.cmm_ast.specs.declared.declaration.PropertyForm.TheVariants as properties
 use Rattle.cmm_ast.specs.declared.declaration.ByteOrder.{ByteOrder}
 use Rattle.cmm_ast.specs.declared.declaration.ByteOrder.TheVariants as orders
-use Rattle.cmm_ast.specs.Numbers.{keyword_number, symbol_number}
-use Rattle.cmm_ast.specs.Taking.{is_keyword, is_symbol}
+use Rattle.cmm_ast.specs.Taking.{is_word, is_sign}
 use Rattle.cmm_readers.specs.Reading.{Reads, ◌>>=◌, give, if_next, here, skip, keyword, symbol, ident, text, int, optional, many, more_listed, listed}
 use Rattle.cmm_readers.specs.ExpressionReading.{type_name, named_type, whole}
 use Rattle.cmm_readers.specs.PartReading.{is_any_name, is_any_text, is_width}
@@ -31,14 +30,14 @@ use Rattle.cmm_readers.specs.PartReading.{is_any_name, is_any_text, is_width}
 
 -- not the token that ends a row
 abbrev pub is_other : Symbol → Lexeme → Bool
-is_other end x = elim (is_symbol (symbol_number end) x) [ true ↦ false | false ↦ true ]
+is_other end x = elim (is_sign end x) [ true ↦ false | false ↦ true ]
 
 -- what follows this word, where it is next
 abbrev pub if_word : {A : Type 0} → Keyword → Reads A → Reads A → Reads A
-if_word word holds fails = if_next (is_keyword (keyword_number word)) (skip >>= λ _. holds) fails
+if_word word holds fails = if_next (is_word word) (skip >>= λ _. holds) fails
 
 abbrev pub if_symbol : {A : Type 0} → Symbol → Reads A → Reads A → Reads A
-if_symbol sign holds fails = if_next (is_symbol (symbol_number sign)) (skip >>= λ _. holds) fails
+if_symbol sign holds fails = if_next (is_sign sign) (skip >>= λ _. holds) fails
 
 abbrev pub optional_text : Reads (Option Text)
 optional_text = optional is_any_text text
@@ -83,7 +82,7 @@ as_text = keyword As >>= λ _. text
 
 -- an export after its name
 abbrev pub export_of : Ident → Reads Export
-export_of name = optional (is_keyword (keyword_number As)) as_text >>= λ link. give record { name = name; link = link }
+export_of name = optional (is_word As) as_text >>= λ link. give record { name = name; link = link }
 
 abbrev pub export_name : Reads Export
 export_name = ident >>= λ name. export_of name

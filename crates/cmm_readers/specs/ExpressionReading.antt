@@ -1,14 +1,14 @@
 -- How types and expressions are read. An operand is read with the operators that bind at least as tightly as a level; what
 -- stands to the right of an operator binds more tightly than it.
-use Rattle.std.specs.Prelude.{ℕ, zero, suc, ◌==◌, nat_le, Bool, true, false, ◌&&◌, ◌||◌, List, [], ◌∷◌, Option, Some, None, is_some, find}
+use Rattle.std.specs.Prelude.{ℕ, zero, suc, nat_le, Bool, true, false, ◌&&◌, ◌||◌, List, [], ◌∷◌, Option, Some, None, is_some, find}
 use Rattle.cmm_words.specs.declared.width.Width.{Width}
 use Rattle.cmm_words.specs.declared.width.Width.TheVariants.{W8, W16, W32, W64}
 use Rattle.cmm_lexer.specs.declared.piece.Lexeme.{Lexeme}
 use Rattle.cmm_lexer.specs.declared.piece.Lexeme.TheVariants as l
 use Rattle.cmm_ast.specs.declared.token.Ident.{Ident}
 use Rattle.cmm_ast.specs.declared.token.Int.{Int}
-use Rattle.cmm_ast.specs.declared.keyword.Keyword.TheVariants.{Align, Aligned}
-use Rattle.cmm_ast.specs.declared.keyword.Symbol.TheVariants.{Open, OpenSquare, Colons}
+use Rattle.cmm_lexer.specs.declared.keyword.Keyword.TheVariants.{Align, Aligned}
+use Rattle.cmm_lexer.specs.declared.symbol.Symbol.TheVariants.{Open, OpenSquare, Colons}
 use Rattle.cmm_ast.specs.declared.expression.TypeName.{TypeName}
 use Rattle.cmm_ast.specs.declared.expression.TypeForm.{TypeForm}
 use Rattle.cmm_ast.specs.declared.expression.TypeForm.TheVariants.{Bits, Named as OfName}
@@ -25,22 +25,21 @@ use Rattle.cmm_ast.specs.declared.expression.Primary.{Primary}
 use Rattle.cmm_ast.specs.declared.expression.PrimForm.{PrimForm}
 use Rattle.cmm_ast.specs.declared.expression.PrimForm.TheVariants.{Literal, Name as NameOf, Bracketed}
 use Rattle.cmm_ast.specs.declared.expression.Memory.{Memory, roll-Memory}
-use Rattle.cmm_ast.specs.Numbers.{keyword_number, symbol_number}
-use Rattle.cmm_ast.specs.Taking.{is_keyword, is_symbol}
+use Rattle.cmm_ast.specs.Taking.{is_word, is_sign}
 use Rattle.cmm_ast.specs.ExpressionGrammar.{width_word, infix_symbol, prefix_symbol, infix_level, left_level, right_level, unary_level, level_of}
 use Rattle.cmm_readers.specs.Reading.{Reads, ◌>>=◌, ◌>>◌, give, stop, look, if_next, here, skip, skip_operator, pick, ident, int, round, square, outermost, listed}
 
--- ---- words and symbols, by their numbers
+-- ---- which words and symbols are widths and operators
 
 abbrev pub width_in : ℕ → Option Width
-width_in n = find (λ width. n == keyword_number (width_word width)) (W8 ∷ W16 ∷ W32 ∷ W64 ∷ [])
+width_in n = find (λ width. is_word (width_word width) (l.Word n)) (W8 ∷ W16 ∷ W32 ∷ W64 ∷ [])
 
 abbrev pub prefix_in : ℕ → Option PrefixOperator
-prefix_in n = find (λ op. n == symbol_number (prefix_symbol op)) (Negate ∷ Complement ∷ [])
+prefix_in n = find (λ op. is_sign (prefix_symbol op) (l.Symbol n)) (Negate ∷ Complement ∷ [])
 
 abbrev pub infix_in : ℕ → Option InfixOperator
 infix_in n =
-    find (λ op. n == symbol_number (infix_symbol op))
+    find (λ op. is_sign (infix_symbol op) (l.Symbol n))
     (Eq ∷ Ne ∷ Lt ∷ Le ∷ Gt ∷ Ge ∷ Or ∷ Xor ∷ And ∷ Shl ∷ Shr ∷ Add ∷ Sub ∷ Mul ∷ Div ∷ Mod ∷ [])
 
 -- ---- types
@@ -68,7 +67,7 @@ number_in (l.Char byte) = Some (number.Char byte)
 number_in _ = None
 
 abbrev pub typed : Reads (Option TypeName)
-typed = if_next (is_symbol (symbol_number Colons)) (skip >>= λ _. type_name >>= λ width. give (Some width)) (give None)
+typed = if_next (is_sign Colons) (skip >>= λ _. type_name >>= λ width. give (Some width)) (give None)
 
 abbrev pub literal : Reads PrimForm
 literal = pick number_in >>= λ value. typed >>= λ width. give (Literal value width)
@@ -78,8 +77,8 @@ bracketed inner = round (inner 0) >>= λ e. give (Bracketed e)
 
 abbrev pub aligned : Reads (Option Int)
 aligned =
-    if_next (is_keyword (keyword_number Aligned)) (skip >>= λ _. int >>= λ bytes. give (Some bytes))
-    (if_next (is_keyword (keyword_number Align)) (skip >>= λ _. int >>= λ bytes. give (Some bytes)) (give None))
+    if_next (is_word Aligned) (skip >>= λ _. int >>= λ bytes. give (Some bytes))
+    (if_next (is_word Align) (skip >>= λ _. int >>= λ bytes. give (Some bytes)) (give None))
 
 -- an address, and what it is said to be a multiple of
 abbrev pub located : (ℕ → Reads Expr) → Reads (Expr × Option Int)
@@ -96,13 +95,13 @@ begins_expression (l.Int value) = true
 begins_expression (l.Char byte) = true
 begins_expression (l.Op bytes) = true
 begins_expression (l.Word n) = is_some (width_in n)
-begins_expression (l.Symbol n) = n == symbol_number Open || is_some (prefix_in n)
+begins_expression (l.Symbol n) = is_sign Open (l.Symbol n) || is_some (prefix_in n)
 begins_expression _ = false
 
 abbrev pub name_or_memory : (ℕ → Reads Expr) → Reads ExprForm
 name_or_memory inner =
     ident >>= λ name.
-    if_next (is_symbol (symbol_number OpenSquare)) (memory inner (named_type name) >>= λ m. give (InMemory m))
+    if_next (is_sign OpenSquare) (memory inner (named_type name) >>= λ m. give (InMemory m))
     (give (Prim (NameOf name.name)))
 
 abbrev pub prefixed : (ℕ → Reads Expr) → Option PrefixOperator → Reads ExprForm

@@ -3,9 +3,9 @@ use Rattle.std.specs.Prelude.{ℕ, Bool, true, false, ◌||◌, List, [], Option
 use Rattle.cmm_lexer.specs.declared.piece.Lexeme.{Lexeme}
 use Rattle.cmm_lexer.specs.declared.piece.Lexeme.TheVariants as l
 use Rattle.cmm_ast.specs.declared.token.Ident.{Ident}
-use Rattle.cmm_ast.specs.declared.keyword.Keyword.TheVariants.{Aborts, Also, Cuts, Never, Returns, To, Unwinds}
-use Rattle.cmm_ast.specs.declared.keyword.Symbol.TheVariants.{Open, OpenSquare, Comma, Less, Greater, Slash}
-use Rattle.cmm_ast.specs.declared.keyword.Symbol.TheVariants as sign
+use Rattle.cmm_lexer.specs.declared.keyword.Keyword.TheVariants.{Aborts, Also, Cuts, Never, Returns, To, Unwinds}
+use Rattle.cmm_lexer.specs.declared.symbol.Symbol.TheVariants.{Open, OpenSquare, Comma, Less, Greater, Slash}
+use Rattle.cmm_lexer.specs.declared.symbol.Symbol.TheVariants as sign
 use Rattle.cmm_ast.specs.declared.expression.Expr.{Expr}
 use Rattle.cmm_ast.specs.declared.statement.Actual.{Actual}
 use Rattle.cmm_ast.specs.declared.statement.Callee.{Callee}
@@ -19,8 +19,7 @@ use Rattle.cmm_ast.specs.declared.statement.Kinded.{Kinded}
 use Rattle.cmm_ast.specs.declared.statement.Lvalue.{Lvalue}
 use Rattle.cmm_ast.specs.declared.statement.Lvalue.TheVariants as lvalues
 use Rattle.cmm_ast.specs.declared.statement.Range.{Range}
-use Rattle.cmm_ast.specs.Numbers.{keyword_number, symbol_number}
-use Rattle.cmm_ast.specs.Taking.{is_keyword, is_symbol}
+use Rattle.cmm_ast.specs.Taking.{is_word, is_sign}
 use Rattle.cmm_readers.specs.Reading.{Reads, ◌>>=◌, give, if_next, here, skip, keyword, symbol, ident, text, round, outermost, optional, many, listed, may_list, is_comma}
 use Rattle.cmm_readers.specs.ExpressionReading.{width_in, type_name, named_type, begins_expression, whole, whole_prim, whole_memory}
 
@@ -59,7 +58,7 @@ is_width _ = false
 -- what a name begins: a word in memory, or that name alone
 abbrev pub lvalue_from : ℕ → Ident → Reads Lvalue
 lvalue_from fuel name =
-    if_next (is_symbol (symbol_number OpenSquare)) (whole_memory fuel (named_type name) >>= λ m. give (lvalues.Memory m))
+    if_next (is_sign OpenSquare) (whole_memory fuel (named_type name) >>= λ m. give (lvalues.Memory m))
     (give (lvalues.Name name))
 
 -- a name, or a word in memory
@@ -75,7 +74,7 @@ called (lvalues.Memory m) = callees.Memory m
 -- what is called: an expression in round brackets, a name or a word in memory
 abbrev pub callee_form : ℕ → Reads CalleeForm
 callee_form fuel =
-    if_next (is_symbol (symbol_number Open)) (round (whole fuel) >>= λ e. give (callees.Bracketed e)) (lvalue fuel >>= λ v. give (called v))
+    if_next (is_sign Open) (round (whole fuel) >>= λ e. give (callees.Bracketed e)) (lvalue fuel >>= λ v. give (called v))
 
 abbrev pub callee : ℕ → Reads Callee
 callee fuel = here >>= λ token. callee_form fuel >>= λ form. give record { token = token; form = form }
@@ -83,7 +82,7 @@ callee fuel = here >>= λ token. callee_form fuel >>= λ form. give record { tok
 -- ---- annotations
 
 abbrev pub begins_flow : Lexeme → Bool
-begins_flow x = is_keyword (keyword_number Also) x || is_keyword (keyword_number Never) x
+begins_flow x = is_word Also x || is_word Never x
 
 -- the comma that may stand here
 abbrev pub may_comma : Reads (Unit {0})
@@ -96,14 +95,14 @@ names_to fuel make = keyword To >>= λ _. listed fuel is_any_name ident >>= λ n
 -- what follows an `also`
 abbrev pub also : ℕ → Reads FlowForm
 also fuel =
-    if_next (is_keyword (keyword_number Aborts)) (skip >>= λ _. may_comma >>= λ _. give flows.Aborts)
-    (if_next (is_keyword (keyword_number Cuts)) (skip >>= λ _. names_to fuel flows.CutsTo)
-    (if_next (is_keyword (keyword_number Unwinds)) (skip >>= λ _. names_to fuel flows.UnwindsTo)
+    if_next (is_word Aborts) (skip >>= λ _. may_comma >>= λ _. give flows.Aborts)
+    (if_next (is_word Cuts) (skip >>= λ _. names_to fuel flows.CutsTo)
+    (if_next (is_word Unwinds) (skip >>= λ _. names_to fuel flows.UnwindsTo)
     (keyword Returns >>= λ _. names_to fuel flows.ReturnsTo)))
 
 abbrev pub flow_form : ℕ → Reads FlowForm
 flow_form fuel =
-    if_next (is_keyword (keyword_number Never)) (skip >>= λ _. keyword Returns >>= λ _. may_comma >>= λ _. give flows.NeverReturns)
+    if_next (is_word Never) (skip >>= λ _. keyword Returns >>= λ _. may_comma >>= λ _. give flows.NeverReturns)
     (keyword Also >>= λ _. also fuel)
 
 abbrev pub flow : ℕ → Reads Flow
@@ -124,7 +123,7 @@ exit fuel =
 
 -- the end of a range after its symbol
 abbrev pub range_end : ℕ → Reads (Option Expr)
-range_end fuel = if_next (is_symbol (symbol_number sign.Range)) (skip >>= λ _. whole fuel >>= λ e. give (Some e)) (give None)
+range_end fuel = if_next (is_sign sign.Range) (skip >>= λ _. whole fuel >>= λ e. give (Some e)) (give None)
 
 abbrev pub range : ℕ → Reads Range
 range fuel = whole fuel >>= λ from. range_end fuel >>= λ to. give record { from = from; to = to }

@@ -4,8 +4,8 @@ use Rattle.cmm_lexer.specs.declared.piece.Lexeme.{Lexeme}
 use Rattle.cmm_lexer.specs.declared.piece.Lexeme.TheVariants as l
 use Rattle.cmm_ast.specs.declared.token.Ident.{Ident}
 use Rattle.cmm_ast.specs.declared.token.Text.{Text}
-use Rattle.cmm_ast.specs.declared.keyword.Keyword.TheVariants.{Align, Invariant}
-use Rattle.cmm_ast.specs.declared.keyword.Symbol.TheVariants.{Colon, CloseBrace, OpenSquare, Semicolon}
+use Rattle.cmm_lexer.specs.declared.keyword.Keyword.TheVariants.{Align, Invariant}
+use Rattle.cmm_lexer.specs.declared.symbol.Symbol.TheVariants.{Colon, CloseBrace, OpenSquare, Semicolon}
 use Rattle.cmm_ast.specs.declared.expression.Expr.{Expr}
 use Rattle.cmm_ast.specs.declared.expression.TypeName.{TypeName}
 use Rattle.cmm_ast.specs.declared.procedure.Proc.{Proc}
@@ -18,8 +18,7 @@ use Rattle.cmm_ast.specs.declared.procedure.Room.{Room}
 use Rattle.cmm_ast.specs.declared.procedure.RoomForm.{RoomForm}
 use Rattle.cmm_ast.specs.declared.procedure.RoomForm.TheVariants as rooms
 use Rattle.cmm_ast.specs.declared.statement.Block.{Block}
-use Rattle.cmm_ast.specs.Numbers.{keyword_number, symbol_number}
-use Rattle.cmm_ast.specs.Taking.{is_keyword, is_symbol}
+use Rattle.cmm_ast.specs.Taking.{is_word, is_sign}
 use Rattle.cmm_readers.specs.Reading.{Reads, ◌>>=◌, give, if_next, here, keyword, symbol, ident, int, optional, many, may_list, round, square, braces}
 use Rattle.cmm_readers.specs.ExpressionReading.{width_in, type_name, named_type, whole}
 use Rattle.cmm_readers.specs.DeclarationReading.{is_other, if_word, if_symbol, optional_text, bits, names}
@@ -39,14 +38,14 @@ kind_by (Some kind) = if_word Invariant (give (modifiers.KindInvariant kind)) (g
 kind_by None = give modifiers.Nothing
 
 abbrev pub modifiers_of : Reads Modifiers
-modifiers_of = if_next (is_keyword (keyword_number Invariant)) invariant_first (optional_text >>= kind_by)
+modifiers_of = if_next (is_word Invariant) invariant_first (optional_text >>= kind_by)
 
 -- ---- formals
 
 abbrev pub begins_formal : Lexeme → Bool
 begins_formal (l.Name bytes) = true
 begins_formal (l.Text bytes) = true
-begins_formal (l.Word n) = is_keyword (keyword_number Invariant) (l.Word n) || is_some (width_in n)
+begins_formal (l.Word n) = is_word Invariant (l.Word n) || is_some (width_in n)
 begins_formal _ = false
 
 abbrev pub formal : Reads Formal
@@ -59,7 +58,7 @@ abbrev pub variables : ℕ → Modifiers → TypeName → Reads LocalForm
 variables turns before width = names turns >>= λ named. symbol Semicolon >>= λ _. give (locals.Variables before width named)
 
 abbrev pub room_count : ℕ → Reads (Option Expr)
-room_count fuel = optional (is_symbol (symbol_number OpenSquare)) (square (whole fuel))
+room_count fuel = optional (is_sign OpenSquare) (square (whole fuel))
 
 abbrev pub sized_room : ℕ → TypeName → Reads RoomForm
 sized_room fuel width = room_count fuel >>= λ count. symbol Semicolon >>= λ _. give (rooms.Data width count)
@@ -85,7 +84,7 @@ stackdata fuel = braces (many fuel (is_other CloseBrace) (room fuel) []) >>= λ 
 abbrev pub procedure : ℕ → Reads Block → Ident → Reads Proc
 procedure fuel block name =
     round (may_list fuel begins_formal formal) >>= λ formals.
-    block >>= λ body. give record { name = name; formals = formals; body = body }
+    block >>= λ body. here >>= λ past. give record { name = name; formals = formals; body = body; past = past }
 
 abbrev pub proc : ℕ → Reads Block → Reads Proc
 proc fuel block = ident >>= λ name. procedure fuel block name

@@ -6,11 +6,10 @@ use Rattle.cmm_lexer.specs.declared.piece.Lexeme.TheVariants.{Name, Int as Numbe
 use Rattle.cmm_ast.specs.declared.token.Ident.{Ident}
 use Rattle.cmm_ast.specs.declared.token.Text.{Text}
 use Rattle.cmm_ast.specs.declared.token.Int.{Int}
-use Rattle.cmm_ast.specs.declared.keyword.Keyword.{Keyword}
-use Rattle.cmm_ast.specs.declared.keyword.Symbol.{Symbol}
-use Rattle.cmm_ast.specs.declared.keyword.Symbol.TheVariants.{Open, Close, OpenBrace, CloseBrace, OpenSquare, CloseSquare, Comma}
-use Rattle.cmm_ast.specs.Numbers.{keyword_number, symbol_number}
-use Rattle.cmm_ast.specs.Taking.{is_keyword, is_symbol}
+use Rattle.cmm_lexer.specs.declared.keyword.Keyword.{Keyword}
+use Rattle.cmm_lexer.specs.declared.symbol.Symbol.{Symbol}
+use Rattle.cmm_lexer.specs.declared.symbol.Symbol.TheVariants.{Open, Close, OpenBrace, CloseBrace, OpenSquare, CloseSquare, Comma}
+use Rattle.cmm_ast.specs.Taking.{is_word, is_sign}
 
 -- where a parser stands
 pub record Point : Type 0 where
@@ -89,10 +88,10 @@ abbrev pub expect : (Lexeme → Bool) → Reads (Unit {0})
 expect test = if_next test skip stop
 
 abbrev pub keyword : Keyword → Reads (Unit {0})
-keyword k = expect (is_keyword (keyword_number k))
+keyword k = expect (is_word k)
 
 abbrev pub symbol : Symbol → Reads (Unit {0})
-symbol s = expect (is_symbol (symbol_number s))
+symbol s = expect (is_sign s)
 
 -- what the next token holds
 abbrev pub picked : {A : Type 0} → Option A → Reads A
@@ -159,7 +158,7 @@ outermost reads limited p = reads limited record p { operators = 0 }
 
 abbrev pub in_brackets : {A : Type 0} → Symbol → Reads A → Symbol → Reads A
 in_brackets opens reads closes =
-    enclosed (if_next (is_symbol (symbol_number opens)) skip_opening stop >>= λ _. reads >>= λ a. symbol closes >>= λ _. give a)
+    enclosed (if_next (is_sign opens) skip_opening stop >>= λ _. reads >>= λ a. symbol closes >>= λ _. give a)
 
 abbrev pub round : {A : Type 0} → Reads A → Reads A
 round reads = in_brackets Open reads Close
@@ -173,7 +172,7 @@ braces reads = in_brackets OpenBrace reads CloseBrace
 -- ---- lists, of which each turn takes a token or more: a count above the tokens that are left is enough turns
 
 abbrev pub is_comma : Lexeme → Bool
-is_comma = is_symbol (symbol_number Comma)
+is_comma = is_sign Comma
 
 abbrev pub optional : {A : Type 0} → (Lexeme → Bool) → Reads A → Reads (Option A)
 optional begins reads = if_next begins (reads >>= λ a. give (Some a)) (give None)

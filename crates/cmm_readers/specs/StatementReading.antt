@@ -6,10 +6,10 @@ use Rattle.cmm_lexer.specs.declared.piece.Lexeme.{Lexeme}
 use Rattle.cmm_lexer.specs.declared.piece.Lexeme.TheVariants as l
 use Rattle.cmm_ast.specs.declared.token.Ident.{Ident}
 use Rattle.cmm_ast.specs.declared.token.Text.{Text}
-use Rattle.cmm_ast.specs.declared.keyword.Keyword.TheVariants.{Continuation, Cut, Default, Else, Foreign, Goto, If, Invariant, Jump, Return, Span, Stackdata, Switch, To}
-use Rattle.cmm_ast.specs.declared.keyword.Keyword.TheVariants as word
-use Rattle.cmm_ast.specs.declared.keyword.Symbol.TheVariants.{Open, OpenBrace, CloseBrace, OpenSquare, Colon, Less, Greater, Semicolon, Slash}
-use Rattle.cmm_ast.specs.declared.keyword.Symbol.TheVariants as sign
+use Rattle.cmm_lexer.specs.declared.keyword.Keyword.TheVariants.{Continuation, Cut, Default, Else, Foreign, Goto, If, Invariant, Jump, Return, Span, Stackdata, Switch, To}
+use Rattle.cmm_lexer.specs.declared.keyword.Keyword.TheVariants as word
+use Rattle.cmm_lexer.specs.declared.symbol.Symbol.TheVariants.{Open, OpenBrace, CloseBrace, OpenSquare, Colon, Less, Greater, Semicolon, Slash}
+use Rattle.cmm_lexer.specs.declared.symbol.Symbol.TheVariants as sign
 use Rattle.cmm_ast.specs.declared.expression.Memory.{Memory, Memory'}
 use Rattle.cmm_ast.specs.declared.expression.TypeName.{TypeName}
 use Rattle.cmm_ast.specs.declared.procedure.LocalForm.{LocalForm}
@@ -28,8 +28,7 @@ use Rattle.cmm_ast.specs.declared.statement.Span.{Span as SwitchSpan}
 use Rattle.cmm_ast.specs.declared.statement.Stmt.{Stmt}
 use Rattle.cmm_ast.specs.declared.statement.StmtForm.{StmtForm}
 use Rattle.cmm_ast.specs.declared.statement.StmtForm.TheVariants as stmts
-use Rattle.cmm_ast.specs.Numbers.{keyword_number, symbol_number}
-use Rattle.cmm_ast.specs.Taking.{is_keyword, is_symbol}
+use Rattle.cmm_ast.specs.Taking.{is_word, is_sign}
 use Rattle.cmm_readers.specs.Reading.{Reads, ◌>>=◌, give, stop, look, if_next, here, skip, skip_opening, keyword, symbol, ident, text, round, square, braces, enclosed, optional, many, commas, may_list}
 use Rattle.cmm_readers.specs.ExpressionReading.{type_name, named_type, whole, whole_prim, whole_memory}
 use Rattle.cmm_readers.specs.PartReading.{is_any_name, is_width, begins_kinded, kinded, arguments, callee, annotations, exit, range}
@@ -41,7 +40,7 @@ use Rattle.cmm_readers.specs.TargetReading.{Names, Lvalues, Results, assignment}
 
 abbrev pub case : ℕ → Reads Case
 case fuel =
-    if_next (is_keyword (keyword_number Default)) (skip >>= λ _. symbol Colon >>= λ _. give cases.Default)
+    if_next (is_word Default) (skip >>= λ _. symbol Colon >>= λ _. give cases.Default)
     (keyword word.Case >>= λ _. commas fuel (range fuel) >>= λ ranges. symbol Colon >>= λ _. give (cases.Ranges ranges))
 
 abbrev pub span_ends : ℕ → Reads SwitchSpan
@@ -57,7 +56,7 @@ jump fuel = callee fuel >>= λ what. arguments fuel >>= λ actuals. symbol Semic
 
 abbrev pub return_form : ℕ → Reads StmtForm
 return_form fuel =
-    optional (is_symbol (symbol_number Less)) (exit fuel) >>= λ by. optional (is_symbol (symbol_number Open)) (arguments fuel) >>= λ values.
+    optional (is_sign Less) (exit fuel) >>= λ by. optional (is_sign Open) (arguments fuel) >>= λ values.
     symbol Semicolon >>= λ _. give (stmts.Return by values)
 
 abbrev pub goto : Reads StmtForm
@@ -74,15 +73,15 @@ continuation fuel =
 
 abbrev pub word_stmt : ℕ → Reads StmtForm
 word_stmt fuel =
-    if_next (is_keyword (keyword_number Return)) (skip >>= λ _. return_form fuel)
-    (if_next (is_keyword (keyword_number Goto)) (skip >>= λ _. goto)
-    (if_next (is_keyword (keyword_number Jump)) (skip >>= λ _. jump fuel)
-    (if_next (is_keyword (keyword_number Cut)) (skip >>= λ _. cut fuel)
-    (if_next (is_keyword (keyword_number word.Continuation)) (skip >>= λ _. continuation fuel)
-    (if_next (is_keyword (keyword_number Foreign)) (call_after fuel []) stop)))))
+    if_next (is_word Return) (skip >>= λ _. return_form fuel)
+    (if_next (is_word Goto) (skip >>= λ _. goto)
+    (if_next (is_word Jump) (skip >>= λ _. jump fuel)
+    (if_next (is_word Cut) (skip >>= λ _. cut fuel)
+    (if_next (is_word word.Continuation) (skip >>= λ _. continuation fuel)
+    (if_next (is_word Foreign) (call_after fuel []) stop)))))
 
 abbrev pub symbol_stmt : ℕ → Reads StmtForm
-symbol_stmt fuel = if_next (is_symbol (symbol_number Open)) (call_after fuel []) (symbol Semicolon >>= λ _. give stmts.Empty)
+symbol_stmt fuel = if_next (is_sign Open) (call_after fuel []) (symbol Semicolon >>= λ _. give stmts.Empty)
 
 -- ---- statements that begin with a name or a word in memory, after it
 
@@ -91,14 +90,14 @@ memory_token (Memory' width _ address aligned) = width.token
 
 abbrev pub memory_stmt : ℕ → Memory → Reads StmtForm
 memory_stmt fuel m =
-    if_next (is_symbol (symbol_number Open)) (call fuel [] None (record { token = memory_token m; form = callees.Memory m }))
+    if_next (is_sign Open) (call fuel [] None (record { token = memory_token m; form = callees.Memory m }))
     (assignment fuel (Lvalues (lvalues.Memory m ∷ [])))
 
 abbrev pub name_stmt : ℕ → Ident → Reads StmtForm
 name_stmt fuel name =
-    if_next (is_symbol (symbol_number Colon)) (skip >>= λ _. give (stmts.Label name))
-    (if_next (is_symbol (symbol_number OpenSquare)) (whole_memory fuel (named_type name) >>= λ m. memory_stmt fuel m)
-    (if_next (is_symbol (symbol_number Open)) (call fuel [] None (record { token = name.token; form = callees.Name name }))
+    if_next (is_sign Colon) (skip >>= λ _. give (stmts.Label name))
+    (if_next (is_sign OpenSquare) (whole_memory fuel (named_type name) >>= λ m. memory_stmt fuel m)
+    (if_next (is_sign Open) (call fuel [] None (record { token = name.token; form = callees.Name name }))
     (assignment fuel (Names (name ∷ [])))))
 
 -- ---- parts that hold no block
@@ -130,21 +129,21 @@ kind_part fuel kind =
 abbrev pub text_part : ℕ → Reads PartForm
 text_part fuel =
     text >>= λ kind.
-    if_next (is_keyword (keyword_number Invariant))
+    if_next (is_word Invariant)
     (skip >>= λ _. type_name >>= λ width. of_local (variables fuel (before.KindInvariant kind) width)) (kind_part fuel kind)
 
 -- what follows a type that is a word: a word in memory or variables
 abbrev pub width_part : ℕ → TypeName → Reads PartForm
 width_part fuel width =
-    if_next (is_symbol (symbol_number OpenSquare)) (of_stmt (whole_memory fuel width >>= λ m. memory_stmt fuel m))
+    if_next (is_sign OpenSquare) (of_stmt (whole_memory fuel width >>= λ m. memory_stmt fuel m))
     (of_local (variables fuel before.Nothing width))
 
 -- a part that begins with a reserved word that is no type
 abbrev pub other_part : ℕ → Reads PartForm
 other_part fuel =
-    if_next (is_keyword (keyword_number Invariant))
+    if_next (is_word Invariant)
     (modifiers_of >>= λ modifiers. type_name >>= λ width. of_local (variables fuel modifiers width))
-    (if_next (is_keyword (keyword_number Stackdata)) (skip >>= λ _. of_local (stackdata fuel)) (of_stmt (word_stmt fuel)))
+    (if_next (is_word Stackdata) (skip >>= λ _. of_local (stackdata fuel)) (of_stmt (word_stmt fuel)))
 
 -- a part that begins with a reserved word
 abbrev pub word_part : ℕ → Reads PartForm
@@ -168,29 +167,29 @@ if_form fuel blocks others = whole fuel >>= λ condition. blocks >>= λ body. ot
 abbrev pub chained : Reads StmtForm → Reads Stmt
 chained form =
     enclosed
-    (here >>= λ token. if_next (is_keyword (keyword_number If)) skip_opening stop >>= λ _. form >>= λ form. here >>= λ past.
+    (here >>= λ token. if_next (is_word If) skip_opening stop >>= λ _. form >>= λ form. here >>= λ past.
     give record { token = token; past = past; form = form })
 
 -- each turn takes a token or more
 abbrev pub otherwise : ℕ → ℕ → Reads Block → Reads Otherwise
 otherwise zero fuel blocks = stop
 otherwise (suc turns) fuel blocks =
-    if_next (is_keyword (keyword_number Else))
+    if_next (is_word Else)
     (skip >>= λ _.
-    if_next (is_symbol (symbol_number OpenBrace)) (blocks >>= λ body. give (otherwises.Else body))
+    if_next (is_sign OpenBrace) (blocks >>= λ body. give (otherwises.Else body))
     (chained (if_form fuel blocks (otherwise turns fuel blocks)) >>= λ s. give (otherwises.ElseIf s)))
     (give otherwises.Nothing)
 
 -- not the brace that ends a row
 abbrev pub is_within : Lexeme → Bool
-is_within x = elim (is_symbol (symbol_number CloseBrace) x) [ true ↦ false | false ↦ true ]
+is_within x = elim (is_sign CloseBrace x) [ true ↦ false | false ↦ true ]
 
 abbrev pub arm : ℕ → Reads Block → Reads Arm
 arm fuel blocks = here >>= λ token. case fuel >>= λ what. blocks >>= λ body. give record { token = token; case = what; body = body }
 
 abbrev pub switch_form : ℕ → Reads Block → Reads StmtForm
 switch_form fuel blocks =
-    optional (is_symbol (symbol_number OpenSquare)) (switch_span fuel) >>= λ over. whole fuel >>= λ value.
+    optional (is_sign OpenSquare) (switch_span fuel) >>= λ over. whole fuel >>= λ value.
     braces (many fuel is_within (arm fuel blocks) []) >>= λ arms. give (stmts.Switch over value arms)
 
 abbrev pub span_form : ℕ → Reads Block → Reads StmtForm
@@ -204,9 +203,9 @@ part_of token past (OfStmt form) = parts.Stmt record { token = token; past = pas
 
 abbrev pub part_form : ℕ → Reads Block → Reads PartForm
 part_form fuel blocks =
-    if_next (is_keyword (keyword_number If)) (skip >>= λ _. of_stmt (if_form fuel blocks (otherwise fuel fuel blocks)))
-    (if_next (is_keyword (keyword_number Switch)) (skip >>= λ _. of_stmt (switch_form fuel blocks))
-    (if_next (is_keyword (keyword_number Span)) (skip >>= λ _. of_stmt (span_form fuel blocks)) (flat_part fuel)))
+    if_next (is_word If) (skip >>= λ _. of_stmt (if_form fuel blocks (otherwise fuel fuel blocks)))
+    (if_next (is_word Switch) (skip >>= λ _. of_stmt (switch_form fuel blocks))
+    (if_next (is_word Span) (skip >>= λ _. of_stmt (span_form fuel blocks)) (flat_part fuel)))
 
 abbrev pub part : ℕ → Reads Block → Reads Part
 part fuel blocks = here >>= λ token. part_form fuel blocks >>= λ form. here >>= λ past. give (part_of token past form)

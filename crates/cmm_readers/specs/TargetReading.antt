@@ -5,9 +5,9 @@ pub use Rattle.cmm_readers.specs.declared.told_apart.Targets.TheVariants.{Names,
 use Rattle.std.specs.Prelude.{ℕ, zero, suc, Bool, List, [], ◌∷◌, ◌++◌, map, Option, Some, None, is_some}
 use Rattle.cmm_lexer.specs.declared.piece.Lexeme.{Lexeme}
 use Rattle.cmm_ast.specs.declared.token.Ident.{Ident}
-use Rattle.cmm_ast.specs.declared.keyword.Keyword.TheVariants.{Foreign}
-use Rattle.cmm_ast.specs.declared.keyword.Symbol.TheVariants.{Open, Comma, Semicolon}
-use Rattle.cmm_ast.specs.declared.keyword.Symbol.TheVariants as sign
+use Rattle.cmm_lexer.specs.declared.keyword.Keyword.TheVariants.{Foreign}
+use Rattle.cmm_lexer.specs.declared.symbol.Symbol.TheVariants.{Open, Comma, Semicolon}
+use Rattle.cmm_lexer.specs.declared.symbol.Symbol.TheVariants as sign
 use Rattle.cmm_ast.specs.declared.expression.Expr.{Expr}
 use Rattle.cmm_ast.specs.declared.expression.ExprForm.{ExprForm, more_of-Expr}
 use Rattle.cmm_ast.specs.declared.expression.ExprForm.TheVariants.{Prim, Memory as InMemory}
@@ -20,8 +20,7 @@ use Rattle.cmm_ast.specs.declared.statement.Lvalue.{Lvalue}
 use Rattle.cmm_ast.specs.declared.statement.Lvalue.TheVariants as lvalues
 use Rattle.cmm_ast.specs.declared.statement.StmtForm.{StmtForm}
 use Rattle.cmm_ast.specs.declared.statement.StmtForm.TheVariants as stmts
-use Rattle.cmm_ast.specs.Numbers.{keyword_number, symbol_number}
-use Rattle.cmm_ast.specs.Taking.{is_keyword, is_symbol}
+use Rattle.cmm_ast.specs.Taking.{is_word, is_sign}
 use Rattle.cmm_readers.specs.Reading.{Reads, ◌>>=◌, give, stop, if_next, here, skip, symbol, checked_in, pick, round, is_comma, listed, more_listed}
 use Rattle.cmm_readers.specs.ExpressionReading.{begins_expression, whole}
 use Rattle.cmm_readers.specs.PartReading.{is_any_text, kinded, lvalue, annotations}
@@ -74,7 +73,7 @@ assign fuel to values = values >>= λ values. symbol Semicolon >>= λ _. give (s
 abbrev pub values : ℕ → List Ident → Reads StmtForm
 values fuel names =
     whole fuel >>= λ value.
-    if_next (is_symbol (symbol_number Open)) (called fuel names value.token (callee_of_form value.token value.form))
+    if_next (is_sign Open) (called fuel names value.token (callee_of_form value.token value.form))
     (assign fuel (lvalues_of names) (more_listed fuel begins_expression (whole fuel) (value ∷ [])))
 
 abbrev pub is_checked_operator : Lexeme → Bool
@@ -94,7 +93,7 @@ checked fuel _ = stop
 
 abbrev pub after_names : ℕ → List Ident → Reads StmtForm
 after_names fuel names =
-    if_next (is_keyword (keyword_number Foreign)) (call_after fuel (results_of names))
+    if_next (is_word Foreign) (call_after fuel (results_of names))
     (if_next is_checked_operator (checked fuel names) (values fuel names))
 
 abbrev pub assigned : ℕ → Targets → Reads StmtForm

@@ -2,8 +2,8 @@
 use Rattle.std.specs.Prelude.{ℕ, zero, suc, Bool, true, List, [], Option, Some, None}
 use Rattle.cmm_lexer.specs.declared.piece.Lexeme.{Lexeme}
 use Rattle.cmm_ast.specs.declared.token.Ident.{Ident}
-use Rattle.cmm_ast.specs.declared.keyword.Keyword.TheVariants.{Align, Section as SectionWord, Span}
-use Rattle.cmm_ast.specs.declared.keyword.Symbol.TheVariants.{Colon, CloseBrace, CloseSquare, Open, OpenBrace, OpenSquare, Semicolon}
+use Rattle.cmm_lexer.specs.declared.keyword.Keyword.TheVariants.{Align, Section as SectionWord, Span}
+use Rattle.cmm_lexer.specs.declared.symbol.Symbol.TheVariants.{Colon, CloseBrace, CloseSquare, Open, OpenBrace, OpenSquare, Semicolon}
 use Rattle.cmm_ast.specs.declared.expression.TypeName.{TypeName}
 use Rattle.cmm_ast.specs.declared.expression.Expr.{Expr}
 use Rattle.cmm_ast.specs.declared.statement.Block.{Block}
@@ -18,8 +18,7 @@ use Rattle.cmm_ast.specs.declared.unit.Count.{Count}
 use Rattle.cmm_ast.specs.declared.unit.Count.TheVariants as counts
 use Rattle.cmm_ast.specs.declared.unit.Initial.{Initial}
 use Rattle.cmm_ast.specs.declared.unit.Initial.TheVariants as initials
-use Rattle.cmm_ast.specs.Numbers.{keyword_number, symbol_number}
-use Rattle.cmm_ast.specs.Taking.{is_keyword, is_symbol}
+use Rattle.cmm_ast.specs.Taking.{is_word, is_sign}
 use Rattle.cmm_readers.specs.Reading.{Reads, ◌>>=◌, give, stop, if_next, here, keyword, symbol, ident, text, int, many, listed, square, braces}
 use Rattle.cmm_readers.specs.ExpressionReading.{named_type, begins_expression, whole, whole_prim}
 use Rattle.cmm_readers.specs.DeclarationReading.{is_other, if_symbol, bits, decl}
@@ -30,14 +29,14 @@ use Rattle.cmm_readers.specs.PartReading.{is_any_name, is_any_text}
 
 -- what stands in the square brackets
 abbrev pub count_in : ℕ → Reads (Option Expr)
-count_in fuel = if_next (is_symbol (symbol_number CloseSquare)) (give None) (whole fuel >>= λ e. give (Some e))
+count_in fuel = if_next (is_sign CloseSquare) (give None) (whole fuel >>= λ e. give (Some e))
 
 abbrev pub count_of : Option Expr → Count
 count_of None = counts.OfInitial
 count_of (Some e) = counts.Of e
 
 abbrev pub count : ℕ → Reads Count
-count fuel = if_next (is_symbol (symbol_number OpenSquare)) (square (count_in fuel) >>= λ e. give (count_of e)) (give counts.One)
+count fuel = if_next (is_sign OpenSquare) (square (count_in fuel) >>= λ e. give (count_of e)) (give counts.One)
 
 abbrev pub values : ℕ → Reads Initial
 values fuel = braces (listed fuel begins_expression (whole fuel)) >>= λ found. give (initials.Values found)
@@ -45,7 +44,7 @@ values fuel = braces (listed fuel begins_expression (whole fuel)) >>= λ found. 
 abbrev pub initial : ℕ → Reads Initial
 initial fuel =
     if_next is_any_text (text >>= λ t. give (initials.Text t))
-    (if_next (is_symbol (symbol_number OpenBrace)) (values fuel) (give initials.Zeros))
+    (if_next (is_sign OpenBrace) (values fuel) (give initials.Zeros))
 
 -- data after its type
 abbrev pub values_of : ℕ → TypeName → Reads DatumForm
@@ -63,7 +62,7 @@ datum_at token form = items.Datum record { token = token; form = form }
 -- an item after the name that it begins with: a procedure, a label, or data of the type that it names
 abbrev pub named_item : ℕ → Reads Block → Ident → Reads Item
 named_item fuel block name =
-    if_next (is_symbol (symbol_number Open)) (procedure fuel block name >>= λ p. give (items.Proc p))
+    if_next (is_sign Open) (procedure fuel block name >>= λ p. give (items.Proc p))
     (named_datum fuel name >>= λ form. give (datum_at name.token form))
 
 abbrev pub align_item : Reads Item
@@ -77,7 +76,7 @@ item_by fuel None = decl fuel >>= λ d. give (items.Decl d)
 abbrev pub flat_item : ℕ → Reads Block → Reads Item
 flat_item fuel block =
     if_next is_any_name (ident >>= λ name. named_item fuel block name)
-    (if_next (is_keyword (keyword_number Align)) align_item (bits >>= λ width. item_by fuel width))
+    (if_next (is_word Align) align_item (bits >>= λ width. item_by fuel width))
 
 -- items in their braces
 abbrev pub in_braces : ℕ → Reads Item → Reads (List Item)
@@ -92,7 +91,7 @@ span fuel inner =
 -- a count above the tokens that are left is enough
 abbrev pub item : ℕ → (ℕ → Reads Block) → Reads Item
 item zero block = stop
-item (suc fuel) block = if_next (is_keyword (keyword_number Span)) (span fuel (item fuel block)) (flat_item (suc fuel) (block (suc fuel)))
+item (suc fuel) block = if_next (is_word Span) (span fuel (item fuel block)) (flat_item (suc fuel) (block (suc fuel)))
 
 -- ---- sections and units
 
@@ -104,7 +103,7 @@ section fuel block =
 
 abbrev pub top_level : ℕ → (ℕ → Reads Block) → Reads TopLevel
 top_level fuel block =
-    if_next (is_keyword (keyword_number SectionWord)) (section fuel block >>= λ s. give (tops.Section s))
+    if_next (is_word SectionWord) (section fuel block >>= λ s. give (tops.Section s))
     (if_next is_any_name ((ident >>= λ name. procedure fuel (block fuel) name) >>= λ p. give (tops.Proc p))
     (decl fuel >>= λ d. give (tops.Decl d)))
 
