@@ -9,8 +9,8 @@ use Rattle.std.specs.Cmp.Lexicographic.{pointwise}
 use Rattle.std.specs.Result.{IsErrAnd, IfErr}
 use Rattle.cmm_lexer.specs.declared.piece.Piece.{Piece}
 use Rattle.cmm_lexer.specs.declared.piece.Part.TheVariants.{Broken}
-use Rattle.cmm_lexer.specs.declared.piece.Rule.{Rule}
-use Rattle.cmm_lexer.specs.declared.piece.Rule.TheVariants.{TooLong}
+use Rattle.cmm_rules.specs.declared.rule.Rule.{Rule}
+use Rattle.cmm_rules.specs.declared.rule.Rule.TheVariants.{UnitTooLong}
 use Rattle.cmm_lexer.specs.declared.tokens.Tokens.{Tokens}
 use Rattle.cmm_lexer.specs.declared.tokens.LexFault.{LexFault}
 use Rattle.cmm_lexer.specs.declared.tokens.LexFault.TheVariants.{At, Memory}
@@ -22,7 +22,7 @@ use Rattle.cmm_lexer.specs.Blame.{Blames}
 use Rattle.cmm_lexer.specs.Reached.{Reached, pieces_at}
 
 -- a unit is refused for its length first
-pub first_fault-long : (unit : List ℕ) → UNIT_LIMIT < length unit → first_fault unit ≡ Some (record { rule = TooLong; start = 0 })
+pub first_fault-long : (unit : List ℕ) → UNIT_LIMIT < length unit → first_fault unit ≡ Some (record { rule = UnitTooLong; start = 0 })
 first_fault-long unit h = let long : nat_lt UNIT_LIMIT (length unit) ≡ true = grind (arith, nat_tests) in rw long refl
 
 -- of a short one the first broken piece counts

@@ -1,10 +1,10 @@
-mod Digits
 mod Finishing
 mod Numbered
 mod Numbering
 mod Placing
 mod Positions
 mod Quoting
+pub mod Shared
 mod Splitting
 mod Taking
 mod WorkedRows

@@ -1,5 +1,5 @@
 -- Words and symbols in the order of their numbers: each stands at its number, and one is found by its spelling where the spelling stands.
-use Rattle.std.proofs.Common.{◌≡◌, ◌≢◌, ℕ, zero, suc, ◌+◌, ◌≤◌, ◌<◌, ◌==◌, Bool, true, false, ◌&&◌, List, [], ◌∷◌, length, get_or, Option, Some, None, refl, ap, sym, ◌∙◌, arith, nat_eq, nat_lt}
+use Rattle.std.proofs.Common.{◌≡◌, ℕ, zero, suc, ◌+◌, ◌<◌, ◌==◌, Bool, true, false, ◌&&◌, List, [], ◌∷◌, length, get_or, Some, None, refl, ap, sym, ◌∙◌, arith, nat_eq, nat_lt}
 use Rattle.std.proofs.lemmas.Bool.Decides.{nat_tests}
 use Rattle.std.specs.Cmp.Lexicographic.{pointwise}
 use Rattle.cmm_lexer.specs.declared.keyword.Keyword.{Keyword}
@@ -40,6 +40,21 @@ keyword-at i l = omega (arith, number-at keyword_number 0 KEYWORDS word.Aborts r
 
 pub symbol-at : (i : ℕ) → i < 29 → symbol_number (get_or SYMBOLS i sign.OpenBrace) ≡ i
 symbol-at i l = omega (arith, number-at symbol_number 0 SYMBOLS sign.OpenBrace refl i l)
+
+keyword-there : (k : Keyword) → get_or KEYWORDS (keyword_number k) word.Aborts ≡ k
+keyword-there word.Aborts = refl
+keyword-there _ = refl
+
+symbol-there : (s : Symbol) → get_or SYMBOLS (symbol_number s) sign.OpenBrace ≡ s
+symbol-there sign.OpenBrace = refl
+symbol-there _ = refl
+
+-- numbers tell words apart, and symbols
+pub keyword_number-injective : (a b : Keyword) → keyword_number a ≡ keyword_number b → a ≡ b
+keyword_number-injective a b e = sym (keyword-there a) ∙ ap (λ n. get_or KEYWORDS n word.Aborts) e ∙ keyword-there b
+
+pub symbol_number-injective : (a b : Symbol) → symbol_number a ≡ symbol_number b → a ≡ b
+symbol_number-injective a b e = sym (symbol-there a) ∙ ap (λ n. get_or SYMBOLS n sign.OpenBrace) e ∙ symbol-there b
 
 -- ---- by their spellings
 

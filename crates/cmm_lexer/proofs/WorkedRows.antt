@@ -1,7 +1,7 @@
 -- Rows of the lexical form, by computing.
 use Rattle.std.proofs.Common.{◌≡◌, [], ◌∷◌, codes, map, Some, refl}
 use Rattle.cmm_lexer.specs.declared.piece.Lexeme.TheVariants.{Name, Int, Char, Text, Op, Checked, Word, Symbol}
-use Rattle.cmm_lexer.specs.declared.piece.Rule.TheVariants.{BadByte, OpenComment, OpenText, BadNumber}
+use Rattle.cmm_rules.specs.declared.rule.Rule.TheVariants.{BadByte, OpenComment, OpenText, BadNumber}
 use Rattle.cmm_lexer.specs.Spellings.{number_of, reserved, symbols}
 use Rattle.cmm_lexer.specs.Pieces.{comment_piece, name_piece, number_piece, character_piece, text_piece, symbol_piece, percent_piece, piece_at, pieces_from}
 use Rattle.cmm_lexer.specs.Lexing.{tokens_of, first_fault}

@@ -2,10 +2,10 @@
 use Rattle.std.specs.Prelude.{◌≡◌, ℕ}
 use Rattle.cmm_lexer.specs.declared.piece.Part.{Part}
 use Rattle.cmm_lexer.specs.declared.piece.Part.TheVariants.{Broken}
-use Rattle.cmm_lexer.specs.declared.piece.Rule.{Rule}
+use Rattle.cmm_rules.specs.declared.rule.Rule.{Rule}
 use Rattle.cmm_lexer.specs.declared.tokens.LexFault.{LexFault}
 use Rattle.cmm_lexer.specs.declared.tokens.LexFault.TheVariants.{At, Memory}
-use Rattle.cmm_lexer.specs.Lexing.{rule_number}
+use Rattle.cmm_rules.specs.Rules.{rule_number}
 
 -- the part breaks the rule of the fault, whose place is this line and column
 abbrev pub Blames : Part → ℕ → ℕ → LexFault → Type 0

@@ -1,5 +1,5 @@
 -- Which bytes separate tokens, and which make them up.
-use Rattle.std.specs.Prelude.{ℕ, Bool, false, ◌==◌, ◌&&◌, ◌||◌, ◌-◌, nat_le, if◌then◌else◌, List, [], ◌∷◌}
+use Rattle.std.specs.Prelude.{ℕ, Bool, false, ◌==◌, ◌&&◌, ◌||◌, nat_le, List, [], ◌∷◌}
 
 -- space, tab, line feed, form feed and carriage return
 abbrev pub is_separator : ℕ → Bool
@@ -10,13 +10,6 @@ is_letter b = (nat_le 97 b && nat_le b 122) || (nat_le 65 b && nat_le b 90)
 
 abbrev pub is_digit : ℕ → Bool
 is_digit b = nat_le 48 b && nat_le b 57
-
-abbrev pub is_hex_digit : ℕ → Bool
-is_hex_digit b = is_digit b || (nat_le 97 b && nat_le b 102) || (nat_le 65 b && nat_le b 70)
-
--- what a digit of any base counts
-abbrev pub digit_value : ℕ → ℕ
-digit_value b = if nat_le b 57 then b - 48 else if nat_le 97 b then b - 87 else b - 55
 
 -- a letter or `_`, with which the name of an operator begins
 abbrev pub begins_operator : ℕ → Bool

@@ -1,7 +1,8 @@
 -- The characters between quotes, and the end of a block comment.
 use Rattle.std.specs.Prelude.{ℕ, suc, zero, true, false, ◌==◌, ◌&&◌, ◌||◌, ◌+◌, ◌*◌, ◌-◌, List, [], ◌∷◌, drop, Option, Some, None, option_map}
+use Rattle.std.specs.Char.{is_digit, digit_value}
 use Rattle.cmm_lexer.specs.declared.character.Character.{Character}
-use Rattle.cmm_lexer.specs.Bytes.{is_hex_digit, digit_value, begins}
+use Rattle.cmm_lexer.specs.Bytes.{begins}
 
 -- the byte that a letter after a backslash stands for: n, t, r, 0, the backslash and the quotes
 abbrev pub escaped : ℕ → Option ℕ
@@ -28,7 +29,7 @@ escaped b =
 abbrev pub hex_pair : List ℕ → Option ℕ
 hex_pair [] = None
 hex_pair (h ∷ []) = None
-hex_pair (h ∷ l ∷ bs) = elim (is_hex_digit h && is_hex_digit l) [ true ↦ Some (digit_value h * 16 + digit_value l) | false ↦ None ]
+hex_pair (h ∷ l ∷ bs) = elim (is_digit h 16 && is_digit l 16) [ true ↦ Some (digit_value h * 16 + digit_value l) | false ↦ None ]
 
 -- the character that begins with a backslash, from the byte after it
 abbrev pub escape_at : List ℕ → Option Character

@@ -5,8 +5,9 @@ use Rattle.cmm_lexer.specs.declared.piece.Lexeme.{Lexeme}
 use Rattle.cmm_lexer.specs.declared.piece.Lexeme.TheVariants as lexeme
 use Rattle.cmm_lexer.specs.declared.piece.Part.{Part}
 use Rattle.cmm_lexer.specs.declared.piece.Part.TheVariants.{Skipped, Lexed, Broken}
-use Rattle.cmm_lexer.specs.declared.piece.Rule.{Rule}
-use Rattle.cmm_lexer.specs.declared.piece.Rule.TheVariants.{BadByte, OpenComment, OpenText, BadNumber, TooLong}
+use Rattle.cmm_rules.specs.Rules.{rule_number}
+use Rattle.cmm_rules.specs.declared.rule.Rule.{Rule}
+use Rattle.cmm_rules.specs.declared.rule.Rule.TheVariants.{UnitTooLong}
 use Rattle.cmm_lexer.specs.declared.token.Token.{Token}
 use Rattle.cmm_lexer.specs.declared.token.TokenKind.{TokenKind}
 use Rattle.cmm_lexer.specs.declared.token.TokenKind.TheVariants as kind
@@ -56,14 +57,7 @@ faults_of unit = flat_map fault_of (pieces_of unit)
 
 -- the fault that a unit is refused for: its length comes first
 abbrev pub first_fault : List ℕ → Option Fault
-first_fault unit = if nat_lt UNIT_LIMIT (length unit) then Some (record { rule = TooLong; start = 0 }) else slice_get (faults_of unit) 0
-
-abbrev pub rule_number : Rule → ℕ
-rule_number BadByte = 1
-rule_number OpenComment = 2
-rule_number OpenText = 3
-rule_number BadNumber = 4
-rule_number TooLong = 5
+first_fault unit = if nat_lt UNIT_LIMIT (length unit) then Some (record { rule = UnitTooLong; start = 0 }) else slice_get (faults_of unit) 0
 
 -- the first fault of a unit is this one
 abbrev pub IsFirstFault : List ℕ → LexFault → Type 0

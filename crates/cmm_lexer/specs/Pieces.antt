@@ -5,13 +5,14 @@ use Rattle.cmm_lexer.specs.declared.piece.Lexeme.{Lexeme}
 use Rattle.cmm_lexer.specs.declared.piece.Lexeme.TheVariants.{Name, Int, Char, Text, Op, Checked, Word, Symbol}
 use Rattle.cmm_lexer.specs.declared.piece.Part.TheVariants.{Skipped, Lexed, Broken}
 use Rattle.cmm_lexer.specs.declared.piece.Piece.{Piece}
-use Rattle.cmm_lexer.specs.declared.piece.Rule.{Rule}
-use Rattle.cmm_lexer.specs.declared.piece.Rule.TheVariants.{BadByte, OpenComment, OpenText, BadNumber}
+use Rattle.cmm_rules.specs.declared.rule.Rule.{Rule}
+use Rattle.cmm_rules.specs.declared.rule.Rule.TheVariants.{BadByte, OpenComment, OpenText, BadNumber}
 use Rattle.cmm_lexer.specs.Bytes.{is_separator, is_digit, is_operator_byte, begins_operator, begins_word, begins}
 use Rattle.cmm_lexer.specs.Spellings.{reserved, symbols, number_of, name_len}
 use Rattle.cmm_lexer.specs.Characters.{character_at, quoted, after_comment}
 use Rattle.cmm_lexer.specs.Places.{column_at}
-use Rattle.cmm_lexer.specs.Numbers.{radix_of, is_digit_at, digits_after, is_number}
+use Rattle.cmm_words.specs.Digits.{base, written}
+use Rattle.cmm_lexer.specs.Numbers.{radix_of, digits_start, is_digit_at}
 
 abbrev pub skipped : ℕ → Piece
 skipped n = record { len = n; part = Skipped }
@@ -40,11 +41,11 @@ name_piece text = elim (number_of reserved (take (name_len text) text)) [
 unfoldable pub number_piece : List ℕ → Piece
 number_piece text =
     let radix = radix_of text in
-    let rest = drop radix.prefix text in
-    let len = prefix_len (is_digit_at radix.base) rest in
-    elim (is_number radix.base (take len rest) && not (begins begins_word (drop len rest))) [
-      | true ↦ lexed (radix.prefix + len) (Int (digits_after radix.base 0 (take len rest)))
-      | false ↦ broken BadNumber
+    let rest = drop (digits_start radix) text in
+    let len = prefix_len (is_digit_at radix) rest in
+    elim (begins begins_word (drop len rest)) [
+      | true ↦ broken BadNumber
+      | false ↦ elim (written (base radix) (take len rest)) [ Some n ↦ lexed (digits_start radix + len) (Int n) | None ↦ broken BadNumber ]
     ]
 
 -- one character between single quotes

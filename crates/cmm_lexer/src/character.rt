@@ -3,8 +3,6 @@
 ghost use Rattle.std.specs.Prelude.{◌≡◌, ◌+◌, ◌≤◌, ◌<◌, IfSome, length};
 ghost use Rattle.cmm_lexer.specs.Characters.{escaped as escaped_of, hex_pair as hex_pair_of, escape_at, character_at as character_in};
 
-use crate::bytes::{digit_value, is_hex_digit};
-
 /// A character: the byte that it stands for, and how many bytes spell it.
 #[derive(Clone, Copy, Debug, PartialEq, Eq)]
 pub struct Character {
@@ -66,9 +64,7 @@ fn hex_pair(text: &[u8]) -> Option<u8>
 {
     let (high, after) = text.split_first()?;
     let (low, _) = after.split_first()?;
-    if is_hex_digit(*high) && is_hex_digit(*low) {
-        Some(digit_value(*high) * 16 + digit_value(*low))
-    } else {
-        None
-    }
+    let high = char::from(*high).to_digit(16)?;
+    let low = char::from(*low).to_digit(16)?;
+    Some((high * 16 + low) as u8)
 }

@@ -4,8 +4,9 @@ ghost use Rattle.std.specs.Prelude.{◌≤◌, ◌<◌, length, IfOk, IfErr};
 ghost use Rattle.cmm_lexer.specs.Lexing.{Lexes, IsFirstFault};
 ghost use Rattle.cmm_lexer.specs.Reached.{Reached};
 
-use crate::piece::{Rule, piece_at};
+use crate::piece::piece_at;
 use crate::tokens::{LexFault, Tokens, UNIT_LIMIT};
+use cmm_rules::Rule;
 use std::alloc::Global;
 
 /// The tokens of a unit. A fault is the first in the text, but a unit of more than `UNIT_LIMIT` bytes is refused for its length.
@@ -15,7 +16,7 @@ pub fn lex(alloc: Global, unit: &[u8]) -> Result<Tokens, LexFault>
 {
     let mut tokens = Tokens::new(alloc);
     if unit.len() > UNIT_LIMIT {
-        return Err(tokens.fault(Rule::TooLong));
+        return Err(tokens.fault(Rule::UnitTooLong));
     }
     let mut place = 0;
     while place < unit.len() {

@@ -8,12 +8,13 @@ ghost use Rattle.cmm_lexer.specs.Pieces.{skipped, lexed, broken, line_len as lin
 use crate::bytes::{is_digit, is_separator};
 use crate::character::character_at;
 use crate::keyword::Keyword;
-use crate::number::{digits_len, number_of, radix_of};
+use crate::number::{digits_len, digits_start, radix_of};
 use crate::spelling::{
     begins_with, begins_with_operator, begins_with_word, name_len, operator_len,
 };
 use crate::symbol::Symbol;
 use cmm_items::Items;
+use cmm_rules::Rule;
 use std::alloc::{AllocError, Global};
 
 /// What a token is, with its spelling or its value.
@@ -32,16 +33,6 @@ pub enum Lexeme {
     Word(u8),
     /// The number of a symbol.
     Symbol(u8),
-}
-
-/// A rule of the lexical form.
-#[derive(Clone, Copy, Debug, PartialEq, Eq)]
-pub enum Rule {
-    BadByte,
-    OpenComment,
-    OpenText,
-    BadNumber,
-    TooLong,
 }
 
 /// What a piece of a text is.
@@ -136,13 +127,13 @@ fn number_piece(text: &[u8]) -> Piece
     ensures within { (0 < result.len) × (result.len ≤ length text.now) }
 {
     let radix = radix_of(text);
-    let (_, rest) = text.split_at(radix.prefix);
-    let (digits, after) = rest.split_at(digits_len(radix.base, rest));
+    let (_, rest) = text.split_at(digits_start(radix));
+    let (digits, after) = rest.split_at(digits_len(radix, rest));
     if begins_with_word(after) {
         return Piece::broken(Rule::BadNumber);
     }
-    match number_of(radix.base, digits) {
-        Some(number) => Piece::lexed(radix.prefix + digits.len(), Lexeme::Int(number)),
+    match radix.number(digits) {
+        Some(number) => Piece::lexed(digits_start(radix) + digits.len(), Lexeme::Int(number)),
         None => Piece::broken(Rule::BadNumber),
     }
 }

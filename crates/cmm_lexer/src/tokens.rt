@@ -5,12 +5,14 @@ ghost use Rattle.std.specs.List.{AllPairs, count_by, suffix_len};
 ghost use Rattle.std.specs.Cmp.Lexicographic.{pointwise};
 ghost use Rattle.indexmap.specs.IndexSet.{IsUnique};
 ghost use Rattle.cmm_lexer.specs.Places.{ends_line, column_past};
-ghost use Rattle.cmm_lexer.specs.Lexing.{spelled, lexeme_of, is_numbered, are_numbered, token_in, fault_in, rule_number};
+ghost use Rattle.cmm_lexer.specs.Lexing.{spelled, lexeme_of, is_numbered, are_numbered, token_in, fault_in};
+ghost use Rattle.cmm_rules.specs.Rules.{rule_number};
 ghost use Rattle.cmm_lexer.specs.Blame.{Blames};
 
-use crate::piece::{Lexeme, Part, Piece, Rule};
+use crate::piece::{Lexeme, Part, Piece};
 use crate::token::{Token, TokenKind};
 use cmm_items::Items;
+use cmm_rules::Rule;
 use indexmap::IndexSet;
 use std::alloc::{AllocError, Global};
 use thiserror::Error;
@@ -186,21 +188,6 @@ impl Tokens {
             } else {
                 self.column += 1;
             }
-        }
-    }
-}
-
-impl Rule {
-    /// The number that users see.
-    fn number(self) -> u8
-        ensures { result ≡ rule_number self }
-    {
-        match self {
-            Rule::BadByte => 1,
-            Rule::OpenComment => 2,
-            Rule::OpenText => 3,
-            Rule::BadNumber => 4,
-            Rule::TooLong => 5,
         }
     }
 }

@@ -1,4 +1,4 @@
-use Rattle.std.proofs.Common.{◌≡◌, ◌<◌, ◌∙◌, sym, get_or, nat_eq, [], length, arith, true, false}
+use Rattle.std.proofs.Common.{◌≡◌, ◌∙◌, sym, get_or, nat_eq, [], arith, true, false}
 use Rattle.std.specs.Cmp.Lexicographic.{pointwise}
 use Rattle.cmm_lexer.specs.Spellings.{symbols}
 use Rattle.cmm_lexer.proofs.Numbering.{symbol-at, none-further, spelled-found, spelled-none}
