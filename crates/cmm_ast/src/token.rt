@@ -1,7 +1,8 @@
 //! The parts of a syntax tree that are one token each.
 
 use cmm_items::Items;
-use cmm_words::Name;
+use cmm_words::{Name, Quoted};
+use std::fmt;
 
 /// A name where it stands.
 #[derive(Debug, Drop)]
@@ -12,12 +13,22 @@ pub struct Ident {
 }
 
 /// A text where it stands.
-#[derive(Debug, Drop)]
+#[derive(Drop)]
 pub struct Text {
     /// The bytes after its escapes.
     pub bytes: Items<u8>,
     /// The number of its token in the unit, from 0.
     pub token: u32,
+}
+
+/// The bytes print as a text literal.
+impl fmt::Debug for Text {
+    fn fmt<W: fmt::Write>(&self, f: &mut fmt::Formatter<W>) -> fmt::Result {
+        f.debug_struct("Text")
+            .field("bytes", &Quoted(self.bytes.as_slice()))
+            .field("token", &self.token)
+            .finish()
+    }
 }
 
 /// A whole number where it stands.
