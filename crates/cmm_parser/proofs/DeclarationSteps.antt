@@ -8,9 +8,8 @@ use Rattle.cmm_readers.specs.PartReading.{is_width}
 use Rattle.cmm_readers.specs.DeclarationReading.{bits}
 use Rattle.cmm_readers.specs.StatementReading.{block}
 use Rattle.cmm_readers.specs.UnitReading.{span, item, flat_item}
-use Rattle.cmm_ast.specs.Numbers.{keyword_number}
-use Rattle.cmm_ast.specs.Taking.{is_keyword}
-use Rattle.cmm_ast.specs.declared.keyword.Keyword.TheVariants.{Span as SpanWord}
+use Rattle.cmm_ast.specs.Taking.{is_word}
+use Rattle.cmm_lexer.specs.declared.keyword.Keyword.TheVariants.{Span as SpanWord}
 use Rattle.cmm_ast.specs.declared.unit.Item.{Item}
 use Rattle.cmm_parser.specs.declared.fault.Stop.{Stop}
 use Rattle.cmm_parser.specs.Parsing.{Answered, Parses, Skips, Stays, Bits}
@@ -51,7 +50,7 @@ may_bits None is = no_bits is
 
 -- an item of a section by its first word: what a span holds is read with one turn less
 abbrev pub item_turn : ℕ → Reads Item
-item_turn fuel = if_next (is_keyword (keyword_number SpanWord)) (span (pred fuel) (item (pred fuel) block)) (flat_item fuel (block fuel))
+item_turn fuel = if_next (is_word SpanWord) (span (pred fuel) (item (pred fuel) block)) (flat_item fuel (block fuel))
 
 pub item_turned : {before after : Point} {result : Result Item Stop} → Parses item_turn before result after → Parses (λ fuel. item fuel block) before result after
 item_turned {before} {after} {result} one = record { answers = by; fewer = one.fewer } where

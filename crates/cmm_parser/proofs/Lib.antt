@@ -6,3 +6,4 @@ pub mod StatementSteps
 pub mod Parsed
 pub mod CallSteps
 pub mod TargetSteps
+pub mod NextTokens

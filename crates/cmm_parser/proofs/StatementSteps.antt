@@ -1,6 +1,6 @@
 -- Steps of statements that hold blocks: a block is read with a count of its own, which is above the tokens that are left too.
 use Rattle.std.proofs.Common.{◌≡◌, ◌∙◌, true, sym, ap, subst, ℕ, zero, suc, pred, ◌<◌, Bool, List, [], length, Result, Ok, Err, arith}
-use Rattle.cmm_ast.specs.declared.keyword.Symbol.TheVariants.{OpenBrace, CloseBrace}
+use Rattle.cmm_lexer.specs.declared.symbol.Symbol.TheVariants.{OpenBrace, CloseBrace}
 use Rattle.cmm_ast.specs.declared.statement.Block.{Block}
 use Rattle.cmm_ast.specs.declared.statement.Otherwise.{Otherwise}
 use Rattle.cmm_ast.specs.declared.statement.Part.{Part}

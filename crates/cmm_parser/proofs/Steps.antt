@@ -5,7 +5,7 @@ use Rattle.cmm_readers.specs.Reading.{Point, Answer, Read, Reads, ◌>>=◌, nex
 use Rattle.cmm_parser.specs.declared.fault.Stop.{Stop}
 use Rattle.cmm_parser.specs.declared.fault.Stop.TheVariants as stop
 use Rattle.cmm_parser.specs.Parsing.{Answered, Parses, Skips, Stays, opening, closing}
-use Rattle.cmm_ast.specs.declared.keyword.Symbol.{Symbol}
+use Rattle.cmm_lexer.specs.declared.symbol.Symbol.{Symbol}
 
 pub stop_first : {A B : Type 0} (e : Stop) (o : Answer A) (rest : A → Point → Answer B) (after after' : Point) → Answered o (Err e) after → Answered (and_then o rest) (Err e) after'
 stop_first (stop.Unexpected token) o rest after after' is = ap (λ o. and_then o rest) is

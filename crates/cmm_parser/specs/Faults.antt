@@ -1,5 +1,7 @@
 -- What the parser's answer says of the tokens of a unit.
 use Rattle.std.specs.Prelude.{◌≡◌, ◌⊎◌, List, [], ◌∷◌, ◌++◌, map}
+use Rattle.cmm_rules.specs.Rules.{rule_number}
+use Rattle.cmm_rules.specs.declared.rule.Rule.TheVariants.{Syntax, TooDeep}
 use Rattle.cmm_lexer.specs.declared.piece.Lexeme.{Lexeme}
 use Rattle.cmm_lexer.specs.declared.token.Token.{Token}
 use Rattle.cmm_lexer.specs.declared.tokens.Tokens.{Tokens}
@@ -22,12 +24,12 @@ place_of t = record { line = t.line; column = t.column }
 abbrev pub places_of : Tokens → List Place
 places_of ts = map place_of ts.list ++ record { line = ts.line; column = ts.column } ∷ []
 
--- rule 10 names the token that no unit goes on with, rule 11 the first that passes a limit on nesting
+-- one rule names the token that no unit goes on with, the other the first that passes a limit on nesting
 abbrev pub IsFaultOf : List Lexeme → SyntaxFault → Type 0
-IsFaultOf tokens (At rule token) = ((rule ≡ 10) × IsUnexpected tokens token) ⊎ ((rule ≡ 11) × IsTooDeep tokens token)
+IsFaultOf tokens (At rule token) = ((rule ≡ rule_number Syntax) × IsUnexpected tokens token) ⊎ ((rule ≡ rule_number TooDeep) × IsTooDeep tokens token)
 IsFaultOf tokens Memory = Unit {0}
 
 abbrev pub fault_of : Stop → SyntaxFault
-fault_of (stop.Unexpected token) = At 10 token
-fault_of (stop.TooDeep token) = At 11 token
+fault_of (stop.Unexpected token) = At (rule_number Syntax) token
+fault_of (stop.TooDeep token) = At (rule_number TooDeep) token
 fault_of stop.Memory = Memory

@@ -1,18 +1,21 @@
 -- What a method of the parser owes the reader of the same name: where there is memory, it answers what the reader answers.
-use Rattle.std.specs.Prelude.{◌≡◌, ℕ, suc, ◌<◌, ◌≤◌, Bool, true, false, List, map, length, Result, Ok, Err, OnOk}
+use Rattle.std.specs.Prelude.{◌≡◌, ℕ, suc, ◌<◌, ◌≤◌, Bool, true, false, List, map, length, Option, Some, None, Result, Ok, Err, OnOk}
+use Rattle.cmm_words.specs.declared.width.Width.{Width}
+use Rattle.cmm_lexer.specs.declared.keyword.Keyword.{Keyword}
 use Rattle.cmm_lexer.specs.declared.piece.Lexeme.{Lexeme}
+use Rattle.cmm_lexer.specs.declared.piece.Lexeme.TheVariants as l
 use Rattle.cmm_lexer.specs.declared.token.Token.{Token}
 use Rattle.cmm_lexer.specs.declared.token.TokenKind.{TokenKind}
 use Rattle.cmm_lexer.specs.declared.tokens.Tokens.{Tokens}
 use Rattle.cmm_lexer.specs.Lexing.{lexeme_of}
 use Rattle.cmm_readers.specs.Reading.{Point, Unexpected, TooDeep, Answer, Read, Stopped, Reads, next, past, passes, and_then, if_next, skip_opening, stop as refuse, symbol}
-use Rattle.cmm_ast.specs.Numbers.{keyword_number, symbol_number}
-use Rattle.cmm_ast.specs.Taking.{is_keyword, is_symbol}
-use Rattle.cmm_ast.specs.declared.keyword.Keyword.TheVariants.{If}
-use Rattle.cmm_ast.specs.declared.keyword.Symbol.{Symbol}
+use Rattle.cmm_ast.specs.Taking.{is_word, is_sign}
+use Rattle.cmm_lexer.specs.declared.keyword.Keyword.TheVariants.{If}
+use Rattle.cmm_lexer.specs.declared.symbol.Symbol.{Symbol}
 use Rattle.cmm_ast.specs.declared.expression.TypeName.{TypeName}
 use Rattle.cmm_ast.specs.declared.statement.Block.{Block}
-use Rattle.cmm_readers.specs.ExpressionReading.{type_name}
+use Rattle.cmm_ast.specs.declared.expression.Prefix.{Prefix}
+use Rattle.cmm_readers.specs.ExpressionReading.{type_name, width_in, prefix_in}
 use Rattle.cmm_readers.specs.PartReading.{is_width}
 use Rattle.cmm_readers.specs.StatementReading.{block}
 use Rattle.cmm_parser.specs.declared.fault.Stop.{Stop}
@@ -68,13 +71,29 @@ pub record Stays (test : Lexeme → Bool) (before after : Point) : Type 0 where
   pub failing : passes test (next before.left) ≡ false
   pub there : after ≡ before
 
+-- no reserved word is next, and no symbol
+abbrev pub NoWord : Option Lexeme → Type 0
+NoWord x = (word : Keyword) → passes (is_word word) x ≡ false
+
+abbrev pub NoSymbol : Option Lexeme → Type 0
+NoSymbol x = (symbol : Symbol) → passes (is_sign symbol) x ≡ false
+
+-- the width whose word is next, and the operator before an operand whose symbol is
+abbrev pub width_next : Option Lexeme → Option Width
+width_next (Some (l.Word n)) = width_in n
+width_next _ = None
+
+abbrev pub prefix_next : Option Lexeme → Option Prefix
+prefix_next (Some (l.Symbol n)) = prefix_in n
+prefix_next _ = None
+
 -- the next token, which opens this bracket
 abbrev pub opening : Symbol → Reads (Unit {0})
-opening bracket = if_next (is_symbol (symbol_number bracket)) skip_opening refuse
+opening bracket = if_next (is_sign bracket) skip_opening refuse
 
 -- the `if` after an `else`, which counts as an opening bracket
 abbrev pub chaining : Reads (Unit {0})
-chaining = if_next (is_keyword (keyword_number If)) skip_opening refuse
+chaining = if_next (is_word If) skip_opening refuse
 
 -- the next token, which closes this bracket, outside of which so many are open
 abbrev pub closing : Symbol → ℕ → Reads (Unit {0})

@@ -1,14 +1,14 @@
 //! What the limits on nesting count: open brackets, and the operators of an outermost expression.
 
 ghost use Rattle.std.specs.Prelude.{◌≡◌, ◌+◌, ◌-◌, ◌<◌, ◌≤◌, length, IfOk, OnOk, Result};
-ghost use Rattle.cmm_ast.specs.Numbers.{keyword_number, symbol_number};
-ghost use Rattle.cmm_ast.specs.Taking.{is_keyword, is_symbol};
+ghost use Rattle.cmm_lexer.specs.Spellings.{keyword_number, symbol_number};
+ghost use Rattle.cmm_ast.specs.Taking.{is_word, is_sign};
 ghost use Rattle.cmm_readers.specs.Reading.{skip_opening, skip_operator, if_next, stop};
 ghost use Rattle.cmm_parser.specs.Parsing.{Parses, point_of, opening, chaining, closing, without};
 
 use crate::fault::Stop;
 use crate::parser::Parser;
-use cmm_ast::{Keyword, Symbol};
+use cmm_lexer::{Keyword, Symbol};
 
 /// The most brackets that may be open, an `if` after an `else` among them.
 pub(crate) const BRACKET_LIMIT: u32 = 200;

@@ -2,7 +2,7 @@
 
 ghost use Rattle.std.specs.Prelude.{◌≡◌, ◌+◌, ◌-◌, ◌<◌, ◌≤◌, length, OnOk};
 ghost use Rattle.cmm_readers.specs.Reading.{◌>>=◌ as followed_by, next, passes, keyword, listed, round};
-ghost use Rattle.cmm_ast.specs.declared.keyword.Keyword.TheVariants.{To};
+ghost use Rattle.cmm_lexer.specs.declared.keyword.Keyword.TheVariants.{To};
 ghost use Rattle.cmm_readers.specs.ExpressionReading.{whole};
 ghost use Rattle.cmm_readers.specs.Reading as readers;
 ghost use Rattle.cmm_readers.specs.PartReading as parts;
@@ -13,10 +13,10 @@ use crate::fault::Stop;
 use crate::list::Listed;
 use crate::parser::Parser;
 use cmm_ast::{
-    Actual, Callee, CalleeForm, Exit, Expr, Flow, FlowForm, Ident, Keyword, Kinded, Lvalue,
-    StmtForm, Symbol, Text,
+    Actual, Callee, CalleeForm, Exit, Expr, Flow, FlowForm, Ident, Kinded, Lvalue, StmtForm, Text,
 };
 use cmm_items::Items;
+use cmm_lexer::{Keyword, Symbol};
 
 impl Listed for Kinded {
     ghost reads = { λ fuel. parts.kinded };

@@ -10,7 +10,8 @@ ghost use Rattle.cmm_parser.specs.Parsing.{Parses, point_of};
 use crate::fault::Stop;
 use crate::list::Listed;
 use crate::parser::Parser;
-use cmm_ast::{Case, Expr, Keyword, Range, Span, Symbol};
+use cmm_ast::{Case, Expr, Range, Span};
+use cmm_lexer::{Keyword, Symbol};
 
 impl Listed for Range {
     ghost reads = { λ fuel. parts.range fuel };

@@ -8,7 +8,8 @@ ghost use Rattle.cmm_parser.specs.Parsing.{Parses, point_of};
 use crate::fault::Stop;
 use crate::parser::Parser;
 use crate::types::named_type;
-use cmm_ast::{Count, Datum, DatumForm, Expr, Ident, Initial, Item, Keyword, Symbol, TypeName};
+use cmm_ast::{Count, Datum, DatumForm, Expr, Ident, Initial, Item, TypeName};
+use cmm_lexer::{Keyword, Symbol};
 
 /// How many values there are, by what stands in the square brackets.
 fn count_of(count: Option<Expr>) -> Count

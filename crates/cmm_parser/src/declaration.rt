@@ -1,10 +1,10 @@
 //! Declarations of a unit.
 
 ghost use Rattle.std.specs.Prelude.{◌≡◌, ◌-◌, ◌<◌, ◌≤◌, length, Ok, OnOk};
-ghost use Rattle.cmm_ast.specs.Numbers.{keyword_number};
-ghost use Rattle.cmm_ast.specs.Taking.{is_keyword};
-ghost use Rattle.cmm_ast.specs.declared.keyword.Keyword.{Keyword};
-ghost use Rattle.cmm_ast.specs.declared.keyword.Symbol.{Symbol};
+ghost use Rattle.cmm_lexer.specs.Spellings.{keyword_number};
+ghost use Rattle.cmm_ast.specs.Taking.{is_word};
+ghost use Rattle.cmm_lexer.specs.declared.keyword.Keyword.{Keyword};
+ghost use Rattle.cmm_lexer.specs.declared.symbol.Symbol.{Symbol};
 ghost use Rattle.cmm_readers.specs.Reading.{next, passes};
 ghost use Rattle.cmm_readers.specs.Reading as tokens;
 ghost use Rattle.cmm_readers.specs.PartReading.{is_any_name, is_any_text};
@@ -16,10 +16,10 @@ use crate::list::Listed;
 use crate::parser::Parser;
 use crate::types::named_type;
 use cmm_ast::{
-    ByteOrder, Decl, DeclForm, Export, Ident, Import, Keyword, Property, PropertyForm, Symbol,
-    Text, TypeName,
+    ByteOrder, Decl, DeclForm, Export, Ident, Import, Property, PropertyForm, Text, TypeName,
 };
 use cmm_items::Items;
+use cmm_lexer::{Keyword, Symbol};
 use cmm_readers::Head;
 
 impl Listed for Ident {
@@ -147,7 +147,7 @@ impl Parser<'_> {
     }
 
     fn export_link(&mut self) -> Result<Option<Text>, Stop>
-        ensures { Parses (λ fuel. tokens.optional (is_keyword (keyword_number Keyword.As)) readers.as_text) (point_of self.old) result (point_of self.new) }
+        ensures { Parses (λ fuel. tokens.optional (is_word Keyword.As) readers.as_text) (point_of self.old) result (point_of self.new) }
     {
         if self.is_word(Keyword::As) {
             Ok(Some(self.as_text()?))

@@ -4,18 +4,16 @@ ghost use Rattle.std.specs.Prelude.{◌≡◌, ◌+◌, ◌-◌, ◌<◌, ◌≤
 ghost use Rattle.cmm_readers.specs.Reading.{listed, look, next, passes};
 ghost use Rattle.cmm_readers.specs.ExpressionReading as readers;
 ghost use Rattle.cmm_readers.specs.ExpressionReading.{begins_expression};
-ghost use Rattle.cmm_parser.specs.Parsing.{Parses, point_of};
+ghost use Rattle.cmm_parser.specs.Parsing.{Parses, point_of, prefix_next};
 
 use crate::fault::Stop;
 use crate::list::Listed;
-use crate::operators::{
-    UNARY_LEVEL, form_level, infix_of, left_level, level_of, prefix_of, width_of,
-};
+use crate::operators::{UNARY_LEVEL, form_level, infix_of, left_level, level_of, prefix_of};
 use crate::parser::Parser;
 use crate::types::named_type;
-use cmm_ast::{Expr, ExprForm, Infix, Memory, Prefix, PrimForm, Primary, Symbol, TypeName};
+use cmm_ast::{Expr, ExprForm, Infix, Memory, Prefix, PrimForm, Primary, TypeName};
 use cmm_items::{Boxed, Items};
-use cmm_lexer::TokenKind;
+use cmm_lexer::{Symbol, TokenKind};
 use std::alloc::{AllocError, Global};
 
 impl Listed for Expr {
@@ -40,12 +38,19 @@ impl Parser<'_> {
         match self.next() {
             Some(TokenKind::Name(_) | TokenKind::Int(_) | TokenKind::Char(_) | TokenKind::Op(_)) =>
                 { true }
-            Some(TokenKind::Word(number)) => width_of(number).is_some(),
-            Some(TokenKind::Symbol(number)) => {
-                number == Symbol::Open.number() || prefix_of(number).is_some()
+            Some(TokenKind::Word(_)) => self.next_width().is_some(),
+            Some(TokenKind::Symbol(_)) => {
+                self.is_symbol(Symbol::Open) || self.next_prefix().is_some()
             }
             _ => false,
         }
+    }
+
+    /// The operator that is next, where it stands before its operand.
+    fn next_prefix(&self) -> Option<Prefix>
+        ensures { result ≡ prefix_next (next (point_of self.now).left) }
+    {
+        prefix_of(self.next_symbol()?)
     }
 
     /// The operator that is next, where it stands between two operands, binds at least as tightly as this level, and the left
@@ -53,10 +58,7 @@ impl Parser<'_> {
     fn next_infix(&self, level: u8, left: &ExprForm) -> Option<Infix>
         ensures { result ≡ readers.infix_next level left.now (next (point_of self.now).left) }
     {
-        let Some(TokenKind::Symbol(number)) = self.next() else {
-            return None;
-        };
-        let operator = infix_of(number)?;
+        let operator = infix_of(self.next_symbol()?)?;
         if level <= level_of(operator) && left_level(operator) <= form_level(left) {
             Some(operator)
         } else {
@@ -136,7 +138,7 @@ impl Parser<'_> {
         match kind {
             TokenKind::Name(_) => self.name_or_memory(),
             TokenKind::Op(_) => self.named(),
-            TokenKind::Symbol(number) => match prefix_of(number) {
+            TokenKind::Symbol(_) => match self.next_prefix() {
                 Some(operator) => self.prefix(operator),
                 None => Ok(ExprForm::Prim(self.bracketed()?)),
             },

@@ -2,6 +2,7 @@
 
 ghost use Rattle.std.specs.Prelude.{◌≡◌};
 
+use cmm_rules::Rule;
 use std::alloc::{AllocError, AllocFailed};
 use thiserror::Error;
 
@@ -47,12 +48,6 @@ impl<T: Drop> From<AllocFailed<T>> for Stop {
     }
 }
 
-/// No unit goes on with this token.
-const UNEXPECTED: u8 = 10;
-
-/// This token passes a limit on nesting.
-const TOO_DEEP: u8 = 11;
-
 impl From<Stop> for SyntaxFault {
     ghost use Rattle.cmm_parser.specs.Faults.{fault_of};
 
@@ -61,11 +56,11 @@ impl From<Stop> for SyntaxFault {
     fn from(stop: Stop) -> SyntaxFault {
         match stop {
             Stop::Unexpected(token) => SyntaxFault::At {
-                rule: UNEXPECTED,
+                rule: Rule::Syntax.number(),
                 token,
             },
             Stop::TooDeep(token) => SyntaxFault::At {
-                rule: TOO_DEEP,
+                rule: Rule::TooDeep.number(),
                 token,
             },
             Stop::Memory => SyntaxFault::Memory,

@@ -20,8 +20,6 @@ mod datum;
 mod declaration;
 mod expression;
 mod fault;
-#[cfg(test)]
-mod fault_tests;
 mod list;
 mod operators;
 mod parser;
@@ -29,8 +27,6 @@ mod part;
 mod procedure;
 mod statement;
 mod target;
-#[cfg(test)]
-mod tests;
 mod token;
 mod types;
 mod unit;

@@ -8,9 +8,8 @@ ghost use Rattle.cmm_parser.specs.Parsing.{Parses, point_of, lexeme_in};
 
 use crate::fault::Stop;
 use crate::parser::Parser;
-use cmm_ast::Symbol;
 use cmm_items::Items;
-use cmm_lexer::TokenKind;
+use cmm_lexer::{Symbol, TokenKind};
 
 /// What a list holds.
 pub(crate) trait Listed: Drop {

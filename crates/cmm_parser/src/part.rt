@@ -1,9 +1,9 @@
 //! The parts of a body that hold no block: most statements, told apart by their first tokens, and the declarations.
 
 ghost use Rattle.std.specs.Prelude.{◌≡◌, ◌-◌, ◌<◌, ◌≤◌, ◌∷◌, [], None, Some, length, IfOk, OnOk};
-ghost use Rattle.cmm_ast.specs.Numbers.{symbol_number};
-ghost use Rattle.cmm_ast.specs.Taking.{is_symbol};
-ghost use Rattle.cmm_ast.specs.declared.keyword.Symbol.TheVariants.{Open, Less};
+ghost use Rattle.cmm_lexer.specs.Spellings.{symbol_number};
+ghost use Rattle.cmm_ast.specs.Taking.{is_sign};
+ghost use Rattle.cmm_lexer.specs.declared.symbol.Symbol.TheVariants.{Open, Less};
 ghost use Rattle.cmm_ast.specs.declared.statement.Lvalue.TheVariants as lvalues;
 ghost use Rattle.cmm_readers.specs.declared.told_apart.Targets.TheVariants as targets;
 ghost use Rattle.cmm_readers.specs.Reading.{◌>>=◌ as followed_by, optional, round, may_list};
@@ -17,11 +17,11 @@ use crate::fault::Stop;
 use crate::parser::Parser;
 use crate::types::named_type;
 use cmm_ast::{
-    Actual, Callee, CalleeForm, Exit, Ident, Keyword, Kinded, LocalForm, Lvalue, Memory, Modifiers,
-    StmtForm, Symbol, Text, TypeName,
+    Actual, Callee, CalleeForm, Exit, Ident, Kinded, LocalForm, Lvalue, Memory, Modifiers,
+    StmtForm, Text, TypeName,
 };
 use cmm_items::Items;
-use cmm_lexer::TokenKind;
+use cmm_lexer::{Keyword, Symbol, TokenKind};
 use cmm_readers::{PartForm, Targets};
 use std::alloc::{AllocError, Global};
 
@@ -291,7 +291,7 @@ impl Parser<'_> {
 
     /// The exit that may stand here.
     fn optional_exit(&mut self) -> Result<Option<Exit>, Stop>
-        ensures { Parses (λ fuel. optional (is_symbol (symbol_number Less)) (parts.exit fuel)) (point_of self.old) result (point_of self.new) }
+        ensures { Parses (λ fuel. optional (is_sign Less) (parts.exit fuel)) (point_of self.old) result (point_of self.new) }
     {
         if self.is_symbol(Symbol::Less) {
             Ok(Some(self.exit()?))
@@ -302,7 +302,7 @@ impl Parser<'_> {
 
     /// The values in brackets that may stand here.
     fn optional_arguments(&mut self) -> Result<Option<Items<Actual>>, Stop>
-        ensures { Parses (λ fuel. optional (is_symbol (symbol_number Open)) (parts.arguments fuel)) (point_of self.old) result (point_of self.new) }
+        ensures { Parses (λ fuel. optional (is_sign Open) (parts.arguments fuel)) (point_of self.old) result (point_of self.new) }
     {
         if self.is_symbol(Symbol::Open) {
             Ok(Some(self.arguments()?))

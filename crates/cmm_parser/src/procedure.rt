@@ -1,7 +1,7 @@
 //! Procedures, their formals, and what their bodies declare.
 
 ghost use Rattle.std.specs.Prelude.{◌≡◌, ◌-◌, ◌<◌, ◌≤◌, None, Ok, length, OnOk};
-ghost use Rattle.cmm_ast.specs.declared.keyword.Symbol.{Symbol};
+ghost use Rattle.cmm_lexer.specs.declared.symbol.Symbol.{Symbol};
 ghost use Rattle.cmm_readers.specs.Reading.{next, passes};
 ghost use Rattle.cmm_readers.specs.Reading as tokens;
 ghost use Rattle.cmm_readers.specs.ExpressionReading.{whole};
@@ -12,15 +12,11 @@ ghost use Rattle.cmm_parser.specs.Parsing.{Parses, point_of};
 
 use crate::fault::Stop;
 use crate::list::Listed;
-use crate::operators::width_of;
 use crate::parser::Parser;
 use crate::types::named_type;
-use cmm_ast::{
-    Expr, Formal, Ident, Keyword, LocalForm, Modifiers, Proc, Room, RoomForm, Symbol, Text,
-    TypeName,
-};
+use cmm_ast::{Expr, Formal, Ident, LocalForm, Modifiers, Proc, Room, RoomForm, Text, TypeName};
 use cmm_items::Items;
-use cmm_lexer::TokenKind;
+use cmm_lexer::{Keyword, Symbol, TokenKind};
 
 impl Listed for Formal {
     ghost reads = { λ fuel. readers.formal };
@@ -30,8 +26,8 @@ impl Listed for Formal {
     fn is_next(parser: &Parser<'_>) -> bool {
         match parser.next() {
             Some(TokenKind::Name(_) | TokenKind::Text(_)) => true,
-            Some(TokenKind::Word(number)) => {
-                number == Keyword::Invariant.number() || width_of(number).is_some()
+            Some(TokenKind::Word(_)) => {
+                parser.is_word(Keyword::Invariant) || parser.next_width().is_some()
             }
             _ => false,
         }
@@ -212,10 +208,12 @@ impl Parser<'_> {
         let formals = self.may_list()?;
         self.leave(Symbol::Close, outside)?;
         let body = self.block()?;
+        let past = self.here();
         Ok(Proc {
             name,
             formals,
             body,
+            past,
         })
     }
 

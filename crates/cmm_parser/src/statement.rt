@@ -1,9 +1,9 @@
 //! Blocks, and the statements that hold blocks.
 
 ghost use Rattle.std.specs.Prelude.{◌≡◌, ◌+◌, ◌-◌, ◌<◌, ◌≤◌, [], length, OnOk};
-ghost use Rattle.cmm_ast.specs.declared.keyword.Symbol.TheVariants.{OpenSquare};
-ghost use Rattle.cmm_ast.specs.Numbers.{symbol_number};
-ghost use Rattle.cmm_ast.specs.Taking.{is_symbol};
+ghost use Rattle.cmm_lexer.specs.declared.symbol.Symbol.TheVariants.{OpenSquare};
+ghost use Rattle.cmm_lexer.specs.Spellings.{symbol_number};
+ghost use Rattle.cmm_ast.specs.Taking.{is_sign};
 ghost use Rattle.cmm_readers.specs.Reading.{optional, many};
 ghost use Rattle.cmm_readers.specs.StatementReading as readers;
 ghost use Rattle.cmm_readers.specs.StatementReading.{is_within};
@@ -11,8 +11,9 @@ ghost use Rattle.cmm_parser.specs.Parsing.{Parses, ParsesBlocks, ParsesChain, po
 
 use crate::fault::Stop;
 use crate::parser::Parser;
-use cmm_ast::{Arm, Block, Keyword, Local, Otherwise, Part, Span, Stmt, StmtForm, Symbol};
+use cmm_ast::{Arm, Block, Local, Otherwise, Part, Span, Stmt, StmtForm};
 use cmm_items::{Boxed, Items};
+use cmm_lexer::{Keyword, Symbol};
 use cmm_readers::PartForm;
 
 /// The part with these numbers of its first token and of the token after its last.
@@ -140,7 +141,7 @@ impl Parser<'_> {
 
     /// The values that a switch is over, where they stand in square brackets.
     fn optional_span(&mut self) -> Result<Option<Span>, Stop>
-        ensures { Parses (λ fuel. optional (is_symbol (symbol_number OpenSquare)) (readers.switch_span fuel)) (point_of self.old) result (point_of self.new) }
+        ensures { Parses (λ fuel. optional (is_sign OpenSquare) (readers.switch_span fuel)) (point_of self.old) result (point_of self.new) }
     {
         if self.is_symbol(Symbol::OpenSquare) {
             Ok(Some(self.switch_span()?))

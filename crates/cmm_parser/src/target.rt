@@ -13,11 +13,9 @@ use crate::fault::Stop;
 use crate::list::Listed;
 use crate::parser::Parser;
 use crate::types::named_type;
-use cmm_ast::{
-    Callee, CalleeForm, Expr, ExprForm, Ident, Keyword, Kinded, Lvalue, PrimForm, StmtForm, Symbol,
-};
+use cmm_ast::{Callee, CalleeForm, Expr, ExprForm, Ident, Kinded, Lvalue, PrimForm, StmtForm};
 use cmm_items::Items;
-use cmm_lexer::TokenKind;
+use cmm_lexer::{Keyword, Symbol, TokenKind};
 use cmm_readers::Targets;
 use cmm_words::Name;
 use std::alloc::{AllocError, Global};

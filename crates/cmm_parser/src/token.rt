@@ -1,21 +1,22 @@
 //! One token at a time.
 
 ghost use Rattle.std.specs.Prelude.{◌≡◌, ◌+◌, ◌-◌, ◌^◌, ◌<◌, ◌≤◌, length, Ok, Some, IsTrue, IsFalse, OnOk, OnSome, MatchOption, option_map};
-ghost use Rattle.cmm_ast.specs.Numbers.{keyword_number, symbol_number};
-ghost use Rattle.cmm_ast.specs.Taking.{is_keyword, is_symbol};
+ghost use Rattle.cmm_lexer.specs.Spellings.{keyword_number, symbol_number};
+ghost use Rattle.cmm_ast.specs.Taking.{is_word, is_sign};
 ghost use Rattle.cmm_readers.specs.Reading.{next, past, passes};
 ghost use Rattle.cmm_readers.specs.Reading as readers;
 ghost use Rattle.cmm_readers.specs.ExpressionReading.{operator_name};
 ghost use Rattle.cmm_readers.specs.PartReading.{is_any_name, is_any_text};
 ghost use Rattle.cmm_readers.specs.DeclarationReading.{is_other, optional_text};
-ghost use Rattle.cmm_parser.specs.Parsing.{Parses, Skips, Stays, skipped, point_of, lexeme_in};
+ghost use Rattle.cmm_lexer.specs.declared.piece.Lexeme.{Lexeme};
+ghost use Rattle.cmm_parser.specs.Parsing.{Parses, Skips, Stays, NoWord, NoSymbol, skipped, point_of, lexeme_in};
 ghost use Rattle.cmm_parser.specs.declared.fault.Stop.{Stop};
 
 use crate::fault::Stop;
 use crate::parser::Parser;
-use cmm_ast::{Ident, Int, Keyword, Symbol, Text};
+use cmm_ast::{Ident, Int, Text};
 use cmm_items::Items;
-use cmm_lexer::TokenKind;
+use cmm_lexer::{Keyword, Symbol, TokenKind};
 use cmm_words::Name;
 
 impl Parser<'_> {
@@ -46,16 +47,36 @@ impl Parser<'_> {
         Stop::Unexpected(self.taken)
     }
 
-    pub(crate) fn is_word(&self, word: Keyword) -> bool
-        ensures { passes (is_keyword (keyword_number word)) (next (point_of self.now).left) ≡ result }
+    /// The reserved word that is next, if one is.
+    pub(crate) fn next_word(&self) -> Option<Keyword>
+        ensures { MatchOption result (NoWord (next (point_of self.now).left)) (λ word. next (point_of self.now).left ≡ Some (Lexeme.Word (keyword_number word))) }
     {
-        matches!(self.next(), Some(TokenKind::Word(number)) if number == word.number())
+        self.next()?.word()
+    }
+
+    /// The symbol that is next, if one is.
+    pub(crate) fn next_symbol(&self) -> Option<Symbol>
+        ensures { MatchOption result (NoSymbol (next (point_of self.now).left)) (λ symbol. next (point_of self.now).left ≡ Some (Lexeme.Symbol (symbol_number symbol))) }
+    {
+        self.next()?.symbol()
+    }
+
+    pub(crate) fn is_word(&self, word: Keyword) -> bool
+        ensures { passes (is_word word) (next (point_of self.now).left) ≡ result }
+    {
+        match self.next_word() {
+            Some(next) => next == word,
+            None => false,
+        }
     }
 
     pub(crate) fn is_symbol(&self, symbol: Symbol) -> bool
-        ensures { passes (is_symbol (symbol_number symbol)) (next (point_of self.now).left) ≡ result }
+        ensures { passes (is_sign symbol) (next (point_of self.now).left) ≡ result }
     {
-        matches!(self.next(), Some(TokenKind::Symbol(number)) if number == symbol.number())
+        match self.next_symbol() {
+            Some(next) => next == symbol,
+            None => false,
+        }
     }
 
     /// Takes the next token, if there is one.
@@ -91,8 +112,8 @@ impl Parser<'_> {
 
     /// Takes the word where it is next, and says whether it was.
     pub(crate) fn accept_word(&mut self, word: Keyword) -> bool
-        ensures taken { IsTrue result → Skips (is_keyword (keyword_number word)) (point_of self.old) (point_of self.new) }
-        ensures kept { IsFalse result → Stays (is_keyword (keyword_number word)) (point_of self.old) (point_of self.new) }
+        ensures taken { IsTrue result → Skips (is_word word) (point_of self.old) (point_of self.new) }
+        ensures kept { IsFalse result → Stays (is_word word) (point_of self.old) (point_of self.new) }
     {
         let found = self.is_word(word);
         if found {
@@ -103,8 +124,8 @@ impl Parser<'_> {
 
     /// Takes the symbol where it is next, and says whether it was.
     pub(crate) fn accept(&mut self, symbol: Symbol) -> bool
-        ensures taken { IsTrue result → Skips (is_symbol (symbol_number symbol)) (point_of self.old) (point_of self.new) }
-        ensures kept { IsFalse result → Stays (is_symbol (symbol_number symbol)) (point_of self.old) (point_of self.new) }
+        ensures taken { IsTrue result → Skips (is_sign symbol) (point_of self.old) (point_of self.new) }
+        ensures kept { IsFalse result → Stays (is_sign symbol) (point_of self.old) (point_of self.new) }
     {
         let found = self.is_symbol(symbol);
         if found {

@@ -4,13 +4,14 @@ ghost use Rattle.std.specs.Prelude.{◌≡◌, ◌-◌, ◌<◌, ◌≤◌, true
 ghost use Rattle.cmm_readers.specs.Reading.{next, passes, pick};
 ghost use Rattle.cmm_readers.specs.ExpressionReading as readers;
 ghost use Rattle.cmm_readers.specs.PartReading.{is_width};
-ghost use Rattle.cmm_parser.specs.Parsing.{Parses, Stays, point_of, Bits};
+ghost use Rattle.cmm_parser.specs.Parsing.{Parses, Stays, point_of, width_next, Bits};
 
 use crate::fault::Stop;
 use crate::operators::width_of;
 use crate::parser::Parser;
-use cmm_ast::{Ident, Int, Keyword, Number, PrimForm, Symbol, TypeForm, TypeName};
-use cmm_lexer::TokenKind;
+use cmm_ast::{Ident, Int, Number, PrimForm, TypeForm, TypeName};
+use cmm_lexer::{Keyword, Symbol, TokenKind};
+use cmm_words::Width;
 
 /// The type that a name stands for.
 pub(crate) fn named_type(name: Ident) -> TypeName
@@ -23,15 +24,19 @@ pub(crate) fn named_type(name: Ident) -> TypeName
 }
 
 impl Parser<'_> {
+    /// The width whose word is next, if one is.
+    pub(crate) fn next_width(&self) -> Option<Width>
+        ensures { result ≡ width_next (next (point_of self.now).left) }
+    {
+        width_of(self.next_word()?)
+    }
+
     /// A type that is one of the words for bits, where such a word is next.
     pub(crate) fn bits(&mut self) -> Option<TypeName>
         ensures { MatchOption result (Stays is_width (point_of self.old) (point_of self.new)) (λ width. Bits width (point_of self.old) (point_of self.new)) }
     {
         let token = self.here();
-        let Some(TokenKind::Word(number)) = self.next() else {
-            return None;
-        };
-        let width = width_of(number)?;
+        let width = self.next_width()?;
         self.take();
         Some(TypeName {
             token,

@@ -1,7 +1,7 @@
 //! Units and their sections.
 
 ghost use Rattle.std.specs.Prelude.{◌≡◌, ◌-◌, ◌<◌, ◌≤◌, ◌^◌, [], length, pred, IfErr, IfOk, OnOk};
-ghost use Rattle.cmm_ast.specs.declared.keyword.Symbol.{Symbol};
+ghost use Rattle.cmm_lexer.specs.declared.symbol.Symbol.{Symbol};
 ghost use Rattle.cmm_readers.specs.Reading.{next, passes, many};
 ghost use Rattle.cmm_readers.specs.StatementReading.{block};
 ghost use Rattle.cmm_readers.specs.DeclarationReading.{is_other};
@@ -14,9 +14,9 @@ ghost use Rattle.cmm_parser.specs.Faults.{IsFaultOf, lexemes_of, places_of};
 use crate::fault::{Stop, SyntaxFault};
 use crate::list::Listed;
 use crate::parser::Parser;
-use cmm_ast::{Item, Keyword, Place, Section, Symbol, TopLevel, Unit};
+use cmm_ast::{Item, Place, Section, TopLevel, Unit};
 use cmm_items::Items;
-use cmm_lexer::Tokens;
+use cmm_lexer::{Keyword, Symbol, Tokens};
 use std::alloc::{AllocError, Global};
 
 /// The unit that the tokens are, as `lex` gives them. A fault is at the token that no unit goes on with, or at the first that passes

@@ -1,5 +1,5 @@
 use Rattle.std.proofs.Common.{◌≡◌, ◌∙◌, ◌∷◌, [], sym, ap, refl, rules, arith, ℕ, pred, List, Option, Some}
-use Rattle.cmm_ast.specs.declared.keyword.Symbol.TheVariants.{Open, Close, OpenSquare, CloseSquare}
+use Rattle.cmm_lexer.specs.declared.symbol.Symbol.TheVariants.{Open, Close, OpenSquare, CloseSquare}
 use Rattle.cmm_ast.specs.declared.expression.ExprForm.TheVariants.{Prefix}
 use Rattle.cmm_ast.specs.declared.expression.Prefix.{Prefix as PrefixOperator}
 use Rattle.cmm_lexer.specs.declared.piece.Lexeme.{Lexeme}
@@ -10,7 +10,7 @@ use Rattle.cmm_ast.specs.ExpressionGrammar.{unary_level}
 use Rattle.cmm_readers.specs.Reading.{Reads, ◌>>=◌, give, listed, more_listed}
 use Rattle.cmm_readers.specs.ExpressionReading as readers
 use Rattle.cmm_readers.specs.ExpressionReading.{begins_expression}
-use Rattle.cmm_parser.specs.Parsing.{lexeme_in}
+use Rattle.cmm_parser.specs.Parsing.{lexeme_in, prefix_next}
 use Rattle.cmm_parser.proofs.Steps.{steps, steps_below, stops, halts, gives, gives_same, holds, looks, found, same_reader, same_readers, brackets_below, stops_inside_below, stops_closing_below}
 use Rattle.cmm_parser.proofs.Loops.{starts_after, listed_turn, listed_ends, listed_ends_at, listed_breaks}
 use Rattle.cmm_parser.proofs.ExpressionSteps.{operand_starts, operand_breaks, climb_turn, climb_ends, climb_stops, climb_breaks, by_name, only_literal, literal_first}
@@ -154,17 +154,17 @@ after_prefix op fuel = readers.prefixed (readers.operand (pred fuel)) op
 pub unary-returns-in_err-bracketed-in-None-clause-answers : goal.unary-returns-in_err-bracketed-in-None-clause-answers
 unary-returns-in_err-bracketed-in-None-clause-answers t c =
     looks first (found _ c.next.ensures c.in-Some.is c.in-Symbol.is)
-    (same_reader after_prefix (sym c.in-None.is ∙ c.prefix_of.ensures) (stops _ c.in_err-bracketed-in-None.ensures.answers (search rules)))
+    (same_reader after_prefix (sym c.in-None.is ∙ c.next_prefix.ensures ∙ ap prefix_next (found _ c.next.ensures c.in-Some.is c.in-Symbol.is)) (stops _ c.in_err-bracketed-in-None.ensures.answers (search rules)))
 
 pub unary-returns-in_ok-bracketed-in-None-clause-answers : goal.unary-returns-in_ok-bracketed-in-None-clause-answers
 unary-returns-in_ok-bracketed-in-None-clause-answers t c =
     looks first (found _ c.next.ensures c.in-Some.is c.in-Symbol.is)
-    (same_reader after_prefix (sym c.in-None.is ∙ c.prefix_of.ensures) (steps _ c.in_ok-bracketed-in-None.ensures.answers gives))
+    (same_reader after_prefix (sym c.in-None.is ∙ c.next_prefix.ensures ∙ ap prefix_next (found _ c.next.ensures c.in-Some.is c.in-Symbol.is)) (steps _ c.in_ok-bracketed-in-None.ensures.answers gives))
 
-pub unary-returns-in-Some-prefix_of-clause-answers : goal.unary-returns-in-Some-prefix_of-clause-answers
-unary-returns-in-Some-prefix_of-clause-answers t c =
+pub unary-returns-in-Some-next_prefix-clause-answers : goal.unary-returns-in-Some-next_prefix-clause-answers
+unary-returns-in-Some-next_prefix-clause-answers t c =
     looks first (found _ c.next.ensures c.in-Some.is c.in-Symbol.is)
-    (same_reader after_prefix (sym c.in-Some-prefix_of.is ∙ c.prefix_of.ensures) c.prefix.ensures.answers)
+    (same_reader after_prefix (sym c.in-Some-next_prefix.is ∙ c.next_prefix.ensures ∙ ap prefix_next (found _ c.next.ensures c.in-Some.is c.in-Symbol.is)) c.prefix.ensures.answers)
 
 pub unary-returns-in_err-memory-in-Word-clause-answers : goal.unary-returns-in_err-memory-in-Word-clause-answers
 unary-returns-in_err-memory-in-Word-clause-answers t c =

@@ -1,6 +1,6 @@
 use Rattle.std.proofs.Common.{◌∙◌, rules, ℕ, pred}
-use Rattle.cmm_ast.specs.declared.keyword.Keyword.TheVariants.{Span as SpanWord}
-use Rattle.cmm_ast.specs.declared.keyword.Symbol.TheVariants.{OpenBrace, CloseBrace}
+use Rattle.cmm_lexer.specs.declared.keyword.Keyword.TheVariants.{Span as SpanWord}
+use Rattle.cmm_lexer.specs.declared.symbol.Symbol.TheVariants.{OpenBrace, CloseBrace}
 use Rattle.cmm_ast.specs.declared.unit.Item.{Item}
 use Rattle.cmm_ast.specs.declared.unit.Item.TheVariants.{Span}
 use Rattle.cmm_readers.specs.Reading.{Reads, ◌>>=◌, give, keyword}

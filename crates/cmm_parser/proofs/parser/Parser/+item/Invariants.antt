@@ -1,6 +1,6 @@
 -- Each call takes a token first, or is of a function of a lower rank.
 use Rattle.std.proofs.Common.{◌+◌, ◌*◌, [], length}
-use Rattle.cmm_ast.specs.declared.keyword.Symbol.TheVariants.{CloseBrace}
+use Rattle.cmm_lexer.specs.declared.symbol.Symbol.TheVariants.{CloseBrace}
 use Rattle.cmm_readers.specs.Reading.{many}
 use Rattle.cmm_readers.specs.StatementReading.{block}
 use Rattle.cmm_readers.specs.DeclarationReading.{is_other}

@@ -1,5 +1,5 @@
 use Rattle.std.proofs.Common.{◌∙◌, [], List, ap, rules, arith, ℕ, suc, length}
-use Rattle.cmm_ast.specs.declared.keyword.Symbol.TheVariants.{OpenBrace, CloseBrace}
+use Rattle.cmm_lexer.specs.declared.symbol.Symbol.TheVariants.{OpenBrace, CloseBrace}
 use Rattle.cmm_ast.specs.declared.statement.Arm.{Arm}
 use Rattle.cmm_ast.specs.declared.statement.Otherwise.{Otherwise}
 use Rattle.cmm_ast.specs.declared.statement.Otherwise.TheVariants.{Else, ElseIf}

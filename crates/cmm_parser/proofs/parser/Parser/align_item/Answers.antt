@@ -1,6 +1,6 @@
 use Rattle.std.proofs.Common.{rules, ℕ}
-use Rattle.cmm_ast.specs.declared.keyword.Keyword.TheVariants.{Align as AlignWord}
-use Rattle.cmm_ast.specs.declared.keyword.Symbol.TheVariants.{Semicolon}
+use Rattle.cmm_lexer.specs.declared.keyword.Keyword.TheVariants.{Align as AlignWord}
+use Rattle.cmm_lexer.specs.declared.symbol.Symbol.TheVariants.{Semicolon}
 use Rattle.cmm_ast.specs.declared.unit.Item.{Item}
 use Rattle.cmm_ast.specs.declared.unit.DatumForm.TheVariants.{Align}
 use Rattle.cmm_readers.specs.Reading.{Reads, ◌>>=◌, give, keyword, symbol, int}

@@ -4,7 +4,7 @@ use Rattle.cmm_readers.specs.PartReading.{is_any_name, names_to}
 use Rattle.cmm_ast.specs.declared.token.Ident.{Ident}
 use Rattle.cmm_ast.specs.declared.statement.FlowForm.{FlowForm}
 use Rattle.cmm_parser.specs.declared.fault.Stop.{Stop}
-use Rattle.cmm_ast.specs.declared.keyword.Keyword.TheVariants.{To}
+use Rattle.cmm_lexer.specs.declared.keyword.Keyword.TheVariants.{To}
 use Rattle.cmm_parser.specs.Parsing.{Parses}
 use Rattle.cmm_parser.proofs.Steps.{steps, stops, gives, takes, leaves}
 use Rattle.cmm_parser.proofs.CallSteps.{regroup}

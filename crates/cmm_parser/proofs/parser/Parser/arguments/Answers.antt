@@ -1,5 +1,5 @@
 use Rattle.std.proofs.Common.{rules}
-use Rattle.cmm_ast.specs.declared.keyword.Symbol.TheVariants.{Open, Close}
+use Rattle.cmm_lexer.specs.declared.symbol.Symbol.TheVariants.{Open, Close}
 use Rattle.cmm_parser.proofs.Steps.{outer, brackets, stopped, stops_inside, stops_closing}
 use Rattle.cmm_parser.proofs.parser.Parser.arguments.Goals as goal
 

@@ -1,5 +1,5 @@
 use Rattle.std.proofs.Common.{◌∙◌, rules}
-use Rattle.cmm_ast.specs.declared.keyword.Symbol.TheVariants.{OpenSquare, CloseSquare}
+use Rattle.cmm_lexer.specs.declared.symbol.Symbol.TheVariants.{OpenSquare, CloseSquare}
 use Rattle.cmm_parser.proofs.Steps.{steps, stops, holds, gives_same, brackets, stops_inside, stops_closing}
 use Rattle.cmm_parser.proofs.parser.Parser.count.Goals as goal
 

@@ -3,7 +3,7 @@ use Rattle.cmm_readers.specs.Reading.{◌>>=◌, give, symbol}
 use Rattle.cmm_readers.specs.ExpressionReading.{whole_prim}
 use Rattle.cmm_parser.proofs.Steps.{steps, stops, gives}
 use Rattle.cmm_parser.proofs.CallSteps.{at_token}
-use Rattle.cmm_ast.specs.declared.keyword.Symbol.TheVariants.{Less, Slash, Greater}
+use Rattle.cmm_lexer.specs.declared.symbol.Symbol.TheVariants.{Less, Slash, Greater}
 use Rattle.cmm_parser.proofs.parser.Parser.exit.Goals as goal
 
 pub returns-in_err-index-clause-answers : goal.returns-in_err-index-clause-answers

@@ -1,6 +1,6 @@
 use Rattle.std.proofs.Common.{rules}
 use Rattle.cmm_parser.proofs.Steps.{stopped, brackets, stops_inside, stops_closing}
-use Rattle.cmm_ast.specs.declared.keyword.Symbol.TheVariants.{Open, Close}
+use Rattle.cmm_lexer.specs.declared.symbol.Symbol.TheVariants.{Open, Close}
 use Rattle.cmm_parser.proofs.parser.Parser.parameters.Goals as goal
 
 pub returns-clause-answers : goal.returns-clause-answers

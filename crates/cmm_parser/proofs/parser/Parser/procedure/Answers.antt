@@ -1,7 +1,16 @@
-use Rattle.std.proofs.Common.{rules}
-use Rattle.cmm_ast.specs.declared.keyword.Symbol.TheVariants.{Open, Close}
-use Rattle.cmm_parser.proofs.Steps.{steps, stops, gives, brackets, stops_inside, stops_closing}
+use Rattle.std.proofs.Common.{rules, ℕ, List}
+use Rattle.cmm_lexer.specs.declared.symbol.Symbol.TheVariants.{Open, Close}
+use Rattle.cmm_ast.specs.declared.token.Ident.{Ident}
+use Rattle.cmm_ast.specs.declared.procedure.Formal.{Formal}
+use Rattle.cmm_ast.specs.declared.procedure.Proc.{Proc}
+use Rattle.cmm_ast.specs.declared.statement.Block.{Block}
+use Rattle.cmm_readers.specs.Reading.{Reads, give}
+use Rattle.cmm_parser.proofs.Steps.{steps, stops, gives, numbered, brackets, stops_inside, stops_closing}
 use Rattle.cmm_parser.proofs.parser.Parser.procedure.Goals as goal
+
+-- a procedure whose parts are read, by the number of the token after it
+abbrev ended : Ident → List Formal → Block → ℕ → ℕ → Reads Proc
+ended name formals body past fuel = give record { name = name; formals = formals; body = body; past = past }
 
 pub returns-in_err-formals-clause-answers : goal.returns-in_err-formals-clause-answers
 returns-in_err-formals-clause-answers c =
@@ -20,4 +29,4 @@ returns-in_err-body-clause-answers c =
 pub returns-clause-answers : goal.returns-clause-answers
 returns-clause-answers c =
     steps _ (brackets Open Close c.in_ok-outside.ensures.answers c.in_ok-outside.ensures.outside c.in_ok-formals.ensures c.in_ok-leave.ensures.answers)
-    (steps _ c.in_ok-body.ensures.answers gives)
+    (steps _ c.in_ok-body.ensures.answers (steps (ended c.args.name c.in_ok-formals.formals c.in_ok-body.body) (numbered c.here-past.ensures) gives))

@@ -1,5 +1,5 @@
 use Rattle.std.proofs.Common.{rules, ℕ}
-use Rattle.cmm_ast.specs.declared.keyword.Keyword.TheVariants.{Section as SectionWord}
+use Rattle.cmm_lexer.specs.declared.keyword.Keyword.TheVariants.{Section as SectionWord}
 use Rattle.cmm_ast.specs.declared.unit.Section.{Section}
 use Rattle.cmm_readers.specs.Reading.{Reads, ◌>>=◌, give, keyword, text}
 use Rattle.cmm_readers.specs.StatementReading.{block}

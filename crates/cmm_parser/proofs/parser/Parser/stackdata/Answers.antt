@@ -1,5 +1,5 @@
 use Rattle.std.proofs.Common.{rules}
-use Rattle.cmm_ast.specs.declared.keyword.Symbol.TheVariants.{OpenBrace, CloseBrace}
+use Rattle.cmm_lexer.specs.declared.symbol.Symbol.TheVariants.{OpenBrace, CloseBrace}
 use Rattle.cmm_parser.proofs.Steps.{steps, stops, gives, brackets, stops_inside, stops_closing}
 use Rattle.cmm_parser.proofs.parser.Parser.stackdata.Goals as goal
 

@@ -1,6 +1,6 @@
 use Rattle.std.proofs.Common.{rules}
 use Rattle.cmm_parser.proofs.Steps.{stopped, stops_inside, stops_closing}
-use Rattle.cmm_ast.specs.declared.keyword.Symbol.TheVariants.{OpenSquare, CloseSquare}
+use Rattle.cmm_lexer.specs.declared.symbol.Symbol.TheVariants.{OpenSquare, CloseSquare}
 use Rattle.cmm_parser.proofs.parser.Parser.switch_span.Goals as goal
 
 pub returns-in_err-span-clause-answers : goal.returns-in_err-span-clause-answers

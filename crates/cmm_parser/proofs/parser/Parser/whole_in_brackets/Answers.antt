@@ -1,6 +1,6 @@
 use Rattle.std.proofs.Common.{rules}
 use Rattle.cmm_parser.proofs.Steps.{stopped, stops_inside, stops_closing}
-use Rattle.cmm_ast.specs.declared.keyword.Symbol.TheVariants.{Open, Close}
+use Rattle.cmm_lexer.specs.declared.symbol.Symbol.TheVariants.{Open, Close}
 use Rattle.cmm_parser.proofs.parser.Parser.whole_in_brackets.Goals as goal
 
 pub returns-in_err-inner-clause-answers : goal.returns-in_err-inner-clause-answers

@@ -1,0 +1,6 @@
+use Rattle.std.proofs.Common.{sym}
+use Rattle.cmm_parser.proofs.NextTokens.{no_infix}
+use Rattle.cmm_parser.proofs.parser.Parser.next_infix.Goals as goal
+
+pub returns-in_err-next_symbol : goal.returns-in_err-next_symbol
+returns-in_err-next_symbol c = rw c.from_residual.ensures (sym (no_infix c.args.level c.args.left.now _ c.in_err-next_symbol.ensures))
