@@ -1,7 +1,7 @@
 """An independent recognizer of the grammar: it tries every alternative at every place, and knows neither the parser nor its readers.
 Reads texts from standard input, one a line, each a whole unit, and prints for each the tree as the parser's types print it, or the token at
-which rule 10 is broken, or that the text has more trees than one. `parse(text, start)` does so for another part of the grammar, as `part`.
-The expected values of crates/cmm_parser/src/tests.rt come from it."""
+which rule 10 is broken, or that the text has more trees than one. An argument names another part of the grammar to start from, as `part`.
+crates/cmm_trees/stdout is what it prints for crates/cmm_trees/stdin."""
 import re,sys
 sys.setrecursionlimit(100000)
 WORDS="aborts align aligned also as big bits8 bits16 bits32 bits64 bool byteorder case const continuation cut cuts default else export float foreign goto if import in invariant jump little memsize never pointersize pragma reads register return returns section span stackdata string16 switch target to typedef unicode unwinds wordsize writes".split()
@@ -29,10 +29,9 @@ def lex(s):
         else: raise Exception('lex '+s[i:])
     return out
 # Debug text
-def items(l): return 'Items { items: ['+', '.join(l)+'] }'
-def name(w): return 'Name { bytes: '+items([str(ord(c)) for c in w])+' }'
+def items(l): return '['+', '.join(l)+']'
+def quoted(w): return '"'+''.join('\\'+c if c in '"\\' else c if ' '<=c<='~' else '\\x%02x'%ord(c) for c in w)+'"'
 def opt(v): return 'None' if v is None else 'Some(%s)'%v
-def box(v): return 'Boxed { inner: %s }'%v
 def st(n,**k): return n+' { '+', '.join('%s: %s'%(a,b) for a,b in k.items())+' }'
 RULES={}
 def rule(lhs,rhs,act): RULES.setdefault(lhs,[]).append((tuple(rhs.split()),act))
@@ -66,11 +65,11 @@ def optional(x):
         made.add(n); rule(n,'',lambda v,i,j:None); rule(n,x,one)
     return n
 I=lambda v:items(v)
-rule('ident','NAME',lambda v,i,j:st('Ident',name=name(v[0]),token=i))
-rule('text','TEXT',lambda v,i,j:st('Text',bytes=items([str(ord(c)) for c in v[0]]),token=i))
+rule('ident','NAME',lambda v,i,j:st('Ident',name=quoted(v[0]),token=i))
+rule('text','TEXT',lambda v,i,j:st('Text',bytes=quoted(v[0]),token=i))
 rule('int','INT',lambda v,i,j:st('Int',value=v[0],token=i))
 for w in (8,16,32,64): rule('type','w:bits%d'%w,lambda v,i,j,w=w:st('TypeName',token=i,form='Bits(W%d)'%w))
-rule('type','NAME',lambda v,i,j:st('TypeName',token=i,form='Named(%s)'%name(v[0])))
+rule('type','NAME',lambda v,i,j:st('TypeName',token=i,form='Named(%s)'%quoted(v[0])))
 # unit
 rule('unit',many('top'),lambda v,i,j:items(v[0]))
 for a,b in (('section','Section'),('decl','Decl'),('proc','Proc')): rule('top',a,lambda v,i,j,b=b:'%s(%s)'%(b,v[0]))
@@ -98,7 +97,7 @@ rule('datum','w:align int s:;',T(lambda v:'Align(%s)'%v[1]))
 rule('datum','type count init s:;',T(lambda v:st('Data',width=v[0],count=v[1],initial=v[2])))
 rule('count','',lambda v,i,j:'One'); rule('count','s:[ s:]',lambda v,i,j:'OfInitial'); rule('count','s:[ expr s:]',lambda v,i,j:'Of(%s)'%v[1])
 rule('init','',lambda v,i,j:'Zeros'); rule('init','s:{ '+listed('expr')+' s:}',lambda v,i,j:'Values(%s)'%items(v[1])); rule('init','text',lambda v,i,j:'Text(%s)'%v[0])
-rule('proc','ident s:( '+maylist('formal')+' s:) block',lambda v,i,j:st('Proc',name=v[0],formals=items(v[2]),body=v[4]))
+rule('proc','ident s:( '+maylist('formal')+' s:) block',lambda v,i,j:st('Proc',name=v[0],formals=items(v[2]),body=v[4],past=j))
 rule('formal','mods type ident',lambda v,i,j:st('Formal',modifiers=v[0],width=v[1],name=v[2]))
 rule('mods','',lambda v,i,j:'Nothing'); rule('mods','text',lambda v,i,j:'Kind(%s)'%v[0]); rule('mods','text w:invariant',lambda v,i,j:'KindInvariant(%s)'%v[0])
 rule('mods','w:invariant',lambda v,i,j:'Invariant(%d)'%i); rule('mods','w:invariant text',lambda v,i,j:'InvariantKind(%d, %s)'%(i,v[1]))
@@ -114,13 +113,13 @@ def S(rhs,f): rule('form',rhs,lambda v,i,j:f(v))
 S('s:;',lambda v:'Empty')
 rule('ifform','w:if expr block else',lambda v,i,j:st('If',condition=v[1],then=v[2],otherwise=v[3]))
 rule('form','ifform',one)
-rule('else','',lambda v,i,j:'Nothing'); rule('else','w:else block',lambda v,i,j:'Else(%s)'%v[1]); rule('else','w:else chained',lambda v,i,j:'ElseIf(%s)'%box(v[1]))
+rule('else','',lambda v,i,j:'Nothing'); rule('else','w:else block',lambda v,i,j:'Else(%s)'%v[1]); rule('else','w:else chained',lambda v,i,j:'ElseIf(%s)'%v[1])
 rule('chained','ifform',lambda v,i,j:st('Stmt',token=i,past=j,form=v[0]))
 rule('over','s:[ expr s:.. expr s:]',lambda v,i,j:st('Span',**{'from':v[1],'to':v[3]}))
 S('w:switch '+optional('over')+' expr s:{ '+many('arm')+' s:}',lambda v:st('Switch',range=opt(v[1]),value=v[2],arms=items(v[4])))
 S('w:span prim expr block',lambda v:st('Span',key=v[1],value=v[2],body=v[3]))
 S(commas('lvalue')+' s:= '+listed('expr')+' s:;',lambda v:st('Assign',to=items(v[0]),values=items(v[2])))
-rule('checked','CHECKED',lambda v,i,j:st('Ident',name=name(v[0]),token=i))
+rule('checked','CHECKED',lambda v,i,j:st('Ident',name=quoted(v[0]),token=i))
 S('ident s:= checked s:( expr s:, expr s:) flows s:;',lambda v:st('Checked',result=v[0],operator=v[2],left=v[4],right=v[6],flows=items(v[8])))
 rule('results','',lambda v,i,j:[]); rule('results',commas('kinded')+' s:=',one)
 rule('convention','',lambda v,i,j:None); rule('convention','w:foreign text',lambda v,i,j:v[1])
@@ -146,14 +145,14 @@ for w,n in (('cuts','CutsTo'),('unwinds','UnwindsTo'),('returns','ReturnsTo')):
 rule('flow','w:also w:aborts',lambda v,i,j:st('Flow',token=i,form='Aborts')); rule('flow','w:never w:returns',lambda v,i,j:st('Flow',token=i,form='NeverReturns'))
 for w in ('','w:aligned','w:align'):
     if w: rule('al',w+' int',lambda v,i,j:v[1])
-rule('memory','type s:[ expr '+optional('al')+' s:]',lambda v,i,j:st('Memory',width=v[0],address=box(v[2]),aligned=opt(v[3])))
+rule('memory','type s:[ expr '+optional('al')+' s:]',lambda v,i,j:st('Memory',width=v[0],address=v[2],aligned=opt(v[3])))
 rule('primform','number',lambda v,i,j:st('Literal',number=v[0],width='None')); rule('primform','number s::: type',lambda v,i,j:st('Literal',number=v[0],width=opt(v[2])))
 rule('number','INT',lambda v,i,j:'Int(%d)'%v[0]); rule('number','CHAR',lambda v,i,j:'Char(%d)'%v[0])
-rule('primform','NAME',lambda v,i,j:'Name(%s)'%name(v[0])); rule('primform','s:( expr s:)',lambda v,i,j:'Bracketed(%s)'%box(v[1]))
+rule('primform','NAME',lambda v,i,j:'Name(%s)'%quoted(v[0])); rule('primform','s:( expr s:)',lambda v,i,j:'Bracketed(%s)'%v[1])
 rule('prim','primform',lambda v,i,j:st('Primary',token=i,form=v[0]))
 def ex(i,f): return st('Expr',token=i,form=f)
 OPS={'==':'Eq','!=':'Ne','<':'Lt','<=':'Le','>':'Gt','>=':'Ge','|':'Or','^':'Xor','&':'And','<<':'Shl','>>':'Shr','+':'Add','-':'Sub','*':'Mul','/':'Div','%':'Mod'}
-def inf(i,l,o,r): return ex(i,st('Infix',left=box(l),operator=OPS[o],right=box(r)))
+def inf(i,l,o,r): return ex(i,st('Infix',left=l,operator=OPS[o],right=r))
 rule('expr','bitor',one)
 for o in '== != < <= > >='.split(): rule('expr','bitor s:%s bitor'%o,lambda v,i,j:inf(i,v[0],v[1],v[2]))
 def level(n,sub,ops):
@@ -166,9 +165,9 @@ def level(n,sub,ops):
         return l
     rule(n,sub+' '+t,act)
 level('bitor','bitxor','|');level('bitxor','bitand','^');level('bitand','shift','&');level('shift','sum','<< >>');level('sum','product','+ -');level('product','unary','* / %')
-rule('unary','s:- unary',lambda v,i,j:ex(i,st('Prefix',operator='Negate',operand=box(v[1])))); rule('unary','s:~ unary',lambda v,i,j:ex(i,st('Prefix',operator='Complement',operand=box(v[1]))))
+rule('unary','s:- unary',lambda v,i,j:ex(i,st('Prefix',operator='Negate',operand=v[1]))); rule('unary','s:~ unary',lambda v,i,j:ex(i,st('Prefix',operator='Complement',operand=v[1])))
 rule('unary','primform',lambda v,i,j:ex(i,'Prim(%s)'%v[0])); rule('unary','memory',lambda v,i,j:ex(i,'Memory(%s)'%v[0]))
-rule('unary','OP s:( '+listed('expr')+' s:)',lambda v,i,j:ex(i,st('Named',operator=name(v[0]),operands=items(v[2]))))
+rule('unary','OP s:( '+listed('expr')+' s:)',lambda v,i,j:ex(i,st('Named',operator=quoted(v[0]),operands=items(v[2]))))
 class P:
     def __init__(self,toks): self.t=toks;self.memo={};self.far=0
     def sym(self,s,i):
@@ -200,4 +199,4 @@ def parse(src,start='unit'):
         return r[len(toks)][0]
     return 'rule 10 at token %d'%p.far
 if __name__=='__main__':
-    for l in sys.stdin: print(parse(l.rstrip('\n')))
+    for l in sys.stdin: print(parse(l.rstrip('\n'),*sys.argv[1:]))
