@@ -6,11 +6,11 @@
 set -eu
 . "$(dirname "$0")/copy_crates.sh"
 work=${1:-$(mktemp -d)}
-copy_crates "$work" cmm_items cmm_words cmm_lexer cmm_ast cmm_readers cmm_parser
+copy_crates "$work" cmm_rules cmm_items cmm_words cmm_lexer cmm_ast cmm_readers cmm_parser
 mkdir -p "$work/crates/parser_speed/src"
 printf 'Handles allowed: none.\n' >"$work/HANDLES"
 {
-    grep -E '^(cmm_items|cmm_words|cmm_lexer|cmm_ast|cmm_readers|cmm_parser):' "$here/crates.txt"
+    grep -E '^(cmm_rules|cmm_items|cmm_words|cmm_lexer|cmm_ast|cmm_readers|cmm_parser):' "$here/crates.txt"
     echo 'parser_speed: cmm_lexer cmm_ast cmm_parser cmm_items'
 } >"$work/crates.txt"
 cat >"$work/crates/parser_speed/src/main.rt" <<'PROGRAM'
