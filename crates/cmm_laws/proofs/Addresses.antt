@@ -1,16 +1,17 @@
 -- Addresses on a valid placement: frames adjoin, and the parts of each lie inside it.
 use Rattle.std.specs.List.{list_all}
-use Rattle.std.proofs.Common.{Option, ◌≡◌, ℕ, suc, ◌+◌, ◌%◌, ◌<◌, ◌≤◌, IsTrue, List, [], ◌∷◌, drop, length, slice_get, slice_index_or, Some, None, refl, ap, ◌∙◌, arith}
+use Rattle.std.proofs.Common.{Option, ◌≡◌, ℕ, suc, ◌+◌, ◌%◌, ◌<◌, ◌≤◌, IsTrue, List, [], ◌∷◌, drop, map, length, slice_get, slice_index_or, Some, None, refl, ap, ◌∙◌, arith}
 use Rattle.std.proofs.lemmas.Bool.Decides.{nat_tests}
 use Rattle.std.proofs.lemmas.List.{drop-drop, length-replicate}
 use Rattle.std.proofs.lemmas.List.Sums.{sum_by-cons, sum_by-take-drop}
 use Rattle.cmm_program.specs.declared.procedure.Proc.{Proc}
 use Rattle.cmm_program.specs.declared.placement.PlaceRow.{PlaceRow}
-use Rattle.cmm_program.specs.Frames.{frame_size, sum_of_sizes}
+use Rattle.cmm_program.specs.Frames.{frame_address, frame_size, sum_of_sizes}
+use Rattle.cmm_program.specs.Memory.{Outside, Room, cell_in}
 use Rattle.cmm_program.specs.Machine.{state_after}
 use Rattle.cmm_program.specs.Placed.{IsPlaced, is_pair_in, is_row_placed, are_rows_placed}
 use Rattle.cmm_program.specs.State.{Setting, Activation}
-use Rattle.cmm_laws.specs.Stacks.{IsSet, Stack, Extent, IsStack, IsPart, LiesIn, InEachState, EachStateHasStack, OneRoomEach, FramesAdjoin, FramesAreAligned, PartsLieInFrame, PartsLieApart, PartsLieInStack}
+use Rattle.cmm_laws.specs.Stacks.{IsSet, Stack, Extent, IsStack, IsPart, LiesIn, OfEachStack, EachStateHasStack, OneRoomEach, OlderAreStack, FramesReachTop, FramesAdjoin, FramesAreAligned, PartsLieInFrame, PartsLieApart, PartsLieInStack, NoneBelow, OwnAlone, extent, stackdata_at, stackdata_of}
 use Rattle.cmm_laws.proofs.Stacking.{length_stackdata, steps_stack}
 use Rattle.cmm_laws.proofs.StackKept.{stackdata_drop, without_keeps}
 
@@ -51,32 +52,62 @@ stack_dropped s n k h = grind (arith, stackdata_drop s n k.activations, sum_by-t
 -- ---- the laws
 
 -- what every stack has that is as it should be, the stack of each state has
-in_each_state : (P : Setting → Stack → Type 0) → ((s : Setting) (stack : Stack) → IsStack s stack → P s stack) → InEachState P
-in_each_state P has =
-    record { holds = λ s input m n. has s _ ((without_keeps s n (state_after s input m).store).1 (steps_stack _ s input m)) }
+of_each : (P : Setting → Stack → Type 0) → ((s : Setting) (stack : Stack) → IsStack s stack → P s stack) → OfEachStack P
+of_each P has = record {
+  of_stack = has;
+  in_state = λ s input m n. has s _ ((without_keeps s n (state_after s input m).store).1 (steps_stack _ s input m));
+}
 
 -- each is as it should be, with a room for each frame
 pub each_stack : EachStateHasStack
-each_stack = in_each_state IsStack (λ s stack h. h)
+each_stack = of_each IsStack (λ s stack h. h)
 
 pub one_room_each : OneRoomEach
-one_room_each = in_each_state _ (λ s stack h. ap (length {A = Extent}) h.rooms ∙ length_stackdata s stack.activations)
+one_room_each = of_each _ (λ s stack h. ap (length {A = Extent}) h.rooms ∙ length_stackdata s stack.activations)
+
+pub older_are_stack : OlderAreStack
+older_are_stack = of_each _ (λ s stack h younger. stack_dropped s younger stack h)
+
+pub frames_reach_top : FramesReachTop
+frames_reach_top = of_each _ (λ s stack h. omega (arith, h.fits))
 
 -- frames adjoin, each at a multiple of 16
 pub frames_adjoin : FramesAdjoin
-frames_adjoin = in_each_state _ (λ s stack h f fs is. grind (arith, sum_by-cons (frame_size s) f fs))
+frames_adjoin = of_each _ (λ s stack h f fs is. grind (arith, sum_by-cons (frame_size s) f fs))
 
 pub frames_aligned : FramesAreAligned
-frames_aligned = in_each_state _ (λ s stack h set. grind (arith, sizes_aligned s set.placed stack.activations))
+frames_aligned = of_each _ (λ s stack h set. grind (arith, sizes_aligned s set.placed stack.activations))
 
 -- parts lie inside their frames, apart from those of older activations, and in the stack
 pub parts_in_frame : PartsLieInFrame
-parts_in_frame = in_each_state _ (λ s stack h set part. part_inside s set h)
+parts_in_frame = of_each _ (λ s stack h set part. part_inside s set h)
 
 pub parts_apart : PartsLieApart
-parts_apart = in_each_state _ (λ s stack h set n part other first second.
+parts_apart = of_each _ (λ s stack h set n part other first second.
     let sizes = rw (drop-drop n 1) at (sum_by-take-drop (frame_size s) (drop 1 stack.activations) n) in
     grind (arith, part_inside s set h first, part_inside s set (stack_dropped s (suc n) stack h) second, sizes))
 
 pub parts_in_stack : PartsLieInStack
-parts_in_stack = in_each_state _ (λ s stack h set part is. grind (arith, part_inside s set h is))
+parts_in_stack = of_each _ (λ s stack h set part is. grind (arith, part_inside s set h is))
+
+-- ---- what stands nowhere
+
+-- stackdata lies at its frame's address or above it
+stackdata_above : (s : Setting) (a : Activation) (at : ℕ) → at ≤ (stackdata_at s a at).address
+stackdata_above s a at = grind arith
+
+-- below the frames no room has an address
+none_below_rooms : (s : Setting) (as_ : List Activation) (rooms : List Room) (at : ℕ) → map extent rooms ≡ stackdata_of s as_ →
+    at < frame_address s as_ → cell_in rooms at ≡ Outside
+none_below_rooms s [] [] at are less = refl
+none_below_rooms s (a ∷ as_) (room ∷ rooms) at are less =
+    let above = stackdata_above s a (frame_address s (a ∷ as_)) in
+    grind (arith, nat_tests, above, sum_by-cons (frame_size s) a as_, none_below_rooms s as_ rooms at)
+none_below_rooms s as_ rooms at are less = grind arith
+
+pub none_below : NoneBelow
+none_below s store at h less = none_below_rooms s store.activations store.memory.rooms at h.rooms less
+
+pub own_alone : OwnAlone
+own_alone s store a older room rooms at h as_ have less lacks =
+    grind (arith, lacks, as_, have, h.rooms, none_below_rooms s older rooms at)

@@ -9,8 +9,7 @@ use Rattle.std.proofs.lemmas.Option.{slice_get_within}
 use Rattle.cmm_words.specs.declared.width.Width.{Width}
 use Rattle.cmm_words.specs.declared.width.Width.TheVariants.{W64}
 use Rattle.cmm_words.specs.Widths.{IsWord}
-use Rattle.cmm_words.proofs.WidthLemmas.{word_64}
-use Rattle.cmm_words.proofs.WordLaws.{value2-word}
+use Rattle.cmm_words.proofs.Shared.{value2-word, word_64}
 use Rattle.cmm_program.specs.declared.expression.Expression.{Expression}
 use Rattle.cmm_program.specs.declared.statement.Form.{Form}
 use Rattle.cmm_program.specs.declared.statement.Form.TheVariants.{Assign, Call, Yield, Checked, Jump, Return, Cut}

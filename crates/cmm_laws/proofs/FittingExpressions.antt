@@ -8,8 +8,7 @@ use Rattle.cmm_words.specs.declared.width.Width.{Width}
 use Rattle.cmm_words.specs.declared.width.Width.TheVariants.{W64}
 use Rattle.cmm_words.specs.declared.constant.Constant.{Constant}
 use Rattle.cmm_words.specs.Widths.{bytes, IsWord}
-use Rattle.cmm_words.proofs.WordLaws.{value2-word}
-use Rattle.cmm_words.proofs.Wrapping.{wrapped-below}
+use Rattle.cmm_words.proofs.Shared.{value2-word, wrapped-below}
 use Rattle.cmm_program.specs.declared.expression.Expression.{Expression, more_of-Expression}
 use Rattle.cmm_program.specs.declared.expression.Expression.TheVariants.{Load', Known, Binary', ZeroExtend'}
 use Rattle.cmm_program.specs.declared.procedure.Proc.{Proc}

@@ -1,4 +1,6 @@
 pub mod Kept
+pub mod Arriving
+pub mod Transfers
 pub mod Doing
 pub mod StackKept
 pub mod Commands
@@ -23,3 +25,4 @@ mod FittingStores
 mod FittingLandings
 mod FittingStart
 pub mod Fitting
+pub mod Shared

@@ -3,6 +3,7 @@
 //! The layers of the compiler are joined by these laws, so each is stated once, here, in the form in which it is cited.
 //! Each is the contract of a public function that does nothing.
 //!
+//! - `landings`: where control arrives, and what the store is then.
 //! - `lock_step`: a graph whose nodes are whole statements, which does what the C-- machine does step by step.
 //! - `memory`: reads after writes, rooms that come and go, numbers as bytes, words stored and loaded.
 //! - `runs`: what an ended state does, what is only added to, who takes the input, and what the client's commands leave.
@@ -12,6 +13,7 @@
 //! The laws of memory are the public lemmas of `proofs/Cells` and `proofs/StoredWords` too.
 #![tactic(auto)]
 
+pub mod landings;
 pub mod lock_step;
 pub mod memory;
 pub mod runs;

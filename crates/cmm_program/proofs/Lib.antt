@@ -1,4 +1,5 @@
 pub mod Places
+pub mod Shared
 pub mod Settling
 pub mod Positions
 pub mod Leading

@@ -61,17 +61,17 @@ numbers words = map (λ w. w.value) words
 
 -- ---- what a landing does to the store
 
--- a new activation above these, unless the stack is too small for it
+-- a new activation of a procedure above these, with its stackdata
+abbrev pub begun : Setting → ℕ → Proc → List ℕ → List Activation → Store → Store
+begun s n p values older store = let activations = new_activation n p values ∷ older in record store {
+  activations = activations;
+  memory = record store.memory { rooms = room_of (frame_address s activations) p (place_row s n) ∷ store.memory.rooms };
+}
+
+-- unless the stack is too small for it
 abbrev pub entered : Setting → ℕ → List ℕ → List Activation → Store → Option Store
 entered s n values older store = with_some (procedure_at s n) (λ p.
-    let activations = new_activation n p values ∷ older in
-    elim (fits_stack s activations) [
-      | true ↦ Some record store {
-        activations = activations;
-        memory = record store.memory { rooms = room_of (frame_address s activations) p (place_row s n) ∷ store.memory.rooms };
-      }
-      | false ↦ None
-    ])
+    elim (fits_stack s (new_activation n p values ∷ older)) [ true ↦ Some (begun s n p values older store) | false ↦ None ])
 
 -- what takes the values at the normal exit of the youngest activation's site, and at one of its continuations
 abbrev pub results_of : Setting → List Activation → List Target
