@@ -3,14 +3,22 @@ use Rattle.std.proofs.Common.{◌≡◌, ℕ, List, [], ◌∷◌, ◌++◌, len
 use Rattle.std.specs.Prelude.{◌≤◌, Bool, true, false, cond, nat_lt, None, map, slice_get}
 use Rattle.std.proofs.lemmas.Bool.Decides.{nat_tests}
 use Rattle.std.proofs.lemmas.List.{length-map}
-use Rattle.cmm_lexer.specs.declared.piece.Rule.TheVariants.{TooLong}
+use Rattle.std.proofs.lemmas.Option.{none-some}
+use Rattle.cmm_rules.specs.declared.rule.Rule.{Rule}
+use Rattle.cmm_rules.specs.declared.rule.Rule.TheVariants.{BadByte, OpenComment, OpenText, BadNumber, Syntax, TooDeep, UnitTooLong}
+use Rattle.cmm_lexer.specs.declared.piece.Rule.{Rule as LexerRule}
+use Rattle.cmm_lexer.specs.declared.piece.Rule.TheVariants as lexer
+use Rattle.cmm_lexer.specs.Lexing.{rule_number as lexer_number}
+use Rattle.cmm_rules.specs.Rules.{rule_number}
 use Rattle.cmm_lexer.specs.declared.tokens.TheConstants.{UNIT_LIMIT}
 use Rattle.cmm_ast.specs.declared.unit.Place.{Place}
 use Rattle.cmm_ast.specs.declared.unit.Unit.{Unit as UnitTree}
 use Rattle.cmm_ast.specs.Derivation.{DerivesWithin}
 use Rattle.cmm_lexer.specs.declared.token.Token.{Token}
 use Rattle.cmm_lexer.specs.declared.tokens.Tokens.{Tokens}
-use Rattle.cmm_lexer.specs.Lexing.{Lexes, faults_of, Spelled, lexeme_of, spelled, tokens_of}
+use Rattle.cmm_lexer.specs.declared.piece.Lexeme.{Lexeme}
+use Rattle.cmm_lexer.specs.declared.tokens.LexFault.TheVariants.{At}
+use Rattle.cmm_lexer.specs.Lexing.{IsFirstFault, Lexes, faults_of, Spelled, lexeme_of, spelled, tokens_of}
 use Rattle.cmm_lexer.specs.Places.{line_at, column_at}
 use Rattle.cmm_parser.specs.declared.fault.SyntaxFault.TheVariants as syntax
 use Rattle.cmm_parser.specs.Faults.{IsFaultOf, lexemes_of, place_of, places_of}
@@ -54,7 +62,29 @@ no_tree : (unit : List ℕ) (rule token : ℕ) (tree : UnitTree) → IsFaultOf (
 no_tree unit rule token tree (inl (is, unexpected)) is_tree = (one_answer (lexemes_in unit)).expected tree is_tree.derives token unexpected
 no_tree unit rule token tree (inr (is, deep)) is_tree = (one_answer (lexemes_in unit)).shallow tree is_tree.derives token deep
 
-pub syntax_refused : (unit : List ℕ) (ts : Tokens) (rule token : ℕ) (fault : Fault) → Lexes unit ts → IsFaultOf (lexemes_of ts) (syntax.At rule token) → fault.rule ≡ rule →
+-- a fault of the lexical form is of a rule, and so is one of the syntax
+pub lexical_rule : (unit : List ℕ) (rule line column : ℕ) → IsFirstFault unit (At rule line column) → (r : Rule) × (rule ≡ rule_number r)
+lexical_rule unit rule line column (f, first, is, at_line, at_column) = by f.rule is
+  where
+    by : (o : LexerRule) → rule ≡ lexer_number o → (r : Rule) × (rule ≡ rule_number r)
+    by lexer.BadByte e = (BadByte, e)
+    by lexer.OpenComment e = (OpenComment, e)
+    by lexer.OpenText e = (OpenText, e)
+    by lexer.BadNumber e = (BadNumber, e)
+    by lexer.TooLong e = (UnitTooLong, e)
+
+pub syntax_rule : (tokens : List Lexeme) (rule token : ℕ) → IsFaultOf tokens (syntax.At rule token) → (r : Rule) × (rule ≡ rule_number r)
+syntax_rule tokens rule token (inl (is, unexpected)) = (Syntax, is)
+syntax_rule tokens rule token (inr (is, deep)) = (TooDeep, is)
+
+pub lexically_refused : (unit : List ℕ) (rule line column : ℕ) (named : Rule) → IsFirstFault unit (At rule line column) → rule ≡ rule_number named →
+    HasNoCode unit (Refused (record { rule = named; line = line; column = column }))
+lexically_refused unit rule line column named first is = (
+  λ tree is_tree. absurd (none-some first.0 (sym is_tree.unbroken ∙ first.1)),
+  inl (subst (λ (n : ℕ). IsFirstFault unit (At n line column)) is first),
+)
+
+pub syntax_refused : (unit : List ℕ) (ts : Tokens) (rule token : ℕ) (fault : Fault) → Lexes unit ts → IsFaultOf (lexemes_of ts) (syntax.At rule token) → rule ≡ rule_number fault.rule →
     slice_get (places_of ts) token ≡ Some record { line = fault.line; column = fault.column } → HasNoCode unit (Refused fault)
 syntax_refused unit ts rule token fault lexes broken rule_is place =
     let here : IsFaultOf (lexemes_in unit) (syntax.At rule token) = subst (λ xs. IsFaultOf xs (syntax.At rule token)) (same_lexemes unit ts lexes) broken in (
@@ -62,7 +92,7 @@ syntax_refused unit ts rule token fault lexes broken rule_is place =
       inr (inl record {
         unbroken = lexes.unbroken;
         token = token;
-        broken = subst (λ n. IsFaultOf (lexemes_in unit) (syntax.At n token)) (sym rule_is) here;
+        broken = subst (λ n. IsFaultOf (lexemes_in unit) (syntax.At n token)) rule_is here;
         place = ap (λ (ps : List Place). slice_get ps token) (sym (same_places unit ts lexes)) ∙ place;
       }),
     )
@@ -70,7 +100,7 @@ syntax_refused unit ts rule token fault lexes broken rule_is place =
 -- a unit has no more tokens than it may have bytes
 pub few_tokens : (unit : List ℕ) (ts : Tokens) → Lexes unit ts → length (tokens_of unit) ≤ UNIT_LIMIT
 few_tokens unit ts lexes = by (nat_lt UNIT_LIMIT (length unit)) refl lexes.unbroken where
-  by : (b : Bool) → nat_lt UNIT_LIMIT (length unit) ≡ b → cond b (Some record { rule = TooLong; start = 0 }) (slice_get (faults_of unit) 0) ≡ None → length (tokens_of unit) ≤ UNIT_LIMIT
+  by : (b : Bool) → nat_lt UNIT_LIMIT (length unit) ≡ b → cond b (Some record { rule = lexer.TooLong; start = 0 }) (slice_get (faults_of unit) 0) ≡ None → length (tokens_of unit) ≤ UNIT_LIMIT
   by true is h = absurd cc
   by false is h =
       let few : length ts.list ≤ length unit = lexes.few in

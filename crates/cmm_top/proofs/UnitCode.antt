@@ -8,6 +8,8 @@ use Rattle.cmm_ast.specs.declared.unit.Unit.{Unit as UnitTree}
 use Rattle.cmm_lexer.specs.declared.tokens.TheConstants.{UNIT_LIMIT}
 use Rattle.cmm_lexer.specs.Lexing.{tokens_of}
 use Rattle.cmm_readers.proofs.UnitLaws.{one_unit}
+use Rattle.cmm_rules.specs.declared.rule.Rule.TheVariants.{FormNotBuilt}
+use Rattle.rv_table.specs.declared.memory_map.TheConstants.{CODE_LENGTH_LIMIT}
 use Rattle.rv_table.specs.declared.instruction.Instr.{Instr}
 use Rattle.rv_table.specs.declared.instruction.Instr.TheVariants.{Ecall}
 use Rattle.rv_table.specs.Laws.{CodeStands, StraightPiecesRun}
@@ -70,7 +72,7 @@ length-code_of (i ∷ is) = omega (arith, length-append (to_le_bytes w32 (word_o
 
 -- the code fits its place in a memory
 pub unit_code_short : (code : List Instr) (bytes : List ℕ) (found : List Term) (unit : List ℕ) (tree : UnitTree) → length code ≤ 66 * length found + 2 → IsTreeOf unit tree →
-    Some found ≡ form_terms tree → length (tokens_of unit) ≤ UNIT_LIMIT → bytes ≡ code_of code → length bytes ≤ 0x3fff0000
+    Some found ≡ form_terms tree → length (tokens_of unit) ≤ UNIT_LIMIT → bytes ≡ code_of code → length bytes ≤ CODE_LENGTH_LIMIT
 unit_code_short code bytes found unit tree few is_tree terms_are within bytes_are =
     let room : 2 * length found + 8 ≤ length (main_tokens unit tree) = main_room unit tree found is_tree (sym terms_are) in
     let less : length (main_tokens unit tree) ≤ length (tokens_of unit) = few_of_main unit tree in
@@ -89,9 +91,9 @@ has_value unit tree found is_tree terms_are = by (form_value tree) refl (subst (
   by None is adds = absurd (let no : AddUpTo (Some found) None = subst (λ (x : Option ℕ). AddUpTo (Some found) x) is adds in no)
 
 -- and one that has none is refused
-pub not_built : (unit : List ℕ) (tree : UnitTree) → IsTreeOf unit tree → None ≡ form_terms tree → HasNoCode unit (Refused (record { rule = 90; line = 1; column = 1 }))
+pub not_built : (unit : List ℕ) (tree : UnitTree) → IsTreeOf unit tree → None ≡ form_terms tree → HasNoCode unit (Refused (record { rule = FormNotBuilt; line = 1; column = 1 }))
 not_built unit tree is_tree terms_are = by (form_value tree) refl (subst (λ (x : Option (List Term)). AddUpTo x (form_value tree)) (sym terms_are) (form_adds_up tree)) where
-  by : (v : Option ℕ) → form_value tree ≡ v → AddUpTo None (form_value tree) → HasNoCode unit (Refused (record { rule = 90; line = 1; column = 1 }))
+  by : (v : Option ℕ) → form_value tree ≡ v → AddUpTo None (form_value tree) → HasNoCode unit (Refused (record { rule = FormNotBuilt; line = 1; column = 1 }))
   by (Some v) is adds = absurd (let no : AddUpTo None (Some v) = subst (λ (x : Option ℕ). AddUpTo None x) is adds in no)
   by None is adds = (
     λ other is_other. same_value unit other tree is_other is_tree ∙ is,

@@ -9,6 +9,8 @@ use Rattle.cmm_lexer.specs.Lexing.{Spelled, first_fault, tokens_of, IsFirstFault
 use Rattle.cmm_lexer.specs.Places.{line_at, column_at}
 use Rattle.cmm_parser.specs.declared.fault.SyntaxFault.TheVariants as syntax
 use Rattle.cmm_parser.specs.Faults.{IsFaultOf}
+use Rattle.cmm_rules.specs.declared.rule.Rule.TheVariants.{FormNotBuilt}
+use Rattle.cmm_rules.specs.Rules.{rule_number}
 use Rattle.cmm_top.specs.declared.first.Fault.{Fault}
 use Rattle.cmm_top.specs.declared.first.FirstFault.{FirstFault}
 use Rattle.cmm_top.specs.declared.first.FirstFault.TheVariants.{Refused, Memory}
@@ -44,7 +46,7 @@ places_in unit = map (λ t. record { line = t.line; column = t.column }) (tokens
 pub record BreaksSyntax (fault : Fault) (unit : List ℕ) : Type 0 where
   pub unbroken : first_fault unit ≡ None
   pub token : ℕ
-  pub broken : IsFaultOf (lexemes_in unit) (syntax.At fault.rule token)
+  pub broken : IsFaultOf (lexemes_in unit) (syntax.At (rule_number fault.rule) token)
   pub place : slice_get (places_in unit) token ≡ Some record { line = fault.line; column = fault.column }
 
 -- a unit of the language that is not of the first form
@@ -52,12 +54,12 @@ pub record IsOtherForm (fault : Fault) (unit : List ℕ) : Type 0 where
   pub tree : UnitTree
   pub is_tree : IsTreeOf unit tree
   pub value : form_value tree ≡ None
-  pub says : fault ≡ record { rule = 90; line = 1; column = 1 }
+  pub says : fault ≡ record { rule = FormNotBuilt; line = 1; column = 1 }
 
 -- why a unit is refused: for the first rule of the lexical form that it breaks, or else for its syntax, or else because it is not of the
 -- first form
 abbrev pub IsFault : Fault → List ℕ → Type 0
-IsFault fault unit = IsFirstFault unit (At fault.rule fault.line fault.column) ⊎ (BreaksSyntax fault unit ⊎ IsOtherForm fault unit)
+IsFault fault unit = IsFirstFault unit (At (rule_number fault.rule) fault.line fault.column) ⊎ (BreaksSyntax fault unit ⊎ IsOtherForm fault unit)
 
 -- why a unit has no code
 abbrev pub HasNoCode : List ℕ → FirstFault → Type 0

@@ -10,17 +10,17 @@ ghost use Rattle.cmm_top.specs.Lines.{refused_line};
 ghost use Rattle.cmm_top.specs.Parts.{part_text};
 
 use crate::first::{Fault, FirstFault, compile_first};
-use crate::rule::{UNIT_TOO_LONG, rule_text};
 use crate::run::run;
 use crate::status::Status;
 use cmm_lexer::UNIT_LIMIT;
 use cmm_outside::{Failed, FileError, Files, Sink, read_file, write_all};
 use cmm_report::put_number;
+use cmm_rules::Rule;
 use std::alloc::{AllocError, Global};
 
 /// The fault of a unit that is longer than any may be.
 const TOO_LONG: Fault = Fault {
-    rule: UNIT_TOO_LONG,
+    rule: Rule::UnitTooLong,
     line: 1,
     column: 1,
 };
@@ -126,9 +126,9 @@ fn write_fault<E: Sink>(fault: Fault, name: &str, log: &mut E) -> Result<(), Fai
             Part::Text(b":"),
             Part::Number(u64::from(fault.column)),
             Part::Text(b": "),
-            Part::Number(u64::from(fault.rule)),
+            Part::Number(u64::from(fault.rule.number())),
             Part::Text(b" "),
-            Part::Text(rule_text(fault.rule).as_bytes()),
+            Part::Text(fault.rule.text().as_bytes()),
             Part::Text(b"\n"),
         ],
     )

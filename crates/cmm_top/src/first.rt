@@ -2,12 +2,15 @@
 
 ghost use Rattle.std.specs.Prelude.{◌≡◌, ℕ, ◌+◌, ◌*◌, ◌≤◌, Some, length, slice_get, option_map, IfOk, OnOk, IfErr};
 ghost use Rattle.std.specs.List.{All};
+ghost use Rattle.rv_table.specs.declared.memory_map.TheConstants.{CODE_LENGTH_LIMIT};
 ghost use Rattle.rv_table.specs.Stands.{code_of as words_of};
 ghost use Rattle.rv_table.specs.Table.{IsValid};
 ghost use Rattle.cmm_ast.specs.declared.unit.Unit.{Unit as UnitTree};
 ghost use Rattle.cmm_lexer.specs.Lexing.{tokens_of};
 ghost use Rattle.cmm_lexer.specs.declared.tokens.TheConstants.{UNIT_LIMIT};
 ghost use Rattle.cmm_parser.specs.Faults.{places_of};
+ghost use Rattle.cmm_rules.specs.Rules.{rule_number};
+ghost use Rattle.cmm_rules.specs.declared.rule.Rule.{Rule};
 ghost use Rattle.cmm_top.specs.Causes.{HasValue, HasNoCode, IsTreeOf, main_tokens};
 ghost use Rattle.cmm_top.specs.Form.{form_value};
 ghost use Rattle.cmm_top.specs.Run.{EndsWithin};
@@ -15,11 +18,11 @@ ghost use Rattle.cmm_top.specs.Terms.{form_terms};
 
 use crate::code::code_of;
 use crate::form::returned;
-use crate::rule::FORM_NOT_BUILT;
 use crate::term::{Term, terms_in};
 use cmm_ast::Unit;
 use cmm_lexer::{LexFault, Tokens, lex};
 use cmm_parser::{SyntaxFault, parse};
+use cmm_rules::Rule;
 use rv_code::encode;
 use rv_table::Instr;
 use rv_table::laws::{code_stands, runs};
@@ -29,14 +32,14 @@ use thiserror::Error;
 /// A rule that a unit breaks, and where: its line and its column, in bytes, from 1.
 #[derive(Clone, Copy, Debug, PartialEq, Eq)]
 pub struct Fault {
-    pub rule: u8,
+    pub rule: Rule,
     pub line: u32,
     pub column: u32,
 }
 
 /// The fault of a unit that breaks no other rule and still is not of the first form.
 const NOT_BUILT: Fault = Fault {
-    rule: FORM_NOT_BUILT,
+    rule: Rule::FormNotBuilt,
     line: 1,
     column: 1,
 };
@@ -55,7 +58,7 @@ pub enum FirstFault {
 /// instructions for each token of `main`. It fits the place that a memory has for code. A unit that is not of the form is `Refused`.
 pub fn compile_first(alloc: Global, unit: &[u8]) -> Result<Vec<u8>, FirstFault>
     ensures ok { IfOk result (λ code. (tree : UnitTree) (value : ℕ) → IsTreeOf unit.now tree → form_value tree ≡ Some value → EndsWithin code.items (64 * length (main_tokens unit.now tree)) value) }
-    ensures short { IfOk result (λ code. length code.items ≤ 0x3fff0000) }
+    ensures short { IfOk result (λ code. length code.items ≤ CODE_LENGTH_LIMIT) }
     ensures form { OnOk result ((value : ℕ) × HasValue value unit.now) }
     ensures few { OnOk result (length (tokens_of unit.now) ≤ UNIT_LIMIT) }
     ensures err { IfErr result (HasNoCode unit.now) }
@@ -79,6 +82,7 @@ fn tree_of(alloc: Global, unit: &[u8]) -> Result<Unit, FirstFault>
     let tokens = match lex(alloc, unit) {
         Ok(tokens) => tokens,
         Err(LexFault::At { rule, line, column }) => {
+            let rule = rule_of(rule);
             return Err(FirstFault::Refused(Fault { rule, line, column }));
         }
         Err(LexFault::Memory) => return Err(FirstFault::Memory),
@@ -87,15 +91,26 @@ fn tree_of(alloc: Global, unit: &[u8]) -> Result<Unit, FirstFault>
         Ok(tree) => Ok(tree),
         Err(fault) => match fault {
             SyntaxFault::At { rule, token } => {
-                Err(FirstFault::Refused(fault_at(rule, token, &tokens)))
+                Err(FirstFault::Refused(fault_at(rule_of(rule), token, &tokens)))
             }
             SyntaxFault::Memory => Err(FirstFault::Memory),
         },
     }
 }
 
+/// The rule of a number that some rule has.
+fn rule_of(number: u8) -> Rule
+    requires { (rule : Rule) × (number ≡ rule_number rule) }
+    ensures { number ≡ rule_number result }
+{
+    let Some(rule) = Rule::of_number(number) else {
+        unreachable!()
+    };
+    rule
+}
+
 /// A rule that is broken at a token, or past the last one at the end of the unit.
-fn fault_at(rule: u8, token: u32, tokens: &Tokens) -> Fault
+fn fault_at(rule: Rule, token: u32, tokens: &Tokens) -> Fault
     requires { token ≤ length tokens.now.list }
     ensures rule { result.rule ≡ rule }
     ensures place { slice_get (places_of tokens.now) token ≡ Some record { line = result.line; column = result.column } }

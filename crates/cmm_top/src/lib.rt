@@ -6,7 +6,6 @@
 //!
 //! - `top`: `cmm_main`.
 //! - `command`, `ending`, `status`: what the words ask for, what a file comes to and its line in the log, exit statuses.
-//! - `rule`: the rules that a unit may break.
 //! - `first`: `compile_first`, from the bytes of a unit to its code.
 //! - `form`, `term`, `code`: from a tree to the sum that it returns, from that to signed numbers, and from these to instructions.
 //! - `run`: runs that code.
@@ -17,7 +16,6 @@ mod command;
 mod ending;
 mod first;
 mod form;
-mod rule;
 mod run;
 mod status;
 mod term;
