@@ -5,10 +5,7 @@ use Rattle.std.proofs.lemmas.Bool.Decides.{nat_tests}
 use Rattle.std.proofs.lemmas.List.{length-map}
 use Rattle.std.proofs.lemmas.Option.{none-some}
 use Rattle.cmm_rules.specs.declared.rule.Rule.{Rule}
-use Rattle.cmm_rules.specs.declared.rule.Rule.TheVariants.{BadByte, OpenComment, OpenText, BadNumber, Syntax, TooDeep, UnitTooLong}
-use Rattle.cmm_lexer.specs.declared.piece.Rule.{Rule as LexerRule}
-use Rattle.cmm_lexer.specs.declared.piece.Rule.TheVariants as lexer
-use Rattle.cmm_lexer.specs.Lexing.{rule_number as lexer_number}
+use Rattle.cmm_rules.specs.declared.rule.Rule.TheVariants.{Syntax, TooDeep, UnitTooLong}
 use Rattle.cmm_rules.specs.Rules.{rule_number}
 use Rattle.cmm_lexer.specs.declared.tokens.TheConstants.{UNIT_LIMIT}
 use Rattle.cmm_ast.specs.declared.unit.Place.{Place}
@@ -64,14 +61,7 @@ no_tree unit rule token tree (inr (is, deep)) is_tree = (one_answer (lexemes_in 
 
 -- a fault of the lexical form is of a rule, and so is one of the syntax
 pub lexical_rule : (unit : List ℕ) (rule line column : ℕ) → IsFirstFault unit (At rule line column) → (r : Rule) × (rule ≡ rule_number r)
-lexical_rule unit rule line column (f, first, is, at_line, at_column) = by f.rule is
-  where
-    by : (o : LexerRule) → rule ≡ lexer_number o → (r : Rule) × (rule ≡ rule_number r)
-    by lexer.BadByte e = (BadByte, e)
-    by lexer.OpenComment e = (OpenComment, e)
-    by lexer.OpenText e = (OpenText, e)
-    by lexer.BadNumber e = (BadNumber, e)
-    by lexer.TooLong e = (UnitTooLong, e)
+lexical_rule unit rule line column (f, first, is, at_line, at_column) = (f.rule, is)
 
 pub syntax_rule : (tokens : List Lexeme) (rule token : ℕ) → IsFaultOf tokens (syntax.At rule token) → (r : Rule) × (rule ≡ rule_number r)
 syntax_rule tokens rule token (inl (is, unexpected)) = (Syntax, is)
@@ -100,7 +90,7 @@ syntax_refused unit ts rule token fault lexes broken rule_is place =
 -- a unit has no more tokens than it may have bytes
 pub few_tokens : (unit : List ℕ) (ts : Tokens) → Lexes unit ts → length (tokens_of unit) ≤ UNIT_LIMIT
 few_tokens unit ts lexes = by (nat_lt UNIT_LIMIT (length unit)) refl lexes.unbroken where
-  by : (b : Bool) → nat_lt UNIT_LIMIT (length unit) ≡ b → cond b (Some record { rule = lexer.TooLong; start = 0 }) (slice_get (faults_of unit) 0) ≡ None → length (tokens_of unit) ≤ UNIT_LIMIT
+  by : (b : Bool) → nat_lt UNIT_LIMIT (length unit) ≡ b → cond b (Some record { rule = UnitTooLong; start = 0 }) (slice_get (faults_of unit) 0) ≡ None → length (tokens_of unit) ≤ UNIT_LIMIT
   by true is h = absurd cc
   by false is h =
       let few : length ts.list ≤ length unit = lexes.few in

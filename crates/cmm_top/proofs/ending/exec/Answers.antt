@@ -4,7 +4,6 @@ use Rattle.std.proofs.lemmas.Bool.Decides.{nat_tests}
 use Rattle.std.proofs.lemmas.Option.{none-some}
 use Rattle.cmm_outside.specs.Storage.{Contents, HasFile}
 use Rattle.cmm_rules.specs.declared.rule.Rule.TheVariants.{UnitTooLong}
-use Rattle.cmm_lexer.specs.declared.piece.Rule.TheVariants as lexer
 use Rattle.cmm_lexer.specs.declared.tokens.TheConstants.{UNIT_LIMIT}
 use Rattle.cmm_lexer.specs.Lexing.{faults_of, first_fault}
 use Rattle.cmm_top.specs.Causes.{HasValue, IsFault, IsNotBuilt}
@@ -24,9 +23,9 @@ over n more = grind (arith, nat_tests)
 -- a unit that is too long has no tree, and its length is its first fault
 too_long : (unit : List ℕ) → UNIT_LIMIT < length unit → IsNotBuilt unit × IsFault (record { rule = UnitTooLong; line = 1; column = 1 }) unit
 too_long unit more =
-    let first : first_fault unit ≡ Some (record { rule = lexer.TooLong; start = 0 }) =
-    ap (λ (b : Bool). cond b (Some (record { rule = lexer.TooLong; start = 0 })) (slice_get (faults_of unit) 0)) (over (length unit) more) in
-    (λ tree is_tree. absurd (none-some (record { rule = lexer.TooLong; start = 0 }) (sym is_tree.unbroken ∙ first)), inl (record { rule = lexer.TooLong; start = 0 }, first, refl, refl, refl))
+    let first : first_fault unit ≡ Some (record { rule = UnitTooLong; start = 0 }) =
+    ap (λ (b : Bool). cond b (Some (record { rule = UnitTooLong; start = 0 })) (slice_get (faults_of unit) 0)) (over (length unit) more) in
+    (λ tree is_tree. absurd (none-some (record { rule = UnitTooLong; start = 0 }) (sym is_tree.unbroken ∙ first)), inl (record { rule = UnitTooLong; start = 0 }, first, refl, refl, refl))
 
 -- what holds of a file that is so holds where the file is so
 file_so : (contents : Option Contents) (name : List ℕ) (P Q : List ℕ → Type 0) → HasFile contents name P → ((file : List ℕ) → P file → Q file) → HasFile contents name Q
