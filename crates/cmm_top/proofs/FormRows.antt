@@ -46,6 +46,7 @@ unit_of name values = record {
         name = record { name = codes "main"; token = 3 };
         formals = [];
         body = record { parts = parts.Stmt record { token = 7; past = 14; form = stmts.Return None (Some values) } ∷ [] };
+        past = 15;
       } ∷ [];
   places = [];
 }

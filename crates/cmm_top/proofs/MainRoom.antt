@@ -14,9 +14,9 @@ use Rattle.cmm_ast.specs.declared.expression.PrimForm.TheVariants.{Literal, Name
 use Rattle.cmm_ast.specs.declared.expression.TypeName.{TypeName}
 use Rattle.cmm_ast.specs.declared.token.Text.{Text}
 use Rattle.cmm_ast.specs.declared.expression.Expr.{Expr}
-use Rattle.cmm_ast.specs.declared.keyword.Keyword.{Keyword}
-use Rattle.cmm_ast.specs.declared.keyword.Keyword.TheVariants.{As, Export as ExportWord, Return}
-use Rattle.cmm_ast.specs.declared.keyword.Symbol.TheVariants.{Semicolon}
+use Rattle.cmm_lexer.specs.declared.keyword.Keyword.{Keyword}
+use Rattle.cmm_lexer.specs.declared.keyword.Keyword.TheVariants.{As, Export as ExportWord, Return}
+use Rattle.cmm_lexer.specs.declared.symbol.Symbol.TheVariants.{Semicolon}
 use Rattle.cmm_ast.specs.declared.procedure.Formal.{Formal}
 use Rattle.cmm_ast.specs.declared.procedure.Proc.{Proc}
 use Rattle.cmm_ast.specs.declared.statement.Actual.{Actual}
@@ -30,9 +30,8 @@ use Rattle.cmm_ast.specs.declared.unit.TopLevel.TheVariants as tops
 use Rattle.cmm_ast.specs.declared.unit.Unit.{Unit as UnitTree}
 use Rattle.cmm_ast.specs.Derivation.{Derives, at_start}
 use Rattle.cmm_ast.specs.ExpressionGrammar.{binds, expr, expr_form, ident, infix_symbol, left_level, operand, prim_form, right_level, text}
-use Rattle.cmm_ast.specs.Numbers.{keyword_number}
 use Rattle.cmm_ast.specs.StatementGrammar.{actual, arguments, block, formal, part_, proc, stmt_form}
-use Rattle.cmm_ast.specs.Taking.{Reading, Takes, ◌⨾◌, braces, here, is_int, is_keyword, is_name, is_text, keyword, listed, many, may_list, nothing, operator, optional, round, symbol, token}
+use Rattle.cmm_ast.specs.Taking.{Reading, Takes, ◌⨾◌, braces, here, is_int, is_word, is_name, is_text, keyword, listed, many, may_list, nothing, operator, optional, round, symbol, token}
 use Rattle.cmm_ast.specs.UnitGrammar.{decl, decl_form, top_level}
 use Rattle.cmm_lexer.specs.Lexing.{tokens_of}
 use Rattle.cmm_readers.proofs.Rows.{many_to}
@@ -129,7 +128,7 @@ text_grows : (t : Text) → Grows 1 (text t)
 text_grows t = then (here_grows t.token) (token_grows (is_text t.bytes))
 
 keyword_grows : (k : Keyword) → Grows 1 (keyword k)
-keyword_grows k = token_grows (is_keyword (keyword_number k))
+keyword_grows k = token_grows (is_word k)
 
 kind_grows : (o : Option Text) → Grows 0 (optional text o)
 kind_grows None = nothing_grows
@@ -194,9 +193,9 @@ proc_grows : (p : Proc) (ts : List Term) → terms_of (main_returns p) ≡ Some 
 proc_grows p ts e =
     let w : ((is_main p.name && is_empty p.formals) ≡ true) × (terms_of (returned_in p.body.parts) ≡ Some ts) =
     where_true (is_main p.name && is_empty p.formals) (returned_in p.body.parts) ts e in
-    fewer (1 + (2 + (2 * length ts + 5))) (2 * length ts + 8) (proc p) (omega arith)
+    fewer (1 + (2 + (2 * length ts + 5 + 0))) (2 * length ts + 8) (proc p) (omega arith)
     (then (ident_grows p.name) (then (round_grows (may_list formal p.formals) (formals_grow p.formals (both_true (is_main p.name) (is_empty p.formals) w.0)))
-    (block_grows p.body.parts ts w.1)))
+    (then (block_grows p.body.parts ts w.1) (here_grows p.past))))
 
 -- a name has the number of the token that is next
 named_here : (i : Ident) (p : Takes) (r after : Reading) → (ident i ⨾ p) r ≡ Some after → i.token ≡ r.taken
@@ -213,7 +212,7 @@ parts_room (tops.Decl d ∷ tops.Proc p ∷ []) ts r after e takes =
     let q : Between (proc p) nothing s.mid after = between (proc p) nothing s.mid after s.second in
     let one : Counts 0 r s.mid = (then (here_grows d.token) (decl_grows d.form w.0)).counts r s.mid s.first in
     let two : Counts (2 * length ts + 8 + 0) s.mid after = (then (proc_grows p ts w.1) nothing_grows).counts s.mid after s.second in
-    let at : p.name.token ≡ s.mid.taken = named_here p.name (round (may_list formal p.formals) ⨾ block p.body) s.mid q.mid q.first in
+    let at : p.name.token ≡ s.mid.taken = named_here p.name (round (may_list formal p.formals) ⨾ block p.body ⨾ here p.past) s.mid q.mid q.first in
     let more : s.mid.taken + (2 * length ts + 8 + 0) ≤ after.taken = two.taken in
     (omega arith, two.kept ∙ one.kept)
 parts_room tops_ ts r after e takes = absurd cc

@@ -1,10 +1,9 @@
 -- What grammars take: so many tokens at least, and no token is lost.
 use Rattle.std.proofs.Common.{◌≡◌, ℕ, suc, ◌+◌, ◌≤◌, ◌==◌, Bool, true, false, List, [], ◌∷◌, length, Option, Some, None, refl, ap, ◌∙◌, arith}
 use Rattle.std.proofs.lemmas.Bool.{eqb-true}
-use Rattle.cmm_ast.specs.declared.keyword.Symbol.{Symbol}
-use Rattle.cmm_ast.specs.declared.keyword.Symbol.TheVariants.{Comma, Open, Close, OpenBrace, CloseBrace}
-use Rattle.cmm_ast.specs.Numbers.{symbol_number}
-use Rattle.cmm_ast.specs.Taking.{Reading, Takes, ◌⨾◌, braces, enclosed, here, in_brackets, is_symbol, may_comma, nothing, opening, operator, outermost, round, symbol, taken_if, token}
+use Rattle.cmm_lexer.specs.declared.symbol.Symbol.{Symbol}
+use Rattle.cmm_lexer.specs.declared.symbol.Symbol.TheVariants.{Comma, Open, Close, OpenBrace, CloseBrace}
+use Rattle.cmm_ast.specs.Taking.{Reading, Takes, ◌⨾◌, braces, enclosed, here, in_brackets, is_sign, may_comma, nothing, opening, operator, outermost, round, symbol, taken_if, token}
 use Rattle.cmm_lexer.specs.declared.piece.Lexeme.{Lexeme}
 
 -- so many tokens at least are taken, and those taken and those left are as many as before
@@ -116,7 +115,7 @@ outermost_grows {n} p one = record {
 }
 
 pub symbol_grows : (s : Symbol) → Grows 1 (symbol s)
-symbol_grows s = token_grows (is_symbol (symbol_number s))
+symbol_grows s = token_grows (is_sign s)
 
 pub brackets_grow : {n : ℕ} (opens : Symbol) (p : Takes) (closes : Symbol) → Grows n p → Grows (1 + (n + 1)) (in_brackets opens p closes)
 brackets_grow opens p closes one = enclosed_grows (opening (symbol opens) ⨾ p ⨾ symbol closes) (then (opening_grows (symbol opens) (symbol_grows opens)) (then one (symbol_grows closes)))

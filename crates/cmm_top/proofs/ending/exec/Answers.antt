@@ -37,6 +37,13 @@ returns-in-Err-TooLong-clause-cause g c =
     file_so (g.F.Files.contents c.args.files.now) c.args.name.now (λ file. UNIT_LIMIT < length file) (λ unit. IsNotBuilt unit × IsFault (record { rule = UnitTooLong; line = 1; column = 1 }) unit)
     (c.in-Err-TooLong.ensures.too_long (ap Err c.in-Err-TooLong.field-0-is)) too_long
 
+-- a unit that is refused has the fault that its bytes have
+pub returns-in-Err-Refused-clause-cause : goal.returns-in-Err-Refused-clause-cause
+returns-in-Err-Refused-clause-cause g c =
+    rw c.in-Err-Refused.field-0-is
+    (of_file (g.F.Files.contents c.args.files.now) c.args.name.now c.in-Ok.unit.items (λ unit. IsNotBuilt unit × IsFault c.in-Err-Refused.fault unit) c.in-Ok.ensures.ok
+    (subst (λ (unit : List ℕ). IsNotBuilt unit × IsFault c.in-Err-Refused.fault unit) c.deref.ensures.value (rw c.in-Err-Refused.field-0-is at c.in-Err-Refused.ensures.err)))
+
 pub run-requires-clause-ends : goal.run-requires-clause-ends
 run-requires-clause-ends g c =
     let (value, has) = c.in-Ok-compile_first.ensures.form in (
