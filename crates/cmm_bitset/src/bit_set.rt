@@ -97,7 +97,9 @@ impl BitSet {
 
     /// The least member from a number on.
     pub(crate) fn least_from(&self, from: u32) -> Option<u32>
-        ensures least { MatchOption result (members_from self.now from ≡ []) (λ least. members_from self.now from ≡ least ∷ members_from self.now (least + 1)) }
+        ensures least { MatchOption result
+            (members_from self.now from ≡ [])
+            (λ least. members_from self.now from ≡ least ∷ members_from self.now (least + 1)) }
         ensures within { IfSome result (λ least. least + 1 < 2 ^ 32) }
     {
         if from >= self.size {

@@ -34,7 +34,9 @@ fn first_nonzero(words: &[u64]) -> Option<usize>
 pub fn lowest_from(words: &[u64], from: usize) -> Option<usize>
     requires within { from / 64 < length words.now }
     requires few { length words.now < 2 ^ 32 }
-    ensures { MatchOption result ((number : ℕ) → from ≤ number → bit words.now number ≡ 0) (IsLowest words.now from) }
+    ensures { MatchOption result
+        ((number : ℕ) → from ≤ number → bit words.now number ≡ 0)
+        (IsLowest words.now from) }
 {
     let start = from / WORD;
     let first = words[start] & (u64::MAX << (from % WORD));

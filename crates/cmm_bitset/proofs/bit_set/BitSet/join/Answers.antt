@@ -1,4 +1,4 @@
-use Rattle.std.proofs.Common.{length, sym, ap, ◌∙◌, arith}
+use Rattle.std.proofs.Common.{length, sym, ap, ◌∙◌, rules, arith}
 use Rattle.cmm_bitset.proofs.WordBits.{length-set_of}
 use Rattle.cmm_bitset.proofs.Joining.{Joined, join_trims, join_unites, join_grows, on_true}
 use Rattle.cmm_bitset.proofs.bit_set.BitSet.join.Goals as goal
@@ -25,8 +25,8 @@ invariant_of-self c =
     } in
     join_trims j
 
-pub returns-clause-joined : goal.returns-clause-joined
-returns-clause-joined c =
+pub returns : goal.returns
+returns c =
     let j : Joined c.self.inside.words.items c.other.inside.words.items c.join.new.words.items c.self.inside.size c.other.inside.size c.args.self.now c.args.other.now = record {
       new_is = rw c.deref.ensures.value at c.join.ensures.joined;
       trimmed = c.self.invariant;
@@ -35,16 +35,8 @@ returns-clause-joined c =
       view' = c.other.view_is;
       same = c.requires;
     } in
-    join_unites j
-
-pub returns-clause-grew : goal.returns-clause-grew
-returns-clause-grew c =
-    let j : Joined c.self.inside.words.items c.other.inside.words.items c.join.new.words.items c.self.inside.size c.other.inside.size c.args.self.now c.args.other.now = record {
-      new_is = rw c.deref.ensures.value at c.join.ensures.joined;
-      trimmed = c.self.invariant;
-      trimmed' = c.other.invariant;
-      view = c.self.view_is;
-      view' = c.other.view_is;
-      same = c.requires;
-    } in
-    on_true c.join.result (join_grows j) c.join.ensures.grew
+    record {
+      joined = join_unites j;
+      grew = on_true c.join.result (join_grows j) c.join.ensures.grew;
+      settled = search rules;
+    }
