@@ -5,4 +5,5 @@ pub mod MemoryFiles
 pub mod MemorySink
 pub mod MemorySource
 pub mod Output
+pub mod Standard
 pub mod Storage

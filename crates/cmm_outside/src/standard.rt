@@ -1,7 +1,9 @@
-//! Standard input, a standard output and the file system. None tells what it holds: no clause can say
-//! what lies outside the process.
+//! Standard input, a standard output and the file system. None tells what it holds for good: no clause can
+//! say what lies outside the process. Where the reader or writer below one tells its bytes, as a slice or a
+//! cursor does, the clauses of `read` and `write` say what becomes of these.
 
-ghost use Rattle.std.specs.Prelude.{◌≡◌, ◌≤◌, None, Some, length, IfOk};
+ghost use Rattle.std.specs.Prelude.{◌≡◌, ◌<◌, ◌≤◌, None, Ok, Some, length, IfOk, OnErr, OnOk};
+ghost use Rattle.std.specs.Io.KnownBytes.{ReadConsumes, WriteAppends};
 ghost use Rattle.cmm_outside.specs.Faults.{Rose};
 
 use crate::fault_count::FaultCount;
@@ -20,9 +22,12 @@ pub struct StdSource<R> {
 }
 
 impl<R: Read> StdSource<R> {
+    ghost use Rattle.cmm_outside.specs.Standard.{reader_of};
+
     /// A source that has not failed.
     pub fn new(reader: R) -> Self
-        ensures { ⟦<StdSource<R> as Source>⟧.faults result ≡ 0 }
+        ensures no_fault { ⟦<StdSource<R> as Source>⟧.faults result ≡ 0 }
+        ensures reader { reader_of result ≡ reader }
     {
         StdSource {
             reader,
@@ -32,11 +37,24 @@ impl<R: Read> StdSource<R> {
 }
 
 impl<R: Read> Source for StdSource<R> {
+    ghost use Rattle.cmm_outside.specs.Standard.{reader_of};
+
     ghost left = { λ _. None };
 
     ghost faults = { λ s. s.faults };
 
-    fn read(&mut self, buffer: &mut [u8]) -> Result<usize, Failed> {
+    fn read(&mut self, buffer: &mut [u8]) -> Result<usize, Failed>
+        ensures bound { IfOk result (λ n. n ≤ length buffer.old) }
+
+        // Of bytes that the reader tells, it gives the next, loses none, and answers 0 only at their end.
+        ensures read { ReadConsumes (R.remaining (reader_of self.old)) (R.remaining (reader_of self.new)) result buffer.new }
+
+        ensures no_fault { OnOk result (self.new.faults ≡ self.old.faults) }
+        ensures fault { OnErr result (Rose self.old.faults self.new.faults) }
+
+        // An empty buffer does nothing.
+        ensures nothing { length buffer.old ≡ 0 → (result ≡ Ok 0) × (self.new ≡ self.old) }
+    {
         if buffer.is_empty() {
             return Ok(0);
         }
@@ -56,9 +74,12 @@ pub struct StdSink<W> {
 }
 
 impl<W: Write> StdSink<W> {
+    ghost use Rattle.cmm_outside.specs.Standard.{writer_of};
+
     /// A sink that has not failed.
     pub fn new(writer: W) -> Self
-        ensures { ⟦<StdSink<W> as Sink>⟧.faults result ≡ 0 }
+        ensures no_fault { ⟦<StdSink<W> as Sink>⟧.faults result ≡ 0 }
+        ensures writer { writer_of result ≡ writer }
     {
         StdSink {
             writer,
@@ -68,11 +89,25 @@ impl<W: Write> StdSink<W> {
 }
 
 impl<W: Write> Sink for StdSink<W> {
+    ghost use Rattle.cmm_outside.specs.Standard.{writer_of};
+
     ghost taken = { λ _. None };
 
     ghost faults = { λ s. s.faults };
 
-    fn write(&mut self, bytes: &[u8]) -> Result<usize, Failed> {
+    fn write(&mut self, bytes: &[u8]) -> Result<usize, Failed>
+        ensures bound { IfOk result (λ n. n ≤ length bytes.now) }
+        ensures progress { IfOk result (λ n. 0 < length bytes.now → 0 < n) }
+
+        // Where the writer tells its bytes, they are as many more as it answers.
+        ensures taken { WriteAppends (W.contents (writer_of self.old)) (W.contents (writer_of self.new)) result bytes.now }
+
+        ensures no_fault { OnOk result (self.new.faults ≡ self.old.faults) }
+        ensures fault { OnErr result (Rose self.old.faults self.new.faults) }
+
+        // An empty piece does nothing.
+        ensures nothing { length bytes.now ≡ 0 → (result ≡ Ok 0) × (self.new ≡ self.old) }
+    {
         if bytes.is_empty() {
             return Ok(0);
         }

@@ -1,6 +1,6 @@
 //! Files by name.
 
-ghost use Rattle.std.specs.Prelude.{◌≡◌, ℕ, ◌+◌, ◌<◌, ◌≤◌, ◌++◌, [], Option, Some, Ok, length, take, IfOk, OnOk, OnErr, IsErrOf};
+ghost use Rattle.std.specs.Prelude.{◌≡◌, ℕ, ◌+◌, ◌<◌, ◌≤◌, ◌++◌, [], Option, Some, Ok, length, take, max, IfOk, OnOk, OnErr, IsErrOf};
 ghost use Rattle.cmm_outside.specs.Faults.{Rose};
 ghost use Rattle.cmm_outside.specs.Storage.{Contents, FailedCall, HasFile, MatchFailed, ReadsAt, Writes, bytes_of};
 
@@ -33,6 +33,9 @@ pub trait Files {
     /// The last call that failed.
     ghost last_failed: { Self → Option FailedCall };
 
+    /// How far a read has asked: no read so far has asked for a byte from this offset on.
+    ghost asked: { Self → ℕ } = { λ _. 0 };
+
     /// Reads bytes of a file from the offset `from` on into the front of `buffer`, and answers how many:
     /// none only where the file has no byte from there on. It fails where there is no such file.
     fn read_at(&mut self, name: &str, from: u64, buffer: &mut [u8]) -> Result<usize, Failed>
@@ -42,6 +45,9 @@ pub trait Files {
 
         // It changes no file.
         ensures same { contents self.new ≡ contents self.old }
+
+        // It asks for bytes up to the end of the buffer.
+        ensures asked { asked self.new ≤ max (asked self.old) (from + length buffer.old) }
 
         // It fails only where the count of faults rises, and that rises only where it fails.
         ensures no_fault { OnOk result (faults self.new ≡ faults self.old) }
@@ -133,6 +139,7 @@ pub fn read_file<F: Files>(
     ensures within { IfOk result (λ bytes. length bytes.items ≤ limit) }
     ensures too_long { IsErrOf result FileError.TooLong → HasFile (F.contents files.old) name.now (λ file. limit < length file) }
     ensures same { F.contents files.new ≡ F.contents files.old }
+    ensures asked { F.asked files.new ≤ max (F.asked files.old) (limit + 1) }
 
     // It answers Failed only where a read of this file fails, at the first that does.
     ensures fault { MatchFailed result (Rose (F.faults files.old) (F.faults files.new)) (F.faults files.new ≡ F.faults files.old) }

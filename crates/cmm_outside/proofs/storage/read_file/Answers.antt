@@ -24,5 +24,6 @@ loop-bytes-preserved g c =
           (rw (c.loop-bytes.invariant.same, c.len-in-loop-bytes.ensures, c.loop-bytes.bytes.ok.0) at c.in_ok-count.ensures.read));
       same = c.in_ok-count.ensures.same ∙ c.loop-bytes.invariant.same;
       same_faults = c.in_ok-count.ensures.no_fault ∙ c.loop-bytes.invariant.same_faults;
+      asked = omega (arith, c.in_ok-count.ensures.asked, c.loop-bytes.invariant.asked, length-take c.min-asked.result c.loop-bytes.piece);
       same_failed = c.in_ok-count.ensures.no_failed_call ∙ c.loop-bytes.invariant.same_failed;
     }
