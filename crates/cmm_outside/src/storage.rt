@@ -33,7 +33,7 @@ pub trait Files {
     /// The last call that failed.
     ghost last_failed: { Self → Option FailedCall };
 
-    /// How far a read has asked: no read so far has asked for a byte from this offset on.
+    /// How far reads have asked: none so far has asked for a byte from this offset on.
     ghost asked: { Self → ℕ } = { λ _. 0 };
 
     /// Reads bytes of a file from the offset `from` on into the front of `buffer`, and answers how many:
@@ -63,6 +63,7 @@ pub trait Files {
         requires { length name.now ≤ NAME_LIMIT }
         ensures created { OnOk result (Writes (contents self.old) (contents self.new) name.now (λ _. [])) }
         ensures err { OnErr result (contents self.new ≡ contents self.old) }
+        ensures same_asked { asked self.new ≡ asked self.old }
 
         ensures no_fault { OnOk result (faults self.new ≡ faults self.old) }
         ensures no_failed_call { OnOk result (last_failed self.new ≡ last_failed self.old) }
@@ -78,6 +79,7 @@ pub trait Files {
         ensures appended { IfOk result (λ n. 0 < n →
             Writes (contents self.old) (contents self.new) name.now (λ file. bytes_of file ++ take n bytes.now)) }
         ensures err { OnErr result (contents self.new ≡ contents self.old) }
+        ensures same_asked { asked self.new ≡ asked self.old }
 
         ensures no_fault { OnOk result (faults self.new ≡ faults self.old) }
         ensures no_failed_call { OnOk result (last_failed self.new ≡ last_failed self.old) }
