@@ -1,0 +1,3 @@
+mod Distances
+mod Reaching
+mod FarForms

@@ -1,0 +1,104 @@
+-- The instructions of each part: for now the form that reaches any label.
+use Rattle.std.specs.Prelude.{ℕ, ◌+◌, ◌-◌, ◌*◌, ◌/◌, ◌%◌, ◌^◌, ℤ, pos, negsuc, nat_lt, List, [], ◌∷◌, ◌++◌, length, slice_index, Bool, true, false, if◌then◌else◌}
+use Rattle.cmm_words.specs.declared.operators.Cmp.{Cmp}
+use Rattle.cmm_words.specs.declared.operators.Cmp.TheVariants.{Eq, Ne, Lt, Ge, Ltu, Geu}
+use Rattle.rv_table.specs.declared.instruction.Instr.{Instr}
+use Rattle.rv_table.specs.declared.instruction.Instr.TheVariants.{Auipc, Jal, Jalr, Lui, Addi, Beq, Bne, Blt, Bge, Bltu, Bgeu}
+use Rattle.rv_asm.specs.Assembly.{meaning}
+use Rattle.rv_asm.specs.Filling.{distance, number_at}
+use Rattle.rv_asm.specs.Sizes.{longest}
+use Rattle.rv_asm.specs.declared.filling.CodeFix.{CodeFix}
+use Rattle.rv_asm.specs.declared.part.Label.{Label}
+use Rattle.rv_asm.specs.declared.part.Meaning.{Meaning}
+use Rattle.rv_asm.specs.declared.part.Meaning.TheVariants.{Inner, Outer}
+use Rattle.rv_asm.specs.declared.part.Part.{Part}
+use Rattle.rv_asm.specs.declared.part.Part.TheVariants.{Single, Place, Branch, Jump, Call, Address, Table}
+
+-- the rounded upper part of a number modulo 2 ^ 64, and its low 12 bits as a signed number
+abbrev pub high : ℕ → ℤ
+high n = pos ((n + 2048) / 4096 % 2 ^ 20)
+
+abbrev pub low : ℕ → ℤ
+low n = if nat_lt (n % 4096) 2048 then pos (n % 4096) else negsuc (4095 - n % 4096)
+
+-- past the next two instructions unless the comparison holds
+abbrev pub past_unless : Cmp → ℕ → ℕ → Instr
+past_unless Eq a b = Bne a b (pos 12)
+past_unless Ne a b = Beq a b (pos 12)
+past_unless Lt a b = Bge a b (pos 12)
+past_unless Ge a b = Blt a b (pos 12)
+past_unless Ltu a b = Bgeu a b (pos 12)
+past_unless Geu a b = Bltu a b (pos 12)
+past_unless _ a b = Beq a b (pos 12)
+
+-- a jump through a register by a number, with its link in another
+abbrev pub far : ℕ → ℕ → ℕ → List Instr
+far through link n = Auipc through (high n) ∷ Jalr link through (low n) ∷ []
+
+-- the instruction that begins an address: relative to pc, or not
+abbrev pub begins : Meaning → ℕ → ℤ → Instr
+begins (Outer symbol false) rd imm = Lui rd imm
+begins _ rd imm = Auipc rd imm
+
+-- one word for each label of a table, which jumps to the label's far jump
+abbrev pub entries : ℕ → List Label → List Instr
+entries ahead [] = []
+entries ahead (l ∷ ls) = Jal 0 (pos ahead) ∷ entries (ahead + 4) ls
+
+module _ (number : Label → ℕ → ℕ) where
+  -- the far jumps of a table that begin at an address
+  abbrev pub far_jumps : ℕ → List Label → List Instr
+  far_jumps from [] = []
+  far_jumps from (l ∷ ls) = far 6 0 (number l from) ++ far_jumps (from + 8) ls
+
+  -- the instructions of a part at an address; `number` gives how far a label is from an address, or its value
+  abbrev pub instructions : List Meaning → ℕ → Part → List Instr
+  instructions labels from (Single i) = i ∷ []
+  instructions labels from (Place l) = []
+  instructions labels from (Branch c a b l) = past_unless c a b ∷ far 6 0 (number l (from + 4))
+  instructions labels from (Jump l) = far 6 0 (number l from)
+  instructions labels from (Call l) = far 1 1 (number l from)
+  instructions labels from (Address rd l) =
+      begins (meaning labels l) rd (high (number l from)) ∷ Addi rd rd (low (number l from)) ∷ []
+  instructions labels from (Table ls) =
+      entries (4 * length ls + 4) ls ++ (Jal 0 (pos (8 * length ls + 4)) ∷ far_jumps (from + 4 * length ls + 4) ls)
+
+  -- the instructions of parts that begin at an address
+  abbrev pub all_instructions : List Meaning → ℕ → List Part → List Instr
+  all_instructions labels from [] = []
+  all_instructions labels from (p ∷ ps) = instructions labels from p ++ all_instructions labels (from + longest p) ps
+
+-- the number of a label at an address; `outer` gives it for a symbol
+abbrev pub number_by : (ℕ → Bool → ℕ → ℕ) → List ℕ → Meaning → ℕ → ℕ → ℕ
+number_by outer places (Inner placed) l from = distance (slice_index places l) from
+number_by outer places (Outer symbol relative) l from = outer symbol relative from
+
+abbrev pub number_of : List Meaning → List ℕ → (ℕ → Bool → ℕ → ℕ) → Label → ℕ → ℕ
+number_of labels places outer l from = number_by outer places (meaning labels l) l.number from
+
+-- all instructions of parts with these labels and places
+abbrev pub code_by : List Meaning → List ℕ → (ℕ → Bool → ℕ → ℕ) → ℕ → List Part → List Instr
+code_by labels places outer base parts = all_instructions (number_of labels places outer) labels base parts
+
+-- before the fixes are filled, a symbol's number is 0
+abbrev pub unfilled : ℕ → Bool → ℕ → ℕ
+unfilled symbol relative from = 0
+
+-- then it is the symbol's, in code that stands higher by so much
+abbrev pub filled_up : (ℕ → ℕ) → ℕ → ℕ → Bool → ℕ → ℕ
+filled_up value up symbol relative from = number_at relative (value symbol) (from + up)
+
+-- each part with a symbol has one fix, where it begins
+abbrev pub fix_by : Meaning → ℕ → List CodeFix
+fix_by (Inner placed) place = []
+fix_by (Outer symbol relative) place = record { place = place; symbol = symbol; relative = relative } ∷ []
+
+abbrev pub fix_of : List Meaning → ℕ → Part → List CodeFix
+fix_of labels place (Jump l) = fix_by (meaning labels l) place
+fix_of labels place (Call l) = fix_by (meaning labels l) place
+fix_of labels place (Address rd l) = fix_by (meaning labels l) place
+fix_of labels place _ = []
+
+abbrev pub fixes_of : List Meaning → ℕ → List Part → List CodeFix
+fixes_of labels place [] = []
+fixes_of labels place (p ∷ ps) = fix_of labels place p ++ fixes_of labels (place + longest p) ps

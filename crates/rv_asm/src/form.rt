@@ -1,0 +1,197 @@
+//! The instructions of a part, as bytes: for now the form that reaches any label.
+
+ghost use Rattle.std.specs.Prelude.{◌≡◌, ℕ, ◌+◌, ◌*◌, ◌%◌, ◌<◌, ◌≤◌, ◌^◌, ◌++◌, ◌∷◌, [], length, OnOk, IsTrue};
+ghost use Rattle.std.specs.List.{All};
+ghost use Rattle.rv_table.specs.Stands.{code_of};
+ghost use Rattle.rv_table.specs.Table.{IsValid};
+ghost use Rattle.rv_asm.specs.Assembly.{Fits, IsInner, IsLabel, table_limit};
+ghost use Rattle.rv_asm.specs.Sizes.{longest};
+ghost use Rattle.rv_asm.specs.inside.Forms.{begins, entries, far, far_jumps, high, instructions, low, number_of, past_unless, unfilled};
+
+use crate::part::{Label, Meaning, Part};
+use cmm_words::Cmp;
+use rv_code::encode;
+use rv_table::Instr;
+use std::alloc::AllocError;
+
+/// Always 0.
+const ZERO: u8 = 0;
+
+/// The register that a far jump goes through.
+const SCRATCH: u8 = 6;
+
+/// The register of return addresses.
+const LINK: u8 = 1;
+
+/// The bytes of a part.
+pub fn size(part: &Part) -> u64
+    requires { longest part.now ≤ 2 ^ 30 }
+    ensures { result ≡ longest part.now }
+{
+    match part {
+        Part::Single(_) => 4,
+        Part::Place(_) => 0,
+        Part::Branch { .. } => 12,
+        Part::Jump(_) | Part::Call(_) | Part::Address { .. } => 8,
+        Part::Table(labels) => 12 * labels.len() as u64 + 4,
+    }
+}
+
+/// Adds the bytes of a part that begins at an address. The numbers of symbols in it are 0.
+pub fn add_part(bytes: &mut Vec<u8>, part: &Part, labels: &[Meaning], places: &[u64], from: u64) -> Result<(), AllocError>
+    requires fits { Fits labels.now part.now }
+    requires count { length places.now ≡ length labels.now }
+    requires room { from + longest part.now ≤ 2 ^ 30 }
+    ensures { OnOk result (bytes.new.items ≡ bytes.old.items ++ code_of (instructions (number_of labels.now places.now unfilled) labels.now from part.now)) }
+{
+    match part {
+        Part::Single(instruction) => add(bytes, *instruction),
+        Part::Place(_) => Ok(()),
+        Part::Branch {
+            compare,
+            left,
+            right,
+            to,
+        } => {
+            add(bytes, past_unless(*compare, *left, *right))?;
+            add_far(bytes, SCRATCH, ZERO, number(labels, places, *to, from + 4))
+        }
+        Part::Jump(to) => add_far(bytes, SCRATCH, ZERO, number(labels, places, *to, from)),
+        Part::Call(to) => add_far(bytes, LINK, LINK, number(labels, places, *to, from)),
+        Part::Address { rd, of } => {
+            let n = number(labels, places, *of, from);
+            add(bytes, begin(labels[of.number as usize], *rd, high(n)))?;
+            add(bytes, Instr::Addi {
+                rd: *rd,
+                rs1: *rd,
+                imm: low(n),
+            })
+        }
+        Part::Table(to) => add_table(bytes, to.as_slice(), labels, places, from),
+    }
+}
+
+/// Adds a table that begins at an address: the word of each label, a jump over the rest, and the far jumps that the words lead to.
+fn add_table(bytes: &mut Vec<u8>, to: &[Label], labels: &[Meaning], places: &[u64], from: u64) -> Result<(), AllocError>
+    requires few { length to.now ≤ table_limit }
+    requires inner { All (IsInner labels.now) to.now }
+    requires count { length places.now ≡ length labels.now }
+    requires room { from ≤ 2 ^ 30 }
+    ensures { OnOk result (bytes.new.items ≡ bytes.old.items ++ code_of (instructions (number_of labels.now places.now unfilled) labels.now from (Part.Table to.now))) }
+{
+    let count = to.len() as u32;
+    add_entries(bytes, to, 4 * count + 4)?;
+    add(bytes, Instr::Jal {
+        rd: ZERO,
+        imm: (8 * count + 4) as i32,
+    })?;
+    add_far_jumps(bytes, to, labels, places, from + u64::from(4 * count + 4))
+}
+
+/// Adds a one-word jump for each label, the first one by so many bytes, and each next one by four more.
+fn add_entries(bytes: &mut Vec<u8>, to: &[Label], ahead: u32) -> Result<(), AllocError>
+    requires few { length to.now ≤ table_limit }
+    requires near { ahead ≤ 4 * table_limit + 4 }
+    requires even { ahead % 4 ≡ 0 }
+    ensures { OnOk result (bytes.new.items ≡ bytes.old.items ++ code_of (entries ahead to.now)) }
+{
+    let mut imm = ahead as i32;
+    for _ in to {
+        add(bytes, Instr::Jal { rd: ZERO, imm })?;
+        imm += 4;
+    }
+    Ok(())
+}
+
+/// Adds a far jump to each label, the first one at an address.
+fn add_far_jumps(bytes: &mut Vec<u8>, to: &[Label], labels: &[Meaning], places: &[u64], from: u64) -> Result<(), AllocError>
+    requires few { length to.now ≤ table_limit }
+    requires inner { All (IsInner labels.now) to.now }
+    requires count { length places.now ≡ length labels.now }
+    requires room { from ≤ 2 ^ 31 }
+    ensures { OnOk result (bytes.new.items ≡ bytes.old.items ++ code_of (far_jumps (number_of labels.now places.now unfilled) from to.now)) }
+{
+    let mut address = from;
+    for label in to {
+        add_far(bytes, SCRATCH, ZERO, number(labels, places, *label, address))?;
+        address += 8;
+    }
+    Ok(())
+}
+
+/// Adds a jump through a register by a number, with its link in another.
+fn add_far(bytes: &mut Vec<u8>, through: u8, link: u8, n: u64) -> Result<(), AllocError>
+    requires through { through < 32 }
+    requires link { link < 32 }
+    ensures { OnOk result (bytes.new.items ≡ bytes.old.items ++ code_of (far through link n)) }
+{
+    add(bytes, Instr::Auipc {
+        rd: through,
+        imm: high(n),
+    })?;
+    add(bytes, Instr::Jalr {
+        rd: link,
+        rs1: through,
+        imm: low(n),
+    })
+}
+
+/// Adds the bytes of an instruction, the low byte of its word first.
+fn add(bytes: &mut Vec<u8>, instruction: Instr) -> Result<(), AllocError>
+    requires { IsValid instruction }
+    ensures { OnOk result (bytes.new.items ≡ bytes.old.items ++ code_of (instruction ∷ [])) }
+{
+    bytes.extend_from_slice(&encode(instruction).to_le_bytes())
+}
+
+/// How far a label is from an address, or 0 for a symbol.
+fn number(labels: &[Meaning], places: &[u64], label: Label, from: u64) -> u64
+    requires there { IsLabel labels.now label }
+    requires count { length places.now ≡ length labels.now }
+    ensures { result ≡ number_of labels.now places.now unfilled label from }
+{
+    match labels[label.number as usize] {
+        Meaning::Inner { .. } => places[label.number as usize].wrapping_sub(from),
+        Meaning::Outer { .. } => 0,
+    }
+}
+
+/// The rounded upper part of a number.
+fn high(n: u64) -> i32
+    ensures { result ≡ high n }
+{
+    ((n / 4096 + u64::from(n % 4096 >= 2048)) % 0x10_0000) as i32
+}
+
+/// Its low 12 bits as a signed number.
+fn low(n: u64) -> i32
+    ensures { result ≡ low n }
+{
+    let bits = (n % 4096) as i32;
+    if bits < 2048 { bits } else { bits - 4096 }
+}
+
+/// Past the next two instructions unless the comparison holds.
+fn past_unless(compare: Cmp, left: u8, right: u8) -> Instr
+    ensures { result ≡ past_unless compare left right }
+{
+    let (rs1, rs2, imm) = (left, right, 12);
+    match compare {
+        Cmp::Eq => Instr::Bne { rs1, rs2, imm },
+        Cmp::Lt => Instr::Bge { rs1, rs2, imm },
+        Cmp::Ge => Instr::Blt { rs1, rs2, imm },
+        Cmp::Ltu => Instr::Bgeu { rs1, rs2, imm },
+        Cmp::Geu => Instr::Bltu { rs1, rs2, imm },
+        _ => Instr::Beq { rs1, rs2, imm },
+    }
+}
+
+/// The instruction that begins an address.
+fn begin(meaning: Meaning, rd: u8, imm: i32) -> Instr
+    ensures { result ≡ begins meaning rd imm }
+{
+    match meaning {
+        Meaning::Outer { relative: false, .. } => Instr::Lui { rd, imm },
+        _ => Instr::Auipc { rd, imm },
+    }
+}
