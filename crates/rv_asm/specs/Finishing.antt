@@ -1,5 +1,5 @@
 -- What finished code is: bytes that run as the list of parts, wherever they stand and whatever symbols they reach.
-use Rattle.std.specs.Prelude.{◌≡◌, ℕ, ◌+◌, ◌%◌, ◌<◌, ◌≤◌, ◌^◌, Bool, List, [], ◌∷◌, ◌++◌, length, slice_get, slice_index, slice_index_or, map, Some}
+use Rattle.std.specs.Prelude.{◌≡◌, ℕ, ◌+◌, ◌%◌, ◌<◌, ◌≤◌, ◌^◌, Bool, List, [], ◌∷◌, ◌++◌, length, slice_get, slice_index, slice_index_or, map, Some, true, false}
 use Rattle.std.specs.List.{All, flat_map}
 use Rattle.rv_table.specs.Machine.{MemoryMap, code_base}
 use Rattle.rv_asm.specs.Assembly.{meaning}

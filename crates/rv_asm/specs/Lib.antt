@@ -1,6 +1,10 @@
 pub mod Reaching
 pub mod Parts
+pub mod Singles
+pub mod ShortForms
 pub mod Appending
+pub mod Pieces
+pub mod Quiet
 pub mod Assembly
 pub mod Sizes
 pub mod Filling

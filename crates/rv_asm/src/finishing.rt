@@ -28,7 +28,12 @@ pub struct Placed {
 }
 
 /// The bytes of the parts for code at an address.
-pub fn finish(alloc: Global, parts: &[Part], labels: &[Meaning], base: u64) -> Result<Placed, AllocError>
+pub fn finish(
+    alloc: Global,
+    parts: &[Part],
+    labels: &[Meaning],
+    base: u64,
+) -> Result<Placed, AllocError>
     requires sound { IsSound parts.now labels.now }
     requires aligned { base % 4 ≡ 0 }
     requires room { base + all_longest parts.now ≤ 2 ^ 30 }
@@ -49,7 +54,12 @@ pub fn finish(alloc: Global, parts: &[Part], labels: &[Meaning], base: u64) -> R
 }
 
 /// The address of each label that is placed, and 0 for every other one.
-fn places_of(alloc: Global, parts: &[Part], labels: &[Meaning], base: u64) -> Result<Vec<u64>, AllocError>
+fn places_of(
+    alloc: Global,
+    parts: &[Part],
+    labels: &[Meaning],
+    base: u64,
+) -> Result<Vec<u64>, AllocError>
     requires sound { IsSound parts.now labels.now }
     requires aligned { base % 4 ≡ 0 }
     requires room { base + all_longest parts.now ≤ 2 ^ 30 }
@@ -75,7 +85,13 @@ fn note(places: &mut Vec<u64>, part: &Part, address: u64)
 }
 
 /// The bytes of the parts from an address on, in which the numbers of symbols are 0.
-fn bytes_of(alloc: Global, parts: &[Part], labels: &[Meaning], places: &[u64], base: u64) -> Result<Vec<u8>, AllocError>
+fn bytes_of(
+    alloc: Global,
+    parts: &[Part],
+    labels: &[Meaning],
+    places: &[u64],
+    base: u64,
+) -> Result<Vec<u8>, AllocError>
     requires fit { All (Fits labels.now) parts.now }
     requires count { length places.now ≡ length labels.now }
     requires room { base + all_longest parts.now ≤ 2 ^ 30 }
@@ -106,12 +122,21 @@ fn fixes_of(alloc: Global, parts: &[Part], labels: &[Meaning]) -> Result<Vec<Cod
 }
 
 /// Adds the fix of a part, if it has a symbol.
-fn add_fix(fixes: &mut Vec<CodeFix>, part: &Part, labels: &[Meaning], place: u32) -> Result<(), AllocError>
+fn add_fix(
+    fixes: &mut Vec<CodeFix>,
+    part: &Part,
+    labels: &[Meaning],
+    place: u32,
+) -> Result<(), AllocError>
     requires { Fits labels.now part.now }
     ensures { OnOk result (fixes.new.items ≡ fixes.old.items ++ fix_of labels.now place part.now) }
 {
     match part {
-        Part::Jump(label) | Part::Call(label) | Part::Address { of: label, .. } => add_fix_by(fixes, labels[label.number as usize], place),
+        Part::Jump(label) | Part::Call(label) | Part::Address { of: label, .. } => add_fix_by(
+            fixes,
+            labels[label.number as usize],
+            place,
+        ),
         Part::Single(_) | Part::Place(_) | Part::Branch { .. } | Part::Table(_) => Ok(()),
     }
 }

@@ -1,6 +1,6 @@
 //! The instructions of a part, as bytes: for now the form that reaches any label.
 
-ghost use Rattle.std.specs.Prelude.{◌≡◌, ℕ, ◌+◌, ◌*◌, ◌%◌, ◌<◌, ◌≤◌, ◌^◌, ◌++◌, ◌∷◌, [], length, OnOk, IsTrue};
+ghost use Rattle.std.specs.Prelude.{◌≡◌, ℕ, ◌+◌, ◌*◌, ◌%◌, ◌<◌, ◌≤◌, ◌^◌, ◌++◌, ◌∷◌, [], length, pos, OnOk, IsTrue};
 ghost use Rattle.std.specs.List.{All};
 ghost use Rattle.rv_table.specs.Stands.{code_of};
 ghost use Rattle.rv_table.specs.Table.{IsValid};
@@ -38,15 +38,21 @@ pub fn size(part: &Part) -> u64
 }
 
 /// Adds the bytes of a part that begins at an address. The numbers of symbols in it are 0.
-pub fn add_part(bytes: &mut Vec<u8>, part: &Part, labels: &[Meaning], places: &[u64], from: u64) -> Result<(), AllocError>
+pub fn add_part(
+    bytes: &mut Vec<u8>,
+    part: &Part,
+    labels: &[Meaning],
+    places: &[u64],
+    from: u64,
+) -> Result<(), AllocError>
     requires fits { Fits labels.now part.now }
     requires count { length places.now ≡ length labels.now }
     requires room { from + longest part.now ≤ 2 ^ 30 }
     ensures { OnOk result (bytes.new.items ≡ bytes.old.items ++ code_of (instructions (number_of labels.now places.now unfilled) labels.now from part.now)) }
 {
     match part {
-        Part::Single(instruction) => add(bytes, *instruction),
-        Part::Place(_) => Ok(()),
+        Part::Single(instruction) => add(bytes, *instruction)?,
+        Part::Place(_) => {}
         Part::Branch {
             compare,
             left,
@@ -54,25 +60,27 @@ pub fn add_part(bytes: &mut Vec<u8>, part: &Part, labels: &[Meaning], places: &[
             to,
         } => {
             add(bytes, past_unless(*compare, *left, *right))?;
-            add_far(bytes, SCRATCH, ZERO, number(labels, places, *to, from + 4))
+            add_far(bytes, SCRATCH, ZERO, number(labels, places, *to, from + 4))?;
         }
-        Part::Jump(to) => add_far(bytes, SCRATCH, ZERO, number(labels, places, *to, from)),
-        Part::Call(to) => add_far(bytes, LINK, LINK, number(labels, places, *to, from)),
+        Part::Jump(to) => add_far(bytes, SCRATCH, ZERO, number(labels, places, *to, from))?,
+        Part::Call(to) => add_far(bytes, LINK, LINK, number(labels, places, *to, from))?,
         Part::Address { rd, of } => {
             let n = number(labels, places, *of, from);
-            add(bytes, begin(labels[of.number as usize], *rd, high(n)))?;
-            add(bytes, Instr::Addi {
-                rd: *rd,
-                rs1: *rd,
-                imm: low(n),
-            })
+            add_address(bytes, labels[of.number as usize], *rd, n)?;
         }
-        Part::Table(to) => add_table(bytes, to.as_slice(), labels, places, from),
+        Part::Table(to) => add_table(bytes, to.as_slice(), labels, places, from)?,
     }
+    Ok(())
 }
 
 /// Adds a table that begins at an address: the word of each label, a jump over the rest, and the far jumps that the words lead to.
-fn add_table(bytes: &mut Vec<u8>, to: &[Label], labels: &[Meaning], places: &[u64], from: u64) -> Result<(), AllocError>
+fn add_table(
+    bytes: &mut Vec<u8>,
+    to: &[Label],
+    labels: &[Meaning],
+    places: &[u64],
+    from: u64,
+) -> Result<(), AllocError>
     requires few { length to.now ≤ table_limit }
     requires inner { All (IsInner labels.now) to.now }
     requires count { length places.now ≡ length labels.now }
@@ -81,11 +89,9 @@ fn add_table(bytes: &mut Vec<u8>, to: &[Label], labels: &[Meaning], places: &[u6
 {
     let count = to.len() as u32;
     add_entries(bytes, to, 4 * count + 4)?;
-    add(bytes, Instr::Jal {
-        rd: ZERO,
-        imm: (8 * count + 4) as i32,
-    })?;
-    add_far_jumps(bytes, to, labels, places, from + u64::from(4 * count + 4))
+    add(bytes, jump_ahead(8 * count + 4))?;
+    add_far_jumps(bytes, to, labels, places, from + u64::from(4 * count + 4))?;
+    Ok(())
 }
 
 /// Adds a one-word jump for each label, the first one by so many bytes, and each next one by four more.
@@ -95,16 +101,22 @@ fn add_entries(bytes: &mut Vec<u8>, to: &[Label], ahead: u32) -> Result<(), Allo
     requires even { ahead % 4 ≡ 0 }
     ensures { OnOk result (bytes.new.items ≡ bytes.old.items ++ code_of (entries ahead to.now)) }
 {
-    let mut imm = ahead as i32;
+    let mut distance = ahead;
     for _ in to {
-        add(bytes, Instr::Jal { rd: ZERO, imm })?;
-        imm += 4;
+        add(bytes, jump_ahead(distance))?;
+        distance += 4;
     }
     Ok(())
 }
 
 /// Adds a far jump to each label, the first one at an address.
-fn add_far_jumps(bytes: &mut Vec<u8>, to: &[Label], labels: &[Meaning], places: &[u64], from: u64) -> Result<(), AllocError>
+fn add_far_jumps(
+    bytes: &mut Vec<u8>,
+    to: &[Label],
+    labels: &[Meaning],
+    places: &[u64],
+    from: u64,
+) -> Result<(), AllocError>
     requires few { length to.now ≤ table_limit }
     requires inner { All (IsInner labels.now) to.now }
     requires count { length places.now ≡ length labels.now }
@@ -113,7 +125,12 @@ fn add_far_jumps(bytes: &mut Vec<u8>, to: &[Label], labels: &[Meaning], places: 
 {
     let mut address = from;
     for label in to {
-        add_far(bytes, SCRATCH, ZERO, number(labels, places, *label, address))?;
+        add_far(
+            bytes,
+            SCRATCH,
+            ZERO,
+            number(labels, places, *label, address),
+        )?;
         address += 8;
     }
     Ok(())
@@ -125,15 +142,43 @@ fn add_far(bytes: &mut Vec<u8>, through: u8, link: u8, n: u64) -> Result<(), All
     requires link { link < 32 }
     ensures { OnOk result (bytes.new.items ≡ bytes.old.items ++ code_of (far through link n)) }
 {
-    add(bytes, Instr::Auipc {
-        rd: through,
-        imm: high(n),
-    })?;
-    add(bytes, Instr::Jalr {
-        rd: link,
-        rs1: through,
-        imm: low(n),
-    })
+    add(
+        bytes,
+        Instr::Auipc {
+            rd: through,
+            imm: high(n),
+        },
+    )?;
+    add(
+        bytes,
+        Instr::Jalr {
+            rd: link,
+            rs1: through,
+            imm: low(n),
+        },
+    )?;
+    Ok(())
+}
+
+/// Adds what gives a register the number of a label with this meaning.
+fn add_address(bytes: &mut Vec<u8>, meaning: Meaning, rd: u8, n: u64) -> Result<(), AllocError>
+    requires { rd < 32 }
+    ensures { OnOk result (bytes.new.items ≡ bytes.old.items ++ code_of (begins meaning rd (high n) ∷ Instr.Addi rd rd (low n) ∷ [])) }
+{
+    add(bytes, begin(meaning, rd, n))?;
+    add(bytes, complete(rd, n))?;
+    Ok(())
+}
+
+/// The jump of one word by so many bytes.
+fn jump_ahead(distance: u32) -> Instr
+    requires { distance < 2 ^ 31 }
+    ensures { result ≡ Instr.Jal 0 (pos distance) }
+{
+    Instr::Jal {
+        rd: ZERO,
+        imm: distance as i32,
+    }
 }
 
 /// Adds the bytes of an instruction, the low byte of its word first.
@@ -186,12 +231,26 @@ fn past_unless(compare: Cmp, left: u8, right: u8) -> Instr
     }
 }
 
-/// The instruction that begins an address.
-fn begin(meaning: Meaning, rd: u8, imm: i32) -> Instr
-    ensures { result ≡ begins meaning rd imm }
+/// The instruction that begins an address: it gives the upper part of a number.
+fn begin(meaning: Meaning, rd: u8, n: u64) -> Instr
+    ensures { result ≡ begins meaning rd (high n) }
 {
     match meaning {
-        Meaning::Outer { relative: false, .. } => Instr::Lui { rd, imm },
-        _ => Instr::Auipc { rd, imm },
+        Meaning::Outer {
+            relative: false,
+            ..
+        } => Instr::Lui { rd, imm: high(n) },
+        _ => Instr::Auipc { rd, imm: high(n) },
+    }
+}
+
+/// The instruction that completes it by the low part.
+fn complete(rd: u8, n: u64) -> Instr
+    ensures { result ≡ Instr.Addi rd rd (low n) }
+{
+    Instr::Addi {
+        rd,
+        rs1: rd,
+        imm: low(n),
     }
 }

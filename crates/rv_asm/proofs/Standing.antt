@@ -1,0 +1,170 @@
+-- Where the instructions of parts stand, the parts stand.
+use Rattle.std.proofs.Common.{◌≡◌, ◌≢◌, ℕ, ◌+◌, ◌*◌, ◌%◌, ◌<◌, ◌≤◌, ◌^◌, refl, sym, ◌∙◌, ap, subst, arith, List, [], ◌∷◌, ◌++◌, length, length-append, take, get_or, append_assoc, Some}
+use Rattle.std.specs.Prelude.{slice_get, slice_index, Bool, true, false, IsTrue}
+use Rattle.std.specs.List.{All}
+use Rattle.std.proofs.Math.Seq.{take-append_seam, get_or-append_seam}
+use Rattle.std.proofs.lemmas.List.Elements.{All-get_or, All-head}
+use Rattle.std.proofs.lemmas.List.{get_or_append_left, get_or-append-add}
+use Rattle.std.proofs.lemmas.Option.{slice_get-get_or, slice_get_within, get_or_from_slice_get}
+use Rattle.rv_table.specs.declared.instruction.Instr.TheVariants.{Addi}
+use Rattle.rv_table.specs.Machine.{MemoryMap}
+use Rattle.rv_table.specs.Stands.{Stands}
+use Rattle.rv_asm.proofs.Distances.{distance_near, distance_back, distance_up}
+use Rattle.rv_asm.proofs.FarForms.{LeadsTo, does_single, does_jump, does_call, does_branch, does_relative, does_absolute}
+use Rattle.rv_asm.proofs.Sizes.{all_aligned, instructions_size, longest-append}
+use Rattle.rv_asm.proofs.Tables.{Stands-append, does_table}
+use Rattle.rv_asm.specs.Assembly.{Fits, is_inner, is_target, meaning}
+use Rattle.rv_asm.specs.Filling.{IsNear, IsReached, number_at}
+use Rattle.rv_asm.specs.Finishing.{GoesToCode, IsAligned, address_of, stands_for}
+use Rattle.rv_asm.specs.Parts.{Code, Does, Stand}
+use Rattle.rv_asm.specs.Sizes.{all_longest, longest}
+use Rattle.rv_asm.specs.inside.Forms.{all_instructions, begins, filled_up, fix_by, fix_of, fixes_of, high, instructions, low, number_by, number_of}
+use Rattle.rv_asm.specs.inside.Sound.{ArePlacesBelow, IsCodeAddress}
+use Rattle.rv_asm.specs.declared.part.Label.{Label}
+use Rattle.rv_asm.specs.declared.part.Meaning.{Meaning}
+use Rattle.rv_asm.specs.declared.part.Meaning.TheVariants.{Inner, Outer}
+use Rattle.rv_asm.specs.declared.part.Part.{Part}
+use Rattle.rv_asm.specs.declared.part.Part.TheVariants.{Single, Place, Branch, Jump, Call, Address, Table}
+
+All-left : {X : Type 0} (P : X → Type 0) (xs ys : List X) → All P (xs ++ ys) → All P xs
+All-left P xs ys all = λ i d h. subst P (get_or_append_left xs ys d i h) (all i d (rw length-append (omega arith)))
+
+All-right : {X : Type 0} (P : X → Type 0) (xs ys : List X) → All P (xs ++ ys) → All P ys
+All-right P xs ys all = λ i d h. subst P (get_or-append-add xs ys i d) (all (length xs + i) d (rw length-append (omega arith)))
+
+module _ (m : MemoryMap) (labels : List Meaning) (places : List ℕ) (base up : ℕ) (value : ℕ → ℕ) (even : up % 4 ≡ 0) (small : up < 2 ^ 63) where
+  abbrev code : Code
+  code = record { map = m; at = address_of labels places up value }
+
+  abbrev number : Label → ℕ → ℕ
+  number = number_of labels places (filled_up value up)
+
+  -- a place in the code, seen from an address
+  inner_leads : (l : Label) (meant : Meaning) (from : ℕ) → IsTrue (is_inner meant) → IsCodeAddress (slice_index places l.number) → from ≤ 2 ^ 30 →
+      LeadsTo (from + up) (stands_for value up places meant l.number) (number_by (filled_up value up) places meant l.number from)
+  inner_leads l (Inner placed) from is within low = record {
+    near = distance_near (slice_index places l.number) from within.0 low;
+    there = distance_up up (slice_index places l.number) from small within.0 low;
+    aligned = omega (arith, within.1, even);
+  }
+  inner_leads l (Outer symbol relative) from is within low = absurd (cc)
+
+  -- what control goes to, seen from there: a place in the code or a symbol
+  target_leads : (l : Label) (meant : Meaning) (place : ℕ) → IsTrue (is_target meant) → IsAligned value meant →
+      All (IsReached value (base + up)) (fix_by meant place) → IsCodeAddress (slice_index places l.number) → base + place ≤ 2 ^ 30 →
+      LeadsTo (base + place + up) (stands_for value up places meant l.number) (number_by (filled_up value up) places meant l.number (base + place))
+  target_leads l (Inner placed) place is aligned reached within low = inner_leads l (Inner placed) (base + place) refl within low
+  target_leads l (Outer symbol relative) place is aligned reached within low =
+      let here : IsReached value (base + up) (record { place = place; symbol = symbol; relative = relative }) =
+      All-head (IsReached value (base + up)) (record { place = place; symbol = symbol; relative = relative }) [] reached
+      in
+      by relative is here.0 here.1
+    where
+      by : (r : Bool) → IsTrue r → value symbol < 2 ^ 64 → IsNear (number_at r (value symbol) (base + up + place)) →
+          LeadsTo (base + place + up) (value symbol) (number_at r (value symbol) (base + place + up))
+      by true e fits near =
+          let same : base + up + place ≡ base + place + up = omega arith in
+          record { near = rw same at near; there = distance_back (value symbol) (base + place + up) fits (omega arith); aligned = aligned }
+      by false e fits near = absurd (cc)
+
+  -- an address or a value that is taken
+  taken : (l : Label) (rd : ℕ) (meant : Meaning) (place : ℕ) → meaning labels l ≡ meant → rd ≢ 0 →
+      All (IsReached value (base + up)) (fix_by meant place) → IsCodeAddress (slice_index places l.number) → base + place ≤ 2 ^ 30 →
+      Stands m.code (base + place + up) (begins meant rd (high (number_by (filled_up value up) places meant l.number (base + place)))
+      ∷ Addi rd rd (low (number_by (filled_up value up) places meant l.number (base + place))) ∷ []) →
+      Does code (Address rd l) (base + place + up) (base + place + up + 8)
+  taken l rd (Inner placed) place is written reached within low stands =
+      let leads = inner_leads l (Inner placed) (base + place) refl within low in
+      does_relative code l rd (base + place + up) _ written stands leads.near (leads.there ∙ ap (λ n. stands_for value up places n l.number) (sym is))
+  taken l rd (Outer symbol true) place is written reached within low stands =
+      let here = All-head (IsReached value (base + up)) (record { place = place; symbol = symbol; relative = true }) [] reached in
+      let same : base + up + place ≡ base + place + up = omega arith in
+      does_relative code l rd (base + place + up) _ written stands (rw same at here.1)
+      (distance_back (value symbol) (base + place + up) here.0 (omega arith) ∙ ap (λ n. stands_for value up places n l.number) (sym is))
+  taken l rd (Outer symbol false) place is written reached within low stands =
+      let here = All-head (IsReached value (base + up)) (record { place = place; symbol = symbol; relative = false }) [] reached in
+      does_absolute code l rd (base + place + up) _ written stands here.1 (ap (λ n. stands_for value up places n l.number) (sym is))
+
+  inner_stands_for : (meant : Meaning) (l : ℕ) → IsTrue (is_inner meant) → stands_for value up places meant l ≡ slice_index places l + up
+  inner_stands_for (Inner placed) l is = refl
+  inner_stands_for (Outer symbol relative) l is = absurd (cc)
+
+  module _ (addresses : All IsCodeAddress places) (count : length places ≡ length labels) where
+    within : (l : Label) → l.number < length labels → IsCodeAddress (slice_index places l.number)
+    within l h = All-get_or IsCodeAddress places l.number 0 (omega arith) addresses
+
+    -- a part whose instructions stand does what it means
+    part_does : (p : Part) (place : ℕ) → base + place + longest p ≤ 2 ^ 30 → (base + place) % 4 ≡ 0 → Fits labels p →
+        All (IsReached value (base + up)) (fix_of labels place p) → GoesToCode labels value p →
+        ((l : Label) → p ≡ Place l → slice_index places l.number ≡ base + place) →
+        Stands m.code (base + place + up) (instructions number labels (base + place) p) →
+        Does code p (base + place + up) (base + place + up + longest p)
+    part_does (Single i) place low aligned fits reached goes here stands = does_single code i (base + place + up) stands.0
+    part_does (Place l) place low aligned fits reached goes here stands =
+        (omega arith, inner_stands_for (meaning labels l) l.number fits.1 ∙ ap (λ a. a + up) (here l refl))
+    part_does (Branch c a b l) place low aligned fits reached goes here stands =
+        let e : base + place + 4 + up ≡ base + place + up + 4 = omega arith in
+        does_branch code l (base + place + up) _ c a b fits.1 stands
+        (rw e at (inner_leads l (meaning labels l) (base + place + 4) fits.0.1 (within l fits.0.0) (omega arith))) (omega arith) (omega (arith, even))
+    part_does (Jump l) place low aligned fits reached goes here stands =
+        does_jump code l (base + place + up) _ stands (target_leads l (meaning labels l) place fits.1 goes reached (within l fits.0) (omega arith))
+    part_does (Call l) place low aligned fits reached goes here stands =
+        does_call code l (base + place + up) _ stands (target_leads l (meaning labels l) place fits.1 goes reached (within l fits.0) (omega arith)) (omega arith)
+    part_does (Address rd l) place low aligned fits reached goes here stands =
+        taken l rd (meaning labels l) place refl fits.1 reached (within l fits.0) (omega arith) stands
+    part_does (Table ls) place low aligned fits reached goes here stands =
+        does_table code number ls (base + place + up) (base + place + 4 * length ls + 4) stands leads (omega (arith, even)) (omega arith)
+      where
+        leads : (i : ℕ) (l : Label) → slice_get ls i ≡ Some l →
+            LeadsTo (base + place + up + (4 * length ls + 4) + 8 * i) (address_of labels places up value l.number)
+            (number l (base + place + 4 * length ls + 4 + 8 * i))
+        leads i l is =
+            let less = slice_get_within ls i l is in
+            let inner : (l.number < length labels) × IsTrue (is_inner (meaning labels l)) =
+            subst (λ k. (k.number < length labels) × IsTrue (is_inner (meaning labels k))) (get_or_from_slice_get ls i l l is) (fits.0 i l less)
+            in
+            let e : base + place + 4 * length ls + 4 + 8 * i + up ≡ base + place + up + (4 * length ls + 4) + 8 * i = omega arith in
+            rw e at (inner_leads l (meaning labels l) (base + place + 4 * length ls + 4 + 8 * i) inner.1 (within l inner.0) (omega arith))
+
+    module _ (parts : List Part) (aligned : base % 4 ≡ 0) (room : base + all_longest parts ≤ 2 ^ 30) (fit : All (Fits labels) parts)
+        (noted : ArePlacesBelow (length parts) base parts places) (goes : All (GoesToCode labels value) parts) where
+      seam : (xs : List Part) (y : Part) (ys : List Part) → slice_get (xs ++ y ∷ ys) (length xs) ≡ Some y
+      seam xs y ys =
+          slice_get-get_or (xs ++ y ∷ ys) (length xs) y (rw (length-append xs (y ∷ ys)) (omega arith)) ∙ ap Some (get_or-append_seam xs y ys y)
+
+      at_seam : (P : Part → Type 0) (front : List Part) (p : Part) (rest : List Part) → parts ≡ front ++ p ∷ rest → All P parts → P p
+      at_seam P front p rest whole all =
+          let h : P (get_or (front ++ p ∷ rest) (length front) p) =
+          subst (All P) whole all (length front) p (rw (length-append front (p ∷ rest)) (omega arith))
+          in
+          subst P (get_or-append_seam front p rest p) h
+
+      pub all_do : (front rest : List Part) → parts ≡ front ++ rest →
+          Stands m.code (base + all_longest front + up) (all_instructions number labels (base + all_longest front) rest) →
+          All (IsReached value (base + up)) (fixes_of labels (all_longest front) rest) →
+          Stand code rest (base + all_longest front + up) (base + up + all_longest parts)
+      all_do front [] whole stands reached =
+          let e : all_longest parts ≡ all_longest front + all_longest [] = ap all_longest whole ∙ longest-append front [] in
+          omega (arith, e)
+      all_do front (p ∷ rest) whole stands reached =
+          let place = all_longest front in
+          let from = base + place in
+          let both = Stands-append m.code (from + up) (instructions number labels from p) (all_instructions number labels (from + longest p) rest) stands in
+          let sum : all_longest parts ≡ place + all_longest (p ∷ rest) = ap all_longest whole ∙ longest-append front (p ∷ rest) in
+          let at : slice_get parts (length front) ≡ Some p = rw whole (seam front p rest) in
+          let front_is : take (length front) parts ≡ front = rw whole (take-append_seam front (p ∷ rest)) in
+          let less : length front < length parts = slice_get_within parts (length front) p at in
+          let first : Does code p (from + up) (from + up + longest p) =
+          part_does p place (omega (arith, sum, room)) (omega (arith, aligned, all_aligned front)) (at_seam (Fits labels) front p rest whole fit)
+          (All-left (IsReached value (base + up)) (fix_of labels place p) (fixes_of labels (place + longest p) rest) reached)
+          (at_seam (GoesToCode labels value) front p rest whole goes)
+          (λ l is. noted (length front) l less (at ∙ ap Some is) ∙ ap (λ ps. base + all_longest ps) front_is) both.0
+          in
+          let next : all_longest (front ++ p ∷ []) ≡ place + longest p = longest-append front (p ∷ []) ∙ omega arith in
+          let around : base + (place + longest p) ≡ from + longest p = omega arith in
+          let moved : from + longest p + up ≡ from + up + longest p = omega arith in
+          let later = all_do (front ++ p ∷ []) rest (whole ∙ sym (append_assoc front (p ∷ []) rest))
+          (rw (next, around, moved) (rw (instructions_size number labels from p) at both.1))
+          (rw next (All-right (IsReached value (base + up)) (fix_of labels place p) (fixes_of labels (place + longest p) rest) reached))
+          in
+          (from + up + longest p, first, rw (next, around, moved) at later)
