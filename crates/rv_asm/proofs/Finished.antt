@@ -1,5 +1,5 @@
 -- What is finished runs as the parts.
-use Rattle.std.proofs.Common.{◌≡◌, ℕ, ◌+◌, ◌*◌, ◌%◌, ◌≤◌, ◌^◌, refl, sym, ◌∙◌, ap, arith, List, [], ◌++◌, length}
+use Rattle.std.proofs.Common.{◌≡◌, ℕ, ◌+◌, ◌%◌, ◌≤◌, ◌^◌, refl, ◌∙◌, arith, List, [], ◌++◌, length}
 use Rattle.std.specs.List.{All}
 use Rattle.rv_table.proofs.Shared.{length-code_of, stands_behind}
 use Rattle.rv_table.specs.Machine.{code_base}
@@ -10,7 +10,7 @@ use Rattle.rv_asm.proofs.Standing.{all_do}
 use Rattle.rv_asm.proofs.Validity.{all_valid}
 use Rattle.rv_asm.specs.Assembly.{Fits}
 use Rattle.rv_asm.specs.Filling.{filled}
-use Rattle.rv_asm.specs.Finishing.{Contains, RunAsParts}
+use Rattle.rv_asm.specs.Finishing.{RunAsParts}
 use Rattle.rv_asm.specs.Sizes.{all_longest}
 use Rattle.rv_asm.specs.inside.Forms.{code_by, filled_up, fixes_of, number_of, unfilled}
 use Rattle.rv_asm.specs.inside.Sound.{ArePlaces}

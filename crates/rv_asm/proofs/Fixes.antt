@@ -1,6 +1,6 @@
 -- Once its fixes are filled, the code is that of the symbols' numbers.
-use Rattle.std.proofs.Common.{◌≡◌, ℕ, ◌+◌, ◌*◌, ◌<◌, ◌≤◌, ◌^◌, refl, sym, ◌∙◌, ap, arith, List, [], ◌∷◌, ◌++◌, length, length-append, append_assoc}
-use Rattle.std.specs.Prelude.{Bool, IsTrue, map}
+use Rattle.std.proofs.Common.{◌≡◌, ℕ, ◌+◌, ◌*◌, ◌<◌, ◌≤◌, refl, sym, ◌∙◌, ap, arith, List, [], ◌∷◌, ◌++◌, length, length-append, append_assoc}
+use Rattle.std.specs.Prelude.{IsTrue}
 use Rattle.std.specs.Int.{w32, to_le_bytes}
 use Rattle.std.specs.List.{All}
 use Rattle.std.proofs.lemmas.Grind.{flat_map-append}
@@ -18,7 +18,7 @@ use Rattle.rv_asm.specs.Assembly.{Fits, IsInner, is_inner, meaning}
 use Rattle.rv_asm.specs.Filling.{AreApart, filled, number_at}
 use Rattle.rv_asm.specs.Finishing.{fix_symbols, symbol_by, symbol_of, symbols_of}
 use Rattle.rv_asm.specs.Sizes.{all_longest, longest}
-use Rattle.rv_asm.specs.inside.Forms.{all_instructions, begins, entries, far, far_jumps, filled_up, fix_by, fix_of, fixes_of, high, instructions, low, number_by, number_of, unfilled}
+use Rattle.rv_asm.specs.inside.Forms.{all_instructions, begins, far, far_jumps, filled_up, fix_by, fix_of, fixes_of, high, instructions, low, number_by, number_of, unfilled}
 use Rattle.rv_asm.specs.declared.filling.CodeFix.{CodeFix}
 use Rattle.rv_asm.specs.declared.part.Label.{Label}
 use Rattle.rv_asm.specs.declared.part.Meaning.{Meaning}

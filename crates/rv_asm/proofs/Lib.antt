@@ -16,3 +16,5 @@ mod Singles
 mod Appending
 mod Following
 pub mod Shared
+mod Places
+mod AsmRows

@@ -1,5 +1,5 @@
 -- The instructions of parts are valid.
-use Rattle.std.proofs.Common.{◌≡◌, ◌≢◌, ℕ, ◌+◌, ◌*◌, ◌%◌, ◌<◌, ◌≤◌, ◌^◌, refl, arith, List, [], ◌∷◌, ◌++◌, length, pos, negsuc}
+use Rattle.std.proofs.Common.{◌≡◌, ℕ, ◌+◌, ◌*◌, ◌%◌, ◌<◌, ◌≤◌, ◌^◌, refl, arith, List, [], ◌∷◌, length, pos, negsuc}
 use Rattle.std.specs.Prelude.{true, false}
 use Rattle.std.specs.List.{All}
 use Rattle.std.proofs.lemmas.Int.{ints}
@@ -11,7 +11,7 @@ use Rattle.rv_table.specs.declared.instruction.Instr.{Instr}
 use Rattle.rv_table.specs.declared.instruction.Instr.TheVariants.{Auipc, Jal, Jalr, Addi}
 use Rattle.rv_table.specs.Encoding.{IsBetween}
 use Rattle.rv_table.specs.Table.{IsValid}
-use Rattle.rv_asm.specs.Assembly.{Fits, meaning, table_limit}
+use Rattle.rv_asm.specs.Assembly.{Fits, meaning}
 use Rattle.rv_asm.specs.Sizes.{longest}
 use Rattle.rv_asm.specs.inside.Forms.{all_instructions, begins, entries, far, far_jumps, high, instructions, low, past_unless}
 use Rattle.rv_asm.specs.declared.part.Label.{Label}

@@ -4,7 +4,7 @@ ghost use Rattle.std.specs.Prelude.{◌≡◌, ◌≢◌, ◌%◌, ◌+◌, ◌-
 ghost use Rattle.std.specs.List.{All};
 ghost use Rattle.rv_table.specs.Table.{IsValid};
 ghost use Rattle.rv_asm.specs.Filling.{AreApart};
-ghost use Rattle.rv_asm.specs.Finishing.{RunAsParts, fix_symbols, symbols_of};
+ghost use Rattle.rv_asm.specs.Finishing.{HavePlaces, RunAsParts, fix_symbols, symbols_of};
 ghost use Rattle.rv_asm.specs.Sizes.{all_longest};
 ghost use Rattle.rv_asm.specs.Assembly.{Fits, IsInner, IsLabel, IsTarget, has_branch, table_limit};
 
@@ -173,7 +173,7 @@ impl Asm {
         requires room { base + all_longest self.parts ≤ 2 ^ 30 }
         ensures runs { IfOk result (λ p. RunAsParts self.labels self.parts base p.bytes p.places p.fixes) }
         ensures size { IfOk result (λ p. length p.bytes ≤ all_longest self.parts) }
-        ensures places { IfOk result (λ p. length p.places ≡ length self.labels) }
+        ensures places { IfOk result (λ p. HavePlaces self.labels self.parts base (length p.bytes) p.places) }
         ensures symbols { IfOk result (λ p. fix_symbols p.fixes ≡ symbols_of self.labels self.parts) }
         ensures apart { IfOk result (λ p. AreApart 0 p.fixes (length p.bytes)) }
     {

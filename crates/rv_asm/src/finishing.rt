@@ -5,7 +5,7 @@ ghost use Rattle.std.specs.List.{All};
 ghost use Rattle.rv_table.specs.Stands.{code_of};
 ghost use Rattle.rv_asm.specs.Assembly.{Fits};
 ghost use Rattle.rv_asm.specs.Filling.{AreApart};
-ghost use Rattle.rv_asm.specs.Finishing.{RunAsParts, fix_symbols, symbols_of};
+ghost use Rattle.rv_asm.specs.Finishing.{HavePlaces, RunAsParts, fix_symbols, symbols_of};
 ghost use Rattle.rv_asm.specs.Sizes.{all_longest, longest};
 ghost use Rattle.rv_asm.specs.inside.Forms.{code_by, fix_by, fix_of, fixes_of, unfilled};
 ghost use Rattle.rv_asm.specs.inside.Sound.{ArePlaces, IsSound, PlaceFits, noted};
@@ -39,7 +39,7 @@ pub fn finish(
     requires room { base + all_longest parts.now ≤ 2 ^ 30 }
     ensures runs { IfOk result (λ p. RunAsParts labels.now parts.now base p.bytes p.places p.fixes) }
     ensures size { IfOk result (λ p. length p.bytes ≤ all_longest parts.now) }
-    ensures places { IfOk result (λ p. length p.places ≡ length labels.now) }
+    ensures places { IfOk result (λ p. HavePlaces labels.now parts.now base (length p.bytes) p.places) }
     ensures symbols { IfOk result (λ p. fix_symbols p.fixes ≡ symbols_of labels.now parts.now) }
     ensures apart { IfOk result (λ p. AreApart 0 p.fixes (length p.bytes)) }
 {

@@ -1,5 +1,5 @@
 -- What is so of every assembly, and of the places of its labels.
-use Rattle.std.specs.Prelude.{◌≡◌, ℕ, ◌+◌, ◌<◌, ◌≤◌, ◌^◌, ◌%◌, true, false, List, length, take, slice_get, slice_index, slice_set, Some}
+use Rattle.std.specs.Prelude.{◌≡◌, ◌≢◌, ℕ, ◌+◌, ◌<◌, ◌≤◌, ◌^◌, ◌%◌, true, false, List, length, take, slice_get, slice_index, slice_set, Some}
 use Rattle.std.specs.List.{All, sum_by}
 use Rattle.rv_asm.specs.Assembly.{Fits}
 use Rattle.rv_asm.specs.Sizes.{all_longest}
@@ -7,7 +7,7 @@ use Rattle.rv_asm.specs.declared.part.Label.{Label}
 use Rattle.rv_asm.specs.declared.part.Meaning.{Meaning}
 use Rattle.rv_asm.specs.declared.part.Meaning.TheVariants.{Inner, Outer}
 use Rattle.rv_asm.specs.declared.part.Part.{Part}
-use Rattle.rv_asm.specs.declared.part.Part.TheVariants.{Single, Place, Branch, Jump, Call, Address, Table}
+use Rattle.rv_asm.specs.declared.part.Part.TheVariants.{Place}
 
 -- the parts that a label may still need: the one that is its place, if it has none yet
 abbrev pub room_for : Meaning → ℕ
@@ -37,6 +37,11 @@ abbrev pub ArePlacesBelow : ℕ → ℕ → List Part → List ℕ → Type 0
 ArePlacesBelow i base parts places = (k : ℕ) (l : Label) → k < i → slice_get parts k ≡ Some (Place l) →
     slice_index places l.number ≡ base + all_longest (take k parts)
 
+-- a label that no part before an index places has 0
+abbrev pub OthersAreZero : ℕ → List Part → List ℕ → Type 0
+OthersAreZero i parts places = (n : ℕ) →
+    ((k : ℕ) (l : Label) → k < i → slice_get parts k ≡ Some (Place l) → l.number ≢ n) → slice_index places n ≡ 0
+
 -- an address in code, at which an instruction may begin
 abbrev pub IsCodeAddress : ℕ → Type 0
 IsCodeAddress a = (a ≤ 2 ^ 30) × (a % 4 ≡ 0)
@@ -46,6 +51,7 @@ pub record ArePlaces (base : ℕ) (parts : List Part) (labels : List Meaning) (p
   pub addresses : All IsCodeAddress places
   pub count : length places ≡ length labels
   pub at : ArePlacesBelow (length parts) base parts places
+  pub others : OthersAreZero (length parts) parts places
 
 -- a part that is a place has its label among so many
 abbrev pub PlaceFits : ℕ → Part → Type 0

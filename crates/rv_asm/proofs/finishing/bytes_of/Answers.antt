@@ -1,4 +1,4 @@
-use Rattle.std.proofs.Common.{◌≡◌, ◌+◌, ◌++◌, refl, sym, ◌∙◌, ap, arith, length, take}
+use Rattle.std.proofs.Common.{◌+◌, refl, sym, ◌∙◌, ap, arith, length, take}
 use Rattle.std.proofs.lemmas.Option.{slice_get_read}
 use Rattle.rv_table.specs.Stands.{code_of}
 use Rattle.rv_asm.proofs.Fixes.{code-append}

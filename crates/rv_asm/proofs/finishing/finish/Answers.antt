@@ -2,6 +2,7 @@ use Rattle.std.proofs.Common.{◌≡◌, ◌∙◌, arith, length}
 use Rattle.rv_table.specs.Stands.{code_of}
 use Rattle.rv_asm.proofs.Finished.{code_size, run_as_parts}
 use Rattle.rv_asm.proofs.Fixes.{fixes_apart, symbols_are}
+use Rattle.rv_asm.proofs.Places.{have_places}
 use Rattle.rv_asm.specs.inside.Forms.{code_by, fixes_of, unfilled}
 use Rattle.rv_asm.proofs.finishing.finish.Goals as goal
 
@@ -39,3 +40,13 @@ returns-clause-apart c =
     let bytes = code_of (code_by labels c.deref.result.now unfilled c.args.base parts) in
     rw (fixes, c.from_vec.ensures, c.in_ok-bytes.ensures)
     (fixes_apart labels 0 (length bytes) parts (omega (arith, code_size labels c.deref.result.now unfilled c.args.base parts)))
+
+pub returns-clause-places : goal.returns-clause-places
+returns-clause-places c =
+    let labels = c.args.labels.now in
+    let parts = c.args.parts.now in
+    let places = c.in_ok-places.places.items in
+    let bytes = code_of (code_by labels c.deref.result.now unfilled c.args.base parts) in
+    rw (c.from_vec-2.ensures, c.from_vec.ensures, c.in_ok-bytes.ensures)
+    (have_places labels parts c.args.base places (length bytes) c.requires.aligned (code_size labels c.deref.result.now unfilled c.args.base parts)
+    c.in_ok-places.ensures)

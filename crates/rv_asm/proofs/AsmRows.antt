@@ -1,0 +1,112 @@
+-- Worked rows, by computing: the bytes of a small program with every part, as the GNU assembler and linker make them, and its runs.
+use Rattle.std.proofs.Common.{◌≡◌, ℕ, refl, arith, inl, negsuc}
+use Rattle.std.specs.Prelude.{List, [], ◌∷◌, Option, Some, None, true, false, ◌==◌}
+use Rattle.std.specs.Int.{w32, to_le_bytes}
+use Rattle.std.specs.List.{All, flat_map}
+use Rattle.std.proofs.lemmas.List.Elements.{All-cons, All-nil}
+use Rattle.cmm_words.specs.declared.operators.Cmp.TheVariants.{Ne}
+use Rattle.rv_table.specs.declared.instruction.Instr.TheVariants.{Addi}
+use Rattle.rv_table.specs.Machine.{MemoryMap, State, steps}
+use Rattle.rv_table.specs.Registers.{with_register}
+use Rattle.rv_table.specs.Stands.{code_of}
+use Rattle.rv_asm.specs.Filling.{IsReached, filled}
+use Rattle.rv_asm.specs.Finishing.{Contains, GoesToCode, fix_symbols, symbols_of}
+use Rattle.rv_asm.specs.inside.Forms.{code_by, fixes_of, unfilled}
+use Rattle.rv_asm.specs.declared.filling.CodeFix.{CodeFix}
+use Rattle.rv_asm.specs.declared.part.Label.{Label}
+use Rattle.rv_asm.specs.declared.part.Meaning.{Meaning}
+use Rattle.rv_asm.specs.declared.part.Meaning.TheVariants.{Inner, Outer}
+use Rattle.rv_asm.specs.declared.part.Part.{Part}
+use Rattle.rv_asm.specs.declared.part.Part.TheVariants.{Single, Place, Branch, Jump, Call, Address, Table}
+
+-- ---- a program: two places, a symbol that is called, and one whose value is taken
+abbrev label : ℕ → Label
+label n = record { number = n }
+
+abbrev labels : List Meaning
+labels = Inner true ∷ Outer 7 true ∷ Outer 3 false ∷ Inner true ∷ []
+
+abbrev parts : List Part
+parts =
+    Place (label 0)
+    ∷ Single (Addi 10 10 (negsuc 0))
+    ∷ Branch Ne 10 0 (label 0)
+    ∷ Call (label 1)
+    ∷ Address 5 (label 2)
+    ∷ Table (label 0 ∷ label 3 ∷ [])
+    ∷ Place (label 3)
+    ∷ Jump (label 3)
+    ∷ []
+
+abbrev places : List ℕ
+places = 0x10000 ∷ 0 ∷ 0 ∷ 0x1003c ∷ []
+
+abbrev value : ℕ → ℕ
+value symbol = elim (symbol == 7) [ true ↦ 0x11900 | false ↦ 0x1a8 ]
+
+abbrev words : List ℕ → List ℕ
+words ws = flat_map (to_le_bytes w32) ws
+
+-- ---- its bytes
+abbrev bytes : List ℕ
+bytes = words
+    (0xfff50513 ∷ 0x00050663 ∷ 0x00000317 ∷ 0xff830067 ∷ 0x00000097 ∷ 0x000080e7 ∷ 0x000002b7 ∷ 0x00028293 ∷ 0x00c0006f ∷ 0x0100006f
+    ∷ 0x0140006f ∷ 0x00000317 ∷ 0xfd430067 ∷ 0x00000317 ∷ 0x00830067 ∷ 0x00000317 ∷ 0x00030067 ∷ [])
+
+made : code_of (code_by labels places unfilled 0x10000 parts) ≡ bytes
+made = refl
+
+abbrev fixes : List CodeFix
+fixes = record { place = 16; symbol = 7; relative = true } ∷ record { place = 24; symbol = 3; relative = false } ∷ []
+
+fixed : fixes_of labels 0 parts ≡ fixes
+fixed = refl
+
+symbols : (fix_symbols fixes ≡ symbols_of labels parts) × (symbols_of labels parts ≡ (7, true) ∷ (3, false) ∷ [])
+symbols = (refl, refl)
+
+-- ---- once the symbols have their numbers
+abbrev code : List ℕ
+code = words
+    (0xfff50513 ∷ 0x00050663 ∷ 0x00000317 ∷ 0xff830067 ∷ 0x00002097 ∷ 0x8f0080e7 ∷ 0x000002b7 ∷ 0x1a828293 ∷ 0x00c0006f ∷ 0x0100006f
+    ∷ 0x0140006f ∷ 0x00000317 ∷ 0xfd430067 ∷ 0x00000317 ∷ 0x00830067 ∷ 0x00000317 ∷ 0x00030067 ∷ [])
+
+given : filled value 0x10000 fixes bytes ≡ code
+given = refl
+
+-- what code that runs as the parts has to be can be met
+abbrev map : MemoryMap
+map = record { code = code; data_length = 0; stack_size = 4096 }
+
+reached : All (IsReached value 0x10000) fixes
+reached =
+    All-cons (IsReached value 0x10000) (record { place = 16; symbol = 7; relative = true }) (record { place = 24; symbol = 3; relative = false } ∷ [])
+    (omega arith, inl (omega arith))
+    (All-cons (IsReached value 0x10000) (record { place = 24; symbol = 3; relative = false }) [] (omega arith, inl (omega arith)) (All-nil (IsReached value 0x10000)))
+
+called : GoesToCode labels value (Call (label 1))
+called = refl
+
+contained : Contains map 0x10000 (filled value 0x10000 fixes bytes)
+contained = record { front = []; back = []; whole = refl; place = refl }
+
+-- ---- runs of it
+abbrev from : ℕ → ℕ → State
+from address count = record { registers = with_register (λ k. 0) 10 count; pc = address; memory = λ a. 0 }
+
+abbrev comes_to : Option State → Option ℕ
+comes_to (Some t) = Some t.pc
+comes_to None = None
+
+-- the branch, taken and not taken
+branches : (comes_to (steps map 4 (from 0x10000 2)) ≡ Some 0x10000) × (comes_to (steps map 2 (from 0x10000 1)) ≡ Some 0x10010)
+branches = (refl, refl)
+
+-- the call
+calls : comes_to (steps map 2 (from 0x10010 0)) ≡ Some 0x11900
+calls = refl
+
+-- the words of the table, and the place after them
+goes : (comes_to (steps map 3 (from 0x10020 0)) ≡ Some 0x10000) × (comes_to (steps map 3 (from 0x10024 0)) ≡ Some 0x1003c)
+    × (comes_to (steps map 1 (from 0x10028 0)) ≡ Some 0x1003c)
+goes = (refl, refl, refl)

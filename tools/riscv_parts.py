@@ -1,0 +1,143 @@
+#!/usr/bin/env python3
+"""Makes the table of parts that crates/rv_asm tries: their words by the GNU assembler and linker, with labels near and far. Before that
+it has QEMU run parts far apart, and stops where control does not come to where the label is.
+
+    tools/riscv_parts.py            writes crates/rv_asm/src/tests/parts.rt (run rt fmt in crates/rv_asm after)
+    tools/riscv_parts.py --check    compares what it makes with that file
+
+Where the assembler or the emulator is missing it says so and ends with status 0.
+Debian and Ubuntu: apt-get install binutils-riscv64-linux-gnu qemu-user
+"""
+import os
+import struct
+import subprocess
+import sys
+
+from riscv_files import BRANCHES, TOOLS, run, table, write_or_compare
+
+# The first and a late place of code, and distances at the ends of a low part, of the words' own reach, and beyond.
+FIRST, LATE = 0x10000, 0x3FFF_0000
+NEAR = [0, 4, -4, 2044, 2048, -2048, -2052, 4092, -4096, 0xFFFFC, -0x100000]
+PAIRS = [(FIRST, LATE), (LATE, FIRST), (FIRST, FIRST), (LATE, LATE)]
+PAIRS += [(FIRST + 0x200000 + far, FIRST + 0x200000) for far in NEAR]
+COMPARISONS = dict(zip(BRANCHES, ["Eq", "Ne", "Lt", "Ge", "Ltu", "Geu"]))
+OPPOSITE = {"beq": "bne", "bne": "beq", "blt": "bge", "bge": "blt", "bltu": "bgeu", "bgeu": "bltu"}
+TABLES = [1, 2, 64]
+
+
+def linked(folder, text, place, address):
+    """The words of code at an address, where the symbol `label` has a place."""
+    with open(os.path.join(folder, "c.s"), "w") as f:
+        f.write(f".option norvc\n.option norelax\n.globl _start\n_start:\n{text}\n")
+    run(folder, TOOLS[0], "-march=rv64im", "-o", "c.o", "c.s")
+    run(folder, TOOLS[1], "--no-relax", f"--defsym=label={place}", f"-Ttext={address:#x}", "-o", "c", "c.o")
+    run(folder, TOOLS[2], "-O", "binary", "-j", ".text", "c", "c.bin")
+    with open(os.path.join(folder, "c.bin"), "rb") as f:
+        return [w for (w,) in struct.iter_unpack("<I", f.read())]
+
+
+def words(found):
+    return "[" + ", ".join(f"{w:#010x}" for w in found) + "]"
+
+
+def pairs_of(folder, text):
+    return [f"({place:#x}, {address:#x}, {words(linked(folder, text, place, address))})" for place, address in PAIRS]
+
+
+def branches(folder):
+    """Each branch turned round over a far jump; to a label near and far."""
+    rows = []
+    for name, comparison in COMPARISONS.items():
+        for place, address in [PAIRS[0], PAIRS[1], PAIRS[5], PAIRS[10]]:
+            found = linked(folder, f"{OPPOSITE[name]} x10, x31, .+12\ntail label", place, address)
+            rows.append(f"(Cmp::{comparison}, {place:#x}, {address:#x}, {words(found)})")
+    return rows
+
+
+def tables(folder):
+    """One word a label, a jump over the rest, and the far jumps."""
+    rows = []
+    for count in TABLES:
+        text = [f"jal x0, far{k}" for k in range(count)] + ["jal x0, on"] + [f"far{k}: tail label" for k in range(count)] + ["on:"]
+        found = linked(folder, "\n".join(text), LATE, FIRST)
+        rows.append((count, found))
+    return rows
+
+
+RUN = """.option norvc
+.option norelax
+.section .low, "ax"
+.globl _start
+_start:
+    li x10, 0
+    li x11, 5
+    bne x10, x11, .+12
+    tail wrong
+    bgeu x10, x11, .+12
+    tail high
+wrong:
+    li x10, 1
+    li x17, 93
+    ecall
+words:
+    jal x0, far0
+    jal x0, far1
+    jal x0, on
+far0: tail wrong
+far1: tail high2
+on: tail wrong
+back: jalr x0, 0(x1)
+.section .high, "ax"
+high:
+    call back
+    la x5, words
+    addi x5, x5, 4
+    jalr x0, 0(x5)
+high2:
+    la x5, 1f
+    bne x1, x5, 2f
+    tail low_end
+1:  nop
+2:  la x5, high
+    addi x5, x5, 8
+    bne x1, x5, 3f
+    li x10, 42
+    li x17, 93
+    ecall
+3:  tail wrong
+low_end: tail wrong
+"""
+
+
+def emulated(folder):
+    """Parts in code at both ends of the range lead where they say, by QEMU."""
+    with open(os.path.join(folder, "r.s"), "w") as f:
+        f.write(RUN)
+    run(folder, TOOLS[0], "-march=rv64im", "-o", "r.o", "r.s")
+    run(folder, TOOLS[1], "--no-relax", f"--section-start=.low={FIRST:#x}", f"--section-start=.high={LATE:#x}", "-o", "r", "r.o")
+    status = subprocess.run([TOOLS[3], "./r"], cwd=folder).returncode
+    if status != 42:
+        sys.exit(f"QEMU came elsewhere: status {status}")
+
+
+def made_files(folder):
+    emulated(folder)
+    two = "(u64, u64, [u32; 2])"
+    text = """//! The words of parts by the GNU assembler and linker, made by tools/riscv_parts.py.
+
+use cmm_words::Cmp;
+
+/// Jumps: the place of the label, the address of the part, and the words.
+"""
+    text += table("JUMPS", two, pairs_of(folder, "tail label")) + "\n/// Calls, likewise.\n"
+    text += table("CALLS", two, pairs_of(folder, "call label")) + "\n/// Addresses into register 31, likewise.\n"
+    text += table("ADDRESSES", two, pairs_of(folder, "la x31, label"))
+    text += "\n/// Branches on registers 10 and 31: the comparison, and the rest likewise.\n"
+    text += table("BRANCHES", "(Cmp, u64, u64, [u32; 3])", branches(folder))
+    for count, found in tables(folder):
+        text += f"\n/// A table at {FIRST:#x} of {count} times the label at {LATE:#x}.\n"
+        text += f"pub static TABLE_OF_{count}: [u32; {len(found)}] = {words(found)};\n"
+    return {"crates/rv_asm/src/tests/parts.rt": text}
+
+
+sys.exit(write_or_compare(made_files))
