@@ -1,6 +1,6 @@
 -- The paths of a graph: where each node leads, and which locals it reads and writes (Ramsey and Peyton Jones, PLDI 2000,
 -- the flow graph).
-use Rattle.std.specs.Prelude.{List, [], ◌∷◌, ◌++◌, flat_map, slice_get, Option, Some, None}
+use Rattle.std.specs.Prelude.{List, [], ◌∷◌, ◌++◌, flat_map, map, slice_get, Option, Some, None}
 use Rattle.cmm_program.specs.declared.procedure.Target.{Target}
 use Rattle.cmm_program.specs.declared.procedure.Target.TheVariants as target
 use Rattle.cmm_graph.specs.declared.number.NodeId.{NodeId}
@@ -45,7 +45,7 @@ landings g ks = flat_map (λ k. if_there (landing_of g k)) ks
 
 -- the exits of a site: the normal one, unless it never returns, and one to each continuation that it names
 abbrev pub exit_nodes : Graph → Exits → List NodeId
-exit_nodes g exits = if_there exits.normal ++ landings g (exits.returns ++ exits.unwinds ++ exits.cuts)
+exit_nodes g exits = if_there exits.normal ++ landings g exits.returns ++ landings g exits.unwinds ++ landings g exits.cuts
 
 abbrev pub arm_nodes : List Arm → List NodeId
 arm_nodes arms = flat_map (λ arm. arm.to ∷ []) arms
@@ -68,47 +68,49 @@ successors g Stop = []
 
 -- ---- what a node reads
 
-abbrev pub read_by_operand : Operand → List Local
-read_by_operand (operand.Local l) = l ∷ []
-read_by_operand _ = []
+abbrev pub values_of : List Argument → List Operand
+values_of arguments = map (λ a. a.value) arguments
 
-abbrev pub read_by_all : List Operand → List Local
-read_by_all operands = flat_map read_by_operand operands
+abbrev pub operands_of_test : Comparison → List Operand
+operands_of_test c = c.left ∷ c.right ∷ []
 
-abbrev pub read_by_arguments : List Argument → List Local
-read_by_arguments arguments = flat_map (λ a. read_by_operand a.value) arguments
+abbrev pub operands_of_rvalue : Rvalue → List Operand
+operands_of_rvalue (rvalue.Copy o) = o ∷ []
+operands_of_rvalue (rvalue.Register r) = []
+operands_of_rvalue (rvalue.Load width aligned address) = address ∷ []
+operands_of_rvalue (rvalue.Unary operator width o) = o ∷ []
+operands_of_rvalue (rvalue.Binary operator width left right) = left ∷ right ∷ []
+operands_of_rvalue (rvalue.Compare c) = operands_of_test c
+operands_of_rvalue (rvalue.SignExtend from to o) = o ∷ []
+operands_of_rvalue (rvalue.LowBits from to o) = o ∷ []
 
-abbrev pub read_by_test : Comparison → List Local
-read_by_test c = read_by_operand c.left ++ read_by_operand c.right
+abbrev pub operands_of_host : HostCall → List Operand
+operands_of_host (PutByte value) = value ∷ []
+operands_of_host (GetByte to) = []
 
-abbrev pub read_by_rvalue : Rvalue → List Local
-read_by_rvalue (rvalue.Copy o) = read_by_operand o
-read_by_rvalue (rvalue.Register r) = []
-read_by_rvalue (rvalue.Load width aligned address) = read_by_operand address
-read_by_rvalue (rvalue.Unary operator width o) = read_by_operand o
-read_by_rvalue (rvalue.Binary operator width left right) = read_by_operand left ++ read_by_operand right
-read_by_rvalue (rvalue.Compare c) = read_by_test c
-read_by_rvalue (rvalue.SignExtend from to o) = read_by_operand o
-read_by_rvalue (rvalue.LowBits from to o) = read_by_operand o
+-- the operands of a node
+abbrev pub operands : NodeKind → List Operand
+operands (Entry formals next) = []
+operands (CopyIn to next) = []
+operands (Assign to value next) = operands_of_rvalue value
+operands (Store width aligned address value next) = address ∷ value ∷ []
+operands (Branch test then_ otherwise) = operands_of_test test
+operands (Switch value arms otherwise) = value ∷ []
+operands (Call site callee arguments exits) = callee ∷ values_of arguments
+operands (Yield site values exits) = values
+operands (Jump callee arguments) = callee ∷ values_of arguments
+operands (Cut to arguments own) = to ∷ values_of arguments
+operands (Return exit alternates results) = values_of results
+operands (Host call next) = operands_of_host call
+operands Stop = []
 
-abbrev pub read_by_host : HostCall → List Local
-read_by_host (PutByte value) = read_by_operand value
-read_by_host (GetByte to) = []
+abbrev pub read_by : Operand → List Local
+read_by (operand.Local l) = l ∷ []
+read_by _ = []
 
+-- the locals that a node reads
 abbrev pub reads : NodeKind → List Local
-reads (Entry formals next) = []
-reads (CopyIn to next) = []
-reads (Assign to value next) = read_by_rvalue value
-reads (Store width aligned address value next) = read_by_operand address ++ read_by_operand value
-reads (Branch test then_ otherwise) = read_by_test test
-reads (Switch value arms otherwise) = read_by_operand value
-reads (Call site callee arguments exits) = read_by_operand callee ++ read_by_arguments arguments
-reads (Yield site values exits) = read_by_all values
-reads (Jump callee arguments) = read_by_operand callee ++ read_by_arguments arguments
-reads (Cut to arguments own) = read_by_operand to ++ read_by_arguments arguments
-reads (Return exit alternates results) = read_by_arguments results
-reads (Host call next) = read_by_host call
-reads Stop = []
+reads kind = flat_map read_by (operands kind)
 
 -- ---- what a node writes
 
@@ -124,9 +126,12 @@ abbrev pub written_by_host : HostCall → List Local
 written_by_host (PutByte value) = []
 written_by_host (GetByte to) = written_to to
 
+abbrev pub written_by_variable : Variable → List Local
+written_by_variable v = local.Variable v ∷ []
+
 -- the 0 that a variable has at the Entry is no write
 abbrev pub writes : NodeKind → List Local
-writes (Entry formals next) = flat_map (λ v. local.Variable v ∷ []) formals
+writes (Entry formals next) = flat_map written_by_variable formals
 writes (CopyIn to next) = flat_map written_to to
 writes (Assign to value next) = written_to_destination to
 writes (Host call next) = written_by_host call

@@ -22,6 +22,8 @@ pub mod laws;
 mod node;
 mod number;
 mod operand;
+mod text;
+mod validity;
 
 
 
