@@ -22,6 +22,7 @@ pub mod laws;
 mod node;
 mod number;
 mod operand;
+mod paths;
 mod text;
 mod validity;
 
@@ -33,3 +34,6 @@ pub use number::{
     ContinuationId, NodeId, Register, SiteId, StackLabel, Temporary, Variable,
 };
 pub use operand::{Argument, Comparison, Destination, Local, Operand, Rvalue};
+
+#[cfg(test)]
+mod tests;
