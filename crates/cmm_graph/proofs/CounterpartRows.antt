@@ -1,23 +1,40 @@
 -- A worked row: the graphs of the program with alternate returns are those of its procedures. So what asks for graphs of a
 -- program can be met.
-use Rattle.std.proofs.Common.{◌≡◌, ℕ, List, [], ◌∷◌, All, refl}
-use Rattle.std.proofs.lemmas.List.Elements.{All-nil, All-cons}
-use Rattle.cmm_program.specs.declared.procedure.Proc.{Proc}
-use Rattle.cmm_graph.specs.declared.node.Node.{Node}
+use Rattle.std.proofs.Common.{List, [], ◌∷◌, refl}
+use Rattle.cmm_program.specs.declared.procedure.Site.{Site}
+use Rattle.cmm_program.specs.declared.program.Program.{Program}
 use Rattle.cmm_graph.specs.declared.graph.Graph.{Graph}
 use Rattle.cmm_graph.specs.Counterpart.{HasSite, AreExitsOf, IsGraphOf, AreGraphsOf}
-use Rattle.cmm_graph.proofs.Notation.{program}
-use Rattle.cmm_graph.proofs.Graphs.{alternates, alternates-main, alternates-h}
+use Rattle.cmm_graph.proofs.Lists.{all_of_each}
+use Rattle.cmm_graph.proofs.Notation.{n, s, exits, program, site}
+use Rattle.cmm_graph.proofs.Graphs.{alternates, alternates-main, alternates-h, main-graph, h-graph}
 
-module _ (q : Proc) (g : Graph) where
-  -- what each of some nodes asks of the procedure's sites, one after the other
-  abbrev Each : List Node → Type 0
-  Each [] = Unit {0}
-  Each (node ∷ nodes) = HasSite q g node.kind × Each nodes
+abbrev p : Program
+p = program (alternates-main ∷ alternates-h ∷ [])
 
-  all_of : (nodes : List Node) → Each nodes → All (λ node. HasSite q g node.kind) nodes
-  all_of [] each = All-nil _
-  all_of (node ∷ nodes) each = All-cons _ node nodes each.0 (all_of nodes each.1)
+-- the call in `main`
+call_has_site : AreExitsOf alternates-main main-graph (s 0) (exits (n 2) (0 ∷ 1 ∷ []) [])
+call_has_site = record { site = site (0 ∷ []) (0 ∷ 1 ∷ []) []; is_site = refl; normal = refl; returns = refl; unwinds = refl; cuts = refl }
 
-alternates_are_graphs : AreGraphsOf (program (alternates-main ∷ alternates-h ∷ [])) alternates
-alternates_are_graphs = ?
+main_is_graph : IsGraphOf p alternates-main main-graph
+main_is_graph = record {
+  valid = record { first = refl; nodes = refl; continuations = refl };
+  variables = refl;
+  formals = refl;
+  continuations = refl;
+  sites = all_of_each (λ node. HasSite alternates-main main-graph node.kind) main-graph.nodes (tt, (call_has_site, (tt, (tt, (tt, (tt, (tt, (tt, (tt, (tt, tt))))))))));
+  names = refl;
+}
+
+h_is_graph : IsGraphOf p alternates-h h-graph
+h_is_graph = record {
+  valid = record { first = refl; nodes = refl; continuations = refl };
+  variables = refl;
+  formals = refl;
+  continuations = refl;
+  sites = all_of_each (λ node. HasSite alternates-h h-graph node.kind) h-graph.nodes (tt, (tt, (tt, (tt, tt))));
+  names = refl;
+}
+
+alternates_are_graphs : AreGraphsOf p alternates
+alternates_are_graphs = (main_is_graph, (h_is_graph, tt))

@@ -71,8 +71,8 @@ switch-setting = setting (switch-main ∷ switch-f ∷ []) (row 0x10000 32 [] �
 --       continuation b(x): return (x + 200);
 --     }
 --     h(bits64 i) { if i == 5 { return <1/2> (i); } return <2/2> (i); }
-abbrev pub alternates : List Graph
-alternates =
+abbrev pub main-graph : Graph
+main-graph =
     graph 1 1 (Entry [] (n 1)
     ∷ Call (s 0) (code 1) (arg (num 5) ∷ []) (exits (n 2) (0 ∷ 1 ∷ []) [])
     ∷ CopyIn (variables_of (0 ∷ [])) (n 3)
@@ -84,12 +84,17 @@ alternates =
     ∷ set_temporary 0 (op Add (v 0) (num 200)) (n 9)
     ∷ Return 0 0 (arg (t 0) ∷ [])
     ∷ []) (n 4 ∷ n 7 ∷ [])
-    ∷ graph 1 0 (Entry (variable 0 ∷ []) (n 1)
+
+abbrev pub h-graph : Graph
+h-graph =
+    graph 1 0 (Entry (variable 0 ∷ []) (n 1)
     ∷ Branch (test Eq (v 0) (num 5)) (n 2) (n 3)
     ∷ Return 1 2 (arg (v 0) ∷ [])
     ∷ Return 2 2 (arg (v 0) ∷ [])
     ∷ []) []
-    ∷ []
+
+abbrev pub alternates : List Graph
+alternates = main-graph ∷ h-graph ∷ []
 
 abbrev pub alternates-main : Proc
 alternates-main =

@@ -119,8 +119,8 @@ abbrev pub setting : List Proc → List PlaceRow → List Command → Setting
 setting procs rows commands = record {
   program = program procs;
   placement = record { rows = rows };
-  base = 0x60001000;
-  top = 0x60002000;
+  stack_base = 0x60001000;
+  stack_size = 4096;
   script = record { blocks = record { code = None; commands = commands; lines = [] } ∷ [] };
 }
 

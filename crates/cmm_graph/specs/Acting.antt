@@ -4,7 +4,8 @@ use Rattle.std.specs.Prelude.{ℕ, zero, suc, true, false, List, [], ◌∷◌, 
 use Rattle.cmm_program.specs.Errors.{EndOfBody, and_then}
 use Rattle.cmm_program.specs.Values.{Value}
 use Rattle.cmm_program.specs.Acts as act
-use Rattle.cmm_program.specs.Acts.{Act, Aim, Memory}
+use Rattle.cmm_program.specs.Acts.{Act, Aim}
+use Rattle.cmm_program.specs.Orders.{Memory}
 use Rattle.cmm_program.specs.Bodies.{is_in_ranges}
 use Rattle.cmm_program.specs.Todo.{if_way}
 use Rattle.cmm_words.specs.declared.width.Width.{Width}

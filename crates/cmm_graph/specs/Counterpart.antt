@@ -1,8 +1,8 @@
 -- When a graph is one of a procedure: it has the procedure's variables, its landings take what those of the procedure take,
 -- its sites have the exits of the procedure's sites, and it names only what the program has. What the nodes do is not asked
 -- here.
-use Rattle.std.specs.Prelude.{◌≡◌, ◌×◌, ℕ, ◌&&◌, nat_lt, Bool, true, false, IsTrue, List, [], ◌∷◌, ◌++◌, map, length, slice_get, Option, Some, None}
-use Rattle.std.specs.List.{All, AllZip, list_all}
+use Rattle.std.specs.Prelude.{◌≡◌, ℕ, ◌&&◌, nat_lt, Bool, true, false, IsTrue, List, [], ◌∷◌, ◌++◌, map, length, slice_get, Option, Some, None}
+use Rattle.std.specs.List.{All, AllZip, list_all, range_with_len}
 use Rattle.cmm_words.specs.declared.constant.Constant.{Constant}
 use Rattle.cmm_program.specs.declared.procedure.Target.{Target}
 use Rattle.cmm_program.specs.declared.procedure.Target.TheVariants as target
@@ -12,8 +12,7 @@ use Rattle.cmm_program.specs.declared.procedure.Site.{Site}
 use Rattle.cmm_program.specs.declared.program.Program.{Program}
 use Rattle.cmm_program.specs.Errors.{with_some}
 use Rattle.cmm_program.specs.Exits.{variable_width}
-use Rattle.cmm_program.specs.Layout.{stack_labels}
-use Rattle.cmm_program.specs.Numbering.{counted}
+use Rattle.cmm_program.specs.Layout.{stackdata_labels}
 use Rattle.cmm_program.specs.Typing.{constant_width, is_target}
 use Rattle.cmm_graph.specs.declared.number.NodeId.{NodeId}
 use Rattle.cmm_graph.specs.declared.number.SiteId.{SiteId}
@@ -79,7 +78,7 @@ is_there None = false
 
 abbrev pub names_operand : Program → Proc → Operand → Bool
 names_operand p q (operand.Constant c) = is_there (constant_width p c)
-names_operand p q (operand.Stackdata label) = nat_lt label.number (length (stack_labels q.stack))
+names_operand p q (operand.Stackdata label) = nat_lt label.number (length (stackdata_labels q.stack))
 names_operand p q _ = true
 
 abbrev pub names_rvalue : Program → Rvalue → Bool
@@ -111,7 +110,7 @@ pub record IsGraphOf (p : Program) (q : Proc) (g : Graph) : Type 0 where
   pub valid : IsValid g
   pub variables : g.variables ≡ length q.vars
   -- the Entry takes the arguments to the formals
-  pub formals : with_some (node_of g g.first) (λ node. formals_of node.kind) ≡ Some (counted 0 q.formals)
+  pub formals : with_some (node_of g g.first) (λ node. formals_of node.kind) ≡ Some (range_with_len 0 q.formals)
   -- the CopyIn of each continuation takes its parameters
   pub continuations : map (taken_at g) g.continuations ≡ map (λ c. Some (parameter_targets q c)) q.conts
   pub sites : All (λ node. HasSite q g node.kind) g.nodes

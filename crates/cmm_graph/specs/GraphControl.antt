@@ -5,7 +5,8 @@ use Rattle.std.specs.Prelude.{ℕ, ◌==◌, true, false, List, [], ◌∷◌, s
 use Rattle.cmm_program.specs.Errors.{with_some}
 use Rattle.cmm_program.specs.Values.{Value}
 use Rattle.cmm_program.specs.Acts as act
-use Rattle.cmm_program.specs.Acts.{Act, Held}
+use Rattle.cmm_program.specs.Acts.{Act}
+use Rattle.cmm_program.specs.Orders.{Held}
 use Rattle.cmm_program.specs.Control.{Control}
 use Rattle.cmm_graph.specs.declared.number.NodeId.{NodeId}
 use Rattle.cmm_graph.specs.declared.number.Temporary.{Temporary}

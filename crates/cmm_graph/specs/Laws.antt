@@ -1,11 +1,22 @@
--- What the layers above use of the paths of a graph.
-use Rattle.std.specs.Prelude.{◌≡◌, ◌⊎◌, Contains, Some}
+-- What the layers above use of the paths of a graph, and of runs over graphs.
+use Rattle.std.specs.Prelude.{◌≡◌, ◌⊎◌, ℕ, Bool, true, false, IsTrue, All, Contains, List, flat_map, Some}
+use Rattle.cmm_program.specs.Acts.{evaluated}
+use Rattle.cmm_program.specs.State.{Setting}
+use Rattle.cmm_program.specs.Values.{Reads, Value}
 use Rattle.cmm_graph.specs.declared.number.NodeId.{NodeId}
 use Rattle.cmm_graph.specs.declared.operand.Local.{Local}
+use Rattle.cmm_graph.specs.declared.operand.Rvalue.{Rvalue}
 use Rattle.cmm_graph.specs.declared.node.Node.{Node}
+use Rattle.cmm_graph.specs.declared.node.NodeKind.{NodeKind}
+use Rattle.cmm_graph.specs.declared.node.NodeKind.TheVariants.{Assign}
 use Rattle.cmm_graph.specs.declared.graph.Graph.{Graph}
-use Rattle.cmm_graph.specs.Paths.{node_of, reads, writes}
+use Rattle.cmm_graph.specs.Paths.{node_of, operands_of_rvalue, read_by, reads, writes}
 use Rattle.cmm_graph.specs.Liveness.{IsLiveBefore, IsLiveAfter}
+use Rattle.cmm_graph.specs.Ranges.{IsValid, is_step}
+use Rattle.cmm_graph.specs.Values.{rvalue_value}
+use Rattle.cmm_graph.specs.Acting.{Keeping, act_of}
+use Rattle.cmm_graph.specs.GraphControl.{kind_here}
+use Rattle.cmm_graph.specs.GraphMachine.{graph_state_after}
 
 -- what a node reads is live before it
 abbrev pub ReadIsLive : Type 0
@@ -21,3 +32,30 @@ UnwrittenStaysLive = (g : Graph) (n : NodeId) (node : Node) (l : Local) → node
 abbrev pub NothingElseIsLive : Type 0
 NothingElseIsLive = (g : Graph) (n : NodeId) (node : Node) (l : Local) → node_of g n ≡ Some node → IsLiveBefore g l n →
     Contains (reads node.kind) l ⊎ IsLiveAfter g l node × (¬ Contains (writes node.kind) l)
+
+-- where the graphs of a program are in range, no activation of a run stands at an Entry or a CopyIn
+abbrev pub RunsStandAtSteps : Type 0
+RunsStandAtSteps = (graphs : List Graph) (s : Setting) (input : List ℕ) (m : ℕ) → All IsValid graphs →
+    All (λ c. IsTrue (is_step (kind_here graphs c))) (graph_state_after graphs s input m).controls
+
+-- ---- reads and writes are those of the machine
+
+-- two ways of keeping locals hold the same in these, where only the variables of the store differ
+abbrev pub HoldAlike : (Local → Value) → (Local → Value) → Reads → (ℕ → ℕ) → List Local → Type 0
+HoldAlike held other r variables locals =
+    (l : Local) → Contains locals l → held l r ≡ other l (record r { variable = variables })
+
+-- a right side has the same value where what it reads is held alike
+abbrev pub ValueIsByReads : Type 0
+ValueIsByReads = (held other : Local → Value) (r : Reads) (variables : ℕ → ℕ) (value : Rvalue) →
+    HoldAlike held other r variables (flat_map read_by (operands_of_rvalue value)) →
+    rvalue_value held value r ≡ rvalue_value other value (record r { variable = variables })
+
+abbrev pub is_assignment : NodeKind → Bool
+is_assignment (Assign to value next) = true
+is_assignment _ = false
+
+-- a node that is no assignment asks for the same order where what it reads is held alike
+abbrev pub OrderIsByReads : Type 0
+OrderIsByReads = (k l : Keeping) (r : Reads) (variables : ℕ → ℕ) (kind : NodeKind) → HoldAlike k.held l.held r variables (reads kind) →
+    is_assignment kind ≡ false → evaluated r (act_of k kind) ≡ evaluated (record r { variable = variables }) (act_of l kind)

@@ -1,9 +1,9 @@
 pub mod Paths
 pub mod Ranges
 pub mod Liveness
-pub mod Laws
 pub mod Values
 pub mod Acting
 pub mod GraphControl
 pub mod GraphMachine
 pub mod Counterpart
+pub mod Laws

@@ -31,7 +31,7 @@ impl Graph {
 
     /// The nodes to which the exits of a site lead.
     fn exit_nodes(&self, exits: &Exits, alloc: Global) -> Result<Items<NodeId>, AllocError>
-        ensures { IfOk result (λ nodes. nodes ≡ exit_nodes self.now exits.now) }
+        ensures { IfOk result (λ found. found ≡ exit_nodes self.now exits.now) }
     {
         let mut nodes = Items::new(alloc);
         if let Some(node) = exits.normal {
@@ -45,7 +45,7 @@ impl Graph {
 
     /// The nodes to which a path goes from a node of this kind.
     pub fn successors(&self, kind: &NodeKind, alloc: Global) -> Result<Items<NodeId>, AllocError>
-        ensures { IfOk result (λ nodes. nodes ≡ successors self.now kind.now) }
+        ensures { IfOk result (λ found. found ≡ successors self.now kind.now) }
     {
         match kind {
             NodeKind::Entry { next, .. }
@@ -73,7 +73,7 @@ impl Graph {
         continuations: &[ContinuationId],
         alloc: Global,
     ) -> Result<Items<NodeId>, AllocError>
-        ensures { IfOk result (λ nodes. nodes ≡ landings self.now continuations.now) }
+        ensures { IfOk result (λ found. found ≡ landings self.now continuations.now) }
     {
         let mut nodes = Items::new(alloc);
         self.push_landings(continuations, &mut nodes)?;
@@ -106,7 +106,7 @@ fn switch_nodes(
     otherwise: NodeId,
     alloc: Global,
 ) -> Result<Items<NodeId>, AllocError>
-    ensures { IfOk result (λ nodes. nodes ≡ arm_nodes arms.now ++ otherwise ∷ []) }
+    ensures { IfOk result (λ found. found ≡ arm_nodes arms.now ++ otherwise ∷ []) }
 {
     let mut nodes = Items::new(alloc);
     for arm in arms {
@@ -132,7 +132,7 @@ fn operand_and_values(
     arguments: &[Argument],
     alloc: Global,
 ) -> Result<Items<Operand>, AllocError>
-    ensures { IfOk result (λ operands. operands ≡ operand ∷ values_of arguments.now) }
+    ensures { IfOk result (λ found. found ≡ operand ∷ values_of arguments.now) }
 {
     let mut operands = one(alloc, operand)?;
     push_values(arguments, &mut operands)?;
@@ -141,7 +141,7 @@ fn operand_and_values(
 
 /// What some arguments are.
 fn values_of(arguments: &[Argument], alloc: Global) -> Result<Items<Operand>, AllocError>
-    ensures { IfOk result (λ operands. operands ≡ values_of arguments.now) }
+    ensures { IfOk result (λ found. found ≡ values_of arguments.now) }
 {
     let mut operands = Items::new(alloc);
     push_values(arguments, &mut operands)?;
@@ -150,7 +150,7 @@ fn values_of(arguments: &[Argument], alloc: Global) -> Result<Items<Operand>, Al
 
 impl Rvalue {
     fn operands(self, alloc: Global) -> Result<Items<Operand>, AllocError>
-        ensures { IfOk result (λ operands. operands ≡ operands_of_rvalue self) }
+        ensures { IfOk result (λ found. found ≡ operands_of_rvalue self) }
     {
         match self {
             Rvalue::Copy(operand)
@@ -169,7 +169,7 @@ impl Rvalue {
 
 /// A list of nothing or of one variable, where a target is one.
 fn written_to(target: Target, alloc: Global) -> Result<Items<Local>, AllocError>
-    ensures { IfOk result (λ locals. locals ≡ written_to target) }
+    ensures { IfOk result (λ found. found ≡ written_to target) }
 {
     match target {
         Target::Variable(number, _) => one(alloc, Local::Variable(Variable { number })),
@@ -179,7 +179,7 @@ fn written_to(target: Target, alloc: Global) -> Result<Items<Local>, AllocError>
 
 /// The variables among some targets.
 fn written_to_all(targets: &[Target], alloc: Global) -> Result<Items<Local>, AllocError>
-    ensures { IfOk result (λ locals. locals ≡ flat_map written_to targets.now) }
+    ensures { IfOk result (λ found. found ≡ flat_map written_to targets.now) }
 {
     let mut locals = Items::new(alloc);
     for target in targets {
@@ -192,7 +192,7 @@ fn written_to_all(targets: &[Target], alloc: Global) -> Result<Items<Local>, All
 
 /// Some formals, as locals.
 fn formals_written(formals: &[Variable], alloc: Global) -> Result<Items<Local>, AllocError>
-    ensures { IfOk result (λ locals. locals ≡ flat_map written_by_variable formals.now) }
+    ensures { IfOk result (λ found. found ≡ flat_map written_by_variable formals.now) }
 {
     let mut locals = Items::new(alloc);
     for formal in formals {
@@ -201,10 +201,20 @@ fn formals_written(formals: &[Variable], alloc: Global) -> Result<Items<Local>, 
     Ok(locals)
 }
 
+/// Adds the local that an operand reads, if it is one.
+fn push_read(operand: Operand, to: &mut Items<Local>) -> Result<(), AllocError>
+    ensures { OnOk result (to.new ≡ to.old ++ read_by operand) }
+{
+    if let Operand::Local(local) = operand {
+        to.push(local)?;
+    }
+    Ok(())
+}
+
 impl NodeKind {
     /// The operands of a node.
     pub fn operands(&self, alloc: Global) -> Result<Items<Operand>, AllocError>
-        ensures { IfOk result (λ operands. operands ≡ operands self.now) }
+        ensures { IfOk result (λ found. found ≡ operands self.now) }
     {
         match self {
             NodeKind::Assign { value, .. } => value.operands(alloc),
@@ -232,21 +242,19 @@ impl NodeKind {
 
     /// The locals that a node reads.
     pub fn reads(&self, alloc: Global) -> Result<Items<Local>, AllocError>
-        ensures { IfOk result (λ locals. locals ≡ reads self.now) }
+        ensures { IfOk result (λ found. found ≡ reads self.now) }
     {
         let operands = self.operands(alloc)?;
         let mut locals = Items::new(alloc);
         for operand in operands.as_slice() {
-            if let Operand::Local(local) = *operand {
-                locals.push(local)?;
-            }
+            push_read(*operand, &mut locals)?;
         }
         Ok(locals)
     }
 
     /// The locals that a node writes. That a variable is 0 behind the Entry counts as no write.
     pub fn writes(&self, alloc: Global) -> Result<Items<Local>, AllocError>
-        ensures { IfOk result (λ locals. locals ≡ writes self.now) }
+        ensures { IfOk result (λ found. found ≡ writes self.now) }
     {
         match self {
             NodeKind::Entry { formals, .. } => formals_written(formals.as_slice(), alloc),

@@ -5,4 +5,4 @@ use Rattle.cmm_graph.proofs.node.NodeKind.reads.Given as goal
 
 -- the locals among the operands so far
 abbrev pub invariant-loop-operand : goal.invariant-loop-operand
-invariant-loop-operand l = l.locals ≡ flat_map read_by (take l.operand-index l.operands)
+invariant-loop-operand l = l.locals ≡ flat_map read_by (take l.operand-index l.operand-items)
