@@ -1,9 +1,7 @@
 -- A worked row: the graphs of the program with alternate returns are those of its procedures. So what asks for graphs of a
 -- program can be met.
-use Rattle.std.proofs.Common.{List, [], ◌∷◌, refl}
-use Rattle.cmm_program.specs.declared.procedure.Site.{Site}
+use Rattle.std.proofs.Common.{[], ◌∷◌, refl}
 use Rattle.cmm_program.specs.declared.program.Program.{Program}
-use Rattle.cmm_graph.specs.declared.graph.Graph.{Graph}
 use Rattle.cmm_graph.specs.Counterpart.{HasSite, AreExitsOf, IsGraphOf, AreGraphsOf}
 use Rattle.cmm_graph.proofs.Lists.{all_of_each}
 use Rattle.cmm_graph.proofs.Notation.{n, s, exits, program, site}

@@ -1,6 +1,6 @@
 -- What each operation of a control keeps holds in each state of a run. (This speaks of any control, and should move to the laws
 -- of the machine.)
-use Rattle.std.proofs.Common.{ℕ, zero, suc, List, [], ◌∷◌, drop, Ok, Err, Option, Some, None, arith}
+use Rattle.std.proofs.Common.{ℕ, zero, suc, List, [], ◌∷◌, drop, Ok, Err, Option, Some, None}
 use Rattle.cmm_program.specs.Errors.{Tried}
 use Rattle.cmm_program.specs.State.{Setting, Store, Status, Running, Waiting, Ended, Wrong, StackLimit}
 use Rattle.cmm_program.specs.Exits.{Landing, Called, Instead, Back, Resumed, land}

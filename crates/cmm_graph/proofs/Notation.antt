@@ -4,7 +4,6 @@ use Rattle.cmm_words.specs.declared.width.Width.TheVariants.{W64}
 use Rattle.cmm_words.specs.declared.operators.Op2.{Op2}
 use Rattle.cmm_words.specs.declared.operators.Cmp.{Cmp}
 use Rattle.cmm_words.specs.declared.constant.Constant.TheVariants.{Number, Code}
-use Rattle.cmm_script.specs.declared.script.Script.{Script}
 use Rattle.cmm_script.specs.declared.script.Command.{Command}
 use Rattle.cmm_program.specs.declared.procedure.VarInfo.{VarInfo}
 use Rattle.cmm_program.specs.declared.procedure.Cont.{Cont}
@@ -19,7 +18,6 @@ use Rattle.cmm_graph.specs.declared.number.NodeId.{NodeId}
 use Rattle.cmm_graph.specs.declared.number.SiteId.{SiteId}
 use Rattle.cmm_graph.specs.declared.number.Variable.{Variable}
 use Rattle.cmm_graph.specs.declared.number.ContinuationId.{ContinuationId}
-use Rattle.cmm_graph.specs.declared.operand.Local.{Local}
 use Rattle.cmm_graph.specs.declared.operand.Local.TheVariants as local
 use Rattle.cmm_graph.specs.declared.operand.Operand.{Operand}
 use Rattle.cmm_graph.specs.declared.operand.Operand.TheVariants as operand
@@ -29,7 +27,6 @@ use Rattle.cmm_graph.specs.declared.operand.Rvalue.{Rvalue}
 use Rattle.cmm_graph.specs.declared.operand.Rvalue.TheVariants as rvalue
 use Rattle.cmm_graph.specs.declared.operand.Destination.TheVariants as destination
 use Rattle.cmm_graph.specs.declared.node.Exits.{Exits}
-use Rattle.cmm_graph.specs.declared.node.Node.{Node}
 use Rattle.cmm_graph.specs.declared.node.NodeKind.{NodeKind}
 use Rattle.cmm_graph.specs.declared.node.NodeKind.TheVariants as kind
 use Rattle.cmm_graph.specs.declared.graph.Graph.{Graph}
@@ -98,7 +95,14 @@ variables_of numbers = map (λ number. target.Variable number W64) numbers
 
 abbrev pub site : List ℕ → List ℕ → List ℕ → Site
 site results returns cuts = record {
-  results = variables_of results; returns = returns; unwinds = []; cuts = cuts; aborts = false; never = false; yield_values = None; spans = [];
+  results = variables_of results;
+  returns = returns;
+  unwinds = [];
+  cuts = cuts;
+  aborts = false;
+  never = false;
+  yield_values = None;
+  spans = [];
 }
 
 abbrev pub word_variable : VarInfo

@@ -1,9 +1,8 @@
 -- What a node asks for depends on the locals that it reads alone: by cases on operands, lists of them, right sides and nodes.
-use Rattle.std.proofs.Common.{◌≡◌, ℕ, Bool, true, false, List, [], ◌∷◌, ◌++◌, map, flat_map, Contains, Ok, refl, arith}
+use Rattle.std.proofs.Common.{◌≡◌, ℕ, List, [], ◌∷◌, flat_map, refl, arith}
 use Rattle.std.proofs.lemmas.List.Elements.{Contains-append_left, Contains-append_right}
-use Rattle.cmm_words.specs.declared.width.Width.{Width}
 use Rattle.cmm_program.specs.Values.{Reads, Value}
-use Rattle.cmm_program.specs.Acts.{values_of, words_of, evaluated}
+use Rattle.cmm_program.specs.Acts.{values_of, words_of}
 use Rattle.cmm_graph.specs.declared.operand.Local.{Local}
 use Rattle.cmm_graph.specs.declared.operand.Operand.{Operand}
 use Rattle.cmm_graph.specs.declared.operand.Operand.TheVariants.{Constant, Local as OfLocal, Stackdata, Continuation}
@@ -12,11 +11,9 @@ use Rattle.cmm_graph.specs.declared.operand.Comparison.{Comparison}
 use Rattle.cmm_graph.specs.declared.operand.Rvalue.{Rvalue}
 use Rattle.cmm_graph.specs.declared.operand.Rvalue.TheVariants.{Copy, Register, Load, Unary, Binary, Compare, SignExtend, LowBits}
 use Rattle.cmm_graph.specs.declared.node.HostCall.TheVariants.{PutByte, GetByte}
-use Rattle.cmm_graph.specs.declared.node.NodeKind.{NodeKind}
 use Rattle.cmm_graph.specs.declared.node.NodeKind.TheVariants.{Entry, CopyIn, Assign, Store, Branch, Switch, Call, Yield, Jump, Cut, Return, Host, Stop}
-use Rattle.cmm_graph.specs.Acting.{Keeping, act_of}
 use Rattle.cmm_graph.specs.Laws.{HoldAlike, ValueIsByReads, OrderIsByReads}
-use Rattle.cmm_graph.specs.Paths.{read_by, values_of as argument_values, operands, operands_of_rvalue}
+use Rattle.cmm_graph.specs.Paths.{read_by, values_of as argument_values, operands_of_rvalue}
 use Rattle.cmm_graph.specs.Values.{operand_value, operand_values, passed, test_value, rvalue_value}
 
 module _ (held other : Local → Value) (r : Reads) (variables : ℕ → ℕ) where
@@ -79,15 +76,24 @@ order_is_by_reads k l r variables (Store width aligned a b next) alike is =
 order_is_by_reads k l r variables (Branch test then_ otherwise) alike is = grind (arith, test_alike k.held l.held r variables test alike)
 order_is_by_reads k l r variables (Switch value arms otherwise) alike is = grind (arith, one_alike k.held l.held r variables value [] alike)
 order_is_by_reads k l r variables (Call site callee arguments exits) alike is =
-    grind (arith, one_alike k.held l.held r variables callee (argument_values arguments) alike,
-      arguments_alike k.held l.held r variables arguments (others_alike k.held l.held r variables callee (argument_values arguments) alike))
+    grind (
+      arith,
+      one_alike k.held l.held r variables callee (argument_values arguments) alike,
+      arguments_alike k.held l.held r variables arguments (others_alike k.held l.held r variables callee (argument_values arguments) alike),
+    )
 order_is_by_reads k l r variables (Yield site values exits) alike is = grind (arith, operands_alike k.held l.held r variables values alike)
 order_is_by_reads k l r variables (Jump callee arguments) alike is =
-    grind (arith, one_alike k.held l.held r variables callee (argument_values arguments) alike,
-      arguments_alike k.held l.held r variables arguments (others_alike k.held l.held r variables callee (argument_values arguments) alike))
+    grind (
+      arith,
+      one_alike k.held l.held r variables callee (argument_values arguments) alike,
+      arguments_alike k.held l.held r variables arguments (others_alike k.held l.held r variables callee (argument_values arguments) alike),
+    )
 order_is_by_reads k l r variables (Cut to arguments own) alike is =
-    grind (arith, one_alike k.held l.held r variables to (argument_values arguments) alike,
-      arguments_alike k.held l.held r variables arguments (others_alike k.held l.held r variables to (argument_values arguments) alike))
+    grind (
+      arith,
+      one_alike k.held l.held r variables to (argument_values arguments) alike,
+      arguments_alike k.held l.held r variables arguments (others_alike k.held l.held r variables to (argument_values arguments) alike),
+    )
 order_is_by_reads k l r variables (Return exit alternates results) alike is = grind (arith, arguments_alike k.held l.held r variables results alike)
 order_is_by_reads k l r variables (Host (PutByte value) next) alike is = grind (arith, one_alike k.held l.held r variables value [] alike)
 order_is_by_reads k l r variables (Host (GetByte to) next) alike is = refl

@@ -1,14 +1,13 @@
 -- In graphs in range no activation stands at an Entry or a CopyIn: a node leads only to nodes where a run may stand, and so do
 -- Entries and CopyIns, behind which landings are done.
-use Rattle.std.proofs.Common.{◌≡◌, ℕ, zero, suc, ◌&&◌, nat_lt, Bool, true, false, List, ◌∷◌, slice_get, All, IsTrue, Option, Some, None, refl, arith}
+use Rattle.std.proofs.Common.{◌≡◌, ℕ, zero, suc, ◌&&◌, nat_lt, Bool, false, List, slice_get, All, IsTrue, Option, Some, None, refl, arith}
 use Rattle.std.specs.List.{list_all}
 use Rattle.cmm_program.specs.Errors.{with_some}
-use Rattle.cmm_program.specs.State.{Setting}
 use Rattle.cmm_graph.specs.declared.number.NodeId.{NodeId}
 use Rattle.cmm_graph.specs.declared.node.Arm.{Arm}
 use Rattle.cmm_graph.specs.declared.node.Node.{Node}
 use Rattle.cmm_graph.specs.declared.node.NodeKind.{NodeKind}
-use Rattle.cmm_graph.specs.declared.node.NodeKind.TheVariants.{Entry, CopyIn, Assign, Store, Branch, Switch, Call, Yield, Jump, Cut, Return, Host, Stop}
+use Rattle.cmm_graph.specs.declared.node.NodeKind.TheVariants.{Entry, CopyIn, Assign, Store, Branch, Switch, Call, Yield, Host, Stop}
 use Rattle.cmm_graph.specs.declared.graph.Graph.{Graph}
 use Rattle.cmm_graph.specs.Paths.{node_of, landing_of}
 use Rattle.cmm_program.specs.Typing.{is_alignment}

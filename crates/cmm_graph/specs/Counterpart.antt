@@ -1,9 +1,8 @@
 -- When a graph is one of a procedure: it has the procedure's variables, its landings take what those of the procedure take,
 -- its sites have the exits of the procedure's sites, and it names only what the program has. What the nodes do is not asked
 -- here.
-use Rattle.std.specs.Prelude.{◌≡◌, ℕ, ◌&&◌, nat_lt, Bool, true, false, IsTrue, List, [], ◌∷◌, ◌++◌, map, length, slice_get, Option, Some, None}
+use Rattle.std.specs.Prelude.{◌≡◌, ℕ, ◌&&◌, nat_lt, Bool, true, false, IsTrue, List, [], ◌∷◌, map, length, slice_get, Option, Some, None}
 use Rattle.std.specs.List.{All, AllZip, list_all, range_with_len}
-use Rattle.cmm_words.specs.declared.constant.Constant.{Constant}
 use Rattle.cmm_program.specs.declared.procedure.Target.{Target}
 use Rattle.cmm_program.specs.declared.procedure.Target.TheVariants as target
 use Rattle.cmm_program.specs.declared.procedure.Proc.{Proc}
@@ -24,8 +23,7 @@ use Rattle.cmm_graph.specs.declared.operand.Rvalue.TheVariants as rvalue
 use Rattle.cmm_graph.specs.declared.operand.Destination.{Destination}
 use Rattle.cmm_graph.specs.declared.operand.Destination.TheVariants as destination
 use Rattle.cmm_graph.specs.declared.node.Exits.{Exits}
-use Rattle.cmm_graph.specs.declared.node.HostCall.TheVariants.{PutByte, GetByte}
-use Rattle.cmm_graph.specs.declared.node.Node.{Node}
+use Rattle.cmm_graph.specs.declared.node.HostCall.TheVariants.{GetByte}
 use Rattle.cmm_graph.specs.declared.node.NodeKind.{NodeKind}
 use Rattle.cmm_graph.specs.declared.node.NodeKind.TheVariants.{Entry, CopyIn, Assign, Call, Yield, Host}
 use Rattle.cmm_graph.specs.declared.graph.Graph.{Graph}

@@ -1,10 +1,14 @@
 -- What the layers above use of the paths of a graph, and of runs over graphs.
-use Rattle.std.specs.Prelude.{◌≡◌, ◌⊎◌, ℕ, Bool, true, false, IsTrue, All, Contains, List, flat_map, Some}
+use Rattle.std.specs.Prelude.{◌≡◌, ◌⊎◌, ℕ, Bool, true, false, IsTrue, All, Contains, List, [], ◌∷◌, flat_map, slice_index_or, Some}
 use Rattle.cmm_program.specs.Acts.{evaluated}
-use Rattle.cmm_program.specs.State.{Setting}
+use Rattle.cmm_program.specs.Control.{State}
+use Rattle.cmm_program.specs.State.{Activation, Running, Setting, Store}
 use Rattle.cmm_program.specs.Values.{Reads, Value}
+use Rattle.cmm_program.specs.Writes.{variables_of}
 use Rattle.cmm_graph.specs.declared.number.NodeId.{NodeId}
+use Rattle.cmm_graph.specs.declared.number.Temporary.{Temporary}
 use Rattle.cmm_graph.specs.declared.operand.Local.{Local}
+use Rattle.cmm_graph.specs.declared.operand.Local.TheVariants as local
 use Rattle.cmm_graph.specs.declared.operand.Rvalue.{Rvalue}
 use Rattle.cmm_graph.specs.declared.node.Node.{Node}
 use Rattle.cmm_graph.specs.declared.node.NodeKind.{NodeKind}
@@ -14,9 +18,9 @@ use Rattle.cmm_graph.specs.Paths.{node_of, operands_of_rvalue, read_by, reads, w
 use Rattle.cmm_graph.specs.Liveness.{IsLiveBefore, IsLiveAfter}
 use Rattle.cmm_graph.specs.Ranges.{IsValid, is_step}
 use Rattle.cmm_graph.specs.Values.{rvalue_value}
-use Rattle.cmm_graph.specs.Acting.{Keeping, act_of}
-use Rattle.cmm_graph.specs.GraphControl.{kind_here}
-use Rattle.cmm_graph.specs.GraphMachine.{graph_state_after}
+use Rattle.cmm_graph.specs.Acting.{Keeping, act_of, led}
+use Rattle.cmm_graph.specs.GraphControl.{Position, kind_here}
+use Rattle.cmm_graph.specs.GraphMachine.{graph_state_after, graph_step}
 
 -- what a node reads is live before it
 abbrev pub ReadIsLive : Type 0
@@ -59,3 +63,18 @@ is_assignment _ = false
 abbrev pub OrderIsByReads : Type 0
 OrderIsByReads = (k l : Keeping) (r : Reads) (variables : ℕ → ℕ) (kind : NodeKind) → HoldAlike k.held l.held r variables (reads kind) →
     is_assignment kind ≡ false → evaluated r (act_of k kind) ≡ evaluated (record r { variable = variables }) (act_of l kind)
+
+-- what a local holds: a variable of the youngest of these activations, or one of these temporaries
+abbrev pub held_among : List Activation → (Temporary → ℕ) → Local → ℕ
+held_among activations temporaries (local.Variable v) = slice_index_or (variables_of activations) v.number 0
+held_among activations temporaries (local.Temporary t) = temporaries t
+
+-- what a local of the youngest activation holds in a state
+abbrev pub held_in : State Position → Local → ℕ
+held_in st l = elim st.controls [ [] ↦ 0 | c ∷ _ ↦ held_among st.store.activations c.temporaries l ]
+
+-- a step at a node that leads on leaves what each local holds that the node does not write
+abbrev pub UnwrittenKeepsValue : Type 0
+UnwrittenKeepsValue = (graphs : List Graph) (s : Setting) (store : Store) (c : Position) (cs : List Position) (l : Local) (n : NodeId) →
+    store.status ≡ Running → led 0 (kind_here graphs c) ≡ Some n → ¬ Contains (writes (kind_here graphs c)) l →
+    let st : State Position = record { store = store; controls = c ∷ cs } in held_in (graph_step graphs s st) l ≡ held_in st l

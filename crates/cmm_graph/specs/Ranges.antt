@@ -1,6 +1,6 @@
 -- Which graphs are in range: each number names what the graph has, a node leads only to nodes where a run may stand, and
 -- landings are Entries and CopyIns.
-use Rattle.std.specs.Prelude.{ℕ, ◌^◌, ◌&&◌, nat_le, nat_lt, Bool, true, false, IsTrue, length, Option, Some, None}
+use Rattle.std.specs.Prelude.{◌^◌, ◌&&◌, nat_le, nat_lt, Bool, true, false, IsTrue, length, Option, Some, None}
 use Rattle.std.specs.List.{list_all}
 use Rattle.cmm_words.specs.declared.constant.Constant.{Constant}
 use Rattle.cmm_words.specs.declared.constant.Constant.TheVariants.{Number, Code, Address}

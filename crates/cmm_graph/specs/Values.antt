@@ -1,6 +1,6 @@
 -- What operands, tests and right sides give, for any way of keeping locals (C-- Language Specification 2.0, expressions).
 -- An operator gives what it gives in an expression of the program.
-use Rattle.std.specs.Prelude.{ℕ, true, false, List, map, Ok}
+use Rattle.std.specs.Prelude.{true, false, List, map, Ok}
 use Rattle.cmm_words.specs.Words.{holds}
 use Rattle.cmm_program.specs.declared.expression.Expression.TheOpen as e
 use Rattle.cmm_program.specs.Errors.{and_then}

@@ -1,6 +1,6 @@
 //! Laws of the paths of a graph, and of runs over graphs. Each is the contract of a function that does nothing.
 
-ghost use Rattle.cmm_graph.specs.Laws.{NothingElseIsLive, OrderIsByReads, ReadIsLive, RunsStandAtSteps, UnwrittenStaysLive, ValueIsByReads};
+ghost use Rattle.cmm_graph.specs.Laws.{NothingElseIsLive, OrderIsByReads, ReadIsLive, RunsStandAtSteps, UnwrittenKeepsValue, UnwrittenStaysLive, ValueIsByReads};
 
 /// A local is live before a node exactly where the node reads it, or does not write it and leads to a node before which
 /// it is live.
@@ -21,4 +21,9 @@ pub fn runs_stand_at_steps()
 pub fn nodes_ask_by_reads()
     ensures values { ValueIsByReads }
     ensures orders { OrderIsByReads }
+{}
+
+/// A step at a node that leads on in its activation changes only the locals that the node writes.
+pub fn nodes_change_what_they_write()
+    ensures { UnwrittenKeepsValue }
 {}

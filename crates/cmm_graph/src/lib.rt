@@ -26,13 +26,9 @@ mod paths;
 mod text;
 mod validity;
 
-
-
 pub use graph::Graph;
 pub use node::{Arm, Exits, HostCall, Node, NodeKind};
-pub use number::{
-    ContinuationId, NodeId, Register, SiteId, StackLabel, Temporary, Variable,
-};
+pub use number::{ContinuationId, NodeId, Register, SiteId, StackLabel, Temporary, Variable};
 pub use operand::{Argument, Comparison, Destination, Local, Operand, Rvalue};
 
 #[cfg(test)]

@@ -55,7 +55,10 @@ pub enum NodeKind {
         next: NodeId,
     },
     /// Variables and global registers take what an exit of a site brings.
-    CopyIn { to: Items<Target>, next: NodeId },
+    CopyIn {
+        to: Items<Target>,
+        next: NodeId,
+    },
     Assign {
         to: Destination,
         value: Rvalue,
@@ -112,7 +115,10 @@ pub enum NodeKind {
         alternates: u32,
         results: Items<Argument>,
     },
-    Host { call: HostCall, next: NodeId },
+    Host {
+        call: HostCall,
+        next: NodeId,
+    },
     /// The end of a body, where a run goes wrong.
     Stop,
 }

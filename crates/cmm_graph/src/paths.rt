@@ -54,16 +54,22 @@ impl Graph {
             | NodeKind::Store { next, .. }
             | NodeKind::Host { next, .. } => one(alloc, *next),
             NodeKind::Branch {
-                then, otherwise, ..
+                then,
+                otherwise,
+                ..
             } => two(alloc, *then, *otherwise),
             NodeKind::Switch {
-                arms, otherwise, ..
+                arms,
+                otherwise,
+                ..
             } => switch_nodes(arms.as_slice(), *otherwise, alloc),
             NodeKind::Call { exits, .. } | NodeKind::Yield { exits, .. } => {
                 self.exit_nodes(exits, alloc)
             }
             NodeKind::Cut { own, .. } => self.landings(own.as_slice(), alloc),
-            NodeKind::Jump { .. } | NodeKind::Return { .. } | NodeKind::Stop => Ok(Items::new(alloc)),
+            NodeKind::Jump { .. } | NodeKind::Return { .. } | NodeKind::Stop => Ok(Items::new(
+                alloc,
+            )),
         }
     }
 
@@ -101,11 +107,7 @@ fn two<T: Drop>(alloc: Global, first: T, second: T) -> Result<Items<T>, AllocErr
 }
 
 /// The nodes of a switch.
-fn switch_nodes(
-    arms: &[Arm],
-    otherwise: NodeId,
-    alloc: Global,
-) -> Result<Items<NodeId>, AllocError>
+fn switch_nodes(arms: &[Arm], otherwise: NodeId, alloc: Global) -> Result<Items<NodeId>, AllocError>
     ensures { IfOk result (λ found. found ≡ arm_nodes arms.now ++ otherwise ∷ []) }
 {
     let mut nodes = Items::new(alloc);
@@ -155,7 +157,8 @@ impl Rvalue {
         match self {
             Rvalue::Copy(operand)
             | Rvalue::Load {
-                address: operand, ..
+                address: operand,
+                ..
             }
             | Rvalue::Unary { operand, .. }
             | Rvalue::SignExtend { operand, .. }
@@ -222,7 +225,9 @@ impl NodeKind {
             NodeKind::Branch { test, .. } => two(alloc, test.left, test.right),
             NodeKind::Switch { value, .. } => one(alloc, *value),
             NodeKind::Call {
-                callee, arguments, ..
+                callee,
+                arguments,
+                ..
             }
             | NodeKind::Jump { callee, arguments } => {
                 operand_and_values(*callee, arguments.as_slice(), alloc)

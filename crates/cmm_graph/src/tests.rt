@@ -100,7 +100,10 @@ fn call_graph(alloc: Global) -> Result<Graph, AllocError> {
         cuts: Items::new(alloc),
     };
     let arm = Arm {
-        ranges: Items::from_slice(alloc, &[Range { from: 0, to: 9 }, Range { from: 12, to: 12 }])?,
+        ranges: Items::from_slice(
+            alloc,
+            &[Range { from: 0, to: 9 }, Range { from: 12, to: 12 }],
+        )?,
         to: at(4),
     };
     let x = Target::Variable(0, Width::W64);
@@ -141,17 +144,22 @@ fn graphs_as_text(rt: HostRuntime) -> Result<(), Fail> {
     let counts = loop_graph(alloc)?;
     assert!(rt; counts.valid());
     let text = format!(in alloc; "{counts}")?;
-    assert_eq!(rt; text.as_str(), "from n0, 2 variables, 1 temporaries\n\
+    assert_eq!(rt;
+        text.as_str(),
+        "from n0, 2 variables, 1 temporaries\n\
         n0: entry () -> n1\n\
         n1: if ltu.64 v0, 4 -> n2 else n5\n\
         n2: t0 = mul.64 v0, v0 -> n3\n\
         n3: v1 = add.64 v1, t0 -> n4\n\
         n4: v0 = add.64 v0, 1 -> n1\n\
-        n5: return 0/0 (v1:64)\n");
+        n5: return 0/0 (v1:64)\n"
+    );
     let calls = call_graph(alloc)?;
     assert!(rt; calls.valid());
     let text = format!(in alloc; "{calls}")?;
-    assert_eq!(rt; text.as_str(), "from n0, 1 variables, 0 temporaries\n\
+    assert_eq!(rt;
+        text.as_str(),
+        "from n0, 1 variables, 0 temporaries\n\
         n0: entry (v0) -> n1\n\
         n1: call s0 p1 (v0:64, k0:64) -> n2 returns k0 cuts k0\n\
         n2: copyin (v0) -> n3\n\
@@ -162,7 +170,8 @@ fn graphs_as_text(rt: HostRuntime) -> Result<(), Fail> {
         n7: copyin (v0) -> n8\n\
         n8: jump p1 (v0:64)\n\
         n9: stop\n\
-        k0: n7\n");
+        k0: n7\n"
+    );
     Ok(())
 }
 
@@ -206,9 +215,27 @@ fn graphs_out_of_range(rt: HostRuntime) -> Result<(), Fail> {
     let wrong: [(&str, u32, u32, Rvalue, u32); 10] = [
         ("a node without a token", 0, 0, copy, 2),
         ("to a variable past the last", 1, 1, copy, 2),
-        ("of a temporary past the last", 1, 0, Rvalue::Copy(temporary(1)), 2),
-        ("of a variable past the last", 1, 0, Rvalue::Copy(variable(1)), 2),
-        ("of a number of nine bits in eight", 1, 0, Rvalue::Copy(long), 2),
+        (
+            "of a temporary past the last",
+            1,
+            0,
+            Rvalue::Copy(temporary(1)),
+            2,
+        ),
+        (
+            "of a variable past the last",
+            1,
+            0,
+            Rvalue::Copy(variable(1)),
+            2,
+        ),
+        (
+            "of a number of nine bits in eight",
+            1,
+            0,
+            Rvalue::Copy(long),
+            2,
+        ),
         ("of a continuation past the last", 1, 0, Rvalue::Copy(k1), 2),
         ("a load aligned to 3 bytes", 1, 0, load, 2),
         ("to a node past the last", 1, 0, copy, 4),

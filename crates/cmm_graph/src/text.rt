@@ -6,9 +6,7 @@
 
 use crate::graph::Graph;
 use crate::node::{Arm, Exits, HostCall, NodeKind};
-use crate::number::{
-    ContinuationId, NodeId, Register, SiteId, StackLabel, Temporary, Variable,
-};
+use crate::number::{ContinuationId, NodeId, Register, SiteId, StackLabel, Temporary, Variable};
 use crate::operand::{Argument, Comparison, Destination, Local, Operand, Rvalue};
 use cmm_program::{Range, Target};
 use cmm_words::{Cmp, Constant, Op1, Op2};
@@ -369,7 +367,10 @@ impl fmt::Display for NodeKind {
                 next,
             } => {
                 let bits = width.bits();
-                write!(f, "store.{bits} aligned {aligned} {address}, {value} -> {next}")
+                write!(
+                    f,
+                    "store.{bits} aligned {aligned} {address}, {value} -> {next}"
+                )
             }
             NodeKind::Branch {
                 test,
@@ -397,7 +398,10 @@ impl fmt::Display for Graph {
         let first = self.first;
         let variables = self.variables;
         let temporaries = self.temporaries;
-        write!(f, "from {first}, {variables} variables, {temporaries} temporaries\n")?;
+        write!(
+            f,
+            "from {first}, {variables} variables, {temporaries} temporaries\n"
+        )?;
         for (number, node) in self.nodes.iter().enumerate() {
             let kind = &node.kind;
             write!(f, "n{number}: {kind}\n")?;

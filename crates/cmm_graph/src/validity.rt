@@ -137,7 +137,9 @@ impl Graph {
             Rvalue::Copy(operand) | Rvalue::Unary { operand, .. } => self.has_operand(operand),
             Rvalue::Register(_) => true,
             Rvalue::Load {
-                aligned, address, ..
+                aligned,
+                address,
+                ..
             } => is_alignment(aligned) && self.has_operand(address),
             Rvalue::Binary { left, right, .. } => self.has_operand(left) && self.has_operand(right),
             Rvalue::Compare(test) => self.has_test(test),
@@ -325,8 +327,6 @@ impl Graph {
     pub fn valid(&self) -> bool
         ensures { IsTrue result ↔ IsValid self.now }
     {
-        self.leads_to_entry(self.first)
-            && self.has_nodes()
-            && self.has_landings()
+        self.leads_to_entry(self.first) && self.has_nodes() && self.has_landings()
     }
 }

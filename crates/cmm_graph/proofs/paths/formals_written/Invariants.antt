@@ -1,4 +1,4 @@
-use Rattle.std.proofs.Common.{◌≡◌, List, [], ◌++◌, take}
+use Rattle.std.proofs.Common.{◌≡◌, take}
 use Rattle.std.specs.List.{flat_map}
 use Rattle.cmm_graph.specs.Paths.{written_by_variable}
 use Rattle.cmm_graph.proofs.paths.formals_written.Given as goal

@@ -1,4 +1,4 @@
-use Rattle.std.proofs.Common.{◌≡◌, List, [], ◌++◌, take}
+use Rattle.std.proofs.Common.{◌≡◌, ◌++◌, take}
 use Rattle.cmm_graph.specs.Paths.{values_of}
 use Rattle.cmm_graph.proofs.paths.push_values.Given as goal
 

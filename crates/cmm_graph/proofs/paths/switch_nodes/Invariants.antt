@@ -1,4 +1,4 @@
-use Rattle.std.proofs.Common.{◌≡◌, List, [], ◌++◌, take}
+use Rattle.std.proofs.Common.{◌≡◌, take}
 use Rattle.cmm_graph.specs.Paths.{arm_nodes}
 use Rattle.cmm_graph.proofs.paths.switch_nodes.Given as goal
 

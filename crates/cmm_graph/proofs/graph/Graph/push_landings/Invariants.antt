@@ -1,4 +1,4 @@
-use Rattle.std.proofs.Common.{◌≡◌, List, [], ◌++◌, take}
+use Rattle.std.proofs.Common.{◌≡◌, ◌++◌, take}
 use Rattle.cmm_graph.specs.Paths.{landings}
 use Rattle.cmm_graph.proofs.graph.Graph.push_landings.Given as goal
 
