@@ -1,9 +1,10 @@
 #!/usr/bin/env python3
-"""Runs the examples of README.md with the built program, and compares what they print.
+"""Runs the examples of README.md with a built program, and compares what they print: examples.py [PROGRAM].
 
 An example is an indented line `$ COMMAND` of README.md with the lines below it, up to the next such line or the end of its block: what the command
 must print on both streams together. A command that is `./cmm ..; echo $?` so shows its exit status; any other must end with 0. Each .cmm file of
-examples/ must stand in an example. The last line is `N passed, M failed`.
+examples/ must stand in an example. PROGRAM is run in place of ./cmm, which would prove and build the program first where its sources have changed:
+`rt ci` leaves the one that it proved in crates/cmm/out/cmm. The last line is `N passed, M failed`.
 """
 import os
 import re
@@ -29,9 +30,9 @@ def examples(text):
     return [(command, "\n".join(lines).rstrip("\n").splitlines()) for command, lines in found]
 
 
-def fault_of(command, wanted):
+def fault_of(command, wanted, program):
     """What is wrong with an example, if anything is."""
-    ran = subprocess.run(["bash", "-c", command], cwd=TOP, stdin=subprocess.DEVNULL, stdout=subprocess.PIPE, stderr=subprocess.STDOUT, timeout=600)
+    ran = subprocess.run(["bash", "-c", command.replace("./cmm ", f"{program} ")], cwd=TOP, stdin=subprocess.DEVNULL, stdout=subprocess.PIPE, stderr=subprocess.STDOUT, timeout=600)
     printed = ran.stdout.decode(errors="replace").splitlines()
     if ran.returncode:
         return f"ended with {ran.returncode} and printed {printed}"
@@ -40,14 +41,14 @@ def fault_of(command, wanted):
     return None
 
 
-def main():
+def main(program="./cmm"):
     with open(f"{TOP}/README.md", encoding="utf-8") as page:
         found = examples(page.read())
     shown = " ".join(command for command, _ in found)
     faults = [f"{name}: no example of README.md runs it" for name in sorted(os.listdir(f"{TOP}/examples")) if name.endswith(".cmm") and not re.search(rf"\./cmm .*\bexamples/{re.escape(name)}\b", shown)]
     passed = 0
     for command, wanted in found:
-        fault = fault_of(command, wanted)
+        fault = fault_of(command, wanted, program)
         if fault:
             faults.append(f"{command}: {fault}")
         else:
@@ -59,4 +60,4 @@ def main():
 
 
 if __name__ == "__main__":
-    sys.exit(main())
+    sys.exit(main(*sys.argv[1:]))
