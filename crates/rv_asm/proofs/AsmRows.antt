@@ -3,7 +3,7 @@ use Rattle.std.proofs.Common.{◌≡◌, ℕ, refl, arith, inl, negsuc}
 use Rattle.std.specs.Prelude.{List, [], ◌∷◌, Option, Some, None, true, false, ◌==◌}
 use Rattle.std.specs.Int.{w32, to_le_bytes}
 use Rattle.std.specs.List.{All, flat_map}
-use Rattle.std.proofs.lemmas.List.Elements.{All-cons, All-nil}
+use Rattle.std.proofs.lemmas.List.Elements.{All-cons, All-from_recursion, All-nil}
 use Rattle.cmm_words.specs.declared.operators.Cmp.TheVariants.{Ne}
 use Rattle.rv_table.specs.declared.instruction.Instr.TheVariants.{Addi}
 use Rattle.rv_table.specs.Machine.{MemoryMap, State, steps}
@@ -84,8 +84,8 @@ reached =
     (omega arith, inl (omega arith))
     (All-cons (IsReached value 0x10000) (record { place = 24; symbol = 3; relative = false }) [] (omega arith, inl (omega arith)) (All-nil (IsReached value 0x10000)))
 
-called : GoesToCode labels value (Call (label 1))
-called = refl
+called : All (GoesToCode labels value) parts
+called = All-from_recursion (GoesToCode labels value) parts (tt, (tt, (tt, (refl, (tt, (tt, (tt, (tt, tt))))))))
 
 contained : Contains map 0x10000 (filled value 0x10000 fixes bytes)
 contained = record { front = []; back = []; whole = refl; place = refl }

@@ -29,7 +29,7 @@ use Rattle.rv_asm.specs.declared.part.Part.TheVariants.{Single, Place, Branch, J
 pub code-append : (is js : List Instr) → code_of (is ++ js) ≡ code_of is ++ code_of js
 code-append is js = flat_map-append (λ i. to_le_bytes w32 (word_of i)) is js
 
-filled-append : (value : ℕ → ℕ) (at : ℕ) (fs gs : List CodeFix) (bytes : List ℕ) → filled value at (fs ++ gs) bytes ≡ filled value at gs (filled value at fs bytes)
+pub filled-append : (value : ℕ → ℕ) (at : ℕ) (fs gs : List CodeFix) (bytes : List ℕ) → filled value at (fs ++ gs) bytes ≡ filled value at gs (filled value at fs bytes)
 filled-append value at [] gs bytes = refl
 filled-append value at (f ∷ fs) gs bytes = filled-append value at fs gs _
 

@@ -10,6 +10,7 @@ mod Validity
 mod Standing
 mod Filled
 mod Fixes
+mod Fixing
 mod Finished
 mod Emitting
 mod Singles

@@ -9,4 +9,5 @@ pub mod Assembly
 pub mod Sizes
 pub mod Filling
 pub mod Finishing
+pub mod Fixing
 pub mod inside

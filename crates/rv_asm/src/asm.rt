@@ -1,6 +1,6 @@
 //! A list of parts that grows at its end.
 
-ghost use Rattle.std.specs.Prelude.{◌≡◌, ◌≢◌, ◌%◌, ◌+◌, ◌-◌, ◌<◌, ◌≤◌, ◌^◌, ◌++◌, ◌∷◌, [], length, Some, IsTrue, true, false, slice_get, slice_set, IfOk, OnOk, OnErr};
+ghost use Rattle.std.specs.Prelude.{◌≡◌, ◌≢◌, ◌%◌, ◌+◌, ◌<◌, ◌≤◌, ◌^◌, ◌++◌, ◌∷◌, [], length, Some, IsTrue, true, false, slice_get, slice_set, IfOk, OnOk, OnErr};
 ghost use Rattle.std.specs.List.{All};
 ghost use Rattle.rv_table.specs.Table.{IsValid};
 ghost use Rattle.rv_asm.specs.Filling.{AreApart};
@@ -13,7 +13,7 @@ use crate::part::{Label, Meaning, Part};
 use cmm_items::Items;
 use cmm_words::Cmp;
 use rv_table::Instr;
-use std::alloc::{AllocError, AllocFailed, Global};
+use std::alloc::{AllocError, Global};
 use std::marker::Model;
 
 /// Code that is assembled, part by part. Contracts see it as the parts so far and the meanings of the labels.
@@ -54,7 +54,7 @@ impl Asm {
 
     /// Makes a label for a place in the code. An error is want of memory, and nothing is changed.
     pub fn label(&mut self) -> Result<Label, AllocError>
-        requires { length self.old.labels < 2 ^ 32 - 1 }
+        requires { length self.old.labels < 2 ^ 32 }
         ensures number { IfOk result (λ label. label.number ≡ length self.old.labels) }
         ensures parts { self.new.parts ≡ self.old.parts }
         ensures labels { OnOk result (self.new.labels ≡ self.old.labels ++ Meaning.Inner false ∷ []) }
@@ -68,7 +68,7 @@ impl Asm {
 
     /// Makes a label for a symbol outside of the code, by the symbol's number. An error is want of memory, and nothing is changed.
     pub fn outer(&mut self, symbol: u32, relative: bool) -> Result<Label, AllocError>
-        requires { length self.old.labels < 2 ^ 32 - 1 }
+        requires { length self.old.labels < 2 ^ 32 }
         ensures number { IfOk result (λ label. label.number ≡ length self.old.labels) }
         ensures parts { self.new.parts ≡ self.old.parts }
         ensures labels { OnOk result (self.new.labels ≡ self.old.labels ++ Meaning.Outer symbol relative ∷ []) }
