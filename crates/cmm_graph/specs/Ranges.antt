@@ -28,7 +28,7 @@ use Rattle.cmm_graph.specs.declared.node.HostCall.{HostCall}
 use Rattle.cmm_graph.specs.declared.node.HostCall.TheVariants.{PutByte, GetByte}
 use Rattle.cmm_graph.specs.declared.node.Node.{Node}
 use Rattle.cmm_graph.specs.declared.node.NodeKind.{NodeKind}
-use Rattle.cmm_graph.specs.declared.node.NodeKind.TheVariants.{Entry, CopyIn, Assign, Store, Branch, Switch, Call, Yield, Jump, Cut, Return, Host, Stop}
+use Rattle.cmm_graph.specs.declared.node.NodeKind.TheVariants.{Entry, CopyIn, Assign, Store, Branch, Switch, Call, Yield, Jump, Cut, Return, Host}
 use Rattle.cmm_graph.specs.declared.graph.Graph.{Graph}
 use Rattle.cmm_graph.specs.Paths.{node_of}
 
@@ -126,6 +126,15 @@ module _ (g : Graph) where
 
   -- ---- nodes
 
+  -- one that leaves its procedure or waits at a site
+  abbrev pub is_transfer : NodeKind → Bool
+  is_transfer (Call site callee arguments exits) = is_operand callee && list_all is_argument arguments && are_exits exits
+  is_transfer (Yield site values exits) = list_all is_operand values && are_exits exits
+  is_transfer (Jump callee arguments) = is_operand callee && list_all is_argument arguments
+  is_transfer (Cut to arguments own) = is_operand to && list_all is_argument arguments && list_all is_continuation own
+  is_transfer (Return exit alternates results) = nat_le exit alternates && list_all is_argument results
+  is_transfer _ = true
+
   abbrev pub is_kind : NodeKind → Bool
   is_kind (Entry formals next) = list_all is_variable formals && leads_to is_step next
   is_kind (CopyIn to next) = list_all is_target to && leads_to is_step next
@@ -134,13 +143,8 @@ module _ (g : Graph) where
       is_alignment aligned && is_operand address && is_operand value && leads_to is_step next
   is_kind (Branch test then_ otherwise) = is_test test && leads_to is_step then_ && leads_to is_step otherwise
   is_kind (Switch value arms otherwise) = is_operand value && list_all is_arm arms && leads_to is_step otherwise
-  is_kind (Call site callee arguments exits) = is_operand callee && list_all is_argument arguments && are_exits exits
-  is_kind (Yield site values exits) = list_all is_operand values && are_exits exits
-  is_kind (Jump callee arguments) = is_operand callee && list_all is_argument arguments
-  is_kind (Cut to arguments own) = is_operand to && list_all is_argument arguments && list_all is_continuation own
-  is_kind (Return exit alternates results) = nat_le exit alternates && list_all is_argument results
   is_kind (Host call next) = is_host call && leads_to is_step next
-  is_kind Stop = true
+  is_kind kind = is_transfer kind
 
   abbrev pub is_node : Node → Bool
   is_node node = nat_lt 0 node.tokens && is_kind node.kind

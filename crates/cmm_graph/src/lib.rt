@@ -11,7 +11,8 @@
 //! - `number`: the numbers by which a graph names things, each of its own type.
 //! - `operand`: operands, and what an assignment computes.
 //! - `node`: the nodes.
-//! - `graph`: a graph, where its nodes lead, and what they read and write.
+//! - `graph`: a graph.
+//! - `paths`: where the nodes of a graph lead, and which locals they read and write.
 //! - `validity`: the test of ranges.
 //! - `text`: a graph as text.
 //! - `laws`: what the layers above use of the paths of a graph, as contracts.

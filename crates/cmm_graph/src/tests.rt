@@ -248,3 +248,37 @@ fn graphs_out_of_range(rt: HostRuntime) -> Result<(), Fail> {
     }
     Ok(())
 }
+
+/// The locals of `loop_graph`.
+const I: Local = Local::Variable(Variable { number: 0 });
+
+const S: Local = Local::Variable(Variable { number: 1 });
+
+const T: Local = Local::Temporary(Temporary { number: 0 });
+
+#[test]
+fn paths_of_a_loop(rt: HostRuntime) -> Result<(), Fail> {
+    let alloc = rt.alloc();
+    let graph = loop_graph(alloc)?;
+    let expected: [(&[u32], &[Local], &[Local]); 6] = [
+        (&[1], &[], &[]),
+        (&[2, 5], &[I], &[]),
+        (&[3], &[I, I], &[T]),
+        (&[4], &[S, T], &[S]),
+        (&[1], &[I], &[I]),
+        (&[], &[S], &[]),
+    ];
+    for (node, row) in graph.nodes.iter().zip(expected.iter()) {
+        let (to, reads, writes) = *row;
+        let successors = graph.successors(&node.kind, alloc)?;
+        assert_eq!(rt; successors.len(), to.len());
+        for (successor, number) in successors.iter().zip(to.iter()) {
+            assert_eq!(rt; successor.number, *number);
+        }
+        let found = node.kind.reads(alloc)?;
+        assert_eq!(rt; found.as_slice(), reads);
+        let found = node.kind.writes(alloc)?;
+        assert_eq!(rt; found.as_slice(), writes);
+    }
+    Ok(())
+}

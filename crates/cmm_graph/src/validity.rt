@@ -2,7 +2,7 @@
 
 ghost use Rattle.std.specs.Prelude.{◌≡◌, ◌↔◌, IsTrue};
 ghost use Rattle.std.specs.List.{list_all};
-ghost use Rattle.cmm_graph.specs.Ranges.{IsValid, are_exits, is_argument, is_arm, is_constant, is_continuation, is_copy_in, is_destination, is_entry, is_host, is_kind, is_local, is_node, is_normal, is_operand, is_rvalue, is_step, is_target, is_temporary, is_test, is_variable, leads_to};
+ghost use Rattle.cmm_graph.specs.Ranges.{IsValid, are_exits, is_argument, is_arm, is_constant, is_continuation, is_copy_in, is_destination, is_entry, is_host, is_kind, is_local, is_node, is_normal, is_operand, is_rvalue, is_step, is_target, is_temporary, is_test, is_transfer, is_variable, leads_to};
 ghost use Rattle.cmm_program.specs.Typing.{is_alignment};
 
 use crate::graph::Graph;
@@ -224,6 +224,41 @@ impl Graph {
         arms.iter().all(|arm| self.leads_to_step(arm.to))
     }
 
+    /// Whether what a node names is there, where it leaves its procedure or waits at a site.
+    fn has_transfer(&self, kind: &NodeKind) -> bool
+        ensures { result ≡ is_transfer self.now kind.now }
+    {
+        match kind {
+            NodeKind::Call {
+                callee,
+                arguments,
+                exits,
+                ..
+            } => {
+                self.has_operand(*callee)
+                    && self.has_arguments(arguments.as_slice())
+                    && self.has_exits(exits)
+            }
+            NodeKind::Yield { values, exits, .. } => {
+                self.has_operands(values.as_slice()) && self.has_exits(exits)
+            }
+            NodeKind::Jump { callee, arguments } => {
+                self.has_operand(*callee) && self.has_arguments(arguments.as_slice())
+            }
+            NodeKind::Cut { to, arguments, own } => {
+                self.has_operand(*to)
+                    && self.has_arguments(arguments.as_slice())
+                    && self.has_continuations(own.as_slice())
+            }
+            NodeKind::Return {
+                exit,
+                alternates,
+                results,
+            } => exit <= alternates && self.has_arguments(results.as_slice()),
+            _ => true,
+        }
+    }
+
     /// Whether what a node names is there, and it leads to nodes where a run may stand.
     fn has_kind(&self, kind: &NodeKind) -> bool
         ensures { result ≡ is_kind self.now kind.now }
@@ -266,36 +301,10 @@ impl Graph {
                     && self.has_arms(arms.as_slice())
                     && self.leads_to_step(*otherwise)
             }
-            NodeKind::Call {
-                callee,
-                arguments,
-                exits,
-                ..
-            } => {
-                self.has_operand(*callee)
-                    && self.has_arguments(arguments.as_slice())
-                    && self.has_exits(exits)
-            }
-            NodeKind::Yield { values, exits, .. } => {
-                self.has_operands(values.as_slice()) && self.has_exits(exits)
-            }
-            NodeKind::Jump { callee, arguments } => {
-                self.has_operand(*callee) && self.has_arguments(arguments.as_slice())
-            }
-            NodeKind::Cut { to, arguments, own } => {
-                self.has_operand(*to)
-                    && self.has_arguments(arguments.as_slice())
-                    && self.has_continuations(own.as_slice())
-            }
-            NodeKind::Return {
-                exit,
-                alternates,
-                results,
-            } => exit <= alternates && self.has_arguments(results.as_slice()),
             NodeKind::Host { call, next } => {
                 self.has_host_call(*call) && self.leads_to_step(*next)
             }
-            NodeKind::Stop => true,
+            _ => self.has_transfer(kind),
         }
     }
 
