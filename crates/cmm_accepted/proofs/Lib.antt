@@ -1,0 +1,5 @@
+mod RowTexts
+mod NameRows
+mod ExpressionRows
+mod StatementRows
+mod LimitRows
