@@ -14,14 +14,17 @@ use Rattle.cmm_ast.specs.declared.statement.FlowForm.TheVariants as flows
 use Rattle.cmm_ast.specs.declared.statement.Kinded.{Kinded}
 use Rattle.cmm_rules.specs.declared.rule.Rule.TheVariants.{Undeclared, NotAVariable, NoSuchLabel, NotALocalVariable, TooManyValues, BadHostCall, Limit}
 use Rattle.cmm_accepted.specs.declared.spot.Spot.{Spot}
+use Rattle.cmm_accepted.specs.declared.judged.Typed.TheVariants as typed
 use Rattle.cmm_accepted.specs.declared.sense.Sense.{Sense}
 use Rattle.cmm_accepted.specs.declared.sense.Sense.TheVariants.{Variable, Register, Host}
 use Rattle.cmm_accepted.specs.declared.sense.Host.{Host as HostProcedure}
 use Rattle.cmm_accepted.specs.declared.sense.Host.TheVariants.{Yield, PutByte, GetByte}
 use Rattle.cmm_accepted.specs.Spots.{at, unless}
 use Rattle.cmm_accepted.specs.Senses.{target_width}
-use Rattle.cmm_accepted.specs.Judging.{Judged, Typed, Bits, Test, with_ok, spots, as_wanted}
+use Rattle.cmm_accepted.specs.Judging.{with_ok, spots, as_wanted}
+use Rattle.cmm_accepted.specs.Algebras.{knowns}
 use Rattle.cmm_accepted.specs.Typing.{expr_type, name_type, of_memory}
+use Rattle.cmm_accepted.specs.Constants.{Judgement}
 use Rattle.cmm_accepted.specs.Declarations.{is_label, is_continuation, is_variable, is_declared}
 use Rattle.cmm_accepted.specs.Scopes.{Scope, senses}
 use Rattle.cmm_accepted.specs.Expressions.{bits_spots, past_limit}
@@ -105,7 +108,7 @@ called_host allowed token _ = []
 -- a callee is bits64; where it is the plain callee of a call it may be `yield`
 abbrev pub callee_spots : Scope → Bool → Callee → List Spot
 callee_spots s may_yield c = elim c.form [
-  | callees.Name i ↦ spots (with_ok (name_type c.token (senses s i.name)) (as_wanted (Some W64) c.token)) ++ called_host may_yield c.token (senses s i.name)
+  | callees.Name i ↦ spots (with_ok (name_type knowns c.token (senses s i.name)) (as_wanted (Some W64) c.token)) ++ called_host may_yield c.token (senses s i.name)
   | callees.Memory m ↦ bits_spots (senses s) (Some W64) (of_memory c.token m)
   | callees.Bracketed e ↦ bits_spots (senses s) (Some W64) e
 ]
@@ -113,9 +116,9 @@ callee_spots s may_yield c = elim c.form [
 -- ---- foreign calls
 
 -- a value of 64 bits, also one that is broken
-abbrev pub may_be_bits64 : Judged Typed → Bool
-may_be_bits64 (Ok (Bits x)) = bits x.width == 64
-may_be_bits64 (Ok (Test c)) = false
+abbrev pub may_be_bits64 : Judgement → Bool
+may_be_bits64 (Ok (typed.Bits x)) = bits x.width == 64
+may_be_bits64 (Ok (typed.Test c)) = false
 may_be_bits64 (Err broken) = true
 
 -- a variable or register of 64 bits, also one that is broken
@@ -125,7 +128,7 @@ may_hold_bits64 None = true
 
 -- `cmm_putbyte` with one bits64 actual and no result, or `cmm_getbyte` with no actual and one bits64 result
 abbrev pub is_host_call : Scope → HostProcedure → List Kinded → List Actual → Bool
-is_host_call s PutByte [] (a ∷ []) = may_be_bits64 (expr_type (senses s) a.value)
+is_host_call s PutByte [] (a ∷ []) = may_be_bits64 (expr_type knowns (senses s) a.value)
 is_host_call s GetByte (k ∷ []) [] = may_hold_bits64 (target_width (senses s k.name.name))
 is_host_call s _ _ _ = false
 
@@ -145,6 +148,6 @@ is_foreign s convention results c as_ fs =
 -- the callee of a foreign call breaks the rules of callees, but may be any procedure of the host
 abbrev pub foreign_callee_spots : Scope → Callee → List Spot
 foreign_callee_spots s c = elim c.form [
-  | callees.Name i ↦ spots (with_ok (name_type c.token (senses s i.name)) (as_wanted (Some W64) c.token))
+  | callees.Name i ↦ spots (with_ok (name_type knowns c.token (senses s i.name)) (as_wanted (Some W64) c.token))
   | _ ↦ callee_spots s false c
 ]

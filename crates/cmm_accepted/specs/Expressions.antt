@@ -14,6 +14,7 @@ use Rattle.cmm_accepted.specs.declared.sense.Sense.{Sense}
 use Rattle.cmm_accepted.specs.declared.sense.Sense.TheVariants.{Host}
 use Rattle.cmm_accepted.specs.Spots.{at, unless}
 use Rattle.cmm_accepted.specs.Senses.{Senses}
+use Rattle.cmm_accepted.specs.Algebras.{knowns}
 use Rattle.cmm_accepted.specs.Judging.{spots, with_ok, as_test}
 use Rattle.cmm_accepted.specs.Typing.{expr_type, type_width, wanted}
 use Rattle.cmm_accepted.specs.Constants.{number_alone, constant_alone, number_of, constant_of}
@@ -38,10 +39,10 @@ inner_spots names e = flat_map (host_spots names) (expr_names values_alone e) ++
 -- ---- what is wanted of an expression: bits of a width where there is one, a condition, and the constants
 
 abbrev pub bits_spots : Senses → Option Width → Expr → List Spot
-bits_spots names width e = spots (wanted names width e) ++ inner_spots names e
+bits_spots names width e = spots (wanted knowns names width e) ++ inner_spots names e
 
 abbrev pub test_spots : Senses → Expr → List Spot
-test_spots names e = spots (with_ok (expr_type names e) (as_test e.token)) ++ inner_spots names e
+test_spots names e = spots (with_ok (expr_type knowns names e) (as_test e.token)) ++ inner_spots names e
 
 -- a compile-time constant of 64 bits
 abbrev pub number_spots : Senses → Expr → List Spot

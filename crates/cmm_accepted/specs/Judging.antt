@@ -2,11 +2,13 @@
 use Rattle.std.specs.Prelude.{ℕ, ◌==◌, Bool, true, false, List, [], ◌∷◌, Option, Some, None, Result, Ok, Err}
 use Rattle.cmm_words.specs.declared.width.Width.{Width}
 use Rattle.cmm_words.specs.Widths.{bits}
-use Rattle.cmm_program.specs.declared.expression.Expression.{Expression}
-use Rattle.cmm_program.specs.declared.expression.Condition.{Condition}
 use Rattle.cmm_rules.specs.declared.rule.Rule.{Rule}
 use Rattle.cmm_rules.specs.declared.rule.Rule.TheVariants.{WidthsDiffer, ConditionOrBitsWanted}
 use Rattle.cmm_accepted.specs.declared.spot.Spot.{Spot}
+use Rattle.cmm_accepted.specs.declared.judged.Bits.{Bits}
+use Rattle.cmm_accepted.specs.declared.judged.Typed.{Typed}
+use Rattle.cmm_accepted.specs.declared.judged.Typed.TheVariants as typed
+use Rattle.cmm_accepted.specs.declared.judged.Operand.{Operand}
 use Rattle.cmm_accepted.specs.Spots.{sooner}
 
 -- a judgement, or where a rule is broken; no place where that is named elsewhere
@@ -37,43 +39,29 @@ abbrev pub if_ok : {A : Type 0} → Judged A → Option A
 if_ok (Ok a) = Some a
 if_ok (Err broken) = None
 
--- ---- expressions
-
--- bits of a width, and the expression with names resolved; it isn't known where it depends on a constant that is broken elsewhere
-pub record Word : Type 0 where
-  pub width : Width
-  pub value : Option Expression
-
-pub data Typed : Type 0 where
-  Bits : Word → Typed
-  Test : Option Condition → Typed
-
--- what stands as an operand, by its first token
-pub record Operand : Type 0 where
-  pub token : ℕ
-  pub typed : Typed
+-- ---- what is wanted of an expression
 
 -- 24: bits are wanted
-abbrev pub as_bits : ℕ → Typed → Judged Word
-as_bits token (Bits x) = Ok x
-as_bits token (Test c) = faulty ConditionOrBitsWanted token
+abbrev pub as_bits : {E C : Type 0} → ℕ → Typed E C → Judged (Bits E)
+as_bits token (typed.Bits x) = Ok x
+as_bits token (typed.Test c) = faulty ConditionOrBitsWanted token
 
 -- 24: a condition is wanted
-abbrev pub as_test : ℕ → Typed → Judged (Option Condition)
-as_test token (Bits x) = faulty ConditionOrBitsWanted token
-as_test token (Test c) = Ok c
+abbrev pub as_test : {E C : Type 0} → ℕ → Typed E C → Judged (Option C)
+as_test token (typed.Bits x) = faulty ConditionOrBitsWanted token
+as_test token (typed.Test c) = Ok c
 
 -- 23: bits of this width are wanted
-abbrev pub of_width : Width → ℕ → Word → Judged Word
+abbrev pub of_width : {E : Type 0} → Width → ℕ → Bits E → Judged (Bits E)
 of_width wanted token x = elim (bits x.width == bits wanted) [ true ↦ Ok x | false ↦ faulty WidthsDiffer token ]
 
 -- 24, 23: bits are wanted, of this width where there is one
-abbrev pub as_wanted : Option Width → ℕ → Typed → Judged Word
+abbrev pub as_wanted : {E C : Type 0} → Option Width → ℕ → Typed E C → Judged (Bits E)
 as_wanted None token t = as_bits token t
 as_wanted (Some wanted) token t = with_ok (as_bits token t) (of_width wanted token)
 
-abbrev pub bits_of : Operand → Judged Word
+abbrev pub bits_of : {E C : Type 0} → Operand E C → Judged (Bits E)
 bits_of o = as_bits o.token o.typed
 
-abbrev pub test_of : Operand → Judged (Option Condition)
+abbrev pub test_of : {E C : Type 0} → Operand E C → Judged (Option C)
 test_of o = as_test o.token o.typed

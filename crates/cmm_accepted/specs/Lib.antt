@@ -1,6 +1,7 @@
 pub mod Spots
 pub mod Senses
 pub mod Operators
+pub mod Algebras
 pub mod Judging
 pub mod Typing
 pub mod Constants

@@ -8,10 +8,13 @@ use Rattle.cmm_ast.specs.declared.expression.TypeName.{TypeName}
 use Rattle.cmm_ast.specs.declared.expression.TypeForm.{TypeForm}
 use Rattle.cmm_ast.specs.declared.expression.TypeForm.TheVariants.{Bits as OfBits, Named as OfName}
 use Rattle.cmm_ast.specs.declared.expression.Expr.{Expr}
+use Rattle.cmm_accepted.specs.declared.judged.Bits.{Bits}
+use Rattle.cmm_accepted.specs.declared.known.Known.{Known}
 use Rattle.cmm_accepted.specs.declared.sense.Sense.{Sense}
 use Rattle.cmm_accepted.specs.declared.sense.Sense.TheVariants.{Variable, Register, Value, Broken, Stackdata, Continuation, Typedef, CodeLabel, Host}
 use Rattle.cmm_accepted.specs.Senses.{Senses, host_named}
-use Rattle.cmm_accepted.specs.Judging.{Judged, Word, with_ok, if_ok}
+use Rattle.cmm_accepted.specs.Judging.{Judged, with_ok, if_ok}
+use Rattle.cmm_accepted.specs.Algebras.{knowns}
 use Rattle.cmm_accepted.specs.Typing.{type_width, wanted}
 use Rattle.cmm_accepted.specs.Constants.{as_number, number_alone}
 use Rattle.cmm_accepted.specs.Mentions.{expr_names, values_alone}
@@ -53,7 +56,7 @@ abbrev pub valued : Width → Judged ℕ → Sense
 valued width (Ok value) = Value (Number value width)
 valued width (Err broken) = Broken (Some width)
 
-abbrev pub untyped_sense : ℕ → Judged Word → Sense
+abbrev pub untyped_sense : ℕ → Judged (Bits Known) → Sense
 untyped_sense token (Ok x) = valued x.width (as_number token x)
 untyped_sense token (Err broken) = Broken None
 
@@ -63,7 +66,7 @@ typed_sense names e None = Broken None
 
 abbrev pub const_sense : Program → List (Declared Entry) → ℕ → Option TypeName → Expr → Sense
 const_sense program ds zero t e = Broken None
-const_sense program ds (suc count) None e = untyped_sense e.token (wanted (senses_by program ds (const_sense program ds count)) None e)
+const_sense program ds (suc count) None e = untyped_sense e.token (wanted knowns (senses_by program ds (const_sense program ds count)) None e)
 const_sense program ds (suc count) (Some t) e = typed_sense (senses_by program ds (const_sense program ds count)) e (width_in ds t)
 
 abbrev pub unit_senses : Program → List (Declared Entry) → Senses

@@ -25,12 +25,14 @@ use Rattle.cmm_ast.specs.declared.statement.StmtForm.{StmtForm}
 use Rattle.cmm_ast.specs.declared.statement.StmtForm.TheVariants as stmts
 use Rattle.cmm_rules.specs.declared.rule.Rule.TheVariants.{WidthsDiffer, UnknownOperator, CountsDiffer, BadReturnIndex, TooManyValues, BadHostCall}
 use Rattle.cmm_accepted.specs.declared.spot.Spot.{Spot}
+use Rattle.cmm_accepted.specs.declared.judged.Typed.TheVariants as typed
 use Rattle.cmm_accepted.specs.Spots.{at, unless}
 use Rattle.cmm_accepted.specs.Senses.{Senses, target_width}
 use Rattle.cmm_accepted.specs.Operators.{checked_named}
-use Rattle.cmm_accepted.specs.Judging.{Judged, Word, Operand, Typed, Bits, with_ok, with_both, spots, if_ok, as_bits}
-use Rattle.cmm_accepted.specs.Typing.{expr_type, type_width, applied, wanted, of_memory, of_primary}
-use Rattle.cmm_accepted.specs.Constants.{number_of}
+use Rattle.cmm_accepted.specs.Judging.{with_ok, with_both, spots, if_ok}
+use Rattle.cmm_accepted.specs.Algebras.{knowns}
+use Rattle.cmm_accepted.specs.Typing.{expr_type, operand_at, type_width, applied, wanted, of_memory, of_primary}
+use Rattle.cmm_accepted.specs.Constants.{Judgement, number_of}
 use Rattle.cmm_accepted.specs.Declarations.{Declared, again, own_names}
 use Rattle.cmm_accepted.specs.Items.{parts_of}
 use Rattle.cmm_accepted.specs.Scopes.{Scope, senses, types}
@@ -63,17 +65,15 @@ sides s ls [] = []
 -- ---- checked operators
 
 -- 23: the result's place is of the operands' width
-abbrev pub result_fits : Option Width → Judged Typed → Bool
-result_fits (Some width) (Ok (Bits x)) = bits x.width == bits width
+abbrev pub result_fits : Option Width → Judgement → Bool
+result_fits (Some width) (Ok (typed.Bits x)) = bits x.width == bits width
 result_fits _ _ = true
 
-abbrev pub operand_at : Senses → Expr → Judged Operand
-operand_at names e = with_ok (expr_type names e) (λ t. Ok record { token = e.token; typed = t })
-
 -- 26: a checked operator is a division
-abbrev pub checked_type : Senses → Ident → Expr → Expr → Judged Typed
+abbrev pub checked_type : Senses → Ident → Expr → Expr → Judgement
 checked_type names operator left right =
-    with_both (operand_at names left) (operand_at names right) (λ a b. applied operator.token (checked_named operator.name) (a ∷ b ∷ []))
+    with_both (operand_at knowns left.token (expr_type knowns names left)) (operand_at knowns right.token (expr_type knowns names right))
+        (λ a b. applied knowns operator.token (checked_named operator.name) (a ∷ b ∷ []))
 
 abbrev pub checked_spots : Scope → Ident → Ident → Expr → Expr → List Spot
 checked_spots s result operator left right = let t = checked_type (senses s) operator left right in
@@ -105,7 +105,7 @@ passed None = []
 abbrev pub stmt_spots : Scope → ℕ → StmtForm → List Spot
 stmt_spots s token (stmts.If' condition _ body otherwise) = test_spots (senses s) condition
 stmt_spots s token (stmts.Switch' range value _ arms) =
-    bits_spots (senses s) None value ++ switch_spots (senses s) (option_map (λ x. x.width) (if_ok (wanted (senses s) None value))) range (heads arms)
+    bits_spots (senses s) None value ++ switch_spots (senses s) (option_map (λ x. x.width) (if_ok (wanted knowns (senses s) None value))) range (heads arms)
 stmt_spots s token (stmts.Span' key value _ body) = number_spots (senses s) (of_primary key) ++ constant_spots (senses s) value
 stmt_spots s token (stmts.Assign to values) =
     unless (length to == length values) CountsDiffer token ++ flat_map (lvalue_spots s) to ++ sides s to values

@@ -9,15 +9,18 @@
 //! - `sense`: what a name means.
 //! - `operator`: what an operator does.
 //! - `known`: what is known of a value before the program runs.
+//! - `judged`: what an expression is judged to be.
 #![tactic(auto)]
 
 mod fault;
+mod judged;
 mod known;
 mod operator;
 mod sense;
 mod spot;
 
 pub use fault::Fault;
+pub use judged::{Bits, Operand, Typed};
 pub use known::Known;
 pub use operator::Operator;
 pub use sense::{Host, Sense};
