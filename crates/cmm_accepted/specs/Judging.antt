@@ -15,8 +15,11 @@ use Rattle.cmm_accepted.specs.Spots.{sooner}
 abbrev pub Judged : Type 0 → Type 0
 Judged A = Result A (Option Spot)
 
+abbrev pub broken_at : Rule → ℕ → Option Spot
+broken_at rule token = Some record { token = token; rule = rule }
+
 abbrev pub faulty : {A : Type 0} → Rule → ℕ → Judged A
-faulty rule token = Err (Some record { token = token; rule = rule })
+faulty rule token = Err (broken_at rule token)
 
 abbrev pub with_ok : {A B : Type 0} → Judged A → (A → Judged B) → Judged B
 with_ok (Ok a) next = next a

@@ -1,9 +1,11 @@
 -- The operators by their names, and those that have a sign (C-- Language Specification 2.0, the table of primitive operators).
-use Rattle.std.specs.Prelude.{ℕ, Bool, true, false, List, [], ◌∷◌, bytes_eq, codes, Option, Some, None}
+use Rattle.std.specs.Prelude.{ℕ, Bool, true, false, List, [], ◌∷◌, ◌++◌, bytes_eq, codes, option_map, Option, Some, None}
+use Rattle.std.specs.List.{find}
 use Rattle.cmm_words.specs.declared.operators.Op1.TheVariants.{Com, Neg}
 use Rattle.cmm_words.specs.declared.operators.Op2.TheVariants as op
 use Rattle.cmm_words.specs.declared.operators.Cmp.TheVariants as cmp
 use Rattle.cmm_words.specs.declared.width.Width.TheVariants.{W8, W16, W32, W64}
+use Rattle.cmm_words.specs.Words.{is_division}
 use Rattle.cmm_ast.specs.declared.expression.Infix.{Infix}
 use Rattle.cmm_ast.specs.declared.expression.Infix.TheVariants as sign
 use Rattle.cmm_ast.specs.declared.expression.Prefix.{Prefix}
@@ -49,18 +51,23 @@ width_rows =
     ∷ row (codes "zx8") (ZeroExtend W8) ∷ row (codes "zx16") (ZeroExtend W16) ∷ row (codes "zx32") (ZeroExtend W32) ∷ row (codes "zx64") (ZeroExtend W64)
     ∷ row (codes "lobits8") (LowBits W8) ∷ row (codes "lobits16") (LowBits W16) ∷ row (codes "lobits32") (LowBits W32) ∷ row (codes "lobits64") (LowBits W64) ∷ []
 
--- the operator of a name in some rows, and else another answer
-abbrev pub named_in : List Row → List ℕ → Option Operator → Option Operator
-named_in [] name otherwise = otherwise
-named_in (r ∷ rs) name otherwise = elim (bytes_eq name r.name) [ true ↦ Some r.operator | false ↦ named_in rs name otherwise ]
+abbrev pub operator_rows : List Row
+operator_rows = arithmetic_rows ++ division_rows ++ condition_rows ++ width_rows
+
+-- the operator of a name in some rows
+abbrev pub operator_in : List Row → List ℕ → Option Operator
+operator_in rows name = option_map (λ r. r.operator) (find (λ r. bytes_eq name r.name) rows)
 
 abbrev pub operator_named : List ℕ → Option Operator
-operator_named name =
-    named_in arithmetic_rows name (named_in division_rows name (named_in condition_rows name (named_in width_rows name None)))
+operator_named name = operator_in operator_rows name
 
--- the operators that may be checked
+-- only divisions may be checked
+abbrev pub if_division : Option Operator → Option Operator
+if_division (Some (Binary op)) = elim (is_division op) [ true ↦ Some (Binary op) | false ↦ None ]
+if_division _ = None
+
 abbrev pub checked_named : List ℕ → Option Operator
-checked_named name = named_in division_rows name None
+checked_named name = if_division (operator_named name)
 
 -- the signs stand for the unsigned operators
 abbrev pub infix_operator : Infix → Operator

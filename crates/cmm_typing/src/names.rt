@@ -1,0 +1,16 @@
+//! What names mean at a place.
+
+ghost use Rattle.std.specs.Prelude.{◌≡◌};
+ghost use Rattle.cmm_accepted.specs.Senses.{Senses};
+
+use cmm_accepted::Sense;
+use cmm_words::Name;
+
+/// What names mean at a place, which contracts see as a function.
+pub trait Names {
+    ghost senses: { Self → Senses };
+
+    /// What a name means, if anything.
+    fn sense(&self, name: &Name) -> Option<Sense>
+        ensures { result ≡ senses self.now name.now };
+}
