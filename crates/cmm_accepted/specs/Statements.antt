@@ -26,6 +26,7 @@ use Rattle.cmm_ast.specs.declared.statement.StmtForm.TheVariants as stmts
 use Rattle.cmm_rules.specs.declared.rule.Rule.TheVariants.{WidthsDiffer, UnknownOperator, CountsDiffer, BadReturnIndex, TooManyValues, BadHostCall}
 use Rattle.cmm_accepted.specs.declared.spot.Spot.{Spot}
 use Rattle.cmm_accepted.specs.declared.judged.Typed.TheVariants as typed
+use Rattle.cmm_accepted.specs.declared.judged.Operands.TheVariants as operands
 use Rattle.cmm_accepted.specs.Spots.{at, unless}
 use Rattle.cmm_accepted.specs.Senses.{Senses, target_width}
 use Rattle.cmm_accepted.specs.Operators.{checked_named}
@@ -73,7 +74,7 @@ result_fits _ _ = true
 abbrev pub checked_type : Senses → Ident → Expr → Expr → Judgement
 checked_type names operator left right =
     with_both (operand_at knowns left.token (expr_type knowns names left)) (operand_at knowns right.token (expr_type knowns names right))
-        (λ a b. applied knowns operator.token (checked_named operator.name) (a ∷ b ∷ []))
+        (λ a b. applied knowns operator.token (checked_named operator.name) (operands.Two a b))
 
 abbrev pub checked_spots : Scope → Ident → Ident → Expr → Expr → List Spot
 checked_spots s result operator left right = let t = checked_type (senses s) operator left right in

@@ -34,6 +34,8 @@ use Rattle.cmm_accepted.specs.declared.judged.Bits.{Bits}
 use Rattle.cmm_accepted.specs.declared.judged.Typed.{Typed}
 use Rattle.cmm_accepted.specs.declared.judged.Typed.TheVariants as typed
 use Rattle.cmm_accepted.specs.declared.judged.Operand.{Operand}
+use Rattle.cmm_accepted.specs.declared.judged.Operands.{Operands}
+use Rattle.cmm_accepted.specs.declared.judged.Operands.TheVariants as operands
 use Rattle.cmm_accepted.specs.Algebras.{Algebra}
 use Rattle.cmm_accepted.specs.Judging.{Judged, faulty, with_ok, with_both, as_bits, as_wanted, of_width, bits_of, test_of}
 
@@ -165,10 +167,21 @@ module _ {E C : Type 0} (algebra : Algebra E C) where
   applied_to_two (LowBits to) token a b = faulty UnknownOperator token
 
   -- 26: an operator has another number of operands, or is none
-  abbrev pub applied : ℕ → Option Operator → List (Operand E C) → Judged (Typed E C)
-  applied token (Some operator) (a ∷ []) = applied_to_one operator token a
-  applied token (Some operator) (a ∷ b ∷ []) = applied_to_two operator token a b
-  applied token _ _ = faulty UnknownOperator token
+  abbrev pub applied : ℕ → Option Operator → Operands E C → Judged (Typed E C)
+  applied token (Some operator) (operands.One a) = applied_to_one operator token a
+  applied token (Some operator) (operands.Two a b) = applied_to_two operator token a b
+  applied token (Some operator) operands.Zero = faulty UnknownOperator token
+  applied token (Some operator) operands.More = faulty UnknownOperator token
+  applied token None given = faulty UnknownOperator token
+
+  abbrev pub given_with : Operands E C → Operand E C → Operands E C
+  given_with operands.Zero o = operands.One o
+  given_with (operands.One a) o = operands.Two a o
+  given_with (operands.Two a b) o = operands.More
+  given_with operands.More o = operands.More
+
+  abbrev pub with_operand : Judged (Operands E C) → Judged (Operand E C) → Judged (Operands E C)
+  with_operand given o = with_both given o (λ os a. Ok (given_with os a))
 
   -- ---- expressions
 
@@ -187,14 +200,15 @@ module _ {E C : Type 0} (algebra : Algebra E C) where
       form_type token (Prefix' operator _ a) = with_ok (operand a) (applied_to_one (prefix_operator operator) token)
       form_type token (Prim prim) = prim_type token prim
       form_type token (InMemory m) = memory_type m
-      form_type token (Named' operator _ given) = with_ok (operands given) (applied token (operator_named operator))
+      form_type token (Named' operator _ given) = with_ok (given_operands (Ok operands.Zero) given) (applied token (operator_named operator))
 
       pub operand : {n : _} → Row_of-Expr (one_more n) → Judged (Operand E C)
       operand (more_of-Expr token form rest) = operand_at token (form_type token form)
 
-      pub operands : {n : _} → Row_of-Expr n → Judged (List (Operand E C))
-      operands end_of-Expr = Ok []
-      operands (more_of-Expr token form rest) = with_both (operand_at token (form_type token form)) (operands rest) (λ o os. Ok (o ∷ os))
+      -- some operands, and those of a row after them
+      pub given_operands : {n : _} → Judged (Operands E C) → Row_of-Expr n → Judged (Operands E C)
+      given_operands before end_of-Expr = before
+      given_operands before (more_of-Expr token form rest) = given_operands (with_operand before (operand_at token (form_type token form))) rest
 
       pub prim_type : ℕ → PrimForm → Judged (Typed E C)
       prim_type token (Literal n t) = literal_type names token n t

@@ -24,3 +24,12 @@ pub struct Operand<E, C> {
     pub token: u32,
     pub typed: Typed<E, C>,
 }
+
+/// The operands of an operator, as far as any operator takes them.
+#[derive(Clone, Copy, Debug, PartialEq, Eq)]
+pub enum Operands<E, C> {
+    Zero,
+    One(Operand<E, C>),
+    Two(Operand<E, C>, Operand<E, C>),
+    More,
+}

@@ -20,7 +20,7 @@ mod sense;
 mod spot;
 
 pub use fault::Fault;
-pub use judged::{Bits, Operand, Typed};
+pub use judged::{Bits, Operand, Operands, Typed};
 pub use known::Known;
 pub use operator::Operator;
 pub use sense::{Host, Sense};

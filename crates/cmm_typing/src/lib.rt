@@ -15,12 +15,17 @@
 #![tactic(auto)]
 
 mod applying;
+mod engine;
+mod joining;
 mod known;
+mod leaf;
 mod names;
 mod operators;
 mod wanted;
 
+pub use applying::{applied_to_one, applied_to_two};
+pub use engine::judge;
+pub use leaf::{name_type, type_width};
 pub use names::Names;
 pub use operators::{checked_named, infix_operator, operator_named, prefix_operator};
-pub use applying::{applied_to_one, applied_to_two};
 pub use wanted::{Judged, as_bits, as_constant, as_number, as_test, as_wanted};
