@@ -1,5 +1,5 @@
 -- Worked rows: the fault that is named of units, from their text: widths, operators and constants. Of a broken unit a row says rule, unit, line and column.
-use Rattle.std.proofs.Common.{◌≡◌, refl, [], ◌∷◌, Some, None}
+use Rattle.std.proofs.Common.{◌≡◌, refl, [], ◌∷◌, None}
 use Rattle.std.specs.Prelude.{codes}
 use Rattle.cmm_rules.specs.declared.rule.Rule.TheVariants.{ConditionOrBitsWanted, LiteralDoesNotFit, NotAConstant, Undeclared, UnknownOperator, WidthsDiffer}
 use Rattle.cmm_accepted.specs.Faults.{first_fault}

@@ -1,5 +1,5 @@
 -- Units as text, for worked rows.
-use Rattle.std.proofs.Common.{true, ℕ, ◌++◌, List, [], ◌∷◌, Some, None}
+use Rattle.std.proofs.Common.{true, ℕ, ◌++◌, List, [], ◌∷◌, Some}
 use Rattle.std.specs.Prelude.{map, length, Option}
 use denote.Hole.Carrier as Carrier
 use Rattle.cmm_lexer.specs.declared.piece.Lexeme.{Lexeme}

@@ -1,5 +1,5 @@
 -- Worked rows: the fault that is named of units, from their text: data, statements and calls of the host. Of a broken unit a row says rule, unit, line and column.
-use Rattle.std.proofs.Common.{◌≡◌, refl, [], ◌∷◌, Some, None}
+use Rattle.std.proofs.Common.{◌≡◌, refl, [], ◌∷◌, None}
 use Rattle.std.specs.Prelude.{codes}
 use Rattle.cmm_rules.specs.declared.rule.Rule.TheVariants.{ArmsOverlap, BadHostCall, BadReturnIndex, CountsDiffer, NoSuchLabel, NotALocalVariable, TooManyValues, Undeclared}
 use Rattle.cmm_accepted.specs.Faults.{first_fault}

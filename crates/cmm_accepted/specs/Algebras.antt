@@ -39,9 +39,21 @@ pub record Algebra (E C : Type 0) : Type 0 where
 
 abbrev pub expressions : Algebra Expression Condition
 expressions = record {
-  constant = x.Known; variable = x.Variable; register = x.Register; stackdata = x.Stackdata; continuation = x.Continuation;
-  load = x.Load; unary = x.Unary; binary = x.Binary; sign_extend = x.SignExtend; zero_extend = x.ZeroExtend; low_part = x.LowBits;
-  compare = c.Compare; negated = c.Not; conjoined = c.Both; disjoined = c.Either
+  constant = x.Known;
+  variable = x.Variable;
+  register = x.Register;
+  stackdata = x.Stackdata;
+  continuation = x.Continuation;
+  load = x.Load;
+  unary = x.Unary;
+  binary = x.Binary;
+  sign_extend = x.SignExtend;
+  zero_extend = x.ZeroExtend;
+  low_part = x.LowBits;
+  compare = c.Compare;
+  negated = c.Not;
+  conjoined = c.Both;
+  disjoined = c.Either;
 }
 
 -- ---- what is known before the program runs (C-- Language Specification 2.0, constant expressions): numbers, and addresses of procedures and
@@ -84,9 +96,19 @@ known_converted f _ = Nothing
 
 abbrev pub knowns : Algebra Known (Unit {0})
 knowns = record {
-  constant = known_constant; variable = λ n width. Nothing; register = λ n width. Nothing; stackdata = λ n. Nothing; continuation = λ n. Nothing;
-  load = λ width aligned a. Nothing; unary = known_unary; binary = known_binary;
-  sign_extend = λ from to a. known_converted (sign_extended from to) a; zero_extend = λ from to a. known_converted (λ n. n) a;
+  constant = known_constant;
+  variable = λ n width. Nothing;
+  register = λ n width. Nothing;
+  stackdata = λ n. Nothing;
+  continuation = λ n. Nothing;
+  load = λ width aligned a. Nothing;
+  unary = known_unary;
+  binary = known_binary;
+  sign_extend = λ from to a. known_converted (sign_extended from to) a;
+  zero_extend = λ from to a. known_converted (λ n. n) a;
   low_part = λ from to a. known_converted (low_bits to) a;
-  compare = λ cmp width a b. tt; negated = λ p. tt; conjoined = λ p q. tt; disjoined = λ p q. tt
+  compare = λ cmp width a b. tt;
+  negated = λ p. tt;
+  conjoined = λ p q. tt;
+  disjoined = λ p q. tt;
 }

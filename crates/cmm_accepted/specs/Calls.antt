@@ -1,11 +1,10 @@
 -- Which rules callees, what is passed and annotations break (C-- Language Specification 2.0, calls and call-site annotations).
-use Rattle.std.specs.Prelude.{ℕ, ◌==◌, ◌&&◌, Bool, true, false, List, [], ◌∷◌, ◌++◌, map, flat_map, bytes_eq, codes, Option, Some, None, Result, Ok, Err}
+use Rattle.std.specs.Prelude.{ℕ, ◌==◌, ◌&&◌, Bool, true, false, List, [], ◌∷◌, ◌++◌, flat_map, bytes_eq, codes, Option, Some, None, Ok, Err}
 use Rattle.cmm_words.specs.declared.width.Width.{Width}
 use Rattle.cmm_words.specs.declared.width.Width.TheVariants.{W64}
 use Rattle.cmm_words.specs.Widths.{bits}
 use Rattle.cmm_ast.specs.declared.token.Ident.{Ident}
 use Rattle.cmm_ast.specs.declared.token.Text.{Text}
-use Rattle.cmm_ast.specs.declared.expression.Expr.{Expr}
 use Rattle.cmm_ast.specs.declared.statement.Actual.{Actual}
 use Rattle.cmm_ast.specs.declared.statement.Callee.{Callee}
 use Rattle.cmm_ast.specs.declared.statement.CalleeForm.TheVariants as callees

@@ -1,11 +1,11 @@
 -- Where constants are wanted (C-- Language Specification 2.0, constant expressions).
-use Rattle.std.specs.Prelude.{ℕ, Bool, true, false, Option, Some, None, Result, Ok, Err}
+use Rattle.std.specs.Prelude.{ℕ, Option, Some, None, Ok, Err}
 use Rattle.cmm_words.specs.declared.width.Width.{Width}
 use Rattle.cmm_words.specs.declared.width.Width.TheVariants.{W64}
 use Rattle.cmm_words.specs.declared.constant.Constant.{Constant}
 use Rattle.cmm_words.specs.declared.constant.Constant.TheVariants as constants
 use Rattle.cmm_ast.specs.declared.expression.Expr.{Expr}
-use Rattle.cmm_ast.specs.declared.expression.ExprForm.{ExprForm, Row_of-Expr, more_of-Expr}
+use Rattle.cmm_ast.specs.declared.expression.ExprForm.{ExprForm, more_of-Expr}
 use Rattle.cmm_ast.specs.declared.expression.ExprForm.TheVariants.{Prefix', Prim}
 use Rattle.cmm_ast.specs.declared.expression.Number.TheVariants.{Int}
 use Rattle.cmm_ast.specs.declared.expression.Prefix.TheVariants.{Negate}
@@ -16,12 +16,11 @@ use Rattle.cmm_accepted.specs.declared.judged.Bits.{Bits}
 use Rattle.cmm_accepted.specs.declared.judged.Typed.{Typed}
 use Rattle.cmm_accepted.specs.declared.known.Known.{Known}
 use Rattle.cmm_accepted.specs.declared.known.Known.TheVariants.{Number, Symbol, Sum, Nothing}
-use Rattle.cmm_accepted.specs.declared.operator.Operator.{Operator}
 use Rattle.cmm_accepted.specs.Senses.{Senses}
 use Rattle.cmm_accepted.specs.Operators.{prefix_operator}
 use Rattle.cmm_accepted.specs.Algebras.{Algebra, knowns}
 use Rattle.cmm_accepted.specs.Judging.{Judged, faulty, with_ok, as_wanted}
-use Rattle.cmm_accepted.specs.Typing.{expr_type, operand_at, applied_to_one, literal, wanted}
+use Rattle.cmm_accepted.specs.Typing.{operand_at, applied_to_one, literal, wanted}
 
 -- what the rules ask for of an expression
 abbrev pub Judgement : Type 0

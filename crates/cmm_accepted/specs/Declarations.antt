@@ -1,5 +1,5 @@
 -- What names are declared as: the first declaration of a name counts (C-- Language Specification 2.0, scope of names).
-use Rattle.std.specs.Prelude.{ℕ, zero, suc, ◌+◌, Bool, true, false, ◌||◌, ◌&&◌, not, List, [], ◌∷◌, ◌++◌, map, flat_map, bytes_eq, Option, Some, None}
+use Rattle.std.specs.Prelude.{ℕ, suc, ◌+◌, Bool, true, false, ◌||◌, not, List, [], ◌∷◌, ◌++◌, map, flat_map, bytes_eq, Option, Some, None}
 use Rattle.cmm_ast.specs.declared.token.Ident.{Ident}
 use Rattle.cmm_ast.specs.declared.token.Text.{Text}
 use Rattle.cmm_ast.specs.declared.expression.TypeName.{TypeName}

@@ -1,9 +1,10 @@
 -- Which units are accepted, and which fault is named of others: the first by unit, place and rule; that no unit exports `main`, and the limits
 -- on sums over all units, come last and stand at the beginning of the first unit.
-use Rattle.std.specs.Prelude.{◌≡◌, ℕ, zero, suc, ◌==◌, ◌&&◌, ◌||◌, nat_lt, Bool, true, false, List, [], ◌∷◌, ◌++◌, map, flat_map, slice_get, Option, Some, None}
+use Rattle.std.specs.Prelude.{◌≡◌, ℕ, suc, ◌==◌, ◌&&◌, ◌||◌, nat_lt, Bool, true, false, List, [], ◌∷◌, ◌++◌, map, flat_map, slice_index_or, Option, Some, None}
 use Rattle.std.specs.List.{Contains}
 use Rattle.cmm_words.specs.declared.width.Width.{Width}
 use Rattle.cmm_ast.specs.declared.unit.Unit.{Unit as UnitTree}
+use Rattle.cmm_ast.specs.declared.unit.Place.{Place}
 use Rattle.cmm_ast.specs.declared.unit.Item.{Item}
 use Rattle.cmm_ast.specs.declared.unit.Item.TheVariants as items
 use Rattle.cmm_rules.specs.declared.rule.Rule.{Rule}
@@ -16,7 +17,7 @@ use Rattle.cmm_accepted.specs.Declarations.{Declared, NamedUnit, named_units, ag
 use Rattle.cmm_accepted.specs.Linking.{Program, program_of, exports_of, export_links, export_spots, twice, import_spots, registers_of, has_main}
 use Rattle.cmm_accepted.specs.Scopes.{unit_senses, width_in}
 use Rattle.cmm_accepted.specs.Statements.{proc_spots}
-use Rattle.cmm_accepted.specs.Units.{target_spots, entry_spots, register_spots, item_spots}
+use Rattle.cmm_accepted.specs.Units.{target_decl_spots, entry_spots, register_spots, item_spots}
 use Rattle.cmm_accepted.specs.LongNames.{names_in, long_spots}
 use Rattle.cmm_accepted.specs.Limits.{proc_limits, sums_are_within}
 
@@ -43,7 +44,7 @@ name_spots us earlier u =
     again [] u.entries ++ flat_map host_again u.entries
     ++ flat_map (export_spots u.entries) (exports_of u) ++ twice (flat_map export_links earlier) (exports_of u)
     ++ flat_map (import_spots (flat_map export_links us)) u.entries
-    ++ flat_map (λ i. target_spots i.what) u.items ++ flat_map long_spots (names_in u.items)
+    ++ flat_map (λ i. target_decl_spots i.what) u.items ++ flat_map long_spots (names_in u.items)
 
 -- the registers of units, with their widths
 abbrev pub register_widths : NamedUnit → List (Declared (Option Width))
@@ -84,14 +85,13 @@ IsBroken us unit spot = Contains (all_broken (named_units us)) (record { unit = 
 
 -- ---- the fault that is named
 
-abbrev pub fault_at : List UnitTree → Placed → Option Fault
-fault_at us p = elim (slice_get us p.unit) [
-  | Some u ↦ elim (slice_get u.places p.spot.token) [
-    | Some place ↦ Some record { rule = p.spot.rule; unit = p.unit; line = place.line; column = place.column }
-    | None ↦ None
-  ]
-  | None ↦ None
-]
+-- where a token stands; each token of a unit has a place
+abbrev pub place_of : UnitTree → ℕ → Place
+place_of u token = slice_index_or u.places token record { line = 0; column = 0 }
+
+abbrev pub fault_at : List UnitTree → Placed → Fault
+fault_at us p = let place = place_of (slice_index_or us p.unit record { parts = []; places = [] }) p.spot.token in
+    record { rule = p.spot.rule; unit = p.unit; line = place.line; column = place.column }
 
 abbrev pub at_beginning : Rule → Option Fault
 at_beginning rule = Some record { rule = rule; unit = 0; line = 1; column = 1 }
@@ -105,7 +105,7 @@ fault_of_all us = elim (has_main us) [
 
 abbrev pub first_fault : List UnitTree → Option Fault
 first_fault us = let ns = named_units us in elim (first_by stands_before None (all_broken ns)) [
-  | Some p ↦ fault_at us p
+  | Some p ↦ Some (fault_at us p)
   | None ↦ fault_of_all ns
 ]
 

@@ -1,5 +1,5 @@
 -- What an expression is judged to be: bits of a width or a condition, with names resolved, or broken; and what is wanted of it.
-use Rattle.std.specs.Prelude.{ℕ, ◌==◌, Bool, true, false, List, [], ◌∷◌, Option, Some, None, Result, Ok, Err}
+use Rattle.std.specs.Prelude.{ℕ, ◌==◌, true, false, List, [], ◌∷◌, Option, Some, None, Result, Ok, Err}
 use Rattle.cmm_words.specs.declared.width.Width.{Width}
 use Rattle.cmm_words.specs.Widths.{bits}
 use Rattle.cmm_rules.specs.declared.rule.Rule.{Rule}

@@ -1,11 +1,9 @@
 -- The limits on a procedure, and those on sums over all units.
-use Rattle.std.specs.Prelude.{ℕ, zero, suc, ◌+◌, ◌-◌, ◌*◌, ◌==◌, ◌&&◌, ◌||◌, not, nat_le, Bool, true, false, List, [], ◌∷◌, ◌++◌, map, flat_map, filter, length, unwrap_or, Option, Some, None}
-use Rattle.cmm_words.specs.declared.width.Width.{Width}
+use Rattle.std.specs.Prelude.{ℕ, suc, ◌+◌, ◌-◌, ◌*◌, ◌==◌, ◌&&◌, ◌||◌, nat_le, Bool, true, false, List, [], ◌∷◌, ◌++◌, map, flat_map, filter, length, unwrap_or, Some, None}
 use Rattle.cmm_words.specs.Widths.{bytes}
 use Rattle.cmm_ast.specs.declared.expression.TypeName.{TypeName}
 use Rattle.cmm_ast.specs.declared.expression.Expr.{Expr}
 use Rattle.cmm_ast.specs.declared.procedure.Proc.{Proc}
-use Rattle.cmm_ast.specs.declared.procedure.LocalForm.{LocalForm}
 use Rattle.cmm_ast.specs.declared.procedure.LocalForm.TheVariants as locals
 use Rattle.cmm_ast.specs.declared.procedure.Room.{Room}
 use Rattle.cmm_ast.specs.declared.procedure.RoomForm.TheVariants as rooms
@@ -20,11 +18,11 @@ use Rattle.cmm_ast.specs.declared.unit.DatumForm.TheVariants as data_forms
 use Rattle.cmm_ast.specs.declared.unit.Count.{Count}
 use Rattle.cmm_ast.specs.declared.unit.Count.TheVariants as counts
 use Rattle.cmm_ast.specs.declared.unit.Initial.{Initial}
-use Rattle.cmm_program.specs.Layout.{Piece, aligned_up, end_of}
+use Rattle.cmm_program.specs.Layout.{Piece, end_of}
 use Rattle.cmm_program.specs.Typing.{is_alignment}
 use Rattle.cmm_rules.specs.declared.rule.Rule.TheVariants.{Limit}
 use Rattle.cmm_accepted.specs.declared.spot.Spot.{Spot}
-use Rattle.cmm_accepted.specs.Spots.{at, unless}
+use Rattle.cmm_accepted.specs.Spots.{unless}
 use Rattle.cmm_accepted.specs.Senses.{Senses}
 use Rattle.cmm_accepted.specs.Judging.{if_ok}
 use Rattle.cmm_accepted.specs.Typing.{type_width, of_primary}
@@ -72,9 +70,10 @@ abbrev pub room_limits : Scope → ℕ → List Room → List Spot
 room_limits s place [] = []
 room_limits s place (r ∷ rs) = let end_ = end_of place (room_piece s r ∷ []) in unless (nat_le end_ 65536) Limit r.token ++ room_limits s end_ rs
 
--- 40: a procedure has more than 1,024 variables, or too much stackdata
+-- 40: a procedure has more than 131,072 tokens, from its name to its closing brace, at the one after them; or more than 1,024 variables, or
+-- too much stackdata
 abbrev pub proc_limits : Senses → Proc → List Spot
-proc_limits outer p = past_limit Limit 1024 (λ d. d.name.token) (variables p) ++ room_limits (scope_of outer p) 0 (flat_map local_rooms (parts_of p.body))
+proc_limits outer p = unless (nat_le (p.past - p.name.token) 131072) Limit (p.name.token + 131072) ++ past_limit Limit 1024 (λ d. d.name.token) (variables p) ++ room_limits (scope_of outer p) 0 (flat_map local_rooms (parts_of p.body))
 
 -- ---- call sites, and the spans in force at them
 

@@ -2,7 +2,6 @@
 use Rattle.std.specs.Prelude.{ℕ, Bool, true, false, ◌&&◌, ◌||◌, not, List, [], ◌∷◌, ◌++◌, map, flat_map, position, unwrap_or, bytes_eq, codes, Option, Some, None}
 use Rattle.cmm_words.specs.declared.constant.Constant.{Constant}
 use Rattle.cmm_words.specs.declared.constant.Constant.TheVariants.{Code, Address}
-use Rattle.cmm_ast.specs.declared.token.Ident.{Ident}
 use Rattle.cmm_ast.specs.declared.expression.TypeName.{TypeName}
 use Rattle.cmm_ast.specs.declared.declaration.DeclForm.{DeclForm}
 use Rattle.cmm_ast.specs.declared.declaration.DeclForm.TheVariants as decls
@@ -15,7 +14,6 @@ use Rattle.cmm_accepted.specs.declared.sense.Sense.{Sense}
 use Rattle.cmm_accepted.specs.declared.sense.Sense.TheVariants.{Value, Host}
 use Rattle.cmm_accepted.specs.Spots.{unless}
 use Rattle.cmm_accepted.specs.Senses.{is_there, is_host, host_named}
-use Rattle.cmm_accepted.specs.Items.{Within}
 use Rattle.cmm_accepted.specs.Declarations.{Declared, Entry, Register, Import, DataLabel, Procedure, NamedUnit, entry_of, firsts, link_name}
 
 abbrev pub is_among : List ℕ → List (List ℕ) → Bool

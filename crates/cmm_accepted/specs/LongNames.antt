@@ -1,9 +1,8 @@
 -- The names and kinds that stand in a unit, each with its token: none has more than 255 bytes.
-use Rattle.std.specs.Prelude.{ℕ, nat_le, List, [], ◌∷◌, ◌++◌, map, flat_map, length, Option, Some, None}
+use Rattle.std.specs.Prelude.{nat_le, List, [], ◌∷◌, ◌++◌, map, flat_map, length, Option, Some, None}
 use Rattle.cmm_ast.specs.declared.token.Ident.{Ident}
 use Rattle.cmm_ast.specs.declared.token.Text.{Text}
 use Rattle.cmm_ast.specs.declared.expression.Expr.{Expr}
-use Rattle.cmm_ast.specs.declared.declaration.Import.{Import as ImportTree}
 use Rattle.cmm_ast.specs.declared.declaration.Export.{Export as ExportTree}
 use Rattle.cmm_ast.specs.declared.declaration.DeclForm.{DeclForm}
 use Rattle.cmm_ast.specs.declared.declaration.DeclForm.TheVariants as decls

@@ -1,5 +1,5 @@
 -- The operators by their names, and those that have a sign (C-- Language Specification 2.0, the table of primitive operators).
-use Rattle.std.specs.Prelude.{ℕ, Bool, true, false, List, [], ◌∷◌, ◌++◌, bytes_eq, codes, option_map, Option, Some, None}
+use Rattle.std.specs.Prelude.{ℕ, true, false, List, [], ◌∷◌, ◌++◌, bytes_eq, codes, option_map, Option, Some, None}
 use Rattle.std.specs.List.{find}
 use Rattle.cmm_words.specs.declared.operators.Op1.TheVariants.{Com, Neg}
 use Rattle.cmm_words.specs.declared.operators.Op2.TheVariants as op

@@ -1,11 +1,9 @@
 -- What a name means in a unit and in a procedure of it: a function of the declarations (C-- Language Specification 2.0, scope of names).
-use Rattle.std.specs.Prelude.{ℕ, zero, suc, Bool, true, false, ◌&&◌, ◌||◌, not, List, [], ◌∷◌, ◌++◌, length, bytes_eq, map, Option, Some, None, Result, Ok, Err}
+use Rattle.std.specs.Prelude.{ℕ, zero, suc, Bool, false, ◌||◌, List, [], ◌∷◌, length, bytes_eq, map, Option, Some, None, Ok, Err}
 use Rattle.std.specs.List.{list_any}
 use Rattle.cmm_words.specs.declared.width.Width.{Width}
 use Rattle.cmm_words.specs.declared.constant.Constant.TheVariants.{Number, Code, Address}
-use Rattle.cmm_ast.specs.declared.token.Ident.{Ident}
 use Rattle.cmm_ast.specs.declared.expression.TypeName.{TypeName}
-use Rattle.cmm_ast.specs.declared.expression.TypeForm.{TypeForm}
 use Rattle.cmm_ast.specs.declared.expression.TypeForm.TheVariants.{Bits as OfBits, Named as OfName}
 use Rattle.cmm_ast.specs.declared.expression.Expr.{Expr}
 use Rattle.cmm_accepted.specs.declared.judged.Bits.{Bits}
@@ -13,13 +11,13 @@ use Rattle.cmm_accepted.specs.declared.known.Known.{Known}
 use Rattle.cmm_accepted.specs.declared.sense.Sense.{Sense}
 use Rattle.cmm_accepted.specs.declared.sense.Sense.TheVariants.{Variable, Register, Value, Broken, Stackdata, Continuation, Typedef, CodeLabel, Host}
 use Rattle.cmm_accepted.specs.Senses.{Senses, host_named}
-use Rattle.cmm_accepted.specs.Judging.{Judged, with_ok, if_ok}
+use Rattle.cmm_accepted.specs.Judging.{Judged, if_ok}
 use Rattle.cmm_accepted.specs.Algebras.{knowns}
 use Rattle.cmm_accepted.specs.Typing.{type_width, wanted}
 use Rattle.cmm_accepted.specs.Constants.{as_number, number_alone}
 use Rattle.cmm_accepted.specs.Mentions.{expr_names, values_alone}
 use Rattle.cmm_accepted.specs.Declarations.{Declared, Entry, Local, Typedef as IsTypedef, Const, Register as IsRegister, Import, DataLabel, Procedure, Variable as IsVariable, Room, Label, Continuation as IsContinuation, found, entry_of, number_in, is_variable, is_room, is_continuation}
-use Rattle.cmm_accepted.specs.Linking.{Program, address_of, imported, register_number}
+use Rattle.cmm_accepted.specs.Linking.{Program, imported, register_number}
 
 -- ---- a unit. Typedefs and constants may name later ones: each step to another declaration takes one of a count of steps, and where none is
 -- left there is a cycle.

@@ -1,15 +1,13 @@
 -- Which rules a procedure and each of its statements break (C-- Language Specification 2.0, procedures and statements).
-use Rattle.std.specs.Prelude.{ℕ, ◌==◌, ◌+◌, ◌&&◌, nat_le, Bool, true, false, List, [], ◌∷◌, ◌++◌, map, flat_map, length, option_map, Option, Some, None, Result, Ok, Err}
+use Rattle.std.specs.Prelude.{ℕ, ◌==◌, ◌+◌, ◌&&◌, nat_le, Bool, true, false, List, [], ◌∷◌, ◌++◌, flat_map, length, option_map, Option, Some, None, Ok}
 use Rattle.cmm_words.specs.declared.width.Width.{Width}
 use Rattle.cmm_words.specs.Widths.{bits}
 use Rattle.cmm_ast.specs.declared.token.Ident.{Ident}
-use Rattle.cmm_ast.specs.declared.token.Text.{Text}
 use Rattle.cmm_ast.specs.declared.expression.Expr.{Expr}
 use Rattle.cmm_ast.specs.declared.expression.Memory.{Memory, Memory'}
 use Rattle.cmm_ast.specs.declared.expression.TypeName.{TypeName}
 use Rattle.cmm_ast.specs.declared.procedure.Proc.{Proc}
 use Rattle.cmm_ast.specs.declared.procedure.Formal.{Formal}
-use Rattle.cmm_ast.specs.declared.procedure.Modifiers.{Modifiers}
 use Rattle.cmm_ast.specs.declared.procedure.Modifiers.TheVariants as modifiers
 use Rattle.cmm_ast.specs.declared.procedure.LocalForm.{LocalForm}
 use Rattle.cmm_ast.specs.declared.procedure.LocalForm.TheVariants as locals
@@ -30,11 +28,11 @@ use Rattle.cmm_accepted.specs.declared.judged.Operands.TheVariants as operands
 use Rattle.cmm_accepted.specs.Spots.{at, unless}
 use Rattle.cmm_accepted.specs.Senses.{Senses, target_width}
 use Rattle.cmm_accepted.specs.Operators.{checked_named}
-use Rattle.cmm_accepted.specs.Judging.{with_ok, with_both, spots, if_ok}
+use Rattle.cmm_accepted.specs.Judging.{with_both, spots, if_ok}
 use Rattle.cmm_accepted.specs.Algebras.{knowns}
 use Rattle.cmm_accepted.specs.Typing.{expr_type, operand_at, type_width, applied, wanted, of_memory, of_primary}
 use Rattle.cmm_accepted.specs.Constants.{Judgement, number_of}
-use Rattle.cmm_accepted.specs.Declarations.{Declared, again, own_names}
+use Rattle.cmm_accepted.specs.Declarations.{again, own_names}
 use Rattle.cmm_accepted.specs.Items.{parts_of}
 use Rattle.cmm_accepted.specs.Scopes.{Scope, senses, types}
 use Rattle.cmm_accepted.specs.Expressions.{alignment_spots, inner_spots, bits_spots, test_spots, number_spots, constant_spots, type_spots, past_limit}
@@ -74,7 +72,7 @@ result_fits _ _ = true
 abbrev pub checked_type : Senses → Ident → Expr → Expr → Judgement
 checked_type names operator left right =
     with_both (operand_at knowns left.token (expr_type knowns names left)) (operand_at knowns right.token (expr_type knowns names right))
-        (λ a b. applied knowns operator.token (checked_named operator.name) (operands.Two a b))
+    (λ a b. applied knowns operator.token (checked_named operator.name) (operands.Two a b))
 
 abbrev pub checked_spots : Scope → Ident → Ident → Expr → Expr → List Spot
 checked_spots s result operator left right = let t = checked_type (senses s) operator left right in

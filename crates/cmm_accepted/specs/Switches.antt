@@ -1,5 +1,5 @@
 -- Which rules the range and the arms of a switch break (C-- Language Specification 2.0, the switch statement).
-use Rattle.std.specs.Prelude.{ℕ, ◌&&◌, ◌||◌, not, nat_le, nat_lt, Bool, true, false, List, [], ◌∷◌, ◌++◌, Option, Some, None, Result, Ok, Err}
+use Rattle.std.specs.Prelude.{ℕ, ◌&&◌, ◌||◌, not, nat_le, nat_lt, Bool, true, false, List, [], ◌∷◌, ◌++◌, Option, Some, None}
 use Rattle.cmm_words.specs.declared.width.Width.{Width}
 use Rattle.cmm_ast.specs.declared.expression.Expr.{Expr}
 use Rattle.cmm_ast.specs.declared.statement.Case.{Case}
@@ -11,7 +11,7 @@ use Rattle.cmm_rules.specs.declared.rule.Rule.TheVariants.{ArmsOverlap}
 use Rattle.cmm_accepted.specs.declared.spot.Spot.{Spot}
 use Rattle.cmm_accepted.specs.Spots.{unless}
 use Rattle.cmm_accepted.specs.Senses.{Senses}
-use Rattle.cmm_accepted.specs.Judging.{Judged, if_ok}
+use Rattle.cmm_accepted.specs.Judging.{if_ok}
 use Rattle.cmm_accepted.specs.Constants.{number_alone}
 use Rattle.cmm_accepted.specs.Expressions.{number_alone_spots}
 

@@ -1,10 +1,9 @@
 -- The types of expressions, where each name means what a function says, with what stands for their values (C-- Language Specification 2.0,
 -- expressions).
 use mathlib.Core.Former.{one_more}
-use Rattle.std.specs.Prelude.{ℕ, ◌^◌, ◌==◌, nat_lt, nat_le, Bool, true, false, List, [], ◌∷◌, option_map, Option, Some, None, Result, Ok, Err}
+use Rattle.std.specs.Prelude.{ℕ, ◌^◌, nat_lt, nat_le, Bool, true, false, option_map, Option, Some, None, Ok, Err}
 use Rattle.cmm_words.specs.declared.width.Width.{Width}
 use Rattle.cmm_words.specs.declared.width.Width.TheVariants.{W8, W64}
-use Rattle.cmm_words.specs.declared.constant.Constant.{Constant}
 use Rattle.cmm_words.specs.declared.constant.Constant.TheVariants.{Number as NumberOf}
 use Rattle.cmm_words.specs.declared.operators.Op1.{Op1}
 use Rattle.cmm_words.specs.declared.operators.Op2.{Op2}
@@ -21,7 +20,6 @@ use Rattle.cmm_ast.specs.declared.expression.PrimForm.TheVariants.{Literal, Name
 use Rattle.cmm_ast.specs.declared.expression.Primary.{Primary}
 use Rattle.cmm_ast.specs.declared.expression.Memory.{Memory, Memory'}
 use Rattle.cmm_ast.specs.declared.expression.TypeName.{TypeName}
-use Rattle.cmm_ast.specs.declared.expression.TypeForm.{TypeForm}
 use Rattle.cmm_ast.specs.declared.expression.TypeForm.TheVariants.{Bits as OfBits, Named as OfName}
 use Rattle.cmm_rules.specs.declared.rule.Rule.TheVariants.{Undeclared, WidthsDiffer, LiteralDoesNotFit, UnknownOperator}
 use Rattle.cmm_accepted.specs.declared.operator.Operator.{Operator}
@@ -37,7 +35,7 @@ use Rattle.cmm_accepted.specs.declared.judged.Operand.{Operand}
 use Rattle.cmm_accepted.specs.declared.judged.Operands.{Operands}
 use Rattle.cmm_accepted.specs.declared.judged.Operands.TheVariants as operands
 use Rattle.cmm_accepted.specs.Algebras.{Algebra}
-use Rattle.cmm_accepted.specs.Judging.{Judged, faulty, with_ok, with_both, as_bits, as_wanted, of_width, bits_of, test_of}
+use Rattle.cmm_accepted.specs.Judging.{Judged, faulty, with_ok, with_both, as_wanted, of_width, bits_of, test_of}
 
 abbrev pub with_values : {A B D : Type 0} → Option A → Option B → (A → B → D) → Option D
 with_values (Some a) (Some b) made = Some (made a b)

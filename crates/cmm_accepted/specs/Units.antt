@@ -1,5 +1,5 @@
 -- Which rules the declarations and the data of a unit break (C-- Language Specification 2.0, compilation units and data sections).
-use Rattle.std.specs.Prelude.{ℕ, ◌==◌, Bool, true, false, not, List, [], ◌∷◌, ◌++◌, map, flat_map, length, Option, Some, None, Result, Ok, Err}
+use Rattle.std.specs.Prelude.{ℕ, ◌==◌, Bool, true, false, not, List, [], ◌++◌, flat_map, length, Option, Some, None}
 use Rattle.cmm_words.specs.declared.width.Width.{Width}
 use Rattle.cmm_words.specs.Widths.{bits}
 use Rattle.cmm_ast.specs.declared.expression.Expr.{Expr}
@@ -12,7 +12,6 @@ use Rattle.cmm_ast.specs.declared.declaration.PropertyForm.TheVariants.{Memsize,
 use Rattle.cmm_ast.specs.declared.declaration.ByteOrder.TheVariants.{Little, Big}
 use Rattle.cmm_ast.specs.declared.unit.Item.{Item}
 use Rattle.cmm_ast.specs.declared.unit.Item.TheVariants as items
-use Rattle.cmm_ast.specs.declared.unit.Datum.{Datum}
 use Rattle.cmm_ast.specs.declared.unit.DatumForm.{DatumForm}
 use Rattle.cmm_ast.specs.declared.unit.DatumForm.TheVariants as data_forms
 use Rattle.cmm_ast.specs.declared.unit.Count.{Count}
@@ -21,7 +20,7 @@ use Rattle.cmm_ast.specs.declared.unit.Initial.{Initial}
 use Rattle.cmm_ast.specs.declared.unit.Initial.TheVariants as initials
 use Rattle.cmm_rules.specs.declared.rule.Rule.TheVariants.{WidthsDiffer, CountsDiffer, OtherTarget, Cycle}
 use Rattle.cmm_accepted.specs.declared.spot.Spot.{Spot}
-use Rattle.cmm_accepted.specs.Spots.{at, unless}
+use Rattle.cmm_accepted.specs.Spots.{unless}
 use Rattle.cmm_accepted.specs.Senses.{Senses}
 use Rattle.cmm_accepted.specs.Judging.{if_ok}
 use Rattle.cmm_accepted.specs.Typing.{type_width, of_primary}
@@ -53,9 +52,9 @@ is_of_target (Wordsize n) = n.value == 64
 abbrev pub property_spots : Property → List Spot
 property_spots p = unless (is_of_target p.form) OtherTarget p.token
 
-abbrev pub target_spots : Item → List Spot
-target_spots (items.Decl d) = elim d.form [ decls.Target ps ↦ flat_map property_spots ps | _ ↦ [] ]
-target_spots _ = []
+abbrev pub target_decl_spots : Item → List Spot
+target_decl_spots (items.Decl d) = elim d.form [ decls.Target ps ↦ flat_map property_spots ps | _ ↦ [] ]
+target_decl_spots _ = []
 
 abbrev pub decl_spots : Senses → DeclForm → List Spot
 decl_spots names (decls.Import width imports) = link_type_spots names width

@@ -29,13 +29,7 @@ impl Spot {
         match (a, b) {
             (None, _) => b,
             (Some(_), None) => a,
-            (Some(x), Some(y)) => {
-                if y.comes_before(x) {
-                    b
-                } else {
-                    a
-                }
-            }
+            (Some(x), Some(y)) => { if y.comes_before(x) { b } else { a } }
         }
     }
 }

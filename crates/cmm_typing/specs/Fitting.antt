@@ -1,5 +1,5 @@
 -- Numbers that are words of their widths, as the operators ask.
-use Rattle.std.specs.Prelude.{ℕ, List, Option, Some, None, Result, Ok, Err}
+use Rattle.std.specs.Prelude.{ℕ, List, Option, Some, None}
 use Rattle.cmm_words.specs.declared.width.Width.{Width}
 use Rattle.cmm_words.specs.Widths.{IsWord}
 use Rattle.cmm_words.specs.Constants.{Fits}

@@ -68,7 +68,10 @@ fn alike(left: Operand<Known, ()>, right: Operand<Known, ()>) -> Judged<(Bits<Kn
     ensures left { IfOk result (λ p. FitsBits p.0) }
     ensures right { IfOk result (λ p. IsKnownIf p.0.width p.1.value) }
 {
-    match (as_bits(left.token, left.typed), as_bits(right.token, right.typed)) {
+    match (
+        as_bits(left.token, left.typed),
+        as_bits(right.token, right.typed),
+    ) {
         (Ok(a), Ok(b)) => match of_width(a.width, right.token, b) {
             Ok(b) => Ok((a, b)),
             Err(broken) => Err(broken),
@@ -84,7 +87,10 @@ fn conditions(left: Operand<Known, ()>, right: Operand<Known, ()>) -> Judged<Typ
     ensures value { result ≡ typing.both knowns (λ p q. tt) left right }
     ensures fits { IfOk result FitsTyped }
 {
-    match (as_test(left.token, left.typed), as_test(right.token, right.typed)) {
+    match (
+        as_test(left.token, left.typed),
+        as_test(right.token, right.typed),
+    ) {
         (Ok(p), Ok(q)) => Ok(Typed::Test(both_known(p, q))),
         (Ok(_), Err(broken)) => Err(broken),
         (Err(broken), Ok(_)) => Err(broken),
@@ -155,7 +161,11 @@ fn shortened(token: u32, to: Width, bits: Bits<Known>) -> Judged<Typed<Known, ()
 }
 
 /// An operator at one operand, where the operator stands at a token: else rule 26.
-pub fn applied_to_one(operator: Operator, token: u32, operand: Operand<Known, ()>) -> Judged<Typed<Known, ()>>
+pub fn applied_to_one(
+    operator: Operator,
+    token: u32,
+    operand: Operand<Known, ()>,
+) -> Judged<Typed<Known, ()>>
     requires { FitsTyped operand.typed }
     ensures value { result ≡ typing.applied_to_one knowns operator token operand }
     ensures fits { IfOk result FitsTyped }
@@ -169,7 +179,11 @@ pub fn applied_to_one(operator: Operator, token: u32, operand: Operand<Known, ()
         Operator::ZeroExtend(to) => {
             zero_extended(operand.token, to, as_bits(operand.token, operand.typed)?)
         }
-        Operator::LowBits(to) => shortened(operand.token, to, as_bits(operand.token, operand.typed)?),
+        Operator::LowBits(to) => shortened(
+            operand.token,
+            to,
+            as_bits(operand.token, operand.typed)?,
+        ),
         Operator::Binary(_) => Err(faulty(Rule::UnknownOperator, token)),
         Operator::Compare(_) => Err(faulty(Rule::UnknownOperator, token)),
         Operator::Conjoin => Err(faulty(Rule::UnknownOperator, token)),

@@ -6,8 +6,8 @@ ghost use Rattle.cmm_accepted.specs.Typing as typing;
 ghost use Rattle.cmm_typing.specs.Fitting.{AreWords, FitsTyped, FitsOperands};
 ghost use Rattle.cmm_typing.specs.Lists.{list_operands};
 
-use crate::leaf::{literal_type, name_type, type_width};
 use crate::joining::{applied, infixed, loaded, prefixed, with_operand};
+use crate::leaf::{literal_type, name_type, type_width};
 use crate::names::Names;
 use crate::operators::operator_named;
 use crate::wanted::Judged;
@@ -29,7 +29,14 @@ pub fn judge<N: Names>(names: &N, e: &Expr) -> Judged<Typed<Known, ()>>
         } => {
             let a = judge(names, left.get());
             let b = judge(names, right.get());
-            infixed(e.token, *operator, left.get().token, a, right.get().token, b)
+            infixed(
+                e.token,
+                *operator,
+                left.get().token,
+                a,
+                right.get().token,
+                b,
+            )
         }
         ExprForm::Prefix { operator, operand } => {
             let a = judge(names, operand.get());

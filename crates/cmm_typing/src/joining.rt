@@ -50,7 +50,12 @@ pub(crate) fn infixed(
 }
 
 /// An operator before its operand, by the operand's first token.
-pub(crate) fn prefixed(token: u32, operator: Prefix, own: u32, a: Judged<Typed<Known, ()>>) -> Judged<Typed<Known, ()>>
+pub(crate) fn prefixed(
+    token: u32,
+    operator: Prefix,
+    own: u32,
+    a: Judged<Typed<Known, ()>>,
+) -> Judged<Typed<Known, ()>>
     requires { IfOk a FitsTyped }
     ensures value { result ≡ with_ok (typing.operand_at knowns own a) (typing.applied_to_one knowns (operators.prefix_operator operator) token) }
     ensures fits { IfOk result FitsTyped }
@@ -96,7 +101,11 @@ pub(crate) fn with_operand(
 }
 
 /// An operator that is written by its name at a token, if it is one: else rule 26.
-pub(crate) fn applied(token: u32, operator: Option<Operator>, given: Judged<Operands<Known, ()>>) -> Judged<Typed<Known, ()>>
+pub(crate) fn applied(
+    token: u32,
+    operator: Option<Operator>,
+    given: Judged<Operands<Known, ()>>,
+) -> Judged<Typed<Known, ()>>
     requires { IfOk given FitsOperands }
     ensures value { result ≡ with_ok given (typing.applied knowns token operator) }
     ensures fits { IfOk result FitsTyped }
@@ -107,7 +116,11 @@ pub(crate) fn applied(token: u32, operator: Option<Operator>, given: Judged<Oper
     }
 }
 
-fn applied_to(token: u32, operator: Option<Operator>, given: Operands<Known, ()>) -> Judged<Typed<Known, ()>>
+fn applied_to(
+    token: u32,
+    operator: Option<Operator>,
+    given: Operands<Known, ()>,
+) -> Judged<Typed<Known, ()>>
     requires { FitsOperands given }
     ensures value { result ≡ typing.applied knowns token operator given }
     ensures fits { IfOk result FitsTyped }
@@ -148,7 +161,11 @@ fn unknown_if_known(known: Option<Known>) -> Option<Known>
 }
 
 /// The word at an address, from its width and the address by its first token.
-pub(crate) fn loaded(width: Judged<Width>, token: u32, address: Judged<Typed<Known, ()>>) -> Judged<Typed<Known, ()>>
+pub(crate) fn loaded(
+    width: Judged<Width>,
+    token: u32,
+    address: Judged<Typed<Known, ()>>,
+) -> Judged<Typed<Known, ()>>
     requires { IfOk address FitsTyped }
     ensures value { (aligned : Option Int) → result ≡ with_both width (typing.operand_at knowns token address) (typing.load knowns aligned) }
     ensures fits { IfOk result FitsTyped }

@@ -79,7 +79,12 @@ fn literal_width<N: Names>(names: &N, number: Number, width: &Option<TypeName>) 
 }
 
 /// A literal, by its first token.
-pub(crate) fn literal_type<N: Names>(names: &N, token: u32, number: Number, width: &Option<TypeName>) -> Judged<Typed<Known, ()>>
+pub(crate) fn literal_type<N: Names>(
+    names: &N,
+    token: u32,
+    number: Number,
+    width: &Option<TypeName>,
+) -> Judged<Typed<Known, ()>>
     ensures value { result ≡ typing.literal_type knowns (N.senses names.now) token number width.now }
     ensures fits { IfOk result FitsTyped }
 {
