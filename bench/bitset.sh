@@ -7,11 +7,7 @@
 set -eu
 . "$(dirname "$0")/copy_crates.sh"
 work=${1:-$(mktemp -d)}
-copy_crates "$work" cmm_bitset
-mkdir -p "$work/crates/bitset_speed/src"
-printf 'Handles allowed: none.\n' >"$work/HANDLES"
-grep '^cmm_bitset:' "$here/crates.txt" >"$work/crates.txt"
-echo 'bitset_speed: cmm_bitset' >>"$work/crates.txt"
+copy_crates "$work" bitset_speed cmm_bitset
 cat >"$work/crates/bitset_speed/src/main.rt" <<'PROGRAM'
 //! Joins sets and goes over their members, and prints how long that takes.
 #![tactic(auto)]

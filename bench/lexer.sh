@@ -6,13 +6,7 @@
 set -eu
 . "$(dirname "$0")/copy_crates.sh"
 work=${1:-$(mktemp -d)}
-copy_crates "$work" cmm_rules cmm_items cmm_words cmm_lexer
-mkdir -p "$work/crates/lexer_speed/src"
-printf 'Handles allowed: none.\n' >"$work/HANDLES"
-{
-    grep -E '^(cmm_rules|cmm_items|cmm_words|cmm_lexer):' "$here/crates.txt"
-    echo 'lexer_speed: cmm_lexer cmm_items'
-} >"$work/crates.txt"
+copy_crates "$work" lexer_speed cmm_lexer cmm_items
 cat >"$work/crates/lexer_speed/src/main.rt" <<'PROGRAM'
 //! Lexes a unit made of one piece, over and over, and prints how long one time takes.
 #![tactic(auto)]

@@ -6,13 +6,7 @@
 set -eu
 . "$(dirname "$0")/copy_crates.sh"
 work=${1:-$(mktemp -d)}
-copy_crates "$work" cmm_rules cmm_items cmm_words cmm_lexer cmm_ast cmm_readers cmm_parser
-mkdir -p "$work/crates/parser_speed/src"
-printf 'Handles allowed: none.\n' >"$work/HANDLES"
-{
-    grep -E '^(cmm_rules|cmm_items|cmm_words|cmm_lexer|cmm_ast|cmm_readers|cmm_parser):' "$here/crates.txt"
-    echo 'parser_speed: cmm_lexer cmm_ast cmm_parser cmm_items'
-} >"$work/crates.txt"
+copy_crates "$work" parser_speed cmm_lexer cmm_ast cmm_parser cmm_items
 cat >"$work/crates/parser_speed/src/main.rt" <<'PROGRAM'
 //! Parses a unit made of one piece, five times, and prints how long one time takes; and a unit that is as deep as the limits allow.
 #![tactic(auto)]

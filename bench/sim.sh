@@ -7,11 +7,7 @@
 set -eu
 . "$(dirname "$0")/copy_crates.sh"
 work=${1:-$(mktemp -d)}
-copy_crates "$work" rv_table rv_code rv_memory rv_sim
-mkdir -p "$work/crates/sim_speed/src"
-printf 'Handles allowed: none.\n' >"$work/HANDLES"
-printf 'rv_table:\nrv_code: rv_table\nrv_memory: rv_table byteorder\nrv_sim: rv_table rv_code rv_memory\n' >"$work/crates.txt"
-printf 'sim_speed: rv_table rv_code rv_memory rv_sim\n' >>"$work/crates.txt"
+copy_crates "$work" sim_speed rv_table rv_code rv_memory rv_sim
 
 # Each loop counts register 10 down to 0; register 4 has the address of data that can be written.
 # add x6, x6, x5; xor x7, x7, x6; srli x8, x7, 3; sub x9, x9, x8; sltu x11, x9, x6; addi x5, x5, 1; addi x10, x10, -1; bne x10, x0, .-28
