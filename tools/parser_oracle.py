@@ -1,202 +1,418 @@
+#!/usr/bin/env python3
 """An independent recognizer of the grammar: it tries every alternative at every place, and knows neither the parser nor its readers.
+
 Reads texts from standard input, one a line, each a whole unit, and prints for each the tree as the parser's types print it, or the token at
 which rule 10 is broken, or that the text has more trees than one. An argument names another part of the grammar to start from, as `part`.
-crates/cmm_trees/stdout is what it prints for crates/cmm_trees/stdin."""
-import re,sys
-sys.setrecursionlimit(100000)
-WORDS="aborts align aligned also as big bits8 bits16 bits32 bits64 bool byteorder case const continuation cut cuts default else export float foreign goto if import in invariant jump little memsize never pointersize pragma reads register return returns section span stackdata string16 switch target to typedef unicode unwinds wordsize writes".split()
-SYMS=sorted("{ } ( ) [ ] , ; : :: = == != < <= > >= + - * / % & | ^ ~ << >> ..".split(),key=lambda s:-len(s))
-def lex(s):
-    out=[];i=0
-    while i<len(s):
-        c=s[i]
-        if c in ' \n\t': i+=1;continue
-        m=re.compile(r'%%([A-Za-z_][A-Za-z0-9_]*)').match(s,i)
-        if m: out.append(('CHECKED',m.group(1)));i=m.end();continue
-        m=re.compile(r'%([A-Za-z_][A-Za-z0-9_]*)').match(s,i)
-        if m: out.append(('OP',m.group(1)));i=m.end();continue
-        m=re.compile(r'[A-Za-z_$@][A-Za-z0-9_$@]*').match(s,i)
-        if m:
-            w=m.group(0); out.append(('w:'+w,w) if w in WORDS else ('NAME',w)); i=m.end();continue
-        m=re.compile(r'[0-9]+').match(s,i)
-        if m: out.append(('INT',int(m.group(0))));i=m.end();continue
-        m=re.compile(r'"([^"]*)"').match(s,i)
-        if m: out.append(('TEXT',m.group(1)));i=m.end();continue
-        m=re.compile(r"'(.)'").match(s,i)
-        if m: out.append(('CHAR',ord(m.group(1))));i=m.end();continue
-        for y in SYMS:
-            if s.startswith(y,i): out.append(('s:'+y,y));i+=len(y);break
-        else: raise Exception('lex '+s[i:])
-    return out
-# Debug text
-def items(l): return '['+', '.join(l)+']'
-def quoted(w): return '"'+''.join('\\'+c if c in '"\\' else c if ' '<=c<='~' else '\\x%02x'%ord(c) for c in w)+'"'
-def opt(v): return 'None' if v is None else 'Some(%s)'%v
-def st(n,**k): return n+' { '+', '.join('%s: %s'%(a,b) for a,b in k.items())+' }'
-RULES={}
-def rule(lhs,rhs,act): RULES.setdefault(lhs,[]).append((tuple(rhs.split()),act))
-def one(v,i,j): return v[0]
-def alt(lhs,*names):
-    for n in names: rule(lhs,n,one)
-made=set()
-def commas(x):
-    n='commas<%s>'%x
-    if n not in made:
-        made.add(n); rule(n,x,lambda v,i,j:[v[0]]); rule(n,x+' s:, '+n,lambda v,i,j:[v[0]]+v[2])
-    return n
-def listed(x):
-    n='listed<%s>'%x
-    if n not in made:
-        made.add(n); c=commas(x); rule(n,c,one); rule(n,c+' s:,',one)
-    return n
-def maylist(x):
-    n='may<%s>'%x
-    if n not in made:
-        made.add(n); rule(n,'',lambda v,i,j:[]); rule(n,listed(x),one)
-    return n
-def many(x):
-    n='many<%s>'%x
-    if n not in made:
-        made.add(n); rule(n,'',lambda v,i,j:[]); rule(n,x+' '+n,lambda v,i,j:[v[0]]+v[1])
-    return n
-def optional(x):
-    n='opt<%s>'%x
-    if n not in made:
-        made.add(n); rule(n,'',lambda v,i,j:None); rule(n,x,one)
-    return n
-I=lambda v:items(v)
-rule('ident','NAME',lambda v,i,j:st('Ident',name=quoted(v[0]),token=i))
-rule('text','TEXT',lambda v,i,j:st('Text',bytes=quoted(v[0]),token=i))
-rule('int','INT',lambda v,i,j:st('Int',value=v[0],token=i))
-for w in (8,16,32,64): rule('type','w:bits%d'%w,lambda v,i,j,w=w:st('TypeName',token=i,form='Bits(W%d)'%w))
-rule('type','NAME',lambda v,i,j:st('TypeName',token=i,form='Named(%s)'%quoted(v[0])))
-# unit
-rule('unit',many('top'),lambda v,i,j:items(v[0]))
-for a,b in (('section','Section'),('decl','Decl'),('proc','Proc')): rule('top',a,lambda v,i,j,b=b:'%s(%s)'%(b,v[0]))
-rule('section','w:section text s:{ '+many('item')+' s:}',lambda v,i,j:st('Section',token=i,name=v[1],items=items(v[3])))
-for a,b in (('decl','Decl'),('proc','Proc'),('datum','Datum')): rule('item',a,lambda v,i,j,b=b:'%s(%s)'%(b,v[0]))
-rule('item','w:span prim expr s:{ '+many('item')+' s:}',lambda v,i,j:st('Span',token=i,key=v[1],value=v[2],items=items(v[4])))
-def D(f): return lambda v,i,j:st('Decl',token=i,form=f(v))
-rule('decl','w:import '+optional('type')+' '+listed('import')+' s:;',D(lambda v:st('Import',width=opt(v[1]),imports=items(v[2]))))
-rule('decl','w:export '+optional('type')+' '+listed('export')+' s:;',D(lambda v:st('Export',width=opt(v[1]),exports=items(v[2]))))
-rule('decl','w:const '+optional('type')+' ident s:= expr s:;',D(lambda v:st('Const',width=opt(v[1]),name=v[2],value=v[4])))
-rule('decl','w:typedef type '+listed('ident')+' s:;',D(lambda v:st('Typedef',width=v[1],names=items(v[2]))))
-rule('decl',optional('w:invariant')+' w:register '+optional('text')+' type '+listed('ident')+' s:;',D(lambda v:st('Register',invariant='false' if v[0] is None else 'true',kind=opt(v[2]),width=v[3],names=items(v[4]))))
-rule('decl','w:target '+many('property')+' s:;',D(lambda v:'Target(%s)'%items(v[1])))
-rule('import','ident',lambda v,i,j:st('Import',link='None',name=v[0]))
-rule('import','text w:as ident',lambda v,i,j:st('Import',link=opt(v[0]),name=v[2]))
-rule('export','ident',lambda v,i,j:st('Export',name=v[0],link='None'))
-rule('export','ident w:as text',lambda v,i,j:st('Export',name=v[0],link=opt(v[2])))
-for w,n in (('memsize','Memsize'),('pointersize','Pointersize'),('wordsize','Wordsize')):
-    rule('property','w:%s int'%w,lambda v,i,j,n=n:st('Property',token=i,form='%s(%s)'%(n,v[1])))
-rule('property','w:byteorder w:little',lambda v,i,j:st('Property',token=i,form='Byteorder(Little)'))
-rule('property','w:byteorder w:big',lambda v,i,j:st('Property',token=i,form='Byteorder(Big)'))
-def T(f): return lambda v,i,j:st('Datum',token=i,form=f(v))
-rule('datum','ident s::',T(lambda v:'Label(%s)'%v[0]))
-rule('datum','w:align int s:;',T(lambda v:'Align(%s)'%v[1]))
-rule('datum','type count init s:;',T(lambda v:st('Data',width=v[0],count=v[1],initial=v[2])))
-rule('count','',lambda v,i,j:'One'); rule('count','s:[ s:]',lambda v,i,j:'OfInitial'); rule('count','s:[ expr s:]',lambda v,i,j:'Of(%s)'%v[1])
-rule('init','',lambda v,i,j:'Zeros'); rule('init','s:{ '+listed('expr')+' s:}',lambda v,i,j:'Values(%s)'%items(v[1])); rule('init','text',lambda v,i,j:'Text(%s)'%v[0])
-rule('proc','ident s:( '+maylist('formal')+' s:) block',lambda v,i,j:st('Proc',name=v[0],formals=items(v[2]),body=v[4],past=j))
-rule('formal','mods type ident',lambda v,i,j:st('Formal',modifiers=v[0],width=v[1],name=v[2]))
-rule('mods','',lambda v,i,j:'Nothing'); rule('mods','text',lambda v,i,j:'Kind(%s)'%v[0]); rule('mods','text w:invariant',lambda v,i,j:'KindInvariant(%s)'%v[0])
-rule('mods','w:invariant',lambda v,i,j:'Invariant(%d)'%i); rule('mods','w:invariant text',lambda v,i,j:'InvariantKind(%d, %s)'%(i,v[1]))
-rule('block','s:{ '+many('part')+' s:}',lambda v,i,j:st('Block',parts=items(v[1])))
-rule('part','local',lambda v,i,j:'Local(%s)'%st('Local',token=i,past=j,form=v[0])); rule('part','stmt',lambda v,i,j:'Stmt(%s)'%v[0])
-rule('stmt','form',lambda v,i,j:st('Stmt',token=i,past=j,form=v[0]))
-rule('local','mods type '+listed('ident')+' s:;',lambda v,i,j:st('Variables',modifiers=v[0],width=v[1],names=items(v[2])))
-rule('local','w:stackdata s:{ '+many('room')+' s:}',lambda v,i,j:'Stackdata(%s)'%items(v[2]))
-rule('room','roomform',lambda v,i,j:st('Room',token=i,form=v[0]))
-rule('roomform','ident s::',lambda v,i,j:'Label(%s)'%v[0]); rule('roomform','w:align int s:;',lambda v,i,j:'Align(%s)'%v[1])
-rule('sized','s:[ expr s:]',lambda v,i,j:v[1]); rule('roomform','type '+optional('sized')+' s:;',lambda v,i,j:st('Data',width=v[0],count=opt(v[1])))
-def S(rhs,f): rule('form',rhs,lambda v,i,j:f(v))
-S('s:;',lambda v:'Empty')
-rule('ifform','w:if expr block else',lambda v,i,j:st('If',condition=v[1],then=v[2],otherwise=v[3]))
-rule('form','ifform',one)
-rule('else','',lambda v,i,j:'Nothing'); rule('else','w:else block',lambda v,i,j:'Else(%s)'%v[1]); rule('else','w:else chained',lambda v,i,j:'ElseIf(%s)'%v[1])
-rule('chained','ifform',lambda v,i,j:st('Stmt',token=i,past=j,form=v[0]))
-rule('over','s:[ expr s:.. expr s:]',lambda v,i,j:st('Span',**{'from':v[1],'to':v[3]}))
-S('w:switch '+optional('over')+' expr s:{ '+many('arm')+' s:}',lambda v:st('Switch',range=opt(v[1]),value=v[2],arms=items(v[4])))
-S('w:span prim expr block',lambda v:st('Span',key=v[1],value=v[2],body=v[3]))
-S(commas('lvalue')+' s:= '+listed('expr')+' s:;',lambda v:st('Assign',to=items(v[0]),values=items(v[2])))
-rule('checked','CHECKED',lambda v,i,j:st('Ident',name=quoted(v[0]),token=i))
-S('ident s:= checked s:( expr s:, expr s:) flows s:;',lambda v:st('Checked',result=v[0],operator=v[2],left=v[4],right=v[6],flows=items(v[8])))
-rule('results','',lambda v,i,j:[]); rule('results',commas('kinded')+' s:=',one)
-rule('convention','',lambda v,i,j:None); rule('convention','w:foreign text',lambda v,i,j:v[1])
-rule('args','s:( '+maylist('actual')+' s:)',lambda v,i,j:v[1])
-S('results convention callee args flows s:;',lambda v:st('Call',results=items(v[0]),convention=opt(v[1]),callee=v[2],actuals=items(v[3]),flows=items(v[4])))
-S('w:jump callee args s:;',lambda v:st('Jump',callee=v[1],actuals=items(v[2])))
-rule('exit','s:< prim s:/ prim s:>',lambda v,i,j:st('Exit',token=i,index=v[1],count=v[3]))
-S('w:return '+optional('exit')+' '+optional('args')+' s:;',lambda v:st('Return',exit=opt(v[1]),values=opt(None if v[2] is None else items(v[2]))))
-S('ident s::',lambda v:'Label(%s)'%v[0])
-S('w:continuation ident s:( '+maylist('kinded')+' s:) s::',lambda v:st('Continuation',name=v[1],parameters=items(v[3])))
-S('w:goto ident s:;',lambda v:'Goto(%s)'%v[1])
-S('w:cut w:to callee args flows s:;',lambda v:st('Cut',callee=v[2],actuals=items(v[3]),flows=items(v[4])))
-rule('arm','case block',lambda v,i,j:st('Arm',token=i,case=v[0],body=v[1]))
-rule('case','w:case '+commas('range')+' s::',lambda v,i,j:'Ranges(%s)'%items(v[1])); rule('case','w:default s::',lambda v,i,j:'Default')
-rule('range','expr',lambda v,i,j:st('Range',**{'from':v[0],'to':'None'})); rule('range','expr s:.. expr',lambda v,i,j:st('Range',**{'from':v[0],'to':opt(v[2])}))
-rule('lvalue','ident',lambda v,i,j:'Name(%s)'%v[0]); rule('lvalue','memory',lambda v,i,j:'Memory(%s)'%v[0])
-rule('kinded',optional('text')+' ident',lambda v,i,j:st('Kinded',kind=opt(v[0]),name=v[1]))
-rule('actual',optional('text')+' expr',lambda v,i,j:st('Actual',kind=opt(v[0]),value=v[1]))
-rule('callee','ident',lambda v,i,j:st('Callee',token=i,form='Name(%s)'%v[0])); rule('callee','memory',lambda v,i,j:st('Callee',token=i,form='Memory(%s)'%v[0])); rule('callee','s:( expr s:)',lambda v,i,j:st('Callee',token=i,form='Bracketed(%s)'%v[1]))
-rule('flows','',lambda v,i,j:[]); rule('flows','flow flows',lambda v,i,j:[v[0]]+v[1]); rule('flows','flow s:, flows',lambda v,i,j:[v[0]]+v[2])
-for w,n in (('cuts','CutsTo'),('unwinds','UnwindsTo'),('returns','ReturnsTo')):
-    rule('flow','w:also w:%s w:to '%w+commas('ident'),lambda v,i,j,n=n:st('Flow',token=i,form='%s(%s)'%(n,items(v[3]))))
-rule('flow','w:also w:aborts',lambda v,i,j:st('Flow',token=i,form='Aborts')); rule('flow','w:never w:returns',lambda v,i,j:st('Flow',token=i,form='NeverReturns'))
-for w in ('','w:aligned','w:align'):
-    if w: rule('al',w+' int',lambda v,i,j:v[1])
-rule('memory','type s:[ expr '+optional('al')+' s:]',lambda v,i,j:st('Memory',width=v[0],address=v[2],aligned=opt(v[3])))
-rule('primform','number',lambda v,i,j:st('Literal',number=v[0],width='None')); rule('primform','number s::: type',lambda v,i,j:st('Literal',number=v[0],width=opt(v[2])))
-rule('number','INT',lambda v,i,j:'Int(%d)'%v[0]); rule('number','CHAR',lambda v,i,j:'Char(%d)'%v[0])
-rule('primform','NAME',lambda v,i,j:'Name(%s)'%quoted(v[0])); rule('primform','s:( expr s:)',lambda v,i,j:'Bracketed(%s)'%v[1])
-rule('prim','primform',lambda v,i,j:st('Primary',token=i,form=v[0]))
-def ex(i,f): return st('Expr',token=i,form=f)
-OPS={'==':'Eq','!=':'Ne','<':'Lt','<=':'Le','>':'Gt','>=':'Ge','|':'Or','^':'Xor','&':'And','<<':'Shl','>>':'Shr','+':'Add','-':'Sub','*':'Mul','/':'Div','%':'Mod'}
-def inf(i,l,o,r): return ex(i,st('Infix',left=l,operator=OPS[o],right=r))
-rule('expr','bitor',one)
-for o in '== != < <= > >='.split(): rule('expr','bitor s:%s bitor'%o,lambda v,i,j:inf(i,v[0],v[1],v[2]))
-def level(n,sub,ops):
-    t=n+'_tail'
-    rule(t,'',lambda v,i,j:[])
-    for o in ops.split(): rule(t,'s:%s %s %s'%(o,sub,t),lambda v,i,j:[(v[0],v[1])]+v[2])
-    def act(v,i,j):
-        l=v[0]
-        for o,r in v[1]: l=inf(i,l,o,r)
-        return l
-    rule(n,sub+' '+t,act)
-level('bitor','bitxor','|');level('bitxor','bitand','^');level('bitand','shift','&');level('shift','sum','<< >>');level('sum','product','+ -');level('product','unary','* / %')
-rule('unary','s:- unary',lambda v,i,j:ex(i,st('Prefix',operator='Negate',operand=v[1]))); rule('unary','s:~ unary',lambda v,i,j:ex(i,st('Prefix',operator='Complement',operand=v[1])))
-rule('unary','primform',lambda v,i,j:ex(i,'Prim(%s)'%v[0])); rule('unary','memory',lambda v,i,j:ex(i,'Memory(%s)'%v[0]))
-rule('unary','OP s:( '+listed('expr')+' s:)',lambda v,i,j:ex(i,st('Named',operator=quoted(v[0]),operands=items(v[2]))))
-class P:
-    def __init__(self,toks): self.t=toks;self.memo={};self.far=0
-    def sym(self,s,i):
-        if s in RULES:
-            k=(s,i)
-            if k in self.memo: return self.memo[k]
-            out={}
-            for rhs,act in RULES[s]:
-                states=[(i,[])]
-                for x in rhs:
-                    new=[]
-                    for (p,vals) in states:
-                        for e,vs in self.sym(x,p).items():
-                            for v in vs: new.append((e,vals+[v]))
-                    states=new
-                for (e,vals) in states: out.setdefault(e,[]).append(act(vals,i,e))
-            self.memo[k]=out
-            return out
-        if i>self.far: self.far=i
-        if i<len(self.t) and self.t[i][0]==s: return {i+1:[self.t[i][1]]}
+crates/cmm_trees/stdout is what it prints for crates/cmm_trees/stdin.
+"""
+
+import re
+import sys
+
+sys.setrecursionlimit(100_000)
+
+# ---- tokens: a sort and a value each
+
+RESERVED = set(
+    "aborts align aligned also as big bits8 bits16 bits32 bits64 bool byteorder case const continuation cut cuts default else export "
+    "float foreign goto if import in invariant jump little memsize never pointersize pragma reads register return returns section span "
+    "stackdata string16 switch target to typedef unicode unwinds wordsize writes".split()
+)
+SYMBOLS = sorted("{ } ( ) [ ] , ; : :: = == != < <= > >= + - * / % & | ^ ~ << >> ..".split(), key=len, reverse=True)
+
+# What has a value of its own, tried in this order. Texts and characters are those without escapes, numbers those in base 10.
+SPELLINGS = [
+    ("CHECKED", r"%%([A-Za-z_][A-Za-z0-9_]*)", str),
+    ("OPERATOR", r"%([A-Za-z_][A-Za-z0-9_]*)", str),
+    ("NAME", r"([A-Za-z_$@][A-Za-z0-9_$@]*)", str),
+    ("INTEGER", r"([0-9]+)", int),
+    ("TEXT", r'"([^"]*)"', str),
+    ("CHARACTER", r"'(.)'", ord),
+]
+
+
+def token_at(text, place):
+    """The sort, the value and the end of the token at a place."""
+    for sort, pattern, value in SPELLINGS:
+        match = re.compile(pattern).match(text, place)
+        if match:
+            word = match.group(1)
+            if sort == "NAME" and word in RESERVED:
+                sort = word
+            return sort, value(word), match.end()
+    for symbol in SYMBOLS:
+        if text.startswith(symbol, place):
+            return symbol, symbol, place + len(symbol)
+    raise ValueError("no token begins at " + text[place:])
+
+
+def tokens_of(text):
+    tokens, place = [], 0
+    while place < len(text):
+        if text[place] in " \n\t":
+            place += 1
+        else:
+            sort, value, place = token_at(text, place)
+            tokens.append((sort, value))
+    return tokens
+
+
+# ---- trees, as `Debug` of the parser's types prints them
+
+
+def items(values):
+    return "[" + ", ".join(values) + "]"
+
+
+def option(value):
+    return "None" if value is None else f"Some({value})"
+
+
+def struct(name, /, **fields):
+    # a field whose name is a word of Python has an underscore behind it
+    return name + " { " + ", ".join(f"{field.rstrip('_')}: {value}" for field, value in fields.items()) + " }"
+
+
+def quoted(text):
+    def shown(letter):
+        if letter in '"\\':
+            return "\\" + letter
+        return letter if " " <= letter <= "~" else f"\\x{ord(letter):02x}"
+
+    return '"' + "".join(map(shown, text)) + '"'
+
+
+# ---- the grammar: for each part its alternatives, and what each makes
+#
+# An alternative is a row of parts and sorts of tokens, which have no name in common. What it makes is a function of the values of those (`v`),
+# of the number of its first token (`at`) and of the number of the token after it (`past`).
+
+GRAMMAR = {}
+
+
+def rule(part, row, make):
+    GRAMMAR.setdefault(part, []).append((tuple(row.split()), make))
+
+
+def first(v, at, past):
+    return v[0]
+
+
+def of_values(make):
+    return lambda v, at, past: make(v)
+
+
+def part_of_parts(sort, part, alternatives):
+    """A part that is one of several, each alternative with its rows, made once."""
+    name = f"{sort}<{part}>"
+    if name not in GRAMMAR:
+        for row, make in alternatives(name):
+            rule(name, row, make)
+    return name
+
+
+def many(part):
+    return part_of_parts("many", part, lambda name: [("", of_values(lambda v: [])), (f"{part} {name}", of_values(lambda v: [v[0]] + v[1]))])
+
+
+def optional(part):
+    return part_of_parts("optional", part, lambda name: [("", of_values(lambda v: None)), (part, first)])
+
+
+def commas(part):
+    """One or more, with a comma between two."""
+    return part_of_parts("commas", part, lambda name: [(part, of_values(lambda v: [v[0]])), (f"{part} , {name}", of_values(lambda v: [v[0]] + v[2]))])
+
+
+def listed(part):
+    """One or more, with one more comma behind them or none."""
+    return part_of_parts("listed", part, lambda name: [(commas(part), first), (f"{commas(part)} ,", first)])
+
+
+def may_list(part):
+    return part_of_parts("may_list", part, lambda name: [("", of_values(lambda v: [])), (listed(part), first)])
+
+
+def placed(name, form):
+    """A node with the number of its first token and a form."""
+    return lambda v, at, past: struct(name, token=at, form=form(v))
+
+
+# ---- units, sections, declarations, data
+
+rule("ident", "NAME", lambda v, at, past: struct("Ident", name=quoted(v[0]), token=at))
+rule("text", "TEXT", lambda v, at, past: struct("Text", bytes=quoted(v[0]), token=at))
+rule("int", "INTEGER", lambda v, at, past: struct("Int", value=v[0], token=at))
+for width in (8, 16, 32, 64):
+    rule("type", f"bits{width}", placed("TypeName", lambda v, width=width: f"Bits(W{width})"))
+rule("type", "NAME", placed("TypeName", lambda v: f"Named({quoted(v[0])})"))
+
+rule("unit", many("top"), of_values(lambda v: items(v[0])))
+for part, sort in (("named_section", "Section"), ("decl", "Decl"), ("proc", "Proc")):
+    rule("top", part, of_values(lambda v, sort=sort: f"{sort}({v[0]})"))
+rule(
+    "named_section",
+    "section text { " + many("item") + " }",
+    lambda v, at, past: struct("Section", token=at, name=v[1], items=items(v[3])),
+)
+for sort in ("decl", "proc", "datum"):
+    rule("item", sort, of_values(lambda v, sort=sort: f"{sort.capitalize()}({v[0]})"))
+rule(
+    "item",
+    "span prim expr { " + many("item") + " }",
+    lambda v, at, past: struct("Span", token=at, key=v[1], value=v[2], items=items(v[4])),
+)
+
+
+def declaration(row, form):
+    rule("decl", row, placed("Decl", form))
+
+
+declaration("import " + optional("type") + " " + listed("imported") + " ;", lambda v: struct("Import", width=option(v[1]), imports=items(v[2])))
+declaration("export " + optional("type") + " " + listed("exported") + " ;", lambda v: struct("Export", width=option(v[1]), exports=items(v[2])))
+declaration("const " + optional("type") + " ident = expr ;", lambda v: struct("Const", width=option(v[1]), name=v[2], value=v[4]))
+declaration("typedef type " + listed("ident") + " ;", lambda v: struct("Typedef", width=v[1], names=items(v[2])))
+declaration(
+    optional("invariant") + " register " + optional("text") + " type " + listed("ident") + " ;",
+    lambda v: struct("Register", invariant="true" if v[0] else "false", kind=option(v[2]), width=v[3], names=items(v[4])),
+)
+declaration("target " + many("property") + " ;", lambda v: f"Target({items(v[1])})")
+rule("imported", "ident", of_values(lambda v: struct("Import", link="None", name=v[0])))
+rule("imported", "text as ident", of_values(lambda v: struct("Import", link=option(v[0]), name=v[2])))
+rule("exported", "ident", of_values(lambda v: struct("Export", name=v[0], link="None")))
+rule("exported", "ident as text", of_values(lambda v: struct("Export", name=v[0], link=option(v[2]))))
+for word in ("memsize", "pointersize", "wordsize"):
+    rule("property", f"{word} int", placed("Property", lambda v, word=word: f"{word.capitalize()}({v[1]})"))
+for word in ("little", "big"):
+    rule("property", f"byteorder {word}", placed("Property", lambda v, word=word: f"Byteorder({word.capitalize()})"))
+
+rule("datum", "ident :", placed("Datum", lambda v: f"Label({v[0]})"))
+rule("datum", "align int ;", placed("Datum", lambda v: f"Align({v[1]})"))
+rule("datum", "type count init ;", placed("Datum", lambda v: struct("Data", width=v[0], count=v[1], initial=v[2])))
+rule("count", "", of_values(lambda v: "One"))
+rule("count", "[ ]", of_values(lambda v: "OfInitial"))
+rule("count", "[ expr ]", of_values(lambda v: f"Of({v[1]})"))
+rule("init", "", of_values(lambda v: "Zeros"))
+rule("init", "{ " + listed("expr") + " }", of_values(lambda v: f"Values({items(v[1])})"))
+rule("init", "text", of_values(lambda v: f"Text({v[0]})"))
+
+# ---- procedures
+
+rule(
+    "proc",
+    "ident ( " + may_list("formal") + " ) block",
+    lambda v, at, past: struct("Proc", name=v[0], formals=items(v[2]), body=v[4], past=past),
+)
+rule("formal", "mods type ident", of_values(lambda v: struct("Formal", modifiers=v[0], width=v[1], name=v[2])))
+rule("mods", "", of_values(lambda v: "Nothing"))
+rule("mods", "text", of_values(lambda v: f"Kind({v[0]})"))
+rule("mods", "text invariant", of_values(lambda v: f"KindInvariant({v[0]})"))
+rule("mods", "invariant", lambda v, at, past: f"Invariant({at})")
+rule("mods", "invariant text", lambda v, at, past: f"InvariantKind({at}, {v[1]})")
+rule("block", "{ " + many("part") + " }", of_values(lambda v: struct("Block", parts=items(v[1]))))
+rule("part", "local", lambda v, at, past: f"Local({struct('Local', token=at, past=past, form=v[0])})")
+rule("part", "stmt", of_values(lambda v: f"Stmt({v[0]})"))
+rule("local", "mods type " + listed("ident") + " ;", of_values(lambda v: struct("Variables", modifiers=v[0], width=v[1], names=items(v[2]))))
+rule("local", "stackdata { " + many("room") + " }", of_values(lambda v: f"Stackdata({items(v[2])})"))
+rule("room", "room_form", placed("Room", lambda v: v[0]))
+rule("room_form", "ident :", of_values(lambda v: f"Label({v[0]})"))
+rule("room_form", "align int ;", of_values(lambda v: f"Align({v[1]})"))
+rule("room_form", "type " + optional("size") + " ;", of_values(lambda v: struct("Data", width=v[0], count=option(v[1]))))
+rule("size", "[ expr ]", of_values(lambda v: v[1]))
+
+# ---- statements
+
+
+def statement(row, make):
+    rule("form", row, of_values(make))
+
+
+rule("stmt", "form", lambda v, at, past: struct("Stmt", token=at, past=past, form=v[0]))
+statement(";", lambda v: "Empty")
+rule("form", "if_form", first)
+rule("if_form", "if expr block otherwise", of_values(lambda v: struct("If", condition=v[1], then=v[2], otherwise=v[3])))
+rule("otherwise", "", of_values(lambda v: "Nothing"))
+rule("otherwise", "else block", of_values(lambda v: f"Else({v[1]})"))
+rule("otherwise", "else chained", of_values(lambda v: f"ElseIf({v[1]})"))
+rule("chained", "if_form", lambda v, at, past: struct("Stmt", token=at, past=past, form=v[0]))
+statement(
+    "switch " + optional("over") + " expr { " + many("arm") + " }",
+    lambda v: struct("Switch", range=option(v[1]), value=v[2], arms=items(v[4])),
+)
+rule("over", "[ expr .. expr ]", of_values(lambda v: struct("Span", from_=v[1], to=v[3])))
+rule("arm", "arm_case block", lambda v, at, past: struct("Arm", token=at, case=v[0], body=v[1]))
+rule("arm_case", "case " + commas("range") + " :", of_values(lambda v: f"Ranges({items(v[1])})"))
+rule("arm_case", "default :", of_values(lambda v: "Default"))
+rule("range", "expr", of_values(lambda v: struct("Range", from_=v[0], to="None")))
+rule("range", "expr .. expr", of_values(lambda v: struct("Range", from_=v[0], to=option(v[2]))))
+statement("span prim expr block", lambda v: struct("Span", key=v[1], value=v[2], body=v[3]))
+statement(commas("lvalue") + " = " + listed("expr") + " ;", lambda v: struct("Assign", to=items(v[0]), values=items(v[2])))
+rule("lvalue", "ident", of_values(lambda v: f"Name({v[0]})"))
+rule("lvalue", "memory", of_values(lambda v: f"Memory({v[0]})"))
+statement(
+    "ident = checked ( expr , expr ) flows ;",
+    lambda v: struct("Checked", result=v[0], operator=v[2], left=v[4], right=v[6], flows=items(v[8])),
+)
+rule("checked", "CHECKED", lambda v, at, past: struct("Ident", name=quoted(v[0]), token=at))
+statement(
+    "results convention callee arguments flows ;",
+    lambda v: struct("Call", results=items(v[0]), convention=option(v[1]), callee=v[2], actuals=items(v[3]), flows=items(v[4])),
+)
+rule("results", "", of_values(lambda v: []))
+rule("results", commas("kinded") + " =", first)
+rule("kinded", optional("text") + " ident", of_values(lambda v: struct("Kinded", kind=option(v[0]), name=v[1])))
+rule("convention", "", of_values(lambda v: None))
+rule("convention", "foreign text", of_values(lambda v: v[1]))
+rule("callee", "ident", placed("Callee", lambda v: f"Name({v[0]})"))
+rule("callee", "memory", placed("Callee", lambda v: f"Memory({v[0]})"))
+rule("callee", "( expr )", placed("Callee", lambda v: f"Bracketed({v[1]})"))
+rule("arguments", "( " + may_list("actual") + " )", of_values(lambda v: v[1]))
+rule("actual", optional("text") + " expr", of_values(lambda v: struct("Actual", kind=option(v[0]), value=v[1])))
+rule("flows", "", of_values(lambda v: []))
+rule("flows", "flow flows", of_values(lambda v: [v[0]] + v[1]))
+rule("flows", "flow , flows", of_values(lambda v: [v[0]] + v[2]))
+for verb in ("cuts", "unwinds", "returns"):
+    rule("flow", f"also {verb} to " + commas("ident"), placed("Flow", lambda v, verb=verb: f"{verb.capitalize()}To({items(v[3])})"))
+rule("flow", "also aborts", placed("Flow", lambda v: "Aborts"))
+rule("flow", "never returns", placed("Flow", lambda v: "NeverReturns"))
+statement("jump callee arguments ;", lambda v: struct("Jump", callee=v[1], actuals=items(v[2])))
+statement(
+    "return " + optional("exit") + " " + optional("arguments") + " ;",
+    lambda v: struct("Return", exit=option(v[1]), values=option(None if v[2] is None else items(v[2]))),
+)
+rule("exit", "< prim / prim >", lambda v, at, past: struct("Exit", token=at, index=v[1], count=v[3]))
+statement("ident :", lambda v: f"Label({v[0]})")
+statement(
+    "continuation ident ( " + may_list("kinded") + " ) :",
+    lambda v: struct("Continuation", name=v[1], parameters=items(v[3])),
+)
+statement("goto ident ;", lambda v: f"Goto({v[1]})")
+statement("cut to callee arguments flows ;", lambda v: struct("Cut", callee=v[2], actuals=items(v[3]), flows=items(v[4])))
+
+# ---- expressions
+
+INFIX = {
+    "==": "Eq",
+    "!=": "Ne",
+    "<": "Lt",
+    "<=": "Le",
+    ">": "Gt",
+    ">=": "Ge",
+    "|": "Or",
+    "^": "Xor",
+    "&": "And",
+    "<<": "Shl",
+    ">>": "Shr",
+    "+": "Add",
+    "-": "Sub",
+    "*": "Mul",
+    "/": "Div",
+    "%": "Mod",
+}
+
+# Operators that group to the left: each level, what binds tighter, and its operators.
+LEVELS = [
+    ("bitor", "bitxor", "|"),
+    ("bitxor", "bitand", "^"),
+    ("bitand", "shift", "&"),
+    ("shift", "sum", "<< >>"),
+    ("sum", "product", "+ -"),
+    ("product", "unary", "* / %"),
+]
+
+
+def expression(at, form):
+    return struct("Expr", token=at, form=form)
+
+
+def infix(at, left, operator, right):
+    return expression(at, struct("Infix", left=left, operator=INFIX[operator], right=right))
+
+
+def joined(v, at, past):
+    tree = v[0]
+    for operator, right in v[1]:
+        tree = infix(at, tree, operator, right)
+    return tree
+
+
+rule("expr", "bitor", first)
+for sign in "== != < <= > >=".split():
+    rule("expr", f"bitor {sign} bitor", lambda v, at, past: infix(at, v[0], v[1], v[2]))
+for level, tighter, signs in LEVELS:
+    rest = f"rest of {level}".replace(" ", "_")
+    rule(level, f"{tighter} {rest}", joined)
+    rule(rest, "", of_values(lambda v: []))
+    for sign in signs.split():
+        rule(rest, f"{sign} {tighter} {rest}", of_values(lambda v: [(v[0], v[1])] + v[2]))
+for sign, operator in (("-", "Negate"), ("~", "Complement")):
+    rule("unary", f"{sign} unary", lambda v, at, past, operator=operator: expression(at, struct("Prefix", operator=operator, operand=v[1])))
+rule("unary", "prim_form", lambda v, at, past: expression(at, f"Prim({v[0]})"))
+rule("unary", "memory", lambda v, at, past: expression(at, f"Memory({v[0]})"))
+rule(
+    "unary",
+    "OPERATOR ( " + listed("expr") + " )",
+    lambda v, at, past: expression(at, struct("Named", operator=quoted(v[0]), operands=items(v[2]))),
+)
+rule("memory", "type [ expr " + optional("alignment") + " ]", of_values(lambda v: struct("Memory", width=v[0], address=v[2], aligned=option(v[3]))))
+for word in ("aligned", "align"):
+    rule("alignment", f"{word} int", of_values(lambda v: v[1]))
+rule("prim", "prim_form", placed("Primary", lambda v: v[0]))
+rule("prim_form", "number", of_values(lambda v: struct("Literal", number=v[0], width="None")))
+rule("prim_form", "number :: type", of_values(lambda v: struct("Literal", number=v[0], width=option(v[2]))))
+rule("prim_form", "NAME", of_values(lambda v: f"Name({quoted(v[0])})"))
+rule("prim_form", "( expr )", of_values(lambda v: f"Bracketed({v[1]})"))
+rule("number", "INTEGER", of_values(lambda v: f"Int({v[0]})"))
+rule("number", "CHARACTER", of_values(lambda v: f"Char({v[0]})"))
+
+class Recognizer:
+    """All trees of each part at each place, and the last token that was wanted."""
+
+    def __init__(self, tokens):
+        self.tokens = tokens
+        self.found = {}
+        self.furthest = 0
+
+    def token(self, sort, at):
+        """Where a token of this sort ends, with its value."""
+        self.furthest = max(self.furthest, at)
+        if at < len(self.tokens) and self.tokens[at][0] == sort:
+            return {at + 1: [self.tokens[at][1]]}
         return {}
-def parse(src,start='unit'):
-    toks=lex(src); p=P(toks); r=p.sym(start,0)
-    if start=='unit':
+
+    def row(self, row, at):
+        """The ends and values of a row of parts and tokens."""
+        states = [(at, [])]
+        for sort in row:
+            found = self.part if sort in GRAMMAR else self.token
+            states = [(end, values + [value]) for place, values in states for end, ways in found(sort, place).items() for value in ways]
+        return states
+
+    def part(self, part, at):
+        """Where a part that begins here may end, with its trees for each end."""
+        if (part, at) not in self.found:
+            ends = {}
+            for row, make in GRAMMAR[part]:
+                for end, values in self.row(row, at):
+                    ends.setdefault(end, []).append(make(values, at, end))
+            self.found[part, at] = ends
+        return self.found[part, at]
+
+
+def answer(text, start="unit"):
+    """The tree of a text, or where it stops to be one."""
+    tokens = tokens_of(text)
+    recognizer = Recognizer(tokens)
+    ends = recognizer.part(start, 0)
+    if start == "unit":
         # the end is tried wherever a unit may end
-        for e in r: p.far=max(p.far,e)
-    if len(toks) in r:
-        if len(r[len(toks)])!=1: return 'AMBIGUOUS %d'%len(r[len(toks)])
-        return r[len(toks)][0]
-    return 'rule 10 at token %d'%p.far
-if __name__=='__main__':
-    for l in sys.stdin: print(parse(l.rstrip('\n'),*sys.argv[1:]))
+        recognizer.furthest = max(recognizer.furthest, *ends)
+    trees = ends.get(len(tokens), [])
+    if len(trees) == 1:
+        return trees[0]
+    return f"more trees than one: {len(trees)}" if trees else f"rule 10 at token {recognizer.furthest}"
+
+
+if __name__ == "__main__":
+    for line in sys.stdin:
+        print(answer(line.rstrip("\n"), *sys.argv[1:]))
