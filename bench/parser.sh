@@ -8,7 +8,7 @@ set -eu
 work=${1:-$(mktemp -d)}
 copy_crates "$work" parser_speed cmm_lexer cmm_ast cmm_parser cmm_items
 cat >"$work/crates/parser_speed/src/main.rt" <<'PROGRAM'
-//! Parses a unit made of one piece, five times, and prints how long one time takes; and a unit that is as deep as the limits allow.
+//! Parses a unit made of one piece, five times, and prints how long one time takes; and units that are as deep as the limits allow.
 #![tactic(auto)]
 
 use std::io;
@@ -59,11 +59,18 @@ fn main(rt: HostRuntime) -> io::Result<()> {
     deep.extend_from_slice(unit(&rt, b"", b")", 100, b"")?.as_slice())?;
     deep.extend_from_slice(unit(&rt, b"", b"-1", 300, b";")?.as_slice())?;
     deep.extend_from_slice(unit(&rt, b"", b"}", 100, b"")?.as_slice())?;
-    measure(&rt, "every limit at once", deep.as_slice())
+    measure(&rt, "every limit at once", deep.as_slice())?;
+    let mut blocks = unit(&rt, b"f(){", b"if a {", 199, b"")?;
+    blocks.extend_from_slice(unit(&rt, b"", b"}", 200, b"")?.as_slice())?;
+    measure(&rt, "199 nested ifs", blocks.as_slice())?;
+    let mut both = unit(&rt, b"f(){", b"if a {", 190, b"a=")?;
+    both.extend_from_slice(unit(&rt, b"", b"-", 500, b"1;")?.as_slice())?;
+    both.extend_from_slice(unit(&rt, b"", b"}", 191, b"")?.as_slice())?;
+    measure(&rt, "190 nested ifs round 500 prefix operators", both.as_slice())
 }
 PROGRAM
 (cd "$work/crates/parser_speed" && rt run)
 program=$(find "$work/crates/parser_speed/out" -maxdepth 2 -type f -perm -u+x | head -1)
-for kilobytes in 8192 1024 512 256 128 64; do
+for kilobytes in 8192 4096 2048 1536 1024 512; do
     if (ulimit -s "$kilobytes" && "$program" >/dev/null 2>&1); then echo "stack of $kilobytes KiB: enough"; else echo "stack of $kilobytes KiB: too small"; fi
 done
