@@ -11,7 +11,7 @@ use Rattle.cmm_graph.specs.declared.operand.Comparison.{Comparison}
 use Rattle.cmm_graph.specs.declared.operand.Rvalue.{Rvalue}
 use Rattle.cmm_graph.specs.declared.operand.Rvalue.TheVariants.{Copy, Register, Load, Unary, Binary, Compare, SignExtend, LowBits}
 use Rattle.cmm_graph.specs.declared.node.HostCall.TheVariants.{PutByte, GetByte}
-use Rattle.cmm_graph.specs.declared.node.NodeKind.TheVariants.{Entry, CopyIn, Assign, Store, Branch, Switch, Call, Yield, Jump, Cut, Return, Host, Stop}
+use Rattle.cmm_graph.specs.declared.node.NodeKind.TheVariants.{Entry, CopyIn, Assign, Store, Branch, Switch, Call, Yield, Jump, Cut, Return, Host, Goto, Stop}
 use Rattle.cmm_graph.specs.Laws.{HoldAlike, ValueIsByReads, OrderIsByReads}
 use Rattle.cmm_graph.specs.Paths.{read_by, values_of as argument_values, operands_of_rvalue}
 use Rattle.cmm_graph.specs.Values.{operand_value, operand_values, passed, test_value, rvalue_value}
@@ -99,4 +99,5 @@ order_is_by_reads k l r variables (Host (PutByte value) next) alike is = grind (
 order_is_by_reads k l r variables (Host (GetByte to) next) alike is = refl
 order_is_by_reads k l r variables (Entry formals next) alike is = refl
 order_is_by_reads k l r variables (CopyIn to next) alike is = refl
+order_is_by_reads k l r variables (Goto next) alike is = refl
 order_is_by_reads k l r variables Stop alike is = refl

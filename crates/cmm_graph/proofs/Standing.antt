@@ -7,7 +7,7 @@ use Rattle.cmm_graph.specs.declared.number.NodeId.{NodeId}
 use Rattle.cmm_graph.specs.declared.node.Arm.{Arm}
 use Rattle.cmm_graph.specs.declared.node.Node.{Node}
 use Rattle.cmm_graph.specs.declared.node.NodeKind.{NodeKind}
-use Rattle.cmm_graph.specs.declared.node.NodeKind.TheVariants.{Entry, CopyIn, Assign, Store, Branch, Switch, Call, Yield, Host, Stop}
+use Rattle.cmm_graph.specs.declared.node.NodeKind.TheVariants.{Entry, CopyIn, Assign, Store, Branch, Switch, Call, Yield, Host, Goto, Stop}
 use Rattle.cmm_graph.specs.declared.graph.Graph.{Graph}
 use Rattle.cmm_graph.specs.Paths.{node_of, landing_of}
 use Rattle.cmm_program.specs.Typing.{is_alignment}
@@ -55,6 +55,7 @@ module _ (g : Graph) where
       to_arm way arms otherwise n (both_hold (is_operand g value) (list_all (is_arm g) arms) both.0).1 both.1 is
   led_to_step way (Host call next) n valid is =
       let leads = (both_hold (is_host g call) (leads_to g is_step next) valid).1 in grind (arith, is, leads)
+  led_to_step way (Goto next) n valid is = grind (arith, is, valid)
   led_to_step way kind n valid is = grind (arith, is)
 
   -- and behind an Entry or a CopyIn

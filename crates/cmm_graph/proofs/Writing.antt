@@ -23,7 +23,7 @@ use Rattle.cmm_graph.specs.declared.operand.Local.TheVariants as local
 use Rattle.cmm_graph.specs.declared.operand.Destination.TheVariants as destination
 use Rattle.cmm_graph.specs.declared.node.HostCall.TheVariants.{PutByte, GetByte}
 use Rattle.cmm_graph.specs.declared.node.NodeKind.{NodeKind}
-use Rattle.cmm_graph.specs.declared.node.NodeKind.TheVariants.{Assign, Store as StoreNode, Branch, Switch, Host}
+use Rattle.cmm_graph.specs.declared.node.NodeKind.TheVariants.{Assign, Store as StoreNode, Branch, Switch, Host, Goto}
 use Rattle.cmm_graph.specs.declared.graph.Graph.{Graph}
 use Rattle.cmm_graph.specs.Paths.{writes, written_to}
 use Rattle.cmm_graph.specs.Values.{operand_value, rvalue_value, test_value}
@@ -126,6 +126,7 @@ module _ (s : Setting) (store : Store) (c : Position) (l : Local) where
   node_leaves (Host (PutByte value) next) n is unwritten =
       to_output (Host (PutByte value) next) (λ way. refl) (operand_value (keeping c).held value (reads_of s store))
   node_leaves (Host (GetByte to) next) n is unwritten = from_input to (Host (GetByte to) next) (λ way. refl) unwritten
+  node_leaves (Goto next) n is unwritten = refl
   node_leaves kind n is unwritten = grind (arith, is)
 
 -- ---- one step

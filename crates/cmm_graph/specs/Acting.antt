@@ -16,7 +16,7 @@ use Rattle.cmm_graph.specs.declared.node.Arm.{Arm}
 use Rattle.cmm_graph.specs.declared.node.HostCall.{HostCall}
 use Rattle.cmm_graph.specs.declared.node.HostCall.TheVariants.{PutByte, GetByte}
 use Rattle.cmm_graph.specs.declared.node.NodeKind.{NodeKind}
-use Rattle.cmm_graph.specs.declared.node.NodeKind.TheVariants.{Entry, CopyIn, Assign, Store, Branch, Switch, Call, Yield, Jump, Cut, Return, Host, Stop}
+use Rattle.cmm_graph.specs.declared.node.NodeKind.TheVariants.{Entry, CopyIn, Assign, Store, Branch, Switch, Call, Yield, Jump, Cut, Return, Host, Goto, Stop}
 use Rattle.cmm_graph.specs.Values.{operand_value, operand_values, passed, test_value, rvalue_value}
 
 -- How a machine keeps the locals of the activation that runs.
@@ -40,6 +40,7 @@ led way (Store width aligned address value next) = Some next
 led way (Branch test then_ otherwise) = elim way [ zero ↦ Some then_ | suc _ ↦ Some otherwise ]
 led way (Switch value arms otherwise) = elim (slice_get arms way) [ Some arm ↦ Some arm.to | None ↦ Some otherwise ]
 led way (Host call next) = Some next
+led way (Goto next) = Some next
 led way _ = None
 
 -- ---- what it does
@@ -68,4 +69,5 @@ module _ (k : Keeping) where
   act_of (Cut to arguments own) = act.Cut (operand_value k.held to) (passed k.held arguments) (map (λ c. c.number) own)
   act_of (Return exit alternates results) = act.Return exit alternates (passed k.held results)
   act_of (Host call next) = host_act call
+  act_of (Goto next) = act.Nothing
   act_of Stop = act.Fail EndOfBody

@@ -22,7 +22,7 @@ use Rattle.cmm_graph.specs.declared.node.HostCall.{HostCall}
 use Rattle.cmm_graph.specs.declared.node.HostCall.TheVariants.{PutByte, GetByte}
 use Rattle.cmm_graph.specs.declared.node.Node.{Node}
 use Rattle.cmm_graph.specs.declared.node.NodeKind.{NodeKind}
-use Rattle.cmm_graph.specs.declared.node.NodeKind.TheVariants.{Entry, CopyIn, Assign, Store, Branch, Switch, Call, Yield, Jump, Cut, Return, Host, Stop}
+use Rattle.cmm_graph.specs.declared.node.NodeKind.TheVariants.{Entry, CopyIn, Assign, Store, Branch, Switch, Call, Yield, Jump, Cut, Return, Host, Goto, Stop}
 use Rattle.cmm_graph.specs.declared.graph.Graph.{Graph}
 
 -- ---- where a node leads
@@ -64,6 +64,7 @@ successors g (Jump callee arguments) = []
 successors g (Cut to arguments own) = landings g own
 successors g (Return exit alternates results) = []
 successors g (Host call next) = next ∷ []
+successors g (Goto next) = next ∷ []
 successors g Stop = []
 
 -- ---- what a node reads
@@ -102,6 +103,7 @@ operands (Jump callee arguments) = callee ∷ values_of arguments
 operands (Cut to arguments own) = to ∷ values_of arguments
 operands (Return exit alternates results) = values_of results
 operands (Host call next) = operands_of_host call
+operands (Goto next) = []
 operands Stop = []
 
 abbrev pub read_by : Operand → List Local

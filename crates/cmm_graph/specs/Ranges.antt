@@ -28,7 +28,7 @@ use Rattle.cmm_graph.specs.declared.node.HostCall.{HostCall}
 use Rattle.cmm_graph.specs.declared.node.HostCall.TheVariants.{PutByte, GetByte}
 use Rattle.cmm_graph.specs.declared.node.Node.{Node}
 use Rattle.cmm_graph.specs.declared.node.NodeKind.{NodeKind}
-use Rattle.cmm_graph.specs.declared.node.NodeKind.TheVariants.{Entry, CopyIn, Assign, Store, Branch, Switch, Call, Yield, Jump, Cut, Return, Host}
+use Rattle.cmm_graph.specs.declared.node.NodeKind.TheVariants.{Entry, CopyIn, Assign, Store, Branch, Switch, Call, Yield, Jump, Cut, Return, Host, Goto}
 use Rattle.cmm_graph.specs.declared.graph.Graph.{Graph}
 use Rattle.cmm_graph.specs.Paths.{node_of}
 
@@ -144,6 +144,7 @@ module _ (g : Graph) where
   is_kind (Branch test then_ otherwise) = is_test test && leads_to is_step then_ && leads_to is_step otherwise
   is_kind (Switch value arms otherwise) = is_operand value && list_all is_arm arms && leads_to is_step otherwise
   is_kind (Host call next) = is_host call && leads_to is_step next
+  is_kind (Goto next) = leads_to is_step next
   is_kind kind = is_transfer kind
 
   abbrev pub is_node : Node → Bool

@@ -119,6 +119,11 @@ pub enum NodeKind {
         call: HostCall,
         next: NodeId,
     },
+    /// Goes on at `next` and does nothing: a statement without an effect, or a label, where the ways of several
+    /// statements meet.
+    Goto {
+        next: NodeId,
+    },
     /// The end of a body, where a run goes wrong.
     Stop,
 }

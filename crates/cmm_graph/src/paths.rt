@@ -52,7 +52,8 @@ impl Graph {
             | NodeKind::CopyIn { next, .. }
             | NodeKind::Assign { next, .. }
             | NodeKind::Store { next, .. }
-            | NodeKind::Host { next, .. } => one(alloc, *next),
+            | NodeKind::Host { next, .. }
+            | NodeKind::Goto { next } => one(alloc, *next),
             NodeKind::Branch {
                 then,
                 otherwise,

@@ -127,6 +127,7 @@ fn call_graph(alloc: Global) -> Result<Graph, AllocError> {
         NodeKind::Return { exit: 0, alternates: 0, results: Items::new(alloc) },
         NodeKind::CopyIn { to: Items::from_slice(alloc, &[x])?, next: at(8) },
         NodeKind::Jump { callee: p1, arguments: Items::from_slice(alloc, &[argument(variable(0))])? },
+        NodeKind::Goto { next: at(10) },
         NodeKind::Stop,
     ];
     Ok(Graph {
@@ -169,7 +170,8 @@ fn graphs_as_text(rt: HostRuntime) -> Result<(), Fail> {
         n6: return 0/0 ()\n\
         n7: copyin (v0) -> n8\n\
         n8: jump p1 (v0:64)\n\
-        n9: stop\n\
+        n9: goto n10\n\
+        n10: stop\n\
         k0: n7\n"
     );
     Ok(())

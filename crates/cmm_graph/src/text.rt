@@ -387,6 +387,7 @@ impl fmt::Display for NodeKind {
                 write!(f, ") else {otherwise}")
             }
             NodeKind::Host { call, next } => write!(f, "{call} -> {next}"),
+            NodeKind::Goto { next } => write!(f, "goto {next}"),
             NodeKind::Stop => write!(f, "stop"),
             _ => write_transfer(self, f),
         }

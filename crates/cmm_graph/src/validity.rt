@@ -304,6 +304,7 @@ impl Graph {
             NodeKind::Host { call, next } => {
                 self.has_host_call(*call) && self.leads_to_step(*next)
             }
+            NodeKind::Goto { next } => self.leads_to_step(*next),
             _ => self.has_transfer(kind),
         }
     }
