@@ -1,10 +1,11 @@
 -- A worked row: the graphs of the program with alternate returns are those of its procedures. So what asks for graphs of a
 -- program can be met.
 use Rattle.std.proofs.Common.{[], ◌∷◌, refl}
+use Rattle.std.proofs.lemmas.List.Elements.{All-from_recursion}
 use Rattle.cmm_program.specs.declared.program.Program.{Program}
 use Rattle.cmm_graph.specs.Counterpart.{HasSite, AreExitsOf, IsGraphOf, AreGraphsOf}
-use Rattle.cmm_graph.proofs.Lists.{all_of_each}
-use Rattle.cmm_graph.proofs.Notation.{n, s, exits, program, site}
+use Rattle.cmm_program.proofs.Shared.{call_site, program}
+use Rattle.cmm_graph.proofs.Notation.{n, s, exits}
 use Rattle.cmm_graph.proofs.Graphs.{alternates, alternates-main, alternates-h, main-graph, h-graph}
 
 abbrev p : Program
@@ -12,7 +13,7 @@ p = program (alternates-main ∷ alternates-h ∷ [])
 
 -- the call in `main`
 call_has_site : AreExitsOf alternates-main main-graph (s 0) (exits (n 2) (0 ∷ 1 ∷ []) [])
-call_has_site = record { site = site (0 ∷ []) (0 ∷ 1 ∷ []) []; is_site = refl; normal = refl; returns = refl; unwinds = refl; cuts = refl }
+call_has_site = record { site = record (call_site (0 ∷ [])) { returns = 0 ∷ 1 ∷ [] }; is_site = refl; normal = refl; returns = refl; unwinds = refl; cuts = refl }
 
 main_is_graph : IsGraphOf p alternates-main main-graph
 main_is_graph = record {
@@ -20,7 +21,7 @@ main_is_graph = record {
   variables = refl;
   formals = refl;
   continuations = refl;
-  sites = all_of_each (λ node. HasSite alternates-main main-graph node.kind) main-graph.nodes (tt, (call_has_site, (tt, (tt, (tt, (tt, (tt, (tt, (tt, (tt, tt))))))))));
+  sites = All-from_recursion (λ node. HasSite alternates-main main-graph node.kind) main-graph.nodes (tt, (call_has_site, (tt, (tt, (tt, (tt, (tt, (tt, (tt, (tt, tt))))))))));
   names = refl;
 }
 
@@ -30,7 +31,7 @@ h_is_graph = record {
   variables = refl;
   formals = refl;
   continuations = refl;
-  sites = all_of_each (λ node. HasSite alternates-h h-graph node.kind) h-graph.nodes (tt, (tt, (tt, (tt, tt))));
+  sites = All-from_recursion (λ node. HasSite alternates-h h-graph node.kind) h-graph.nodes (tt, (tt, (tt, (tt, tt))));
   names = refl;
 }
 

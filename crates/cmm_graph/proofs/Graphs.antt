@@ -10,7 +10,8 @@ use Rattle.cmm_graph.specs.declared.operand.Operand.TheVariants.{Continuation}
 use Rattle.cmm_graph.specs.declared.operand.Rvalue.TheVariants.{Copy}
 use Rattle.cmm_graph.specs.declared.node.NodeKind.TheVariants.{Entry, CopyIn, Branch, Switch, Call, Yield, Cut, Return, Stop}
 use Rattle.cmm_graph.specs.declared.graph.Graph.{Graph}
-use Rattle.cmm_graph.proofs.Notation.{n, s, k, v, t, num, code, arg, variable, set_variable, set_temporary, op, test, exits, graph, variables_of, site, word_variable, procedure, row, setting}
+use Rattle.cmm_program.proofs.Shared.{variables_of, from_to, continuation, call_site, procedure, program, frame, frame_with, sample, alone, setting, no_client, client, other}
+use Rattle.cmm_graph.proofs.Notation.{n, s, k, v, t, num, code, arg, variable, set_variable, set_temporary, op, test, exits, graph}
 
 -- ---- a loop
 --     main() { bits64 i, s; loop: if i < 4 { s = s + i * i; i = i + 1; goto loop; } return (s); }
@@ -25,11 +26,8 @@ loop =
     ∷ []) []
     ∷ []
 
-abbrev pub loop-main : Proc
-loop-main = procedure 0 (word_variable ∷ word_variable ∷ []) [] []
-
 abbrev pub loop-setting : Setting
-loop-setting = setting (loop-main ∷ []) (row 0x10000 16 [] ∷ []) []
+loop-setting = setting (alone (procedure [] 99 0 2 [] []) (frame 16)) 4096 no_client
 
 -- ---- a switch in a procedure that is called
 --     main() { bits64 a, b; a = f(11); b = f(12); return (a * 100 + b); }
@@ -46,21 +44,17 @@ switch =
     ∷ Return 0 0 (arg (t 0) ∷ [])
     ∷ []) []
     ∷ graph 1 0 (Entry (variable 0 ∷ []) (n 1)
-    ∷ Switch (v 0) (record { ranges = record { from = 0; to = 11 } ∷ []; to = n 2 } ∷ record { ranges = record { from = 12; to = 12 } ∷ []; to = n 3 } ∷ []) (n 4)
+    ∷ Switch (v 0) (record { ranges = from_to 0 11 ∷ []; to = n 2 } ∷ record { ranges = from_to 12 12 ∷ []; to = n 3 } ∷ []) (n 4)
     ∷ Return 0 0 (arg (num 7) ∷ [])
     ∷ Return 0 0 (arg (num 8) ∷ [])
     ∷ Stop
     ∷ []) []
     ∷ []
 
-abbrev pub switch-main : Proc
-switch-main = procedure 0 (word_variable ∷ word_variable ∷ []) [] (site (0 ∷ []) [] [] ∷ site (1 ∷ []) [] [] ∷ [])
-
-abbrev pub switch-f : Proc
-switch-f = procedure 1 (word_variable ∷ []) [] []
-
 abbrev pub switch-setting : Setting
-switch-setting = setting (switch-main ∷ switch-f ∷ []) (row 0x10000 32 [] ∷ row 0x11000 16 [] ∷ []) []
+switch-setting =
+    setting (sample (program (procedure [] 99 0 2 (call_site (0 ∷ []) ∷ call_site (1 ∷ []) ∷ []) [] ∷ procedure [] 99 1 1 [] [] ∷ []))
+    (frame 32 ∷ frame 16 ∷ [])) 4096 no_client
 
 -- ---- alternate returns
 --     main() {
@@ -97,14 +91,16 @@ abbrev pub alternates : List Graph
 alternates = main-graph ∷ h-graph ∷ []
 
 abbrev pub alternates-main : Proc
-alternates-main =
-    procedure 0 (word_variable ∷ []) (record { params = 0 ∷ [] } ∷ record { params = 0 ∷ [] } ∷ []) (site (0 ∷ []) (0 ∷ 1 ∷ []) [] ∷ [])
+alternates-main = record (procedure [] 99 0 1 (record (call_site (0 ∷ [])) { returns = 0 ∷ 1 ∷ [] } ∷ []) []) {
+  conts = continuation (0 ∷ []) ∷ continuation (0 ∷ []) ∷ [];
+}
 
 abbrev pub alternates-h : Proc
-alternates-h = procedure 1 (word_variable ∷ []) [] []
+alternates-h = procedure [] 99 1 1 [] []
 
 abbrev pub alternates-setting : Setting
-alternates-setting = setting (alternates-main ∷ alternates-h ∷ []) (row 0x10000 48 (16 ∷ 32 ∷ []) ∷ row 0x11000 16 [] ∷ []) []
+alternates-setting =
+    setting (sample (program (alternates-main ∷ alternates-h ∷ [])) (frame_with 48 (16 ∷ 32 ∷ []) [] ∷ frame 16 ∷ [])) 4096 no_client
 
 -- ---- a cut past an activation
 --     main() { bits64 r; r = 1; r = c(k) also cuts to k; return (0); continuation k(r): return (r); }
@@ -130,18 +126,15 @@ cutting =
     ∷ []) []
     ∷ []
 
-abbrev pub cutting-main : Proc
-cutting-main = procedure 0 (word_variable ∷ []) (record { params = 0 ∷ [] } ∷ []) (site (0 ∷ []) [] (0 ∷ []) ∷ [])
-
-abbrev pub cutting-c : Proc
-cutting-c = procedure 1 (word_variable ∷ word_variable ∷ []) [] (site (1 ∷ []) [] [] ∷ [])
-
-abbrev pub cutting-d : Proc
-cutting-d = procedure 1 (word_variable ∷ []) [] []
+abbrev cutting-main : Proc
+cutting-main = record (procedure [] 99 0 1 (record (call_site (0 ∷ [])) { cuts = 0 ∷ [] } ∷ []) []) {
+  conts = continuation (0 ∷ []) ∷ [];
+}
 
 abbrev pub cutting-setting : Setting
 cutting-setting =
-    setting (cutting-main ∷ cutting-c ∷ cutting-d ∷ []) (row 0x10000 32 (16 ∷ []) ∷ row 0x11000 32 [] ∷ row 0x12000 16 [] ∷ []) []
+    setting (sample (program (cutting-main ∷ procedure [] 99 1 2 (call_site (1 ∷ []) ∷ []) [] ∷ procedure [] 99 1 1 [] [] ∷ []))
+    (frame_with 32 (16 ∷ []) [] ∷ frame 32 ∷ frame 16 ∷ [])) 4096 no_client
 
 -- ---- a yield, answered by a return of its second value by the first exit
 --     main() { bits64 x; x = yield(3, 9) also returns to k; return (x); continuation k(x): return (x * 10); }
@@ -157,8 +150,11 @@ yielding =
     ∷ []) (n 4 ∷ [])
     ∷ []
 
-abbrev pub yielding-main : Proc
-yielding-main = procedure 0 (word_variable ∷ []) (record { params = 0 ∷ [] } ∷ []) (site (0 ∷ []) (0 ∷ []) [] ∷ [])
+abbrev yielding-main : Proc
+yielding-main = record (procedure [] 99 0 1 (record (call_site (0 ∷ [])) { returns = 0 ∷ [] } ∷ []) []) {
+  conts = continuation (0 ∷ []) ∷ [];
+}
 
 abbrev pub yielding-setting : Setting
-yielding-setting = setting (yielding-main ∷ []) (row 0x10000 32 (16 ∷ []) ∷ []) (command.Return 0 (Yielded 1 ∷ []) ∷ [])
+yielding-setting =
+    setting (alone yielding-main (frame_with 32 (16 ∷ []) [])) 4096 (client (other (command.Return 0 (Yielded 1 ∷ []) ∷ []) ∷ []))

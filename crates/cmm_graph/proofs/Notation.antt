@@ -1,18 +1,10 @@
--- A notation for graphs, programs and settings of worked rows.
-use Rattle.std.proofs.Common.{ℕ, false, List, [], ◌∷◌, map, Some, None}
+-- A notation for graphs of worked rows. Their programs come from the sample programs.
+use Rattle.std.proofs.Common.{ℕ, List, [], map, Some}
 use Rattle.cmm_words.specs.declared.width.Width.TheVariants.{W64}
 use Rattle.cmm_words.specs.declared.operators.Op2.{Op2}
 use Rattle.cmm_words.specs.declared.operators.Cmp.{Cmp}
 use Rattle.cmm_words.specs.declared.constant.Constant.TheVariants.{Number, Code}
-use Rattle.cmm_script.specs.declared.script.Command.{Command}
-use Rattle.cmm_program.specs.declared.procedure.VarInfo.{VarInfo}
-use Rattle.cmm_program.specs.declared.procedure.Cont.{Cont}
-use Rattle.cmm_program.specs.declared.procedure.Site.{Site}
-use Rattle.cmm_program.specs.declared.procedure.Proc.{Proc}
-use Rattle.cmm_program.specs.declared.procedure.Target.{Target}
 use Rattle.cmm_program.specs.declared.procedure.Target.TheVariants as target
-use Rattle.cmm_program.specs.declared.program.Program.{Program}
-use Rattle.cmm_program.specs.declared.placement.PlaceRow.{PlaceRow}
 use Rattle.cmm_program.specs.State.{Setting, Status}
 use Rattle.cmm_graph.specs.declared.number.NodeId.{NodeId}
 use Rattle.cmm_graph.specs.declared.number.SiteId.{SiteId}
@@ -88,45 +80,7 @@ graph variables temporaries kinds continuations = record {
   continuations = continuations;
 }
 
--- ---- programs
-
-abbrev pub variables_of : List ℕ → List Target
-variables_of numbers = map (λ number. target.Variable number W64) numbers
-
-abbrev pub site : List ℕ → List ℕ → List ℕ → Site
-site results returns cuts = record {
-  results = variables_of results;
-  returns = returns;
-  unwinds = [];
-  cuts = cuts;
-  aborts = false;
-  never = false;
-  yield_values = None;
-  spans = [];
-}
-
-abbrev pub word_variable : VarInfo
-word_variable = record { width = W64; kind = []; invariant = false }
-
--- a procedure, apart from its body
-abbrev pub procedure : ℕ → List VarInfo → List Cont → List Site → Proc
-procedure formals vars conts sites =
-    record { name = []; unit = 0; tokens = 99; formals = formals; vars = vars; stack = []; conts = conts; sites = sites; body = [] }
-
-abbrev pub program : List Proc → Program
-program procs = record { procs = procs; datums = []; globals = []; labels = []; main = 0 }
-
-abbrev pub row : ℕ → ℕ → List ℕ → PlaceRow
-row code frame pairs = record { code = code; frame = frame; pairs = pairs; stack = [] }
-
-abbrev pub setting : List Proc → List PlaceRow → List Command → Setting
-setting procs rows commands = record {
-  program = program procs;
-  placement = record { rows = rows };
-  stack_base = 0x60001000;
-  stack_size = 4096;
-  script = record { blocks = record { code = None; commands = commands; lines = [] } ∷ [] };
-}
+-- ---- runs
 
 -- where a run without input is after so many steps
 abbrev pub status_after : List Graph → Setting → ℕ → Status

@@ -1,157 +1,53 @@
 -- Programs of worked rows, resolved, each below its text: calls, returns, cuts and input.
-use Rattle.std.proofs.Common.{true, false, [], ◌∷◌, None}
+use Rattle.std.proofs.Common.{true, [], ◌∷◌, map}
 use Rattle.std.specs.Prelude.{codes}
 use Rattle.cmm_words.specs.declared.width.Width.TheVariants.{W64}
 use Rattle.cmm_words.specs.declared.operators.Op2.TheVariants.{Add, Sub, Mul}
 use Rattle.cmm_words.specs.declared.operators.Cmp.TheVariants.{Eq}
-use Rattle.cmm_words.specs.declared.constant.Constant.TheVariants.{Code}
 use Rattle.cmm_program.specs.declared.expression.Expression.TheVariants as e
-use Rattle.cmm_program.specs.declared.expression.Condition.TheVariants as c
 use Rattle.cmm_program.specs.declared.statement.Form.TheVariants as f
-use Rattle.cmm_program.specs.declared.statement.Lvalue.TheVariants as lvalue
 use Rattle.cmm_program.specs.declared.procedure.Target.TheVariants.{Variable}
 use Rattle.cmm_program.specs.declared.procedure.Proc.{Proc}
-use Rattle.cmm_program.specs.declared.program.Program.{Program}
-use Rattle.cmm_program.specs.declared.placement.Placement.{Placement}
-use Rattle.cmm_program.proofs.Notation.{num, is, plain}
+use Rattle.cmm_program.proofs.Samples.{num, local, code, op, added, test, is, assign, assign_all, continuation, call_site, procedure, program, frame, frame_with, Sample, sample, alone}
 
 -- ---- a sum
 --     main() { return (2 + 3); }
 abbrev pub sum-main : Proc
-sum-main = record {
-  name = codes "main";
-  unit = 0;
-  tokens = 12;
-  formals = 0;
-  vars = [];
-  stack = [];
-  conts = [];
-  sites = [];
-  body =
-      is 7 (f.Return 0 0 ((e.Binary Add W64 (num 2) (num 3)) ∷ []))
-      ∷ [];
-}
+sum-main = procedure (codes "main") 12 0 0 [] (is 7 (f.Return 0 0 (op Add (num 2) (num 3) ∷ [])) ∷ [])
 
-abbrev pub sum : Program
-sum = record {
-  procs = (sum-main ∷ []);
-  datums = [];
-  globals = [];
-  labels = [];
-  main = 0;
-}
-
-abbrev pub sum-placed : Placement
-sum-placed = record {
-  rows =
-      record { code = 0x10000; frame = 16; pairs = []; stack = [] }
-      ∷ [];
-}
+abbrev pub sum : Sample
+sum = alone sum-main (frame 16)
 
 -- ---- a loop by tail calls
 --     main() { bits64 r; r = f(100); return (r); }
 --     f(bits64 n) { if n == 0 { return (7); } jump f(n - 1); }
-abbrev pub tail-main : Proc
-tail-main = record {
-  name = codes "main";
-  unit = 0;
-  tokens = 20;
-  formals = 0;
-  vars = (plain W64 ∷ []);
-  stack = [];
-  conts = [];
-  sites = (record { results = (Variable 0 W64 ∷ []); returns = []; unwinds = []; cuts = []; aborts = false; never = false; yield_values = None; spans = [] } ∷ []);
-  body =
-      is 7 (f.Call 0 (e.Known (Code 1 0)) ((num 100) ∷ []))
-      ∷ is 5 (f.Return 0 0 ((e.Variable 0 W64) ∷ []))
-      ∷ [];
-}
+abbrev tail-main : Proc
+tail-main = procedure (codes "main") 20 0 1 (call_site (0 ∷ []) ∷ []) (
+    is 7 (f.Call 0 (code 1) (num 100 ∷ [])) ∷ is 5 (f.Return 0 0 (local 0 ∷ [])) ∷ [])
 
 abbrev pub tail-f : Proc
-tail-f = record {
-  name = codes "f";
-  unit = 0;
-  tokens = 26;
-  formals = 1;
-  vars = (plain W64 ∷ []);
-  stack = [];
-  conts = [];
-  sites = [];
-  body =
-      is 6 (f.If (c.Compare Eq W64 (e.Variable 0 W64) (num 0)) (is 5 (f.Return 0 0 ((num 7) ∷ [])) ∷ []) [])
-      ∷ is 8 (f.Jump (e.Known (Code 1 0)) ((e.Binary Sub W64 (e.Variable 0 W64) (num 1)) ∷ []))
-      ∷ [];
-}
+tail-f = procedure (codes "f") 26 1 1 [] (
+    is 6 (f.If (test Eq (local 0) (num 0)) (is 5 (f.Return 0 0 (num 7 ∷ [])) ∷ []) [])
+    ∷ is 8 (f.Jump (code 1) (op Sub (local 0) (num 1) ∷ [])) ∷ [])
 
-abbrev pub tail : Program
-tail = record {
-  procs = (tail-main ∷ tail-f ∷ []);
-  datums = [];
-  globals = [];
-  labels = [];
-  main = 0;
-}
-
-abbrev pub tail-placed : Placement
-tail-placed = record {
-  rows =
-      record { code = 0x10000; frame = 16; pairs = []; stack = [] }
-      ∷ record { code = 0x11000; frame = 16; pairs = []; stack = [] }
-      ∷ [];
-}
+abbrev pub tail : Sample
+tail = sample (program (tail-main ∷ tail-f ∷ [])) (frame 16 ∷ frame 16 ∷ [])
 
 -- ---- a recursion
 --     main() { bits64 r; r = g(9); return (r); }
 --     g(bits64 n) { bits64 r; if n == 0 { return (0); } r = g(n - 1); return (r + 1); }
-abbrev pub deep-main : Proc
-deep-main = record {
-  name = codes "main";
-  unit = 0;
-  tokens = 20;
-  formals = 0;
-  vars = (plain W64 ∷ []);
-  stack = [];
-  conts = [];
-  sites = (record { results = (Variable 0 W64 ∷ []); returns = []; unwinds = []; cuts = []; aborts = false; never = false; yield_values = None; spans = [] } ∷ []);
-  body =
-      is 7 (f.Call 0 (e.Known (Code 1 0)) ((num 9) ∷ []))
-      ∷ is 5 (f.Return 0 0 ((e.Variable 0 W64) ∷ []))
-      ∷ [];
-}
+abbrev deep-main : Proc
+deep-main = procedure (codes "main") 20 0 1 (call_site (0 ∷ []) ∷ []) (
+    is 7 (f.Call 0 (code 1) (num 9 ∷ [])) ∷ is 5 (f.Return 0 0 (local 0 ∷ [])) ∷ [])
 
-abbrev pub deep-g : Proc
-deep-g = record {
-  name = codes "g";
-  unit = 0;
-  tokens = 37;
-  formals = 1;
-  vars = (plain W64 ∷ plain W64 ∷ []);
-  stack = [];
-  conts = [];
-  sites = (record { results = (Variable 1 W64 ∷ []); returns = []; unwinds = []; cuts = []; aborts = false; never = false; yield_values = None; spans = [] } ∷ []);
-  body =
-      is 6 (f.If (c.Compare Eq W64 (e.Variable 0 W64) (num 0)) (is 5 (f.Return 0 0 ((num 0) ∷ [])) ∷ []) [])
-      ∷ is 9 (f.Call 0 (e.Known (Code 1 0)) ((e.Binary Sub W64 (e.Variable 0 W64) (num 1)) ∷ []))
-      ∷ is 7 (f.Return 0 0 ((e.Binary Add W64 (e.Variable 1 W64) (num 1)) ∷ []))
-      ∷ [];
-}
+abbrev deep-g : Proc
+deep-g = procedure (codes "g") 37 1 2 (call_site (1 ∷ []) ∷ []) (
+    is 6 (f.If (test Eq (local 0) (num 0)) (is 5 (f.Return 0 0 (num 0 ∷ [])) ∷ []) [])
+    ∷ is 9 (f.Call 0 (code 1) (op Sub (local 0) (num 1) ∷ []))
+    ∷ is 7 (f.Return 0 0 (op Add (local 1) (num 1) ∷ [])) ∷ [])
 
-abbrev pub deep : Program
-deep = record {
-  procs = (deep-main ∷ deep-g ∷ []);
-  datums = [];
-  globals = [];
-  labels = [];
-  main = 0;
-}
-
-abbrev pub deep-placed : Placement
-deep-placed = record {
-  rows =
-      record { code = 0x10000; frame = 48; pairs = []; stack = [] }
-      ∷ record { code = 0x11000; frame = 32; pairs = []; stack = [] }
-      ∷ [];
-}
+abbrev pub deep : Sample
+deep = sample (program (deep-main ∷ deep-g ∷ [])) (frame 48 ∷ frame 32 ∷ [])
 
 -- ---- alternate returns
 --     main() { bits64 p, q, r; p = t(0); q = t(2); r = t(9); return (p * 1000000 + q * 1000 + r); }
@@ -165,79 +61,34 @@ deep-placed = record {
 --     }
 --     h(bits64 i) { if i == 0 { return <0/3> (1); } if i == 2 { return <2/3> (2); } return <3/3> (3); }
 abbrev pub alternates-main : Proc
-alternates-main = record {
-  name = codes "main";
-  unit = 0;
-  tokens = 46;
-  formals = 0;
-  vars = (plain W64 ∷ plain W64 ∷ plain W64 ∷ []);
-  stack = [];
-  conts = [];
-  sites = (record { results = (Variable 0 W64 ∷ []); returns = []; unwinds = []; cuts = []; aborts = false; never = false; yield_values = None; spans = [] } ∷ record { results = (Variable 1 W64 ∷ []); returns = []; unwinds = []; cuts = []; aborts = false; never = false; yield_values = None; spans = [] } ∷ record { results = (Variable 2 W64 ∷ []); returns = []; unwinds = []; cuts = []; aborts = false; never = false; yield_values = None; spans = [] } ∷ []);
-  body =
-      is 7 (f.Call 0 (e.Known (Code 1 0)) ((num 0) ∷ []))
-      ∷ is 7 (f.Call 1 (e.Known (Code 1 0)) ((num 2) ∷ []))
-      ∷ is 7 (f.Call 2 (e.Known (Code 1 0)) ((num 9) ∷ []))
-      ∷ is 13 (f.Return 0 0 ((e.Binary Add W64 (e.Binary Add W64 (e.Binary Mul W64 (e.Variable 0 W64) (num 1000000)) (e.Binary Mul W64 (e.Variable 1 W64) (num 1000))) (e.Variable 2 W64)) ∷ []))
-      ∷ [];
-}
+alternates-main = procedure (codes "main") 46 0 3 (call_site (0 ∷ []) ∷ call_site (1 ∷ []) ∷ call_site (2 ∷ []) ∷ []) (
+    is 7 (f.Call 0 (code 1) (num 0 ∷ []))
+    ∷ is 7 (f.Call 1 (code 1) (num 2 ∷ []))
+    ∷ is 7 (f.Call 2 (code 1) (num 9 ∷ []))
+    ∷ is 13 (f.Return 0 0 (op Add (op Add (op Mul (local 0) (num 1000000)) (op Mul (local 1) (num 1000))) (local 2) ∷ [])) ∷ [])
 
 abbrev pub alternates-t : Proc
-alternates-t = record {
-  name = codes "t";
-  unit = 0;
-  tokens = 69;
-  formals = 1;
-  vars = (plain W64 ∷ plain W64 ∷ []);
-  stack = [];
-  conts = (record { params = (1 ∷ []) } ∷ record { params = (1 ∷ []) } ∷ record { params = (1 ∷ []) } ∷ []);
-  sites = (record { results = (Variable 1 W64 ∷ []); returns = (0 ∷ 1 ∷ 2 ∷ []); unwinds = []; cuts = []; aborts = false; never = false; yield_values = None; spans = [] } ∷ []);
-  body =
-      is 15 (f.Call 0 (e.Known (Code 2 0)) ((e.Variable 0 W64) ∷ []))
-      ∷ is 5 (f.Return 0 0 ((e.Variable 1 W64) ∷ []))
-      ∷ is 6 (f.Continuation 0)
-      ∷ is 7 (f.Return 0 0 ((e.Binary Add W64 (e.Variable 1 W64) (num 100)) ∷ []))
-      ∷ is 6 (f.Continuation 1)
-      ∷ is 7 (f.Return 0 0 ((e.Binary Add W64 (e.Variable 1 W64) (num 200)) ∷ []))
-      ∷ is 6 (f.Continuation 2)
-      ∷ is 7 (f.Return 0 0 ((e.Binary Add W64 (e.Variable 1 W64) (num 300)) ∷ []))
-      ∷ [];
-}
+alternates-t = record (procedure (codes "t") 69 1 2 (record (call_site (1 ∷ [])) { returns = 0 ∷ 1 ∷ 2 ∷ [] } ∷ []) (
+    is 15 (f.Call 0 (code 2) (local 0 ∷ []))
+    ∷ is 5 (f.Return 0 0 (local 1 ∷ []))
+    ∷ is 6 (f.Continuation 0)
+    ∷ is 7 (f.Return 0 0 (op Add (local 1) (num 100) ∷ []))
+    ∷ is 6 (f.Continuation 1)
+    ∷ is 7 (f.Return 0 0 (op Add (local 1) (num 200) ∷ []))
+    ∷ is 6 (f.Continuation 2)
+    ∷ is 7 (f.Return 0 0 (op Add (local 1) (num 300) ∷ [])) ∷ [])) {
+      conts = continuation (1 ∷ []) ∷ continuation (1 ∷ []) ∷ continuation (1 ∷ []) ∷ [];
+    }
 
 abbrev pub alternates-h : Proc
-alternates-h = record {
-  name = codes "h";
-  unit = 0;
-  tokens = 49;
-  formals = 1;
-  vars = (plain W64 ∷ []);
-  stack = [];
-  conts = [];
-  sites = [];
-  body =
-      is 6 (f.If (c.Compare Eq W64 (e.Variable 0 W64) (num 0)) (is 10 (f.Return 0 3 ((num 1) ∷ [])) ∷ []) [])
-      ∷ is 6 (f.If (c.Compare Eq W64 (e.Variable 0 W64) (num 2)) (is 10 (f.Return 2 3 ((num 2) ∷ [])) ∷ []) [])
-      ∷ is 10 (f.Return 3 3 ((num 3) ∷ []))
-      ∷ [];
-}
+alternates-h = procedure (codes "h") 49 1 1 [] (
+    is 6 (f.If (test Eq (local 0) (num 0)) (is 10 (f.Return 0 3 (num 1 ∷ [])) ∷ []) [])
+    ∷ is 6 (f.If (test Eq (local 0) (num 2)) (is 10 (f.Return 2 3 (num 2 ∷ [])) ∷ []) [])
+    ∷ is 10 (f.Return 3 3 (num 3 ∷ [])) ∷ [])
 
-abbrev pub alternates : Program
-alternates = record {
-  procs = (alternates-main ∷ alternates-t ∷ alternates-h ∷ []);
-  datums = [];
-  globals = [];
-  labels = [];
-  main = 0;
-}
-
-abbrev pub alternates-placed : Placement
-alternates-placed = record {
-  rows =
-      record { code = 0x10000; frame = 16; pairs = []; stack = [] }
-      ∷ record { code = 0x11000; frame = 64; pairs = (0 ∷ 16 ∷ 32 ∷ []); stack = [] }
-      ∷ record { code = 0x12000; frame = 16; pairs = []; stack = [] }
-      ∷ [];
-}
+abbrev pub alternates : Sample
+alternates = sample (program (alternates-main ∷ alternates-t ∷ alternates-h ∷ []))
+    (frame 16 ∷ frame_with 64 (0 ∷ 16 ∷ 32 ∷ []) [] ∷ frame 16 ∷ [])
 
 -- ---- a cut past an activation
 --     main() { bits64 v, r; v = 41; r = c(0); return (v + r); }
@@ -249,91 +100,31 @@ alternates-placed = record {
 --       return (a1 + a2 + a3 + a4 + a5 + a6 + a7 + a8 + a9 + b1 + b2 + r);
 --     }
 --     e(bits64 j) { cut to j(1); }
-abbrev pub cutting-main : Proc
-cutting-main = record {
-  name = codes "main";
-  unit = 0;
-  tokens = 28;
-  formals = 0;
-  vars = (plain W64 ∷ plain W64 ∷ []);
-  stack = [];
-  conts = [];
-  sites = (record { results = (Variable 1 W64 ∷ []); returns = []; unwinds = []; cuts = []; aborts = false; never = false; yield_values = None; spans = [] } ∷ []);
-  body =
-      is 4 (f.Assign (lvalue.Target (Variable 0 W64) ∷ []) ((num 41) ∷ []))
-      ∷ is 7 (f.Call 0 (e.Known (Code 1 0)) ((num 0) ∷ []))
-      ∷ is 7 (f.Return 0 0 ((e.Binary Add W64 (e.Variable 0 W64) (e.Variable 1 W64)) ∷ []))
-      ∷ [];
-}
+abbrev cutting-main : Proc
+cutting-main = procedure (codes "main") 28 0 2 (call_site (1 ∷ []) ∷ []) (
+    is 4 (assign 0 (num 41))
+    ∷ is 7 (f.Call 0 (code 1) (num 0 ∷ []))
+    ∷ is 7 (f.Return 0 0 (op Add (local 0) (local 1) ∷ [])) ∷ [])
 
 abbrev pub cutting-c : Proc
-cutting-c = record {
-  name = codes "c";
-  unit = 0;
-  tokens = 37;
-  formals = 1;
-  vars = (plain W64 ∷ plain W64 ∷ []);
-  stack = [];
-  conts = (record { params = (1 ∷ []) } ∷ []);
-  sites = (record { results = (Variable 1 W64 ∷ []); returns = []; unwinds = []; cuts = (0 ∷ []); aborts = false; never = false; yield_values = None; spans = [] } ∷ []);
-  body =
-      is 11 (f.Call 0 (e.Known (Code 2 0)) ((e.Continuation 0) ∷ []))
-      ∷ is 5 (f.Return 0 0 ((e.Variable 1 W64) ∷ []))
-      ∷ is 6 (f.Continuation 0)
-      ∷ is 5 (f.Return 0 0 ((e.Variable 1 W64) ∷ []))
-      ∷ [];
-}
+cutting-c = record (procedure (codes "c") 37 1 2 (record (call_site (1 ∷ [])) { cuts = 0 ∷ [] } ∷ []) (
+    is 11 (f.Call 0 (code 2) (e.Continuation 0 ∷ []))
+    ∷ is 5 (f.Return 0 0 (local 1 ∷ []))
+    ∷ is 6 (f.Continuation 0)
+    ∷ is 5 (f.Return 0 0 (local 1 ∷ [])) ∷ [])) { conts = continuation (1 ∷ []) ∷ [] }
 
 abbrev pub cutting-d : Proc
-cutting-d = record {
-  name = codes "d";
-  unit = 0;
-  tokens = 112;
-  formals = 1;
-  vars = (plain W64 ∷ plain W64 ∷ plain W64 ∷ plain W64 ∷ plain W64 ∷ plain W64 ∷ plain W64 ∷ plain W64 ∷ plain W64 ∷ plain W64 ∷ plain W64 ∷ plain W64 ∷ plain W64 ∷ []);
-  stack = [];
-  conts = [];
-  sites = (record { results = (Variable 12 W64 ∷ []); returns = []; unwinds = []; cuts = []; aborts = true; never = false; yield_values = None; spans = [] } ∷ []);
-  body =
-      is 44 (f.Assign (lvalue.Target (Variable 1 W64) ∷ lvalue.Target (Variable 2 W64) ∷ lvalue.Target (Variable 3 W64) ∷ lvalue.Target (Variable 4 W64) ∷ lvalue.Target (Variable 5 W64) ∷ lvalue.Target (Variable 6 W64) ∷ lvalue.Target (Variable 7 W64) ∷ lvalue.Target (Variable 8 W64) ∷ lvalue.Target (Variable 9 W64) ∷ lvalue.Target (Variable 10 W64) ∷ lvalue.Target (Variable 11 W64) ∷ []) ((e.Variable 0 W64) ∷ (e.Variable 0 W64) ∷ (e.Variable 0 W64) ∷ (e.Variable 0 W64) ∷ (e.Variable 0 W64) ∷ (e.Variable 0 W64) ∷ (e.Variable 0 W64) ∷ (e.Variable 0 W64) ∷ (e.Variable 0 W64) ∷ (e.Variable 0 W64) ∷ (e.Variable 0 W64) ∷ []))
-      ∷ is 9 (f.Call 0 (e.Known (Code 3 0)) ((e.Variable 0 W64) ∷ []))
-      ∷ is 27 (f.Return 0 0 ((e.Binary Add W64 (e.Binary Add W64 (e.Binary Add W64 (e.Binary Add W64 (e.Binary Add W64 (e.Binary Add W64 (e.Binary Add W64 (e.Binary Add W64 (e.Binary Add W64 (e.Binary Add W64 (e.Binary Add W64 (e.Variable 1 W64) (e.Variable 2 W64)) (e.Variable 3 W64)) (e.Variable 4 W64)) (e.Variable 5 W64)) (e.Variable 6 W64)) (e.Variable 7 W64)) (e.Variable 8 W64)) (e.Variable 9 W64)) (e.Variable 10 W64)) (e.Variable 11 W64)) (e.Variable 12 W64)) ∷ []))
-      ∷ [];
-}
+cutting-d = procedure (codes "d") 112 1 13 (record (call_site (12 ∷ [])) { aborts = true } ∷ []) (
+    is 44 (assign_all (1 ∷ 2 ∷ 3 ∷ 4 ∷ 5 ∷ 6 ∷ 7 ∷ 8 ∷ 9 ∷ 10 ∷ 11 ∷ []) (map local (0 ∷ 0 ∷ 0 ∷ 0 ∷ 0 ∷ 0 ∷ 0 ∷ 0 ∷ 0 ∷ 0 ∷ 0 ∷ [])))
+    ∷ is 9 (f.Call 0 (code 3) (local 0 ∷ []))
+    ∷ is 27 (f.Return 0 0 (added (local 1) (map local (2 ∷ 3 ∷ 4 ∷ 5 ∷ 6 ∷ 7 ∷ 8 ∷ 9 ∷ 10 ∷ 11 ∷ 12 ∷ [])) ∷ [])) ∷ [])
 
 abbrev pub cutting-e : Proc
-cutting-e = record {
-  name = codes "e";
-  unit = 0;
-  tokens = 14;
-  formals = 1;
-  vars = (plain W64 ∷ []);
-  stack = [];
-  conts = [];
-  sites = [];
-  body =
-      is 7 (f.Cut (e.Variable 0 W64) ((num 1) ∷ []) [])
-      ∷ [];
-}
+cutting-e = procedure (codes "e") 14 1 1 [] (is 7 (f.Cut (local 0) (num 1 ∷ []) []) ∷ [])
 
-abbrev pub cutting : Program
-cutting = record {
-  procs = (cutting-main ∷ cutting-c ∷ cutting-d ∷ cutting-e ∷ []);
-  datums = [];
-  globals = [];
-  labels = [];
-  main = 0;
-}
-
-abbrev pub cutting-placed : Placement
-cutting-placed = record {
-  rows =
-      record { code = 0x10000; frame = 16; pairs = []; stack = [] }
-      ∷ record { code = 0x11000; frame = 32; pairs = (0 ∷ []); stack = [] }
-      ∷ record { code = 0x12000; frame = 16; pairs = []; stack = [] }
-      ∷ record { code = 0x13000; frame = 16; pairs = []; stack = [] }
-      ∷ [];
-}
+abbrev pub cutting : Sample
+cutting = sample (program (cutting-main ∷ cutting-c ∷ cutting-d ∷ cutting-e ∷ []))
+    (frame 16 ∷ frame_with 32 (0 ∷ []) [] ∷ frame 16 ∷ frame 16 ∷ [])
 
 -- ---- values that change places
 --     main() {
@@ -345,85 +136,22 @@ cutting-placed = record {
 --     p(bits64 a, bits64 b, bits64 c, bits64 d, bits64 e, bits64 f, bits64 g, bits64 h, bits64 i, bits64 j) {
 --       return (b, a, d, c, f, e, h, g, i);
 --     }
-abbrev pub parallel-main : Proc
-parallel-main = record {
-  name = codes "main";
-  unit = 0;
-  tokens = 144;
-  formals = 0;
-  vars = (plain W64 ∷ plain W64 ∷ plain W64 ∷ plain W64 ∷ plain W64 ∷ plain W64 ∷ plain W64 ∷ plain W64 ∷ plain W64 ∷ plain W64 ∷ []);
-  stack = [];
-  conts = [];
-  sites = (record { results = (Variable 0 W64 ∷ Variable 1 W64 ∷ Variable 2 W64 ∷ Variable 3 W64 ∷ Variable 4 W64 ∷ Variable 5 W64 ∷ Variable 6 W64 ∷ Variable 7 W64 ∷ Variable 8 W64 ∷ []); returns = []; unwinds = []; cuts = []; aborts = false; never = false; yield_values = None; spans = [] } ∷ []);
-  body =
-      is 40 (f.Assign (lvalue.Target (Variable 0 W64) ∷ lvalue.Target (Variable 1 W64) ∷ lvalue.Target (Variable 2 W64) ∷ lvalue.Target (Variable 3 W64) ∷ lvalue.Target (Variable 4 W64) ∷ lvalue.Target (Variable 5 W64) ∷ lvalue.Target (Variable 6 W64) ∷ lvalue.Target (Variable 7 W64) ∷ lvalue.Target (Variable 8 W64) ∷ lvalue.Target (Variable 9 W64) ∷ []) ((num 1) ∷ (num 2) ∷ (num 3) ∷ (num 4) ∷ (num 5) ∷ (num 6) ∷ (num 7) ∷ (num 8) ∷ (num 9) ∷ (num 10) ∷ []))
-      ∷ is 41 (f.Call 0 (e.Known (Code 1 0)) ((e.Variable 9 W64) ∷ (e.Variable 8 W64) ∷ (e.Variable 7 W64) ∷ (e.Variable 6 W64) ∷ (e.Variable 5 W64) ∷ (e.Variable 4 W64) ∷ (e.Variable 3 W64) ∷ (e.Variable 2 W64) ∷ (e.Variable 1 W64) ∷ (e.Variable 0 W64) ∷ []))
-      ∷ is 37 (f.Return 0 0 ((e.Binary Add W64 (e.Binary Add W64 (e.Binary Add W64 (e.Binary Add W64 (e.Binary Add W64 (e.Binary Add W64 (e.Binary Add W64 (e.Binary Add W64 (e.Binary Mul W64 (e.Variable 0 W64) (num 100000000)) (e.Binary Mul W64 (e.Variable 1 W64) (num 10000000))) (e.Binary Mul W64 (e.Variable 2 W64) (num 1000000))) (e.Binary Mul W64 (e.Variable 3 W64) (num 100000))) (e.Binary Mul W64 (e.Variable 4 W64) (num 10000))) (e.Binary Mul W64 (e.Variable 5 W64) (num 1000))) (e.Binary Mul W64 (e.Variable 6 W64) (num 100))) (e.Binary Mul W64 (e.Variable 7 W64) (num 10))) (e.Variable 8 W64)) ∷ []))
-      ∷ [];
-}
+abbrev parallel-main : Proc
+parallel-main = procedure (codes "main") 144 0 10 (call_site (0 ∷ 1 ∷ 2 ∷ 3 ∷ 4 ∷ 5 ∷ 6 ∷ 7 ∷ 8 ∷ []) ∷ []) (
+    is 40 (assign_all (0 ∷ 1 ∷ 2 ∷ 3 ∷ 4 ∷ 5 ∷ 6 ∷ 7 ∷ 8 ∷ 9 ∷ []) (map num (1 ∷ 2 ∷ 3 ∷ 4 ∷ 5 ∷ 6 ∷ 7 ∷ 8 ∷ 9 ∷ 10 ∷ [])))
+    ∷ is 41 (f.Call 0 (code 1) (map local (9 ∷ 8 ∷ 7 ∷ 6 ∷ 5 ∷ 4 ∷ 3 ∷ 2 ∷ 1 ∷ 0 ∷ [])))
+    ∷ is 37 (f.Return 0 0 (added (op Mul (local 0) (num 100000000)) (
+    op Mul (local 1) (num 10000000) ∷ op Mul (local 2) (num 1000000) ∷ op Mul (local 3) (num 100000)
+    ∷ op Mul (local 4) (num 10000) ∷ op Mul (local 5) (num 1000) ∷ op Mul (local 6) (num 100) ∷ op Mul (local 7) (num 10) ∷ local 8 ∷ []) ∷ [])) ∷ [])
 
-abbrev pub parallel-p : Proc
-parallel-p = record {
-  name = codes "p";
-  unit = 0;
-  tokens = 55;
-  formals = 10;
-  vars = (plain W64 ∷ plain W64 ∷ plain W64 ∷ plain W64 ∷ plain W64 ∷ plain W64 ∷ plain W64 ∷ plain W64 ∷ plain W64 ∷ plain W64 ∷ []);
-  stack = [];
-  conts = [];
-  sites = [];
-  body =
-      is 21 (f.Return 0 0 ((e.Variable 1 W64) ∷ (e.Variable 0 W64) ∷ (e.Variable 3 W64) ∷ (e.Variable 2 W64) ∷ (e.Variable 5 W64) ∷ (e.Variable 4 W64) ∷ (e.Variable 7 W64) ∷ (e.Variable 6 W64) ∷ (e.Variable 8 W64) ∷ []))
-      ∷ [];
-}
-
-abbrev pub parallel : Program
-parallel = record {
-  procs = (parallel-main ∷ parallel-p ∷ []);
-  datums = [];
-  globals = [];
-  labels = [];
-  main = 0;
-}
-
-abbrev pub parallel-placed : Placement
-parallel-placed = record {
-  rows =
-      record { code = 0x10000; frame = 16; pairs = []; stack = [] }
-      ∷ record { code = 0x11000; frame = 16; pairs = []; stack = [] }
-      ∷ [];
-}
+abbrev pub parallel : Sample
+parallel = sample (program (
+    parallel-main
+    ∷ procedure (codes "p") 55 10 10 [] (is 21 (f.Return 0 0 (map local (1 ∷ 0 ∷ 3 ∷ 2 ∷ 5 ∷ 4 ∷ 7 ∷ 6 ∷ 8 ∷ []))) ∷ [])
+    ∷ [])) (frame 16 ∷ frame 16 ∷ [])
 
 -- ---- a byte of the input
 --     main() { bits64 x; x = foreign "C" cmm_getbyte(); return (x); }
-abbrev pub input-main : Proc
-input-main = record {
-  name = codes "main";
-  unit = 0;
-  tokens = 21;
-  formals = 0;
-  vars = (plain W64 ∷ []);
-  stack = [];
-  conts = [];
-  sites = [];
-  body =
-      is 8 (f.GetByte (Variable 0 W64))
-      ∷ is 5 (f.Return 0 0 ((e.Variable 0 W64) ∷ []))
-      ∷ [];
-}
-
-abbrev pub input : Program
-input = record {
-  procs = (input-main ∷ []);
-  datums = [];
-  globals = [];
-  labels = [];
-  main = 0;
-}
-
-abbrev pub input-placed : Placement
-input-placed = record {
-  rows =
-      record { code = 0x10000; frame = 16; pairs = []; stack = [] }
-      ∷ [];
-}
+abbrev pub input : Sample
+input = alone (procedure (codes "main") 21 0 1 [] (
+    is 8 (f.GetByte (Variable 0 W64)) ∷ is 5 (f.Return 0 0 (local 0 ∷ [])) ∷ [])) (frame 16)

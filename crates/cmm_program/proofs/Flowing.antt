@@ -1,20 +1,14 @@
--- Programs of worked rows, resolved, each below its text: paths from a call site.
-use Rattle.std.proofs.Common.{true, false, [], ◌∷◌, Some, None}
+-- Programs of worked rows, resolved, each below its text: paths from a call site. Of two of them only `main` is looked at.
+use Rattle.std.proofs.Common.{true, [], ◌∷◌}
 use Rattle.std.specs.Prelude.{codes}
 use Rattle.cmm_words.specs.declared.width.Width.TheVariants.{W64}
 use Rattle.cmm_words.specs.declared.operators.Op2.TheVariants.{Add, Sub, Divu}
 use Rattle.cmm_words.specs.declared.operators.Cmp.TheVariants.{Eq}
-use Rattle.cmm_words.specs.declared.constant.Constant.TheVariants.{Code}
 use Rattle.cmm_program.specs.declared.expression.Expression.TheVariants as e
-use Rattle.cmm_program.specs.declared.expression.Condition.TheVariants as c
 use Rattle.cmm_program.specs.declared.statement.Form.TheVariants as f
-use Rattle.cmm_program.specs.declared.statement.Lvalue.TheVariants as lvalue
 use Rattle.cmm_program.specs.declared.statement.Case.TheVariants.{In}
-use Rattle.cmm_program.specs.declared.procedure.Target.TheVariants.{Variable}
 use Rattle.cmm_program.specs.declared.procedure.Proc.{Proc}
-use Rattle.cmm_program.specs.declared.program.Program.{Program}
-use Rattle.cmm_program.specs.declared.placement.Placement.{Placement}
-use Rattle.cmm_program.proofs.Notation.{num, is, arm, plain}
+use Rattle.cmm_program.proofs.Samples.{num, local, code, op, test, is, assign, from_to, arm, continuation, call_site, yield_site, procedure, program, frame, frame_with, Sample, sample}
 
 -- ---- a loop round a call
 --     main() {
@@ -28,57 +22,20 @@ use Rattle.cmm_program.proofs.Notation.{num, is, arm, plain}
 --     }
 --     f(bits64 n) { return (n + 2); }
 abbrev pub looping-main : Proc
-looping-main = record {
-  name = codes "main";
-  unit = 0;
-  tokens = 49;
-  formals = 0;
-  vars = (plain W64 ∷ plain W64 ∷ plain W64 ∷ []);
-  stack = [];
-  conts = [];
-  sites = (record { results = (Variable 1 W64 ∷ []); returns = []; unwinds = []; cuts = []; aborts = false; never = false; yield_values = None; spans = [] } ∷ []);
-  body =
-      is 4 (f.Assign (lvalue.Target (Variable 0 W64) ∷ []) ((num 3) ∷ []))
-      ∷ is 2 (f.Label 0)
-      ∷ is 6 (f.If (c.Compare Eq W64 (e.Variable 0 W64) (num 0)) (is 5 (f.Return 0 0 ((e.Variable 1 W64) ∷ [])) ∷ []) [])
-      ∷ is 7 (f.Call 0 (e.Known (Code 1 0)) ((e.Variable 1 W64) ∷ []))
-      ∷ is 6 (f.Assign (lvalue.Target (Variable 0 W64) ∷ []) ((e.Binary Sub W64 (e.Variable 0 W64) (num 1)) ∷ []))
-      ∷ is 4 (f.Assign (lvalue.Target (Variable 2 W64) ∷ []) ((num 0) ∷ []))
-      ∷ is 3 (f.Goto 0)
-      ∷ [];
-}
+looping-main = procedure (codes "main") 49 0 3 (call_site (1 ∷ []) ∷ []) (
+    is 4 (assign 0 (num 3))
+    ∷ is 2 (f.Label 0)
+    ∷ is 6 (f.If (test Eq (local 0) (num 0)) (is 5 (f.Return 0 0 (local 1 ∷ [])) ∷ []) [])
+    ∷ is 7 (f.Call 0 (code 1) (local 1 ∷ []))
+    ∷ is 6 (assign 0 (op Sub (local 0) (num 1)))
+    ∷ is 4 (assign 2 (num 0))
+    ∷ is 3 (f.Goto 0) ∷ [])
 
-abbrev pub looping-f : Proc
-looping-f = record {
-  name = codes "f";
-  unit = 0;
-  tokens = 14;
-  formals = 1;
-  vars = (plain W64 ∷ []);
-  stack = [];
-  conts = [];
-  sites = [];
-  body =
-      is 7 (f.Return 0 0 ((e.Binary Add W64 (e.Variable 0 W64) (num 2)) ∷ []))
-      ∷ [];
-}
-
-abbrev pub looping : Program
-looping = record {
-  procs = (looping-main ∷ looping-f ∷ []);
-  datums = [];
-  globals = [];
-  labels = [];
-  main = 0;
-}
-
-abbrev pub looping-placed : Placement
-looping-placed = record {
-  rows =
-      record { code = 0x10000; frame = 16; pairs = []; stack = [] }
-      ∷ record { code = 0x11000; frame = 16; pairs = []; stack = [] }
-      ∷ [];
-}
+abbrev pub looping : Sample
+looping = sample (program (
+    looping-main
+    ∷ procedure (codes "f") 14 1 1 [] (is 7 (f.Return 0 0 (op Add (local 0) (num 2) ∷ [])) ∷ [])
+    ∷ [])) (frame 16 ∷ frame 16 ∷ [])
 
 -- ---- paths through a checked operator without a normal exit
 --     main() {
@@ -89,53 +46,10 @@ looping-placed = record {
 --     }
 --     f() { return (0); }
 abbrev pub through-main : Proc
-through-main = record {
-  name = codes "main";
-  unit = 0;
-  tokens = 38;
-  formals = 0;
-  vars = (plain W64 ∷ plain W64 ∷ plain W64 ∷ plain W64 ∷ []);
-  stack = [];
-  conts = [];
-  sites = (record { results = (Variable 3 W64 ∷ []); returns = []; unwinds = []; cuts = []; aborts = false; never = false; yield_values = None; spans = [] } ∷ record { results = (Variable 2 W64 ∷ []); returns = []; unwinds = []; cuts = []; aborts = false; never = true; yield_values = Some 1; spans = [] } ∷ []);
-  body =
-      is 6 (f.Call 0 (e.Known (Code 1 0)) [])
-      ∷ is 11 (f.Checked 1 Divu W64 (e.Variable 1 W64) (e.Variable 1 W64))
-      ∷ is 7 (f.Return 0 0 ((e.Binary Add W64 (e.Variable 0 W64) (e.Variable 2 W64)) ∷ []))
-      ∷ [];
-}
-
-abbrev pub through-f : Proc
-through-f = record {
-  name = codes "f";
-  unit = 0;
-  tokens = 10;
-  formals = 0;
-  vars = [];
-  stack = [];
-  conts = [];
-  sites = [];
-  body =
-      is 5 (f.Return 0 0 ((num 0) ∷ []))
-      ∷ [];
-}
-
-abbrev pub through : Program
-through = record {
-  procs = (through-main ∷ through-f ∷ []);
-  datums = [];
-  globals = [];
-  labels = [];
-  main = 0;
-}
-
-abbrev pub through-placed : Placement
-through-placed = record {
-  rows =
-      record { code = 0x10000; frame = 16; pairs = []; stack = [] }
-      ∷ record { code = 0x11000; frame = 16; pairs = []; stack = [] }
-      ∷ [];
-}
+through-main = procedure (codes "main") 38 0 4 (call_site (3 ∷ []) ∷ record (yield_site (2 ∷ []) 1) { never = true } ∷ []) (
+    is 6 (f.Call 0 (code 1) [])
+    ∷ is 11 (f.Checked 1 Divu W64 (local 1) (local 1))
+    ∷ is 7 (f.Return 0 0 (op Add (local 0) (local 2) ∷ [])) ∷ [])
 
 -- ---- a cut to a continuation of its own activation
 --     main() {
@@ -146,54 +60,17 @@ through-placed = record {
 --     }
 --     f() { return (0); }
 abbrev pub own_cut-main : Proc
-own_cut-main = record {
-  name = codes "main";
-  unit = 0;
-  tokens = 42;
-  formals = 0;
-  vars = (plain W64 ∷ plain W64 ∷ plain W64 ∷ []);
-  stack = [];
-  conts = (record { params = (0 ∷ []) } ∷ []);
-  sites = (record { results = (Variable 2 W64 ∷ []); returns = []; unwinds = []; cuts = []; aborts = false; never = false; yield_values = None; spans = [] } ∷ []);
-  body =
-      is 6 (f.Call 0 (e.Known (Code 1 0)) [])
-      ∷ is 11 (f.Cut (e.Continuation 0) ((num 1) ∷ []) (0 ∷ []))
-      ∷ is 6 (f.Continuation 0)
-      ∷ is 7 (f.Return 0 0 ((e.Binary Add W64 (e.Variable 0 W64) (e.Variable 1 W64)) ∷ []))
-      ∷ [];
-}
+own_cut-main = record (procedure (codes "main") 42 0 3 (call_site (2 ∷ []) ∷ []) (
+    is 6 (f.Call 0 (code 1) [])
+    ∷ is 11 (f.Cut (e.Continuation 0) (num 1 ∷ []) (0 ∷ []))
+    ∷ is 6 (f.Continuation 0)
+    ∷ is 7 (f.Return 0 0 (op Add (local 0) (local 1) ∷ [])) ∷ [])) { conts = continuation (0 ∷ []) ∷ [] }
 
-abbrev pub own_cut-f : Proc
-own_cut-f = record {
-  name = codes "f";
-  unit = 0;
-  tokens = 10;
-  formals = 0;
-  vars = [];
-  stack = [];
-  conts = [];
-  sites = [];
-  body =
-      is 5 (f.Return 0 0 ((num 0) ∷ []))
-      ∷ [];
-}
-
-abbrev pub own_cut : Program
-own_cut = record {
-  procs = (own_cut-main ∷ own_cut-f ∷ []);
-  datums = [];
-  globals = [];
-  labels = [];
-  main = 0;
-}
-
-abbrev pub own_cut-placed : Placement
-own_cut-placed = record {
-  rows =
-      record { code = 0x10000; frame = 32; pairs = (0 ∷ []); stack = [] }
-      ∷ record { code = 0x11000; frame = 16; pairs = []; stack = [] }
-      ∷ [];
-}
+abbrev pub own_cut : Sample
+own_cut = sample (program (
+    own_cut-main
+    ∷ procedure (codes "f") 10 0 0 [] (is 5 (f.Return 0 0 (num 0 ∷ [])) ∷ [])
+    ∷ [])) (frame_with 32 (0 ∷ []) [] ∷ frame 16 ∷ [])
 
 -- ---- a switch, which leads to its arms alone
 --     main() {
@@ -204,50 +81,7 @@ own_cut-placed = record {
 --     }
 --     f() { return (1); }
 abbrev pub arms-main : Proc
-arms-main = record {
-  name = codes "main";
-  unit = 0;
-  tokens = 37;
-  formals = 0;
-  vars = (plain W64 ∷ plain W64 ∷ plain W64 ∷ []);
-  stack = [];
-  conts = [];
-  sites = (record { results = (Variable 2 W64 ∷ []); returns = []; unwinds = []; cuts = []; aborts = false; never = false; yield_values = None; spans = [] } ∷ []);
-  body =
-      is 6 (f.Call 0 (e.Known (Code 1 0)) [])
-      ∷ is 9 (f.Switch (e.Variable 2 W64) (arm (In ((record { from = 1; to = 1 } ∷ []))) (is 5 (f.Return 0 0 ((e.Variable 0 W64) ∷ [])) ∷ []) ∷ []))
-      ∷ is 5 (f.Return 0 0 ((e.Variable 1 W64) ∷ []))
-      ∷ [];
-}
-
-abbrev pub arms-f : Proc
-arms-f = record {
-  name = codes "f";
-  unit = 0;
-  tokens = 10;
-  formals = 0;
-  vars = [];
-  stack = [];
-  conts = [];
-  sites = [];
-  body =
-      is 5 (f.Return 0 0 ((num 1) ∷ []))
-      ∷ [];
-}
-
-abbrev pub arms : Program
-arms = record {
-  procs = (arms-main ∷ arms-f ∷ []);
-  datums = [];
-  globals = [];
-  labels = [];
-  main = 0;
-}
-
-abbrev pub arms-placed : Placement
-arms-placed = record {
-  rows =
-      record { code = 0x10000; frame = 16; pairs = []; stack = [] }
-      ∷ record { code = 0x11000; frame = 16; pairs = []; stack = [] }
-      ∷ [];
-}
+arms-main = procedure (codes "main") 37 0 3 (call_site (2 ∷ []) ∷ []) (
+    is 6 (f.Call 0 (code 1) [])
+    ∷ is 9 (f.Switch (local 2) (arm (In (from_to 1 1 ∷ [])) (is 5 (f.Return 0 0 (local 0 ∷ [])) ∷ []) ∷ []))
+    ∷ is 5 (f.Return 0 0 (local 1 ∷ [])) ∷ [])

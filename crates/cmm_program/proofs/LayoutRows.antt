@@ -11,38 +11,31 @@ use Rattle.cmm_program.specs.declared.placement.PlaceRow.{PlaceRow}
 use Rattle.cmm_program.specs.Layout.{label_addresses, data_bytes, stackdata_labels, stackdata_size}
 use Rattle.cmm_program.specs.Bounds.{frame_bound, step_factor}
 use Rattle.cmm_program.specs.Placed.{IsPlaced, ascend_from, is_row_placed, are_rows_placed}
-use Rattle.cmm_program.proofs.Yielding.{divide, divide-placed}
-use Rattle.cmm_program.proofs.Calls.{sum-main, deep, deep-placed, cutting, cutting-placed}
+use Rattle.cmm_program.proofs.Samples.{stack_label, stack_bytes, continuation, datum, data_label, program, frame, frame_with}
+use Rattle.cmm_program.proofs.Yielding.{divide}
+use Rattle.cmm_program.proofs.Calls.{sum-main, deep, cutting}
 
 -- ---- data: four bytes, an alignment, and two words; a label stands on what follows the alignment
-divide_labels : label_addresses divide ≡ 0x40000000 ∷ 0x40000008 ∷ []
+divide_labels : label_addresses divide.program ≡ 0x40000000 ∷ 0x40000008 ∷ []
 divide_labels = refl
 
-divide_bytes : data_bytes divide divide-placed ≡
+divide_bytes : data_bytes divide.program divide.placement ≡
     98 ∷ 97 ∷ 100 ∷ 10 ∷ 0 ∷ 0 ∷ 0 ∷ 0 ∷ 3 ∷ 0 ∷ 0 ∷ 0 ∷ 0 ∷ 0 ∷ 0 ∷ 0 ∷ 5 ∷ 0 ∷ 0 ∷ 0 ∷ 0 ∷ 0 ∷ 0 ∷ 0 ∷ []
 divide_bytes = refl
 
 -- A procedure's address, a label's, padding, a datum of zeros, and a label at the end of a section.
 abbrev mixed : Program
-mixed = record {
-  procs = sum-main ∷ [];
+mixed = record (program (sum-main ∷ [])) {
   datums =
-      record { align = 1; length = 3; width = W8; values = [] }
-      ∷ record { align = 2; length = 2; width = W16; values = Number 0x1234 W16 ∷ [] }
-      ∷ record { align = 8; length = 16; width = W64; values = Code 0 4 ∷ Address 1 0 ∷ [] }
-      ∷ record { align = 1; length = 1; width = W8; values = [] }
-      ∷ [];
-  globals = [];
+      datum 1 3 W8 [] ∷ datum 2 2 W16 (Number 0x1234 W16 ∷ []) ∷ datum 8 16 W64 (Code 0 4 ∷ Address 1 0 ∷ [])
+      ∷ datum 1 1 W8 [] ∷ [];
   labels =
-      record { name = codes "half"; links = []; datum = 1; at_end = false }
-      ∷ record { name = codes "end"; links = []; datum = 4; at_end = true }
-      ∷ record { name = codes "first"; links = []; datum = 0; at_end = true }
-      ∷ [];
-  main = 0;
+      data_label (codes "half") 1 ∷ record (data_label (codes "end") 4) { at_end = true }
+      ∷ record (data_label (codes "first") 0) { at_end = true } ∷ [];
 }
 
 abbrev mixed-placed : Placement
-mixed-placed = record { rows = record { code = 0x10100; frame = 0; pairs = []; stack = [] } ∷ [] }
+mixed-placed = record { rows = record (frame 0) { code = 0x10100 } ∷ [] }
 
 mixed_labels : label_addresses mixed ≡ 0x40000004 ∷ 0x40000019 ∷ 0x40000000 ∷ []
 mixed_labels = refl
@@ -56,14 +49,7 @@ mixed_bytes = refl
 
 -- ---- stackdata: a byte, a label on a word behind padding, and a trailing alignment, which counts
 abbrev items : List StackItem
-items =
-    record { align = 1; length = 1; label = false }
-    ∷ record { align = 8; length = 0; label = true }
-    ∷ record { align = 8; length = 8; label = false }
-    ∷ record { align = 1; length = 1; label = false }
-    ∷ record { align = 1; length = 0; label = true }
-    ∷ record { align = 16; length = 0; label = false }
-    ∷ []
+items = stack_bytes 1 1 ∷ stack_label 8 ∷ stack_bytes 8 8 ∷ stack_bytes 1 1 ∷ stack_label 1 ∷ stack_bytes 16 0 ∷ []
 
 item_labels : stackdata_labels items ≡ 8 ∷ 17 ∷ []
 item_labels = refl
@@ -72,25 +58,25 @@ item_size : stackdata_size items ≡ 32
 item_size = refl
 
 -- ---- bounds
-factor : step_factor deep ≡ 2368
+factor : step_factor deep.program ≡ 2368
 factor = refl
 
 -- ---- placements
-deep_is_placed : IsPlaced deep deep-placed
+deep_is_placed : IsPlaced deep.program deep.placement
 deep_is_placed = record { rows = refl; ascending = refl }
 
-cutting_is_placed : IsPlaced cutting cutting-placed
+cutting_is_placed : IsPlaced cutting.program cutting.placement
 cutting_is_placed = record { rows = refl; ascending = refl }
 
 -- two continuations and the items above, in 22 tokens: a frame has at most 368 bytes
 abbrev both : Proc
-both = record sum-main { tokens = 22; vars = []; stack = items; conts = record { params = [] } ∷ record { params = [] } ∷ []; sites = [] }
+both = record sum-main { tokens = 22; vars = []; stack = items; conts = continuation [] ∷ continuation [] ∷ []; sites = [] }
 
 both_bound : frame_bound both ≡ 368
 both_bound = refl
 
 abbrev row : PlaceRow
-row = record { code = 0x10000; frame = 80; pairs = 0 ∷ 56 ∷ []; stack = 24 ∷ 33 ∷ [] }
+row = record (frame_with 80 (0 ∷ 56 ∷ []) (24 ∷ 33 ∷ [])) { code = 0x10000 }
 
 row_is_placed : is_row_placed both row ≡ true
 row_is_placed = refl
@@ -141,9 +127,9 @@ stackdata_outside : is_row_placed both record row { stack = 72 ∷ 81 ∷ [] } �
 stackdata_outside = refl
 
 -- a row for each procedure, in ascending order of code
-row_missing : are_rows_placed deep.procs [] ≡ false
+row_missing : are_rows_placed deep.program.procs [] ≡ false
 row_missing = refl
 
 codes_fall : ascend_from 0
-    (record { code = 0x10010; frame = 48; pairs = []; stack = [] } ∷ record { code = 0x10000; frame = 32; pairs = []; stack = [] } ∷ []) ≡ false
+    (record (frame 48) { code = 0x10010 } ∷ record (frame 32) { code = 0x10000 } ∷ []) ≡ false
 codes_fall = refl

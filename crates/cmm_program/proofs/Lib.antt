@@ -1,10 +1,10 @@
 pub mod Places
+pub mod Samples
 pub mod Shared
 pub mod Settling
 pub mod Positions
 pub mod Leading
 pub mod LivePaths
-mod Notation
 mod Calls
 mod Yielding
 mod Erring

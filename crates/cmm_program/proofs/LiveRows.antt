@@ -5,8 +5,8 @@ use Rattle.cmm_program.specs.declared.procedure.Proc.{Proc}
 use Rattle.cmm_program.specs.Liveness.{is_live_at}
 use Rattle.cmm_program.specs.State.{Ended, Done}
 use Rattle.cmm_program.specs.Machine.{state_after}
-use Rattle.cmm_program.proofs.Notation.{opened, setting, no_client, seen, silent}
-use Rattle.cmm_program.proofs.Flowing.{looping, looping-main, looping-placed, through-main, own_cut, own_cut-main, own_cut-placed, arms-main}
+use Rattle.cmm_program.proofs.Samples.{opened, setting, no_client, seen, silent}
+use Rattle.cmm_program.proofs.Flowing.{looping, looping-main, through-main, own_cut, own_cut-main, arms-main}
 
 -- which of some variables are live at the site 0
 abbrev live : Proc → List ℕ → List Bool
@@ -17,7 +17,7 @@ looping_live : live looping-main (0 ∷ 1 ∷ 2 ∷ []) ≡ true ∷ false ∷ f
 unfolding opened
 looping_live = refl
 
-looping_runs : seen (state_after (setting looping looping-placed 64 no_client) [] 60) ≡ silent (Ended (Done 6)) []
+looping_runs : seen (state_after (setting looping 64 no_client) [] 60) ≡ silent (Ended (Done 6)) []
 unfolding opened
 looping_runs = refl
 
@@ -35,7 +35,7 @@ own_cut_live : live own_cut-main (0 ∷ 1 ∷ []) ≡ false ∷ true ∷ []
 unfolding opened
 own_cut_live = refl
 
-own_cut_runs : seen (state_after (setting own_cut own_cut-placed 64 no_client) [] 10) ≡ silent (Ended (Done 1)) []
+own_cut_runs : seen (state_after (setting own_cut 64 no_client) [] 10) ≡ silent (Ended (Done 1)) []
 unfolding opened
 own_cut_runs = refl
 

@@ -1,33 +1,27 @@
 -- The program that tests of placements are made with: it is in range.
-use Rattle.std.proofs.Common.{◌≡◌, ℕ, true, false, refl, sym, ap, ap₂, ◌∙◌, List, [], ◌∷◌, Result, Ok, Err, IfOk, arith}
+use Rattle.std.proofs.Common.{◌≡◌, refl, sym, ap, ap₂, ◌∙◌, [], ◌∷◌, Result, Ok, Err, IfOk, arith}
 use Rattle.std.proofs.lemmas.List.Elements.{All-nil, All-cons}
 use Rattle.std.proofs.lemmas.Option.{same_Some}
 use Rattle.std.specs.declared.alloc.AllocError.{AllocError}
 use Rattle.cmm_program.specs.declared.statement.Form.TheVariants as f
 use Rattle.cmm_program.specs.declared.procedure.Proc.{Proc}
-use Rattle.cmm_program.specs.declared.procedure.StackItem.{StackItem}
-use Rattle.cmm_program.specs.declared.procedure.Cont.{Cont}
 use Rattle.cmm_program.specs.declared.program.Program.{Program}
-use Rattle.cmm_program.specs.declared.statement.Statement.{Statement}
 use Rattle.cmm_program.specs.InRange.{IsInRange, IsProcInRange}
-use Rattle.cmm_program.proofs.Notation.{opened, is}
-
--- a procedure without a name, variables or call sites
-abbrev pub bare : ℕ → List StackItem → List Cont → List Statement → Proc
-bare tokens stack conts body = record { name = []; unit = 0; tokens = tokens; formals = 0; vars = []; stack = stack; conts = conts; sites = []; body = body }
+use Rattle.cmm_program.proofs.Samples.{opened, is, stack_label, stack_bytes, continuation, procedure, program}
 
 --     main() {}
 abbrev pub main_only : Proc
-main_only = bare 5 [] [] []
+main_only = procedure [] 5 0 0 [] []
 
 --     f() { stackdata { l: bits8[32]; } continuation j: continuation k: }
 abbrev pub framed : Proc
-framed =
-    bare 25 (record { align = 1; length = 0; label = true } ∷ record { align = 1; length = 32; label = false } ∷ [])
-    (record { params = [] } ∷ record { params = [] } ∷ []) (is 5 (f.Continuation 0) ∷ is 5 (f.Continuation 1) ∷ [])
+framed = record (procedure [] 25 0 0 [] (is 5 (f.Continuation 0) ∷ is 5 (f.Continuation 1) ∷ [])) {
+  stack = stack_label 1 ∷ stack_bytes 1 32 ∷ [];
+  conts = continuation [] ∷ continuation [] ∷ [];
+}
 
 abbrev pub program_of : Proc → Proc → Program
-program_of main f = record { procs = main ∷ f ∷ []; datums = []; globals = []; labels = []; main = 0 }
+program_of main f = program (main ∷ f ∷ [])
 
 abbrev pub two_procedures : Program
 two_procedures = program_of main_only framed

@@ -15,14 +15,13 @@ use Rattle.cmm_program.specs.declared.statement.Statement.{Statement}
 use Rattle.cmm_program.specs.Numbering.{are_each_once, body_numbers, label_number, continuation_number, site_number, body_tokens}
 use Rattle.cmm_program.specs.Tokens.{procedure_tokens}
 use Rattle.cmm_program.specs.Typing.{typed}
-use Rattle.cmm_program.proofs.Notation.{opened, num, is, arm}
+use Rattle.cmm_program.proofs.Samples.{opened, num, is, arm, procedure}
 use Rattle.cmm_program.proofs.Calls.{alternates, alternates-main, alternates-t, alternates-h, cutting, cutting-c, cutting-d, cutting-e, tail, tail-f}
 use Rattle.cmm_program.proofs.Yielding.{unwinding, unwinding-mid, checked, checked-main, changing, changing-main, divide, divide-put, divide-main, divide-divide}
 
 -- a procedure without declarations
 abbrev bare : ℕ → List Statement → Proc
-bare tokens body =
-    record { name = []; unit = 0; tokens = tokens; formals = 0; vars = []; stack = []; conts = []; sites = []; body = body }
+bare tokens body = procedure [] tokens 0 0 [] body
 
 -- the statements, sites, continuations and counts of a procedure
 abbrev keeps_rules : Program → Proc → Bool
@@ -30,88 +29,88 @@ keeps_rules p q =
     is_body_in p q (f.Span q.body) && list_all (is_site p q) q.sites && list_all (is_continuation p q) q.conts
     && nat_le (procedure_tokens q) q.tokens && nat_le (body_tokens q) q.tokens
 
-alternates_main : keeps_rules alternates alternates-main ≡ true
+alternates_main : keeps_rules alternates.program alternates-main ≡ true
 unfolding opened
 alternates_main = refl
 
-alternates_t : keeps_rules alternates alternates-t ≡ true
+alternates_t : keeps_rules alternates.program alternates-t ≡ true
 unfolding opened
 alternates_t = refl
 
-alternates_h : keeps_rules alternates alternates-h ≡ true
+alternates_h : keeps_rules alternates.program alternates-h ≡ true
 unfolding opened
 alternates_h = refl
 
-cutting_c : keeps_rules cutting cutting-c ≡ true
+cutting_c : keeps_rules cutting.program cutting-c ≡ true
 unfolding opened
 cutting_c = refl
 
-cutting_d : keeps_rules cutting cutting-d ≡ true
+cutting_d : keeps_rules cutting.program cutting-d ≡ true
 unfolding opened
 cutting_d = refl
 
-cutting_e : keeps_rules cutting cutting-e ≡ true
+cutting_e : keeps_rules cutting.program cutting-e ≡ true
 unfolding opened
 cutting_e = refl
 
-tail_f : keeps_rules tail tail-f ≡ true
+tail_f : keeps_rules tail.program tail-f ≡ true
 unfolding opened
 tail_f = refl
 
-unwinding_mid : keeps_rules unwinding unwinding-mid ≡ true
+unwinding_mid : keeps_rules unwinding.program unwinding-mid ≡ true
 unfolding opened
 unwinding_mid = refl
 
-checked_main : keeps_rules checked checked-main ≡ true
+checked_main : keeps_rules checked.program checked-main ≡ true
 unfolding opened
 checked_main = refl
 
-changing_main : keeps_rules changing changing-main ≡ true
+changing_main : keeps_rules changing.program changing-main ≡ true
 unfolding opened
 changing_main = refl
 
-divide_put : keeps_rules divide divide-put ≡ true
+divide_put : keeps_rules divide.program divide-put ≡ true
 unfolding opened
 divide_put = refl
 
-divide_main : keeps_rules divide divide-main ≡ true
+divide_main : keeps_rules divide.program divide-main ≡ true
 unfolding opened
 divide_main = refl
 
-divide_divide : keeps_rules divide divide-divide ≡ true
+divide_divide : keeps_rules divide.program divide-divide ≡ true
 unfolding opened
 divide_divide = refl
 
 -- `f() { ; }`, with one token more counted to the statement than it needs, as the whole leaves room for it
-spare_token : keeps_rules tail (bare 6 (is 2 f.Empty ∷ [])) ≡ true
+spare_token : keeps_rules tail.program (bare 6 (is 2 f.Empty ∷ [])) ≡ true
 unfolding opened
 spare_token = refl
 
 -- but not where the statements' counts come to more than the procedure's, nor where a statement has too few
-too_many_counted : keeps_rules tail (bare 6 (is 7 f.Empty ∷ [])) ≡ false
+too_many_counted : keeps_rules tail.program (bare 6 (is 7 f.Empty ∷ [])) ≡ false
 unfolding opened
 too_many_counted = refl
 
-too_few_counted : keeps_rules tail (bare 6 (is 0 f.Empty ∷ [])) ≡ false
+too_few_counted : keeps_rules tail.program (bare 6 (is 0 f.Empty ∷ [])) ≡ false
 unfolding opened
 too_few_counted = refl
 
 -- nothing assigned, and a case without a range
-nothing_assigned : is_form tail tail-f (f.Assign [] []) ≡ false
+nothing_assigned : is_form tail.program tail-f (f.Assign [] []) ≡ false
 unfolding opened
 nothing_assigned = refl
 
-no_range : is_form tail tail-f (f.Switch (num 1) (arm (In []) [] ∷ [])) ≡ false
+no_range : is_form tail.program tail-f (f.Switch (num 1) (arm (In []) [] ∷ [])) ≡ false
 unfolding opened
 no_range = refl
 
 -- a procedure with a token less than its text has
-too_few_tokens : keeps_rules tail record tail-f { tokens = 25 } ≡ false
+too_few_tokens : keeps_rules tail.program record tail-f { tokens = 25 } ≡ false
 unfolding opened
 too_few_tokens = refl
 
 -- a sum of two widths
-widths_differ : typed tail tail-f (e.Binary Add W64 (num 1) (e.Known (Number 1 W8))) ≡ None
+widths_differ : typed tail.program tail-f (e.Binary Add W64 (num 1) (e.Known (Number 1 W8))) ≡ None
 unfolding opened
 widths_differ = refl
 

@@ -1,12 +1,11 @@
 -- Worked rows: the counts of shortest texts, which were counted in the texts above them.
-use Rattle.std.proofs.Common.{◌≡◌, ℕ, true, false, refl, List, [], ◌∷◌, Some, None}
+use Rattle.std.proofs.Common.{◌≡◌, ℕ, true, false, refl, List, [], ◌∷◌}
 use Rattle.std.specs.Prelude.{codes}
 use Rattle.cmm_words.specs.declared.width.Width.TheVariants.{W8, W32, W64}
 use Rattle.cmm_words.specs.declared.operators.Op1.TheVariants.{Neg, Com}
-use Rattle.cmm_words.specs.declared.operators.Op2.{Op2}
 use Rattle.cmm_words.specs.declared.operators.Op2.TheVariants.{Add, Sub, Mul, And, Shl, Shra}
 use Rattle.cmm_words.specs.declared.operators.Cmp.TheVariants.{Eq, Lt, Ltu}
-use Rattle.cmm_words.specs.declared.constant.Constant.TheVariants.{Number, Address}
+use Rattle.cmm_words.specs.declared.constant.Constant.TheVariants.{Address}
 use Rattle.cmm_program.specs.declared.expression.Expression.{Expression}
 use Rattle.cmm_program.specs.declared.expression.Expression.TheVariants as e
 use Rattle.cmm_program.specs.declared.expression.Condition.TheVariants as c
@@ -15,18 +14,15 @@ use Rattle.cmm_program.specs.declared.statement.Case.TheVariants.{In, Default}
 use Rattle.cmm_program.specs.declared.statement.Lvalue.TheVariants as lvalue
 use Rattle.cmm_program.specs.declared.procedure.Target.TheVariants.{Variable}
 use Rattle.cmm_program.specs.declared.procedure.Proc.{Proc}
-use Rattle.cmm_program.specs.ExpressionTokens.{alone, callee, expression_tokens, condition_tokens}
+use Rattle.cmm_program.specs.ExpressionTokens.{alone, callee, expression_tokens}
 use Rattle.cmm_program.specs.Tokens.{own_tokens, heading_tokens}
-use Rattle.cmm_program.proofs.Notation.{opened, num, is, arm, plain, variable}
+use Rattle.cmm_program.proofs.Samples.{opened, num, local, op, test, is, from_to, arm, plain, variable, stack_label, stack_bytes, procedure}
 
 abbrev a : Expression
-a = e.Variable 0 W64
+a = local 0
 
 abbrev b : Expression
-b = e.Variable 1 W64
-
-abbrev op : Op2 → Expression → Expression → Expression
-op operator x y = e.Binary operator W64 x y
+b = local 1
 
 -- the counts of an expression that stands alone, and of one that is called
 abbrev counts : Expression → List ℕ
@@ -98,36 +94,26 @@ low_bits = refl
 
 -- a procedure of two variables, with nothing else
 abbrev bare : Proc
-bare = record {
-  name = codes "f";
-  unit = 0;
-  tokens = 40;
-  formals = 0;
-  vars = plain W64 ∷ plain W64 ∷ [];
-  stack = [];
-  conts = [];
-  sites = [];
-  body = [];
-}
+bare = procedure (codes "f") 40 0 2 [] []
 
 --     if %lt(a, a) { }
-signed_comparison : own_tokens bare (f.If (c.Compare Lt W64 a a) [] []) ≡ 9
+signed_comparison : own_tokens bare (f.If (test Lt a a) [] []) ≡ 9
 unfolding opened
 signed_comparison = refl
 
 --     if %not(%conjoin(a < b, a == b)) { }
-nested_condition : own_tokens bare (f.If (c.Not (c.Both (c.Compare Ltu W64 a b) (c.Compare Eq W64 a b))) [] []) ≡ 16
+nested_condition : own_tokens bare (f.If (c.Not (c.Both (test Ltu a b) (test Eq a b))) [] []) ≡ 16
 unfolding opened
 nested_condition = refl
 
 --     if a == b { } else if a == b { }     the inner one apart
-else_if : own_tokens bare (f.If (c.Compare Eq W64 a b) [] (is 6 (f.If (c.Compare Eq W64 a b) [] []) ∷ [])) ≡ 7
+else_if : own_tokens bare (f.If (test Eq a b) [] (is 6 (f.If (test Eq a b) [] []) ∷ [])) ≡ 7
 unfolding opened
 else_if = refl
 
 --     switch a { case 1, 3 .. 4: { } default: { } }
 switch : own_tokens bare (f.Switch a (
-    arm (In (record { from = 1; to = 1 } ∷ record { from = 3; to = 4 } ∷ [])) [] ∷ arm Default [] ∷ [])) ≡ 17
+    arm (In (from_to 1 1 ∷ from_to 3 4 ∷ [])) [] ∷ arm Default [] ∷ [])) ≡ 17
 unfolding opened
 switch = refl
 
@@ -151,9 +137,7 @@ jump = refl
 declarations : heading_tokens record bare {
   formals = 2;
   vars = plain W64 ∷ variable W64 (codes "kind") false ∷ plain W64 ∷ plain W64 ∷ variable W32 [] true ∷ [];
-  stack =
-      record { align = 8; length = 0; label = true } ∷ record { align = 8; length = 8; label = false }
-      ∷ record { align = 8; length = 0; label = false } ∷ record { align = 1; length = 5; label = false } ∷ [];
+  stack = stack_label 8 ∷ stack_bytes 8 8 ∷ stack_bytes 8 0 ∷ stack_bytes 1 5 ∷ [];
 } ≡ 35
 unfolding opened
 declarations = refl

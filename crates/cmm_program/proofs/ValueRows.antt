@@ -1,7 +1,6 @@
 -- Worked rows: what expressions and conditions give.
 use Rattle.std.proofs.Common.{◌≡◌, ℕ, Bool, true, false, refl, Ok, Err}
 use Rattle.std.specs.Prelude.{◌-◌, ◌^◌}
-use Rattle.cmm_words.specs.declared.width.Width.{Width}
 use Rattle.cmm_words.specs.declared.width.Width.TheVariants.{W8, W16, W64}
 use Rattle.cmm_words.specs.declared.operators.Op2.TheVariants.{Divu}
 use Rattle.cmm_words.specs.declared.operators.Cmp.TheVariants.{Eq, Lt, Ltu}
@@ -14,7 +13,7 @@ use Rattle.cmm_program.specs.declared.expression.Condition.TheVariants as c
 use Rattle.cmm_program.specs.Errors.{Tried, ZeroDivisor}
 use Rattle.cmm_program.specs.Memory.{Outside}
 use Rattle.cmm_program.specs.Values.{Reads, value_of, test_of}
-use Rattle.cmm_program.proofs.Notation.{opened}
+use Rattle.cmm_program.proofs.Samples.{opened}
 
 -- numbers, and no memory
 abbrev number_known : Constant → ℕ

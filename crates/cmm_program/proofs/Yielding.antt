@@ -1,72 +1,32 @@
 -- Programs of worked rows, resolved, each below its text: those that yield.
-use Rattle.std.proofs.Common.{true, false, [], ◌∷◌, Some, None}
+use Rattle.std.proofs.Common.{true, false, [], ◌∷◌, map}
 use Rattle.std.specs.Prelude.{codes}
 use Rattle.cmm_words.specs.declared.width.Width.TheVariants.{W8, W64}
 use Rattle.cmm_words.specs.declared.operators.Op2.TheVariants.{Add, Sub, Divu}
 use Rattle.cmm_words.specs.declared.operators.Cmp.TheVariants.{Eq}
-use Rattle.cmm_words.specs.declared.constant.Constant.TheVariants.{Number, Code, Address}
+use Rattle.cmm_words.specs.declared.constant.Constant.TheVariants.{Number, Address}
 use Rattle.cmm_program.specs.declared.expression.Expression.TheVariants as e
-use Rattle.cmm_program.specs.declared.expression.Condition.TheVariants as c
 use Rattle.cmm_program.specs.declared.statement.Form.TheVariants as f
 use Rattle.cmm_program.specs.declared.statement.Lvalue.TheVariants as lvalue
 use Rattle.cmm_program.specs.declared.procedure.Target.TheVariants.{Variable}
 use Rattle.cmm_program.specs.declared.procedure.Proc.{Proc}
-use Rattle.cmm_program.specs.declared.program.Program.{Program}
-use Rattle.cmm_program.specs.declared.placement.Placement.{Placement}
-use Rattle.cmm_program.proofs.Notation.{num, is, variable, plain}
+use Rattle.cmm_program.proofs.Samples.{num, local, code, address, op, test, is, assign, assign_all, plain, variable, continuation, call_site, yield_site, procedure, datum, data_label, program, frame, frame_with, Sample, sample, alone}
 
 -- ---- spans inside one another
 --     main() { bits64 r; span 1 10 { span 1 11 { span 2 20 { r = q(); } } } r = q(); return (r); }
 --     q() { yield(0); return (0); }
-abbrev pub spans-main : Proc
-spans-main = record {
-  name = codes "main";
-  unit = 0;
-  tokens = 40;
-  formals = 0;
-  vars = (plain W64 ∷ []);
-  stack = [];
-  conts = [];
-  sites = (record { results = (Variable 0 W64 ∷ []); returns = []; unwinds = []; cuts = []; aborts = false; never = false; yield_values = None; spans = ((1, Number 11 W64) ∷ (2, Number 20 W64) ∷ []) } ∷ record { results = (Variable 0 W64 ∷ []); returns = []; unwinds = []; cuts = []; aborts = false; never = false; yield_values = None; spans = [] } ∷ []);
-  body =
-      is 5 (f.Span (is 5 (f.Span (is 5 (f.Span (is 6 (f.Call 0 (e.Known (Code 1 0)) []) ∷ [])) ∷ [])) ∷ []))
-      ∷ is 6 (f.Call 1 (e.Known (Code 1 0)) [])
-      ∷ is 5 (f.Return 0 0 ((e.Variable 0 W64) ∷ []))
-      ∷ [];
-}
+abbrev spans-main : Proc
+spans-main = procedure (codes "main") 40 0 1 (
+    record (call_site (0 ∷ [])) { spans = (1, Number 11 W64) ∷ (2, Number 20 W64) ∷ [] } ∷ call_site (0 ∷ []) ∷ []) (
+    is 5 (f.Span (is 5 (f.Span (is 5 (f.Span (is 6 (f.Call 0 (code 1) []) ∷ [])) ∷ [])) ∷ []))
+    ∷ is 6 (f.Call 1 (code 1) [])
+    ∷ is 5 (f.Return 0 0 (local 0 ∷ [])) ∷ [])
 
-abbrev pub spans-q : Proc
-spans-q = record {
-  name = codes "q";
-  unit = 0;
-  tokens = 15;
-  formals = 0;
-  vars = [];
-  stack = [];
-  conts = [];
-  sites = (record { results = []; returns = []; unwinds = []; cuts = []; aborts = false; never = false; yield_values = Some 1; spans = [] } ∷ []);
-  body =
-      is 5 (f.Yield 0 ((num 0) ∷ []))
-      ∷ is 5 (f.Return 0 0 ((num 0) ∷ []))
-      ∷ [];
-}
-
-abbrev pub spans : Program
-spans = record {
-  procs = (spans-main ∷ spans-q ∷ []);
-  datums = [];
-  globals = [];
-  labels = [];
-  main = 0;
-}
-
-abbrev pub spans-placed : Placement
-spans-placed = record {
-  rows =
-      record { code = 0x10000; frame = 16; pairs = []; stack = [] }
-      ∷ record { code = 0x11000; frame = 16; pairs = []; stack = [] }
-      ∷ [];
-}
+abbrev pub spans : Sample
+spans = sample (program (
+    spans-main
+    ∷ procedure (codes "q") 15 0 0 (yield_site [] 1 ∷ []) (is 5 (f.Yield 0 (num 0 ∷ [])) ∷ is 5 (f.Return 0 0 (num 0 ∷ [])) ∷ [])
+    ∷ [])) (frame 16 ∷ frame 16 ∷ [])
 
 -- ---- an unwind exit
 --     main() { bits64 y, z; y = 5; z = mid(y); return (z + y); }
@@ -79,111 +39,42 @@ spans-placed = record {
 --       continuation k(d): return (u + d);
 --     }
 --     leaf(bits64 a) { yield(7); return (a); }
-abbrev pub unwinding-main : Proc
-unwinding-main = record {
-  name = codes "main";
-  unit = 0;
-  tokens = 28;
-  formals = 0;
-  vars = (plain W64 ∷ plain W64 ∷ []);
-  stack = [];
-  conts = [];
-  sites = (record { results = (Variable 1 W64 ∷ []); returns = []; unwinds = []; cuts = []; aborts = false; never = false; yield_values = None; spans = [] } ∷ []);
-  body =
-      is 4 (f.Assign (lvalue.Target (Variable 0 W64) ∷ []) ((num 5) ∷ []))
-      ∷ is 7 (f.Call 0 (e.Known (Code 1 0)) ((e.Variable 0 W64) ∷ []))
-      ∷ is 7 (f.Return 0 0 ((e.Binary Add W64 (e.Variable 1 W64) (e.Variable 0 W64)) ∷ []))
-      ∷ [];
-}
+abbrev unwinding-main : Proc
+unwinding-main = procedure (codes "main") 28 0 2 (call_site (1 ∷ []) ∷ []) (
+    is 4 (assign 0 (num 5))
+    ∷ is 7 (f.Call 0 (code 1) (local 0 ∷ []))
+    ∷ is 7 (f.Return 0 0 (op Add (local 1) (local 0) ∷ [])) ∷ [])
 
 abbrev pub unwinding-mid : Proc
-unwinding-mid = record {
-  name = codes "mid";
-  unit = 0;
-  tokens = 56;
-  formals = 1;
-  vars = (variable W64 (codes "count") false ∷ plain W64 ∷ plain W64 ∷ plain W64 ∷ []);
-  stack = [];
-  conts = (record { params = (3 ∷ []) } ∷ []);
-  sites = (record { results = (Variable 0 W64 ∷ []); returns = []; unwinds = (0 ∷ []); cuts = []; aborts = false; never = false; yield_values = None; spans = [] } ∷ []);
-  body =
-      is 4 (f.Assign (lvalue.Target (Variable 3 W64) ∷ []) ((e.Variable 0 W64) ∷ []))
-      ∷ is 6 (f.Assign (lvalue.Target (Variable 2 W64) ∷ []) ((e.Binary Add W64 (e.Variable 0 W64) (num 2)) ∷ []))
-      ∷ is 11 (f.Call 0 (e.Known (Code 2 0)) ((e.Variable 3 W64) ∷ []))
-      ∷ is 7 (f.Return 0 0 ((e.Binary Add W64 (e.Variable 0 W64) (e.Variable 1 W64)) ∷ []))
-      ∷ is 6 (f.Continuation 0)
-      ∷ is 7 (f.Return 0 0 ((e.Binary Add W64 (e.Variable 2 W64) (e.Variable 3 W64)) ∷ []))
-      ∷ [];
-}
+unwinding-mid = record (procedure (codes "mid") 56 1 0 (record (call_site (0 ∷ [])) { unwinds = 0 ∷ [] } ∷ []) (
+    is 4 (assign 3 (local 0))
+    ∷ is 6 (assign 2 (op Add (local 0) (num 2)))
+    ∷ is 11 (f.Call 0 (code 2) (local 3 ∷ []))
+    ∷ is 7 (f.Return 0 0 (op Add (local 0) (local 1) ∷ []))
+    ∷ is 6 (f.Continuation 0)
+    ∷ is 7 (f.Return 0 0 (op Add (local 2) (local 3) ∷ [])) ∷ [])) {
+      vars = variable W64 (codes "count") false ∷ plain W64 ∷ plain W64 ∷ plain W64 ∷ [];
+      conts = continuation (3 ∷ []) ∷ [];
+    }
 
-abbrev pub unwinding-leaf : Proc
-unwinding-leaf = record {
-  name = codes "leaf";
-  unit = 0;
-  tokens = 17;
-  formals = 1;
-  vars = (plain W64 ∷ []);
-  stack = [];
-  conts = [];
-  sites = (record { results = []; returns = []; unwinds = []; cuts = []; aborts = false; never = false; yield_values = Some 1; spans = [] } ∷ []);
-  body =
-      is 5 (f.Yield 0 ((num 7) ∷ []))
-      ∷ is 5 (f.Return 0 0 ((e.Variable 0 W64) ∷ []))
-      ∷ [];
-}
+abbrev unwinding-leaf : Proc
+unwinding-leaf = procedure (codes "leaf") 17 1 1 (yield_site [] 1 ∷ []) (
+    is 5 (f.Yield 0 (num 7 ∷ [])) ∷ is 5 (f.Return 0 0 (local 0 ∷ [])) ∷ [])
 
-abbrev pub unwinding : Program
-unwinding = record {
-  procs = (unwinding-main ∷ unwinding-mid ∷ unwinding-leaf ∷ []);
-  datums = [];
-  globals = [];
-  labels = [];
-  main = 0;
-}
-
-abbrev pub unwinding-placed : Placement
-unwinding-placed = record {
-  rows =
-      record { code = 0x10000; frame = 16; pairs = []; stack = [] }
-      ∷ record { code = 0x11000; frame = 32; pairs = (0 ∷ []); stack = [] }
-      ∷ record { code = 0x12000; frame = 16; pairs = []; stack = [] }
-      ∷ [];
-}
+abbrev pub unwinding : Sample
+unwinding = sample (program (unwinding-main ∷ unwinding-mid ∷ unwinding-leaf ∷ []))
+    (frame 16 ∷ frame_with 32 (0 ∷ []) [] ∷ frame 16 ∷ [])
 
 -- ---- a checked operator
 --     main() { bits64 a, q; a = 10; q = %%divu(a, 0); return (q + a); }
 abbrev pub checked-main : Proc
-checked-main = record {
-  name = codes "main";
-  unit = 0;
-  tokens = 30;
-  formals = 0;
-  vars = (plain W64 ∷ plain W64 ∷ []);
-  stack = [];
-  conts = [];
-  sites = (record { results = (Variable 1 W64 ∷ []); returns = []; unwinds = []; cuts = []; aborts = false; never = false; yield_values = Some 1; spans = [] } ∷ []);
-  body =
-      is 4 (f.Assign (lvalue.Target (Variable 0 W64) ∷ []) ((num 10) ∷ []))
-      ∷ is 9 (f.Checked 0 Divu W64 (e.Variable 0 W64) (num 0))
-      ∷ is 7 (f.Return 0 0 ((e.Binary Add W64 (e.Variable 1 W64) (e.Variable 0 W64)) ∷ []))
-      ∷ [];
-}
+checked-main = procedure (codes "main") 30 0 2 (yield_site (1 ∷ []) 1 ∷ []) (
+    is 4 (assign 0 (num 10))
+    ∷ is 9 (f.Checked 0 Divu W64 (local 0) (num 0))
+    ∷ is 7 (f.Return 0 0 (op Add (local 1) (local 0) ∷ [])) ∷ [])
 
-abbrev pub checked : Program
-checked = record {
-  procs = (checked-main ∷ []);
-  datums = [];
-  globals = [];
-  labels = [];
-  main = 0;
-}
-
-abbrev pub checked-placed : Placement
-checked-placed = record {
-  rows =
-      record { code = 0x10000; frame = 16; pairs = []; stack = [] }
-      ∷ [];
-}
+abbrev pub checked : Sample
+checked = alone checked-main (frame 16)
 
 -- ---- variables that the client may not change as it likes
 --     main() {
@@ -195,37 +86,15 @@ checked-placed = record {
 --       return (%zx64(x) + y + z);
 --     }
 abbrev pub changing-main : Proc
-changing-main = record {
-  name = codes "main";
-  unit = 0;
-  tokens = 44;
-  formals = 0;
-  vars = (plain W8 ∷ variable W64 (codes "") true ∷ plain W64 ∷ []);
-  stack = [];
-  conts = [];
-  sites = (record { results = (Variable 2 W64 ∷ []); returns = []; unwinds = []; cuts = []; aborts = false; never = false; yield_values = Some 1; spans = [] } ∷ []);
-  body =
-      is 10 (f.Assign (lvalue.Target (Variable 0 W8) ∷ lvalue.Target (Variable 1 W64) ∷ []) ((e.Known (Number 1 W8)) ∷ (num 2) ∷ []))
-      ∷ is 7 (f.Yield 0 ((num 3) ∷ []))
-      ∷ is 12 (f.Return 0 0 ((e.Binary Add W64 (e.Binary Add W64 (e.ZeroExtend W8 W64 (e.Variable 0 W8)) (e.Variable 1 W64)) (e.Variable 2 W64)) ∷ []))
-      ∷ [];
-}
+changing-main = record (procedure (codes "main") 44 0 0 (yield_site (2 ∷ []) 1 ∷ []) (
+    is 10 (f.Assign (lvalue.Target (Variable 0 W8) ∷ lvalue.Target (Variable 1 W64) ∷ []) (e.Known (Number 1 W8) ∷ num 2 ∷ []))
+    ∷ is 7 (f.Yield 0 (num 3 ∷ []))
+    ∷ is 12 (f.Return 0 0 (op Add (op Add (e.ZeroExtend W8 W64 (e.Variable 0 W8)) (local 1)) (local 2) ∷ [])) ∷ [])) {
+      vars = plain W8 ∷ variable W64 (codes "") true ∷ plain W64 ∷ [];
+    }
 
-abbrev pub changing : Program
-changing = record {
-  procs = (changing-main ∷ []);
-  datums = [];
-  globals = [];
-  labels = [];
-  main = 0;
-}
-
-abbrev pub changing-placed : Placement
-changing-placed = record {
-  rows =
-      record { code = 0x10000; frame = 16; pairs = []; stack = [] }
-      ∷ [];
-}
+abbrev pub changing : Sample
+changing = alone changing-main (frame 16)
 
 -- ---- two units, the second with a division
 --     export main, tag;
@@ -247,73 +116,32 @@ changing-placed = record {
 --     export divide;
 --     divide(bits64 a, bits64 b) { if b == 0 { yield(100, 3) never returns; } return (a / b); }
 abbrev pub divide-put : Proc
-divide-put = record {
-  name = codes "put";
-  unit = 0;
-  tokens = 51;
-  formals = 2;
-  vars = (variable W64 (codes "address") false ∷ plain W64 ∷ []);
-  stack = [];
-  conts = [];
-  sites = [];
-  body =
-      is 2 (f.Label 0)
-      ∷ is 6 (f.If (c.Compare Eq W64 (e.Variable 1 W64) (num 0)) (is 4 (f.Return 0 0 []) ∷ []) [])
-      ∷ is 13 (f.PutByte (e.ZeroExtend W8 W64 (e.Load W8 1 (e.Variable 0 W64))))
-      ∷ is 12 (f.Assign (lvalue.Target (Variable 0 W64) ∷ lvalue.Target (Variable 1 W64) ∷ []) ((e.Binary Add W64 (e.Variable 0 W64) (num 1)) ∷ (e.Binary Sub W64 (e.Variable 1 W64) (num 1)) ∷ []))
-      ∷ is 3 (f.Goto 0)
-      ∷ [];
-}
+divide-put = record (procedure (codes "put") 51 2 0 [] (
+    is 2 (f.Label 0)
+    ∷ is 6 (f.If (test Eq (local 1) (num 0)) (is 4 (f.Return 0 0 []) ∷ []) [])
+    ∷ is 13 (f.PutByte (e.ZeroExtend W8 W64 (e.Load W8 1 (local 0))))
+    ∷ is 12 (assign_all (0 ∷ 1 ∷ []) (op Add (local 0) (num 1) ∷ op Sub (local 1) (num 1) ∷ []))
+    ∷ is 3 (f.Goto 0) ∷ [])) { vars = variable W64 (codes "address") false ∷ plain W64 ∷ [] }
 
 abbrev pub divide-main : Proc
-divide-main = record {
-  name = codes "main";
-  unit = 0;
-  tokens = 54;
-  formals = 0;
-  vars = (plain W64 ∷ plain W64 ∷ []);
-  stack = [];
-  conts = (record { params = (1 ∷ []) } ∷ []);
-  sites = (record { results = (Variable 0 W64 ∷ []); returns = []; unwinds = (0 ∷ []); cuts = []; aborts = true; never = false; yield_values = None; spans = ((1, Address 1 0) ∷ []) } ∷ record { results = []; returns = []; unwinds = []; cuts = []; aborts = false; never = false; yield_values = None; spans = [] } ∷ []);
-  body =
-      is 5 (f.Span (is 16 (f.Call 0 (e.Known (Code 2 0)) ((num 12) ∷ (num 0) ∷ [])) ∷ []))
-      ∷ is 5 (f.Return 0 0 ((e.Variable 0 W64) ∷ []))
-      ∷ is 6 (f.Continuation 0)
-      ∷ is 7 (f.Call 1 (e.Known (Code 0 0)) ((e.Known (Address 0 0)) ∷ (num 4) ∷ []))
-      ∷ is 5 (f.Return 0 0 ((e.Variable 1 W64) ∷ []))
-      ∷ [];
-}
+divide-main = record (procedure (codes "main") 54 0 2 (
+    record (call_site (0 ∷ [])) { unwinds = 0 ∷ []; aborts = true; spans = (1, Address 1 0) ∷ [] } ∷ call_site [] ∷ []) (
+    is 5 (f.Span (is 16 (f.Call 0 (code 2) (num 12 ∷ num 0 ∷ [])) ∷ []))
+    ∷ is 5 (f.Return 0 0 (local 0 ∷ []))
+    ∷ is 6 (f.Continuation 0)
+    ∷ is 7 (f.Call 1 (code 0) (address 0 ∷ num 4 ∷ []))
+    ∷ is 5 (f.Return 0 0 (local 1 ∷ [])) ∷ [])) { conts = continuation (1 ∷ []) ∷ [] }
 
 abbrev pub divide-divide : Proc
-divide-divide = record {
-  name = codes "divide";
-  unit = 1;
-  tokens = 32;
-  formals = 2;
-  vars = (plain W64 ∷ plain W64 ∷ []);
-  stack = [];
-  conts = [];
-  sites = (record { results = []; returns = []; unwinds = []; cuts = []; aborts = false; never = true; yield_values = Some 2; spans = [] } ∷ []);
-  body =
-      is 6 (f.If (c.Compare Eq W64 (e.Variable 1 W64) (num 0)) (is 9 (f.Yield 0 ((num 100) ∷ (num 3) ∷ [])) ∷ []) [])
-      ∷ is 7 (f.Return 0 0 ((e.Binary Divu W64 (e.Variable 0 W64) (e.Variable 1 W64)) ∷ []))
-      ∷ [];
-}
+divide-divide = record (procedure (codes "divide") 32 2 2 (record (yield_site [] 2) { never = true } ∷ []) (
+    is 6 (f.If (test Eq (local 1) (num 0)) (is 9 (f.Yield 0 (num 100 ∷ num 3 ∷ [])) ∷ []) [])
+    ∷ is 7 (f.Return 0 0 (op Divu (local 0) (local 1) ∷ [])) ∷ [])) { unit = 1 }
 
-abbrev pub divide : Program
-divide = record {
-  procs = (divide-put ∷ divide-main ∷ divide-divide ∷ []);
-  datums = (record { align = 1; length = 4; width = W8; values = (Number 98 W8 ∷ Number 97 W8 ∷ Number 100 W8 ∷ Number 10 W8 ∷ []) } ∷ record { align = 8; length = 0; width = W8; values = [] } ∷ record { align = 8; length = 16; width = W64; values = (Number 3 W64 ∷ Number 5 W64 ∷ []) } ∷ []);
-  globals = [];
-  labels = (record { name = codes "msg"; links = []; datum = 0; at_end = false } ∷ record { name = codes "tag"; links = (codes "tag" ∷ []); datum = 2; at_end = false } ∷ []);
+abbrev pub divide : Sample
+divide = sample (record (program (divide-put ∷ divide-main ∷ divide-divide ∷ [])) {
   main = 1;
-}
-
-abbrev pub divide-placed : Placement
-divide-placed = record {
-  rows =
-      record { code = 0x10000; frame = 16; pairs = []; stack = [] }
-      ∷ record { code = 0x11000; frame = 32; pairs = (0 ∷ []); stack = [] }
-      ∷ record { code = 0x12000; frame = 16; pairs = []; stack = [] }
-      ∷ [];
-}
+  datums =
+      datum 1 4 W8 (map (λ byte. Number byte W8) (codes "bad\n")) ∷ datum 8 0 W8 []
+      ∷ datum 8 16 W64 (Number 3 W64 ∷ Number 5 W64 ∷ []) ∷ [];
+  labels = data_label (codes "msg") 0 ∷ record (data_label (codes "tag") 2) { links = codes "tag" ∷ [] } ∷ [];
+}) (frame 16 ∷ frame_with 32 (0 ∷ []) [] ∷ frame 16 ∷ [])
