@@ -1,7 +1,8 @@
 -- In graphs in range no activation stands at an Entry or a CopyIn: a node leads only to nodes where a run may stand, and so do
 -- Entries and CopyIns, behind which landings are done.
-use Rattle.std.proofs.Common.{◌≡◌, ℕ, zero, suc, ◌&&◌, nat_lt, Bool, false, List, slice_get, All, IsTrue, Option, Some, None, refl, arith}
+use Rattle.std.proofs.Common.{◌≡◌, ℕ, zero, suc, ◌&&◌, nat_lt, Bool, true, false, List, slice_get, All, IsTrue, Option, Some, None, refl, arith}
 use Rattle.std.specs.List.{list_all}
+use Rattle.std.proofs.lemmas.List.Elements.{All-from_recursion}
 use Rattle.cmm_program.specs.Errors.{with_some}
 use Rattle.cmm_graph.specs.declared.number.NodeId.{NodeId}
 use Rattle.cmm_graph.specs.declared.node.Arm.{Arm}
@@ -16,8 +17,12 @@ use Rattle.cmm_graph.specs.Ranges.{IsValid, are_exits, is_argument, is_arm, is_c
 use Rattle.cmm_graph.specs.Acting.{led}
 use Rattle.cmm_graph.specs.GraphControl.{Position, graph_control, in_graph, kind_at, kind_here, behind, normal_of, moved_to, landed_at}
 use Rattle.cmm_graph.specs.Laws.{RunsStandAtSteps}
-use Rattle.cmm_graph.proofs.Keeping.{IsKept, in_runs}
-use Rattle.cmm_graph.proofs.Lists.{both_hold, list_all_get, all_get, all_of_each}
+use Rattle.cmm_program.proofs.Shared.{IsKept, in_runs, list_all_get, all_get}
+
+-- both of two tests that hold together
+both_hold : (a b : Bool) → IsTrue (a && b) → IsTrue a × IsTrue b
+both_hold true b holds = (refl, holds)
+both_hold false b holds = grind (arith, holds)
 
 -- ---- in one graph
 
@@ -190,4 +195,4 @@ module _ (graphs : List Graph) (valid : All IsValid graphs) where
 
 -- so in each state of a run
 pub runs_stand_at_steps : RunsStandAtSteps
-runs_stand_at_steps graphs s input m valid = all_of_each _ _ (in_runs (kept graphs valid) s input m)
+runs_stand_at_steps graphs s input m valid = All-from_recursion _ _ (in_runs (kept graphs valid) s input m)

@@ -10,11 +10,12 @@ use Rattle.cmm_laws.proofs.FittingStart.{data_cells, parts_inside}
 use Rattle.cmm_laws.proofs.FittingStores.{with_bytes_fit, IsYoungest, Leaves, Works, assigned_works, reads_fit, variable_fits, with_site_keeps}
 use Rattle.cmm_laws.proofs.Growing.{step_leads}
 use Rattle.cmm_laws.proofs.Kept.{KeptBy, kept_in, keeping, kept_after, kept_ok}
-use Rattle.cmm_laws.proofs.Lists.{all_get, some_get, zip_zeros}
+use Rattle.cmm_program.proofs.Shared.{all_get}
+use Rattle.cmm_laws.proofs.Lists.{some_get, zip_zeros}
 use Rattle.cmm_laws.proofs.Steps.{kept_by_steps, landed_has, start_keeps, step_has}
 use Rattle.cmm_laws.proofs.StoredWords.{bytes_of_number}
 use Rattle.cmm_laws.specs.Fitting.{StateFits, MemoryFits, AreActivations, Demand, ExpressionsFit, IsByte, IsSound, IsStatementOf, IsSuspended, RoomFits, Youngest, ArePassed, IsSetUp, StatesAreSound}
-use Rattle.cmm_laws.specs.Runs.{Adds, Traffic, traffic, yielded}
+use Rattle.cmm_laws.specs.Runs.{Adds, Traffic, traffic}
 use Rattle.cmm_program.specs.Acts.{evaluated}
 use Rattle.cmm_program.specs.Orders as order
 use Rattle.cmm_program.specs.Orders.{Memory, Order, Held, Place, Word, Write}

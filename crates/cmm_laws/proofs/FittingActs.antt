@@ -27,7 +27,7 @@ use Rattle.cmm_program.specs.Typing.{is_target, is_typed, same_width}
 use Rattle.cmm_program.specs.Values.{Reads, value_of}
 use Rattle.cmm_laws.proofs.FittingExpressions.{ReadsFit, width_gives, typed_gives}
 use Rattle.cmm_laws.proofs.Kept.{KeptBy, kept_ok, kept_after}
-use Rattle.cmm_laws.proofs.Lists.{list_all_get}
+use Rattle.cmm_program.proofs.Shared.{list_all_get}
 
 -- ---- what fits
 

@@ -8,7 +8,8 @@ use Rattle.cmm_laws.proofs.Bodies.{body_of, follow_of, rest_of}
 use Rattle.cmm_laws.proofs.FittingExits.{FormalsFit, LandingFits, Left}
 use Rattle.cmm_laws.proofs.FittingStores.{Leaves}
 use Rattle.cmm_laws.proofs.Kept.{KeptIn, kept_if, kept_some, kept_with_some}
-use Rattle.cmm_laws.proofs.Lists.{all_get, list_all_get, some_get, zip_filled}
+use Rattle.cmm_program.proofs.Shared.{all_get, list_all_get}
+use Rattle.cmm_laws.proofs.Lists.{some_get, zip_filled}
 use Rattle.cmm_laws.specs.Fitting.{AreActivations, CellFits, Demand, IsStatementOf, IsSuspended, RoomFits, Youngest}
 use Rattle.cmm_program.specs.Bodies.{AtContinuation}
 use Rattle.cmm_program.specs.Control.{moved, arrived}

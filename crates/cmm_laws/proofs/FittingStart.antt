@@ -18,9 +18,8 @@ use Rattle.cmm_program.specs.Layout.{end_of, item_piece, stackdata_labels, stack
 use Rattle.rv_table.specs.Memory.{data_base}
 use Rattle.cmm_program.specs.Placed.{IsPlaced, are_labels}
 use Rattle.cmm_program.specs.State.{Setting}
-use Rattle.cmm_program.proofs.Shared.{end_of-grows}
+use Rattle.cmm_program.proofs.Shared.{all_get, end_of-grows}
 use Rattle.cmm_laws.specs.Fitting.{IsByte, CellFits}
-use Rattle.cmm_laws.proofs.Lists.{all_get}
 use Rattle.cmm_laws.proofs.Addresses.{pairs_inside, row_at}
 use Rattle.cmm_laws.proofs.FittingStores.{AreUpTo, PartsInside}
 

@@ -1,10 +1,8 @@
 -- What may be missing or wrong, elements of lists, and lists in step.
-use Rattle.std.proofs.lemmas.Bool.Decides.{nat_tests}
-use Rattle.std.proofs.Common.{Err, Ok, Result, ◌≡◌, ℕ, suc, ◌<◌, Bool, Option, Some, None, List, [], ◌∷◌, ◌++◌, map, take, drop, length, slice_get, slice_index_or, All, IsTrue, arith}
+use Rattle.std.proofs.Common.{Err, Ok, Result, ◌≡◌, ℕ, suc, ◌<◌, Option, Some, None, List, [], ◌∷◌, ◌++◌, map, take, drop, length, slice_get, slice_index_or, All, arith}
 use Rattle.std.specs.List.{AllZip}
 use Rattle.std.proofs.lemmas.List.{get_or_past}
-use Rattle.std.proofs.lemmas.Option.{get_or_from_slice_get, slice_get_cases, slice_get_within}
-use Rattle.std.specs.List.{list_all}
+use Rattle.std.proofs.lemmas.Option.{slice_get_cases}
 
 -- ---- options and answers
 
@@ -18,14 +16,6 @@ pub at_result : {A B E : Type 0} (t : Result A E) (f : A → B) (g : E → B) (P
 at_result t f g P ok err = grind arith
 
 -- ---- elements
-
--- of one of the elements
-pub list_all_get : {A : Type 0} (test : A → Bool) (xs : List A) (n : ℕ) (x : A) → IsTrue (list_all test xs) → slice_get xs n ≡ Some x → IsTrue (test x)
-list_all_get test (y ∷ ys) (suc n) x all is = grind (arith, nat_tests, list_all_get test ys n x)
-list_all_get test xs n x all is = grind (arith, nat_tests)
-
-pub all_get : {A : Type 0} (P : A → Type 0) (xs : List A) (n : ℕ) (x : A) → All P xs → slice_get xs n ≡ Some x → P x
-all_get P xs n x all is = grind (arith, get_or_from_slice_get, slice_get_within)
 
 -- an index below the length has an element
 pub some_get : {A : Type 0} (xs : List A) (n : ℕ) → n < length xs → (x : A) × (slice_get xs n ≡ Some x)

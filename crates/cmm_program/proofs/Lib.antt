@@ -1,3 +1,5 @@
+pub mod Lists
+pub mod Keeping
 pub mod Places
 pub mod Samples
 pub mod Shared
