@@ -1,7 +1,7 @@
 -- When a graph is one of a procedure: it has the procedure's variables, its landings take what those of the procedure take,
 -- its sites have the exits of the procedure's sites, and it names only what the program has. What the nodes do is not asked
 -- here.
-use Rattle.std.specs.Prelude.{◌≡◌, ℕ, ◌&&◌, nat_lt, Bool, true, false, IsTrue, List, [], ◌∷◌, map, length, slice_get, Option, Some, None}
+use Rattle.std.specs.Prelude.{◌≡◌, ℕ, ◌&&◌, nat_lt, Bool, true, false, IsTrue, List, [], ◌∷◌, map, length, slice_get, is_some, Option, Some, None}
 use Rattle.std.specs.List.{All, AllZip, list_all, range_with_len}
 use Rattle.cmm_program.specs.declared.procedure.Target.{Target}
 use Rattle.cmm_program.specs.declared.procedure.Target.TheVariants as target
@@ -70,12 +70,8 @@ HasSite q g _ = Unit {0}
 
 -- ---- names
 
-abbrev pub is_there : {A : Type 0} → Option A → Bool
-is_there (Some a) = true
-is_there None = false
-
 abbrev pub names_operand : Program → Proc → Operand → Bool
-names_operand p q (operand.Constant c) = is_there (constant_width p c)
+names_operand p q (operand.Constant c) = is_some (constant_width p c)
 names_operand p q (operand.Stackdata label) = nat_lt label.number (length (stackdata_labels q.stack))
 names_operand p q _ = true
 

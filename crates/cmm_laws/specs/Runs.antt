@@ -2,7 +2,7 @@
 -- client's commands leave as it is.
 use Rattle.std.specs.Prelude.{◌≡◌, ◌⊎◌, ℕ, ◌+◌, ◌%◌, true, List, [], ◌∷◌, ◌++◌, map, Ok, Err, Option, Some, None}
 use Rattle.cmm_script.specs.declared.script.Command.{Command}
-use Rattle.cmm_script.specs.Refusals.{Refusal}
+use Rattle.cmm_rules.specs.declared.rule.Rule.{Rule}
 use Rattle.cmm_script.specs.Lines.{yield_line, ok_line, refused_line}
 use Rattle.cmm_following.specs.Seen.{Seen, IsWithin}
 use Rattle.cmm_program.specs.declared.procedure.Target.{Target}
@@ -106,7 +106,7 @@ InputIsKept = (s : Setting) (input : List ℕ) (m : ℕ) → let store = (state_
 
 -- a command that is refused only writes a line of the log
 abbrev pub RefusedOnlyLogs : Type 0
-RefusedOnlyLogs = (s : Setting) (yielded : List ℕ) (cursor : ℕ) (command : Command) (store : Store) (why : Refusal) →
+RefusedOnlyLogs = (s : Setting) (yielded : List ℕ) (cursor : ℕ) (command : Command) (store : Store) (why : Rule) →
     asked s yielded cursor command store ≡ Err why → reply s yielded cursor command store ≡ Then cursor (logged (refused_line why) store)
 
 -- What a command makes of a store that does not resume. What is not named stays: other variables, each activation's procedure

@@ -9,14 +9,13 @@ use Rattle.cmm_script.specs.declared.script.Command.{Command}
 use Rattle.cmm_script.specs.declared.script.Command.TheVariants.{List as ListAll, Youngest, Next, Desc, Seek, Var, Set, Poke, Return, Unwind, Cut, Stop}
 use Rattle.cmm_script.specs.declared.script.Value.{Value}
 use Rattle.cmm_script.specs.declared.script.Value.TheVariants.{Number, Yielded}
-use Rattle.cmm_script.specs.Refusals.{Refusal, NoActivation, NoVariable, DeadVariable, DoesNotFit, NoExit, OtherCount, InvariantVariable, NoCut, NoPlace, NoYieldedValue}
+use Rattle.cmm_rules.specs.declared.rule.Rule.{Rule}
+use Rattle.cmm_rules.specs.declared.rule.Rule.TheVariants.{NoActivation, NoVariable, DeadVariable, DoesNotFit, NoExit, OtherCount, InvariantVariable, NoCut, NoPlace, NoYieldedValue}
 use Rattle.cmm_script.specs.Walk.{Spanned, walk_text}
 use Rattle.cmm_script.specs.Lines.{at_line, descriptor_line, var_line, ok_line, resume_line, refused_line}
-use Rattle.cmm_program.specs.declared.procedure.Proc.{Proc}
-use Rattle.cmm_program.specs.declared.procedure.Site.{Site}
 use Rattle.cmm_program.specs.declared.procedure.VarInfo.{VarInfo}
 use Rattle.cmm_program.specs.declared.program.Label.{Label}
-use Rattle.cmm_program.specs.Errors.{and_then, provided, given, all_of, with_some}
+use Rattle.cmm_program.specs.Errors.{and_then, provided, given, all_of}
 use Rattle.cmm_program.specs.Layout.{label_address, bytes_of}
 use Rattle.cmm_program.specs.Memory.{Room, is_in, with_bytes}
 use Rattle.cmm_program.specs.State.{Setting, Activation, Store, Ended, Stopped}
@@ -33,9 +32,9 @@ pub data Reply : Type 0 where
   -- the run goes on, or ends
   Resumes : Transfer → Reply
 
--- a command that is refused answers why
+-- a command that is refused answers which rule it breaks
 abbrev pub Asked : Type 0
-Asked = Result Reply Refusal
+Asked = Result Reply Rule
 
 abbrev pub logged : List ℕ → Store → Store
 logged text store = record store { log = store.log ++ text }
@@ -65,11 +64,11 @@ sought s token value cursor (a ∷ older) store = given (suspended_at s (a ∷ o
 
 -- ---- values
 
-abbrev pub number_given : List ℕ → Value → Result ℕ Refusal
+abbrev pub number_given : List ℕ → Value → Result ℕ Rule
 number_given yielded (Number n) = Ok n
 number_given yielded (Yielded k) = given (slice_get yielded k) NoYieldedValue Ok
 
-abbrev pub numbers_given : List ℕ → List Value → Result (List ℕ) Refusal
+abbrev pub numbers_given : List ℕ → List Value → Result (List ℕ) Rule
 numbers_given yielded values = all_of (map (number_given yielded) values)
 
 abbrev pub fits : Width → ℕ → Bool
