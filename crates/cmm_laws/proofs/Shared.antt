@@ -1,7 +1,7 @@
 -- What proofs of other crates may cite: laws for machines with any control, the ways in which they are proved, and laws of memory.
 pub use Rattle.cmm_laws.proofs.Kept.{KeptBy, KeptIn, keeping, kept_after, kept_and_then, kept_err, kept_given, kept_if, kept_in, kept_ok, kept_provided, kept_some, kept_with_some}
 pub use Rattle.cmm_laws.proofs.Arriving.{entering_lands, returning_lands, resuming_lands, targets_take}
-pub use Rattle.cmm_laws.proofs.Transfers.{given_cases, provided_cases, call_enters, jump_enters, return_leaves, cut_cuts, search_finds}
+pub use Rattle.cmm_laws.proofs.Transfers.{given_cases, provided_cases, call_enters, jump_enters, return_leaves, cut_cuts, search_finds, search_finds_first}
 pub use Rattle.cmm_laws.proofs.Steps.{ended_stays, wrong_stays, landed_has, lands, step_has, start_keeps, kept_by_steps}
 pub use Rattle.cmm_laws.proofs.Growing.{step_leads, step_grows, step_shows, step_takes, steps_grow, input_kept}
 pub use Rattle.cmm_laws.proofs.StackKept.{After, Leads, land_after, nothing_after, stackdata_drop, without_keeps}

@@ -1,8 +1,9 @@
 -- How control goes on, by cases, and what the search for a cut finds.
-use Rattle.std.proofs.Common.{◌≡◌, ℕ, zero, suc, ◌+◌, ◌==◌, Bool, true, false, Option, Some, None, Result, Ok, Err, List, [], ◌∷◌, drop, length, refl, ap, sym, subst, arith}
-use Rattle.std.specs.List.{Contains, find}
+use Rattle.std.proofs.Common.{◌≡◌, ◌≢◌, ℕ, zero, suc, ◌+◌, ◌==◌, Bool, true, false, Option, Some, None, Result, Ok, Err, List, [], ◌∷◌, drop, length, refl, ap, sym, subst, arith}
+use Rattle.std.specs.List.{All, AllByRecursion, Contains, find}
 use Rattle.std.proofs.lemmas.Bool.{eqb-true}
 use Rattle.std.proofs.lemmas.Bool.Decides.{nat_tests}
+use Rattle.std.proofs.lemmas.List.Elements.{All-from_recursion}
 use Rattle.cmm_program.specs.Errors.{Tried, EndOfBody, NeverReturns, NoSuchCut, NotAProcedure, WrongAlternates, WrongValues, given, provided}
 use Rattle.cmm_program.specs.Exits.{Called, Instead, have_widths, numbers}
 use Rattle.cmm_program.specs.Frames.{continuation_value, site_cuts, without}
@@ -10,7 +11,7 @@ use Rattle.cmm_program.specs.Orders.{Word}
 use Rattle.cmm_program.specs.Performing.{Transfer, Away, Over, Found, cut_among, entering, returned}
 use Rattle.cmm_program.specs.State.{Activation, Setting, Store, Ended, Done}
 use Rattle.cmm_words.specs.declared.width.Width.TheVariants.{W64}
-use Rattle.cmm_laws.specs.Transfers.{CallEnters, CutCuts, Cuts, CutsNot, CutsTo, Ends, Enters, EntersAt, EntersNot, IsListed, JumpEnters, listed_by, Leaves, LeavesNot, LeavesTo, ReturnLeaves, SearchFinds}
+use Rattle.cmm_laws.specs.Transfers.{CallEnters, CutCuts, Cuts, CutsNot, CutsTo, Ends, Enters, EntersAt, EntersNot, IsListed, JumpEnters, listed_by, Leaves, LeavesNot, LeavesTo, NoneLists, ReturnLeaves, SearchFinds, SearchFindsFirst}
 
 -- ---- by cases on what may be missing, and on a test
 
@@ -91,6 +92,16 @@ find_gives test (x ∷ ks) k is = by (find_gives test ks k) (test x) refl
     by inner false at =
         let c = inner (grind (arith, at, is)) in (c.0, (suc c.1.0, omega (arith, c.1.1), c.1.2))
 
+-- and where it gives nothing, no element has the value
+find_none : (f : ℕ → ℕ) (value : ℕ) (ks : List ℕ) → find (λ k. f k == value) ks ≡ None → AllByRecursion (λ k. f k ≢ value) ks
+find_none f value [] is = tt
+find_none f value (x ∷ ks) is = by (find_none f value ks) (f x == value) refl
+  where
+    by : (find (λ k. f k == value) ks ≡ None → AllByRecursion (λ k. f k ≢ value) ks) → (b : Bool) → (f x == value) ≡ b →
+        AllByRecursion (λ k. f k ≢ value) (x ∷ ks)
+    by inner true at = grind (arith, at, is)
+    by inner false at = (λ same. grind (arith, nat_tests, at, same), inner (grind (arith, at, is)))
+
 module _ (s : Setting) (value : ℕ) (found : Found) where
   -- what the search finds when it has so many activations behind it
   found_from : (own : List ℕ) (younger : ℕ) (activations : List Activation) → cut_among s younger own value activations ≡ Some found →
@@ -117,6 +128,7 @@ module _ (s : Setting) (value : ℕ) (found : Found) where
               procedure = refl;
               listed = gives.1;
               has_value = eqb-true _ _ gives.0;
+              first = at;
             },
           )
       by later None at =
@@ -130,6 +142,7 @@ module _ (s : Setting) (value : ℕ) (found : Found) where
               procedure = rest.2.procedure;
               listed = listed_older rest.0 rest.2;
               has_value = rest.2.has_value;
+              first = first_older rest.0 rest.2;
             },
           )
         where
@@ -138,10 +151,46 @@ module _ (s : Setting) (value : ℕ) (found : Found) where
           listed_older zero l = subst (λ as_. Contains (site_cuts s as_) found.continuation) l.stands l.listed
           listed_older (suc n) l = l.listed
 
+          first_older : (n : ℕ) (l : IsListed s (site_cuts s older) value older n found) →
+              find (λ k. continuation_value s (l.activation ∷ l.older) k == value) (listed_by s own (suc n) (l.activation ∷ l.older)) ≡ Some found.continuation
+          first_older zero l =
+              subst (λ as_. find (λ k. continuation_value s (l.activation ∷ l.older) k == value) (site_cuts s as_) ≡ Some found.continuation) l.stands l.first
+          first_older (suc n) l = l.first
+
 pub search_finds : SearchFinds
 search_finds s own value activations found is =
     let from = found_from s value found own 0 activations is in
     let same : from.0 ≡ found.younger = omega (arith, from.1) in
     subst (λ n. IsListed s own value activations n found) same from.2
+
+module _ (s : Setting) (value : ℕ) (found : Found) where
+  -- before what the search finds when it has so many activations behind it
+  none_before : (own : List ℕ) (younger : ℕ) (activations : List Activation) → cut_among s younger own value activations ≡ Some found →
+      (n : ℕ) → found.younger ≡ younger + n → NoneLists s own value activations n
+  none_before own younger [] is n at = grind arith
+  none_before own younger (a ∷ older) is n at =
+      by (none_before (site_cuts s older) (suc younger) older) (find (λ k. continuation_value s (a ∷ older) k == value) own) refl n at
+    where
+      by : (cut_among s (suc younger) (site_cuts s older) value older ≡ Some found →
+          (n : ℕ) → found.younger ≡ suc younger + n → NoneLists s (site_cuts s older) value older n) →
+          (o : Option ℕ) → find (λ k. continuation_value s (a ∷ older) k == value) own ≡ o →
+          (n : ℕ) → found.younger ≡ younger + n → NoneLists s own value (a ∷ older) n
+      by later (Some k) here n at =
+          let same : younger ≡ found.younger = grind (arith, here, is) in
+          λ m b more less. absurd (omega (arith, same, at, less))
+      by later None here zero at = λ m b more less. absurd (omega (arith, less))
+      by later None here (suc n) at = before (later (grind (arith, here, is)) n (omega (arith, at)))
+        where
+          before : NoneLists s (site_cuts s older) value older n → NoneLists s own value (a ∷ older) (suc n)
+          before inner zero b more less stands =
+              subst (λ as_. All (λ k. continuation_value s as_ k ≢ value) own) stands
+              (All-from_recursion _ own (find_none (continuation_value s (a ∷ older)) value own here))
+          before inner (suc zero) b more less stands =
+              subst (λ as_. All (λ k. continuation_value s (b ∷ more) k ≢ value) (site_cuts s as_)) stands
+              (inner zero b more (omega (arith, less)) stands)
+          before inner (suc (suc m)) b more less stands = inner (suc m) b more (omega (arith, less)) stands
+
+pub search_finds_first : SearchFindsFirst
+search_finds_first s own value activations found is = none_before s value found own 0 activations is found.younger (omega arith)
 
 pub ruleset laws = (call_enters, jump_enters, return_leaves, cut_cuts)

@@ -1,7 +1,7 @@
 -- How control goes on after a call, a jump, a return and a cut, by cases: where it goes, and what has to hold for that, or an
 -- unchecked error. The laws are of orders and the store alone, so they hold of a machine with any control.
-use Rattle.std.specs.Prelude.{◌≡◌, ℕ, zero, suc, ◌+◌, true, List, [], ◌∷◌, map, take, drop, length, Ok, Err, Some}
-use Rattle.std.specs.List.{Contains}
+use Rattle.std.specs.Prelude.{◌≡◌, ◌≢◌, ℕ, zero, suc, ◌+◌, ◌<◌, ◌==◌, true, List, [], ◌∷◌, map, take, drop, length, Ok, Err, Some}
+use Rattle.std.specs.List.{All, Contains, find}
 use Rattle.cmm_words.specs.declared.width.Width.TheVariants.{W64}
 use Rattle.cmm_program.specs.declared.procedure.Proc.{Proc}
 use Rattle.cmm_program.specs.Errors.{Tried, UncheckedError}
@@ -69,8 +69,20 @@ pub record IsListed (s : Setting) (own : List ℕ) (value : ℕ) (activations : 
   pub procedure : found.procedure ≡ activation.procedure
   pub listed : Contains (listed_by s own n (activation ∷ older)) found.continuation
   pub has_value : continuation_value s (activation ∷ older) found.continuation ≡ value
+  -- no other stands before it in that list
+  pub first : find (λ k. continuation_value s (activation ∷ older) k == value) (listed_by s own n (activation ∷ older)) ≡ Some found.continuation
 
 -- the search finds such a one, of an activation that has as many younger ones as it says
 abbrev pub SearchFinds : Type 0
 SearchFinds = (s : Setting) (own : List ℕ) (value : ℕ) (activations : List Activation) (found : Found) →
     cut_among s 0 own value activations ≡ Some found → IsListed s own value activations found.younger found
+
+-- none of so many of the youngest activations lists a continuation of this value
+abbrev pub NoneLists : Setting → List ℕ → ℕ → List Activation → ℕ → Type 0
+NoneLists s own value activations count = (n : ℕ) (a : Activation) (older : List Activation) → n < count → drop n activations ≡ a ∷ older →
+    All (λ k. continuation_value s (a ∷ older) k ≢ value) (listed_by s own n (a ∷ older))
+
+-- so it is the first: none of the younger ones lists one
+abbrev pub SearchFindsFirst : Type 0
+SearchFindsFirst = (s : Setting) (own : List ℕ) (value : ℕ) (activations : List Activation) (found : Found) →
+    cut_among s 0 own value activations ≡ Some found → NoneLists s own value activations found.younger

@@ -1,6 +1,6 @@
 //! Where control arrives, and what the store is then: calls, jumps, returns and cuts, for machines with any control.
 ghost use Rattle.cmm_laws.specs.Landings.{EnteringLands, ResumingLands, ReturningLands, TargetsTake};
-ghost use Rattle.cmm_laws.specs.Transfers.{CallEnters, CutCuts, JumpEnters, ReturnLeaves, SearchFinds};
+ghost use Rattle.cmm_laws.specs.Transfers.{CallEnters, CutCuts, JumpEnters, ReturnLeaves, SearchFinds, SearchFindsFirst};
 
 /// Each landing is one equation on the store: an activation begins where the stack has room for it, or the youngest one goes
 /// on, with the values assigned to variables and registers and nothing else changed.
@@ -22,8 +22,10 @@ pub fn control_is_transferred()
     ensures cut { CutCuts }
 {}
 
-/// What a cut finds is listed by the activation that it goes to, and has the value that was looked for.
-#[tactic(auto, using(crate::proofs::Transfers::search_finds))]
+/// What a cut finds is listed by the activation that it goes to, and has the value that was looked for. It is the first: in that
+/// activation's list, and as no younger activation lists one.
+#[tactic(auto, using(crate::proofs::Transfers::search_finds, crate::proofs::Transfers::search_finds_first))]
 pub fn cuts_are_listed()
-    ensures { SearchFinds }
+    ensures listed { SearchFinds }
+    ensures first { SearchFindsFirst }
 {}
