@@ -8,7 +8,8 @@ use Rattle.cmm_parser.specs.declared.fault.Stop.{Stop}
 use Rattle.cmm_readers.specs.StatementReading.{flat_by, of_stmt, symbol_stmt}
 use Rattle.cmm_lexer.specs.declared.token.TokenKind.{TokenKind}
 use Rattle.cmm_lexer.specs.declared.tokens.Tokens.{Tokens}
-use Rattle.cmm_parser.specs.Parsing.{Answered, Parses, Bits, lexeme_in}
+use Rattle.cmm_parser.specs.inside.Parsing.{Answered, Parses, Bits}
+use Rattle.cmm_parser.specs.Faults.{lexeme_in}
 use Rattle.cmm_parser.proofs.Steps.{steps, holds}
 
 -- the number of the next token first

@@ -12,7 +12,7 @@ use Rattle.cmm_ast.specs.Taking.{is_word}
 use Rattle.cmm_lexer.specs.declared.keyword.Keyword.TheVariants.{Span as SpanWord}
 use Rattle.cmm_ast.specs.declared.unit.Item.{Item}
 use Rattle.cmm_parser.specs.declared.fault.Stop.{Stop}
-use Rattle.cmm_parser.specs.Parsing.{Answered, Parses, Skips, Stays, Bits}
+use Rattle.cmm_parser.specs.inside.Parsing.{Answered, Parses, Skips, Stays, Bits}
 use Rattle.cmm_parser.proofs.Steps.{steps, holds, takes, leaves, gives}
 
 -- a word that may be left out was next or not

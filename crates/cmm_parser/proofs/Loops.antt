@@ -3,7 +3,7 @@ use Rattle.std.proofs.Common.{◌≡◌, ◌∙◌, sym, ap, subst, ℕ, zero, s
 use Rattle.cmm_lexer.specs.declared.piece.Lexeme.{Lexeme}
 use Rattle.cmm_readers.specs.Reading.{Point, Answer, Read, Reads, next, past, passes, and_then, choice, many, more_commas, more_listed, is_comma}
 use Rattle.cmm_parser.specs.declared.fault.Stop.{Stop}
-use Rattle.cmm_parser.specs.Parsing.{Answered, Parses, Skips, Stays, skipped}
+use Rattle.cmm_parser.specs.inside.Parsing.{Answered, Parses, Skips, Stays, skipped}
 use Rattle.cmm_parser.proofs.Steps.{stop_first}
 
 -- some turns are left, above the tokens that are

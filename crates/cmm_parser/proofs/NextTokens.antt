@@ -12,7 +12,7 @@ use Rattle.cmm_lexer.proofs.Shared.{keyword_number-injective, symbol_number-inje
 use Rattle.cmm_ast.specs.declared.expression.ExprForm.{ExprForm}
 use Rattle.cmm_ast.specs.Taking.{is_word, is_sign}
 use Rattle.cmm_readers.specs.ExpressionReading.{infix_next}
-use Rattle.cmm_parser.specs.Parsing.{NoWord, NoSymbol, width_next, prefix_next}
+use Rattle.cmm_parser.specs.inside.Parsing.{NoWord, NoSymbol, width_next, prefix_next}
 
 other : (a b : ℕ) → a ≢ b → (a == b) ≡ false
 other a b h = grind (arith, nat_tests)

@@ -12,8 +12,8 @@ use Rattle.cmm_readers.proofs.ViableUnits.{is_too_deep}
 use Rattle.cmm_parser.specs.declared.fault.SyntaxFault.{SyntaxFault}
 use Rattle.cmm_parser.specs.declared.fault.Stop.{Stop}
 use Rattle.cmm_parser.specs.declared.fault.Stop.TheVariants as stop
-use Rattle.cmm_parser.specs.Parsing.{Parses}
-use Rattle.cmm_parser.specs.Faults.{IsFaultOf, fault_of}
+use Rattle.cmm_parser.specs.inside.Parsing.{Parses, fault_of}
+use Rattle.cmm_parser.specs.Faults.{IsFaultOf}
 
 pub fault_is : (tokens : List Lexeme) (before after : Point) (e : Stop) → before ≡ point (at_start tokens) →
     Parses {A = List TopLevel} whole_unit before (Err e) after → IsFaultOf tokens (fault_of e)

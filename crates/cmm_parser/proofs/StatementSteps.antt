@@ -11,7 +11,7 @@ use Rattle.cmm_ast.specs.declared.statement.Stmt.{Stmt}
 use Rattle.cmm_ast.specs.declared.statement.StmtForm.{StmtForm}
 use Rattle.cmm_lexer.specs.declared.piece.Lexeme.{Lexeme}
 use Rattle.cmm_parser.specs.declared.fault.Stop.{Stop}
-use Rattle.cmm_parser.specs.Parsing.{Answered, Parses, Stays}
+use Rattle.cmm_parser.specs.inside.Parsing.{Answered, Parses, Stays}
 use Rattle.cmm_parser.proofs.Steps.{stop_first}
 
 -- with a count that is known

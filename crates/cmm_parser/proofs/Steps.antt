@@ -4,7 +4,7 @@ use Rattle.cmm_lexer.specs.declared.piece.Lexeme.{Lexeme}
 use Rattle.cmm_readers.specs.Reading.{Point, Answer, Read, Reads, ◌>>=◌, next, passes, and_then, choice, if_next, skip, give, symbol, in_brackets, outermost, look, here, Stopped, Unexpected, TooDeep}
 use Rattle.cmm_parser.specs.declared.fault.Stop.{Stop}
 use Rattle.cmm_parser.specs.declared.fault.Stop.TheVariants as stop
-use Rattle.cmm_parser.specs.Parsing.{Answered, Parses, Skips, Stays, opening, closing}
+use Rattle.cmm_parser.specs.inside.Parsing.{Answered, Parses, Skips, Stays, opening, closing}
 use Rattle.cmm_lexer.specs.declared.symbol.Symbol.{Symbol}
 
 pub stop_first : {A B : Type 0} (e : Stop) (o : Answer A) (rest : A → Point → Answer B) (after after' : Point) → Answered o (Err e) after → Answered (and_then o rest) (Err e) after'
@@ -60,8 +60,6 @@ fails {yes_ = yes_} {no_ = no_} {before = before} {after = after} {result = resu
 
 pub gives : {A : Type 0} {p : Point} {a : A} → Parses (λ fuel. give a) p (Ok a) p
 gives = record { answers = λ fuel less. refl; fewer = omega arith }
-
-pub ruleset stepping = (steps, stops, gives, holds, fails)
 
 -- a value by another name
 pub gives_same : {A : Type 0} {p : Point} {a b : A} → b ≡ a → Parses (λ fuel. give a) p (Ok b) p

@@ -6,7 +6,7 @@ use Rattle.cmm_readers.specs.declared.told_apart.Targets.{Targets}
 use Rattle.cmm_readers.specs.TargetReading.{next_target, more_targets, checked}
 use Rattle.cmm_parser.specs.declared.fault.Stop.{Stop}
 use Rattle.cmm_parser.specs.declared.fault.Stop.TheVariants as stop
-use Rattle.cmm_parser.specs.Parsing.{Answered, Parses, Skips, Stays, skipped}
+use Rattle.cmm_parser.specs.inside.Parsing.{Answered, Parses, Skips, Stays, skipped}
 use Rattle.cmm_parser.proofs.Steps.{stop_first}
 use Rattle.cmm_parser.proofs.Loops.{Reaches, goes_on, ends, breaks}
 

@@ -4,14 +4,20 @@ use Rattle.cmm_rules.specs.Rules.{rule_number}
 use Rattle.cmm_rules.specs.declared.rule.Rule.TheVariants.{Syntax, TooDeep}
 use Rattle.cmm_lexer.specs.declared.piece.Lexeme.{Lexeme}
 use Rattle.cmm_lexer.specs.declared.token.Token.{Token}
+use Rattle.cmm_lexer.specs.declared.token.TokenKind.{TokenKind}
 use Rattle.cmm_lexer.specs.declared.tokens.Tokens.{Tokens}
+use Rattle.cmm_lexer.specs.Lexing.{lexeme_of}
 use Rattle.cmm_ast.specs.declared.unit.Place.{Place}
 use Rattle.cmm_ast.specs.Derivation.{IsUnexpected, IsTooDeep}
 use Rattle.cmm_parser.specs.declared.fault.SyntaxFault.{SyntaxFault}
 use Rattle.cmm_parser.specs.declared.fault.SyntaxFault.TheVariants.{At, Memory}
-use Rattle.cmm_parser.specs.declared.fault.Stop.{Stop}
-use Rattle.cmm_parser.specs.declared.fault.Stop.TheVariants as stop
-use Rattle.cmm_parser.specs.Parsing.{lexemes}
+
+-- what a token is, as a reader sees it
+abbrev pub lexeme_in : Tokens → TokenKind → Lexeme
+lexeme_in tokens kind = lexeme_of tokens.spellings.keys kind
+
+abbrev pub lexemes : Tokens → List Token → List Lexeme
+lexemes tokens list = map (λ t. lexeme_in tokens t.kind) list
 
 -- the tokens of a unit, with their spellings
 abbrev pub lexemes_of : Tokens → List Lexeme
@@ -28,8 +34,3 @@ places_of ts = map place_of ts.list ++ record { line = ts.line; column = ts.colu
 abbrev pub IsFaultOf : List Lexeme → SyntaxFault → Type 0
 IsFaultOf tokens (At rule token) = ((rule ≡ rule_number Syntax) × IsUnexpected tokens token) ⊎ ((rule ≡ rule_number TooDeep) × IsTooDeep tokens token)
 IsFaultOf tokens Memory = Unit {0}
-
-abbrev pub fault_of : Stop → SyntaxFault
-fault_of (stop.Unexpected token) = At (rule_number Syntax) token
-fault_of (stop.TooDeep token) = At (rule_number TooDeep) token
-fault_of stop.Memory = Memory

@@ -4,7 +4,7 @@ ghost use Rattle.std.specs.Prelude.{◌≡◌, ◌+◌, ◌-◌, ◌<◌, ◌≤
 ghost use Rattle.cmm_lexer.specs.Spellings.{keyword_number, symbol_number};
 ghost use Rattle.cmm_ast.specs.Taking.{is_word, is_sign};
 ghost use Rattle.cmm_readers.specs.Reading.{skip_opening, skip_operator, if_next, stop};
-ghost use Rattle.cmm_parser.specs.Parsing.{Parses, point_of, opening, chaining, closing, without};
+ghost use Rattle.cmm_parser.specs.inside.Parsing.{Parses, point_of, opening, chaining, closing, without};
 
 use crate::fault::Stop;
 use crate::parser::Parser;
@@ -18,7 +18,7 @@ pub(crate) const OPERATOR_LIMIT: u32 = 500;
 
 impl Parser<'_> {
     /// Begins to count the operators of an outermost expression.
-    #[tactic(auto, unfolding(crate::specs::Parsing::point_of))]
+    #[tactic(auto, unfolding(crate::specs::inside::Parsing::point_of))]
     pub(crate) fn begin_outermost(&mut self)
         ensures { point_of self.new ≡ record (point_of self.old) { operators = 0 } }
     {
@@ -26,7 +26,7 @@ impl Parser<'_> {
     }
 
     /// Takes the next token, which is an operator.
-    #[tactic(auto, unfolding(crate::specs::Parsing::point_of))]
+    #[tactic(auto, unfolding(crate::specs::inside::Parsing::point_of))]
     pub(crate) fn operator(&mut self) -> Result<(), Stop>
         requires { 0 < length (point_of self.old).left }
         ensures answers { Parses (λ fuel. skip_operator) (point_of self.old) result (point_of self.new) }
@@ -41,7 +41,7 @@ impl Parser<'_> {
     }
 
     /// Takes an opening bracket, and gives how many were open before it.
-    #[tactic(auto, unfolding(crate::specs::Parsing::point_of))]
+    #[tactic(auto, unfolding(crate::specs::inside::Parsing::point_of))]
     pub(crate) fn enter(&mut self, bracket: Symbol) -> Result<u32, Stop>
         ensures answers { Parses (λ fuel. opening bracket) (point_of self.old) (without result) (point_of self.new) }
         ensures outside { IfOk result (λ outside. outside ≡ (point_of self.old).open_brackets) }
@@ -54,7 +54,7 @@ impl Parser<'_> {
     }
 
     /// Takes the `if` after an `else`, which counts as an open bracket until its chain ends, and gives how many were open before it.
-    #[tactic(auto, unfolding(crate::specs::Parsing::point_of))]
+    #[tactic(auto, unfolding(crate::specs::inside::Parsing::point_of))]
     pub(crate) fn enter_if(&mut self) -> Result<u32, Stop>
         ensures answers { Parses (λ fuel. chaining) (point_of self.old) (without result) (point_of self.new) }
         ensures outside { IfOk result (λ outside. outside ≡ (point_of self.old).open_brackets) }
@@ -67,7 +67,7 @@ impl Parser<'_> {
     }
 
     /// Takes the next token, which opens a bracket, and gives how many were open before it.
-    #[tactic(auto, unfolding(crate::specs::Parsing::point_of))]
+    #[tactic(auto, unfolding(crate::specs::inside::Parsing::point_of))]
     fn deepen(&mut self) -> Result<u32, Stop>
         requires { 0 < length (point_of self.old).left }
         ensures answers { Parses (λ fuel. skip_opening) (point_of self.old) (without result) (point_of self.new) }
@@ -84,7 +84,7 @@ impl Parser<'_> {
     }
 
     /// Takes a closing bracket, outside of which this many are open.
-    #[tactic(auto, unfolding(crate::specs::Parsing::point_of))]
+    #[tactic(auto, unfolding(crate::specs::inside::Parsing::point_of))]
     pub(crate) fn leave(&mut self, bracket: Symbol, outside: u32) -> Result<(), Stop>
         ensures answers { Parses (λ fuel. closing bracket outside) (point_of self.old) result (point_of self.new) }
         ensures taken { OnOk result (length (point_of self.new).left < length (point_of self.old).left) }
@@ -95,7 +95,7 @@ impl Parser<'_> {
     }
 
     /// Ends what counted as an open bracket, outside of which this many are open.
-    #[tactic(auto, unfolding(crate::specs::Parsing::point_of))]
+    #[tactic(auto, unfolding(crate::specs::inside::Parsing::point_of))]
     pub(crate) fn close(&mut self, outside: u32)
         ensures { point_of self.new ≡ record (point_of self.old) { open_brackets = outside } }
     {

@@ -5,7 +5,7 @@ ghost use Rattle.cmm_readers.specs.Reading.{next, passes};
 ghost use Rattle.cmm_readers.specs.ExpressionReading.{begins_expression};
 ghost use Rattle.cmm_readers.specs.PartReading as parts;
 ghost use Rattle.cmm_readers.specs.StatementReading as statements;
-ghost use Rattle.cmm_parser.specs.Parsing.{Parses, point_of};
+ghost use Rattle.cmm_parser.specs.inside.Parsing.{Parses, point_of};
 
 use crate::fault::Stop;
 use crate::list::Listed;

@@ -3,7 +3,7 @@
 ghost use Rattle.std.specs.Prelude.{◌≡◌, ◌-◌, ◌<◌, ◌≤◌, length, OnOk};
 ghost use Rattle.cmm_readers.specs.StatementReading.{block};
 ghost use Rattle.cmm_readers.specs.UnitReading as readers;
-ghost use Rattle.cmm_parser.specs.Parsing.{Parses, point_of};
+ghost use Rattle.cmm_parser.specs.inside.Parsing.{Parses, point_of};
 
 use crate::fault::Stop;
 use crate::parser::Parser;

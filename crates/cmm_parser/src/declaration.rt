@@ -9,7 +9,7 @@ ghost use Rattle.cmm_readers.specs.Reading.{next, passes};
 ghost use Rattle.cmm_readers.specs.Reading as tokens;
 ghost use Rattle.cmm_readers.specs.PartReading.{is_any_name, is_any_text};
 ghost use Rattle.cmm_readers.specs.DeclarationReading as readers;
-ghost use Rattle.cmm_parser.specs.Parsing.{Parses, point_of};
+ghost use Rattle.cmm_parser.specs.inside.Parsing.{Parses, point_of};
 
 use crate::fault::Stop;
 use crate::list::Listed;

@@ -4,7 +4,7 @@ ghost use Rattle.std.specs.Prelude.{◌≡◌, ◌+◌, ◌-◌, ◌<◌, ◌≤
 ghost use Rattle.cmm_readers.specs.Reading.{listed, look, next, passes};
 ghost use Rattle.cmm_readers.specs.ExpressionReading as readers;
 ghost use Rattle.cmm_readers.specs.ExpressionReading.{begins_expression};
-ghost use Rattle.cmm_parser.specs.Parsing.{Parses, point_of, prefix_next};
+ghost use Rattle.cmm_parser.specs.inside.Parsing.{Parses, point_of, prefix_next};
 
 use crate::fault::Stop;
 use crate::list::Listed;

@@ -49,7 +49,7 @@ impl<T: Drop> From<AllocFailed<T>> for Stop {
 }
 
 impl From<Stop> for SyntaxFault {
-    ghost use Rattle.cmm_parser.specs.Faults.{fault_of};
+    ghost use Rattle.cmm_parser.specs.inside.Parsing.{fault_of};
 
     ghost from_gives = { λ stop fault. fault ≡ fault_of stop };
 

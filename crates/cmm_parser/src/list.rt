@@ -4,7 +4,8 @@ ghost use Rattle.std.specs.Prelude.{◌≡◌, ◌-◌, ◌<◌, ◌≤◌, ◌�
 ghost use Rattle.cmm_lexer.specs.declared.piece.Lexeme.{Lexeme};
 ghost use Rattle.cmm_readers.specs.Reading.{Reads, next, passes};
 ghost use Rattle.cmm_readers.specs.Reading as readers;
-ghost use Rattle.cmm_parser.specs.Parsing.{Parses, point_of, lexeme_in};
+ghost use Rattle.cmm_parser.specs.inside.Parsing.{Parses, point_of};
+ghost use Rattle.cmm_parser.specs.Faults.{lexeme_in};
 
 use crate::fault::Stop;
 use crate::parser::Parser;

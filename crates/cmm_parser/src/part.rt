@@ -11,7 +11,7 @@ ghost use Rattle.cmm_readers.specs.ExpressionReading.{whole_memory};
 ghost use Rattle.cmm_readers.specs.ProcedureReading.{variables};
 ghost use Rattle.cmm_readers.specs.PartReading as parts;
 ghost use Rattle.cmm_readers.specs.StatementReading as readers;
-ghost use Rattle.cmm_parser.specs.Parsing.{Parses, point_of};
+ghost use Rattle.cmm_parser.specs.inside.Parsing.{Parses, point_of};
 
 use crate::fault::Stop;
 use crate::parser::Parser;

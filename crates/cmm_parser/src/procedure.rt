@@ -8,7 +8,7 @@ ghost use Rattle.cmm_readers.specs.ExpressionReading.{whole};
 ghost use Rattle.cmm_readers.specs.StatementReading.{block};
 ghost use Rattle.cmm_readers.specs.DeclarationReading.{is_other};
 ghost use Rattle.cmm_readers.specs.ProcedureReading as readers;
-ghost use Rattle.cmm_parser.specs.Parsing.{Parses, point_of};
+ghost use Rattle.cmm_parser.specs.inside.Parsing.{Parses, point_of};
 
 use crate::fault::Stop;
 use crate::list::Listed;

@@ -7,7 +7,7 @@ ghost use Rattle.cmm_ast.specs.Taking.{is_sign};
 ghost use Rattle.cmm_readers.specs.Reading.{optional, many};
 ghost use Rattle.cmm_readers.specs.StatementReading as readers;
 ghost use Rattle.cmm_readers.specs.StatementReading.{is_within};
-ghost use Rattle.cmm_parser.specs.Parsing.{Parses, ParsesBlocks, ParsesChain, point_of};
+ghost use Rattle.cmm_parser.specs.inside.Parsing.{Parses, ParsesBlocks, ParsesChain, point_of};
 
 use crate::fault::Stop;
 use crate::parser::Parser;

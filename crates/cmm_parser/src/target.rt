@@ -7,7 +7,7 @@ ghost use Rattle.cmm_readers.specs.ExpressionReading.{begins_expression, whole};
 ghost use Rattle.cmm_readers.specs.PartReading as parts;
 ghost use Rattle.cmm_readers.specs.TargetReading as readers;
 ghost use Rattle.cmm_readers.specs.declared.told_apart.Targets.TheVariants.{Names};
-ghost use Rattle.cmm_parser.specs.Parsing.{Parses, point_of};
+ghost use Rattle.cmm_parser.specs.inside.Parsing.{Parses, point_of};
 
 use crate::fault::Stop;
 use crate::list::Listed;

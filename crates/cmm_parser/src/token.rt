@@ -9,7 +9,8 @@ ghost use Rattle.cmm_readers.specs.ExpressionReading.{operator_name};
 ghost use Rattle.cmm_readers.specs.PartReading.{is_any_name, is_any_text};
 ghost use Rattle.cmm_readers.specs.DeclarationReading.{is_other, optional_text};
 ghost use Rattle.cmm_lexer.specs.declared.piece.Lexeme.{Lexeme};
-ghost use Rattle.cmm_parser.specs.Parsing.{Parses, Skips, Stays, NoWord, NoSymbol, skipped, point_of, lexeme_in};
+ghost use Rattle.cmm_parser.specs.inside.Parsing.{Parses, Skips, Stays, NoWord, NoSymbol, skipped, point_of};
+ghost use Rattle.cmm_parser.specs.Faults.{lexeme_in};
 ghost use Rattle.cmm_parser.specs.declared.fault.Stop.{Stop};
 
 use crate::fault::Stop;
@@ -21,7 +22,7 @@ use cmm_words::Name;
 
 impl Parser<'_> {
     /// What the next token is, if there is one.
-    #[tactic(auto, unfolding(crate::specs::Parsing::point_of))]
+    #[tactic(auto, unfolding(crate::specs::inside::Parsing::point_of))]
     pub(crate) fn next(&self) -> Option<TokenKind>
         ensures { next (point_of self.now).left ≡ option_map (lexeme_in self.now.tokens.now) result }
     {
@@ -32,7 +33,7 @@ impl Parser<'_> {
     }
 
     /// The number of the next token.
-    #[tactic(auto, unfolding(crate::specs::Parsing::point_of))]
+    #[tactic(auto, unfolding(crate::specs::inside::Parsing::point_of))]
     pub(crate) fn here(&self) -> u32
         ensures { result ≡ (point_of self.now).taken }
     {
@@ -40,7 +41,7 @@ impl Parser<'_> {
     }
 
     /// The fault that the next token is none that may stand there.
-    #[tactic(auto, unfolding(crate::specs::Parsing::point_of))]
+    #[tactic(auto, unfolding(crate::specs::inside::Parsing::point_of))]
     pub(crate) fn unexpected(&self) -> Stop
         ensures { result ≡ Stop.Unexpected (point_of self.now).taken }
     {
@@ -80,7 +81,7 @@ impl Parser<'_> {
     }
 
     /// Takes the next token, if there is one.
-    #[tactic(auto, unfolding(crate::specs::Parsing::point_of))]
+    #[tactic(auto, unfolding(crate::specs::inside::Parsing::point_of))]
     pub(crate) fn take(&mut self)
         ensures there { 0 < length (point_of self.old).left → point_of self.new ≡ skipped (point_of self.old) }
         ensures fewer { 0 < length (point_of self.old).left → length (point_of self.new).left < length (point_of self.old).left }

@@ -4,7 +4,7 @@ ghost use Rattle.std.specs.Prelude.{◌≡◌, ◌-◌, ◌<◌, ◌≤◌, true
 ghost use Rattle.cmm_readers.specs.Reading.{next, passes, pick};
 ghost use Rattle.cmm_readers.specs.ExpressionReading as readers;
 ghost use Rattle.cmm_readers.specs.PartReading.{is_width};
-ghost use Rattle.cmm_parser.specs.Parsing.{Parses, Stays, point_of, width_next, Bits};
+ghost use Rattle.cmm_parser.specs.inside.Parsing.{Parses, Stays, point_of, width_next, Bits};
 
 use crate::fault::Stop;
 use crate::operators::width_of;

@@ -8,7 +8,7 @@ ghost use Rattle.cmm_readers.specs.DeclarationReading.{is_other};
 ghost use Rattle.cmm_readers.specs.UnitReading as readers;
 ghost use Rattle.cmm_ast.specs.Derivation.{DerivesWithin, at_start};
 ghost use Rattle.cmm_readers.specs.ReadingLaws.{point};
-ghost use Rattle.cmm_parser.specs.Parsing.{Parses, point_of};
+ghost use Rattle.cmm_parser.specs.inside.Parsing.{Parses, point_of};
 ghost use Rattle.cmm_parser.specs.Faults.{IsFaultOf, lexemes_of, places_of};
 
 use crate::fault::{Stop, SyntaxFault};
@@ -53,7 +53,7 @@ fn places(alloc: Global, tokens: &Tokens) -> Result<Items<Place>, AllocError>
 
 impl<'a> Parser<'a> {
     /// A parser before the first token.
-    #[tactic(auto, unfolding(crate::specs::Parsing::point_of))]
+    #[tactic(auto, unfolding(crate::specs::inside::Parsing::point_of))]
     pub(crate) fn new(alloc: Global, tokens: &'a Tokens) -> Parser<'a>
         requires { length tokens.now.list < 2 ^ 32 }
         ensures { point_of result ≡ point (at_start (lexemes_of tokens.now)) }

@@ -10,7 +10,8 @@ use Rattle.cmm_ast.specs.ExpressionGrammar.{unary_level}
 use Rattle.cmm_readers.specs.Reading.{Reads, ◌>>=◌, give, listed, more_listed}
 use Rattle.cmm_readers.specs.ExpressionReading as readers
 use Rattle.cmm_readers.specs.ExpressionReading.{begins_expression}
-use Rattle.cmm_parser.specs.Parsing.{lexeme_in, prefix_next}
+use Rattle.cmm_parser.specs.inside.Parsing.{prefix_next}
+use Rattle.cmm_parser.specs.Faults.{lexeme_in}
 use Rattle.cmm_parser.proofs.Steps.{steps, steps_below, stops, halts, gives, gives_same, holds, looks, found, same_reader, same_readers, brackets_below, stops_inside_below, stops_closing_below}
 use Rattle.cmm_parser.proofs.Loops.{starts_after, listed_turn, listed_ends, listed_ends_at, listed_breaks}
 use Rattle.cmm_parser.proofs.ExpressionSteps.{operand_starts, operand_breaks, climb_turn, climb_ends, climb_stops, climb_breaks, by_name, only_literal, literal_first}

@@ -2,7 +2,7 @@
 use Rattle.std.proofs.Common.{◌+◌, ◌*◌, length}
 use Rattle.cmm_readers.specs.Reading.{listed, more_listed}
 use Rattle.cmm_readers.specs.ExpressionReading as readers
-use Rattle.cmm_parser.specs.Parsing.{point_of}
+use Rattle.cmm_parser.specs.inside.Parsing.{point_of}
 use Rattle.cmm_parser.proofs.Loops.{Reaches}
 use Rattle.cmm_parser.proofs.ExpressionSteps.{climbing, Strict}
 use Rattle.cmm_parser.proofs.parser.Parser.+expression.Given as goal

@@ -5,7 +5,7 @@ use Rattle.cmm_readers.specs.Reading.{many}
 use Rattle.cmm_readers.specs.StatementReading.{block}
 use Rattle.cmm_readers.specs.DeclarationReading.{is_other}
 use Rattle.cmm_readers.specs.UnitReading.{item}
-use Rattle.cmm_parser.specs.Parsing.{point_of}
+use Rattle.cmm_parser.specs.inside.Parsing.{point_of}
 use Rattle.cmm_parser.proofs.Loops.{Reaches}
 use Rattle.cmm_parser.proofs.parser.Parser.+item.Given as goal
 

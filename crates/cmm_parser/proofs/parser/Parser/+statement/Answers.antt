@@ -9,7 +9,7 @@ use Rattle.cmm_ast.specs.declared.statement.StmtForm.{StmtForm}
 use Rattle.cmm_readers.specs.declared.told_apart.PartForm.{PartForm}
 use Rattle.cmm_readers.specs.Reading.{Reads, ◌>>=◌, give, here, many}
 use Rattle.cmm_readers.specs.StatementReading as readers
-use Rattle.cmm_parser.specs.Parsing.{chaining, point_of}
+use Rattle.cmm_parser.specs.inside.Parsing.{chaining, point_of}
 use Rattle.cmm_parser.proofs.Steps.{steps, stops, halts, stopped, gives, gives_same, holds, fails, takes, leaves, brackets, stops_opening, stops_inside, stops_closing, brackets_below, stops_inside_below, stops_closing_below}
 use Rattle.cmm_parser.proofs.Loops.{many_turn, many_ends, many_breaks}
 use Rattle.cmm_parser.proofs.StatementSteps.{at_count, diagonal, after_here, encloses, stops_enclosed, by_turns, body_of, body_counts, block_counts, still_less, numbered_stmt, numbered_part}

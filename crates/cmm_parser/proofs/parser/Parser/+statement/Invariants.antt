@@ -2,7 +2,7 @@
 use Rattle.std.proofs.Common.{◌+◌, ◌*◌, ◌<◌, [], ℕ, length}
 use Rattle.cmm_readers.specs.Reading.{many}
 use Rattle.cmm_readers.specs.StatementReading as readers
-use Rattle.cmm_parser.specs.Parsing.{point_of}
+use Rattle.cmm_parser.specs.inside.Parsing.{point_of}
 use Rattle.cmm_parser.proofs.Loops.{Reaches}
 use Rattle.cmm_parser.proofs.parser.Parser.+statement.Given as goal
 

@@ -5,7 +5,7 @@ use Rattle.cmm_ast.specs.declared.token.Ident.{Ident}
 use Rattle.cmm_ast.specs.declared.statement.FlowForm.{FlowForm}
 use Rattle.cmm_parser.specs.declared.fault.Stop.{Stop}
 use Rattle.cmm_lexer.specs.declared.keyword.Keyword.TheVariants.{To}
-use Rattle.cmm_parser.specs.Parsing.{Parses}
+use Rattle.cmm_parser.specs.inside.Parsing.{Parses}
 use Rattle.cmm_parser.proofs.Steps.{steps, stops, gives, takes, leaves}
 use Rattle.cmm_parser.proofs.CallSteps.{regroup}
 use Rattle.cmm_ast.specs.declared.statement.FlowForm.TheVariants as flows

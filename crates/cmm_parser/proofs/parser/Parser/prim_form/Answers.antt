@@ -5,7 +5,7 @@ use Rattle.cmm_readers.specs.Reading.{Reads}
 use Rattle.cmm_readers.specs.ExpressionReading as readers
 use Rattle.cmm_parser.proofs.Steps.{looks, found, with_more, same_readers}
 use Rattle.cmm_parser.proofs.ExpressionSteps.{literal_only}
-use Rattle.cmm_parser.specs.Parsing.{lexeme_in}
+use Rattle.cmm_parser.specs.Faults.{lexeme_in}
 use Rattle.cmm_parser.proofs.parser.Parser.prim_form.Goals as goal
 
 abbrev first : ℕ → Option Lexeme → Reads PrimForm

@@ -4,10 +4,6 @@ use Rattle.cmm_words.specs.declared.width.Width.{Width}
 use Rattle.cmm_lexer.specs.declared.keyword.Keyword.{Keyword}
 use Rattle.cmm_lexer.specs.declared.piece.Lexeme.{Lexeme}
 use Rattle.cmm_lexer.specs.declared.piece.Lexeme.TheVariants as l
-use Rattle.cmm_lexer.specs.declared.token.Token.{Token}
-use Rattle.cmm_lexer.specs.declared.token.TokenKind.{TokenKind}
-use Rattle.cmm_lexer.specs.declared.tokens.Tokens.{Tokens}
-use Rattle.cmm_lexer.specs.Lexing.{lexeme_of}
 use Rattle.cmm_readers.specs.Reading.{Point, Unexpected, TooDeep, Answer, Read, Stopped, Reads, next, past, passes, and_then, if_next, skip_opening, stop as refuse, symbol}
 use Rattle.cmm_ast.specs.Taking.{is_word, is_sign}
 use Rattle.cmm_lexer.specs.declared.keyword.Keyword.TheVariants.{If}
@@ -18,16 +14,14 @@ use Rattle.cmm_ast.specs.declared.expression.Prefix.{Prefix}
 use Rattle.cmm_readers.specs.ExpressionReading.{type_name, width_in, prefix_in}
 use Rattle.cmm_readers.specs.PartReading.{is_width}
 use Rattle.cmm_readers.specs.StatementReading.{block}
+use Rattle.cmm_rules.specs.Rules.{rule_number}
+use Rattle.cmm_rules.specs.declared.rule.Rule.TheVariants as rules
+use Rattle.cmm_parser.specs.Faults.{lexemes}
+use Rattle.cmm_parser.specs.declared.fault.SyntaxFault.{SyntaxFault}
+use Rattle.cmm_parser.specs.declared.fault.SyntaxFault.TheVariants as faults
 use Rattle.cmm_parser.specs.declared.fault.Stop.{Stop}
 use Rattle.cmm_parser.specs.declared.fault.Stop.TheVariants as stop
 use Rattle.cmm_parser.specs.declared.parser.Parser.{Parser}
-
--- what a token is, as a reader sees it
-abbrev pub lexeme_in : Tokens → TokenKind → Lexeme
-lexeme_in tokens kind = lexeme_of tokens.spellings.keys kind
-
-abbrev pub lexemes : Tokens → List Token → List Lexeme
-lexemes tokens list = map (λ t. lexeme_in tokens t.kind) list
 
 -- where a parser stands, as a reader sees it
 unfoldable pub point_of : Parser → Point
@@ -39,6 +33,12 @@ Answered answer (Ok a) after = answer ≡ Read a after
 Answered answer (Err (stop.Unexpected token)) after = answer ≡ Stopped Unexpected token
 Answered answer (Err (stop.TooDeep token)) after = answer ≡ Stopped TooDeep token
 Answered answer (Err stop.Memory) after = Unit {0}
+
+-- the fault that a stop is
+abbrev pub fault_of : Stop → SyntaxFault
+fault_of (stop.Unexpected token) = faults.At (rule_number rules.Syntax) token
+fault_of (stop.TooDeep token) = faults.At (rule_number rules.TooDeep) token
+fault_of stop.Memory = faults.Memory
 
 -- from one point to another a parser answers what this reader answers, for any count above the tokens that are left
 pub record Parses {A : Type 0} (reads : ℕ → Reads A) (before : Point) (result : Result A Stop) (after : Point) : Type 0 where
