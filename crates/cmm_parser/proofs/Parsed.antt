@@ -7,8 +7,7 @@ use Rattle.cmm_ast.specs.Derivation.{DerivesWithin, at_start}
 use Rattle.cmm_readers.specs.Reading.{Point}
 use Rattle.cmm_readers.specs.ReadingLaws.{point}
 use Rattle.cmm_readers.specs.UnitLaws.{whole_unit}
-use Rattle.cmm_readers.proofs.UnitLaws.{is_unexpected, read_is_unit}
-use Rattle.cmm_readers.proofs.ViableUnits.{is_too_deep}
+use Rattle.cmm_readers.proofs.Shared.{is_too_deep, is_unexpected, read_is_unit}
 use Rattle.cmm_parser.specs.declared.fault.SyntaxFault.{SyntaxFault}
 use Rattle.cmm_parser.specs.declared.fault.Stop.{Stop}
 use Rattle.cmm_parser.specs.declared.fault.Stop.TheVariants as stop

@@ -3,21 +3,12 @@ use Rattle.std.proofs.Common.{◌≡◌, ℕ, zero, suc, ◌≤◌, ◌⊎◌, i
 use denote.Hole.Carrier as Carrier
 use Rattle.cmm_lexer.specs.declared.piece.Lexeme.{Lexeme}
 use Rattle.cmm_lexer.specs.declared.piece.Lexeme.TheVariants as l
-use Rattle.cmm_ast.specs.declared.token.Ident.{Ident}
-use Rattle.cmm_ast.specs.declared.token.Text.{Text}
-use Rattle.cmm_lexer.specs.declared.keyword.Keyword.{Keyword}
-use Rattle.cmm_lexer.specs.declared.keyword.Keyword.TheVariants.{Continuation, Cut, Else, Foreign, Goto, If, Jump, Return, Span, Stackdata, Switch, To}
-use Rattle.cmm_lexer.specs.declared.symbol.Symbol.{Symbol}
-use Rattle.cmm_lexer.specs.declared.symbol.Symbol.TheVariants.{Assign, Colon, Comma, OpenBrace, CloseBrace, OpenSquare, Open, Close, Semicolon}
+use Rattle.cmm_lexer.specs.declared.keyword.Keyword.TheVariants.{Else, If, Span, Switch}
+use Rattle.cmm_lexer.specs.declared.symbol.Symbol.TheVariants.{OpenBrace, CloseBrace, OpenSquare}
 use Rattle.cmm_ast.specs.declared.expression.Expr.{Expr}
 use Rattle.cmm_ast.specs.declared.expression.Primary.{Primary}
-use Rattle.cmm_ast.specs.declared.procedure.LocalForm.{LocalForm}
-use Rattle.cmm_ast.specs.declared.procedure.LocalForm.TheVariants as locals
-use Rattle.cmm_ast.specs.declared.statement.Actual.{Actual}
 use Rattle.cmm_ast.specs.declared.statement.Arm.{Arm}
 use Rattle.cmm_ast.specs.declared.statement.Block.{Block, Row_of-Part, end_of-Part, more_of-Part, items-the_row-Part, items_shown-the_row-Part-0}
-use Rattle.cmm_ast.specs.declared.statement.Flow.{Flow}
-use Rattle.cmm_ast.specs.declared.statement.Kinded.{Kinded}
 use Rattle.cmm_ast.specs.declared.statement.Otherwise.{Otherwise, end_of-Stmt, more_of-Stmt, roll-Otherwise, out-Otherwise, roll-out-Otherwise}
 use Rattle.cmm_ast.specs.declared.statement.Otherwise.TheVariants as otherwises
 use Rattle.cmm_ast.specs.declared.statement.Otherwise.TheVariants.{Else', ElseIf'}
@@ -30,27 +21,25 @@ use Rattle.cmm_ast.specs.declared.statement.StmtForm.{StmtForm, Row_of-Arm, end_
 use Rattle.cmm_ast.specs.declared.statement.StmtForm.TheVariants as stmts
 use Rattle.cmm_ast.specs.declared.statement.StmtForm.TheVariants.{If', Switch', Span'}
 use Rattle.cmm_lexer.specs.Spellings.{keyword_number, symbol_number}
-use Rattle.cmm_ast.specs.Taking.{Reading, Takes, ◌⨾◌, nothing, is_word, is_sign, keyword as keyword_is, symbol as symbol_is, here as here_is, opening as opening_is, enclosed as enclosed_is, in_brackets as in_brackets_is, braces as braces_is, optional as optional_is, commas as commas_is, listed as listed_is, many as many_is, may_list as may_list_is, is_checked}
+use Rattle.cmm_ast.specs.Taking.{Reading, Takes, ◌⨾◌, is_word, is_sign, keyword as keyword_is, here as here_is, opening as opening_is, enclosed as enclosed_is, braces as braces_is, optional as optional_is, many as many_is}
 use Rattle.cmm_ast.specs.ExpressionGrammar as grammar
 use Rattle.cmm_ast.specs.StatementGrammar as bodies
 use Rattle.cmm_readers.specs.Reading.{Reads, ◌>>=◌, give, stop, if_next, here, skip, skip_opening}
-use Rattle.cmm_readers.specs.ReadingLaws.{Moves, Complete}
+use Rattle.cmm_readers.specs.inside.Duties.{Complete}
 use Rattle.cmm_readers.specs.StatementReading.{PartForm, OfLocal, OfStmt, flat_part, if_form, chained, otherwise, is_within, arm, switch_form, span_form, part_of, part_form, part, block}
-use Rattle.cmm_readers.proofs.Completes.{Next, Anything, Strict, moves_trans, both, follow_complete, less_complete, after_complete, fewer_complete, give_complete, last_complete, holds_complete, fails_complete, skip_complete, opening_complete, here_complete, enclosed_complete, token_strict, never_complete}
-use Rattle.cmm_readers.proofs.Tokens.{only_keyword, only_symbol, only_checked, symbol_complete, keyword_complete, ident_complete, text_complete}
-use Rattle.cmm_readers.proofs.Lists.{takes_assoc, zero_complete, Each, each_of}
-use Rattle.cmm_readers.proofs.Rows.{many_to-nothing}
+use Rattle.cmm_readers.specs.ExpressionReading.{begins_expression}
+use Rattle.cmm_readers.proofs.Takings.{takes_assoc, many_to-nothing}
+use Rattle.cmm_readers.proofs.StatementForms.{opened, form_of_if, chained_if, form_of_span, form_of_else, form_of_else_if, form_is, part_is, block_is, arm_, form_of_switch}
+use Rattle.cmm_readers.proofs.Completes.{Next, Anything, both, follow_complete, less_complete, after_complete, fewer_complete, give_complete, last_complete, holds_complete, fails_complete, skip_complete, opening_complete, here_complete, enclosed_complete, token_strict, never_complete, same_complete}
+use Rattle.cmm_readers.proofs.Tokens.{only_keyword}
+use Rattle.cmm_readers.proofs.Lists.{zero_complete, Each, each_of, by_turns}
 use Rattle.cmm_readers.proofs.CompleteExpressions.{Begins, in_brackets_complete, whole_complete, ends_before}
-use Rattle.cmm_readers.proofs.CompleteParts.{kinded_complete, arguments_complete, lvalue_complete, callee_complete, whole_prim_complete, exit_complete}
-use Rattle.cmm_readers.proofs.CompleteFlows.{may_comma_complete, annotations_complete}
-use Rattle.cmm_readers.proofs.CompleteProcedures.{modifiers_complete, variables_complete, ident_strict, type_strict, stackdata_complete}
+use Rattle.cmm_readers.proofs.CompleteParts.{whole_prim_complete}
 use Rattle.cmm_readers.proofs.CompleteUnits.{begins_no_more}
 use Rattle.cmm_readers.proofs.CompleteCalls.{switch_span_complete}
 use Rattle.cmm_readers.proofs.CompleteCases.{arm_spends}
-use Rattle.cmm_readers.proofs.CompleteRepeats.{Passes, Not, Spends, strict_second, here_strict, follow_spends, not_next_spends, if_next_spends, Rows, many_complete, strict_then, optional_complete, other_symbol}
-use Rattle.cmm_readers.proofs.CompleteFlatParts.{FlatStart, HoldsNoBlock, local_complete, stmt_complete}
-use Rattle.cmm_readers.proofs.StatementForms.{opened, form_of_if, chained_if, form_of_span, form_of_else, form_of_else_if, form_is, part_is, block_is, arm_, form_of_switch}
-use Rattle.cmm_readers.specs.ExpressionReading.{begins_expression}
+use Rattle.cmm_readers.proofs.CompleteRepeats.{Passes, Not, Spends, here_strict, follow_spends, not_next_spends, if_next_spends, Rows, many_complete, strict_then, optional_complete, other_symbol, word_fewer, same_spends}
+use Rattle.cmm_readers.proofs.CompleteFlatParts.{FlatStart, HoldsNoBlock, local_spends, stmt_spends}
 
 -- ---- what a part begins with
 
@@ -60,131 +49,6 @@ NotElse = Not (is_word Else)
 -- a part of a block begins with no brace that ends the block, and with no `else`
 abbrev pub PartStart : Option Lexeme → Type 0
 PartStart x = Passes is_within x × NotElse x
-
--- ---- what holds no block takes a token or more
-
--- leaves no more tokens, and a token over a limit the first
-record Forward (takes : Takes) : Type 0 where
-  moves : (r after : Reading) → takes r ≡ Some after → Moves r after
-
-of_complete : {A : Type 0} {fuel : ℕ} {p : Takes} {a : A} {reads : Reads A} {first follow : Option Lexeme → Type 0} →
-    Complete fuel p a reads first follow → Forward p
-of_complete one = record { moves = one.moves }
-
-then_forward : {p q : Takes} → Forward p → Forward q → Forward (p ⨾ q)
-then_forward {p} {q} one two = record {
-  moves = λ r after e. let s = both p q r after e in moves_trans (one.moves r s.between s.first) (two.moves s.between after s.second);
-}
-
-nothing_forward : Forward nothing
-nothing_forward = of_complete (give_complete {A = Unit {0}} {fuel = 0} {follow = Anything} tt)
-
-symbol_forward : (s : Symbol) → Forward (symbol_is s)
-symbol_forward s = of_complete (symbol_complete {fuel = 0} s)
-
-keyword_forward : (k : Keyword) → Forward (keyword_is k)
-keyword_forward k = of_complete (keyword_complete {fuel = 0} k)
-
-optional_forward : {A : Type 0} (p : A → Takes) → ((a : A) → Forward (p a)) → (o : Option A) → Forward (optional_is p o)
-optional_forward p each (Some a) = each a
-optional_forward p each None = nothing_forward
-
-commas_forward : {A : Type 0} (p : A → Takes) → ((a : A) → Forward (p a)) → (as_ : List A) → Forward (commas_is p as_)
-commas_forward p each [] = record { moves = λ r after e. absurd cc }
-commas_forward p each (a ∷ []) = each a
-commas_forward p each (a ∷ b ∷ rest) = then_forward (each a) (then_forward (symbol_forward Comma) (commas_forward p each (b ∷ rest)))
-
-listed_forward : {A : Type 0} (p : A → Takes) → ((a : A) → Forward (p a)) → (as_ : List A) → Forward (listed_is p as_)
-listed_forward p each as_ = then_forward (commas_forward p each as_) (of_complete (may_comma_complete {fuel = 0} {follow = Anything}))
-
-may_list_forward : {A : Type 0} (p : A → Takes) → ((a : A) → Forward (p a)) → (as_ : List A) → Forward (may_list_is p as_)
-may_list_forward p each [] = nothing_forward
-may_list_forward p each (a ∷ as_) = listed_forward p each (a ∷ as_)
-
-brackets_forward : (left : Symbol) (p : Takes) (right : Symbol) → Forward p → Forward (in_brackets_is left p right)
-brackets_forward left p right inner = of_complete (in_brackets_complete left right (λ x e. tt) no_tokens) where
-  no_tokens : Complete {A = Unit {0}} 0 p tt stop Anything Anything
-  no_tokens = record {
-    moves = inner.moves;
-    begins = λ r after e f. tt;
-    complete = λ limited r after e f less fits. absurd (omega arith);
-  }
-
-results_forward : (to : List Kinded) → Forward (bodies.results to)
-results_forward [] = nothing_forward
-results_forward (k ∷ ks) =
-    then_forward (commas_forward bodies.kinded (λ k. of_complete (kinded_complete {fuel = 0} k)) (k ∷ ks)) (symbol_forward Assign)
-
-whole_forward : (e : Expr) → Forward (grammar.whole e)
-whole_forward e = of_complete (whole_complete 0 e)
-
-checked_forward : (op : Ident) → Forward (bodies.checked op)
-checked_forward op =
-    then_forward (of_complete (here_complete {fuel = 0} {follow = Anything} op.token))
-    (of_complete (skip_complete {fuel = 0} (is_checked op.name) (only_checked op.name)))
-
-convention_forward : (by : Option Text) → Forward (optional_is (λ t. keyword_is Foreign ⨾ grammar.text t) by)
-convention_forward by =
-    optional_forward (λ t. keyword_is Foreign ⨾ grammar.text t) (λ t. then_forward (keyword_forward Foreign) (of_complete (text_complete {fuel = 0} t))) by
-
--- up to a symbol that ends it
-before_symbol : {p : Takes} (s : Symbol) → Forward p → Strict (p ⨾ symbol_is s)
-before_symbol s one = strict_second one.moves (token_strict (only_symbol s))
-
-after_word : {p : Takes} (k : Keyword) → Forward p → Strict (keyword_is k ⨾ p)
-after_word k one = strict_then (token_strict (only_keyword k)) one.moves
-
-call_forward : (actuals : List Actual) (fs : List Flow) → Forward (bodies.arguments actuals ⨾ bodies.annotated fs ⨾ symbol_is Semicolon)
-call_forward actuals fs =
-    then_forward (of_complete (arguments_complete 0 actuals)) (then_forward (of_complete (annotations_complete 0 fs)) (symbol_forward Semicolon))
-
-call_strict : (actuals : List Actual) (fs : List Flow) → Strict (bodies.arguments actuals ⨾ bodies.annotated fs ⨾ symbol_is Semicolon)
-call_strict actuals fs =
-    strict_second (arguments_complete 0 actuals).moves (before_symbol Semicolon (of_complete (annotations_complete 0 fs)))
-
-stmt_strict : (f : StmtForm) → HoldsNoBlock f → Strict (bodies.stmt_form f)
-stmt_strict stmts.Empty none = token_strict (only_symbol Semicolon)
-stmt_strict (If' condition _ body otherwise) none = absurd none
-stmt_strict (Switch' over value _ arms) none = absurd none
-stmt_strict (Span' key value _ body) none = absurd none
-stmt_strict (stmts.Assign to found) none =
-    strict_second (commas_forward bodies.lvalue (λ v. of_complete (lvalue_complete 0 v)) to).moves
-    (strict_then (token_strict (only_symbol Assign))
-    (then_forward (listed_forward grammar.whole whole_forward found) (symbol_forward Semicolon)).moves)
-stmt_strict (stmts.Checked result op left right fs) none =
-    strict_then (ident_strict result)
-    (then_forward (symbol_forward Assign)
-    (then_forward (checked_forward op)
-    (then_forward
-    (brackets_forward Open (grammar.whole left ⨾ symbol_is Comma ⨾ grammar.whole right) Close
-    (then_forward (whole_forward left) (then_forward (symbol_forward Comma) (whole_forward right))))
-    (then_forward (of_complete (annotations_complete 0 fs)) (symbol_forward Semicolon))))).moves
-stmt_strict (stmts.Call to by what actuals fs) none =
-    strict_second (results_forward to).moves
-    (strict_second (convention_forward by).moves (strict_second (callee_complete 0 what).moves (call_strict actuals fs)))
-stmt_strict (stmts.Jump what actuals) none =
-    after_word Jump
-    (then_forward (of_complete (callee_complete 0 what)) (then_forward (of_complete (arguments_complete 0 actuals)) (symbol_forward Semicolon)))
-stmt_strict (stmts.Return by found) none =
-    after_word Return
-    (then_forward (optional_forward bodies.exit (λ e. of_complete (exit_complete 0 e)) by)
-    (then_forward (optional_forward bodies.arguments (λ as_. of_complete (arguments_complete 0 as_)) found) (symbol_forward Semicolon)))
-stmt_strict (stmts.Label name) none = strict_then (ident_strict name) (symbol_forward Colon).moves
-stmt_strict (stmts.Continuation name ks) none =
-    after_word Continuation
-    (then_forward (of_complete (ident_complete {fuel = 0} name))
-    (then_forward
-    (brackets_forward Open (may_list_is bodies.kinded ks) Close (may_list_forward bodies.kinded (λ k. of_complete (kinded_complete {fuel = 0} k)) ks))
-    (symbol_forward Colon)))
-stmt_strict (stmts.Goto name) none = after_word Goto (then_forward (of_complete (ident_complete {fuel = 0} name)) (symbol_forward Semicolon))
-stmt_strict (stmts.Cut what actuals fs) none =
-    after_word Cut (then_forward (keyword_forward To) (then_forward (of_complete (callee_complete 0 what)) (call_forward actuals fs)))
-
-local_strict : (f : LocalForm) → Strict (bodies.local_form f)
-local_strict (locals.Variables before width names) =
-    strict_second (modifiers_complete {fuel = 0} width.form before).moves
-    (strict_then (type_strict width) (variables_complete {fuel = 0} before width names).moves)
-local_strict (locals.Stackdata found) = after_word Stackdata (of_complete (stackdata_complete {fuel = 0} found))
 
 -- ---- how each tree is made of its parts
 
@@ -248,12 +112,8 @@ block_law ps laws = record { complete = by } where
   same : bodies.block (record { parts = ps }) ≡ braces_is (many_is bodies.part_ ps)
   same = block_is ps ∙ ap braces_is (sym (many_to-nothing bodies.part_ ps))
 
-  again : (n : ℕ) → Complete (suc n) (bodies.block (record { parts = ps })) (record { parts = ps }) (block (suc n)) Opened Anything
-  again n = subst (λ t. Complete (suc n) t (record { parts = ps }) (block (suc n)) Opened Anything) (sym same) (row n)
-
   by : (n : ℕ) → Complete n (bodies.block (record { parts = ps })) (record { parts = ps }) (block n) Opened Anything
-  by zero = zero_complete (again 0)
-  by (suc n) = again n
+  by n = by_turns block (λ n le. same_complete same (row n)) n (le_refl n)
 
 -- ---- an `if` and what follows its block
 
@@ -274,16 +134,6 @@ Chained f =
 record FormLaw (f : StmtForm) : Type 0 where
   form : (n : ℕ) → Spends (suc n) (bodies.stmt_form f) (OfStmt f) (part_form (suc n) (block n)) PartStart NotElse
   chained : Chained f
-
--- a statement that begins with a word of its own
-word_law : {n : ℕ} {rest : Takes} {form : Reads PartForm} {f : PartForm} {first follow : Option Lexeme → Type 0} (word : Keyword) →
-    Complete n rest f form first follow →
-    Spends (suc n) (keyword_is word ⨾ rest) f (skip >>= λ _. form) (Next (l.Word (keyword_number word))) follow
-word_law {f = f} word rest = record {
-  complete = fewer_complete {b = λ _. f} (token_strict (only_keyword word)) (skip_complete (is_word word) (only_keyword word)) (λ x f. tt)
-      (λ _. rest);
-  strict = strict_then (token_strict (only_keyword word)) rest.moves;
-}
 
 if_complete : {fuel n : ℕ} {blocks : Reads Block} {others : Reads Otherwise} (c : Expr) (b : Block) (o : Otherwise) → fuel ≤ n →
     Complete fuel (bodies.block b) b blocks Opened Anything → Complete fuel (bodies.otherwise_ o) o others Anything NotElse →
@@ -326,9 +176,9 @@ if_law c b o body rest = record { form = form; chained = chain } where
 
   form : (n : ℕ) → Spends (suc n) (bodies.stmt_form (stmts.If c b o)) (OfStmt (stmts.If c b o)) (part_form (suc n) (block n)) PartStart NotElse
   form n =
-      subst (λ t. Spends (suc n) t (OfStmt (stmts.If c b o)) (part_form (suc n) (block n)) PartStart NotElse) (sym (form_of_if c b o))
+      same_spends (form_of_if c b o)
       (follow_spends (λ x e. rw e (refl, refl)) (λ x f. f)
-      (if_next_spends _ (λ x e. rw e refl) (word_law If (last_complete OfStmt (outer n)))))
+      (if_next_spends _ (λ x e. rw e refl) (word_fewer If (last_complete OfStmt (outer n)))))
 
   chain_takes : (past : ℕ) → (bodies.chained (stmts.If c b o) ⨾ here_is past) ≡ (opening_is (keyword_is If) ⨾ takes ⨾ here_is past)
   chain_takes past = ap (λ t. t ⨾ here_is past) (chained_if c b o) ∙ takes_assoc (opening_is (keyword_is If)) takes (here_is past)
@@ -336,12 +186,7 @@ if_law c b o body rest = record { form = form; chained = chain } where
   chain : Chained (stmts.If c b o)
   chain first past n turns le =
       chained_complete _ first past (stmts.If c b o) (λ m.
-      subst
-      (λ t. Complete {A = Stmt} turns t (record { token = m; past = past; form = stmts.If c b o })
-      (if_next (is_word If) skip_opening stop >>= λ _.
-      after_if n turns >>= λ form. here >>= λ past. give record { token = m; past = past; form = form })
-      (Next (l.Word (keyword_number If))) NotElse)
-      (sym (chain_takes past))
+      same_complete (chain_takes past)
       (after_complete {b = λ _. record { token = m; past = past; form = stmts.If c b o }}
       (holds_complete {fails = stop} (is_word If) (λ x e. rw e refl) (opening_complete (is_word If) (only_keyword If)))
       (λ x f. tt) (λ _.
@@ -373,7 +218,7 @@ after_else {o = o} rest =
 else_law : (b : Block) → BlockLaw b → OtherwiseLaw (otherwises.Else b)
 else_law b body =
     each_turn (otherwises.Else b) (λ n turns le.
-    subst (λ t. Complete (suc turns) t (otherwises.Else b) (otherwise (suc turns) (suc n) (block n)) Anything NotElse) (sym (form_of_else b))
+    same_complete (form_of_else b)
     (follow_complete (λ x f. tt) (λ x f. tt)
     (after_else
     (holds_complete {fails = chained (after_if n turns) >>= λ s. give (otherwises.ElseIf s)}
@@ -382,7 +227,7 @@ else_law b body =
 else_if_law : (s : Stmt) → FormLaw s.form → OtherwiseLaw (otherwises.ElseIf s)
 else_if_law s law =
     each_turn (otherwises.ElseIf s) (λ n turns le.
-    subst (λ t. Complete (suc turns) t (otherwises.ElseIf s) (otherwise (suc turns) (suc n) (block n)) Anything NotElse) (sym (form_of_else_if s))
+    same_complete (form_of_else_if s)
     (follow_complete (λ x f. tt) (λ x f. f)
     (after_else
     (fails_complete {holds = block n >>= λ body. give (otherwises.Else body)} (is_sign OpenBrace) (λ x e. rw e refl)
@@ -427,10 +272,10 @@ span_complete n key v b law =
 switch_law : (over : Option SwitchSpan) (v : Expr) (as_ : List Arm) → Each (λ a. BlockLaw a.body) as_ → FormLaw (stmts.Switch over v as_)
 switch_law over v as_ laws = record {
   form = λ n.
-      subst (λ t. Spends (suc n) t (OfStmt (stmts.Switch over v as_)) (part_form (suc n) (block n)) PartStart NotElse) (sym same)
+      same_spends same
       (follow_spends (λ x e. rw e (refl, refl)) (λ x f. tt)
       (not_next_spends _ (λ x e. rw e refl)
-      (if_next_spends _ (λ x e. rw e refl) (word_law Switch (last_complete OfStmt (switch_complete n over v as_ laws))))));
+      (if_next_spends _ (λ x e. rw e refl) (word_fewer Switch (last_complete OfStmt (switch_complete n over v as_ laws))))));
   chained = never_chained (stmts.Switch over v as_) (λ r. refl);
 }
   where
@@ -443,11 +288,11 @@ switch_law over v as_ laws = record {
 span_law : (key : Primary) (v : Expr) (b : Block) → BlockLaw b → FormLaw (stmts.Span key v b)
 span_law key v b law = record {
   form = λ n.
-      subst (λ t. Spends (suc n) t (OfStmt (stmts.Span key v b)) (part_form (suc n) (block n)) PartStart NotElse) (sym (form_of_span key v b))
+      same_spends (form_of_span key v b)
       (follow_spends (λ x e. rw e (refl, refl)) (λ x f. tt)
       (not_next_spends _ (λ x e. rw e refl)
       (not_next_spends _ (λ x e. rw e refl)
-      (if_next_spends _ (λ x e. rw e refl) (word_law Span (last_complete OfStmt (span_complete n key v b law)))))));
+      (if_next_spends _ (λ x e. rw e refl) (word_fewer Span (last_complete OfStmt (span_complete n key v b law)))))));
   chained = never_chained (stmts.Span key v b) (λ r. refl);
 }
 
@@ -458,7 +303,7 @@ part_law_of : (first past : ℕ) (f : PartForm) →
     ((n : ℕ) → Spends (suc n) (form_is f) f (part_form (suc n) (block n)) PartStart NotElse) → PartLaw (part_of first past f)
 part_law_of first past f law = record {
   spends = λ n.
-      subst (λ t. Spends (suc n) t (part_of first past f) (part (suc n) (block n)) PartStart NotElse) (sym (part_is first past f)) record {
+      same_spends (part_is first past f) record {
         complete = after_complete {b = λ m. part_of m past f} (here_complete first) (λ x f. f) (λ m.
             after_complete {b = λ f. part_of m past f} (law n).complete (λ x f. f) (λ f. last_complete (λ past. part_of m past f) (here_complete past)));
         strict = here_strict first (strict_then (law n).strict (here_complete {fuel = 0} {follow = Anything} past).moves);
@@ -473,7 +318,7 @@ flat_spends n f one =
 
 flat_law : (f : StmtForm) → HoldsNoBlock f → ((r : Reading) → bodies.chained f r ≡ None) → FormLaw f
 flat_law f none never = record {
-  form = λ n. flat_spends n (OfStmt f) record { complete = stmt_complete f none; strict = stmt_strict f none };
+  form = λ n. flat_spends n (OfStmt f) (stmt_spends f none);
   chained = never_chained f never;
 }
 
@@ -509,7 +354,7 @@ mutual
   part_law : (p : Part) → PartLaw p
   part_law (parts.Local found) =
       part_law_of found.token found.past (OfLocal found.form) (λ n.
-      flat_spends n (OfLocal found.form) record { complete = local_complete found.form; strict = local_strict found.form })
+      flat_spends n (OfLocal found.form) (local_spends found.form))
   part_law (Stmt' first past form) = subst (λ p. PartLaw p) (stmt_is first past form) (part_law_of first past (OfStmt form) (form_law form).form)
 
   parts_law : {n : _} (row : Row_of-Part n) → Each PartLaw (items-the_row-Part n row)

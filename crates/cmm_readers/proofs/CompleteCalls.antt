@@ -17,7 +17,7 @@ use Rattle.cmm_ast.specs.Taking.{◌⨾◌, is_word, keyword as keyword_is, symb
 use Rattle.cmm_ast.specs.ExpressionGrammar as grammar
 use Rattle.cmm_ast.specs.StatementGrammar as bodies
 use Rattle.cmm_readers.specs.Reading.{give}
-use Rattle.cmm_readers.specs.ReadingLaws.{Complete}
+use Rattle.cmm_readers.specs.inside.Duties.{Complete}
 use Rattle.cmm_readers.specs.CallReading.{call, convention, call_after}
 use Rattle.cmm_readers.specs.StatementReading.{switch_span}
 use Rattle.cmm_readers.proofs.Completes.{Next, Anything, after_complete, give_complete, last_complete, follow_complete, less_complete, holds_complete, fails_complete, skip_complete}

@@ -1,5 +1,5 @@
 -- Each case and arm of a switch is read, over how its block is.
-use Rattle.std.proofs.Common.{ℕ, zero, suc, ◌≤◌, inl, inr, List, [], ◌∷◌, ◌++◌, Option, refl, sym, ◌∙◌, arith, subst, append_assoc, append-nil, le_refl}
+use Rattle.std.proofs.Common.{ℕ, suc, ◌≤◌, inl, inr, List, [], ◌∷◌, ◌++◌, Option, refl, sym, ◌∙◌, append_assoc, append-nil, le_refl}
 use Rattle.cmm_lexer.specs.declared.piece.Lexeme.{Lexeme}
 use Rattle.cmm_lexer.specs.declared.piece.Lexeme.TheVariants as l
 use Rattle.cmm_lexer.specs.declared.keyword.Keyword.TheVariants.{Case as CaseWord, Default}
@@ -14,16 +14,17 @@ use Rattle.cmm_lexer.specs.Spellings.{symbol_number}
 use Rattle.cmm_ast.specs.Taking.{Takes, ◌⨾◌, nothing, is_sign, symbol as symbol_is, commas as commas_is}
 use Rattle.cmm_ast.specs.StatementGrammar as bodies
 use Rattle.cmm_readers.specs.Reading.{Reads, ◌>>=◌, give, skip, is_comma, more_commas, commas}
-use Rattle.cmm_readers.specs.ReadingLaws.{Complete}
+use Rattle.cmm_readers.specs.inside.Duties.{Complete}
 use Rattle.cmm_readers.specs.PartReading.{range}
 use Rattle.cmm_readers.specs.StatementReading.{case, is_within, arm}
-use Rattle.cmm_readers.proofs.Completes.{Next, Anything, follow_complete, less_complete, after_complete, fewer_complete, give_complete, last_complete, holds_complete, fails_complete, skip_complete, here_complete, token_strict, never_complete}
+use Rattle.cmm_readers.proofs.Takings.{takes_nothing, rest_to, commas_to}
+use Rattle.cmm_readers.proofs.StatementForms.{arm_}
+use Rattle.cmm_readers.proofs.Completes.{Next, Anything, follow_complete, less_complete, after_complete, fewer_complete, give_complete, last_complete, holds_complete, fails_complete, skip_complete, here_complete, token_strict, never_complete, same_complete}
 use Rattle.cmm_readers.proofs.Tokens.{only_symbol, symbol_complete}
-use Rattle.cmm_readers.proofs.Lists.{takes_nothing, After, rest_to, commas_to, zero_complete, Each, each_of}
+use Rattle.cmm_readers.proofs.Lists.{After, Each, each_of, by_turns}
 use Rattle.cmm_readers.proofs.CompleteExpressions.{Begins, Ends, ends_before}
 use Rattle.cmm_readers.proofs.CompleteParts.{range_complete}
 use Rattle.cmm_readers.proofs.CompleteRepeats.{Passes, Not, Spends, strict_then, here_strict, if_word_spends, not_next_spends, follow_spends, keyword_spends}
-use Rattle.cmm_readers.proofs.StatementForms.{arm_}
 
 -- ---- with a comma between two
 
@@ -41,27 +42,24 @@ module _ {A : Type 0} (reads : Reads A) (p : A → Takes) (first : Option Lexeme
 
   more_commas_complete : {fuel : ℕ} (as_ so_far : List A) (turns : ℕ) → turns ≤ fuel → Each (λ a. Complete fuel (p a) a reads first follow_one) as_ →
       Complete turns (rest_to p as_ nothing) (so_far ++ as_) (more_commas turns reads so_far) (After follow) follow
-  more_commas_complete [] so_far zero le items =
-      rw (append-nil so_far) (zero_complete {fuel = zero} (follow_complete (λ x f. inr f) (λ x f. f) (give_complete so_far)))
-  more_commas_complete [] so_far (suc turns) le items =
+  more_commas_complete [] so_far turns le items =
       rw (append-nil so_far)
-      (follow_complete (λ x f. inr f) (λ x f. f)
-      (fails_complete {holds = skip >>= λ _. reads >>= λ a. more_commas turns reads (so_far ++ (a ∷ []))} is_comma no_comma (give_complete so_far)))
-  more_commas_complete (a ∷ as_) so_far zero le items =
-      zero_complete {reads = more_commas 1 reads so_far}
-      (commas_step {tree = λ b. so_far ++ (b ∷ as_)} so_far (less_complete le items.0) (λ b. rw (sym (append_assoc so_far (b ∷ []) as_))
-      (more_commas_complete as_ (so_far ++ (b ∷ [])) zero le items.1)))
-  more_commas_complete (a ∷ as_) so_far (suc turns) le items =
-      let less : turns ≤ _ = omega arith in
-      commas_step {tree = λ b. so_far ++ (b ∷ as_)} so_far (less_complete less items.0) (λ b. rw (sym (append_assoc so_far (b ∷ []) as_))
-      (more_commas_complete as_ (so_far ++ (b ∷ [])) turns less items.1))
+      (by_turns (λ n. more_commas n reads so_far)
+      (λ n le. follow_complete (λ x f. inr f) (λ x f. f)
+      (fails_complete {holds = skip >>= λ _. reads >>= λ a. more_commas n reads (so_far ++ (a ∷ []))} is_comma no_comma (give_complete so_far)))
+      turns le)
+  more_commas_complete (a ∷ as_) so_far turns le items =
+      by_turns (λ n. more_commas n reads so_far)
+      (λ n le. commas_step {tree = λ b. so_far ++ (b ∷ as_)} so_far (less_complete le items.0) (λ b. rw (sym (append_assoc so_far (b ∷ []) as_))
+      (more_commas_complete as_ (so_far ++ (b ∷ [])) n le items.1)))
+      turns le
 
   -- one or more
   pub commas_complete : (fuel : ℕ) (as_ : List A) → ((a : A) → Complete fuel (p a) a reads first follow_one) →
       Complete fuel (commas_is p as_) as_ (commas fuel reads) first follow
   commas_complete fuel [] item = never_complete (λ r after e. absurd cc)
   commas_complete fuel (a ∷ as_) item =
-      subst (λ t. Complete fuel t (a ∷ as_) (commas fuel reads) first follow) (sym (commas_to p a as_ nothing) ∙ takes_nothing (commas_is p (a ∷ as_)))
+      same_complete (sym (takes_nothing (commas_is p (a ∷ as_))) ∙ commas_to p a as_ nothing)
       (after_complete (item a) goes_on (λ b. more_commas_complete as_ (b ∷ []) fuel (le_refl fuel) (each_of item as_)))
 
 -- ---- cases

@@ -1,5 +1,5 @@
 -- Each declaration is read.
-use Rattle.std.proofs.Common.{◌≡◌, ℕ, ◌⊎◌, inl, inr, Bool, true, false, List, [], ◌∷◌, Option, Some, None, refl, sym, ◌∙◌, subst, le_refl}
+use Rattle.std.proofs.Common.{◌≡◌, ℕ, ◌⊎◌, inl, inr, Bool, true, false, List, [], ◌∷◌, Option, Some, None, refl, ◌∙◌, le_refl}
 use Rattle.cmm_lexer.specs.declared.piece.Lexeme.{Lexeme}
 use Rattle.cmm_lexer.specs.declared.piece.Lexeme.TheVariants as l
 use Rattle.cmm_words.specs.declared.width.Width.{Width}
@@ -29,17 +29,18 @@ use Rattle.cmm_ast.specs.ExpressionGrammar as grammar
 use Rattle.cmm_ast.specs.ExpressionGrammar.{width_word}
 use Rattle.cmm_ast.specs.UnitGrammar as units
 use Rattle.cmm_readers.specs.Reading.{◌>>=◌, give, symbol, keyword, optional, ident}
-use Rattle.cmm_readers.specs.ReadingLaws.{Complete}
+use Rattle.cmm_readers.specs.inside.Duties.{Complete}
 use Rattle.cmm_readers.specs.ExpressionReading.{type_name}
 use Rattle.cmm_readers.specs.DeclarationReading.{is_other, bits, begins_name, TypeFirst, NameFirst, Neither, head_by, head, optional_text, names, import_name, import_of, as_text, export_name, imports_by, exports_by, typed_name_by, byte_order, property_form, property, imports, exports, constant, typedef, target, is_invariant, register, decl_form, decl}
-use Rattle.cmm_readers.proofs.Completes.{Next, Anything, follow_complete, after_complete, give_complete, last_complete, holds_complete, fails_complete, never_complete}
-use Rattle.cmm_readers.proofs.Tokens.{symbol_complete, keyword_complete, ident_complete, text_complete, int_complete}
-use Rattle.cmm_readers.proofs.Lists.{After, Parts, takes_assoc, commas_to, each_of, rest_to, more_listed_complete, listed_complete}
-use Rattle.cmm_readers.proofs.CompleteExpressions.{type_token, type_name_complete, whole_complete, ends_before}
-use Rattle.cmm_readers.proofs.SoundDeclarations.{property_is}
-use Rattle.cmm_readers.proofs.CompleteRepeats.{Passes, Not, then_complete, start_complete, end_complete, flat_complete, strict_second, follow_spends, only_word_complete, some_complete, none_complete, parts_before, Spends, if_word_spends, keyword_spends, not_next_spends, here_spends, Rows, many_complete}
 use Rattle.cmm_readers.specs.PartReading.{is_any_name, is_any_text, is_width}
-use Rattle.cmm_readers.proofs.SoundExpressions.{none_after}
+use Rattle.cmm_readers.proofs.Takings.{takes_assoc, commas_to, rest_to}
+use Rattle.cmm_readers.proofs.ExpressionForms.{none_after}
+use Rattle.cmm_readers.proofs.UnitForms.{property_is}
+use Rattle.cmm_readers.proofs.Completes.{Next, Anything, follow_complete, after_complete, give_complete, last_complete, holds_complete, fails_complete, never_complete, then_complete, same_complete}
+use Rattle.cmm_readers.proofs.Tokens.{symbol_complete, keyword_complete, ident_complete, text_complete, int_complete}
+use Rattle.cmm_readers.proofs.Lists.{After, Parts, each_of, more_listed_complete, listed_complete}
+use Rattle.cmm_readers.proofs.CompleteExpressions.{type_token, type_name_complete, whole_complete, ends_before}
+use Rattle.cmm_readers.proofs.CompleteRepeats.{either_not, Passes, Not, start_complete, end_complete, flat_complete, strict_second, follow_spends, only_word_complete, some_complete, none_complete, parts_before, Spends, if_word_spends, keyword_spends, not_next_spends, here_spends, Rows, many_complete}
 
 -- ---- what a type begins with, and an expression ends before
 
@@ -121,10 +122,6 @@ import_complete i = follow_complete (import_begins i.link i.name) (λ x f. tt) (
 import_parts : Parts begins_name (Passes begins_name) Anything (Next (l.Symbol (symbol_number Semicolon)))
 import_parts = parts_before begins_name Semicolon refl refl (λ x f. tt)
 
-after_no_name : (x : Option Lexeme) → After (Next (l.Symbol (symbol_number Semicolon))) x → Not begins_name x
-after_no_name x (inl e) = rw e refl
-after_no_name x (inr e) = rw e refl
-
 text_head_complete : {fuel : ℕ} (bytes : List ℕ) → Complete fuel nothing Neither head (Next (l.Text bytes)) (Next (l.Text bytes))
 text_head_complete bytes =
     start_complete head_by (none_complete is_width (λ x e. rw e refl)) (λ x e. e) (fails_complete is_any_name (λ x e. rw e refl) (give_complete Neither))
@@ -141,7 +138,7 @@ untyped_imports {fuel} (Some t) name is =
     more_listed_complete import_name units.import_name import_parts is (i ∷ []) fuel (le_refl fuel) (each_of import_complete is)))))
 untyped_imports {fuel} None name is =
     follow_complete (λ x f. tt) (λ x f. f)
-    (then_complete (imports_by fuel) (name_head_complete name) after_no_name
+    (then_complete (imports_by fuel) (name_head_complete name) (either_not _ refl refl)
     (last_complete (λ found. (None, found))
     (more_listed_complete import_name units.import_name import_parts is (import_of name ∷ []) fuel (le_refl fuel) (each_of import_complete is))))
 
@@ -154,8 +151,7 @@ imports_complete {fuel} (Some w) (i ∷ is) =
     (then_complete (imports_by fuel) (type_head_complete w) (λ x f. f)
     (last_complete (λ found. (Some w, found)) (listed_complete import_name units.import_name import_parts i is import_complete)))
 imports_complete {fuel} None (i ∷ is) =
-    subst (λ t. Complete fuel t (None, i ∷ is) (head >>= imports_by fuel) Anything (Next (l.Symbol (symbol_number Semicolon))))
-    (sym (commas_to units.import_name i is may_comma)) (untyped_imports i.link i.name is)
+    same_complete (commas_to units.import_name i is may_comma) (untyped_imports i.link i.name is)
 
 -- exports
 abbrev NotAs : Option Lexeme → Type 0
@@ -174,16 +170,12 @@ export_complete e =
     follow_complete (λ x is. rw is refl) (λ x f. f)
     (after_complete (ident_complete e.name) (λ x f. tt) (λ name. last_complete (λ link. record { name = name; link = link }) (as_text_complete (λ x f. f) e.link)))
 
-after_not_as : (x : Option Lexeme) → After (Next (l.Symbol (symbol_number Semicolon))) x → NotAs x
-after_not_as x (inl e) = rw e refl
-after_not_as x (inr e) = rw e refl
-
 link_no_name : (x : Option Lexeme) → Next (l.Word (keyword_number As)) x ⊎ After (Next (l.Symbol (symbol_number Semicolon))) x → Not begins_name x
 link_no_name x (inl e) = rw e refl
-link_no_name x (inr f) = after_no_name x f
+link_no_name x (inr f) = either_not _ refl refl x f
 
 export_parts : Parts is_any_name (Passes is_any_name) NotAs (Next (l.Symbol (symbol_number Semicolon)))
-export_parts = parts_before is_any_name Semicolon refl refl after_not_as
+export_parts = parts_before is_any_name Semicolon refl refl (either_not _ refl refl)
 
 name_begins : (x : Option Lexeme) → Passes is_any_name x → Passes begins_name x
 name_begins (Some (l.Name bytes)) e = refl
@@ -197,7 +189,7 @@ untyped_exports {fuel} name link es =
     follow_complete (λ x f. tt) (λ x f. f)
     (then_complete (exports_by fuel) (name_head_complete name) link_no_name
     (last_complete (λ found. (None, found))
-    (after_complete (last_complete (λ link. record { name = name; link = link }) (as_text_complete after_not_as link)) (λ x f. f) (λ e.
+    (after_complete (last_complete (λ link. record { name = name; link = link }) (as_text_complete (either_not _ refl refl) link)) (λ x f. f) (λ e.
     more_listed_complete export_name units.export_name export_parts es (e ∷ []) fuel (le_refl fuel) (each_of export_complete es)))))
 
 exports_complete : {fuel : ℕ} (width : Option TypeName) (es : List Export) →
@@ -209,8 +201,7 @@ exports_complete {fuel} (Some w) (e ∷ es) =
     (then_complete (exports_by fuel) (type_head_complete w) name_begins
     (last_complete (λ found. (Some w, found)) (listed_complete export_name units.export_name export_parts e es export_complete)))
 exports_complete {fuel} None (e ∷ es) =
-    subst (λ t. Complete fuel t (None, e ∷ es) (head >>= exports_by fuel) Anything (Next (l.Symbol (symbol_number Semicolon))))
-    (sym (commas_to units.export_name e es may_comma ∙ takes_assoc (grammar.ident e.name) _ (rest_to units.export_name es may_comma)))
+    same_complete (commas_to units.export_name e es may_comma ∙ takes_assoc (grammar.ident e.name) _ (rest_to units.export_name es may_comma))
     (untyped_exports e.name e.link es)
 
 -- a name after a type that may be left out

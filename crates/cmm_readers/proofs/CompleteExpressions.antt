@@ -27,15 +27,16 @@ use Rattle.cmm_ast.specs.declared.expression.Memory.{Memory', roll-Memory}
 use Rattle.cmm_lexer.specs.Spellings.{keyword_number, symbol_number}
 use Rattle.cmm_ast.specs.Taking.{Reading, Takes, ◌⨾◌, token, nothing, is_word, is_sign, is_name, is_operator, is_int, is_char, keyword as keyword_is, symbol as symbol_is, here as here_is, operator as operator_is, optional as optional_is, square as square_is, in_brackets as in_brackets_is, may_comma}
 use Rattle.cmm_ast.specs.ExpressionGrammar as grammar
-use Rattle.cmm_ast.specs.ExpressionGrammar.{width_word, prefix_symbol, infix_symbol, infix_level, left_level, right_level, unary_level, level_of, binds, expr_form, prim_form, aligned_by, number_of}
+use Rattle.cmm_ast.specs.ExpressionGrammar.{width_word, prefix_symbol, infix_symbol, infix_level, left_level, right_level, unary_level, level_of, expr_form, prim_form, aligned_by, number_of}
 use Rattle.cmm_readers.specs.Reading.{Point, TooDeep, Answer, Read, Stopped, Reads, and_then, ◌>>=◌, give, next, look, passes, skip_operator, stop, in_brackets, pick, listed}
-use Rattle.cmm_readers.specs.ReadingLaws.{point, passed, outcome, Moves, Complete}
+use Rattle.cmm_readers.specs.ReadingLaws.{point}
+use Rattle.cmm_readers.specs.inside.Duties.{passed, outcome, Moves, Complete}
 use Rattle.cmm_readers.specs.ExpressionReading.{width_in, infix_in, sized, type_by, type_name, named_type, number_in, typed, literal, bracketed, aligned, located, memory, name_or_memory, prefixed, unary_by, begins_expression, tight, infix_next, joined, climb, operand, whole}
-use Rattle.cmm_readers.proofs.Completes.{Next, Anything, Strict, moves_trans, outcome_read, outcome_stopped, after_outcome, after_outcome_if, after_complete, fewer_complete, give_complete, last_complete, follow_complete, less_complete, at_complete, holds_complete, fails_complete, skip_complete, operator_complete, operator_strict, opening_complete, opening_strict, here_complete, enclosed_complete, outermost_complete, both, number_same, never_complete}
-use Rattle.cmm_readers.proofs.SoundExpressions.{opened, operand_is, form_of_infix, level_of_infix, small_level, row_operands, any_level}
-use Rattle.cmm_readers.proofs.Lists.{takes_nothing, After, Parts, Each, list_complete}
-use Rattle.cmm_readers.proofs.Sounds.{same_number}
+use Rattle.cmm_readers.proofs.Takings.{takes_nothing, same_number}
+use Rattle.cmm_readers.proofs.ExpressionForms.{opened, operand_is, form_of_infix, level_of_infix, small_level, row_operands, any_level}
+use Rattle.cmm_readers.proofs.Completes.{Next, Anything, Strict, moves_trans, outcome_read, outcome_stopped, after_outcome, after_outcome_if, after_complete, fewer_complete, give_complete, last_complete, follow_complete, less_complete, at_complete, holds_complete, fails_complete, skip_complete, operator_complete, operator_strict, opening_complete, opening_strict, here_complete, enclosed_complete, outermost_complete, both, number_same, never_complete, by_taken, same_complete}
 use Rattle.cmm_readers.proofs.Tokens.{only_symbol, only_keyword, only_int, only_char, only_name, only_operator, symbol_complete, ident_complete, int_complete, pick_complete, some_is}
+use Rattle.cmm_readers.proofs.Lists.{After, Parts, Each, list_complete}
 use Rattle.cmm_readers.proofs.CompleteRepeats.{parts_before}
 
 -- ---- what may follow
@@ -60,41 +61,24 @@ pub record Ends (level : ℕ) (x : Option Lexeme) : Type 0 where
 abbrev pub Begins : Option Lexeme → Type 0
 Begins x = passes begins_expression x ≡ true
 
-infix_in_is : (op : InfixOperator) → infix_in (symbol_number (infix_symbol op)) ≡ Some op
-infix_in_is Eq = refl
-infix_in_is Ne = refl
-infix_in_is Lt = refl
-infix_in_is Le = refl
-infix_in_is Gt = refl
-infix_in_is Ge = refl
-infix_in_is Or = refl
-infix_in_is Xor = refl
-infix_in_is And = refl
-infix_in_is Shl = refl
-infix_in_is Shr = refl
-infix_in_is Add = refl
-infix_in_is Sub = refl
-infix_in_is Mul = refl
-infix_in_is Div = refl
-infix_in_is Mod = refl
-
-infix_no_more : (op : InfixOperator) → more (l.Symbol (symbol_number (infix_symbol op))) ≡ false
-infix_no_more Eq = refl
-infix_no_more Ne = refl
-infix_no_more Lt = refl
-infix_no_more Le = refl
-infix_no_more Gt = refl
-infix_no_more Ge = refl
-infix_no_more Or = refl
-infix_no_more Xor = refl
-infix_no_more And = refl
-infix_no_more Shl = refl
-infix_no_more Shr = refl
-infix_no_more Add = refl
-infix_no_more Sub = refl
-infix_no_more Mul = refl
-infix_no_more Div = refl
-infix_no_more Mod = refl
+-- the symbol of an operator is its own, and goes on with no literal or name
+infix_is : (op : InfixOperator) → (infix_in (symbol_number (infix_symbol op)) ≡ Some op) × (more (l.Symbol (symbol_number (infix_symbol op))) ≡ false)
+infix_is Eq = (refl, refl)
+infix_is Ne = (refl, refl)
+infix_is Lt = (refl, refl)
+infix_is Le = (refl, refl)
+infix_is Gt = (refl, refl)
+infix_is Ge = (refl, refl)
+infix_is Or = (refl, refl)
+infix_is Xor = (refl, refl)
+infix_is And = (refl, refl)
+infix_is Shl = (refl, refl)
+infix_is Shr = (refl, refl)
+infix_is Add = (refl, refl)
+infix_is Sub = (refl, refl)
+infix_is Mul = (refl, refl)
+infix_is Div = (refl, refl)
+infix_is Mod = (refl, refl)
 
 pub width_in_is : (width : Width) → width_in (keyword_number (width_word width)) ≡ Some width
 width_in_is W8 = refl
@@ -175,46 +159,32 @@ abbrev AfterAddress : Option Lexeme → Type 0
 AfterAddress x =
     (x ≡ Some (l.Word (keyword_number Aligned))) ⊎ (x ≡ Some (l.Word (keyword_number Align))) ⊎ (x ≡ Some (l.Symbol (symbol_number CloseSquare)))
 
--- trees of two kinds
-pub either_complete : {A : Type 0} {fuel : ℕ} {p first_kind second_kind : Takes} {a : A} {reads : Reads A} {first follow : Option Lexeme → Type 0} →
-    ((r after : Reading) → p r ≡ Some after → (first_kind r ≡ Some after) ⊎ (second_kind r ≡ Some after)) →
-    Complete fuel first_kind a reads first follow → Complete fuel second_kind a reads first follow → Complete fuel p a reads first follow
-either_complete {fuel = fuel} {first_kind = first_kind} {second_kind = second_kind} {a = a} {reads = reads} {first = first} {follow = follow} kinds one two = record {
-  moves = λ r after e. moves r after (kinds r after e);
-  begins = λ r after e f. begins r after f (kinds r after e);
-  complete = λ limited r after e f less fits. complete limited r after f less fits (kinds r after e);
-}
-  where
-    moves : (r after : Reading) → (first_kind r ≡ Some after) ⊎ (second_kind r ≡ Some after) → Moves r after
-    moves r after (inl e) = one.moves r after e
-    moves r after (inr e) = two.moves r after e
+-- by either word
+abbrev by_word : Int → Bool → Takes
+by_word i first r = elim first [ true ↦ (keyword_is Aligned ⨾ grammar.int i) r | false ↦ (keyword_is Align ⨾ grammar.int i) r ]
 
-    begins : (r after : Reading) → follow (next after.left) → (first_kind r ≡ Some after) ⊎ (second_kind r ≡ Some after) → first (next r.left)
-    begins r after f (inl e) = one.begins r after e f
-    begins r after f (inr e) = two.begins r after e f
-
-    complete : (limited : Bool) (r after : Reading) → follow (next after.left) → length r.left < fuel → passed limited r ≡ None →
-        (first_kind r ≡ Some after) ⊎ (second_kind r ≡ Some after) → reads limited (point r) ≡ outcome limited a after
-    complete limited r after f less fits (inl e) = one.complete limited r after e f less fits
-    complete limited r after f less fits (inr e) = two.complete limited r after e f less fits
-
-by_aligned : (o : Option Reading) (i : Int) (second : Takes) (r after : Reading) →
-    elim o as (λ _. Option Reading) [ Some x ↦ grammar.int i x | None ↦ second r ] ≡ Some after →
-    (elim o as (λ _. Option Reading) [ Some x ↦ grammar.int i x | None ↦ None ] ≡ Some after) ⊎ (second r ≡ Some after)
-by_aligned (Some x) i second r after e = inl e
-by_aligned None i second r after e = inr e
+by_aligned : (o : Option Reading) (i : Int) (r after : Reading) →
+    elim o as (λ _. Option Reading) [ Some x ↦ grammar.int i x | None ↦ (keyword_is Align ⨾ grammar.int i) r ] ≡ Some after →
+    (first : Bool) × (elim first as (λ _. Option Reading) [
+      | true ↦ elim o as (λ _. Option Reading) [ Some x ↦ grammar.int i x | None ↦ None ]
+      | false ↦ (keyword_is Align ⨾ grammar.int i) r
+    ] ≡ Some after)
+by_aligned (Some x) i r after e = (true, e)
+by_aligned None i r after e = (false, e)
 
 aligned_complete : {fuel : ℕ} (bytes : Option Int) →
     Complete fuel (optional_is aligned_by bytes) bytes aligned AfterAddress (Next (l.Symbol (symbol_number CloseSquare)))
-aligned_complete (Some i) =
-    either_complete (λ r after e. by_aligned (keyword_is Aligned r) i (keyword_is Align ⨾ grammar.int i) r after e)
-    (follow_complete (λ x e. inl e) (λ x e. tt)
-    (holds_complete (is_word Aligned) (λ x e. rw e refl)
-    (after_complete (skip_complete (is_word Aligned) (only_keyword Aligned)) (λ x f. tt) (λ _. last_complete (λ i. Some i) (int_complete i)))))
-    (follow_complete (λ x e. inr (inl e)) (λ x e. tt)
-    (fails_complete (is_word Aligned) (λ x e. rw e refl)
-    (holds_complete {fails = give None} (is_word Align) (λ x e. rw e refl)
-    (after_complete (skip_complete (is_word Align) (only_keyword Align)) (λ x f. tt) (λ _. last_complete (λ i. Some i) (int_complete i))))))
+aligned_complete {fuel} (Some i) = by_taken (by_word i) (λ r after e. by_aligned (keyword_is Aligned r) i r after e) each where
+  each : (first : Bool) → Complete fuel (by_word i first) (Some i) aligned AfterAddress (Next (l.Symbol (symbol_number CloseSquare)))
+  each true =
+      follow_complete (λ x e. inl e) (λ x e. tt)
+      (holds_complete (is_word Aligned) (λ x e. rw e refl)
+      (after_complete (skip_complete (is_word Aligned) (only_keyword Aligned)) (λ x f. tt) (λ _. last_complete (λ i. Some i) (int_complete i))))
+  each false =
+      follow_complete (λ x e. inr (inl e)) (λ x e. tt)
+      (fails_complete (is_word Aligned) (λ x e. rw e refl)
+      (holds_complete {fails = give None} (is_word Align) (λ x e. rw e refl)
+      (after_complete (skip_complete (is_word Align) (only_keyword Align)) (λ x f. tt) (λ _. last_complete (λ i. Some i) (int_complete i)))))
 aligned_complete None =
     follow_complete (λ x e. inr (inr e)) (λ x e. e)
     (fails_complete (is_word Aligned) (λ x e. rw e refl)
@@ -329,7 +299,7 @@ infix_next_is : (level : ℕ) (left : ExprForm) (op : InfixOperator) → level �
 infix_next_is level left op le high =
     let low_enough : nat_le level (infix_level op) ≡ true = grind (arith, nat_tests) in
     let left_enough : nat_le (left_level op) (level_of left) ≡ true = grind (arith, nat_tests) in
-    ap (tight level left) (infix_in_is op) ∙ rw (tight, low_enough, left_enough) refl
+    ap (tight level left) (infix_is op).0 ∙ rw (tight, low_enough, left_enough) refl
 
 infix_below_left : (op : InfixOperator) → infix_level op ≤ left_level op
 infix_below_left op = grind (arith, nat_tests)
@@ -418,9 +388,9 @@ module _ (left : Expr) (op : InfixOperator) (right : Expr) (left_spine : (n : �
   left_ends level between past_operator taken high =
       let symbol_next = (the_operator {fuel = 0} op).begins between past_operator taken tt in
       record {
-        no_more = rw symbol_next (infix_no_more op);
+        no_more = rw symbol_next (infix_is op).1;
         goes_on = λ other is.
-            let same : other ≡ op = some_is (sym (infix_in_is op) ∙ ap next_infix (sym symbol_next) ∙ is) in
+            let same : other ≡ op = some_is (sym (infix_is op).0 ∙ ap next_infix (sym symbol_next) ∙ is) in
             inr (rw same high);
       }
 
@@ -480,11 +450,7 @@ free p r = rw (◌⨾◌, here_is, same_number r.taken) refl
 -- a tree may be told the number of the next token
 free_complete : {A : Type 0} {fuel : ℕ} {p : Takes} {a : A} {reads : Reads A} {first follow : Option Lexeme → Type 0} →
     ((token : ℕ) → Complete fuel (here_is token ⨾ p) a reads first follow) → Complete fuel p a reads first follow
-free_complete {p = p} each = record {
-  moves = λ r after e. (each r.taken).moves r after (free p r ∙ e);
-  begins = λ r after e. (each r.taken).begins r after (free p r ∙ e);
-  complete = λ limited r after e. (each r.taken).complete limited r after (free p r ∙ e);
-}
+free_complete {p = p} each = by_taken (λ token. here_is token ⨾ p) (λ r after e. (r.taken, free p r ∙ e)) each
 
 module _ (fuel : ℕ) where
   abbrev Unary : ExprForm → Type 0
@@ -513,8 +479,7 @@ module _ (fuel : ℕ) where
   name_unary bytes =
       follow_complete (λ x e. rw e refl) (λ x f. f)
       (at_complete (unary_by fuel (operand fuel)) (l.Name bytes)
-      (free_complete (λ t. subst (λ p. Complete (suc fuel) p (Prim (NameOf bytes)) (name_or_memory (operand fuel)) (Next (l.Name bytes)) NoMore)
-      (takes_nothing (here_is t ⨾ token (is_name bytes))) (named_by bytes t))))
+      (free_complete (λ t. same_complete (sym (takes_nothing (here_is t ⨾ token (is_name bytes)))) (named_by bytes t))))
 
   module _ (e : Expr) (spine : (n : ℕ) → Spine n e.form) where
     pub bracketed_complete : Complete (suc fuel) (prim_form (Bracketed e)) (Bracketed e) (bracketed (operand fuel)) (Next (l.Symbol (symbol_number Open))) Anything
@@ -577,7 +542,7 @@ module _ (fuel : ℕ) where
 -- ---- the operands of an operator that is written by its name
 
 pub expr_complete : (fuel : ℕ) (e : Expr) → ((n : ℕ) → Spine n e.form) → Complete fuel (grammar.expr e) e (operand fuel 0) Begins (Ends 0)
-expr_complete fuel e spine = subst (λ t. Complete fuel t e (operand fuel 0) Begins (Ends 0)) (any_level e) (operand_complete fuel 0 e spine)
+expr_complete fuel e spine = same_complete (sym (any_level e)) (operand_complete fuel 0 e spine)
 
 pub ends_before : (s : Symbol) → more (l.Symbol (symbol_number s)) ≡ false → infix_in (symbol_number s) ≡ None → (x : Option Lexeme) →
     Next (l.Symbol (symbol_number s)) x → Ends 0 x
@@ -609,9 +574,7 @@ operands_complete fuel n end_of-Expr spines = never_complete (λ r after e. absu
 operands_complete fuel n (more_of-Expr {n = m} token_ f rest) spines =
     let e : Expr = record { token = token_; form = f } in
     let es : List Expr = items-the_row-Expr m rest in
-    subst
-    (λ t. Complete fuel t (e ∷ es) (listed fuel begins_expression (operand fuel 0)) Begins (Next (l.Symbol (symbol_number Close))))
-    (sym (row_operands n (more_of-Expr token_ f rest) e es may_comma refl))
+    same_complete (row_operands n (more_of-Expr token_ f rest) e es may_comma refl)
     (list_complete (operand fuel 0) grammar.expr operands e es (each_expr fuel (e ∷ es) spines))
 
 named_is : (bytes : List ℕ) (shape : _) (row : _) → Named bytes (items-the_row-Expr _ row) ≡ Named' bytes shape row

@@ -1,5 +1,5 @@
 -- Each part of a body that holds no block is read.
-use Rattle.std.proofs.Common.{◌≡◌, ℕ, refl, List, None, Option, Some, [], ap, false, subst, sym, ◌∙◌, ◌∷◌, inl, inr, Bool, true}
+use Rattle.std.proofs.Common.{◌≡◌, ℕ, refl, List, [], None, Option, Some, ap, false, sym, ◌∙◌, ◌∷◌, Bool, true}
 use Rattle.cmm_words.specs.declared.width.Width.TheVariants.{W8, W16, W32, W64}
 use Rattle.cmm_words.specs.declared.width.Width.{Width}
 use Rattle.cmm_lexer.specs.declared.piece.Lexeme.TheVariants as l
@@ -36,23 +36,23 @@ use Rattle.cmm_ast.specs.ExpressionGrammar as grammar
 use Rattle.cmm_ast.specs.ExpressionGrammar.{width_word, aligned_by}
 use Rattle.cmm_ast.specs.StatementGrammar as bodies
 use Rattle.cmm_readers.specs.Reading.{Reads, if_next, next, skip, ◌>>=◌}
-use Rattle.cmm_readers.specs.ReadingLaws.{Complete}
+use Rattle.cmm_readers.specs.inside.Duties.{Complete}
 use Rattle.cmm_readers.specs.ExpressionReading.{named_type, type_name}
 use Rattle.cmm_readers.specs.PartReading.{is_any_name, is_width}
-use Rattle.cmm_readers.specs.ProcedureReading.{stackdata, variables}
-use Rattle.cmm_readers.specs.StatementReading.{OfLocal, PartForm, flat_by, flat_part, is_within, memory_stmt, name_part, name_stmt, of_local, of_stmt, text_part, kind_part, kinded_part, width_part, OfStmt, memory_token, word_stmt}
+use Rattle.cmm_readers.specs.ProcedureReading.{variables}
+use Rattle.cmm_readers.specs.StatementReading.{OfLocal, PartForm, flat_by, flat_part, is_within, memory_stmt, name_stmt, of_local, of_stmt, kind_part, kinded_part, width_part, OfStmt, memory_token, word_stmt}
 use Rattle.cmm_readers.specs.TargetReading.{Results}
-use Rattle.cmm_readers.proofs.Completes.{Anything, Next, at_complete, both, fails_complete, follow_complete, holds_complete, last_complete, skip_complete, token_taken, number_taken, never_complete}
-use Rattle.cmm_readers.proofs.Tokens.{ident_complete, only_keyword, text_complete}
-use Rattle.cmm_readers.proofs.Lists.{takes_assoc, takes_nothing, commas_to, rest_to}
-use Rattle.cmm_readers.proofs.CompleteRepeats.{then_complete, Not, Passes, other_symbol}
+use Rattle.cmm_readers.proofs.Takings.{takes_assoc, takes_nothing, commas_to, rest_to}
+use Rattle.cmm_readers.proofs.ExpressionForms.{opened, operand_is}
+use Rattle.cmm_readers.proofs.StatementForms.{outer_type}
+use Rattle.cmm_readers.proofs.Completes.{Anything, Next, at_complete, both, fails_complete, holds_complete, last_complete, skip_complete, token_taken, number_taken, token_strict, then_complete}
+use Rattle.cmm_readers.proofs.Tokens.{ident_complete, only_keyword, only_text, text_complete}
+use Rattle.cmm_readers.proofs.CompleteRepeats.{either_not, Not, Passes, other_symbol, Spends, strict_then, strict_second, here_strict, follow_spends, not_next_spends, if_next_spends, last_spends, never_spends, word_spends, taken_spends, same_spends}
 use Rattle.cmm_readers.proofs.CompleteExpressions.{type_name_complete, type_token}
 use Rattle.cmm_readers.proofs.CompleteDeclarations.{bits_begin}
 use Rattle.cmm_readers.proofs.CompleteNames.{AtOpen, Located, located_stmt, memory_call, memory_values, name_call, name_located, name_results, name_values, word_at, name_checked, name_label}
-use Rattle.cmm_readers.proofs.CompleteProcedures.{modifiers_complete, stackdata_complete, variables_complete, type_no_invariant}
-use Rattle.cmm_readers.proofs.CompleteTargets.{first_complete, AfterTarget, CallAfter, CallRest, ResultsRest, ValuesAfter, assignment_call, known_complete, numbers_same}
-use Rattle.cmm_readers.proofs.SoundExpressions.{opened, operand_is}
-use Rattle.cmm_readers.proofs.SoundParts.{outer_type}
+use Rattle.cmm_readers.proofs.CompleteProcedures.{modifiers_complete, stackdata_complete, variables_complete, type_no_invariant, ident_strict, type_strict}
+use Rattle.cmm_readers.proofs.CompleteTargets.{first_complete, CallAfter, CallRest, ResultsRest, ValuesAfter, assignment_call, numbers_same}
 use Rattle.cmm_readers.proofs.CompleteWords.{return_stmt, goto_stmt, jump_stmt, cut_stmt, continuation_stmt, foreign_stmt, bracketed_stmt, empty_stmt}
 
 -- what a part that holds no block begins with
@@ -102,15 +102,11 @@ width_of_no_block W64 = refl
 
 module _ {fuel : ℕ} {p : Takes} {form : PartForm} where
   -- this token
-  at_token : (x : Lexeme) → is_within x ≡ true → is_none of_blocks x ≡ true → Complete fuel p form (flat_by fuel (Some x)) (Next x) Anything →
-      Complete fuel p form (flat_part fuel) FlatStart Anything
-  at_token x within none one = follow_complete (λ y is. rw is (flat_start x within none)) (λ y f. f) (at_complete (flat_by fuel) x one)
-
-  at_name : (bytes : List ℕ) → Complete fuel p form (name_part fuel) (Next (l.Name bytes)) Anything → Complete fuel p form (flat_part fuel) FlatStart Anything
-  at_name bytes one = at_token (l.Name bytes) refl refl one
-
-  at_text : (bytes : List ℕ) → Complete fuel p form (text_part fuel) (Next (l.Text bytes)) Anything → Complete fuel p form (flat_part fuel) FlatStart Anything
-  at_text bytes one = at_token (l.Text bytes) refl refl one
+  at_token : (x : Lexeme) → is_within x ≡ true → is_none of_blocks x ≡ true → Spends fuel p form (flat_by fuel (Some x)) (Next x) Anything →
+      Spends fuel p form (flat_part fuel) FlatStart Anything
+  at_token x within none one =
+      follow_spends (λ y is. rw is (flat_start x within none)) (λ y f. f)
+      (record { complete = at_complete (flat_by fuel) x one.complete; strict = one.strict })
 
 -- what follows a name
 abbrev after_name : ℕ → Ident → Reads PartForm
@@ -125,19 +121,26 @@ after_kind fuel kind =
 -- a part that begins with a name, a width, or a kind, by what follows that
 module _ {fuel : ℕ} {p : Takes} {form : PartForm} {first : Option Lexeme → Type 0} where
   by_name : (name : Ident) → Complete fuel p form (after_name fuel name) first Anything →
-      Complete fuel (grammar.ident name ⨾ p) form (flat_part fuel) FlatStart Anything
-  by_name name one = at_name name.name (then_complete (after_name fuel) (ident_complete name) (λ x f. tt) one)
+      Spends fuel (grammar.ident name ⨾ p) form (flat_part fuel) FlatStart Anything
+  by_name name one =
+      at_token (l.Name name.name) refl refl
+      (record { complete = then_complete (after_name fuel) (ident_complete name) (λ x f. tt) one; strict = strict_then (ident_strict name) one.moves })
 
   by_width : (token_ : ℕ) (width : Width) → Complete fuel p form (width_part fuel (record { token = token_; form = Bits width })) first Anything →
-      Complete fuel (grammar.type_name (record { token = token_; form = Bits width }) ⨾ p) form (flat_part fuel) FlatStart Anything
+      Spends fuel (grammar.type_name (record { token = token_; form = Bits width }) ⨾ p) form (flat_part fuel) FlatStart Anything
   by_width token_ width one =
+      let t : TypeName = record { token = token_; form = Bits width } in
       at_token (l.Word (keyword_number (width_word width))) refl (width_of_no_block width)
-      (holds_complete is_width (λ x is. rw is (bits_begin width))
-      (then_complete (width_part fuel) (type_name_complete (record { token = token_; form = Bits width })) (λ x f. tt) one))
+      (if_next_spends is_width (λ x is. rw is (bits_begin width))
+      (record { complete = then_complete (width_part fuel) (type_name_complete t) (λ x f. tt) one; strict = strict_then (type_strict t) one.moves }))
 
   by_kind : (kind : Text) → Complete fuel p form (after_kind fuel kind) first Anything →
-      Complete fuel (grammar.text kind ⨾ p) form (flat_part fuel) FlatStart Anything
-  by_kind kind one = at_text kind.bytes (then_complete (after_kind fuel) (text_complete kind) (λ x f. tt) one)
+      Spends fuel (grammar.text kind ⨾ p) form (flat_part fuel) FlatStart Anything
+  by_kind kind one =
+      at_token (l.Text kind.bytes) refl refl record {
+        complete = then_complete (after_kind fuel) (text_complete kind) (λ x f. tt) one;
+        strict = strict_then (here_strict kind.token (token_strict (only_text kind.bytes))) one.moves;
+      }
 
   by_kind_name : (kind : Text) (name : Ident) → Complete fuel p form (kinded_part fuel kind name) first Anything →
       Complete fuel (grammar.ident name ⨾ p) form (after_kind fuel kind) (Next (l.Name name.name)) Anything
@@ -157,7 +160,7 @@ Named named = listed_is grammar.ident named ⨾ symbol_is sign.Semicolon
 module _ (fuel : ℕ) (named : List Ident) where
   abbrev Variables : Modifiers → TypeName → Type 0
   Variables before width =
-      Complete fuel (bodies.modifiers before ⨾ grammar.type_name width ⨾ Named named) (OfLocal (locals.Variables before width named)) (flat_part fuel) FlatStart Anything
+      Spends fuel (bodies.modifiers before ⨾ grammar.type_name width ⨾ Named named) (OfLocal (locals.Variables before width named)) (flat_part fuel) FlatStart Anything
 
   after_type : (before : Modifiers) (width : TypeName) →
       Complete fuel (Named named) (OfLocal (locals.Variables before width named)) (of_local (variables fuel before width)) (Passes is_any_name) Anything
@@ -187,8 +190,7 @@ module _ (fuel : ℕ) (named : List Ident) where
 
   kind_invariant_variables : (kind : Text) (width : TypeName) → Variables (before.KindInvariant kind) width
   kind_invariant_variables kind width =
-      subst (λ t. Complete fuel t (OfLocal (locals.Variables (before.KindInvariant kind) width named)) (flat_part fuel) FlatStart Anything)
-      (sym (takes_assoc (grammar.text kind) (keyword_is word.Invariant) (grammar.type_name width ⨾ Named named)))
+      same_spends (takes_assoc (grammar.text kind) (keyword_is word.Invariant) (grammar.type_name width ⨾ Named named))
       (by_kind kind
       (holds_complete (is_word word.Invariant) (λ x is. rw is refl)
       (then_complete (λ _. type_name >>= λ width. of_local (variables fuel (before.KindInvariant kind) width))
@@ -200,10 +202,12 @@ module _ (fuel : ℕ) (named : List Ident) where
       Variables m width
   invariant_variables m width first =
       at_token (l.Word (keyword_number word.Invariant)) refl refl
-      (fails_complete is_width (λ x is. rw is refl)
-      (holds_complete (is_word word.Invariant) (λ x is. rw is refl)
-      (first_complete first
-      (then_complete (λ m. type_name >>= λ width. of_local (variables fuel m width)) (modifiers_complete width.form m) (λ x e. e) (typed m width)))))
+      (not_next_spends is_width (λ x is. rw is refl)
+      (if_next_spends (is_word word.Invariant) (λ x is. rw is refl) record {
+        complete = first_complete first
+            (then_complete (λ m. type_name >>= λ width. of_local (variables fuel m width)) (modifiers_complete width.form m) (λ x e. e) (typed m width));
+        strict = strict_second (modifiers_complete {fuel = 0} width.form m).moves (strict_then (type_strict width) (after_type m width).moves);
+      }))
 
 -- the word is what the modifiers begin with
 invariant_next : (n : ℕ) (p q : Takes) (r after : Reading) → ((here_is n ⨾ keyword_is word.Invariant ⨾ p) ⨾ q) r ≡ Some after →
@@ -213,34 +217,32 @@ invariant_next n p q r after e =
     let t = both (keyword_is word.Invariant) p r s.between (number_taken n (keyword_is word.Invariant ⨾ p) r s.between s.first).1 in
     (token_taken (is_word word.Invariant) (l.Word (keyword_number word.Invariant)) r t.between (only_keyword word.Invariant) t.first).next_was
 
-pub local_complete : {fuel : ℕ} (form : LocalForm) → Complete fuel (bodies.local_form form) (OfLocal form) (flat_part fuel) FlatStart Anything
-local_complete {fuel} (locals.Variables before.Nothing width named) = plain_variables fuel named width.token width.form
-local_complete {fuel} (locals.Variables (before.Kind kind) width named) = kind_variables fuel named kind width.token width.form
-local_complete {fuel} (locals.Variables (before.KindInvariant kind) width named) = kind_invariant_variables fuel named kind width
-local_complete {fuel} (locals.Variables (before.Invariant n) width named) =
+pub local_spends : {fuel : ℕ} (form : LocalForm) → Spends fuel (bodies.local_form form) (OfLocal form) (flat_part fuel) FlatStart Anything
+local_spends {fuel} (locals.Variables before.Nothing width named) = plain_variables fuel named width.token width.form
+local_spends {fuel} (locals.Variables (before.Kind kind) width named) = kind_variables fuel named kind width.token width.form
+local_spends {fuel} (locals.Variables (before.KindInvariant kind) width named) = kind_invariant_variables fuel named kind width
+local_spends {fuel} (locals.Variables (before.Invariant n) width named) =
     invariant_variables fuel named (before.Invariant n) width
     (λ r after e. invariant_next n nothing (grammar.type_name width ⨾ Named named) r after
     (ap (λ t. ((here_is n ⨾ t) ⨾ grammar.type_name width ⨾ Named named) r) (takes_nothing (keyword_is word.Invariant)) ∙ e))
-local_complete {fuel} (locals.Variables (before.InvariantKind n kind) width named) =
+local_spends {fuel} (locals.Variables (before.InvariantKind n kind) width named) =
     invariant_variables fuel named (before.InvariantKind n kind) width (invariant_next n (grammar.text kind) (grammar.type_name width ⨾ Named named))
-local_complete {fuel} (locals.Stackdata rooms) =
+local_spends {fuel} (locals.Stackdata rooms) =
     at_token (l.Word (keyword_number word.Stackdata)) refl refl
-    (fails_complete is_width (λ x is. rw is refl)
-    (fails_complete (is_word word.Invariant) (λ x is. rw is refl)
-    (holds_complete (is_word word.Stackdata) (λ x is. rw is refl)
-    (then_complete (λ _. of_local (stackdata fuel)) (skip_complete (is_word word.Stackdata) (only_keyword word.Stackdata)) (λ x f. tt)
-    (last_complete OfLocal (stackdata_complete rooms))))))
+    (not_next_spends is_width (λ x is. rw is refl)
+    (not_next_spends (is_word word.Invariant) (λ x is. rw is refl)
+    (if_next_spends (is_word word.Stackdata) (λ x is. rw is refl) (word_spends word.Stackdata (last_complete OfLocal (stackdata_complete rooms))))))
 
 -- ---- statements that begin with a name or a word in memory
 
 stmt_after_name : {fuel : ℕ} {p : Takes} {form : StmtForm} {first : Option Lexeme → Type 0} (name : Ident) →
     ((x : Option Lexeme) → first x → Not is_any_name x) → Complete fuel p form (name_stmt fuel name) first Anything →
-    Complete fuel (grammar.ident name ⨾ p) (OfStmt form) (flat_part fuel) FlatStart Anything
+    Spends fuel (grammar.ident name ⨾ p) (OfStmt form) (flat_part fuel) FlatStart Anything
 stmt_after_name name no_name one = by_name name (fails_complete is_any_name no_name (last_complete OfStmt one))
 
 stmt_after_type : {fuel : ℕ} {p : Takes} {form : StmtForm} {first : Option Lexeme → Type 0} (token_ : ℕ) (width : TypeForm) (e : Expr) (bytes : Option Int) →
     Complete fuel p form (memory_stmt fuel (word_at (record { token = token_; form = width }) e bytes)) first Anything →
-    Complete fuel (grammar.type_name (record { token = token_; form = width }) ⨾ Located e bytes ⨾ p) (OfStmt form) (flat_part fuel) FlatStart Anything
+    Spends fuel (grammar.type_name (record { token = token_; form = width }) ⨾ Located e bytes ⨾ p) (OfStmt form) (flat_part fuel) FlatStart Anything
 stmt_after_type token_ (Bits width) e bytes one =
     by_width token_ width
     (holds_complete (is_sign sign.OpenSquare) (λ x is. rw is refl)
@@ -249,37 +251,32 @@ stmt_after_type token_ (OfName name) e bytes one =
     stmt_after_name (record { name = name; token = token_ }) (λ x is. rw is refl) (name_located (record { name = name; token = token_ }) e bytes one)
 
 stmt_after_memory : {fuel : ℕ} {p : Takes} {form : StmtForm} {first : Option Lexeme → Type 0} (m : Memory) →
-    Complete fuel p form (memory_stmt fuel m) first Anything → Complete fuel (grammar.whole_memory m ⨾ p) (OfStmt form) (flat_part fuel) FlatStart Anything
+    Complete fuel p form (memory_stmt fuel m) first Anything → Spends fuel (grammar.whole_memory m ⨾ p) (OfStmt form) (flat_part fuel) FlatStart Anything
 unfolding opened
 stmt_after_memory {fuel = fuel} {p = p} {form = form} (Memory' width a (more_of-Expr t f end_of-Expr) bytes) one =
     let e : Expr = record { token = t; form = f } in
-    subst (λ q. Complete fuel q (OfStmt form) (flat_part fuel) FlatStart Anything)
-    (sym
+    same_spends
     (ap (λ q. q ⨾ p) (outer_type width (square_is (operand_is 0 e ⨾ optional_is aligned_by bytes)))
-    ∙ takes_assoc (grammar.type_name width) (Located e bytes) p))
+    ∙ takes_assoc (grammar.type_name width) (Located e bytes) p)
     (stmt_after_type width.token width.form e bytes one)
-
-target_no_name : (x : Option Lexeme) → AfterTarget x → Not is_any_name x
-target_no_name x (inl e) = rw e refl
-target_no_name x (inr e) = rw e refl
 
 -- ---- assignments
 
 -- a statement is read as a part
 abbrev pub IsRead : ℕ → StmtForm → Type 0
-IsRead fuel form = Complete fuel (bodies.stmt_form form) (OfStmt form) (flat_part fuel) FlatStart Anything
+IsRead fuel form = Spends fuel (bodies.stmt_form form) (OfStmt form) (flat_part fuel) FlatStart Anything
 
 -- by its first target, and what goes on
 first_target : {fuel : ℕ} {form : StmtForm} {A : Type 0} (p : A → Takes) (a : A) (as_ : List A) (k : Takes) →
-    Complete fuel (p a ⨾ rest_to p as_ k) (OfStmt form) (flat_part fuel) FlatStart Anything →
-    Complete fuel (commas_is p (a ∷ as_) ⨾ k) (OfStmt form) (flat_part fuel) FlatStart Anything
+    Spends fuel (p a ⨾ rest_to p as_ k) (OfStmt form) (flat_part fuel) FlatStart Anything →
+    Spends fuel (commas_is p (a ∷ as_) ⨾ k) (OfStmt form) (flat_part fuel) FlatStart Anything
 first_target {fuel = fuel} {form = form} p a as_ k one =
-    subst (λ q. Complete fuel q (OfStmt form) (flat_part fuel) FlatStart Anything) (sym (commas_to p a as_ k)) one
+    same_spends (commas_to p a as_ k) one
 
 assign_complete : {fuel : ℕ} (to : List Lvalue) (vs : List Expr) → IsRead fuel (stmts.Assign to vs)
-assign_complete [] vs = never_complete (λ r after e. absurd cc)
+assign_complete [] vs = never_spends (λ r after e. absurd cc)
 assign_complete {fuel} (lvalues.Name name ∷ to) vs =
-    first_target bodies.lvalue (lvalues.Name name) to (symbol_is sign.Assign ⨾ ValuesAfter vs) (stmt_after_name name target_no_name (name_values fuel name to vs))
+    first_target bodies.lvalue (lvalues.Name name) to (symbol_is sign.Assign ⨾ ValuesAfter vs) (stmt_after_name name (either_not _ refl refl) (name_values fuel name to vs))
 assign_complete {fuel} (lvalues.Memory m ∷ to) vs =
     first_target bodies.lvalue (lvalues.Memory m) to (symbol_is sign.Assign ⨾ ValuesAfter vs) (stmt_after_memory m (memory_values fuel m to vs))
 
@@ -289,36 +286,25 @@ results_complete : {fuel : ℕ} (kind : Option Text) (name : Ident) (ks : List K
     IsRead fuel (stmts.Call (record { kind = kind; name = name } ∷ ks) by what actuals fs)
 results_complete {fuel} kind name ks by what actuals fs =
     let k : Kinded = record { kind = kind; name = name } in
-    subst (λ q. Complete fuel q (OfStmt (stmts.Call (k ∷ ks) by what actuals fs)) (flat_part fuel) FlatStart Anything)
-    (sym (takes_assoc (commas_is bodies.kinded (k ∷ ks)) (symbol_is sign.Assign) (CallAfter by what actuals fs)))
+    same_spends (takes_assoc (commas_is bodies.kinded (k ∷ ks)) (symbol_is sign.Assign) (CallAfter by what actuals fs))
     (first_target bodies.kinded k ks (symbol_is sign.Assign ⨾ CallAfter by what actuals fs) (by_kind_of kind))
   where
     by_kind_of : (kind : Option Text) →
-        Complete fuel (bodies.kinded (record { kind = kind; name = name }) ⨾ ResultsRest ks by what actuals fs)
+        Spends fuel (bodies.kinded (record { kind = kind; name = name }) ⨾ ResultsRest ks by what actuals fs)
         (OfStmt (stmts.Call (record { kind = kind; name = name } ∷ ks) by what actuals fs)) (flat_part fuel) FlatStart Anything
-    by_kind_of None = stmt_after_name name target_no_name (name_results fuel name ks by what actuals fs)
+    by_kind_of None = stmt_after_name name (either_not _ refl refl) (name_results fuel name ks by what actuals fs)
     by_kind_of (Some kind) =
-        subst
-        (λ q. Complete fuel q (OfStmt (stmts.Call (record { kind = Some kind; name = name } ∷ ks) by what actuals fs)) (flat_part fuel) FlatStart Anything)
-        (sym (takes_assoc (grammar.text kind) (grammar.ident name) (ResultsRest ks by what actuals fs)))
+        same_spends (takes_assoc (grammar.text kind) (grammar.ident name) (ResultsRest ks by what actuals fs))
         (by_kind kind
         (by_kind_name kind name
-        (fails_complete is_any_name target_no_name
+        (fails_complete is_any_name (either_not _ refl refl)
         (last_complete OfStmt (assignment_call fuel (Results (record { kind = Some kind; name = name } ∷ [])) tt ks by what actuals fs)))))
 
 -- ---- calls without results or convention
 
 -- the number before a name or a word in memory is its own
-drop_number : {A : Type 0} {fuel : ℕ} {a : A} {reads : Reads A} {first follow : Option Lexeme → Type 0} (n : ℕ) (p k : Takes) →
-    Complete fuel (p ⨾ k) a reads first follow → Complete fuel ((here_is n ⨾ p) ⨾ k) a reads first follow
-drop_number n p k one = record {
-  moves = λ r after e. one.moves r after (without r after e);
-  begins = λ r after e. one.begins r after (without r after e);
-  complete = λ limited r after e. one.complete limited r after (without r after e);
-}
-  where
-    without : (r after : Reading) → ((here_is n ⨾ p) ⨾ k) r ≡ Some after → (p ⨾ k) r ≡ Some after
-    without r after e = (number_taken n (p ⨾ k) r after (ap (λ t. t r) (sym (takes_assoc (here_is n) p k)) ∙ e)).1
+without : (n : ℕ) (p k : Takes) (r after : Reading) → ((here_is n ⨾ p) ⨾ k) r ≡ Some after → (p ⨾ k) r ≡ Some after
+without n p k r after e = (number_taken n (p ⨾ k) r after (ap (λ t. t r) (sym (takes_assoc (here_is n) p k)) ∙ e)).1
 
 -- the number of a word in memory is that of its type
 memory_number : (m : Memory) (r after : Reading) → grammar.whole_memory m r ≡ Some after → memory_token m ≡ r.taken
@@ -342,30 +328,30 @@ Call actuals fs what = stmts.Call [] None what actuals fs
 module _ (fuel : ℕ) (actuals : List Actual) (fs : List Flow) where
   call_of_name : (n : ℕ) (i : Ident) → IsRead fuel (Call actuals fs (record { token = n; form = callees.Name i }))
   call_of_name n i =
-      known_complete (numbers_same n i.token (token (is_name i.name)) (CallRest actuals fs))
-      (λ same. subst (λ m. IsRead fuel (Call actuals fs (record { token = m; form = callees.Name i }))) (sym same)
-      (drop_number i.token (grammar.ident i) (CallRest actuals fs) (stmt_after_name i open_no_name (name_call fuel i actuals fs))))
+      taken_spends (λ (same : n ≡ i.token). grammar.ident i ⨾ CallRest actuals fs)
+      (λ r after e. (numbers_same n i.token (token (is_name i.name)) (CallRest actuals fs) r after e, without n (grammar.ident i) (CallRest actuals fs) r after e))
+      (λ same. rw same (stmt_after_name i open_no_name (name_call fuel i actuals fs)))
 
   call_of_memory : (n : ℕ) (m : Memory) → IsRead fuel (Call actuals fs (record { token = n; form = callees.Memory m }))
   call_of_memory n m =
-      known_complete (memory_numbers n m (CallRest actuals fs))
-      (λ same. subst (λ t. IsRead fuel (Call actuals fs (record { token = t; form = callees.Memory m }))) (sym same)
-      (drop_number (memory_token m) (grammar.whole_memory m) (CallRest actuals fs) (stmt_after_memory m (memory_call fuel m actuals fs))))
+      taken_spends (λ (same : n ≡ memory_token m). grammar.whole_memory m ⨾ CallRest actuals fs)
+      (λ r after e. (memory_numbers n m (CallRest actuals fs) r after e, without n (grammar.whole_memory m) (CallRest actuals fs) r after e))
+      (λ same. rw same (stmt_after_memory m (memory_call fuel m actuals fs)))
 
 -- ---- every part that holds no block
 
 -- at a word that begins no variables
 at_word : {fuel : ℕ} {form : StmtForm} (k : Keyword) → is_none of_blocks (l.Word (keyword_number k)) ≡ true → is_width (l.Word (keyword_number k)) ≡ false →
     is_none (word.Invariant ∷ word.Stackdata ∷ []) (l.Word (keyword_number k)) ≡ true →
-    Complete fuel (bodies.stmt_form form) form (word_stmt fuel) (Next (l.Word (keyword_number k))) Anything → IsRead fuel form
+    Spends fuel (bodies.stmt_form form) form (word_stmt fuel) (Next (l.Word (keyword_number k))) Anything → IsRead fuel form
 at_word k none no_width e one =
     let x : Lexeme = l.Word (keyword_number k) in
     let after_invariant = is_none_first word.Invariant (word.Stackdata ∷ []) x e in
     let after_stackdata = is_none_first word.Stackdata [] x after_invariant.1 in
     at_token x refl none
-    (fails_complete is_width (λ y is. rw is no_width)
-    (fails_complete (is_word word.Invariant) (λ y is. rw is after_invariant.0)
-    (fails_complete (is_word word.Stackdata) (λ y is. rw is after_stackdata.0) (last_complete OfStmt one))))
+    (not_next_spends is_width (λ y is. rw is no_width)
+    (not_next_spends (is_word word.Invariant) (λ y is. rw is after_invariant.0)
+    (not_next_spends (is_word word.Stackdata) (λ y is. rw is after_stackdata.0) (last_spends OfStmt one))))
 
 -- a tree that holds no block
 abbrev pub HoldsNoBlock : StmtForm → Type 0
@@ -382,21 +368,21 @@ module _ {fuel : ℕ} where
     by n (callees.Name i) = call_of_name fuel actuals fs n i
     by n (callees.Memory m) = call_of_memory fuel actuals fs n m
     by n (callees.Bracketed e) =
-        at_token (l.Symbol (symbol_number sign.Open)) refl refl (last_complete OfStmt (bracketed_stmt fuel n e actuals fs))
+        at_token (l.Symbol (symbol_number sign.Open)) refl refl (last_spends OfStmt (bracketed_stmt fuel n e actuals fs))
 
-  pub stmt_complete : (form : StmtForm) → HoldsNoBlock form → IsRead fuel form
-  stmt_complete stmts.Empty none = at_token (l.Symbol (symbol_number sign.Semicolon)) refl refl (last_complete OfStmt (empty_stmt fuel))
-  stmt_complete (stmts.If' _ _ _ _) none = absurd none
-  stmt_complete (stmts.Switch' _ _ _ _) none = absurd none
-  stmt_complete (stmts.Span' _ _ _ _) none = absurd none
-  stmt_complete (stmts.Assign to vs) none = assign_complete to vs
-  stmt_complete (stmts.Checked name op left right fs) none = stmt_after_name name target_no_name (name_checked fuel name op left right fs)
-  stmt_complete (stmts.Call [] None what actuals fs) none = plain_call what actuals fs
-  stmt_complete (stmts.Call [] (Some kind) what actuals fs) none = at_word word.Foreign refl refl refl (foreign_stmt fuel kind what actuals fs)
-  stmt_complete (stmts.Call (k ∷ ks) by what actuals fs) none = results_complete k.kind k.name ks by what actuals fs
-  stmt_complete (stmts.Jump what actuals) none = at_word word.Jump refl refl refl (jump_stmt fuel what actuals)
-  stmt_complete (stmts.Return by found) none = at_word word.Return refl refl refl (return_stmt fuel by found)
-  stmt_complete (stmts.Label name) none = stmt_after_name name (λ x is. rw is refl) (name_label fuel name)
-  stmt_complete (stmts.Continuation name ks) none = at_word word.Continuation refl refl refl (continuation_stmt fuel name ks)
-  stmt_complete (stmts.Goto name) none = at_word word.Goto refl refl refl (goto_stmt fuel name)
-  stmt_complete (stmts.Cut what actuals fs) none = at_word word.Cut refl refl refl (cut_stmt fuel what actuals fs)
+  pub stmt_spends : (form : StmtForm) → HoldsNoBlock form → IsRead fuel form
+  stmt_spends stmts.Empty none = at_token (l.Symbol (symbol_number sign.Semicolon)) refl refl (last_spends OfStmt (empty_stmt fuel))
+  stmt_spends (stmts.If' _ _ _ _) none = absurd none
+  stmt_spends (stmts.Switch' _ _ _ _) none = absurd none
+  stmt_spends (stmts.Span' _ _ _ _) none = absurd none
+  stmt_spends (stmts.Assign to vs) none = assign_complete to vs
+  stmt_spends (stmts.Checked name op left right fs) none = stmt_after_name name (either_not _ refl refl) (name_checked fuel name op left right fs)
+  stmt_spends (stmts.Call [] None what actuals fs) none = plain_call what actuals fs
+  stmt_spends (stmts.Call [] (Some kind) what actuals fs) none = at_word word.Foreign refl refl refl (foreign_stmt fuel kind what actuals fs)
+  stmt_spends (stmts.Call (k ∷ ks) by what actuals fs) none = results_complete k.kind k.name ks by what actuals fs
+  stmt_spends (stmts.Jump what actuals) none = at_word word.Jump refl refl refl (jump_stmt fuel what actuals)
+  stmt_spends (stmts.Return by found) none = at_word word.Return refl refl refl (return_stmt fuel by found)
+  stmt_spends (stmts.Label name) none = stmt_after_name name (λ x is. rw is refl) (name_label fuel name)
+  stmt_spends (stmts.Continuation name ks) none = at_word word.Continuation refl refl refl (continuation_stmt fuel name ks)
+  stmt_spends (stmts.Goto name) none = at_word word.Goto refl refl refl (goto_stmt fuel name)
+  stmt_spends (stmts.Cut what actuals fs) none = at_word word.Cut refl refl refl (cut_stmt fuel what actuals fs)

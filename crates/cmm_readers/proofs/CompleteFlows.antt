@@ -1,5 +1,5 @@
 -- Each list of annotations that what follows does not go on is read.
-use Rattle.std.proofs.Common.{◌≡◌, ℕ, suc, ◌⊎◌, inl, inr, Bool, true, false, List, [], ◌∷◌, Option, Some, None, refl, sym, ap, ◌∙◌, subst}
+use Rattle.std.proofs.Common.{◌≡◌, ℕ, suc, ◌⊎◌, inl, inr, Bool, true, false, List, [], ◌∷◌, Option, Some, None, refl, sym, ap, ◌∙◌}
 use Rattle.cmm_lexer.specs.declared.piece.Lexeme.{Lexeme}
 use Rattle.cmm_lexer.specs.declared.piece.Lexeme.TheVariants as l
 use Rattle.cmm_ast.specs.declared.token.Ident.{Ident}
@@ -14,13 +14,15 @@ use Rattle.cmm_ast.specs.Taking.{Reading, Takes, ◌⨾◌, is_word, here as her
 use Rattle.cmm_ast.specs.ExpressionGrammar as grammar
 use Rattle.cmm_ast.specs.StatementGrammar as statements
 use Rattle.cmm_readers.specs.Reading.{Reads, ◌>>=◌, give, next, past, choice, passes, skip, is_comma, keyword, ident}
-use Rattle.cmm_readers.specs.ReadingLaws.{point, passed, outcome, Moves, Complete}
+use Rattle.cmm_readers.specs.ReadingLaws.{point}
+use Rattle.cmm_readers.specs.inside.Duties.{passed, outcome, Moves, Complete}
 use Rattle.cmm_readers.specs.PartReading.{is_any_name, begins_flow, may_comma, names_to, also, flow_form, flow, annotations}
-use Rattle.cmm_readers.proofs.Completes.{Next, Anything, Strict, Taken, moves_self, taken_moves, outcome_read, passed_same, after_complete, last_complete, follow_complete, holds_complete, fails_complete, skip_complete, token_strict, both, never_complete}
-use Rattle.cmm_readers.proofs.SoundParts.{flow_is, named_same}
-use Rattle.cmm_readers.proofs.Lists.{takes_assoc, Parts, each_of, comma_or_not, listed_complete}
+use Rattle.cmm_readers.proofs.Takings.{takes_assoc}
+use Rattle.cmm_readers.proofs.StatementForms.{flow_is, named_same}
+use Rattle.cmm_readers.proofs.Completes.{Next, Anything, Taken, moves_self, taken_moves, outcome_read, passed_same, after_complete, last_complete, follow_complete, holds_complete, fails_complete, skip_complete, token_strict, both, never_complete}
 use Rattle.cmm_readers.proofs.Tokens.{only_keyword, keyword_complete, ident_complete}
-use Rattle.cmm_readers.proofs.CompleteRepeats.{Passes, Not, Spends, here_spends, strict_then, many_complete}
+use Rattle.cmm_readers.proofs.Lists.{Parts, each_of, comma_or_not, listed_complete}
+use Rattle.cmm_readers.proofs.CompleteRepeats.{Passes, Not, Spends, here_spends, strict_then, many_complete, same_spends}
 
 -- an annotation ends before it
 abbrev pub FlowEnd : Option Lexeme → Type 0
@@ -76,10 +78,8 @@ FlowLaw fuel form = Spends fuel (flow_is form) form (flow_form fuel) (Passes beg
 law_of : (fuel : ℕ) (form : FlowForm) (word : Keyword) (rest : Takes) → flow_is form ≡ (keyword_is word ⨾ rest) →
     ((r after : Reading) → rest r ≡ Some after → Moves r after) → Complete fuel (keyword_is word ⨾ rest) form (flow_form fuel) (Passes begins_flow) FlowEnd →
     FlowLaw fuel form
-law_of fuel form word rest same moves complete = record {
-  strict = subst (λ t. Strict t) (sym same) (strict_then (token_strict (only_keyword word)) moves);
-  complete = subst (λ t. Complete fuel t form (flow_form fuel) (Passes begins_flow) FlowEnd) (sym same) complete;
-}
+law_of fuel form word rest same moves complete =
+    same_spends same (record { complete = complete; strict = strict_then (token_strict (only_keyword word)) moves })
 
 also_law : (fuel : ℕ) (form : FlowForm) (rest : Takes) {first : Option Lexeme → Type 0} → flow_is form ≡ (keyword_is Also ⨾ rest) →
     Complete fuel rest form (also fuel) first FlowEnd → FlowLaw fuel form

@@ -1,5 +1,5 @@
 -- Each statement that begins with a name or a word in memory is read after it.
-use Rattle.std.proofs.Common.{ℕ, refl, arith, List, None, Option, [], inl, inr, ◌∷◌}
+use Rattle.std.proofs.Common.{ℕ, refl, arith, List, [], None, Option, ◌∷◌}
 use Rattle.cmm_lexer.specs.declared.piece.Lexeme.TheVariants as l
 use Rattle.cmm_lexer.specs.declared.piece.Lexeme.{Lexeme}
 use Rattle.cmm_ast.specs.declared.token.Ident.{Ident}
@@ -22,31 +22,23 @@ use Rattle.cmm_lexer.specs.Spellings.{symbol_number}
 use Rattle.cmm_ast.specs.Taking.{Takes, is_sign, optional as optional_is, outermost as outermost_is, square as square_is, symbol as symbol_is, ◌⨾◌}
 use Rattle.cmm_ast.specs.ExpressionGrammar.{aligned_by}
 use Rattle.cmm_readers.specs.Reading.{◌>>=◌}
-use Rattle.cmm_readers.specs.ReadingLaws.{Complete}
+use Rattle.cmm_readers.specs.inside.Duties.{Complete}
 use Rattle.cmm_readers.specs.ExpressionReading.{named_type, whole_memory}
 use Rattle.cmm_readers.specs.StatementReading.{memory_stmt, memory_token, name_stmt}
 use Rattle.cmm_readers.specs.TargetReading.{Lvalues, Names, assignment}
-use Rattle.cmm_readers.proofs.Completes.{Anything, Next, fails_complete, holds_complete, last_complete, less_complete, outermost_complete, skip_complete}
+use Rattle.cmm_readers.proofs.ExpressionForms.{operand_is}
+use Rattle.cmm_readers.proofs.Completes.{Anything, Next, fails_complete, holds_complete, last_complete, less_complete, outermost_complete, skip_complete, then_complete}
 use Rattle.cmm_readers.proofs.Tokens.{only_symbol}
-use Rattle.cmm_readers.proofs.CompleteRepeats.{then_complete, Not}
+use Rattle.cmm_readers.proofs.CompleteRepeats.{either_not}
 use Rattle.cmm_readers.proofs.CompleteExpressions.{memory_complete, spine}
 use Rattle.cmm_readers.proofs.CompleteCalls.{call_complete}
-use Rattle.cmm_readers.proofs.CompleteTargets.{AfterTarget, assignment_call, assignment_checked, assignment_values, CallRest, CheckedRest, ResultsRest, ValuesRest, target_no_square}
-use Rattle.cmm_readers.proofs.SoundExpressions.{operand_is}
+use Rattle.cmm_readers.proofs.CompleteTargets.{AfterTarget, assignment_call, assignment_checked, assignment_values, CallRest, CheckedRest, ResultsRest, ValuesRest}
 
 -- the arguments of a call begin
 abbrev pub AtOpen : Option Lexeme → Type 0
 AtOpen = Next (l.Symbol (symbol_number sign.Open))
 
 -- a target goes on with none of these
-target_no_open : (x : Option Lexeme) → AfterTarget x → Not (is_sign sign.Open) x
-target_no_open x (inl e) = rw e refl
-target_no_open x (inr e) = rw e refl
-
-target_no_colon : (x : Option Lexeme) → AfterTarget x → Not (is_sign sign.Colon) x
-target_no_colon x (inl e) = rw e refl
-target_no_colon x (inr e) = rw e refl
-
 -- ---- after a word in memory
 
 pub memory_call : (fuel : ℕ) (m : Memory) (actuals : List Actual) (fs : List Flow) →
@@ -59,7 +51,7 @@ memory_call fuel m actuals fs =
 pub memory_values : (fuel : ℕ) (m : Memory) (to : List Lvalue) (vs : List Expr) →
     Complete fuel (ValuesRest to vs) (stmts.Assign (lvalues.Memory m ∷ to) vs) (memory_stmt fuel m) AfterTarget Anything
 memory_values fuel m to vs =
-    fails_complete (is_sign sign.Open) target_no_open (assignment_values fuel (Lvalues (lvalues.Memory m ∷ [])) tt to vs)
+    fails_complete (is_sign sign.Open) (either_not _ refl refl) (assignment_values fuel (Lvalues (lvalues.Memory m ∷ [])) tt to vs)
 
 -- ---- after a name
 
@@ -82,8 +74,8 @@ name_call fuel name actuals fs =
 name_target : {fuel : ℕ} {p : Takes} {form : StmtForm} (name : Ident) → Complete fuel p form (assignment fuel (Names (name ∷ []))) AfterTarget Anything →
     Complete fuel p form (name_stmt fuel name) AfterTarget Anything
 name_target name one =
-    fails_complete (is_sign sign.Colon) target_no_colon
-    (fails_complete (is_sign sign.OpenSquare) target_no_square (fails_complete (is_sign sign.Open) target_no_open one))
+    fails_complete (is_sign sign.Colon) (either_not _ refl refl)
+    (fails_complete (is_sign sign.OpenSquare) (either_not _ refl refl) (fails_complete (is_sign sign.Open) (either_not _ refl refl) one))
 
 pub name_values : (fuel : ℕ) (name : Ident) (to : List Lvalue) (vs : List Expr) →
     Complete fuel (ValuesRest to vs) (stmts.Assign (lvalues.Name name ∷ to) vs) (name_stmt fuel name) AfterTarget Anything

@@ -1,8 +1,8 @@
 -- Each part of a statement that what follows does not go on is read.
-use Rattle.std.proofs.Common.{◌≡◌, ℕ, ◌⊎◌, inl, inr, Bool, true, false, ◌==◌, ◌||◌, List, Option, Some, None, refl, sym, ap, arith, subst, is_some}
+use Rattle.std.proofs.Common.{◌≡◌, ℕ, ◌⊎◌, inl, inr, Bool, true, false, ◌==◌, ◌||◌, List, Option, Some, None, refl, sym, ap, arith, is_some}
 use Rattle.cmm_lexer.specs.declared.piece.Lexeme.{Lexeme}
 use Rattle.cmm_lexer.specs.declared.piece.Lexeme.TheVariants as l
-use Rattle.cmm_lexer.specs.declared.symbol.Symbol.TheVariants.{Open, Close, OpenSquare, CloseSquare, Comma, Less, Greater, Slash}
+use Rattle.cmm_lexer.specs.declared.symbol.Symbol.TheVariants.{Open, Close, OpenSquare, Less, Greater, Slash}
 use Rattle.cmm_lexer.specs.declared.symbol.Symbol.TheVariants as sign
 use Rattle.cmm_ast.specs.declared.expression.Expr.{Expr}
 use Rattle.cmm_ast.specs.declared.expression.TypeName.{TypeName}
@@ -27,15 +27,16 @@ use Rattle.cmm_ast.specs.ExpressionGrammar as grammar
 use Rattle.cmm_ast.specs.ExpressionGrammar.{width_word, aligned_by}
 use Rattle.cmm_ast.specs.StatementGrammar as statements
 use Rattle.cmm_readers.specs.Reading.{◌>>=◌, give, look}
-use Rattle.cmm_readers.specs.ReadingLaws.{Complete}
+use Rattle.cmm_readers.specs.inside.Duties.{Complete}
 use Rattle.cmm_readers.specs.ExpressionReading.{width_in, begins_expression, named_type, operand, whole_memory, prim_by, whole_prim}
 use Rattle.cmm_readers.specs.PartReading.{is_any_text, is_any_name, is_width, begins_kinded, kinded, begins_actual, actual, arguments, lvalue, called, callee_form, callee, exit, range_end, range}
-use Rattle.cmm_readers.proofs.Completes.{Next, Anything, after_complete, give_complete, last_complete, follow_complete, less_complete, holds_complete, fails_complete, here_complete, outermost_complete, skip_complete, at_complete}
-use Rattle.cmm_readers.proofs.CompleteExpressions.{Begins, Ends, NoMore, spine, width_in_is, literal_complete, bracketed_complete, type_name_complete, in_brackets_complete, memory_complete, whole_complete, ends_after}
-use Rattle.cmm_readers.proofs.SoundExpressions.{opened, operand_is}
-use Rattle.cmm_readers.proofs.SoundParts.{outer_type}
-use Rattle.cmm_readers.proofs.Lists.{takes_nothing, Parts, may_list_complete}
+use Rattle.cmm_readers.proofs.Takings.{takes_nothing}
+use Rattle.cmm_readers.proofs.ExpressionForms.{opened, operand_is}
+use Rattle.cmm_readers.proofs.StatementForms.{outer_type}
+use Rattle.cmm_readers.proofs.Completes.{Next, Anything, after_complete, give_complete, last_complete, follow_complete, less_complete, holds_complete, fails_complete, here_complete, outermost_complete, skip_complete, at_complete, same_complete}
 use Rattle.cmm_readers.proofs.Tokens.{only_name, only_symbol, symbol_complete, ident_complete, text_complete}
+use Rattle.cmm_readers.proofs.Lists.{Parts, may_list_complete}
+use Rattle.cmm_readers.proofs.CompleteExpressions.{Begins, Ends, NoMore, spine, width_in_is, literal_complete, bracketed_complete, type_name_complete, in_brackets_complete, memory_complete, whole_complete, ends_after}
 use Rattle.cmm_readers.proofs.CompleteRepeats.{Passes, Not, optional_complete, parts_before, other_symbol}
 
 or_left : (a b : Bool) → a ≡ true → (a || b) ≡ true
@@ -126,14 +127,13 @@ word_complete fuel token_ (OfName name_) e bytes =
 pub lvalue_complete : (fuel : ℕ) (v : Lvalue) → Complete fuel (statements.lvalue v) v (lvalue fuel) (Passes begins_lvalue) NoSquare
 unfolding opened
 lvalue_complete fuel (lvalues.Name i) =
-    subst (λ t. Complete fuel t (lvalues.Name i) (lvalue fuel) (Passes begins_lvalue) NoSquare) (takes_nothing (grammar.ident i))
+    same_complete (sym (takes_nothing (grammar.ident i)))
     (follow_complete (λ x is. rw is refl) (λ x f. f)
     (fails_complete is_width (λ x is. rw is refl)
     (after_complete {b = λ i. lvalues.Name i} (ident_complete i) (λ x f. tt)
     (λ i. fails_complete (is_sign OpenSquare) (λ x f. f) (give_complete (lvalues.Name i))))))
 lvalue_complete fuel (lvalues.Memory (Memory' width a (more_of-Expr t f end_of-Expr) bytes)) =
-    subst (λ p. Complete fuel p (lvalues.Memory (Memory' width a (more_of-Expr t f end_of-Expr) bytes)) (lvalue fuel) (Passes begins_lvalue) NoSquare)
-    (sym (outer_type width (square_is (operand_is 0 (record { token = t; form = f }) ⨾ optional_is aligned_by bytes))))
+    same_complete (outer_type width (square_is (operand_is 0 (record { token = t; form = f }) ⨾ optional_is aligned_by bytes)))
     (word_complete fuel width.token width.form (record { token = t; form = f }) bytes)
 
 -- an expression in round brackets begins with this, and a name or a word in memory does not

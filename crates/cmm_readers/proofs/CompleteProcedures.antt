@@ -25,18 +25,18 @@ use Rattle.cmm_ast.specs.ExpressionGrammar as grammar
 use Rattle.cmm_ast.specs.ExpressionGrammar.{width_word}
 use Rattle.cmm_ast.specs.StatementGrammar as bodies
 use Rattle.cmm_readers.specs.Reading.{Reads, ◌>>=◌, give}
-use Rattle.cmm_readers.specs.ReadingLaws.{Complete}
+use Rattle.cmm_readers.specs.inside.Duties.{Complete}
 use Rattle.cmm_readers.specs.ExpressionReading.{named_type}
 use Rattle.cmm_readers.specs.DeclarationReading.{is_other, optional_text, bits}
 use Rattle.cmm_readers.specs.ProcedureReading.{invariant_by, kind_by, modifiers_of, begins_formal, formal, variables, room_count, sized_room, room_by, room_form, room, stackdata, procedure}
-use Rattle.cmm_readers.proofs.Completes.{Next, Anything, Strict, follow_complete, less_complete, after_complete, give_complete, last_complete, holds_complete, fails_complete, here_complete, token_strict}
+use Rattle.cmm_readers.specs.PartReading.{is_any_name, is_any_text, is_width}
+use Rattle.cmm_readers.proofs.StatementForms.{room_is}
+use Rattle.cmm_readers.proofs.Completes.{Next, Anything, Strict, follow_complete, less_complete, after_complete, give_complete, last_complete, holds_complete, fails_complete, here_complete, token_strict, then_complete}
 use Rattle.cmm_readers.proofs.Tokens.{only_name, only_keyword, symbol_complete, keyword_complete, ident_complete, text_complete, int_complete}
 use Rattle.cmm_readers.proofs.Lists.{Parts, each_of, may_list_complete}
 use Rattle.cmm_readers.proofs.CompleteExpressions.{type_token, type_name_complete, in_brackets_complete, whole_complete, ends_before}
-use Rattle.cmm_readers.proofs.SoundProcedures.{room_is}
-use Rattle.cmm_readers.proofs.CompleteRepeats.{Passes, Not, then_complete, start_complete, end_complete, only_word_complete, only_symbol_complete, some_complete, none_complete, parts_before, strict_then, here_strict, Spends, if_word_spends, not_next_spends, follow_spends, here_spends, Rows, many_complete}
+use Rattle.cmm_readers.proofs.CompleteRepeats.{Passes, Not, start_complete, end_complete, only_word_complete, only_symbol_complete, some_complete, none_complete, parts_before, strict_then, here_strict, Spends, if_word_spends, not_next_spends, follow_spends, here_spends, Rows, many_complete}
 use Rattle.cmm_readers.proofs.CompleteDeclarations.{bits_begin, type_no_text, names_complete}
-use Rattle.cmm_readers.specs.PartReading.{is_any_name, is_any_text, is_width}
 
 -- ---- what stands before the type of a variable
 

@@ -1,18 +1,18 @@
 -- Parts that may be missing, rows, and words that say what follows: each that what follows does not go on is read.
-use Rattle.std.proofs.Common.{◌≡◌, ℕ, zero, suc, ◌≤◌, ◌⊎◌, inl, inr, Bool, true, false, List, [], ◌∷◌, ◌++◌, Option, Some, None, sym, ap, ◌∙◌, arith, append_assoc, append-nil, subst, le_refl, ◌==◌, refl}
+use Rattle.std.proofs.Common.{◌≡◌, ℕ, zero, suc, ◌≤◌, ◌⊎◌, inl, inr, Bool, true, false, List, [], ◌∷◌, ◌++◌, Option, Some, None, sym, arith, append_assoc, append-nil, le_refl, ◌==◌, refl}
 use Rattle.cmm_lexer.specs.declared.piece.Lexeme.{Lexeme}
 use Rattle.cmm_lexer.specs.declared.piece.Lexeme.TheVariants as l
 use Rattle.cmm_lexer.specs.declared.keyword.Keyword.{Keyword}
 use Rattle.cmm_lexer.specs.declared.symbol.Symbol.{Symbol}
 use Rattle.cmm_lexer.specs.Spellings.{keyword_number, symbol_number}
 use Rattle.cmm_ast.specs.Taking.{Reading, Takes, ◌⨾◌, nothing, here as here_is, is_word, is_sign, keyword as keyword_is, symbol as symbol_is, many as many_is, optional as optional_is}
-use Rattle.cmm_readers.specs.Reading.{Reads, and_then, ◌>>=◌, give, next, passes, if_next, here, keyword, optional, many, is_comma}
-use Rattle.cmm_readers.specs.ReadingLaws.{Moves, Complete}
+use Rattle.cmm_readers.specs.Reading.{Reads, ◌>>=◌, give, passes, if_next, here, skip, keyword, optional, many, is_comma}
+use Rattle.cmm_readers.specs.inside.Duties.{Moves, Complete}
 use Rattle.cmm_readers.specs.DeclarationReading.{if_word, if_symbol}
-use Rattle.cmm_readers.proofs.Sounds.{same_number}
-use Rattle.cmm_readers.proofs.Completes.{Next, Anything, Strict, moves_trans, after_outcome, both, follow_complete, less_complete, fewer_complete, after_complete, give_complete, last_complete, holds_complete, fails_complete, skip_complete, here_complete, token_strict, number_same}
+use Rattle.cmm_readers.proofs.Takings.{same_number, takes_assoc, takes_nothing}
+use Rattle.cmm_readers.proofs.Completes.{Next, Anything, Strict, both, follow_complete, less_complete, fewer_complete, after_complete, give_complete, last_complete, holds_complete, fails_complete, skip_complete, here_complete, token_strict, number_same, never_complete, then_complete, by_taken, same_complete}
 use Rattle.cmm_readers.proofs.Tokens.{only_keyword, only_symbol, keyword_complete}
-use Rattle.cmm_readers.proofs.Lists.{After, Parts, Each, takes_assoc, takes_nothing, zero_complete}
+use Rattle.cmm_readers.proofs.Lists.{After, Parts, Each, zero_complete, by_turns}
 
 -- the next token passes a test, or does not
 abbrev pub Passes : (Lexeme → Bool) → Option Lexeme → Type 0
@@ -40,31 +40,19 @@ other_symbol test sign none (Some (l.Symbol n)) e = other_number test l.Symbol (
 other_symbol test sign none (Some _) e = refl
 other_symbol test sign none None e = refl
 
--- ---- one after the other, where the tree of the first is known
+-- neither of two tokens passes a test
+pub either_not : {a b : Lexeme} (test : Lexeme → Bool) → test a ≡ false → test b ≡ false → (x : Option Lexeme) → Next a x ⊎ Next b x → Not test x
+either_not test e f x (inl is) = rw is e
+either_not test e f x (inr is) = rw is f
 
-pub then_complete : {A B : Type 0} {fuel : ℕ} {p q : Takes} {a : A} {b : B} {reads : Reads A} {first middle begins follow : Option Lexeme → Type 0}
-    (rest : A → Reads B) → Complete fuel p a reads first middle →
-    ((x : Option Lexeme) → begins x → middle x) → Complete fuel q b (rest a) begins follow → Complete fuel (p ⨾ q) b (reads >>= rest) first follow
-then_complete {p = p} {q = q} {a = a} {b = b} {reads = reads} rest one goes two = record {
-  moves = λ r after e. let s = both p q r after e in moves_trans (one.moves r s.between s.first) (two.moves s.between after s.second);
-  begins = λ r after e f.
-      let s = both p q r after e in
-      one.begins r s.between s.first (goes (next s.between.left) (two.begins s.between after s.second f));
-  complete = λ limited r after e f less fits.
-      let s = both p q r after e in
-      let h = one.complete limited r s.between s.first (goes (next s.between.left) (two.begins s.between after s.second f)) less fits in
-      let m = (one.moves r s.between s.first).shrinks in
-      ap (λ o. and_then o (λ a after. rest a limited after)) h
-      ∙ after_outcome limited a b s.between after (λ a after. rest a limited after) (two.moves s.between after s.second)
-      (two.complete limited s.between after s.second f (omega arith));
-}
+-- ---- one after the other
 
 -- after which nothing more is read
 pub end_complete : {A B : Type 0} {fuel : ℕ} {p : Takes} {a : A} {b : B} {reads : Reads A} {first middle follow : Option Lexeme → Type 0}
     (rest : A → Reads B) → Complete fuel p a reads first middle →
     ((x : Option Lexeme) → follow x → middle x) → Complete fuel nothing b (rest a) follow follow → Complete fuel p b (reads >>= rest) first follow
 end_complete {fuel = fuel} {p = p} {b = b} {reads = reads} {first = first} {follow = follow} rest one goes two =
-    subst (λ t. Complete fuel t b (reads >>= rest) first follow) (takes_nothing p) (then_complete rest one goes two)
+    same_complete (sym (takes_nothing p)) (then_complete rest one goes two)
 
 -- before which nothing was taken
 pub start_complete : {A B : Type 0} {fuel : ℕ} {q : Takes} {a : A} {b : B} {reads : Reads A} {first middle begins follow : Option Lexeme → Type 0}
@@ -76,7 +64,7 @@ start_complete rest one goes two = then_complete rest one goes two
 pub flat_complete : {A : Type 0} {fuel : ℕ} (p q s : Takes) {a : A} {reads : Reads A} {first follow : Option Lexeme → Type 0} →
     Complete fuel ((p ⨾ q) ⨾ s) a reads first follow → Complete fuel (p ⨾ q ⨾ s) a reads first follow
 flat_complete {fuel = fuel} p q s {a = a} {reads = reads} {first = first} {follow = follow} one =
-    subst (λ t. Complete fuel t a reads first follow) (takes_assoc p q s) one
+    same_complete (sym (takes_assoc p q s)) one
 
 -- ---- words and symbols that say what follows
 
@@ -186,6 +174,38 @@ pub if_next_spends : {A : Type 0} {fuel : ℕ} {p : Takes} {a : A} {holds fails 
     ((x : Option Lexeme) → first x → Passes test x) → Spends fuel p a holds first follow → Spends fuel p a (if_next test holds fails) first follow
 if_next_spends test passing one = record { complete = holds_complete test passing one.complete; strict = one.strict }
 
+pub last_spends : {A B : Type 0} {fuel : ℕ} {p : Takes} {a : A} {reads : Reads A} {first follow : Option Lexeme → Type 0} (make : A → B) →
+    Spends fuel p a reads first follow → Spends fuel p (make a) (reads >>= λ a. give (make a)) first follow
+last_spends make one = record { complete = last_complete make one.complete; strict = one.strict }
+
+pub taken_spends : {A E : Type 0} {fuel : ℕ} {p : Takes} {a : A} {reads : Reads A} {first follow : Option Lexeme → Type 0} (q : E → Takes) →
+    ((r after : Reading) → p r ≡ Some after → (known : E) × (q known r ≡ Some after)) → ((known : E) → Spends fuel (q known) a reads first follow) →
+    Spends fuel p a reads first follow
+taken_spends q by one = record {
+  complete = by_taken q by (λ known. (one known).complete);
+  strict = record { strict = λ r after e. let o = by r after e in (one o.0).strict.strict r after o.1 };
+}
+
+pub same_spends : {A : Type 0} {fuel : ℕ} {p q : Takes} {a : A} {reads : Reads A} {first follow : Option Lexeme → Type 0} → p ≡ q →
+    Spends fuel q a reads first follow → Spends fuel p a reads first follow
+same_spends same one = rw same one
+
+pub never_spends : {A : Type 0} {fuel : ℕ} {p : Takes} {a : A} {reads : Reads A} {first follow : Option Lexeme → Type 0} →
+    ((r after : Reading) → p r ≡ Some after → ⊥) → Spends fuel p a reads first follow
+never_spends never = record { complete = never_complete never; strict = record { strict = λ r after e. absurd (never r after e) } }
+
+-- a word that is next, and then the rest, before which there are fewer tokens
+pub word_fewer : {A : Type 0} {fuel : ℕ} {q : Takes} {a : A} {rest : Reads A} {begins follow : Option Lexeme → Type 0} (word : Keyword) →
+    Complete fuel q a rest begins follow → Spends (suc fuel) (keyword_is word ⨾ q) a (skip >>= λ _. rest) (Next (l.Word (keyword_number word))) follow
+word_fewer {a = a} word rest = record {
+  complete = fewer_complete {b = λ _. a} (token_strict (only_keyword word)) (skip_complete (is_word word) (only_keyword word)) (λ x f. tt) (λ _. rest);
+  strict = strict_then (token_strict (only_keyword word)) rest.moves;
+}
+
+pub word_spends : {A : Type 0} {fuel : ℕ} {q : Takes} {a : A} {rest : Reads A} {begins follow : Option Lexeme → Type 0} (word : Keyword) →
+    Complete fuel q a rest begins follow → Spends fuel (keyword_is word ⨾ q) a (skip >>= λ _. rest) (Next (l.Word (keyword_number word))) follow
+word_spends word rest = let it = word_fewer word rest in record { complete = less_complete (omega arith) it.complete; strict = it.strict }
+
 -- after the number of its first token
 pub here_spends : {A B : Type 0} {fuel : ℕ} {q : Takes} {a : A} {reads : Reads A} {first follow : Option Lexeme → Type 0} (make : ℕ → A → B) (n : ℕ) →
     Spends fuel q a reads first follow → Spends fuel (here_is n ⨾ q) (make n a) (here >>= λ token. reads >>= λ a. give (make token a)) first follow
@@ -212,8 +232,8 @@ module _ {A : Type 0} (reads : Reads A) (p : A → Takes) {begins : Lexeme → B
     (rows : Rows begins first follow_one follow) {fuel : ℕ} where
   many_from : (as_ so_far : List A) (turns : ℕ) → turns ≤ fuel → Each (λ a. Spends fuel (p a) a reads first follow_one) as_ →
       Complete turns (many_is p as_) (so_far ++ as_) (many turns begins reads so_far) (λ x. first x ⊎ follow x) follow
-  many_from [] so_far zero le items = rw (append-nil so_far) (zero_complete {fuel = zero} (row_end reads rows 0 so_far))
-  many_from [] so_far (suc turns) le items = rw (append-nil so_far) (row_end reads rows turns so_far)
+  many_from [] so_far turns le items =
+      rw (append-nil so_far) (by_turns (λ n. many n begins reads so_far) (λ n le. row_end reads rows n so_far) turns le)
   many_from (a ∷ as_) so_far zero le items =
       rw (sym (append_assoc so_far (a ∷ []) as_))
       (follow_complete (λ x f. inl f) (λ x f. f)

@@ -1,5 +1,5 @@
 -- Each list of targets before an `=`, and what follows it, is read.
-use Rattle.std.proofs.Common.{◌≡◌, ℕ, zero, suc, ◌≤◌, inl, inr, Bool, List, [], ◌∷◌, ◌++◌, Option, Some, None, refl, sym, ap, ◌∙◌, arith, append_assoc, append-nil, subst, le_refl}
+use Rattle.std.proofs.Common.{◌≡◌, ℕ, suc, ◌≤◌, inl, inr, Bool, List, [], ◌∷◌, ◌++◌, Option, Some, None, refl, sym, ap, ◌∙◌, arith, append_assoc, append-nil, subst, le_refl}
 use Rattle.std.proofs.lemmas.List.{map-append}
 use Rattle.cmm_lexer.specs.declared.piece.Lexeme.TheVariants as l
 use Rattle.cmm_lexer.specs.declared.piece.Lexeme.{Lexeme}
@@ -26,20 +26,21 @@ use Rattle.cmm_ast.specs.Taking.{Takes, ◌⨾◌, nothing, symbol as symbol_is,
 use Rattle.cmm_ast.specs.ExpressionGrammar as grammar
 use Rattle.cmm_ast.specs.StatementGrammar as bodies
 use Rattle.cmm_readers.specs.Reading.{is_comma, symbol, Reads, if_next, more_listed, next, checked_in, ◌>>=◌}
-use Rattle.cmm_readers.specs.ReadingLaws.{Complete}
+use Rattle.cmm_readers.specs.inside.Duties.{Complete}
 use Rattle.cmm_readers.specs.ExpressionReading.{begins_expression, whole}
 use Rattle.cmm_readers.specs.PartReading.{is_any_text, kinded}
 use Rattle.cmm_readers.specs.TargetReading.{Targets, Names, Lvalues, Results, lvalues_of, results_of, with_lvalue, next_target, more_targets, assign, called, callee_of_form, values, after_names, assigned, assignment, checked_operator, is_checked_operator, two_values}
-use Rattle.cmm_readers.proofs.Completes.{Next, Anything, fewer_complete, follow_complete, less_complete, after_complete, give_complete, last_complete, holds_complete, fails_complete, skip_complete, token_strict, both, Only, here_complete, token_taken, number_taken, never_complete}
+use Rattle.cmm_readers.proofs.Takings.{rest_to, takes_assoc, commas_to}
+use Rattle.cmm_readers.proofs.ExpressionForms.{opened}
+use Rattle.cmm_readers.proofs.StatementForms.{called_form}
+use Rattle.cmm_readers.proofs.Completes.{Next, Anything, fewer_complete, follow_complete, less_complete, after_complete, give_complete, last_complete, holds_complete, fails_complete, skip_complete, token_strict, both, Only, here_complete, token_taken, number_taken, never_complete, then_complete, same_complete, by_taken}
 use Rattle.cmm_readers.proofs.Tokens.{only_symbol, ident_complete, text_complete, symbol_complete, only_checked, only_keyword, pick_complete}
-use Rattle.cmm_readers.proofs.Lists.{After, rest_to, takes_assoc, zero_complete, Parts, commas_to, each_of, more_listed_complete, listed_complete}
-use Rattle.cmm_readers.proofs.CompleteRepeats.{then_complete, some_complete, parts_before, Passes, Not, other_word}
+use Rattle.cmm_readers.proofs.Lists.{After, Parts, each_of, more_listed_complete, listed_complete, by_turns}
+use Rattle.cmm_readers.proofs.CompleteRepeats.{either_not, some_complete, parts_before, Passes, Not, other_word}
 use Rattle.cmm_readers.proofs.CompleteExpressions.{Begins, Ends, whole_complete, in_brackets_complete, ends_before, ends_after}
-use Rattle.cmm_readers.proofs.CompleteParts.{NoSquare, begins_lvalue, kinded_complete, lvalue_complete}
+use Rattle.cmm_readers.proofs.CompleteParts.{begins_lvalue, kinded_complete, lvalue_complete}
 use Rattle.cmm_readers.proofs.CompleteCalls.{call_complete, call_after_complete}
 use Rattle.cmm_readers.proofs.CompleteFlows.{NoFlow, annotations_complete}
-use Rattle.cmm_readers.proofs.SoundExpressions.{opened}
-use Rattle.cmm_readers.proofs.SoundTargets.{called_form}
 
 -- a list, and then what goes on
 pub rest_then : {A : Type 0} (p : A → Takes) (as_ : List A) (k : Takes) → (rest_to p as_ nothing ⨾ k) ≡ rest_to p as_ k
@@ -123,12 +124,9 @@ module _ {A : Type 0} {fuel : ℕ} {p : A → Takes} {add : Targets → A → Ta
 
   more_from : (as_ : List A) (t : Targets) (turns : ℕ) → turns ≤ fuel → Of t →
       Complete turns (rest_to p as_ nothing) (adds add t as_) (more_targets turns fuel t) AfterTarget AtAssign
-  more_from [] t zero le of = zero_complete (no_more t 0)
-  more_from [] t (suc turns) le of = no_more t turns
-  more_from (a ∷ as_) t zero le of = zero_complete (one_more t a as_ 0 le of (more_from as_ (add t a) 0 le (sort.keeps t a of)))
-  more_from (a ∷ as_) t (suc turns) le of =
-      let less : turns ≤ fuel = omega arith in
-      one_more t a as_ turns less of (more_from as_ (add t a) turns less (sort.keeps t a of))
+  more_from [] t turns le of = by_turns (λ n. more_targets n fuel t) (λ n le. no_more t n) turns le
+  more_from (a ∷ as_) t turns le of =
+      by_turns (λ n. more_targets n fuel t) (λ n le. one_more t a as_ n le of (more_from as_ (add t a) n le (sort.keeps t a of))) turns le
 
   -- the targets after those that were read
   pub more_complete : (as_ : List A) (t : Targets) → Of t →
@@ -157,15 +155,11 @@ lvalue_no_text (Some (l.Text bytes)) e = absurd cc
 lvalue_no_text (Some _) e = refl
 lvalue_no_text None e = refl
 
-pub target_no_square : (x : Option Lexeme) → AfterTarget x → NoSquare x
-target_no_square x (inl e) = rw e refl
-target_no_square x (inr e) = rw e refl
-
 -- a word in memory or a name, after names
 lvalue_after_names : (fuel : ℕ) (names : List Ident) (v : Lvalue) →
     Complete fuel (bodies.lvalue v) (with_lvalue names v) (next_target fuel (Names names)) Anything AfterTarget
 lvalue_after_names fuel names v =
-    follow_complete (λ x f. tt) target_no_square
+    follow_complete (λ x f. tt) (either_not _ refl refl)
     (fails_complete is_any_text lvalue_no_text (last_complete (λ to. with_lvalue names to) (lvalue_complete fuel v)))
 
 pub lvalue_sort : (fuel : ℕ) → Sort fuel bodies.lvalue and_lvalue all_lvalues OfLvalues
@@ -185,7 +179,7 @@ lvalue_sort fuel = record { keeps = keeps; one_more = one_more; read = read } wh
   read : (t : Targets) (v : Lvalue) → OfLvalues t → Complete fuel (bodies.lvalue v) (and_lvalue t v) (next_target fuel t) Anything AfterTarget
   read (Names names) v of = lvalue_after_names fuel names v
   read (Lvalues to) v of =
-      follow_complete (λ x f. tt) target_no_square (last_complete (λ one. Lvalues (to ++ (one ∷ []))) (lvalue_complete fuel v))
+      follow_complete (λ x f. tt) (either_not _ refl refl) (last_complete (λ one. Lvalues (to ++ (one ∷ []))) (lvalue_complete fuel v))
   read (Results results) v of = absurd of
 
 -- ---- the results of a call
@@ -252,14 +246,6 @@ result_sort fuel = record { keeps = keeps; one_more = one_more; read = read } wh
 
 -- ---- what is known where a tree takes the tokens
 
-pub known_complete : {A E : Type 0} {fuel : ℕ} {p : Takes} {a : A} {reads : Reads A} {first follow : Option Lexeme → Type 0} →
-    ((r after : Reading) → p r ≡ Some after → E) → (E → Complete fuel p a reads first follow) → Complete fuel p a reads first follow
-known_complete known one = record {
-  moves = λ r after e. (one (known r after e)).moves r after e;
-  begins = λ r after e. (one (known r after e)).begins r after e;
-  complete = λ limited r after e. (one (known r after e)).complete limited r after e;
-}
-
 -- the first token, by what is taken
 pub first_complete : {A : Type 0} {fuel : ℕ} {p : Takes} {a : A} {reads : Reads A} {any first follow : Option Lexeme → Type 0} →
     ((r after : Reading) → p r ≡ Some after → first (next r.left)) → Complete fuel p a reads any follow → Complete fuel p a reads first follow
@@ -278,10 +264,6 @@ numbers_same n m p k r after e =
 
 -- ---- values
 
-value_no_open : (x : Option Lexeme) → After (Next (l.Symbol (symbol_number sign.Semicolon))) x → Not (is_sign sign.Open) x
-value_no_open x (inl e) = rw e refl
-value_no_open x (inr e) = rw e refl
-
 value_parts : Parts begins_expression Begins (Ends 0) (Next (l.Symbol (symbol_number sign.Semicolon)))
 value_parts = parts_before begins_expression sign.Semicolon refl refl (ends_after sign.Semicolon refl refl)
 
@@ -295,12 +277,11 @@ values_assigned : (fuel : ℕ) (names : List Ident) (vs : List Expr) →
     Complete fuel (ValuesAfter vs) (stmts.Assign (lvalues_of names) vs) (values fuel names) Begins Anything
 values_assigned fuel names [] = never_complete (λ r after e. absurd cc)
 values_assigned fuel names (v ∷ vs) =
-    subst (λ t. Complete fuel t (stmts.Assign (lvalues_of names) (v ∷ vs)) (values fuel names) Begins Anything)
-    (sym
+    same_complete
     (ap (λ t. t ⨾ symbol_is sign.Semicolon) (commas_to grammar.whole v vs may_comma_is)
-    ∙ takes_assoc (grammar.whole v) (rest_to grammar.whole vs may_comma_is) (symbol_is sign.Semicolon)))
+    ∙ takes_assoc (grammar.whole v) (rest_to grammar.whole vs may_comma_is) (symbol_is sign.Semicolon))
     (then_complete (after_first fuel names) (whole_complete fuel v) (ends_after sign.Semicolon refl refl)
-    (fails_complete (is_sign sign.Open) value_no_open
+    (fails_complete (is_sign sign.Open) (either_not _ refl refl)
     (after_complete {b = λ vs. stmts.Assign (lvalues_of names) vs}
     (more_listed_complete (whole fuel) grammar.whole value_parts vs (v ∷ []) fuel (le_refl fuel) (each_of (whole_complete fuel) vs)) (λ x e. e)
     (λ vs. last_complete (λ _. stmts.Assign (lvalues_of names) vs) (symbol_complete sign.Semicolon)))))
@@ -320,7 +301,7 @@ module _ (fuel : ℕ) (names : List Ident) (actuals : List Actual) (fs : List Fl
       let what : Callee = record { token = n; form = form } in
       let tree : StmtForm = stmts.Call (results_of names) None what actuals fs in
       let rest : Takes = round_is (may_list_is bodies.actual actuals) ⨾ bodies.annotated fs ⨾ symbol_is sign.Semicolon in
-      subst (λ t. Complete fuel t tree (values fuel names) Begins Anything) (called_form n value form is rest)
+      same_complete (sym (called_form n value form is rest))
       (then_complete (after_first fuel names) (whole_complete fuel (record { token = n; form = value })) (ends_before sign.Open refl refl)
       (holds_complete (is_sign sign.Open) (λ x e. rw e refl)
       (subst (λ o. Complete fuel (outermost_is rest) tree (called fuel names n o) (Next (l.Symbol (symbol_number sign.Open))) Anything) (sym is)
@@ -334,8 +315,8 @@ module _ (fuel : ℕ) (names : List Ident) (actuals : List Actual) (fs : List Fl
   values_called what = by what.token what.form where
     by : (n : ℕ) (form : CalleeForm) → Called (record { token = n; form = form })
     by n (callees.Name i) =
-        known_complete
-        (λ r after e. numbers_same n i.token (token (is_name i.name)) (CallRest actuals fs) r after e)
+        by_taken (λ (same : n ≡ i.token). bodies.callee (record { token = n; form = callees.Name i }) ⨾ CallRest actuals fs)
+        (λ r after e. (numbers_same n i.token (token (is_name i.name)) (CallRest actuals fs) r after e, e))
         (λ same. subst (λ m. Called (record { token = m; form = callees.Name i })) (sym same)
         (called_as i.token (callees.Name i) (Prim (NameOf i.name)) refl))
     by n (callees.Memory m) = called_as n (callees.Memory m) (InMemory m) refl
@@ -423,7 +404,7 @@ after_targets : {A : Type 0} {fuel : ℕ} {k : Takes} {q : A → Takes} {add : T
     Complete fuel k form (assigned fuel (adds add t as_)) begins Anything →
     Complete fuel (rest_to q as_ (symbol_is sign.Assign ⨾ k)) form (assignment fuel t) AfterTarget Anything
 after_targets {fuel = fuel} {k = k} {q = q} {form = form} sort as_ t of rest =
-    subst (λ s. Complete fuel s form (assignment fuel t) AfterTarget Anything) (rest_then q as_ (symbol_is sign.Assign ⨾ k))
+    same_complete (sym (rest_then q as_ (symbol_is sign.Assign ⨾ k)))
     (then_complete (λ targets. symbol sign.Assign >>= λ _. assigned fuel targets) (more_complete sort as_ t of) (λ x e. e)
     (after_complete {b = λ _. form} (symbol_complete sign.Assign) (λ x f. tt) (λ _. rest)))
 

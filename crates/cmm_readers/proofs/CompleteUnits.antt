@@ -40,20 +40,20 @@ use Rattle.cmm_ast.specs.ExpressionGrammar.{width_word}
 use Rattle.cmm_ast.specs.StatementGrammar as bodies
 use Rattle.cmm_ast.specs.UnitGrammar as units
 use Rattle.cmm_readers.specs.Reading.{Reads, ◌>>=◌, give, keyword, symbol, int, text, listed}
-use Rattle.cmm_readers.specs.ReadingLaws.{Complete}
+use Rattle.cmm_readers.specs.inside.Duties.{Complete}
 use Rattle.cmm_readers.specs.ExpressionReading.{named_type, begins_expression, whole, whole_prim}
 use Rattle.cmm_readers.specs.ProcedureReading.{procedure}
 use Rattle.cmm_readers.specs.UnitReading.{count_of, count, values, initial, values_of, datum_at, named_item, item_by, flat_item, in_braces, span, item, section, top_level, any_token, parts}
-use Rattle.cmm_readers.proofs.Completes.{Next, Anything, follow_complete, less_complete, after_complete, fewer_complete, give_complete, last_complete, holds_complete, fails_complete, here_complete, token_strict, both, number_taken, never_complete}
+use Rattle.cmm_readers.specs.PartReading.{is_any_name, is_any_text, is_width}
+use Rattle.cmm_readers.proofs.UnitForms.{row_is}
+use Rattle.cmm_readers.proofs.Completes.{Next, Anything, follow_complete, less_complete, after_complete, fewer_complete, give_complete, last_complete, holds_complete, fails_complete, here_complete, token_strict, both, number_taken, never_complete, then_complete}
 use Rattle.cmm_readers.proofs.Tokens.{only_keyword, symbol_complete, keyword_complete, ident_complete, text_complete, int_complete}
 use Rattle.cmm_readers.proofs.Lists.{Parts, Each, each_of, zero_complete, listed_complete}
 use Rattle.cmm_readers.proofs.CompleteExpressions.{Begins, Ends, NoMore, type_token, type_name_complete, in_brackets_complete, whole_complete, ends_before, ends_after}
 use Rattle.cmm_readers.proofs.CompleteParts.{whole_prim_complete}
-use Rattle.cmm_readers.proofs.SoundUnits.{row_is}
-use Rattle.cmm_readers.proofs.CompleteRepeats.{Passes, Not, then_complete, start_complete, only_symbol_complete, some_complete, none_complete, parts_before, strict_then, here_strict, Spends, keyword_spends, if_next_spends, not_next_spends, follow_spends, Rows, many_complete, other_symbol}
+use Rattle.cmm_readers.proofs.CompleteRepeats.{Passes, Not, start_complete, only_symbol_complete, some_complete, none_complete, parts_before, strict_then, here_strict, Spends, keyword_spends, if_next_spends, not_next_spends, follow_spends, Rows, many_complete, other_symbol, taken_spends}
 use Rattle.cmm_readers.proofs.CompleteDeclarations.{bits_begin, decl_word, decl_spends}
 use Rattle.cmm_readers.proofs.CompleteProcedures.{ident_strict, type_strict, NotClose, brace_rows, procedure_complete}
-use Rattle.cmm_readers.specs.PartReading.{is_any_name, is_any_text, is_width}
 use Rattle.cmm_readers.proofs.Wholes.{AtEnd}
 
 -- ---- data
@@ -144,14 +144,7 @@ datum_complete width how_many first =
 -- a part that begins with the number that its own first part begins with
 pub again_spends : {A : Type 0} {fuel : ℕ} (n m : ℕ) (p q : Takes) {a : A} {reads : Reads A} {first follow : Option Lexeme → Type 0} →
     (n ≡ m → Spends fuel ((here_is m ⨾ p) ⨾ q) a reads first follow) → Spends fuel (here_is n ⨾ (here_is m ⨾ p) ⨾ q) a reads first follow
-again_spends n m p q one = record {
-  complete = record {
-    moves = λ r after e. let o = inside r after e in (one o.0).complete.moves r after o.1;
-    begins = λ r after e f. let o = inside r after e in (one o.0).complete.begins r after o.1 f;
-    complete = λ limited r after e f less fits. let o = inside r after e in (one o.0).complete.complete limited r after o.1 f less fits;
-  };
-  strict = record { strict = λ r after e. let o = inside r after e in (one o.0).strict.strict r after o.1 };
-}
+again_spends n m p q one = taken_spends (λ (same : n ≡ m). (here_is m ⨾ p) ⨾ q) inside one
   where
     inside : (r after : Reading) → (here_is n ⨾ (here_is m ⨾ p) ⨾ q) r ≡ Some after → (n ≡ m) × (((here_is m ⨾ p) ⨾ q) r ≡ Some after)
     inside r after e =

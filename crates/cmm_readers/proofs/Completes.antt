@@ -4,7 +4,9 @@ use Rattle.std.proofs.lemmas.Bool.Decides.{nat_tests}
 use Rattle.cmm_lexer.specs.declared.piece.Lexeme.{Lexeme}
 use Rattle.cmm_ast.specs.Taking.{Reading, Takes, ◌⨾◌, here as here_is, nothing, token, taken_if, first_over, operator as operator_is, opening as opening_is, enclosed as enclosed_is, outermost as outermost_is}
 use Rattle.cmm_readers.specs.Reading.{Point, TooDeep, Answer, Read, Stopped, Reads, and_then, ◌>>=◌, give, next, past, look, choice, passes, if_next, here, skip, skip_opening, skip_operator, enclosed, outermost}
-use Rattle.cmm_readers.specs.ReadingLaws.{point, passed, outcome, Moves, Complete}
+use Rattle.cmm_readers.specs.ReadingLaws.{point}
+use Rattle.cmm_readers.specs.inside.Duties.{passed, outcome, Moves, Complete}
+use Rattle.cmm_readers.proofs.Takings.{put, first_stays, after_operator, after_opening}
 
 -- what follows: this token, or anything
 abbrev pub Next : Lexeme → Option Lexeme → Type 0
@@ -60,30 +62,35 @@ taken_both None q after e = absurd cc
 pub both : (p q : Takes) (r after : Reading) → (p ⨾ q) r ≡ Some after → Both p q r after
 both p q r after e = let o = taken_both (p r) q after e in record { between = o.0; first = o.1; second = o.2 }
 
-pub after_complete_if : {A B : Type 0} {fuel later : ℕ} {p q : Takes} {a : A} {b : A → B} {reads : Reads A} {rest : A → Reads B}
-    {first middle begins follow : Option Lexeme → Type 0} → Complete fuel p a reads first middle →
+then_complete_if : {A B : Type 0} {fuel later : ℕ} {p q : Takes} {a : A} {b : B} {reads : Reads A} {first middle begins follow : Option Lexeme → Type 0}
+    (rest : A → Reads B) → Complete fuel p a reads first middle →
     ((r between : Reading) → p r ≡ Some between → length r.left < fuel → length between.left < later) →
-    ((x : Option Lexeme) → begins x → middle x) → ((x : A) → Complete later q (b x) (rest x) begins follow) →
-    Complete fuel (p ⨾ q) (b a) (reads >>= rest) first follow
-after_complete_if {p = p} {q = q} {a = a} {b = b} {reads = reads} {rest = rest} one fewer goes each = record {
-  moves = λ r after e. let s = both p q r after e in moves_trans (one.moves r s.between s.first) ((each a).moves s.between after s.second);
+    ((x : Option Lexeme) → begins x → middle x) → Complete later q b (rest a) begins follow → Complete fuel (p ⨾ q) b (reads >>= rest) first follow
+then_complete_if {p = p} {q = q} {a = a} {b = b} rest one fewer goes two = record {
+  moves = λ r after e. let s = both p q r after e in moves_trans (one.moves r s.between s.first) (two.moves s.between after s.second);
   begins = λ r after e f.
       let s = both p q r after e in
-      one.begins r s.between s.first (goes (next s.between.left) ((each a).begins s.between after s.second f));
+      one.begins r s.between s.first (goes (next s.between.left) (two.begins s.between after s.second f));
   complete = λ limited r after e f less fits.
       let s = both p q r after e in
-      let h = one.complete limited r s.between s.first (goes (next s.between.left) ((each a).begins s.between after s.second f)) less fits in
+      let h = one.complete limited r s.between s.first (goes (next s.between.left) (two.begins s.between after s.second f)) less fits in
       ap (λ o. and_then o (λ a after. rest a limited after)) h
-      ∙ after_outcome limited a (b a) s.between after (λ a after. rest a limited after) ((each a).moves s.between after s.second)
-      ((each a).complete limited s.between after s.second f (fewer r s.between s.first less));
+      ∙ after_outcome limited a b s.between after (λ a after. rest a limited after) (two.moves s.between after s.second)
+      (two.complete limited s.between after s.second f (fewer r s.between s.first less));
 }
+
+-- where the tree of the first is known in what follows
+pub then_complete : {A B : Type 0} {fuel : ℕ} {p q : Takes} {a : A} {b : B} {reads : Reads A} {first middle begins follow : Option Lexeme → Type 0}
+    (rest : A → Reads B) → Complete fuel p a reads first middle →
+    ((x : Option Lexeme) → begins x → middle x) → Complete fuel q b (rest a) begins follow → Complete fuel (p ⨾ q) b (reads >>= rest) first follow
+then_complete rest one goes two =
+    then_complete_if rest one (λ r between e less. let o = (one.moves r between e).shrinks in omega arith) goes two
 
 pub after_complete : {A B : Type 0} {fuel : ℕ} {p q : Takes} {a : A} {b : A → B} {reads : Reads A} {rest : A → Reads B}
     {first middle begins follow : Option Lexeme → Type 0} → Complete fuel p a reads first middle →
     ((x : Option Lexeme) → begins x → middle x) → ((x : A) → Complete fuel q (b x) (rest x) begins follow) →
     Complete fuel (p ⨾ q) (b a) (reads >>= rest) first follow
-after_complete one goes two =
-    after_complete_if one (λ r between e less. let o = (one.moves r between e).shrinks in omega arith) goes two
+after_complete {a = a} {rest = rest} one goes each = then_complete rest one goes (each a)
 
 -- something takes a token
 pub record Strict (takes : Takes) : Type 0 where
@@ -94,8 +101,8 @@ pub fewer_complete : {A B : Type 0} {fuel : ℕ} {p q : Takes} {a : A} {b : A �
     {first middle begins follow : Option Lexeme → Type 0} → Strict p → Complete (suc fuel) p a reads first middle →
     ((x : Option Lexeme) → begins x → middle x) → ((x : A) → Complete fuel q (b x) (rest x) begins follow) →
     Complete (suc fuel) (p ⨾ q) (b a) (reads >>= rest) first follow
-fewer_complete strict one goes two =
-    after_complete_if one (λ r between e less. let o = strict.strict r between e in omega arith) goes two
+fewer_complete {a = a} {rest = rest} strict one goes each =
+    then_complete_if rest one (λ r between e less. let o = strict.strict r between e in omega arith) goes (each a)
 
 some_same : {r s : Reading} → Some r ≡ Some s → s ≡ r
 some_same e = cc
@@ -238,103 +245,95 @@ limit_outcome true false r after p same e fits =
     rw same (sym (outcome_read true tt after f))
 limit_outcome false over r after p same e fits = rw same refl
 
-over_stays : (over : Option ℕ) (test : Bool) (token at : ℕ) → over ≡ Some token → first_over over test at ≡ Some token
-over_stays (Some n) test token at e = e
-over_stays None test token at e = absurd cc
-
--- what an operator or an opening bracket has taken
-abbrev after_operator : Reading → Reading
-after_operator r = record r {
-  left = past r.left;
-  taken = suc r.taken;
-  operators = suc r.operators;
-  over = first_over r.over (nat_lt 500 (suc r.operators)) r.taken;
-}
-
-abbrev after_opening : Reading → Reading
-after_opening r = record r {
-  left = past r.left;
-  taken = suc r.taken;
-  open_brackets = suc r.open_brackets;
-  over = first_over r.over (nat_lt 200 (suc r.open_brackets)) r.taken;
-}
-
 mapped : (o : Option Reading) (f : Reading → Reading) (after : Reading) →
     elim o as (λ _. Option Reading) [ Some x ↦ Some (f x) | None ↦ None ] ≡ Some after → (between : Reading) × (o ≡ Some between) × (after ≡ f between)
 mapped (Some x) f after e = (x, refl, cc)
 mapped None f after e = absurd cc
 
-pub record Counted (x : Lexeme) (counted : Reading → Reading) (r after : Reading) : Type 0 where
+-- and what one that is counted has
+pub record Counted (x : Lexeme) (moved : Reading → Reading) (r after : Reading) : Type 0 where
   pub next_was : next r.left ≡ Some x
-  pub after_is : after ≡ counted r
+  pub after_is : after ≡ put (past r.left) (moved r)
   pub fewer : length (past r.left) < length r.left
 
-operator_taken : (test : Lexeme → Bool) (x : Lexeme) (r after : Reading) → Only test x → operator_is (token test) r ≡ Some after →
-    Counted x after_operator r after
-operator_taken test x r after only e =
-    let o = mapped (token test r) (λ after. record after {
-      operators = suc after.operators;
-      over = first_over after.over (nat_lt 500 (suc after.operators)) r.taken;
-    }) after e in
+counted_taken : (f : Reading → Reading → Reading) (moved : Reading → Reading) →
+    ((r : Reading) → f r (record r { left = past r.left; taken = suc r.taken }) ≡ put (past r.left) (moved r)) → (test : Lexeme → Bool) (x : Lexeme) →
+    Only test x → (r after : Reading) → elim (token test r) as (λ _. Option Reading) [ Some y ↦ Some (f r y) | None ↦ None ] ≡ Some after →
+    Counted x moved r after
+counted_taken f moved same test x only r after e =
+    let o = mapped (token test r) (f r) after e in
     let t = token_taken test x r o.0 only o.1 in
-    record { next_was = t.next_was; after_is = o.2 ∙ rw t.after_is refl; fewer = t.fewer }
+    record { next_was = t.next_was; after_is = o.2 ∙ ap (f r) t.after_is ∙ same r; fewer = t.fewer }
 
-opening_taken : (test : Lexeme → Bool) (x : Lexeme) (r after : Reading) → Only test x → opening_is (token test) r ≡ Some after →
-    Counted x after_opening r after
-opening_taken test x r after only e =
-    let o = mapped (token test r) (λ after. record after {
-      open_brackets = suc after.open_brackets;
-      over = first_over after.over (nat_lt 200 (suc after.open_brackets)) r.taken;
-    }) after e in
-    let t = token_taken test x r o.0 only o.1 in
-    record { next_was = t.next_was; after_is = o.2 ∙ rw t.after_is refl; fewer = t.fewer }
+module _ {one : Takes} {x : Lexeme} (moved : Reading → Reading) (limit : Reading → Bool) (taken : (r after : Reading) → one r ≡ Some after → Counted x moved r after) where
+  counted_strict : Strict one
+  counted_strict = record { strict = λ r after e. let t = taken r after e in rw t.after_is t.fewer }
+
+  counted_complete : {fuel : ℕ} {reads : Reads (Unit {0})} → ((r : Reading) → (moved r).over ≡ first_over r.over (limit r) r.taken) →
+      ((limited : Bool) (r : Reading) → reads limited (point r)
+      ≡ elim (limited && limit r) as (λ _. Answer (Unit {0})) [ true ↦ Stopped TooDeep r.taken | false ↦ Read tt (point (put (past r.left) (moved r))) ]) →
+      Complete fuel one tt reads (Next x) Anything
+  counted_complete over answers = record {
+    moves = λ r after e.
+        let t = taken r after e in
+        let less = t.fewer in
+        record { shrinks = rw t.after_is (omega arith); stays = λ token is. rw t.after_is (over r ∙ first_stays r.over (limit r) r.taken token is) };
+    begins = λ r after e f. (taken r after e).next_was;
+    complete = λ limited r after e f less fits.
+        let t = taken r after e in
+        let there : Reading = put (past r.left) (moved r) in
+        answers limited r ∙ rw t.after_is (limit_outcome limited (limit r) r there (point there) refl (over r) fits);
+  }
+
+operator_taken : (test : Lexeme → Bool) {x : Lexeme} → Only test x → (r after : Reading) → operator_is (token test) r ≡ Some after →
+    Counted x after_operator r after
+operator_taken test {x} only =
+    counted_taken (λ r y. record y { operators = suc y.operators; over = first_over y.over (nat_lt 500 (suc y.operators)) r.taken }) after_operator
+    (λ r. refl) test x only
 
 pub operator_complete : {fuel : ℕ} (test : Lexeme → Bool) {x : Lexeme} → Only test x →
     Complete fuel (operator_is (token test)) tt skip_operator (Next x) Anything
-operator_complete test {x} only = record {
-  moves = λ r after e.
-      let t = operator_taken test x r after only e in
-      let less = t.fewer in
-      record {
-        shrinks = rw t.after_is (omega arith);
-        stays = λ token is. rw t.after_is (over_stays r.over (nat_lt 500 (suc r.operators)) token r.taken is);
-      };
-  begins = λ r after e f. (operator_taken test x r after only e).next_was;
-  complete = λ limited r after e f less fits.
-      let t = operator_taken test x r after only e in
-      rw t.after_is (limit_outcome limited (nat_lt 500 (suc r.operators)) r (after_operator r) (point (after_operator r)) refl refl fits);
-}
+operator_complete test only =
+    counted_complete after_operator (λ r. nat_lt 500 (suc r.operators)) (operator_taken test only) (λ r. refl) (λ limited r. refl)
 
 pub operator_strict : {test : Lexeme → Bool} {x : Lexeme} → Only test x → Strict (operator_is (token test))
-operator_strict {test} {x} only = record { strict = λ r after e. let t = operator_taken test x r after only e in rw t.after_is t.fewer }
+operator_strict {test} only = counted_strict after_operator (λ r. false) (operator_taken test only)
+
+opening_taken : (test : Lexeme → Bool) {x : Lexeme} → Only test x → (r after : Reading) → opening_is (token test) r ≡ Some after →
+    Counted x after_opening r after
+opening_taken test {x} only =
+    counted_taken (λ r y. record y { open_brackets = suc y.open_brackets; over = first_over y.over (nat_lt 200 (suc y.open_brackets)) r.taken }) after_opening
+    (λ r. refl) test x only
 
 pub opening_complete : {fuel : ℕ} (test : Lexeme → Bool) {x : Lexeme} → Only test x →
     Complete fuel (opening_is (token test)) tt skip_opening (Next x) Anything
-opening_complete test {x} only = record {
-  moves = λ r after e.
-      let t = opening_taken test x r after only e in
-      let less = t.fewer in
-      record {
-        shrinks = rw t.after_is (omega arith);
-        stays = λ token is. rw t.after_is (over_stays r.over (nat_lt 200 (suc r.open_brackets)) token r.taken is);
-      };
-  begins = λ r after e f. (opening_taken test x r after only e).next_was;
-  complete = λ limited r after e f less fits.
-      let t = opening_taken test x r after only e in
-      rw t.after_is (limit_outcome limited (nat_lt 200 (suc r.open_brackets)) r (after_opening r) (point (after_opening r)) refl refl fits);
-}
+opening_complete test only =
+    counted_complete after_opening (λ r. nat_lt 200 (suc r.open_brackets)) (opening_taken test only) (λ r. refl) (λ limited r. refl)
 
 pub opening_strict : {test : Lexeme → Bool} {x : Lexeme} → Only test x → Strict (opening_is (token test))
-opening_strict {test} {x} only = record { strict = λ r after e. let t = opening_taken test x r after only e in rw t.after_is t.fewer }
+opening_strict {test} only = counted_strict after_opening (λ r. false) (opening_taken test only)
+
+-- ---- other takings
+
+-- what takes these tokens takes them in a way that is read, by what is known there
+pub by_taken : {A E : Type 0} {fuel : ℕ} {p : Takes} {a : A} {reads : Reads A} {first follow : Option Lexeme → Type 0} (q : E → Takes) →
+    ((r after : Reading) → p r ≡ Some after → (known : E) × (q known r ≡ Some after)) → ((known : E) → Complete fuel (q known) a reads first follow) →
+    Complete fuel p a reads first follow
+by_taken q by one = record {
+  moves = λ r after e. let o = by r after e in (one o.0).moves r after o.1;
+  begins = λ r after e. let o = by r after e in (one o.0).begins r after o.1;
+  complete = λ limited r after e. let o = by r after e in (one o.0).complete limited r after o.1;
+}
 
 -- nothing takes such tokens
 pub never_complete : {A : Type 0} {fuel : ℕ} {p : Takes} {a : A} {reads : Reads A} {first follow : Option Lexeme → Type 0} →
     ((r after : Reading) → p r ≡ Some after → ⊥) → Complete fuel p a reads first follow
-never_complete never = record {
-  moves = λ r after e. absurd (never r after e);
-  begins = λ r after e f. absurd (never r after e);
-  complete = λ limited r after e f less fits. absurd (never r after e);
-}
+never_complete never = by_taken (λ (known : ⊥). nothing) (λ r after e. absurd (never r after e)) (λ known. absurd known)
+
+-- trees that take the same
+pub same_complete : {A : Type 0} {fuel : ℕ} {p q : Takes} {a : A} {reads : Reads A} {first follow : Option Lexeme → Type 0} → p ≡ q →
+    Complete fuel q a reads first follow → Complete fuel p a reads first follow
+same_complete same one = rw same one
 
 -- ---- the number of the next token, brackets and outermost expressions
 

@@ -1,5 +1,5 @@
 -- Single tokens: what each has taken, and how it is read.
-use Rattle.std.proofs.Common.{◌≡◌, ℕ, Bool, true, List, Option, Some, None, refl, sym, ap, bytes_eq}
+use Rattle.std.proofs.Common.{◌≡◌, ℕ, Bool, true, List, Option, Some, refl, sym, ap, bytes_eq}
 use Rattle.std.proofs.lemmas.Slice.Eq.{bytes_eq-Decides}
 use Rattle.cmm_lexer.specs.declared.piece.Lexeme.{Lexeme}
 use Rattle.cmm_lexer.specs.declared.piece.Lexeme.TheVariants as l
@@ -12,10 +12,9 @@ use Rattle.cmm_lexer.specs.Spellings.{keyword_number, symbol_number}
 use Rattle.cmm_ast.specs.Taking.{token, is_word, is_sign, is_name, is_text, is_operator, is_checked, is_int, is_char, keyword as keyword_is, symbol as symbol_is}
 use Rattle.cmm_ast.specs.ExpressionGrammar.{ident as ident_is, text as text_is, int as int_is}
 use Rattle.cmm_readers.specs.Reading.{expect, keyword, symbol, picked, held, pick, name_in, text_in, int_in, checked_in, name, ident, text, int}
-use Rattle.cmm_readers.specs.ReadingLaws.{Sound, Complete, Local}
-use Rattle.cmm_readers.proofs.Sounds.{GoesAt, whole_sound, after_sound, last_sound, look_sound, stop_sound, next_sound, skip_last_sound, here_sound, same_number}
+use Rattle.cmm_readers.specs.inside.Duties.{Complete}
+use Rattle.cmm_readers.proofs.Takings.{same_number}
 use Rattle.cmm_readers.proofs.Completes.{Next, Anything, Only, after_complete, last_complete, at_complete, holds_complete, skip_complete, here_complete, number_same}
-use Rattle.cmm_readers.proofs.Locals.{after_local, give_local, stop_local, here_local, look_local, next_local, skip_local}
 
 -- ---- tests that one token alone passes
 
@@ -59,59 +58,22 @@ only_checked n _ e = absurd cc
 
 -- ---- a token that is expected
 
-pub expect_sound : (test : Lexeme → Bool) → Sound (expect test) (λ _. token test)
-expect_sound test = whole_sound (next_sound (λ x e. skip_last_sound test tt e refl) (λ x e. stop_sound))
-
 pub expect_complete : {fuel : ℕ} (test : Lexeme → Bool) (x : Lexeme) → Only test x → test x ≡ true →
     Complete fuel (token test) tt (expect test) (Next x) Anything
 expect_complete test x only passed = holds_complete test (λ y e. rw e passed) (skip_complete test only)
 
-pub expect_local : (test : Lexeme → Bool) → Local (expect test)
-expect_local test = next_local test skip_local stop_local
-
-pub symbol_sound : (s : Symbol) → Sound (symbol s) (λ _. symbol_is s)
-symbol_sound s = expect_sound _
-
 pub symbol_complete : {fuel : ℕ} (s : Symbol) → Complete fuel (symbol_is s) tt (symbol s) (Next (l.Symbol (symbol_number s))) Anything
 symbol_complete s = expect_complete _ _ (only_symbol s) (same_number (symbol_number s))
-
-pub symbol_local : (s : Symbol) → Local (symbol s)
-symbol_local s = expect_local _
-
-pub keyword_sound : (k : Keyword) → Sound (keyword k) (λ _. keyword_is k)
-keyword_sound k = expect_sound _
 
 pub keyword_complete : {fuel : ℕ} (k : Keyword) → Complete fuel (keyword_is k) tt (keyword k) (Next (l.Word (keyword_number k))) Anything
 keyword_complete k = expect_complete _ _ (only_keyword k) (same_number (keyword_number k))
 
-pub keyword_local : (k : Keyword) → Local (keyword k)
-keyword_local k = expect_local _
-
 -- ---- what a token holds
-
-picked_sound : {A : Type 0} (test : A → Lexeme → Bool) (x : Lexeme) (o : Option A) → ((a : A) → o ≡ Some a → test a x ≡ true) →
-    GoesAt (Some x) (λ k. k) (picked o) (λ a. token (test a))
-picked_sound test x (Some a) passing = skip_last_sound (test a) a (passing a refl) refl
-picked_sound test x None passing = stop_sound
-
-pub pick_sound : {A : Type 0} (content : Lexeme → Option A) (test : A → Lexeme → Bool) →
-    ((x : Lexeme) (a : A) → content x ≡ Some a → test a x ≡ true) → Sound (pick content) (λ a. token (test a))
-pick_sound content test passing = whole_sound (look_sound by) where
-  by : (x : Option Lexeme) → GoesAt x (λ k. k) (picked (held content x)) (λ a. token (test a))
-  by (Some x) = picked_sound test x (content x) (passing x)
-  by None = stop_sound
 
 pub pick_complete : {A : Type 0} {fuel : ℕ} (content : Lexeme → Option A) (test : Lexeme → Bool) (x : Lexeme) (a : A) → Only test x →
     content x ≡ Some a → Complete fuel (token test) a (pick content) (Next x) Anything
 pick_complete content test x a only e =
     at_complete (λ x. picked (held content x)) x (rw e (last_complete (λ _. a) (skip_complete test only)))
-
-picked_local : {A : Type 0} (o : Option A) → Local (picked o)
-picked_local (Some a) = after_local skip_local (λ _. give_local a)
-picked_local None = stop_local
-
-pub pick_local : {A : Type 0} (content : Lexeme → Option A) → Local (pick content)
-pick_local content = look_local (λ x. picked_local (held content x))
 
 pub some_is : {A : Type 0} {a b : A} → Some a ≡ Some b → b ≡ a
 some_is e = cc
@@ -132,40 +94,16 @@ pub checked_in_is : (x : Lexeme) (bytes : List ℕ) → checked_in x ≡ Some by
 checked_in_is (l.Checked b) bytes e = rw (some_is e) (same_bytes b)
 checked_in_is _ bytes e = absurd cc
 
-pub name_sound : Sound name (λ bytes. token (is_name bytes))
-name_sound = pick_sound name_in is_name name_in_is
-
 pub name_complete : {fuel : ℕ} (bytes : List ℕ) → Complete fuel (token (is_name bytes)) bytes name (Next (l.Name bytes)) Anything
 name_complete bytes = pick_complete name_in (is_name bytes) (l.Name bytes) bytes (only_name bytes) refl
 
-pub name_local : Local name
-name_local = pick_local name_in
-
-pub ident_sound : Sound ident ident_is
-ident_sound = whole_sound (after_sound here_sound (λ token. last_sound _ name_sound (λ bytes. refl)))
-
 pub ident_complete : {fuel : ℕ} (i : Ident) → Complete fuel (ident_is i) i ident (Next (l.Name i.name)) Anything
 ident_complete i = after_complete (here_complete i.token) (λ x f. f) (λ token. last_complete _ (name_complete i.name))
-
-pub ident_local : Local ident
-ident_local = after_local here_local (λ token. after_local name_local (λ bytes. give_local _))
-
-pub text_sound : Sound text text_is
-text_sound = whole_sound (after_sound here_sound (λ token. last_sound _ (pick_sound text_in is_text text_in_is) (λ bytes. refl)))
 
 pub text_complete : {fuel : ℕ} (t : Text) → Complete fuel (text_is t) t text (Next (l.Text t.bytes)) Anything
 text_complete t =
     after_complete (here_complete t.token) (λ x f. f) (λ token. last_complete _ (pick_complete text_in (is_text t.bytes) (l.Text t.bytes) t.bytes (only_text t.bytes) refl))
 
-pub text_local : Local text
-text_local = after_local here_local (λ token. after_local (pick_local text_in) (λ bytes. give_local _))
-
-pub int_sound : Sound int int_is
-int_sound = whole_sound (after_sound here_sound (λ token. last_sound _ (pick_sound int_in is_int int_in_is) (λ value. refl)))
-
 pub int_complete : {fuel : ℕ} (i : Int) → Complete fuel (int_is i) i int (Next (l.Int i.value)) Anything
 int_complete i =
     after_complete (here_complete i.token) (λ x f. f) (λ token. last_complete _ (pick_complete int_in (is_int i.value) (l.Int i.value) i.value (only_int i.value) refl))
-
-pub int_local : Local int
-int_local = after_local here_local (λ token. after_local (pick_local int_in) (λ value. give_local _))

@@ -7,21 +7,18 @@ use Rattle.cmm_ast.specs.Taking.{many as many_is}
 use Rattle.cmm_ast.specs.UnitGrammar as units
 use Rattle.cmm_ast.specs.Derivation.{at_start, Derives, Begins, IsUnexpected, IsTooDeep}
 use Rattle.cmm_readers.specs.Reading.{Point, Read, Reads, ◌>>=◌, give, next, choice, passes, many, Stopped, Unexpected, TooDeep}
-use Rattle.cmm_readers.specs.ReadingLaws.{within, point, Complete, Local, TakesAll, Answers}
+use Rattle.cmm_readers.specs.ReadingLaws.{within, point, TakesAll, Answers}
+use Rattle.cmm_readers.specs.inside.Duties.{Complete, Local}
 use Rattle.cmm_readers.specs.UnitReading.{any_token, top_level}
 use Rattle.cmm_readers.specs.StatementReading.{block}
 use Rattle.cmm_readers.specs.UnitLaws.{whole_unit, OneUnit, WhatIsRefusedIsUnexpected, EachThatIsTooDeepIsStopped, EachHasOneAnswer, EachUnitIsRead, WhatIsReadIsAUnit}
+use Rattle.std.proofs.lemmas.Bool.{cases_lt}
 use Rattle.cmm_readers.proofs.Completes.{Anything}
-use Rattle.cmm_readers.proofs.Sounds.{bound, read_same}
-use Rattle.cmm_readers.proofs.SoundUnits.{parts_sound}
-use Rattle.cmm_readers.proofs.LocalUnits.{parts_local}
+use Rattle.cmm_readers.proofs.Meets.{bound, read_same, is_sound, is_local}
 use Rattle.cmm_readers.proofs.CompleteUnits.{parts_complete}
 use Rattle.cmm_readers.proofs.CompleteBlocks.{blocks_complete}
-use Rattle.cmm_readers.proofs.LocalStatements.{block_local}
-use Rattle.cmm_readers.proofs.SoundStatements.{block_sound}
 use Rattle.cmm_readers.proofs.Wholes.{AtEnd, one_tree, none_goes_on_with, none_takes_all, too_deep_stops, tree_is_read}
-use Rattle.cmm_readers.proofs.ViableUnits.{begins_before, stops_inside}
-use Rattle.std.proofs.lemmas.Bool.{cases_lt}
+use Rattle.cmm_readers.proofs.MeetsUnits.{parts_meets, begins_before, stops_inside}
 
 -- a row that any token goes on ends at the end of the tokens
 ended : {A : Type 0} (reads : Reads A) (turns : ℕ) (so_far as_ : List A) (p after : Point) → many turns any_token reads so_far true p ≡ Read as_ after →
@@ -46,7 +43,7 @@ complete : (fuel : ℕ) (ts : List TopLevel) → Complete fuel (many_is units.to
 complete = parts_complete block blocks_complete
 
 local : (fuel : ℕ) → Local (whole_unit fuel)
-local = parts_local block block_local
+local fuel = is_local (parts_meets fuel)
 
 abbrev all_of : {tokens : List Lexeme} (u : UnitTree) → Derives tokens u → TakesAll (many_is units.top_level u.parts) tokens
 all_of u derives = record { after = derives.after; taken = derives.takes; all = derives.all }
@@ -95,7 +92,7 @@ pub read_is_unit : WhatIsReadIsAUnit
 read_is_unit fuel tokens u after e = record {
   derives = record {
     after = within after;
-    takes = (parts_sound block block_sound fuel).sound (point (at_start tokens)) u.parts after e;
+    takes = (is_sound (parts_meets fuel)).sound (point (at_start tokens)) u.parts after e;
     all = no_left after.left (ended (top_level fuel block) fuel [] u.parts (point (at_start tokens)) after e);
   };
   within = refl;

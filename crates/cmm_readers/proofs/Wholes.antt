@@ -4,9 +4,10 @@ use Rattle.cmm_lexer.specs.declared.piece.Lexeme.{Lexeme}
 use Rattle.cmm_ast.specs.Taking.{Reading, Takes}
 use Rattle.cmm_ast.specs.Derivation.{at_start}
 use Rattle.cmm_readers.specs.Reading.{Fault, Unexpected, TooDeep, Read, Stopped, Reads, next, Point}
-use Rattle.cmm_readers.specs.ReadingLaws.{point, outcome, Complete, Local, Same, TakesAll, Answers}
+use Rattle.cmm_readers.specs.ReadingLaws.{point, TakesAll, Answers}
+use Rattle.cmm_readers.specs.inside.Duties.{outcome, Complete, Local, Same}
 use Rattle.cmm_readers.proofs.Completes.{outcome_read}
-use Rattle.cmm_readers.proofs.Sounds.{read_same}
+use Rattle.cmm_readers.proofs.Meets.{read_same}
 
 -- the tokens are at their end
 abbrev pub AtEnd : Option Lexeme → Type 0

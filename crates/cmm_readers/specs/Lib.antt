@@ -10,3 +10,4 @@ pub mod UnitReading
 pub mod ExpressionLaws
 pub mod PartReading
 pub mod UnitLaws
+pub mod inside

@@ -3,7 +3,7 @@
 //! A reader stands at a token and answers what it read and where it then stands, or the token at which it stopped: one that
 //! nothing goes on with, or one that passes a limit. It looks at one token at a time. `specs/` puts a reader together for each
 //! part of a unit, from those for single tokens in `Reading` up to `UnitReading`. What a reader owes the grammar of `cmm_ast` is in
-//! `ReadingLaws`: what it reads is a tree of the tokens that it takes, it reads each tree that what follows does not go on, its
+//! `inside/Duties`: what it reads is a tree of the tokens that it takes, it reads each tree that what follows does not go on, its
 //! answer hangs on no token beyond the one that it looks at, and it stops no later than it must. From these it follows that tokens
 //! have one tree, and that a reader stops at the first token that no tree goes on with.
 //!

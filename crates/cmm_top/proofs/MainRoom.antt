@@ -34,8 +34,7 @@ use Rattle.cmm_ast.specs.StatementGrammar.{actual, arguments, block, formal, par
 use Rattle.cmm_ast.specs.Taking.{Reading, Takes, ◌⨾◌, braces, here, is_int, is_word, is_name, is_text, keyword, listed, many, may_list, nothing, operator, optional, round, symbol, token}
 use Rattle.cmm_ast.specs.UnitGrammar.{decl, decl_form, top_level}
 use Rattle.cmm_lexer.specs.Lexing.{tokens_of}
-use Rattle.cmm_readers.proofs.Rows.{many_to}
-use Rattle.cmm_readers.proofs.StatementForms.{block_is}
+use Rattle.cmm_readers.proofs.Shared.{block_is, many_to}
 use Rattle.std.proofs.lemmas.List.{length-map}
 use Rattle.cmm_top.specs.declared.term.Sign.{Sign}
 use Rattle.cmm_top.specs.declared.term.Term.{Term}

@@ -19,7 +19,7 @@ use Rattle.cmm_lexer.specs.Lexing.{IsFirstFault, Lexes, faults_of, Spelled, lexe
 use Rattle.cmm_lexer.specs.Places.{line_at, column_at}
 use Rattle.cmm_parser.specs.declared.fault.SyntaxFault.TheVariants as syntax
 use Rattle.cmm_parser.specs.Faults.{IsFaultOf, lexemes_of, place_of, places_of}
-use Rattle.cmm_readers.proofs.UnitLaws.{one_answer}
+use Rattle.cmm_readers.proofs.Shared.{one_answer}
 use Rattle.cmm_top.specs.declared.first.Fault.{Fault}
 use Rattle.cmm_top.specs.declared.first.FirstFault.TheVariants.{Refused}
 use Rattle.cmm_top.specs.Causes.{HasNoCode, IsTreeOf, lexemes_in, places_in}

@@ -7,7 +7,7 @@ use Rattle.cmm_ast.specs.declared.unit.TopLevel.{TopLevel}
 use Rattle.cmm_ast.specs.declared.unit.Unit.{Unit as UnitTree}
 use Rattle.cmm_lexer.specs.declared.tokens.TheConstants.{UNIT_LIMIT}
 use Rattle.cmm_lexer.specs.Lexing.{tokens_of}
-use Rattle.cmm_readers.proofs.UnitLaws.{one_unit}
+use Rattle.cmm_readers.proofs.Shared.{one_unit}
 use Rattle.cmm_rules.specs.declared.rule.Rule.TheVariants.{FormNotBuilt}
 use Rattle.rv_table.specs.declared.memory_map.TheConstants.{CODE_LENGTH_LIMIT}
 use Rattle.rv_table.specs.declared.instruction.Instr.{Instr}

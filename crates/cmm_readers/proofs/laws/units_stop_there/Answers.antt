@@ -1,5 +1,5 @@
 use Rattle.cmm_readers.proofs.UnitLaws.{is_unexpected, each_is_stopped}
-use Rattle.cmm_readers.proofs.ViableUnits.{is_too_deep}
+use Rattle.cmm_readers.proofs.MeetsUnits.{is_too_deep}
 use Rattle.cmm_readers.proofs.laws.units_stop_there.Goals as goal
 
 pub returns-clause-unexpected : goal.returns-clause-unexpected

@@ -1,4 +1,4 @@
--- Where a reader of a type or of an expression stops, some tree begins with the tokens gone through.
+-- Readers of types, of literals and of alignments meet the grammar.
 use Rattle.std.proofs.Common.{◌≡◌, ℕ, Bool, true, false, ◌||◌, List, [], ◌∷◌, Option, Some, None, refl, sym}
 use Rattle.std.proofs.Math.Path.{fun_ext}
 use Rattle.cmm_words.specs.declared.width.Width.{Width}
@@ -14,18 +14,18 @@ use Rattle.cmm_ast.specs.ExpressionGrammar as grammar
 use Rattle.cmm_ast.specs.ExpressionGrammar.{width_word, number_of, prim_form, aligned_by}
 use Rattle.cmm_readers.specs.Reading.{◌>>=◌, give, look, skip, pick, int}
 use Rattle.cmm_readers.specs.ExpressionReading.{width_in, sized, type_by, type_name, number_in, typed, literal, aligned}
-use Rattle.cmm_readers.proofs.Tokens.{same_bytes}
-use Rattle.cmm_readers.proofs.Lists.{takes_nothing}
-use Rattle.cmm_readers.proofs.SoundExpressions.{found, typed_is, number_test, number_is, number_in_is}
-use Rattle.cmm_readers.proofs.Viables.{Ends, Leads, LeadsAt, Extends, after_leads, whole_viable, give_leads, last_leads, viable_same, at_leads, look_leads, stop_leads, next_leads}
-use Rattle.cmm_readers.proofs.ViableTokens.{ends_token, skip_leads, skip_last_leads, here_viable}
-use Rattle.cmm_readers.proofs.ViableLists.{pick_viable, int_viable}
 use Rattle.std.proofs.Math.Bool.{or-true}
+use Rattle.cmm_readers.proofs.Takings.{takes_nothing}
+use Rattle.cmm_readers.proofs.ExpressionForms.{found, typed_is, number_test, number_is, number_in_is}
+use Rattle.cmm_readers.proofs.Tokens.{same_bytes}
+use Rattle.cmm_readers.proofs.Meets.{Ends, Leads, LeadsAt, Meets, after_leads, whole_meets, give_leads, last_leads, meets_same, at_leads, look_leads, stop_leads, next_leads}
+use Rattle.cmm_readers.proofs.MeetsTokens.{ends_token, skip_leads, skip_last_leads, here_meets}
+use Rattle.cmm_readers.proofs.MeetsLists.{pick_meets, int_meets}
 
 -- ---- types
 
-type_form_viable : {first : Bool} → Extends first true (look type_by) grammar.type_form
-type_form_viable {first} = whole_viable (look_leads some by) where
+type_form_meets : {first : Bool} → Meets first true (look type_by) grammar.type_form
+type_form_meets {first} = whole_meets (look_leads some by) where
   -- a name is one
   some : Ends first first true (λ k. k) grammar.type_form
   some = ends_token (is_name []) (l.Name []) refl (λ e. refl) (give_leads (OfName []) (sym (takes_nothing (token (is_name []))))).ends
@@ -41,21 +41,21 @@ type_form_viable {first} = whole_viable (look_leads some by) where
   by (Some (l.Name bytes)) = skip_last_leads (is_name bytes) (OfName bytes) (same_bytes bytes) refl
   by _ = at_leads (stop_leads some)
 
-pub type_name_viable : {first : Bool} → Extends first true type_name grammar.type_name
-type_name_viable = whole_viable (after_leads here_viable (λ token. last_leads _ type_form_viable (λ form. refl)))
+pub type_name_meets : {first : Bool} → Meets first true type_name grammar.type_name
+type_name_meets = whole_meets (after_leads here_meets (λ token. last_leads _ type_form_meets (λ form. refl)))
 
 -- ---- literals
 
-number_viable : {first : Bool} → Extends first true (pick number_in) number_of
-number_viable = viable_same number_is (pick_viable number_in number_test number_in_is (l.Int 0) (number.Int 0) refl (λ e. refl))
+number_meets : {first : Bool} → Meets first true (pick number_in) number_of
+number_meets = meets_same number_is (pick_meets number_in number_test number_in_is (l.Int 0) (number.Int 0) refl (λ e. refl))
 
-pub typed_viable : Extends true true typed typed_is
-typed_viable = whole_viable (next_leads none.ends (λ x passed. skip_leads _ passed (λ _. last_leads Some type_name_viable (λ t. refl))) (λ x fails. at_leads none)) where
+pub typed_meets : Meets true true typed typed_is
+typed_meets = whole_meets (next_leads none.ends (λ x passed. skip_leads _ passed (λ _. last_leads Some type_name_meets (λ t. refl))) (λ x fails. at_leads none)) where
   none : Leads true true true (λ k. k) (give None) typed_is
   none = give_leads None refl
 
-pub literal_viable : {first : Bool} → Extends first true literal prim_form
-literal_viable = whole_viable (after_leads number_viable (λ n. last_leads _ typed_viable (λ width. refl)))
+pub literal_meets : {first : Bool} → Meets first true literal prim_form
+literal_meets = whole_meets (after_leads number_meets (λ n. last_leads _ typed_meets (λ width. refl)))
 
 -- ---- what an address is said to be a multiple of
 
@@ -80,9 +80,9 @@ aligned_same i = fun_ext (λ r. at r.left r.taken r.open_brackets r.operators r.
       by (is_word Aligned x) (is_word Align x) xs
       (record { left = x ∷ xs; taken = taken; open_brackets = opens; operators = operators; over = over })
 
-pub aligned_viable : Extends true true aligned (optional_is aligned_by)
-aligned_viable =
-    whole_viable
+pub aligned_meets : Meets true true aligned (optional_is aligned_by)
+aligned_meets =
+    whole_meets
     (next_leads none.ends (λ x passed. some x (first x passed))
     (λ x fails. at_leads (next_leads none.ends (λ y passed. some y (second y passed)) (λ y fails. at_leads none))))
   where
@@ -97,4 +97,4 @@ aligned_viable =
 
     some : (x : Lexeme) → either_word x ≡ true →
         LeadsAt (Some x) true true true (λ k. k) (skip >>= λ _. int >>= λ bytes. give (Some bytes)) (optional_is aligned_by)
-    some x passed = skip_leads either_word passed (λ _. last_leads Some int_viable aligned_same)
+    some x passed = skip_leads either_word passed (λ _. last_leads Some int_meets aligned_same)

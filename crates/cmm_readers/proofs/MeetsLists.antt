@@ -1,4 +1,4 @@
--- Single tokens, brackets and lists: where they stop, some tree begins with the tokens gone through.
+-- Readers of single tokens, brackets and lists meet the grammar.
 use Rattle.std.proofs.Common.{◌≡◌, ℕ, zero, suc, ◌⊎◌, inl, inr, Bool, true, false, List, [], ◌∷◌, ◌++◌, Option, Some, None, refl, sym, ap, ◌∙◌}
 use Rattle.cmm_lexer.specs.declared.piece.Lexeme.{Lexeme}
 use Rattle.cmm_lexer.specs.declared.piece.Lexeme.TheVariants as l
@@ -11,32 +11,31 @@ use Rattle.cmm_ast.specs.ExpressionGrammar.{ident as ident_is, text as text_is, 
 use Rattle.cmm_readers.specs.Reading.{Point, Reads, ◌>>=◌, give, next, past, choice, passes, if_next, skip, expect, keyword, symbol, picked, held, pick, name_in, text_in, int_in, name, ident, text, int, is_comma, in_brackets, round, square, braces, optional, many, more_commas, commas, more_listed, listed, may_list}
 use Rattle.cmm_readers.specs.DeclarationReading.{if_word, if_symbol}
 use Rattle.cmm_readers.specs.PartReading.{may_comma}
-use Rattle.cmm_readers.proofs.Sounds.{read_same, taken_then, same_number}
+use Rattle.cmm_readers.proofs.Takings.{taken_then, same_number, takes_nothing, rest_to, rest_to-append, commas_to, may_comma_not, may_comma_taken, many_to, many_to-append, many_to-nothing, put}
+use Rattle.cmm_readers.proofs.Locals.{give_local, look_local, choice_local, skip_local}
 use Rattle.cmm_readers.proofs.Tokens.{name_in_is, text_in_is, int_in_is}
-use Rattle.cmm_readers.proofs.Lists.{takes_nothing, rest_to, rest_to-append, commas_to, may_comma_not, may_comma_taken}
-use Rattle.cmm_readers.proofs.Rows.{many_to, many_to-append, many_to-nothing}
-use Rattle.cmm_readers.proofs.Viables.{put, May, Plain, any_plain, may_any, Led, Ends, Leads, LeadsAt, Extends, ended_self, at_either, after_leads, whole_viable, give_leads, last_leads, same_leads, leads_same, at_leads, look_leads, stop_leads, next_leads, if_next_leads, viable_later, leads_later}
-use Rattle.cmm_readers.proofs.ViableTokens.{One, ends_token, one_leads, skip_leads, skip_last_leads, opening_viable, here_viable, enclosed_viable}
+use Rattle.cmm_readers.proofs.Meets.{read_same, May, Plain, any_plain, may_any, Led, Ends, Leads, LeadsAt, Meets, ended_self, at_either, after_leads, whole_meets, give_leads, last_leads, same_leads, leads_same, at_leads, look_leads, stop_leads, next_leads, if_next_leads, meets_later, leads_later}
+use Rattle.cmm_readers.proofs.MeetsTokens.{One, reached_step, token_one, ends_token, one_leads, skip_leads, skip_last_leads, opening_meets, here_meets, enclosed_meets}
 
 -- ---- a token that is expected
 
-pub expect_viable : {first : Bool} (test : Lexeme → Bool) (x : Lexeme) → test x ≡ true → Plain first x → Extends first true (expect test) (λ _. token test)
-expect_viable {first} test x passed plain =
-    whole_viable (next_leads some (λ y e. skip_last_leads test tt e refl) (λ y e. at_leads (stop_leads some)))
+pub expect_meets : {first : Bool} (test : Lexeme → Bool) (x : Lexeme) → test x ≡ true → Plain first x → Meets first true (expect test) (λ _. token test)
+expect_meets {first} test x passed plain =
+    whole_meets (next_leads some (λ y e. skip_last_leads test tt e refl) (λ y e. at_leads (stop_leads some)))
   where
     some : Ends first first true (λ k. k) (λ (u : Unit {0}). token test)
     some = ends_token test x passed plain (give_leads tt (sym (takes_nothing (token test)))).ends
 
 -- after anything that takes no comma
-pub symbol_viable : (s : Symbol) → Extends true true (symbol s) (λ _. symbol_is s)
-symbol_viable s = expect_viable _ (l.Symbol (symbol_number s)) (same_number (symbol_number s)) (any_plain (l.Symbol (symbol_number s)))
+pub symbol_meets : (s : Symbol) → Meets true true (symbol s) (λ _. symbol_is s)
+symbol_meets s = expect_meets _ (l.Symbol (symbol_number s)) (same_number (symbol_number s)) (any_plain (l.Symbol (symbol_number s)))
 
--- after a list too: `closing_viable Semicolon refl`
-pub closing_viable : {first : Bool} (s : Symbol) → is_comma (l.Symbol (symbol_number s)) ≡ false → Extends first true (symbol s) (λ _. symbol_is s)
-closing_viable s plain = expect_viable _ (l.Symbol (symbol_number s)) (same_number (symbol_number s)) (λ e. plain)
+-- after a list too: `closing_meets Semicolon refl`
+pub closing_meets : {first : Bool} (s : Symbol) → is_comma (l.Symbol (symbol_number s)) ≡ false → Meets first true (symbol s) (λ _. symbol_is s)
+closing_meets s plain = expect_meets _ (l.Symbol (symbol_number s)) (same_number (symbol_number s)) (λ e. plain)
 
-pub keyword_viable : {first : Bool} (k : Keyword) → Extends first true (keyword k) (λ _. keyword_is k)
-keyword_viable k = expect_viable _ (l.Word (keyword_number k)) (same_number (keyword_number k)) (λ e. refl)
+pub keyword_meets : {first : Bool} (k : Keyword) → Meets first true (keyword k) (λ _. keyword_is k)
+keyword_meets k = expect_meets _ (l.Word (keyword_number k)) (same_number (keyword_number k)) (λ e. refl)
 
 -- ---- what a token holds
 
@@ -46,10 +45,10 @@ picked_leads test x (Some a) passing some = skip_last_leads (test a) a (passing 
 picked_leads test x None passing some = at_leads (stop_leads some)
 
 -- the token is one that holds this
-pub pick_viable : {A : Type 0} {first : Bool} (content : Lexeme → Option A) (test : A → Lexeme → Bool) →
+pub pick_meets : {A : Type 0} {first : Bool} (content : Lexeme → Option A) (test : A → Lexeme → Bool) →
     ((x : Lexeme) (a : A) → content x ≡ Some a → test a x ≡ true) → (x : Lexeme) (a : A) → content x ≡ Some a → Plain first x →
-    Extends first true (pick content) (λ a. token (test a))
-pick_viable {A = A} {first = first} content test passing x a holds plain = whole_viable (look_leads some by) where
+    Meets first true (pick content) (λ a. token (test a))
+pick_meets {A = A} {first = first} content test passing x a holds plain = whole_meets (look_leads some by) where
   some : Ends first first true (λ k. k) (λ (a : A). token (test a))
   some = ends_token (test a) x (passing x a holds) plain (give_leads a (sym (takes_nothing (token (test a))))).ends
 
@@ -57,17 +56,17 @@ pick_viable {A = A} {first = first} content test passing x a holds plain = whole
   by (Some x) = picked_leads test x (content x) (passing x) some
   by None = at_leads (stop_leads some)
 
-pub name_viable : {first : Bool} → Extends first true name (λ bytes. token (is_name bytes))
-name_viable = pick_viable name_in is_name name_in_is (l.Name []) [] refl (λ e. refl)
+pub name_meets : {first : Bool} → Meets first true name (λ bytes. token (is_name bytes))
+name_meets = pick_meets name_in is_name name_in_is (l.Name []) [] refl (λ e. refl)
 
-pub ident_viable : {first : Bool} → Extends first true ident ident_is
-ident_viable = whole_viable (after_leads here_viable (λ token. last_leads _ name_viable (λ bytes. refl)))
+pub ident_meets : {first : Bool} → Meets first true ident ident_is
+ident_meets = whole_meets (after_leads here_meets (λ token. last_leads _ name_meets (λ bytes. refl)))
 
-pub text_viable : {first : Bool} → Extends first true text text_is
-text_viable = whole_viable (after_leads here_viable (λ token. last_leads _ (pick_viable text_in is_text text_in_is (l.Text []) [] refl (λ e. refl)) (λ bytes. refl)))
+pub text_meets : {first : Bool} → Meets first true text text_is
+text_meets = whole_meets (after_leads here_meets (λ token. last_leads _ (pick_meets text_in is_text text_in_is (l.Text []) [] refl (λ e. refl)) (λ bytes. refl)))
 
-pub int_viable : {first : Bool} → Extends first true int int_is
-int_viable = whole_viable (after_leads here_viable (λ token. last_leads _ (pick_viable int_in is_int int_in_is (l.Int 0) 0 refl (λ e. refl)) (λ value. refl)))
+pub int_meets : {first : Bool} → Meets first true int int_is
+int_meets = whole_meets (after_leads here_meets (λ token. last_leads _ (pick_meets int_in is_int int_in_is (l.Int 0) 0 refl (λ e. refl)) (λ value. refl)))
 
 -- ---- by a word or a symbol
 
@@ -83,34 +82,34 @@ if_symbol_leads sign h f = next_leads f.ends (λ x passed. skip_leads _ passed (
 
 -- ---- brackets
 
-pub in_brackets_viable : {A : Type 0} {first later : Bool} {reads : Reads A} {is : A → Takes} (opened_by closed_by : Symbol) →
-    Plain first (l.Symbol (symbol_number opened_by)) → is_comma (l.Symbol (symbol_number closed_by)) ≡ false → Extends true later reads is →
-    Extends first true (in_brackets opened_by reads closed_by) (λ a. in_brackets_is opened_by (is a) closed_by)
-in_brackets_viable opened_by closed_by plain ends inner =
-    enclosed_viable (whole_viable
-    (after_leads (opening_viable _ (l.Symbol (symbol_number opened_by)) (same_number (symbol_number opened_by)) plain)
-    (λ _. after_leads inner (λ a. last_leads _ (closing_viable closed_by ends) (λ _. refl)))))
+pub in_brackets_meets : {A : Type 0} {first later : Bool} {reads : Reads A} {is : A → Takes} (opened_by closed_by : Symbol) →
+    Plain first (l.Symbol (symbol_number opened_by)) → is_comma (l.Symbol (symbol_number closed_by)) ≡ false → Meets true later reads is →
+    Meets first true (in_brackets opened_by reads closed_by) (λ a. in_brackets_is opened_by (is a) closed_by)
+in_brackets_meets opened_by closed_by plain ends inner =
+    enclosed_meets (whole_meets
+    (after_leads (opening_meets _ (l.Symbol (symbol_number opened_by)) (same_number (symbol_number opened_by)) plain)
+    (λ _. after_leads inner (λ a. last_leads _ (closing_meets closed_by ends) (λ _. refl)))))
 
-pub round_viable : {A : Type 0} {first later : Bool} {reads : Reads A} {is : A → Takes} → Extends true later reads is →
-    Extends first true (round reads) (λ a. round_is (is a))
-round_viable inner = in_brackets_viable Open Close (λ e. refl) refl inner
+pub round_meets : {A : Type 0} {first later : Bool} {reads : Reads A} {is : A → Takes} → Meets true later reads is →
+    Meets first true (round reads) (λ a. round_is (is a))
+round_meets inner = in_brackets_meets Open Close (λ e. refl) refl inner
 
-pub square_viable : {A : Type 0} {first later : Bool} {reads : Reads A} {is : A → Takes} → Extends true later reads is →
-    Extends first true (square reads) (λ a. square_is (is a))
-square_viable inner = in_brackets_viable OpenSquare CloseSquare (λ e. refl) refl inner
+pub square_meets : {A : Type 0} {first later : Bool} {reads : Reads A} {is : A → Takes} → Meets true later reads is →
+    Meets first true (square reads) (λ a. square_is (is a))
+square_meets inner = in_brackets_meets OpenSquare CloseSquare (λ e. refl) refl inner
 
-pub braces_viable : {A : Type 0} {first later : Bool} {reads : Reads A} {is : A → Takes} → Extends true later reads is →
-    Extends first true (braces reads) (λ a. braces_is (is a))
-braces_viable inner = in_brackets_viable OpenBrace CloseBrace (λ e. refl) refl inner
+pub braces_meets : {A : Type 0} {first later : Bool} {reads : Reads A} {is : A → Takes} → Meets true later reads is →
+    Meets first true (braces reads) (λ a. braces_is (is a))
+braces_meets inner = in_brackets_meets OpenBrace CloseBrace (λ e. refl) refl inner
 
 -- ---- a part that may be missing, and rows
 
-pub optional_viable : {A : Type 0} {first : Bool} {reads : Reads A} {is : A → Takes} (begins : Lexeme → Bool) → Extends first true reads is →
-    Extends first first (optional begins reads) (optional_is is)
-optional_viable {first = first} begins inner =
-    whole_viable (if_next_leads begins (last_leads Some (viable_later first inner) (λ a. refl)) (give_leads None refl))
+pub optional_meets : {A : Type 0} {first : Bool} {reads : Reads A} {is : A → Takes} (begins : Lexeme → Bool) → Meets first true reads is →
+    Meets first first (optional begins reads) (optional_is is)
+optional_meets {first = first} begins inner =
+    whole_meets (if_next_leads begins (last_leads Some (meets_later first inner) (λ a. refl)) (give_leads None refl))
 
-module _ {A : Type 0} {every : Bool} {reads : Reads A} {p : A → Takes} (item : Extends every every reads p) where
+module _ {A : Type 0} {every : Bool} {reads : Reads A} {p : A → Takes} (item : Meets every every reads p) where
   -- after earlier ones of a row, in whatever form the grammar has it
   pub many_leads : {first : Bool} (so_far : Takes → Takes) (takes : List A → Takes) → ((as_ : List A) → takes as_ ≡ so_far (many_to p as_ nothing)) →
       (begins : Lexeme → Bool) (turns : ℕ) (as_ : List A) → Leads first every every (λ k. so_far (many_to p as_ k)) (many turns begins reads as_) takes
@@ -120,13 +119,13 @@ module _ {A : Type 0} {every : Bool} {reads : Reads A} {p : A → Takes} (item :
       (after_leads item (λ b. leads_same (λ k. ap (λ t. so_far t) (sym (many_to-append p as_ b k))) (many_leads so_far takes same begins turns (as_ ++ (b ∷ [])))))
       (give_leads as_ (same as_))
 
-  pub many_viable : (begins : Lexeme → Bool) (turns : ℕ) → Extends every every (many turns begins reads []) (many_is p)
-  many_viable begins turns = whole_viable (many_leads (λ k. k) (many_is p) (many_to-nothing p) begins turns [])
+  pub many_meets : (begins : Lexeme → Bool) (turns : ℕ) → Meets every every (many turns begins reads []) (many_is p)
+  many_meets begins turns = whole_meets (many_leads (λ k. k) (many_is p) (many_to-nothing p) begins turns [])
 
   -- a row in another form
-  pub row_viable : (takes : List A → Takes) → ((as_ : List A) → takes as_ ≡ many_to p as_ nothing) → (begins : Lexeme → Bool) (turns : ℕ) →
-      Extends every every (many turns begins reads []) takes
-  row_viable takes same begins turns = whole_viable (many_leads (λ k. k) takes same begins turns [])
+  pub row_meets : (takes : List A → Takes) → ((as_ : List A) → takes as_ ≡ many_to p as_ nothing) → (begins : Lexeme → Bool) (turns : ℕ) →
+      Meets every every (many turns begins reads []) takes
+  row_meets takes same begins turns = whole_meets (many_leads (λ k. k) takes same begins turns [])
 
 -- ---- the comma that may end a list
 
@@ -168,6 +167,7 @@ end_leads {takes = takes} done none same = record {
       let none_here : passes is_comma (next p.left) ≡ false = rw is none in
       rw (o.0, o.1) (record { tokens = before.tokens; left = before.left; taken = before.taken; led = led_no_comma (takes done) same none_here before.led });
   halts = λ r p is before fault token e. absurd cc;
+  local = λ r p is before. give_local done;
 }
 
 -- or with a comma
@@ -176,9 +176,9 @@ comma_end_leads : {B : Type 0} {x : Lexeme} {first : Bool} {so_far : Takes → T
 comma_end_leads {x = x} {so_far = so_far} done passed same =
     one_leads (comma_one x passed) (λ _. leads_later false (give_leads done (same ∙ ap (λ t. so_far t) (sym (takes_nothing may_comma_is)))))
 
-pub may_comma_viable : Extends true false may_comma (λ _. may_comma_is)
-may_comma_viable =
-    whole_viable (next_leads (list_ends tt refl) (λ x passed. comma_end_leads tt passed refl) (λ x none. end_leads tt none refl))
+pub may_comma_meets : Meets true false may_comma (λ _. may_comma_is)
+may_comma_meets =
+    whole_meets (next_leads (list_ends tt refl) (λ x passed. comma_end_leads tt passed refl) (λ x none. end_leads tt none refl))
 
 chose : {A : Type 0} (test : Bool) (holds fails : Reads A) (p : Point) → (choice test holds fails true p ≡ holds true p) ⊎ (choice test holds fails true p ≡ fails true p)
 chose true holds fails p = inl refl
@@ -191,11 +191,13 @@ comma_leads : {B : Type 0} {first : Bool} {so_far : Takes → Takes} {takes : B 
 comma_leads begins item done x passed goes same =
     at_either {one = skip >>= λ _. item} {other = skip >>= λ _. give done}
     (λ p. chose (passes begins (next (past p.left))) item (give done) (record p { left = past p.left; taken = suc p.taken }))
+    (λ r p is before. skip_local (λ _. if_next begins item (give done)) (look_local (λ x. choice (passes begins x) item (give done)) (choice_local (passes begins (next (past p.left)))
+    (goes.local r (record p { left = past p.left; taken = suc p.taken }) (reached_step (token_one is_comma passed) is before)) (give_local done))))
     (skip_leads is_comma passed (λ _. goes)) (comma_end_leads done passed same)
 
 -- ---- lists
 
-module _ {A : Type 0} {reads : Reads A} {p : A → Takes} (item : Extends true true reads p) where
+module _ {A : Type 0} {reads : Reads A} {p : A → Takes} (item : Meets true true reads p) where
   -- after earlier items, in whatever form the grammar has them
   pub more_listed_leads : {first : Bool} (so_far : Takes → Takes) (takes : List A → Takes) →
       ((a : A) (as_ : List A) → takes (a ∷ as_) ≡ so_far (p a ⨾ rest_to p as_ may_comma_is)) → (begins : Lexeme → Bool) (turns : ℕ) (a : A) (as_ : List A) →
@@ -210,17 +212,17 @@ module _ {A : Type 0} {reads : Reads A} {p : A → Takes} (item : Extends true t
       (λ x none. end_leads (a ∷ as_) none (same a as_))
 
   -- a list in whatever form
-  pub list_viable : (takes : List A → Takes) → ((a : A) (as_ : List A) → takes (a ∷ as_) ≡ (p a ⨾ rest_to p as_ may_comma_is)) → (begins : Lexeme → Bool)
-      (turns : ℕ) → Extends true false (listed turns begins reads) takes
-  list_viable takes same begins turns = whole_viable (after_leads item (λ a. more_listed_leads (λ k. k) takes same begins turns a []))
+  pub list_meets : (takes : List A → Takes) → ((a : A) (as_ : List A) → takes (a ∷ as_) ≡ (p a ⨾ rest_to p as_ may_comma_is)) → (begins : Lexeme → Bool)
+      (turns : ℕ) → Meets true false (listed turns begins reads) takes
+  list_meets takes same begins turns = whole_meets (after_leads item (λ a. more_listed_leads (λ k. k) takes same begins turns a []))
 
-  pub listed_viable : (begins : Lexeme → Bool) (turns : ℕ) → Extends true false (listed turns begins reads) (listed_is p)
-  listed_viable begins turns = list_viable (listed_is p) (λ a as_. commas_to p a as_ may_comma_is) begins turns
+  pub listed_meets : (begins : Lexeme → Bool) (turns : ℕ) → Meets true false (listed turns begins reads) (listed_is p)
+  listed_meets begins turns = list_meets (listed_is p) (λ a as_. commas_to p a as_ may_comma_is) begins turns
 
-  pub may_list_viable : (begins : Lexeme → Bool) (turns : ℕ) → Extends true false (may_list turns begins reads) (may_list_is p)
-  may_list_viable begins turns =
-      whole_viable
-      (if_next_leads begins (same_leads (list_viable (may_list_is p) (λ a as_. commas_to p a as_ may_comma_is) begins turns) (λ as_. refl))
+  pub may_list_meets : (begins : Lexeme → Bool) (turns : ℕ) → Meets true false (may_list turns begins reads) (may_list_is p)
+  may_list_meets begins turns =
+      whole_meets
+      (if_next_leads begins (same_leads (list_meets (may_list_is p) (λ a as_. commas_to p a as_ may_comma_is) begins turns) (λ as_. refl))
       (leads_later false (give_leads [] refl)))
 
   -- without a comma at the end
@@ -236,7 +238,7 @@ module _ {A : Type 0} {reads : Reads A} {p : A → Takes} (item : Extends true t
       (more_commas_leads so_far takes same turns a (as_ ++ (b ∷ []))))))
       (λ x none. at_leads done)
 
-  pub commas_viable : (turns : ℕ) → Extends true true (commas turns reads) (commas_is p)
-  commas_viable turns =
-      whole_viable
+  pub commas_meets : (turns : ℕ) → Meets true true (commas turns reads) (commas_is p)
+  commas_meets turns =
+      whole_meets
       (after_leads item (λ a. more_commas_leads (λ k. k) (commas_is p) (λ a as_. sym (takes_nothing (commas_is p (a ∷ as_))) ∙ commas_to p a as_ nothing) turns a []))

@@ -1,12 +1,12 @@
--- Single tokens, counted tokens, brackets and outermost expressions: where they stop, some tree begins with the tokens gone through.
+-- Single tokens, counted tokens, brackets and outermost expressions: their readers meet the grammar.
 use Rattle.std.proofs.Common.{◌≡◌, ℕ, suc, ◌+◌, ◌⊎◌, inl, inr, Bool, true, false, List, [], ◌∷◌, ◌++◌, length, Option, Some, None, refl, sym, ap, ◌∙◌, nat_lt, arith, subst, append_assoc, length-append}
 use Rattle.cmm_lexer.specs.declared.piece.Lexeme.{Lexeme}
 use Rattle.cmm_ast.specs.Taking.{Reading, Takes, ◌⨾◌, here as here_is, token, first_over, operator as operator_is, opening as opening_is, enclosed as enclosed_is, outermost as outermost_is}
 use Rattle.cmm_readers.specs.Reading.{Point, Fault, TooDeep, Answer, Read, Stopped, Reads, and_then, ◌>>=◌, give, stop, next, past, if_next, here, skip, skip_opening, skip_operator, enclosed, outermost}
 use Rattle.cmm_readers.specs.ReadingLaws.{within, point}
-use Rattle.cmm_readers.proofs.Sounds.{bound, read_same, taken_then, same_number}
-use Rattle.cmm_readers.proofs.Lists.{takes_nothing}
-use Rattle.cmm_readers.proofs.Viables.{put, May, Plain, Led, Reached, Ended, Ends, Halted, Leads, LeadsAt, Extends, led_put, led_taken, ended_self, read_or_stopped, stopped_same, given, whole_viable, give_leads, at_by, at_leads, stop_leads, next_leads}
+use Rattle.cmm_readers.proofs.Takings.{taken_then, same_number, takes_nothing, put, first_stays, after_operator, after_opening}
+use Rattle.cmm_readers.proofs.Locals.{LocalAt, after_local, here_local, skip_local, operator_local, opening_local, enclosed_local, outermost_local}
+use Rattle.cmm_readers.proofs.Meets.{bound, read_same, May, Plain, Led, Reached, Ended, Ends, Halted, Leads, LeadsAt, Meets, led_put, led_taken, ended_self, read_or_stopped, stopped_same, given, whole_meets, give_leads, at_by, at_leads, stop_leads, next_leads}
 
 -- ---- one token
 
@@ -31,7 +31,7 @@ next_past : (left : List Lexeme) (x : Lexeme) → next left ≡ Some x → left 
 next_past [] x e = absurd cc
 next_past (y ∷ ys) x e = let same : y ≡ x = cc in rw same refl
 
-reached_step : {first free : Bool} {so_far : Takes → Takes} {one : Takes} {x : Lexeme} {moved : Reading → Reading} {r q : Reading} → One one x moved →
+pub reached_step : {first free : Bool} {so_far : Takes → Takes} {one : Takes} {x : Lexeme} {moved : Reading → Reading} {r q : Reading} → One one x moved →
     next q.left ≡ Some x → Reached first free so_far r q → Reached first true (λ k. so_far (one ⨾ k)) r (put (past q.left) (moved q))
 reached_step {x = x} {q = q} it is before =
     let count : length (before.tokens ++ (x ∷ [])) ≡ length before.tokens + 1 = length-append before.tokens (x ∷ []) in
@@ -70,11 +70,12 @@ ends_token test x passed plain ends = ends_step (token_one test passed) plain en
 pub one_leads : {B : Type 0} {first free later : Bool} {so_far : Takes → Takes} {one : Takes} {x : Lexeme} {rest : Unit {0} → Reads B} {takes : B → Takes} →
     One one x (λ q. record q { taken = suc q.taken }) → ((u : Unit {0}) → Leads first true later (λ k. so_far (one ⨾ k)) (rest u) takes) →
     LeadsAt (Some x) first free later so_far (skip >>= rest) takes
-one_leads it then_ = record {
+one_leads {rest = rest} it then_ = record {
   reached = λ r p is before b after e.
       (then_ tt).reached r (record p { left = past p.left; taken = suc p.taken }) (reached_step it is before) b after e;
   halts = λ r p is before fault token e.
       (then_ tt).halts r (record p { left = past p.left; taken = suc p.taken }) (reached_step it is before) fault token e;
+  local = λ r p is before. skip_local rest ((then_ tt).local r (record p { left = past p.left; taken = suc p.taken }) (reached_step it is before));
 }
 
 pub skip_leads : {B : Type 0} {first free later : Bool} {so_far : Takes → Takes} {rest : Unit {0} → Reads B} {takes : B → Takes} (test : Lexeme → Bool) {x : Lexeme} →
@@ -89,10 +90,6 @@ skip_last_leads {so_far = so_far} test b passed same =
     skip_leads test passed (λ _. give_leads b (same ∙ ap (λ t. so_far t) (sym (takes_nothing (token test)))))
 
 -- ---- a token that is counted
-
-first_stays : (o : Option ℕ) (test : Bool) (at token : ℕ) → o ≡ Some token → first_over o test at ≡ Some token
-first_stays (Some n) test at token e = e
-first_stays None test at token e = absurd cc
 
 first_none : (o : Option ℕ) (test : Bool) (at : ℕ) → test ≡ false → o ≡ None → first_over o test at ≡ None
 first_none (Some n) test at f e = absurd cc
@@ -119,7 +116,7 @@ abbrev moved_to : (Reading → Reading) → Point → Point
 moved_to moved p = point (put (past p.left) (moved (within p)))
 
 module _ {one : Takes} {x : Lexeme} {moved : Reading → Reading} {limit : Reading → Bool} (counted : Counted one x moved limit) (reads : Reads (Unit {0}))
-    (answers : (p : Point) → reads true p ≡ limited_answer (limit (within p)) p.taken (moved_to moved p))
+    (answers : (p : Point) → reads true p ≡ limited_answer (limit (within p)) p.taken (moved_to moved p)) (local : (p : Point) → LocalAt reads p)
     {B : Type 0} {first free later : Bool} {so_far : Takes → Takes} {rest : Unit {0} → Reads B} {takes : B → Takes}
     (then_ : (u : Unit {0}) → Leads first true later (λ k. so_far (one ⨾ k)) (rest u) takes) where
   counted_reached : (r : Reading) (p : Point) → next p.left ≡ Some x → Reached first free so_far r (within p) → (b : B) (after : Point) → (over : Bool) →
@@ -152,66 +149,54 @@ module _ {one : Takes} {x : Lexeme} {moved : Reading → Reading} {limit : Readi
   counted_halts r p is before fault token false l e =
       (then_ tt).halts r (moved_to moved p) (no_over (counted.below (within p) l refl) (reached_step counted.is_one is before)) fault token e
 
+  counted_local : (r : Reading) (p : Point) → next p.left ≡ Some x → Reached first free so_far r (within p) → (u : Unit {0}) (mid : Point) → (over : Bool) →
+      limit (within p) ≡ over → limited_answer over p.taken (moved_to moved p) ≡ Read u mid → LocalAt (rest u) mid
+  counted_local r p is before u mid true l e = absurd cc
+  counted_local r p is before u mid false l e =
+      let o = read_same e in
+      rw (o.0, o.1) ((then_ tt).local r (moved_to moved p) (no_over (counted.below (within p) l refl) (reached_step counted.is_one is before)))
+
   counted_leads : LeadsAt (Some x) first free later so_far (reads >>= rest) takes
   counted_leads = record {
     reached = λ r p is before b after e.
         counted_reached r p is before b after (limit (within p)) refl (ap (λ o. and_then o (λ a after. rest a true after)) (sym (answers p)) ∙ e);
     halts = λ r p is before fault token e.
         counted_halts r p is before fault token (limit (within p)) refl (ap (λ o. and_then o (λ a after. rest a true after)) (sym (answers p)) ∙ e);
+    local = λ r p is before.
+        after_local (local p) (λ u mid e. counted_local r p is before u mid (limit (within p)) refl (sym (answers p) ∙ e));
   }
 
-abbrev after_operator : Reading → Reading
-after_operator q = record q {
-  taken = suc q.taken;
-  operators = suc q.operators;
-  over = first_over q.over (nat_lt 500 (suc q.operators)) q.taken;
-}
-
-abbrev after_opening : Reading → Reading
-after_opening q = record q {
-  taken = suc q.taken;
-  open_brackets = suc q.open_brackets;
-  over = first_over q.over (nat_lt 200 (suc q.open_brackets)) q.taken;
+counted_token : {moved : Reading → Reading} {limit : Reading → Bool} {one : Takes} {x : Lexeme} →
+    ((q : Reading) (rest : List Lexeme) → one (put (x ∷ rest) q) ≡ Some (put rest (moved q))) → ((q : Reading) → (moved q).taken ≡ suc q.taken) →
+    ((q : Reading) → (moved q).over ≡ first_over q.over (limit q) q.taken) → Counted one x moved limit
+counted_token {limit = limit} step counts over = record {
+  is_one = record { step = step; counts = counts; stays = λ q token e. over q ∙ first_stays q.over (limit q) q.taken token e };
+  below = λ q l e. over q ∙ first_none q.over (limit q) q.taken l e;
+  above = λ q l e. over q ∙ first_here q.over (limit q) q.taken l e;
 }
 
 operator_counted : (test : Lexeme → Bool) {x : Lexeme} → test x ≡ true →
     Counted (operator_is (token test)) x after_operator (λ q. nat_lt 500 (suc q.operators))
-operator_counted test passed = record {
-  is_one = record {
-    step = λ q rest. rw (operator_is, (token_one test passed).step q rest) refl;
-    counts = λ q. refl;
-    stays = λ q token over. first_stays q.over (nat_lt 500 (suc q.operators)) q.taken token over;
-  };
-  below = λ q l e. first_none q.over (nat_lt 500 (suc q.operators)) q.taken l e;
-  above = λ q l e. first_here q.over (nat_lt 500 (suc q.operators)) q.taken l e;
-}
+operator_counted test passed = counted_token (λ q rest. rw (operator_is, (token_one test passed).step q rest) refl) (λ q. refl) (λ q. refl)
 
 opening_counted : (test : Lexeme → Bool) {x : Lexeme} → test x ≡ true →
     Counted (opening_is (token test)) x after_opening (λ q. nat_lt 200 (suc q.open_brackets))
-opening_counted test passed = record {
-  is_one = record {
-    step = λ q rest. rw (opening_is, (token_one test passed).step q rest) refl;
-    counts = λ q. refl;
-    stays = λ q token over. first_stays q.over (nat_lt 200 (suc q.open_brackets)) q.taken token over;
-  };
-  below = λ q l e. first_none q.over (nat_lt 200 (suc q.open_brackets)) q.taken l e;
-  above = λ q l e. first_here q.over (nat_lt 200 (suc q.open_brackets)) q.taken l e;
-}
+opening_counted test passed = counted_token (λ q rest. rw (opening_is, (token_one test passed).step q rest) refl) (λ q. refl) (λ q. refl)
 
 pub operator_leads : {B : Type 0} {first free later : Bool} {so_far : Takes → Takes} {rest : Unit {0} → Reads B} {takes : B → Takes} (test : Lexeme → Bool)
     {x : Lexeme} → test x ≡ true → ((u : Unit {0}) → Leads first true later (λ k. so_far (operator_is (token test) ⨾ k)) (rest u) takes) →
     LeadsAt (Some x) first free later so_far (skip_operator >>= rest) takes
-operator_leads test passed then_ = counted_leads (operator_counted test passed) skip_operator (λ p. refl) then_
+operator_leads test passed then_ = counted_leads (operator_counted test passed) skip_operator (λ p. refl) (λ p. operator_local) then_
 
 pub opening_leads : {B : Type 0} {first free later : Bool} {so_far : Takes → Takes} {rest : Unit {0} → Reads B} {takes : B → Takes} (test : Lexeme → Bool)
     {x : Lexeme} → test x ≡ true → ((u : Unit {0}) → Leads first true later (λ k. so_far (opening_is (token test) ⨾ k)) (rest u) takes) →
     LeadsAt (Some x) first free later so_far (skip_opening >>= rest) takes
-opening_leads test passed then_ = counted_leads (opening_counted test passed) skip_opening (λ p. refl) then_
+opening_leads test passed then_ = counted_leads (opening_counted test passed) skip_opening (λ p. refl) (λ p. opening_local) then_
 
 -- an opening bracket alone
-pub opening_viable : {first : Bool} (test : Lexeme → Bool) (x : Lexeme) → test x ≡ true → Plain first x →
-    Extends first true (if_next test skip_opening stop) (λ _. opening_is (token test))
-opening_viable {first} test x passed plain = whole_viable (next_leads some (λ y e. opened y e) (λ y e. at_leads (stop_leads some))) where
+pub opening_meets : {first : Bool} (test : Lexeme → Bool) (x : Lexeme) → test x ≡ true → Plain first x →
+    Meets first true (if_next test skip_opening stop) (λ _. opening_is (token test))
+opening_meets {first} test x passed plain = whole_meets (next_leads some (λ y e. opened y e) (λ y e. at_leads (stop_leads some))) where
   opened : (y : Lexeme) → test y ≡ true → LeadsAt (Some y) first first true (λ k. k) skip_opening (λ _. opening_is (token test))
   opened y e = at_by (λ p. given (skip_opening true p)) (opening_leads test e (λ u. give_leads u (sym (takes_nothing (opening_is (token test))))))
 
@@ -226,11 +211,12 @@ here_led q = record {
   quiet = λ rest may. may;
 }
 
-pub here_viable : {first : Bool} → Extends first first here here_is
-here_viable = record {
+pub here_meets : {first : Bool} → Meets first first here here_is
+here_meets = record {
   reached = λ p a after e. let o = read_same e in rw (o.0, o.1) (record { tokens = []; left = refl; taken = omega arith; led = here_led (within p) });
   ends = λ was r. ended_self r.taken (here_led r);
   halts = λ p fault token e. absurd cc;
+  local = λ p. here_local;
 }
 
 enclosed_led : {first later : Bool} {was now : Option Lexeme} (is : Takes) {r q : Reading} {xs : List Lexeme} → Led first later was now (λ k. is ⨾ k) r xs q →
@@ -252,14 +238,15 @@ enclosed_ended {is = is} {r = r} e = record {
   stays = e.stays;
 }
 
-pub enclosed_viable : {A : Type 0} {first later : Bool} {reads : Reads A} {is : A → Takes} → Extends first later reads is →
-    Extends first later (enclosed reads) (λ a. enclosed_is (is a))
-enclosed_viable {A = A} {first = first} {later = later} {reads = reads} {is = is} inner = record {
+pub enclosed_meets : {A : Type 0} {first later : Bool} {reads : Reads A} {is : A → Takes} → Meets first later reads is →
+    Meets first later (enclosed reads) (λ a. enclosed_is (is a))
+enclosed_meets {A = A} {first = first} {later = later} {reads = reads} {is = is} inner = record {
   reached = λ p a after e.
       let q = bound (reads true p) (λ a after. Read a record after { open_brackets = p.open_brackets }) a after e in
       closed p a q.first after q.between (read_same q.then_read) (inner.reached p q.first q.between q.read);
   ends = λ was r. enclosed_ended (inner.ends was r);
   halts = λ p fault token e. halted p fault token (read_or_stopped (reads true p) (λ a after. Read a record after { open_brackets = p.open_brackets }) fault token e);
+  local = λ p. enclosed_local (inner.local p);
 }
   where
     closed : (p : Point) (a b : A) (after between : Point) → (a ≡ b) × (after ≡ record between { open_brackets = p.open_brackets }) →
@@ -283,9 +270,9 @@ outermost_ended : {A : Type 0} {first later : Bool} {was : Option Lexeme} {is : 
     Ended first later was is (record r { operators = 0 }) xs over → Ended first later was (λ a. outermost_is (is a)) r xs over
 outermost_ended {is = is} e = record { tree = e.tree; more = e.more; after = e.after; led = outermost_led (is e.tree) e.led; stays = e.stays }
 
-pub outermost_viable : {A : Type 0} {first later : Bool} {reads : Reads A} {is : A → Takes} → Extends first later reads is →
-    Extends first later (outermost reads) (λ a. outermost_is (is a))
-outermost_viable {is = is} inner = record {
+pub outermost_meets : {A : Type 0} {first later : Bool} {reads : Reads A} {is : A → Takes} → Meets first later reads is →
+    Meets first later (outermost reads) (λ a. outermost_is (is a))
+outermost_meets {is = is} inner = record {
   reached = λ p a after e.
       let there = inner.reached (record p { operators = 0 }) a after e in
       record { tokens = there.tokens; left = there.left; taken = there.taken; led = outermost_led (is a) there.led };
@@ -293,6 +280,7 @@ outermost_viable {is = is} inner = record {
   halts = λ p fault token e.
       let h = inner.halts (record p { operators = 0 }) fault token e in
       record { front = h.front; back = h.back; split = h.split; reaches = h.reaches; ended = outermost_ended h.ended };
+  local = λ p. outermost_local (inner.local (record p { operators = 0 }));
 }
 
 -- operators are counted anew from here on
@@ -302,6 +290,7 @@ outermost_leads {first = first} {free = free} {so_far = so_far} it = record {
   reached = λ r p before b after e. it.reached r (record p { operators = 0 }) (anew r (within p) before) b after e;
   ends = record { ends = λ was now r tokens q led. it.ends.ends was now r tokens (record q { operators = 0 }) (led_anew was now r tokens q led) };
   halts = λ r p before fault token e. it.halts r (record p { operators = 0 }) (anew r (within p) before) fault token e;
+  local = λ r p before. outermost_local (it.local r (record p { operators = 0 }) (anew r (within p) before));
 }
   where
     led_anew : (was now : Option Lexeme) (r : Reading) (tokens : List Lexeme) (q : Reading) → Led first free was now so_far r tokens q →

@@ -1,4 +1,4 @@
--- Where a reader of data, sections or units stops, some tree begins with the tokens gone through.
+-- Readers of data, sections and units meet the grammar; and what a unit's reader says where it stops.
 use Rattle.std.proofs.Common.{◌≡◌, ℕ, zero, suc, ◌-◌, ◌≤◌, ◌==◌, inr, Bool, true, false, List, [], ◌++◌, length, take, Option, Some, None, refl, sym, ap, ◌∙◌, arith}
 use Rattle.cmm_lexer.specs.declared.piece.Lexeme.{Lexeme}
 use Rattle.cmm_ast.specs.declared.token.Ident.{Ident}
@@ -18,23 +18,23 @@ use Rattle.cmm_ast.specs.ExpressionGrammar as grammar
 use Rattle.cmm_ast.specs.UnitGrammar as units
 use Rattle.cmm_ast.specs.Derivation.{at_start, Derives, Begins}
 use Rattle.cmm_readers.specs.Reading.{Fault, Unexpected, TooDeep, Stopped, Reads, next}
-use Rattle.cmm_readers.specs.ReadingLaws.{point, reach, Begun, Answers}
+use Rattle.cmm_readers.specs.ReadingLaws.{point, Answers}
+use Rattle.cmm_readers.specs.inside.Duties.{reach, Begun}
 use Rattle.cmm_readers.specs.ExpressionReading.{named_type, begins_expression}
 use Rattle.cmm_readers.specs.PartReading.{is_any_name, is_any_text}
 use Rattle.cmm_readers.specs.DeclarationReading.{is_other}
 use Rattle.cmm_readers.specs.UnitReading.{count_in, count_of, count, initial, values_of, named_datum, datum_at, named_item, align_item, item_by, flat_item, in_braces, span, item, section, top_level, any_token, parts}
-use Rattle.cmm_readers.proofs.Sounds.{taken_then}
-use Rattle.cmm_readers.proofs.Lists.{takes_nothing}
-use Rattle.cmm_readers.proofs.SoundUnits.{count_of_is, span_is}
-use Rattle.cmm_readers.proofs.Viables.{put, Led, Ended, Leads, Extends, led_taken, after_leads, whole_viable, give_leads, last_leads, made_leads, same_leads, stop_leads, if_next_leads, is_viable}
-use Rattle.cmm_readers.proofs.ViableTokens.{here_viable}
-use Rattle.cmm_readers.proofs.ViableLists.{symbol_viable, keyword_viable, ident_viable, text_viable, int_viable, if_symbol_leads, square_viable, braces_viable, many_viable, listed_viable}
-use Rattle.cmm_readers.proofs.ViableDeclarations.{bits_viable, decl_viable}
-use Rattle.cmm_readers.proofs.ViableProcedures.{procedure_leads, proc_viable}
-use Rattle.cmm_readers.proofs.ViableOperands.{whole_expr_viable, whole_prim_viable}
-use Rattle.cmm_readers.proofs.ViableBlocks.{block_viable}
 use Rattle.cmm_readers.specs.StatementReading.{block}
 use Rattle.cmm_readers.specs.UnitLaws.{whole_unit, WhatIsOverIsTooDeep}
+use Rattle.cmm_readers.proofs.Takings.{taken_then, takes_nothing, put}
+use Rattle.cmm_readers.proofs.UnitForms.{count_of_is, span_is}
+use Rattle.cmm_readers.proofs.Meets.{Led, Ended, Leads, Meets, led_taken, after_leads, whole_meets, give_leads, last_leads, made_leads, same_leads, stop_leads, if_next_leads, is_viable}
+use Rattle.cmm_readers.proofs.MeetsTokens.{here_meets}
+use Rattle.cmm_readers.proofs.MeetsLists.{symbol_meets, keyword_meets, ident_meets, text_meets, int_meets, if_symbol_leads, square_meets, braces_meets, many_meets, listed_meets}
+use Rattle.cmm_readers.proofs.MeetsDeclarations.{bits_meets, decl_meets}
+use Rattle.cmm_readers.proofs.MeetsProcedures.{procedure_leads, proc_meets}
+use Rattle.cmm_readers.proofs.MeetsOperands.{whole_expr_meets, whole_prim_meets}
+use Rattle.cmm_readers.proofs.MeetsBlocks.{block_meets}
 
 -- ---- a tree that begins with what was read of it
 
@@ -78,6 +78,7 @@ module _ (n : ℕ) (part : Takes) where
           reaches = h.reaches;
           ended = ended (next r.left) r h.front _ (numbered before.led) h.ended;
         };
+    local = it.local;
   }
     where
       ended : (was : Option Lexeme) (r : Reading) (xs : List Lexeme) (over : Option ℕ) → (n == r.taken) ≡ true → Ended first later was is r xs over →
@@ -86,24 +87,24 @@ module _ (n : ℕ) (part : Takes) where
 
 -- ---- data
 
-count_viable : (fuel : ℕ) → Extends true true (count fuel) units.count
-count_viable fuel =
-    whole_viable (if_next_leads _ (last_leads count_of (square_viable inside) count_of_is) (give_leads counts.One refl))
+count_meets : (fuel : ℕ) → Meets true true (count fuel) units.count
+count_meets fuel =
+    whole_meets (if_next_leads _ (last_leads count_of (square_meets inside) count_of_is) (give_leads counts.One refl))
   where
-    inside : Extends true true (count_in fuel) (optional_is grammar.whole)
-    inside = whole_viable (if_next_leads _ (give_leads None refl) (last_leads (λ e. Some e) (whole_expr_viable fuel) (λ e. refl)))
+    inside : Meets true true (count_in fuel) (optional_is grammar.whole)
+    inside = whole_meets (if_next_leads _ (give_leads None refl) (last_leads (λ e. Some e) (whole_expr_meets fuel) (λ e. refl)))
 
-initial_viable : (fuel : ℕ) → Extends true true (initial fuel) units.initial
-initial_viable fuel =
-    whole_viable
-    (if_next_leads is_any_text (last_leads initials.Text text_viable (λ t. refl))
+initial_meets : (fuel : ℕ) → Meets true true (initial fuel) units.initial
+initial_meets fuel =
+    whole_meets
+    (if_next_leads is_any_text (last_leads initials.Text text_meets (λ t. refl))
     (if_next_leads _
-    (last_leads initials.Values (braces_viable (listed_viable (whole_expr_viable fuel) begins_expression fuel)) (λ found. refl))
+    (last_leads initials.Values (braces_meets (listed_meets (whole_expr_meets fuel) begins_expression fuel)) (λ found. refl))
     (give_leads initials.Zeros refl)))
 
 values_leads : (fuel : ℕ) (width : TypeName) → Leads true true true (λ k. grammar.type_name width ⨾ k) (values_of fuel width) units.datum_form
 values_leads fuel width =
-    after_leads (count_viable fuel) (λ how_many. after_leads (initial_viable fuel) (λ first. last_leads _ (symbol_viable Semicolon) (λ _. refl)))
+    after_leads (count_meets fuel) (λ how_many. after_leads (initial_meets fuel) (λ first. last_leads _ (symbol_meets Semicolon) (λ _. refl)))
 
 named_datum_leads : (fuel : ℕ) (name : Ident) → Leads true true true (λ k. grammar.ident name ⨾ k) (named_datum fuel name) units.datum_form
 named_datum_leads fuel name =
@@ -112,63 +113,63 @@ named_datum_leads fuel name =
 
 -- ---- items of a section
 
-align_item_viable : Extends true true align_item units.item
-align_item_viable =
-    whole_viable
-    (after_leads here_viable (λ token.
-    after_leads (keyword_viable Align) (λ _.
-    after_leads int_viable (λ bytes. last_leads (λ _. datum_at token (data_forms.Align bytes)) (symbol_viable Semicolon) (λ _. refl)))))
+align_item_meets : Meets true true align_item units.item
+align_item_meets =
+    whole_meets
+    (after_leads here_meets (λ token.
+    after_leads (keyword_meets Align) (λ _.
+    after_leads int_meets (λ bytes. last_leads (λ _. datum_at token (data_forms.Align bytes)) (symbol_meets Semicolon) (λ _. refl)))))
 
-in_braces_viable : (turns : ℕ) {inner : Reads Item} → Extends true true inner units.item →
-    Extends true true (in_braces turns inner) (λ inside. braces_is (many_is units.item inside))
-in_braces_viable turns inner = braces_viable (many_viable inner (is_other CloseBrace) turns)
+in_braces_meets : (turns : ℕ) {inner : Reads Item} → Meets true true inner units.item →
+    Meets true true (in_braces turns inner) (λ inside. braces_is (many_is units.item inside))
+in_braces_meets turns inner = braces_meets (many_meets inner (is_other CloseBrace) turns)
 
-span_viable : (fuel : ℕ) {inner : Reads Item} → Extends true true inner units.item → Extends true true (span fuel inner) units.item
-span_viable fuel inner =
-    whole_viable
-    (after_leads here_viable (λ token.
-    after_leads (keyword_viable Span) (λ _.
-    after_leads (whole_prim_viable fuel) (λ key.
-    after_leads (whole_expr_viable fuel) (λ value.
-    last_leads (λ inside. items.Span token key value inside) (in_braces_viable fuel inner) (span_is token key value))))))
+span_meets : (fuel : ℕ) {inner : Reads Item} → Meets true true inner units.item → Meets true true (span fuel inner) units.item
+span_meets fuel inner =
+    whole_meets
+    (after_leads here_meets (λ token.
+    after_leads (keyword_meets Span) (λ _.
+    after_leads (whole_prim_meets fuel) (λ key.
+    after_leads (whole_expr_meets fuel) (λ value.
+    last_leads (λ inside. items.Span token key value inside) (in_braces_meets fuel inner) (span_is token key value))))))
 
 -- a procedure, or data, after its name
 named_item_leads : (fuel : ℕ) (name : Ident) → Leads true true true (λ k. grammar.ident name ⨾ k) (named_item fuel (block fuel) name) units.item
 named_item_leads fuel name =
-    if_next_leads _ (made_leads items.Proc (procedure_leads (block_viable fuel) fuel name) (λ p. refl))
+    if_next_leads _ (made_leads items.Proc (procedure_leads (block_meets fuel) fuel name) (λ p. refl))
     (made_leads (datum_at name.token) (begun_leads name.token (token_is (is_name name.name)) (named_datum_leads fuel name)) (λ form. refl))
 
 flat_item_leads : (fuel : ℕ) → Leads true true true (λ k. k) (flat_item fuel (block fuel)) units.item
 flat_item_leads fuel =
-    if_next_leads is_any_name (after_leads ident_viable (λ name. named_item_leads fuel name))
-    (if_next_leads _ (same_leads align_item_viable (λ i. refl)) (after_leads bits_viable by))
+    if_next_leads is_any_name (after_leads ident_meets (λ name. named_item_leads fuel name))
+    (if_next_leads _ (same_leads align_item_meets (λ i. refl)) (after_leads bits_meets by))
   where
     by : (o : Option TypeName) → Leads true true true (λ k. optional_is grammar.type_name o ⨾ k) (item_by fuel o) units.item
     by (Some width) = made_leads (datum_at width.token) (begun_leads width.token (grammar.type_form width.form) (values_leads fuel width)) (λ form. refl)
-    by None = last_leads items.Decl (decl_viable fuel) (λ d. refl)
+    by None = last_leads items.Decl (decl_meets fuel) (λ d. refl)
 
-item_viable : (fuel : ℕ) → Extends true true (item fuel block) units.item
-item_viable zero = whole_viable (stop_leads (flat_item_leads zero).ends)
-item_viable (suc fuel) =
-    whole_viable
-    (if_next_leads _ (same_leads (span_viable fuel (item_viable fuel)) (λ i. refl)) (flat_item_leads (suc fuel)))
+item_meets : (fuel : ℕ) → Meets true true (item fuel block) units.item
+item_meets zero = whole_meets (stop_leads (flat_item_leads zero).ends)
+item_meets (suc fuel) =
+    whole_meets
+    (if_next_leads _ (same_leads (span_meets fuel (item_meets fuel)) (λ i. refl)) (flat_item_leads (suc fuel)))
 
-section_viable : (fuel : ℕ) → Extends true true (section fuel block) units.section
-section_viable fuel =
-    whole_viable
-    (after_leads here_viable (λ token.
-    after_leads (keyword_viable SectionWord) (λ _.
-    after_leads text_viable (λ name. last_leads _ (in_braces_viable fuel (item_viable fuel)) (λ inside. refl)))))
+section_meets : (fuel : ℕ) → Meets true true (section fuel block) units.section
+section_meets fuel =
+    whole_meets
+    (after_leads here_meets (λ token.
+    after_leads (keyword_meets SectionWord) (λ _.
+    after_leads text_meets (λ name. last_leads _ (in_braces_meets fuel (item_meets fuel)) (λ inside. refl)))))
 
-top_level_viable : (fuel : ℕ) → Extends true true (top_level fuel block) units.top_level
-top_level_viable fuel =
-    whole_viable
-    (if_next_leads _ (last_leads tops.Section (section_viable fuel) (λ s. refl))
-    (if_next_leads is_any_name (last_leads tops.Proc (proc_viable (block_viable fuel) fuel) (λ p. refl))
-    (last_leads tops.Decl (decl_viable fuel) (λ d. refl))))
+top_level_meets : (fuel : ℕ) → Meets true true (top_level fuel block) units.top_level
+top_level_meets fuel =
+    whole_meets
+    (if_next_leads _ (last_leads tops.Section (section_meets fuel) (λ s. refl))
+    (if_next_leads is_any_name (last_leads tops.Proc (proc_meets (block_meets fuel) fuel) (λ p. refl))
+    (last_leads tops.Decl (decl_meets fuel) (λ d. refl))))
 
-pub parts_viable : (fuel : ℕ) → Extends true true (parts fuel block) (many_is units.top_level)
-parts_viable fuel = many_viable (top_level_viable fuel) any_token fuel
+pub parts_meets : (fuel : ℕ) → Meets true true (parts fuel block) (many_is units.top_level)
+parts_meets fuel = many_meets (top_level_meets fuel) any_token fuel
 
 -- ---- what a stop says of units
 
@@ -190,7 +191,7 @@ stopped : (tokens : List Lexeme) (fault : Fault) (token : ℕ) → Answers whole
     Begun (many_is units.top_level) fault token (point (at_start tokens))
 stopped tokens fault token stops =
     let more = suc (length tokens) in
-    (is_viable (parts_viable more)).viable (point (at_start tokens)) fault token
+    (is_viable (parts_meets more)).viable (point (at_start tokens)) fault token
     (stops more (omega arith))
 
 -- some unit begins with the tokens before one that is refused, or before their end

@@ -1,17 +1,15 @@
--- Where a reader stops, some tree begins with the tokens gone through: for each way in which readers are put together.
+-- A reader meets the grammar: what it reads takes its tokens, where it stops some tree begins with the tokens gone through, and its answer
+-- hangs on no token beyond the one that it looks at: for each way in which readers are put together.
 use Rattle.std.proofs.Common.{◌≡◌, ℕ, ◌+◌, ◌-◌, ◌⊎◌, inl, inr, Bool, true, false, List, [], ◌∷◌, ◌++◌, length, take, Option, Some, None, refl, sym, ap, ◌∙◌, arith, subst, append_assoc, append-nil, length-append}
 use Rattle.cmm_lexer.specs.declared.piece.Lexeme.{Lexeme}
 use Rattle.cmm_ast.specs.Taking.{Reading, Takes, ◌⨾◌, nothing, token}
 use Rattle.cmm_readers.specs.Reading.{Point, Fault, Unexpected, TooDeep, Answer, Read, Stopped, Reads, and_then, ◌>>=◌, give, stop, next, look, choice, passes, if_next, is_comma}
-use Rattle.cmm_readers.specs.ReadingLaws.{within, reach, Begun, Viable}
-use Rattle.cmm_readers.proofs.Sounds.{bound, read_same, taken_then}
-use Rattle.cmm_readers.proofs.Lists.{takes_nothing}
+use Rattle.cmm_readers.specs.ReadingLaws.{within}
+use Rattle.cmm_readers.specs.inside.Duties.{reach, Begun, Sound, Local, Viable}
+use Rattle.cmm_readers.proofs.Takings.{taken_then, takes_nothing, put}
+use Rattle.cmm_readers.proofs.Locals.{LocalAt, after_local, give_local, stop_local, local_by, look_local}
 
 -- ---- what may follow
-
--- the same with these tokens left
-abbrev pub put : List Lexeme → Reading → Reading
-put left r = record r { left = left }
 
 -- anything, or, after a list that would take it, no comma
 abbrev pub Quiet : Bool → List Lexeme → Type 0
@@ -76,7 +74,8 @@ pub record Halted {B : Type 0} (first later : Bool) (takes : B → Takes) (fault
   pub ended : Ended first later (next r.left) takes r front (over_at fault token)
 
 -- after a part is read, of which `so_far` says what a tree that goes on with other tokens takes: what is read takes its tokens
--- before whatever may follow, there is a tree that goes on, and one that begins with the tokens gone through where the reader stops.
+-- before whatever may follow, there is a tree that goes on, and one that begins with the tokens gone through where the reader stops;
+-- and no answer hangs on a token beyond the one that is looked at.
 -- The flags say that anything may stand before the first token (`first`), before the next one (`free`) and after the last (`later`);
 -- where a flag is false a list stands there, which a comma would go on.
 pub record Leads {B : Type 0} (first free later : Bool) (so_far : Takes → Takes) (reads : Reads B) (takes : B → Takes) : Type 0 where
@@ -85,6 +84,7 @@ pub record Leads {B : Type 0} (first free later : Bool) (so_far : Takes → Take
   pub ends : Ends first free later so_far takes
   pub halts : (r : Reading) (p : Point) → Reached first free so_far r (within p) → (fault : Fault) (token : ℕ) →
       reads true p ≡ Stopped fault token → Halted first later takes fault token r
+  pub local : (r : Reading) (p : Point) → Reached first free so_far r (within p) → LocalAt reads p
 
 -- the same where this is the next token
 pub record LeadsAt {B : Type 0} (x : Option Lexeme) (first free later : Bool) (so_far : Takes → Takes) (reads : Reads B) (takes : B → Takes) : Type 0 where
@@ -92,12 +92,14 @@ pub record LeadsAt {B : Type 0} (x : Option Lexeme) (first free later : Bool) (s
       reads true p ≡ Read b after → Reached first later (λ k. takes b ⨾ k) r (within after)
   pub halts : (r : Reading) (p : Point) → next p.left ≡ x → Reached first free so_far r (within p) → (fault : Fault) (token : ℕ) →
       reads true p ≡ Stopped fault token → Halted first later takes fault token r
+  pub local : (r : Reading) (p : Point) → next p.left ≡ x → Reached first free so_far r (within p) → LocalAt reads p
 
--- a whole reader
-pub record Extends {A : Type 0} (first later : Bool) (reads : Reads A) (takes : A → Takes) : Type 0 where
+-- a whole reader, which so is sound, local and stops no later than it must
+pub record Meets {A : Type 0} (first later : Bool) (reads : Reads A) (takes : A → Takes) : Type 0 where
   pub reached : (p : Point) (a : A) (after : Point) → reads true p ≡ Read a after → Reached first later (λ k. takes a ⨾ k) (within p) (within after)
   pub ends : (was : Option Lexeme) (r : Reading) → Ended first later was takes r [] r.over
   pub halts : (p : Point) (fault : Fault) (token : ℕ) → reads true p ≡ Stopped fault token → Halted first later takes fault token (within p)
+  pub local : (p : Point) → LocalAt reads p
 
 -- ---- what has been taken, and more
 
@@ -189,6 +191,21 @@ ended_join {first = first} {later = later} {was = was} {is = is} {takes = takes}
 
 -- ---- one after the other
 
+-- what was read first, and what after
+pub record Bound {A B : Type 0} (answer : Answer A) (rest : A → Point → Answer B) (b : B) (after : Point) : Type 0 where
+  pub first : A
+  pub between : Point
+  pub read : answer ≡ Read first between
+  pub then_read : rest first between ≡ Read b after
+
+pub bound : {A B : Type 0} (answer : Answer A) (rest : A → Point → Answer B) (b : B) (after : Point) → and_then answer rest ≡ Read b after →
+    Bound answer rest b after
+bound (Read a p) rest b after e = record { first = a; between = p; read = refl; then_read = e }
+bound (Stopped f k) rest b after e = absurd cc
+
+pub read_same : {A : Type 0} {a b : A} {p q : Point} → Read a p ≡ Read b q → (b ≡ a) × (q ≡ p)
+read_same e = (cc, cc)
+
 -- what an answer comes of
 pub read_or_stopped : {A B : Type 0} (answer : Answer A) (rest : A → Point → Answer B) (fault : Fault) (token : ℕ) → and_then answer rest ≡ Stopped fault token →
     ((a : A) × (p : Point) × (answer ≡ Read a p) × (rest a p ≡ Stopped fault token)) ⊎ (answer ≡ Stopped fault token)
@@ -197,7 +214,7 @@ read_or_stopped (Stopped f t) rest fault token e = let same : (f ≡ fault) × (
 
 -- after a part that is a whole
 pub after_leads : {A B : Type 0} {first free middle later : Bool} {so_far : Takes → Takes} {reads : Reads A} {is : A → Takes} {rest : A → Reads B} {takes : B → Takes} →
-    Extends free middle reads is → ((a : A) → Leads first middle later (λ k. so_far (is a ⨾ k)) (rest a) takes) →
+    Meets free middle reads is → ((a : A) → Leads first middle later (λ k. so_far (is a ⨾ k)) (rest a) takes) →
     Leads first free later so_far (reads >>= rest) takes
 after_leads {A = A} {first = first} {free = free} {later = later} {so_far = so_far} {reads = reads} {is = is} {rest = rest} {takes = takes} one then_ = record {
   reached = λ r p before b after e.
@@ -208,6 +225,7 @@ after_leads {A = A} {first = first} {free = free} {later = later} {so_far = so_f
         subst (λ t. Ended first later was takes r t q.over) (append-nil tokens) (ended_join led (one.ends now q) (λ a. (then_ a).ends));
   };
   halts = λ r p before fault token e. halted r p before fault token (read_or_stopped (reads true p) (λ a after. rest a true after) fault token e);
+  local = λ r p before. after_local (one.local p) (λ a mid e. (then_ a).local r mid (reached_join (is a) before (one.reached p a mid e)));
 }
   where
     halted : (r : Reading) (p : Point) → Reached first free so_far r (within p) → (fault : Fault) (token : ℕ) →
@@ -237,6 +255,7 @@ then_leads {A = A} {first = first} {free = free} {later = later} {so_far = so_fa
       (then_ q.first).reached r q.between (one.reached r p before q.first q.between q.read) b after q.then_read;
   ends = record { ends = λ was now r tokens q led. ended_then (one.ends.ends was now r tokens q led) (λ a. (then_ a).ends) };
   halts = λ r p before fault token e. halted r p before fault token (read_or_stopped (reads true p) (λ a after. rest a true after) fault token e);
+  local = λ r p before. after_local (one.local r p before) (λ a mid e. (then_ a).local r mid (one.reached r p before a mid e));
 }
   where
     halted : (r : Reading) (p : Point) → Reached first free so_far r (within p) → (fault : Fault) (token : ℕ) →
@@ -248,12 +267,13 @@ then_leads {A = A} {first = first} {free = free} {later = later} {so_far = so_fa
         record { front = h.front; back = h.back; split = h.split; reaches = h.reaches; ended = ended_then h.ended (λ a. (then_ a).ends) }
 
 -- the whole, where nothing was read before
-pub whole_viable : {A : Type 0} {first later : Bool} {reads : Reads A} {takes : A → Takes} → Leads first first later (λ k. k) reads takes →
-    Extends first later reads takes
-whole_viable it = record {
+pub whole_meets : {A : Type 0} {first later : Bool} {reads : Reads A} {takes : A → Takes} → Leads first first later (λ k. k) reads takes →
+    Meets first later reads takes
+whole_meets it = record {
   reached = λ p a after e. it.reached (within p) p reached_self a after e;
   ends = λ was r. it.ends.ends was was r [] r led_self;
   halts = λ p fault token e. it.halts (within p) p reached_self fault token e;
+  local = λ p. it.local (within p) p reached_self;
 }
 
 -- nothing more is read
@@ -265,11 +285,12 @@ give_leads {takes = takes} b same = record {
       rw (o.0, o.1) (record { tokens = before.tokens; left = before.left; taken = before.taken; led = led_finish (takes b) same before.led });
   ends = record { ends = λ was now r tokens q led. ended_self b (led_finish (takes b) same led) };
   halts = λ r p before fault token e. absurd cc;
+  local = λ r p before. give_local b;
 }
 
 -- the last part, of which the tree is made
 pub last_leads : {A B : Type 0} {first free later : Bool} {so_far : Takes → Takes} {reads : Reads A} {is : A → Takes} {takes : B → Takes} (make : A → B) →
-    Extends free later reads is → ((a : A) → takes (make a) ≡ so_far (is a)) → Leads first free later so_far (reads >>= λ a. give (make a)) takes
+    Meets free later reads is → ((a : A) → takes (make a) ≡ so_far (is a)) → Leads first free later so_far (reads >>= λ a. give (make a)) takes
 last_leads {so_far = so_far} {is = is} make last same =
     after_leads last (λ a. give_leads (make a) (same a ∙ ap (λ t. so_far t) (sym (takes_nothing (is a)))))
 
@@ -285,6 +306,7 @@ leads_by same it = record {
   reached = λ r p before b after e. it.reached r p before b after (sym (same p) ∙ e);
   ends = it.ends;
   halts = λ r p before fault token e. it.halts r p before fault token (sym (same p) ∙ e);
+  local = λ r p before. local_by same (it.local r p before);
 }
 
 pub at_by : {B : Type 0} {x : Option Lexeme} {first free later : Bool} {so_far : Takes → Takes} {reads other : Reads B} {takes : B → Takes} →
@@ -292,15 +314,18 @@ pub at_by : {B : Type 0} {x : Option Lexeme} {first free later : Bool} {so_far :
 at_by same it = record {
   reached = λ r p is before b after e. it.reached r p is before b after (sym (same p) ∙ e);
   halts = λ r p is before fault token e. it.halts r p is before fault token (sym (same p) ∙ e);
+  local = λ r p is before. local_by same (it.local r p is before);
 }
 
 -- or as one of two
 pub at_either : {B : Type 0} {x : Option Lexeme} {first free later : Bool} {so_far : Takes → Takes} {reads one other : Reads B} {takes : B → Takes} →
-    ((p : Point) → (reads true p ≡ one true p) ⊎ (reads true p ≡ other true p)) → LeadsAt x first free later so_far one takes →
+    ((p : Point) → (reads true p ≡ one true p) ⊎ (reads true p ≡ other true p)) →
+    ((r : Reading) (p : Point) → next p.left ≡ x → Reached first free so_far r (within p) → LocalAt reads p) → LeadsAt x first free later so_far one takes →
     LeadsAt x first free later so_far other takes → LeadsAt x first free later so_far reads takes
-at_either {B = B} {x = x} {first = first} {free = free} {later = later} {so_far = so_far} {reads = reads} {one = one} {other = other} {takes = takes} same it its = record {
+at_either {B = B} {x = x} {first = first} {free = free} {later = later} {so_far = so_far} {reads = reads} {one = one} {other = other} {takes = takes} same at it its = record {
   reached = λ r p is before b after e. reached r p is before b after e (same p);
   halts = λ r p is before fault token e. halts r p is before fault token e (same p);
+  local = at;
 }
   where
     reached : (r : Reading) (p : Point) → next p.left ≡ x → Reached first free so_far r (within p) → (b : B) (after : Point) → reads true p ≡ Read b after →
@@ -319,13 +344,13 @@ given (Stopped f t) = refl
 
 -- the last part, which is the tree
 pub same_leads : {B : Type 0} {first free later : Bool} {so_far : Takes → Takes} {reads : Reads B} {is : B → Takes} {takes : B → Takes} →
-    Extends free later reads is → ((b : B) → takes b ≡ so_far (is b)) → Leads first free later so_far reads takes
+    Meets free later reads is → ((b : B) → takes b ≡ so_far (is b)) → Leads first free later so_far reads takes
 same_leads {reads = reads} last same = leads_by (λ p. given (reads true p)) (last_leads (λ b. b) last same)
 
 -- trees that take the same
-pub viable_same : {A : Type 0} {first later : Bool} {reads : Reads A} {takes other : A → Takes} → ((a : A) → takes a ≡ other a) →
-    Extends first later reads other → Extends first later reads takes
-viable_same same it = whole_viable (same_leads it same)
+pub meets_same : {A : Type 0} {first later : Bool} {reads : Reads A} {takes other : A → Takes} → ((a : A) → takes a ≡ other a) →
+    Meets first later reads other → Meets first later reads takes
+meets_same same it = whole_meets (same_leads it same)
 
 -- where trees go on as other ones do at the tokens that have been taken
 pub leads_led : {B : Type 0} {first free later : Bool} {so_far other : Takes → Takes} {reads : Reads B} {takes : B → Takes} →
@@ -335,6 +360,7 @@ leads_led {first = first} {free = free} {so_far = so_far} {other = other} led it
   reached = λ r p before b after e. it.reached r p (reached r (within p) before) b after e;
   ends = record { ends = λ was now r tokens q before. it.ends.ends was now r tokens q (led was now r tokens q before) };
   halts = λ r p before fault token e. it.halts r p (reached r (within p) before) fault token e;
+  local = λ r p before. it.local r p (reached r (within p) before);
 }
   where
     reached : (r q : Reading) → Reached first free so_far r q → Reached first free other r q
@@ -356,6 +382,7 @@ never_leads {first = first} {free = free} {so_far = so_far} none = record {
   reached = λ r p before b after e. absurd (never (next r.left) (next p.left) r before.tokens (within p) before.led);
   ends = record { ends = λ was now r tokens q led. absurd (never was now r tokens q led) };
   halts = λ r p before fault token e. absurd (never (next r.left) (next p.left) r before.tokens (within p) before.led);
+  local = λ r p before. absurd (never (next r.left) (next p.left) r before.tokens (within p) before.led);
 }
   where
     some : (now : Option Lexeme) → (rest : List Lexeme) × (next rest ≡ now)
@@ -373,15 +400,16 @@ never_leads {first = first} {free = free} {so_far = so_far} none = record {
 
 pub at_leads : {B : Type 0} {x : Option Lexeme} {first free later : Bool} {so_far : Takes → Takes} {reads : Reads B} {takes : B → Takes} →
     Leads first free later so_far reads takes → LeadsAt x first free later so_far reads takes
-at_leads it = record { reached = λ r p is. it.reached r p; halts = λ r p is. it.halts r p }
+at_leads it = record { reached = λ r p is. it.reached r p; halts = λ r p is. it.halts r p; local = λ r p is. it.local r p }
 
 pub look_leads : {B : Type 0} {first free later : Bool} {so_far : Takes → Takes} {by : Option Lexeme → Reads B} {takes : B → Takes} →
     Ends first free later so_far takes → ((x : Option Lexeme) → LeadsAt x first free later so_far (by x) takes) →
     Leads first free later so_far (look by) takes
-look_leads ends each = record {
+look_leads {by = by} ends each = record {
   reached = λ r p before b after e. (each (next p.left)).reached r p refl before b after e;
   ends = ends;
   halts = λ r p before fault token e. (each (next p.left)).halts r p refl before fault token e;
+  local = λ r p before. look_local by ((each (next p.left)).local r p refl before);
 }
 
 pub stopped_same : {A : Type 0} {f g : Fault} {t s : ℕ} → ◌≡◌ {A = Answer A} (Stopped f t) (Stopped g s) → (g ≡ f) × (s ≡ t)
@@ -402,6 +430,7 @@ stop_leads ends = record {
         reaches = sym before.taken;
         ended = ends.ends (next r.left) (next p.left) r before.tokens (within p) before.led;
       });
+  local = λ r p before. stop_local;
 }
 
 by_choice : {B : Type 0} (test : Bool) {x : Option Lexeme} {first free later : Bool} {so_far : Takes → Takes} {holds fails : Reads B} {takes : B → Takes} →
@@ -454,16 +483,17 @@ halted_later : {A : Type 0} {first : Bool} {takes : A → Takes} {fault : Fault}
 halted_later later h = record { front = h.front; back = h.back; split = h.split; reaches = h.reaches; ended = ended_later later h.ended }
 
 -- what may follow a list may follow this too
-pub viable_later : {A : Type 0} {first : Bool} {reads : Reads A} {takes : A → Takes} (later : Bool) → Extends first true reads takes → Extends first later reads takes
-viable_later later it = record {
+pub meets_later : {A : Type 0} {first : Bool} {reads : Reads A} {takes : A → Takes} (later : Bool) → Meets first true reads takes → Meets first later reads takes
+meets_later later it = record {
   reached = λ p a after e. reached_later later (it.reached p a after e);
   ends = λ was r. ended_later later (it.ends was r);
   halts = λ p fault token e. halted_later later (it.halts p fault token e);
+  local = it.local;
 }
 
 -- what may stand after a list may stand after anything
-pub viable_first : {A : Type 0} {first later : Bool} {reads : Reads A} {takes : A → Takes} → Extends first later reads takes → Extends true later reads takes
-viable_first {first = first} {later = later} {takes = takes} it = record {
+pub meets_first : {A : Type 0} {first later : Bool} {reads : Reads A} {takes : A → Takes} → Meets first later reads takes → Meets true later reads takes
+meets_first {first = first} {later = later} {takes = takes} it = record {
   reached = λ p a after e.
       let there = it.reached p a after e in
       record { tokens = there.tokens; left = there.left; taken = there.taken; led = led (takes a) there.led };
@@ -471,6 +501,7 @@ viable_first {first = first} {later = later} {takes = takes} it = record {
   halts = λ p fault token e.
       let h = it.halts p fault token e in
       record { front = h.front; back = h.back; split = h.split; reaches = h.reaches; ended = ended h.ended };
+  local = it.local;
 }
   where
     led : {was now : Option Lexeme} {r q : Reading} {xs : List Lexeme} (is : Takes) → Led first later was now (λ k. is ⨾ k) r xs q →
@@ -486,6 +517,7 @@ leads_later later it = record {
   reached = λ r p before a after e. reached_later later (it.reached r p before a after e);
   ends = record { ends = λ was now r tokens q led. ended_later later (it.ends.ends was now r tokens q led) };
   halts = λ r p before fault token e. halted_later later (it.halts r p before fault token e);
+  local = it.local;
 }
 
 -- ---- what this says of a reader
@@ -498,8 +530,20 @@ over_there : (fault : Fault) (token : ℕ) → fault ≡ TooDeep → over_at fau
 over_there Unexpected token e = absurd cc
 over_there TooDeep token e = refl
 
+-- what is read is a tree of the tokens that are taken
+pub is_sound : {A : Type 0} {first later : Bool} {reads : Reads A} {takes : A → Takes} → Meets first later reads takes → Sound reads takes
+is_sound {takes = takes} it = record {
+  sound = λ p a after e.
+      let there = it.reached p a after e in
+      ap (λ t. takes a (put t (within p))) there.left ∙ led_taken (takes a) there.led after.left (inl refl);
+}
+
+-- the answer hangs on no token beyond the one that the reader looks at
+pub is_local : {A : Type 0} {first later : Bool} {reads : Reads A} {takes : A → Takes} → Meets first later reads takes → Local reads
+is_local it = record { local = λ token p q same. (it.local p).local token q same }
+
 -- it stops no later than it must
-pub is_viable : {A : Type 0} {first later : Bool} {reads : Reads A} {takes : A → Takes} → Extends first later reads takes → Viable reads takes
+pub is_viable : {A : Type 0} {first later : Bool} {reads : Reads A} {takes : A → Takes} → Meets first later reads takes → Viable reads takes
 is_viable {A = A} {first = first} {later = later} {takes = takes} it = record {
   viable = λ p fault token e. begun p fault token (it.halts p fault token e);
 }

@@ -1,5 +1,5 @@
--- Where a reader of a part of a body that holds no block stops, some tree begins with the tokens gone through.
-use Rattle.std.proofs.Common.{ℕ, true, [], ◌∷◌, Option, Some, None, refl, sym, ap}
+-- Readers of the parts of a body that hold no block meet the grammar.
+use Rattle.std.proofs.Common.{ℕ, true, ◌∷◌, Option, Some, None, refl, sym, ap, []}
 use Rattle.cmm_lexer.specs.declared.piece.Lexeme.{Lexeme}
 use Rattle.cmm_lexer.specs.declared.piece.Lexeme.TheVariants as l
 use Rattle.cmm_ast.specs.declared.token.Ident.{Ident}
@@ -22,61 +22,60 @@ use Rattle.cmm_readers.specs.PartReading.{is_any_name, is_width, begins_kinded}
 use Rattle.cmm_readers.specs.CallReading.{call_after}
 use Rattle.cmm_readers.specs.TargetReading.{Names, Lvalues, Results}
 use Rattle.cmm_readers.specs.StatementReading.{case, span_ends, switch_span, jump, return_form, goto, cut, continuation, word_stmt, symbol_stmt, memory_token, memory_stmt, name_stmt, OfLocal, OfStmt, of_stmt, of_local, name_part, text_part, word_part, flat_by, flat_part}
-use Rattle.cmm_readers.proofs.SoundExpressions.{here_twice}
-use Rattle.cmm_readers.proofs.Lists.{takes_assoc, takes_nothing}
-use Rattle.cmm_readers.proofs.SoundStatements.{memory_here}
-use Rattle.cmm_readers.proofs.StatementForms.{form_is}
-use Rattle.cmm_readers.proofs.Viables.{Leads, LeadsAt, Extends, after_leads, then_leads, whole_viable, give_leads, last_leads, made_leads, leads_same, at_leads, look_leads, stop_leads, if_next_leads}
-use Rattle.cmm_readers.proofs.ViableLists.{symbol_viable, closing_viable, keyword_viable, ident_viable, text_viable, if_word_leads, if_symbol_leads, round_viable, square_viable, optional_viable, commas_viable, may_list_viable}
-use Rattle.cmm_readers.proofs.ViableExpressions.{type_name_viable}
-use Rattle.cmm_readers.proofs.ViableParts.{kinded_viable, arguments_viable, callee_viable, annotations_viable, exit_viable, range_viable}
-use Rattle.cmm_readers.proofs.ViableTargets.{call_leads, call_after_leads, assignment_leads}
-use Rattle.cmm_readers.proofs.ViableOperands.{whole_expr_viable, whole_memory_leads}
-use Rattle.cmm_readers.proofs.ViableProcedures.{modifiers_viable, variables_leads, stackdata_leads}
+use Rattle.cmm_readers.proofs.Takings.{takes_assoc, takes_nothing}
+use Rattle.cmm_readers.proofs.ExpressionForms.{here_twice}
+use Rattle.cmm_readers.proofs.StatementForms.{memory_here, form_is}
+use Rattle.cmm_readers.proofs.Meets.{Leads, LeadsAt, Meets, after_leads, then_leads, whole_meets, give_leads, last_leads, made_leads, leads_same, at_leads, look_leads, stop_leads, if_next_leads}
+use Rattle.cmm_readers.proofs.MeetsLists.{symbol_meets, closing_meets, keyword_meets, ident_meets, text_meets, if_word_leads, if_symbol_leads, round_meets, square_meets, optional_meets, commas_meets, may_list_meets}
+use Rattle.cmm_readers.proofs.MeetsExpressions.{type_name_meets}
+use Rattle.cmm_readers.proofs.MeetsParts.{kinded_meets, arguments_meets, callee_meets, annotations_meets, exit_meets, range_meets}
+use Rattle.cmm_readers.proofs.MeetsTargets.{call_leads, call_after_leads, assignment_leads}
+use Rattle.cmm_readers.proofs.MeetsOperands.{whole_expr_meets, whole_memory_leads}
+use Rattle.cmm_readers.proofs.MeetsProcedures.{modifiers_meets, variables_leads, stackdata_leads}
 
 module _ (fuel : ℕ) where
   -- ---- parts of statements
 
-  pub case_viable : Extends true true (case fuel) bodies.case
-  case_viable =
-      whole_viable
-      (if_word_leads word.Default (last_leads (λ _. cases.Default) (symbol_viable sign.Colon) (λ _. refl))
-      (after_leads (keyword_viable word.Case) (λ _. after_leads (commas_viable (range_viable fuel) fuel) (λ ranges.
-      last_leads (λ _. cases.Ranges ranges) (symbol_viable sign.Colon) (λ _. refl)))))
+  pub case_meets : Meets true true (case fuel) bodies.case
+  case_meets =
+      whole_meets
+      (if_word_leads word.Default (last_leads (λ _. cases.Default) (symbol_meets sign.Colon) (λ _. refl))
+      (after_leads (keyword_meets word.Case) (λ _. after_leads (commas_meets (range_meets fuel) fuel) (λ ranges.
+      last_leads (λ _. cases.Ranges ranges) (symbol_meets sign.Colon) (λ _. refl)))))
 
-  pub switch_span_viable : Extends true true (switch_span fuel) bodies.switch_span
-  switch_span_viable = square_viable {is = λ s. grammar.whole s.from ⨾ symbol_is sign.Range ⨾ grammar.whole s.to} ends_viable where
-    ends_viable : Extends true true (span_ends fuel) (λ s. grammar.whole s.from ⨾ symbol_is sign.Range ⨾ grammar.whole s.to)
-    ends_viable =
-        whole_viable
-        (after_leads (whole_expr_viable fuel) (λ from. after_leads (symbol_viable sign.Range) (λ _.
-        last_leads (λ to. record { from = from; to = to }) (whole_expr_viable fuel) (λ to. refl))))
+  pub switch_span_meets : Meets true true (switch_span fuel) bodies.switch_span
+  switch_span_meets = square_meets {is = λ s. grammar.whole s.from ⨾ symbol_is sign.Range ⨾ grammar.whole s.to} ends_meets where
+    ends_meets : Meets true true (span_ends fuel) (λ s. grammar.whole s.from ⨾ symbol_is sign.Range ⨾ grammar.whole s.to)
+    ends_meets =
+        whole_meets
+        (after_leads (whole_expr_meets fuel) (λ from. after_leads (symbol_meets sign.Range) (λ _.
+        last_leads (λ to. record { from = from; to = to }) (whole_expr_meets fuel) (λ to. refl))))
 
   -- ---- statements that begin with a reserved word
 
   return_leads : Leads true true true (λ k. keyword_is word.Return ⨾ k) (return_form fuel) bodies.stmt_form
   return_leads =
-      after_leads (optional_viable (is_sign sign.Less) (exit_viable fuel)) (λ by.
-      after_leads (optional_viable (is_sign sign.Open) (arguments_viable fuel)) (λ found.
-      last_leads (λ _. stmts.Return by found) (symbol_viable sign.Semicolon) (λ _. refl)))
+      after_leads (optional_meets (is_sign sign.Less) (exit_meets fuel)) (λ by.
+      after_leads (optional_meets (is_sign sign.Open) (arguments_meets fuel)) (λ found.
+      last_leads (λ _. stmts.Return by found) (symbol_meets sign.Semicolon) (λ _. refl)))
 
   goto_leads : Leads true true true (λ k. keyword_is word.Goto ⨾ k) goto bodies.stmt_form
-  goto_leads = after_leads ident_viable (λ name. last_leads (λ _. stmts.Goto name) (symbol_viable sign.Semicolon) (λ _. refl))
+  goto_leads = after_leads ident_meets (λ name. last_leads (λ _. stmts.Goto name) (symbol_meets sign.Semicolon) (λ _. refl))
 
   jump_leads : Leads true true true (λ k. keyword_is word.Jump ⨾ k) (jump fuel) bodies.stmt_form
   jump_leads =
-      after_leads (callee_viable fuel) (λ what. after_leads (arguments_viable fuel) (λ actuals.
-      last_leads (λ _. stmts.Jump what actuals) (symbol_viable sign.Semicolon) (λ _. refl)))
+      after_leads (callee_meets fuel) (λ what. after_leads (arguments_meets fuel) (λ actuals.
+      last_leads (λ _. stmts.Jump what actuals) (symbol_meets sign.Semicolon) (λ _. refl)))
 
   cut_leads : Leads true true true (λ k. keyword_is word.Cut ⨾ k) (cut fuel) bodies.stmt_form
   cut_leads =
-      after_leads (keyword_viable word.To) (λ _. after_leads (callee_viable fuel) (λ what. after_leads (arguments_viable fuel) (λ actuals.
-      after_leads (annotations_viable fuel) (λ fs. last_leads (λ _. stmts.Cut what actuals fs) (closing_viable sign.Semicolon refl) (λ _. refl)))))
+      after_leads (keyword_meets word.To) (λ _. after_leads (callee_meets fuel) (λ what. after_leads (arguments_meets fuel) (λ actuals.
+      after_leads (annotations_meets fuel) (λ fs. last_leads (λ _. stmts.Cut what actuals fs) (closing_meets sign.Semicolon refl) (λ _. refl)))))
 
   continuation_leads : Leads true true true (λ k. keyword_is word.Continuation ⨾ k) (continuation fuel) bodies.stmt_form
   continuation_leads =
-      after_leads ident_viable (λ name. after_leads (round_viable (may_list_viable kinded_viable begins_kinded fuel)) (λ parameters.
-      last_leads (λ _. stmts.Continuation name parameters) (symbol_viable sign.Colon) (λ _. refl)))
+      after_leads ident_meets (λ name. after_leads (round_meets (may_list_meets kinded_meets begins_kinded fuel)) (λ parameters.
+      last_leads (λ _. stmts.Continuation name parameters) (symbol_meets sign.Colon) (λ _. refl)))
 
   -- a call without results
   plain_call_leads : Leads true true true (λ k. k) (call_after fuel []) bodies.stmt_form
@@ -90,7 +89,7 @@ module _ (fuel : ℕ) where
 
   symbol_stmt_leads : Leads true true true (λ k. k) (symbol_stmt fuel) bodies.stmt_form
   symbol_stmt_leads =
-      if_next_leads (is_sign sign.Open) plain_call_leads (last_leads (λ _. stmts.Empty) (symbol_viable sign.Semicolon) (λ _. refl))
+      if_next_leads (is_sign sign.Open) plain_call_leads (last_leads (λ _. stmts.Empty) (symbol_meets sign.Semicolon) (λ _. refl))
 
   -- ---- statements that begin with a name or a word in memory
 
@@ -122,20 +121,20 @@ of_local_leads it = made_leads OfLocal it (λ form. refl)
 module _ (fuel : ℕ) where
   name_part_leads : Leads true true true (λ k. k) (name_part fuel) form_is
   name_part_leads =
-      after_leads ident_viable (λ name.
+      after_leads ident_meets (λ name.
       if_next_leads is_any_name (of_local_leads (leads_same (λ k. refl) (variables_leads fuel before.Nothing (named_type name))))
       (of_stmt_leads (name_stmt_leads fuel name)))
 
   text_part_leads : Leads true true true (λ k. k) (text_part fuel) form_is
   text_part_leads =
-      after_leads text_viable (λ kind.
+      after_leads text_meets (λ kind.
       if_word_leads word.Invariant
-      (after_leads type_name_viable (λ width.
+      (after_leads type_name_meets (λ width.
       of_local_leads
       (leads_same (λ k. sym (takes_assoc (grammar.text kind) (keyword_is word.Invariant) (grammar.type_name width ⨾ k)))
       (variables_leads fuel (before.KindInvariant kind) width))))
-      (if_next_leads is_width (after_leads type_name_viable (λ width. of_local_leads (variables_leads fuel (before.Kind kind) width)))
-      (after_leads ident_viable (λ name.
+      (if_next_leads is_width (after_leads type_name_meets (λ width. of_local_leads (variables_leads fuel (before.Kind kind) width)))
+      (after_leads ident_meets (λ name.
       if_next_leads is_any_name (of_local_leads (leads_same (λ k. refl) (variables_leads fuel (before.Kind kind) (named_type name))))
       (of_stmt_leads
       (leads_same (λ k. sym (takes_assoc (grammar.text kind) (grammar.ident name) k))
@@ -144,12 +143,12 @@ module _ (fuel : ℕ) where
   word_part_leads : Leads true true true (λ k. k) (word_part fuel) form_is
   word_part_leads =
       if_next_leads is_width
-      (after_leads type_name_viable (λ width.
+      (after_leads type_name_meets (λ width.
       if_next_leads (is_sign sign.OpenSquare)
       (of_stmt_leads (then_leads (whole_memory_leads fuel width) (memory_stmt_leads fuel)))
       (of_local_leads (leads_same (λ k. refl) (variables_leads fuel before.Nothing width)))))
       (if_next_leads (is_word word.Invariant)
-      (after_leads modifiers_viable (λ found. after_leads type_name_viable (λ width. of_local_leads (variables_leads fuel found width))))
+      (after_leads modifiers_meets (λ found. after_leads type_name_meets (λ width. of_local_leads (variables_leads fuel found width))))
       (if_word_leads word.Stackdata (of_local_leads (stackdata_leads fuel)) (of_stmt_leads (word_stmt_leads fuel))))
 
   pub flat_part_leads : Leads true true true (λ k. k) (flat_part fuel) form_is
