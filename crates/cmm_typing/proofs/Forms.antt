@@ -20,7 +20,7 @@ use Rattle.cmm_accepted.specs.Operators.{infix_operator, prefix_operator, operat
 use Rattle.cmm_accepted.specs.Algebras.{knowns}
 use Rattle.cmm_accepted.specs.Judging.{Judged, with_ok, with_both}
 use Rattle.cmm_accepted.specs.Typing.{expr_type, form_type, prim_type, memory_type, type_width, operand_at, given_operands, with_operand, applied, applied_to_one, applied_to_two, load}
-use Rattle.cmm_typing.specs.Lists.{list_operands}
+use Rattle.cmm_typing.specs.inside.Operands.{list_operands}
 
 module _ (names : Senses) where
   -- an operand, by its first token

@@ -8,9 +8,6 @@ use Rattle.cmm_accepted.specs.declared.known.Known.TheVariants.{Number, Symbol, 
 use Rattle.cmm_accepted.specs.declared.judged.Bits.{Bits}
 use Rattle.cmm_accepted.specs.declared.judged.Typed.{Typed}
 use Rattle.cmm_accepted.specs.declared.judged.Typed.TheVariants as typed
-use Rattle.cmm_accepted.specs.declared.judged.Operand.{Operand}
-use Rattle.cmm_accepted.specs.declared.judged.Operands.{Operands}
-use Rattle.cmm_accepted.specs.declared.judged.Operands.TheVariants as operands
 use Rattle.cmm_accepted.specs.declared.sense.Sense.{Sense}
 use Rattle.cmm_accepted.specs.declared.sense.Sense.TheVariants.{Value}
 use Rattle.cmm_accepted.specs.Senses.{Senses}
@@ -40,12 +37,3 @@ FitsSense _ = Unit {0}
 
 abbrev pub AreWords : Senses → Type 0
 AreWords names = (name : List ℕ) → FitsSense (names name)
-
-abbrev pub FitsOperand : Operand Known (Unit {0}) → Type 0
-FitsOperand o = FitsTyped o.typed
-
-abbrev pub FitsOperands : Operands Known (Unit {0}) → Type 0
-FitsOperands operands.Zero = Unit {0}
-FitsOperands (operands.One a) = FitsOperand a
-FitsOperands (operands.Two a b) = FitsOperand a × FitsOperand b
-FitsOperands operands.More = Unit {0}

@@ -1,3 +1,3 @@
 pub mod Fitting
-pub mod Lists
 pub mod Meanings
+pub mod inside

@@ -3,8 +3,8 @@
 ghost use Rattle.std.specs.Prelude.{◌≡◌, IfOk};
 ghost use Rattle.cmm_accepted.specs.Algebras.{knowns};
 ghost use Rattle.cmm_accepted.specs.Typing as typing;
-ghost use Rattle.cmm_typing.specs.Fitting.{AreWords, FitsTyped, FitsOperands};
-ghost use Rattle.cmm_typing.specs.Lists.{list_operands};
+ghost use Rattle.cmm_typing.specs.Fitting.{AreWords, FitsTyped};
+ghost use Rattle.cmm_typing.specs.inside.Operands.{FitsOperands, list_operands};
 
 use crate::joining::{applied, infixed, loaded, prefixed, with_operand};
 use crate::leaf::{literal_type, name_type, type_width};

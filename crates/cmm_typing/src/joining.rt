@@ -5,7 +5,8 @@ ghost use Rattle.cmm_accepted.specs.Algebras.{knowns};
 ghost use Rattle.cmm_accepted.specs.Judging.{with_ok, with_both};
 ghost use Rattle.cmm_accepted.specs.Operators as operators;
 ghost use Rattle.cmm_accepted.specs.Typing as typing;
-ghost use Rattle.cmm_typing.specs.Fitting.{FitsTyped, FitsOperand, FitsOperands};
+ghost use Rattle.cmm_typing.specs.Fitting.{FitsTyped};
+ghost use Rattle.cmm_typing.specs.inside.Operands.{FitsOperand, FitsOperands};
 
 use crate::applying::{applied_to_one, applied_to_two};
 use crate::operators::{infix_operator, prefix_operator};

@@ -1,8 +1,7 @@
 use Rattle.std.proofs.Common.{◌≡◌, drop}
 use Rattle.std.specs.Prelude.{IfOk, Ok}
 use Rattle.cmm_accepted.specs.declared.judged.Operands.TheVariants as operands
-use Rattle.cmm_typing.specs.Fitting.{FitsOperands}
-use Rattle.cmm_typing.specs.Lists.{list_operands}
+use Rattle.cmm_typing.specs.inside.Operands.{FitsOperands, list_operands}
 use Rattle.cmm_typing.proofs.engine.+expression.Given as goal
 
 -- the operands that are left, after those so far, say what all say
