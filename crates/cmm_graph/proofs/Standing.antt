@@ -1,7 +1,8 @@
 -- In graphs in range no activation stands at an Entry or a CopyIn: a node leads only to nodes where a run may stand, and so do
 -- Entries and CopyIns, behind which landings are done.
-use Rattle.std.proofs.Common.{◌≡◌, ℕ, zero, suc, ◌&&◌, nat_lt, Bool, true, false, List, slice_get, All, IsTrue, Option, Some, None, refl, arith}
+use Rattle.std.proofs.Common.{◌≡◌, ℕ, zero, suc, ◌&&◌, nat_lt, Bool, false, List, slice_get, All, IsTrue, Option, Some, None, refl, arith}
 use Rattle.std.specs.List.{list_all}
+use Rattle.std.proofs.lemmas.Bool.{and_parts}
 use Rattle.std.proofs.lemmas.List.Elements.{All-from_recursion}
 use Rattle.cmm_program.specs.Errors.{with_some}
 use Rattle.cmm_graph.specs.declared.number.NodeId.{NodeId}
@@ -18,11 +19,6 @@ use Rattle.cmm_graph.specs.Acting.{led}
 use Rattle.cmm_graph.specs.GraphControl.{Position, graph_control, in_graph, kind_at, kind_here, behind, normal_of, moved_to, landed_at}
 use Rattle.cmm_graph.specs.Laws.{RunsStandAtSteps}
 use Rattle.cmm_program.proofs.Shared.{IsKept, in_runs, list_all_get, all_get}
-
--- both of two tests that hold together
-both_hold : (a b : Bool) → IsTrue (a && b) → IsTrue a × IsTrue b
-both_hold true b holds = (refl, holds)
-both_hold false b holds = grind (arith, holds)
 
 -- ---- in one graph
 
@@ -49,24 +45,24 @@ module _ (g : Graph) where
   -- where a node leads by a way, a run may stand
   led_to_step : (way : ℕ) (kind : NodeKind) (n : NodeId) → IsTrue (is_kind g kind) → led way kind ≡ Some n → IsTrue (leads_to g is_step n)
   led_to_step way (Assign to value next) n valid is =
-      let leads = (both_hold (is_destination g to && is_rvalue g value) (leads_to g is_step next) valid).1 in grind (arith, is, leads)
+      let leads = (and_parts (is_destination g to && is_rvalue g value) (leads_to g is_step next) valid).1 in grind (arith, is, leads)
   led_to_step way (Store width aligned address value next) n valid is =
-      let leads = (both_hold (is_alignment aligned && is_operand g address && is_operand g value) (leads_to g is_step next) valid).1 in grind (arith, is, leads)
+      let leads = (and_parts (is_alignment aligned && is_operand g address && is_operand g value) (leads_to g is_step next) valid).1 in grind (arith, is, leads)
   led_to_step way (Branch test then_ otherwise) n valid is =
-      let both = both_hold (is_test g test && leads_to g is_step then_) (leads_to g is_step otherwise) valid in
-      to_branch way then_ otherwise n (both_hold (is_test g test) (leads_to g is_step then_) both.0).1 both.1 is
+      let both = and_parts (is_test g test && leads_to g is_step then_) (leads_to g is_step otherwise) valid in
+      to_branch way then_ otherwise n (and_parts (is_test g test) (leads_to g is_step then_) both.0).1 both.1 is
   led_to_step way (Switch value arms otherwise) n valid is =
-      let both = both_hold (is_operand g value && list_all (is_arm g) arms) (leads_to g is_step otherwise) valid in
-      to_arm way arms otherwise n (both_hold (is_operand g value) (list_all (is_arm g) arms) both.0).1 both.1 is
+      let both = and_parts (is_operand g value && list_all (is_arm g) arms) (leads_to g is_step otherwise) valid in
+      to_arm way arms otherwise n (and_parts (is_operand g value) (list_all (is_arm g) arms) both.0).1 both.1 is
   led_to_step way (Host call next) n valid is =
-      let leads = (both_hold (is_host g call) (leads_to g is_step next) valid).1 in grind (arith, is, leads)
+      let leads = (and_parts (is_host g call) (leads_to g is_step next) valid).1 in grind (arith, is, leads)
   led_to_step way (Goto next) n valid is = grind (arith, is, valid)
   led_to_step way kind n valid is = grind (arith, is)
 
   -- and behind an Entry or a CopyIn
   behind_landing : (kind : NodeKind) (n : NodeId) → IsTrue (is_kind g kind) → IsTrue (is_landing kind) → IsTrue (leads_to g is_step (behind kind n))
-  behind_landing (Entry formals next) n valid is = (both_hold (list_all (is_variable g) formals) (leads_to g is_step next) valid).1
-  behind_landing (CopyIn to next) n valid is = (both_hold (list_all (is_target g) to) (leads_to g is_step next) valid).1
+  behind_landing (Entry formals next) n valid is = (and_parts (list_all (is_variable g) formals) (leads_to g is_step next) valid).1
+  behind_landing (CopyIn to next) n valid is = (and_parts (list_all (is_target g) to) (leads_to g is_step next) valid).1
   behind_landing kind n valid is = grind (arith, is)
 
   -- the normal exit of a site in range leads to a CopyIn
@@ -76,15 +72,15 @@ module _ (g : Graph) where
 
   exits_lead : (exits : Exits) (n : NodeId) → IsTrue (are_exits g exits) → exits.normal ≡ Some n → IsTrue (leads_to g is_copy_in n)
   exits_lead exits n valid is =
-      let three = (both_hold (is_normal g exits.normal && list_all (is_continuation g) exits.returns && list_all (is_continuation g) exits.unwinds) (list_all (is_continuation g) exits.cuts) valid).0 in
-      let two = (both_hold (is_normal g exits.normal && list_all (is_continuation g) exits.returns) (list_all (is_continuation g) exits.unwinds) three).0 in
-      normal_leads exits.normal n (both_hold (is_normal g exits.normal) (list_all (is_continuation g) exits.returns) two).0 is
+      let three = (and_parts (is_normal g exits.normal && list_all (is_continuation g) exits.returns && list_all (is_continuation g) exits.unwinds) (list_all (is_continuation g) exits.cuts) valid).0 in
+      let two = (and_parts (is_normal g exits.normal && list_all (is_continuation g) exits.returns) (list_all (is_continuation g) exits.unwinds) three).0 in
+      normal_leads exits.normal n (and_parts (is_normal g exits.normal) (list_all (is_continuation g) exits.returns) two).0 is
 
   normal_copies_in : (kind : NodeKind) (n : NodeId) → IsTrue (is_kind g kind) → normal_of kind ≡ Some n → IsTrue (leads_to g is_copy_in n)
   normal_copies_in (Call site callee arguments exits) n valid is =
-      exits_lead exits n (both_hold (is_operand g callee && list_all (is_argument g) arguments) (are_exits g exits) valid).1 is
+      exits_lead exits n (and_parts (is_operand g callee && list_all (is_argument g) arguments) (are_exits g exits) valid).1 is
   normal_copies_in (Yield site values exits) n valid is =
-      exits_lead exits n (both_hold (list_all (is_operand g) values) (are_exits g exits) valid).1 is
+      exits_lead exits n (and_parts (list_all (is_operand g) values) (are_exits g exits) valid).1 is
   normal_copies_in kind n valid is = grind (arith, is)
 
 -- ---- in the graphs of a program
@@ -97,7 +93,7 @@ module _ (graphs : List Graph) (valid : All IsValid graphs) where
   kind_in_range : (q : ℕ) (g : Graph) (n : NodeId) (node : Node) → slice_get graphs q ≡ Some g → node_of g n ≡ Some node → IsTrue (is_kind g node.kind)
   kind_in_range q g n node is_graph is_node_there =
       let holds = list_all_get (is_node g) g.nodes n.number node (all_get IsValid graphs q g valid is_graph).nodes is_node_there in
-      (both_hold (nat_lt 0 node.tokens) (is_kind g node.kind) holds).1
+      (and_parts (nat_lt 0 node.tokens) (is_kind g node.kind) holds).1
 
   -- the kind of a node in a graph that is there
   kind_there : (q : ℕ) (g : Graph) (n : NodeId) (node : Node) → slice_get graphs q ≡ Some g → node_of g n ≡ Some node → kind_at graphs q n ≡ node.kind
