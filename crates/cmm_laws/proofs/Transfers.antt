@@ -1,10 +1,10 @@
 -- How control goes on, by cases, and what the search for a cut finds.
-use Rattle.std.proofs.Common.{◌≡◌, ◌≢◌, ℕ, zero, suc, ◌+◌, ◌==◌, Bool, true, false, Option, Some, None, Result, Ok, Err, List, [], ◌∷◌, drop, length, refl, ap, sym, subst, arith}
+use Rattle.std.proofs.Common.{◌≡◌, ◌≢◌, ℕ, zero, suc, ◌+◌, ◌==◌, Bool, true, false, Option, Some, None, Result, Ok, Err, List, [], ◌∷◌, refl, sym, subst, arith}
 use Rattle.std.specs.List.{All, AllByRecursion, Contains, find}
 use Rattle.std.proofs.lemmas.Bool.{eqb-true}
 use Rattle.std.proofs.lemmas.Bool.Decides.{nat_tests}
 use Rattle.std.proofs.lemmas.List.Elements.{All-from_recursion}
-use Rattle.cmm_program.specs.Errors.{Tried, EndOfBody, NeverReturns, NoSuchCut, NotAProcedure, WrongAlternates, WrongValues, given, provided}
+use Rattle.cmm_program.specs.Errors.{EndOfBody, NeverReturns, NoSuchCut, NotAProcedure, WrongAlternates, WrongValues, given, provided}
 use Rattle.cmm_program.specs.Exits.{Called, Instead, have_widths, numbers}
 use Rattle.cmm_program.specs.Frames.{continuation_value, site_cuts, without}
 use Rattle.cmm_program.specs.Orders.{Word}

@@ -1,6 +1,6 @@
 -- How control goes on after a call, a jump, a return and a cut, by cases: where it goes, and what has to hold for that, or an
 -- unchecked error. The laws are of orders and the store alone, so they hold of a machine with any control.
-use Rattle.std.specs.Prelude.{◌≡◌, ◌≢◌, ℕ, zero, suc, ◌+◌, ◌<◌, ◌==◌, true, List, [], ◌∷◌, map, take, drop, length, Ok, Err, Some}
+use Rattle.std.specs.Prelude.{◌≡◌, ◌≢◌, ℕ, zero, suc, ◌<◌, ◌==◌, true, List, [], ◌∷◌, map, take, drop, length, Ok, Err, Some}
 use Rattle.std.specs.List.{All, Contains, find}
 use Rattle.cmm_words.specs.declared.width.Width.TheVariants.{W64}
 use Rattle.cmm_program.specs.declared.procedure.Proc.{Proc}
