@@ -35,6 +35,13 @@ rule_number rule.OtherTarget = 37
 rule_number rule.BadHostCall = 38
 rule_number rule.Cycle = 39
 rule_number rule.Limit = 40
+rule_number rule.NotAnImage = 50
+rule_number rule.OtherImageVersion = 51
+rule_number rule.ImageIsCut = 52
+rule_number rule.BadImageField = 53
+rule_number rule.ImageOutOfRange = 54
+rule_number rule.BytesAfterImage = 55
+rule_number rule.ImageTooLong = 56
 rule_number rule.NoActivation = 60
 rule_number rule.NoVariable = 61
 rule_number rule.DeadVariable = 62
@@ -80,6 +87,13 @@ rule_text rule.OtherTarget = codes "other target"
 rule_text rule.BadHostCall = codes "bad host call"
 rule_text rule.Cycle = codes "cycle"
 rule_text rule.Limit = codes "limit"
+rule_text rule.NotAnImage = codes "not an image"
+rule_text rule.OtherImageVersion = codes "other image version"
+rule_text rule.ImageIsCut = codes "image is cut"
+rule_text rule.BadImageField = codes "bad image field"
+rule_text rule.ImageOutOfRange = codes "image out of range"
+rule_text rule.BytesAfterImage = codes "bytes after image"
+rule_text rule.ImageTooLong = codes "image too long"
 rule_text rule.NoActivation = codes "no activation"
 rule_text rule.NoVariable = codes "no variable"
 rule_text rule.DeadVariable = codes "dead variable"
@@ -125,6 +139,13 @@ phase_of rule.OtherTarget = phase.Static
 phase_of rule.BadHostCall = phase.Static
 phase_of rule.Cycle = phase.Static
 phase_of rule.Limit = phase.Static
+phase_of rule.NotAnImage = phase.Image
+phase_of rule.OtherImageVersion = phase.Image
+phase_of rule.ImageIsCut = phase.Image
+phase_of rule.BadImageField = phase.Image
+phase_of rule.ImageOutOfRange = phase.Image
+phase_of rule.BytesAfterImage = phase.Image
+phase_of rule.ImageTooLong = phase.Image
 phase_of rule.NoActivation = phase.Client
 phase_of rule.NoVariable = phase.Client
 phase_of rule.DeadVariable = phase.Client
@@ -147,8 +168,9 @@ rules =
     ∷ rule.DeclaredTwice ∷ rule.Undeclared ∷ rule.NotAVariable ∷ rule.WidthsDiffer ∷ rule.ConditionOrBitsWanted
     ∷ rule.LiteralDoesNotFit ∷ rule.UnknownOperator ∷ rule.NotAConstant ∷ rule.CountsDiffer ∷ rule.NoSuchLabel
     ∷ rule.NotALocalVariable ∷ rule.ArmsOverlap ∷ rule.BadReturnIndex ∷ rule.TooManyValues ∷ rule.NotExported
-    ∷ rule.ExportedTwice ∷ rule.NoMain ∷ rule.OtherTarget ∷ rule.BadHostCall ∷ rule.Cycle ∷ rule.Limit ∷ rule.NoActivation
-    ∷ rule.NoVariable ∷ rule.DeadVariable ∷ rule.DoesNotFit ∷ rule.NoExit ∷ rule.OtherCount ∷ rule.InvariantVariable
+    ∷ rule.ExportedTwice ∷ rule.NoMain ∷ rule.OtherTarget ∷ rule.BadHostCall ∷ rule.Cycle ∷ rule.Limit ∷ rule.NotAnImage
+    ∷ rule.OtherImageVersion ∷ rule.ImageIsCut ∷ rule.BadImageField ∷ rule.ImageOutOfRange ∷ rule.BytesAfterImage
+    ∷ rule.ImageTooLong ∷ rule.NoActivation ∷ rule.NoVariable ∷ rule.DeadVariable ∷ rule.DoesNotFit ∷ rule.NoExit ∷ rule.OtherCount ∷ rule.InvariantVariable
     ∷ rule.NoCut ∷ rule.NoPlace ∷ rule.NoYieldedValue ∷ rule.UnknownLine ∷ rule.RepeatedBlock ∷ rule.ScriptTooLong
     ∷ rule.FormNotBuilt ∷ []
 

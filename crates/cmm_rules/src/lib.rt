@@ -1,4 +1,4 @@
-//! The rules that a unit, a script or a client's command can break, by the numbers and texts that users see.
+//! The rules that a unit, an image, a script or a client's command can break, by the numbers and texts that users see.
 //!
 //! Every message of the program about its input names one of these. This layer promises that each rule has one number and each number at most
 //! one rule, and `specs/Rules` has both with the text and the phase of each.

@@ -5,7 +5,8 @@ ghost use Rattle.cmm_rules.specs.Rules.{rule_number, rule_text, phase_of, rule_o
 
 use std::fmt;
 
-/// A rule, with the place that a message names where it is broken, as `LINE:COLUMN` of a unit or as a line of a script. A command
+/// A rule, with the place that a message names where it is broken, as `LINE:COLUMN` of a unit, as the offset of a byte
+/// of an image, or as a line of a script. A command
 /// that a client's rule refuses has no place.
 #[derive(Clone, Copy, Debug, PartialEq, Eq)]
 pub enum Rule {
@@ -76,6 +77,20 @@ pub enum Rule {
     /// 40. A limit on a unit, a procedure, a name, or the sums over all units is passed, or an alignment is not 1, 2, 4, 8 or 16: at the
     /// token that passes it, or for a sum over all units at 1:1 of the first unit. The sums are tested last.
     Limit,
+    /// 50. The bytes do not begin with `CMMI`: at 0.
+    NotAnImage,
+    /// 51. The version of an image is not 1: at its field.
+    OtherImageVersion,
+    /// 52. The bytes of an image end inside a field: at the field.
+    ImageIsCut,
+    /// 53. A field of an image is none of the values that it may have, or out of order: at the field.
+    BadImageField,
+    /// 54. An address, an offset or a size in an image lies outside what it is of: at the field.
+    ImageOutOfRange,
+    /// 55. Bytes follow the last record of an image: at the first of them.
+    BytesAfterImage,
+    /// 56. An image has more than 536,870,912 bytes: at the first byte too many.
+    ImageTooLong,
     /// 60. There is no such activation.
     NoActivation,
     /// 61. The procedure has no variable of this number.
@@ -117,6 +132,8 @@ pub enum Phase {
     Static,
     /// What is not built yet: rule 90.
     Form,
+    /// The form of images: rules 50 to 56.
+    Image,
     /// The form of scripts: rules 80 to 82.
     Script,
     /// What a command of a client asks: rules 60 to 69.
@@ -124,7 +141,7 @@ pub enum Phase {
 }
 
 /// Every rule, in the order of the numbers.
-const RULES: [Rule; 42] = [
+const RULES: [Rule; 49] = [
     Rule::BadByte,
     Rule::OpenComment,
     Rule::OpenText,
@@ -153,6 +170,13 @@ const RULES: [Rule; 42] = [
     Rule::BadHostCall,
     Rule::Cycle,
     Rule::Limit,
+    Rule::NotAnImage,
+    Rule::OtherImageVersion,
+    Rule::ImageIsCut,
+    Rule::BadImageField,
+    Rule::ImageOutOfRange,
+    Rule::BytesAfterImage,
+    Rule::ImageTooLong,
     Rule::NoActivation,
     Rule::NoVariable,
     Rule::DeadVariable,
@@ -203,6 +227,13 @@ impl Rule {
             Rule::BadHostCall => 38,
             Rule::Cycle => 39,
             Rule::Limit => 40,
+            Rule::NotAnImage => 50,
+            Rule::OtherImageVersion => 51,
+            Rule::ImageIsCut => 52,
+            Rule::BadImageField => 53,
+            Rule::ImageOutOfRange => 54,
+            Rule::BytesAfterImage => 55,
+            Rule::ImageTooLong => 56,
             Rule::NoActivation => 60,
             Rule::NoVariable => 61,
             Rule::DeadVariable => 62,
@@ -253,6 +284,13 @@ impl Rule {
             Rule::BadHostCall => "bad host call",
             Rule::Cycle => "cycle",
             Rule::Limit => "limit",
+            Rule::NotAnImage => "not an image",
+            Rule::OtherImageVersion => "other image version",
+            Rule::ImageIsCut => "image is cut",
+            Rule::BadImageField => "bad image field",
+            Rule::ImageOutOfRange => "image out of range",
+            Rule::BytesAfterImage => "bytes after image",
+            Rule::ImageTooLong => "image too long",
             Rule::NoActivation => "no activation",
             Rule::NoVariable => "no variable",
             Rule::DeadVariable => "dead variable",
@@ -303,6 +341,13 @@ impl Rule {
             | Rule::Cycle
             | Rule::Limit => Phase::Static,
             Rule::FormNotBuilt => Phase::Form,
+            Rule::NotAnImage
+            | Rule::OtherImageVersion
+            | Rule::ImageIsCut
+            | Rule::BadImageField
+            | Rule::ImageOutOfRange
+            | Rule::BytesAfterImage
+            | Rule::ImageTooLong => Phase::Image,
             Rule::UnknownLine | Rule::RepeatedBlock | Rule::ScriptTooLong => Phase::Script,
             Rule::NoActivation
             | Rule::NoVariable
