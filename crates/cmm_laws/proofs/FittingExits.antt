@@ -12,7 +12,6 @@ use Rattle.cmm_program.specs.Frames.{Suspended, procedure_at, suspended_at, site
 use Rattle.cmm_program.specs.Performing.{Found, cut_among, found_exit}
 use Rattle.cmm_program.specs.State.{Activation, Setting}
 use Rattle.cmm_program.specs.declared.procedure.Proc.{Proc}
-use Rattle.cmm_program.specs.declared.procedure.Site.{Site}
 use Rattle.cmm_program.specs.declared.procedure.Target.TheVariants.{Variable}
 use Rattle.cmm_words.specs.Widths.{IsWord}
 use Rattle.cmm_words.specs.declared.width.Width.{Width}

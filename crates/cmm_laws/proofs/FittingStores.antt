@@ -26,7 +26,7 @@ use Rattle.cmm_program.specs.declared.procedure.Target.{Target}
 use Rattle.cmm_program.specs.declared.procedure.Target.TheVariants.{Register, Variable}
 use Rattle.cmm_words.specs.Widths.{IsWord}
 use Rattle.cmm_words.specs.declared.width.Width.{Width}
-use Rattle.std.proofs.Common.{false, All, IsTrue, List, None, Some, [], arith, map, slice_get, slice_index_or, slice_set, suc, ℕ, ◌-◌, ◌<◌, ◌^◌, ◌∷◌, ◌≡◌, ◌≤◌}
+use Rattle.std.proofs.Common.{false, All, IsTrue, List, None, Some, [], arith, map, slice_get, slice_index_or, slice_set, suc, ℕ, ◌<◌, ◌^◌, ◌∷◌, ◌≡◌, ◌≤◌}
 use Rattle.std.proofs.lemmas.List.Elements.{All-cons, All-head, All-map, All-set, All-tail}
 use Rattle.std.proofs.lemmas.List.Sums.{sum_by-cons}
 use Rattle.std.specs.List.{AllZip}

@@ -10,7 +10,7 @@ use Rattle.cmm_program.specs.Memory.{Room, with_byte_in, with_bytes}
 use Rattle.cmm_program.specs.State.{Activation, Setting, Store}
 use Rattle.cmm_program.specs.Writes.{all_assigned, assigned, put, put_all}
 use Rattle.cmm_program.specs.declared.procedure.Target.{Target}
-use Rattle.std.proofs.Common.{◌+◌, arith, List, None, Option, [], drop, map, refl, suc, zero, ℕ, ◌-◌, ◌∷◌, ◌≡◌, ◌≤◌}
+use Rattle.std.proofs.Common.{◌+◌, arith, List, None, Option, [], drop, map, refl, suc, zero, ℕ, ◌∷◌, ◌≡◌, ◌≤◌}
 use Rattle.std.proofs.lemmas.Bool.Decides.{nat_tests}
 use Rattle.std.proofs.lemmas.List.{drop-map, length-set}
 use Rattle.std.proofs.lemmas.List.Sums.{sum_by-cons, sum_by-take-drop}

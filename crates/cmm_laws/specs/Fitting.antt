@@ -1,6 +1,6 @@
 -- What holds of every state of the C-- machine, for a program in range at a valid placement: what an activation has to do is
 -- in range in its own procedure, each suspended one waits at a site of it, and each value fits the width of what holds it.
-use Rattle.std.specs.Prelude.{◌≡◌, ℕ, ◌-◌, ◌^◌, ◌<◌, ◌≤◌, IsTrue, IsSome, IfSome, ⊤, All, List, [], ◌∷◌, length, Option, Some, None, Ok}
+use Rattle.std.specs.Prelude.{◌≡◌, ℕ, ◌^◌, ◌<◌, ◌≤◌, IsTrue, IsSome, IfSome, ⊤, All, List, [], ◌∷◌, length, Option, Some, None, Ok}
 use Rattle.std.specs.List.{AllZip}
 use Rattle.cmm_words.specs.declared.width.Width.{Width}
 use Rattle.cmm_words.specs.declared.width.Width.TheVariants.{W64}
