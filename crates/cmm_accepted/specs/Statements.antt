@@ -1,5 +1,5 @@
 -- Which rules a procedure and each of its statements break (C-- Language Specification 2.0, procedures and statements).
-use Rattle.std.specs.Prelude.{ℕ, ◌==◌, ◌+◌, ◌&&◌, nat_le, Bool, true, false, List, [], ◌∷◌, ◌++◌, flat_map, length, option_map, Option, Some, None, Ok}
+use Rattle.std.specs.Prelude.{ℕ, ◌==◌, ◌&&◌, nat_le, Bool, true, false, List, [], ◌∷◌, ◌++◌, flat_map, length, option_map, Option, Some, None, Ok}
 use Rattle.cmm_words.specs.declared.width.Width.{Width}
 use Rattle.cmm_words.specs.Widths.{bits}
 use Rattle.cmm_ast.specs.declared.token.Ident.{Ident}

@@ -1,5 +1,5 @@
 -- Memory: the bytes of data, and those of the stackdata of each present activation.
-use Rattle.std.specs.Prelude.{ℕ, suc, ◌+◌, ◌-◌, ◌*◌, ◌&&◌, Bool, true, false, nat_lt, nat_le, List, [], ◌∷◌, length, map, slice_index_or, slice_set, Option, Some, None}
+use Rattle.std.specs.Prelude.{ℕ, ◌+◌, ◌-◌, ◌*◌, ◌&&◌, Bool, true, false, nat_lt, nat_le, List, [], ◌∷◌, length, map, slice_index_or, slice_set, Option, Some, None}
 
 -- what stands at an address
 pub data Cell : Type 0 where

@@ -1,4 +1,4 @@
-use Rattle.std.proofs.Common.{◌≡◌, refl}
+use Rattle.std.proofs.Common.{refl}
 use Rattle.cmm_ast.specs.declared.expression.Memory.{out-Memory}
 use Rattle.cmm_typing.proofs.Forms.{infix_law, prefix_law, named_law, bracketed_law, memory_law}
 use Rattle.cmm_typing.proofs.engine.+expression.Goals as goal

@@ -1,4 +1,3 @@
-use Rattle.std.proofs.Common.{◌≡◌}
 use Rattle.cmm_typing.proofs.Answering.{answers_constant}
 use Rattle.cmm_typing.proofs.scope.constant.Goals as goal
 

@@ -1,4 +1,3 @@
-use Rattle.std.proofs.Common.{◌≡◌}
 use Rattle.cmm_typing.proofs.Answering.{answers_type}
 use Rattle.cmm_typing.proofs.scope.type_of.Goals as goal
 
