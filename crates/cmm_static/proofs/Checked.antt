@@ -1,0 +1,58 @@
+-- The first fault of a unit from its parts, and the fault that is named of units.
+use Rattle.std.proofs.Common.{◌≡◌, ℕ, Bool, true, false, map, ap, sym, ◌∙◌, List, [], ◌++◌, Option, Some, None}
+use Rattle.std.specs.Prelude.{flat_map}
+use Rattle.cmm_rules.specs.declared.rule.Rule.TheVariants.{NoMain}
+use Rattle.cmm_ast.specs.declared.unit.Unit.{Unit as UnitTree}
+use Rattle.cmm_accepted.specs.declared.spot.Spot.{Spot}
+use Rattle.cmm_accepted.specs.declared.fault.Fault.{Fault}
+use Rattle.cmm_accepted.specs.Spots.{first_of, first_by}
+use Rattle.cmm_accepted.specs.Declarations.{named_units, again, host_again}
+use Rattle.cmm_accepted.specs.Linking.{export_spots, twice, import_spots}
+use Rattle.cmm_accepted.specs.Units.{target_decl_spots}
+use Rattle.cmm_accepted.specs.LongNames.{long_spots, of_item}
+use Rattle.cmm_accepted.specs.Faults.{Placed, stands_before, broken_names, fault_at, at_beginning}
+use Rattle.cmm_static.specs.NameFaults.{first_fault_of_names, fault_of_main}
+use Rattle.cmm_static.specs.inside.Flat.{Flat, flat_unit, flat_links, flat_spots, flats_broken, some_starts}
+use Rattle.cmm_static.specs.inside.Noted.{long_of}
+use Rattle.cmm_static.proofs.Firsts.{first_of_append}
+use Rattle.cmm_static.proofs.Lengths.{long_is}
+use Rattle.cmm_static.proofs.Unnumbered.{broken_flat, has_main_flat}
+
+after : (b c : Option Spot) (xs ys : List Spot) → b ≡ first_of None xs → c ≡ first_of b ys → c ≡ first_of None (xs ++ ys)
+after b c xs ys is then_ = then_ ∙ ap (λ q. first_of q ys) is ∙ sym (first_of_append None xs ys)
+
+-- what is noted of a unit, group by group
+pub noted_all : (all before : List (List ℕ)) (f : Flat) (b1 b2 b3 b4 b5 b6 b7 : Option Spot) →
+    b1 ≡ first_of None (again [] f.entries) → b2 ≡ first_of b1 (flat_map host_again f.entries) → b3 ≡ first_of b2 (flat_map (export_spots f.entries) f.exports) →
+    b4 ≡ first_of b3 (twice before f.exports) → b5 ≡ first_of b4 (flat_map (import_spots all) f.entries) → b6 ≡ first_of b5 (flat_map target_decl_spots f.items) →
+    b7 ≡ long_of b6 (flat_map of_item f.items) → b7 ≡ first_of None (flat_spots all before f)
+noted_all all before f b1 b2 b3 b4 b5 b6 b7 e1 e2 e3 e4 e5 e6 e7 =
+    let s1 = again [] f.entries in
+    let s2 = flat_map host_again f.entries in
+    let s3 = flat_map (export_spots f.entries) f.exports in
+    let s4 = twice before f.exports in
+    let s5 = flat_map (import_spots all) f.entries in
+    let s6 = flat_map target_decl_spots f.items in
+    let s7 = flat_map long_spots (flat_map of_item f.items) in
+    after b6 b7 (s1 ++ s2 ++ s3 ++ s4 ++ s5 ++ s6) s7
+    (after b5 b6 (s1 ++ s2 ++ s3 ++ s4 ++ s5) s6
+    (after b4 b5 (s1 ++ s2 ++ s3 ++ s4) s5
+    (after b3 b4 (s1 ++ s2 ++ s3) s4 (after b2 b3 (s1 ++ s2) s3 (after b1 b2 s1 s2 e1 e2) e3) e4)
+    e5)
+    e6)
+    (e7 ∙ long_is b6 (flat_map of_item f.items))
+
+-- what is first among units laid flat is so among the units
+pub first_found : (us : List UnitTree) (fs : List Flat) (first : Option Placed) → fs ≡ map flat_unit us →
+    first ≡ first_by stands_before None (flats_broken (flat_map flat_links fs) [] 0 fs) → first_by stands_before None (broken_names (named_units us)) ≡ first
+first_found us fs first are is =
+    ap (first_by stands_before None) (broken_flat us) ∙ sym (is ∙ ap (λ q. first_by stands_before None (flats_broken (flat_map flat_links q) [] 0 q)) are)
+
+pub named_fault : (us : List UnitTree) (p : Placed) → first_by stands_before None (broken_names (named_units us)) ≡ Some p → first_fault_of_names us ≡ Some (fault_at us p)
+named_fault us p is = ap (λ o. elim o as (λ _. Option Fault) [ Some q ↦ Some (fault_at us q) | None ↦ fault_of_main (named_units us) ]) is
+
+pub named_main : (us : List UnitTree) (fs : List Flat) (b : Bool) → first_by stands_before None (broken_names (named_units us)) ≡ None → fs ≡ map flat_unit us → some_starts fs ≡ b →
+    first_fault_of_names us ≡ elim b as (λ _. Option Fault) [ true ↦ None | false ↦ at_beginning NoMain ]
+named_main us fs b is are starts =
+    ap (λ o. elim o as (λ _. Option Fault) [ Some q ↦ Some (fault_at us q) | None ↦ fault_of_main (named_units us) ]) is
+    ∙ ap (λ m. elim m as (λ _. Option Fault) [ true ↦ None | false ↦ at_beginning NoMain ]) (has_main_flat us ∙ ap some_starts (sym are) ∙ starts)

@@ -1,0 +1,95 @@
+-- The first fault of units, a unit after the other: what the first broken one breaks comes before all that later ones do.
+use Rattle.std.proofs.Common.{◌≡◌, ℕ, suc, ◌+◌, ◌<◌, ◌==◌, length, take, drop, get_or, Bool, true, false, ◌||◌, ◌&&◌, map, refl, ap, sym, ◌∙◌, List, [], ◌∷◌, ◌++◌, Option, Some, None, option_map, arith}
+use Rattle.std.specs.Prelude.{nat_lt, flat_map}
+use Rattle.std.proofs.lemmas.Bool.Decides.{nat_tests}
+use Rattle.cmm_accepted.specs.declared.spot.Spot.{Spot}
+use Rattle.cmm_accepted.specs.Spots.{first_by, sooner_by, comes_before, first_of}
+use Rattle.cmm_accepted.specs.Faults.{stands_before}
+use Rattle.cmm_static.specs.inside.Flat.{Flat, flat_links, flat_spots, placed, flats_broken}
+use Rattle.cmm_static.proofs.Firsts.{first_by_append, rest_next, flat_next}
+
+not_less : (n : ℕ) → nat_lt n n ≡ false
+not_less n = grind (arith, nat_tests)
+
+same_number : (n : ℕ) → (n == n) ≡ true
+same_number n = grind (arith, nat_tests)
+
+not_before : (m n : ℕ) → n < m → nat_lt m n ≡ false
+not_before m n less = grind (arith, nat_tests)
+
+another : (m n : ℕ) → n < m → (m == n) ≡ false
+another m n less = grind (arith, nat_tests)
+
+in_one : (n : ℕ) (b : Bool) → (nat_lt n n || ((n == n) && b)) ≡ b
+in_one n b = rw (not_less n, same_number n) refl
+
+in_later : (m n : ℕ) (b : Bool) → n < m → (nat_lt m n || ((m == n) && b)) ≡ false
+in_later m n b less = rw (not_before m n less, another m n less) refl
+
+abbrev chosen : {A : Type 0} → Bool → A → A → Option A
+chosen b a c = elim b [ true ↦ Some a | false ↦ Some c ]
+
+placed_chosen : (n : ℕ) (b : Bool) (s t : Spot) → chosen b (placed n s) (placed n t) ≡ option_map (placed n) (chosen b s t)
+placed_chosen n true s t = refl
+placed_chosen n false s t = refl
+
+-- spots of one unit are ordered as in it
+first_placed : (n : ℕ) (best : Option Spot) (ss : List Spot) → first_by stands_before (option_map (placed n) best) (map (placed n) ss) ≡ option_map (placed n) (first_of best ss)
+first_placed n best [] = refl
+first_placed n None (s ∷ ss) = first_placed n (Some s) ss
+first_placed n (Some t) (s ∷ ss) =
+    ap (λ q. first_by stands_before q (map (placed n) ss)) (ap (λ b. chosen b (placed n s) (placed n t)) (in_one n (comes_before s t)) ∙ placed_chosen n (comes_before s t) s t)
+    ∙ first_placed n (sooner_by comes_before (Some t) (Some s)) ss
+
+-- no spot of a later unit comes first
+stays : (m n : ℕ) (s : Spot) (ss : List Spot) → n < m → first_by stands_before (Some (placed n s)) (map (placed m) ss) ≡ Some (placed n s)
+stays m n s [] less = refl
+stays m n s (t ∷ ss) less =
+    ap (λ b. first_by stands_before (chosen b (placed m t) (placed n s)) (map (placed m) ss)) (in_later m n (comes_before t s) less) ∙ stays m n s ss less
+
+later_stays : (all earlier : List (List ℕ)) (m n : ℕ) (s : Spot) (fs : List Flat) → n < m → first_by stands_before (Some (placed n s)) (flats_broken all earlier m fs) ≡ Some (placed n s)
+later_stays all earlier m n s [] less = refl
+later_stays all earlier m n s (f ∷ fs) less =
+    first_by_append stands_before (Some (placed n s)) (map (placed m) (flat_spots all earlier f)) (flats_broken all (earlier ++ flat_links f) (suc m) fs)
+    ∙ ap (λ q. first_by stands_before q (flats_broken all (earlier ++ flat_links f) (suc m) fs)) (stays m n s (flat_spots all earlier f) less)
+    ∙ later_stays all (earlier ++ flat_links f) (suc m) n s fs (omega arith)
+
+-- whatever the first unit breaks
+by_unit : (all earlier : List (List ℕ)) (n : ℕ) (f : Flat) (fs : List Flat) → first_by stands_before None (flats_broken all earlier n (f ∷ fs))
+    ≡ first_by stands_before (option_map (placed n) (first_of None (flat_spots all earlier f))) (flats_broken all (earlier ++ flat_links f) (suc n) fs)
+by_unit all earlier n f fs =
+    first_by_append stands_before None (map (placed n) (flat_spots all earlier f)) (flats_broken all (earlier ++ flat_links f) (suc n) fs)
+    ∙ ap (λ q. first_by stands_before q (flats_broken all (earlier ++ flat_links f) (suc n) fs)) (first_placed n None (flat_spots all earlier f))
+
+pub first_here : (all earlier : List (List ℕ)) (n : ℕ) (f : Flat) (fs : List Flat) (s : Spot) → first_of None (flat_spots all earlier f) ≡ Some s →
+    first_by stands_before None (flats_broken all earlier n (f ∷ fs)) ≡ Some (placed n s)
+first_here all earlier n f fs s is =
+    by_unit all earlier n f fs ∙ ap (λ q. first_by stands_before (option_map (placed n) q) (flats_broken all (earlier ++ flat_links f) (suc n) fs)) is
+    ∙ later_stays all (earlier ++ flat_links f) (suc n) n s fs (omega arith)
+
+pub first_later : (all earlier : List (List ℕ)) (n : ℕ) (f : Flat) (fs : List Flat) → first_of None (flat_spots all earlier f) ≡ None →
+    first_by stands_before None (flats_broken all earlier n (f ∷ fs)) ≡ first_by stands_before None (flats_broken all (earlier ++ flat_links f) (suc n) fs)
+first_later all earlier n f fs is =
+    by_unit all earlier n f fs ∙ ap (λ q. first_by stands_before (option_map (placed n) q) (flats_broken all (earlier ++ flat_links f) (suc n) fs)) is
+
+-- a turn of a loop over units, of which this one breaks nothing
+pub later_step : {A : Type 0} (h : A → Flat) (all : List (List ℕ)) (xs : List A) (i : ℕ) (x : A) → i < length xs → x ≡ get_or xs i x →
+    first_of None (flat_spots all (flat_map flat_links (map h (take i xs))) (h x)) ≡ None →
+    first_by stands_before None (flats_broken all (flat_map flat_links (map h (take i xs))) i (map h (drop i xs)))
+    ≡ first_by stands_before None (flats_broken all (flat_map flat_links (map h (take (i + 1) xs))) (i + 1) (map h (drop (i + 1) xs)))
+later_step h all xs i x within is none =
+    let e : suc i ≡ i + 1 = omega arith in
+    let before = flat_map flat_links (map h (take i xs)) in
+    let rest = map h (drop (i + 1) xs) in
+    ap (λ q. first_by stands_before None (flats_broken all before i q)) (rest_next h xs i x within is)
+    ∙ first_later all before i (h x) rest none
+    ∙ ap (λ q. first_by stands_before None (flats_broken all q (suc i) rest)) (sym (flat_next h flat_links xs i x within is))
+    ∙ ap (λ k. first_by stands_before None (flats_broken all (flat_map flat_links (map h (take (i + 1) xs))) k rest)) e
+
+-- and of which this one is the first that breaks something
+pub here_step : {A : Type 0} (h : A → Flat) (all : List (List ℕ)) (xs : List A) (i : ℕ) (x : A) (s : Spot) → i < length xs → x ≡ get_or xs i x →
+    first_of None (flat_spots all (flat_map flat_links (map h (take i xs))) (h x)) ≡ Some s →
+    first_by stands_before None (flats_broken all (flat_map flat_links (map h (take i xs))) i (map h (drop i xs))) ≡ Some (placed i s)
+here_step h all xs i x s within is some =
+    ap (λ q. first_by stands_before None (flats_broken all (flat_map flat_links (map h (take i xs))) i q)) (rest_next h xs i x within is)
+    ∙ first_here all (flat_map flat_links (map h (take i xs))) i (h x) (map h (drop (i + 1) xs)) s some

@@ -1,0 +1,5 @@
+pub mod Shown
+pub mod Flat
+pub mod Indexed
+pub mod Noted
+pub mod Units

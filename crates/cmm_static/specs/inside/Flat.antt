@@ -1,0 +1,52 @@
+-- A unit as the rules on names see it: what it declares, what it exports, and what stands in it. Procedures and data labels have no numbers.
+use Rattle.std.specs.Prelude.{ℕ, suc, Bool, false, ◌||◌, ◌&&◌, bytes_eq, codes, List, [], ◌∷◌, ◌++◌, map, flat_map}
+use Rattle.cmm_ast.specs.declared.declaration.Export.{Export}
+use Rattle.cmm_ast.specs.declared.unit.Item.{Item}
+use Rattle.cmm_ast.specs.declared.unit.Unit.{Unit as UnitTree}
+use Rattle.cmm_accepted.specs.declared.spot.Spot.{Spot}
+use Rattle.cmm_accepted.specs.Items.{items_of}
+use Rattle.cmm_accepted.specs.Declarations.{Declared, Entry, entry_of, item_entries, again, host_again}
+use Rattle.cmm_accepted.specs.Linking.{item_exports, export_link, export_spots, twice, import_spots, is_start, starts}
+use Rattle.cmm_accepted.specs.Units.{target_decl_spots}
+use Rattle.cmm_accepted.specs.LongNames.{long_spots, of_item}
+use Rattle.cmm_accepted.specs.Faults.{Placed}
+use Rattle.cmm_static.specs.inside.Shown.{whats}
+
+pub record Flat : Type 0 where
+  pub entries : List (Declared Entry)
+  pub exports : List Export
+  pub items : List Item
+
+abbrev pub flat_items : List Item → Flat
+flat_items is = record { entries = flat_map (item_entries 0 0) is; exports = flat_map item_exports is; items = is }
+
+abbrev pub flat_unit : UnitTree → Flat
+flat_unit u = flat_items (whats (items_of u))
+
+abbrev pub flat_links : Flat → List (List ℕ)
+flat_links f = map export_link f.exports
+
+-- the rules on names, from the link names of all units and of earlier ones
+abbrev pub flat_spots : List (List ℕ) → List (List ℕ) → Flat → List Spot
+flat_spots all earlier f =
+    again [] f.entries ++ flat_map host_again f.entries ++ flat_map (export_spots f.entries) f.exports ++ twice earlier f.exports
+    ++ flat_map (import_spots all) f.entries ++ flat_map target_decl_spots f.items ++ flat_map long_spots (flat_map of_item f.items)
+
+abbrev pub placed : ℕ → Spot → Placed
+placed number s = record { unit = number; spot = s }
+
+abbrev pub flats_broken : List (List ℕ) → List (List ℕ) → ℕ → List Flat → List Placed
+flats_broken all earlier number [] = []
+flats_broken all earlier number (f ∷ fs) = map (placed number) (flat_spots all earlier f) ++ flats_broken all (earlier ++ flat_links f) (suc number) fs
+
+abbrev pub flat_starts : Flat → Bool
+flat_starts f = starts f.entries f.exports
+
+-- 36: some unit exports a procedure without formals as `main`
+abbrev pub some_starts : List Flat → Bool
+some_starts [] = false
+some_starts (f ∷ fs) = flat_starts f || some_starts fs
+
+-- something is exported as `main` and is a procedure without formals
+abbrev pub is_main : List (Declared Entry) → Export → Bool
+is_main ds e = bytes_eq (export_link e) (codes "main") && is_start (entry_of e.name.name ds)

@@ -1,0 +1,13 @@
+-- The names of units, laid flat, as the rules see them.
+use Rattle.std.specs.Prelude.{map}
+use Rattle.cmm_accepted.specs.Faults.{Placed}
+use Rattle.cmm_static.specs.inside.Flat.{Flat}
+use Rattle.cmm_static.specs.inside.Shown.{thing_item, shown}
+use Rattle.cmm_static.specs.declared.unit_names.UnitNames.{UnitNames}
+use Rattle.cmm_static.specs.declared.checking.Broken.{Broken}
+
+abbrev pub unit_flat : UnitNames → Flat
+unit_flat u = record { entries = map shown u.table.declared; exports = map (λ e. e.now) u.exports; items = map thing_item u.things }
+
+abbrev pub broken_placed : Broken → Placed
+broken_placed b = record { unit = b.unit; spot = b.spot }

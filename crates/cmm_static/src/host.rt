@@ -1,0 +1,83 @@
+//! Names of the host.
+
+ghost use Rattle.std.specs.Prelude.{◌≡◌, ◌||◌, not, flat_map, map};
+ghost use Rattle.cmm_accepted.specs.Senses.{is_host};
+ghost use Rattle.cmm_accepted.specs.Declarations.{host_again, is_own_import, link_name};
+ghost use Rattle.cmm_accepted.specs.Linking.{export_link};
+ghost use Rattle.cmm_accepted.specs.Spots.{first_of};
+ghost use Rattle.cmm_static.specs.inside.Shown.{shown};
+
+use crate::entry::Entry;
+use crate::noting::unless;
+use crate::table::Named;
+use cmm_accepted::Spot;
+use cmm_ast::{Export, Ident, Import, Text};
+use cmm_rules::Rule;
+
+/// Whether these are the bytes of a name of the host.
+pub(crate) fn is_host(name: &[u8]) -> bool
+    ensures { result ≡ is_host name.now }
+{
+    name == b"yield".as_slice()
+        || name == b"cmm_putbyte".as_slice()
+        || name == b"cmm_getbyte".as_slice()
+}
+
+/// A text in place of a name, where there is one.
+fn link_name<'a>(text: &'a Option<Text>, name: &'a Ident) -> &'a [u8]
+    ensures { result.now ≡ link_name text.now name.now }
+{
+    match text {
+        Some(text) => text.bytes.as_slice(),
+        None => name.name.as_bytes(),
+    }
+}
+
+/// The name under which a unit exports what is imported.
+pub(crate) fn import_link(import: &Import) -> &[u8]
+    ensures { result.now ≡ link_name import.now.link import.now.name }
+{
+    link_name(&import.link, &import.name)
+}
+
+/// The name under which something is exported.
+pub(crate) fn export_link(export: &Export) -> &[u8]
+    ensures { result.now ≡ export_link export.now }
+{
+    link_name(&export.link, &export.name)
+}
+
+/// Whether a name is an import of itself.
+fn is_own_import<'a>(named: &Named<'a, Entry<'a>>) -> bool
+    ensures { result ≡ is_own_import (shown named.now) }
+{
+    match named.what {
+        Entry::Import(import) => import_link(import) == named.name.name.as_bytes(),
+        Entry::Typedef(_) => false,
+        Entry::Const(_, _) => false,
+        Entry::Register(_) => false,
+        Entry::DataLabel => false,
+        Entry::Procedure(_) => false,
+    }
+}
+
+/// Whether a name may be declared so: it is none of the host's, or an import of itself.
+fn is_declarable<'a>(named: &Named<'a, Entry<'a>>) -> bool
+    ensures { result ≡ (not (is_host named.now.name.now.name) || is_own_import (shown named.now)) }
+{
+    !is_host(named.name.name.as_bytes()) || is_own_import(named)
+}
+
+/// Notes names of the host that are declared, and not as imports of themselves: rule 20.
+pub(crate) fn note_hosts<'a>(declared: &[Named<'a, Entry<'a>>], best: &mut Option<Spot>)
+    ensures { best.new ≡ first_of best.old (flat_map host_again (map shown declared.now)) }
+{
+    for named in declared {
+        unless(
+            best,
+            is_declarable(named),
+            Rule::DeclaredTwice,
+            named.name.token,
+        );
+    }
+}

@@ -1,0 +1,180 @@
+//! What a unit exports and imports.
+
+ghost use Rattle.std.specs.Prelude.{◌≡◌, ◌++◌, List, ℕ, flat_map, map, option_map, IfOk, OnOk};
+ghost use Rattle.cmm_accepted.specs.Spots.{first_of};
+ghost use Rattle.cmm_accepted.specs.Senses.{is_there};
+ghost use Rattle.cmm_accepted.specs.Declarations.{entry_of};
+ghost use Rattle.cmm_accepted.specs.Linking.{address_of, export_spots, export_link, twice, import_spots, is_start, starts};
+ghost use Rattle.cmm_static.specs.inside.Indexed.{AreLinks};
+ghost use Rattle.cmm_static.specs.inside.Flat.{is_main};
+ghost use Rattle.cmm_static.specs.inside.Shown.{shown, entry_shown};
+
+use crate::entry::Entry;
+use crate::host::{export_link, import_link, is_host};
+use crate::index::Index;
+use crate::noting::unless;
+use crate::table::{Named, Table};
+use cmm_accepted::Spot;
+use cmm_ast::Export;
+use cmm_rules::Rule;
+use cmm_words::Name;
+use std::alloc::{AllocError, Global};
+
+/// What a name of a unit is, where it is none of the host's.
+fn entry_of<'a>(table: &Table<'a, Entry<'a>>, name: &Name) -> Option<Entry<'a>>
+    ensures { option_map entry_shown result ≡ entry_of name.now (map shown table.now.declared) }
+{
+    if is_host(name.as_bytes()) {
+        None
+    } else {
+        table.find(name)
+    }
+}
+
+/// Whether it can be exported.
+fn has_address<'a>(entry: &Option<Entry<'a>>) -> bool
+    ensures { result ≡ is_there (address_of (option_map entry_shown entry.now)) }
+{
+    match entry {
+        None => false,
+        Some(entry) => match entry {
+            Entry::DataLabel => true,
+            Entry::Procedure(_) => true,
+            Entry::Typedef(_) => false,
+            Entry::Const(_, _) => false,
+            Entry::Register(_) => false,
+            Entry::Import(_) => false,
+        },
+    }
+}
+
+/// Notes what is exported and is no procedure or data label of the unit: rule 21.
+pub(crate) fn note_exports<'a>(
+    table: &Table<'a, Entry<'a>>,
+    exports: &[&'a Export],
+    best: &mut Option<Spot>,
+)
+    ensures { best.new ≡ first_of best.old (flat_map (export_spots (map shown table.now.declared)) (map (λ e. e.now) exports.now)) }
+{
+    for export in exports {
+        let entry = entry_of(table, &export.name.name);
+        unless(
+            best,
+            has_address(&entry),
+            Rule::Undeclared,
+            export.name.token,
+        );
+    }
+}
+
+/// Notes names that are exported a second time, in this unit or after earlier ones, whose link names are added to: rule 35.
+pub(crate) fn note_twice<'a>(
+    alloc: Global,
+    exports: &[&'a Export],
+    earlier: &mut Index<()>,
+    best: &mut Option<Spot>,
+) -> Result<(), AllocError>
+    ensures links { OnOk result ((before : List (List ℕ)) → AreLinks earlier.old before → AreLinks earlier.new (before ++ map export_link (map (λ e. e.now) exports.now))) }
+    ensures best { OnOk result ((before : List (List ℕ)) → AreLinks earlier.old before → best.new ≡ first_of best.old (twice before (map (λ e. e.now) exports.now))) }
+{
+    for export in exports {
+        let link = Name::from_slice(alloc, export_link(export))?;
+        let new = earlier.add(link, ())?;
+        unless(best, new, Rule::ExportedTwice, export.name.token);
+    }
+    Ok(())
+}
+
+/// Adds the names under which a unit exports something.
+pub(crate) fn add_links<'a>(
+    alloc: Global,
+    exports: &[&'a Export],
+    links: &mut Index<()>,
+) -> Result<(), AllocError>
+    ensures { OnOk result ((before : List (List ℕ)) → AreLinks links.old before → AreLinks links.new (before ++ map export_link (map (λ e. e.now) exports.now))) }
+{
+    for export in exports {
+        let link = Name::from_slice(alloc, export_link(export))?;
+        links.add(link, ())?;
+    }
+    Ok(())
+}
+
+/// Notes an import of what no unit exports and is no procedure of the host: rule 34.
+fn note_import<'a>(
+    alloc: Global,
+    links: &Index<()>,
+    named: &Named<'a, Entry<'a>>,
+    best: &mut Option<Spot>,
+) -> Result<(), AllocError>
+    ensures { OnOk result ((all : List (List ℕ)) → AreLinks links.now all → best.new ≡ first_of best.old (import_spots all (shown named.now))) }
+{
+    match named.what {
+        Entry::Import(import) => {
+            let host = is_host(import_link(import));
+            let link = Name::from_slice(alloc, import_link(import))?;
+            let exported = links.get(&link).is_some();
+            unless(best, host || exported, Rule::NotExported, named.name.token);
+            Ok(())
+        }
+        Entry::Typedef(_) => Ok(()),
+        Entry::Const(_, _) => Ok(()),
+        Entry::Register(_) => Ok(()),
+        Entry::DataLabel => Ok(()),
+        Entry::Procedure(_) => Ok(()),
+    }
+}
+
+/// Notes imports of what no unit exports, by the link names of all: rule 34.
+pub(crate) fn note_imports<'a>(
+    alloc: Global,
+    links: &Index<()>,
+    declared: &[Named<'a, Entry<'a>>],
+    best: &mut Option<Spot>,
+) -> Result<(), AllocError>
+    ensures { OnOk result ((all : List (List ℕ)) → AreLinks links.now all → best.new ≡ first_of best.old (flat_map (import_spots all) (map shown declared.now))) }
+{
+    for named in declared {
+        note_import(alloc, links, named, best)?;
+    }
+    Ok(())
+}
+
+/// Whether it is a procedure without formals.
+fn is_start<'a>(entry: &Option<Entry<'a>>) -> bool
+    ensures { result ≡ is_start (option_map entry_shown entry.now) }
+{
+    match entry {
+        None => false,
+        Some(entry) => match entry {
+            Entry::Procedure(proc) => match proc.formals.as_slice() {
+                [] => true,
+                [_, ..] => false,
+            },
+            Entry::DataLabel => false,
+            Entry::Typedef(_) => false,
+            Entry::Const(_, _) => false,
+            Entry::Register(_) => false,
+            Entry::Import(_) => false,
+        },
+    }
+}
+
+/// Whether something is exported as `main` and is a procedure without formals.
+fn is_main<'a>(table: &Table<'a, Entry<'a>>, export: &Export) -> bool
+    ensures { result ≡ is_main (map shown table.now.declared) export.now }
+{
+    export_link(export) == b"main".as_slice() && is_start(&entry_of(table, &export.name.name))
+}
+
+/// Whether a unit exports a procedure without formals as `main`.
+pub(crate) fn starts<'a>(table: &Table<'a, Entry<'a>>, exports: &[&'a Export]) -> bool
+    ensures { result ≡ starts (map shown table.now.declared) (map (λ e. e.now) exports.now) }
+{
+    for export in exports {
+        if is_main(table, export) {
+            return true;
+        }
+    }
+    false
+}

@@ -1,0 +1,59 @@
+//! The names of one unit, and the rules on them.
+
+ghost use Rattle.std.specs.Prelude.{◌≡◌, ◌++◌, None, List, ℕ, IfOk, OnOk};
+ghost use Rattle.cmm_accepted.specs.Spots.{first_of};
+ghost use Rattle.cmm_static.specs.inside.Indexed.{AreLinks};
+ghost use Rattle.cmm_static.specs.inside.Flat.{flat_unit, flat_links, flat_spots};
+ghost use Rattle.cmm_static.specs.inside.Units.{unit_flat};
+
+use crate::declaring::{declared_in, exports_in};
+use crate::host::note_hosts;
+use crate::index::Index;
+use crate::linking::{note_exports, note_imports, note_twice};
+use crate::long_item::note_things;
+use crate::table::Table;
+use crate::target::note_targets;
+use crate::thing::things_of;
+use crate::unit_names::UnitNames;
+use cmm_accepted::Spot;
+use cmm_ast::Unit;
+use std::alloc::{AllocError, Global};
+
+/// A unit laid flat.
+pub(crate) fn names_of<'a>(alloc: Global, unit: &'a Unit) -> Result<UnitNames<'a>, AllocError>
+    ensures { IfOk result (λ names. unit_flat names ≡ flat_unit unit.now) }
+{
+    let things = things_of(alloc, unit)?;
+    let declared = declared_in(alloc, things.as_slice())?;
+    let exports = exports_in(alloc, things.as_slice())?;
+    let mut repeated = None;
+    let table = Table::of(alloc, declared, &mut repeated)?;
+    Ok(UnitNames {
+        things,
+        exports,
+        table,
+        repeated,
+    })
+}
+
+/// The first fault of a unit by the rules on names. Its link names are added to those of earlier units.
+pub(crate) fn first_broken<'a>(
+    alloc: Global,
+    unit: &UnitNames<'a>,
+    links: &Index<()>,
+    earlier: &mut Index<()>,
+) -> Result<Option<Spot>, AllocError>
+    ensures links { OnOk result ((before : List (List ℕ)) → AreLinks earlier.old before → AreLinks earlier.new (before ++ flat_links (unit_flat unit.now))) }
+    ensures best { IfOk result (λ best. (all before : List (List ℕ)) → AreLinks links.now all → AreLinks earlier.old before → best ≡ first_of None (flat_spots all before (unit_flat unit.now))) }
+{
+    let mut best = unit.repeated;
+    let declared = unit.table.declared.as_slice();
+    let exports = unit.exports.as_slice();
+    note_hosts(declared, &mut best);
+    note_exports(&unit.table, exports, &mut best);
+    note_twice(alloc, exports, earlier, &mut best)?;
+    note_imports(alloc, links, declared, &mut best)?;
+    note_targets(unit.things.as_slice(), &mut best);
+    note_things(alloc, unit.things.as_slice(), &mut best)?;
+    Ok(best)
+}
