@@ -3,3 +3,5 @@ mod NameRows
 mod ExpressionRows
 mod StatementRows
 mod LimitRows
+pub mod Alike
+pub mod Composing

@@ -18,3 +18,4 @@ pub mod Units
 pub mod LongNames
 pub mod Limits
 pub mod Faults
+pub mod Laws

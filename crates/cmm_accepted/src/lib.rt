@@ -10,11 +10,13 @@
 //! - `operator`: what an operator does.
 //! - `known`: what is known of a value before the program runs.
 //! - `judged`: what an expression is judged to be.
+//! - `laws`: how first faults compose, and that judgements do not depend on what stands for values.
 #![tactic(auto)]
 
 mod fault;
 mod judged;
 mod known;
+mod laws;
 mod operator;
 mod sense;
 mod spot;
@@ -22,6 +24,7 @@ mod spot;
 pub use fault::Fault;
 pub use judged::{Bits, Operand, Operands, Typed};
 pub use known::Known;
+pub use laws::{first_faults_compose, values_do_not_matter};
 pub use operator::Operator;
 pub use sense::{Host, Sense};
 pub use spot::Spot;
