@@ -1,0 +1,7 @@
+pub mod Locals
+pub mod Sites
+pub mod Exact
+pub mod Conflicts
+pub mod Peeling
+pub mod Laws
+pub mod inside

@@ -1,0 +1,6 @@
+pub mod Marking
+pub mod Unions
+pub mod Edges
+pub mod Worklists
+pub mod Closing
+pub mod Gathering
