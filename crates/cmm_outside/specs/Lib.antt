@@ -7,3 +7,4 @@ pub mod MemorySource
 pub mod Output
 pub mod Standard
 pub mod Storage
+pub mod inside

@@ -1,5 +1,5 @@
 -- Files in memory.
-use Rattle.std.specs.Prelude.{◌≡◌, ◌≢◌, ℕ, ◌-◌, List, length, Bool, true, false, nat_lt, Option, Some, None, is_some, find, position, option_and_then}
+use Rattle.std.specs.Prelude.{◌≡◌, ◌≢◌, ℕ, ◌-◌, List, length, Bool, true, false, nat_lt, Option, Some, None, is_some, find, option_and_then}
 use Rattle.std.specs.Option.{option_map, option_map_or}
 use Rattle.std.specs.Str.{bytes_eq}
 use Rattle.cmm_outside.specs.declared.storage.CallKind.{CallKind}
@@ -26,10 +26,6 @@ pub record FilesState : Type 0 where
 -- the place of a name
 abbrev pub place_of : List Place → List ℕ → Option Place
 place_of places name = find (λ place. bytes_eq place.name name) places
-
--- the index of that place
-abbrev pub index_of : List Place → List ℕ → Option ℕ
-index_of places name = position (λ place. bytes_eq place.name name) places
 
 -- the bytes of the file of a name
 abbrev pub file_of : FilesState → List ℕ → Option (List ℕ)

@@ -35,7 +35,8 @@ impl Model for MemFiles {
 
 impl MemFiles {
     ghost use Rattle.cmm_outside.specs.FailingCalls.{IsNextListed, after_call, no_calls};
-    ghost use Rattle.cmm_outside.specs.MemoryFiles.{IsRefused, Puts, file_of, holding, index_of, place_of, room_of, serves};
+    ghost use Rattle.cmm_outside.specs.MemoryFiles.{IsRefused, Puts, file_of, holding, place_of, room_of, serves};
+    ghost use Rattle.cmm_outside.specs.inside.PlaceIndex.{index_of};
 
     /// No files, and room for none. It takes no memory.
     pub fn new(alloc: Global, failing: Vec<u64>) -> Self
