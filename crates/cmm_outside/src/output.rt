@@ -2,7 +2,7 @@
 
 ghost use Rattle.std.specs.Prelude.{◌≡◌, ℕ, ◌<◌, ◌≤◌, List, Option, Ok, length, take, IfOk, OnOk, OnErr};
 ghost use Rattle.cmm_outside.specs.Faults.{Rose};
-ghost use Rattle.cmm_outside.specs.Output.{Appends, AppendsFront};
+ghost use Rattle.cmm_outside.specs.Output.{Appends, WritesAll};
 
 use crate::Failed;
 
@@ -30,14 +30,10 @@ pub trait Sink {
         ensures nothing { length bytes.now ≡ 0 → (result ≡ Ok 0) × (self.new ≡ self.old) };
 }
 
-/// Writes all the bytes, in order. Where a call fails, the sink has taken some front of them.
+/// Writes all the bytes, in order. Where a call fails, the sink has taken some front of them. It fails only where the sink does, at the
+/// first call that fails.
 pub fn write_all<S: Sink>(sink: &mut S, bytes: &[u8]) -> Result<(), Failed>
-    ensures ok { OnOk result (Appends (S.taken sink.old) (S.taken sink.new) bytes.now) }
-    ensures err { OnErr result (AppendsFront (S.taken sink.old) (S.taken sink.new) bytes.now) }
-
-    // It fails only where the sink does, at the first call that fails.
-    ensures no_fault { OnOk result (S.faults sink.new ≡ S.faults sink.old) }
-    ensures fault { OnErr result (Rose (S.faults sink.old) (S.faults sink.new)) }
+    ensures { WritesAll S.taken S.faults sink.old sink.new bytes.now result }
 {
     let mut written = 0;
     while written < bytes.len() {

@@ -4,9 +4,8 @@
 //! count of faults rose: no call fails of itself. `specs/Texts` says what the texts are.
 #![tactic(auto)]
 
-ghost use Rattle.std.specs.Prelude.{◌≡◌, false, decimal, OnOk, OnErr};
-ghost use Rattle.cmm_outside.specs.Faults.{Rose};
-ghost use Rattle.cmm_outside.specs.Output.{Appends, AppendsFront};
+ghost use Rattle.std.specs.Prelude.{◌≡◌, false, decimal};
+ghost use Rattle.cmm_outside.specs.Output.{WritesAll};
 ghost use Rattle.cmm_report.specs.Texts.{address_text};
 ghost use Rattle.cmm_script.specs.Kinds.{is_plain as is_plain_byte, kind_byte, kind_text};
 
@@ -18,10 +17,7 @@ mod tests;
 
 /// Writes a number in decimal, without leading zeros.
 pub fn put_number<E: Sink>(to: &mut E, n: u64) -> Result<(), Failed>
-    ensures ok { OnOk result (Appends (E.taken to.old) (E.taken to.new) (decimal n)) }
-    ensures err { OnErr result (AppendsFront (E.taken to.old) (E.taken to.new) (decimal n)) }
-    ensures no_fault { OnOk result (E.faults to.new ≡ E.faults to.old) }
-    ensures fault { OnErr result (Rose (E.faults to.old) (E.faults to.new)) }
+    ensures { WritesAll E.taken E.faults to.old to.new (decimal n) result }
 {
     let mut buffer = Buffer::new();
     write_all(to, buffer.format(n).as_bytes())
@@ -29,10 +25,7 @@ pub fn put_number<E: Sink>(to: &mut E, n: u64) -> Result<(), Failed>
 
 /// Writes an address: 16 lower-case hexadecimal digits, without prefix.
 pub fn put_address<E: Sink>(to: &mut E, n: u64) -> Result<(), Failed>
-    ensures ok { OnOk result (Appends (E.taken to.old) (E.taken to.new) (address_text n)) }
-    ensures err { OnErr result (AppendsFront (E.taken to.old) (E.taken to.new) (address_text n)) }
-    ensures no_fault { OnOk result (E.faults to.new ≡ E.faults to.old) }
-    ensures fault { OnErr result (Rose (E.faults to.old) (E.faults to.new)) }
+    ensures { WritesAll E.taken E.faults to.old to.new (address_text n) result }
 {
     write_all(to, &address_digits(n))
 }
@@ -40,10 +33,7 @@ pub fn put_address<E: Sink>(to: &mut E, n: u64) -> Result<(), Failed>
 /// Writes the bytes of a kind as they stand between its quotes: bytes 32 to 126 but `"` and `\` as they are, any other as `\x` and
 /// two lower-case hexadecimal digits.
 pub fn put_kind<E: Sink>(to: &mut E, kind: &[u8]) -> Result<(), Failed>
-    ensures ok { OnOk result (Appends (E.taken to.old) (E.taken to.new) (kind_text kind.now)) }
-    ensures err { OnErr result (AppendsFront (E.taken to.old) (E.taken to.new) (kind_text kind.now)) }
-    ensures no_fault { OnOk result (E.faults to.new ≡ E.faults to.old) }
-    ensures fault { OnErr result (Rose (E.faults to.old) (E.faults to.new)) }
+    ensures { WritesAll E.taken E.faults to.old to.new (kind_text kind.now) result }
 {
     for byte in kind {
         put_kind_byte(to, *byte)?;
@@ -53,10 +43,7 @@ pub fn put_kind<E: Sink>(to: &mut E, kind: &[u8]) -> Result<(), Failed>
 
 /// Writes a byte of a kind.
 fn put_kind_byte<E: Sink>(to: &mut E, byte: u8) -> Result<(), Failed>
-    ensures ok { OnOk result (Appends (E.taken to.old) (E.taken to.new) (kind_byte byte)) }
-    ensures err { OnErr result (AppendsFront (E.taken to.old) (E.taken to.new) (kind_byte byte)) }
-    ensures no_fault { OnOk result (E.faults to.new ≡ E.faults to.old) }
-    ensures fault { OnErr result (Rose (E.faults to.old) (E.faults to.new)) }
+    ensures { WritesAll E.taken E.faults to.old to.new (kind_byte byte) result }
 {
     if is_plain(byte) {
         write_all(to, &[byte])

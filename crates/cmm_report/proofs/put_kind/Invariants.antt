@@ -1,9 +1,7 @@
-use Rattle.std.proofs.Common.{◌≡◌, take}
-use Rattle.cmm_outside.specs.Output.{Appends}
+use Rattle.std.proofs.Common.{take}
+use Rattle.cmm_outside.proofs.Shared.{HasWritten}
 use Rattle.cmm_script.specs.Kinds.{kind_text}
 use Rattle.cmm_report.proofs.put_kind.Given as goal
 
--- the bytes so far are written, and no call has failed
 abbrev pub invariant-loop-byte : goal.invariant-loop-byte
-invariant-loop-byte g l =
-    Appends (g.E.Sink.taken l.initial.to) (g.E.Sink.taken l.to) (kind_text (take l.byte-index l.kind)) × (g.E.Sink.faults l.to ≡ g.E.Sink.faults l.initial.to)
+invariant-loop-byte g l = HasWritten g.E.Sink.taken g.E.Sink.faults l.initial.to l.to (kind_text (take l.byte-index l.kind))

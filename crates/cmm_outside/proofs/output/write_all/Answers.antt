@@ -8,8 +8,11 @@ loop-written-preserved g c =
     let rest = take_rest c.args.bytes.now c.loop-written.written in
     let bound : c.in_ok-written.field-0 ≤ length (drop c.loop-written.written c.args.bytes.now) =
     rw rest at c.in_ok-written.ensures.bound in
+    let so_far = c.loop-written.invariant.so_far in
     record {
       within = omega (arith, length-drop c.loop-written.written c.args.bytes.now);
-      appended = Appends-take _ _ _ _ _ _ c.loop-written.invariant.appended (rw rest at c.in_ok-written.ensures.taken);
-      same_faults = c.in_ok-written.ensures.no_fault ∙ c.loop-written.invariant.same_faults;
+      so_far = record {
+        appended = Appends-take _ _ _ _ _ _ so_far.appended (rw rest at c.in_ok-written.ensures.taken);
+        same_faults = c.in_ok-written.ensures.no_fault ∙ so_far.same_faults;
+      };
     }
