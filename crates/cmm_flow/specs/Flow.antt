@@ -1,0 +1,50 @@
+-- When a graph is the flow of a procedure: its nodes are the code of the body, and of what follows each label and each
+-- continuation.
+use Rattle.std.specs.Prelude.{◌≡◌, ℕ, ◌+◌, ◌*◌, ◌<◌, ◌≤◌, nat_le, IsTrue, List, length, Some}
+use Rattle.std.specs.List.{list_all}
+use Rattle.cmm_program.specs.declared.procedure.Proc.{Proc}
+use Rattle.cmm_program.specs.declared.procedure.Target.{Target}
+use Rattle.cmm_program.specs.Bodies.{AtLabel, AtContinuation, follow}
+use Rattle.cmm_graph.specs.declared.number.NodeId.{NodeId}
+use Rattle.cmm_graph.specs.declared.number.Variable.{Variable}
+use Rattle.cmm_graph.specs.declared.node.NodeKind.TheVariants.{Entry, CopyIn, Goto}
+use Rattle.cmm_graph.specs.declared.graph.Graph.{Graph}
+use Rattle.cmm_graph.specs.Paths.{landing_of}
+use Rattle.cmm_flow.specs.Code.{IsNode}
+use Rattle.cmm_flow.specs.Statements.{ListCode}
+
+-- a procedure's Entry, of as many tokens as the procedure, leads to the code of its body
+pub record IsBegun (q : Proc) (g : Graph) (label_node : ℕ → NodeId) : Type 0 where
+  pub formals : List Variable
+  pub next : NodeId
+  pub node : IsNode g.nodes g.first q.tokens (Entry formals next)
+  pub code : ListCode q g.nodes label_node q.body next
+
+-- the node to which a `goto` goes leads to the code of what follows the label
+pub record IsBehindLabel (q : Proc) (g : Graph) (label_node : ℕ → NodeId) (l : ℕ) : Type 0 where
+  pub next : NodeId
+  pub node : IsNode g.nodes (label_node l) 1 (Goto next)
+  pub code : ListCode q g.nodes label_node (follow q (AtLabel l)) next
+
+-- the CopyIn of a continuation leads to the code of what follows its beginning
+pub record IsLandedAt (q : Proc) (g : Graph) (label_node : ℕ → NodeId) (k : ℕ) : Type 0 where
+  pub at : NodeId
+  pub tokens : ℕ
+  pub to : List Target
+  pub next : NodeId
+  pub landing : landing_of g record { number = k } ≡ Some at
+  pub node : IsNode g.nodes at tokens (CopyIn to next)
+  pub code : ListCode q g.nodes label_node (follow q (AtContinuation k)) next
+
+pub record IsFlowOf (q : Proc) (g : Graph) : Type 0 where
+  -- the node to which a `goto` to each label goes
+  pub label_node : ℕ → NodeId
+  pub begun : IsBegun q g label_node
+  pub labels : (l : ℕ) → IsBehindLabel q g label_node l
+  pub continuations : (k : ℕ) → k < length q.conts → IsLandedAt q g label_node k
+  -- no node has more tokens than the procedure
+  pub tokens : IsTrue (list_all (λ node. nat_le node.tokens q.tokens) g.nodes)
+
+-- variables, temporaries and continuations have at most 8 bytes of a frame for each token of the procedure: a pair for a continuation
+abbrev pub IsBounded : Proc → Graph → Type 0
+IsBounded q g = 8 * (g.variables + g.temporaries) + 16 * length g.continuations ≤ 8 * q.tokens

@@ -1,0 +1,6 @@
+pub mod Operands
+pub mod Code
+pub mod Statements
+pub mod Flow
+pub mod Relation
+pub mod Laws

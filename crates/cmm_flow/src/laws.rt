@@ -1,0 +1,19 @@
+//! The laws that join the C-- machine and the machine over graphs. Each is the contract of a function that does nothing.
+
+ghost use Rattle.cmm_flow.specs.Laws.{FlowAgrees, FlowFollows, FlowSimulates, RangeIsCounted};
+
+/// The flows of a program's procedures do what the program does. A step of the C-- machine is a path over the graphs of at
+/// least one node, which has together at most as many tokens as the longest procedure; on every input both show the same
+/// and stand at the same events, and agree in counts of steps with that factor.
+#[tactic(auto, using(crate::proofs::Flowing::flow_simulates, crate::proofs::Flowing::flow_follows, crate::proofs::Flowing::flow_agrees))]
+pub fn flows_do_what_programs_do()
+    ensures simulates { FlowSimulates }
+    ensures follows { FlowFollows }
+    ensures agrees { FlowAgrees }
+{}
+
+/// What the law asks of the statements of a program holds of every program in range.
+#[tactic(auto, using(crate::proofs::Ranges::range_is_counted))]
+pub fn programs_in_range_are_counted()
+    ensures { RangeIsCounted }
+{}
