@@ -20,4 +20,5 @@ pub mod Client
 pub mod Simulating
 pub mod Flowing
 pub mod Ranges
+pub mod Marks
 mod FlowRows

@@ -4,3 +4,4 @@ pub mod Statements
 pub mod Flow
 pub mod Relation
 pub mod Laws
+pub mod inside
