@@ -22,3 +22,4 @@ pub mod Flowing
 pub mod Ranges
 pub mod Marks
 mod FlowRows
+mod CallRows
