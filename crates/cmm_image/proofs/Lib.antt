@@ -1,0 +1,8 @@
+mod FieldLaws
+mod TableLaws
+mod PlaceLaws
+mod ImageLaws
+mod ReadLaws
+mod ReadingRows
+mod MeaningLaws
+mod ImageRows

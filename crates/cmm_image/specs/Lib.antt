@@ -1,0 +1,6 @@
+pub mod Formats
+pub mod Places
+pub mod ImageFormat
+pub mod Images
+pub mod Laws
+pub mod inside

@@ -1,0 +1,35 @@
+-- The bytes of parts of records, which are written by functions of their own.
+use Rattle.std.specs.Prelude.{ℕ, List, [], ◌++◌, flat_map, length, None}
+use Rattle.cmm_image.specs.declared.image.Image.{Image}
+use Rattle.cmm_image.specs.declared.rows.ProcRow.{ProcRow}
+use Rattle.cmm_image.specs.declared.rows.SiteRow.{SiteRow}
+use Rattle.cmm_image.specs.Formats.{counted}
+use Rattle.cmm_image.specs.ImageFormat.{Counts, saved_register, variable, stack_label, continuation, width, site_lists, procedure, site, label, global, u8, u16}
+
+abbrev pub procedure_lists : ProcRow → List ℕ
+procedure_lists p =
+    (counted u8 (saved_register 0)).spelled p.saved
+    ++ ((counted u16 variable).spelled p.variables
+    ++ ((counted u16 (stack_label 0)).spelled p.stack_labels
+    ++ (counted u16 (continuation 0 0 0)).spelled p.continuations))
+
+abbrev pub site_row_lists : SiteRow → List ℕ
+site_row_lists s =
+    (counted u8 (λ previous. width)).spelled s.results
+    ++ (site_lists 0 0 0 0 0).spelled (s.returns, (s.unwinds, (s.cuts, (s.variables, s.spans))))
+
+-- the counts in an image's header
+abbrev pub counts_of : Image → Counts
+counts_of i = (length i.procs, (length i.sites, (length i.labels, (length i.globals, (i.main, 0)))))
+
+-- the records of an image, without their counts
+abbrev pub image_records : Image → List ℕ
+image_records i =
+    flat_map (procedure 0 None).spelled i.procs
+    ++ (flat_map (site 0 [] None).spelled i.sites
+    ++ (flat_map (label 0 None).spelled i.labels
+    ++ flat_map (global None).spelled i.globals))
+
+-- what follows an image's header
+abbrev pub image_body : Image → List ℕ
+image_body i = i.code ++ (i.initial ++ image_records i)

@@ -1,0 +1,36 @@
+-- What readings of several fields answer, and a reading of all bytes.
+use Rattle.std.specs.Prelude.{◌≡◌, ℕ, ◌-◌, length, Result, Ok, Err}
+use Rattle.cmm_image.specs.declared.rows.ProcRow.{ProcRow}
+use Rattle.cmm_image.specs.declared.bounds.Bounds.{Bounds}
+use Rattle.cmm_image.specs.declared.header.RowCounts.{RowCounts}
+use Rattle.cmm_image.specs.declared.site.SiteTail.{SiteTail}
+use Rattle.cmm_image.specs.declared.fault.Broken.{Broken}
+use Rattle.cmm_image.specs.declared.fault.ImageFault.{ImageFault}
+use Rattle.cmm_image.specs.declared.fault.ImageFault.TheVariants.{At}
+use Rattle.cmm_image.specs.declared.fault.ImageFault.TheVariants as image_fault
+use Rattle.cmm_image.specs.declared.fault.Unread.{Unread}
+use Rattle.cmm_image.specs.declared.fault.Unread.TheVariants.{Breaks, Memory}
+use Rattle.cmm_image.specs.ImageFormat.{Counts, SiteLists}
+
+-- What a reading of all bytes answered is what they are, unless memory ran out.
+abbrev pub Gives : {A : Type 0} → Result A Unread → Result A Broken → Type 0
+Gives (Ok a) read = read ≡ Ok a
+Gives (Err (Breaks b)) read = read ≡ Err b
+Gives (Err Memory) read = Unit {0}
+
+-- the counts of a header, as its format has them
+abbrev pub counts_seen : RowCounts → Counts
+counts_seen c = (c.procedures, (c.sites, (c.labels, (c.globals, (c.main, 0)))))
+
+-- the lists of a site, as its format has them
+abbrev pub lists_seen : SiteTail → SiteLists
+lists_seen s = (s.returns, (s.unwinds, (s.cuts, (s.variables, s.spans))))
+
+-- what the numbers of a site in a procedure are measured by
+abbrev pub bounds_in : Bounds → ProcRow → Bounds
+bounds_in b p = record { code_length = b.code_length; data_length = b.data_length; frame = p.frame; variables = length p.variables; continuations = length p.continuations }
+
+-- why there is no image in so many bytes
+abbrev pub fault_of : ℕ → Unread → ImageFault
+fault_of length (Breaks b) = At b.rule (length - b.left)
+fault_of length Memory = image_fault.Memory

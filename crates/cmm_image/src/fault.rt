@@ -1,0 +1,51 @@
+//! Why bytes are no image.
+
+ghost use Rattle.std.specs.Prelude.{◌≡◌};
+
+use cmm_rules::Rule;
+use std::alloc::{AllocError, AllocFailed};
+use thiserror::Error;
+
+/// Why there is no image.
+#[derive(Debug, Drop, Error)]
+pub enum ImageFault {
+    /// This rule is broken at the field that begins at this offset.
+    #[error("{rule} at {offset}")]
+    At { rule: Rule, offset: u64 },
+    #[error("out of memory")]
+    Memory,
+}
+
+/// A rule that is broken, and how many bytes are left from the first byte of the field that breaks it.
+#[derive(Clone, Copy, Debug, PartialEq, Eq)]
+pub struct Broken {
+    pub rule: Rule,
+    pub left: usize,
+}
+
+/// Why a field could not be read.
+#[derive(Debug, Drop)]
+pub enum Unread {
+    Breaks(Broken),
+    Memory,
+}
+
+impl From<AllocError> for Unread {
+    ghost use Rattle.cmm_image.specs.declared.fault.Unread.{Unread};
+
+    ghost from_gives = { λ _ why. why ≡ Unread.Memory };
+
+    fn from(_: AllocError) -> Unread {
+        Unread::Memory
+    }
+}
+
+impl<T: Drop> From<AllocFailed<T>> for Unread {
+    ghost use Rattle.cmm_image.specs.declared.fault.Unread.{Unread};
+
+    ghost from_gives = { λ _ why. why ≡ Unread.Memory };
+
+    fn from(_: AllocFailed<T>) -> Unread {
+        Unread::Memory
+    }
+}

@@ -1,0 +1,10 @@
+//! Laws of the format: the contract of a function that does nothing.
+
+ghost use Rattle.cmm_image.specs.Laws.{EachMeansOneThing, ImagesAreOne, NoImageHasAFault};
+
+/// Bytes are one image, or they have a first fault, and never both.
+pub fn bytes_mean_one_thing()
+    ensures each { EachMeansOneThing }
+    ensures one { ImagesAreOne }
+    ensures never_both { NoImageHasAFault }
+{}

@@ -1,0 +1,46 @@
+//! Images: what the compiler makes of a program, and what runs.
+//!
+//! An image has the code and the data of a program, and the tables by which a stopped program's stack is walked: a row for each procedure,
+//! each call site, each exported data label and each global register. This layer promises that bytes are read to an image exactly where
+//! they spell it, that the first field that breaks a rule is named of any other bytes, and that an image is written as it is read.
+//!
+//! - `image`, `rows`: `Image` and the rows of its tables.
+//! - `reading`, `fault`: `read_image`, and why there is no image. `writing`: `write_image`.
+//! - `reader`, `record`: fields at the front of bytes, and records, one after another. `bounds`: what their numbers are measured by.
+//! - `header`, `procedure`, `procedure_parts`, `site`, `site_parts`, `symbols`: the records as they are read.
+//! - `fields`, `row_bytes`: fields and records as they are written.
+//! - `laws`: what bytes are, an image or a first fault.
+//!
+//! The format is one table, `specs/ImageFormat`, a line a field; `specs/Formats` and `specs/Places` have the kinds of field, and `specs/Images`
+//! says which bytes are an image and which field is named of others.
+#![tactic(auto)]
+
+mod bounds;
+mod fault;
+mod fields;
+mod header;
+mod image;
+pub mod laws;
+mod procedure;
+mod procedure_parts;
+mod reader;
+mod reading;
+mod record;
+mod row_bytes;
+mod rows;
+mod site;
+mod site_parts;
+mod symbols;
+mod writing;
+
+pub use fault::ImageFault;
+pub use image::Image;
+pub use reading::{IMAGE_LIMIT, read_image};
+pub use rows::{
+    ContinuationNumber, ContinuationRow, GlobalRow, LabelRow, ProcRow, SavedRegister, SiteRow,
+    SpanRow, StackLabelRow, UnwindRow, VariableNumber, VariablePlace, VariableRow,
+};
+pub use writing::write_image;
+
+#[cfg(test)]
+mod tests;

@@ -1,0 +1,121 @@
+//! The records of procedures.
+
+ghost use Rattle.std.specs.Prelude.{◌≡◌, ◌==◌, ◌%◌, [], ◌∷◌, None, nat_le, nat_lt, length, option_copied};
+ghost use Rattle.std.specs.Option.{option_map};
+ghost use Rattle.cmm_image.specs.Formats.{counted_at, optional, ◌when◌};
+ghost use Rattle.cmm_image.specs.ImageFormat.{procedure, saved_register, variable, stack_label, continuation, variable_number, width, u16, u32, u8, formed, within, is_above, no_return, is_return_offset};
+ghost use Rattle.cmm_image.specs.inside.Reading.{Reads};
+
+use crate::bounds::Bounds;
+use crate::fault::Unread;
+use crate::procedure_parts::leaves;
+use crate::reader::{Reader, require};
+use crate::record::{Read, read_rows, read_rows8, read_rows16};
+use crate::rows::{
+    ContinuationRow, ProcRow, SavedRegister, StackLabelRow, VariableNumber, VariableRow,
+};
+use cmm_items::Items;
+use cmm_rules::Rule;
+use cmm_words::Width;
+
+/// The largest frame.
+const FRAME_LIMIT: u32 = 0x1000_0000;
+
+/// The most variables of a procedure.
+const VARIABLE_COUNT_LIMIT: u16 = 1024;
+
+/// In the place of an offset: the procedure does not save its return address.
+pub(crate) const NO_RETURN: u32 = 0xFFFF_FFFF;
+
+impl Read<Bounds> for ProcRow {
+    ghost at = { λ bounds previous. (procedure bounds.code_length previous).at };
+
+    fn read(
+        reader: &mut Reader<'_>,
+        bounds: &Bounds,
+        previous: Option<&ProcRow>,
+    ) -> Result<ProcRow, Unread> {
+        let field = reader.left();
+        let code = reader.u64()?;
+        require(is_code_above(previous, code), Rule::BadImageField, field)?;
+        require(bounds.is_in_code(code), Rule::ImageOutOfRange, field)?;
+        let name = reader.name()?;
+        let frame = frame_size(reader)?;
+        let return_at = return_offset(reader, frame)?;
+        let bounds = Bounds { frame, ..*bounds };
+        let saved = read_rows8(reader, &bounds)?;
+        let variables = variables(reader, &bounds)?;
+        let stack_labels = read_rows16(reader, &bounds)?;
+        let continuations = continuations(reader, &bounds, &variables)?;
+        Ok(ProcRow {
+            code,
+            name,
+            frame,
+            return_at,
+            saved,
+            variables,
+            stack_labels,
+            continuations,
+        })
+    }
+}
+
+/// Whether an address is above that of the procedure before, if there is one.
+fn is_code_above(previous: Option<&ProcRow>, code: u64) -> bool
+    ensures { result ≡ is_above (option_map (λ p. p.code) (option_copied previous.entry)) code }
+{
+    match previous {
+        None => true,
+        Some(row) => row.code < code,
+    }
+}
+
+fn frame_size(reader: &mut Reader<'_>) -> Result<u32, Unread>
+    ensures { Reads result ((u32 when (formed (λ n. n % 16 == 0) ∷ within (λ n. nat_le n 0x10000000) ∷ [])).at reader.old.rest.now) reader.new.rest.now }
+{
+    let field = reader.left();
+    let frame = reader.u32()?;
+    require(frame % 16 == 0, Rule::BadImageField, field)?;
+    require(frame <= FRAME_LIMIT, Rule::ImageOutOfRange, field)?;
+    Ok(frame)
+}
+
+fn return_offset(reader: &mut Reader<'_>, frame: u32) -> Result<Option<u32>, Unread>
+    ensures { Reads result ((optional 4 no_return (within (is_return_offset frame) ∷ [])).at reader.old.rest.now) reader.new.rest.now }
+{
+    let field = reader.left();
+    let offset = reader.u32()?;
+    if offset == NO_RETURN {
+        return Ok(None);
+    }
+    require(
+        offset % 8 == 0 && leaves(8, frame, offset),
+        Rule::ImageOutOfRange,
+        field,
+    )?;
+    Ok(Some(offset))
+}
+
+fn variables(reader: &mut Reader<'_>, bounds: &Bounds) -> Result<Items<VariableRow>, Unread>
+    ensures { Reads result (counted_at (u16 when (formed (λ n. nat_le n 1024) ∷ [])).at (λ previous. (variable previous).at) reader.old.rest.now) reader.new.rest.now }
+{
+    let field = reader.left();
+    let count = reader.u16()?;
+    require(count <= VARIABLE_COUNT_LIMIT, Rule::BadImageField, field)?;
+    read_rows(reader, bounds, usize::from(count))
+}
+
+/// The continuations of a procedure with these variables.
+fn continuations(
+    reader: &mut Reader<'_>,
+    bounds: &Bounds,
+    variables: &Items<VariableRow>,
+) -> Result<Items<ContinuationRow>, Unread>
+    ensures { Reads result (counted_at u16.at (λ previous. (continuation bounds.now.code_length bounds.now.frame (length variables.now) previous).at) reader.old.rest.now) reader.new.rest.now }
+{
+    let bounds = Bounds {
+        variables: variables.len(),
+        ..*bounds
+    };
+    read_rows16(reader, &bounds)
+}

@@ -1,0 +1,101 @@
+//! `read_image`: from the bytes of an image to the image.
+
+ghost use Rattle.std.specs.Prelude.{◌≡◌, ℕ, IfOk, IfErr};
+ghost use Rattle.cmm_image.specs.ImageFormat.{image};
+ghost use Rattle.cmm_image.specs.Images.{SpellsImage, IsFirstFault, ImageFaultAt, IsImageRead, IsRefusal, image_in};
+ghost use Rattle.cmm_image.specs.inside.Reading.{Reads};
+ghost use Rattle.cmm_image.specs.inside.Wholes.{Gives, fault_of};
+ghost use Rattle.cmm_image.specs.declared.image.Image.{Image};
+ghost use Rattle.cmm_rules.specs.declared.rule.Rule.{Rule};
+
+use crate::bounds::{Bounds, Procedures};
+use crate::fault::{ImageFault, Unread};
+use crate::header::read_header;
+use crate::image::Image;
+use crate::reader::{Reader, broken};
+use crate::record::read_rows;
+use cmm_rules::Rule;
+use std::alloc::Global;
+
+/// The most bytes that an image may have.
+pub const IMAGE_LIMIT: usize = 536_870_912;
+
+/// The image that bytes spell. Of bytes that spell none the first field that breaks a rule is named, and its first broken rule, by
+/// number but that a field which the bytes end inside of is named for that; bytes past `IMAGE_LIMIT` are refused before all else.
+pub fn read_image(alloc: Global, bytes: &[u8]) -> Result<Image, ImageFault>
+    // What is read is spelled so.
+    ensures ok { IfOk result (SpellsImage bytes.now) }
+    // What is spelled so is read, unless memory runs out.
+    ensures only { (i : Image) → SpellsImage bytes.now i → IsImageRead i result }
+    // A fault is the first of the bytes.
+    ensures err { IfErr result (ImageFaultAt bytes.now) }
+    // Bytes with a fault are refused for it, unless memory runs out.
+    ensures refused { (rule : Rule) (offset : ℕ) → IsFirstFault bytes.now rule offset → IsRefusal rule offset result }
+{
+    match image_of(alloc, bytes) {
+        Ok(image) => Ok(image),
+        Err(why) => Err(fault(bytes.len(), why)),
+    }
+}
+
+/// Why there is no image in so many bytes.
+fn fault(length: usize, why: Unread) -> ImageFault
+    ensures { result ≡ fault_of length why }
+{
+    match why {
+        Unread::Breaks(broken) => ImageFault::At {
+            rule: broken.rule,
+            offset: length.saturating_sub(broken.left) as u64,
+        },
+        Unread::Memory => ImageFault::Memory,
+    }
+}
+
+/// The image that all of the bytes are.
+#[tactic(auto, unfolding(crate::specs::Images::image_in))]
+fn image_of(alloc: Global, bytes: &[u8]) -> Result<Image, Unread>
+    ensures { Gives result (image_in bytes.now) }
+{
+    if bytes.len() > IMAGE_LIMIT {
+        return Err(broken(Rule::ImageTooLong, bytes.len() - IMAGE_LIMIT));
+    }
+    let mut reader = Reader { alloc, rest: bytes };
+    let image = front_image(&mut reader)?;
+    if !reader.rest.is_empty() {
+        return Err(broken(Rule::BytesAfterImage, reader.left()));
+    }
+    Ok(image)
+}
+
+/// Takes an image from the front of the bytes.
+fn front_image(reader: &mut Reader<'_>) -> Result<Image, Unread>
+    ensures { Reads result (image.at reader.old.rest.now) reader.new.rest.now }
+{
+    let header = read_header(reader)?;
+    let code = reader.bytes(header.code_length as usize)?;
+    let initial = reader.bytes(header.data_length as usize)?;
+    let bounds = Bounds {
+        code_length: header.code_length,
+        data_length: header.data_length,
+        frame: 0,
+        variables: 0,
+        continuations: 0,
+    };
+    let rows = read_rows(reader, &bounds, header.procedures as usize)?;
+    let procedures = Procedures { bounds, rows };
+    let sites = read_rows(reader, &procedures, header.sites as usize)?;
+    let labels = read_rows(reader, &bounds, header.labels as usize)?;
+    let globals = read_rows(reader, &bounds, header.globals as usize)?;
+    let Procedures { rows: procs, .. } = procedures;
+    Ok(Image {
+        code,
+        initial,
+        start: header.start,
+        last: header.last,
+        main: header.main,
+        procs,
+        sites,
+        labels,
+        globals,
+    })
+}

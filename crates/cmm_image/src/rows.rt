@@ -1,0 +1,136 @@
+//! The rows of an image's tables.
+
+use cmm_items::Items;
+use cmm_words::{Name, Width};
+
+/// The number of a variable of a procedure, formals first.
+#[derive(Clone, Copy, Debug, PartialEq, Eq)]
+pub struct VariableNumber(pub u16);
+
+/// The number of a continuation of a procedure, in textual order.
+#[derive(Clone, Copy, Debug, PartialEq, Eq)]
+pub struct ContinuationNumber(pub u16);
+
+/// A callee-saves register that a procedure saves at entry.
+#[derive(Clone, Copy, Debug, PartialEq, Eq)]
+pub struct SavedRegister {
+    /// Its number: 9, or 18 to 27.
+    pub register: u8,
+    /// How far into the frame its 8 bytes are saved.
+    pub offset: u32,
+}
+
+/// A stackdata label of a procedure.
+#[derive(Clone, Copy, Debug, PartialEq, Eq)]
+pub struct StackLabelRow {
+    /// How far into the frame it lies.
+    pub offset: u32,
+}
+
+/// A variable of a procedure.
+#[derive(Debug, Drop)]
+pub struct VariableRow {
+    pub width: Width,
+    /// Whether it is declared `invariant`.
+    pub invariant: bool,
+    pub kind: Name,
+}
+
+/// A continuation of a procedure.
+#[derive(Debug, Drop)]
+pub struct ContinuationRow {
+    /// How far into the frame its pair of code address and frame address lies: a multiple of 8.
+    pub pair: u32,
+    /// The address of its code for cuts.
+    pub code: u64,
+    /// The variables that take its parameters.
+    pub parameters: Items<VariableNumber>,
+}
+
+/// A procedure.
+#[derive(Debug, Drop)]
+pub struct ProcRow {
+    /// The address of its code.
+    pub code: u64,
+    /// Its name in its unit.
+    pub name: Name,
+    /// The size of its frame in bytes, a multiple of 16.
+    pub frame: u32,
+    /// How far into its frame the return address is saved, if it is: a multiple of 8.
+    pub return_at: Option<u32>,
+    /// The registers that it saves, in ascending order.
+    pub saved: Items<SavedRegister>,
+    pub variables: Items<VariableRow>,
+    /// Its stackdata labels.
+    pub stack_labels: Items<StackLabelRow>,
+    pub continuations: Items<ContinuationRow>,
+}
+
+/// An unwind exit of a site.
+#[derive(Clone, Copy, Debug, PartialEq, Eq)]
+pub struct UnwindRow {
+    pub continuation: ContinuationNumber,
+    /// The address of the code at which unwinding goes on.
+    pub landing: u64,
+}
+
+/// Where a variable is kept while its activation is suspended at a site.
+#[derive(Clone, Copy, Debug, PartialEq, Eq)]
+pub enum VariablePlace {
+    /// Nowhere: no exit of the site leads to a read of it.
+    Dead,
+    /// In 8 bytes, so far into the frame.
+    Slot(u32),
+    /// In the callee-saves register of this number: 9, or 18 to 27.
+    Register(u8),
+}
+
+/// What the innermost span with a token gives the site.
+#[derive(Clone, Copy, Debug, PartialEq, Eq)]
+pub struct SpanRow {
+    pub token: u64,
+    pub value: u64,
+}
+
+/// A call site.
+#[derive(Debug, Drop)]
+pub struct SiteRow {
+    /// The address behind its call, at which the first of its alternate exits stands.
+    pub return_address: u64,
+    /// The procedure that it is in, by its place in the image.
+    pub procedure: u32,
+    /// Its number in its procedure.
+    pub number: u32,
+    /// Whether it has `never returns`.
+    pub never_returns: bool,
+    /// Whether it has `also aborts`.
+    pub aborts: bool,
+    /// How many values it yields, if it is a yield or a checked operator.
+    pub yield_values: Option<u8>,
+    /// The widths of its results.
+    pub results: Items<Width>,
+    /// Its alternate exits.
+    pub returns: Items<ContinuationNumber>,
+    pub unwinds: Items<UnwindRow>,
+    /// Its cut exits.
+    pub cuts: Items<ContinuationNumber>,
+    /// Where each variable of its procedure is kept.
+    pub variables: Items<VariablePlace>,
+    /// The spans round it, in ascending order of tokens.
+    pub spans: Items<SpanRow>,
+}
+
+/// An exported data label.
+#[derive(Debug, Drop)]
+pub struct LabelRow {
+    /// Its link name.
+    pub name: Name,
+    pub address: u64,
+}
+
+/// A global register.
+#[derive(Debug, Drop)]
+pub struct GlobalRow {
+    pub width: Width,
+    pub name: Name,
+}

@@ -1,0 +1,72 @@
+//! `write_image`: the bytes of an image.
+
+ghost use Rattle.std.specs.Prelude.{◌≡◌, ◌++◌, OnOk, IfOk};
+ghost use Rattle.cmm_image.specs.ImageFormat.{counts, header, image, image_header};
+ghost use Rattle.cmm_image.specs.Images.{IsImage, SpellsImage};
+ghost use Rattle.cmm_image.specs.inside.Spellings.{counts_of, image_body, image_records};
+
+use crate::fields::{put_count32, put_u32, put_u64};
+use crate::header::{MAGIC, VERSION};
+use crate::image::Image;
+use crate::record::write_rows;
+use std::alloc::{AllocError, Global};
+
+/// The bytes that spell an image.
+pub fn write_image(alloc: Global, image: &Image) -> Result<Vec<u8>, AllocError>
+    requires { IsImage image.now }
+    ensures { IfOk result (λ bytes. SpellsImage bytes.items image.now) }
+{
+    let mut out = Vec::new(alloc);
+    put_image(&mut out, image)?;
+    Ok(out)
+}
+
+fn put_image(out: &mut Vec<u8>, i: &Image) -> Result<(), AllocError>
+    ensures { OnOk result (out.new.items ≡ out.old.items ++ image.spelled i.now) }
+{
+    put_header(out, i)?;
+    put_body(out, i)
+}
+
+/// What follows the header.
+fn put_body(out: &mut Vec<u8>, i: &Image) -> Result<(), AllocError>
+    ensures { OnOk result (out.new.items ≡ out.old.items ++ image_body i.now) }
+{
+    out.extend_from_slice(i.code.as_slice())?;
+    out.extend_from_slice(i.initial.as_slice())?;
+    put_records(out, i)
+}
+
+/// The records, in the order of the counts.
+fn put_records(out: &mut Vec<u8>, i: &Image) -> Result<(), AllocError>
+    ensures { OnOk result (out.new.items ≡ out.old.items ++ image_records i.now) }
+{
+    write_rows(out, i.procs.as_slice())?;
+    write_rows(out, i.sites.as_slice())?;
+    write_rows(out, i.labels.as_slice())?;
+    write_rows(out, i.globals.as_slice())
+}
+
+fn put_header(out: &mut Vec<u8>, i: &Image) -> Result<(), AllocError>
+    ensures { OnOk result (out.new.items ≡ out.old.items ++ header.spelled (image_header i.now)) }
+{
+    put_u32(out, MAGIC)?;
+    put_u32(out, VERSION)?;
+    put_u64(out, i.code.len() as u64)?;
+    put_u64(out, i.initial.len() as u64)?;
+    put_u64(out, i.start)?;
+    put_u64(out, i.last)?;
+    put_counts(out, i)
+}
+
+/// The counts of records, and which procedure is main.
+fn put_counts(out: &mut Vec<u8>, i: &Image) -> Result<(), AllocError>
+    ensures { OnOk result (out.new.items ≡ out.old.items ++ counts.spelled (counts_of i.now)) }
+{
+    put_count32(out, i.procs.len())?;
+    put_count32(out, i.sites.len())?;
+    put_count32(out, i.labels.len())?;
+    put_count32(out, i.globals.len())?;
+    put_u32(out, i.main)?;
+    put_u32(out, 0)
+}
