@@ -13,7 +13,7 @@ use Rattle.rv_table.specs.Words.{modulo, sum, difference}
 use Rattle.cmm_top.specs.declared.term.Sign.{Sign}
 use Rattle.cmm_top.specs.declared.term.Sign.TheVariants.{Plus, Minus}
 use Rattle.cmm_top.specs.declared.term.Term.{Term}
-use Rattle.cmm_top.specs.Code.{Leads, Emits, Loads, Adds, EndsWith, addition_of, total}
+use Rattle.cmm_top.specs.inside.Code.{Leads, Emits, Loads, Adds, EndsWith, addition_of, total}
 use Rattle.cmm_top.proofs.Emitting.{emits-push, straight-append}
 use Rattle.cmm_top.proofs.Values.{with_sign-Minus, total-append}
 

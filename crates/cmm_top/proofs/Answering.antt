@@ -11,7 +11,7 @@ use Rattle.cmm_top.specs.Answers.{Answers, IsLine, IsUsage, IsRefused, IsDone, I
 use Rattle.cmm_top.specs.Call.{Call, FilesFail, LogFails, Writes, WritesFront}
 use Rattle.cmm_top.specs.Causes.{HasValue, IsNotBuilt}
 use Rattle.cmm_top.specs.Command.{file_in}
-use Rattle.cmm_top.specs.Ending.{IsCaused, Closes, line_of, status_of}
+use Rattle.cmm_top.specs.inside.Ending.{IsCaused, Closes, line_of, status_of}
 use Rattle.cmm_top.specs.Headline.{RunsIn, RunsSums, Tells}
 use Rattle.cmm_top.specs.Lines.{result_line}
 use Rattle.cmm_top.proofs.UnitCode.{same_value}

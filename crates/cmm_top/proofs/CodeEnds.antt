@@ -23,7 +23,7 @@ use Rattle.std.specs.Int.{w32, to_le_bytes}
 use Rattle.rv_table.specs.Table.{IsValid, word_of}
 use Rattle.rv_table.proofs.Shared.{length-code_of}
 use Rattle.cmm_top.specs.declared.term.Term.{Term}
-use Rattle.cmm_top.specs.Code.{Leads, Emits, EndsWith, total}
+use Rattle.cmm_top.specs.inside.Code.{Leads, Emits, EndsWith, total}
 use Rattle.cmm_top.specs.Run.{Ends, EndsWithin}
 
 pub pc_on_set : (e : Effect) (f : ℕ → ℕ → Option State) (t : State) (pc : ℕ) → ((rd value : ℕ) → f rd value ≡ Some t → t.pc ≡ pc) → on_set e f ≡ Some t → t.pc ≡ pc

@@ -10,7 +10,7 @@ use Rattle.rv_table.specs.Registers.{with_register}
 use Rattle.rv_table.specs.Row.{row}
 use Rattle.rv_table.specs.Straight.{on_set, straight}
 use Rattle.rv_table.specs.Table.{IsValid}
-use Rattle.cmm_top.specs.Code.{Leads, Emits}
+use Rattle.cmm_top.specs.inside.Code.{Leads, Emits}
 
 on_set_then : (e : Effect) (f g : ℕ → ℕ → Option State) (t : State) (o : Option State) → ((rd value : ℕ) → f rd value ≡ Some t → g rd value ≡ o) → on_set e f ≡ Some t → on_set e g ≡ o
 on_set_then (Set rd value) f g t o more h = more rd value h

@@ -12,7 +12,7 @@ use Rattle.cmm_ast.specs.declared.expression.PrimForm.TheVariants.{Bracketed}
 use Rattle.cmm_top.specs.declared.term.Sign.{Sign}
 use Rattle.cmm_top.specs.declared.term.Term.{Term}
 use Rattle.cmm_top.specs.Sign.{sign_of, combined}
-use Rattle.cmm_top.specs.Terms.{and_terms, combined_to, sum_terms, under}
+use Rattle.cmm_top.specs.inside.Terms.{and_terms, combined_to, sum_terms, under}
 
 pub infix_terms : (s : Sign) (l : Expr) (op : Operator) (r : Expr) →
     sum_terms s (Infix l op r) ≡ and_terms (sum_terms s l.form) (under (combined_to s (sign_of op)) (λ t. sum_terms t r.form))

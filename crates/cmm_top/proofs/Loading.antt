@@ -5,7 +5,7 @@ use Rattle.rv_table.specs.declared.instruction.Instr.{Instr}
 use Rattle.rv_table.specs.declared.instruction.Instr.TheVariants.{Addi, Slli}
 use Rattle.rv_table.specs.Encoding.{IsBetween}
 use Rattle.rv_table.specs.Words.{modulo, sum, shifted_left}
-use Rattle.cmm_top.specs.Code.{Emits, Loads}
+use Rattle.cmm_top.specs.inside.Code.{Emits, Loads}
 use Rattle.cmm_top.proofs.Emitting.{emits-nil, emits-push}
 
 -- a small number is one immediate

@@ -42,7 +42,7 @@ use Rattle.cmm_top.specs.declared.term.Sign.TheVariants.{Plus}
 use Rattle.cmm_top.specs.Causes.{IsTreeOf, lexemes_in, main_tokens}
 use Rattle.cmm_top.specs.Form.{exports_main, has_none, is_empty, is_main, main_at, main_returns, only_value, returned, returned_by, returned_in}
 use Rattle.cmm_top.specs.Sign.{sign_of}
-use Rattle.cmm_top.specs.Terms.{and_terms, boxed_terms, combined_to, form_terms, literal_terms, prim_terms, sum_terms, terms_of, under}
+use Rattle.cmm_top.specs.inside.Terms.{and_terms, boxed_terms, combined_to, form_terms, literal_terms, prim_terms, sum_terms, terms_of, under}
 use Rattle.cmm_top.proofs.Taken.{Between, Counts, Grows, between, braces_grow, comma_grows, fewer, here_grows, here_is, nothing_grows, operator_grows, outermost_grows, round_grows, symbol_grows, then, token_grows}
 
 -- a sum has a token for each number, and one for each sign between two

@@ -19,10 +19,10 @@ use Rattle.cmm_top.specs.declared.first.FirstFault.TheVariants.{Refused}
 use Rattle.cmm_top.specs.declared.run.TheConstants.{STEP_LIMIT}
 use Rattle.cmm_top.specs.declared.term.Term.{Term}
 use Rattle.cmm_top.specs.Causes.{HasNoCode, HasValue, IsTreeOf, lexemes_in, main_tokens}
-use Rattle.cmm_top.specs.Code.{Emits, EndsWith, total}
+use Rattle.cmm_top.specs.inside.Code.{Emits, EndsWith, total}
 use Rattle.cmm_top.specs.Form.{form_value, main_at, returned, value_of}
 use Rattle.cmm_top.specs.Run.{EndsWithin}
-use Rattle.cmm_top.specs.Terms.{form_terms, terms_of}
+use Rattle.cmm_top.specs.inside.Terms.{form_terms, terms_of}
 use Rattle.cmm_top.proofs.CodeEnds.{all_valid_ecall, ends_within}
 use Rattle.cmm_top.proofs.MainRoom.{main_room}
 use Rattle.cmm_top.proofs.StepsLeft.{ends_longer}

@@ -16,10 +16,10 @@ use Rattle.cmm_top.specs.declared.term.Sign.{Sign}
 use Rattle.cmm_top.specs.declared.term.Sign.TheVariants.{Plus, Minus}
 use Rattle.cmm_top.specs.declared.term.Term.{Term}
 use Rattle.cmm_top.specs.Sign.{sign_of, combined}
-use Rattle.cmm_top.specs.Code.{total}
+use Rattle.cmm_top.specs.inside.Code.{total}
 use Rattle.cmm_top.specs.Expression.{with_sign, joined, literal_value, sum_value, boxed_value, prim_value}
 use Rattle.cmm_top.specs.Form.{returned, form_value, value_of}
-use Rattle.cmm_top.specs.Terms.{and_terms, boxed_terms, combined_to, form_terms, literal_terms, prim_terms, sum_terms, terms_of, under}
+use Rattle.cmm_top.specs.inside.Terms.{and_terms, boxed_terms, combined_to, form_terms, literal_terms, prim_terms, sum_terms, terms_of, under}
 
 pub with_sign-Plus : (a b : ℕ) → with_sign a Plus b ≡ (a + b) % 2 ^ 64
 with_sign-Plus a b = refl

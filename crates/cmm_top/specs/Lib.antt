@@ -1,15 +1,12 @@
 pub mod Sign
 pub mod Expression
-pub mod Code
 pub mod Run
 pub mod Form
-pub mod Terms
 pub mod Command
 pub mod Lines
-pub mod Parts
 pub mod Status
 pub mod Causes
-pub mod Ending
 pub mod Call
 pub mod Headline
 pub mod Answers
+pub mod inside

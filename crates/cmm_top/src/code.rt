@@ -4,7 +4,7 @@ ghost use Rattle.std.specs.Prelude.{◌≡◌, ℕ, ◌+◌, ◌-◌, ◌*◌, �
 ghost use Rattle.rv_table.specs.declared.instruction.Instr.{Instr};
 ghost use Rattle.rv_table.specs.Encoding.{IsBetween};
 ghost use Rattle.rv_table.specs.Words.{modulo};
-ghost use Rattle.cmm_top.specs.Code.{addition_of, Adds, Emits, EndsWith, Loads};
+ghost use Rattle.cmm_top.specs.inside.Code.{addition_of, Adds, Emits, EndsWith, Loads};
 
 use crate::term::{Sign, Term};
 use rv_table::Instr;

@@ -14,7 +14,7 @@ ghost use Rattle.cmm_rules.specs.declared.rule.Rule.{Rule};
 ghost use Rattle.cmm_top.specs.Causes.{HasValue, HasNoCode, IsTreeOf, main_tokens};
 ghost use Rattle.cmm_top.specs.Form.{form_value};
 ghost use Rattle.cmm_top.specs.Run.{EndsWithin};
-ghost use Rattle.cmm_top.specs.Terms.{form_terms};
+ghost use Rattle.cmm_top.specs.inside.Terms.{form_terms};
 
 use crate::code::code_of;
 use crate::form::returned;

@@ -5,7 +5,7 @@
 //! run by the RISC-V machine, comes to the value of its expression, within 64 instructions for each token of `main`.
 //!
 //! - `top`: `cmm_main`.
-//! - `command`, `ending`, `status`: what the words ask for, what a file comes to and its line in the log, exit statuses.
+//! - `command`, `ending`, `line`, `status`: what the words ask for, what a file comes to, the line that says so in the log, exit statuses.
 //! - `first`: `compile_first`, from the bytes of a unit to its code.
 //! - `form`, `term`, `code`: from a tree to the sum that it returns, from that to signed numbers, and from these to instructions.
 //! - `run`: runs that code.
@@ -16,6 +16,7 @@ mod command;
 mod ending;
 mod first;
 mod form;
+mod line;
 mod run;
 mod status;
 mod term;

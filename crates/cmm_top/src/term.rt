@@ -1,7 +1,7 @@
 //! The terms that a sum adds up, read from its tree.
 
 ghost use Rattle.std.specs.Prelude.{◌≡◌, ◌++◌, Some, None, [], cond, option_map, IfOk};
-ghost use Rattle.cmm_top.specs.Terms.{sum_terms};
+ghost use Rattle.cmm_top.specs.inside.Terms.{sum_terms};
 ghost use Rattle.cmm_top.specs.Sign.{sign_of as sign_of_operator};
 
 use cmm_ast::{Expr, ExprForm, Infix, Number, PrimForm};

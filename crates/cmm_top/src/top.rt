@@ -6,7 +6,8 @@ ghost use Rattle.cmm_top.specs.Call.{Call};
 ghost use Rattle.cmm_top.specs.Command.{texts};
 
 use crate::command::file_in;
-use crate::ending::{Ending, close, exec};
+use crate::ending::{Ending, exec};
+use crate::line::close;
 use crate::status::Finish;
 use cmm_outside::{Files, Sink, Source};
 use std::alloc::Global;

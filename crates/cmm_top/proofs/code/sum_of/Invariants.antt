@@ -1,5 +1,5 @@
 use Rattle.std.proofs.Common.{◌*◌, ◌≤◌, [], length, take}
-use Rattle.cmm_top.specs.Code.{Adds, Emits}
+use Rattle.cmm_top.specs.inside.Code.{Adds, Emits}
 use Rattle.cmm_top.proofs.code.sum_of.Given as goal
 
 -- the terms so far are added, in few instructions

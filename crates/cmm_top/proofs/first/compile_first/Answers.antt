@@ -2,7 +2,7 @@ use Rattle.std.proofs.Common.{◌≡◌, Some, ◌∙◌, ap, sym, subst}
 use Rattle.std.specs.List.{All}
 use Rattle.rv_table.specs.Stands.{code_of}
 use Rattle.rv_table.specs.Table.{IsValid}
-use Rattle.cmm_top.specs.Terms.{form_terms}
+use Rattle.cmm_top.specs.inside.Terms.{form_terms}
 use Rattle.cmm_top.proofs.UnitCode.{has_value, not_built, unit_code_ends, unit_code_short, unit_code_valid}
 use Rattle.cmm_top.proofs.first.compile_first.Goals as goal
 

@@ -1,6 +1,6 @@
 use Rattle.std.proofs.Common.{ap, ◌∙◌}
 use Rattle.cmm_ast.specs.declared.expression.ExprForm.TheVariants.{Prim}
-use Rattle.cmm_top.specs.Terms.{sum_terms}
+use Rattle.cmm_top.specs.inside.Terms.{sum_terms}
 use Rattle.cmm_top.proofs.Gathering.{after, added_same, left_is_none, both_added, inside_added}
 use Rattle.cmm_top.proofs.term.+add_terms.Goals as goal
 

@@ -1,8 +1,8 @@
 use Rattle.std.proofs.Common.{◌≡◌, take}
 use Rattle.std.specs.List.{flat_map}
 use Rattle.cmm_outside.specs.Output.{Appends}
-use Rattle.cmm_top.specs.Parts.{part_text}
-use Rattle.cmm_top.proofs.ending.write_parts.Given as goal
+use Rattle.cmm_top.specs.inside.Parts.{part_text}
+use Rattle.cmm_top.proofs.line.write_parts.Given as goal
 
 -- the parts so far are written, and no call has failed
 abbrev pub invariant-loop-part : goal.invariant-loop-part

@@ -1,8 +1,8 @@
 use Rattle.std.proofs.Common.{[]}
-use Rattle.cmm_top.specs.declared.ending.Part.TheVariants.{Text}
-use Rattle.cmm_top.specs.Parts.{part_text}
+use Rattle.cmm_top.specs.declared.line.Part.TheVariants.{Text}
+use Rattle.cmm_top.specs.inside.Parts.{part_text}
 use Rattle.cmm_outside.proofs.Shared.{AppendsFront-pieces, OnErr-always}
-use Rattle.cmm_top.proofs.ending.write_parts.Goals as goal
+use Rattle.cmm_top.proofs.line.write_parts.Goals as goal
 
 pub returns-in_err-write_part-clause-err : goal.returns-in_err-write_part-clause-err
 returns-in_err-write_part-clause-err g c =

@@ -1,0 +1,4 @@
+pub mod Code
+pub mod Terms
+pub mod Parts
+pub mod Ending
