@@ -3,9 +3,8 @@ pub mod Parsed
 pub mod Taken
 pub mod MainRoom
 pub mod Gathering
-pub mod Emitting
-pub mod Loading
-pub mod Adding
+pub mod Pieces
+pub mod Summing
 pub mod CodeEnds
 pub mod StepsLeft
 pub mod UnitCode

@@ -1,12 +1,12 @@
 //! The code of a sum: a straight piece of instructions that ends the run with it.
 
-ghost use Rattle.std.specs.Prelude.{◌≡◌, ℕ, ◌+◌, ◌-◌, ◌*◌, ◌/◌, ◌%◌, ◌^◌, pos, negsuc, ◌<◌, ◌≤◌, List, [], ◌∷◌, ◌++◌, length, IfOk, OnOk};
-ghost use Rattle.rv_table.specs.declared.instruction.Instr.{Instr};
-ghost use Rattle.rv_table.specs.Encoding.{IsBetween};
-ghost use Rattle.rv_table.specs.Words.{modulo};
-ghost use Rattle.cmm_top.specs.inside.Code.{addition_of, Adds, Emits, EndsWith, Loads};
+ghost use Rattle.std.specs.Prelude.{◌≡◌, ℕ, ◌+◌, ◌*◌, ◌^◌, ◌<◌, ◌≤◌, [], ◌∷◌, length, IfOk, OnOk};
+ghost use Rattle.rv_asm.specs.Appending.{Appends};
+ghost use Rattle.rv_asm.specs.Sizes.{all_longest};
+ghost use Rattle.cmm_top.specs.inside.Code.{addition_of, Adds, EndsWith, Leads, Loads};
 
 use crate::term::{Sign, Term};
+use rv_asm::Asm;
 use rv_table::Instr;
 use std::alloc::{AllocError, Global};
 
@@ -25,40 +25,43 @@ const NUMBER: u8 = 11;
 /// The request to end the run.
 const END: i32 = 5;
 
-/// The instructions that add up the terms and end the run with their sum.
-pub fn code_of(alloc: Global, terms: &[Term]) -> Result<Vec<Instr>, AllocError>
-    ensures few { IfOk result (λ code. length code.items ≤ 66 * length terms.now + 2) }
-    ensures ends { IfOk result (λ code. (is : List Instr) × (code.items ≡ is ++ Instr.Ecall ∷ []) × Emits [] is (EndsWith terms.now)) }
+/// The code that adds up the terms and ends the run with their sum.
+pub fn code_of(alloc: Global, terms: &[Term]) -> Result<Asm, AllocError>
+    ensures few { IfOk result (λ asm. all_longest asm.parts ≤ 4 * (66 * length terms.now + 2)) }
+    ensures labels { IfOk result (λ asm. asm.labels ≡ []) }
+    ensures ends { IfOk result (λ asm. Appends [] asm.parts (EndsWith terms.now)) }
 {
-    let mut code = sum_of(alloc, terms)?;
-    code.push(Instr::Addi {
+    let mut asm = sum_of(alloc, terms)?;
+    asm.emit(Instr::Addi {
         rd: REQUEST,
         rs1: ZERO,
         imm: END,
     })?;
-    code.push(Instr::Ecall)?;
-    Ok(code)
+    asm.emit(Instr::Ecall)?;
+    Ok(asm)
 }
 
-/// The instructions that add up the terms.
-fn sum_of(alloc: Global, terms: &[Term]) -> Result<Vec<Instr>, AllocError>
-    ensures few { IfOk result (λ code. length code.items ≤ 66 * length terms.now) }
-    ensures adds { IfOk result (λ code. Emits [] code.items (Adds terms.now)) }
+/// The code that adds up the terms.
+fn sum_of(alloc: Global, terms: &[Term]) -> Result<Asm, AllocError>
+    ensures few { IfOk result (λ asm. all_longest asm.parts ≤ 4 * (66 * length terms.now)) }
+    ensures labels { IfOk result (λ asm. asm.labels ≡ []) }
+    ensures adds { IfOk result (λ asm. Appends [] asm.parts (Leads (Adds terms.now))) }
 {
-    let mut code = Vec::new(alloc);
+    let mut asm = Asm::new(alloc);
     for term in terms {
-        add(&mut code, *term)?;
+        add(&mut asm, *term)?;
     }
-    Ok(code)
+    Ok(asm)
 }
 
 /// Adds a term to the sum.
-fn add(code: &mut Vec<Instr>, term: Term) -> Result<(), AllocError>
-    ensures few { OnOk result (length code.new.items ≤ length code.old.items + 66) }
-    ensures adds { OnOk result (Emits code.old.items code.new.items (Adds (term ∷ []))) }
+fn add(asm: &mut Asm, term: Term) -> Result<(), AllocError>
+    ensures few { OnOk result (all_longest asm.new.parts ≤ all_longest asm.old.parts + 4 * 66) }
+    ensures labels { asm.new.labels ≡ asm.old.labels }
+    ensures adds { OnOk result (Appends asm.old.parts asm.new.parts (Leads (Adds (term ∷ [])))) }
 {
-    load(code, term.number)?;
-    code.push(addition(term.sign))?;
+    load(asm, term.number)?;
+    asm.emit(addition(term.sign))?;
     Ok(())
 }
 
@@ -80,45 +83,31 @@ fn addition(sign: Sign) -> Instr
     }
 }
 
-/// Gives register `NUMBER` a number, in pieces of 12 bits from the highest on.
-fn load(code: &mut Vec<Instr>, number: u64) -> Result<(), AllocError>
-    ensures loads { OnOk result (Emits code.old.items code.new.items (Loads number)) }
+/// Gives register `NUMBER` a number, in pieces of 11 bits from the highest on, which are immediates without a sign.
+fn load(asm: &mut Asm, number: u64) -> Result<(), AllocError>
+    ensures few { OnOk result ((words : ℕ) × (all_longest asm.new.parts ≡ all_longest asm.old.parts + 4 * words) × (2 ^ words ≤ 2 * (number + 1))) }
     ensures fits { OnOk result (number < 2 ^ 64) }
-    ensures few { OnOk result (2 ^ (length code.new.items - length code.old.items) ≤ 2 * (number + 1)) }
+    ensures labels { asm.new.labels ≡ asm.old.labels }
+    ensures loads { OnOk result (Appends asm.old.parts asm.new.parts (Leads (Loads number))) }
 {
     if number < 2048 {
-        code.push(Instr::Addi {
+        asm.emit(Instr::Addi {
             rd: NUMBER,
             rs1: ZERO,
             imm: number as i32,
         })?;
         return Ok(());
     }
-    load(code, high_part(number))?;
-    code.push(Instr::Slli {
+    load(asm, number / 2048)?;
+    asm.emit(Instr::Slli {
         rd: NUMBER,
         rs1: NUMBER,
-        imm: 12,
+        imm: 11,
     })?;
-    code.push(Instr::Addi {
+    asm.emit(Instr::Addi {
         rd: NUMBER,
         rs1: NUMBER,
-        imm: low_part(number),
+        imm: (number % 2048) as i32,
     })?;
     Ok(())
-}
-
-/// What is left of a number for the bits from 12 on, once its low part is taken away.
-fn high_part(number: u64) -> u64
-    ensures rounded { result ≡ (number + 2048) / 4096 }
-{
-    number / 4096 + u64::from(number % 4096 >= 2048)
-}
-
-/// The low 12 bits of a number as a signed number.
-fn low_part(number: u64) -> i32
-    ensures bounds { IsBetween (negsuc 2047) (pos 2047) result }
-    ensures rest { ((number + 2048) / 4096 * 4096 + modulo 64 result) % 2 ^ 64 ≡ number % 2 ^ 64 }
-{
-    ((number % 4096 + 2048) % 4096) as i32 - 2048
 }

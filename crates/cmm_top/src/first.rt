@@ -1,10 +1,7 @@
 //! `compile_first`: from the bytes of a unit of the first form to its code.
 
 ghost use Rattle.std.specs.Prelude.{◌≡◌, ℕ, ◌+◌, ◌*◌, ◌≤◌, Some, length, slice_get, option_map, IfOk, OnOk, IfErr};
-ghost use Rattle.std.specs.List.{All};
 ghost use Rattle.rv_table.specs.declared.memory_map.TheConstants.{CODE_LENGTH_LIMIT};
-ghost use Rattle.rv_table.specs.Stands.{code_of as words_of};
-ghost use Rattle.rv_table.specs.Table.{IsValid};
 ghost use Rattle.cmm_ast.specs.declared.unit.Unit.{Unit as UnitTree};
 ghost use Rattle.cmm_lexer.specs.Lexing.{tokens_of};
 ghost use Rattle.cmm_lexer.specs.declared.tokens.TheConstants.{UNIT_LIMIT};
@@ -23,9 +20,7 @@ use cmm_ast::Unit;
 use cmm_lexer::{LexFault, Tokens, lex};
 use cmm_parser::{SyntaxFault, parse};
 use cmm_rules::Rule;
-use rv_code::encode;
-use rv_table::Instr;
-use rv_table::laws::{code_stands, runs};
+use rv_table::memory_map::CODE_BASE;
 use std::alloc::{AllocError, Global};
 use thiserror::Error;
 
@@ -67,10 +62,9 @@ pub fn compile_first(alloc: Global, unit: &[u8]) -> Result<Vec<u8>, FirstFault>
     let Some(terms) = terms_of(alloc, &tree)? else {
         return Err(FirstFault::Refused(NOT_BUILT));
     };
-    let code = code_of(alloc, &terms)?;
-    code_stands();
-    runs();
-    Ok(bytes_of(alloc, &code)?)
+    let asm = code_of(alloc, &terms)?;
+    let placed = asm.finish(CODE_BASE)?;
+    Ok(placed.bytes.into_vec())
 }
 
 /// The tree of a unit.
@@ -137,18 +131,6 @@ fn terms_of(alloc: Global, tree: &Unit) -> Result<Option<Vec<Term>>, AllocError>
         Some(sum) => terms_in(alloc, sum),
         None => Ok(None),
     }
-}
-
-/// The bytes of the instructions, one after another, the low byte of each word first.
-fn bytes_of(alloc: Global, code: &[Instr]) -> Result<Vec<u8>, AllocError>
-    requires { All IsValid code.now }
-    ensures { IfOk result (λ bytes. bytes.items ≡ words_of code.now) }
-{
-    let mut bytes = Vec::new(alloc);
-    for instruction in code {
-        bytes.extend_from_slice(&encode(*instruction).to_le_bytes())?;
-    }
-    Ok(bytes)
 }
 
 impl From<AllocError> for FirstFault {

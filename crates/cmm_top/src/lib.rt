@@ -7,7 +7,7 @@
 //! - `top`: `cmm_main`.
 //! - `command`, `ending`, `line`, `status`: what the words ask for, what a file comes to, the line that says so in the log, exit statuses.
 //! - `first`: `compile_first`, from the bytes of a unit to its code.
-//! - `form`, `term`, `code`: from a tree to the sum that it returns, from that to signed numbers, and from these to instructions.
+//! - `form`, `term`, `code`: from a tree to the sum that it returns, from that to signed numbers, and from these to the assembler's parts.
 //! - `run`: runs that code.
 #![tactic(auto)]
 

@@ -1,26 +1,24 @@
-use Rattle.std.proofs.Common.{length, length-append, ap, arith, ℤ, pos, negsuc, w32, SFits}
-use Rattle.std.proofs.lemmas.Int.{ints, to_z_pos, to_z-of_z}
-use Rattle.rv_table.specs.Encoding.{IsBetween}
-use Rattle.cmm_top.proofs.Loading.{load_small, load_more, few_more}
+use Rattle.std.proofs.Common.{◌+◌, ◌%◌, arith, w32}
+use Rattle.std.proofs.lemmas.Int.{to_z_pos}
+use Rattle.cmm_top.proofs.Summing.{few_more, load_more, load_small, word_more}
 use Rattle.cmm_top.proofs.code.+load.Goals as goal
+
+pub returns-then-number-lt2048-clause-few : goal.returns-then-number-lt2048-clause-few
+returns-then-number-lt2048-clause-few t c = (1, word_more _ _ _ c.in_ok-emit.ensures.parts, omega arith)
 
 pub returns-then-number-lt2048-clause-loads : goal.returns-then-number-lt2048-clause-loads
 returns-then-number-lt2048-clause-loads t c =
-    rw (c.in_ok-push.ensures.items, to_z_pos w32 c.args.number (omega arith)) (load_small c.args.code.now.items c.args.number c.if-number-lt2048.true)
-
-fits : (z : ℤ) → IsBetween (negsuc 2047) (pos 2047) z → SFits w32 z
-fits z b = search (arith, ints, b.0, b.1)
-
-pub returns-clause-loads : goal.returns-clause-loads
-returns-clause-loads t c =
-    rw (c.in_ok-push-3.ensures.items, c.in_ok-push-2.ensures.items, to_z-of_z w32 c.low_part.result (fits c.low_part.result c.low_part.ensures.bounds))
-    (load_more c.args.code.now.items c.load.new.code.items c.args.number c.low_part.result c.ranges.number.fits c.low_part.ensures.bounds c.low_part.ensures.rest
-    (rw c.high_part.ensures.rounded at c.in_ok-load.ensures.loads))
+    rw (c.in_ok-emit.ensures.parts, to_z_pos w32 c.args.number (omega arith)) (load_small c.args.asm.now.parts c.args.number c.if-number-lt2048.true)
 
 pub returns-clause-few : goal.returns-clause-few
 returns-clause-few t c =
-    rw (c.in_ok-push-3.ensures.items, c.in_ok-push-2.ensures.items, length-append, length-append)
-    (few_more (length c.args.code.now.items) (length c.load.new.code.items) c.args.number
-    (omega (arith, ap length c.in_ok-load.ensures.loads.added, length-append c.args.code.now.items c.in_ok-load.ensures.loads.is))
-    c.if-number-lt2048.false
-    (rw c.high_part.ensures.rounded at c.in_ok-load.ensures.few))
+    let (words, more, few) = c.in_ok-load.ensures.few in (
+      words + 2,
+      omega (arith, more, word_more _ _ _ c.in_ok-emit-2.ensures.parts, word_more _ _ _ c.in_ok-emit-3.ensures.parts),
+      few_more words c.args.number c.if-number-lt2048.false few,
+    )
+
+pub returns-clause-loads : goal.returns-clause-loads
+returns-clause-loads t c =
+    rw (c.in_ok-emit-3.ensures.parts, c.in_ok-emit-2.ensures.parts, to_z_pos w32 (c.args.number % 2048) (omega arith))
+    (load_more c.args.asm.now.parts c.load.new.asm.parts c.args.number c.ranges.number.fits c.in_ok-load.ensures.loads)

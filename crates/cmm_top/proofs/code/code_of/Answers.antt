@@ -1,6 +1,11 @@
-use Rattle.std.proofs.Common.{[]}
-use Rattle.cmm_top.proofs.Adding.{ends_with}
+use Rattle.std.proofs.Common.{[], arith}
+use Rattle.cmm_top.proofs.Pieces.{ended}
+use Rattle.cmm_top.proofs.Summing.{ends_next, word_more}
 use Rattle.cmm_top.proofs.code.code_of.Goals as goal
 
+pub returns-clause-few : goal.returns-clause-few
+returns-clause-few c = omega (arith, c.in_ok-asm.ensures.few, word_more _ _ _ c.in_ok-emit.ensures.parts, word_more _ _ _ c.in_ok-emit-2.ensures.parts)
+
 pub returns-clause-ends : goal.returns-clause-ends
-returns-clause-ends c = (c.push.new.self.items, c.in_ok-push-2.ensures.items, rw c.in_ok-push.ensures.items (ends_with [] c.in_ok-code.code.items c.args.terms.now c.in_ok-code.ensures.adds))
+returns-clause-ends c =
+    rw (c.in_ok-emit-2.ensures.parts, c.in_ok-emit.ensures.parts) (ended [] _ c.args.terms.now (ends_next [] c.in_ok-asm.asm.parts c.args.terms.now c.in_ok-asm.ensures.adds))

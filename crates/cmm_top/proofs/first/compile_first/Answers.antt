@@ -1,28 +1,37 @@
-use Rattle.std.proofs.Common.{◌≡◌, Some, ◌∙◌, ap, sym, subst}
-use Rattle.std.specs.List.{All}
-use Rattle.rv_table.specs.Stands.{code_of}
-use Rattle.rv_table.specs.Table.{IsValid}
+use Rattle.std.proofs.Common.{◌≡◌, ◌+◌, ◌≤◌, ◌^◌, List, [], Some, ◌∙◌, ap, arith, subst}
+use Rattle.rv_asm.specs.Finishing.{RunAsParts, fix_symbols, symbols_of}
+use Rattle.rv_asm.specs.Sizes.{all_longest}
+use Rattle.rv_asm.specs.declared.part.Meaning.{Meaning}
+use Rattle.rv_table.specs.Machine.{code_base}
 use Rattle.cmm_top.specs.inside.Terms.{form_terms}
-use Rattle.cmm_top.proofs.UnitCode.{has_value, not_built, unit_code_ends, unit_code_short, unit_code_valid}
+use Rattle.cmm_top.proofs.UnitCode.{has_value, not_built, unit_code_ends, unit_code_fits}
 use Rattle.cmm_top.proofs.first.compile_first.Goals as goal
 
-pub bytes_of-requires : goal.bytes_of-requires
-bytes_of-requires c =
-    subst (All IsValid) (sym c.deref-2.ensures.value)
-    (unit_code_valid c.in_ok-code.code.items c.in_ok-code.ensures.ends.0 c.deref.result.now c.in_ok-code.ensures.ends.1 c.in_ok-code.ensures.ends.2)
+pub finish-requires-clause-room : goal.finish-requires-clause-room
+finish-requires-clause-room c =
+    let read : Some c.in-Some.terms.items ≡ form_terms c.in_ok-tree.tree = rw c.in-Some.is at c.in_ok-terms.ensures in
+    unit_code_fits (all_longest c.in_ok-asm.asm.parts) c.deref.result.now c.args.unit.now c.in_ok-tree.tree c.in_ok-asm.ensures.few c.in_ok-tree.ensures.ok
+    (ap Some c.deref.ensures.value ∙ read) c.in_ok-tree.ensures.few
 
 pub returns-clause-ok : goal.returns-clause-ok
 returns-clause-ok c tree value is_tree value_is =
     let read : Some c.in-Some.terms.items ≡ form_terms c.in_ok-tree.tree = rw c.in-Some.is at c.in_ok-terms.ensures in
-    unit_code_ends c.code_stands.ensures.stands c.runs.ensures.straight c.in_ok-code.code.items c.in_ok-code.ensures.ends.0 c.in_ok-bytes_of.field-0.items c.deref.result.now c.args.unit.now
-    c.in_ok-tree.tree tree value c.in_ok-tree.ensures.ok (ap Some c.deref.ensures.value ∙ read) is_tree value_is
-    c.in_ok-code.ensures.few c.in_ok-code.ensures.ends.1 c.in_ok-code.ensures.ends.2 (c.in_ok-bytes_of.ensures ∙ ap code_of c.deref-2.ensures.value)
+    let placed = c.in_ok-placed.placed in
+    let runs : RunAsParts [] c.in_ok-asm.asm.parts code_base placed.bytes placed.places placed.fixes =
+    subst (λ (labels : List Meaning). RunAsParts labels c.in_ok-asm.asm.parts code_base placed.bytes placed.places placed.fixes) c.in_ok-asm.ensures.labels c.in_ok-placed.ensures.runs in
+    let symbols : fix_symbols placed.fixes ≡ symbols_of [] c.in_ok-asm.asm.parts =
+    c.in_ok-placed.ensures.symbols ∙ ap (λ (labels : List Meaning). symbols_of labels c.in_ok-asm.asm.parts) c.in_ok-asm.ensures.labels in
+    rw c.into_vec.ensures
+    (unit_code_ends c.in_ok-asm.asm.parts placed.bytes placed.places placed.fixes c.deref.result.now c.args.unit.now c.in_ok-tree.tree tree value c.in_ok-tree.ensures.ok
+    (ap Some c.deref.ensures.value ∙ read) is_tree value_is runs symbols c.in_ok-asm.ensures.ends (omega (arith, c.in_ok-placed.ensures.size, c.in_ok-asm.ensures.few)))
 
 pub returns-clause-short : goal.returns-clause-short
 returns-clause-short c =
     let read : Some c.in-Some.terms.items ≡ form_terms c.in_ok-tree.tree = rw c.in-Some.is at c.in_ok-terms.ensures in
-    unit_code_short c.in_ok-code.code.items c.in_ok-bytes_of.field-0.items c.deref.result.now c.args.unit.now c.in_ok-tree.tree c.in_ok-code.ensures.few c.in_ok-tree.ensures.ok
-    (ap Some c.deref.ensures.value ∙ read) c.in_ok-tree.ensures.few (c.in_ok-bytes_of.ensures ∙ ap code_of c.deref-2.ensures.value)
+    let fits : code_base + all_longest c.in_ok-asm.asm.parts ≤ 2 ^ 30 =
+    unit_code_fits (all_longest c.in_ok-asm.asm.parts) c.deref.result.now c.args.unit.now c.in_ok-tree.tree c.in_ok-asm.ensures.few c.in_ok-tree.ensures.ok
+    (ap Some c.deref.ensures.value ∙ read) c.in_ok-tree.ensures.few in
+    rw c.into_vec.ensures (omega (arith, c.in_ok-placed.ensures.size, fits))
 
 pub returns-clause-form : goal.returns-clause-form
 returns-clause-form c =
