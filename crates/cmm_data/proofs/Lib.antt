@@ -1,0 +1,9 @@
+mod Ends
+mod Placing
+mod Sizes
+mod Words
+mod Fixes
+mod Waiting
+mod Layable
+mod Images
+mod Rows

@@ -1,0 +1,4 @@
+pub mod Conditions
+pub mod Filling
+pub mod Laws
+pub mod inside
