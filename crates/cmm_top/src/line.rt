@@ -1,9 +1,8 @@
 //! The line that says what a call came to.
 
-ghost use Rattle.std.specs.Prelude.{◌≡◌, OnOk, OnErr};
+ghost use Rattle.std.specs.Prelude.{◌≡◌};
 ghost use Rattle.std.specs.List.{flat_map};
-ghost use Rattle.cmm_outside.specs.Faults.{Rose};
-ghost use Rattle.cmm_outside.specs.Output.{Appends, AppendsFront};
+ghost use Rattle.cmm_outside.specs.Output.{WritesAll};
 ghost use Rattle.cmm_top.specs.inside.Ending.{Closes, line_of, status_of as status_of_ending};
 ghost use Rattle.cmm_top.specs.inside.Parts.{part_text};
 ghost use Rattle.cmm_top.specs.Lines.{refused_line};
@@ -38,10 +37,7 @@ fn status_of(ending: Ending) -> Status
 
 /// Writes the line of an ending.
 fn write_line<E: Sink>(ending: Ending, name: &str, log: &mut E) -> Result<(), Failed>
-    ensures ok { OnOk result (Appends (E.taken log.old) (E.taken log.new) (line_of name.now ending)) }
-    ensures err { OnErr result (AppendsFront (E.taken log.old) (E.taken log.new) (line_of name.now ending)) }
-    ensures no_fault { OnOk result (E.faults log.new ≡ E.faults log.old) }
-    ensures fault { OnErr result (Rose (E.faults log.old) (E.faults log.new)) }
+    ensures { WritesAll E.taken E.faults log.old log.new (line_of name.now ending) result }
 {
     match ending {
         Ending::Usage => write_all(log, b"usage\n"),
@@ -68,10 +64,7 @@ fn write_line<E: Sink>(ending: Ending, name: &str, log: &mut E) -> Result<(), Fa
 
 /// Writes the line of a refused unit.
 fn write_fault<E: Sink>(fault: Fault, name: &str, log: &mut E) -> Result<(), Failed>
-    ensures ok { OnOk result (Appends (E.taken log.old) (E.taken log.new) (refused_line name.now fault)) }
-    ensures err { OnErr result (AppendsFront (E.taken log.old) (E.taken log.new) (refused_line name.now fault)) }
-    ensures no_fault { OnOk result (E.faults log.new ≡ E.faults log.old) }
-    ensures fault { OnErr result (Rose (E.faults log.old) (E.faults log.new)) }
+    ensures { WritesAll E.taken E.faults log.old log.new (refused_line name.now fault) result }
 {
     write_parts(
         log,
@@ -99,10 +92,7 @@ enum Part<'a> {
 
 /// Writes the parts, one after another.
 fn write_parts<E: Sink>(log: &mut E, parts: &[Part]) -> Result<(), Failed>
-    ensures ok { OnOk result (Appends (E.taken log.old) (E.taken log.new) (flat_map part_text parts.now)) }
-    ensures err { OnErr result (AppendsFront (E.taken log.old) (E.taken log.new) (flat_map part_text parts.now)) }
-    ensures no_fault { OnOk result (E.faults log.new ≡ E.faults log.old) }
-    ensures fault { OnErr result (Rose (E.faults log.old) (E.faults log.new)) }
+    ensures { WritesAll E.taken E.faults log.old log.new (flat_map part_text parts.now) result }
 {
     for part in parts {
         write_part(log, part)?;
@@ -111,10 +101,7 @@ fn write_parts<E: Sink>(log: &mut E, parts: &[Part]) -> Result<(), Failed>
 }
 
 fn write_part<E: Sink>(log: &mut E, part: &Part) -> Result<(), Failed>
-    ensures ok { OnOk result (Appends (E.taken log.old) (E.taken log.new) (part_text part.now)) }
-    ensures err { OnErr result (AppendsFront (E.taken log.old) (E.taken log.new) (part_text part.now)) }
-    ensures no_fault { OnOk result (E.faults log.new ≡ E.faults log.old) }
-    ensures fault { OnErr result (Rose (E.faults log.old) (E.faults log.new)) }
+    ensures { WritesAll E.taken E.faults log.old log.new (part_text part.now) result }
 {
     match *part {
         Part::Text(bytes) => write_all(log, bytes),
