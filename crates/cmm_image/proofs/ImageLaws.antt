@@ -1,5 +1,5 @@
 -- The image's format reads what it spells and nothing else.
-use Rattle.std.proofs.Common.{◌≡◌, ℕ, zero, suc, ◌+◌, ◌*◌, ◌%◌, ◌^◌, ◌<◌, ◌≤◌, Bool, true, false, ◌||◌, IsTrue, if◌then◌else◌, nat_le, nat_lt, nat_eq, List, [], ◌∷◌, ◌++◌, length, Option, Some, None, Result, Ok, Err, refl, sym, ap, subst, ◌∙◌, arith}
+use Rattle.std.proofs.Common.{◌≡◌, ℕ, zero, suc, ◌%◌, Bool, true, false, ◌||◌, IsTrue, if◌then◌else◌, nat_le, nat_lt, nat_eq, List, [], ◌∷◌, length, Option, None, refl, sym, arith}
 use Rattle.std.specs.Option.{option_map}
 use Rattle.std.proofs.lemmas.Bool.{eqb-true}
 use Rattle.std.proofs.lemmas.Bool.Decides.{nat_tests}
@@ -9,7 +9,6 @@ use Rattle.cmm_words.specs.declared.width.Width.TheVariants.{W8, W16, W32, W64}
 use Rattle.cmm_words.specs.Widths.{bits}
 use Rattle.rv_table.specs.declared.memory_map.TheConstants.{DATA_LENGTH_LIMIT, GLOBAL_COUNT_LIMIT}
 use Rattle.cmm_image.specs.declared.header.Header.{Header}
-use Rattle.cmm_image.specs.declared.image.Image.{Image}
 use Rattle.cmm_image.specs.declared.rows.VariableNumber.{VariableNumber}
 use Rattle.cmm_image.specs.declared.rows.ContinuationNumber.{ContinuationNumber}
 use Rattle.cmm_image.specs.declared.rows.SavedRegister.{SavedRegister}
@@ -23,9 +22,8 @@ use Rattle.cmm_image.specs.declared.rows.SpanRow.{SpanRow}
 use Rattle.cmm_image.specs.declared.rows.SiteRow.{SiteRow}
 use Rattle.cmm_image.specs.declared.rows.LabelRow.{LabelRow}
 use Rattle.cmm_image.specs.declared.rows.GlobalRow.{GlobalRow}
-use Rattle.cmm_image.specs.Formats.{Format, Condition, ◌when◌, ◌▸◌, as_}
-use Rattle.cmm_image.specs.Places.{variable_place, is_saved_register, leaves}
-use Rattle.cmm_image.specs.ImageFormat.{formed, within, in_code, is_in_data, above, after, is_width, width_of, width, one_if, magic, is_code_length, is_procedure_count, Counts, HeaderFields, header_of, header_fields, counts, header, saved_register, variable, stack_label, variable_number, is_pair, continuation, no_return, is_return_offset, procedure_of, procedure_fields, procedure, has_sites, continuation_number, unwind, span, flags_of, flags_number, flags, exits_in_code, site_lists, site_lists_in, procedure_at, site_of_fields, site_fields, site, label, global, ImageFields, image_of, image_header, image_fields, image}
+use Rattle.cmm_image.specs.Places.{is_saved_register, leaves}
+use Rattle.cmm_image.specs.ImageFormat.{formed, within, in_code, is_in_data, above, after, is_width, width_of, width, one_if, magic, is_code_length, is_procedure_count, HeaderFields, header_of, header_fields, counts, header, saved_register, variable, stack_label, variable_number, is_pair, continuation, no_return, is_return_offset, procedure_of, procedure_fields, procedure, has_sites, continuation_number, unwind, span, flags_of, flags_number, flags, exits_in_code, site_lists, procedure_at, site_of_fields, site_fields, site, label, global, image_of, image_fields, image}
 use Rattle.cmm_image.proofs.FieldLaws.{IsExact, number-exact, block-exact, text-exact, when-exact, optional-exact}
 use Rattle.cmm_image.proofs.TableLaws.{then-exact, as-exact, rows-exact, counted-exact}
 use Rattle.cmm_image.proofs.PlaceLaws.{place-exact}

@@ -1,11 +1,10 @@
 -- Worked rows: a whole small image, and what is wrong with bytes that are nearly one.
-use Rattle.std.proofs.Common.{◌≡◌, ℕ, List, [], ◌∷◌, ◌++◌, take, drop, Option, Some, None, Ok, Err, refl}
+use Rattle.std.proofs.Common.{◌≡◌, ℕ, List, [], ◌∷◌, ◌++◌, take, drop, None, Ok, Err, refl}
 use Rattle.cmm_rules.specs.declared.rule.Rule.TheVariants.{ImageIsCut, BadImageField, BytesAfterImage, NotAnImage}
 use Rattle.cmm_image.specs.declared.image.Image.{Image}
-use Rattle.cmm_image.specs.declared.fault.Broken.{Broken}
-use Rattle.cmm_image.specs.declared.rows.VariablePlace.TheVariants.{Dead, Slot, Register}
+use Rattle.cmm_image.specs.declared.rows.VariablePlace.TheVariants.{Slot, Register}
 use Rattle.cmm_image.specs.Formats.{number_at, number_bytes, block_at, text_at, text_bytes}
-use Rattle.cmm_image.specs.Places.{place_at, place_bytes}
+use Rattle.cmm_image.specs.Places.{place_at}
 use Rattle.cmm_image.specs.ImageFormat.{image}
 use Rattle.cmm_image.specs.Images.{image_in}
 

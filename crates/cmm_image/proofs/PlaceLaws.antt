@@ -1,5 +1,5 @@
 -- Places of variables: what is read is spelled so, and what is spelled so is read.
-use Rattle.std.proofs.Common.{◌≡◌, ℕ, zero, suc, ◌+◌, ◌%◌, ◌^◌, ◌<◌, ◌≤◌, Bool, true, false, IsTrue, nat_le, nat_lt, List, [], ◌∷◌, ◌++◌, length, drop, Option, Result, Ok, Err, refl, sym, ap, subst, ◌∙◌, arith}
+use Rattle.std.proofs.Common.{◌≡◌, ℕ, zero, suc, ◌%◌, ◌<◌, true, false, IsTrue, nat_lt, List, [], ◌∷◌, ◌++◌, length, drop, Option, Ok, Err, refl, ap, subst, ◌∙◌, arith}
 use Rattle.std.proofs.lemmas.Bool.Decides.{nat_tests}
 use Rattle.byteorder.specs.Endian.{little_number}
 use Rattle.cmm_image.specs.declared.rows.VariablePlace.{VariablePlace}
@@ -7,7 +7,7 @@ use Rattle.cmm_image.specs.declared.rows.VariablePlace.TheVariants.{Dead, Slot, 
 use Rattle.cmm_rules.specs.declared.rule.Rule.TheVariants.{ImageIsCut, BadImageField, ImageOutOfRange}
 use Rattle.cmm_image.specs.Formats.{Front, AreBytes, breaks, number_bytes, number_at}
 use Rattle.cmm_image.specs.Places.{is_saved_register, leaves, place_bytes, IsPlace, slot_at, register_at, place_at, variable_place}
-use Rattle.cmm_image.proofs.FieldLaws.{IsExact, ok_is, passed, not_cut, number-exact, AreBytes-tail, cells, chosen_true, chosen_false}
+use Rattle.cmm_image.proofs.FieldLaws.{IsExact, ok_is, passed, not_cut, number-exact, AreBytes-tail, chosen_true, chosen_false}
 
 abbrev Placed : ℕ → List ℕ → VariablePlace × List ℕ → Type 0
 Placed frame bytes x = (bytes ≡ place_bytes x.0 ++ x.1) × IsPlace frame x.0 × AreBytes x.1

@@ -1,5 +1,5 @@
 -- What a reading of an image says of its bytes.
-use Rattle.std.proofs.Common.{◌≡◌, ℕ, ◌-◌, ◌≤◌, ◌<◌, Bool, true, false, List, [], ◌∷◌, ◌++◌, length, Result, Ok, Err, refl, sym, ap, subst, ◌∙◌, arith, nat_lt}
+use Rattle.std.proofs.Common.{◌≡◌, ℕ, ◌-◌, ◌≤◌, true, false, List, [], ◌∷◌, ◌++◌, length, Result, Ok, Err, refl, sym, ap, subst, ◌∙◌, nat_lt}
 use Rattle.std.proofs.lemmas.List.{append-nil}
 use Rattle.std.proofs.lemmas.Bool.{ltb-false, le-ltb}
 use Rattle.cmm_image.specs.declared.fault.Broken.{Broken}
@@ -11,7 +11,7 @@ use Rattle.cmm_image.specs.ImageFormat.{image}
 use Rattle.cmm_rules.specs.declared.rule.Rule.{Rule}
 use Rattle.cmm_image.specs.declared.fault.Unread.{Unread}
 use Rattle.cmm_image.specs.declared.fault.Unread.TheVariants.{Breaks, Memory}
-use Rattle.cmm_image.specs.Images.{IsImage, SpellsImage, ended, image_in, IsFirstFault, ImageFaultAt, IsImageRead, IsRefusal}
+use Rattle.cmm_image.specs.Images.{SpellsImage, ended, image_in, IsFirstFault, ImageFaultAt, IsImageRead, IsRefusal}
 use Rattle.cmm_image.specs.inside.Wholes.{Gives, fault_of}
 use Rattle.cmm_image.proofs.FieldLaws.{bind_ok, ok_is, not_cut, chosen_false}
 use Rattle.cmm_image.proofs.ImageLaws.{image-exact}

@@ -1,8 +1,7 @@
 -- Tables of fields, and rows: what is read is spelled so, and what is spelled so is read.
-use Rattle.std.proofs.Common.{◌≡◌, ℕ, zero, suc, ◌+◌, ◌<◌, ◌≤◌, Bool, true, false, List, [], ◌∷◌, ◌++◌, length, Option, Some, None, Result, Ok, Err, refl, sym, ap, subst, ◌∙◌, append_assoc, arith}
+use Rattle.std.proofs.Common.{◌≡◌, ℕ, zero, suc, List, [], ◌∷◌, ◌++◌, length, Option, Some, None, Ok, refl, sym, ap, subst, ◌∙◌, append_assoc, arith}
 use Rattle.std.specs.List.{flat_map}
-use Rattle.cmm_image.specs.declared.fault.Broken.{Broken}
-use Rattle.cmm_image.specs.Formats.{◌>>=◌, Front, Format, AreBytes, as_, ◌▸◌, rows_at, AreRows, rows, counted_at, counted}
+use Rattle.cmm_image.specs.Formats.{◌>>=◌, Format, AreBytes, as_, ◌▸◌, rows_at, AreRows, rows, counted}
 use Rattle.cmm_image.proofs.FieldLaws.{IsExact, bind_ok, ok_is}
 
 pub then-exact : {A B : Type 0} {F : Format A} {G : A → Format B} → IsExact F → ((a : A) → IsExact (G a)) → IsExact (F ▸ G)

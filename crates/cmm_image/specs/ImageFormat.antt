@@ -1,10 +1,9 @@
 -- The format of an image: its fields in their order, a line each, with their conditions in the order in which they are tested.
-use Rattle.std.specs.Prelude.{◌≡◌, ℕ, ◌+◌, ◌*◌, ◌%◌, ◌-◌, ◌≤◌, ◌==◌, ◌&&◌, ◌||◌, nat_lt, nat_le, nat_eq, Bool, true, false, if◌then◌else◌, List, [], ◌∷◌, length, slice_get, is_some, Option, Some, None, Result, Ok, Err}
+use Rattle.std.specs.Prelude.{ℕ, ◌+◌, ◌*◌, ◌%◌, ◌==◌, ◌&&◌, ◌||◌, nat_lt, nat_le, Bool, true, false, if◌then◌else◌, List, [], ◌∷◌, length, slice_get, is_some, Option, Some, None}
 use Rattle.std.specs.Option.{option_map}
 use Rattle.std.specs.Cmp.Lexicographic.{slice_cmp}
 use Rattle.std.specs.Ordering.{nat_cmp, is_lt}
-use Rattle.cmm_rules.specs.declared.rule.Rule.{Rule}
-use Rattle.cmm_rules.specs.declared.rule.Rule.TheVariants.{NotAnImage, OtherImageVersion, BadImageField, ImageOutOfRange, BytesAfterImage, ImageTooLong}
+use Rattle.cmm_rules.specs.declared.rule.Rule.TheVariants.{NotAnImage, OtherImageVersion, BadImageField, ImageOutOfRange}
 use Rattle.cmm_words.specs.declared.width.Width.{Width}
 use Rattle.cmm_words.specs.declared.width.Width.TheVariants.{W8, W16, W32, W64}
 use Rattle.cmm_words.specs.Widths.{bits}

@@ -1,5 +1,5 @@
 -- Places of variables while their activation is suspended: one field, its number with what follows it.
-use Rattle.std.specs.Prelude.{◌≡◌, ℕ, zero, suc, ◌+◌, ◌<◌, ◌^◌, ◌==◌, ◌&&◌, ◌||◌, nat_lt, nat_le, Bool, true, false, IsTrue, List, [], ◌∷◌, ◌++◌, length, drop, Option, Result, Ok, Err}
+use Rattle.std.specs.Prelude.{ℕ, zero, suc, ◌+◌, ◌<◌, ◌^◌, ◌==◌, ◌&&◌, ◌||◌, nat_lt, nat_le, Bool, true, false, IsTrue, List, [], ◌∷◌, length, drop, Option, Ok, Err}
 use Rattle.byteorder.specs.Endian.{little_number}
 use Rattle.cmm_rules.specs.declared.rule.Rule.TheVariants.{ImageIsCut, BadImageField, ImageOutOfRange}
 use Rattle.cmm_image.specs.declared.rows.VariablePlace.{VariablePlace}

@@ -1,4 +1,4 @@
-use Rattle.std.proofs.Common.{◌≡◌, arith}
+use Rattle.std.proofs.Common.{arith}
 use Rattle.cmm_image.proofs.ReadLaws.{spelled-so, image-is, no_image, fault-first, no_fault, fault-is}
 use Rattle.cmm_image.proofs.reading.read_image.Goals as goal
 

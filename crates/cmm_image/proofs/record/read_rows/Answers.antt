@@ -1,6 +1,5 @@
-use Rattle.std.proofs.Common.{◌≡◌, ◌++◌, ◌∷◌, [], None, option_copied, rules}
+use Rattle.std.proofs.Common.{◌≡◌, ◌++◌, ◌∷◌, [], option_copied, rules}
 use Rattle.std.proofs.lemmas.Result.{err_from_is_err_and}
-use Rattle.cmm_image.specs.Formats.{rows_at}
 use Rattle.cmm_image.proofs.ReadingRows.{last_of, last_of-push, goes_on, ends}
 use Rattle.cmm_image.proofs.record.read_rows.Goals as goal
 
