@@ -7,7 +7,6 @@ use Rattle.std.proofs.lemmas.List.Elements.{All-head, All-tail}
 use Rattle.rv_table.specs.Memory.{data_base}
 use Rattle.cmm_words.specs.Widths.{bytes}
 use Rattle.cmm_words.specs.declared.width.Width.{Width}
-use Rattle.cmm_words.specs.declared.width.Width.TheVariants.{W64}
 use Rattle.cmm_words.specs.declared.constant.Constant.{Constant}
 use Rattle.cmm_words.specs.declared.constant.Constant.TheVariants.{Number, Code, Address}
 use Rattle.cmm_program.specs.declared.program.Program.{Program}
@@ -15,7 +14,7 @@ use Rattle.cmm_program.specs.declared.program.Datum.{Datum}
 use Rattle.cmm_program.specs.Layout.{aligned_up, bytes_of, datum_piece, end_of}
 use Rattle.cmm_program.proofs.Shared.{aligned_up-grows}
 use Rattle.cmm_data.specs.Conditions.{IsLayable, MayStandIn}
-use Rattle.cmm_data.specs.Filling.{AreApart, filled, fix_procedures, procedure_address, procedure_addresses, with_value}
+use Rattle.cmm_data.specs.Filling.{AreApart, fix_procedures, procedure_address, procedure_addresses, with_value}
 use Rattle.cmm_data.specs.Laws.{FixesAreFilled}
 use Rattle.cmm_data.specs.inside.Walking.{fix_by, fixes_from, value_fixes}
 use Rattle.cmm_data.specs.declared.fix.Fix.{Fix}

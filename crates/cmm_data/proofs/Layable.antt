@@ -1,11 +1,11 @@
 -- The data of programs in range can be laid out.
-use Rattle.std.proofs.Common.{◌≡◌, ◌≢◌, ℕ, zero, suc, ◌+◌, ◌*◌, ◌^◌, ◌≤◌, ◌<◌, refl, sym, ◌∙◌, ap, arith, Bool, true, false, List, [], ◌∷◌, length, Option, Some, None}
-use Rattle.std.specs.Prelude.{◌==◌, ◌&&◌, ◌||◌, nat_lt, nat_le, IsTrue}
+use Rattle.std.proofs.Common.{◌≡◌, ℕ, ◌*◌, ◌≤◌, ◌<◌, refl, ap, arith, Bool, true, false, List, [], ◌∷◌, length, Some, None}
+use Rattle.std.specs.Prelude.{◌==◌, ◌&&◌, nat_lt, nat_le, IsTrue}
 use Rattle.std.specs.List.{All, list_all}
 use Rattle.std.proofs.lemmas.Bool.Decides.{nat_tests}
 use Rattle.std.proofs.lemmas.List.Elements.{All-nil, All-cons}
 use Rattle.rv_table.specs.Memory.{data_base}
-use Rattle.cmm_words.specs.Widths.{bits, bytes}
+use Rattle.cmm_words.specs.Widths.{bytes}
 use Rattle.cmm_words.specs.declared.width.Width.{Width}
 use Rattle.cmm_words.specs.declared.width.Width.TheVariants.{W8, W16, W32, W64}
 use Rattle.cmm_words.specs.declared.constant.Constant.{Constant}
@@ -13,9 +13,9 @@ use Rattle.cmm_words.specs.declared.constant.Constant.TheVariants.{Number, Code,
 use Rattle.cmm_program.specs.declared.program.Program.{Program}
 use Rattle.cmm_program.specs.declared.program.Datum.{Datum}
 use Rattle.cmm_program.specs.declared.program.Label.{Label}
-use Rattle.cmm_program.specs.InRange.{IsInRange, is_datum, is_initial, is_label, is_name}
+use Rattle.cmm_program.specs.InRange.{is_datum, is_initial, is_label}
 use Rattle.cmm_program.specs.Typing.{if_holds, is_alignment, same_width}
-use Rattle.cmm_data.specs.Conditions.{CanBeLaidOut, Fill, IsLayable, IsOnDatum, IsThere, MayStandIn}
+use Rattle.cmm_data.specs.Conditions.{IsLayable, IsOnDatum, IsThere, MayStandIn}
 use Rattle.cmm_data.specs.Laws.{DataReachesItsEnd, InRangeCanBeLaidOut}
 use Rattle.cmm_data.proofs.Ends.{end_of_all}
 use Rattle.cmm_data.proofs.Sizes.{length-bytes_by}

@@ -1,5 +1,5 @@
 -- One more value, and one more datum, of those that are added one after another.
-use Rattle.std.proofs.Common.{◌≡◌, ℕ, suc, ◌+◌, ◌-◌, ◌*◌, ◌^◌, ◌≤◌, ◌<◌, refl, sym, ◌∙◌, ap, arith, List, [], ◌∷◌, ◌++◌, length, length-append, append_assoc, map, drop, Some}
+use Rattle.std.proofs.Common.{◌≡◌, ℕ, ◌+◌, ◌-◌, ◌*◌, ◌^◌, ◌≤◌, ◌<◌, sym, ◌∙◌, ap, arith, List, [], ◌∷◌, ◌++◌, length, length-append, append_assoc, map, drop, Some}
 use Rattle.std.specs.Prelude.{replicate, slice_get}
 use Rattle.std.specs.List.{All}
 use Rattle.std.proofs.lemmas.List.Elements.{All-drop}
@@ -16,7 +16,7 @@ use Rattle.cmm_data.specs.Conditions.{HasAlignment, IsLayable}
 use Rattle.cmm_data.specs.inside.Walking.{bytes_by, datum_by, fix_by, fixes_from, padded, value_bytes, value_fixes}
 use Rattle.cmm_data.specs.declared.fix.Fix.{Fix}
 use Rattle.cmm_data.proofs.Ends.{ends_grow}
-use Rattle.cmm_data.proofs.Sizes.{bytes_positive, length-bytes_of, length-datum, length-padded}
+use Rattle.cmm_data.proofs.Sizes.{bytes_positive, length-bytes_of, length-padded}
 
 -- what is left begins with the one at the index
 pub left_at : {X : Type 0} (xs : List X) (i : ℕ) (x : X) → slice_get xs i ≡ Some x → drop i xs ≡ x ∷ drop (i + 1) xs

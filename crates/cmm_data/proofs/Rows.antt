@@ -1,17 +1,15 @@
 -- Worked rows: programs whose data can be laid out, what waits in it, and how that is filled.
-use Rattle.std.proofs.Common.{◌≡◌, ℕ, ◌+◌, ◌-◌, ◌*◌, ◌^◌, ◌≤◌, refl, sym, ◌∙◌, ap, subst, arith, List, [], ◌∷◌, true, false, Bool}
+use Rattle.std.proofs.Common.{◌≡◌, ℕ, refl, sym, ◌∙◌, ap, subst, arith, List, [], ◌∷◌, true, false, Bool}
 use Rattle.std.specs.List.{All}
 use Rattle.std.proofs.lemmas.List.Elements.{All-from_recursion}
-use Rattle.rv_table.specs.Memory.{data_base}
 use Rattle.cmm_words.specs.declared.width.Width.TheVariants.{W8, W16, W64}
-use Rattle.cmm_words.specs.declared.constant.Constant.{Constant}
 use Rattle.cmm_words.specs.declared.constant.Constant.TheVariants.{Number, Code, Address}
 use Rattle.cmm_program.specs.declared.program.Program.{Program}
 use Rattle.cmm_program.specs.declared.program.Datum.{Datum}
 use Rattle.cmm_program.specs.declared.program.Label.{Label}
 use Rattle.cmm_program.specs.Layout.{data_bytes, label_addresses}
 use Rattle.cmm_program.proofs.Shared.{datum, frame, placed, program}
-use Rattle.cmm_data.specs.Conditions.{CanBeLaidOut, Fill, IsLayable, IsOnDatum, IsThere, MayStandIn}
+use Rattle.cmm_data.specs.Conditions.{CanBeLaidOut, IsLayable, IsOnDatum, IsThere, MayStandIn}
 use Rattle.cmm_data.specs.Filling.{AreApart, IsWaiting, code_in, filled, fix_value, procedure_addresses}
 use Rattle.cmm_data.specs.declared.fix.Fix.{Fix}
 

@@ -1,6 +1,6 @@
 -- Once its fixes are filled, data is that of a placement.
-use Rattle.std.proofs.Common.{◌≡◌, ℕ, suc, ◌+◌, ◌-◌, ◌%◌, ◌^◌, ◌≤◌, refl, sym, ◌∙◌, ap, arith, List, [], ◌∷◌, ◌++◌, length, length-append, append_assoc, take, drop, map}
-use Rattle.std.specs.Prelude.{replicate, flat_map}
+use Rattle.std.proofs.Common.{◌≡◌, ℕ, ◌+◌, ◌-◌, ◌%◌, ◌^◌, ◌≤◌, refl, sym, ◌∙◌, ap, arith, List, [], ◌∷◌, ◌++◌, length, length-append, append_assoc, take, drop}
+use Rattle.std.specs.Prelude.{replicate}
 use Rattle.std.specs.List.{All}
 use Rattle.std.proofs.Math.Path.{fun_ext}
 use Rattle.std.proofs.Math.Seq.{take-append_seam, drop-append-add}
@@ -9,7 +9,6 @@ use Rattle.std.proofs.lemmas.List.Elements.{All-head, All-tail}
 use Rattle.rv_table.specs.Memory.{data_base}
 use Rattle.cmm_words.specs.Widths.{bytes}
 use Rattle.cmm_words.specs.declared.width.Width.{Width}
-use Rattle.cmm_words.specs.declared.width.Width.TheVariants.{W64}
 use Rattle.cmm_words.specs.declared.constant.Constant.{Constant}
 use Rattle.cmm_words.specs.declared.constant.Constant.TheVariants.{Number, Code, Address}
 use Rattle.cmm_program.specs.declared.program.Program.{Program}
@@ -21,7 +20,7 @@ use Rattle.cmm_data.specs.Conditions.{CanBeLaidOut, IsLayable, MayStandIn}
 use Rattle.cmm_data.specs.Filling.{code_in, filled, with_value}
 use Rattle.cmm_data.specs.inside.Walking.{bytes_by, datum_by, fix_by, fixes_from, padded, unfilled, value_bytes, value_fixes, word_by}
 use Rattle.cmm_data.specs.declared.fix.Fix.{Fix}
-use Rattle.cmm_data.proofs.Sizes.{length-bytes_of, length-datum, length-padded}
+use Rattle.cmm_data.proofs.Sizes.{length-bytes_of, length-datum}
 
 pub filled-append : (code : ℕ → ℕ) (fs gs : List Fix) (bytes : List ℕ) → filled code (fs ++ gs) bytes ≡ filled code gs (filled code fs bytes)
 filled-append code [] gs bytes = refl

@@ -1,5 +1,5 @@
 -- Programs whose data can be laid out.
-use Rattle.std.specs.Prelude.{◌≡◌, ℕ, ◌+◌, ◌*◌, ◌^◌, ◌<◌, ◌≤◌, true, false, List, [], ◌∷◌, length}
+use Rattle.std.specs.Prelude.{◌≡◌, ℕ, ◌+◌, ◌*◌, ◌^◌, ◌<◌, ◌≤◌, true, false, [], ◌∷◌, length}
 use Rattle.std.specs.List.{All}
 use Rattle.rv_table.specs.Memory.{data_base}
 use Rattle.cmm_words.specs.declared.width.Width.{Width}
