@@ -8,6 +8,7 @@ use cmm_items::Items;
 use cmm_program::{Datum, Label, Program};
 use cmm_words::{Constant, Name, Width};
 use std::alloc::{AllocError, Global};
+use std::process::Abort;
 use std::test::Fail;
 
 /// Three items.
@@ -125,7 +126,7 @@ struct Made {
 }
 
 /// Lays out a program whose procedure `n` has its code at `0x10000 + 0x1000 * n`.
-fn made(alloc: Global, p: &Program) -> Result<Made, AllocError>
+fn laid_out(alloc: Global, p: &Program) -> Result<Made, AllocError>
     requires { CanBeLaidOut p.now }
 {
     let image = lay_out(alloc, p)?;
@@ -142,11 +143,25 @@ fn made(alloc: Global, p: &Program) -> Result<Made, AllocError>
     Ok(Made { image, filled })
 }
 
+fn check_laid_out(
+    rt: &impl Abort,
+    made: &Made,
+    addresses: &[u64],
+    bytes: &[u8],
+    fixes: &[Fix],
+    filled: &[u8],
+) {
+    assert_eq!(rt; made.image.addresses.as_slice(), addresses);
+    assert_eq!(rt; made.image.bytes.as_slice(), bytes);
+    assert_eq!(rt; made.image.fixes.as_slice(), fixes);
+    assert_eq!(rt; made.filled.as_slice(), filled);
+}
+
 #[test]
 fn data_is_laid_out(rt: HostRuntime) -> Result<(), Fail> {
     let alloc = rt.alloc();
-    let tagged = made(alloc, &tagged(alloc)?)?;
-    let mixed = made(alloc, &mixed(alloc)?)?;
+    let tagged = laid_out(alloc, &tagged(alloc)?)?;
+    let mixed = laid_out(alloc, &mixed(alloc)?)?;
     let text: [u8; 24] = [
         98, 97, 100, 10, 0, 0, 0, 0, 3, 0, 0, 0, 0, 0, 0, 0, 5, 0, 0, 0, 0, 0, 0, 0,
     ];
@@ -170,27 +185,21 @@ fn data_is_laid_out(rt: HostRuntime) -> Result<(), Fail> {
             plus: 0xFFFF_FFFF_FFFF_FFFE,
         },
     ];
-    let rows: [(&Made, [u64; 3], &[u8], &[Fix], &[u8]); 2] = [
-        (
-            &tagged,
-            [0x4000_0000, 0x4000_0008, 0x4000_0018],
-            &text,
-            &[],
-            &text,
-        ),
-        (
-            &mixed,
-            [0x4000_0004, 0x4000_0006, 0x4000_0000],
-            &waiting,
-            &fixes,
-            &filled,
-        ),
-    ];
-    for (made, addresses, bytes, fixes, filled) in rows {
-        assert_eq!(rt; made.image.addresses.as_slice(), addresses.as_slice());
-        assert_eq!(rt; made.image.bytes.as_slice(), bytes);
-        assert_eq!(rt; made.image.fixes.as_slice(), fixes);
-        assert_eq!(rt; made.filled.as_slice(), filled);
-    }
+    check_laid_out(
+        &rt,
+        &tagged,
+        &[0x4000_0000, 0x4000_0008, 0x4000_0018],
+        &text,
+        &[],
+        &text,
+    );
+    check_laid_out(
+        &rt,
+        &mixed,
+        &[0x4000_0004, 0x4000_0006, 0x4000_0000],
+        &waiting,
+        &fixes,
+        &filled,
+    );
     Ok(())
 }
