@@ -1,5 +1,5 @@
 -- The finished code of a sum, run from its start, comes to the ECALL that ends the run with it.
-use Rattle.std.proofs.Common.{◌≡◌, ℕ, ◌+◌, ◌*◌, ◌≤◌, List, [], ◌∷◌, ◌++◌, length, refl, ap, sym, ◌∙◌, subst, arith, append-nil}
+use Rattle.std.proofs.Common.{◌≡◌, ℕ, ◌+◌, ◌*◌, ◌≤◌, List, [], ◌∷◌, length, refl, sym, ◌∙◌, subst, arith, append-nil}
 use Rattle.std.specs.Prelude.{map}
 use Rattle.std.specs.List.{All}
 use Rattle.std.proofs.lemmas.List.Elements.{All-nil, All-cons}
@@ -10,7 +10,7 @@ use Rattle.rv_asm.specs.Parts.{Code, Stand}
 use Rattle.rv_asm.specs.declared.filling.CodeFix.{CodeFix}
 use Rattle.rv_asm.specs.declared.part.Part.{Part}
 use Rattle.rv_asm.specs.declared.part.Part.TheVariants.{Single, Place, Branch, Jump, Call, Address, Table}
-use Rattle.rv_table.specs.Machine.{MemoryMap, code_base, start}
+use Rattle.rv_table.specs.Machine.{code_base, start}
 use Rattle.cmm_top.specs.declared.term.Term.{Term}
 use Rattle.cmm_top.specs.inside.Code.{EndsWith, total}
 use Rattle.cmm_top.specs.Run.{Ends, EndsWithin}

@@ -43,7 +43,7 @@ pub same_lexemes : (unit : List ℕ) (ts : Tokens) → Lexes unit ts → lexemes
 same_lexemes unit ts lexes = lexemes_spelled ts.spellings.keys ts.list ∙ ap (λ (xs : List Spelled). map (λ s. s.lexeme) xs) lexes.tokens
 
 -- and they stand where those do
-same_places : (unit : List ℕ) (ts : Tokens) → Lexes unit ts → places_of ts ≡ places_in unit
+pub same_places : (unit : List ℕ) (ts : Tokens) → Lexes unit ts → places_of ts ≡ places_in unit
 same_places unit ts lexes =
     ap (λ (xs : List Place). xs ++ record { line = ts.line; column = ts.column } ∷ []) (places_spelled ts.spellings.keys ts.list ∙ ap (λ (xs : List Spelled). map place xs) lexes.tokens)
     ∙ ap (λ (p : Place). map place (tokens_of unit) ++ p ∷ []) ends

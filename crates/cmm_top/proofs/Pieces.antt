@@ -1,5 +1,5 @@
 -- Pieces of a sum's code: nothing, one instruction more, and the ECALL at the end.
-use Rattle.std.proofs.Common.{◌≡◌, ◌≢◌, ℕ, ◌+◌, ◌*◌, List, [], ◌∷◌, ◌++◌, Some, refl, ap, sym, ◌∙◌, arith}
+use Rattle.std.proofs.Common.{◌≡◌, ◌≢◌, ℕ, ◌+◌, List, [], ◌∷◌, ◌++◌, Some, refl, ap, sym, ◌∙◌, arith}
 use Rattle.rv_asm.proofs.Shared.{appends_none, appends_one, appends_then, appends_weaker, reaches_then, reaches_weaker, single_does}
 use Rattle.rv_asm.specs.Appending.{Appends}
 use Rattle.rv_asm.specs.Parts.{Code, Does}

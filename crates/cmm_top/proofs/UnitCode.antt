@@ -1,23 +1,24 @@
 -- The code of a unit's terms ends with the value of the unit.
-use Rattle.std.proofs.Common.{◌≡◌, ℕ, ◌+◌, ◌*◌, ◌^◌, ◌≤◌, List, [], length, Option, Some, None, ap, refl, inr, sym, ◌∙◌, subst, arith, length-drop}
+use Rattle.std.proofs.Common.{◌≡◌, ℕ, ◌+◌, ◌*◌, ◌^◌, ◌≤◌, List, [], length, Option, Some, None, ap, refl, inl, inr, sym, ◌∙◌, subst, arith, length-drop}
 use Rattle.cmm_ast.specs.declared.unit.TopLevel.{TopLevel}
 use Rattle.cmm_ast.specs.declared.unit.Unit.{Unit as UnitTree}
 use Rattle.cmm_lexer.specs.declared.tokens.TheConstants.{UNIT_LIMIT}
 use Rattle.cmm_lexer.specs.Lexing.{tokens_of}
 use Rattle.cmm_readers.proofs.Shared.{one_unit}
-use Rattle.cmm_rules.specs.declared.rule.Rule.TheVariants.{FormNotBuilt}
 use Rattle.rv_asm.specs.Appending.{Appends}
 use Rattle.rv_asm.specs.Finishing.{RunAsParts, fix_symbols, symbols_of}
 use Rattle.rv_asm.specs.declared.filling.CodeFix.{CodeFix}
 use Rattle.rv_asm.specs.declared.part.Part.{Part}
 use Rattle.rv_table.specs.Machine.{code_base}
-use Rattle.cmm_top.specs.declared.first.FirstFault.TheVariants.{Refused}
+use Rattle.cmm_top.specs.declared.first.FirstFault.{FirstFault}
+use Rattle.cmm_top.specs.declared.first.FirstFault.TheVariants.{Refused, Memory}
 use Rattle.cmm_top.specs.declared.run.TheConstants.{STEP_LIMIT}
 use Rattle.cmm_top.specs.declared.term.Term.{Term}
-use Rattle.cmm_top.specs.Causes.{HasNoCode, HasValue, IsTreeOf, lexemes_in, main_tokens}
+use Rattle.cmm_top.specs.Causes.{HasNoCode, HasValue, IsTreeOf, lexemes_in, main_tokens, places_in}
 use Rattle.cmm_top.specs.inside.Code.{EndsWith, total}
 use Rattle.cmm_top.specs.Form.{form_value, main_at, returned, value_of}
 use Rattle.cmm_top.specs.Run.{EndsWithin}
+use Rattle.cmm_top.specs.inside.Refusal.{Refuses}
 use Rattle.cmm_top.specs.inside.Terms.{form_terms, terms_of}
 use Rattle.cmm_top.proofs.CodeEnds.{ends_within}
 use Rattle.cmm_top.proofs.MainRoom.{main_room}
@@ -74,12 +75,22 @@ has_value unit tree found is_tree terms_are = by (form_value tree) refl (subst (
   by (Some v) is adds = (v, record { tree = tree; is_tree = is_tree; value = is })
   by None is adds = absurd (let no : AddUpTo (Some found) None = subst (λ (x : Option ℕ). AddUpTo (Some found) x) is adds in no)
 
--- and one that has none is refused
-pub not_built : (unit : List ℕ) (tree : UnitTree) → IsTreeOf unit tree → None ≡ form_terms tree → HasNoCode unit (Refused (record { rule = FormNotBuilt; line = 1; column = 1 }))
-not_built unit tree is_tree terms_are = by (form_value tree) refl (subst (λ (x : Option (List Term)). AddUpTo x (form_value tree)) (sym terms_are) (form_adds_up tree)) where
-  by : (v : Option ℕ) → form_value tree ≡ v → AddUpTo None (form_value tree) → HasNoCode unit (Refused (record { rule = FormNotBuilt; line = 1; column = 1 }))
+-- and one that has none has no value
+no_value : (tree : UnitTree) → None ≡ form_terms tree → form_value tree ≡ None
+no_value tree terms_are = by (form_value tree) refl (subst (λ (x : Option (List Term)). AddUpTo x (form_value tree)) (sym terms_are) (form_adds_up tree)) where
+  by : (v : Option ℕ) → form_value tree ≡ v → AddUpTo None (form_value tree) → form_value tree ≡ None
   by (Some v) is adds = absurd (let no : AddUpTo None (Some v) = subst (λ (x : Option ℕ). AddUpTo None x) is adds in no)
-  by None is adds = (
-    λ other is_other. same_value unit other tree is_other is_tree ∙ is,
-    inr (inr record { tree = tree; is_tree = is_tree; value = is; says = refl }),
-  )
+  by None is adds = is
+
+-- so it is refused
+pub is_refused : (unit : List ℕ) (tree : UnitTree) (why : FirstFault) → IsTreeOf unit tree → tree.places ≡ places_in unit → None ≡ form_terms tree →
+    Refuses tree why → HasNoCode unit why
+is_refused unit tree (Refused fault) is_tree places terms_are (inl broken) = (
+  λ other is_other. same_value unit other tree is_other is_tree ∙ no_value tree terms_are,
+  inr (inr (inl record { tree = tree; is_tree = is_tree; places = places; broken = broken })),
+)
+is_refused unit tree (Refused fault) is_tree places terms_are (inr (unbroken, says)) = (
+  λ other is_other. same_value unit other tree is_other is_tree ∙ no_value tree terms_are,
+  inr (inr (inr record { tree = tree; is_tree = is_tree; unbroken = unbroken; value = no_value tree terms_are; says = says })),
+)
+is_refused unit tree Memory is_tree places terms_are why = tt

@@ -8,9 +8,10 @@ ghost use Rattle.cmm_lexer.specs.declared.tokens.TheConstants.{UNIT_LIMIT};
 ghost use Rattle.cmm_parser.specs.Faults.{places_of};
 ghost use Rattle.cmm_rules.specs.Rules.{rule_number};
 ghost use Rattle.cmm_rules.specs.declared.rule.Rule.{Rule};
-ghost use Rattle.cmm_top.specs.Causes.{HasValue, HasNoCode, IsTreeOf, main_tokens};
+ghost use Rattle.cmm_top.specs.Causes.{HasValue, HasNoCode, IsTreeOf, main_tokens, places_in};
 ghost use Rattle.cmm_top.specs.Form.{form_value};
 ghost use Rattle.cmm_top.specs.Run.{EndsWithin};
+ghost use Rattle.cmm_top.specs.inside.Refusal.{Refuses};
 ghost use Rattle.cmm_top.specs.inside.Terms.{form_terms};
 
 use crate::code::code_of;
@@ -20,8 +21,10 @@ use cmm_ast::Unit;
 use cmm_lexer::{LexFault, Tokens, lex};
 use cmm_parser::{SyntaxFault, parse};
 use cmm_rules::Rule;
+use cmm_static::{StaticFault, check};
 use rv_table::memory_map::CODE_BASE;
 use std::alloc::{AllocError, Global};
+use std::slice::from_ref;
 use thiserror::Error;
 
 /// A rule that a unit breaks, and where: its line and its column, in bytes, from 1.
@@ -60,16 +63,35 @@ pub fn compile_first(alloc: Global, unit: &[u8]) -> Result<Vec<u8>, FirstFault>
 {
     let tree = tree_of(alloc, unit)?;
     let Some(terms) = terms_of(alloc, &tree)? else {
-        return Err(FirstFault::Refused(NOT_BUILT));
+        return Err(refusal_of(alloc, &tree));
     };
     let asm = code_of(alloc, &terms)?;
     let placed = asm.finish(CODE_BASE)?;
     Ok(placed.bytes.into_vec())
 }
 
+/// Why a unit that is not of the first form is refused: for the first rule on names that it breaks, or else because it is not of the form.
+fn refusal_of(alloc: Global, tree: &Unit) -> FirstFault
+    ensures { Refuses tree.now result }
+{
+    match check(alloc, from_ref(tree)) {
+        Ok(()) => FirstFault::Refused(NOT_BUILT),
+        Err(fault) => match fault {
+            StaticFault::At {
+                rule,
+                line,
+                column,
+                ..
+            } => FirstFault::Refused(Fault { rule, line, column }),
+            StaticFault::Memory => FirstFault::Memory,
+        },
+    }
+}
+
 /// The tree of a unit.
 fn tree_of(alloc: Global, unit: &[u8]) -> Result<Unit, FirstFault>
     ensures ok { IfOk result (IsTreeOf unit.now) }
+    ensures places { IfOk result (λ tree. tree.places ≡ places_in unit.now) }
     ensures few { OnOk result (length (tokens_of unit.now) ≤ UNIT_LIMIT) }
     ensures err { IfErr result (HasNoCode unit.now) }
 {

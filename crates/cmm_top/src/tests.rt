@@ -43,7 +43,7 @@ fn call(
 }
 
 /// Units and what the log must say of each.
-const UNITS: [(&str, &str); 49] = [
+const UNITS: [(&str, &str); 56] = [
     ("export main; main() { return (2 + 3); }", "result 5\n"),
     (
         "export main; main() { return (0 - 1); }",
@@ -180,13 +180,41 @@ const UNITS: [(&str, &str); 49] = [
         "a.cmm:1:1: 90 form not built\n",
     ),
     ("export main,; main() { return (1); }", "result 1\n"),
-    ("main() { return (1); }", "a.cmm:1:1: 90 form not built\n"),
+    ("main() { return (1); }", "a.cmm:1:1: 36 no main\n"),
     (
         "export main; main(bits64 x) { return (1); }",
-        "a.cmm:1:1: 90 form not built\n",
+        "a.cmm:1:1: 36 no main\n",
     ),
     (
         "export main as \"m\"; main() { return (1); }",
+        "a.cmm:1:1: 36 no main\n",
+    ),
+    (
+        "export main; main() { return (1); }\nregister bits64 main;",
+        "a.cmm:2:17: 20 declared twice\n",
+    ),
+    (
+        "export main, x; main() { return (1); }",
+        "a.cmm:1:14: 21 undeclared\n",
+    ),
+    (
+        "import f; export main; main() { return (1); }",
+        "a.cmm:1:8: 34 not exported\n",
+    ),
+    (
+        "export main, main; main() { return (1); }",
+        "a.cmm:1:14: 35 exported twice\n",
+    ),
+    (
+        "target byteorder big; export main; main() { return (1); }",
+        "a.cmm:1:8: 37 other target\n",
+    ),
+    (
+        "export x; export main; main() { return (1 +); }",
+        "a.cmm:1:44: 10 syntax\n",
+    ),
+    (
+        "export main; export f; f() { return (); } main() { return (1); }",
         "a.cmm:1:1: 90 form not built\n",
     ),
     ("export main; main() { return (1", "a.cmm:1:32: 10 syntax\n"),
@@ -195,7 +223,7 @@ const UNITS: [(&str, &str); 49] = [
         "export main;\nmain() {\n  return (2 +;\n}\n",
         "a.cmm:3:14: 10 syntax\n",
     ),
-    ("", "a.cmm:1:1: 90 form not built\n"),
+    ("", "a.cmm:1:1: 36 no main\n"),
     ("export main; /* x", "a.cmm:1:14: 2 open comment\n"),
     ("export main;\n \"x\n\"", "a.cmm:2:2: 3 open text\n"),
 ];

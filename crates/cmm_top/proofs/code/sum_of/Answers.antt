@@ -1,4 +1,4 @@
-use Rattle.std.proofs.Common.{[], ◌∙◌, arith}
+use Rattle.std.proofs.Common.{◌∙◌, arith}
 use Rattle.cmm_top.specs.declared.term.Sign.TheVariants.{Plus}
 use Rattle.cmm_top.proofs.Summing.{adds_more}
 use Rattle.cmm_top.proofs.code.sum_of.Goals as goal

@@ -4,7 +4,7 @@ use Rattle.rv_asm.specs.Sizes.{all_longest}
 use Rattle.rv_asm.specs.declared.part.Meaning.{Meaning}
 use Rattle.rv_table.specs.Machine.{code_base}
 use Rattle.cmm_top.specs.inside.Terms.{form_terms}
-use Rattle.cmm_top.proofs.UnitCode.{has_value, not_built, unit_code_ends, unit_code_fits}
+use Rattle.cmm_top.proofs.UnitCode.{has_value, is_refused, unit_code_ends, unit_code_fits}
 use Rattle.cmm_top.proofs.first.compile_first.Goals as goal
 
 pub finish-requires-clause-room : goal.finish-requires-clause-room
@@ -39,4 +39,6 @@ returns-clause-form c =
     has_value c.args.unit.now c.in_ok-tree.tree c.in-Some.terms.items c.in_ok-tree.ensures.ok read
 
 pub returns-in_default-clause-err : goal.returns-in_default-clause-err
-returns-in_default-clause-err c = not_built c.args.unit.now c.in_ok-tree.tree c.in_ok-tree.ensures.ok (rw c.in_default.is at c.in_ok-terms.ensures)
+returns-in_default-clause-err c =
+    is_refused c.args.unit.now c.in_ok-tree.tree c.refusal_of.result c.in_ok-tree.ensures.ok c.in_ok-tree.ensures.places
+    (rw c.in_default.is at c.in_ok-terms.ensures) c.refusal_of.ensures

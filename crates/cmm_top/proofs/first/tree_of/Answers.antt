@@ -1,11 +1,14 @@
 use Rattle.std.proofs.Common.{ap, sym, ◌∙◌}
 use Rattle.cmm_parser.specs.Faults.{lexemes_of}
 use Rattle.cmm_rules.specs.Rules.{rule_number}
-use Rattle.cmm_top.proofs.Parsed.{few_tokens, lexical_rule, lexically_refused, syntax_refused, syntax_rule, tree_is}
+use Rattle.cmm_top.proofs.Parsed.{few_tokens, lexical_rule, lexically_refused, same_places, syntax_refused, syntax_rule, tree_is}
 use Rattle.cmm_top.proofs.first.tree_of.Goals as goal
 
 pub returns-in-Ok-parse-clause-ok : goal.returns-in-Ok-parse-clause-ok
 returns-in-Ok-parse-clause-ok c = tree_is c.args.unit.now c.in-Ok.tokens c.in-Ok-parse.tree c.in-Ok.ensures.ok c.in-Ok-parse.ensures.ok
+
+pub returns-in-Ok-parse-clause-places : goal.returns-in-Ok-parse-clause-places
+returns-in-Ok-parse-clause-places c = c.in-Ok-parse.ensures.places ∙ same_places c.args.unit.now c.in-Ok.tokens c.in-Ok.ensures.ok
 
 pub returns-in-Ok-parse-clause-few : goal.returns-in-Ok-parse-clause-few
 returns-in-Ok-parse-clause-few c = few_tokens c.args.unit.now c.in-Ok.tokens c.in-Ok.ensures.ok
