@@ -21,5 +21,13 @@ pub mod Simulating
 pub mod Flowing
 pub mod Ranges
 pub mod Marks
+pub mod Laying
+pub mod ExpressionsStay
+pub mod ExpressionForms
+pub mod Values
+pub mod GoingOn
+pub mod Assignments
+pub mod Passing
+pub mod Divisions
 mod FlowRows
 mod CallRows

@@ -1,1 +1,6 @@
 pub mod Marks
+pub mod Laying
+pub mod Parts
+pub mod Counts
+pub mod Passing
+pub mod Blocks

@@ -6,7 +6,25 @@
 //! what the C-- machine does on the program, in the theory of following, where each step of the machine costs at most the
 //! tokens of the longest procedure.
 //!
+//! Nodes are laid from the last statement to the first, each behind those to which it leads, so that what was laid stays as
+//! it is (`specs/inside/Laying`). So far this is done for statements without blocks, labels and continuations, in private
+//! modules. Blocks, labels and whole procedures come next.
+//!
+//! - `builder`: a graph that is being made.
+//! - `expression`, `condition`: expressions, by the temporaries that their operators write, and conditions, as branches.
+//! - `assignment`, `call`, `checked`: assignments; statements that leave their procedure or wait at a site; divisions that yield.
+//! - `simple`: all statements without blocks, labels and continuations.
+//! - `sites`, `counts`: the exits of call sites; counts of nodes and of tokens.
 //! - `laws`: what runs over the flows of a program's procedures do.
 #![tactic(auto)]
 
+mod assignment;
+mod builder;
+mod call;
+mod checked;
+mod condition;
+mod counts;
+mod expression;
 pub mod laws;
+mod simple;
+mod sites;

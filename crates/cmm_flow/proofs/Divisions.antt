@@ -1,0 +1,79 @@
+-- Code of divisions that yield where their divisor is 0: that it stays where more nodes are laid, and how it is made of its parts.
+use Rattle.std.proofs.Common.{◌≡◌, ℕ, ◌+◌, Bool, true, false, List, [], ◌∷◌, ◌++◌, slice_get, refl, sym, ap, ◌∙◌, subst}
+use Rattle.cmm_words.specs.Words.{is_division}
+use Rattle.cmm_words.specs.declared.constant.Constant.TheVariants.{Number}
+use Rattle.cmm_words.specs.declared.operators.Cmp.TheVariants.{Eq}
+use Rattle.cmm_words.specs.declared.operators.Op2.{Op2}
+use Rattle.cmm_words.specs.declared.width.Width.{Width}
+use Rattle.cmm_words.specs.declared.width.Width.TheVariants.{W64}
+use Rattle.cmm_program.specs.declared.expression.Expression.{Expression}
+use Rattle.cmm_program.specs.declared.procedure.Proc.{Proc}
+use Rattle.cmm_program.specs.Todo.{site_results}
+use Rattle.cmm_graph.specs.declared.number.NodeId.{NodeId}
+use Rattle.cmm_graph.specs.declared.operand.Operand.{Operand}
+use Rattle.cmm_graph.specs.declared.operand.Operand.TheVariants.{Constant}
+use Rattle.cmm_graph.specs.declared.operand.Rvalue.TheVariants.{Binary}
+use Rattle.cmm_graph.specs.declared.node.Exits.{Exits}
+use Rattle.cmm_graph.specs.declared.node.Node.{Node}
+use Rattle.cmm_graph.specs.declared.node.NodeKind.TheVariants.{Assign, Branch, Yield}
+use Rattle.cmm_flow.specs.Operands.{nodes, operand_of}
+use Rattle.cmm_flow.specs.Code.{IsNode}
+use Rattle.cmm_flow.specs.Statements.{CheckedCode, NormalCode, ZeroCode, first_result, normal_tokens, remaining}
+use Rattle.cmm_flow.specs.inside.Parts.{TwoCode}
+use Rattle.cmm_flow.specs.inside.Passing.{GuardCode, YieldOne}
+use Rattle.cmm_flow.proofs.ExpressionsStay.{node_stays}
+use Rattle.cmm_flow.proofs.Passing.{normal_stays, told}
+
+module _ (nodes_there more : List Node) where
+  pub yield_stays : (q : Proc) (tokens site : ℕ) (n k : NodeId) → YieldOne nodes_there q tokens site n k → YieldOne (nodes_there ++ more) q tokens site n k
+  yield_stays q tokens site n k (exits, is, normal) =
+      (exits, node_stays nodes_there more n _ _ is, normal_stays nodes_there more (slice_get q.sites site) exits k normal)
+
+  zero_stays : (q : Proc) (tokens used site : ℕ) (width : Width) (divisor : Expression) (n otherwise k : NodeId) →
+      ZeroCode nodes_there q tokens used site width divisor n otherwise k → ZeroCode (nodes_there ++ more) q tokens used site width divisor n otherwise k
+  zero_stays q tokens used site width divisor n otherwise k (y, exits, test, is, normal) =
+      (y, exits, node_stays nodes_there more n _ _ test, node_stays nodes_there more y _ _ is, normal_stays nodes_there more (slice_get q.sites site) exits k normal)
+
+  guard_by : (q : Proc) (tokens used site : ℕ) (width : Width) (divisor : Expression) (n division k : NodeId) (b : Bool) →
+      elim b as (λ _. Type 0) [ true ↦ ZeroCode nodes_there q tokens used site width divisor n division k | false ↦ n ≡ division ] →
+      elim b as (λ _. Type 0) [ true ↦ ZeroCode (nodes_there ++ more) q tokens used site width divisor n division k | false ↦ n ≡ division ]
+  guard_by q tokens used site width divisor n division k true is = zero_stays q tokens used site width divisor n division k is
+  guard_by q tokens used site width divisor n division k false is = is
+
+  pub guard_stays : (q : Proc) (tokens used site : ℕ) (op : Op2) (width : Width) (divisor : Expression) (n division k : NodeId) →
+      GuardCode nodes_there q tokens used site op width divisor n division k → GuardCode (nodes_there ++ more) q tokens used site op width divisor n division k
+  guard_stays q tokens used site op width divisor n division k is = guard_by q tokens used site width divisor n division k (is_division op) is
+
+module _ (nodes_there : List Node) where
+  pub zero_code : (q : Proc) (tokens used site count : ℕ) (width : Width) (divisor : Expression) (left : Operand) (n y otherwise k : NodeId) →
+      left ≡ operand_of 1 divisor → count ≡ remaining tokens (used + 2 + normal_tokens (slice_get q.sites site)) → YieldOne nodes_there q count site y k →
+      IsNode nodes_there n 1 (Branch record { operator = Eq; width = width; left = left; right = Constant (Number 0 width) } y otherwise) →
+      ZeroCode nodes_there q tokens used site width divisor n otherwise k
+  zero_code q tokens used site count width divisor left n y otherwise k lefts counts (exits, is, normal) test = (
+    y,
+    exits,
+    told nodes_there n 1 1 _ _ refl (ap (λ l. Branch record { operator = Eq; width = width; left = l; right = Constant (Number 0 width) } y otherwise) lefts) test,
+    told nodes_there y _ _ _ _ counts refl is,
+    normal,
+  )
+
+  guard_at : (q : Proc) (tokens used site : ℕ) (width : Width) (divisor : Expression) (n division k : NodeId) (a b : Bool) → a ≡ b →
+      elim a as (λ _. Type 0) [ true ↦ ZeroCode nodes_there q tokens used site width divisor n division k | false ↦ n ≡ division ] →
+      elim b as (λ _. Type 0) [ true ↦ ZeroCode nodes_there q tokens used site width divisor n division k | false ↦ n ≡ division ]
+  guard_at q tokens used site width divisor n division k a b same is =
+      subst (λ b. elim b as (λ _. Type 0) [ true ↦ ZeroCode nodes_there q tokens used site width divisor n division k | false ↦ n ≡ division ]) same is
+
+  -- guarded, where the operator needs that
+  pub guarded : (q : Proc) (tokens used site : ℕ) (op : Op2) (width : Width) (divisor : Expression) (n division k : NodeId) → is_division op ≡ true →
+      ZeroCode nodes_there q tokens used site width divisor n division k → GuardCode nodes_there q tokens used site op width divisor n division k
+  guarded q tokens used site op width divisor n division k is code = guard_at q tokens used site width divisor n division k true (is_division op) (sym is) code
+
+  pub unguarded : (q : Proc) (tokens used site : ℕ) (op : Op2) (width : Width) (divisor : Expression) (division k : NodeId) → is_division op ≡ false →
+      GuardCode nodes_there q tokens used site op width divisor division division k
+  unguarded q tokens used site op width divisor division k is = guard_at q tokens used site width divisor division division k false (is_division op) (sym is) refl
+
+  pub checked_code : (q : Proc) (tokens site : ℕ) (op : Op2) (width : Width) (left right : Expression) (n j d k : NodeId) →
+      IsNode nodes_there d 1 (Assign (first_result (site_results q site)) (Binary op width (operand_of 0 left) (operand_of 1 right)) k) →
+      GuardCode nodes_there q tokens (nodes left + nodes right) site op width right j d k → TwoCode nodes_there left right n j →
+      CheckedCode nodes_there q tokens site op width left right n k
+  checked_code q tokens site op width left right n j d k division guard (m, first, second) = (m, j, d, first, second, division, guard)

@@ -1,0 +1,10 @@
+use Rattle.cmm_flow.proofs.Laying.{lays_after}
+use Rattle.cmm_flow.proofs.Assignments.{addresses_stay, addresses_cons}
+use Rattle.cmm_flow.proofs.builder.Builder.+addresses.Goals as goal
+
+pub returns-in_ok-behind-in-Some : goal.returns-in_ok-behind-in-Some
+returns-in_ok-behind-in-Some t c =
+    lays_after _ _ _ c.address.result c.in_ok-behind-in-Some.ensures
+    (λ nodes more. addresses_stay nodes more c.in-Some.rest.now c.in_ok-following-in-Some.field-0 c.in_ok-behind-in-Some.behind c.args.next) c.address.ensures
+    (λ n nodes more first. addresses_cons nodes c.args.to.now c.in-Some.rest.now c.in-Some.first.now c.args.base c.in_ok-following-in-Some.field-0
+    n c.in_ok-behind-in-Some.behind c.args.next c.in-Some.ensures.cases.0 c.in_ok-following-in-Some.ensures more first)

@@ -1,0 +1,40 @@
+-- What is passed, and the normal exit of a site.
+use Rattle.std.specs.Prelude.{◌≡◌, ℕ, suc, true, false, List, [], ◌∷◌, length, slice_get, Option, Some, None}
+use Rattle.cmm_words.specs.Words.{is_division}
+use Rattle.cmm_words.specs.declared.constant.Constant.TheVariants.{Number}
+use Rattle.cmm_words.specs.declared.operators.Op2.{Op2}
+use Rattle.cmm_words.specs.declared.width.Width.{Width}
+use Rattle.cmm_words.specs.declared.width.Width.TheVariants.{W64}
+use Rattle.cmm_program.specs.declared.expression.Expression.{Expression}
+use Rattle.cmm_program.specs.declared.procedure.Proc.{Proc}
+use Rattle.cmm_program.specs.declared.procedure.Site.{Site}
+use Rattle.cmm_graph.specs.declared.number.NodeId.{NodeId}
+use Rattle.cmm_graph.specs.declared.operand.Operand.TheVariants.{Constant}
+use Rattle.cmm_graph.specs.declared.node.Exits.{Exits}
+use Rattle.cmm_graph.specs.declared.node.Node.{Node}
+use Rattle.cmm_graph.specs.declared.node.NodeKind.TheVariants.{CopyIn, Yield}
+use Rattle.cmm_flow.specs.Code.{IsNode, OperandCode, OperandsCode}
+use Rattle.cmm_flow.specs.Statements.{NormalCode, ZeroCode}
+
+module _ (nodes : List Node) where
+  -- the node of a normal exit, if a site has one
+  abbrev pub NormalExit : Site → Option NodeId → NodeId → Type 0
+  NormalExit site normal k = elim site.never [
+    | true ↦ normal ≡ None
+    | false ↦ (j : NodeId) × (normal ≡ Some j) × IsNode nodes j (suc (length site.results)) (CopyIn site.results k)
+  ]
+
+  -- what is called, jumped to or cut to, and what is passed
+  abbrev pub PassingCode : Expression → List Expression → NodeId → NodeId → Type 0
+  PassingCode to actuals n k = (m : NodeId) × OperandCode nodes to 0 n m × OperandsCode nodes actuals 1 m k
+
+  -- a yield of the number 1
+  abbrev pub YieldOne : Proc → ℕ → ℕ → NodeId → NodeId → Type 0
+  YieldOne q tokens site n k =
+      (exits : Exits) × IsNode nodes n tokens (Yield record { number = site } (Constant (Number 1 W64) ∷ []) exits)
+      × NormalCode nodes (slice_get q.sites site) exits k
+
+  -- a division that is guarded, where its operator needs that
+  abbrev pub GuardCode : Proc → ℕ → ℕ → ℕ → Op2 → Width → Expression → NodeId → NodeId → NodeId → Type 0
+  GuardCode q tokens used site op width divisor n division k =
+      elim (is_division op) [ true ↦ ZeroCode nodes q tokens used site width divisor n division k | false ↦ n ≡ division ]

@@ -1,0 +1,94 @@
+//! A graph that is being made.
+//!
+//! Nodes are only ever added, each behind those to which it leads, so that what was laid stays as it is. The nodes that are
+//! led to before it is known where they lead, those of labels and of continuations, have the first numbers and are
+//! made last.
+
+ghost use Rattle.std.specs.Prelude.{◌≡◌, suc, ◌+◌, ◌<◌, [], ◌∷◌, IfOk, OnOk, length, min};
+ghost use Rattle.cmm_graph.specs.declared.node.NodeKind.TheVariants.{Stop};
+ghost use Rattle.cmm_flow.specs.Code.{IsNode, to_temporary};
+ghost use Rattle.cmm_flow.specs.inside.Laying.{Lays};
+
+use cmm_graph::{Destination, Node, NodeId, NodeKind, Temporary};
+use cmm_items::Items;
+use std::alloc::{AllocError, Global};
+
+/// The nodes of a body, so far.
+#[derive(Drop)]
+pub struct Builder {
+    pub alloc: Global,
+    /// Where each label leads.
+    pub labels: Items<NodeId>,
+    /// Where each continuation leads.
+    pub continuations: Items<NodeId>,
+    /// The number of the Stop, which is how many nodes stand in front: one for each label, one for labels that the body
+    /// lacks, and one for each continuation.
+    pub stop: NodeId,
+    /// The nodes from the Stop on.
+    pub nodes: Items<Node>,
+    /// How many temporaries the nodes name.
+    pub temporaries: u32,
+}
+
+/// A count as a number of 32 bits. That so many things fit in memory and not in these does not happen.
+pub fn as_number(count: usize) -> Result<u32, AllocError>
+    ensures { IfOk result (λ n. n ≡ count) }
+{
+    match u32::try_from(count) {
+        Ok(number) => Ok(number),
+        Err(_) => Err(AllocError),
+    }
+}
+
+/// The number after one.
+pub fn following(number: u32) -> Result<u32, AllocError>
+    ensures { IfOk result (λ n. n ≡ suc number) }
+{
+    match number.checked_add(1) {
+        Some(next) => Ok(next),
+        None => Err(AllocError),
+    }
+}
+
+/// The sum of two numbers.
+fn sum(a: u32, b: u32) -> Result<u32, AllocError>
+    ensures { IfOk result (λ n. n ≡ a + b) }
+{
+    match a.checked_add(b) {
+        Some(sum) => Ok(sum),
+        None => Err(AllocError),
+    }
+}
+
+impl Builder {
+    /// Adds a node, and answers its number.
+    pub fn push(&mut self, tokens: u32, kind: NodeKind) -> Result<NodeId, AllocError>
+        ensures { IfOk result (λ n. Lays self.old self.new (λ nodes. IsNode nodes n tokens kind)) }
+    {
+        let number = sum(self.stop.number, as_number(self.nodes.len())?)?;
+        self.nodes.push(Node { tokens, kind })?;
+        Ok(NodeId { number })
+    }
+
+    /// A temporary to assign to.
+    pub fn temporary(&mut self, number: u32) -> Result<Destination, AllocError>
+        ensures { IfOk result (λ to. (to ≡ to_temporary number) × Lays self.old self.new (λ nodes. Unit {0})) }
+    {
+        let count = following(number)?;
+        self.temporaries = self.temporaries.max(count);
+        Ok(Destination::Temporary(Temporary { number }))
+    }
+
+    /// The node of a label, at which a `goto` begins.
+    pub fn label(&self, label: u32) -> Result<NodeId, AllocError>
+        ensures { IfOk result (λ n. n ≡ record { number = min label (length self.now.labels) }) }
+    {
+        if (label as usize) < self.labels.len() {
+            Ok(NodeId { number: label })
+        } else {
+            Ok(NodeId {
+                number: as_number(self.labels.len())?,
+            })
+        }
+    }
+}
