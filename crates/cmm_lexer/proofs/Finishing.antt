@@ -18,8 +18,8 @@ use Rattle.cmm_lexer.specs.declared.tokens.TheConstants.{UNIT_LIMIT}
 use Rattle.cmm_lexer.specs.Places.{line_at, column_at}
 use Rattle.cmm_lexer.specs.Pieces.{Placed, pieces_from}
 use Rattle.cmm_lexer.specs.Lexing.{Lexes, fault_of, faults_of, first_fault, IsFirstFault}
-use Rattle.cmm_lexer.specs.Blame.{Blames}
-use Rattle.cmm_lexer.specs.Reached.{Reached, pieces_at}
+use Rattle.cmm_lexer.specs.inside.Blame.{Blames}
+use Rattle.cmm_lexer.specs.inside.Reached.{Reached, pieces_at}
 
 -- a unit is refused for its length first
 pub first_fault-long : (unit : List ℕ) → UNIT_LIMIT < length unit → first_fault unit ≡ Some (record { rule = UnitTooLong; start = 0 })

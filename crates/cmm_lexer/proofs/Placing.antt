@@ -6,7 +6,8 @@ use Rattle.std.proofs.lemmas.List.Folds.{prefix_len-append}
 use Rattle.std.proofs.lemmas.List.Sums.{sum_by-append, count_by-le-length, suffix_len-le-length}
 use Rattle.std.proofs.Math.Seq.{take-add}
 use Rattle.std.specs.List.{count_by, suffix_len, prefix_len}
-use Rattle.cmm_lexer.specs.Places.{ends_line, column_after, line_at, column_at, column_past}
+use Rattle.cmm_lexer.specs.Places.{ends_line, column_after, line_at, column_at}
+use Rattle.cmm_lexer.specs.inside.Columns.{column_past}
 
 -- the line after more bytes
 pub line_at-add : (unit : List ℕ) (place n : ℕ) → line_at unit (place + n) ≡ line_at unit place + count_by ends_line (take n (drop place unit))

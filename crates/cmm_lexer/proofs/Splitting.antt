@@ -6,7 +6,7 @@ use Rattle.std.specs.List.{flat_map}
 use Rattle.cmm_lexer.specs.declared.piece.Piece.{Piece}
 use Rattle.cmm_lexer.specs.Places.{column_at}
 use Rattle.cmm_lexer.specs.Pieces.{Placed, piece_at, pieces_from}
-use Rattle.cmm_lexer.specs.Reached.{pieces_at}
+use Rattle.cmm_lexer.specs.inside.Reached.{pieces_at}
 
 -- bytes that are owned are passed by
 pieces_from-owned : (unit : List ℕ) (n place : ℕ) (bs : List ℕ) → pieces_from unit n place bs ≡ pieces_from unit 0 (place + n) (drop n bs)

@@ -5,5 +5,4 @@ pub mod Numbers
 pub mod Places
 pub mod Pieces
 pub mod Lexing
-pub mod Blame
-pub mod Reached
+pub mod inside

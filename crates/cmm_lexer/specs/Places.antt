@@ -1,5 +1,5 @@
 -- Lines and columns of the places of a unit, both from 1.
-use Rattle.std.specs.Prelude.{ℕ, Bool, ◌==◌, ◌+◌, not, if◌then◌else◌, List, length, take}
+use Rattle.std.specs.Prelude.{ℕ, Bool, ◌==◌, ◌+◌, not, List, take}
 use Rattle.std.specs.List.{count_by, suffix_len}
 
 abbrev pub ends_line : ℕ → Bool
@@ -18,7 +18,3 @@ line_at unit place = line_after (take place unit)
 
 abbrev pub column_at : List ℕ → ℕ → ℕ
 column_at unit place = column_after (take place unit)
-
--- the column after more bytes, from the column before them
-abbrev pub column_past : ℕ → List ℕ → ℕ
-column_past column bytes = if suffix_len (λ b. not (ends_line b)) bytes == length bytes then column + length bytes else column_after bytes

@@ -2,7 +2,7 @@
 
 ghost use Rattle.std.specs.Prelude.{◌≤◌, ◌<◌, length, IfOk, IfErr};
 ghost use Rattle.cmm_lexer.specs.Lexing.{Lexes, IsFirstFault};
-ghost use Rattle.cmm_lexer.specs.Reached.{Reached};
+ghost use Rattle.cmm_lexer.specs.inside.Reached.{Reached};
 
 use crate::piece::piece_at;
 use crate::tokens::{LexFault, Tokens, UNIT_LIMIT};

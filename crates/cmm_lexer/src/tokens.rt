@@ -4,10 +4,11 @@ ghost use Rattle.std.specs.Prelude.{◌≡◌, ◌≢◌, ◌+◌, ◌-◌, ◌*
 ghost use Rattle.std.specs.List.{AllPairs, count_by, suffix_len};
 ghost use Rattle.std.specs.Cmp.Lexicographic.{pointwise};
 ghost use Rattle.indexmap.specs.IndexSet.{IsUnique};
-ghost use Rattle.cmm_lexer.specs.Places.{ends_line, column_past};
+ghost use Rattle.cmm_lexer.specs.Places.{ends_line};
+ghost use Rattle.cmm_lexer.specs.inside.Columns.{column_past};
 ghost use Rattle.cmm_lexer.specs.Lexing.{spelled, lexeme_of, is_numbered, are_numbered, token_in, fault_in};
 ghost use Rattle.cmm_rules.specs.Rules.{rule_number};
-ghost use Rattle.cmm_lexer.specs.Blame.{Blames};
+ghost use Rattle.cmm_lexer.specs.inside.Blame.{Blames};
 
 use crate::piece::{Lexeme, Part, Piece};
 use crate::token::{Token, TokenKind};

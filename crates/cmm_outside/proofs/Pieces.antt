@@ -27,14 +27,14 @@ flat_map-from {X} f xs i d h =
     ∙ flat_map-append f (take i xs) (get_or xs i d ∷ drop (i + 1) xs)
 
 -- a front of the piece after those that are written is a front of all
-pub AppendsFront-pieces : {X : Type 0} (f : X → List ℕ) (xs : List X) (i : ℕ) (d : X) (before mid after : Option (List ℕ)) → i < length xs →
+AppendsFront-pieces : {X : Type 0} (f : X → List ℕ) (xs : List X) (i : ℕ) (d : X) (before mid after : Option (List ℕ)) → i < length xs →
     Appends before mid (flat_map f (take i xs)) → AppendsFront mid after (f (get_or xs i d)) → AppendsFront before after (flat_map f xs)
 AppendsFront-pieces f xs i d before mid after h a b =
     let front = AppendsFront-between before mid after (flat_map f (take i xs)) (f (get_or xs i d)) (flat_map f (drop (i + 1) xs)) a b in
     rw (flat_map-from f xs i d h) front
 
 -- what holds in any case holds on an error
-pub OnErr-always : {T E : Type 0} (r : Result T E) {P : Type 0} → P → OnErr r P
+OnErr-always : {T E : Type 0} (r : Result T E) {P : Type 0} → P → OnErr r P
 OnErr-always (Ok x) p = tt
 OnErr-always (Err e) p = p
 

@@ -1,2 +1,2 @@
 -- The lemmas that proofs of other crates may cite: writing pieces.
-pub use Rattle.cmm_outside.proofs.Pieces.{AppendsFront-pieces, HasWritten, OnErr-always, fails_at_piece}
+pub use Rattle.cmm_outside.proofs.Pieces.{HasWritten, fails_at_piece}

@@ -13,10 +13,10 @@ use Rattle.cmm_script.specs.declared.line.Line.TheVariants.{Begins, Does}
 use Rattle.cmm_script.specs.declared.script.Block.{Block}
 use Rattle.cmm_script.specs.declared.script.Command.{Command}
 use Rattle.cmm_script.specs.Words.{Word, Said}
-use Rattle.cmm_script.specs.Reading.{line_of}
+use Rattle.cmm_script.specs.inside.Reading.{line_of}
 use Rattle.cmm_script.specs.Spelling.{SpellsHead, SpellsCommand, SpellsCommands, SpellsBlock, SpellsBlocks, has_code, AreBlocks}
 use Rattle.cmm_script.specs.Faults.{Breaks, BreaksFirst}
-use Rattle.cmm_script.specs.Building.{begun, with_command, onto_last, with_head, with_last, with_line, blocks_after}
+use Rattle.cmm_script.specs.inside.Building.{begun, with_command, onto_last, with_head, with_last, with_line, blocks_after}
 use Rattle.cmm_script.proofs.Forms.{line-read, line-spelled}
 
 -- ---- codes

@@ -13,8 +13,8 @@ use Rattle.cmm_script.specs.declared.script.Command.TheVariants.{List as ListAll
 use Rattle.cmm_script.specs.declared.script.Value.{Value}
 use Rattle.cmm_script.specs.Words.{Word}
 use Rattle.cmm_script.specs.Numbers.{number_of, index_of, value_of}
-use Rattle.cmm_script.specs.Keywords.{spelling_of, keywords, keyword_of}
-use Rattle.cmm_script.specs.Reading.{◌>>=◌, alone, one, two, three, each_value, values_of, exit_of, cut_of, line_as, line_of}
+use Rattle.cmm_script.specs.inside.Keywords.{spelling_of, keywords, keyword_of}
+use Rattle.cmm_script.specs.inside.Reading.{◌>>=◌, alone, one, two, three, each_value, values_of, exit_of, cut_of, line_as, line_of}
 use Rattle.cmm_script.specs.Spelling.{AreValues, SpellsHead, SpellsCommand}
 
 -- ---- steps of reading

@@ -8,8 +8,8 @@ use Rattle.cmm_script.specs.declared.script.Command.TheVariants.{List as ListAll
 use Rattle.cmm_script.specs.declared.script.Value.TheVariants.{Number, Yielded}
 use Rattle.cmm_script.specs.Words.{words_in, said_in}
 use Rattle.cmm_script.specs.Numbers.{number_of, index_of, value_of}
-use Rattle.cmm_script.specs.Keywords.{keywords}
-use Rattle.cmm_script.specs.Reading.{values_of, exit_of, cut_of, line_as, line_of}
+use Rattle.cmm_script.specs.inside.Keywords.{keywords}
+use Rattle.cmm_script.specs.inside.Reading.{values_of, exit_of, cut_of, line_as, line_of}
 use Rattle.cmm_script.specs.Spelling.{SpellsHead, SpellsCommand, SpellsScript}
 use Rattle.cmm_script.specs.Faults.{ScriptFaultAt}
 use Rattle.cmm_script.proofs.Scripts.{made-script, made-fault}

@@ -9,7 +9,7 @@ use Rattle.cmm_script.specs.declared.script.Block.{Block}
 use Rattle.cmm_script.specs.declared.script.Script.{Script}
 use Rattle.cmm_script.specs.Words.{said_in}
 use Rattle.cmm_rules.specs.Rules.{rule_number}
-use Rattle.cmm_script.specs.Building.{blocks_after, Makes}
+use Rattle.cmm_script.specs.inside.Building.{blocks_after, Makes}
 use Rattle.cmm_script.specs.Spelling.{SpellsScript}
 use Rattle.cmm_script.specs.Faults.{IsFirstFault, ScriptFaultAt, IsScript, IsRefusal}
 use Rattle.cmm_script.specs.Laws.{OneScript, OneFault, ScriptOrFault, NeverBoth}

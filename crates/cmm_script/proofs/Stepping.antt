@@ -8,8 +8,8 @@ use Rattle.cmm_script.specs.declared.fault.ScriptFault.TheVariants.{At, Memory}
 use Rattle.cmm_script.specs.declared.script.Block.{Block}
 use Rattle.cmm_script.specs.declared.script.Command.{Command}
 use Rattle.cmm_script.specs.Words.{Word, words_in, is_skipped, said_from}
-use Rattle.cmm_script.specs.Reading.{line_of}
-use Rattle.cmm_script.specs.Building.{with_command, onto_last, with_last, with_line, with_words, blocks_after, Leaves, Makes}
+use Rattle.cmm_script.specs.inside.Reading.{line_of}
+use Rattle.cmm_script.specs.inside.Building.{with_command, onto_last, with_last, with_line, with_words, blocks_after, Leaves, Makes}
 
 -- to change the last block is to put another in its place
 onto_last-set : (f : Block → Block) (bs : List Block) (k : ℕ) (b : Block) → length bs ≡ suc k → b ≡ get_or bs k b → onto_last f bs ≡ set bs k (f b)

@@ -1,12 +1,9 @@
-pub mod Refusals
 pub mod Kinds
 pub mod Walk
 pub mod Lines
 pub mod Words
 pub mod Numbers
-pub mod Keywords
-pub mod Reading
 pub mod Spelling
 pub mod Faults
-pub mod Building
 pub mod Laws
+pub mod inside

@@ -1,7 +1,7 @@
 //! The words with which a line begins.
 
 ghost use Rattle.std.specs.Prelude.{◌≡◌};
-ghost use Rattle.cmm_script.specs.Keywords.{spelling_of, keyword_of};
+ghost use Rattle.cmm_script.specs.inside.Keywords.{spelling_of, keyword_of};
 
 /// The first word of a line.
 #[derive(Clone, Copy, Debug, PartialEq, Eq)]
@@ -63,7 +63,7 @@ impl Keyword {
     }
 
     /// The keyword that a word is.
-    #[tactic(auto, unfolding(crate::specs::Keywords::keywords))]
+    #[tactic(auto, unfolding(crate::specs::inside::Keywords::keywords))]
     pub fn of(word: &[u8]) -> Option<Keyword>
         ensures { result ≡ keyword_of word.now }
     {

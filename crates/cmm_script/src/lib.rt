@@ -10,7 +10,7 @@
 //! - `laws`: what bytes are, a script or a first fault.
 //!
 //! The format is stated in `specs/`: lines and words in `Words`, numbers in `Numbers`, forms of line and blocks in `Spelling`, the first
-//! fault in `Faults`. `Keywords`, `Reading` and `Building` are what the code does, from the front; `proofs/` shows that they are the same.
+//! fault in `Faults`. `inside/` has what the code does, from the front; `proofs/` shows that they are the same.
 #![tactic(auto)]
 
 mod fault;

@@ -1,7 +1,7 @@
 //! One line of a script: the head of a block, or a command.
 
 ghost use Rattle.std.specs.Prelude.{◌≡◌, map, ◌<◌, ◌≤◌};
-ghost use Rattle.cmm_script.specs.Reading.{Reads, Gives, alone as alone_of, one as one_of, two as two_of, three as three_of, values_of, each_value as each_value_of, exit_of, cut_of, line_as, line_of as line_in_words};
+ghost use Rattle.cmm_script.specs.inside.Reading.{Reads, Gives, alone as alone_of, one as one_of, two as two_of, three as three_of, values_of, each_value as each_value_of, exit_of, cut_of, line_as, line_of as line_in_words};
 
 use crate::fault::Unread;
 use crate::keyword::Keyword;
@@ -23,7 +23,7 @@ pub enum Line {
 pub const VALUES_LIMIT: usize = 64;
 
 /// What the words of a line say.
-#[tactic(auto, unfolding(crate::specs::Reading::line_of))]
+#[tactic(auto, unfolding(crate::specs::inside::Reading::line_of))]
 pub fn line_of(alloc: Global, words: &[&[u8]]) -> Result<Line, Unread>
     ensures { Reads result (line_in_words (map (λ word. word.now) words.now)) }
 {
@@ -37,7 +37,7 @@ pub fn line_of(alloc: Global, words: &[&[u8]]) -> Result<Line, Unread>
 }
 
 /// What a line says that begins with a keyword.
-#[tactic(auto, unfolding(crate::specs::Reading::line_as))]
+#[tactic(auto, unfolding(crate::specs::inside::Reading::line_as))]
 fn line_of_keyword(alloc: Global, keyword: Keyword, operands: &[&[u8]]) -> Result<Line, Unread>
     ensures { Reads result (line_as keyword (map (λ word. word.now) operands.now)) }
 {
@@ -119,7 +119,7 @@ fn three<'a>(operands: &[&'a [u8]]) -> Result<(&'a [u8], &'a [u8], &'a [u8]), Un
 }
 
 /// The number of an exit, and the values for it.
-#[tactic(auto, unfolding(crate::specs::Reading::exit_of))]
+#[tactic(auto, unfolding(crate::specs::inside::Reading::exit_of))]
 fn exit(alloc: Global, operands: &[&[u8]]) -> Result<(u32, Items<Value>), Unread>
     ensures { Reads result (exit_of (map (λ word. word.now) operands.now)) }
 {
@@ -130,7 +130,7 @@ fn exit(alloc: Global, operands: &[&[u8]]) -> Result<(u32, Items<Value>), Unread
 }
 
 /// The continuation that is cut to, and the values for it.
-#[tactic(auto, unfolding(crate::specs::Reading::cut_of))]
+#[tactic(auto, unfolding(crate::specs::inside::Reading::cut_of))]
 fn cut(alloc: Global, operands: &[&[u8]]) -> Result<(Value, Items<Value>), Unread>
     ensures { Reads result (cut_of (map (λ word. word.now) operands.now)) }
 {
@@ -141,7 +141,7 @@ fn cut(alloc: Global, operands: &[&[u8]]) -> Result<(Value, Items<Value>), Unrea
 }
 
 /// At most `VALUES_LIMIT` values.
-#[tactic(auto, unfolding(crate::specs::Reading::values_of))]
+#[tactic(auto, unfolding(crate::specs::inside::Reading::values_of))]
 fn values(alloc: Global, words: &[&[u8]]) -> Result<Items<Value>, Unread>
     ensures { Reads result (values_of (map (λ word. word.now) words.now)) }
 {

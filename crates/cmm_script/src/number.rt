@@ -4,7 +4,7 @@ ghost use Rattle.std.specs.Option.{option_map};
 ghost use Rattle.cmm_words.specs.Digits.{written};
 ghost use Rattle.cmm_script.specs.declared.script.Value.TheVariants.{Yielded};
 ghost use Rattle.cmm_script.specs.Numbers.{number_of, index_of, below, value_of};
-ghost use Rattle.cmm_script.specs.Reading.{Reads};
+ghost use Rattle.cmm_script.specs.inside.Reading.{Reads};
 
 use crate::fault::Unread;
 use crate::script::Value;

@@ -1,9 +1,9 @@
 //! `parse_script`: from the bytes of a script to its blocks.
 
 ghost use Rattle.std.specs.Prelude.{◌≡◌, ◌≤◌, ℕ, [], length, map, IfOk, IfErr};
-ghost use Rattle.cmm_script.specs.Building.{Leaves, Makes, with_head, with_last, with_line, with_words, blocks_after};
+ghost use Rattle.cmm_script.specs.inside.Building.{Leaves, Makes, with_head, with_last, with_line, with_words, blocks_after};
 ghost use Rattle.cmm_script.specs.Faults.{ScriptFaultAt, IsFirstFault, IsScript, IsRefusal};
-ghost use Rattle.cmm_script.specs.Reading.{line_of as line_in_words};
+ghost use Rattle.cmm_script.specs.inside.Reading.{line_of as line_in_words};
 ghost use Rattle.cmm_rules.specs.Rules.{rule_number};
 ghost use Rattle.cmm_rules.specs.declared.rule.Rule.{Rule};
 ghost use Rattle.cmm_script.specs.declared.fault.ScriptFault.{ScriptFault};
@@ -56,7 +56,7 @@ fn blocks_of(alloc: Global, bytes: &[u8]) -> Result<Items<Block>, ScriptFault>
 }
 
 /// Adds what a line says to the blocks before it.
-#[tactic(auto, unfolding(crate::specs::Building::with_words))]
+#[tactic(auto, unfolding(crate::specs::inside::Building::with_words))]
 fn read_line(
     alloc: Global,
     blocks: &mut Vec<Block>,

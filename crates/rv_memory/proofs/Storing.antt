@@ -5,7 +5,8 @@ use Rattle.std.proofs.lemmas.Bool.{cases_lt}
 use Rattle.std.proofs.lemmas.Bool.Decides.{nat_tests}
 use Rattle.std.specs.Prelude.{nat_lt, nat_le, Bool, true, false}
 use Rattle.rv_table.specs.Memory.{stored, data_base, region_base}
-use Rattle.rv_memory.specs.Regions.{Regions, Fits, memory_of, offset_in, lies_in}
+use Rattle.rv_memory.specs.Regions.{Regions, Fits, memory_of}
+use Rattle.rv_memory.specs.inside.Access.{offset_in, lies_in}
 
 -- an access that begins so far into a region lies in it
 record Lies (base count address size at : ℕ) : Type 0 where

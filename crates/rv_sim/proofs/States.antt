@@ -11,7 +11,8 @@ use Rattle.rv_table.specs.declared.registers.Regs.{Regs}
 use Rattle.rv_table.specs.declared.trap.TrapKind.{TrapKind}
 use Rattle.rv_table.specs.Machine.{MemoryMap, State, Traps, instruction_step, done, extended, goes_to, is_accessible, loaded, stored, with_set}
 use Rattle.rv_table.specs.Registers.{with_register}
-use Rattle.rv_sim.specs.Stepping.{found_step, state_of, state_with, state_after}
+use Rattle.rv_sim.specs.Stepping.{state_of, state_with, state_after}
+use Rattle.rv_sim.specs.inside.Answering.{found_step}
 
 -- the state of equal registers and pc
 pub state-same : (x y : ℕ → ℕ) (pc at : ℕ) (memory : ℕ → ℕ) → x ≡ y → pc ≡ at →

@@ -1,15 +1,12 @@
 -- What one instruction does to registers and memory, and the event that it ends in.
-use Rattle.std.specs.Prelude.{ℕ, Result, Ok, Err}
+use Rattle.std.specs.Prelude.{ℕ}
 use Rattle.rv_memory.specs.Regions.{Regions, map_of, memory_of}
 use Rattle.rv_sim.specs.declared.event.Event.{Event}
 use Rattle.rv_sim.specs.declared.event.Event.TheVariants.{Next, Asks, Trap}
-use Rattle.rv_table.specs.declared.instruction.Instr.{Instr}
 use Rattle.rv_table.specs.declared.registers.Regs.{Regs}
-use Rattle.rv_table.specs.declared.trap.TrapKind.{TrapKind}
 use Rattle.rv_table.specs.Machine as machine
-use Rattle.rv_table.specs.Machine.{MemoryMap, State, Outcome, done, instruction_step}
+use Rattle.rv_table.specs.Machine.{State, Outcome, instruction_step}
 use Rattle.rv_table.specs.Registers.{registers_of}
-use Rattle.rv_table.specs.Row.{row}
 
 -- the machine's state that registers and a memory are
 abbrev pub state_with : Regs → (ℕ → ℕ) → State
@@ -22,22 +19,11 @@ state_of r m = state_with r (memory_of m)
 abbrev pub outcome_of : Regs → Regions → Outcome
 outcome_of r m = instruction_step (map_of m) (state_of r m)
 
--- the event, or the kind of the trap
-abbrev pub answer_of : Outcome → Result Event TrapKind
-answer_of (machine.Next _) = Ok Next
-answer_of (machine.Asks request) = Ok (Asks request)
-answer_of (machine.Traps kind) = Err kind
-
 -- the event of what came of the instruction at pc
 abbrev pub event_of : ℕ → Outcome → Event
 event_of pc (machine.Next _) = Next
 event_of pc (machine.Asks request) = Asks request
 event_of pc (machine.Traps kind) = Trap (record { kind = kind; pc = pc })
-
--- what comes of an instruction that was looked for, or of the trap in its place
-abbrev pub found_step : MemoryMap → State → Result Instr TrapKind → Outcome
-found_step m s (Ok i) = done m s (row s.registers s.pc i)
-found_step m s (Err kind) = machine.Traps kind
 
 -- the state after an instruction: the next one, or the state as it was where the instruction asks or traps
 abbrev pub state_after : State → Outcome → State

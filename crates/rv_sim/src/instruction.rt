@@ -2,7 +2,8 @@
 ghost use Rattle.std.specs.Prelude.{◌≡◌, ◌≢◌, ◌<◌, ◌+◌, ◌^◌, ℕ, Ok, IfOk, IsTrue, slice_index};
 ghost use Rattle.rv_memory.specs.Regions.{map_of};
 ghost use Rattle.rv_sim.specs.declared.event.Event.TheVariants.{Next};
-ghost use Rattle.rv_sim.specs.Stepping.{state_of, state_with, found_step, outcome_of, answer_of, event_of, state_after};
+ghost use Rattle.rv_sim.specs.Stepping.{state_of, state_with, outcome_of, event_of, state_after};
+ghost use Rattle.rv_sim.specs.inside.Answering.{found_step, answer_of};
 ghost use Rattle.rv_table.specs.Bounds.{HasASize, WritesARegister, is_size};
 ghost use Rattle.rv_table.specs.Machine.{State, done, extended, goes_to, instruction_step, with_set};
 ghost use Rattle.rv_table.specs.Registers.{registers_of};

@@ -1,5 +1,5 @@
 use Rattle.std.proofs.Common.{◌-◌, length}
-use Rattle.cmm_lexer.specs.Reached.{Reached}
+use Rattle.cmm_lexer.specs.inside.Reached.{Reached}
 use Rattle.cmm_lexer.proofs.lexing.lex.Given as goal
 
 -- the tokens before the place are read

@@ -1,7 +1,7 @@
 use Rattle.std.proofs.Common.{◌≡◌, suc, [], drop, length}
 use Rattle.std.specs.List.{slice_split}
 use Rattle.cmm_script.specs.Words.{ends_line, said_from, said_in}
-use Rattle.cmm_script.specs.Building.{blocks_after}
+use Rattle.cmm_script.specs.inside.Building.{blocks_after}
 use Rattle.cmm_script.proofs.reader.blocks_of.Given as goal
 
 -- the lines that are left, after the blocks so far, make what all lines make

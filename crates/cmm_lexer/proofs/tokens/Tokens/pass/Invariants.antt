@@ -1,6 +1,7 @@
 use Rattle.std.proofs.Common.{◌≡◌, ◌+◌, ◌≤◌, take}
 use Rattle.std.specs.List.{count_by}
-use Rattle.cmm_lexer.specs.Places.{ends_line, column_past}
+use Rattle.cmm_lexer.specs.Places.{ends_line}
+use Rattle.cmm_lexer.specs.inside.Columns.{column_past}
 use Rattle.cmm_lexer.proofs.tokens.Tokens.pass.Given as goal
 
 -- the place reached is the one after the bytes so far

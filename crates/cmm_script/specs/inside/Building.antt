@@ -10,7 +10,7 @@ use Rattle.cmm_script.specs.declared.line.Line.TheVariants.{Begins, Does}
 use Rattle.cmm_script.specs.declared.script.Block.{Block}
 use Rattle.cmm_script.specs.declared.script.Command.{Command}
 use Rattle.cmm_script.specs.Words.{Word, Said, is_skipped}
-use Rattle.cmm_script.specs.Reading.{line_of}
+use Rattle.cmm_script.specs.inside.Reading.{line_of}
 use Rattle.cmm_script.specs.Spelling.{has_code}
 
 -- a block that has no command yet

@@ -10,7 +10,7 @@ use Rattle.cmm_script.specs.declared.script.Command.TheVariants as command
 use Rattle.cmm_script.specs.declared.script.Value.{Value}
 use Rattle.cmm_script.specs.Words.{Word}
 use Rattle.cmm_script.specs.Numbers.{number_of, index_of, value_of}
-use Rattle.cmm_script.specs.Keywords.{keyword_of}
+use Rattle.cmm_script.specs.inside.Keywords.{keyword_of}
 
 -- what a function returned is what words mean, unless memory ran out
 abbrev pub Reads : {X : Type 0} → Result X Unread → Option X → Type 0
