@@ -11,7 +11,7 @@ use Rattle.cmm_program.specs.declared.placement.Placement.{Placement}
 use Rattle.cmm_program.specs.Layout.{data_bytes, datum_piece, end_before, end_of, label_address, label_addresses}
 use Rattle.cmm_data.specs.Conditions.{CanBeLaidOut, HasAlignment, IsLayable, IsOnDatum}
 use Rattle.cmm_data.specs.Filling.{AreApart, IsWaiting, code_in, filled, fix_procedures, procedure_addresses}
-use Rattle.cmm_data.specs.inside.Walking.{bytes_by, fixes_from, unfilled}
+use Rattle.cmm_data.specs.inside.Walking.{address_in, bytes_by, fixes_from, unfilled}
 use Rattle.cmm_data.specs.declared.fix.Fix.{Fix}
 use Rattle.cmm_data.proofs.Ends.{end_of_all}
 use Rattle.cmm_data.proofs.Fixes.{all_apart, procedures_are}
@@ -72,3 +72,19 @@ module _ (p : Program) (can : CanBeLaidOut p) (bytes : List ℕ) (fixes : List F
       subst (λ (bs : List ℕ). All (IsWaiting bs) fixes) (sym bytes_are)
       (subst (λ (fs : List Fix). All (IsWaiting (bytes_by (unfilled (label_addresses p)) data_base p.datums)) fs) (sym fixes_are)
       (data_waits (label_addresses p) (length p.labels) p.datums can.datums))
+
+-- ---- what was laid, over the slices of a program's data and labels
+pub found_addresses : (p : Program) {ds : List Datum} {ls : List Label} {addresses : List ℕ} → ds ≡ p.datums → ls ≡ p.labels →
+    addresses ≡ map (address_in ds) ls → addresses ≡ label_addresses p
+found_addresses p {ls = ls} data_is labels_are found =
+    found ∙ ap (λ (ds : List Datum). map (address_in ds) ls) data_is ∙ ap (λ (ls : List Label). map (address_in p.datums) ls) labels_are
+
+pub laid_bytes : (p : Program) {ds : List Datum} {addresses bytes result : List ℕ} → ds ≡ p.datums → addresses ≡ label_addresses p →
+    bytes ≡ bytes_by (unfilled addresses) data_base ds → result ≡ bytes → result ≡ bytes_by (unfilled (label_addresses p)) data_base p.datums
+laid_bytes p {ds = ds} data_is found laid is =
+    is ∙ laid ∙ ap (λ (addresses : List ℕ). bytes_by (unfilled addresses) data_base ds) found
+    ∙ ap (λ (ds : List Datum). bytes_by (unfilled (label_addresses p)) data_base ds) data_is
+
+pub laid_fixes : (p : Program) {ds : List Datum} {fixes result : List Fix} → ds ≡ p.datums → fixes ≡ fixes_from data_base ds → result ≡ fixes →
+    result ≡ fixes_from data_base p.datums
+laid_fixes p data_is laid is = is ∙ laid ∙ ap (λ (ds : List Datum). fixes_from data_base ds) data_is
