@@ -2,6 +2,7 @@
 use Rattle.std.proofs.Common.{List, arith}
 use Rattle.cmm_following.proofs.Agreements.{agrees_of_follows}
 use Rattle.cmm_following.proofs.Followings.{follows_of_simulates}
+use Rattle.cmm_laws.proofs.Shared.{machine_lasts}
 use Rattle.cmm_program.specs.State.{Setting}
 use Rattle.cmm_program.specs.Todo.{todo_control}
 use Rattle.cmm_graph.specs.declared.graph.Graph.{Graph}
@@ -9,7 +10,7 @@ use Rattle.cmm_graph.specs.GraphControl.{graph_control}
 use Rattle.cmm_graph.specs.GraphMachine.{tokens_of_youngest}
 use Rattle.cmm_flow.specs.Laws.{FlowAgrees, FlowFollows, FlowSimulates}
 use Rattle.cmm_flow.proofs.Counting.{longest_positive}
-use Rattle.cmm_flow.proofs.Simulating.{machine_lasts, run_simulates, starts_related}
+use Rattle.cmm_flow.proofs.Simulating.{run_simulates, starts_related}
 use Rattle.cmm_flow.proofs.Steps.{Run}
 
 -- a run at the cost of each node's tokens, and one at the same cost for every step

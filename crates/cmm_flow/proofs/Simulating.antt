@@ -4,11 +4,11 @@ use Rattle.std.proofs.lemmas.Bool.{and_parts}
 use Rattle.std.proofs.lemmas.Bool.Decides.{nat_tests}
 use Rattle.cmm_following.proofs.Paths.{joined, one_step, weaker}
 use Rattle.cmm_following.proofs.Prefixes.{within_refl}
-use Rattle.cmm_following.specs.Machine.{Lasts, Machine}
+use Rattle.cmm_following.specs.Machine.{Machine}
 use Rattle.cmm_following.specs.Observing.{Level, Passes}
 use Rattle.cmm_following.specs.Seen.{IsWithin, but_input}
 use Rattle.cmm_following.specs.Simulation.{Leads, Simulates}
-use Rattle.cmm_laws.proofs.Shared.{step_shows}
+use Rattle.cmm_laws.proofs.Shared.{machine_lasts}
 use Rattle.cmm_laws.specs.Observed.{Call, event_at, machine_of, store_seen}
 use Rattle.cmm_program.proofs.Shared.{list_all_get}
 use Rattle.cmm_program.specs.declared.procedure.Proc.{Proc}
@@ -47,10 +47,6 @@ use Rattle.cmm_flow.proofs.Forms.{form_cost, form_done}
 use Rattle.cmm_flow.proofs.Orders.{Stand, going, going_below, order_related}
 use Rattle.cmm_flow.proofs.Steps.{Quiet, Run, Youngest, at, cost_is, machine, place}
 use Rattle.cmm_flow.proofs.Writes.{IsSameBelow, Leaves}
-
--- the machine of any control lasts
-pub machine_lasts : {C : Type 0} (k : Control C) (s : Setting) → Lasts (machine_of k s)
-machine_lasts k s = grind (arith, step_shows k s)
 
 -- an act of a running state is no event but input
 no_event : (s : Setting) (store : Store) (does : Act) → but_input (event_at s Running store does) ≡ None

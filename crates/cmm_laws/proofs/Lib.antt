@@ -10,12 +10,7 @@ pub mod Stacking
 pub mod Addresses
 pub mod Cells
 pub mod StoredWords
-pub mod SameActs
-pub mod StatementNodes
-pub mod GraphStands
 pub mod Lasting
-pub mod LockSteps
-mod GraphRows
 mod FittingActs
 mod Bodies
 mod FittingExits

@@ -8,7 +8,8 @@ use Rattle.cmm_program.specs.Control.{Control, State, next_act}
 use Rattle.cmm_program.specs.Machine.{step_of}
 use Rattle.cmm_program.specs.Walks.{walk_of}
 use Rattle.cmm_following.specs.Seen.{Seen, Event, Input, Client, End}
-use Rattle.cmm_following.specs.Machine.{Machine}
+use Rattle.cmm_program.specs.Todo.{todo_control}
+use Rattle.cmm_following.specs.Machine.{Machine, Lasts}
 use Rattle.cmm_laws.specs.Runs.{yielded}
 
 -- what the client sees when it is called: the values of the yield, and the walk
@@ -44,3 +45,7 @@ machine_of k s = record {
   asks = λ st. event_at s st.store.status st.store (next_act k st.controls);
   wrong = λ st. elim st.store.status [ Wrong error ↦ true | _ ↦ false ];
 }
+
+-- what is seen of the C-- machine only grows, and what is over or wrong stays so
+abbrev pub MachineLasts : Type 0
+MachineLasts = (s : Setting) → Lasts (machine_of (todo_control s.program) s)

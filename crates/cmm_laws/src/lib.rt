@@ -4,9 +4,8 @@
 //! Each is the contract of a public function that does nothing.
 //!
 //! - `landings`: where control arrives, and what the store is then.
-//! - `lock_step`: a graph whose nodes are whole statements, which does what the C-- machine does step by step.
 //! - `memory`: reads after writes, rooms that come and go, numbers as bytes, words stored and loaded.
-//! - `runs`: what an ended state does, what is only added to, who takes the input, and what the client's commands leave.
+//! - `runs`: what an ended state does, what is only added to, who takes the input, what the client's commands leave, and what is seen.
 //! - `stacks`: that the frames fit the stack and adjoin, and that what belongs to different activations lies apart.
 //! - `values`: sites in range, and values that fit their widths, in every state.
 //!
@@ -14,7 +13,6 @@
 #![tactic(auto)]
 
 pub mod landings;
-pub mod lock_step;
 pub mod memory;
 pub mod runs;
 pub mod stacks;

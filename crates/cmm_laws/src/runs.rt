@@ -1,4 +1,5 @@
 //! What runs do step by step: which states stay, what a step adds, and who takes the input.
+ghost use Rattle.cmm_laws.specs.Observed.{LineUnseen, MachineLasts};
 ghost use Rattle.cmm_laws.specs.Runs.{EndedStays, WrongStays, StepAdds, StepGrows, RunGrows, OnlyCallTakes, InputIsKept, RefusedOnlyLogs, CommandChanges, CommandSpares};
 
 /// An ended state and a wrong one stay as they are.
@@ -31,4 +32,12 @@ pub fn commands_change_little()
     ensures refused { RefusedOnlyLogs }
     ensures changes { CommandChanges }
     ensures spares { CommandSpares }
+{}
+
+/// What is seen of a run only grows, without the line of a yield until the client has answered, and a run that is over or
+/// wrong stays so.
+#[tactic(auto, using(crate::proofs::Lasting::machine_lasts, crate::proofs::Growing::line_unseen))]
+pub fn what_is_seen_lasts()
+    ensures last { MachineLasts }
+    ensures line { LineUnseen }
 {}
