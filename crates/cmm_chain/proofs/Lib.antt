@@ -1,0 +1,8 @@
+pub mod Offsets
+pub mod Lasting
+pub mod Holding
+pub mod Entering
+pub mod Leaving
+pub mod Walking
+pub mod Setting
+mod Rows

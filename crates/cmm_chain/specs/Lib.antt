@@ -1,0 +1,6 @@
+pub mod Contents
+pub mod Plans
+pub mod Chain
+pub mod Running
+pub mod Walks
+pub mod Laws
