@@ -1,2 +1,4 @@
 pub mod Offsets
 pub mod Framing
+pub mod Notation
+mod Rows
