@@ -1,3 +1,4 @@
+pub mod Shared
 mod RowTexts
 mod NameRows
 mod ExpressionRows

@@ -1,0 +1,17 @@
+-- What holds of the program that units mean.
+use Rattle.std.specs.Prelude.{◌≡◌, ℕ, All, List, length}
+use Rattle.std.specs.List.{range_with_len}
+use Rattle.cmm_ast.specs.declared.unit.Unit.{Unit as UnitTree}
+use Rattle.cmm_program.specs.declared.procedure.Proc.{Proc}
+use Rattle.cmm_program.specs.declared.statement.Form.{Form}
+use Rattle.cmm_program.specs.Numbering.{AreNumbered, body_numbers, site_number}
+use Rattle.cmm_meaning.specs.Meaning.{meaning_of}
+
+-- the numbers that the statements of a body have are those below a count, once each, in textual order
+pub record AreInOrder (number : Form → List ℕ) (count : ℕ) (q : Proc) : Type 0 where
+  pub ascending : body_numbers number q ≡ range_with_len 0 count
+  pub once : AreNumbered number count q
+
+-- the call sites of each procedure
+abbrev pub SitesAreInOrder : Type 0
+SitesAreInOrder = (us : List UnitTree) → All (λ q. AreInOrder site_number (length q.sites) q) (meaning_of us).procs

@@ -1,0 +1,7 @@
+pub mod Resolving
+pub mod Sites
+pub mod Bodies
+pub mod Procedures
+pub mod Data
+pub mod Meaning
+pub mod Laws
