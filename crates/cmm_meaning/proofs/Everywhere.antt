@@ -1,5 +1,5 @@
 -- What holds of the procedure that each tree means holds of all procedures of a program.
-use Rattle.std.proofs.Common.{ℕ, suc, List, [], ◌∷◌, All}
+use Rattle.std.proofs.Common.{◌≡◌, ℕ, suc, ◌+◌, List, [], ◌∷◌, ◌++◌, All, refl, sym, ap, ◌∙◌, append_assoc, length, length-append, arith}
 use Rattle.std.specs.Prelude.{flat_map}
 use Rattle.std.proofs.lemmas.List.Elements.{All-nil, All-cons, All-append}
 use Rattle.cmm_ast.specs.declared.procedure.Proc.{Proc as ProcTree}
@@ -8,11 +8,14 @@ use Rattle.cmm_ast.specs.declared.unit.Item.TheVariants as items
 use Rattle.cmm_program.specs.declared.procedure.Proc.{Proc}
 use Rattle.cmm_accepted.specs.Senses.{Senses}
 use Rattle.cmm_accepted.specs.Items.{SpanTree, Within}
-use Rattle.cmm_accepted.specs.Declarations.{NamedUnit}
-use Rattle.cmm_accepted.specs.Linking.{Program as Linked}
+use Rattle.cmm_ast.specs.declared.unit.Unit.{Unit as UnitTree}
+use Rattle.cmm_accepted.specs.Declarations.{NamedUnit, named_units}
+use Rattle.cmm_accepted.specs.Faults.{AreAccepted, each_unit, item_procedure_spots, procedure_spots}
+use Rattle.cmm_accepted.specs.Linking.{Program as Linked, program_of}
 use Rattle.cmm_accepted.specs.Scopes.{unit_senses}
 use Rattle.cmm_meaning.specs.Procedures.{procedure_of}
-use Rattle.cmm_meaning.specs.Meaning.{item_procedures, procedures_from}
+use Rattle.cmm_meaning.specs.Meaning.{item_procedures, unit_procedures, procedures_from, meaning_of}
+use Rattle.cmm_meaning.proofs.Nothing.{no_left, no_right, first_unit, other_units, unbroken, procedures_kept}
 
 module _ (P : Proc → Type 0) (each : (names : Senses) (unit : ℕ) (around : List SpanTree) (p : ProcTree) → P (procedure_of names unit around p)) where
   item_all : (names : Senses) (unit : ℕ) (around : List SpanTree) (i : Item) → All P (item_procedures names unit (record { spans = around; what = i }))
@@ -30,3 +33,50 @@ module _ (P : Proc → Type 0) (each : (names : Senses) (unit : ℕ) (around : L
   all_units program unit [] = All-nil P
   all_units program unit (u ∷ us) =
       All-append P _ (procedures_from program (suc unit) us) (unit_all (unit_senses program u.entries) unit u.items) (all_units program (suc unit) us)
+
+-- ---- the same of units that break no rule
+
+-- a procedure of some units: those before its own, its own, and those behind it
+pub record Place (us : List NamedUnit) (earlier : List NamedUnit) (u : NamedUnit) (number : ℕ) : Type 0 where
+  pub later : List NamedUnit
+  pub units : us ≡ earlier ++ u ∷ later
+  pub number_is : number ≡ length earlier
+
+module _ (P : Proc → Type 0) (program : Linked) (all : List NamedUnit)
+    (each : (earlier : List NamedUnit) (u : NamedUnit) (number : ℕ) → Place all earlier u number → (around : List SpanTree) (p : ProcTree) →
+    item_procedure_spots (unit_senses program u.entries) (items.Proc p) ≡ [] → P (procedure_of (unit_senses program u.entries) number around p)) where
+  item_kept : (earlier : List NamedUnit) (u : NamedUnit) (number : ℕ) → Place all earlier u number → (around : List SpanTree) (i : Item) →
+      item_procedure_spots (unit_senses program u.entries) i ≡ [] → All P (item_procedures (unit_senses program u.entries) number (record { spans = around; what = i }))
+  item_kept earlier u number place around (items.Proc p) none =
+      All-cons P (procedure_of (unit_senses program u.entries) number around p) [] (each earlier u number place around p none) (All-nil P)
+  item_kept earlier u number place around (items.Decl d) none = All-nil P
+  item_kept earlier u number place around (items.Datum d) none = All-nil P
+  item_kept earlier u number place around (items.Span' first key value size inside) none = All-nil P
+
+  unit_kept : (earlier : List NamedUnit) (u : NamedUnit) (number : ℕ) → Place all earlier u number → (is : List (Within Item)) →
+      flat_map (λ i. item_procedure_spots (unit_senses program u.entries) i.what) is ≡ [] → All P (flat_map (item_procedures (unit_senses program u.entries) number) is)
+  unit_kept earlier u number place [] none = All-nil P
+  unit_kept earlier u number place (i ∷ is) none = let names = unit_senses program u.entries in
+      let here = item_procedure_spots names i.what in let rest = flat_map (λ j. item_procedure_spots names j.what) is in
+      All-append P (item_procedures names number i) (flat_map (item_procedures names number) is)
+      (item_kept earlier u number place i.spans i.what (no_left here rest none)) (unit_kept earlier u number place is (no_right here rest none))
+
+  units_kept : (earlier : List NamedUnit) (number : ℕ) (us : List NamedUnit) → all ≡ earlier ++ us → number ≡ length earlier →
+      each_unit (procedure_spots program) earlier number us ≡ [] → All P (procedures_from program number us)
+  units_kept earlier number [] is counted none = All-nil P
+  units_kept earlier number (u ∷ us) is counted none =
+      All-append P (unit_procedures program number u) (procedures_from program (suc number) us)
+      (unit_kept earlier u number (record { later = us; units = is; number_is = counted }) u.items (first_unit (procedure_spots program) earlier number u us none))
+      (units_kept (earlier ++ u ∷ []) (suc number) us (is ∙ sym (append_assoc earlier (u ∷ []) us))
+      (ap suc counted ∙ (let e : suc (length earlier) ≡ length earlier + 1 = omega arith in e) ∙ sym (length-append earlier (u ∷ [])))
+      (other_units (procedure_spots program) earlier number u us none))
+
+-- what holds of each procedure of accepted units
+pub all_accepted : (P : Proc → Type 0) (us : List UnitTree) → AreAccepted us →
+    ((earlier : List NamedUnit) (u : NamedUnit) (number : ℕ) → Place (named_units us) earlier u number → (around : List SpanTree) (p : ProcTree) →
+    item_procedure_spots (unit_senses (program_of (named_units us)) u.entries) (items.Proc p) ≡ [] →
+    P (procedure_of (unit_senses (program_of (named_units us)) u.entries) number around p)) →
+    All P (meaning_of us).procs
+all_accepted P us accepted each =
+    units_kept P (program_of (named_units us)) (named_units us) each [] 0 (named_units us) refl refl
+    (procedures_kept (named_units us) (unbroken us accepted).nowhere)

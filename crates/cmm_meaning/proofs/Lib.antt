@@ -3,5 +3,9 @@ mod StatementRows
 mod UnitRows
 pub mod Flat
 pub mod Ranges
+pub mod Counting
 pub mod Everywhere
 pub mod SiteNumbers
+pub mod Nothing
+pub mod Naming
+pub mod MarkNumbers

@@ -1,23 +1,17 @@
 -- The call sites of a body are numbered in textual order.
-use Rattle.std.proofs.Common.{◌≡◌, ℕ, ◌+◌, refl, sym, ap, ◌∙◌, subst, List, [], ◌∷◌, ◌++◌, append-nil, length, length-append, Bool, true, false, Some, None, Option, IsTrue}
-use Rattle.std.specs.Prelude.{map, flat_map}
+use Rattle.std.proofs.Common.{◌≡◌, ℕ, ◌+◌, refl, sym, ap, ◌∙◌, subst, List, [], ◌∷◌, ◌++◌, append-nil, length, length-append, Bool, true, false, Some, None, IsTrue}
+use Rattle.std.specs.Prelude.{map}
 use Rattle.std.specs.List.{range_with_len}
 use Rattle.std.proofs.lemmas.Grind.{flat_map-append}
 use Rattle.cmm_ast.specs.declared.procedure.Proc.{Proc as ProcTree}
 use Rattle.cmm_ast.specs.declared.statement.Callee.{Callee}
-use Rattle.cmm_ast.specs.declared.statement.Exit.{Exit}
-use Rattle.cmm_ast.specs.declared.statement.Kinded.{Kinded}
 use Rattle.cmm_ast.specs.declared.statement.Part.{Part}
 use Rattle.cmm_ast.specs.declared.statement.Part.TheVariants as parts
 use Rattle.cmm_ast.specs.declared.statement.StmtForm.{StmtForm}
 use Rattle.cmm_ast.specs.declared.statement.StmtForm.TheVariants as stmts
 use Rattle.cmm_program.specs.declared.expression.Expression.{Expression}
-use Rattle.cmm_program.specs.declared.statement.Form.{Form}
 use Rattle.cmm_program.specs.declared.statement.Form.TheVariants as forms
-use Rattle.cmm_program.specs.declared.statement.Statement.{Statement}
 use Rattle.cmm_program.specs.Numbering.{are_each_once, body_numbers, site_number}
-use Rattle.cmm_accepted.specs.declared.sense.Host.{Host}
-use Rattle.cmm_accepted.specs.declared.sense.Host.TheVariants.{Yield, PutByte, GetByte}
 use Rattle.cmm_accepted.specs.Senses.{Senses}
 use Rattle.cmm_accepted.specs.Items.{SpanTree, Within, parts_in, parts_of}
 use Rattle.cmm_accepted.specs.Declarations.{named_units}
@@ -28,33 +22,18 @@ use Rattle.cmm_accepted.specs.Statements.{scope_of}
 use Rattle.cmm_accepted.specs.Limits.{site_count, sites_of, is_site}
 use Rattle.cmm_meaning.specs.Resolving.{values_of, callee_of}
 use Rattle.cmm_meaning.specs.Sites.{SpanValue, is_yield, span_value, innermost, part_sites, sites_among}
-use Rattle.cmm_meaning.specs.Bodies.{form_of, part_of, host_form, return_form}
+use Rattle.cmm_meaning.specs.Bodies.{form_of, part_of}
 use Rattle.cmm_meaning.specs.Procedures.{procedure_of}
 use Rattle.cmm_meaning.specs.Laws.{AreInOrder, SitesAreInOrder}
 use Rattle.cmm_meaning.proofs.Flat.{whats, flat_from, procedure_is}
+use Rattle.cmm_meaning.proofs.Counting.{numbers_in, host_number, return_number}
 use Rattle.cmm_meaning.proofs.Ranges.{range_append, each_once}
 use Rattle.cmm_meaning.proofs.Everywhere.{all_units}
-
--- the numbers of some statements
-abbrev pub numbers_in : (Form → List ℕ) → List Statement → List ℕ
-numbers_in number ss = flat_map (λ st. number st.form) ss
 
 call_number : (s : Scope) (n : ℕ) (c : Callee) (values : List Expression) (b : Bool) →
     site_number (elim b [ true ↦ forms.Yield n values | false ↦ forms.Call n (callee_of (senses s) c) values ]) ≡ n ∷ []
 call_number s n c values true = refl
 call_number s n c values false = refl
-
-host_number : (s : Scope) (h : Option Host) (results : List Kinded) (values : List Expression) → site_number (host_form s h results values) ≡ []
-host_number s (Some PutByte) results [] = refl
-host_number s (Some PutByte) results (v ∷ vs) = refl
-host_number s (Some GetByte) [] values = refl
-host_number s (Some GetByte) (k ∷ ks) values = refl
-host_number s (Some Yield) results values = refl
-host_number s None results values = refl
-
-return_number : (s : Scope) (exit : Option Exit) (values : List Expression) → site_number (return_form s exit values) ≡ []
-return_number s None values = refl
-return_number s (Some x) values = refl
 
 -- a statement that is a call site has the number of sites before it
 form_numbers : (s : Scope) (n : ℕ) (f : StmtForm) → site_number (form_of s n f) ≡ range_with_len n (elim (is_site f) [ true ↦ 1 | false ↦ 0 ])
@@ -64,10 +43,10 @@ form_numbers s n (stmts.Span' key value _ body) = refl
 form_numbers s n (stmts.Assign to values) = refl
 form_numbers s n (stmts.Checked result operator left right flows) = refl
 form_numbers s n (stmts.Call results None callee actuals flows) = call_number s n callee (values_of (senses s) actuals) (is_yield s callee)
-form_numbers s n (stmts.Call results (Some convention) callee actuals flows) = host_number s (foreign_callee s callee) results (values_of (senses s) actuals)
+form_numbers s n (stmts.Call results (Some convention) callee actuals flows) = host_number site_number (λ x. refl) (λ t. refl) refl s (foreign_callee s callee) results (values_of (senses s) actuals)
 form_numbers s n (stmts.Jump callee actuals) = refl
-form_numbers s n (stmts.Return exit None) = return_number s exit []
-form_numbers s n (stmts.Return exit (Some values)) = return_number s exit (values_of (senses s) values)
+form_numbers s n (stmts.Return exit None) = return_number site_number (λ x n es. refl) s exit []
+form_numbers s n (stmts.Return exit (Some values)) = return_number site_number (λ x n es. refl) s exit (values_of (senses s) values)
 form_numbers s n (stmts.Label name) = refl
 form_numbers s n (stmts.Continuation name parameters) = refl
 form_numbers s n (stmts.Goto name) = refl

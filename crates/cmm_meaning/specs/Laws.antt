@@ -4,7 +4,8 @@ use Rattle.std.specs.List.{range_with_len}
 use Rattle.cmm_ast.specs.declared.unit.Unit.{Unit as UnitTree}
 use Rattle.cmm_program.specs.declared.procedure.Proc.{Proc}
 use Rattle.cmm_program.specs.declared.statement.Form.{Form}
-use Rattle.cmm_program.specs.Numbering.{AreNumbered, body_numbers, site_number}
+use Rattle.cmm_program.specs.Numbering.{AreNumbered, body_numbers, label_number, continuation_number, site_number}
+use Rattle.cmm_accepted.specs.Faults.{AreAccepted}
 use Rattle.cmm_meaning.specs.Meaning.{meaning_of}
 
 -- the numbers that the statements of a body have are those below a count, once each, in textual order
@@ -15,3 +16,12 @@ pub record AreInOrder (number : Form → List ℕ) (count : ℕ) (q : Proc) : Ty
 -- the call sites of each procedure
 abbrev pub SitesAreInOrder : Type 0
 SitesAreInOrder = (us : List UnitTree) → All (λ q. AreInOrder site_number (length q.sites) q) (meaning_of us).procs
+
+-- the labels and the continuations of a procedure
+pub record MarksInOrder (q : Proc) : Type 0 where
+  pub labels : AreInOrder label_number (length (body_numbers label_number q)) q
+  pub continuations : AreInOrder continuation_number (length q.conts) q
+
+-- where no rule is broken
+abbrev pub MarksAreInOrder : Type 0
+MarksAreInOrder = (us : List UnitTree) → AreAccepted us → All MarksInOrder (meaning_of us).procs
