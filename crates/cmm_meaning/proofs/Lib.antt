@@ -9,3 +9,5 @@ pub mod SiteNumbers
 pub mod Nothing
 pub mod Naming
 pub mod MarkNumbers
+pub mod Judged
+pub mod Widths

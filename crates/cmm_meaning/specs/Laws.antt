@@ -1,11 +1,18 @@
 -- What holds of the program that units mean.
-use Rattle.std.specs.Prelude.{◌≡◌, ℕ, All, List, length}
+use Rattle.std.specs.Prelude.{◌≡◌, ℕ, All, List, [], length}
 use Rattle.std.specs.List.{range_with_len}
 use Rattle.cmm_ast.specs.declared.unit.Unit.{Unit as UnitTree}
 use Rattle.cmm_program.specs.declared.procedure.Proc.{Proc}
 use Rattle.cmm_program.specs.declared.statement.Form.{Form}
 use Rattle.cmm_program.specs.Numbering.{AreNumbered, body_numbers, label_number, continuation_number, site_number}
+use Rattle.cmm_program.specs.declared.program.Program.{Program}
+use Rattle.cmm_ast.specs.declared.expression.Expr.{Expr}
+use Rattle.cmm_accepted.specs.Senses.{Senses}
+use Rattle.cmm_accepted.specs.Algebras.{expressions}
+use Rattle.cmm_accepted.specs.Typing.{expr_type}
+use Rattle.cmm_accepted.specs.Expressions.{inner_spots}
 use Rattle.cmm_accepted.specs.Faults.{AreAccepted}
+use Rattle.cmm_meaning.specs.Fitting.{NamesFit, JudgedFits}
 use Rattle.cmm_meaning.specs.Meaning.{meaning_of}
 
 -- the numbers that the statements of a body have are those below a count, once each, in textual order
@@ -25,3 +32,8 @@ pub record MarksInOrder (q : Proc) : Type 0 where
 -- where no rule is broken
 abbrev pub MarksAreInOrder : Type 0
 MarksAreInOrder = (us : List UnitTree) → AreAccepted us → All MarksInOrder (meaning_of us).procs
+
+-- where names fit a program, so does each expression over them that names no procedure of the host and no other alignment than the language's
+abbrev pub WidthsAreKept : Type 0
+WidthsAreKept = (p : Program) (q : Proc) (names : Senses) → NamesFit p q names → (e : Expr) → inner_spots names e ≡ [] →
+    JudgedFits p q (expr_type expressions names e)

@@ -4,4 +4,5 @@ pub mod Bodies
 pub mod Procedures
 pub mod Data
 pub mod Meaning
+pub mod Fitting
 pub mod Laws

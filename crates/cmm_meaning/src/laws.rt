@@ -1,6 +1,6 @@
 //! What holds of the program that units mean. Each law is the contract of a function that does nothing.
 
-ghost use Rattle.cmm_meaning.specs.Laws.{MarksAreInOrder, SitesAreInOrder};
+ghost use Rattle.cmm_meaning.specs.Laws.{MarksAreInOrder, SitesAreInOrder, WidthsAreKept};
 
 /// In the program of any units, the call sites of a procedure stand in its body once each, in textual order, from number 0 on.
 pub fn sites_are_in_order()
@@ -11,4 +11,10 @@ pub fn sites_are_in_order()
 /// and each continuation has its parameters.
 pub fn marks_are_in_order()
     ensures { MarksAreInOrder }
+{}
+
+/// Where each name means what is there in a program, with its width, what stands for an expression has the width that the expression is judged to
+/// have, and what stands for a condition keeps the rules on widths.
+pub fn widths_are_kept()
+    ensures { WidthsAreKept }
 {}
