@@ -11,3 +11,4 @@ pub mod Naming
 pub mod MarkNumbers
 pub mod Judged
 pub mod Widths
+pub mod Scoping

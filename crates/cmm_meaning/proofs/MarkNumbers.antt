@@ -74,7 +74,7 @@ module _ (test : Local → Bool) (none : IsOfStatements test) where
 labels_alone : IsOfStatements is_label
 labels_alone = record { variables = λ t. refl; rooms = refl }
 
-continuations_alone : IsOfStatements is_continuation
+pub continuations_alone : IsOfStatements is_continuation
 continuations_alone = record { variables = λ t. refl; rooms = refl }
 
 -- ---- the number of each part

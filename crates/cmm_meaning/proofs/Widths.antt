@@ -42,7 +42,7 @@ if_own W16 r = refl
 if_own W32 r = refl
 if_own W64 r = refl
 
-own_width : (w : Width) → same_width w w ≡ true
+pub own_width : (w : Width) → same_width w w ≡ true
 own_width W8 = refl
 own_width W16 = refl
 own_width W32 = refl

@@ -11,6 +11,11 @@ use Rattle.cmm_accepted.specs.Senses.{Senses}
 use Rattle.cmm_accepted.specs.Algebras.{expressions}
 use Rattle.cmm_accepted.specs.Typing.{expr_type}
 use Rattle.cmm_accepted.specs.Expressions.{inner_spots}
+use Rattle.cmm_ast.specs.declared.procedure.Proc.{Proc as ProcTree}
+use Rattle.cmm_accepted.specs.Items.{SpanTree}
+use Rattle.cmm_accepted.specs.Scopes.{senses}
+use Rattle.cmm_accepted.specs.Statements.{scope_of}
+use Rattle.cmm_meaning.specs.Procedures.{procedure_of}
 use Rattle.cmm_accepted.specs.Faults.{AreAccepted}
 use Rattle.cmm_meaning.specs.Fitting.{NamesFit, JudgedFits}
 use Rattle.cmm_meaning.specs.Meaning.{meaning_of}
@@ -37,3 +42,8 @@ MarksAreInOrder = (us : List UnitTree) → AreAccepted us → All MarksInOrder (
 abbrev pub WidthsAreKept : Type 0
 WidthsAreKept = (p : Program) (q : Proc) (names : Senses) → NamesFit p q names → (e : Expr) → inner_spots names e ≡ [] →
     JudgedFits p q (expr_type expressions names e)
+
+-- where the names of a unit fit a program, so do those of each procedure that is a procedure of it
+abbrev pub ScopesFit : Type 0
+ScopesFit = (p : Program) (outer : Senses) (unit : ℕ) (around : List SpanTree) (tree : ProcTree) → let q = procedure_of outer unit around tree in
+    NamesFit p q outer → NamesFit p q (senses (scope_of outer tree))

@@ -1,6 +1,6 @@
 //! What holds of the program that units mean. Each law is the contract of a function that does nothing.
 
-ghost use Rattle.cmm_meaning.specs.Laws.{MarksAreInOrder, SitesAreInOrder, WidthsAreKept};
+ghost use Rattle.cmm_meaning.specs.Laws.{MarksAreInOrder, ScopesFit, SitesAreInOrder, WidthsAreKept};
 
 /// In the program of any units, the call sites of a procedure stand in its body once each, in textual order, from number 0 on.
 pub fn sites_are_in_order()
@@ -17,4 +17,10 @@ pub fn marks_are_in_order()
 /// have, and what stands for a condition keeps the rules on widths.
 pub fn widths_are_kept()
     ensures { WidthsAreKept }
+{}
+
+/// Where each name of a unit means what is there in a program, so do the names of each procedure of the unit: its variables, with their widths, its
+/// stackdata labels and its continuations stand in the procedure that it means.
+pub fn scopes_fit()
+    ensures { ScopesFit }
 {}
