@@ -1,7 +1,7 @@
 -- What stands for an expression is kept by its judgement: where each operation of an algebra gives what has the width that it is for, and each name
 -- means what has its own, so has each expression. It is said once for what is known of values and for expressions with names resolved.
 use mathlib.Core.Former.{one_more}
-use Rattle.std.proofs.Common.{◌≡◌, ℕ, ◌^◌, refl, sym, ap, ◌∙◌, subst, List, [], ◌∷◌, ◌++◌, Bool, true, false, Option, Some, None, Ok, Err}
+use Rattle.std.proofs.Common.{◌≡◌, ℕ, ◌^◌, refl, sym, ap, ◌∙◌, subst, List, [], ◌∷◌, ◌++◌, Bool, true, false, Option, Some, None, Ok, Err, ◌⊎◌, inl, inr}
 use Rattle.std.specs.Prelude.{flat_map, option_map, nat_lt, nat_le, ◌==◌}
 use Rattle.std.proofs.lemmas.Grind.{flat_map-append}
 use Rattle.cmm_words.specs.declared.width.Width.{Width}
@@ -129,22 +129,39 @@ SenseFits algebra Fits (Some CodeLabel) = Unit {0}
 SenseFits algebra Fits (Some (Host h)) = Unit {0}
 SenseFits algebra Fits None = Unit {0}
 
--- ---- expressions without names of the host and with alignments of the language
+-- ---- expressions without names of the host and with alignments of the language, unless the algebra keeps those too
 
-pub record IsClean (names : Senses) (is : List Ident) (ks : List Int) : Type 0 where
-  pub hosts : flat_map (host_spots names) is ≡ []
-  pub alignments : flat_map alignment_spots ks ≡ []
+-- nothing is broken, or this holds
+abbrev pub NoneOr : List Spot → Type 0 → Type 0
+NoneOr spots Or = (spots ≡ []) ⊎ Or
 
-first_part : (names : Senses) (is js : List Ident) (ks ls : List Int) → IsClean names (is ++ js) (ks ++ ls) → IsClean names is ks
-first_part names is js ks ls clean = record {
-  hosts = no_left _ (flat_map (host_spots names) js) (sym (flat_map-append (host_spots names) is js) ∙ clean.hosts);
-  alignments = no_left _ (flat_map alignment_spots ls) (sym (flat_map-append alignment_spots ks ls) ∙ clean.alignments);
+left_none : (xs ys zs : List Spot) (Or : Type 0) → zs ≡ xs ++ ys → NoneOr zs Or → NoneOr xs Or
+left_none xs ys zs Or is (inl none) = inl (no_left xs ys (sym is ∙ none))
+left_none xs ys zs Or is (inr other) = inr other
+
+right_none : (xs ys zs : List Spot) (Or : Type 0) → zs ≡ xs ++ ys → NoneOr zs Or → NoneOr ys Or
+right_none xs ys zs Or is (inl none) = inl (no_right xs ys (sym is ∙ none))
+right_none xs ys zs Or is (inr other) = inr other
+
+-- what an algebra may keep of names of the host, and of words in memory whatever their alignment
+pub record Alternatives : Type 1 where
+  pub hosts : Type 0
+  pub loads : Type 0
+
+pub record IsClean (or_else : Alternatives) (names : Senses) (is : List Ident) (ks : List Int) : Type 0 where
+  pub hosts : NoneOr (flat_map (host_spots names) is) or_else.hosts
+  pub alignments : NoneOr (flat_map alignment_spots ks) or_else.loads
+
+first_part : (or_else : Alternatives) (names : Senses) (is js : List Ident) (ks ls : List Int) → IsClean or_else names (is ++ js) (ks ++ ls) → IsClean or_else names is ks
+first_part or_else names is js ks ls clean = record {
+  hosts = left_none (flat_map (host_spots names) is) (flat_map (host_spots names) js) _ _ (flat_map-append (host_spots names) is js) clean.hosts;
+  alignments = left_none (flat_map alignment_spots ks) (flat_map alignment_spots ls) _ _ (flat_map-append alignment_spots ks ls) clean.alignments;
 }
 
-second_part : (names : Senses) (is js : List Ident) (ks ls : List Int) → IsClean names (is ++ js) (ks ++ ls) → IsClean names js ls
-second_part names is js ks ls clean = record {
-  hosts = no_right (flat_map (host_spots names) is) _ (sym (flat_map-append (host_spots names) is js) ∙ clean.hosts);
-  alignments = no_right (flat_map alignment_spots ks) _ (sym (flat_map-append alignment_spots ks ls) ∙ clean.alignments);
+second_part : (or_else : Alternatives) (names : Senses) (is js : List Ident) (ks ls : List Int) → IsClean or_else names (is ++ js) (ks ++ ls) → IsClean or_else names js ls
+second_part or_else names is js ks ls clean = record {
+  hosts = right_none (flat_map (host_spots names) is) (flat_map (host_spots names) js) _ _ (flat_map-append (host_spots names) is js) clean.hosts;
+  alignments = right_none (flat_map alignment_spots ks) (flat_map alignment_spots ls) _ _ (flat_map-append alignment_spots ks ls) clean.alignments;
 }
 
 own_alignment : (width : Width) → is_alignment (bytes width) ≡ true
@@ -200,6 +217,13 @@ module _ {E C : Type 0} (algebra : Algebra E C) (Fits : Width → E → Type 0) 
   wanted_fits wanted token t h = holds_with BitsFit (WantedFit wanted) (as_bits token t) (of_width wanted token) (bits_fit token t h) (width_fits wanted token)
 
   -- ---- operators
+
+  -- what the algebra may keep of names of the host, and of words in memory whatever their alignment
+  abbrev pub or_else : Alternatives
+  or_else = record {
+    hosts = Fits W64 (algebra.continuation 0);
+    loads = (width : Width) (aligned : ℕ) (a : E) → Fits W64 a → Fits width (algebra.load width aligned a);
+  }
 
   module _ (kept : IsKept algebra Fits Is) where
     alike_fit : (a b : Operand E C) (next : Bits E → Bits E → Judged (Typed E C)) → OperandFits a → OperandFits b →
@@ -281,7 +305,7 @@ module _ {E C : Type 0} (algebra : Algebra E C) (Fits : Width → E → Type 0) 
     with_fit : (given : Judged (Operands E C)) (o : Judged (Operand E C)) → Holds OperandsFit given → Holds OperandFits o → Holds OperandsFit (with_operand algebra given o)
     with_fit given o h k = holds_both OperandsFit OperandFits OperandsFit given o (λ os a. Ok (given_with algebra os a)) h k given_fit
 
-    operand_fits : (token : ℕ) (j : Judged (Typed E C)) → Holds TypedFits j → Holds OperandFits (operand_at algebra token j)
+    pub operand_fits : (token : ℕ) (j : Judged (Typed E C)) → Holds TypedFits j → Holds OperandFits (operand_at algebra token j)
     operand_fits token j h = holds_with TypedFits OperandFits j (λ t. Ok record { token = token; typed = t }) h (λ t fits. fits)
 
     -- ---- leaves
@@ -294,7 +318,15 @@ module _ {E C : Type 0} (algebra : Algebra E C) (Fits : Width → E → Type 0) 
     pub literal_fits : (token value : ℕ) (width : Width) → Holds TypedFits (literal algebra token value width)
     literal_fits token value width = by_fitting token value width (nat_lt value (2 ^ bits width)) refl
 
-    pub name_fits : (token : ℕ) (sense : Option Sense) → is_not_host sense ≡ true → SenseFits algebra Fits sense → Holds TypedFits (name_type algebra token sense)
+    own_host : (names : Senses) (name : List ℕ) (token : ℕ) → NoneOr (flat_map (host_spots names) (ident name token ∷ [])) or_else.hosts → (is_not_host (names name) ≡ true) ⊎ or_else.hosts
+    own_host names name token (inl none) = inl (no_unless (is_not_host (names name)) _ token (no_left _ [] none))
+    own_host names name token (inr fits) = inr fits
+
+    loaded_fits : (width : Width) (k : Option Int) (a : E) → NoneOr (flat_map alignment_spots (listed k)) or_else.loads → Fits W64 a → Fits width (algebra.load width (alignment width k) a)
+    loaded_fits width k a (inl none) h = kept.load width (alignment width k) a (alignment_is width k none) h
+    loaded_fits width k a (inr fits) h = fits width (alignment width k) a h
+
+    pub name_fits : (token : ℕ) (sense : Option Sense) → (is_not_host sense ≡ true) ⊎ or_else.hosts → SenseFits algebra Fits sense → Holds TypedFits (name_type algebra token sense)
     name_fits token (Some (Variable n (Some width))) own h = h
     name_fits token (Some (Variable n None)) own h = tt
     name_fits token (Some (Register n (Some width))) own h = h
@@ -306,18 +338,19 @@ module _ {E C : Type 0} (algebra : Algebra E C) (Fits : Width → E → Type 0) 
     name_fits token (Some (Continuation n)) own h = h
     name_fits token (Some (Typedef width)) own h = tt
     name_fits token (Some CodeLabel) own h = tt
-    name_fits token (Some (Host x)) own h = cc
+    name_fits token (Some (Host x)) (inl own) h = let bad : false ≡ true = own in cc
+    name_fits token (Some (Host x)) (inr fits) h = fits
     name_fits token None own h = tt
 
     -- ---- expressions
 
     module _ (names : Senses) (sound : (name : List ℕ) → SenseFits algebra Fits (names name)) where
       mutual
-        pub form_fits : (token : ℕ) (f : ExprForm) → IsClean names (form_names values_alone token f) (form_alignments f) → Holds TypedFits (form_type algebra names token f)
+        pub form_fits : (token : ℕ) (f : ExprForm) → IsClean or_else names (form_names values_alone token f) (form_alignments f) → Holds TypedFits (form_type algebra names token f)
         form_fits token (Infix' _ left o _ right) clean =
             holds_both OperandFits OperandFits TypedFits (operand algebra names left) (operand algebra names right) (applied_to_two algebra (infix_operator o) token)
-            (row_fits left (first_part names (row_names values_alone left) (row_names values_alone right) (row_alignments left) (row_alignments right) clean))
-            (row_fits right (second_part names (row_names values_alone left) (row_names values_alone right) (row_alignments left) (row_alignments right) clean))
+            (row_fits left (first_part or_else names (row_names values_alone left) (row_names values_alone right) (row_alignments left) (row_alignments right) clean))
+            (row_fits right (second_part or_else names (row_names values_alone left) (row_names values_alone right) (row_alignments left) (row_alignments right) clean))
             (two_fit (infix_operator o) token)
         form_fits token (Prefix' o _ a) clean =
             holds_with OperandFits TypedFits (operand algebra names a) (applied_to_one algebra (prefix_operator o) token) (row_fits a clean) (one_fits (prefix_operator o) token)
@@ -327,49 +360,52 @@ module _ {E C : Type 0} (algebra : Algebra E C) (Fits : Width → E → Type 0) 
             holds_with OperandsFit TypedFits (given_operands algebra names (Ok operands.Zero) given) (applied algebra token (operator_named o))
             (rest_fit (Ok operands.Zero) given tt clean) (applied_fits token (operator_named o))
 
-        pub row_fits : {n : _} (row : Row_of-Expr (one_more n)) → IsClean names (row_names values_alone row) (row_alignments row) → Holds OperandFits (operand algebra names row)
+        pub row_fits : {n : _} (row : Row_of-Expr (one_more n)) → IsClean or_else names (row_names values_alone row) (row_alignments row) → Holds OperandFits (operand algebra names row)
         row_fits (more_of-Expr token form rest) clean =
             operand_fits token (form_type algebra names token form)
-            (form_fits token form (first_part names (form_names values_alone token form) (row_names values_alone rest) (form_alignments form) (row_alignments rest) clean))
+            (form_fits token form (first_part or_else names (form_names values_alone token form) (row_names values_alone rest) (form_alignments form) (row_alignments rest) clean))
 
-        rest_fit : {n : _} (before : Judged (Operands E C)) (row : Row_of-Expr n) → Holds OperandsFit before → IsClean names (row_names values_alone row) (row_alignments row) →
+        rest_fit : {n : _} (before : Judged (Operands E C)) (row : Row_of-Expr n) → Holds OperandsFit before → IsClean or_else names (row_names values_alone row) (row_alignments row) →
             Holds OperandsFit (given_operands algebra names before row)
         rest_fit before end_of-Expr h clean = h
         rest_fit before (more_of-Expr token form rest) h clean =
             rest_fit (with_operand algebra before (operand_at algebra token (form_type algebra names token form))) rest
             (with_fit before (operand_at algebra token (form_type algebra names token form)) h
             (operand_fits token (form_type algebra names token form)
-            (form_fits token form (first_part names (form_names values_alone token form) (row_names values_alone rest) (form_alignments form) (row_alignments rest) clean))))
-            (second_part names (form_names values_alone token form) (row_names values_alone rest) (form_alignments form) (row_alignments rest) clean)
+            (form_fits token form (first_part or_else names (form_names values_alone token form) (row_names values_alone rest) (form_alignments form) (row_alignments rest) clean))))
+            (second_part or_else names (form_names values_alone token form) (row_names values_alone rest) (form_alignments form) (row_alignments rest) clean)
 
-        prim_fits : (token : ℕ) (prim : PrimForm) → IsClean names (prim_names values_alone token prim) (prim_alignments prim) → Holds TypedFits (prim_type algebra names token prim)
+        prim_fits : (token : ℕ) (prim : PrimForm) → IsClean or_else names (prim_names values_alone token prim) (prim_alignments prim) → Holds TypedFits (prim_type algebra names token prim)
         prim_fits token (Literal n t) clean =
             holds_with (λ w. Unit {0}) TypedFits (literal_width names n t) (literal algebra token (number_value n)) (always (literal_width names n t)) (λ w h. literal_fits token (number_value n) w)
         prim_fits token (NameOf name) clean =
-            name_fits token (names name) (no_unless (is_not_host (names name)) _ token (no_left _ [] clean.hosts)) (sound name)
+            name_fits token (names name) (own_host names name token clean.hosts) (sound name)
         prim_fits token (Bracketed' _ (more_of-Expr first form rest)) clean =
-            form_fits first form (first_part names (form_names values_alone first form) (row_names values_alone rest) (form_alignments form) (row_alignments rest) clean)
+            form_fits first form (first_part or_else names (form_names values_alone first form) (row_names values_alone rest) (form_alignments form) (row_alignments rest) clean)
 
-        memory_fits : (m : Memory) → IsClean names (memory_names values_alone m) (memory_alignments m) → Holds TypedFits (memory_type algebra names m)
+        memory_fits : (m : Memory) → IsClean or_else names (memory_names values_alone m) (memory_alignments m) → Holds TypedFits (memory_type algebra names m)
         memory_fits (Memory' width _ address aligned) clean =
             let is = row_names values_alone address in let ks = row_alignments address in
-            let own : IsClean names is ks = record {
+            let own : IsClean or_else names is ks = record {
               hosts = clean.hosts;
-              alignments = no_left _ (flat_map alignment_spots (listed aligned)) (sym (flat_map-append alignment_spots ks (listed aligned)) ∙ clean.alignments);
+              alignments = left_none (flat_map alignment_spots ks) (flat_map alignment_spots (listed aligned)) _ _ (flat_map-append alignment_spots ks (listed aligned)) clean.alignments;
             } in
-            let given : flat_map alignment_spots (listed aligned) ≡ [] =
-            no_right (flat_map alignment_spots ks) (flat_map alignment_spots (listed aligned)) (sym (flat_map-append alignment_spots ks (listed aligned)) ∙ clean.alignments) in
+            let given : NoneOr (flat_map alignment_spots (listed aligned)) or_else.loads =
+            right_none (flat_map alignment_spots ks) (flat_map alignment_spots (listed aligned)) _ _ (flat_map-append alignment_spots ks (listed aligned)) clean.alignments in
             holds_both (λ w. Unit {0}) OperandFits TypedFits (type_width names width) (operand algebra names address) (load algebra aligned)
             (always (type_width names width)) (row_fits address own)
             (λ w o h fits. holds_with (WantedFit W64) TypedFits (as_wanted (Some W64) o.token o.typed)
             (λ a. Ok (typed.Bits record { width = w; value = option_map (algebra.load w (alignment w aligned)) a.value }))
             (wanted_fits W64 o.token o.typed fits)
             (λ a is'. some_map (Fits W64) (Fits w) (algebra.load w (alignment w aligned)) a.value
-            (λ x. kept.load w (alignment w aligned) x (alignment_is w aligned given)) (moved_to W64 a is')))
+            (λ x. loaded_fits w aligned x given) (moved_to W64 a is')))
 
-      -- an expression in which no host is named and no alignment is another than the language's
+      -- an expression in which no host is named and no alignment is another than the language's, or of which the algebra keeps those too
+      pub clean_fits : (e : Expr) → IsClean or_else names (expr_names values_alone e) (form_alignments e.form) → Holds TypedFits (expr_type algebra names e)
+      clean_fits e clean = form_fits e.token e.form clean
+
       pub expression_fits : (e : Expr) → inner_spots names e ≡ [] → Holds TypedFits (expr_type algebra names e)
-      expression_fits e none = form_fits e.token e.form record {
-        hosts = no_left _ (flat_map alignment_spots (form_alignments e.form)) none;
-        alignments = no_right (flat_map (host_spots names) (expr_names values_alone e)) _ none;
+      expression_fits e none = clean_fits e record {
+        hosts = inl (no_left _ (flat_map alignment_spots (form_alignments e.form)) none);
+        alignments = inl (no_right (flat_map (host_spots names) (expr_names values_alone e)) _ none);
       }

@@ -12,3 +12,5 @@ pub mod MarkNumbers
 pub mod Judged
 pub mod Widths
 pub mod Scoping
+pub mod Knowing
+pub mod Entries
