@@ -14,3 +14,4 @@ pub mod Widths
 pub mod Scoping
 pub mod Knowing
 pub mod Entries
+pub mod Cycles

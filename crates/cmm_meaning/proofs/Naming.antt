@@ -41,7 +41,7 @@ number_past true t x o m n none same = absurd (let bad : Some x ≡ None = none 
 number_past false true x o m n none same = ap suc (same none)
 number_past false false x o m n none same = same none
 
-same_name : (name : List ℕ) → bytes_eq name name ≡ true
+pub same_name : (name : List ℕ) → bytes_eq name name ≡ true
 same_name name = grind (arith, nat_tests, bytes_eq-Decides name name)
 
 -- a name stands behind others as the first of its kind
