@@ -177,11 +177,11 @@ module _ (procedures labels : ℕ) where
   AddressFits (Code n plus) = n < procedures
   AddressFits (Address n plus) = n < labels
 
-  abbrev MayFit : Option Constant → Type 0
+  abbrev pub MayFit : Option Constant → Type 0
   MayFit (Some c) = AddressFits c
   MayFit None = Unit {0}
 
-  abbrev EachPublished : List Published → Type 0
+  abbrev pub EachPublished : List Published → Type 0
   EachPublished [] = Unit {0}
   EachPublished (p ∷ ps) = MayFit p.address × EachPublished ps
 

@@ -192,3 +192,20 @@ module _ (names : Senses) (sound : (name : List ℕ) → SenseFits knowns IsKnow
     pub typed_is : (e : Expr) (width : Option Width) → sense_fits p q (Some (typed_sense names e width)) ≡ true
     typed_is e (Some width) = valued_fits width (number_alone names (Some width) e) (number_alone_is width e)
     typed_is e None = refl
+
+  -- and names over it know a word
+
+  valued_known : (w : Width) (j : Judged ℕ) → Holds (IsNumber w) j → SenseFits knowns IsKnown (Some (valued w j))
+  valued_known w (Ok value) h = h
+  valued_known w (Err broken) h = tt
+
+  untyped_by : (token : ℕ) (j : Judged (Bits Known)) → Holds (BitsFit knowns IsKnown Any) j → SenseFits knowns IsKnown (Some (untyped_sense token j))
+  untyped_by token (Ok x) h = valued_known x.width (as_number token x) (some_number token x.width x.value h)
+  untyped_by token (Err broken) h = tt
+
+  pub untyped_known : (e : Expr) → SenseFits knowns IsKnown (Some (untyped_sense e.token (wanted knowns names None e)))
+  untyped_known e = untyped_by e.token (wanted knowns names None e) (bits_known e)
+
+  pub typed_known : (e : Expr) (width : Option Width) → SenseFits knowns IsKnown (Some (typed_sense names e width))
+  typed_known e (Some width) = valued_known width (number_alone names (Some width) e) (number_alone_is width e)
+  typed_known e None = tt

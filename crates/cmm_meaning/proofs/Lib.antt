@@ -15,3 +15,4 @@ pub mod Scoping
 pub mod Knowing
 pub mod Entries
 pub mod Cycles
+pub mod Declaring
