@@ -100,10 +100,9 @@ module _ (program : Linked) (ds : List (Declared Entry)) where
       typedefs = λ name w is. typedef_by name w (host_named name) (found name ds) refl refl is;
     }
 
-    -- a register has a width
-    pub register_wide : (name : List ℕ) (t : TypeName) → found name ds ≡ Some (Register t) → width_in ds t ≡ None → ⊥
-    register_wide name t is =
-        has_width ds (unit_senses program ds) sound t (found_at (entry_spots (unit_senses program ds) ds) name (Register t) ds none is).nothing
+    -- a type that breaks no rule has a width
+    pub type_wide : (t : TypeName) → type_spots (unit_senses program ds) t ≡ [] → width_in ds t ≡ None → ⊥
+    type_wide t good broken = has_width ds (unit_senses program ds) sound t good broken
 
   -- ---- constants
 

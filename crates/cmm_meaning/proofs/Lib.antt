@@ -16,3 +16,4 @@ pub mod Knowing
 pub mod Entries
 pub mod Cycles
 pub mod Declaring
+pub mod Registers
