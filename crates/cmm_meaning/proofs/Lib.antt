@@ -17,3 +17,4 @@ pub mod Entries
 pub mod Cycles
 pub mod Declaring
 pub mod Registers
+pub mod UnitNames

@@ -52,7 +52,7 @@ name_at name xs among = let n = prefix_len (λ y. not (bytes_eq name y)) xs in l
 
 -- ---- names once each
 
-among_append : (name : Name) (xs ys : List Name) → is_among name (xs ++ ys) ≡ (is_among name xs || is_among name ys)
+pub among_append : (name : Name) (xs ys : List Name) → is_among name (xs ++ ys) ≡ (is_among name xs || is_among name ys)
 among_append name [] ys = refl
 among_append name (x ∷ xs) ys = ap (λ b. bytes_eq name x || b) (among_append name xs ys) ∙ or_assoc (bytes_eq name x) (is_among name xs) (is_among name ys)
 
@@ -68,7 +68,7 @@ distinct_by name n earlier ns more rest false false eq there among apart skip ne
     or_right (bytes_eq name n) (is_among name more)
     (next among (among_append name earlier (n ∷ []) ∙ ap (λ b. b || (bytes_eq name n || false)) apart ∙ ap (λ b. b || false) eq))
 
-distinct_keeps : (name : Name) (earlier ns : List Name) → is_among name ns ≡ true → is_among name earlier ≡ false → is_among name (distinct earlier ns) ≡ true
+pub distinct_keeps : (name : Name) (earlier ns : List Name) → is_among name ns ≡ true → is_among name earlier ≡ false → is_among name (distinct earlier ns) ≡ true
 distinct_keeps name earlier [] among apart = among
 distinct_keeps name earlier (n ∷ ns) among apart =
     distinct_by name n earlier ns (distinct (earlier ++ n ∷ []) ns) (distinct earlier ns) (bytes_eq name n) (is_among n earlier) refl refl among apart

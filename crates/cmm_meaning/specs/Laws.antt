@@ -13,7 +13,9 @@ use Rattle.cmm_accepted.specs.Typing.{expr_type}
 use Rattle.cmm_accepted.specs.Expressions.{inner_spots}
 use Rattle.cmm_ast.specs.declared.procedure.Proc.{Proc as ProcTree}
 use Rattle.cmm_accepted.specs.Items.{SpanTree}
-use Rattle.cmm_accepted.specs.Scopes.{senses}
+use Rattle.cmm_accepted.specs.Scopes.{senses, unit_senses}
+use Rattle.cmm_accepted.specs.Declarations.{named_units}
+use Rattle.cmm_accepted.specs.Linking.{program_of}
 use Rattle.cmm_accepted.specs.Statements.{scope_of}
 use Rattle.cmm_meaning.specs.Procedures.{procedure_of}
 use Rattle.cmm_accepted.specs.Faults.{AreAccepted}
@@ -47,3 +49,8 @@ WidthsAreKept = (p : Program) (q : Proc) (names : Senses) → NamesFit p q names
 abbrev pub ScopesFit : Type 0
 ScopesFit = (p : Program) (outer : Senses) (unit : ℕ) (around : List SpanTree) (tree : ProcTree) → let q = procedure_of outer unit around tree in
     NamesFit p q outer → NamesFit p q (senses (scope_of outer tree))
+
+-- the names of each accepted unit fit the program, whatever procedure of it they are asked in
+abbrev pub NamesAreThere : Type 0
+NamesAreThere = (us : List UnitTree) → AreAccepted us →
+    All (λ u. (q : Proc) → NamesFit (meaning_of us) q (unit_senses (program_of (named_units us)) u.entries)) (named_units us)

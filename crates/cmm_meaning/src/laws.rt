@@ -1,6 +1,6 @@
 //! What holds of the program that units mean. Each law is the contract of a function that does nothing.
 
-ghost use Rattle.cmm_meaning.specs.Laws.{MarksAreInOrder, ScopesFit, SitesAreInOrder, WidthsAreKept};
+ghost use Rattle.cmm_meaning.specs.Laws.{MarksAreInOrder, NamesAreThere, ScopesFit, SitesAreInOrder, WidthsAreKept};
 
 /// In the program of any units, the call sites of a procedure stand in its body once each, in textual order, from number 0 on.
 pub fn sites_are_in_order()
@@ -23,4 +23,10 @@ pub fn widths_are_kept()
 /// stackdata labels and its continuations stand in the procedure that it means.
 pub fn scopes_fit()
     ensures { ScopesFit }
+{}
+
+/// In the program of accepted units, each name of a unit means what is there: a procedure, a data label, a register with its width, or a constant that
+/// is a word.
+pub fn names_are_there()
+    ensures { NamesAreThere }
 {}
