@@ -1,0 +1,4 @@
+mod Growing
+mod Chaining
+mod Samples
+mod RunRows

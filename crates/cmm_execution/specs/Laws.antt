@@ -1,0 +1,48 @@
+-- What holds of every run of every image, and of every chain.
+use Rattle.std.specs.Prelude.{◌≡◌, ◌≢◌, ℕ, ◌+◌, ◌≤◌, List, ◌++◌, Some}
+use Rattle.cmm_following.specs.Seen.{IsWithin}
+use Rattle.cmm_following.specs.Machine.{Lasts}
+use Rattle.cmm_image.specs.declared.image.Image.{Image}
+use Rattle.cmm_image.specs.declared.rows.SiteRow.{SiteRow}
+use Rattle.cmm_image.specs.ImageFormat.{procedure_at}
+use Rattle.cmm_execution.specs.Regions.{Region}
+use Rattle.cmm_execution.specs.Frames.{Point, site_at, found_at, along, chain_from}
+use Rattle.cmm_execution.specs.Machine.{Launch, Run, Running, step, image_after}
+use Rattle.cmm_execution.specs.Observed.{image_machine, seen_of}
+
+-- ---- runs
+
+-- a run that is over stays as it is
+abbrev pub OverStays : Type 0
+OverStays = (l : Launch) (run : Run) → run.status ≢ Running → step l run ≡ run
+
+-- an instruction takes back nothing of what was put, logged and taken, and loses no input
+pub record Grows (before after : Run) : Type 0 where
+  pub seen : IsWithin (seen_of before) (seen_of after)
+  pub input : after.taken ++ after.input ≡ before.taken ++ before.input
+
+abbrev pub StepGrows : Type 0
+StepGrows = (l : Launch) (run : Run) → Grows run (step l run)
+
+-- and so no run of any length
+abbrev pub RunGrows : Type 0
+RunGrows = (l : Launch) (input : List ℕ) (m n : ℕ) → Grows (image_after l input m) (image_after l input (m + n))
+
+-- what was taken and what is left are together the whole input
+abbrev pub InputIsKept : Type 0
+InputIsKept = (l : Launch) (input : List ℕ) (n : ℕ) → let run = image_after l input n in run.taken ++ run.input ≡ input
+
+-- in the theory of following an image is a machine that lasts
+abbrev pub ImagesLast : Type 0
+ImagesLast = (l : Launch) → Lasts (image_machine l)
+
+-- ---- chains
+
+-- the frame of each procedure that has a site has at least 16 bytes
+abbrev pub HasFrames : Image → Type 0
+HasFrames i = (address : ℕ) (site : SiteRow) → site_at i address ≡ Some site → 16 ≤ (procedure_at i.procs site.procedure).frame
+
+-- so a chain is told by what stands at its first point: behind an activation it is again a chain
+abbrev pub ChainGoesOn : Type 0
+ChainGoesOn = (i : Image) (r : Region) (memory : ℕ → ℕ) (p : Point) → HasFrames i →
+    chain_from i r memory p ≡ along (chain_from i r memory) memory (found_at i r p)

@@ -1,0 +1,9 @@
+pub mod Asking
+pub mod Commands
+pub mod Regions
+pub mod Frames
+pub mod Walks
+pub mod Changes
+pub mod Machine
+pub mod Observed
+pub mod Laws

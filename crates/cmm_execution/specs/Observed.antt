@@ -1,0 +1,65 @@
+-- What is seen of an image that runs, as a machine of the theory of following.
+use Rattle.std.specs.Prelude.{ℕ, Bool, true, false, List, Option, Some, None}
+use Rattle.rv_table.specs.declared.request.Request.TheVariants.{GetByte, Yield}
+use Rattle.rv_table.specs.Machine as rv
+use Rattle.rv_table.specs.Machine.{State, instruction_step}
+use Rattle.cmm_script.specs.Walk.{Activation}
+use Rattle.cmm_program.specs.State as c
+use Rattle.cmm_program.specs.State.{Outcome}
+use Rattle.cmm_following.specs.Seen.{Seen, Event, Input, Client, End}
+use Rattle.cmm_following.specs.Machine.{Machine}
+use Rattle.cmm_execution.specs.Frames.{chain_of}
+use Rattle.cmm_execution.specs.Walks.{chain_walk}
+use Rattle.cmm_execution.specs.Machine.{Launch, Run, Status, Running, Ended, Trapped, Torn, map_of, region_of, yielded_at, step}
+
+-- what the client sees when it is called: the values of the yield, and the walk, unless the chain of frames breaks
+pub record Call : Type 0 where
+  pub values : List ℕ
+  pub walk : Option (List Activation)
+
+-- how a run ended; to a stopped one belongs its walk, unless the chain breaks
+pub data Ending : Type 0 where
+  Done : ℕ → Ending
+  Stopped : Option (List Activation) → Ending
+  StackLimit : Ending
+
+abbrev pub call_at : Launch → State → Call
+call_at l s = record {
+  values = yielded_at (region_of l) s (chain_of l.image (region_of l) s).activations;
+  walk = chain_walk l.image (region_of l) s;
+}
+
+-- an ECALL that takes from the input, and a yield, are events
+abbrev pub asked_at : Launch → State → rv.Outcome → Option (Event Call Ending)
+asked_at l s (rv.Asks GetByte) = Some Input
+asked_at l s (rv.Asks Yield) = Some (Client (call_at l s))
+asked_at l s _ = None
+
+abbrev pub ending_of : Launch → State → Outcome → Ending
+ending_of l s (c.Done value) = Done value
+ending_of l s c.Stopped = Stopped (chain_walk l.image (region_of l) s)
+ending_of l s c.StackLimit = StackLimit
+
+abbrev pub event_at : Launch → State → Status → Option (Event Call Ending)
+event_at l s Running = asked_at l s (instruction_step (map_of l) s)
+event_at l s (Ended outcome) = Some (End (ending_of l s outcome))
+event_at l s (Trapped kind pc) = None
+event_at l s (Torn b) = None
+
+-- a trap and a break of the chain are what no image does whose program commits no unchecked error
+abbrev pub has_failed : Status → Bool
+has_failed Running = false
+has_failed (Ended outcome) = false
+has_failed (Trapped kind pc) = true
+has_failed (Torn b) = true
+
+abbrev pub seen_of : Run → Seen ℕ
+seen_of run = record { output = run.output; log = run.log; taken = run.taken }
+
+abbrev pub image_machine : Launch → Machine Run ℕ Call Ending
+image_machine l = record {
+  step = step l;
+  seen = seen_of;
+  asks = λ run. event_at l run.machine run.status;
+  wrong = λ run. has_failed run.status;
+}

@@ -1,0 +1,28 @@
+//! Laws of runs and of chains: each is the contract of a function that does nothing.
+ghost use Rattle.cmm_execution.specs.Laws.{ChainGoesOn, ImagesLast, InputIsKept, OverStays, RunGrows, StepGrows};
+
+/// A run that is over stays as it is.
+#[tactic(auto, using(crate::proofs::Growing::over_stays))]
+pub fn over_is_over()
+    ensures { OverStays }
+{}
+
+/// Output, log and input taken only grow, and no input is lost.
+#[tactic(auto, using(crate::proofs::Growing::input_kept))]
+pub fn what_was_seen_grows()
+    ensures step { StepGrows }
+    ensures run { RunGrows }
+    ensures input { InputIsKept }
+{}
+
+/// An image is a machine that lasts: what is seen only grows, it ends once, and what has failed stays so.
+#[tactic(auto, using(crate::proofs::Growing::images_last))]
+pub fn images_last()
+    ensures { ImagesLast }
+{}
+
+/// A chain is what stands at its first point, and the chain behind that.
+#[tactic(auto, using(crate::proofs::Chaining::chain_goes_on))]
+pub fn chains_go_on()
+    ensures { ChainGoesOn }
+{}
