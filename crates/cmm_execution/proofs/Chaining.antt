@@ -1,7 +1,7 @@
 -- A chain is told by what stands at its first point.
 use Rattle.std.proofs.Common.{◌≡◌, ℕ, zero, suc, ◌+◌, ◌-◌, ◌/◌, ◌%◌, ◌≤◌, ◌==◌, ◌&&◌, nat_le, Bool, true, false, Option, Some, None, refl, ap, subst, arith}
 use Rattle.std.proofs.lemmas.Bool.Decides.{nat_tests}
-use Rattle.cmm_image.specs.declared.image.Image.{Image}
+use Rattle.cmm_image.specs.declared.parts.ImageParts.{ImageParts}
 use Rattle.cmm_image.specs.declared.rows.SiteRow.{SiteRow}
 use Rattle.cmm_image.specs.ImageFormat.{procedure_at}
 use Rattle.cmm_execution.specs.Asking.{Chain}
@@ -39,7 +39,7 @@ framed : (r : Region) (p : Point) (made e : Element) → made.frame ≡ p.frame 
 framed r p made e at size inside is =
     subst (IsFrameAt r p) is record { frame = at; size = size; inside = rw at (ends_inside (bottom r) (top r) p.frame made.procedure.frame inside) }
 
-frame_at : (i : Image) (r : Region) (p : Point) (e : Element) → HasFrames i → found_at i r p ≡ Activation e → IsFrameAt r p e
+frame_at : (i : ImageParts) (r : Region) (p : Point) (e : Element) → HasFrames i → found_at i r p ≡ Activation e → IsFrameAt r p e
 frame_at i r p e frames is =
     let there = has_site p (site_at i p.address) (λ site. activation_at r p site (procedure_at i.procs site.procedure)) e (goes_on (is_end i r p) _ e is) in
     let made : Element = record { site = there.0; procedure = procedure_at i.procs there.0.procedure; frame = p.frame; places = p.places } in
@@ -58,7 +58,7 @@ along_same memory (Activation e) on also same = ap (behind e) (same e refl)
 along_same memory Nothing on also same = refl
 along_same memory (Broken b) on also same = refl
 
-module _ (i : Image) (r : Region) (memory : ℕ → ℕ) (frames : HasFrames i) where
+module _ (i : ImageParts) (r : Region) (memory : ℕ → ℕ) (frames : HasFrames i) where
   room_behind : (points : ℕ) (p : Point) (e : Element) → found_at i r p ≡ Activation e → points_from r p ≤ suc points →
       points_from r (point_after memory e) ≤ points
   room_behind points p e is enough = let at = frame_at i r p e frames is in

@@ -2,3 +2,4 @@ mod Growing
 mod Chaining
 mod Samples
 mod RunRows
+mod EventRows

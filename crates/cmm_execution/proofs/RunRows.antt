@@ -7,7 +7,7 @@ use Rattle.cmm_script.specs.declared.script.Value.TheVariants.{Number, Yielded}
 use Rattle.cmm_script.specs.Walk.{line, kind_byte}
 use Rattle.rv_table.specs.declared.instruction.Instr.{Instr}
 use Rattle.rv_table.specs.declared.instruction.Instr.TheVariants.{Addi, Auipc, Ecall, Ld, Lbu, Lui}
-use Rattle.rv_table.specs.declared.trap.TrapKind.TheVariants.{BadLoad, BadTarget, NoRequest}
+use Rattle.rv_table.specs.declared.trap.TrapKind.TheVariants.{BadLoad, BadTarget, NoInstruction, NoRequest}
 use Rattle.cmm_program.specs.State.{Done, Stopped, StackLimit}
 use Rattle.cmm_execution.specs.Machine.{Status, Running, Ended, Trapped, Torn, image_after}
 use Rattle.cmm_execution.proofs.Samples.{yielding, spoiling, bare, launch, Seen, seen}
@@ -180,3 +180,7 @@ nobody_yields : outside (ListAll ∷ Youngest ∷ Next ∷ Desc 1 ∷ Seek 1 (Nu
     }
 unfolding Fmt.digits
 nobody_yields = refl
+
+-- the first word is no instruction
+decodes_nothing : seen (image_after (launch (record (bare []) { code = 0 ∷ 0 ∷ 0 ∷ 0 ∷ [] }) []) [] 20) ≡ silent (Trapped NoInstruction 0x10000) []
+decodes_nothing = refl

@@ -6,7 +6,7 @@ use Rattle.rv_table.specs.declared.instruction.Instr.{Instr}
 use Rattle.rv_table.specs.declared.instruction.Instr.TheVariants.{Add, Addi, Auipc, Bne, Ecall, Jal, Jalr, Ld, Sd}
 use Rattle.rv_table.specs.Stands.{code_of}
 use Rattle.cmm_script.specs.declared.script.Command.{Command}
-use Rattle.cmm_image.specs.declared.image.Image.{Image}
+use Rattle.cmm_image.specs.declared.parts.ImageParts.{ImageParts}
 use Rattle.cmm_image.specs.declared.rows.ProcRow.{ProcRow}
 use Rattle.cmm_image.specs.declared.rows.SiteRow.{SiteRow}
 use Rattle.cmm_image.specs.declared.rows.VariablePlace.{VariablePlace}
@@ -147,7 +147,7 @@ yield_row place = record {
   spans = [];
 }
 
-abbrev pub image_of : List Instr → List SiteRow → Image
+abbrev pub image_of : List Instr → List SiteRow → ImageParts
 image_of code sites = record {
   code = code_of code;
   initial = 1 ∷ 2 ∷ 3 ∷ 4 ∷ 5 ∷ 6 ∷ 7 ∷ 8 ∷ 9 ∷ 10 ∷ 11 ∷ 12 ∷ 13 ∷ 14 ∷ 15 ∷ 16 ∷ [];
@@ -160,20 +160,20 @@ image_of code sites = record {
   globals = [];
 }
 
-abbrev pub yielding : Image
+abbrev pub yielding : ImageParts
 yielding = image_of (starting ++ main_code ++ leaf_code ++ stub) (call_row ∷ yield_row (Slot 0) ∷ [])
 
 -- the same, but that its tables have a where the return address is saved
-abbrev pub spoiling : Image
+abbrev pub spoiling : ImageParts
 spoiling = image_of (starting ++ main_code ++ leaf_code ++ stub) (call_row ∷ yield_row (Slot 40) ∷ [])
 
 -- code without tables
-abbrev pub bare : List Instr → Image
+abbrev pub bare : List Instr → ImageParts
 bare code = image_of code []
 
 -- ---- runs
 
-abbrev pub launch : Image → List Command → Launch
+abbrev pub launch : ImageParts → List Command → Launch
 launch image commands = record {
   image = image;
   script = record { blocks = record { code = None; commands = commands; lines = [] } ∷ [] };

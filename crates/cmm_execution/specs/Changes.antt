@@ -5,7 +5,7 @@ use Rattle.cmm_words.specs.declared.width.Width.TheVariants.{W64}
 use Rattle.rv_table.specs.Machine.{State, data_base, stored}
 use Rattle.rv_table.specs.Registers.{with_register}
 use Rattle.cmm_program.specs.Errors.{with_some}
-use Rattle.cmm_image.specs.declared.image.Image.{Image}
+use Rattle.cmm_image.specs.declared.parts.ImageParts.{ImageParts}
 use Rattle.cmm_image.specs.declared.rows.ContinuationNumber.{ContinuationNumber}
 use Rattle.cmm_image.specs.declared.rows.ContinuationRow.{ContinuationRow}
 use Rattle.cmm_image.specs.declared.rows.LabelRow.{LabelRow}
@@ -26,14 +26,14 @@ is_invariant e n = elim (slice_get e.procedure.variables n) [ Some v ↦ v.invar
 abbrev pub with_variable : State → Element → ℕ → ℕ → State
 with_variable s e n value = elim (with_some (slice_get e.site.variables n) (place_in e)) [ Some place ↦ with_word place value s | None ↦ s ]
 
-abbrev pub label_named : Image → List ℕ → Option LabelRow
+abbrev pub label_named : ImageParts → List ℕ → Option LabelRow
 label_named i name = find (λ l. bytes_eq name l.name) i.labels
 
 -- 8 bytes may be written at an address where it is a multiple of 8 and all of them lie in the data
-abbrev pub may_poke : Image → ℕ → Bool
+abbrev pub may_poke : ImageParts → ℕ → Bool
 may_poke i address = (address % 8 == 0) && nat_le data_base address && nat_le (address + 8) (data_base + length i.initial)
 
-abbrev pub with_data : Image → State → List ℕ → ℕ → ℕ → Option State
+abbrev pub with_data : ImageParts → State → List ℕ → ℕ → ℕ → Option State
 with_data i s name offset value = with_some (label_named i name) (λ l.
     elim (may_poke i (l.address + offset)) [ true ↦ Some record s { memory = stored s.memory (l.address + offset) 8 value } | false ↦ None ])
 

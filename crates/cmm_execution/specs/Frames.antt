@@ -2,7 +2,7 @@
 -- Peyton Jones, PLDI 2000, run-time tables).
 use Rattle.std.specs.Prelude.{ℕ, zero, suc, ◌+◌, ◌-◌, ◌/◌, ◌%◌, ◌==◌, ◌&&◌, nat_le, Bool, true, false, [], ◌∷◌, find, Option, Some, None}
 use Rattle.rv_table.specs.Machine.{State, loaded}
-use Rattle.cmm_image.specs.declared.image.Image.{Image}
+use Rattle.cmm_image.specs.declared.parts.ImageParts.{ImageParts}
 use Rattle.cmm_image.specs.declared.rows.ProcRow.{ProcRow}
 use Rattle.cmm_image.specs.declared.rows.SiteRow.{SiteRow}
 use Rattle.cmm_image.specs.ImageFormat.{procedure_at}
@@ -31,11 +31,11 @@ first_point s = record { address = s.registers 1; frame = s.registers 2; places 
 -- ---- one step of the chain
 
 -- the site with a return address
-abbrev pub site_at : Image → ℕ → Option SiteRow
+abbrev pub site_at : ImageParts → ℕ → Option SiteRow
 site_at i address = find (λ s. s.return_address == address) i.sites
 
 -- the call of main, whose caller has no frame, returns to `last`
-abbrev pub is_end : Image → Region → Point → Bool
+abbrev pub is_end : ImageParts → Region → Point → Bool
 is_end i r p = (p.address == i.last) && (p.frame == top r)
 
 -- a frame of a size begins at a multiple of 16 and lies in the stack
@@ -60,7 +60,7 @@ activation_at r p site procedure = elim (is_frame r p.frame procedure.frame) [
   | false ↦ break_at p
 ]
 
-abbrev pub found_at : Image → Region → Point → Found
+abbrev pub found_at : ImageParts → Region → Point → Found
 found_at i r p = elim (is_end i r p) [
   | true ↦ Nothing
   | false ↦ elim (site_at i p.address) [
@@ -105,7 +105,7 @@ along on memory Nothing = none_more
 along on memory (Broken b) = breaks b
 
 -- over no more than so many points
-abbrev pub chain_within : Image → Region → (ℕ → ℕ) → ℕ → Point → Chain Element
+abbrev pub chain_within : ImageParts → Region → (ℕ → ℕ) → ℕ → Point → Chain Element
 chain_within i r memory zero p = none_more
 chain_within i r memory (suc points) p = along (λ q. chain_within i r memory points q) memory (found_at i r p)
 
@@ -113,13 +113,13 @@ chain_within i r memory (suc points) p = along (λ q. chain_within i r memory po
 abbrev pub points_from : Region → Point → ℕ
 points_from r p = suc ((top r - p.frame) / 16)
 
-abbrev pub chain_from : Image → Region → (ℕ → ℕ) → Point → Chain Element
+abbrev pub chain_from : ImageParts → Region → (ℕ → ℕ) → Point → Chain Element
 chain_from i r memory p = chain_within i r memory (points_from r p) p
 
 -- all activations, youngest first
-abbrev pub chain_of : Image → Region → State → Chain Element
+abbrev pub chain_of : ImageParts → Region → State → Chain Element
 chain_of i r s = chain_from i r s.memory (first_point s)
 
 -- those that are older than one
-abbrev pub older_than : Image → Region → State → Element → Chain Element
+abbrev pub older_than : ImageParts → Region → State → Element → Chain Element
 older_than i r s e = chain_from i r s.memory (point_after s.memory e)

@@ -2,7 +2,7 @@
 use Rattle.std.specs.Prelude.{◌≡◌, ◌≢◌, ℕ, ◌+◌, ◌≤◌, List, ◌++◌, Some}
 use Rattle.cmm_following.specs.Seen.{IsWithin}
 use Rattle.cmm_following.specs.Machine.{Lasts}
-use Rattle.cmm_image.specs.declared.image.Image.{Image}
+use Rattle.cmm_image.specs.declared.parts.ImageParts.{ImageParts}
 use Rattle.cmm_image.specs.declared.rows.SiteRow.{SiteRow}
 use Rattle.cmm_image.specs.ImageFormat.{procedure_at}
 use Rattle.cmm_execution.specs.Regions.{Region}
@@ -39,10 +39,10 @@ ImagesLast = (l : Launch) → Lasts (image_machine l)
 -- ---- chains
 
 -- the frame of each procedure that has a site has at least 16 bytes
-abbrev pub HasFrames : Image → Type 0
+abbrev pub HasFrames : ImageParts → Type 0
 HasFrames i = (address : ℕ) (site : SiteRow) → site_at i address ≡ Some site → 16 ≤ (procedure_at i.procs site.procedure).frame
 
 -- so a chain is told by what stands at its first point: behind an activation it is again a chain
 abbrev pub ChainGoesOn : Type 0
-ChainGoesOn = (i : Image) (r : Region) (memory : ℕ → ℕ) (p : Point) → HasFrames i →
+ChainGoesOn = (i : ImageParts) (r : Region) (memory : ℕ → ℕ) (p : Point) → HasFrames i →
     chain_from i r memory p ≡ along (chain_from i r memory) memory (found_at i r p)

@@ -11,7 +11,7 @@ use Rattle.cmm_program.specs.Client.{commands_for}
 use Rattle.cmm_program.specs.Performing.{next_byte}
 use Rattle.cmm_program.specs.State as c
 use Rattle.cmm_program.specs.State.{Outcome}
-use Rattle.cmm_image.specs.declared.image.Image.{Image}
+use Rattle.cmm_image.specs.declared.parts.ImageParts.{ImageParts}
 use Rattle.cmm_execution.specs.Asking.{Askable, Break, Chain}
 use Rattle.cmm_execution.specs.Commands.{Answer, Left, answer_of}
 use Rattle.cmm_execution.specs.Commands as client
@@ -22,7 +22,7 @@ use Rattle.cmm_execution.specs.Changes.{is_invariant, with_variable, with_data, 
 
 -- what a run depends on, beside its input
 pub record Launch : Type 0 where
-  pub image : Image
+  pub image : ImageParts
   pub script : Script
   pub stack_size : ℕ
 
@@ -53,13 +53,13 @@ abbrev pub region_of : Launch → Region
 region_of l = record { address = region_base; stack_size = l.stack_size }
 
 -- the image's data, and zeros everywhere else
-abbrev pub first_memory : Image → ℕ → ℕ
+abbrev pub first_memory : ImageParts → ℕ → ℕ
 first_memory i address = elim (nat_le data_base address) [ true ↦ slice_index_or i.initial (address - data_base) 0 | false ↦ 0 ]
 
 -- ---- yields
 
 -- the image as a program that can be asked
-abbrev pub askable : Image → Region → Askable Element State State
+abbrev pub askable : ImageParts → Region → Askable Element State State
 askable i r = record {
   chain = chain_of i r;
   older = older_than i r;

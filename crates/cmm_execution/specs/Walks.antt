@@ -8,7 +8,7 @@ use Rattle.cmm_script.specs.Walk.{Shown, Activation}
 use Rattle.cmm_image.specs.declared.rows.VariableRow.{VariableRow}
 use Rattle.cmm_image.specs.declared.rows.VariablePlace.{VariablePlace}
 use Rattle.cmm_image.specs.declared.rows.VariablePlace.TheVariants.{Dead, Slot, Register}
-use Rattle.cmm_image.specs.declared.image.Image.{Image}
+use Rattle.cmm_image.specs.declared.parts.ImageParts.{ImageParts}
 use Rattle.cmm_execution.specs.Asking.{Chain}
 use Rattle.cmm_execution.specs.Regions.{Region, Place, InMemory, word_at}
 use Rattle.cmm_execution.specs.Frames.{Element, chain_of}
@@ -42,5 +42,5 @@ element_shown s e = record {
 abbrev pub walk_along : State → Chain Element → Option (List Activation)
 walk_along s chain = elim chain.broken [ None ↦ Some (map (element_shown s) chain.activations) | Some b ↦ None ]
 
-abbrev pub chain_walk : Image → Region → State → Option (List Activation)
+abbrev pub chain_walk : ImageParts → Region → State → Option (List Activation)
 chain_walk i r s = walk_along s (chain_of i r s)

@@ -1,7 +1,7 @@
 -- Worked rows: a whole small image, and what is wrong with bytes that are nearly one.
 use Rattle.std.proofs.Common.{◌≡◌, ℕ, List, [], ◌∷◌, ◌++◌, take, drop, None, Ok, Err, refl}
 use Rattle.cmm_rules.specs.declared.rule.Rule.TheVariants.{ImageIsCut, BadImageField, BytesAfterImage, NotAnImage}
-use Rattle.cmm_image.specs.declared.image.Image.{Image}
+use Rattle.cmm_image.specs.declared.parts.ImageParts.{ImageParts}
 use Rattle.cmm_image.specs.declared.rows.VariablePlace.TheVariants.{Slot, Register}
 use Rattle.cmm_image.specs.Formats.{number_at, number_bytes, block_at, text_at, text_bytes}
 use Rattle.cmm_image.specs.Places.{place_at}
@@ -20,7 +20,7 @@ body : List ℕ
 body =
     19 ∷ 0 ∷ 0 ∷ 0 ∷ 0 ∷ 0 ∷ 1 ∷ 0 ∷ 0 ∷ 0 ∷ 0 ∷ 0 ∷ 1 ∷ 109 ∷ 0 ∷ 0 ∷ 0 ∷ 0 ∷ 255 ∷ 255 ∷ 255 ∷ 255 ∷ 0 ∷ 0 ∷ 0 ∷ 0 ∷ 0 ∷ 0 ∷ 0 ∷ []
 
-small : Image
+small : ImageParts
 small = record {
   code = 19 ∷ 0 ∷ 0 ∷ 0 ∷ [];
   initial = [];

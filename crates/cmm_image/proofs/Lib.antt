@@ -5,4 +5,7 @@ mod ImageLaws
 mod ReadLaws
 mod ReadingRows
 mod MeaningLaws
+mod SearchLaws
+mod SiteLaws
 mod ImageRows
+pub mod Shared

@@ -3,13 +3,13 @@ use Rattle.std.proofs.Common.{◌≡◌, ℕ, ◌-◌, List, length, Result, Ok,
 use Rattle.std.specs.Prelude.{◌⊎◌}
 use Rattle.cmm_rules.specs.declared.rule.Rule.{Rule}
 use Rattle.cmm_image.specs.declared.fault.Broken.{Broken}
-use Rattle.cmm_image.specs.declared.image.Image.{Image}
+use Rattle.cmm_image.specs.declared.parts.ImageParts.{ImageParts}
 use Rattle.cmm_image.specs.Formats.{AreBytes}
 use Rattle.cmm_image.specs.Images.{SpellsImage, IsFirstFault, image_in}
 use Rattle.cmm_image.specs.Laws.{EachMeansOneThing, ImagesAreOne, NoImageHasAFault}
 use Rattle.cmm_image.proofs.ReadLaws.{spelled-so, read-so, no_fault}
 
-meaning : (bytes : List ℕ) (r : Result Image Broken) → AreBytes bytes → image_in bytes ≡ r → ((i : Image) × SpellsImage bytes i) ⊎ ((rule : Rule) × (offset : ℕ) × IsFirstFault bytes rule offset)
+meaning : (bytes : List ℕ) (r : Result ImageParts Broken) → AreBytes bytes → image_in bytes ≡ r → ((i : ImageParts) × SpellsImage bytes i) ⊎ ((rule : Rule) × (offset : ℕ) × IsFirstFault bytes rule offset)
 meaning bytes (Ok i) fits e = inl (i, spelled-so bytes i fits e)
 meaning bytes (Err b) fits e = inr (b.rule, (length bytes - b.left), record { broken = b; first = e; rule_is = refl; offset_is = refl })
 

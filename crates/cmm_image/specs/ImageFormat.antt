@@ -9,7 +9,7 @@ use Rattle.cmm_words.specs.declared.width.Width.TheVariants.{W8, W16, W32, W64}
 use Rattle.cmm_words.specs.Widths.{bits}
 use Rattle.rv_table.specs.declared.memory_map.TheConstants.{CODE_BASE, CODE_LENGTH_LIMIT, DATA_BASE, DATA_LENGTH_LIMIT, GLOBAL_COUNT_LIMIT}
 use Rattle.cmm_image.specs.declared.header.Header.{Header}
-use Rattle.cmm_image.specs.declared.image.Image.{Image}
+use Rattle.cmm_image.specs.declared.parts.ImageParts.{ImageParts}
 use Rattle.cmm_image.specs.declared.rows.VariableNumber.{VariableNumber}
 use Rattle.cmm_image.specs.declared.rows.ContinuationNumber.{ContinuationNumber}
 use Rattle.cmm_image.specs.declared.rows.SavedRegister.{SavedRegister}
@@ -326,7 +326,7 @@ global previous = as_ (λ x. record { width = x.0; name = x.1 }) (λ g. (g.width
 abbrev pub ImageFields : Type 0
 ImageFields = Header × (List ℕ × (List ℕ × (List ProcRow × (List SiteRow × (List LabelRow × List GlobalRow)))))
 
-abbrev pub image_of : ImageFields → Image
+abbrev pub image_of : ImageFields → ImageParts
 image_of (h, (code, (initial, (procs, (sites, (labels, globals)))))) = record {
   code = code;
   initial = initial;
@@ -340,7 +340,7 @@ image_of (h, (code, (initial, (procs, (sites, (labels, globals)))))) = record {
 }
 
 -- the header counts what the image has
-abbrev pub image_header : Image → Header
+abbrev pub image_header : ImageParts → Header
 image_header i = record {
   code_length = length i.code;
   data_length = length i.initial;
@@ -353,10 +353,10 @@ image_header i = record {
   main = i.main;
 }
 
-abbrev pub image_fields : Image → ImageFields
+abbrev pub image_fields : ImageParts → ImageFields
 image_fields i = (image_header i, (i.code, (i.initial, (i.procs, (i.sites, (i.labels, i.globals))))))
 
-abbrev pub image : Format Image
+abbrev pub image : Format ImageParts
 image = as_ image_of image_fields (
     header
     ▸ λ h. block h.code_length

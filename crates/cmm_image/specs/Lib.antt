@@ -2,5 +2,6 @@ pub mod Formats
 pub mod Places
 pub mod ImageFormat
 pub mod Images
+pub mod Sites
 pub mod Laws
 pub mod inside

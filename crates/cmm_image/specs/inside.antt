@@ -1,3 +1,4 @@
 pub mod Reading
 pub mod Spellings
 pub mod Wholes
+pub mod Ascending

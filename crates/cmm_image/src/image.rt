@@ -1,27 +1,60 @@
 //! Images.
 
-use crate::rows::{GlobalRow, LabelRow, ProcRow, SiteRow};
-use cmm_items::Items;
+ghost use Rattle.std.specs.Prelude.{◌≡◌};
+ghost use Rattle.cmm_image.specs.Images.{IsImage};
+ghost use Rattle.cmm_image.specs.Sites.{site_place};
+ghost use Rattle.cmm_image.specs.declared.parts.ImageParts.{ImageParts};
 
-/// What the compiler makes of a program, and what runs.
+use crate::parts::ImageParts;
+use crate::search::place_among;
+use std::marker::Model;
+
+/// What the compiler makes of a program, and what runs. Its parts keep every rule of the format, so that they have bytes, and nothing more
+/// is asked of an image anywhere. Contracts see it as its parts.
 #[derive(Debug, Drop)]
 pub struct Image {
-    /// The bytes of the code, from `CODE_BASE` on.
-    pub code: Items<u8>,
-    /// The bytes of data at the start, from `DATA_BASE` on.
-    pub initial: Items<u8>,
-    /// The address at which a run begins.
-    pub start: u64,
-    /// The return address of main's call.
-    pub last: u64,
-    /// Which procedure is main.
-    pub main: u32,
-    /// The procedures, in the order of their addresses.
-    pub procs: Items<ProcRow>,
-    /// The call sites, in the order of their return addresses.
-    pub sites: Items<SiteRow>,
-    /// The exported data labels, in the order of their link names.
-    pub labels: Items<LabelRow>,
-    /// The global registers, in the order of their names, which is that of their words in the region.
-    pub globals: Items<GlobalRow>,
+    parts: ImageParts,
+}
+
+impl Model for Image {
+    ghost Value = { ImageParts };
+
+    ghost view = { λ i. i.parts };
+
+    ghost invariant = { λ i. IsImage i.parts };
+}
+
+impl Image {
+    /// The image of parts that keep every rule.
+    pub fn new(parts: ImageParts) -> Image
+        requires { IsImage parts }
+        ensures { result ≡ parts }
+    {
+        Image { parts }
+    }
+
+    /// Its parts, which keep every rule.
+    pub fn parts(&self) -> &ImageParts
+        ensures same { result.now ≡ self.now }
+        ensures kept { IsImage self.now }
+    {
+        &self.parts
+    }
+
+    /// Its parts, given away.
+    pub fn into_parts(self) -> ImageParts
+        ensures same { result ≡ self }
+        ensures kept { IsImage self }
+    {
+        let Image { parts } = self;
+        parts
+    }
+
+    /// The place in `sites` of the site with a return address; none exactly where no site has it.
+    #[tactic(auto, using(crate::proofs::SearchLaws::sites_ascend, crate::proofs::SearchLaws::sites_are_few))]
+    pub fn site_of(&self, address: u64) -> Option<u32>
+        ensures { result ≡ site_place self.now.sites address }
+    {
+        place_among(self.parts.sites.as_slice(), address)
+    }
 }

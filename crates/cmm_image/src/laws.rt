@@ -1,10 +1,15 @@
 //! Laws of the format: the contract of a function that does nothing.
 
-ghost use Rattle.cmm_image.specs.Laws.{EachMeansOneThing, ImagesAreOne, NoImageHasAFault};
+ghost use Rattle.cmm_image.specs.Laws.{EachMeansOneThing, ImagesAreOne, NoImageHasAFault, SitesHaveProcedures};
 
 /// Bytes are one image, or they have a first fault, and never both.
 pub fn bytes_mean_one_thing()
     ensures each { EachMeansOneThing }
     ensures one { ImagesAreOne }
     ensures never_both { NoImageHasAFault }
+{}
+
+/// Each site of an image is in a procedure that may have sites.
+pub fn sites_have_procedures()
+    ensures { SitesHaveProcedures }
 {}

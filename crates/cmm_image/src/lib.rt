@@ -4,7 +4,8 @@
 //! each call site, each exported data label and each global register. This layer promises that bytes are read to an image exactly where
 //! they spell it, that the first field that breaks a rule is named of any other bytes, and that an image is written as it is read.
 //!
-//! - `image`, `rows`: `Image` and the rows of its tables.
+//! - `image`: `Image`, whose parts keep every rule of the format. `parts`, `rows`: its parts, and the rows of its tables. `search`: where a site
+//!   is among them.
 //! - `reading`, `fault`: `read_image`, and why there is no image. `writing`: `write_image`.
 //! - `reader`, `record`: fields at the front of bytes, and records, one after another. `bounds`: what their numbers are measured by.
 //! - `header`, `procedure`, `procedure_parts`, `site`, `site_parts`, `symbols`: the records as they are read.
@@ -21,6 +22,7 @@ mod fields;
 mod header;
 mod image;
 pub mod laws;
+mod parts;
 mod procedure;
 mod procedure_parts;
 mod reader;
@@ -28,6 +30,7 @@ mod reading;
 mod record;
 mod row_bytes;
 mod rows;
+mod search;
 mod site;
 mod site_parts;
 mod symbols;
@@ -35,6 +38,7 @@ mod writing;
 
 pub use fault::ImageFault;
 pub use image::Image;
+pub use parts::ImageParts;
 pub use reading::{IMAGE_LIMIT, read_image};
 pub use rows::{
     ContinuationNumber, ContinuationRow, GlobalRow, LabelRow, ProcRow, SavedRegister, SiteRow,

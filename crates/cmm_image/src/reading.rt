@@ -5,13 +5,14 @@ ghost use Rattle.cmm_image.specs.ImageFormat.{image};
 ghost use Rattle.cmm_image.specs.Images.{SpellsImage, IsFirstFault, ImageFaultAt, IsImageRead, IsRefusal, image_in};
 ghost use Rattle.cmm_image.specs.inside.Reading.{Reads};
 ghost use Rattle.cmm_image.specs.inside.Wholes.{Gives, fault_of};
-ghost use Rattle.cmm_image.specs.declared.image.Image.{Image};
+ghost use Rattle.cmm_image.specs.declared.parts.ImageParts.{ImageParts};
 ghost use Rattle.cmm_rules.specs.declared.rule.Rule.{Rule};
 
 use crate::bounds::{Bounds, Procedures};
 use crate::fault::{ImageFault, Unread};
 use crate::header::read_header;
 use crate::image::Image;
+use crate::parts::ImageParts;
 use crate::reader::{Reader, broken};
 use crate::record::read_rows;
 use cmm_rules::Rule;
@@ -26,14 +27,14 @@ pub fn read_image(alloc: Global, bytes: &[u8]) -> Result<Image, ImageFault>
     // What is read is spelled so.
     ensures ok { IfOk result (SpellsImage bytes.now) }
     // What is spelled so is read, unless memory runs out.
-    ensures only { (i : Image) → SpellsImage bytes.now i → IsImageRead i result }
+    ensures only { (i : ImageParts) → SpellsImage bytes.now i → IsImageRead i result }
     // A fault is the first of the bytes.
     ensures err { IfErr result (ImageFaultAt bytes.now) }
     // Bytes with a fault are refused for it, unless memory runs out.
     ensures refused { (rule : Rule) (offset : ℕ) → IsFirstFault bytes.now rule offset → IsRefusal rule offset result }
 {
-    match image_of(alloc, bytes) {
-        Ok(image) => Ok(image),
+    match parts_of(alloc, bytes) {
+        Ok(parts) => Ok(Image::new(parts)),
         Err(why) => Err(fault(bytes.len(), why)),
     }
 }
@@ -51,24 +52,24 @@ fn fault(length: usize, why: Unread) -> ImageFault
     }
 }
 
-/// The image that all of the bytes are.
+/// The parts of the image that all of the bytes are.
 #[tactic(auto, unfolding(crate::specs::Images::image_in))]
-fn image_of(alloc: Global, bytes: &[u8]) -> Result<Image, Unread>
+fn parts_of(alloc: Global, bytes: &[u8]) -> Result<ImageParts, Unread>
     ensures { Gives result (image_in bytes.now) }
 {
     if bytes.len() > IMAGE_LIMIT {
         return Err(broken(Rule::ImageTooLong, bytes.len() - IMAGE_LIMIT));
     }
     let mut reader = Reader { alloc, rest: bytes };
-    let image = front_image(&mut reader)?;
+    let parts = front_parts(&mut reader)?;
     if !reader.rest.is_empty() {
         return Err(broken(Rule::BytesAfterImage, reader.left()));
     }
-    Ok(image)
+    Ok(parts)
 }
 
-/// Takes an image from the front of the bytes.
-fn front_image(reader: &mut Reader<'_>) -> Result<Image, Unread>
+/// Takes the parts of an image from the front of the bytes.
+fn front_parts(reader: &mut Reader<'_>) -> Result<ImageParts, Unread>
     ensures { Reads result (image.at reader.old.rest.now) reader.new.rest.now }
 {
     let header = read_header(reader)?;
@@ -87,7 +88,7 @@ fn front_image(reader: &mut Reader<'_>) -> Result<Image, Unread>
     let labels = read_rows(reader, &bounds, header.labels as usize)?;
     let globals = read_rows(reader, &bounds, header.globals as usize)?;
     let Procedures { rows: procs, .. } = procedures;
-    Ok(Image {
+    Ok(ImageParts {
         code,
         initial,
         start: header.start,

@@ -2,26 +2,26 @@
 
 ghost use Rattle.std.specs.Prelude.{◌≡◌, ◌++◌, OnOk, IfOk};
 ghost use Rattle.cmm_image.specs.ImageFormat.{counts, header, image, image_header};
-ghost use Rattle.cmm_image.specs.Images.{IsImage, SpellsImage};
+ghost use Rattle.cmm_image.specs.Images.{SpellsImage};
 ghost use Rattle.cmm_image.specs.inside.Spellings.{counts_of, image_body, image_records};
 
 use crate::fields::{put_count32, put_u32, put_u64};
 use crate::header::{MAGIC, VERSION};
 use crate::image::Image;
+use crate::parts::ImageParts;
 use crate::record::write_rows;
 use std::alloc::{AllocError, Global};
 
 /// The bytes that spell an image.
 pub fn write_image(alloc: Global, image: &Image) -> Result<Vec<u8>, AllocError>
-    requires { IsImage image.now }
     ensures { IfOk result (λ bytes. SpellsImage bytes.items image.now) }
 {
     let mut out = Vec::new(alloc);
-    put_image(&mut out, image)?;
+    put_image(&mut out, image.parts())?;
     Ok(out)
 }
 
-fn put_image(out: &mut Vec<u8>, i: &Image) -> Result<(), AllocError>
+fn put_image(out: &mut Vec<u8>, i: &ImageParts) -> Result<(), AllocError>
     ensures { OnOk result (out.new.items ≡ out.old.items ++ image.spelled i.now) }
 {
     put_header(out, i)?;
@@ -29,7 +29,7 @@ fn put_image(out: &mut Vec<u8>, i: &Image) -> Result<(), AllocError>
 }
 
 /// What follows the header.
-fn put_body(out: &mut Vec<u8>, i: &Image) -> Result<(), AllocError>
+fn put_body(out: &mut Vec<u8>, i: &ImageParts) -> Result<(), AllocError>
     ensures { OnOk result (out.new.items ≡ out.old.items ++ image_body i.now) }
 {
     out.extend_from_slice(i.code.as_slice())?;
@@ -38,7 +38,7 @@ fn put_body(out: &mut Vec<u8>, i: &Image) -> Result<(), AllocError>
 }
 
 /// The records, in the order of the counts.
-fn put_records(out: &mut Vec<u8>, i: &Image) -> Result<(), AllocError>
+fn put_records(out: &mut Vec<u8>, i: &ImageParts) -> Result<(), AllocError>
     ensures { OnOk result (out.new.items ≡ out.old.items ++ image_records i.now) }
 {
     write_rows(out, i.procs.as_slice())?;
@@ -47,7 +47,7 @@ fn put_records(out: &mut Vec<u8>, i: &Image) -> Result<(), AllocError>
     write_rows(out, i.globals.as_slice())
 }
 
-fn put_header(out: &mut Vec<u8>, i: &Image) -> Result<(), AllocError>
+fn put_header(out: &mut Vec<u8>, i: &ImageParts) -> Result<(), AllocError>
     ensures { OnOk result (out.new.items ≡ out.old.items ++ header.spelled (image_header i.now)) }
 {
     put_u32(out, MAGIC)?;
@@ -60,7 +60,7 @@ fn put_header(out: &mut Vec<u8>, i: &Image) -> Result<(), AllocError>
 }
 
 /// The counts of records, and which procedure is main.
-fn put_counts(out: &mut Vec<u8>, i: &Image) -> Result<(), AllocError>
+fn put_counts(out: &mut Vec<u8>, i: &ImageParts) -> Result<(), AllocError>
     ensures { OnOk result (out.new.items ≡ out.old.items ++ counts.spelled (counts_of i.now)) }
 {
     put_count32(out, i.procs.len())?;

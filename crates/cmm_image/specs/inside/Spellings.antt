@@ -1,6 +1,6 @@
 -- The bytes of parts of records, which are written by functions of their own.
 use Rattle.std.specs.Prelude.{ℕ, List, [], ◌++◌, flat_map, length, None}
-use Rattle.cmm_image.specs.declared.image.Image.{Image}
+use Rattle.cmm_image.specs.declared.parts.ImageParts.{ImageParts}
 use Rattle.cmm_image.specs.declared.rows.ProcRow.{ProcRow}
 use Rattle.cmm_image.specs.declared.rows.SiteRow.{SiteRow}
 use Rattle.cmm_image.specs.Formats.{counted}
@@ -19,11 +19,11 @@ site_row_lists s =
     ++ (site_lists 0 0 0 0 0).spelled (s.returns, (s.unwinds, (s.cuts, (s.variables, s.spans))))
 
 -- the counts in an image's header
-abbrev pub counts_of : Image → Counts
+abbrev pub counts_of : ImageParts → Counts
 counts_of i = (length i.procs, (length i.sites, (length i.labels, (length i.globals, (i.main, 0)))))
 
 -- the records of an image, without their counts
-abbrev pub image_records : Image → List ℕ
+abbrev pub image_records : ImageParts → List ℕ
 image_records i =
     flat_map (procedure 0 None).spelled i.procs
     ++ (flat_map (site 0 [] None).spelled i.sites
@@ -31,5 +31,5 @@ image_records i =
     ++ flat_map (global None).spelled i.globals))
 
 -- what follows an image's header
-abbrev pub image_body : Image → List ℕ
+abbrev pub image_body : ImageParts → List ℕ
 image_body i = i.code ++ (i.initial ++ image_records i)
