@@ -29,5 +29,17 @@ pub mod GoingOn
 pub mod Assignments
 pub mod Passing
 pub mod Divisions
+pub mod LivenessMembers
+pub mod LivenessPieces
+pub mod LivenessExpressions
+pub mod LivenessStatements
+pub mod LivenessExits
+pub mod LivenessAssignments
+pub mod LivenessArms
+pub mod LivenessSites
+pub mod LivenessDivisions
+pub mod LivenessForms
+pub mod LivenessRanges
+pub mod LivenessPositions
 mod FlowRows
 mod CallRows

@@ -4,4 +4,5 @@ pub mod Statements
 pub mod Flow
 pub mod Relation
 pub mod Laws
+pub mod Liveness
 pub mod inside
