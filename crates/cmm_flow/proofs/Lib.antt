@@ -41,5 +41,7 @@ pub mod LivenessDivisions
 pub mod LivenessForms
 pub mod LivenessRanges
 pub mod LivenessPositions
+pub mod LivenessWaiting
+pub mod LivenessAtSites
 mod FlowRows
 mod CallRows

@@ -1,5 +1,7 @@
 -- The arms of a switch as the paths of liveness see them: each leads where its node stands, and the default to the node for what no arm is for.
-use Rattle.std.proofs.Common.{◌≡◌, ◌⊎◌, inl, inr, ℕ, ◌+◌, ◌≤◌, true, false, List, [], ◌∷◌, ◌++◌, refl, ap, sym, ◌∙◌, subst, arith}
+use Rattle.std.proofs.Common.{◌≡◌, ◌⊎◌, inl, inr, ℕ, ◌+◌, ◌≤◌, true, false, Option, Some, None, List, [], ◌∷◌, ◌++◌, refl, ap, sym, ◌∙◌, subst, arith}
+use Rattle.std.proofs.lemmas.Bool.{and_parts, leb-true}
+use Rattle.cmm_words.specs.declared.width.Width.{Width}
 use Rattle.cmm_program.specs.declared.procedure.Proc.{Proc}
 use Rattle.cmm_program.specs.declared.statement.Form.{Row_of-Arm, end_of-Arm, more_of-Arm}
 use Rattle.cmm_program.specs.declared.statement.Statement.{Statement}
@@ -7,7 +9,7 @@ use Rattle.cmm_program.specs.declared.statement.Arm.{Arm'}
 use Rattle.cmm_program.specs.declared.statement.Case.{Case}
 use Rattle.cmm_program.specs.declared.statement.Case.TheVariants.{In, Default}
 use Rattle.cmm_program.specs.Bodies.{Branch, branches, is_default, statements}
-use Rattle.cmm_program.specs.InRange.{defaults}
+use Rattle.cmm_program.specs.InRange.{are_arms, defaults}
 use Rattle.cmm_graph.specs.declared.node.Arm.{Arm}
 use Rattle.cmm_graph.specs.declared.node.Node.{Node}
 use Rattle.cmm_graph.specs.declared.node.NodeKind.TheVariants.{Stop}
@@ -31,6 +33,11 @@ default_counted (c ∷ bs) b (inr later) is = more c.case (default_counted bs b 
     more : (case : Case) → 1 ≤ defaults bs → 1 ≤ elim case as (λ _. ℕ) [ In ranges ↦ defaults bs | Default ↦ 1 + defaults bs ]
     more (In ranges) is = is
     more Default is = omega arith
+
+-- arms in range have one default at most
+pub few_defaults : (width : Option Width) (bs : List Branch) → are_arms width bs ≡ true → defaults bs ≤ 1
+few_defaults (Some width) bs is = leb-true (defaults bs) 1 (and_parts _ _ is).1
+few_defaults None bs is = absurd (cc)
 
 module _ (q : Proc) (nodes : List Node) (label_node : ℕ → NodeId) (k : NodeId) (rest : List Statement) (behind : ListCode q nodes label_node rest k) where
   abbrev BranchCode : Branch → NodeId → Type 0

@@ -35,7 +35,7 @@ use Rattle.cmm_flow.specs.Code.{IsNode, OperandCode}
 use Rattle.cmm_flow.specs.Flow.{IsFlowOf}
 use Rattle.cmm_flow.specs.Operands.{operand_of}
 use Rattle.cmm_flow.specs.Statements.{ArmsCode, CheckedCode, DefaultCode, FormCode}
-use Rattle.cmm_flow.proofs.LivenessArms.{FromDefault, Nowhere, OfBranch, There, default_counted, from_arm, from_default, to_arm, to_default}
+use Rattle.cmm_flow.proofs.LivenessArms.{FromDefault, Nowhere, OfBranch, There, default_counted, few_defaults, from_arm, from_default, to_arm, to_default}
 use Rattle.cmm_flow.proofs.LivenessAssignments.{assign_stands}
 use Rattle.cmm_flow.proofs.LivenessDivisions.{checked_stands}
 use Rattle.cmm_flow.proofs.LivenessExits.{target_writes}
@@ -171,10 +171,6 @@ module _ (p : Program) (q : Proc) (g : Graph) (range : IsProcInRange p q) (graph
         back : (m : NodeId) → Among (arm_nodes to) m ⊎ (otherwise ≡ m) → IsFalse false × Among (arm_nodes to ++ otherwise ∷ []) m
         back m (inl is) = (refl, among_left (arm_nodes to) (otherwise ∷ []) m is)
         back m (inr is) = (refl, among_right (arm_nodes to) (otherwise ∷ []) m (inl is))
-
-  pub few_defaults : (width : Option Width) (bs : List Branch) → are_arms width bs ≡ true → defaults bs ≤ 1
-  few_defaults (Some width) bs is = leb-true (defaults bs) 1 (and_parts _ _ is).1
-  few_defaults None bs is = absurd (cc)
 
   -- ---- a form
 

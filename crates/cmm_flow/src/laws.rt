@@ -1,7 +1,7 @@
 //! The laws that join the C-- machine and the machine over graphs. Each is the contract of a function that does nothing.
 
 ghost use Rattle.cmm_flow.specs.Laws.{FlowAgrees, FlowFollows, FlowSimulates, RangeIsCounted};
-ghost use Rattle.cmm_flow.specs.Liveness.{CodeKeepsLiveness};
+ghost use Rattle.cmm_flow.specs.Liveness.{CodeKeepsLiveness, SitesHaveNodes};
 
 /// The flows of a program's procedures do what the program does. A step of the C-- machine is a path over the graphs of at
 /// least one node, which has together at most as many tokens as the longest procedure; on every input both show the same
@@ -20,8 +20,10 @@ pub fn programs_in_range_are_counted()
 {}
 
 /// What is live in a procedure is live in its flow: some path from statements of the procedure reads a variable before it is written just where
-/// the variable is live, by the graph's paths, before the node at which the code of the statements begins.
-#[tactic(auto, using(crate::proofs::LivenessPositions::code_keeps_liveness))]
+/// the variable is live, by the graph's paths, before the node at which the code of the statements begins. Each call site has a node that waits
+/// there, and behind it, by all its exits and by the cut exits alone, just those variables are live that are live at the site.
+#[tactic(auto, using(crate::proofs::LivenessPositions::code_keeps_liveness, crate::proofs::LivenessAtSites::sites_have_nodes))]
 pub fn flows_keep_liveness()
-    ensures { CodeKeepsLiveness }
+    ensures code { CodeKeepsLiveness }
+    ensures nodes { SitesHaveNodes }
 {}
