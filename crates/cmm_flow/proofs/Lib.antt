@@ -43,5 +43,6 @@ pub mod LivenessRanges
 pub mod LivenessPositions
 pub mod LivenessWaiting
 pub mod LivenessAtSites
+pub mod LivenessSets
 mod FlowRows
 mod CallRows

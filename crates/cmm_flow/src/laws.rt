@@ -1,7 +1,7 @@
 //! The laws that join the C-- machine and the machine over graphs. Each is the contract of a function that does nothing.
 
 ghost use Rattle.cmm_flow.specs.Laws.{FlowAgrees, FlowFollows, FlowSimulates, RangeIsCounted};
-ghost use Rattle.cmm_flow.specs.Liveness.{CodeKeepsLiveness, SitesHaveNodes};
+ghost use Rattle.cmm_flow.specs.Liveness.{CodeKeepsLiveness, SetsAreOfProcedure, SitesHaveNodes, SitesKeepLiveness};
 
 /// The flows of a program's procedures do what the program does. A step of the C-- machine is a path over the graphs of at
 /// least one node, which has together at most as many tokens as the longest procedure; on every input both show the same
@@ -26,4 +26,11 @@ pub fn programs_in_range_are_counted()
 pub fn flows_keep_liveness()
     ensures code { CodeKeepsLiveness }
     ensures nodes { SitesHaveNodes }
+{}
+
+/// Where no two nodes wait at one site, the variables of a procedure that are live at a site, and on its cut exits, are those that are live there by
+/// the paths of the graph. So they are those that the graph's live sets have.
+pub fn sites_keep_liveness()
+    ensures sites { SitesKeepLiveness }
+    ensures sets { SetsAreOfProcedure }
 {}
