@@ -46,3 +46,4 @@ pub mod LivenessAtSites
 pub mod LivenessSets
 mod FlowRows
 mod CallRows
+mod LivenessRows
