@@ -4,7 +4,8 @@ use Rattle.std.proofs.Common.{◌≡◌, ◌↔◌, ℕ, zero, suc, ◌<◌, ◌
 use Rattle.std.proofs.lemmas.Bool.{and_parts, eq-eqb, lt-ltb, not-true, or_left, or_right}
 use Rattle.cmm_program.specs.declared.procedure.Proc.{Proc}
 use Rattle.cmm_program.specs.declared.program.Program.{Program}
-use Rattle.cmm_program.specs.Liveness.{is_among}
+use Rattle.cmm_program.specs.Laws.{LivenessIsByPaths}
+use Rattle.cmm_program.specs.Liveness.{is_among, is_live_at}
 use Rattle.cmm_program.specs.LivePaths
 use Rattle.cmm_graph.specs.declared.graph.Graph.{Graph}
 use Rattle.cmm_graph.specs.declared.node.Node.{Node}
@@ -100,14 +101,22 @@ sites_keep_liveness p q g flows once site v less =
 
 -- ---- the sets
 
-pub sets_are_of_procedure : SetsAreOfProcedure
-sets_are_of_procedure p q g found flows once sets site v less within =
+-- two tests of the same are one
+same_test : {P : Type 0} (a b : Bool) → (a ≡ true) ↔ P → (b ≡ true) ↔ P → a ≡ b
+same_test true b first second = sym (second.1 (first.0 refl))
+same_test false true first second = first.1 (second.0 refl)
+same_test false false first second = refl
+
+pub sets_are_of_procedure : LivenessIsByPaths → SetsAreOfProcedure
+sets_are_of_procedure by_paths p q g found flows once sets site v less within =
     let kept = sites_keep_liveness p q g flows once site v less in
     let has = sites_have_nodes p q g flows site less in
     let there : is_local g (variable v) ≡ true = lt-ltb v g.variables (omega (arith, flows.graph.variables, within)) in
     let at = (sets.sites.each (site_id site) (sets.sites.listed has.at has.node (site_id site) has.is_there has.is_its.waits)).exact (variable v) there in
     let cut = (sets.cuts.each (site_id site) (sets.cuts.listed has.at has.node (site_id site) has.is_there has.is_its.waits)).exact (variable v) there in
+    let live : (is_at g found (site_id site) (variable v) ≡ true) ↔ LivePaths.IsLiveAt q site v = (λ is. kept.live.1 (at.0 is), λ live. at.1 (kept.live.0 live)) in
     record {
-      live = (λ is. kept.live.1 (at.0 is), λ live. at.1 (kept.live.0 live));
+      live = live;
       live_on_cut = (λ is. kept.live_on_cut.1 (cut.0 is), λ live. cut.1 (kept.live_on_cut.0 live));
+      tested = same_test (is_at g found (site_id site) (variable v)) (is_live_at q site v) live (by_paths p q site v flows.range);
     }

@@ -9,7 +9,7 @@ use Rattle.cmm_program.specs.declared.statement.Statement.{Statement}
 use Rattle.cmm_program.specs.Bodies.{AtContinuation, follow}
 use Rattle.cmm_program.specs.Frames.{parameters}
 use Rattle.cmm_program.specs.InRange.{IsProcInRange, is_body_in, is_statement}
-use Rattle.cmm_program.specs.Liveness.{is_among}
+use Rattle.cmm_program.specs.Liveness.{is_among, is_live_at}
 use Rattle.cmm_program.specs.LivePaths
 use Rattle.cmm_program.specs.LivePaths.{IsReadFrom}
 use Rattle.cmm_graph.specs.declared.graph.Graph.{Graph}
@@ -102,10 +102,12 @@ abbrev pub SitesKeepLiveness : Type 0
 SitesKeepLiveness = (p : Program) (q : Proc) (g : Graph) → IsFlowInRange p q g → WaitOnce g → (site v : ℕ) → site < length q.sites →
     IsKeptAtSite q g site v
 
--- the sets that are computed for a graph have just the variables of the procedure that are live at a site, and on its cut exits
+-- The sets that are computed for a graph have just the variables of the procedure that are live at a site, and on its cut exits. So whether the
+-- set of a site has a variable is what the test of liveness says.
 pub record AreSetsAtSite (q : Proc) (g : Graph) (found : LiveSets) (site v : ℕ) : Type 0 where
   pub live : (is_at g found (site_id site) (variable v) ≡ true) ↔ LivePaths.IsLiveAt q site v
   pub live_on_cut : (is_on_cut g found (site_id site) (variable v) ≡ true) ↔ IsLiveOnCut q site v
+  pub tested : is_at g found (site_id site) (variable v) ≡ is_live_at q site v
 
 abbrev pub SetsAreOfProcedure : Type 0
 SetsAreOfProcedure = (p : Program) (q : Proc) (g : Graph) (found : LiveSets) → IsFlowInRange p q g → WaitOnce g → AreLiveSets g found →

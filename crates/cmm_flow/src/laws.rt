@@ -3,6 +3,8 @@
 ghost use Rattle.cmm_flow.specs.Laws.{FlowAgrees, FlowFollows, FlowSimulates, RangeIsCounted};
 ghost use Rattle.cmm_flow.specs.Liveness.{CodeKeepsLiveness, SetsAreOfProcedure, SitesHaveNodes, SitesKeepLiveness};
 
+use cmm_program::laws::liveness_is_by_paths;
+
 /// The flows of a program's procedures do what the program does. A step of the C-- machine is a path over the graphs of at
 /// least one node, which has together at most as many tokens as the longest procedure; on every input both show the same
 /// and stand at the same events, and agree in counts of steps with that factor.
@@ -33,4 +35,6 @@ pub fn flows_keep_liveness()
 pub fn sites_keep_liveness()
     ensures sites { SitesKeepLiveness }
     ensures sets { SetsAreOfProcedure }
-{}
+{
+    liveness_is_by_paths()
+}
