@@ -18,12 +18,12 @@ use Rattle.cmm_flow.specs.Relation.{AreCounted, is_counted, longest_of}
 -- ---- the body of a procedure
 
 -- a row read as a list
-row_items : (n : Count) (row : Row_of-Statement n) → statements row ≡ items-the_row-Statement n row
+pub row_items : (n : Count) (row : Row_of-Statement n) → statements row ≡ items-the_row-Statement n row
 row_items n end_of-Statement = refl
 row_items n (more_of-Statement tokens form rest) = ap (λ xs. record { tokens = tokens; form = form } ∷ xs) (row_items _ rest)
 
-row_statements : (q : Proc) → statements (hidden-the_row-Statement-0 q.body) ≡ q.body
-row_statements q = row_items _ (hidden-the_row-Statement-0 q.body) ∙ items_hidden-the_row-Statement-0 q.body
+pub row_statements : (xs : List Statement) → statements (hidden-the_row-Statement-0 xs) ≡ xs
+row_statements xs = row_items _ (hidden-the_row-Statement-0 xs) ∙ items_hidden-the_row-Statement-0 xs
 
 module _ (q : Proc) where
   -- those of two lists apart
@@ -73,7 +73,7 @@ module _ (q : Proc) where
 
   -- the whole body
   pub body_counted : Keep (within (Span q.body)) → AreCounted q q.body
-  body_counted is = subst (AreCounted q) (row_statements q) (row_of (hidden-the_row-Statement-0 q.body) is).0
+  body_counted is = subst (AreCounted q) (row_statements q.body) (row_of (hidden-the_row-Statement-0 q.body) is).0
 
   -- the statements still to do after a statement
   pub rest_counted : (way : ℕ) (form : Form) (rest : List Statement) → Keep (within (Span q.body)) → Keep (within form) → AreCounted q rest →

@@ -44,6 +44,12 @@ pub mod LivenessPositions
 pub mod LivenessWaiting
 pub mod LivenessAtSites
 pub mod LivenessSets
+pub mod FormsStay
+pub mod Marking
+pub mod Blocks
+pub mod LayingBlocks
+pub mod Lacking
+pub mod Whole
 mod FlowRows
 mod CallRows
 mod LivenessRows

@@ -4,12 +4,11 @@ use Rattle.cmm_program.specs.declared.procedure.Proc.{Proc}
 use Rattle.cmm_program.specs.declared.statement.Form.{Form}
 use Rattle.cmm_program.specs.declared.statement.Form.TheVariants.{Span}
 use Rattle.cmm_program.specs.declared.statement.Statement.{Statement}
-use Rattle.cmm_program.specs.declared.statement.Arm.{Row_of-Statement, end_of-Statement, more_of-Statement}
-use Rattle.cmm_program.specs.Bodies.{Mark, after_in, after_inside, first_of_two, follow, is_mark, outward, statements}
+use Rattle.cmm_program.specs.Bodies.{Mark, after_inside, first_of_two, follow, is_mark, outward}
 use Rattle.cmm_graph.specs.declared.number.NodeId.{NodeId}
 use Rattle.cmm_graph.specs.declared.node.Node.{Node}
-use Rattle.cmm_flow.specs.Statements.{ListCode, RowCode}
-use Rattle.cmm_flow.specs.inside.Marks.{FrontCode, LeadsBehind}
+use Rattle.cmm_flow.specs.Statements.{ListCode}
+use Rattle.cmm_flow.specs.inside.Marks.{FrontCode, LeadsBehind, LeadsBehindForm, after_list}
 
 module _ (q : Proc) (nodes : List Node) (label_node : ℕ → NodeId) where
   abbrev Front : List Statement → NodeId → NodeId → Type 0
@@ -17,11 +16,6 @@ module _ (q : Proc) (nodes : List Node) (label_node : ℕ → NodeId) where
 
   abbrev Behind : Option (List Statement) → NodeId → NodeId → NodeId → Type 0
   Behind = LeadsBehind q nodes label_node
-
-  -- a block is its statements
-  pub row_front : {i : _} (row : Row_of-Statement i) (n k : NodeId) → RowCode q nodes label_node row n k → Front (statements row) n k
-  row_front end_of-Statement n k code = code
-  row_front (more_of-Statement tokens form rest) n k code = (code.0, code.1, row_front rest code.0 k code.2)
 
   pub front_joined : (xs ys : List Statement) (n m k : NodeId) → Front xs n m → Front ys m k → Front (xs ++ ys) n k
   front_joined [] ys n m k same later = subst (λ n. Front ys n k) (sym same) later
@@ -39,35 +33,29 @@ module _ (q : Proc) (nodes : List Node) (label_node : ℕ → NodeId) where
   first_leads None None k before between after later same = same ∙ later
 
   -- what is inside a statement goes on with what is behind the statement
-  outward_leads : (inside : Option (List Statement)) {i : _} (rest : Row_of-Statement i) (m k before after : NodeId) → RowCode q nodes label_node rest m k →
-      Behind inside m before after → Behind (outward inside (statements rest)) k before after
-  outward_leads (Some inner) rest m k before after code leads = front_joined inner (statements rest) after m k leads (row_front rest m k code)
+  outward_leads : (inside : Option (List Statement)) (rest : List Statement) (m k before after : NodeId) → Front rest m k →
+      Behind inside m before after → Behind (outward inside rest) k before after
+  outward_leads (Some inner) rest m k before after code leads = front_joined inner rest after m k leads code
   outward_leads None rest m k before after code same = same
 
-  -- a statement in front of others, which are laid first: one that is not the mark, and one that is
-  pub statement_leads : (mark : Mark) (tokens : ℕ) (form : Form) {i : _} (rest : Row_of-Statement i) (m k before between after : NodeId) →
-      is_mark mark form ≡ false → RowCode q nodes label_node rest m k → Behind (after_in mark rest) k before between →
-      Behind (after_inside mark form) m between after → Behind (after_in mark (more_of-Statement tokens form rest)) k before after
-  statement_leads mark tokens form rest m k before between after other code later inside =
-      subst (λ o. Behind o k before after) (same (is_mark mark form) refl other)
-      (first_leads (outward (after_inside mark form) (statements rest)) (after_in mark rest) k before between after later
-      (outward_leads (after_inside mark form) rest m k between after code inside))
+  -- a statement in front of others, which are laid first
+  pub list_leads : (mark : Mark) (s : Statement) (rest : List Statement) (m k before between after : NodeId) → Front rest m k →
+      Behind (after_list mark rest) k before between → LeadsBehindForm q nodes label_node s.form m mark between after →
+      Behind (after_list mark (s ∷ rest)) k before after
+  list_leads mark s rest m k before between after code later leads = by (is_mark mark s.form) leads
     where
-      same : (b : Bool) → is_mark mark form ≡ b → b ≡ false →
-          first_of_two (outward (after_inside mark form) (statements rest)) (after_in mark rest) ≡ elim b [
-            | true ↦ Some (statements rest)
-            | false ↦ first_of_two (outward (after_inside mark form) (statements rest)) (after_in mark rest)
-          ]
-      same true is other = grind (arith, other)
-      same false is other = refl
+      by : (b : Bool) → elim b as (λ _. Type 0) [ true ↦ after ≡ m | false ↦ Behind (after_inside mark s.form) m between after ] →
+          Behind (elim b [ true ↦ Some rest | false ↦ first_of_two (outward (after_inside mark s.form) rest) (after_list mark rest) ]) k before after
+      by true same = subst (λ n. Front rest n k) (sym same) code
+      by false inside =
+          first_leads (outward (after_inside mark s.form) rest) (after_list mark rest) k before between after later
+          (outward_leads (after_inside mark s.form) rest m k between after code inside)
 
-  pub mark_leads : (mark : Mark) (tokens : ℕ) (form : Form) {i : _} (rest : Row_of-Statement i) (m k before : NodeId) → is_mark mark form ≡ true →
-      RowCode q nodes label_node rest m k → Behind (after_in mark (more_of-Statement tokens form rest)) k before m
-  mark_leads mark tokens form rest m k before is code =
-      subst (λ b. Behind (elim b [
-        | true ↦ Some (statements rest)
-        | false ↦ first_of_two (outward (after_inside mark form) (statements rest)) (after_in mark rest)
-      ]) k before m) (sym is) (row_front rest m k code)
+  -- a statement that is no mark itself
+  pub form_leads : (mark : Mark) (form : Form) (k before after : NodeId) → is_mark mark form ≡ false → Behind (after_inside mark form) k before after →
+      LeadsBehindForm q nodes label_node form k mark before after
+  form_leads mark form k before after other leads =
+      subst (λ b. elim b as (λ _. Type 0) [ true ↦ after ≡ k | false ↦ Behind (after_inside mark form) k before after ]) (sym other) leads
 
   -- once the whole body is laid in front of its end, where each mark first led to the end
   pub follow_leads : (mark : Mark) (stop after : NodeId) → ListCode q nodes label_node [] stop → Behind (after_inside mark (Span q.body)) stop stop after →

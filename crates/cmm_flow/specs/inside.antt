@@ -4,3 +4,5 @@ pub mod Parts
 pub mod Counts
 pub mod Passing
 pub mod Blocks
+pub mod LayingBlocks
+pub mod Fronts

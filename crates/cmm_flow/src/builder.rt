@@ -7,7 +7,8 @@
 ghost use Rattle.std.specs.Prelude.{◌≡◌, suc, ◌+◌, ◌<◌, [], ◌∷◌, IfOk, OnOk, length, min};
 ghost use Rattle.cmm_graph.specs.declared.node.NodeKind.TheVariants.{Stop};
 ghost use Rattle.cmm_flow.specs.Code.{IsNode, to_temporary};
-ghost use Rattle.cmm_flow.specs.inside.Laying.{Lays};
+ghost use Rattle.cmm_flow.specs.inside.Laying.{Lays, LaysMarked, SetsMark};
+ghost use Rattle.cmm_program.specs.declared.statement.Form.TheVariants.{Label, Continuation};
 
 use cmm_graph::{Destination, Node, NodeId, NodeKind, Temporary};
 use cmm_items::Items;
@@ -89,6 +90,24 @@ impl Builder {
             Ok(NodeId {
                 number: as_number(self.labels.len())?,
             })
+        }
+    }
+
+    /// Notes that a label leads to a node. One that the body lacks is left out.
+    pub fn mark_label(&mut self, label: u32, to: NodeId)
+        ensures { LaysMarked self.old self.new (λ nodes. Unit {0}) (λ nodes. SetsMark (Label label) to) }
+    {
+        if (label as usize) < self.labels.len() {
+            self.labels.set(label as usize, to);
+        }
+    }
+
+    /// Notes that a continuation leads to a node.
+    pub fn mark_continuation(&mut self, continuation: u32, to: NodeId)
+        ensures { LaysMarked self.old self.new (λ nodes. Unit {0}) (λ nodes. SetsMark (Continuation continuation) to) }
+    {
+        if (continuation as usize) < self.continuations.len() {
+            self.continuations.set(continuation as usize, to);
         }
     }
 }

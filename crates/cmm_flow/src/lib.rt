@@ -19,12 +19,20 @@
 #![tactic(auto)]
 
 mod assignment;
+mod block;
 mod builder;
 mod call;
 mod checked;
 mod condition;
 mod counts;
 mod expression;
+mod labels;
 pub mod laws;
+mod procedure;
 mod simple;
 mod sites;
+
+pub use procedure::flow;
+
+#[cfg(test)]
+mod tests;

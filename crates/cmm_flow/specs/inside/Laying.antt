@@ -1,7 +1,11 @@
 -- What a builder lays: nodes behind those that it has, which are the code of something wherever those of labels and
 -- continuations, which stand in front of all, lead.
-use Rattle.std.specs.Prelude.{◌≡◌, ℕ, ◌++◌, List, length}
+use Rattle.std.specs.Prelude.{◌≡◌, ℕ, ◌++◌, true, false, List, length, min, slice_get, Some}
+use Rattle.cmm_program.specs.declared.statement.Form.{Form}
+use Rattle.cmm_program.specs.Bodies.{Mark, AtContinuation, AtLabel, is_mark}
 use Rattle.cmm_graph.specs.declared.node.Node.{Node}
+use Rattle.cmm_graph.specs.declared.node.NodeKind.TheVariants.{Stop}
+use Rattle.cmm_graph.specs.declared.number.NodeId.{NodeId}
 use Rattle.cmm_flow.specs.declared.builder.Builder.{Builder}
 
 -- behind any nodes in front, as many as there are to be
@@ -20,3 +24,32 @@ pub record Lays (a b : Builder) (P : List Node → Type 0) : Type 0 where
   pub labels : b.labels ≡ a.labels
   pub continuations : b.continuations ≡ a.continuations
   pub code : OnFronts b P
+
+-- ---- statements with labels and continuations
+
+-- the node of a label; labels have the first numbers, and those that a body lacks share the next one
+abbrev pub label_of : ℕ → ℕ → NodeId
+label_of count label = record { number = min label count }
+
+-- a builder that has so many labels, and begins with a Stop
+pub record IsReady (count : ℕ) (b : Builder) : Type 0 where
+  pub labels : length b.labels ≡ count
+  pub stop : slice_get b.nodes 0 ≡ Some record { tokens = 1; kind = Stop }
+
+-- of where each mark led before and leads now
+pub record Moved (a b : Builder) (M : Mark → NodeId → NodeId → Type 0) : Type 0 where
+  pub labels : (l : ℕ) (before after : NodeId) → slice_get a.labels l ≡ Some before → slice_get b.labels l ≡ Some after → M (AtLabel l) before after
+  pub continuations : (k : ℕ) (before after : NodeId) → slice_get a.continuations k ≡ Some before → slice_get b.continuations k ≡ Some after →
+      M (AtContinuation k) before after
+
+-- nodes of which something holds, with what holds of where marks lead
+pub record LaysMarked (a b : Builder) (P : List Node → Type 0) (M : List Node → Mark → NodeId → NodeId → Type 0) : Type 0 where
+  pub extends : Extends a b
+  pub labels : length b.labels ≡ length a.labels
+  pub continuations : length b.continuations ≡ length a.continuations
+  pub code : OnFronts b P
+  pub marks : OnFronts b (λ nodes. Moved a b (M nodes))
+
+-- a mark that is set to a node, with all others left
+abbrev pub SetsMark : Form → NodeId → Mark → NodeId → NodeId → Type 0
+SetsMark form to mark before after = elim (is_mark mark form) [ true ↦ after ≡ to | false ↦ after ≡ before ]

@@ -1,0 +1,35 @@
+-- Statements that lack a mark, one behind the other.
+use Rattle.std.proofs.Common.{◌≡◌, Bool, true, false, Option, Some, None, List, [], ◌∷◌, ◌++◌, refl, ap, ◌∙◌}
+use Rattle.cmm_program.specs.declared.statement.Arm.{Arm, Arm', out-Arm}
+use Rattle.cmm_program.specs.declared.statement.Statement.{Statement}
+use Rattle.cmm_program.specs.Bodies.{Mark, after_in, after_inside, first_of_two, is_mark, outward}
+use Rattle.cmm_flow.specs.inside.Marks.{after_arms, after_list}
+use Rattle.cmm_flow.proofs.Blocks.{after_arm}
+
+module _ (mark : Mark) where
+  pub lacked_more : (xs : List Statement) (x : Statement) → after_list mark xs ≡ None → is_mark mark x.form ≡ false → after_inside mark x.form ≡ None →
+      after_list mark (xs ++ x ∷ []) ≡ None
+  lacked_more [] x none other inside =
+      ap (λ b. elim b as (λ _. Option (List Statement)) [ true ↦ Some [] | false ↦ first_of_two (outward (after_inside mark x.form) []) None ]) other
+      ∙ ap (λ o. first_of_two (outward o []) None) inside
+  lacked_more (y ∷ ys) x none other inside =
+      by (λ none. lacked_more ys x none other inside) (is_mark mark y.form) (after_inside mark y.form) none
+    where
+      by : (after_list mark ys ≡ None → after_list mark (ys ++ x ∷ []) ≡ None) → (b : Bool) (o : Option (List Statement)) →
+          elim b as (λ _. Option (List Statement)) [ true ↦ Some ys | false ↦ first_of_two (outward o ys) (after_list mark ys) ] ≡ None →
+          elim b as (λ _. Option (List Statement)) [
+            | true ↦ Some (ys ++ x ∷ [])
+            | false ↦ first_of_two (outward o (ys ++ x ∷ [])) (after_list mark (ys ++ x ∷ []))
+          ] ≡ None
+      by later true o none = absurd (cc)
+      by later false (Some inner) none = absurd (cc)
+      by later false None none = later none
+
+  pub lacked_arms_more : (arms : List Arm) (a : Arm) → after_arms mark arms ≡ None → after_list mark (out-Arm a).body ≡ None →
+      after_arms mark (arms ++ a ∷ []) ≡ None
+  lacked_arms_more [] a none body = after_arm mark a [] ∙ ap (λ o. first_of_two o None) body
+  lacked_arms_more (Arm' case x body_ ∷ arms) a none body = by (λ none. lacked_arms_more arms a none body) (after_in mark body_) none
+    where
+      by : (after_arms mark arms ≡ None → after_arms mark (arms ++ a ∷ []) ≡ None) → (o : Option (List Statement)) → first_of_two o (after_arms mark arms) ≡ None → first_of_two o (after_arms mark (arms ++ a ∷ [])) ≡ None
+      by later (Some inner) none = absurd (cc)
+      by later None none = later none

@@ -1,0 +1,218 @@
+-- What is laid for a body, with the nodes of labels and continuations in front, is the flow of its procedure.
+use Rattle.std.proofs.Common.{◌≡◌, ℕ, zero, suc, ◌+◌, ◌<◌, ◌≤◌, min, nat_lt, nat_le, Bool, true, false, IsTrue, Option, Some, None, List, [], ◌∷◌, ◌++◌, append-nil, append_assoc, get_or, length, map, replicate, slice_get, refl, sym, ap, ◌∙◌, subst, arith}
+use Rattle.std.proofs.lemmas.Bool.Decides.{nat_tests}
+use Rattle.std.proofs.lemmas.List.{get_or-map, get_or-replicate, length-append, length-map, length-replicate}
+use Rattle.std.proofs.lemmas.List.FromFn.{get_or-range_with_len, length-range_with_len}
+use Rattle.std.proofs.lemmas.Option.{slice_get-get_or, slice_get-map, slice_get_within}
+use Rattle.std.proofs.lemmas.Slice.Zip.{length-zip}
+use Rattle.std.specs.List.{list_all, range_with_len, zip}
+use Rattle.std.specs.Option.{option_map}
+use Rattle.cmm_program.specs.declared.procedure.Cont.{Cont}
+use Rattle.cmm_program.specs.declared.procedure.Proc.{Proc}
+use Rattle.cmm_program.specs.declared.statement.Form.TheVariants.{Span}
+use Rattle.cmm_program.specs.declared.statement.Statement.{Statement}
+use Rattle.cmm_program.specs.Bodies.{Mark, AtContinuation, AtLabel, after_inside, follow}
+use Rattle.cmm_graph.specs.declared.graph.Graph.{Graph}
+use Rattle.cmm_graph.specs.declared.node.Node.{Node}
+use Rattle.cmm_graph.specs.declared.node.NodeKind.TheVariants.{CopyIn, Entry, Goto, Stop}
+use Rattle.cmm_graph.specs.declared.number.NodeId.{NodeId}
+use Rattle.cmm_graph.specs.declared.number.Variable.{Variable}
+use Rattle.cmm_graph.specs.Counterpart.{parameter_targets}
+use Rattle.cmm_flow.specs.declared.builder.Builder.{Builder}
+use Rattle.cmm_flow.specs.Code.{IsNode}
+use Rattle.cmm_flow.specs.Flow.{IsBegun, IsBehindLabel, IsFlowOf, IsLandedAt}
+use Rattle.cmm_flow.specs.Statements.{ListCode}
+use Rattle.cmm_flow.specs.inside.Fronts.{IsFinished, IsNew, copy_in, copy_ins, goto_nodes}
+use Rattle.cmm_flow.specs.inside.Laying.{IsReady, Lays, LaysMarked, label_of}
+use Rattle.cmm_flow.specs.inside.LayingBlocks.{LaysBlock}
+use Rattle.cmm_flow.specs.inside.Marks.{FrontCode, LeadsBehind, LeadsBehindList, after_list}
+use Rattle.cmm_flow.proofs.Blocks.{after_span}
+use Rattle.cmm_flow.proofs.FormsStay.{front_stays, leads_stay}
+use Rattle.cmm_flow.proofs.Laying.{get_before}
+use Rattle.cmm_flow.proofs.LayingBlocks.{get_behind}
+use Rattle.cmm_flow.proofs.Marking.{lays_marked, ready_later, then_marked}
+use Rattle.cmm_flow.proofs.Marks.{follow_leads, front_list}
+
+-- ---- elements of lists
+
+get_map : {A B : Type 0} (f : A → B) (xs : List A) (n : ℕ) (x : A) → slice_get xs n ≡ Some x → slice_get (map f xs) n ≡ Some (f x)
+get_map f xs n x is = slice_get-map f xs n ∙ ap (option_map f) is
+
+get_replicate : {A : Type 0} (count n : ℕ) (x : A) → n < count → slice_get (replicate count x) n ≡ Some x
+get_replicate count n x less =
+    slice_get-get_or (replicate count x) n x (omega (arith, length-replicate count x, less)) ∙ ap Some (get_or-replicate count n x x less)
+
+get_zip : {A B : Type 0} (xs : List A) (ys : List B) (n : ℕ) (x : A) (y : B) → slice_get xs n ≡ Some x → slice_get ys n ≡ Some y →
+    slice_get (zip xs ys) n ≡ Some (x, y)
+get_zip [] ys n x y is other = absurd (cc)
+get_zip (z ∷ xs) [] n x y is other = absurd (cc)
+get_zip (z ∷ xs) (w ∷ ys) zero x y is other = let one : z ≡ x = cc in let two : w ≡ y = cc in ap (λ v. Some (v, w)) one ∙ ap (λ v. Some (x, v)) two
+get_zip (z ∷ xs) (w ∷ ys) (suc n) x y is other = get_zip xs ys n x y is other
+
+there : {A : Type 0} (xs : List A) (n count : ℕ) (x : A) → length xs ≡ count → n < count → slice_get xs n ≡ Some (get_or xs n x)
+there xs n count x many less = slice_get-get_or xs n x (omega (arith, many, less))
+
+-- nodes that are numbered one after the other
+get_numbered : (ns : List NodeId) (first count k : ℕ) → map (λ n. n.number) ns ≡ range_with_len first count → k < count →
+    slice_get ns k ≡ Some record { number = first + k }
+get_numbered ns first count k are less =
+    let some : NodeId = record { number = 0 } in
+    let many : length ns ≡ count = sym (length-map ns (λ n. n.number)) ∙ ap length are ∙ length-range_with_len first count in
+    let number : (get_or ns k some).number ≡ first + k =
+    sym (get_or-map (λ n. n.number) ns k some 0 (omega (arith, many, less))) ∙ ap (λ xs. get_or xs k 0) are ∙ get_or-range_with_len first count k 0 less in
+    there ns k count some many less ∙ ap (λ n. Some record { number = n }) number
+
+-- ---- the whole graph
+
+module _ (q : Proc) (labels : ℕ) (a b c : Builder) (g : Graph) (formals : List Variable) (next begin : NodeId)
+    (new : IsNew labels (length q.conts) a) (lacked : (l : ℕ) → labels ≤ l → after_list (AtLabel l) q.body ≡ None)
+    (laid : LaysBlock a b q q.body next a.stop) (entry : Lays b c (λ nodes. IsNode nodes begin q.tokens (Entry formals next)))
+    (finished : IsFinished c q begin g) where
+  ready : IsReady labels a
+  ready = record { labels = ap length new.labels_lead ∙ length-replicate labels a.stop; stop = ap (λ nodes. slice_get nodes 0) new.nodes }
+
+  abbrev node_of_label : ℕ → NodeId
+  node_of_label l = label_of labels l
+
+  whole : LaysMarked a c (λ nodes. FrontCode q nodes node_of_label q.body next a.stop × IsNode nodes begin q.tokens (Entry formals next))
+      (λ nodes. LeadsBehindList q nodes node_of_label q.body a.stop)
+  whole =
+      then_marked _ _ (laid labels ready) (lays_marked (λ nodes mark before after. after ≡ before) entry (λ nodes l n. refl) (λ nodes k n. refl))
+      (λ nodes more. front_stays nodes more q node_of_label q.body next a.stop)
+      (λ mark before after nodes more. leads_stay nodes more q node_of_label (after_list mark q.body) a.stop before after) (λ nodes f e. (f, e))
+      (λ nodes mark before between after f e earlier same. subst (LeadsBehindList q nodes node_of_label q.body a.stop mark before) (sym same) earlier)
+
+  -- ---- the nodes in front
+
+  labels_many : length c.labels ≡ labels
+  labels_many = whole.labels ∙ ready.labels
+
+  continuations_many : length c.continuations ≡ length q.conts
+  continuations_many = whole.continuations ∙ ap length new.continuations_lead ∙ length-replicate (length q.conts) a.stop
+
+  abbrev gotos : List Node
+  gotos = goto_nodes c.labels ++ goto_nodes (c.stop ∷ [])
+
+  gotos_many : length gotos ≡ labels + 1
+  gotos_many =
+      length-append (goto_nodes c.labels) (goto_nodes (c.stop ∷ [])) ∙ ap (λ n. n + 1) (length-map {B = Node} c.labels (λ (n : NodeId). record { tokens = 1; kind = Goto n }) ∙ labels_many)
+
+  abbrev front : List Node
+  front = gotos ++ copy_ins q c.continuations
+
+  copies_many : length (copy_ins q c.continuations) ≡ length q.conts
+  copies_many =
+      let size = length-zip q.conts c.continuations in
+      length-map (zip q.conts c.continuations) (λ (x : Cont × NodeId). copy_in q x.0 x.1) ∙ size ∙ omega (arith, continuations_many)
+
+  front_many : length front ≡ c.stop.number
+  front_many =
+      omega (arith, length-append gotos (copy_ins q c.continuations), gotos_many, copies_many, ap (λ (n : NodeId). n.number) whole.extends.stop, new.stop)
+
+  abbrev all : List Node
+  all = front ++ c.nodes
+
+  in_front : (n : ℕ) (node : Node) → slice_get front n ≡ Some node → slice_get all n ≡ Some node
+  in_front n node is = get_before front c.nodes n node is
+
+  in_gotos : (n : ℕ) (node : Node) → slice_get gotos n ≡ Some node → slice_get all n ≡ Some node
+  in_gotos n node is = in_front n node (get_before gotos (copy_ins q c.continuations) n node is)
+
+  stop_is : IsNode all a.stop 1 Stop
+  stop_is =
+      get_behind front c.nodes 0 a.stop.number (omega (arith, front_many, ap (λ (n : NodeId). n.number) whole.extends.stop)) ∙ (ready_later whole ready).stop
+
+  -- ---- what marks lead to
+
+  abbrev Code : List Statement → NodeId → Type 0
+  Code rest n = ListCode q g.nodes node_of_label rest n
+
+  of_graph : (P : List Node → Type 0) → P all → P g.nodes
+  of_graph P holds = subst P (sym finished.nodes) holds
+
+  body_code : ListCode q all node_of_label q.body next
+  body_code =
+      subst (λ xs. ListCode q all node_of_label xs next) (append-nil q.body)
+      (front_list q all node_of_label q.body [] next a.stop (whole.code front front_many).0 stop_is)
+
+  behind_mark : (mark : Mark) (after : NodeId) → LeadsBehindList q all node_of_label q.body a.stop mark a.stop after →
+      ListCode q all node_of_label (follow q mark) after
+  behind_mark mark after leads =
+      follow_leads q all node_of_label mark a.stop after stop_is
+      (subst (λ o. LeadsBehind q all node_of_label o a.stop a.stop after) (sym (after_span mark q.body)) leads)
+
+  has_label : (l : ℕ) → l < labels → IsBehindLabel q g node_of_label l
+  has_label l less =
+      let after = get_or c.labels l a.stop in
+      let is = there c.labels l labels a.stop labels_many less in
+      let before : slice_get a.labels l ≡ Some a.stop = ap (λ ns. slice_get ns l) new.labels_lead ∙ get_replicate labels l a.stop less in
+      let node : slice_get all l ≡ Some record { tokens = 1; kind = Goto after } =
+      in_gotos l _ (get_before (goto_nodes c.labels) (goto_nodes (c.stop ∷ [])) l _ (get_map (λ (n : NodeId). record { tokens = 1; kind = Goto n }) c.labels l after is)) in
+      let at : min l labels ≡ l = omega (arith, less) in
+      record {
+        next = after;
+        node = of_graph (λ nodes. IsNode nodes (node_of_label l) 1 (Goto after)) (ap (slice_get all) at ∙ node);
+        code = of_graph (λ nodes. ListCode q nodes node_of_label (follow q (AtLabel l)) after)
+            (behind_mark (AtLabel l) after ((whole.marks front front_many).labels l a.stop after before is));
+      }
+
+  lacks_label : (l : ℕ) → labels ≤ l → IsBehindLabel q g node_of_label l
+  lacks_label l more =
+      let node : slice_get all labels ≡ Some record { tokens = 1; kind = Goto c.stop } =
+      in_gotos labels _ (get_behind (goto_nodes c.labels) (goto_nodes (c.stop ∷ [])) 0 labels
+      (omega (arith, length-map {B = Node} c.labels (λ (n : NodeId). record { tokens = 1; kind = Goto n }), labels_many))) in
+      let at : min l labels ≡ labels = omega (arith, more) in
+      let lacks : after_inside (AtLabel l) (Span q.body) ≡ None = after_span (AtLabel l) q.body ∙ lacked l more in
+      let nothing : follow q (AtLabel l) ≡ [] = ap (λ o. elim o as (λ _. List Statement) [ Some rest ↦ rest | None ↦ [] ]) lacks in
+      record {
+        next = c.stop;
+        node = of_graph (λ nodes. IsNode nodes (node_of_label l) 1 (Goto c.stop)) (ap (slice_get all) at ∙ node);
+        code = of_graph (λ nodes. ListCode q nodes node_of_label (follow q (AtLabel l)) c.stop)
+            (subst (λ rest. ListCode q all node_of_label rest c.stop) (sym nothing)
+            (subst (λ n. IsNode all n 1 Stop) (sym whole.extends.stop) stop_is));
+      }
+
+  label : (l : ℕ) → IsBehindLabel q g node_of_label l
+  label l = by (nat_lt l labels) refl
+    where
+      by : (b : Bool) → nat_lt l labels ≡ b → IsBehindLabel q g node_of_label l
+      by true is = let less : l < labels = grind (arith, nat_tests, is) in has_label l less
+      by false is = let more : labels ≤ l = grind (arith, nat_tests, is) in lacks_label l more
+
+  continuation : (k : ℕ) → k < length q.conts → IsLandedAt q g node_of_label k
+  continuation k less =
+      let after = get_or c.continuations k a.stop in
+      let is = there c.continuations k (length q.conts) a.stop continuations_many less in
+      let before : slice_get a.continuations k ≡ Some a.stop =
+      ap (λ ns. slice_get ns k) new.continuations_lead ∙ get_replicate (length q.conts) k a.stop less in
+      let cont = get_or q.conts k record { params = [] } in
+      let cont_is : slice_get q.conts k ≡ Some cont = slice_get-get_or q.conts k record { params = [] } less in
+      let number = length c.labels + 1 + k in
+      let node : slice_get all number ≡ Some (copy_in q cont after) =
+      in_front number _ (get_behind gotos (copy_ins q c.continuations) k number (omega (arith, gotos_many, labels_many))
+      ∙ get_map (λ (x : Cont × NodeId). copy_in q x.0 x.1) (zip q.conts c.continuations) k (cont, after) (get_zip q.conts c.continuations k cont after cont_is is)) in
+      record {
+        at = record { number = number };
+        tokens = suc (length cont.params);
+        to = parameter_targets q cont;
+        next = after;
+        landing = get_numbered g.continuations (length c.labels + 1) (length c.continuations) k finished.continuations (omega (arith, continuations_many, less));
+        node = of_graph (λ nodes. slice_get nodes number ≡ Some (copy_in q cont after)) node;
+        code = of_graph (λ nodes. ListCode q nodes node_of_label (follow q (AtContinuation k)) after)
+            (behind_mark (AtContinuation k) after ((whole.marks front front_many).continuations k a.stop after before is));
+      }
+
+  pub is_flow : IsTrue (list_all (λ node. nat_le node.tokens q.tokens) g.nodes) → IsFlowOf q g
+  is_flow tokens = record {
+    label_node = node_of_label;
+    begun = record {
+      formals = formals;
+      next = next;
+      node = of_graph (λ nodes. IsNode nodes g.first q.tokens (Entry formals next))
+          (ap (λ (n : NodeId). slice_get all n.number) finished.first ∙ (whole.code front front_many).1);
+      code = of_graph (λ nodes. ListCode q nodes node_of_label q.body next) body_code;
+    };
+    labels = label;
+    continuations = continuation;
+    tokens = tokens;
+  }

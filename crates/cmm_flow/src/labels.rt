@@ -1,0 +1,53 @@
+//! How many labels a body has.
+
+ghost use Rattle.std.specs.Prelude.{◌≡◌, ◌≤◌, ℕ, false, IfOk, None};
+ghost use Rattle.cmm_program.specs.Bodies.{AtLabel, after_inside, is_mark};
+ghost use Rattle.cmm_flow.specs.inside.Marks.{after_arms, after_list};
+
+use crate::builder::following;
+use cmm_program::{Arm, Form, Statement};
+use std::alloc::AllocError;
+
+/// One more than the greatest number of a label in some statements, and 0 where they have none.
+#[cycle(labels)]
+pub fn labels_in(statements: &[Statement]) -> Result<u32, AllocError>
+    ensures { IfOk result (λ count. (l : ℕ) → count ≤ l → after_list (AtLabel l) statements.now ≡ None) }
+{
+    let mut count = 0;
+    for statement in statements {
+        count = labels_of(&statement.form)?.max(count);
+    }
+    Ok(count)
+}
+
+/// The same of a statement.
+#[cycle(labels)]
+fn labels_of(form: &Form) -> Result<u32, AllocError>
+    ensures { IfOk result (λ count. (l : ℕ) → count ≤ l → (is_mark (AtLabel l) form.now ≡ false) × (after_inside (AtLabel l) form.now ≡ None)) }
+{
+    match form {
+        Form::If {
+            then, otherwise, ..
+        } => {
+            let first = labels_in(then.as_slice())?;
+            let second = labels_in(otherwise.as_slice())?;
+            Ok(first.max(second))
+        }
+        Form::Switch { arms, .. } => labels_in_arms(arms.as_slice()),
+        Form::Span(body) => labels_in(body.as_slice()),
+        Form::Label(label) => following(*label),
+        _ => Ok(0),
+    }
+}
+
+/// The same of the arms of a switch.
+#[cycle(labels)]
+fn labels_in_arms(arms: &[Arm]) -> Result<u32, AllocError>
+    ensures { IfOk result (λ count. (l : ℕ) → count ≤ l → after_arms (AtLabel l) arms.now ≡ None) }
+{
+    let mut count = 0;
+    for arm in arms {
+        count = labels_in(arm.body.as_slice())?.max(count);
+    }
+    Ok(count)
+}

@@ -1,0 +1,179 @@
+//! Whole procedures.
+//!
+//! In front stand the nodes of labels and continuations, so that their numbers are known from the beginning: one Goto for
+//! each label, one for all labels that the body lacks, and the CopyIn of each continuation. The Stop at the body's end
+//! follows, and then what is laid.
+
+ghost use Rattle.std.specs.Prelude.{◌≡◌, ◌++◌, nat_le, IfOk, IsTrue, OnOk, map, replicate};
+ghost use Rattle.std.specs.List.{list_all, range_with_len};
+ghost use Rattle.cmm_program.specs.Exits.{variable_width as width_of_variable};
+ghost use Rattle.cmm_program.specs.declared.procedure.Target.TheVariants.{Variable as OfVariable};
+ghost use Rattle.cmm_flow.specs.Flow.{IsFlowOf};
+ghost use Rattle.cmm_flow.specs.inside.Fronts.{IsFinished, IsNew, copy_in, copy_ins, goto_nodes};
+
+use crate::builder::{Builder, as_number, following};
+use crate::labels::labels_in;
+use cmm_graph::{Graph, Node, NodeId, NodeKind, Variable};
+use cmm_items::Items;
+use cmm_program::{Cont, Proc, Target};
+use cmm_words::Width;
+use std::alloc::{AllocError, Global};
+
+/// As many times the same node.
+fn repeated(alloc: Global, node: NodeId, count: u32) -> Result<Items<NodeId>, AllocError>
+    ensures { IfOk result (λ nodes. nodes ≡ replicate count node) }
+{
+    let mut nodes = Items::new(alloc);
+    for _ in 0..count {
+        nodes.push(node)?;
+    }
+    Ok(nodes)
+}
+
+/// So many nodes, one behind the other.
+fn nodes_from(alloc: Global, first: u32, count: u32) -> Result<Items<NodeId>, AllocError>
+    ensures { IfOk result (λ nodes. map (λ n. n.number) nodes ≡ range_with_len first count) }
+{
+    let mut nodes = Items::new(alloc);
+    let mut number = first;
+    for _ in 0..count {
+        nodes.push(NodeId { number })?;
+        number = following(number)?;
+    }
+    Ok(nodes)
+}
+
+/// The formals of a procedure, which are its first variables.
+fn formals(alloc: Global, count: u32) -> Result<Items<Variable>, AllocError>
+    ensures { IfOk result (λ formals. map (λ v. v.number) formals ≡ range_with_len 0 count) }
+{
+    let mut formals = Items::new(alloc);
+    for number in 0..count {
+        formals.push(Variable { number })?;
+    }
+    Ok(formals)
+}
+
+/// The width of a variable.
+fn variable_width(p: &Proc, variable: u32) -> Width
+    ensures { result ≡ width_of_variable p.now variable }
+{
+    match p.vars.get(variable as usize) {
+        Some(variable) => variable.width,
+        None => Width::W64,
+    }
+}
+
+/// What takes the values that are passed to a continuation.
+fn parameters(alloc: Global, p: &Proc, params: &[u32]) -> Result<Items<Target>, AllocError>
+    ensures { IfOk result (λ targets. targets ≡ map (λ n. OfVariable n (width_of_variable p.now n)) params.now) }
+{
+    let mut targets = Items::new(alloc);
+    for variable in params {
+        targets.push(Target::Variable(*variable, variable_width(p, *variable)))?;
+    }
+    Ok(targets)
+}
+
+/// Adds a Goto to each of some nodes.
+fn add_gotos(to: &[NodeId], nodes: &mut Items<Node>) -> Result<(), AllocError>
+    ensures { OnOk result (nodes.new ≡ nodes.old ++ goto_nodes to.now) }
+{
+    for next in to {
+        let kind = NodeKind::Goto { next: *next };
+        nodes.push(Node { tokens: 1, kind })?;
+    }
+    Ok(())
+}
+
+/// The CopyIn of a continuation, with a token and one for each parameter.
+fn copy_in_of(alloc: Global, p: &Proc, continuation: &Cont, next: NodeId) -> Result<Node, AllocError>
+    ensures { IfOk result (λ node. node ≡ copy_in p.now continuation.now next) }
+{
+    let params = continuation.params.as_slice();
+    let to = parameters(alloc, p, params)?;
+    let tokens = following(as_number(params.len())?)?;
+    let kind = NodeKind::CopyIn { to, next };
+    Ok(Node { tokens, kind })
+}
+
+/// Adds the CopyIn of each continuation.
+fn add_copy_ins(
+    alloc: Global,
+    p: &Proc,
+    to: &[NodeId],
+    nodes: &mut Items<Node>,
+) -> Result<(), AllocError>
+    ensures { OnOk result (nodes.new ≡ nodes.old ++ copy_ins p.now to.now) }
+{
+    for (continuation, next) in p.conts.iter().zip(to) {
+        nodes.push(copy_in_of(alloc, p, continuation, *next)?)?;
+    }
+    Ok(())
+}
+
+impl Builder {
+    /// A builder of a body, where all labels and continuations lead to the end.
+    fn of(alloc: Global, labels: u32, continuations: u32) -> Result<Builder, AllocError>
+        ensures { IfOk result (λ b. IsNew labels continuations b) }
+    {
+        let first = following(labels)?;
+        let Some(number) = first.checked_add(continuations) else {
+            return Err(AllocError);
+        };
+        let stop = NodeId { number };
+        let mut nodes = Items::new(alloc);
+        nodes.push(Node {
+            tokens: 1,
+            kind: NodeKind::Stop,
+        })?;
+        Ok(Builder {
+            alloc,
+            labels: repeated(alloc, stop, labels)?,
+            continuations: repeated(alloc, stop, continuations)?,
+            stop,
+            nodes,
+            temporaries: 0,
+        })
+    }
+
+    /// The graph, which begins at a node.
+    fn finish(self, p: &Proc, first: NodeId) -> Result<Graph, AllocError>
+        ensures { IfOk result (λ g. IsFinished self p.now first g) }
+    {
+        let Builder {
+            alloc,
+            labels,
+            continuations,
+            stop,
+            nodes: laid,
+            temporaries,
+        } = self;
+        let mut nodes = Items::new(alloc);
+        add_gotos(labels.as_slice(), &mut nodes)?;
+        add_gotos(&[stop], &mut nodes)?;
+        let landing = as_number(nodes.len())?;
+        add_copy_ins(alloc, p, continuations.as_slice(), &mut nodes)?;
+        nodes.append(laid)?;
+        Ok(Graph {
+            variables: as_number(p.vars.len())?,
+            temporaries,
+            nodes,
+            first,
+            continuations: nodes_from(alloc, landing, as_number(continuations.len())?)?,
+        })
+    }
+}
+
+/// The graph of a procedure. Its only error is want of memory.
+pub fn flow(alloc: Global, p: &Proc) -> Result<Graph, AllocError>
+    ensures { IfOk result (λ g. IsTrue (list_all (λ node. nat_le node.tokens p.now.tokens) g.nodes) → IsFlowOf p.now g) }
+{
+    let labels = labels_in(p.body.as_slice())?;
+    let mut builder = Builder::of(alloc, labels, as_number(p.conts.len())?)?;
+    let stop = builder.stop;
+    let next = builder.block(p, p.body.as_slice(), stop)?;
+    let formals = formals(alloc, p.formals)?;
+    let first = builder.push(p.tokens, NodeKind::Entry { formals, next })?;
+    builder.finish(p, first)
+}
