@@ -6,3 +6,4 @@ pub mod Leaving
 pub mod Walking
 pub mod Setting
 mod Rows
+pub mod Shared

@@ -1,4 +1,5 @@
 pub mod Offsets
 pub mod Framing
-pub mod Notation
+pub mod ShowingWalks
+mod Notation
 mod Rows

@@ -1,5 +1,5 @@
 -- Worked rows: the located machine beside the graph machine, on two programs that keep values in a callee-saves register.
-use Rattle.std.proofs.Common.{◌≡◌, ◌==◌, ◌&&◌, true, List, [], ◌∷◌, refl}
+use Rattle.std.proofs.Common.{◌≡◌, ◌==◌, ◌&&◌, true, List, [], ◌∷◌, refl, ℕ, false}
 use Rattle.std.specs.Prelude.{slice_index_or}
 use Rattle.std.specs.Str.{bytes_eq}
 use Rattle.cmm_words.specs.declared.operators.Op2.TheVariants.{Add}
@@ -10,10 +10,10 @@ use Rattle.cmm_program.specs.declared.statement.Form.TheVariants as form
 use Rattle.cmm_program.specs.Walks.{walk_of}
 use Rattle.cmm_graph.specs.GraphMachine.{graph_state_after}
 use Rattle.cmm_program.specs.declared.procedure.Proc.{Proc}
-use Rattle.cmm_program.specs.State.{Setting, Ended, Done, Stopped}
+use Rattle.cmm_program.specs.State.{Setting, Ended, Done, StackLimit, Stopped}
 use Rattle.cmm_graph.specs.declared.operand.Operand.TheVariants.{Continuation}
 use Rattle.cmm_graph.specs.declared.operand.Rvalue.TheVariants.{Copy}
-use Rattle.cmm_graph.specs.declared.node.NodeKind.TheVariants.{Entry, CopyIn, Call, Yield, Cut, Return}
+use Rattle.cmm_graph.specs.declared.node.NodeKind.TheVariants.{Entry, CopyIn, Call, Yield, Jump, Cut, Return}
 use Rattle.cmm_chain.specs.declared.frame.Location.TheVariants.{Slot, Saved, Temp}
 use Rattle.cmm_program.proofs.Shared as sample
 use Rattle.cmm_program.proofs.Shared.{opened, variables_of, continuation, call_site, procedure, program, frame, frame_with, setting, yield_site, client, other, no_client}
@@ -160,3 +160,79 @@ listing_walk = refl
 stopping_located : located_status (yielding-setting (command.Next ∷ [])) yielding 7 ≡ Ended Stopped
 unfolding opened
 stopping_located = refl
+
+-- ---- an alternate return
+--     main() { bits64 x; x = h(5) also returns to a; return (x); continuation a(x): return (x + 100); }
+--     h(bits64 i) { return <0/1> (i); }
+abbrev returning : Compiled
+returning = compiled
+    (graph 1 1 (Entry [] (n 1)
+    ∷ Call (s 0) (code 1) (arg (num 5) ∷ []) (exits (n 2) (0 ∷ []) [] [])
+    ∷ CopyIn (variables_of (0 ∷ [])) (n 3)
+    ∷ Return 0 0 (arg (v 0) ∷ [])
+    ∷ CopyIn (variables_of (0 ∷ [])) (n 5)
+    ∷ set_temporary 0 (sum (v 0) (num 100)) (n 6)
+    ∷ Return 0 0 (arg (t 0) ∷ [])
+    ∷ []) (n 4 ∷ [])
+    ∷ graph 1 0 (Entry (variable 0 ∷ []) (n 1)
+    ∷ Return 0 1 (arg (v 0) ∷ [])
+    ∷ []) []
+    ∷ [])
+    (laid 32 8 [] (16 ∷ []) ∷ laid 16 0 [] [] ∷ [])
+    ((Slot 0 ∷ Temp 12 ∷ []) ∷ (Temp 12 ∷ []) ∷ [])
+    (λ q site v. false)
+    []
+
+abbrev returning-main : Proc
+returning-main = record (procedure [] 99 0 1 (record (call_site (0 ∷ [])) { returns = 0 ∷ [] } ∷ []) []) { conts = continuation (0 ∷ []) ∷ [] }
+
+abbrev returning-setting : Setting
+returning-setting =
+    setting (sample.sample (program (returning-main ∷ procedure [] 99 1 1 [] [] ∷ [])) (frame_with 32 (16 ∷ []) [] ∷ frame 16 ∷ [])) 4096 no_client
+
+returning_graph : graph_status returning-setting returning 4 ≡ Ended (Done 105)
+returning_graph = refl
+
+returning_located : located_status returning-setting returning 7 ≡ Ended (Done 105)
+returning_located = refl
+
+-- ---- a tail call, in a stack that has room for two frames
+--     main() { bits64 v, r; v = 35; r = f(); return (v + r); }
+--     f() { bits64 a; a = 1; jump g(7); }
+--     g(bits64 x) { return (x); }
+abbrev jumping : Compiled
+jumping = compiled
+    (graph 2 1 (Entry [] (n 1)
+    ∷ set_variable 0 (Copy (num 35)) (n 2)
+    ∷ Call (s 0) (code 1) [] (exits (n 3) [] [] [])
+    ∷ CopyIn (variables_of (1 ∷ [])) (n 4)
+    ∷ set_temporary 0 (sum (v 0) (v 1)) (n 5)
+    ∷ Return 0 0 (arg (t 0) ∷ [])
+    ∷ []) []
+    ∷ graph 1 0 (Entry [] (n 1)
+    ∷ set_variable 0 (Copy (num 1)) (n 2)
+    ∷ Jump (code 2) (arg (num 7) ∷ [])
+    ∷ []) []
+    ∷ graph 1 0 (Entry (variable 0 ∷ []) (n 1)
+    ∷ Return 0 0 (arg (v 0) ∷ [])
+    ∷ []) []
+    ∷ [])
+    (laid 32 8 ((9, 16) ∷ []) [] ∷ laid 32 0 ((9, 8) ∷ []) [] ∷ laid 32 8 [] [] ∷ [])
+    ((Saved 9 ∷ Slot 0 ∷ Temp 12 ∷ []) ∷ (Saved 9 ∷ []) ∷ (Slot 0 ∷ []) ∷ [])
+    (λ q site v. (q == 0) && (v == 0))
+    []
+
+abbrev jumping-setting : ℕ → Setting
+jumping-setting stack =
+    setting (sample.sample (program (procedure [] 99 0 2 (call_site (1 ∷ []) ∷ []) [] ∷ procedure [] 99 0 1 [] [] ∷ procedure [] 99 1 1 [] [] ∷ []))
+    (frame 32 ∷ frame 32 ∷ frame 32 ∷ [])) stack no_client
+
+jumping_graph : graph_status (jumping-setting 64) jumping 7 ≡ Ended (Done 42)
+jumping_graph = refl
+
+jumping_located : located_status (jumping-setting 64) jumping 11 ≡ Ended (Done 42)
+jumping_located = refl
+
+-- in room for one, the run ends where the called procedure is entered
+jumping_ends : located_status (jumping-setting 48) jumping 4 ≡ Ended StackLimit
+jumping_ends = refl

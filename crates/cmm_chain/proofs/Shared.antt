@@ -1,0 +1,7 @@
+-- What proofs of other crates may cite: the laws of chains, one by one.
+pub use Rattle.cmm_chain.proofs.Lasting.{chain_outlives, live_alone, frames_reach_top}
+pub use Rattle.cmm_chain.proofs.Holding.{put_is_held, others_stay, put_keeps_frame, write_keeps_values}
+pub use Rattle.cmm_chain.proofs.Entering.{entered_is_framed}
+pub use Rattle.cmm_chain.proofs.Leaving.{call_suspends, left_is_chain, goes_on_framed, goes_on_with_values}
+pub use Rattle.cmm_chain.proofs.Walking.{walk_lists_chain, unwound_is_chain}
+pub use Rattle.cmm_chain.proofs.Setting.{set_is_chain}
