@@ -5,4 +5,5 @@ pub mod Answering
 pub mod LocatedMachine
 pub mod ShownWalks
 pub mod Relation
+pub mod Laws
 pub mod inside

@@ -1,9 +1,16 @@
 //! Laws of the machine over places. Each is the contract of a function that does nothing.
 
+ghost use Rattle.cmm_located.specs.Laws.{RelatedAreLevel};
 ghost use Rattle.cmm_located.specs.ShownWalks.{WalkIsShown};
 
 /// What the client is shown over places is the walk of the C-- machine.
 #[tactic(auto, using(crate::proofs::ShowingWalks::walk_is_shown))]
 pub fn walks_are_shown()
     ensures { WalkIsShown }
+{}
+
+/// States that stand for one another show the same, stand at the same event and are wrong together.
+#[tactic(auto, using(crate::proofs::Levels::related_are_level))]
+pub fn states_are_level()
+    ensures { RelatedAreLevel }
 {}
