@@ -6,4 +6,5 @@ pub mod LocatedMachine
 pub mod ShownWalks
 pub mod Relation
 pub mod Laws
+pub mod SameOrders
 pub mod inside

@@ -1,6 +1,7 @@
 //! Laws of the machine over places. Each is the contract of a function that does nothing.
 
 ghost use Rattle.cmm_located.specs.Laws.{RelatedAreLevel};
+ghost use Rattle.cmm_located.specs.SameOrders.{FrameIsThere, SameOrders};
 ghost use Rattle.cmm_located.specs.ShownWalks.{WalkIsShown};
 
 /// What the client is shown over places is the walk of the C-- machine.
@@ -14,3 +15,15 @@ pub fn walks_are_shown()
 pub fn states_are_level()
     ensures { RelatedAreLevel }
 {}
+
+/// The youngest frame is where the machine over graphs has it.
+pub fn frames_are_there()
+    ensures { FrameIsThere }
+{}
+
+/// A node that is no assignment asks for the same order over places as over a graph.
+pub fn orders_are_same()
+    ensures { SameOrders }
+{
+    cmm_graph::laws::nodes_ask_by_reads();
+}
