@@ -65,7 +65,7 @@ module _ (s : Setting) (c : Compiled) (live : Liveness) (st : State Position) (a
   same_walk : IsSuspendedAll s c st.store.activations st.controls at → walk_of s (shown s c at) ≡ walk_of s st.store
   same_walk waiting =
       walk_is_shown s c (stack_top s) st.store (suspensions c.graphs st.store.activations st.controls) at knows
-      (all_told s c counts st.store.activations st.controls waiting.waits) waiting.chain related.store
+      (all_told s c counts st.store.activations st.controls waiting.waits) waiting.chain (related.store ∙ ap (λ activations. record st.store { activations = activations }) waiting.ghosts)
 
   same_event : (status : Status) (act other : Act) → IsStanding s c live status st at →
       but_input (event_at s status st.store act) ≡ but_input (event_at s status (shown s c at) other)

@@ -59,6 +59,7 @@ AllWait graphs _ _ = ⊥
 -- The youngest runs at the same node. What is live before the node stands in its place, and the frame lies below the chain of the
 -- older ones, which wait.
 pub record Runs (s : Setting) (c : Compiled) (live : Liveness) (a : Activation) (older : List Activation) (p : Position) (ps : List Position) (at : Located) : Type 0 where
+  pub ghosts : at.store.activations ≡ map bare (a ∷ older)
   pub procedure : p.procedure ≡ a.procedure
   pub same : at.procedure ≡ a.procedure
   pub node : at.node ≡ p.node
@@ -74,6 +75,7 @@ IsRunning s c live _ _ at = ⊥
 
 -- all wait, and the stack is the chain of them
 pub record IsSuspendedAll (s : Setting) (c : Compiled) (activations : List Activation) (ps : List Position) (at : Located) : Type 0 where
+  pub ghosts : at.store.activations ≡ map bare activations
   pub waits : AllWait c.graphs activations ps
   pub chain : IsChain c.plan (stack_top s) at.holdings.contents (suspensions c.graphs activations ps) at.holdings.point
 
@@ -85,6 +87,7 @@ IsStanding s c live (Ended Stopped) st at = IsSuspendedAll s c st.store.activati
 IsStanding s c live (Ended outcome) st at = Unit {0}
 IsStanding s c live (Wrong error) st at = Unit {0}
 
+-- But for activations, stores are the same; at the stack limit a call has suspended its caller over places, and not over a graph.
 pub record Related (s : Setting) (c : Compiled) (live : Liveness) (st : State Position) (at : Located) : Type 0 where
-  pub store : at.store ≡ record st.store { activations = map bare st.store.activations }
+  pub store : at.store ≡ record st.store { activations = at.store.activations }
   pub stands : IsStanding s c live st.store.status st at
