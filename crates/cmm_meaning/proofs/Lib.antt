@@ -18,3 +18,4 @@ pub mod Cycles
 pub mod Declaring
 pub mod Registers
 pub mod UnitNames
+pub mod Keeping

@@ -72,13 +72,13 @@ number_below test name a (d ∷ ds) is passes =
 -- ---- variables
 
 -- the widths of those that are declared
-abbrev local_widths : Scope → Local → List Width
+abbrev pub local_widths : Scope → Local → List Width
 local_widths s (Variable t) = width_at (types s) t ∷ []
 local_widths s RoomName = []
 local_widths s Label = []
 local_widths s Continuation = []
 
-abbrev widths_in : Scope → List (Declared Local) → List Width
+abbrev pub widths_in : Scope → List (Declared Local) → List Width
 widths_in s ds = flat_map (λ d. local_widths s d.as_what) ds
 
 variable_past : (s : Scope) (same : Bool) (l : Local) (t : TypeName) (o : Option Local) (n : ℕ) (ws : List Width) → found_after same l o ≡ Some (Variable t) →
@@ -99,7 +99,7 @@ variable_at s name t [] is = let e : None ≡ Some (Variable t) = is in cc
 variable_at s name t (d ∷ ds) is =
     variable_past s (bytes_eq name d.name.name) d.as_what t (found name ds) (number_in is_variable name ds) (widths_in s ds) is (variable_at s name t ds)
 
-abbrev info_widths : List VarInfo → List Width
+abbrev pub info_widths : List VarInfo → List Width
 info_widths vs = map (λ v. v.width) vs
 
 formal_widths : (s : Scope) (fs : List Formal) → info_widths (map (formal_info s) fs) ≡ widths_in s (map formal_name fs)

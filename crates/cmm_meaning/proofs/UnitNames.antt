@@ -200,10 +200,10 @@ module _ (us : List UnitTree) (accepted : AreAccepted us) where
   abbrev labels : ℕ
   labels = counted_in labels_in units
 
-  fit : EachUnit (UnitFits procedures labels) units
+  pub fit : EachUnit (UnitFits procedures labels) units
   fit = units_fit procedures labels 0 0 us (omega arith) (omega arith)
 
-  some : 0 < procedures
+  pub some : 0 < procedures
   some = some_procedure procedures labels units fit (unbroken us accepted).main
 
   declared : each_unit (declaration_spots program) [] 0 units ≡ []

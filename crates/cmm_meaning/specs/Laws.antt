@@ -1,9 +1,10 @@
 -- What holds of the program that units mean.
-use Rattle.std.specs.Prelude.{◌≡◌, ℕ, All, List, [], length}
-use Rattle.std.specs.List.{range_with_len}
+use Rattle.std.specs.Prelude.{◌≡◌, ℕ, ◌<◌, ◌≤◌, ◌&&◌, nat_le, IsTrue, All, List, [], length}
+use Rattle.std.specs.List.{list_all, range_with_len}
 use Rattle.cmm_ast.specs.declared.unit.Unit.{Unit as UnitTree}
 use Rattle.cmm_program.specs.declared.procedure.Proc.{Proc}
 use Rattle.cmm_program.specs.declared.statement.Form.{Form}
+use Rattle.cmm_program.specs.InRange.{is_continuation, is_item}
 use Rattle.cmm_program.specs.Numbering.{AreNumbered, body_numbers, label_number, continuation_number, site_number}
 use Rattle.cmm_program.specs.declared.program.Program.{Program}
 use Rattle.cmm_ast.specs.declared.expression.Expr.{Expr}
@@ -54,3 +55,22 @@ ScopesFit = (p : Program) (outer : Senses) (unit : ℕ) (around : List SpanTree)
 abbrev pub NamesAreThere : Type 0
 NamesAreThere = (us : List UnitTree) → AreAccepted us →
     All (λ u. (q : Proc) → NamesFit (meaning_of us) q (unit_senses (program_of (named_units us)) u.entries)) (named_units us)
+
+-- the limits on a procedure
+pub record ProcKeepsLimits (p : Program) (q : Proc) : Type 0 where
+  pub unit : q.unit < 256
+  pub formals : IsTrue (nat_le q.formals (length q.vars) && nat_le q.formals 64)
+  pub variables : length q.vars ≤ 1024
+  pub tokens : q.tokens ≤ 131072
+  pub items : IsTrue (list_all is_item q.stack)
+  pub continuations : IsTrue (list_all (is_continuation p q) q.conts)
+
+-- and those on numbers of procedures and registers
+pub record KeepsLimits (p : Program) : Type 0 where
+  pub procedures : All (ProcKeepsLimits p) p.procs
+  pub procedure_count : length p.procs ≤ 65535
+  pub main : p.main < length p.procs
+  pub registers : length p.globals ≤ 256
+
+abbrev pub LimitsAreKept : Type 0
+LimitsAreKept = (us : List UnitTree) → AreAccepted us → KeepsLimits (meaning_of us)

@@ -1,6 +1,6 @@
 //! What holds of the program that units mean. Each law is the contract of a function that does nothing.
 
-ghost use Rattle.cmm_meaning.specs.Laws.{MarksAreInOrder, NamesAreThere, ScopesFit, SitesAreInOrder, WidthsAreKept};
+ghost use Rattle.cmm_meaning.specs.Laws.{LimitsAreKept, MarksAreInOrder, NamesAreThere, ScopesFit, SitesAreInOrder, WidthsAreKept};
 
 /// In the program of any units, the call sites of a procedure stand in its body once each, in textual order, from number 0 on.
 pub fn sites_are_in_order()
@@ -29,4 +29,11 @@ pub fn scopes_fit()
 /// is a word.
 pub fn names_are_there()
     ensures { NamesAreThere }
+{}
+
+/// The program of accepted units keeps the limits on units, procedures and registers, and each procedure those on its formals, variables, tokens and
+/// the parameters of its continuations, which are variables of it; items of stackdata have alignments of the language. The program starts with a
+/// procedure that is there.
+pub fn limits_are_kept()
+    ensures { LimitsAreKept }
 {}
