@@ -63,7 +63,7 @@ module _ (program : Linked) (ds : List (Declared Entry)) where
   const_never (suc count) (Some t) x w e = typed_never (senses_by program ds (const_sense program ds count)) x (width_in ds t) w e
 
   -- what a name means by the host's names and by its declaration
-  abbrev meant : (Option TypeName → Expr → Sense) → List ℕ → Option Host → Option Entry → Option Sense
+  abbrev pub meant : (Option TypeName → Expr → Sense) → List ℕ → Option Host → Option Entry → Option Sense
   meant value name h o = elim h [ Some x ↦ Some (meanings.Host x) | None ↦ elim o [ Some e ↦ Some (entry_sense program ds value name e) | None ↦ None ] ]
 
   entry_by : (name : List ℕ) (e : Entry) → host_named name ≡ None → found name ds ≡ Some e → entry_of name ds ≡ Some e

@@ -19,3 +19,4 @@ pub mod Declaring
 pub mod Registers
 pub mod UnitNames
 pub mod Keeping
+pub mod Wide
