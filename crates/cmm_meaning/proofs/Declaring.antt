@@ -106,94 +106,94 @@ module _ (program : Linked) (ds : List (Declared Entry)) where
 
   -- ---- constants
 
-  module _ (procedures labels : ℕ) (some : 0 < procedures) (exported : EachPublished procedures labels program.exports) where
-    address_known : (c : Constant) → AddressFits procedures labels c → SenseFits knowns IsKnown (Some (meanings.Value c))
+  module _ (procedures labels : ℕ) (some : 0 < procedures) (exported : EachPublished procedures labels program.exports)
+      (entries : EachEntry (EntryFits procedures labels) ds) (p : Program) (q : Proc) (procs : length p.procs ≡ procedures) (marks : length p.labels ≡ labels) where
+    some_if : (b : Bool) (w : Width) → b ≡ true → is_some (if_holds b w) ≡ true
+    some_if true w is = refl
+    some_if false w is = is
+
+    code_fits : (n plus : ℕ) → n < procedures → sense_fits p q (Some (meanings.Value (Code n plus))) ≡ true
+    code_fits n plus below = some_if (nat_lt n (length p.procs)) W64 (lt-ltb n (length p.procs) (subst (λ m. n < m) (sym procs) below))
+
+    label_fits : (n plus : ℕ) → n < labels → sense_fits p q (Some (meanings.Value (Address n plus))) ≡ true
+    label_fits n plus below = some_if (nat_lt n (length p.labels)) W64 (lt-ltb n (length p.labels) (subst (λ m. n < m) (sym marks) below))
+
+    address_is : (c : Constant) → AddressFits procedures labels c → sense_fits p q (Some (meanings.Value c)) ≡ true
+    address_is (Number value width) h = absurd h
+    address_is (Code n plus) h = code_fits n plus h
+    address_is (Address n plus) h = label_fits n plus h
+
+    address_known : (c : Constant) → AddressFits procedures labels c → SenseFits knowns (IsKnown p) (Some (meanings.Value c))
     address_known (Number value width) h = absurd h
-    address_known (Code n plus) h = tt
-    address_known (Address n plus) h = tt
+    address_known (Code n plus) h = code_fits n plus h
+    address_known (Address n plus) h = label_fits n plus h
 
     imported_address : (link : List ℕ) → AddressFits procedures labels (unwrap_or (published_as link program.exports) (Code 0 0))
     imported_address link = some_address procedures labels (published_as link program.exports) some (published_fits procedures labels link program.exports exported)
 
     imported_known : (link : List ℕ) (h : Option Host) →
-        SenseFits knowns IsKnown (Some (elim h as (λ x. Sense) [ Some x ↦ meanings.Host x | None ↦ meanings.Value (unwrap_or (published_as link program.exports) (Code 0 0)) ]))
+        SenseFits knowns (IsKnown p) (Some (elim h as (λ x. Sense) [ Some x ↦ meanings.Host x | None ↦ meanings.Value (unwrap_or (published_as link program.exports) (Code 0 0)) ]))
     imported_known link (Some x) = tt
     imported_known link None = address_known _ (imported_address link)
 
-    register_known : (n : ℕ) (w : Option Width) → SenseFits knowns IsKnown (Some (meanings.Register n w))
+    register_known : (n : ℕ) (w : Option Width) → SenseFits knowns (IsKnown p) (Some (meanings.Register n w))
     register_known n (Some w) = tt
     register_known n None = tt
 
-    meant_known : (value : Option TypeName → Expr → Sense) → ((t : Option TypeName) (x : Expr) → SenseFits knowns IsKnown (Some (value t x))) →
-        (name : List ℕ) (h : Option Host) (o : Option Entry) → SenseFits knowns IsKnown (meant value name h o)
-    meant_known value each name (Some x) o = tt
-    meant_known value each name None None = tt
-    meant_known value each name None (Some (Typedef t)) = tt
-    meant_known value each name None (Some (Const t x)) = each t x
-    meant_known value each name None (Some (Register t)) = register_known (register_number program name) (width_in ds t)
-    meant_known value each name None (Some (Import link)) = imported_known link (host_named link)
-    meant_known value each name None (Some (DataLabel n)) = tt
-    meant_known value each name None (Some (Procedure n p)) = tt
+    meant_known : (value : Option TypeName → Expr → Sense) → ((t : Option TypeName) (x : Expr) → SenseFits knowns (IsKnown p) (Some (value t x))) →
+        (name : List ℕ) (h : Option Host) (o : Option Entry) → found name ds ≡ o → SenseFits knowns (IsKnown p) (meant value name h o)
+    meant_known value each name (Some x) o is = tt
+    meant_known value each name None None is = tt
+    meant_known value each name None (Some (Typedef t)) is = tt
+    meant_known value each name None (Some (Const t x)) is = each t x
+    meant_known value each name None (Some (Register t)) is = register_known (register_number program name) (width_in ds t)
+    meant_known value each name None (Some (Import link)) is = imported_known link (host_named link)
+    meant_known value each name None (Some (DataLabel n)) is = label_fits n 0 (found_each (EntryFits procedures labels) name (DataLabel n) ds entries is)
+    meant_known value each name None (Some (Procedure n x)) is = code_fits n 0 (found_each (EntryFits procedures labels) name (Procedure n x) ds entries is)
 
-    const_known : (count : ℕ) (t : Option TypeName) (x : Expr) → SenseFits knowns IsKnown (Some (const_sense program ds count t x))
+    const_known : (count : ℕ) (t : Option TypeName) (x : Expr) → SenseFits knowns (IsKnown p) (Some (const_sense program ds count t x))
     const_known zero t x = tt
     const_known (suc count) None x =
-        untyped_known (senses_by program ds (const_sense program ds count)) (λ name. meant_known (const_sense program ds count) (const_known count) name (host_named name) (found name ds)) x
+        untyped_known p (senses_by program ds (const_sense program ds count)) (λ name. meant_known (const_sense program ds count) (const_known count) name (host_named name) (found name ds) refl) x
     const_known (suc count) (Some t) x =
-        typed_known (senses_by program ds (const_sense program ds count)) (λ name. meant_known (const_sense program ds count) (const_known count) name (host_named name) (found name ds)) x
+        typed_known p (senses_by program ds (const_sense program ds count)) (λ name. meant_known (const_sense program ds count) (const_known count) name (host_named name) (found name ds) refl) x
         (width_in ds t)
 
     -- ---- in a program with so many procedures and labels
 
-    module _ (p : Program) (q : Proc) (procs : length p.procs ≡ procedures) (marks : length p.labels ≡ labels) where
-      const_fits : (count : ℕ) (t : Option TypeName) (x : Expr) → sense_fits p q (Some (const_sense program ds count t x)) ≡ true
-      const_fits zero t x = refl
-      const_fits (suc count) None x =
-          untyped_is (senses_by program ds (const_sense program ds count)) (λ name. meant_known (const_sense program ds count) (const_known count) name (host_named name) (found name ds)) p q x
-      const_fits (suc count) (Some t) x =
-          typed_is (senses_by program ds (const_sense program ds count)) (λ name. meant_known (const_sense program ds count) (const_known count) name (host_named name) (found name ds)) p q x
-          (width_in ds t)
+    const_fits : (count : ℕ) (t : Option TypeName) (x : Expr) → sense_fits p q (Some (const_sense program ds count t x)) ≡ true
+    const_fits zero t x = refl
+    const_fits (suc count) None x =
+        untyped_is p (senses_by program ds (const_sense program ds count)) (λ name. meant_known (const_sense program ds count) (const_known count) name (host_named name) (found name ds) refl) q x
+    const_fits (suc count) (Some t) x =
+        typed_is p (senses_by program ds (const_sense program ds count)) (λ name. meant_known (const_sense program ds count) (const_known count) name (host_named name) (found name ds) refl) q x
+        (width_in ds t)
 
-      some_if : (b : Bool) (w : Width) → b ≡ true → is_some (if_holds b w) ≡ true
-      some_if true w is = refl
-      some_if false w is = is
+    imported_is : (link : List ℕ) (h : Option Host) →
+        sense_fits p q (Some (elim h as (λ x. Sense) [ Some x ↦ meanings.Host x | None ↦ meanings.Value (unwrap_or (published_as link program.exports) (Code 0 0)) ])) ≡ true
+    imported_is link (Some x) = refl
+    imported_is link None = address_is _ (imported_address link)
 
-      code_fits : (n plus : ℕ) → n < procedures → sense_fits p q (Some (meanings.Value (Code n plus))) ≡ true
-      code_fits n plus below = some_if (nat_lt n (length p.procs)) W64 (lt-ltb n (length p.procs) (subst (λ m. n < m) (sym procs) below))
+    register_by : (name : List ℕ) (t : TypeName) (o : Option Width) → width_in ds t ≡ o → ((w : Width) → width_in ds t ≡ Some w → has_register p (register_number program name) w ≡ true) →
+        sense_fits p q (Some (meanings.Register (register_number program name) o)) ≡ true
+    register_by name t (Some w) is each = each w is
+    register_by name t None is each = refl
 
-      label_fits : (n plus : ℕ) → n < labels → sense_fits p q (Some (meanings.Value (Address n plus))) ≡ true
-      label_fits n plus below = some_if (nat_lt n (length p.labels)) W64 (lt-ltb n (length p.labels) (subst (λ m. n < m) (sym marks) below))
+    -- a register stands in the program with its width
+    abbrev pub RegistersFit : Type 0
+    RegistersFit = (name : List ℕ) (t : TypeName) → host_named name ≡ None → found name ds ≡ Some (Register t) → (w : Width) → width_in ds t ≡ Some w →
+        has_register p (register_number program name) w ≡ true
 
-      address_is : (c : Constant) → AddressFits procedures labels c → sense_fits p q (Some (meanings.Value c)) ≡ true
-      address_is (Number value width) h = absurd h
-      address_is (Code n plus) h = code_fits n plus h
-      address_is (Address n plus) h = label_fits n plus h
+    meant_fits : RegistersFit → (name : List ℕ) (h : Option Host) (o : Option Entry) → host_named name ≡ h → found name ds ≡ o →
+        sense_fits p q (meant (const_sense program ds (suc (length ds))) name h o) ≡ true
+    meant_fits registers name (Some x) o host is = refl
+    meant_fits registers name None None host is = refl
+    meant_fits registers name None (Some (Typedef t)) host is = refl
+    meant_fits registers name None (Some (Const t x)) host is = const_fits (suc (length ds)) t x
+    meant_fits registers name None (Some (Register t)) host is = register_by name t (width_in ds t) refl (registers name t host is)
+    meant_fits registers name None (Some (Import link)) host is = imported_is link (host_named link)
+    meant_fits registers name None (Some (DataLabel n)) host is = label_fits n 0 (found_each (EntryFits procedures labels) name (DataLabel n) ds entries is)
+    meant_fits registers name None (Some (Procedure n x)) host is = code_fits n 0 (found_each (EntryFits procedures labels) name (Procedure n x) ds entries is)
 
-      imported_is : (link : List ℕ) (h : Option Host) →
-          sense_fits p q (Some (elim h as (λ x. Sense) [ Some x ↦ meanings.Host x | None ↦ meanings.Value (unwrap_or (published_as link program.exports) (Code 0 0)) ])) ≡ true
-      imported_is link (Some x) = refl
-      imported_is link None = address_is _ (imported_address link)
-
-      register_by : (name : List ℕ) (t : TypeName) (o : Option Width) → width_in ds t ≡ o → ((w : Width) → width_in ds t ≡ Some w → has_register p (register_number program name) w ≡ true) →
-          sense_fits p q (Some (meanings.Register (register_number program name) o)) ≡ true
-      register_by name t (Some w) is each = each w is
-      register_by name t None is each = refl
-
-      -- a register stands in the program with its width
-      abbrev pub RegistersFit : Type 0
-      RegistersFit = (name : List ℕ) (t : TypeName) → host_named name ≡ None → found name ds ≡ Some (Register t) → (w : Width) → width_in ds t ≡ Some w →
-          has_register p (register_number program name) w ≡ true
-
-      meant_fits : RegistersFit → EachEntry (EntryFits procedures labels) ds → (name : List ℕ) (h : Option Host) (o : Option Entry) → host_named name ≡ h → found name ds ≡ o →
-          sense_fits p q (meant (const_sense program ds (suc (length ds))) name h o) ≡ true
-      meant_fits registers entries name (Some x) o host is = refl
-      meant_fits registers entries name None None host is = refl
-      meant_fits registers entries name None (Some (Typedef t)) host is = refl
-      meant_fits registers entries name None (Some (Const t x)) host is = const_fits (suc (length ds)) t x
-      meant_fits registers entries name None (Some (Register t)) host is = register_by name t (width_in ds t) refl (registers name t host is)
-      meant_fits registers entries name None (Some (Import link)) host is = imported_is link (host_named link)
-      meant_fits registers entries name None (Some (DataLabel n)) host is = label_fits n 0 (found_each (EntryFits procedures labels) name (DataLabel n) ds entries is)
-      meant_fits registers entries name None (Some (Procedure n x)) host is = code_fits n 0 (found_each (EntryFits procedures labels) name (Procedure n x) ds entries is)
-
-      pub unit_fits : RegistersFit → EachEntry (EntryFits procedures labels) ds → NamesFit p q (unit_senses program ds)
-      unit_fits registers entries name = meant_fits registers entries name (host_named name) (found name ds) refl refl
+    pub unit_fits : RegistersFit → NamesFit p q (unit_senses program ds)
+    unit_fits registers name = meant_fits registers name (host_named name) (found name ds) refl refl

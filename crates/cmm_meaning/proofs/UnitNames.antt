@@ -229,8 +229,9 @@ module _ (us : List UnitTree) (accepted : AreAccepted us) where
 
   pub names_of : (earlier later : List NamedUnit) (u : NamedUnit) → units ≡ earlier ++ u ∷ later → (q : Proc) → NamesFit p q (unit_senses program u.entries)
   names_of earlier later u is q =
-      unit_fits program u.entries procedures labels some (all_published procedures labels units fit) p q (procedures_length program 0 units) (labels_length 0 0 0 us)
-      (register_there earlier later u is) (unit_each (UnitFits procedures labels) earlier later u (subst (EachUnit (UnitFits procedures labels)) is fit))
+      unit_fits program u.entries procedures labels some (all_published procedures labels units fit)
+      (unit_each (UnitFits procedures labels) earlier later u (subst (EachUnit (UnitFits procedures labels)) is fit)) p q (procedures_length program 0 units) (labels_length 0 0 0 us)
+      (register_there earlier later u is)
 
   all_names : (earlier rest : List NamedUnit) → units ≡ earlier ++ rest → All (λ u. (q : Proc) → NamesFit p q (unit_senses program u.entries)) rest
   all_names earlier [] is = All-nil (λ u. (q : Proc) → NamesFit p q (unit_senses program u.entries))
