@@ -58,7 +58,7 @@ use Rattle.cmm_meaning.proofs.Scoping.{number_below, variables_are, widths_in, l
 use Rattle.cmm_meaning.proofs.Entries.{procedures_length, published_fits, all_published, counted_in, MayFit, AddressFits}
 use Rattle.cmm_meaning.proofs.UnitNames.{fit, some}
 
-both_true : (a b : Bool) → a ≡ true → b ≡ true → (a && b) ≡ true
+pub both_true : (a b : Bool) → a ≡ true → b ≡ true → (a && b) ≡ true
 both_true true true h k = refl
 both_true true false h k = k
 both_true false b h k = h
@@ -74,7 +74,7 @@ past_by : {A : Type 0} (o : Option A) (rule : Rule) (token : A → ℕ) → ◌�
 past_by (Some a) rule token e = cc
 past_by None rule token e = refl
 
-within : {A : Type 0} (rule : Rule) (limit : ℕ) (token : A → ℕ) (xs : List A) → past_limit rule limit token xs ≡ [] → length xs ≤ limit
+pub within : {A : Type 0} (rule : Rule) (limit : ℕ) (token : A → ℕ) (xs : List A) → past_limit rule limit token xs ≡ [] → length xs ≤ limit
 within rule limit token xs e = none_past xs limit (past_by (slice_get xs limit) rule token e)
 
 -- ---- variables

@@ -20,3 +20,4 @@ pub mod Registers
 pub mod UnitNames
 pub mod Keeping
 pub mod Wide
+pub mod SiteParts

@@ -74,7 +74,7 @@ module _ (names : Senses) (all : List (Declared Entry)) where
       (no_left (entry_spots names all d) (flat_map (entry_spots names all) ds) none) (firsts_none earlier ds rest) (firsts_none (earlier ++ d ∷ []) ds rest)
 
 module _ (program : Linked) where
-  abbrev AreDeclared : NamedUnit → Type 0
+  abbrev pub AreDeclared : NamedUnit → Type 0
   AreDeclared u = flat_map (entry_spots (unit_senses program u.entries) u.entries) u.entries ≡ []
 
   wide_by : (same : Bool) (w : Option Width) (o : Option (Option Width)) → ◌≡◌ {A = Option (Option Width)} (elim same [ true ↦ Some w | false ↦ o ]) (Some None) →
@@ -232,6 +232,11 @@ module _ (us : List UnitTree) (accepted : AreAccepted us) where
       unit_fits program u.entries procedures labels some (all_published procedures labels units fit)
       (unit_each (UnitFits procedures labels) earlier later u (subst (EachUnit (UnitFits procedures labels)) is fit)) p q (procedures_length program 0 units) (labels_length 0 0 0 us)
       (register_there earlier later u is)
+
+  -- and its declarations break no rule
+  pub declared_there : (earlier later : List NamedUnit) (u : NamedUnit) → units ≡ earlier ++ u ∷ later → AreDeclared program u
+  declared_there earlier later u is =
+      entries_of program earlier u (declared_at program [] earlier later 0 u (subst (λ vs. each_unit (declaration_spots program) [] 0 vs ≡ []) is declared))
 
   all_names : (earlier rest : List NamedUnit) → units ≡ earlier ++ rest → All (λ u. (q : Proc) → NamesFit p q (unit_senses program u.entries)) rest
   all_names earlier [] is = All-nil (λ u. (q : Proc) → NamesFit p q (unit_senses program u.entries))

@@ -4,7 +4,7 @@ use Rattle.std.specs.List.{list_all, range_with_len}
 use Rattle.cmm_ast.specs.declared.unit.Unit.{Unit as UnitTree}
 use Rattle.cmm_program.specs.declared.procedure.Proc.{Proc}
 use Rattle.cmm_program.specs.declared.statement.Form.{Form}
-use Rattle.cmm_program.specs.InRange.{is_continuation, is_item}
+use Rattle.cmm_program.specs.InRange.{is_continuation, is_item, is_site}
 use Rattle.cmm_program.specs.Numbering.{AreNumbered, body_numbers, label_number, continuation_number, site_number}
 use Rattle.cmm_program.specs.declared.program.Program.{Program}
 use Rattle.cmm_ast.specs.declared.expression.Expr.{Expr}
@@ -74,3 +74,7 @@ pub record KeepsLimits (p : Program) : Type 0 where
 
 abbrev pub LimitsAreKept : Type 0
 LimitsAreKept = (us : List UnitTree) → AreAccepted us → KeepsLimits (meaning_of us)
+
+-- the call sites of each procedure of accepted units keep the rules on results, exits and spans
+abbrev pub SitesAreThere : Type 0
+SitesAreThere = (us : List UnitTree) → AreAccepted us → All (λ q. IsTrue (list_all (is_site (meaning_of us) q) q.sites)) (meaning_of us).procs

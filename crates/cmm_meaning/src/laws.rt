@@ -1,6 +1,6 @@
 //! What holds of the program that units mean. Each law is the contract of a function that does nothing.
 
-ghost use Rattle.cmm_meaning.specs.Laws.{LimitsAreKept, MarksAreInOrder, NamesAreThere, ScopesFit, SitesAreInOrder, WidthsAreKept};
+ghost use Rattle.cmm_meaning.specs.Laws.{LimitsAreKept, MarksAreInOrder, NamesAreThere, ScopesFit, SitesAreInOrder, SitesAreThere, WidthsAreKept};
 
 /// In the program of any units, the call sites of a procedure stand in its body once each, in textual order, from number 0 on.
 pub fn sites_are_in_order()
@@ -36,4 +36,10 @@ pub fn names_are_there()
 /// procedure that is there.
 pub fn limits_are_kept()
     ensures { LimitsAreKept }
+{}
+
+/// In the program of accepted units, what takes the results of a call site is a variable or register with its width, its exits are continuations of
+/// the procedure, and its spans ascend by token and have constants that are there.
+pub fn sites_are_there()
+    ensures { SitesAreThere }
 {}
