@@ -45,12 +45,12 @@ use Rattle.cmm_accepted.specs.Expressions.{past_limit}
 use Rattle.cmm_accepted.specs.Calls.{first_token, too_many_names, parameter_spots, parameters_spots}
 use Rattle.cmm_accepted.specs.Scopes.{Scope, types, unit_senses}
 use Rattle.cmm_accepted.specs.Statements.{scope_of, formal_token, stmt_spots, part_spots, proc_spots}
-use Rattle.cmm_accepted.specs.Limits.{variables, local_rooms, room_piece, bytes_of, align_piece, proc_limits, room_limits, over_units, proc_count, sums_are_within}
+use Rattle.cmm_accepted.specs.Limits.{variables, local_rooms, room_piece, bytes_of, align_piece, proc_limits, room_limits, over_units, proc_count, site_variables, site_spans, sums_are_within}
 use Rattle.cmm_accepted.specs.Linking.{Program as Linked, program_of, published, published_as, register_names}
 use Rattle.cmm_accepted.specs.Faults.{AreAccepted, item_procedure_spots}
 use Rattle.cmm_meaning.specs.Procedures.{formal_info, part_infos, variable_infos, label_alignment, stack_items, item_of, parameter_of, form_conts, part_conts, procedure_of}
 use Rattle.cmm_meaning.specs.Meaning.{meaning_of, global_of, procedure_number}
-use Rattle.cmm_meaning.specs.Laws.{ProcKeepsLimits, KeepsLimits, LimitsAreKept}
+use Rattle.cmm_meaning.specs.Laws.{ProcKeepsLimits}
 use Rattle.cmm_meaning.proofs.Nothing.{no_left, no_right, no_unless, unbroken}
 use Rattle.cmm_meaning.proofs.Everywhere.{Place, all_accepted}
 use Rattle.cmm_meaning.proofs.Naming.{how_many}
@@ -223,13 +223,13 @@ module _ (us : List UnitTree) (accepted : AreAccepted us) where
   sums = (unbroken us accepted).sums
 
   -- the sums over all units, one by one
-  registers_few : nat_le (length (register_names units)) 256 ≡ true
+  pub registers_few : nat_le (length (register_names units)) 256 ≡ true
   registers_few = (and_parts _ _ (and_parts _ _ (and_parts _ _ sums).0).0).1
 
   units_few : nat_le (length units) 256 ≡ true
   units_few = (and_parts _ _ (and_parts _ _ (and_parts _ _ (and_parts _ _ (and_parts _ _ (and_parts _ _ sums).0).0).0).0).0).0
 
-  procedure_keeps : (earlier : List NamedUnit) (u : NamedUnit) (number : ℕ) → Place units earlier u number → (around : List SpanTree) (tree : ProcTree) →
+  pub procedure_keeps : (earlier : List NamedUnit) (u : NamedUnit) (number : ℕ) → Place units earlier u number → (around : List SpanTree) (tree : ProcTree) →
       item_procedure_spots (unit_senses (program_of units) u.entries) (items.Proc tree) ≡ [] →
       ProcKeepsLimits (meaning_of us) (procedure_of (unit_senses (program_of units) u.entries) number around tree)
   procedure_keeps earlier u number place around tree none =
@@ -261,30 +261,17 @@ module _ (us : List UnitTree) (accepted : AreAccepted us) where
   abbrev procedures : ℕ
   procedures = counted_in procs_in units
 
-  number_by : (o : Option Constant) (labels : ℕ) → MayFit procedures labels o → 0 < procedures → procedure_number o < procedures
+  pub number_by : (o : Option Constant) (labels : ℕ) → MayFit procedures labels o → 0 < procedures → procedure_number o < procedures
   number_by (Some (Code n plus)) labels h many = h
   number_by (Some (Number value width)) labels h many = many
   number_by (Some (Address n plus)) labels h many = many
   number_by None labels h many = many
 
-  procedures_few : nat_le (over_units (program_of units) proc_count units) 65535 ≡ true
+  pub procedures_few : nat_le (over_units (program_of units) proc_count units) 65535 ≡ true
   procedures_few = (and_parts _ _ (and_parts _ _ (and_parts _ _ (and_parts _ _ (and_parts _ _ sums).0).0).0).0).1
 
-counted : (program : Linked) (us : List NamedUnit) → over_units program proc_count us ≡ counted_in procs_in us
-counted program [] = refl
-counted program (u ∷ us) = ap (λ n. proc_count (unit_senses program u.entries) u + n) (counted program us)
+  pub variables_few : nat_le (over_units (program_of units) site_variables units) 8000000 ≡ true
+  variables_few = (and_parts _ _ (and_parts _ _ sums).0).1
 
-pub limits_are_kept : LimitsAreKept
-limits_are_kept us accepted =
-    let ns = named_units us in let program = program_of ns in
-    let many : length (meaning_of us).procs ≡ counted_in procs_in ns = procedures_length program 0 ns in
-    record {
-      procedures = all_accepted (ProcKeepsLimits (meaning_of us)) us accepted (procedure_keeps us accepted);
-      procedure_count = subst (λ n. n ≤ 65535) (counted program ns ∙ sym many) (leb-true (over_units program proc_count ns) 65535 (procedures_few us accepted));
-      main = subst (λ n. (meaning_of us).main < n) (sym many)
-          (number_by us accepted (published_as (codes "main") (flat_map published ns)) (counted_in labels_in ns)
-          (published_fits (counted_in procs_in ns) (counted_in labels_in ns) (codes "main") (flat_map published ns)
-          (all_published (counted_in procs_in ns) (counted_in labels_in ns) ns (fit us accepted)))
-          (some us accepted));
-      registers = subst (λ n. n ≤ 256) (sym (length-map (register_names ns) (global_of ns))) (leb-true (length (register_names ns)) 256 (registers_few us accepted));
-    }
+  pub spans_few : nat_le (over_units (program_of units) site_spans units) 1000000 ≡ true
+  spans_few = (and_parts _ _ sums).1

@@ -21,3 +21,5 @@ pub mod UnitNames
 pub mod Keeping
 pub mod Wide
 pub mod SiteParts
+pub mod Sums
+pub mod ProgramLimits

@@ -71,7 +71,7 @@ part_length s spans (parts.Stmt' first past (stmts.Call results None callee actu
 part_length s spans (parts.Stmt' first past (stmts.Call results (Some convention) callee actuals flows)) = refl
 part_length s spans (parts.Stmt' first past f) = refl
 
-length_is : (s : Scope) (around : List SpanValue) (ps : List (Within Part)) → length (sites_among s around ps) ≡ site_count (whats ps)
+pub length_is : (s : Scope) (around : List SpanValue) (ps : List (Within Part)) → length (sites_among s around ps) ≡ site_count (whats ps)
 length_is s around [] = refl
 length_is s around (p ∷ ps) = let spans = innermost (map (span_value (senses s)) p.spans ++ around) in
     length-append (part_sites s spans p.what) (sites_among s around ps) ∙ rw (part_length s spans p.what, length_is s around ps) refl

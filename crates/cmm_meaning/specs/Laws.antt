@@ -1,5 +1,5 @@
 -- What holds of the program that units mean.
-use Rattle.std.specs.Prelude.{◌≡◌, ℕ, ◌<◌, ◌≤◌, ◌&&◌, nat_le, IsTrue, All, List, [], length}
+use Rattle.std.specs.Prelude.{◌≡◌, ℕ, ◌<◌, ◌≤◌, ◌&&◌, nat_le, IsTrue, All, List, [], length, sum_by, ◌*◌}
 use Rattle.std.specs.List.{list_all, range_with_len}
 use Rattle.cmm_ast.specs.declared.unit.Unit.{Unit as UnitTree}
 use Rattle.cmm_program.specs.declared.procedure.Proc.{Proc}
@@ -65,12 +65,14 @@ pub record ProcKeepsLimits (p : Program) (q : Proc) : Type 0 where
   pub items : IsTrue (list_all is_item q.stack)
   pub continuations : IsTrue (list_all (is_continuation p q) q.conts)
 
--- and those on numbers of procedures and registers
+-- and those on numbers of procedures and registers, and on sums over all call sites
 pub record KeepsLimits (p : Program) : Type 0 where
   pub procedures : All (ProcKeepsLimits p) p.procs
   pub procedure_count : length p.procs ≤ 65535
   pub main : p.main < length p.procs
   pub registers : length p.globals ≤ 256
+  pub site_variables : sum_by (λ q. length q.sites * length q.vars) p.procs ≤ 8000000
+  pub site_spans : sum_by (λ q. sum_by (λ site. length site.spans) q.sites) p.procs ≤ 1000000
 
 abbrev pub LimitsAreKept : Type 0
 LimitsAreKept = (us : List UnitTree) → AreAccepted us → KeepsLimits (meaning_of us)

@@ -1,4 +1,4 @@
-use Rattle.cmm_meaning.proofs.Keeping.{limits_are_kept}
+use Rattle.cmm_meaning.proofs.ProgramLimits.{limits_are_kept}
 use Rattle.cmm_meaning.proofs.laws.limits_are_kept.Goals as goal
 
 pub returns : goal.returns
