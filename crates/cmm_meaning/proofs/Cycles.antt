@@ -1,30 +1,26 @@
 -- Where no rule on types is broken, no type of a unit is broken: a chain of typedefs that is longer than there are declarations comes back to one of
 -- them, and that one breaks a rule.
-use Rattle.std.proofs.Common.{◌≡◌, ℕ, zero, suc, ◌+◌, ◌<◌, ◌≤◌, refl, sym, ap, ◌∙◌, subst, Bool, true, false, List, [], ◌∷◌, ◌++◌, Option, Some, None, Ok, Err, arith, length, length-append, inl, inr, ◌⊎◌}
-use Rattle.std.specs.Prelude.{map, flat_map, not, bytes_eq, ◌||◌}
+use Rattle.std.proofs.Common.{◌≡◌, ℕ, zero, suc, ◌+◌, ◌<◌, refl, sym, ap, ◌∙◌, subst, Bool, true, false, List, [], ◌∷◌, ◌++◌, Option, Some, None, arith, length, length-append, inl, inr, ◌⊎◌}
+use Rattle.std.specs.Prelude.{flat_map, bytes_eq, ◌||◌}
 use Rattle.std.specs.List.{list_any}
-use Rattle.std.proofs.lemmas.Bool.{or_cases, or_left, or_right, not-true}
+use Rattle.std.proofs.lemmas.Bool.{or_cases, or_left, or_right}
 use Rattle.std.proofs.lemmas.Bool.Decides.{nat_tests}
 use Rattle.std.proofs.lemmas.Slice.Eq.{bytes_eq-Decides}
 use Rattle.cmm_words.specs.declared.width.Width.{Width}
 use Rattle.cmm_ast.specs.declared.token.Ident.{Ident}
-use Rattle.cmm_ast.specs.declared.expression.Expr.{Expr}
 use Rattle.cmm_ast.specs.declared.expression.TypeName.{TypeName}
 use Rattle.cmm_ast.specs.declared.expression.TypeForm.{TypeForm}
 use Rattle.cmm_ast.specs.declared.expression.TypeForm.TheVariants.{Bits as OfBits, Named as OfName}
 use Rattle.cmm_accepted.specs.declared.spot.Spot.{Spot}
-use Rattle.cmm_accepted.specs.declared.sense.Host.{Host}
 use Rattle.cmm_accepted.specs.declared.sense.Sense.{Sense}
 use Rattle.cmm_accepted.specs.declared.sense.Sense.TheVariants as meanings
-use Rattle.cmm_accepted.specs.Senses.{Senses, host_named, is_host, is_there}
-use Rattle.cmm_accepted.specs.Judging.{Judged, spots, if_ok}
-use Rattle.cmm_accepted.specs.Typing.{typedef_width, type_width}
+use Rattle.cmm_accepted.specs.Senses.{Senses, is_host}
+use Rattle.cmm_accepted.specs.Judging.{spots, if_ok}
+use Rattle.cmm_accepted.specs.Typing.{typedef_width}
 use Rattle.cmm_accepted.specs.Declarations.{Declared, Entry, Typedef, Const, Register, Import, DataLabel, Procedure, found, entry_of}
-use Rattle.cmm_accepted.specs.Linking.{Program as Linked, Published, published_as, imported}
-use Rattle.cmm_accepted.specs.Scopes.{typedef_sense, type_in, width_in, entry_sense, senses_by, valued, untyped_sense, typed_sense, const_sense, unit_senses, named_by, reaches, depends_on_itself}
+use Rattle.cmm_accepted.specs.Scopes.{typedef_sense, type_in, width_in, named_by, reaches}
 use Rattle.cmm_accepted.specs.Expressions.{type_spots}
-use Rattle.cmm_accepted.specs.Units.{cycle_spots, entry_spots}
-use Rattle.cmm_meaning.proofs.Nothing.{no_left, no_right, no_unless}
+use Rattle.cmm_meaning.proofs.Nothing.{no_left, no_right}
 use Rattle.cmm_meaning.proofs.Naming.{same_name}
 
 -- ---- names among names

@@ -1,5 +1,5 @@
 -- What the names of a unit mean: types have widths, constants are words, and addresses are those of what is there.
-use Rattle.std.proofs.Common.{◌≡◌, ℕ, zero, suc, ◌<◌, refl, sym, ap, ◌∙◌, subst, Bool, true, false, List, [], ◌∷◌, ◌++◌, Option, Some, None, Ok, Err, length}
+use Rattle.std.proofs.Common.{◌≡◌, ℕ, zero, suc, ◌<◌, refl, sym, ap, ◌∙◌, subst, Bool, true, false, List, [], Option, Some, None, Ok, Err, length}
 use Rattle.std.specs.Prelude.{flat_map, unwrap_or, nat_lt, not}
 use Rattle.std.specs.Option.{is_some}
 use Rattle.std.proofs.lemmas.Bool.{lt-ltb, not-true}
@@ -11,27 +11,26 @@ use Rattle.cmm_ast.specs.declared.expression.Expr.{Expr}
 use Rattle.cmm_ast.specs.declared.expression.TypeName.{TypeName}
 use Rattle.cmm_program.specs.declared.procedure.Proc.{Proc}
 use Rattle.cmm_program.specs.declared.program.Program.{Program}
-use Rattle.cmm_program.specs.Typing.{if_holds, constant_width, has_register}
+use Rattle.cmm_program.specs.Typing.{if_holds, has_register}
 use Rattle.cmm_rules.specs.declared.rule.Rule.TheVariants.{Cycle}
 use Rattle.cmm_accepted.specs.declared.sense.Host.{Host}
 use Rattle.cmm_accepted.specs.declared.sense.Sense.{Sense}
 use Rattle.cmm_accepted.specs.declared.sense.Sense.TheVariants as meanings
 use Rattle.cmm_accepted.specs.declared.judged.Bits.{Bits}
 use Rattle.cmm_accepted.specs.declared.known.Known.{Known}
-use Rattle.cmm_accepted.specs.Spots.{unless}
 use Rattle.cmm_accepted.specs.Senses.{Senses, host_named, is_host, is_there}
 use Rattle.cmm_accepted.specs.Algebras.{knowns}
 use Rattle.cmm_accepted.specs.Judging.{Judged}
 use Rattle.cmm_accepted.specs.Constants.{as_number}
 use Rattle.cmm_accepted.specs.Declarations.{Declared, Entry, Typedef, Const, Register, Import, DataLabel, Procedure, found, entry_of}
-use Rattle.cmm_accepted.specs.Linking.{Program as Linked, Published, published_as, imported, register_number}
+use Rattle.cmm_accepted.specs.Linking.{Program as Linked, published_as, register_number}
 use Rattle.cmm_accepted.specs.Scopes.{width_in, entry_sense, senses_by, valued, untyped_sense, typed_sense, const_sense, unit_senses, named_by, reaches, depends_on_itself}
 use Rattle.cmm_accepted.specs.Expressions.{type_spots}
 use Rattle.cmm_accepted.specs.Units.{cycle_spots, entry_spots}
 use Rattle.cmm_meaning.specs.Fitting.{sense_fits, NamesFit}
 use Rattle.cmm_meaning.proofs.Judged.{SenseFits}
 use Rattle.cmm_meaning.proofs.Knowing.{IsKnown, untyped_known, typed_known, untyped_is, typed_is}
-use Rattle.cmm_meaning.proofs.Entries.{EachEntry, EntryFits, found_each, AddressFits, EachPublished, MayFit, published_fits, some_address}
+use Rattle.cmm_meaning.proofs.Entries.{EachEntry, EntryFits, found_each, AddressFits, EachPublished, published_fits, some_address}
 use Rattle.cmm_meaning.proofs.Cycles.{AreSound, IsAt, found_at, own_is, has_width}
 use Rattle.cmm_meaning.proofs.Nothing.{no_left, no_right, no_unless}
 

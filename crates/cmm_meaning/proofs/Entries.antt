@@ -1,6 +1,6 @@
 -- The numbers of procedures and data labels are below how many there are, in all units, and so is what units publish.
-use Rattle.std.proofs.Common.{◌≡◌, ℕ, zero, suc, ◌+◌, ◌<◌, ◌≤◌, refl, sym, ap, ◌∙◌, subst, Bool, true, false, List, [], ◌∷◌, ◌++◌, Option, Some, None, arith, length, length-append, inl, inr, ◌⊎◌}
-use Rattle.std.specs.Prelude.{map, flat_map, unwrap_or, bytes_eq, codes, ◌&&◌, ◌||◌}
+use Rattle.std.proofs.Common.{◌≡◌, ℕ, suc, ◌+◌, ◌<◌, ◌≤◌, refl, sym, ap, ◌∙◌, subst, Bool, true, false, List, [], ◌∷◌, ◌++◌, Option, Some, None, arith, length, length-append, inl, inr}
+use Rattle.std.specs.Prelude.{map, flat_map, unwrap_or, bytes_eq, codes, ◌&&◌}
 use Rattle.std.proofs.lemmas.Bool.{and_parts, or_cases}
 use Rattle.cmm_words.specs.declared.constant.Constant.{Constant}
 use Rattle.cmm_words.specs.declared.constant.Constant.TheVariants.{Number, Code, Address}
@@ -15,13 +15,12 @@ use Rattle.cmm_ast.specs.declared.unit.Item.{Item}
 use Rattle.cmm_ast.specs.declared.unit.Item.TheVariants as items
 use Rattle.cmm_ast.specs.declared.unit.TopLevel.{TopLevel}
 use Rattle.cmm_ast.specs.declared.unit.Unit.{Unit as UnitTree}
-use Rattle.cmm_program.specs.declared.program.Label.{Label}
 use Rattle.cmm_accepted.specs.Senses.{Senses, is_host}
 use Rattle.cmm_accepted.specs.Items.{Within, items_of, top_items}
 use Rattle.cmm_accepted.specs.Declarations.{Declared, Entry, Typedef, Const, Register, Import, DataLabel, Procedure, NamedUnit, found, each_as, import_entry, decl_entries, datum_entries, item_entries, procs_in, labels_in, entries_from, sum_of, units_from, entry_of}
 use Rattle.cmm_accepted.specs.Linking.{Program as Linked, Published, address_of, published, published_as, exports_of, export_link, is_start, starts, has_main}
 use Rattle.cmm_accepted.specs.Scopes.{unit_senses}
-use Rattle.cmm_meaning.specs.Data.{Standing, label_at, standing, item_labels, section_labels, unit_labels, datums_in, datums_among}
+use Rattle.cmm_meaning.specs.Data.{item_labels, section_labels, unit_labels, datums_in, datums_among}
 use Rattle.cmm_meaning.specs.Meaning.{item_procedures, unit_procedures, procedures_from, labels_from}
 
 -- ---- what holds of each declaration, and of each unit

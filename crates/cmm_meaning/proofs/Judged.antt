@@ -1,7 +1,7 @@
 -- What stands for an expression is kept by its judgement: where each operation of an algebra gives what has the width that it is for, and each name
 -- means what has its own, so has each expression. It is said once for what is known of values and for expressions with names resolved.
 use mathlib.Core.Former.{one_more}
-use Rattle.std.proofs.Common.{◌≡◌, ℕ, ◌^◌, refl, sym, ap, ◌∙◌, subst, List, [], ◌∷◌, ◌++◌, Bool, true, false, Option, Some, None, Ok, Err, ◌⊎◌, inl, inr}
+use Rattle.std.proofs.Common.{◌≡◌, ℕ, ◌^◌, refl, sym, ◌∙◌, subst, List, [], ◌∷◌, ◌++◌, Bool, true, false, Option, Some, None, Ok, Err, ◌⊎◌, inl, inr}
 use Rattle.std.specs.Prelude.{flat_map, option_map, nat_lt, nat_le, ◌==◌}
 use Rattle.std.proofs.lemmas.Grind.{flat_map-append}
 use Rattle.cmm_words.specs.declared.width.Width.{Width}
@@ -16,11 +16,9 @@ use Rattle.cmm_ast.specs.declared.token.Int.{Int}
 use Rattle.cmm_ast.specs.declared.expression.Expr.{Expr}
 use Rattle.cmm_ast.specs.declared.expression.ExprForm.{ExprForm, Row_of-Expr, end_of-Expr, more_of-Expr}
 use Rattle.cmm_ast.specs.declared.expression.ExprForm.TheVariants.{Infix', Prefix', Prim, Memory as InMemory, Named'}
-use Rattle.cmm_ast.specs.declared.expression.Number.{Number}
 use Rattle.cmm_ast.specs.declared.expression.PrimForm.{PrimForm}
 use Rattle.cmm_ast.specs.declared.expression.PrimForm.TheVariants.{Literal, Name as NameOf, Bracketed'}
 use Rattle.cmm_ast.specs.declared.expression.Memory.{Memory, Memory'}
-use Rattle.cmm_ast.specs.declared.expression.TypeName.{TypeName}
 use Rattle.cmm_program.specs.Typing.{is_alignment}
 use Rattle.cmm_rules.specs.declared.rule.Rule.TheVariants.{WidthsDiffer, LiteralDoesNotFit}
 use Rattle.cmm_accepted.specs.declared.spot.Spot.{Spot}
@@ -40,7 +38,7 @@ use Rattle.cmm_accepted.specs.Algebras.{Algebra}
 use Rattle.cmm_accepted.specs.Judging.{Judged, faulty, with_ok, with_both, as_bits, as_test, as_wanted, of_width, bits_of, test_of}
 use Rattle.cmm_accepted.specs.Mentions.{values_alone, form_names, row_names, prim_names, memory_names, expr_names, form_alignments, row_alignments, prim_alignments, memory_alignments, ident, listed}
 use Rattle.cmm_accepted.specs.Expressions.{is_not_host, host_spots, alignment_spots, inner_spots}
-use Rattle.cmm_accepted.specs.Typing.{with_values, type_width, number_value, literal_width, alignment, of_target, of_broken, name_type, literal, literal_type, alike, unary, binary, compared, converted, extended, shortened, applied_to_one, applied_to_two, both, applied, given_with, with_operand, load, operand_at, form_type, operand, given_operands, prim_type, memory_type, expr_type}
+use Rattle.cmm_accepted.specs.Typing.{with_values, type_width, number_value, literal_width, alignment, name_type, literal, alike, unary, binary, compared, converted, extended, shortened, applied_to_one, applied_to_two, both, applied, given_with, with_operand, load, operand_at, form_type, operand, given_operands, prim_type, memory_type, expr_type}
 use Rattle.cmm_meaning.proofs.Nothing.{no_left, no_right, no_unless}
 
 -- ---- what holds of a judgement, where it is one, and of what is there

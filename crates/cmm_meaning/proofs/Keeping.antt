@@ -1,20 +1,15 @@
 -- The limits that the rules on a procedure keep, in the procedure that it means.
-use Rattle.std.proofs.Common.{◌≡◌, ℕ, zero, suc, ◌+◌, ◌-◌, ◌<◌, ◌≤◌, refl, sym, ap, ◌∙◌, subst, Bool, true, false, cond, List, [], ◌∷◌, ◌++◌, All, Option, Some, None, arith, length, length-append, max, IsTrue, inl, inr, ◌⊎◌}
-use Rattle.std.specs.Prelude.{map, flat_map, filter, slice_get, nat_le, nat_lt, not, unwrap_or, codes, ◌&&◌, ◌||◌, ◌==◌}
+use Rattle.std.proofs.Common.{◌≡◌, ℕ, zero, suc, ◌+◌, ◌-◌, ◌<◌, ◌≤◌, refl, sym, ap, ◌∙◌, subst, Bool, true, false, cond, List, [], ◌∷◌, Option, Some, None, arith, length, length-append, max, inl, inr}
+use Rattle.std.specs.Prelude.{map, flat_map, filter, slice_get, nat_le, ◌&&◌}
 use Rattle.std.specs.List.{list_all}
 use Rattle.std.proofs.lemmas.List.{length-map}
 use Rattle.std.proofs.lemmas.Bool.{leb-true, le-leb, lt-ltb, and_parts, cases_lt}
-use Rattle.std.proofs.lemmas.Bool.Decides.{nat_tests}
-use Rattle.std.proofs.lemmas.Grind.{flat_map-append}
 use Rattle.std.proofs.lemmas.List.Folds.{list_all-append}
 use Rattle.cmm_words.specs.declared.width.Width.{Width}
 use Rattle.cmm_words.specs.declared.width.Width.TheVariants.{W8, W16, W32, W64}
 use Rattle.cmm_words.specs.declared.constant.Constant.{Constant}
 use Rattle.cmm_words.specs.declared.constant.Constant.TheVariants.{Number, Code, Address}
 use Rattle.cmm_words.specs.Widths.{bytes}
-use Rattle.cmm_ast.specs.declared.token.Ident.{Ident}
-use Rattle.cmm_ast.specs.declared.expression.TypeName.{TypeName}
-use Rattle.cmm_ast.specs.declared.procedure.Formal.{Formal}
 use Rattle.cmm_ast.specs.declared.procedure.Proc.{Proc as ProcTree}
 use Rattle.cmm_ast.specs.declared.procedure.Room.{Room}
 use Rattle.cmm_ast.specs.declared.procedure.RoomForm.{RoomForm}
@@ -27,36 +22,33 @@ use Rattle.cmm_ast.specs.declared.statement.StmtForm.TheVariants as stmts
 use Rattle.cmm_ast.specs.declared.unit.Item.TheVariants as items
 use Rattle.cmm_ast.specs.declared.unit.Unit.{Unit as UnitTree}
 use Rattle.cmm_program.specs.declared.procedure.Proc.{Proc}
-use Rattle.cmm_program.specs.declared.procedure.Cont.{Cont}
-use Rattle.cmm_program.specs.declared.procedure.StackItem.{StackItem}
 use Rattle.cmm_program.specs.declared.program.Program.{Program}
 use Rattle.cmm_program.specs.InRange.{at_most_64, below, is_continuation as is_cont, is_item}
 use Rattle.cmm_program.specs.Typing.{is_alignment}
 use Rattle.cmm_rules.specs.declared.rule.Rule.{Rule}
 use Rattle.cmm_rules.specs.declared.rule.Rule.TheVariants.{TooManyValues, Limit, NotALocalVariable}
 use Rattle.cmm_accepted.specs.declared.spot.Spot.{Spot}
-use Rattle.cmm_accepted.specs.Spots.{at, unless}
+use Rattle.cmm_accepted.specs.Spots.{at}
 use Rattle.cmm_accepted.specs.Senses.{Senses}
 use Rattle.cmm_accepted.specs.Judging.{if_ok}
 use Rattle.cmm_accepted.specs.Typing.{type_width}
 use Rattle.cmm_accepted.specs.Items.{SpanTree, parts_of}
-use Rattle.cmm_accepted.specs.Declarations.{Declared, Local, NamedUnit, named_units, found, is_declared, is_variable, is_room, Variable, Room as RoomName, Label, Continuation, number_in, own_names, procs_in, labels_in}
+use Rattle.cmm_accepted.specs.Declarations.{Declared, Local, NamedUnit, named_units, found, is_declared, is_variable, Variable, Room as RoomName, Label, Continuation, own_names, procs_in}
 use Rattle.cmm_accepted.specs.Expressions.{past_limit}
-use Rattle.cmm_accepted.specs.Calls.{first_token, too_many_names, parameter_spots, parameters_spots}
+use Rattle.cmm_accepted.specs.Calls.{first_token, too_many_names, parameter_spots}
 use Rattle.cmm_accepted.specs.Scopes.{Scope, types, unit_senses}
 use Rattle.cmm_accepted.specs.Statements.{scope_of, formal_token, stmt_spots, part_spots, proc_spots}
-use Rattle.cmm_accepted.specs.Limits.{variables, local_rooms, room_piece, bytes_of, align_piece, proc_limits, room_limits, over_units, proc_count, site_variables, site_spans, sums_are_within}
-use Rattle.cmm_accepted.specs.Linking.{Program as Linked, program_of, published, published_as, register_names}
+use Rattle.cmm_accepted.specs.Limits.{variables, local_rooms, room_piece, proc_limits, room_limits, over_units, proc_count, site_variables, site_spans, sums_are_within}
+use Rattle.cmm_accepted.specs.Linking.{program_of, register_names}
 use Rattle.cmm_accepted.specs.Faults.{AreAccepted, item_procedure_spots}
-use Rattle.cmm_meaning.specs.Procedures.{formal_info, part_infos, variable_infos, label_alignment, stack_items, item_of, parameter_of, form_conts, part_conts, procedure_of}
-use Rattle.cmm_meaning.specs.Meaning.{meaning_of, global_of, procedure_number}
+use Rattle.cmm_meaning.specs.Procedures.{formal_info, part_infos, variable_infos, label_alignment, stack_items, parameter_of, form_conts, part_conts, procedure_of}
+use Rattle.cmm_meaning.specs.Meaning.{meaning_of, procedure_number}
 use Rattle.cmm_meaning.specs.Laws.{ProcKeepsLimits}
 use Rattle.cmm_meaning.proofs.Nothing.{no_left, no_right, no_unless, unbroken}
-use Rattle.cmm_meaning.proofs.Everywhere.{Place, all_accepted}
+use Rattle.cmm_meaning.proofs.Everywhere.{Place}
 use Rattle.cmm_meaning.proofs.Naming.{how_many}
-use Rattle.cmm_meaning.proofs.Scoping.{number_below, variables_are, widths_in, local_widths, info_widths}
-use Rattle.cmm_meaning.proofs.Entries.{procedures_length, published_fits, all_published, counted_in, MayFit, AddressFits}
-use Rattle.cmm_meaning.proofs.UnitNames.{fit, some}
+use Rattle.cmm_meaning.proofs.Scoping.{number_below, variables_are, widths_in, local_widths}
+use Rattle.cmm_meaning.proofs.Entries.{counted_in, MayFit}
 
 pub both_true : (a b : Bool) → a ≡ true → b ≡ true → (a && b) ≡ true
 both_true true true h k = refl

@@ -1,5 +1,5 @@
 -- What is known of a value before the program runs is a word of its width.
-use Rattle.std.proofs.Common.{◌≡◌, ℕ, zero, suc, ◌+◌, ◌-◌, ◌%◌, ◌^◌, ◌<◌, ◌≤◌, refl, sym, ap, ◌∙◌, subst, Bool, true, false, List, [], ◌∷◌, Option, Some, None, Ok, Err, arith, pow_mono, lt_of_lt_of_le, inl, inr}
+use Rattle.std.proofs.Common.{◌≡◌, ℕ, ◌^◌, ◌<◌, refl, ap, subst, Bool, true, false, List, Option, Some, None, Ok, Err, arith, pow_mono, lt_of_lt_of_le, inr}
 use Rattle.std.specs.Prelude.{nat_lt, nat_le, IfSome}
 use Rattle.std.specs.Option.{is_some}
 use Rattle.std.proofs.lemmas.Bool.{lt-ltb, ltb-true, leb-true}
@@ -17,12 +17,10 @@ use Rattle.cmm_words.specs.Words.{value1, value2, low_bits, sign_extended}
 use Rattle.cmm_words.proofs.Shared.{value2-word, wrapped-below}
 use Rattle.cmm_ast.specs.declared.expression.Expr.{Expr}
 use Rattle.cmm_ast.specs.declared.expression.Prefix.TheVariants.{Negate}
-use Rattle.cmm_ast.specs.declared.expression.TypeName.{TypeName}
 use Rattle.cmm_program.specs.declared.procedure.Proc.{Proc}
 use Rattle.cmm_program.specs.declared.program.Program.{Program}
 use Rattle.cmm_program.specs.Typing.{if_holds, constant_width}
 use Rattle.cmm_accepted.specs.declared.judged.Bits.{Bits}
-use Rattle.cmm_accepted.specs.declared.judged.Typed.{Typed}
 use Rattle.cmm_accepted.specs.declared.known.Known.{Known}
 use Rattle.cmm_accepted.specs.declared.known.Known.TheVariants as known
 use Rattle.cmm_accepted.specs.declared.sense.Sense.{Sense}
@@ -31,13 +29,13 @@ use Rattle.cmm_accepted.specs.declared.sense.Sense.TheVariants as meanings
 use Rattle.cmm_accepted.specs.Senses.{Senses, constant_width as declared_width}
 use Rattle.cmm_accepted.specs.Algebras.{knowns, known_constant, known_value, known_sum, moved}
 use Rattle.cmm_accepted.specs.Operators.{prefix_operator}
-use Rattle.cmm_accepted.specs.Judging.{Judged, with_ok, as_bits, as_wanted}
+use Rattle.cmm_accepted.specs.Judging.{Judged, as_wanted}
 use Rattle.cmm_accepted.specs.Typing.{expr_type, wanted, literal, operand_at, applied_to_one}
 use Rattle.cmm_accepted.specs.Constants.{Alone, Plain, Negative, alone, alone_type, alone_or, wanted_alone, number_known, as_number, number_alone, constant_known, as_constant, constant_of}
 use Rattle.cmm_accepted.specs.Scopes.{valued, untyped_sense, typed_sense}
 use Rattle.cmm_meaning.specs.Fitting.{sense_fits, NamesFit}
 use Rattle.cmm_meaning.specs.Resolving.{or_zero, constant_at}
-use Rattle.cmm_meaning.proofs.Judged.{Holds, OnSome, IsKept, SenseFits, BitsFit, TypedFits, OperandFits, WantedFit, IsClean, holds_with, bits_fit, wanted_fits, literal_fits, one_fits, operand_fits, clean_fits, or_else}
+use Rattle.cmm_meaning.proofs.Judged.{Holds, OnSome, IsKept, SenseFits, BitsFit, TypedFits, OperandFits, WantedFit, holds_with, bits_fit, wanted_fits, literal_fits, one_fits, operand_fits, clean_fits}
 
 -- a number that is known is a word, and an address is there in a program
 abbrev pub IsKnown : Program → Width → Known → Type 0

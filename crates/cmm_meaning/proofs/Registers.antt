@@ -1,27 +1,16 @@
 -- The registers of accepted units stand in their program once for each name, with one width in all units.
-use Rattle.std.proofs.Common.{◌≡◌, ℕ, zero, suc, ◌+◌, ◌<◌, refl, sym, ap, ◌∙◌, subst, Bool, true, false, cond, List, [], ◌∷◌, ◌++◌, Option, Some, None, arith, length, inl, inr, ◌⊎◌}
-use Rattle.std.specs.Prelude.{map, flat_map, option_map, unwrap_or, not, bytes_eq, slice_get, position, nat_lt, ◌||◌, ◌==◌}
+use Rattle.std.proofs.Common.{◌≡◌, ℕ, suc, ◌+◌, ◌<◌, refl, sym, ap, ◌∙◌, subst, Bool, true, false, cond, List, [], ◌∷◌, ◌++◌, Option, Some, None, arith, length}
+use Rattle.std.specs.Prelude.{map, flat_map, option_map, unwrap_or, not, bytes_eq, slice_get, position, ◌||◌}
 use Rattle.std.specs.List.{prefix_len}
-use Rattle.std.proofs.lemmas.Bool.{lt-ltb, or_left, or_right, or_cases}
-use Rattle.std.proofs.lemmas.Option.{slice_get-map}
+use Rattle.std.proofs.lemmas.Bool.{lt-ltb, or_left, or_right}
 use Rattle.cmm_words.specs.declared.width.Width.{Width}
-use Rattle.cmm_words.specs.declared.width.Width.TheVariants.{W64}
-use Rattle.cmm_words.specs.Widths.{bits}
 use Rattle.cmm_ast.specs.declared.token.Ident.{Ident}
 use Rattle.cmm_ast.specs.declared.expression.TypeName.{TypeName}
-use Rattle.cmm_program.specs.declared.program.Global.{Global}
-use Rattle.cmm_program.specs.Typing.{same_width}
-use Rattle.cmm_rules.specs.declared.rule.Rule.TheVariants.{WidthsDiffer}
 use Rattle.cmm_accepted.specs.Senses.{host_named, is_host, is_there}
 use Rattle.cmm_accepted.specs.Declarations.{Declared, Entry, Typedef, Const, Register, Import, DataLabel, Procedure, NamedUnit, found, firsts}
-use Rattle.cmm_accepted.specs.Linking.{is_among, register_entry, registers_of, distinct, register_names}
+use Rattle.cmm_accepted.specs.Linking.{is_among, register_entry, registers_of, distinct}
 use Rattle.cmm_accepted.specs.Scopes.{width_in}
-use Rattle.cmm_accepted.specs.Units.{width_spots, register_spots}
-use Rattle.cmm_accepted.specs.Faults.{register_widths}
-use Rattle.cmm_meaning.specs.Meaning.{register_width, global_of}
-use Rattle.cmm_meaning.proofs.Naming.{same_name}
-use Rattle.cmm_meaning.proofs.Nothing.{no_left, no_right, no_unless}
-use Rattle.cmm_meaning.proofs.Cycles.{one_name, IsAt, found_at}
+use Rattle.cmm_meaning.proofs.Cycles.{one_name}
 
 abbrev Name : Type 0
 Name = List ℕ

@@ -1,6 +1,6 @@
 -- What the names of a procedure mean is there in the procedure that it means.
-use Rattle.std.proofs.Common.{◌≡◌, ℕ, suc, ◌+◌, ◌<◌, refl, sym, ap, ◌∙◌, subst, Bool, true, false, List, [], ◌∷◌, ◌++◌, Option, Some, None, Ok, Err, IsTrue, length, arith}
-use Rattle.std.specs.Prelude.{map, flat_map, option_map, slice_get, unwrap_or, nat_lt, bytes_eq}
+use Rattle.std.proofs.Common.{◌≡◌, ℕ, suc, ◌+◌, ◌<◌, refl, sym, ap, ◌∙◌, subst, Bool, true, false, List, [], ◌∷◌, ◌++◌, Option, Some, None, IsTrue, length, arith}
+use Rattle.std.specs.Prelude.{map, flat_map, option_map, slice_get, unwrap_or, bytes_eq}
 use Rattle.std.proofs.lemmas.List.{map-append}
 use Rattle.std.proofs.lemmas.Bool.{lt-ltb}
 use Rattle.std.proofs.lemmas.Option.{slice_get-map}
@@ -22,10 +22,9 @@ use Rattle.cmm_ast.specs.declared.statement.Part.TheVariants as parts
 use Rattle.cmm_ast.specs.declared.statement.StmtForm.TheVariants as stmts
 use Rattle.cmm_program.specs.declared.procedure.Proc.{Proc}
 use Rattle.cmm_program.specs.declared.procedure.VarInfo.{VarInfo}
-use Rattle.cmm_program.specs.declared.procedure.StackItem.{StackItem}
 use Rattle.cmm_program.specs.declared.program.Program.{Program}
-use Rattle.cmm_program.specs.Layout.{aligned_up, stackdata_labels, stackdata_labels_from}
-use Rattle.cmm_program.specs.Typing.{same_width, has_variable}
+use Rattle.cmm_program.specs.Layout.{stackdata_labels, stackdata_labels_from}
+use Rattle.cmm_program.specs.Typing.{same_width}
 use Rattle.cmm_accepted.specs.declared.sense.Sense.TheVariants as meanings
 use Rattle.cmm_accepted.specs.Senses.{Senses}
 use Rattle.cmm_accepted.specs.Items.{SpanTree, parts_of}
@@ -33,14 +32,14 @@ use Rattle.cmm_accepted.specs.Declarations.{Declared, Local, Variable, Room as R
 use Rattle.cmm_accepted.specs.Judging.{if_ok}
 use Rattle.cmm_accepted.specs.Typing.{type_width}
 use Rattle.cmm_accepted.specs.Limits.{local_rooms}
-use Rattle.cmm_accepted.specs.Scopes.{Scope, types, senses, local_sense}
+use Rattle.cmm_accepted.specs.Scopes.{Scope, types, local_sense}
 use Rattle.cmm_accepted.specs.Statements.{scope_of}
 use Rattle.cmm_meaning.specs.Resolving.{width_at}
-use Rattle.cmm_meaning.specs.Procedures.{formal_info, local_infos, part_infos, variable_infos, variable_info, stack_items, part_conts, procedure_of, label_alignment}
+use Rattle.cmm_meaning.specs.Procedures.{formal_info, local_infos, part_infos, variable_infos, variable_info, stack_items, part_conts, procedure_of}
 use Rattle.cmm_meaning.specs.Fitting.{sense_fits, NamesFit}
 use Rattle.cmm_meaning.specs.Laws.{ScopesFit}
 use Rattle.cmm_meaning.proofs.Naming.{how_many, how_many_append}
-use Rattle.cmm_meaning.proofs.MarkNumbers.{IsOfStatements, formals_none, conts_are, continuations_alone}
+use Rattle.cmm_meaning.proofs.MarkNumbers.{formals_none, conts_are, continuations_alone}
 use Rattle.cmm_meaning.proofs.Widths.{own_width}
 
 -- ---- the number of what is found is below how many there are

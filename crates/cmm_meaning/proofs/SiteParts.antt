@@ -1,19 +1,15 @@
 -- The call sites of accepted units keep the rules: what takes results is there with its width, exits are continuations of the procedure, and spans
 -- ascend and have constants that are there.
-use Rattle.std.proofs.Common.{◌≡◌, ℕ, zero, suc, ◌+◌, ◌<◌, ◌≤◌, refl, sym, ap, ◌∙◌, subst, Bool, true, false, List, [], ◌∷◌, ◌++◌, All, Option, Some, None, arith, length, IsTrue, inl, inr, ◌⊎◌}
-use Rattle.std.specs.Prelude.{map, flat_map, unwrap_or, nat_lt, nat_le, ◌&&◌, ◌==◌}
-use Rattle.std.specs.List.{list_all, list_any}
+use Rattle.std.proofs.Common.{◌≡◌, ℕ, ◌<◌, ◌≤◌, refl, sym, ap, ◌∙◌, subst, Bool, true, false, List, [], ◌∷◌, ◌++◌, Option, Some, None, arith, length, IsTrue}
+use Rattle.std.specs.Prelude.{map, flat_map, nat_lt, ◌==◌}
+use Rattle.std.specs.List.{list_all}
 use Rattle.std.specs.Option.{is_some}
 use Rattle.std.proofs.lemmas.List.{length-map}
-use Rattle.std.proofs.lemmas.Bool.{le-leb, lt-ltb, ltb-true, ltb-false, eqb-true, eqb-false, and_parts}
+use Rattle.std.proofs.lemmas.Bool.{le-leb, lt-ltb, ltb-false, eqb-true, eqb-false, and_parts}
 use Rattle.std.proofs.lemmas.List.Folds.{list_all-append}
 use Rattle.std.proofs.lemmas.Grind.{flat_map-append}
-use Rattle.cmm_words.specs.declared.width.Width.{Width}
-use Rattle.cmm_words.specs.declared.constant.Constant.{Constant}
 use Rattle.cmm_ast.specs.declared.token.Ident.{Ident}
 use Rattle.cmm_ast.specs.declared.procedure.Proc.{Proc as ProcTree}
-use Rattle.cmm_ast.specs.declared.statement.Actual.{Actual}
-use Rattle.cmm_ast.specs.declared.statement.Callee.{Callee}
 use Rattle.cmm_ast.specs.declared.statement.Flow.{Flow}
 use Rattle.cmm_ast.specs.declared.statement.FlowForm.{FlowForm}
 use Rattle.cmm_ast.specs.declared.statement.FlowForm.TheVariants as flows
@@ -22,10 +18,7 @@ use Rattle.cmm_ast.specs.declared.statement.Part.{Part}
 use Rattle.cmm_ast.specs.declared.statement.Part.TheVariants as parts
 use Rattle.cmm_ast.specs.declared.statement.StmtForm.{StmtForm}
 use Rattle.cmm_ast.specs.declared.statement.StmtForm.TheVariants as stmts
-use Rattle.cmm_ast.specs.declared.unit.Item.TheVariants as items
-use Rattle.cmm_ast.specs.declared.unit.Unit.{Unit as UnitTree}
 use Rattle.cmm_program.specs.declared.procedure.Proc.{Proc}
-use Rattle.cmm_program.specs.declared.procedure.Site.{Site}
 use Rattle.cmm_program.specs.declared.procedure.Target.{Target}
 use Rattle.cmm_program.specs.declared.program.Program.{Program}
 use Rattle.cmm_program.specs.InRange.{at_most_64, below, are_spans, is_site}
@@ -35,22 +28,21 @@ use Rattle.cmm_accepted.specs.declared.sense.Sense.{Sense}
 use Rattle.cmm_accepted.specs.declared.sense.Sense.TheVariants as meanings
 use Rattle.cmm_accepted.specs.Senses.{Senses}
 use Rattle.cmm_accepted.specs.Items.{SpanTree, Within, parts_in, parts_of}
-use Rattle.cmm_accepted.specs.Declarations.{Declared, Local, NamedUnit, named_units, found, is_declared, is_continuation, number_in, own_names}
+use Rattle.cmm_accepted.specs.Declarations.{Local, named_units, found, is_declared, is_continuation}
 use Rattle.cmm_accepted.specs.Calls.{target_spots, ident_spots, exit_spots, flow_names, return_names, flows_spots, site_flows_spots, too_many_names, results_spots, callee_spots, actuals_spots, first_token}
 use Rattle.cmm_accepted.specs.Expressions.{past_limit}
-use Rattle.cmm_accepted.specs.Faults.{AreAccepted, item_procedure_spots}
 use Rattle.cmm_accepted.specs.Limits.{proc_limits}
 use Rattle.cmm_accepted.specs.Linking.{program_of}
 use Rattle.cmm_accepted.specs.Scopes.{Scope, senses, unit_senses}
 use Rattle.cmm_accepted.specs.Statements.{scope_of, stmt_spots, part_spots, proc_spots, checked_spots}
-use Rattle.cmm_meaning.specs.Resolving.{target_in, target_of, constant_at}
+use Rattle.cmm_meaning.specs.Resolving.{target_in, target_of}
 use Rattle.cmm_meaning.specs.Sites.{SpanValue, unwind_names, cut_names, continuation_of, continuations_by, span_value, with_span, innermost, site_with, yielded_by, form_sites, part_sites, sites_among}
 use Rattle.cmm_meaning.specs.Procedures.{part_conts, procedure_of}
 use Rattle.cmm_meaning.specs.Meaning.{meaning_of}
 use Rattle.cmm_meaning.specs.Fitting.{sense_fits, NamesFit}
 use Rattle.cmm_meaning.specs.Laws.{SitesAreThere}
 use Rattle.cmm_meaning.proofs.Nothing.{no_left, no_right, no_unless}
-use Rattle.cmm_meaning.proofs.Everywhere.{Place, all_accepted}
+use Rattle.cmm_meaning.proofs.Everywhere.{all_accepted}
 use Rattle.cmm_meaning.proofs.Flat.{whats}
 use Rattle.cmm_meaning.proofs.Knowing.{constant_there}
 use Rattle.cmm_meaning.proofs.Keeping.{within, both_true}

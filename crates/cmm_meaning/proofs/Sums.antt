@@ -1,10 +1,9 @@
 -- Sums over all call sites of accepted units: of their procedures' variables, and of the tokens that have a span there.
-use Rattle.std.proofs.Common.{◌≡◌, ℕ, zero, suc, ◌+◌, ◌*◌, ◌<◌, ◌≤◌, refl, sym, ap, ◌∙◌, subst, Bool, true, false, List, [], ◌∷◌, ◌++◌, arith, length, Some, None, inl, inr, ◌⊎◌}
+use Rattle.std.proofs.Common.{◌≡◌, ℕ, suc, ◌+◌, ◌*◌, ◌<◌, ◌≤◌, refl, sym, ap, ◌∙◌, subst, Bool, true, false, List, [], ◌∷◌, ◌++◌, arith, length, Some, None, inl, inr, ◌⊎◌}
 use Rattle.std.specs.Prelude.{map, flat_map, sum_by, nat_lt, ◌==◌, ◌||◌}
 use Rattle.std.proofs.lemmas.List.{map-append}
 use Rattle.std.proofs.lemmas.List.Sums.{sum_by-append}
-use Rattle.std.proofs.lemmas.Bool.{or_cases, ltb-true, ltb-false, eqb-true, eqb-false, lt-ltb, ne_eqb}
-use Rattle.cmm_words.specs.declared.constant.Constant.{Constant}
+use Rattle.std.proofs.lemmas.Bool.{or_cases, ltb-true, ltb-false, eqb-true, eqb-false}
 use Rattle.cmm_ast.specs.declared.procedure.Proc.{Proc as ProcTree}
 use Rattle.cmm_ast.specs.declared.statement.Part.{Part}
 use Rattle.cmm_ast.specs.declared.statement.Part.TheVariants as parts
@@ -12,7 +11,6 @@ use Rattle.cmm_ast.specs.declared.statement.StmtForm.TheVariants as stmts
 use Rattle.cmm_ast.specs.declared.unit.Item.{Item}
 use Rattle.cmm_ast.specs.declared.unit.Item.TheVariants as items
 use Rattle.cmm_program.specs.declared.procedure.Proc.{Proc}
-use Rattle.cmm_program.specs.declared.procedure.Site.{Site}
 use Rattle.cmm_accepted.specs.Senses.{Senses}
 use Rattle.cmm_accepted.specs.Typing.{of_primary}
 use Rattle.cmm_accepted.specs.Items.{SpanTree, Within, parts_in, parts_of}
@@ -24,7 +22,6 @@ use Rattle.cmm_accepted.specs.Limits.{variables, site_count, sites_of, is_in, di
 use Rattle.cmm_meaning.specs.Sites.{SpanValue, span_value, with_span, innermost, part_sites, sites_among}
 use Rattle.cmm_meaning.specs.Procedures.{procedure_of}
 use Rattle.cmm_meaning.specs.Meaning.{item_procedures, unit_procedures, procedures_from}
-use Rattle.cmm_meaning.proofs.Flat.{whats}
 use Rattle.cmm_meaning.proofs.SiteNumbers.{length_is}
 use Rattle.cmm_meaning.proofs.Keeping.{variables_length}
 

@@ -1,6 +1,6 @@
 -- What the names of accepted units mean is there in their program.
-use Rattle.std.proofs.Common.{◌≡◌, ℕ, zero, suc, ◌+◌, ◌<◌, ◌≤◌, refl, sym, ap, ◌∙◌, subst, Bool, true, false, List, [], ◌∷◌, ◌++◌, append_assoc, append-nil, All, Option, Some, None, arith, length, IsTrue}
-use Rattle.std.specs.Prelude.{map, flat_map, option_map, unwrap_or, bytes_eq, slice_get, not, ◌||◌, ◌==◌}
+use Rattle.std.proofs.Common.{◌≡◌, ℕ, suc, ◌<◌, refl, sym, ap, ◌∙◌, subst, Bool, true, false, List, [], ◌∷◌, ◌++◌, append_assoc, append-nil, All, Option, Some, None, arith}
+use Rattle.std.specs.Prelude.{map, flat_map, option_map, unwrap_or, bytes_eq, slice_get, ◌||◌, ◌==◌}
 use Rattle.std.proofs.lemmas.Option.{slice_get-map}
 use Rattle.std.proofs.lemmas.Grind.{flat_map-append}
 use Rattle.std.proofs.lemmas.List.Elements.{All-nil, All-cons}
@@ -11,18 +11,17 @@ use Rattle.cmm_ast.specs.declared.token.Ident.{Ident}
 use Rattle.cmm_ast.specs.declared.expression.TypeName.{TypeName}
 use Rattle.cmm_ast.specs.declared.unit.Unit.{Unit as UnitTree}
 use Rattle.cmm_program.specs.declared.procedure.Proc.{Proc}
-use Rattle.cmm_program.specs.declared.program.Global.{Global}
 use Rattle.cmm_program.specs.declared.program.Program.{Program}
 use Rattle.cmm_program.specs.Typing.{same_width, has_register}
 use Rattle.cmm_rules.specs.declared.rule.Rule.TheVariants.{WidthsDiffer}
 use Rattle.cmm_accepted.specs.declared.spot.Spot.{Spot}
 use Rattle.cmm_accepted.specs.Spots.{unless}
 use Rattle.cmm_accepted.specs.Senses.{Senses, host_named, is_host, is_there}
-use Rattle.cmm_accepted.specs.Declarations.{Declared, Entry, Typedef, Const, Register, Import, DataLabel, Procedure, NamedUnit, named_units, units_from, found, firsts, procs_in, labels_in}
-use Rattle.cmm_accepted.specs.Linking.{Program as Linked, program_of, is_among, register_entry, registers_of, register_names, register_number, distinct}
+use Rattle.cmm_accepted.specs.Declarations.{Declared, Entry, Typedef, Const, Register, Import, DataLabel, Procedure, NamedUnit, named_units, found, firsts, procs_in, labels_in}
+use Rattle.cmm_accepted.specs.Linking.{Program as Linked, program_of, is_among, register_entry, registers_of, register_number}
 use Rattle.cmm_accepted.specs.Scopes.{width_in, unit_senses}
 use Rattle.cmm_accepted.specs.Expressions.{type_spots}
-use Rattle.cmm_accepted.specs.Units.{width_spots, register_spots, entry_spots, cycle_spots, item_spots}
+use Rattle.cmm_accepted.specs.Units.{width_spots, register_spots, entry_spots}
 use Rattle.cmm_accepted.specs.Faults.{AreAccepted, each_unit, declaration_spots, register_widths}
 use Rattle.cmm_meaning.specs.Meaning.{meaning_of, register_width, global_of}
 use Rattle.cmm_meaning.specs.Fitting.{NamesFit}
@@ -30,7 +29,7 @@ use Rattle.cmm_meaning.specs.Laws.{NamesAreThere}
 use Rattle.cmm_meaning.proofs.Nothing.{no_left, no_right, no_unless, first_unit, other_units, unbroken, declarations_kept}
 use Rattle.cmm_meaning.proofs.Judged.{same_bits}
 use Rattle.cmm_meaning.proofs.Widths.{own_width}
-use Rattle.cmm_meaning.proofs.Cycles.{IsAt, found_at}
+use Rattle.cmm_meaning.proofs.Cycles.{found_at}
 use Rattle.cmm_meaning.proofs.Entries.{EachUnit, unit_each, UnitFits, units_fit, procedures_length, labels_length, counted_in, all_published, some_procedure}
 use Rattle.cmm_meaning.proofs.Declaring.{type_wide, unit_fits}
 use Rattle.cmm_meaning.proofs.Registers.{name_at, among_append, distinct_keeps, found_left, found_right, found_among, register_found, found_width}

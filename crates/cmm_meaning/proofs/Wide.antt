@@ -1,6 +1,6 @@
 -- Where no rule is broken, no variable, register or type is broken.
-use Rattle.std.proofs.Common.{◌≡◌, ℕ, zero, suc, refl, sym, ap, ◌∙◌, subst, Bool, true, false, List, [], ◌∷◌, ◌++◌, Option, Some, None, Ok, Err, length}
-use Rattle.std.specs.Prelude.{map, flat_map, bytes_eq, unwrap_or}
+use Rattle.std.proofs.Common.{◌≡◌, ℕ, zero, suc, refl, subst, Bool, true, false, List, [], ◌∷◌, ◌++◌, Option, Some, None, Ok, Err, length}
+use Rattle.std.specs.Prelude.{map, flat_map, bytes_eq}
 use Rattle.cmm_words.specs.declared.width.Width.{Width}
 use Rattle.cmm_words.specs.declared.constant.Constant.{Constant}
 use Rattle.cmm_ast.specs.declared.token.Ident.{Ident}
@@ -29,10 +29,10 @@ use Rattle.cmm_accepted.specs.Constants.{as_number}
 use Rattle.cmm_accepted.specs.Typing.{typedef_width, type_width}
 use Rattle.cmm_accepted.specs.Items.{parts_of}
 use Rattle.cmm_accepted.specs.Declarations.{Declared, Entry, Typedef, Const, Register, Import, DataLabel, Procedure, Local, Variable, Room as RoomName, Label, Continuation, found, each_as, formal_name, room_names, local_names, part_names, own_names, number_in, is_variable}
-use Rattle.cmm_accepted.specs.Linking.{Program as Linked, published_as, register_number}
+use Rattle.cmm_accepted.specs.Linking.{Program as Linked, register_number}
 use Rattle.cmm_accepted.specs.Scopes.{Scope, types, senses, local_sense, width_in, valued, untyped_sense, typed_sense, const_sense, senses_by, unit_senses}
-use Rattle.cmm_accepted.specs.Expressions.{type_spots, past_limit}
-use Rattle.cmm_accepted.specs.Statements.{scope_of, local_spots, part_spots, stmt_spots, proc_spots}
+use Rattle.cmm_accepted.specs.Expressions.{type_spots}
+use Rattle.cmm_accepted.specs.Statements.{scope_of, local_spots, part_spots, proc_spots}
 use Rattle.cmm_accepted.specs.Units.{entry_spots}
 use Rattle.cmm_meaning.proofs.Nothing.{no_left, no_right}
 use Rattle.cmm_meaning.proofs.Cycles.{found_at}

@@ -1,8 +1,7 @@
 -- Expressions with names resolved have the widths that they are judged to have.
-use Rattle.std.proofs.Common.{◌≡◌, ℕ, ◌^◌, refl, sym, ap, ◌∙◌, subst, Bool, true, false, List, [], Option, Some, None, Ok, Err, IsTrue, length}
-use Rattle.std.specs.Prelude.{nat_lt, nat_le, ◌==◌, ◌&&◌, IfSome}
+use Rattle.std.proofs.Common.{◌≡◌, ℕ, ◌^◌, refl, ap, ◌∙◌, Bool, true, false, Option, Some, None, Ok, Err, IsTrue, length}
+use Rattle.std.specs.Prelude.{nat_lt, nat_le, ◌&&◌, IfSome}
 use Rattle.std.specs.Option.{is_some}
-use denote.Hole.Carrier as Carrier
 use Rattle.cmm_words.specs.declared.width.Width.{Width}
 use Rattle.cmm_words.specs.declared.width.Width.TheVariants.{W8, W16, W32, W64}
 use Rattle.cmm_words.specs.declared.constant.Constant.{Constant}
@@ -11,7 +10,6 @@ use Rattle.cmm_words.specs.declared.operators.Op1.{Op1}
 use Rattle.cmm_words.specs.declared.operators.Op2.{Op2}
 use Rattle.cmm_words.specs.declared.operators.Cmp.{Cmp}
 use Rattle.cmm_words.specs.Widths.{bits}
-use Rattle.cmm_ast.specs.declared.expression.Expr.{Expr}
 use Rattle.cmm_program.specs.declared.expression.Expression.{Expression}
 use Rattle.cmm_program.specs.declared.expression.Expression.TheVariants as x
 use Rattle.cmm_program.specs.declared.expression.Condition.{Condition}
@@ -19,20 +17,17 @@ use Rattle.cmm_program.specs.declared.expression.Condition.TheVariants as c
 use Rattle.cmm_program.specs.declared.procedure.Proc.{Proc}
 use Rattle.cmm_program.specs.declared.program.Program.{Program}
 use Rattle.cmm_program.specs.Errors.{with_some}
-use Rattle.cmm_program.specs.Layout.{stackdata_labels}
-use Rattle.cmm_program.specs.Typing.{same_width, if_holds, if_width, constant_width, has_variable, has_register, has_width, is_alignment, is_condition, typed as width_of}
+use Rattle.cmm_program.specs.Typing.{same_width, if_holds, if_width, constant_width, has_width, is_alignment, is_condition, typed as width_of}
 use Rattle.cmm_program.proofs.Shared.{opened}
-use Rattle.cmm_accepted.specs.declared.judged.Bits.{Bits}
 use Rattle.cmm_accepted.specs.declared.judged.Typed.{Typed}
 use Rattle.cmm_accepted.specs.declared.judged.Typed.TheVariants as typed
 use Rattle.cmm_accepted.specs.declared.sense.Sense.{Sense}
 use Rattle.cmm_accepted.specs.declared.sense.Sense.TheVariants.{Variable, Register, Value, Broken, Stackdata, Continuation, Typedef, CodeLabel, Host}
-use Rattle.cmm_accepted.specs.Senses.{Senses, constant_width as declared_width}
+use Rattle.cmm_accepted.specs.Senses.{constant_width as declared_width}
 use Rattle.cmm_accepted.specs.Algebras.{expressions}
 use Rattle.cmm_accepted.specs.Judging.{Judged}
-use Rattle.cmm_accepted.specs.Expressions.{inner_spots}
 use Rattle.cmm_accepted.specs.Typing.{expr_type}
-use Rattle.cmm_meaning.specs.Fitting.{sense_fits, NamesFit, JudgedFits}
+use Rattle.cmm_meaning.specs.Fitting.{sense_fits, JudgedFits}
 use Rattle.cmm_meaning.specs.Laws.{WidthsAreKept}
 use Rattle.cmm_meaning.proofs.Judged.{Holds, OnSome, IsKept, SenseFits, TypedFits, expression_fits}
 

@@ -1,5 +1,5 @@
 -- When what names mean, and what an expression is judged to be, fits a program: each number names what is there, and it has the width.
-use Rattle.std.specs.Prelude.{◌≡◌, ℕ, nat_lt, Bool, true, List, IsTrue, IfSome, length, Some, None, Option, Ok, Err}
+use Rattle.std.specs.Prelude.{◌≡◌, ℕ, nat_lt, Bool, true, List, IsTrue, IfSome, length, Some, Option, Ok, Err}
 use Rattle.std.specs.Option.{is_some}
 use Rattle.cmm_program.specs.declared.expression.Expression.{Expression}
 use Rattle.cmm_program.specs.declared.expression.Condition.{Condition}
