@@ -23,3 +23,4 @@ pub mod Wide
 pub mod SiteParts
 pub mod Sums
 pub mod ProgramLimits
+pub mod Leading

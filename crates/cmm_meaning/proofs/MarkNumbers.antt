@@ -71,7 +71,7 @@ module _ (test : Local → Bool) (none : IsOfStatements test) where
   local_none (locals.Variables before width names) = variables_none width names
   local_none (locals.Stackdata rs) = rooms_none rs
 
-labels_alone : IsOfStatements is_label
+pub labels_alone : IsOfStatements is_label
 labels_alone = record { variables = λ t. refl; rooms = refl }
 
 pub continuations_alone : IsOfStatements is_continuation
@@ -88,7 +88,7 @@ call_none number yield call s n c values false = call n (callee_of (senses s) c)
 one : (number : Form → List ℕ) (f : Form) → number f ≡ [] → number f ++ [] ≡ []
 one number f is = append-nil (number f) ∙ is
 
-label_part : (s : Scope) (n : ℕ) (p : Part) → IsNumbering is_label (part_names p) s.own (numbers_in label_number (part_of s n p))
+pub label_part : (s : Scope) (n : ℕ) (p : Part) → IsNumbering is_label (part_names p) s.own (numbers_in label_number (part_of s n p))
 label_part s n (parts.Local l) = WithNone (local_none is_label labels_alone l.form) refl
 label_part s n (parts.Stmt' first past (stmts.If' c _ body otherwise)) = WithNone refl refl
 label_part s n (parts.Stmt' first past (stmts.Switch' range value _ arms)) = WithNone refl refl

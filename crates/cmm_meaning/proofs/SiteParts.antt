@@ -150,16 +150,16 @@ module _ (outer : Senses) (tree : ProcTree) where
       let under : continuation_of s i < how_many is_continuation s.own = number_below is_continuation i.name known.0 s.own known.1.0 known.1.1 in
       lt-ltb (continuation_of s i) count (subst (λ n. continuation_of s i < n) (sym (continuations_are s tree)) under)
 
-  exits_below : (is : List Ident) → flat_map (exit_spots s) is ≡ [] → list_all (below count) (map (continuation_of s) is) ≡ true
+  pub exits_below : (is : List Ident) → flat_map (exit_spots s) is ≡ [] → list_all (below count) (map (continuation_of s) is) ≡ true
   exits_below [] none = refl
   exits_below (i ∷ is) none = both_true (below count (continuation_of s i)) _ (exit_below i (no_left (exit_spots s i) (flat_map (exit_spots s) is) none))
       (exits_below is (no_right (exit_spots s i) (flat_map (exit_spots s) is) none))
 
   -- an annotation names some of its names, as one kind
-  abbrev NamesSome : (Flow → List Ident) → Type 0
+  abbrev pub NamesSome : (Flow → List Ident) → Type 0
   NamesSome names = (form : FlowForm) (token : ℕ) → flat_map (exit_spots s) (flow_names record { token = token; form = form }) ≡ [] → flat_map (exit_spots s) (names record { token = token; form = form }) ≡ []
 
-  flows_below : (names : Flow → List Ident) → NamesSome names → (fs : List Flow) → flows_spots s fs ≡ [] → flat_map (exit_spots s) (flat_map names fs) ≡ []
+  pub flows_below : (names : Flow → List Ident) → NamesSome names → (fs : List Flow) → flows_spots s fs ≡ [] → flat_map (exit_spots s) (flat_map names fs) ≡ []
   flows_below names some [] none = refl
   flows_below names some (f ∷ fs) none =
       flat_map-append (exit_spots s) (names f) (flat_map names fs)
@@ -180,7 +180,7 @@ module _ (outer : Senses) (tree : ProcTree) where
   by_unwinds flows.Aborts token none = refl
   by_unwinds flows.NeverReturns token none = refl
 
-  by_cuts : NamesSome cut_names
+  pub by_cuts : NamesSome cut_names
   by_cuts (flows.ReturnsTo is) token none = refl
   by_cuts (flows.UnwindsTo is) token none = refl
   by_cuts (flows.CutsTo is) token none = none

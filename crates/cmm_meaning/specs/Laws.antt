@@ -1,10 +1,13 @@
 -- What holds of the program that units mean.
-use Rattle.std.specs.Prelude.{◌≡◌, ℕ, ◌<◌, ◌≤◌, ◌&&◌, nat_le, IsTrue, All, List, [], length, sum_by, ◌*◌}
+use Rattle.std.specs.Prelude.{◌≡◌, ℕ, ◌<◌, ◌≤◌, ◌&&◌, nat_le, Bool, true, IsTrue, All, List, [], length, sum_by, ◌*◌}
 use Rattle.std.specs.List.{list_all, range_with_len}
+use Rattle.std.specs.Option.{is_some}
 use Rattle.cmm_ast.specs.declared.unit.Unit.{Unit as UnitTree}
 use Rattle.cmm_program.specs.declared.procedure.Proc.{Proc}
 use Rattle.cmm_program.specs.declared.statement.Form.{Form}
-use Rattle.cmm_program.specs.InRange.{is_continuation, is_item, is_site}
+use Rattle.cmm_program.specs.InRange.{below, is_continuation, is_item, is_site}
+use Rattle.cmm_program.specs.Bodies.{AtLabel, after_inside, body_statements}
+use Rattle.cmm_program.specs.declared.statement.Form.TheVariants.{Cut, Goto, Span}
 use Rattle.cmm_program.specs.Numbering.{AreNumbered, body_numbers, label_number, continuation_number, site_number}
 use Rattle.cmm_program.specs.declared.program.Program.{Program}
 use Rattle.cmm_ast.specs.declared.expression.Expr.{Expr}
@@ -80,3 +83,12 @@ LimitsAreKept = (us : List UnitTree) → AreAccepted us → KeepsLimits (meaning
 -- the call sites of each procedure of accepted units keep the rules on results, exits and spans
 abbrev pub SitesAreThere : Type 0
 SitesAreThere = (us : List UnitTree) → AreAccepted us → All (λ q. IsTrue (list_all (is_site (meaning_of us) q) q.sites)) (meaning_of us).procs
+
+-- a `goto` leads to a label of its procedure, and a cut statement to continuations of it
+abbrev pub leads : Proc → Form → Bool
+leads q (Goto n) = is_some (after_inside (AtLabel n) (Span q.body))
+leads q (Cut to values own) = list_all (below (length q.conts)) own
+leads q _ = true
+
+abbrev pub WaysAreThere : Type 0
+WaysAreThere = (us : List UnitTree) → AreAccepted us → All (λ q. IsTrue (list_all (λ st. leads q st.form) (body_statements q))) (meaning_of us).procs

@@ -1,6 +1,7 @@
-//! What holds of the program that units mean. Each law is the contract of a function that does nothing.
+//! What holds of the program that units mean. Each law is the contract of a function that does nothing. Together they are most of what makes a
+//! program in range. What its statements compute with, its data, and counts of tokens against the shortest text are still to come.
 
-ghost use Rattle.cmm_meaning.specs.Laws.{LimitsAreKept, MarksAreInOrder, NamesAreThere, ScopesFit, SitesAreInOrder, SitesAreThere, WidthsAreKept};
+ghost use Rattle.cmm_meaning.specs.Laws.{LimitsAreKept, MarksAreInOrder, NamesAreThere, ScopesFit, SitesAreInOrder, SitesAreThere, WaysAreThere, WidthsAreKept};
 
 /// In the program of any units, the call sites of a procedure stand in its body once each, in textual order, from number 0 on.
 pub fn sites_are_in_order()
@@ -8,7 +9,7 @@ pub fn sites_are_in_order()
 {}
 
 /// In the program of accepted units, the labels and the continuations of a procedure stand in its body once each, in textual order, from number 0 on,
-/// and each continuation has its parameters.
+/// and the continuations are as many as the procedure lists.
 pub fn marks_are_in_order()
     ensures { MarksAreInOrder }
 {}
@@ -42,4 +43,9 @@ pub fn limits_are_kept()
 /// the procedure, and its spans ascend by token and have constants that are there.
 pub fn sites_are_there()
     ensures { SitesAreThere }
+{}
+
+/// In the program of accepted units, a `goto` leads to a label that stands in its procedure, and a cut statement to continuations of it.
+pub fn ways_are_there()
+    ensures { WaysAreThere }
 {}
