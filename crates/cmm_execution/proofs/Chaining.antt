@@ -4,18 +4,21 @@ use Rattle.std.proofs.lemmas.Bool.Decides.{nat_tests}
 use Rattle.cmm_image.specs.declared.parts.ImageParts.{ImageParts}
 use Rattle.cmm_image.specs.declared.rows.SiteRow.{SiteRow}
 use Rattle.cmm_image.specs.ImageFormat.{procedure_at}
+use Rattle.cmm_image.specs.InFrames.{KeepsFrame}
 use Rattle.cmm_execution.specs.Asking.{Chain}
 use Rattle.cmm_execution.specs.Regions.{Region, bottom, top}
 use Rattle.cmm_execution.specs.Frames.{Element, Point, Found, Activation, Nothing, Broken, is_end, is_frame, site_at, break_at, activation_at, found_at, point_after, behind, along, chain_within, points_from, chain_from}
-use Rattle.cmm_execution.specs.Laws.{HasFrames, ChainGoesOn}
+use Rattle.cmm_execution.specs.Laws.{KeepFrames, ChainGoesOn}
 
 -- ---- what is known of an activation that stands at a point
 
--- its frame is the point's, has 16 bytes, and ends in the stack
-record IsFrameAt (r : Region) (p : Point) (e : Element) : Type 0 where
-  frame : e.frame ≡ p.frame
-  size : 16 ≤ e.procedure.frame
-  inside : e.frame + e.procedure.frame ≤ top r
+-- its frame and its places are the point's, and the frame lies in the stack
+pub record IsFrameAt (r : Region) (p : Point) (e : Element) : Type 0 where
+  pub frame : e.frame ≡ p.frame
+  pub places : e.places ≡ p.places
+  pub keeps : KeepsFrame e.procedure e.site
+  pub above : bottom r ≤ e.frame
+  pub inside : e.frame + e.procedure.frame ≤ top r
 
 goes_on : (ends : Bool) (f : Found) (e : Element) → ◌≡◌ {A = Found} (elim ends [ true ↦ Nothing | false ↦ f ]) (Activation e) → f ≡ Activation e
 goes_on true f e is = absurd cc
@@ -31,20 +34,22 @@ fits : (p : Point) (b : Bool) (made e : Element) → ◌≡◌ {A = Found} (elim
 fits p true made e is = (refl, cc)
 fits p false made e is = absurd cc
 
-ends_inside : (low high frame size : ℕ) → ((frame % 16 == 0) && nat_le low frame && nat_le (frame + size) high) ≡ true → frame + size ≤ high
-ends_inside low high frame size h = grind (arith, nat_tests)
+lies_inside : (low high frame size : ℕ) → ((frame % 16 == 0) && nat_le low frame && nat_le (frame + size) high) ≡ true →
+    (low ≤ frame) × (frame + size ≤ high)
+lies_inside low high frame size h = grind (arith, nat_tests)
 
-framed : (r : Region) (p : Point) (made e : Element) → made.frame ≡ p.frame → 16 ≤ made.procedure.frame →
+framed : (r : Region) (p : Point) (made e : Element) → made.frame ≡ p.frame → made.places ≡ p.places → KeepsFrame made.procedure made.site →
     is_frame r p.frame made.procedure.frame ≡ true → made ≡ e → IsFrameAt r p e
-framed r p made e at size inside is =
-    subst (IsFrameAt r p) is record { frame = at; size = size; inside = rw at (ends_inside (bottom r) (top r) p.frame made.procedure.frame inside) }
+framed r p made e at places keeps inside is =
+    let lies = lies_inside (bottom r) (top r) p.frame made.procedure.frame inside in
+    subst (IsFrameAt r p) is record { frame = at; places = places; keeps = keeps; above = rw at lies.0; inside = rw at lies.1 }
 
-frame_at : (i : ImageParts) (r : Region) (p : Point) (e : Element) → HasFrames i → found_at i r p ≡ Activation e → IsFrameAt r p e
+pub frame_at : (i : ImageParts) (r : Region) (p : Point) (e : Element) → KeepFrames i → found_at i r p ≡ Activation e → IsFrameAt r p e
 frame_at i r p e frames is =
     let there = has_site p (site_at i p.address) (λ site. activation_at r p site (procedure_at i.procs site.procedure)) e (goes_on (is_end i r p) _ e is) in
     let made : Element = record { site = there.0; procedure = procedure_at i.procs there.0.procedure; frame = p.frame; places = p.places } in
     let both = fits p (is_frame r p.frame made.procedure.frame) made e there.2 in
-    framed r p made e refl (frames p.address there.0 there.1) both.0 both.1
+    framed r p made e refl refl (frames p.address there.0 there.1) both.0 both.1
 
 -- ---- points enough
 
@@ -58,11 +63,11 @@ along_same memory (Activation e) on also same = ap (behind e) (same e refl)
 along_same memory Nothing on also same = refl
 along_same memory (Broken b) on also same = refl
 
-module _ (i : ImageParts) (r : Region) (memory : ℕ → ℕ) (frames : HasFrames i) where
+module _ (i : ImageParts) (r : Region) (memory : ℕ → ℕ) (frames : KeepFrames i) where
   room_behind : (points : ℕ) (p : Point) (e : Element) → found_at i r p ≡ Activation e → points_from r p ≤ suc points →
       points_from r (point_after memory e) ≤ points
   room_behind points p e is enough = let at = frame_at i r p e frames is in
-      less_room (top r) e.frame e.procedure.frame points at.size at.inside (rw at.frame enough)
+      less_room (top r) e.frame e.procedure.frame points at.keeps.size at.inside (rw at.frame enough)
 
   -- once there are enough, more points make no difference
   same_chain : (a b : ℕ) (p : Point) → points_from r p ≤ a → points_from r p ≤ b → chain_within i r memory a p ≡ chain_within i r memory b p

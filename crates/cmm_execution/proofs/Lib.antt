@@ -1,5 +1,6 @@
 mod Growing
-mod Chaining
+pub mod Chaining
+mod StackRead
 mod Samples
 mod RunRows
 mod EventRows

@@ -1,12 +1,17 @@
 -- What holds of every run of every image, and of every chain.
-use Rattle.std.specs.Prelude.{◌≡◌, ◌≢◌, ℕ, ◌+◌, ◌≤◌, List, ◌++◌, Some}
+use Rattle.std.specs.Prelude.{◌≡◌, ◌≢◌, ℕ, ◌+◌, ◌<◌, ◌≤◌, IsTrue, List, ◌++◌, Some}
+use Rattle.rv_table.specs.Machine.{State}
 use Rattle.cmm_following.specs.Seen.{IsWithin}
 use Rattle.cmm_following.specs.Machine.{Lasts}
 use Rattle.cmm_image.specs.declared.parts.ImageParts.{ImageParts}
 use Rattle.cmm_image.specs.declared.rows.SiteRow.{SiteRow}
 use Rattle.cmm_image.specs.ImageFormat.{procedure_at}
-use Rattle.cmm_execution.specs.Regions.{Region}
+use Rattle.cmm_image.specs.Images.{IsImage}
+use Rattle.cmm_image.specs.InFrames.{KeepsFrame}
+use Rattle.cmm_image.specs.Places.{is_saved_register}
+use Rattle.cmm_execution.specs.Regions.{Region, bottom, top}
 use Rattle.cmm_execution.specs.Frames.{Point, site_at, found_at, along, chain_from}
+use Rattle.cmm_execution.specs.Walks.{chain_walk}
 use Rattle.cmm_execution.specs.Machine.{Launch, Run, Running, step, image_after}
 use Rattle.cmm_execution.specs.Observed.{image_machine, seen_of}
 
@@ -38,11 +43,25 @@ ImagesLast = (l : Launch) → Lasts (image_machine l)
 
 -- ---- chains
 
--- the frame of each procedure that has a site has at least 16 bytes
-abbrev pub HasFrames : ImageParts → Type 0
-HasFrames i = (address : ℕ) (site : SiteRow) → site_at i address ≡ Some site → 16 ≤ (procedure_at i.procs site.procedure).frame
+-- each site that is found keeps inside the frame of its procedure, as those of every image do
+abbrev pub KeepFrames : ImageParts → Type 0
+KeepFrames i = (address : ℕ) (site : SiteRow) → site_at i address ≡ Some site → KeepsFrame (procedure_at i.procs site.procedure) site
+
+abbrev pub ImagesKeepFrames : Type 0
+ImagesKeepFrames = (i : ImageParts) → IsImage i → KeepFrames i
 
 -- so a chain is told by what stands at its first point: behind an activation it is again a chain
 abbrev pub ChainGoesOn : Type 0
-ChainGoesOn = (i : ImageParts) (r : Region) (memory : ℕ → ℕ) (p : Point) → HasFrames i →
+ChainGoesOn = (i : ImageParts) (r : Region) (memory : ℕ → ℕ) (p : Point) → KeepFrames i →
     chain_from i r memory p ≡ along (chain_from i r memory) memory (found_at i r p)
+
+-- two states have the same return address and frame in registers 1 and 2, the same callee-saves registers, and the same bytes in the stack
+pub record SameStack (r : Region) (s t : State) : Type 0 where
+  pub address : s.registers 1 ≡ t.registers 1
+  pub frame : s.registers 2 ≡ t.registers 2
+  pub saved : (n : ℕ) → IsTrue (is_saved_register n) → s.registers n ≡ t.registers n
+  pub bytes : (at : ℕ) → bottom r ≤ at → at < top r → s.memory at ≡ t.memory at
+
+-- the walk of a state depends on nothing else
+abbrev pub WalkReadsTheStack : Type 0
+WalkReadsTheStack = (i : ImageParts) (r : Region) (s t : State) → KeepFrames i → SameStack r s t → chain_walk i r s ≡ chain_walk i r t

@@ -1,5 +1,5 @@
 //! Laws of runs and of chains: each is the contract of a function that does nothing.
-ghost use Rattle.cmm_execution.specs.Laws.{ChainGoesOn, ImagesLast, InputIsKept, OverStays, RunGrows, StepGrows};
+ghost use Rattle.cmm_execution.specs.Laws.{ChainGoesOn, ImagesKeepFrames, ImagesLast, InputIsKept, OverStays, RunGrows, StepGrows, WalkReadsTheStack};
 
 /// A run that is over stays as it is.
 #[tactic(auto, using(crate::proofs::Growing::over_stays))]
@@ -25,4 +25,14 @@ pub fn images_last()
 #[tactic(auto, using(crate::proofs::Chaining::chain_goes_on))]
 pub fn chains_go_on()
     ensures { ChainGoesOn }
+{}
+
+/// Each site of an image keeps inside the frame of its procedure, which is what chains need of an image.
+pub fn images_keep_frames()
+    ensures { ImagesKeepFrames }
+{}
+
+/// The walk of a state depends on its stack, and on the registers that lead there, alone.
+pub fn walks_read_the_stack()
+    ensures { WalkReadsTheStack }
 {}

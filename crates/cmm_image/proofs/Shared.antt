@@ -1,2 +1,2 @@
 -- The lemmas that proofs of other crates may cite.
-pub use Rattle.cmm_image.proofs.SiteLaws.{sites_have_procedures}
+pub use Rattle.cmm_image.proofs.SiteLaws.{sites_keep_frames}

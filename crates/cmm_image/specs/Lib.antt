@@ -3,5 +3,6 @@ pub mod Places
 pub mod ImageFormat
 pub mod Images
 pub mod Sites
+pub mod InFrames
 pub mod Laws
 pub mod inside

@@ -1,6 +1,6 @@
 //! Laws of the format: the contract of a function that does nothing.
 
-ghost use Rattle.cmm_image.specs.Laws.{EachMeansOneThing, ImagesAreOne, NoImageHasAFault, SitesHaveProcedures};
+ghost use Rattle.cmm_image.specs.Laws.{EachMeansOneThing, ImagesAreOne, NoImageHasAFault, SitesKeepFrames};
 
 /// Bytes are one image, or they have a first fault, and never both.
 pub fn bytes_mean_one_thing()
@@ -9,7 +9,7 @@ pub fn bytes_mean_one_thing()
     ensures never_both { NoImageHasAFault }
 {}
 
-/// Each site of an image is in a procedure that may have sites.
-pub fn sites_have_procedures()
-    ensures { SitesHaveProcedures }
+/// Each site of an image keeps inside the frame of its procedure.
+pub fn sites_keep_frames()
+    ensures { SitesKeepFrames }
 {}
