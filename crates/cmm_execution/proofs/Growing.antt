@@ -1,19 +1,21 @@
 -- What one instruction, and so many of them, leave of what was seen; and where a run is over.
-use Rattle.std.proofs.Common.{◌≡◌, ◌≢◌, true, ℕ, zero, suc, ◌+◌, List, [], ◌∷◌, ◌++◌, Option, Some, None, refl, ◌∙◌, append_assoc, zero-add, suc-add}
+use Rattle.std.proofs.Common.{ap, ◌≡◌, ◌≢◌, true, ℕ, zero, suc, ◌+◌, List, [], ◌∷◌, ◌++◌, Option, Some, None, refl, sym, ◌∙◌, append_assoc, zero-add, suc-add}
 use Rattle.rv_table.specs.declared.request.Request.{Request}
 use Rattle.rv_table.specs.declared.request.Request.TheVariants.{PutByte, GetByte, Yield, StackLimit, End}
 use Rattle.rv_table.specs.Machine as rv
 use Rattle.rv_table.specs.Machine.{State, instruction_step}
 use Rattle.cmm_script.specs.Lines.{yield_line}
 use Rattle.cmm_following.specs.Seen.{End as EndEvent}
+use Rattle.cmm_following.specs.Machine.{after}
+use Rattle.cmm_following.proofs.Runs.{one_end}
 use Rattle.cmm_following.proofs.Prefixes.{prefix_refl, prefix_more, within_refl, within_trans}
 use Rattle.cmm_execution.specs.Asking.{Break}
 use Rattle.cmm_execution.specs.Commands.{Left}
 use Rattle.cmm_execution.specs.Commands as client
 use Rattle.cmm_execution.specs.Frames.{Element, chain_of}
 use Rattle.cmm_execution.specs.Machine.{Launch, Run, Status, Running, Ended, Trapped, Torn, map_of, region_of, answered, left, yields, yielded_at, yielded, one_taken, goes_on, requested, after_instruction, step, steps_of, first_run, image_after}
-use Rattle.cmm_execution.specs.Observed.{Ending, asked_at, event_at, has_failed, seen_of}
-use Rattle.cmm_execution.specs.Laws.{Grows, OverStays, StepGrows, RunGrows, InputIsKept, ImagesLast}
+use Rattle.cmm_execution.specs.Observed.{Ending, asked_at, event_at, has_failed, seen_of, image_machine}
+use Rattle.cmm_execution.specs.Laws.{Grows, OverStays, StepGrows, RunGrows, InputIsKept, ImagesLast, RunsAreTheMachine, EndsOnce}
 
 -- ---- over
 
@@ -146,3 +148,21 @@ images_last l = record {
   over = λ run ending is. over_at l run.machine run.input run.taken run.output run.log run.status ending is;
   wrong = λ run is. failed_at l run.machine run.input run.taken run.output run.log run.status is;
 }
+
+after_next : (l : Launch) (n : ℕ) (run : Run) → after (image_machine l) n (step l run) ≡ step l (after (image_machine l) n run)
+after_next l zero run = refl
+after_next l (suc n) run = ap (step l) (after_next l n run)
+
+same_after : (l : Launch) (n : ℕ) (run : Run) → after (image_machine l) n run ≡ steps_of l n run
+same_after l zero run = refl
+same_after l (suc n) run = sym (after_next l n run) ∙ same_after l n (step l run)
+
+pub runs_are_the_machine : RunsAreTheMachine
+runs_are_the_machine l input n = same_after l n (first_run l input)
+
+pub ends_once : EndsOnce
+ends_once l input first second m n is also =
+    let run = first_run l input in
+    let one : (image_machine l).asks (after (image_machine l) m run) ≡ Some (EndEvent first) = ap (image_machine l).asks (same_after l m run) ∙ is in
+    let two : (image_machine l).asks (after (image_machine l) n run) ≡ Some (EndEvent second) = ap (image_machine l).asks (same_after l n run) ∙ also in
+    one_end (image_machine l) (images_last l) first second m n run one two

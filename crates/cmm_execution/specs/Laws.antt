@@ -1,8 +1,8 @@
 -- What holds of every run of every image, and of every chain.
 use Rattle.std.specs.Prelude.{◌≡◌, ◌≢◌, ℕ, ◌+◌, ◌<◌, ◌≤◌, IsTrue, List, ◌++◌, Some}
 use Rattle.rv_table.specs.Machine.{State}
-use Rattle.cmm_following.specs.Seen.{IsWithin}
-use Rattle.cmm_following.specs.Machine.{Lasts}
+use Rattle.cmm_following.specs.Seen.{IsWithin, End}
+use Rattle.cmm_following.specs.Machine.{Lasts, after}
 use Rattle.cmm_image.specs.declared.parts.ImageParts.{ImageParts}
 use Rattle.cmm_image.specs.declared.rows.SiteRow.{SiteRow}
 use Rattle.cmm_image.specs.ImageFormat.{procedure_at}
@@ -12,8 +12,8 @@ use Rattle.cmm_image.specs.Places.{is_saved_register}
 use Rattle.cmm_execution.specs.Regions.{Region, bottom, top}
 use Rattle.cmm_execution.specs.Frames.{Point, site_at, found_at, along, chain_from}
 use Rattle.cmm_execution.specs.Walks.{chain_walk}
-use Rattle.cmm_execution.specs.Machine.{Launch, Run, Running, step, image_after}
-use Rattle.cmm_execution.specs.Observed.{image_machine, seen_of}
+use Rattle.cmm_execution.specs.Machine.{Launch, Run, Running, step, first_run, image_after}
+use Rattle.cmm_execution.specs.Observed.{Ending, image_machine, seen_of}
 
 -- ---- runs
 
@@ -40,6 +40,15 @@ InputIsKept = (l : Launch) (input : List ℕ) (n : ℕ) → let run = image_afte
 -- in the theory of following an image is a machine that lasts
 abbrev pub ImagesLast : Type 0
 ImagesLast = (l : Launch) → Lasts (image_machine l)
+
+-- whose states are those after so many instructions
+abbrev pub RunsAreTheMachine : Type 0
+RunsAreTheMachine = (l : Launch) (input : List ℕ) (n : ℕ) → after (image_machine l) n (first_run l input) ≡ image_after l input n
+
+-- so a run has one ending at most
+abbrev pub EndsOnce : Type 0
+EndsOnce = (l : Launch) (input : List ℕ) (first second : Ending) (m n : ℕ) →
+    (image_machine l).asks (image_after l input m) ≡ Some (End first) → (image_machine l).asks (image_after l input n) ≡ Some (End second) → first ≡ second
 
 -- ---- chains
 

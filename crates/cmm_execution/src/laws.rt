@@ -1,5 +1,5 @@
 //! Laws of runs and of chains: each is the contract of a function that does nothing.
-ghost use Rattle.cmm_execution.specs.Laws.{ChainGoesOn, ImagesKeepFrames, ImagesLast, InputIsKept, OverStays, RunGrows, StepGrows, WalkReadsTheStack};
+ghost use Rattle.cmm_execution.specs.Laws.{ChainGoesOn, EndsOnce, ImagesKeepFrames, ImagesLast, InputIsKept, OverStays, RunGrows, RunsAreTheMachine, StepGrows, WalkReadsTheStack};
 
 /// A run that is over stays as it is.
 #[tactic(auto, using(crate::proofs::Growing::over_stays))]
@@ -15,10 +15,11 @@ pub fn what_was_seen_grows()
     ensures input { InputIsKept }
 {}
 
-/// An image is a machine that lasts: what is seen only grows, it ends once, and what has failed stays so.
-#[tactic(auto, using(crate::proofs::Growing::images_last))]
+/// An image is a machine that lasts: what is seen only grows, what has failed stays so, and a run ends once.
 pub fn images_last()
-    ensures { ImagesLast }
+    ensures lasts { ImagesLast }
+    ensures runs { RunsAreTheMachine }
+    ensures once { EndsOnce }
 {}
 
 /// A chain is what stands at its first point, and the chain behind that.
