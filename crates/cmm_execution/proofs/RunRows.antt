@@ -1,16 +1,18 @@
 -- Worked rows: an image runs for some hundred instructions, is walked, and is changed by each command.
-use Rattle.std.proofs.Common.{◌≡◌, ℕ, List, [], ◌∷◌, refl, pos}
-use Rattle.std.specs.Prelude.{codes, flat_map}
+use Rattle.std.proofs.Common.{◌≡◌, ℕ, List, [], ◌∷◌, ◌++◌, Some, refl, pos, negsuc}
+use Rattle.std.specs.Prelude.{codes, flat_map, replicate}
 use Rattle.cmm_script.specs.declared.script.Command.{Command}
 use Rattle.cmm_script.specs.declared.script.Command.TheVariants.{List as ListAll, Youngest, Next, Desc, Seek, Var, Set, Poke, Return, Unwind, Cut, Stop}
 use Rattle.cmm_script.specs.declared.script.Value.TheVariants.{Number, Yielded}
 use Rattle.cmm_script.specs.Walk.{line, kind_byte}
 use Rattle.rv_table.specs.declared.instruction.Instr.{Instr}
-use Rattle.rv_table.specs.declared.instruction.Instr.TheVariants.{Addi, Auipc, Ecall, Ld, Lbu, Lui}
+use Rattle.rv_table.specs.declared.instruction.Instr.TheVariants.{Addi, Auipc, Ecall, Jal, Ld, Lbu, Lui, Sd}
 use Rattle.rv_table.specs.declared.trap.TrapKind.TheVariants.{BadLoad, BadTarget, NoInstruction, NoRequest}
+use Rattle.cmm_words.specs.declared.width.Width.TheVariants.{W64}
+use Rattle.cmm_image.specs.declared.rows.VariablePlace.TheVariants.{Dead}
 use Rattle.cmm_program.specs.State.{Done, Stopped, StackLimit}
 use Rattle.cmm_execution.specs.Machine.{Status, Running, Ended, Trapped, Torn, image_after}
-use Rattle.cmm_execution.proofs.Samples.{yielding, spoiling, bare, launch, Seen, seen}
+use Rattle.cmm_execution.proofs.Samples.{call_row, image_of, yielding, spoiling, bare, launch, Seen, seen}
 use Rattle.std.specs.Fmt as Fmt
 
 -- what is seen once the image has run with this client for so long that it is over
@@ -184,3 +186,29 @@ nobody_yields = refl
 -- the first word is no instruction
 decodes_nothing : seen (image_after (launch (record (bare []) { code = 0 ∷ 0 ∷ 0 ∷ 0 ∷ [] }) []) [] 20) ≡ silent (Trapped NoInstruction 0x10000) []
 decodes_nothing = refl
+
+-- ---- more than eight values
+
+-- the ninth value of a yield is the first word of the argument area, and the tenth value that comes back the second one
+many : Seen
+many = seen (image_after (launch (image_of (
+    Addi 6 0 (pos 77) ∷ Sd 4 6 (pos 0) ∷ Addi 2 2 (negsuc 47) ∷ Jal 1 (pos 16) ∷ Ld 10 4 (pos 8) ∷ Addi 5 0 (pos 5) ∷ Ecall ∷ Addi 5 0 (pos 3) ∷ Ecall ∷ [])
+    (record call_row {
+      return_address = 0x10010;
+      yield_values = Some 9;
+      results = replicate 10 W64;
+      returns = [];
+      unwinds = [];
+      cuts = [];
+      variables = Dead ∷ Dead ∷ Dead ∷ [];
+      spans = [];
+    } ∷ []))
+    (Return 0 (replicate 9 (Number 1)) ∷ Return 0 (replicate 9 (Number 1) ++ Number 123 ∷ []) ∷ [])) [] 20)
+
+many_values : many ≡ record {
+  status = Ended (Done 123);
+  output = [];
+  log = flat_map line (codes "yield 0 0 0 0 0 0 0 0 77" ∷ codes "refused 65" ∷ codes "resume" ∷ []);
+}
+unfolding many Fmt.digits
+many_values = refl
