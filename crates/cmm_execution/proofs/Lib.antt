@@ -1,6 +1,7 @@
 mod Growing
 pub mod Chaining
 mod StackRead
+mod Finding
 mod Samples
 mod RunRows
 mod EventRows

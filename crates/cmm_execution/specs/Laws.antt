@@ -1,5 +1,6 @@
 -- What holds of every run of every image, and of every chain.
-use Rattle.std.specs.Prelude.{◌≡◌, ◌≢◌, ℕ, ◌+◌, ◌<◌, ◌≤◌, IsTrue, List, ◌++◌, Some}
+use Rattle.std.specs.Prelude.{◌≡◌, ◌≢◌, ℕ, ◌+◌, ◌<◌, ◌≤◌, IsTrue, List, ◌++◌, slice_get, Some}
+use Rattle.std.specs.Option.{option_and_then}
 use Rattle.rv_table.specs.Machine.{State}
 use Rattle.cmm_following.specs.Seen.{IsWithin, End}
 use Rattle.cmm_following.specs.Machine.{Lasts, after}
@@ -8,6 +9,7 @@ use Rattle.cmm_image.specs.declared.rows.SiteRow.{SiteRow}
 use Rattle.cmm_image.specs.ImageFormat.{procedure_at}
 use Rattle.cmm_image.specs.Images.{IsImage}
 use Rattle.cmm_image.specs.InFrames.{KeepsFrame}
+use Rattle.cmm_image.specs.Sites.{site_place}
 use Rattle.cmm_image.specs.Places.{is_saved_register}
 use Rattle.cmm_execution.specs.Regions.{Region, bottom, top}
 use Rattle.cmm_execution.specs.Frames.{Point, site_at, found_at, along, chain_from}
@@ -51,6 +53,10 @@ EndsOnce = (l : Launch) (input : List ℕ) (first second : Ending) (m n : ℕ) �
     (image_machine l).asks (image_after l input m) ≡ Some (End first) → (image_machine l).asks (image_after l input n) ≡ Some (End second) → first ≡ second
 
 -- ---- chains
+
+-- the site with a return address is the one at the place where a search finds it
+abbrev pub SitesAreFound : Type 0
+SitesAreFound = (i : ImageParts) (address : ℕ) → site_at i address ≡ option_and_then (slice_get i.sites) (site_place i.sites address)
 
 -- each site that is found keeps inside the frame of its procedure, as those of every image do
 abbrev pub KeepFrames : ImageParts → Type 0

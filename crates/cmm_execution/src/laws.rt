@@ -1,5 +1,5 @@
 //! Laws of runs and of chains: each is the contract of a function that does nothing.
-ghost use Rattle.cmm_execution.specs.Laws.{ChainGoesOn, EndsOnce, ImagesKeepFrames, ImagesLast, InputIsKept, OverStays, RunGrows, RunsAreTheMachine, StepGrows, WalkReadsTheStack};
+ghost use Rattle.cmm_execution.specs.Laws.{ChainGoesOn, EndsOnce, ImagesKeepFrames, ImagesLast, InputIsKept, OverStays, RunGrows, RunsAreTheMachine, SitesAreFound, StepGrows, WalkReadsTheStack};
 
 /// A run that is over stays as it is.
 #[tactic(auto, using(crate::proofs::Growing::over_stays))]
@@ -20,6 +20,11 @@ pub fn images_last()
     ensures lasts { ImagesLast }
     ensures runs { RunsAreTheMachine }
     ensures once { EndsOnce }
+{}
+
+/// The site with a return address is the one that a search finds.
+pub fn sites_are_found()
+    ensures { SitesAreFound }
 {}
 
 /// A chain is what stands at its first point, and the chain behind that.
