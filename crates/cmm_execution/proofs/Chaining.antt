@@ -17,6 +17,7 @@ pub record IsFrameAt (r : Region) (p : Point) (e : Element) : Type 0 where
   pub frame : e.frame ≡ p.frame
   pub places : e.places ≡ p.places
   pub keeps : KeepsFrame e.procedure e.site
+  pub lies : is_frame r e.frame e.procedure.frame ≡ true
   pub above : bottom r ≤ e.frame
   pub inside : e.frame + e.procedure.frame ≤ top r
 
@@ -34,7 +35,7 @@ fits : (p : Point) (b : Bool) (made e : Element) → ◌≡◌ {A = Found} (elim
 fits p true made e is = (refl, cc)
 fits p false made e is = absurd cc
 
-lies_inside : (low high frame size : ℕ) → ((frame % 16 == 0) && nat_le low frame && nat_le (frame + size) high) ≡ true →
+pub lies_inside : (low high frame size : ℕ) → ((frame % 16 == 0) && nat_le low frame && nat_le (frame + size) high) ≡ true →
     (low ≤ frame) × (frame + size ≤ high)
 lies_inside low high frame size h = grind (arith, nat_tests)
 
@@ -42,7 +43,7 @@ framed : (r : Region) (p : Point) (made e : Element) → made.frame ≡ p.frame 
     is_frame r p.frame made.procedure.frame ≡ true → made ≡ e → IsFrameAt r p e
 framed r p made e at places keeps inside is =
     let lies = lies_inside (bottom r) (top r) p.frame made.procedure.frame inside in
-    subst (IsFrameAt r p) is record { frame = at; places = places; keeps = keeps; above = rw at lies.0; inside = rw at lies.1 }
+    subst (IsFrameAt r p) is record { frame = at; places = places; keeps = keeps; lies = rw at inside; above = rw at lies.0; inside = rw at lies.1 }
 
 pub frame_at : (i : ImageParts) (r : Region) (p : Point) (e : Element) → KeepFrames i → found_at i r p ≡ Activation e → IsFrameAt r p e
 frame_at i r p e frames is =

@@ -5,3 +5,4 @@ mod Finding
 mod Samples
 mod RunRows
 mod EventRows
+pub mod Shared

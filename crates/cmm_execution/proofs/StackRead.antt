@@ -19,8 +19,8 @@ use Rattle.cmm_execution.specs.Regions.{Region, bottom, top, Place, InRegister, 
 use Rattle.cmm_execution.specs.Frames as frames
 use Rattle.cmm_execution.specs.Frames.{Element, Point, Found, Nothing, Broken, first_point, site_at, found_at, return_offset, places_before, point_after, behind, along, chain_within, points_from, chain_from, chain_of}
 use Rattle.cmm_execution.specs.Walks.{place_in, value_at, variables_shown, element_shown, walk_along, chain_walk}
-use Rattle.cmm_execution.specs.Laws.{KeepFrames, ImagesKeepFrames, SameStack, WalkReadsTheStack}
-use Rattle.cmm_execution.proofs.Chaining.{IsFrameAt, frame_at}
+use Rattle.cmm_execution.specs.Laws.{KeepFrames, ImagesKeepFrames, IsInStack, FitsStack, ElementsFit, SameStack, WalkReadsTheStack}
+use Rattle.cmm_execution.proofs.Chaining.{IsFrameAt, frame_at, lies_inside}
 
 -- ---- every image keeps inside frames
 
@@ -49,14 +49,9 @@ loaded_alike m n low high address (suc count) same above inside =
     let rest = loaded_alike m n low high (address + 1) count same (omega arith) (omega arith) in
     rw (first, rest) refl
 
--- 8 bytes that a walk may read
-abbrev MayRead : Region → Place → Type 0
-MayRead r (InRegister n) = IsTrue (is_saved_register n)
-MayRead r (InMemory address) = (bottom r ≤ address) × (address + 8 ≤ top r)
-
 -- the values of callee-saves registers are where a walk may read
 abbrev MayReadAll : Region → (ℕ → Place) → Type 0
-MayReadAll r places = (n : ℕ) → IsTrue (is_saved_register n) → MayRead r (places n)
+MayReadAll r places = (n : ℕ) → IsTrue (is_saved_register n) → IsInStack r (places n)
 
 -- ---- what lies in the frame of an activation
 
@@ -67,13 +62,13 @@ offset_fits : (o : Option ℕ) (frame : ℕ) → IfSome o (λ offset. offset + 8
 offset_fits (Some offset) frame fits size = fits
 offset_fits None frame fits size = omega arith
 
--- 8 bytes in the frame are 8 bytes that a walk may read
-may_read : (r : Region) (p : Point) (e : Element) (offset : ℕ) → IsFrameAt r p e → offset + 8 ≤ e.procedure.frame → MayRead r (InMemory (e.frame + offset))
+-- 8 bytes in the frame lie in the stack
+may_read : (r : Region) (p : Point) (e : Element) (offset : ℕ) → IsFrameAt r p e → offset + 8 ≤ e.procedure.frame → IsInStack r (InMemory (e.frame + offset))
 may_read r p e offset at fits = (omega (arith, at.above), omega (arith, at.inside, fits))
 
 may_read_saved : (r : Region) (p : Point) (e : Element) (n : ℕ) (o : Option SavedRegister) → IsFrameAt r p e →
-    ((saved : SavedRegister) → o ≡ Some saved → saved.offset + 8 ≤ e.procedure.frame) → MayRead r (e.places n) →
-    MayRead r (elim o [ Some saved ↦ InMemory (e.frame + saved.offset) | None ↦ e.places n ])
+    ((saved : SavedRegister) → o ≡ Some saved → saved.offset + 8 ≤ e.procedure.frame) → IsInStack r (e.places n) →
+    IsInStack r (elim o [ Some saved ↦ InMemory (e.frame + saved.offset) | None ↦ e.places n ])
 may_read_saved r p e n (Some saved) at fits may = may_read r p e saved.offset at (fits saved refl)
 may_read_saved r p e n None at fits may = may
 
@@ -81,6 +76,45 @@ may_read_before : (r : Region) (p : Point) (e : Element) → IsFrameAt r p e →
 may_read_before r p e at may n is =
     may_read_saved r p e n (find (λ saved. saved.register == n) e.procedure.saved) at
     (λ saved found. at_found (λ x. x.offset + 8 ≤ e.procedure.frame) (λ x. x.register == n) e.procedure.saved saved at.keeps.saved found) (may n is)
+
+-- ---- activations fit
+
+module _ (i : ImageParts) (r : Region) (memory : ℕ → ℕ) (keep : KeepFrames i) where
+  along_fits : (n : ℕ) (p : Point) (f : Found) → found_at i r p ≡ f → MayReadAll r p.places →
+      ((q : Point) → MayReadAll r q.places → (k : ℕ) (d : Element) → k < length (chain_within i r memory n q).activations →
+      FitsStack r (slice_index_or (chain_within i r memory n q).activations k d)) →
+      (k : ℕ) (d : Element) → k < length (along (λ q. chain_within i r memory n q) memory f).activations →
+      FitsStack r (slice_index_or (along (λ q. chain_within i r memory n q) memory f).activations k d)
+  along_fits n p (frames.Activation e) is may rest zero d short =
+      let at = frame_at i r p e keep is in
+      record { frame = at.lies; keeps = at.keeps; places = subst (MayReadAll r) (sym at.places) may }
+  along_fits n p (frames.Activation e) is may rest (suc k) d short =
+      let at = frame_at i r p e keep is in
+      rest (point_after memory e) (may_read_before r p e at (subst (MayReadAll r) (sym at.places) may)) k d (omega arith)
+  along_fits n p Nothing is may rest k d short = absurd (omega arith)
+  along_fits n p (Broken b) is may rest k d short = absurd (omega arith)
+
+  chain_fits : (n : ℕ) (p : Point) → MayReadAll r p.places → (k : ℕ) (d : Element) → k < length (chain_within i r memory n p).activations →
+      FitsStack r (slice_index_or (chain_within i r memory n p).activations k d)
+  chain_fits zero p may k d short = absurd (omega arith)
+  chain_fits (suc n) p may k d short = along_fits n p (found_at i r p) refl may (λ q there. chain_fits n q there) k d short
+
+-- one that fits stands at a point of its own
+fitting_at : (r : Region) (e : Element) → FitsStack r e → IsFrameAt r record { address = 0; frame = e.frame; places = e.places } e
+fitting_at r e fits =
+    let lies = lies_inside (bottom r) (top r) e.frame e.procedure.frame fits.frame in
+    record { frame = refl; places = refl; keeps = fits.keeps; lies = fits.frame; above = lies.0; inside = lies.1 }
+
+stands_fitting : (r : Region) (e : Element) → FitsStack r e → MayReadAll r (places_before e)
+stands_fitting r e fits =
+    let p : Point = record { address = 0; frame = e.frame; places = e.places } in
+    may_read_before r p e (fitting_at r e fits) fits.places
+
+pub elements_fit : ElementsFit
+elements_fit = record {
+  all_of = λ i r s keep. chain_fits i r s.memory keep (points_from r (first_point s)) (first_point s) (λ n is. is);
+  older = λ i r s e keep fits. let p = point_after s.memory e in chain_fits i r s.memory keep (points_from r p) p (stands_fitting r e fits);
+}
 
 -- ---- parts of states
 
@@ -109,7 +143,7 @@ unless_broken None xs ys same = ap Some same
 unless_broken (Some b) xs ys same = refl
 
 module _ (i : ImageParts) (r : Region) (s t : State) (keep : KeepFrames i) (same : SameStack r s t) where
-  word_alike : (place : Place) → MayRead r place → word_at s place ≡ word_at t place
+  word_alike : (place : Place) → IsInStack r place → word_at s place ≡ word_at t place
   word_alike (InRegister n) may = same.saved n may
   word_alike (InMemory address) may = loaded_alike s.memory t.memory (bottom r) (top r) address 8 same.bytes may.0 may.1
 

@@ -1,5 +1,6 @@
 -- What holds of every run of every image, and of every chain.
-use Rattle.std.specs.Prelude.{◌≡◌, ◌≢◌, ℕ, ◌+◌, ◌<◌, ◌≤◌, IsTrue, List, ◌++◌, slice_get, Some}
+use Rattle.std.specs.Prelude.{◌≡◌, ◌≢◌, true, ℕ, ◌+◌, ◌<◌, ◌≤◌, IsTrue, List, ◌++◌, slice_get, Some}
+use Rattle.std.specs.List.{All}
 use Rattle.std.specs.Option.{option_and_then}
 use Rattle.rv_table.specs.Machine.{State}
 use Rattle.cmm_following.specs.Seen.{IsWithin, End}
@@ -11,8 +12,8 @@ use Rattle.cmm_image.specs.Images.{IsImage}
 use Rattle.cmm_image.specs.InFrames.{KeepsFrame}
 use Rattle.cmm_image.specs.Sites.{site_place}
 use Rattle.cmm_image.specs.Places.{is_saved_register}
-use Rattle.cmm_execution.specs.Regions.{Region, bottom, top}
-use Rattle.cmm_execution.specs.Frames.{Point, site_at, found_at, along, chain_from}
+use Rattle.cmm_execution.specs.Regions.{Region, bottom, top, Place, InRegister, InMemory}
+use Rattle.cmm_execution.specs.Frames.{Element, Point, is_frame, site_at, found_at, along, chain_from, chain_of, older_than}
 use Rattle.cmm_execution.specs.Walks.{chain_walk}
 use Rattle.cmm_execution.specs.Machine.{Launch, Run, Running, step, first_run, image_after}
 use Rattle.cmm_execution.specs.Observed.{Ending, image_machine, seen_of}
@@ -69,6 +70,23 @@ ImagesKeepFrames = (i : ImageParts) → IsImage i → KeepFrames i
 abbrev pub ChainGoesOn : Type 0
 ChainGoesOn = (i : ImageParts) (r : Region) (memory : ℕ → ℕ) (p : Point) → KeepFrames i →
     chain_from i r memory p ≡ along (chain_from i r memory) memory (found_at i r p)
+
+-- 8 bytes that are a callee-saves register or lie in the stack
+abbrev pub IsInStack : Region → Place → Type 0
+IsInStack r (InRegister n) = IsTrue (is_saved_register n)
+IsInStack r (InMemory address) = (bottom r ≤ address) × (address + 8 ≤ top r)
+
+-- An activation fits: its frame begins at a multiple of 16 and lies in the stack, its tables keep inside the frame, and so do its values of
+-- callee-saves registers.
+pub record FitsStack (r : Region) (e : Element) : Type 0 where
+  pub frame : is_frame r e.frame e.procedure.frame ≡ true
+  pub keeps : KeepsFrame e.procedure e.site
+  pub places : (n : ℕ) → IsTrue (is_saved_register n) → IsInStack r (e.places n)
+
+-- the activations of a chain fit, and so do those that are older than one which fits
+pub record ElementsFit : Type 0 where
+  pub all_of : (i : ImageParts) (r : Region) (s : State) → KeepFrames i → All (FitsStack r) (chain_of i r s).activations
+  pub older : (i : ImageParts) (r : Region) (s : State) (e : Element) → KeepFrames i → FitsStack r e → All (FitsStack r) (older_than i r s e).activations
 
 -- two states have the same return address and frame in registers 1 and 2, the same callee-saves registers, and the same bytes in the stack
 pub record SameStack (r : Region) (s t : State) : Type 0 where

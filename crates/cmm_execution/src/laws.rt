@@ -1,5 +1,5 @@
 //! Laws of runs and of chains: each is the contract of a function that does nothing.
-ghost use Rattle.cmm_execution.specs.Laws.{ChainGoesOn, EndsOnce, ImagesKeepFrames, ImagesLast, InputIsKept, OverStays, RunGrows, RunsAreTheMachine, SitesAreFound, StepGrows, WalkReadsTheStack};
+ghost use Rattle.cmm_execution.specs.Laws.{ChainGoesOn, ElementsFit, EndsOnce, ImagesKeepFrames, ImagesLast, InputIsKept, OverStays, RunGrows, RunsAreTheMachine, SitesAreFound, StepGrows, WalkReadsTheStack};
 
 /// A run that is over stays as it is.
 #[tactic(auto, using(crate::proofs::Growing::over_stays))]
@@ -36,6 +36,11 @@ pub fn chains_go_on()
 /// Each site of an image keeps inside the frame of its procedure, which is what chains need of an image.
 pub fn images_keep_frames()
     ensures { ImagesKeepFrames }
+{}
+
+/// The activations of a chain fit the stack: their frames, and all that their tables say is in them.
+pub fn activations_fit()
+    ensures { ElementsFit }
 {}
 
 /// The walk of a state depends on its stack, and on the registers that lead there, alone.
