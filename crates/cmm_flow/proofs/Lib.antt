@@ -36,7 +36,7 @@ pub mod LivenessStatements
 pub mod LivenessExits
 pub mod LivenessAssignments
 pub mod LivenessArms
-pub mod LivenessSites
+pub mod LivenessTransfers
 pub mod LivenessDivisions
 pub mod LivenessForms
 pub mod LivenessRanges

@@ -1,5 +1,5 @@
 -- The arms of a switch as the paths of liveness see them: each leads where its node stands, and the default to the node for what no arm is for.
-use Rattle.std.proofs.Common.{◌≡◌, ◌⊎◌, inl, inr, ℕ, ◌+◌, ◌≤◌, true, false, Option, Some, None, List, [], ◌∷◌, ◌++◌, refl, ap, sym, ◌∙◌, subst, arith}
+use Rattle.std.proofs.Common.{◌≡◌, ◌⊎◌, inl, inr, ℕ, ◌+◌, ◌≤◌, true, false, Option, Some, None, List, [], ◌∷◌, ◌++◌, refl, ap, ◌∙◌, subst, arith}
 use Rattle.std.proofs.lemmas.Bool.{and_parts, leb-true}
 use Rattle.cmm_words.specs.declared.width.Width.{Width}
 use Rattle.cmm_program.specs.declared.procedure.Proc.{Proc}
@@ -16,7 +16,7 @@ use Rattle.cmm_graph.specs.declared.node.NodeKind.TheVariants.{Stop}
 use Rattle.cmm_graph.specs.declared.number.NodeId.{NodeId}
 use Rattle.cmm_graph.specs.Paths.{arm_nodes}
 use Rattle.cmm_flow.specs.Code.{IsNode}
-use Rattle.cmm_flow.specs.Statements.{ArmsCode, DefaultCode, ListCode, RowCode}
+use Rattle.cmm_flow.specs.Statements.{ArmsCode, DefaultCode, ListCode}
 use Rattle.cmm_flow.proofs.LivenessMembers.{Among}
 use Rattle.cmm_flow.proofs.Rows.{row_leads}
 

@@ -1,5 +1,5 @@
 -- The code of an assignment as the paths of liveness see it: all is read before the first place is written.
-use Rattle.std.proofs.Common.{◌≡◌, ℕ, suc, ◌+◌, ◌≤◌, ◌||◌, false, IsFalse, List, [], ◌∷◌, ◌++◌, append-nil, flat_map, length, refl, ap, sym, ◌∙◌, arith}
+use Rattle.std.proofs.Common.{◌≡◌, ℕ, suc, ◌||◌, false, IsFalse, List, [], ◌∷◌, ◌++◌, append-nil, flat_map, length, refl, ap, sym, ◌∙◌, arith}
 use Rattle.cmm_program.specs.declared.expression.Expression.{Expression}
 use Rattle.cmm_program.specs.declared.procedure.Proc.{Proc}
 use Rattle.cmm_program.specs.declared.statement.Lvalue.{Lvalue}

@@ -1,30 +1,26 @@
 -- What is live at a call site is live behind the site's node, and so for its cut exits and for the sets that are computed.
-use Rattle.std.proofs.Common.{◌≡◌, ◌⊎◌, ◌↔◌, inl, inr, ℕ, zero, suc, ◌<◌, ◌≤◌, ◌&&◌, not, Bool, true, false, IsTrue, IsFalse, Contains, Option, Some, None, List, [], ◌∷◌, ◌++◌, flat_map, length, slice_get, refl, ap, sym, ◌∙◌, subst, arith, true≢false}
-use Rattle.std.proofs.lemmas.Bool.{and_parts, eq-eqb, not-true, or_left}
+use Rattle.std.proofs.Common.{◌≡◌, ℕ, ◌<◌, IsFalse, Contains, Option, Some, None, List, [], length, ap, sym, subst, arith}
 use Rattle.cmm_program.specs.declared.procedure.Proc.{Proc}
 use Rattle.cmm_program.specs.declared.procedure.Site.{Site}
 use Rattle.cmm_program.specs.declared.program.Program.{Program}
 use Rattle.cmm_program.specs.Bodies.{AtContinuation, AtSite, follow}
-use Rattle.cmm_program.specs.InRange.{IsProcInRange, is_statement}
+use Rattle.cmm_program.specs.InRange.{is_statement}
 use Rattle.cmm_program.specs.Liveness.{Way, exits, exits_at, is_among, to_continuation}
 use Rattle.cmm_program.specs.LivePaths
 use Rattle.cmm_graph.specs.declared.graph.Graph.{Graph}
 use Rattle.cmm_graph.specs.declared.node.Node.{Node}
 use Rattle.cmm_graph.specs.declared.number.NodeId.{NodeId}
-use Rattle.cmm_graph.specs.declared.number.SiteId.{SiteId}
-use Rattle.cmm_graph.specs.Counterpart.{AreExitsOf, IsGraphOf}
+use Rattle.cmm_graph.specs.Counterpart.{AreExitsOf}
 use Rattle.cmm_graph.specs.Liveness.{IsLiveAfter, IsLiveBefore}
-use Rattle.cmm_graph.specs.Paths.{exit_nodes, landings, node_of, successors}
-use Rattle.cmm_live.specs.Sites as GraphSites
-use Rattle.cmm_live.specs.Sites.{IsLiveOn, cut_nodes, site_of}
-use Rattle.cmm_flow.specs.Flow.{IsFlowOf}
-use Rattle.cmm_flow.specs.Liveness.{HasNode, IsFlowInRange, IsKeptAtSite, IsLiveOnCut, IsNodeOfSite, SitesHaveNodes, SitesKeepLiveness, WaitOnce, all_different, site_id, variable, waiting_at}
+use Rattle.cmm_graph.specs.Paths.{exit_nodes, landings}
+use Rattle.cmm_live.specs.Sites.{cut_nodes}
+use Rattle.cmm_flow.specs.Liveness.{IsFlowInRange, IsLiveOnCut, SitesHaveNodes, site_id, variable}
 use Rattle.cmm_flow.proofs.LivenessExits.{AreExits, by_landing, cuts_there, exits_by, exits_to, to_landing}
-use Rattle.cmm_flow.proofs.LivenessMembers.{Among, among_left, among_map, among_of, among_parts, among_right, among_unmap, contains_of}
-use Rattle.cmm_flow.proofs.LivenessPieces.{Within, all_of, path_length}
+use Rattle.cmm_flow.proofs.LivenessMembers.{Among, among_map, among_of, among_unmap, contains_of}
+use Rattle.cmm_flow.proofs.LivenessPieces.{all_of, path_length}
 use Rattle.cmm_flow.proofs.LivenessPositions.{live_is_read, read_is_live}
 use Rattle.cmm_flow.proofs.LivenessRanges.{AllPass, exits_at_lead, follow_pass}
-use Rattle.cmm_flow.proofs.LivenessSites.{are_exits, has_site}
+use Rattle.cmm_flow.proofs.LivenessTransfers.{are_exits, has_site}
 use Rattle.cmm_flow.proofs.LivenessStatements.{Arrives}
 use Rattle.cmm_flow.proofs.LivenessWaiting.{Waits, site_waits, waiting_cuts, waiting_has, waiting_leads, waiting_site}
 

@@ -1,5 +1,5 @@
 -- The code of a checked operator as the paths of liveness see it: it goes on behind the statement, or waits at its site.
-use Rattle.std.proofs.Common.{◌≡◌, ◌⊎◌, inl, inr, ℕ, ◌+◌, ◌≤◌, ◌&&◌, ◌||◌, ◌==◌, Bool, true, false, IsTrue, IsFalse, Option, Some, None, List, [], ◌∷◌, ◌++◌, append-nil, flat_map, length, slice_get, refl, ap, sym, ◌∙◌, subst, arith}
+use Rattle.std.proofs.Common.{◌≡◌, ◌⊎◌, inl, inr, ℕ, ◌+◌, ◌&&◌, ◌||◌, ◌==◌, Bool, true, false, IsFalse, Option, Some, None, List, [], ◌∷◌, ◌++◌, append-nil, flat_map, length, slice_get, refl, ap, sym, ◌∙◌, subst, arith}
 use Rattle.std.proofs.lemmas.Bool.{and_parts, eqb-true}
 use Rattle.cmm_words.specs.Words.{is_division}
 use Rattle.cmm_words.specs.declared.constant.Constant.TheVariants.{Number}
@@ -34,7 +34,7 @@ use Rattle.cmm_flow.proofs.LivenessExits.{AreExits, exits_by, exits_to, target_w
 use Rattle.cmm_flow.proofs.LivenessExpressions.{branch_piece, operand_piece}
 use Rattle.cmm_flow.proofs.LivenessMembers.{Among, is_among-append, or_nothing, or_turned}
 use Rattle.cmm_flow.proofs.LivenessPieces.{Piece, any_local, any_read, fewer, left_as, node_piece, one_node, read_as, then_either}
-use Rattle.cmm_flow.proofs.LivenessSites.{IsCode, StandsAt, are_exits, has_site}
+use Rattle.cmm_flow.proofs.LivenessTransfers.{IsCode, StandsAt, are_exits, has_site}
 use Rattle.cmm_flow.proofs.LivenessStatements.{ByWay, ToNode, settled, stands_by}
 
 -- the operands are read once more behind the test

@@ -1,6 +1,6 @@
 -- The exits of a site lead to the landings of its continuations and to the CopyIn of its normal exit, and these write what the ways
 -- from the site write.
-use Rattle.std.proofs.Common.{◌≡◌, ◌⊎◌, inl, inr, ℕ, ◌+◌, ◌<◌, ◌≤◌, ◌||◌, Bool, true, false, IsTrue, IsFalse, suc, Option, Some, None, List, [], ◌∷◌, ◌++◌, flat_map, map, length, slice_get, refl, ap, sym, ◌∙◌, subst, arith}
+use Rattle.std.proofs.Common.{◌≡◌, ◌⊎◌, inl, inr, ℕ, ◌<◌, ◌||◌, Bool, true, false, IsTrue, IsFalse, suc, Option, Some, None, List, [], ◌∷◌, ◌++◌, flat_map, map, length, slice_get, refl, ap, sym, ◌∙◌, subst, arith}
 use Rattle.std.specs.Option.{option_map}
 use Rattle.std.proofs.lemmas.Bool.{and_parts, ltb-true}
 use Rattle.std.proofs.lemmas.Option.{slice_get-map}
@@ -14,7 +14,6 @@ use Rattle.cmm_program.specs.declared.program.Program.{Program}
 use Rattle.cmm_program.specs.declared.statement.Statement.{Statement}
 use Rattle.cmm_program.specs.Errors.{with_some}
 use Rattle.cmm_program.specs.Exits.{variable_width}
-use Rattle.cmm_program.specs.Frames.{parameters}
 use Rattle.cmm_program.specs.InRange.{below, is_site}
 use Rattle.cmm_program.specs.Liveness.{Way, exits, is_among, to_continuation, to_next, written_to}
 use Rattle.cmm_graph.specs.declared.graph.Graph.{Graph}

@@ -1,17 +1,8 @@
 -- The code of each form of statement is to the paths of liveness what the form is to those of the machine.
-use Rattle.std.proofs.Common.{◌≡◌, ◌⊎◌, inl, inr, ℕ, suc, ◌+◌, ◌≤◌, ◌&&◌, ◌||◌, nat_le, nat_lt, Bool, true, false, IsTrue, IsFalse, Option, Some, None, List, [], ◌∷◌, ◌++◌, length, map, slice_get, refl, ap, sym, ◌∙◌, subst, arith}
-use Rattle.std.proofs.lemmas.Bool.{and_parts, leb-true}
-use Rattle.std.specs.List.{list_all}
-use Rattle.cmm_words.specs.Words.{is_division}
-use Rattle.cmm_words.specs.declared.constant.Constant.TheVariants.{Number}
-use Rattle.cmm_words.specs.declared.operators.Cmp.TheVariants.{Eq}
-use Rattle.cmm_words.specs.declared.operators.Op2.{Op2}
-use Rattle.cmm_words.specs.declared.width.Width.{Width}
-use Rattle.cmm_words.specs.declared.width.Width.TheVariants.{W64}
+use Rattle.std.proofs.Common.{◌≡◌, ◌⊎◌, inl, inr, ℕ, suc, ◌≤◌, Bool, true, false, IsTrue, IsFalse, List, [], ◌∷◌, ◌++◌, length, refl, ap, sym, subst, arith}
+use Rattle.std.proofs.lemmas.Bool.{and_parts}
 use Rattle.cmm_program.specs.declared.expression.Expression.{Expression}
 use Rattle.cmm_program.specs.declared.procedure.Proc.{Proc}
-use Rattle.cmm_program.specs.declared.procedure.Site.{Site}
-use Rattle.cmm_program.specs.declared.procedure.Target.{Target}
 use Rattle.cmm_program.specs.declared.program.Program.{Program}
 use Rattle.cmm_program.specs.declared.statement.Form.{Form, Row_of-Arm}
 use Rattle.cmm_program.specs.declared.statement.Form.TheVariants as form
@@ -19,9 +10,8 @@ use Rattle.cmm_program.specs.declared.statement.Form.TheVariants.{Empty, If', Sw
 use Rattle.cmm_program.specs.declared.statement.Lvalue.{Lvalue}
 use Rattle.cmm_program.specs.declared.statement.Statement.{Statement}
 use Rattle.cmm_program.specs.Bodies.{AtLabel, Branch, branches, follow, is_default, statements}
-use Rattle.cmm_program.specs.InRange.{IsProcInRange, are_arms, are_assigned, at_site, below, defaults, is_checked_site, is_form}
-use Rattle.cmm_program.specs.Liveness.{Way, checked_ways, exits, exits_at, into_branches, is_among, plain, read_by, read_in, to_next, ways, written_to}
-use Rattle.cmm_program.specs.Todo.{site_results}
+use Rattle.cmm_program.specs.InRange.{IsProcInRange, are_assigned, defaults, is_form}
+use Rattle.cmm_program.specs.Liveness.{Way, into_branches, is_among, plain, read_by, read_in, ways, written_to}
 use Rattle.cmm_program.specs.Typing.{typed}
 use Rattle.cmm_graph.specs.declared.graph.Graph.{Graph}
 use Rattle.cmm_graph.specs.declared.node.Arm.{Arm}
@@ -34,16 +24,16 @@ use Rattle.cmm_graph.specs.Paths.{arm_nodes}
 use Rattle.cmm_flow.specs.Code.{IsNode, OperandCode}
 use Rattle.cmm_flow.specs.Flow.{IsFlowOf}
 use Rattle.cmm_flow.specs.Operands.{operand_of}
-use Rattle.cmm_flow.specs.Statements.{ArmsCode, CheckedCode, DefaultCode, FormCode}
+use Rattle.cmm_flow.specs.Statements.{ArmsCode, DefaultCode, FormCode}
 use Rattle.cmm_flow.proofs.LivenessArms.{FromDefault, Nowhere, OfBranch, There, default_counted, few_defaults, from_arm, from_default, to_arm, to_default}
 use Rattle.cmm_flow.proofs.LivenessAssignments.{assign_stands}
 use Rattle.cmm_flow.proofs.LivenessDivisions.{checked_stands}
 use Rattle.cmm_flow.proofs.LivenessExits.{target_writes}
 use Rattle.cmm_flow.proofs.LivenessExpressions.{alone, operand_piece, test_piece}
-use Rattle.cmm_flow.proofs.LivenessMembers.{Among, among_map, among_parts, among_left, among_right, among_unmap, or_nothing}
-use Rattle.cmm_flow.proofs.LivenessPieces.{Gone, Piece, Within, any_local, any_operand, any_read, left_as, node_piece, one_node, quiet_node, read_as, without}
-use Rattle.cmm_flow.proofs.LivenessSites.{IsCode, StandsAt, call_stands, cut_stands, jump_stands, return_stands, yield_stands}
-use Rattle.cmm_flow.proofs.LivenessStatements.{ByWay, ToNode, at_once, last_node, no_way, plain_way, stands_by, two_ways, writing_way}
+use Rattle.cmm_flow.proofs.LivenessMembers.{Among, among_map, among_parts, among_left, among_right, among_unmap}
+use Rattle.cmm_flow.proofs.LivenessPieces.{Gone, Piece, Within, any_local, last_node, left_as, node_piece, one_node, quiet_node, without}
+use Rattle.cmm_flow.proofs.LivenessTransfers.{IsCode, StandsAt, call_stands, cut_stands, jump_stands, return_stands, yield_stands}
+use Rattle.cmm_flow.proofs.LivenessStatements.{ByWay, ToNode, at_once, no_way, plain_way, stands_by, two_ways, writing_way}
 use Rattle.cmm_flow.proofs.Rows.{row_leads}
 
 -- as many values as there are places
@@ -77,7 +67,7 @@ module _ (p : Program) (q : Proc) (g : Graph) (range : IsProcInRange p q) (graph
   nothing_lives n is d within = by (piece.back d within)
     where
       piece : Piece g v 1 n false (λ m. ⊥)
-      piece = last_node q g flow.label_node v n 1 kind.Stop is refl
+      piece = last_node g v n 1 kind.Stop is refl
 
       by : IsTrue false ⊎ Gone g v 1 d (λ m. ⊥) → ⊥
       by (inl is) = cc
@@ -205,6 +195,6 @@ module _ (p : Program) (q : Proc) (g : Graph) (range : IsProcInRange p q) (graph
   form_stands tokens (Jump callee actuals) n k rest code behind is = jump_stands p q g range graph flow v tokens callee actuals n code
   form_stands tokens (Return exit alternates values) n k rest code behind is = return_stands p q g range graph flow v tokens exit alternates values n code
   form_stands tokens (Continuation c) n k rest node behind is =
-      no_way q g flow.label_node v n false (last_node q g flow.label_node v n 1 kind.Stop node refl)
+      no_way q g flow.label_node v n false (last_node g v n 1 kind.Stop node refl)
   form_stands tokens (Cut to values own) n k rest code behind is =
       cut_stands p q g range graph flow v tokens to values own n code (and_parts _ _ is).1

@@ -1,6 +1,6 @@
 -- Pieces of a graph as the paths of liveness see them: whether a variable is read in a piece, and where a path on which the
 -- piece does not write it leaves the piece.
-use Rattle.std.proofs.Common.{◌≡◌, ◌⊎◌, inl, inr, ℕ, zero, suc, ◌+◌, ◌<◌, ◌≤◌, ◌||◌, ◌==◌, Bool, true, false, IsTrue, IsFalse, Contains, Some, List, [], ◌∷◌, ◌++◌, flat_map, refl, ap, sym, ◌∙◌, subst, true≢false, arith}
+use Rattle.std.proofs.Common.{◌≡◌, ◌⊎◌, inl, inr, ℕ, suc, ◌+◌, ◌≤◌, ◌||◌, ◌==◌, Bool, true, false, IsTrue, IsFalse, Contains, List, [], ◌∷◌, ◌++◌, flat_map, refl, ap, sym, ◌∙◌, subst, true≢false, arith}
 use Rattle.std.proofs.lemmas.Bool.{eq-eqb, eqb-true, false_from_ne_true, or_cases, or_from, or_left, or_parts, or_right}
 use Rattle.cmm_graph.specs.declared.graph.Graph.{Graph}
 use Rattle.cmm_graph.specs.declared.node.Node.{Node}
@@ -10,7 +10,7 @@ use Rattle.cmm_graph.specs.declared.operand.Local.{Local}
 use Rattle.cmm_graph.specs.declared.operand.Local.TheVariants as local
 use Rattle.cmm_graph.specs.declared.operand.Operand.{Operand}
 use Rattle.cmm_graph.specs.Liveness.{IsLiveBefore, Here, Onward}
-use Rattle.cmm_graph.specs.Paths.{node_of, operands, read_by, reads, successors, writes}
+use Rattle.cmm_graph.specs.Paths.{operands, read_by, reads, successors, writes}
 use Rattle.cmm_flow.specs.Code.{IsNode}
 use Rattle.cmm_flow.proofs.LivenessMembers.{Among, among_of, contains_of, or_among}
 
@@ -293,3 +293,9 @@ module _ (g : Graph) (v : ℕ) where
   pub quiet_node : (n k : NodeId) (tokens : ℕ) (kind : NodeKind) → IsNode g.nodes n tokens kind → successors g kind ≡ k ∷ [] → kind_writes kind ≡ false →
       Piece 1 n (any_operand v (operands kind)) (λ m. k ≡ m)
   quiet_node n k tokens kind is leads quiet = left_as (λ m. k ≡ m) (λ m is. is.1) (λ m same. (quiet, same)) (one_node n k tokens kind is leads)
+
+  -- a node that leads nowhere
+  pub last_node : (n : NodeId) (tokens : ℕ) (kind : NodeKind) → IsNode g.nodes n tokens kind → successors g kind ≡ [] →
+      Piece 1 n (any_operand v (operands kind)) (λ m. ⊥)
+  last_node n tokens kind is leads =
+      left_as (λ m. ⊥) (λ m is. subst (λ ms. Among ms m) leads is.1) (λ m none. absurd none) (node_piece n tokens kind is)

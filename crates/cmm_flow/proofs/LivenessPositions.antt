@@ -1,16 +1,14 @@
 -- A variable is read from statements that are still to do just where it is live before the node at which their code begins.
-use Rattle.std.proofs.Common.{◌≡◌, ◌⊎◌, ◌↔◌, inl, inr, ℕ, zero, suc, ◌+◌, ◌≤◌, ◌&&◌, Bool, true, false, IsTrue, IsFalse, List, [], ◌∷◌, refl, arith}
+use Rattle.std.proofs.Common.{◌⊎◌, ◌↔◌, inl, inr, ℕ, zero, suc, ◌≤◌, ◌&&◌, IsTrue, List, [], ◌∷◌, arith}
 use Rattle.std.proofs.lemmas.Bool.{and_parts}
 use Rattle.std.specs.List.{list_all}
 use Rattle.cmm_program.specs.declared.procedure.Proc.{Proc}
 use Rattle.cmm_program.specs.declared.program.Program.{Program}
 use Rattle.cmm_program.specs.declared.statement.Statement.{Statement}
-use Rattle.cmm_program.specs.InRange.{IsProcInRange, is_body_in, is_form, is_statement}
+use Rattle.cmm_program.specs.InRange.{IsProcInRange, is_body_in, is_statement}
 use Rattle.cmm_program.specs.Liveness.{Way, is_among, read_in, ways}
 use Rattle.cmm_program.specs.LivePaths.{IsReadFrom, Here, Onward}
-use Rattle.cmm_program.specs.Tokens.{own_tokens}
 use Rattle.cmm_graph.specs.declared.graph.Graph.{Graph}
-use Rattle.cmm_graph.specs.declared.node.NodeKind.TheVariants as kind
 use Rattle.cmm_graph.specs.declared.number.NodeId.{NodeId}
 use Rattle.cmm_graph.specs.Counterpart.{IsGraphOf}
 use Rattle.cmm_flow.specs.Flow.{IsFlowOf}
@@ -19,7 +17,7 @@ use Rattle.cmm_flow.proofs.LivenessForms.{form_stands, nothing_lives}
 use Rattle.cmm_flow.proofs.LivenessMembers.{Among, among_of, contains_of}
 use Rattle.cmm_flow.proofs.LivenessPieces.{Live, Within, all_of, path_length}
 use Rattle.cmm_flow.proofs.LivenessRanges.{AllPass, ways_lead}
-use Rattle.cmm_flow.proofs.LivenessSites.{IsCode, StandsAt}
+use Rattle.cmm_flow.proofs.LivenessTransfers.{IsCode, StandsAt}
 use Rattle.cmm_flow.proofs.LivenessStatements.{Goes}
 
 module _ (p : Program) (q : Proc) (g : Graph) (range : IsProcInRange p q) (graph : IsGraphOf p q g) (flow : IsFlowOf q g) (v : ℕ) where

@@ -3,13 +3,13 @@ use Rattle.std.specs.List.{list_all}
 use Rattle.std.proofs.lemmas.Bool.{and_parts}
 use Rattle.std.proofs.lemmas.Bool.Decides.{nat_tests}
 use Rattle.std.proofs.lemmas.List.Folds.{list_all-append}
-use Rattle.std.proofs.Common.{◌≡◌, ◌⊎◌, inl, inr, ℕ, Bool, true, false, Option, Some, None, List, [], ◌∷◌, ◌++◌, map, IsTrue, IfSome, slice_get, subst, arith}
+use Rattle.std.proofs.Common.{◌⊎◌, inl, inr, ℕ, Bool, true, false, Option, Some, None, List, [], ◌∷◌, ◌++◌, map, IsTrue, IfSome, slice_get, subst, arith}
 use Rattle.cmm_program.specs.declared.procedure.Proc.{Proc}
 use Rattle.cmm_program.specs.declared.procedure.Site.{Site}
-use Rattle.cmm_program.specs.declared.statement.Form.{Form, Row_of-Arm, end_of-Arm, more_of-Arm}
+use Rattle.cmm_program.specs.declared.statement.Form.{Form, Row_of-Arm, more_of-Arm}
 use Rattle.cmm_program.specs.declared.statement.Form.TheVariants.{Empty, If', Switch', Span', Span, Assign, Call, Yield, Checked, PutByte, GetByte, Jump, Return, Label, Goto, Continuation, Cut}
 use Rattle.cmm_program.specs.declared.statement.Statement.{Statement}
-use Rattle.cmm_program.specs.declared.statement.Arm.{Arm', Row_of-Statement, end_of-Statement, more_of-Statement}
+use Rattle.cmm_program.specs.declared.statement.Arm.{Arm', Row_of-Statement, more_of-Statement}
 use Rattle.cmm_program.specs.Bodies.{Branch, Mark, AtContinuation, AtLabel, after_in, after_in_arms, after_inside, branches, follow, statements, within, within_arms, within_block}
 use Rattle.cmm_program.specs.Liveness.{Way, checked_ways, exits, exits_at, into_branches, plain, to_continuation, to_next, ways}
 use Rattle.cmm_flow.proofs.LivenessMembers.{Among, among_parts, among_unmap}

@@ -1,9 +1,7 @@
 -- Where no two nodes wait at one site, what is live at the site by the graph's paths, and what the sets of the graph have, is what is live
 -- there by those of the procedure.
-use Rattle.std.proofs.Common.{◌≡◌, ◌↔◌, ℕ, zero, suc, ◌<◌, ◌&&◌, ◌||◌, ◌==◌, not, nat_lt, Bool, true, false, IsTrue, Contains, Option, Some, None, List, [], ◌∷◌, ◌++◌, flat_map, length, slice_get, refl, ap, sym, ◌∙◌, subst, arith, true≢false}
+use Rattle.std.proofs.Common.{◌≡◌, ◌↔◌, ℕ, zero, suc, ◌==◌, not, Bool, true, false, Contains, Option, Some, None, List, [], ◌∷◌, ◌++◌, flat_map, slice_get, refl, ap, sym, ◌∙◌, subst, arith, true≢false}
 use Rattle.std.proofs.lemmas.Bool.{and_parts, eq-eqb, lt-ltb, not-true, or_left, or_right}
-use Rattle.cmm_program.specs.declared.procedure.Proc.{Proc}
-use Rattle.cmm_program.specs.declared.program.Program.{Program}
 use Rattle.cmm_program.specs.Laws.{LivenessIsByPaths}
 use Rattle.cmm_program.specs.Liveness.{is_among, is_live_at}
 use Rattle.cmm_program.specs.LivePaths
@@ -15,11 +13,10 @@ use Rattle.cmm_graph.specs.declared.number.SiteId.{SiteId}
 use Rattle.cmm_graph.specs.Liveness.{IsLiveAfter}
 use Rattle.cmm_graph.specs.Paths.{successors}
 use Rattle.cmm_graph.specs.Ranges.{is_local}
-use Rattle.cmm_live.specs.declared.live_sets.LiveSets.{LiveSets}
-use Rattle.cmm_live.specs.Exact.{AreLiveSets, AreOfSites, IsSetOf, is_at, is_on_cut}
+use Rattle.cmm_live.specs.Exact.{is_at}
 use Rattle.cmm_live.specs.Sites as GraphSites
 use Rattle.cmm_live.specs.Sites.{IsLiveOn, cut_nodes, site_of}
-use Rattle.cmm_flow.specs.Liveness.{AreSetsAtSite, HasNode, IsFlowInRange, IsKeptAtSite, IsLiveOnCut, SetsAreOfProcedure, SitesKeepLiveness, WaitOnce, all_different, site_id, variable, waiting_at}
+use Rattle.cmm_flow.specs.Liveness.{HasNode, IsLiveOnCut, SetsAreOfProcedure, SitesKeepLiveness, all_different, site_id, variable, waiting_at}
 use Rattle.cmm_flow.proofs.LivenessAtSites.{sites_have_nodes}
 use Rattle.cmm_flow.proofs.LivenessMembers.{is_among-append}
 

@@ -1,17 +1,14 @@
 -- What the code of a statement is to the paths of liveness: it reads the variable where the statement does, and leads by each way
 -- on to the code of what the way leads to.
-use Rattle.std.proofs.Common.{◌≡◌, ◌⊎◌, inl, inr, ℕ, ◌+◌, ◌≤◌, Bool, true, false, IsTrue, IsFalse, List, [], ◌∷◌, refl, ap, sym, ◌∙◌, subst, arith}
+use Rattle.std.proofs.Common.{◌≡◌, ◌⊎◌, inl, inr, ℕ, ◌+◌, ◌≤◌, Bool, IsTrue, IsFalse, List, [], ◌∷◌, refl, sym, ◌∙◌, subst}
 use Rattle.cmm_program.specs.declared.procedure.Proc.{Proc}
 use Rattle.cmm_program.specs.declared.statement.Statement.{Statement}
 use Rattle.cmm_program.specs.Liveness.{Way, is_among, plain}
 use Rattle.cmm_graph.specs.declared.graph.Graph.{Graph}
-use Rattle.cmm_graph.specs.declared.node.NodeKind.{NodeKind}
 use Rattle.cmm_graph.specs.declared.number.NodeId.{NodeId}
-use Rattle.cmm_graph.specs.Paths.{operands, successors}
-use Rattle.cmm_flow.specs.Code.{IsNode}
 use Rattle.cmm_flow.specs.Statements.{ListCode}
 use Rattle.cmm_flow.proofs.LivenessMembers.{Among}
-use Rattle.cmm_flow.proofs.LivenessPieces.{Gone, Live, Piece, Within, any_operand, left_as, node_piece}
+use Rattle.cmm_flow.proofs.LivenessPieces.{Gone, Live, Piece, Within}
 
 module _ (q : Proc) (g : Graph) (label_node : ℕ → NodeId) (v : ℕ) where
   abbrev pub Code : List Statement → NodeId → Type 0
@@ -139,9 +136,3 @@ module _ (q : Proc) (g : Graph) (label_node : ℕ → NodeId) (v : ℕ) where
   -- no way on
   pub no_way : (n : NodeId) (read : Bool) → Piece g v 1 n read (λ m. ⊥) → Stands n read []
   no_way n read piece = stands_by n read [] (λ m. ⊥) piece (λ way none unwritten. absurd none) (λ m none. absurd none)
-
-  -- a node that leads nowhere
-  pub last_node : (n : NodeId) (tokens : ℕ) (kind : NodeKind) → IsNode g.nodes n tokens kind → successors g kind ≡ [] →
-      Piece g v 1 n (any_operand v (operands kind)) (λ m. ⊥)
-  last_node n tokens kind is leads =
-      left_as g v (λ m. ⊥) (λ m is. subst (λ ms. Among ms m) leads is.1) (λ m none. absurd none) (node_piece g v n tokens kind is)

@@ -1,12 +1,10 @@
 -- Each call site of a procedure has a node that waits there, and whose normal exit leads behind the site's statement.
-use Rattle.std.proofs.Common.{◌≡◌, ◌⊎◌, inl, inr, ap₂, ℕ, zero, suc, ◌+◌, ◌<◌, ◌≤◌, ◌&&◌, ◌||◌, ◌==◌, Bool, true, false, cond, IsTrue, is_some, filter, flat_map, Option, Some, None, List, [], ◌∷◌, ◌++◌, append-nil, append_assoc, length, slice_get, refl, ap, sym, ◌∙◌, subst, arith}
+use Rattle.std.proofs.Common.{◌≡◌, ◌⊎◌, inl, inr, ap₂, ℕ, zero, suc, ◌+◌, ◌<◌, ◌≤◌, ◌||◌, ◌==◌, Bool, true, false, cond, IsTrue, is_some, filter, flat_map, Option, Some, None, List, [], ◌∷◌, ◌++◌, append-nil, append_assoc, length, slice_get, refl, ap, sym, ◌∙◌, subst, arith}
 use Rattle.std.proofs.lemmas.Bool.{and_parts, cases_eq, eq-eqb, eqb-true}
-use Rattle.std.proofs.lemmas.Bool.Decides.{nat_tests}
 use Rattle.std.proofs.lemmas.List.Concat.{flat_map-append}
 use Rattle.std.proofs.lemmas.List.Folds.{list_all-append}
 use Rattle.std.specs.List.{list_all, range_with_len}
 use mathlib.Core.Former.{Count}
-use Rattle.cmm_words.specs.Words.{is_division}
 use Rattle.cmm_program.specs.declared.procedure.Proc.{Proc}
 use Rattle.cmm_program.specs.declared.program.Program.{Program}
 use Rattle.cmm_program.specs.declared.statement.Form.{Form, Row_of-Arm, end_of-Arm, more_of-Arm}
@@ -18,7 +16,7 @@ use Rattle.cmm_program.specs.declared.statement.Case.TheVariants.{In, Default}
 use Rattle.cmm_program.specs.Bodies.{AtSite, after_in, after_in_arms, after_inside, branches, first_of_two, follow, is_mark, outward, statements, within, within_arms, within_block}
 use Rattle.cmm_program.specs.InRange.{IsProcInRange, defaults, is_form, is_statement}
 use Rattle.cmm_program.specs.Liveness.{is_among}
-use Rattle.cmm_program.specs.Numbering.{are_each_once, body_numbers, site_number}
+use Rattle.cmm_program.specs.Numbering.{body_numbers, site_number}
 use Rattle.cmm_program.specs.Typing.{typed}
 use Rattle.cmm_graph.specs.declared.graph.Graph.{Graph}
 use Rattle.cmm_graph.specs.declared.node.Arm.{Arm}

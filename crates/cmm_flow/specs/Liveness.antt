@@ -1,5 +1,5 @@
--- A variable is live in the graph of a procedure just where it is live in the procedure: before the code of statements where some
--- path from these reads it before it is written, and behind the node of a call site where it is live at the site.
+-- A variable is live in the graph of a procedure just where it is live in the procedure (Ramsey and Peyton Jones, PLDI 2000, flow edges): before the
+-- code of statements where some path from these reads it before it is written, and behind the node of a call site where it is live at the site.
 use Rattle.std.specs.Prelude.{◌≡◌, ℕ, ◌<◌, ◌↔◌, ◌&&◌, not, Bool, true, IsTrue, IsFalse, Contains, List, [], ◌∷◌, flat_map, length, slice_get, Some, None}
 use Rattle.std.specs.List.{list_all}
 use Rattle.cmm_program.specs.declared.procedure.Proc.{Proc}
@@ -29,6 +29,7 @@ use Rattle.cmm_live.specs.Sites.{IsLiveAt, cut_nodes, site_of}
 use Rattle.cmm_flow.specs.Flow.{IsFlowOf}
 use Rattle.cmm_flow.specs.Statements.{ListCode}
 
+-- a variable of the procedure in its graph
 abbrev pub variable : ℕ → Local
 variable v = local.Variable record { number = v }
 

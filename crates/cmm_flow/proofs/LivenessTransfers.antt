@@ -1,10 +1,9 @@
 -- The code of a statement that leaves its procedure or waits at a site, as the paths of liveness see it.
-use Rattle.std.proofs.Common.{◌≡◌, ◌⊎◌, inl, inr, ℕ, ◌+◌, ◌≤◌, ◌||◌, Bool, true, false, IsTrue, IsFalse, All, Option, Some, None, List, [], ◌∷◌, ◌++◌, length, map, slice_get, refl, ap, sym, ◌∙◌, subst, arith}
+use Rattle.std.proofs.Common.{◌≡◌, ℕ, ◌||◌, Bool, false, IsTrue, IsFalse, Some, None, List, [], ◌∷◌, ◌++◌, length, map, slice_get, refl, ap, sym, ◌∙◌, subst}
 use Rattle.std.specs.List.{list_all}
 use Rattle.cmm_program.proofs.Shared.{all_get, list_all_get}
 use Rattle.cmm_program.specs.declared.expression.Expression.{Expression}
 use Rattle.cmm_program.specs.declared.procedure.Proc.{Proc}
-use Rattle.cmm_program.specs.declared.procedure.Site.{Site}
 use Rattle.cmm_program.specs.declared.program.Program.{Program}
 use Rattle.cmm_program.specs.declared.statement.Statement.{Statement}
 use Rattle.cmm_program.specs.InRange.{IsProcInRange, below, is_site}
@@ -15,9 +14,8 @@ use Rattle.cmm_graph.specs.declared.node.NodeKind.{NodeKind}
 use Rattle.cmm_graph.specs.declared.node.NodeKind.TheVariants as kind
 use Rattle.cmm_graph.specs.declared.number.ContinuationId.{ContinuationId}
 use Rattle.cmm_graph.specs.declared.number.NodeId.{NodeId}
-use Rattle.cmm_graph.specs.declared.number.SiteId.{SiteId}
 use Rattle.cmm_graph.specs.Counterpart.{AreExitsOf, HasSite, IsGraphOf, numbers_of}
-use Rattle.cmm_graph.specs.Paths.{exit_nodes, landings, operands, successors, values_of}
+use Rattle.cmm_graph.specs.Paths.{exit_nodes, landings, values_of}
 use Rattle.cmm_flow.specs.Code.{IsNode, OperandCode, OperandsCode}
 use Rattle.cmm_flow.specs.Flow.{IsFlowOf}
 use Rattle.cmm_flow.specs.Operands.{arguments_of, operand_of, operands_of}
@@ -25,8 +23,8 @@ use Rattle.cmm_flow.specs.Statements.{CallCode, CutCode, JumpCode, NormalCode, R
 use Rattle.cmm_flow.proofs.LivenessExits.{AreExits, by_landing, exits_by, exits_to, to_landing}
 use Rattle.cmm_flow.proofs.LivenessExpressions.{alone, operand_piece, operands_piece, values_passed}
 use Rattle.cmm_flow.proofs.LivenessMembers.{Among, is_among-append, or_nothing, or_swapped}
-use Rattle.cmm_flow.proofs.LivenessPieces.{Piece, any_operand, any_read, left_as, node_piece, read_as}
-use Rattle.cmm_flow.proofs.LivenessStatements.{Code, Stands, last_node, no_way, stands_by}
+use Rattle.cmm_flow.proofs.LivenessPieces.{Piece, any_operand, any_read, last_node, left_as, node_piece, read_as}
+use Rattle.cmm_flow.proofs.LivenessStatements.{Code, Stands, no_way, stands_by}
 
 -- continuations by their numbers
 numbered : (own : List ℕ) → numbers_of (map (λ k. record { number = k }) own) ≡ own
@@ -110,7 +108,7 @@ module _ (p : Program) (q : Proc) (g : Graph) (range : IsProcInRange p q) (graph
   jump_stands tokens callee actuals n code =
       no_way q g flow.label_node v n (is_among v (read_by callee ++ read_by_all actuals))
       (passes callee actuals n code.0 code.1 (λ m. ⊥) code.2 code.3
-      (last_node q g flow.label_node v code.1 _ (kind.Jump (operand_of 0 callee) (arguments_of 1 actuals)) code.4 refl))
+      (last_node g v code.1 _ (kind.Jump (operand_of 0 callee) (arguments_of 1 actuals)) code.4 refl))
 
   pub return_stands : (tokens exit alternates : ℕ) (values : List Expression) (n : NodeId) → ReturnCode g.nodes tokens exit alternates values n →
       StandsAt n (is_among v (read_by_all values)) []
@@ -120,7 +118,7 @@ module _ (p : Program) (q : Proc) (g : Graph) (range : IsProcInRange p q) (graph
       no_way q g flow.label_node v n (is_among v (read_by_all values))
       (alone g v (is_among v (read_by_all values))
       (operands_piece g v values 0 1 n code.0 false (λ m. ⊥) code.1
-      (read_as g v (asked || false) named (last_node q g flow.label_node v code.0 _ (kind.Return exit alternates (arguments_of 0 values)) code.2 refl))))
+      (read_as g v (asked || false) named (last_node g v code.0 _ (kind.Return exit alternates (arguments_of 0 values)) code.2 refl))))
 
   -- a cut to the procedure's own continuations
   pub cut_stands : (tokens : ℕ) (to : Expression) (values : List Expression) (own : List ℕ) (n : NodeId) → CutCode g.nodes tokens to values own n →
