@@ -132,7 +132,7 @@ module _ (q : Proc) (nodes_there : List Node) (label_node : ℕ → NodeId) wher
     is,
     ways_row _ (hidden-the_row-Arm-1 arms) to k (subst (λ as_. WaysCode q nodes_there label_node as_ to k) (sym (items_hidden-the_row-Arm-1 arms)) ways),
     otherwise_row _ (hidden-the_row-Arm-1 arms) otherwise k
-    (subst (λ as_. OtherwiseCode q nodes_there label_node as_ otherwise k) (sym (items_hidden-the_row-Arm-1 arms)) default),
+        (subst (λ as_. OtherwiseCode q nodes_there label_node as_ otherwise k) (sym (items_hidden-the_row-Arm-1 arms)) default),
   )
 
   arm_row : (x : _) (body : Row_of-Statement _) (n k : NodeId) → Front (shown-the_row-Statement-0 x body) n k → RowCode q nodes_there label_node body n k

@@ -31,9 +31,13 @@ module _ (nodes more : List Node) where
   assign_stays (lvalue.Target target ∷ []) (e ∷ []) n k is = value_stays nodes more e 0 _ n k is
   assign_stays (lvalue.Memory width aligned address ∷ []) (e ∷ []) n k (m, j, first, second, is) =
       (m, j, operand_stays nodes more address 0 n m first, operand_stays nodes more e 1 m j second, node_stays nodes more j _ _ is)
-  assign_stays to (e ∷ es) n k (m, j, addresses, values, stores) =
-      (m, j, addresses_stay nodes more to 0 n m addresses, values_stay nodes more (e ∷ es) (length to) m j values,
-      stores_stay nodes more to (e ∷ es) 0 (length to) j k stores)
+  assign_stays to (e ∷ es) n k (m, j, addresses, values, stores) = (
+    m,
+    j,
+    addresses_stay nodes more to 0 n m addresses,
+    values_stay nodes more (e ∷ es) (length to) m j values,
+    stores_stay nodes more to (e ∷ es) 0 (length to) j k stores,
+  )
 
   module _ (q : Proc) (label_node : ℕ → NodeId) where
     mutual
@@ -45,14 +49,26 @@ module _ (nodes more : List Node) where
           (j, to, otherwise, operand_stays nodes more value 0 n j first, node_stays nodes more j _ _ is, arms_stay arms to k ways, default_stays arms otherwise k default)
       form_stays tokens (Span' _ body) n k (j, is, inner) = (j, node_stays nodes more n _ _ is, row_stays body j k inner)
       form_stays tokens (Assign to values) n k is = assign_stays to values n k is
-      form_stays tokens (Call site callee actuals) n k (m, j, exits, first, rest, is, normal) =
-          (m, j, exits, operand_stays nodes more callee 0 n m first, operands_stay nodes more actuals 1 m j rest, node_stays nodes more j _ _ is,
-          normal_stays nodes more (slice_get q.sites site) exits k normal)
+      form_stays tokens (Call site callee actuals) n k (m, j, exits, first, rest, is, normal) = (
+        m,
+        j,
+        exits,
+        operand_stays nodes more callee 0 n m first,
+        operands_stay nodes more actuals 1 m j rest,
+        node_stays nodes more j _ _ is,
+        normal_stays nodes more (slice_get q.sites site) exits k normal,
+      )
       form_stays tokens (Yield site values) n k (j, exits, rest, is, normal) =
           (j, exits, operands_stay nodes more values 0 n j rest, node_stays nodes more j _ _ is, normal_stays nodes more (slice_get q.sites site) exits k normal)
-      form_stays tokens (Checked site op width left right) n k (m, j, d, first, second, is, guard) =
-          (m, j, d, operand_stays nodes more left 0 n m first, operand_stays nodes more right 1 m j second, node_stays nodes more d _ _ is,
-          guard_stays nodes more q tokens _ site op width right j d k guard)
+      form_stays tokens (Checked site op width left right) n k (m, j, d, first, second, is, guard) = (
+        m,
+        j,
+        d,
+        operand_stays nodes more left 0 n m first,
+        operand_stays nodes more right 1 m j second,
+        node_stays nodes more d _ _ is,
+        guard_stays nodes more q tokens _ site op width right j d k guard,
+      )
       form_stays tokens (PutByte value) n k (j, first, is) = (j, operand_stays nodes more value 0 n j first, node_stays nodes more j _ _ is)
       form_stays tokens (GetByte target) n k is = node_stays nodes more n _ _ is
       form_stays tokens (Jump callee actuals) n k (m, j, first, rest, is) =

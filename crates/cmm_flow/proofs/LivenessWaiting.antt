@@ -4,14 +4,13 @@ use Rattle.std.proofs.lemmas.Bool.{and_parts, cases_eq, eq-eqb, eqb-true}
 use Rattle.std.proofs.lemmas.List.Concat.{flat_map-append}
 use Rattle.std.proofs.lemmas.List.Folds.{list_all-append}
 use Rattle.std.specs.List.{list_all, range_with_len}
-use mathlib.Core.Former.{Count}
 use Rattle.cmm_program.specs.declared.procedure.Proc.{Proc}
 use Rattle.cmm_program.specs.declared.program.Program.{Program}
 use Rattle.cmm_program.specs.declared.statement.Form.{Form, Row_of-Arm, end_of-Arm, more_of-Arm}
 use Rattle.cmm_program.specs.declared.statement.Form.TheBlock.{hidden-the_row-Statement-0}
 use Rattle.cmm_program.specs.declared.statement.Form.TheVariants.{If', Switch', Span', Span, Call, Yield, Checked}
 use Rattle.cmm_program.specs.declared.statement.Statement.{Statement}
-use Rattle.cmm_program.specs.declared.statement.Arm.{items-the_row-Statement, items_hidden-the_row-Statement-0, Arm', Row_of-Statement, end_of-Statement, more_of-Statement}
+use Rattle.cmm_program.specs.declared.statement.Arm.{Arm', Row_of-Statement, end_of-Statement, more_of-Statement}
 use Rattle.cmm_program.specs.declared.statement.Case.TheVariants.{In, Default}
 use Rattle.cmm_program.specs.Bodies.{AtSite, after_in, after_in_arms, after_inside, branches, first_of_two, follow, is_mark, outward, statements, within, within_arms, within_block}
 use Rattle.cmm_program.specs.InRange.{IsProcInRange, defaults, is_form, is_statement}
@@ -33,6 +32,7 @@ use Rattle.cmm_live.specs.Sites.{cut_nodes, site_of}
 use Rattle.cmm_flow.specs.Code.{IsNode}
 use Rattle.cmm_flow.specs.Operands.{nodes}
 use Rattle.cmm_flow.specs.Statements.{ArmsCode, DefaultCode, FormCode, ListCode, NormalCode, RowCode, ZeroCode}
+use Rattle.cmm_flow.proofs.Counting.{row_statements}
 use Rattle.cmm_flow.proofs.LivenessArms.{few_defaults}
 use Rattle.cmm_flow.proofs.LivenessMembers.{is_among-append, or_nothing}
 use Rattle.cmm_flow.proofs.Rows.{row_leads}
@@ -147,14 +147,6 @@ waiting_cuts g _ _ _ (ByYield site values ends) = refl
 pub waiting_has : (q : Proc) (g : Graph) (kind : NodeKind) (site : SiteId) (ends : Exits) → IsWaiting kind site ends → HasSite q g kind → AreExitsOf q g site ends
 waiting_has q g _ _ _ (ByCall site callee arguments ends) has = has
 waiting_has q g _ _ _ (ByYield site values ends) has = has
-
--- a row read as a list
-row_items : (n : Count) (row : Row_of-Statement n) → statements row ≡ items-the_row-Statement n row
-row_items n end_of-Statement = refl
-row_items n (more_of-Statement tokens form rest) = ap (λ xs. record { tokens = tokens; form = form } ∷ xs) (row_items _ rest)
-
-row_statements : (xs : List Statement) → statements (hidden-the_row-Statement-0 xs) ≡ xs
-row_statements xs = row_items _ (hidden-the_row-Statement-0 xs) ∙ items_hidden-the_row-Statement-0 xs
 
 one_of_two : {X : Type 0} (a b : Option X) (x : X) → first_of_two a b ≡ Some x → (a ≡ Some x) ⊎ (b ≡ Some x)
 one_of_two (Some a) b x is = inl is

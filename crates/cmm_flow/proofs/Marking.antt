@@ -60,7 +60,7 @@ lays_marked {a = a} {b = b} M l labels continuations = record {
 pub then_marked : {a b c : Builder} {P Q : List Node → Type 0} {M N : Leads} (R : List Node → Type 0) (O : Leads) → LaysMarked a b P M → LaysMarked b c Q N →
     Stays P → ((mark : Mark) (before after : NodeId) → Stays (λ nodes. M nodes mark before after)) → ((nodes : List Node) → P nodes → Q nodes → R nodes) →
     ((nodes : List Node) (mark : Mark) (before between after : NodeId) → P nodes → Q nodes → M nodes mark before between → N nodes mark between after →
-        O nodes mark before after) →
+    O nodes mark before after) →
     LaysMarked a c R O
 then_marked {a = a} {b = b} {c = c} {P = P} {M = M} R O first second stays marks_stay joined both = record {
   extends = extends_more first.extends second.extends;

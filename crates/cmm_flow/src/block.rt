@@ -133,12 +133,7 @@ impl Builder {
     }
 
     /// Lays a switch in front of its arms.
-    fn switch(
-        &mut self,
-        tokens: u32,
-        value: &Expression,
-        ways: Ways,
-    ) -> Result<NodeId, AllocError>
+    fn switch(&mut self, tokens: u32, value: &Expression, ways: Ways) -> Result<NodeId, AllocError>
         ensures { IfOk result (λ n. Lays self.old self.new (λ all. (j : NodeNumber) × OperandCode all value.now 0 n j × IsNode all j (remaining_of tokens (nodes value.now)) (Switch (operand_at 0 value.now) (reverse ways.backward) ways.otherwise))) }
     {
         let Ways {

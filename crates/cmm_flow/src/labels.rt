@@ -27,7 +27,9 @@ fn labels_of(form: &Form) -> Result<u32, AllocError>
 {
     match form {
         Form::If {
-            then, otherwise, ..
+            then,
+            otherwise,
+            ..
         } => {
             let first = labels_in(then.as_slice())?;
             let second = labels_in(otherwise.as_slice())?;

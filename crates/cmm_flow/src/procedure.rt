@@ -87,7 +87,12 @@ fn add_gotos(to: &[NodeId], nodes: &mut Items<Node>) -> Result<(), AllocError>
 }
 
 /// The CopyIn of a continuation, with a token and one for each parameter.
-fn copy_in_of(alloc: Global, p: &Proc, continuation: &Cont, next: NodeId) -> Result<Node, AllocError>
+fn copy_in_of(
+    alloc: Global,
+    p: &Proc,
+    continuation: &Cont,
+    next: NodeId,
+) -> Result<Node, AllocError>
     ensures { IfOk result (λ node. node ≡ copy_in p.now continuation.now next) }
 {
     let params = continuation.params.as_slice();

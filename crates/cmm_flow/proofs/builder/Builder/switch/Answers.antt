@@ -10,7 +10,10 @@ pub returns : goal.returns
 returns c =
     lays_after _ _ _ c.operand.result c.in_ok-node.ensures
     (λ nodes more. node_stays nodes more c.in_ok-node.node c.remaining.result (Switch c.operand_of.result c.reversed.result c.args.ways.otherwise)) c.operand.ensures
-    (λ n all is code. (c.in_ok-node.node, code,
-    told all c.in_ok-node.node c.remaining.result _ _ _ (c.remaining.ensures (nodes c.args.value.now) c.nodes_of.ensures)
-    (ap (λ o. Switch o c.reversed.result c.args.ways.otherwise) c.operand_of.ensures
-    ∙ ap (λ ways. Switch (operand_of 0 c.args.value.now) ways c.args.ways.otherwise) c.reversed.ensures) is))
+    (λ n all is code. (
+      c.in_ok-node.node,
+      code,
+      told all c.in_ok-node.node c.remaining.result _ _ _ (c.remaining.ensures (nodes c.args.value.now) c.nodes_of.ensures)
+          (ap (λ o. Switch o c.reversed.result c.args.ways.otherwise) c.operand_of.ensures
+          ∙ ap (λ ways. Switch (operand_of 0 c.args.value.now) ways c.args.ways.otherwise) c.reversed.ensures) is,
+    ))
