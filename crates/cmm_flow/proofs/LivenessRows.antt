@@ -1,6 +1,6 @@
 -- A worked row: a procedure in which one variable is live on an unwinding exit alone and one on a cut exit alone. The premises of the laws on
 -- liveness are built for it, and both sides are worked out.
-use Rattle.std.proofs.Common.{◌≡◌, ◌⊎◌, ℕ, zero, suc, ◌<◌, ◌≤◌, Bool, true, false, IsTrue, List, [], ◌∷◌, map, Some, Contains, refl, ap, sym, ◌∙◌, subst, arith, lit<, lit≤}
+use Rattle.std.proofs.Common.{◌≡◌, ℕ, zero, suc, ◌<◌, true, false, List, [], ◌∷◌, map, Some, Contains, refl, ap, sym, ◌∙◌, subst, arith, lit<, lit≤}
 use Rattle.std.proofs.lemmas.List.Elements.{All-from_recursion}
 use Rattle.cmm_words.specs.declared.constant.Constant.TheVariants.{Code}
 use Rattle.cmm_words.specs.declared.width.Width.TheVariants.{W64}
@@ -12,7 +12,7 @@ use Rattle.cmm_program.specs.declared.procedure.Target.TheVariants as target
 use Rattle.cmm_program.specs.declared.program.Program.{Program}
 use Rattle.cmm_program.specs.declared.statement.Form.TheVariants as form
 use Rattle.cmm_program.specs.declared.statement.Statement.{Statement}
-use Rattle.cmm_program.specs.Bodies.{AtContinuation, AtLabel, follow}
+use Rattle.cmm_program.specs.Bodies.{AtContinuation, follow}
 use Rattle.cmm_program.specs.InRange.{IsProcInRange}
 use Rattle.cmm_program.specs.Liveness.{is_among, is_live_at, read_in, ways}
 use Rattle.cmm_program.specs.LivePaths as paths
@@ -22,7 +22,6 @@ use Rattle.cmm_graph.specs.declared.node.Node.{Node}
 use Rattle.cmm_graph.specs.declared.node.NodeKind.{NodeKind}
 use Rattle.cmm_graph.specs.declared.node.NodeKind.TheVariants.{Entry, CopyIn, Call, Return, Goto, Stop}
 use Rattle.cmm_graph.specs.declared.number.NodeId.{NodeId}
-use Rattle.cmm_graph.specs.declared.operand.Local.TheVariants as local
 use Rattle.cmm_graph.specs.declared.operand.Operand.TheVariants as operand
 use Rattle.cmm_graph.specs.Counterpart.{AreExitsOf, HasSite, IsGraphOf}
 use Rattle.cmm_graph.specs.Liveness.{Here, Onward}
