@@ -1,0 +1,6 @@
+pub mod Counting
+pub mod Listing
+pub mod Releasing
+pub mod Steps
+pub mod Evaluating
+pub mod Shared
