@@ -52,7 +52,7 @@ module _ {X : Type 0} (graph : List (List ℕ)) (next : (ℕ → X) → ℕ → 
   final_from local steps before [] final h = subst (λ (q : List ℕ). AreFinal q) (sym (append-nil before)) final
   final_from local steps before (v ∷ vs) final h =
       let parts : (are_among (mentions graph v) before ≡ true) × (is_ordered graph (before ++ v ∷ []) vs ≡ true)
-          = and_parts (are_among (mentions graph v) before) (is_ordered graph (before ++ v ∷ []) vs) h in
+      = and_parts (are_among (mentions graph v) before) (is_ordered graph (before ++ v ∷ []) vs) h in
       subst (λ (q : List ℕ). AreFinal q) (append_assoc before (v ∷ []) vs)
       (final_from local steps (before ++ v ∷ []) vs (final_next local steps before v parts.0 final) parts.1)
 
@@ -67,7 +67,7 @@ module _ {X : Type 0} (graph : List (List ℕ)) (next : (ℕ → X) → ℕ → 
   left_as_begun steps start begun strict left stuck zero v among = begun v
   left_as_begun steps start begun strict left stuck (suc c) v among =
       let found : (m : ℕ) × (is_among m (mentions graph v) ≡ true) × (is_among m left ≡ true)
-          = any_at (λ m. is_among m left) (mentions graph v) (all_at (λ u. list_any (λ m. is_among m left) (mentions graph u)) left v stuck among) in
+      = any_at (λ m. is_among m left) (mentions graph v) (all_at (λ u. list_any (λ m. is_among m left) (mentions graph u)) left v stuck among) in
       steps c v ∙ strict (value c) v found.0 found.1 (left_as_begun steps start begun strict left stuck c found.0 found.2)
 
 -- ---- values in a list, set node by node along the order
@@ -113,20 +113,25 @@ set_next {X} graph next final start local order ordered fixed k lt values within
   where
     new : X
     new = next (λ m. get_or values m start) (get_or order k 0)
+
     last : (v : ℕ) → is_among v (take (k + 1) order) ≡ (is_among v (take k order) || (get_or order k 0 == v))
     last v = let e : k + 1 ≡ suc k = omega arith in
         ap (λ n. is_among v (take n order)) e ∙ ap (is_among v) (take-suc order k 0 lt) ∙ among-last v (take k order) (get_or order k 0)
+
     new_is : new ≡ final (get_or order k 0)
     new_is =
         local (λ m. get_or values m start) final (get_or order k 0)
         (λ m in_it. are.done m (all_at (λ n. is_among n (take k order)) (mentions graph (get_or order k 0)) m (ordered_at graph [] order k ordered lt) in_it))
         ∙ sym (fixed (get_or order k 0) (node_among order k lt))
+
     same_at : (v : ℕ) → (get_or order k 0 == v) ≡ true → get_or (set values (get_or order k 0) new) v start ≡ final v
     same_at v same = let e : get_or order k 0 ≡ v = eqb-true (get_or order k 0) v same in
         ap (λ n. get_or (set values (get_or order k 0) new) n start) (sym e) ∙ get_or-set_same values (get_or order k 0) new start within ∙ new_is ∙ ap final e
+
     by : (v : ℕ) → is_among v (take k order) ≡ true → (b : Bool) → (get_or order k 0 == v) ≡ b → get_or (set values (get_or order k 0) new) v start ≡ final v
     by v old true same = same_at v same
     by v old false other = let ne : v ≢ get_or order k 0 = grind (arith, nat_tests) in get_or-set_other values (get_or order k 0) v new start ne ∙ are.done v old
+
     done_at : (v : ℕ) → (is_among v (take k order) ≡ true) ⊎ ((get_or order k 0 == v) ≡ true) → get_or (set values (get_or order k 0) new) v start ≡ final v
     done_at v (inl old) = by v old (get_or order k 0 == v) refl
     done_at v (inr same) = same_at v same

@@ -3,4 +3,5 @@ pub mod Listing
 pub mod Releasing
 pub mod Steps
 pub mod Evaluating
+mod Rows
 pub mod Shared

@@ -6,26 +6,28 @@ use Rattle.cmm_ast.specs.declared.unit.Unit.{Unit as UnitTree}
 use Rattle.cmm_accepted.specs.declared.spot.Spot.{Spot}
 use Rattle.cmm_accepted.specs.declared.fault.Fault.{Fault}
 use Rattle.cmm_accepted.specs.Spots.{first_of, first_by}
+use Rattle.cmm_accepted.specs.Senses.{Senses}
 use Rattle.cmm_accepted.specs.Declarations.{named_units, again, host_again}
 use Rattle.cmm_accepted.specs.Linking.{export_spots, twice, import_spots}
 use Rattle.cmm_accepted.specs.Units.{target_decl_spots}
 use Rattle.cmm_accepted.specs.LongNames.{long_spots, of_item}
-use Rattle.cmm_accepted.specs.Faults.{Placed, stands_before, broken_names, fault_at, at_beginning}
-use Rattle.cmm_static.specs.NameFaults.{first_fault_of_names, fault_of_main}
-use Rattle.cmm_static.specs.inside.Flat.{Flat, flat_unit, flat_links, flat_spots, flats_broken, some_starts}
-use Rattle.cmm_static.specs.inside.Noted.{long_of}
-use Rattle.cmm_static.proofs.Firsts.{first_of_append}
-use Rattle.cmm_static.proofs.Lengths.{long_is}
-use Rattle.cmm_static.proofs.Unnumbered.{broken_flat, has_main_flat}
+use Rattle.cmm_accepted.specs.Faults.{Placed, stands_before, fault_at, at_beginning}
+use Rattle.cmm_static.specs.TypeFaults.{entry_type_spots, item_type_spots}
+use Rattle.cmm_static.specs.StandingFaults.{first_standing_fault, fault_of_main, broken_standing}
+use Rattle.cmm_static.specs.inside.Flat.{Flat, flat_unit, flat_links, flat_name_spots, flat_spots, flats_broken, some_starts}
+use Rattle.cmm_names.specs.Noted.{long_of}
+use Rattle.cmm_names.proofs.Shared.{first_of_append, long_is}
+use Rattle.cmm_typedefs.specs.Types.{type_senses}
+use Rattle.cmm_static.proofs.FlatUnits.{broken_flat, has_main_flat}
 
 after : (b c : Option Spot) (xs ys : List Spot) → b ≡ first_of None xs → c ≡ first_of b ys → c ≡ first_of None (xs ++ ys)
 after b c xs ys is then_ = then_ ∙ ap (λ q. first_of q ys) is ∙ sym (first_of_append None xs ys)
 
--- what is noted of a unit, group by group
-pub noted_all : (all before : List (List ℕ)) (f : Flat) (b1 b2 b3 b4 b5 b6 b7 : Option Spot) →
+-- what is noted of the names of a unit, rule by rule
+noted_all : (all before : List (List ℕ)) (f : Flat) (b1 b2 b3 b4 b5 b6 b7 : Option Spot) →
     b1 ≡ first_of None (again [] f.entries) → b2 ≡ first_of b1 (flat_map host_again f.entries) → b3 ≡ first_of b2 (flat_map (export_spots f.entries) f.exports) →
     b4 ≡ first_of b3 (twice before f.exports) → b5 ≡ first_of b4 (flat_map (import_spots all) f.entries) → b6 ≡ first_of b5 (flat_map target_decl_spots f.items) →
-    b7 ≡ long_of b6 (flat_map of_item f.items) → b7 ≡ first_of None (flat_spots all before f)
+    b7 ≡ long_of b6 (flat_map of_item f.items) → b7 ≡ first_of None (flat_name_spots all before f)
 noted_all all before f b1 b2 b3 b4 b5 b6 b7 e1 e2 e3 e4 e5 e6 e7 =
     let s1 = again [] f.entries in
     let s2 = flat_map host_again f.entries in
@@ -42,17 +44,36 @@ noted_all all before f b1 b2 b3 b4 b5 b6 b7 e1 e2 e3 e4 e5 e6 e7 =
     e6)
     (e7 ∙ long_is b6 (flat_map of_item f.items))
 
+noted_types : (all before : List (List ℕ)) (f : Flat) (b7 b8 b9 : Option Spot) → b7 ≡ first_of None (flat_name_spots all before f) →
+    b8 ≡ first_of b7 (flat_map (λ d. entry_type_spots (type_senses f.entries) d.as_what) f.entries) → b9 ≡ first_of b8 (flat_map (item_type_spots (type_senses f.entries)) f.items) →
+    b9 ≡ first_of None (flat_spots all before f)
+noted_types all before f b7 b8 b9 e7 e8 e9 =
+    let s8 = flat_map (λ d. entry_type_spots (type_senses f.entries) d.as_what) f.entries in
+    let s9 = flat_map (item_type_spots (type_senses f.entries)) f.items in
+    e9 ∙ ap (λ q. first_of q s9) e8 ∙ sym (first_of_append b7 s8 s9) ∙ ap (λ q. first_of q (s8 ++ s9)) e7 ∙ sym (first_of_append None (flat_name_spots all before f) (s8 ++ s9))
+
+-- what is noted of a unit, rule by rule
+pub noted_unit : (all before : List (List ℕ)) (f : Flat) (b1 b2 b3 b4 b5 b6 b7 b8 b9 : Option Spot) (names : Senses) → names ≡ type_senses f.entries →
+    b1 ≡ first_of None (again [] f.entries) → b2 ≡ first_of b1 (flat_map host_again f.entries) → b3 ≡ first_of b2 (flat_map (export_spots f.entries) f.exports) →
+    b4 ≡ first_of b3 (twice before f.exports) → b5 ≡ first_of b4 (flat_map (import_spots all) f.entries) → b6 ≡ first_of b5 (flat_map target_decl_spots f.items) →
+    b7 ≡ long_of b6 (flat_map of_item f.items) → b8 ≡ first_of b7 (flat_map (λ d. entry_type_spots names d.as_what) f.entries) → b9 ≡ first_of b8 (flat_map (item_type_spots names) f.items) →
+    b9 ≡ first_of None (flat_spots all before f)
+noted_unit all before f b1 b2 b3 b4 b5 b6 b7 b8 b9 names are e1 e2 e3 e4 e5 e6 e7 e8 e9 =
+    noted_types all before f b7 b8 b9 (noted_all all before f b1 b2 b3 b4 b5 b6 b7 e1 e2 e3 e4 e5 e6 e7)
+    (e8 ∙ ap (λ q. first_of b7 (flat_map (λ d. entry_type_spots q d.as_what) f.entries)) are)
+    (e9 ∙ ap (λ q. first_of b8 (flat_map (item_type_spots q) f.items)) are)
+
 -- what is first among units laid flat is so among the units
 pub first_found : (us : List UnitTree) (fs : List Flat) (first : Option Placed) → fs ≡ map flat_unit us →
-    first ≡ first_by stands_before None (flats_broken (flat_map flat_links fs) [] 0 fs) → first_by stands_before None (broken_names (named_units us)) ≡ first
+    first ≡ first_by stands_before None (flats_broken (flat_map flat_links fs) [] 0 fs) → first_by stands_before None (broken_standing (named_units us)) ≡ first
 first_found us fs first are is =
     ap (first_by stands_before None) (broken_flat us) ∙ sym (is ∙ ap (λ q. first_by stands_before None (flats_broken (flat_map flat_links q) [] 0 q)) are)
 
-pub named_fault : (us : List UnitTree) (p : Placed) → first_by stands_before None (broken_names (named_units us)) ≡ Some p → first_fault_of_names us ≡ Some (fault_at us p)
+pub named_fault : (us : List UnitTree) (p : Placed) → first_by stands_before None (broken_standing (named_units us)) ≡ Some p → first_standing_fault us ≡ Some (fault_at us p)
 named_fault us p is = ap (λ o. elim o as (λ _. Option Fault) [ Some q ↦ Some (fault_at us q) | None ↦ fault_of_main (named_units us) ]) is
 
-pub named_main : (us : List UnitTree) (fs : List Flat) (b : Bool) → first_by stands_before None (broken_names (named_units us)) ≡ None → fs ≡ map flat_unit us → some_starts fs ≡ b →
-    first_fault_of_names us ≡ elim b as (λ _. Option Fault) [ true ↦ None | false ↦ at_beginning NoMain ]
+pub named_main : (us : List UnitTree) (fs : List Flat) (b : Bool) → first_by stands_before None (broken_standing (named_units us)) ≡ None → fs ≡ map flat_unit us → some_starts fs ≡ b →
+    first_standing_fault us ≡ elim b as (λ _. Option Fault) [ true ↦ None | false ↦ at_beginning NoMain ]
 named_main us fs b is are starts =
     ap (λ o. elim o as (λ _. Option Fault) [ Some q ↦ Some (fault_at us q) | None ↦ fault_of_main (named_units us) ]) is
     ∙ ap (λ m. elim m as (λ _. Option Fault) [ true ↦ None | false ↦ at_beginning NoMain ]) (has_main_flat us ∙ ap some_starts (sym are) ∙ starts)

@@ -6,7 +6,7 @@ use Rattle.cmm_accepted.specs.declared.spot.Spot.{Spot}
 use Rattle.cmm_accepted.specs.Spots.{first_by, sooner_by, comes_before, first_of}
 use Rattle.cmm_accepted.specs.Faults.{stands_before}
 use Rattle.cmm_static.specs.inside.Flat.{Flat, flat_links, flat_spots, placed, flats_broken}
-use Rattle.cmm_static.proofs.Firsts.{first_by_append, rest_next, flat_next}
+use Rattle.cmm_names.proofs.Shared.{first_by_append, rest_next, flat_next}
 
 not_less : (n : ℕ) → nat_lt n n ≡ false
 not_less n = grind (arith, nat_tests)

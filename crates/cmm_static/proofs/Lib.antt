@@ -1,10 +1,6 @@
-pub mod Firsts
-pub mod Lengths
-pub mod Found
 pub mod Links
-pub mod Flattening
-pub mod Nested
-pub mod Mentioned
 pub mod Unnumbered
+pub mod TypesUnnumbered
+pub mod FlatUnits
 pub mod FirstUnit
 pub mod Checked

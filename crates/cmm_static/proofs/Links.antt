@@ -8,9 +8,10 @@ use Rattle.cmm_accepted.specs.declared.spot.Spot.{Spot}
 use Rattle.cmm_accepted.specs.Spots.{first_of, unless}
 use Rattle.cmm_accepted.specs.Senses.{is_there}
 use Rattle.cmm_accepted.specs.Linking.{is_among, export_link, twice}
-use Rattle.cmm_static.specs.inside.Indexed.{indexed, or_else, AreLinks}
-use Rattle.cmm_static.specs.declared.index.Index.{Index}
-use Rattle.cmm_static.proofs.Firsts.{first_of_append, mapped_next}
+use Rattle.cmm_names.specs.Indexed.{indexed, or_else}
+use Rattle.cmm_static.specs.inside.Linked.{AreLinks}
+use Rattle.cmm_names.specs.declared.index.Index.{Index}
+use Rattle.cmm_names.proofs.Shared.{first_of_append, mapped_next}
 
 or_assoc : (a b c : Bool) → (a || (b || c)) ≡ ((a || b) || c)
 or_assoc true b c = refl

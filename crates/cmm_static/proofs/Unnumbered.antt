@@ -21,16 +21,16 @@ use Rattle.cmm_accepted.specs.Linking.{item_exports, export_link, export_links, 
 use Rattle.cmm_accepted.specs.Units.{target_decl_spots}
 use Rattle.cmm_accepted.specs.LongNames.{long_spots, of_item}
 use Rattle.cmm_accepted.specs.Faults.{name_spots, each_unit, broken_names}
-use Rattle.cmm_static.specs.inside.Shown.{with_what, whats}
+use Rattle.cmm_names.specs.Shown.{with_what, whats}
 use Rattle.cmm_static.specs.inside.Flat.{Flat, flat_unit, flat_links, flat_spots, placed, flats_broken, flat_starts, some_starts}
-use Rattle.cmm_static.proofs.Found.{found_with, again_with}
+use Rattle.cmm_names.proofs.Shared.{found_with, again_with}
 
-abbrev unnumbered : Entry → Entry
+abbrev pub unnumbered : Entry → Entry
 unnumbered (Procedure number p) = Procedure 0 p
 unnumbered (DataLabel number) = DataLabel 0
 unnumbered e = e
 
-abbrev plain : Declared Entry → Declared Entry
+abbrev pub plain : Declared Entry → Declared Entry
 plain d = with_what unnumbered d
 
 -- ---- what a unit declares
@@ -61,7 +61,7 @@ item_plain procs labels (items.Proc p) = refl
 item_plain procs labels (items.Datum d) = datum_plain labels d.form
 item_plain procs labels (items.Span' first key value size inside) = refl
 
-entries_plain : (procs labels : ℕ) (is : List (Within Item)) → map plain (entries_from procs labels is) ≡ flat_map (item_entries 0 0) (whats is)
+pub entries_plain : (procs labels : ℕ) (is : List (Within Item)) → map plain (entries_from procs labels is) ≡ flat_map (item_entries 0 0) (whats is)
 entries_plain procs labels [] = refl
 entries_plain procs labels (i ∷ is) =
     map-append plain (item_entries procs labels i.what) (entries_from (procs + procs_in i.what) (labels + labels_in i.what) is)
@@ -78,10 +78,10 @@ own_plain name (Import link) = refl
 own_plain name (DataLabel n) = refl
 own_plain name (Procedure n p) = refl
 
-host_plain : (d : Declared Entry) → host_again (plain d) ≡ host_again d
+pub host_plain : (d : Declared Entry) → host_again (plain d) ≡ host_again d
 host_plain d = ap (λ b. unless (not (is_host d.name.name) || b) DeclaredTwice d.name.token) (own_plain d.name d.as_what)
 
-import_plain : (links : List (List ℕ)) (name : Ident) (e : Entry) → import_spots links (plain (record { name = name; as_what = e })) ≡ import_spots links (record { name = name; as_what = e })
+pub import_plain : (links : List (List ℕ)) (name : Ident) (e : Entry) → import_spots links (plain (record { name = name; as_what = e })) ≡ import_spots links (record { name = name; as_what = e })
 import_plain links name (Typedef t) = refl
 import_plain links name (Const t e) = refl
 import_plain links name (Register t) = refl
@@ -112,79 +112,20 @@ own_entry : (host : Bool) (o p : Option Entry) → p ≡ option_map unnumbered o
 own_entry true o p e = refl
 own_entry false o p e = e
 
-entry_plain : (name : List ℕ) (ds : List (Declared Entry)) → entry_of name (map plain ds) ≡ option_map unnumbered (entry_of name ds)
+pub entry_plain : (name : List ℕ) (ds : List (Declared Entry)) → entry_of name (map plain ds) ≡ option_map unnumbered (entry_of name ds)
 entry_plain name ds = own_entry (is_host name) (found name ds) (found name (map plain ds)) (found_with unnumbered name ds)
 
-each_same : {A B : Type 0} (h : A → A) (f : A → List B) → ((a : A) → f (h a) ≡ f a) → (xs : List A) → flat_map f (map h xs) ≡ flat_map f xs
+pub each_same : {A B : Type 0} (h : A → A) (f : A → List B) → ((a : A) → f (h a) ≡ f a) → (xs : List A) → flat_map f (map h xs) ≡ flat_map f xs
 each_same h f same [] = refl
 each_same h f same (x ∷ xs) = ap (λ t. t ++ flat_map f (map h xs)) (same x) ∙ ap (λ t. f x ++ t) (each_same h f same xs)
 
-each_alike : {A B : Type 0} (f g : A → List B) → ((a : A) → f a ≡ g a) → (xs : List A) → flat_map f xs ≡ flat_map g xs
+pub each_alike : {A B : Type 0} (f g : A → List B) → ((a : A) → f a ≡ g a) → (xs : List A) → flat_map f xs ≡ flat_map g xs
 each_alike f g same [] = refl
 each_alike f g same (x ∷ xs) = ap (λ t. t ++ flat_map f xs) (same x) ∙ ap (λ t. g x ++ t) (each_alike f g same xs)
 
-export_plain : (ds : List (Declared Entry)) (e : Export) → export_spots (map plain ds) e ≡ export_spots ds e
+pub export_plain : (ds : List (Declared Entry)) (e : Export) → export_spots (map plain ds) e ≡ export_spots ds e
 export_plain ds e = rw (entry_plain e.name.name ds, there_plain (entry_of e.name.name ds)) refl
 
-starts_plain : (ds : List (Declared Entry)) (es : List Export) → starts (map plain ds) es ≡ starts ds es
+pub starts_plain : (ds : List (Declared Entry)) (es : List Export) → starts (map plain ds) es ≡ starts ds es
 starts_plain ds [] = refl
 starts_plain ds (e ∷ es) = rw (entry_plain e.name.name ds, start_plain (entry_of e.name.name ds), starts_plain ds es) refl
-
--- ---- units
-
-abbrev flat_named : NamedUnit → Flat
-flat_named u = record { entries = map plain u.entries; exports = flat_map item_exports (whats u.items); items = whats u.items }
-
-seven : {A : Type 0} {a b c d e f g a' b' c' d' e' f' g' : List A} → a ≡ a' → b ≡ b' → c ≡ c' → d ≡ d' → e ≡ e' → f ≡ f' → g ≡ g' →
-    a ++ b ++ c ++ d ++ e ++ f ++ g ≡ a' ++ b' ++ c' ++ d' ++ e' ++ f' ++ g'
-seven ea eb ec ed ee ef eg = rw (ea, eb, ec, ed, ee, ef, eg) refl
-
-exports_flat : (is : List (Within Item)) → flat_map (λ i. item_exports i.what) is ≡ flat_map item_exports (whats is)
-exports_flat is = sym (flat_map-map item_exports (λ w. w.what) is)
-
-links_flat : (us : List NamedUnit) → flat_map export_links us ≡ flat_map flat_links (map flat_named us)
-links_flat [] = refl
-links_flat (u ∷ us) = ap (λ t. t ++ flat_map export_links us) (ap (map export_link) (exports_flat u.items)) ∙ ap (λ t. flat_links (flat_named u) ++ t) (links_flat us)
-
-spots_flat : (us earlier : List NamedUnit) (u : NamedUnit) →
-    name_spots us earlier u ≡ flat_spots (flat_map flat_links (map flat_named us)) (flat_map flat_links (map flat_named earlier)) (flat_named u)
-spots_flat us earlier u = seven
-    (sym (again_with unnumbered [] u.entries))
-    (sym (each_same plain host_again host_plain u.entries))
-    (ap (flat_map (export_spots u.entries)) (exports_flat u.items) ∙ sym (each_alike (export_spots (map plain u.entries)) (export_spots u.entries) (export_plain u.entries) (flat_map item_exports (whats u.items))))
-    (ap (twice (flat_map export_links earlier)) (exports_flat u.items) ∙ ap (λ q. twice q (flat_map item_exports (whats u.items))) (links_flat earlier))
-    (ap (λ q. flat_map (import_spots q) u.entries) (links_flat us) ∙ sym (each_same plain (import_spots (flat_map flat_links (map flat_named us))) (λ d. import_plain (flat_map flat_links (map flat_named us)) d.name d.as_what) u.entries))
-    (sym (flat_map-map target_decl_spots (λ w. w.what) u.items))
-    (ap (flat_map long_spots) (sym (flat_map-map of_item (λ w. w.what) u.items)))
-
-links_plus : (earlier : List NamedUnit) (u : NamedUnit) → flat_map flat_links (map flat_named (earlier ++ u ∷ [])) ≡ flat_map flat_links (map flat_named earlier) ++ flat_links (flat_named u)
-links_plus [] u = append-nil (flat_links (flat_named u))
-links_plus (e ∷ es) u = ap (λ t. flat_links (flat_named e) ++ t) (links_plus es u) ∙ sym (append_assoc (flat_links (flat_named e)) (flat_map flat_links (map flat_named es)) (flat_links (flat_named u)))
-
-each_flat : (us earlier : List NamedUnit) (number : ℕ) (rest : List NamedUnit) →
-    each_unit (name_spots us) earlier number rest ≡ flats_broken (flat_map flat_links (map flat_named us)) (flat_map flat_links (map flat_named earlier)) number (map flat_named rest)
-each_flat us earlier number [] = refl
-each_flat us earlier number (u ∷ rest) =
-    ap (λ t. map (placed number) t ++ each_unit (name_spots us) (earlier ++ u ∷ []) (suc number) rest) (spots_flat us earlier u)
-    ∙ ap (λ t. map (placed number) (flat_spots (flat_map flat_links (map flat_named us)) (flat_map flat_links (map flat_named earlier)) (flat_named u)) ++ t)
-    (each_flat us (earlier ++ u ∷ []) (suc number) rest
-    ∙ ap (λ q. flats_broken (flat_map flat_links (map flat_named us)) q (suc number) (map flat_named rest)) (links_plus earlier u))
-
-flats : (procs labels : ℕ) (us : List UnitTree) → map flat_named (units_from procs labels us) ≡ map flat_unit us
-flats procs labels [] = refl
-flats procs labels (u ∷ us) =
-    ap (λ es. record { entries = es; exports = flat_map item_exports (whats (items_of u)); items = whats (items_of u) } ∷ map flat_named (units_from (procs + sum_of procs_in (items_of u)) (labels + sum_of labels_in (items_of u)) us))
-    (entries_plain procs labels (items_of u))
-    ∙ ap (λ t. flat_unit u ∷ t) (flats (procs + sum_of procs_in (items_of u)) (labels + sum_of labels_in (items_of u)) us)
-
-pub broken_flat : (us : List UnitTree) → broken_names (named_units us) ≡ flats_broken (flat_map flat_links (map flat_unit us)) [] 0 (map flat_unit us)
-broken_flat us = each_flat (named_units us) [] 0 (named_units us) ∙ ap (λ fs. flats_broken (flat_map flat_links fs) [] 0 fs) (flats 0 0 us)
-
-main_flat : (us : List NamedUnit) → has_main us ≡ some_starts (map flat_named us)
-main_flat [] = refl
-main_flat (u ∷ us) =
-    ap (λ b. b || has_main us) (ap (starts u.entries) (exports_flat u.items) ∙ sym (starts_plain u.entries (flat_map item_exports (whats u.items))))
-    ∙ ap (λ b. flat_starts (flat_named u) || b) (main_flat us)
-
-pub has_main_flat : (us : List UnitTree) → has_main (named_units us) ≡ some_starts (map flat_unit us)
-has_main_flat us = main_flat (named_units us) ∙ ap some_starts (flats 0 0 us)

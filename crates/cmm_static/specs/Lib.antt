@@ -1,2 +1,3 @@
-pub mod NameFaults
+pub mod TypeFaults
+pub mod StandingFaults
 pub mod inside

@@ -1,5 +1,3 @@
-pub mod Shown
+pub mod Linked
 pub mod Flat
-pub mod Indexed
-pub mod Noted
 pub mod Units

@@ -4,19 +4,19 @@ ghost use Rattle.std.specs.Prelude.{◌≡◌, ◌<◌, ◌^◌, [], None, true,
 ghost use Rattle.cmm_rules.specs.declared.rule.Rule.{Rule};
 ghost use Rattle.cmm_accepted.specs.Spots.{first_by};
 ghost use Rattle.cmm_accepted.specs.Faults.{stands_before, place_of, fault_at};
-ghost use Rattle.cmm_static.specs.NameFaults.{first_fault_of_names, IsFaultOf};
-ghost use Rattle.cmm_static.specs.inside.Indexed.{AreLinks};
+ghost use Rattle.cmm_static.specs.StandingFaults.{first_standing_fault, IsFaultOf};
+ghost use Rattle.cmm_static.specs.inside.Linked.{AreLinks};
 ghost use Rattle.cmm_static.specs.inside.Flat.{flat_unit, flat_links, flats_broken, some_starts};
 ghost use Rattle.cmm_static.specs.inside.Units.{unit_flat, broken_placed};
 
 use crate::fault::StaticFault;
-use crate::index::Index;
 use crate::linking::{add_links, starts};
 use crate::unit::{first_broken, names_of};
 use crate::unit_names::UnitNames;
 use cmm_accepted::{Fault, Spot};
 use cmm_ast::{Place, Unit};
 use cmm_items::Items;
+use cmm_names::Index;
 use cmm_rules::Rule;
 use std::alloc::{AllocError, Global};
 
@@ -49,7 +49,7 @@ fn links_of_all<'a>(alloc: Global, units: &[UnitNames<'a>]) -> Result<Index<()>,
     Ok(links)
 }
 
-/// The first fault of units by the rules on names.
+/// The first fault of units by the rules that are tested unit by unit.
 fn first_of_all<'a>(
     alloc: Global,
     units: &[UnitNames<'a>],
@@ -108,12 +108,12 @@ fn fault_at(units: &[Unit], broken: Broken) -> Fault
     }
 }
 
-/// Whether units break no rule on names, exports, imports and the target: 20 of units, 21 of exports, 34, 35, 37 and 40 of names; and 36
-/// where none of these is broken, at the beginning of the first unit. Else the first fault by unit, place and rule. Units are those that
-/// `cmm_parser` gives, and fewer than 2^32.
+/// Whether units break no rule that stands: 20 of units, 21 of exports and of types, 23 of the types of imports, exports and texts, 34, 35,
+/// 37, and 40 of names and of the alignments of data; and 36 where none of these is broken, at the beginning of the first unit. Else the
+/// first fault by unit, place and rule. Units are those that `cmm_parser` gives, and fewer than 2^32.
 pub fn check(alloc: Global, units: &[Unit]) -> Result<(), StaticFault>
     requires { length units.now < 2 ^ 32 }
-    ensures ok { OnOk result (first_fault_of_names units.now ≡ None) }
+    ensures ok { OnOk result (first_standing_fault units.now ≡ None) }
     ensures err { IfErr result (IsFaultOf units.now) }
 {
     let named = names_of_all(alloc, units)?;

@@ -5,23 +5,12 @@ ghost use Rattle.cmm_accepted.specs.Senses.{is_host};
 ghost use Rattle.cmm_accepted.specs.Declarations.{host_again, is_own_import, link_name};
 ghost use Rattle.cmm_accepted.specs.Linking.{export_link};
 ghost use Rattle.cmm_accepted.specs.Spots.{first_of};
-ghost use Rattle.cmm_static.specs.inside.Shown.{shown};
+ghost use Rattle.cmm_names.specs.Shown.{shown};
 
-use crate::entry::Entry;
-use crate::noting::unless;
-use crate::table::Named;
 use cmm_accepted::Spot;
 use cmm_ast::{Export, Ident, Import, Text};
+use cmm_names::{Entry, Named, is_host, unless};
 use cmm_rules::Rule;
-
-/// Whether these are the bytes of a name of the host.
-pub(crate) fn is_host(name: &[u8]) -> bool
-    ensures { result ≡ is_host name.now }
-{
-    name == b"yield".as_slice()
-        || name == b"cmm_putbyte".as_slice()
-        || name == b"cmm_getbyte".as_slice()
-}
 
 /// A text in place of a name, where there is one.
 fn link_name<'a>(text: &'a Option<Text>, name: &'a Ident) -> &'a [u8]

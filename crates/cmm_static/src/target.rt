@@ -3,12 +3,11 @@
 ghost use Rattle.std.specs.Prelude.{◌≡◌, [], flat_map, map};
 ghost use Rattle.cmm_accepted.specs.Spots.{first_of};
 ghost use Rattle.cmm_accepted.specs.Units.{is_of_target, property_spots, target_decl_spots};
-ghost use Rattle.cmm_static.specs.inside.Shown.{thing_item};
+ghost use Rattle.cmm_names.specs.Shown.{thing_item};
 
-use crate::noting::unless;
-use crate::thing::Thing;
 use cmm_accepted::Spot;
 use cmm_ast::{ByteOrder, Decl, DeclForm, Item, Property, PropertyForm};
+use cmm_names::{Thing, unless};
 use cmm_rules::Rule;
 
 /// Whether it is a property of the machine for which code is made.

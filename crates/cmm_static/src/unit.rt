@@ -1,22 +1,20 @@
-//! The names of one unit, and the rules on them.
+//! The names of one unit, and the rules on them and on types.
 
 ghost use Rattle.std.specs.Prelude.{◌≡◌, ◌++◌, None, List, ℕ, IfOk, OnOk};
 ghost use Rattle.cmm_accepted.specs.Spots.{first_of};
-ghost use Rattle.cmm_static.specs.inside.Indexed.{AreLinks};
+ghost use Rattle.cmm_static.specs.inside.Linked.{AreLinks};
 ghost use Rattle.cmm_static.specs.inside.Flat.{flat_unit, flat_links, flat_spots};
 ghost use Rattle.cmm_static.specs.inside.Units.{unit_flat};
 
-use crate::declaring::{declared_in, exports_in};
 use crate::host::note_hosts;
-use crate::index::Index;
 use crate::linking::{note_exports, note_imports, note_twice};
-use crate::long_item::note_things;
-use crate::table::Table;
 use crate::target::note_targets;
-use crate::thing::things_of;
+use crate::typed::{note_entries, note_items};
 use crate::unit_names::UnitNames;
 use cmm_accepted::Spot;
 use cmm_ast::Unit;
+use cmm_names::{Index, Table, declared_in, exports_in, note_things, things_of};
+use cmm_typedefs::types_of;
 use std::alloc::{AllocError, Global};
 
 /// A unit laid flat.
@@ -36,7 +34,7 @@ pub(crate) fn names_of<'a>(alloc: Global, unit: &'a Unit) -> Result<UnitNames<'a
     })
 }
 
-/// The first fault of a unit by the rules on names. Its link names are added to those of earlier units.
+/// The first fault of a unit. Its link names are added to those of earlier units.
 pub(crate) fn first_broken<'a>(
     alloc: Global,
     unit: &UnitNames<'a>,
@@ -55,5 +53,8 @@ pub(crate) fn first_broken<'a>(
     note_imports(alloc, links, declared, &mut best)?;
     note_targets(unit.things.as_slice(), &mut best);
     note_things(alloc, unit.things.as_slice(), &mut best)?;
+    let types = types_of(alloc, declared)?;
+    note_entries(&types, declared, &mut best);
+    note_items(&types, unit.things.as_slice(), &mut best);
     Ok(best)
 }

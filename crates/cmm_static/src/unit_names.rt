@@ -3,14 +3,12 @@
 ghost use Rattle.std.specs.Prelude.{◌≡◌, [], None, map};
 ghost use Rattle.cmm_accepted.specs.Declarations.{again};
 ghost use Rattle.cmm_accepted.specs.Spots.{first_of};
-ghost use Rattle.cmm_static.specs.inside.Shown.{named};
+ghost use Rattle.cmm_names.specs.Shown.{named};
 
-use crate::entry::Entry;
-use crate::table::Table;
-use crate::thing::Thing;
 use cmm_accepted::Spot;
 use cmm_ast::Export;
 use cmm_items::Items;
+use cmm_names::{Entry, Table, Thing};
 
 /// What stands in a unit, what it exports and what it declares.
 #[derive(Drop)]

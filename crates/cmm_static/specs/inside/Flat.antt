@@ -1,4 +1,4 @@
--- A unit as the rules on names see it: what it declares, what it exports, and what stands in it. Procedures and data labels have no numbers.
+-- A unit as the rules on names and types see it: what it declares, what it exports, and what stands in it. Procedures and data labels have no numbers.
 use Rattle.std.specs.Prelude.{ℕ, suc, Bool, false, ◌||◌, ◌&&◌, bytes_eq, codes, List, [], ◌∷◌, ◌++◌, map, flat_map}
 use Rattle.cmm_ast.specs.declared.declaration.Export.{Export}
 use Rattle.cmm_ast.specs.declared.unit.Item.{Item}
@@ -10,7 +10,9 @@ use Rattle.cmm_accepted.specs.Linking.{item_exports, export_link, export_spots, 
 use Rattle.cmm_accepted.specs.Units.{target_decl_spots}
 use Rattle.cmm_accepted.specs.LongNames.{long_spots, of_item}
 use Rattle.cmm_accepted.specs.Faults.{Placed}
-use Rattle.cmm_static.specs.inside.Shown.{whats}
+use Rattle.cmm_typedefs.specs.Types.{type_senses}
+use Rattle.cmm_static.specs.TypeFaults.{entry_type_spots, item_type_spots}
+use Rattle.cmm_names.specs.Shown.{whats}
 
 pub record Flat : Type 0 where
   pub entries : List (Declared Entry)
@@ -27,10 +29,17 @@ abbrev pub flat_links : Flat → List (List ℕ)
 flat_links f = map export_link f.exports
 
 -- the rules on names, from the link names of all units and of earlier ones
-abbrev pub flat_spots : List (List ℕ) → List (List ℕ) → Flat → List Spot
-flat_spots all earlier f =
+abbrev pub flat_name_spots : List (List ℕ) → List (List ℕ) → Flat → List Spot
+flat_name_spots all earlier f =
     again [] f.entries ++ flat_map host_again f.entries ++ flat_map (export_spots f.entries) f.exports ++ twice earlier f.exports
     ++ flat_map (import_spots all) f.entries ++ flat_map target_decl_spots f.items ++ flat_map long_spots (flat_map of_item f.items)
+
+-- the rules on types
+abbrev pub flat_type_spots : Flat → List Spot
+flat_type_spots f = let names = type_senses f.entries in flat_map (λ d. entry_type_spots names d.as_what) f.entries ++ flat_map (item_type_spots names) f.items
+
+abbrev pub flat_spots : List (List ℕ) → List (List ℕ) → Flat → List Spot
+flat_spots all earlier f = flat_name_spots all earlier f ++ flat_type_spots f
 
 abbrev pub placed : ℕ → Spot → Placed
 placed number s = record { unit = number; spot = s }

@@ -2,7 +2,7 @@
 use Rattle.std.specs.Prelude.{map}
 use Rattle.cmm_accepted.specs.Faults.{Placed}
 use Rattle.cmm_static.specs.inside.Flat.{Flat}
-use Rattle.cmm_static.specs.inside.Shown.{thing_item, shown}
+use Rattle.cmm_names.specs.Shown.{thing_item, shown}
 use Rattle.cmm_static.specs.declared.unit_names.UnitNames.{UnitNames}
 use Rattle.cmm_static.specs.declared.checking.Broken.{Broken}
 

@@ -1,9 +1,9 @@
 use Rattle.std.proofs.Common.{true, false, None, Some, map, option_map, sym, ap, ◌∙◌, subst}
 use Rattle.std.specs.Prelude.{flat_map}
-use Rattle.cmm_static.specs.NameFaults.{IsFaultOf}
+use Rattle.cmm_static.specs.StandingFaults.{IsFaultOf}
 use Rattle.cmm_static.specs.inside.Flat.{flat_links}
 use Rattle.cmm_static.specs.inside.Units.{unit_flat, broken_placed}
-use Rattle.cmm_static.proofs.Firsts.{on_ok, on_err}
+use Rattle.cmm_names.proofs.Shared.{on_ok, on_err}
 use Rattle.cmm_static.proofs.Checked.{first_found, named_fault, named_main}
 use Rattle.cmm_static.proofs.checking.check.Goals as goal
 

@@ -2,7 +2,7 @@ use Rattle.std.proofs.Common.{◌+◌, ◌++◌, Some, map, take, sym, ap, ◌�
 use Rattle.std.specs.Prelude.{flat_map}
 use Rattle.cmm_static.specs.inside.Flat.{flat_links, placed}
 use Rattle.cmm_static.specs.inside.Units.{unit_flat}
-use Rattle.cmm_static.proofs.Firsts.{flat_next}
+use Rattle.cmm_names.proofs.Shared.{flat_next}
 use Rattle.cmm_static.proofs.Links.{AreLinks-of}
 use Rattle.cmm_static.proofs.FirstUnit.{later_step, here_step}
 use Rattle.cmm_static.proofs.checking.first_of_all.Goals as goal

@@ -2,7 +2,7 @@ use Rattle.std.proofs.Common.{◌≡◌, ℕ, List, [], None, map, take, drop}
 use Rattle.std.specs.Prelude.{flat_map}
 use Rattle.cmm_accepted.specs.Spots.{first_by}
 use Rattle.cmm_accepted.specs.Faults.{stands_before}
-use Rattle.cmm_static.specs.inside.Indexed.{AreLinks}
+use Rattle.cmm_static.specs.inside.Linked.{AreLinks}
 use Rattle.cmm_static.specs.inside.Flat.{flat_links, flats_broken}
 use Rattle.cmm_static.specs.inside.Units.{unit_flat}
 use Rattle.cmm_static.proofs.checking.first_of_all.Given as goal

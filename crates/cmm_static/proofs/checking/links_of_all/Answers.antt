@@ -3,7 +3,7 @@ use Rattle.std.specs.Prelude.{flat_map}
 use Rattle.cmm_accepted.specs.Linking.{export_link}
 use Rattle.cmm_static.specs.inside.Flat.{flat_links}
 use Rattle.cmm_static.specs.inside.Units.{unit_flat}
-use Rattle.cmm_static.proofs.Firsts.{flat_next}
+use Rattle.cmm_names.proofs.Shared.{flat_next}
 use Rattle.cmm_static.proofs.Links.{AreLinks-of}
 use Rattle.cmm_static.proofs.checking.links_of_all.Goals as goal
 

@@ -1,6 +1,6 @@
 use Rattle.std.proofs.Common.{map, take}
 use Rattle.std.specs.Prelude.{flat_map}
-use Rattle.cmm_static.specs.inside.Indexed.{AreLinks}
+use Rattle.cmm_static.specs.inside.Linked.{AreLinks}
 use Rattle.cmm_static.specs.inside.Flat.{flat_links}
 use Rattle.cmm_static.specs.inside.Units.{unit_flat}
 use Rattle.cmm_static.proofs.checking.links_of_all.Given as goal

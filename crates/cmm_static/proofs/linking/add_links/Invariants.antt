@@ -1,6 +1,6 @@
 use Rattle.std.proofs.Common.{◌++◌, List, ℕ, map, take}
 use Rattle.cmm_accepted.specs.Linking.{export_link}
-use Rattle.cmm_static.specs.inside.Indexed.{AreLinks}
+use Rattle.cmm_static.specs.inside.Linked.{AreLinks}
 use Rattle.cmm_static.proofs.linking.add_links.Given as goal
 
 abbrev pub invariant-loop-export : goal.invariant-loop-export

@@ -1,6 +1,6 @@
 use Rattle.std.proofs.Common.{sym, ap, ◌∙◌}
 use Rattle.cmm_accepted.specs.Senses.{is_host}
-use Rattle.cmm_static.proofs.Found.{entry_found}
+use Rattle.cmm_names.proofs.Shared.{entry_found}
 use Rattle.cmm_static.proofs.linking.entry_of.Goals as goal
 
 pub returns-else-is_host : goal.returns-else-is_host

@@ -1,6 +1,6 @@
 use Rattle.cmm_accepted.specs.Linking.{import_spots}
-use Rattle.cmm_static.specs.inside.Shown.{shown}
-use Rattle.cmm_static.proofs.Firsts.{noted_next_of}
+use Rattle.cmm_names.specs.Shown.{shown}
+use Rattle.cmm_names.proofs.Shared.{noted_next_of}
 use Rattle.cmm_static.proofs.linking.note_imports.Goals as goal
 
 pub loop-named-preserved : goal.loop-named-preserved

@@ -2,8 +2,8 @@ use Rattle.std.proofs.Common.{◌≡◌, List, ℕ, map, take}
 use Rattle.std.specs.Prelude.{flat_map}
 use Rattle.cmm_accepted.specs.Spots.{first_of}
 use Rattle.cmm_accepted.specs.Linking.{import_spots}
-use Rattle.cmm_static.specs.inside.Indexed.{AreLinks}
-use Rattle.cmm_static.specs.inside.Shown.{shown}
+use Rattle.cmm_static.specs.inside.Linked.{AreLinks}
+use Rattle.cmm_names.specs.Shown.{shown}
 use Rattle.cmm_static.proofs.linking.note_imports.Given as goal
 
 abbrev pub invariant-loop-named : goal.invariant-loop-named

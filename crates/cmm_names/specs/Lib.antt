@@ -1,0 +1,4 @@
+pub mod Shown
+pub mod Indexed
+pub mod Noted
+pub mod inside

@@ -1,0 +1,10 @@
+-- Link names in a table.
+use Rattle.std.specs.Prelude.{◌≡◌, ℕ, List}
+use Rattle.cmm_accepted.specs.Senses.{is_there}
+use Rattle.cmm_accepted.specs.Linking.{is_among}
+use Rattle.cmm_names.specs.Indexed.{indexed}
+use Rattle.cmm_names.specs.declared.index.Index.{Index}
+
+-- the names in a table are these
+abbrev pub AreLinks : Index (Unit {0}) → List (List ℕ) → Type 0
+AreLinks i names = (x : List ℕ) → is_there (indexed i x) ≡ is_among x names

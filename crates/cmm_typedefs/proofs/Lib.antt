@@ -1,0 +1,3 @@
+pub mod Numbering
+pub mod Evaluated
+pub mod Meanings
