@@ -1,3 +1,4 @@
 pub mod Forms
+pub mod Aligning
 pub mod Wholes
 pub mod Answering

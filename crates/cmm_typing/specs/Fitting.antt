@@ -1,4 +1,4 @@
--- Numbers that are words of their widths, as the operators ask.
+-- What stands for values fits their widths, as the operators ask.
 use Rattle.std.specs.Prelude.{ℕ, List, Option, Some, None}
 use Rattle.cmm_words.specs.declared.width.Width.{Width}
 use Rattle.cmm_words.specs.Widths.{IsWord}
@@ -19,16 +19,28 @@ IsKnown width (Symbol c) = Unit {0}
 IsKnown width (Sum c) = Unit {0}
 IsKnown width Nothing = Unit {0}
 
-abbrev pub IsKnownIf : Width → Option Known → Type 0
-IsKnownIf width (Some known) = IsKnown width known
-IsKnownIf width None = Unit {0}
+-- ---- what is judged, by what may stand for a word of a width
+
+abbrev pub FitsIf : {E : Type 0} → (E → Type 0) → Option E → Type 0
+FitsIf fits (Some value) = fits value
+FitsIf fits None = Unit {0}
+
+abbrev pub BitsFit : {E : Type 0} → (Width → E → Type 0) → Bits E → Type 0
+BitsFit fits x = FitsIf (fits x.width) x.value
+
+abbrev pub TypedFits : {E C : Type 0} → (Width → E → Type 0) → Typed E C → Type 0
+TypedFits fits (typed.Bits x) = BitsFit fits x
+TypedFits fits (typed.Test c) = Unit {0}
+
+-- ---- what is known
 
 abbrev pub FitsBits : Bits Known → Type 0
-FitsBits x = IsKnownIf x.width x.value
+FitsBits x = BitsFit IsKnown x
 
 abbrev pub FitsTyped : Typed Known (Unit {0}) → Type 0
-FitsTyped (typed.Bits x) = FitsBits x
-FitsTyped (typed.Test c) = Unit {0}
+FitsTyped t = TypedFits IsKnown t
+
+-- ---- what is asked of names
 
 -- each constant that names mean is a word
 abbrev pub FitsSense : Option Sense → Type 0

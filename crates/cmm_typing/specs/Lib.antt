@@ -1,3 +1,4 @@
 pub mod Fitting
+pub mod Resolved
 pub mod Meanings
 pub mod inside

@@ -1,78 +1,83 @@
 //! Operators applied to operands.
 
-ghost use Rattle.std.specs.Prelude.{◌≡◌, IfOk, IfErr, Err};
-ghost use Rattle.cmm_accepted.specs.Algebras.{knowns};
+ghost use Rattle.std.specs.Prelude.{◌≡◌, IfOk, IfErr, Err, option_map};
 ghost use Rattle.cmm_accepted.specs.Judging.{Judged as JudgedAs};
 ghost use Rattle.cmm_accepted.specs.Typing as typing;
-ghost use Rattle.cmm_typing.specs.Fitting.{FitsBits, FitsTyped, IsKnownIf};
+ghost use Rattle.cmm_accepted.specs.declared.judged.Bits.{Bits as BitsAs};
+ghost use Rattle.cmm_accepted.specs.declared.judged.Typed.{Typed as TypedAs};
+ghost use Rattle.cmm_typing.specs.Fitting.{BitsFit, FitsIf, TypedFits};
+ghost use Rattle.cmm_typing.specs.inside.Operands.{OperandFits};
 
-use crate::known::{
-    known_binary, known_low_bits, known_sign_extended, known_unary, known_zero_extended,
-};
+use crate::values::{BitsOf, OperandOf, Outcome, TypedOf, Values};
 use crate::wanted::{Judged, as_bits, as_test, faulty, of_width};
-use cmm_accepted::{Bits, Known, Operand, Operator, Spot, Typed};
+use cmm_accepted::{Bits, Operator, Spot, Typed};
 use cmm_rules::Rule;
-use cmm_words::{Op1, Op2, Width};
+use cmm_words::{Cmp, Op1, Op2, Width};
 
 /// An operator with one operand, on bits.
-fn unary(operator: Op1, bits: Bits<Known>) -> Typed<Known, ()>
-    requires { FitsBits bits }
-    ensures value { result ≡ typing.unary knowns operator bits }
-    ensures fits { FitsTyped result }
+fn unary<V: Values>(values: &V, operator: Op1, bits: BitsOf<V>) -> Result<TypedOf<V>, V::Failure>
+    requires { BitsFit V.fits bits }
+    ensures value { IfOk result (λ t. t ≡ typing.unary V.algebra operator bits) }
+    ensures fits { IfOk result (TypedFits V.fits) }
 {
-    match bits.value {
-        Some(known) => Typed::Bits(Bits {
-            width: bits.width,
-            value: Some(known_unary(operator, bits.width, known)),
-        }),
-        None => Typed::Bits(Bits {
-            width: bits.width,
-            value: None,
-        }),
-    }
+    let Bits { width, value } = bits;
+    let Some(a) = value else {
+        return Ok(Typed::Bits(Bits { width, value: None }));
+    };
+    let value = Some(values.unary(operator, width, a)?);
+    Ok(Typed::Bits(Bits { width, value }))
 }
 
 /// An operator with two operands, on bits of one width.
-fn binary(operator: Op2, left: Bits<Known>, right: Bits<Known>) -> Typed<Known, ()>
-    requires left { FitsBits left }
-    requires right { IsKnownIf left.width right.value }
-    ensures value { result ≡ typing.binary knowns operator left right }
-    ensures fits { FitsTyped result }
+fn binary<V: Values>(
+    values: &V,
+    operator: Op2,
+    left: BitsOf<V>,
+    right: BitsOf<V>,
+) -> Result<TypedOf<V>, V::Failure>
+    requires left { BitsFit V.fits left }
+    requires right { FitsIf (V.fits left.width) right.value }
+    ensures value { IfOk result (λ t. t ≡ typing.binary V.algebra operator left right) }
+    ensures fits { IfOk result (TypedFits V.fits) }
 {
     let width = left.width;
-    match (left.value, right.value) {
-        (Some(a), Some(b)) => Typed::Bits(Bits {
-            width,
-            value: Some(known_binary(operator, width, a, b)),
-        }),
-        _ => Typed::Bits(Bits { width, value: None }),
-    }
+    let (Some(a), Some(b)) = (left.value, right.value) else {
+        return Ok(Typed::Bits(Bits { width, value: None }));
+    };
+    let value = Some(values.binary(operator, width, a, b)?);
+    Ok(Typed::Bits(Bits { width, value }))
 }
 
-/// A condition on two things, of which nothing is known where one is not.
-fn both_known<A: Copy, B: Copy>(left: Option<A>, right: Option<B>) -> Option<()>
-    ensures { result ≡ typing.with_values left right (λ a b. tt) }
+/// A comparison of bits of one width.
+fn compared<V: Values>(
+    values: &V,
+    comparison: Cmp,
+    left: BitsOf<V>,
+    right: BitsOf<V>,
+) -> Result<TypedOf<V>, V::Failure>
+    ensures { IfOk result (λ t. t ≡ typing.compared V.algebra comparison left right) }
 {
-    match (left, right) {
-        (Some(_), Some(_)) => Some(()),
-        _ => None,
-    }
+    let (Some(a), Some(b)) = (left.value, right.value) else {
+        return Ok(Typed::Test(None));
+    };
+    Ok(Typed::Test(Some(values.compare(comparison, left.width, a, b)?)))
 }
 
 /// Two operands of bits and of one width: else rules 24 and 23.
-fn alike(left: Operand<Known, ()>, right: Operand<Known, ()>) -> Judged<(Bits<Known>, Bits<Known>)>
-    requires left { FitsTyped left.typed }
-    requires right { FitsTyped right.typed }
-    ensures ok { IfOk result (λ p. (next : Bits Known → Bits Known → JudgedAs (Typed Known (Unit {0}))) → typing.alike knowns left right next ≡ next p.0 p.1) }
-    ensures err { IfErr result (λ e. (next : Bits Known → Bits Known → JudgedAs (Typed Known (Unit {0}))) → typing.alike knowns left right next ≡ Err e) }
-    ensures left { IfOk result (λ p. FitsBits p.0) }
-    ensures right { IfOk result (λ p. IsKnownIf p.0.width p.1.value) }
+fn alike<V: Values>(left: OperandOf<V>, right: OperandOf<V>) -> Judged<(BitsOf<V>, BitsOf<V>)>
+    requires left { OperandFits V.fits left }
+    requires right { OperandFits V.fits right }
+    ensures ok { IfOk result (λ p. (next : BitsAs V.Value → BitsAs V.Value → JudgedAs (TypedAs V.Value V.Condition)) → typing.alike V.algebra left right next ≡ next p.0 p.1) }
+    ensures err { IfErr result (λ e. (next : BitsAs V.Value → BitsAs V.Value → JudgedAs (TypedAs V.Value V.Condition)) → typing.alike V.algebra left right next ≡ Err e) }
+    ensures left { IfOk result (λ p. BitsFit V.fits p.0) }
+    ensures right { IfOk result (λ p. FitsIf (V.fits p.0.width) p.1.value) }
 {
+    let token = right.token;
     match (
-        as_bits(left.token, left.typed),
-        as_bits(right.token, right.typed),
+        as_bits::<V>(left.token, left.typed),
+        as_bits::<V>(token, right.typed),
     ) {
-        (Ok(a), Ok(b)) => match of_width(a.width, right.token, b) {
+        (Ok(a), Ok(b)) => match of_width::<V>(a.width, token, b) {
             Ok(b) => Ok((a, b)),
             Err(broken) => Err(broken),
         },
@@ -83,141 +88,209 @@ fn alike(left: Operand<Known, ()>, right: Operand<Known, ()>) -> Judged<(Bits<Kn
 }
 
 /// Two conditions: else rule 24.
-fn conditions(left: Operand<Known, ()>, right: Operand<Known, ()>) -> Judged<Typed<Known, ()>>
-    ensures value { result ≡ typing.both knowns (λ p q. tt) left right }
-    ensures fits { IfOk result FitsTyped }
+fn conditions<V: Values>(
+    left: OperandOf<V>,
+    right: OperandOf<V>,
+) -> Judged<(Option<V::Condition>, Option<V::Condition>)>
+    ensures ok { IfOk result (λ p. (made : V.Condition → V.Condition → V.Condition) → typing.both V.algebra made left right ≡ Ok (Typed.Test (typing.with_values p.0 p.1 made))) }
+    ensures err { IfErr result (λ e. (made : V.Condition → V.Condition → V.Condition) → typing.both V.algebra made left right ≡ Err e) }
 {
     match (
-        as_test(left.token, left.typed),
-        as_test(right.token, right.typed),
+        as_test::<V>(left.token, left.typed),
+        as_test::<V>(right.token, right.typed),
     ) {
-        (Ok(p), Ok(q)) => Ok(Typed::Test(both_known(p, q))),
+        (Ok(p), Ok(q)) => Ok((p, q)),
         (Ok(_), Err(broken)) => Err(broken),
         (Err(broken), Ok(_)) => Err(broken),
         (Err(first), Err(second)) => Err(Spot::sooner_of(first, second)),
     }
 }
 
-/// To a width that is not less than the operand's, by the top bit: else rule 23.
-fn sign_extended(token: u32, to: Width, bits: Bits<Known>) -> Judged<Typed<Known, ()>>
-    requires { FitsBits bits }
-    ensures value { result ≡ typing.extended knowns token to knowns.sign_extend bits }
-    ensures fits { IfOk result FitsTyped }
+/// A condition that holds where both do.
+fn conjoined<V: Values>(
+    values: &V,
+    p: Option<V::Condition>,
+    q: Option<V::Condition>,
+) -> Result<TypedOf<V>, V::Failure>
+    ensures { IfOk result (λ t. t ≡ Typed.Test (typing.with_values p q V.algebra.conjoined)) }
 {
-    if bits.width.bits() > to.bits() {
-        return Err(faulty(Rule::WidthsDiffer, token));
+    let (Some(p), Some(q)) = (p, q) else {
+        return Ok(Typed::Test(None));
+    };
+    Ok(Typed::Test(Some(values.conjoined(p, q)?)))
+}
+
+/// A condition that holds where one does.
+fn disjoined<V: Values>(
+    values: &V,
+    p: Option<V::Condition>,
+    q: Option<V::Condition>,
+) -> Result<TypedOf<V>, V::Failure>
+    ensures { IfOk result (λ t. t ≡ Typed.Test (typing.with_values p q V.algebra.disjoined)) }
+{
+    let (Some(p), Some(q)) = (p, q) else {
+        return Ok(Typed::Test(None));
+    };
+    Ok(Typed::Test(Some(values.disjoined(p, q)?)))
+}
+
+/// A condition that holds where another does not.
+fn negated<V: Values>(values: &V, p: Option<V::Condition>) -> Result<TypedOf<V>, V::Failure>
+    ensures { IfOk result (λ t. t ≡ Typed.Test (option_map V.algebra.negated p)) }
+{
+    let Some(p) = p else {
+        return Ok(Typed::Test(None));
+    };
+    Ok(Typed::Test(Some(values.negated(p)?)))
+}
+
+/// To a width that is not less than the operand's, by the top bit: else rule 23.
+fn sign_extended<V: Values>(
+    values: &V,
+    token: u32,
+    to: Width,
+    bits: BitsOf<V>,
+) -> Outcome<TypedOf<V>, V>
+    requires { BitsFit V.fits bits }
+    ensures value { IfOk result (λ j. j ≡ typing.extended V.algebra token to V.algebra.sign_extend bits) }
+    ensures fits { IfOk result (λ j. IfOk j (TypedFits V.fits)) }
+{
+    let Bits { width, value } = bits;
+    if width.bits() > to.bits() {
+        return Ok(Err(faulty(Rule::WidthsDiffer, token)));
     }
-    match bits.value {
-        Some(known) => Ok(Typed::Bits(Bits {
-            width: to,
-            value: Some(known_sign_extended(bits.width, to, known)),
-        })),
-        None => Ok(Typed::Bits(Bits {
+    let Some(a) = value else {
+        return Ok(Ok(Typed::Bits(Bits {
             width: to,
             value: None,
-        })),
-    }
+        })));
+    };
+    let value = Some(values.sign_extend(width, to, a)?);
+    Ok(Ok(Typed::Bits(Bits { width: to, value })))
 }
 
 /// To a width that is not less than the operand's, by zeros: else rule 23.
-fn zero_extended(token: u32, to: Width, bits: Bits<Known>) -> Judged<Typed<Known, ()>>
-    requires { FitsBits bits }
-    ensures value { result ≡ typing.extended knowns token to knowns.zero_extend bits }
-    ensures fits { IfOk result FitsTyped }
+fn zero_extended<V: Values>(
+    values: &V,
+    token: u32,
+    to: Width,
+    bits: BitsOf<V>,
+) -> Outcome<TypedOf<V>, V>
+    requires { BitsFit V.fits bits }
+    ensures value { IfOk result (λ j. j ≡ typing.extended V.algebra token to V.algebra.zero_extend bits) }
+    ensures fits { IfOk result (λ j. IfOk j (TypedFits V.fits)) }
 {
-    if bits.width.bits() > to.bits() {
-        return Err(faulty(Rule::WidthsDiffer, token));
+    let Bits { width, value } = bits;
+    if width.bits() > to.bits() {
+        return Ok(Err(faulty(Rule::WidthsDiffer, token)));
     }
-    match bits.value {
-        Some(known) => Ok(Typed::Bits(Bits {
-            width: to,
-            value: Some(known_zero_extended(bits.width, to, known)),
-        })),
-        None => Ok(Typed::Bits(Bits {
+    let Some(a) = value else {
+        return Ok(Ok(Typed::Bits(Bits {
             width: to,
             value: None,
-        })),
-    }
+        })));
+    };
+    let value = Some(values.zero_extend(width, to, a)?);
+    Ok(Ok(Typed::Bits(Bits { width: to, value })))
 }
 
 /// To a width that is not greater than the operand's: else rule 23.
-fn shortened(token: u32, to: Width, bits: Bits<Known>) -> Judged<Typed<Known, ()>>
-    ensures value { result ≡ typing.shortened knowns token to bits }
-    ensures fits { IfOk result FitsTyped }
+fn shortened<V: Values>(
+    values: &V,
+    token: u32,
+    to: Width,
+    bits: BitsOf<V>,
+) -> Outcome<TypedOf<V>, V>
+    ensures value { IfOk result (λ j. j ≡ typing.shortened V.algebra token to bits) }
+    ensures fits { IfOk result (λ j. IfOk j (TypedFits V.fits)) }
 {
-    if to.bits() > bits.width.bits() {
-        return Err(faulty(Rule::WidthsDiffer, token));
+    let Bits { width, value } = bits;
+    if to.bits() > width.bits() {
+        return Ok(Err(faulty(Rule::WidthsDiffer, token)));
     }
-    match bits.value {
-        Some(known) => Ok(Typed::Bits(Bits {
-            width: to,
-            value: Some(known_low_bits(to, known)),
-        })),
-        None => Ok(Typed::Bits(Bits {
+    let Some(a) = value else {
+        return Ok(Ok(Typed::Bits(Bits {
             width: to,
             value: None,
-        })),
-    }
+        })));
+    };
+    let value = Some(values.low_part(width, to, a)?);
+    Ok(Ok(Typed::Bits(Bits { width: to, value })))
 }
 
 /// An operator at one operand, where the operator stands at a token: else rule 26.
-pub fn applied_to_one(
+pub(crate) fn applied_to_one<V: Values>(
+    values: &V,
     operator: Operator,
     token: u32,
-    operand: Operand<Known, ()>,
-) -> Judged<Typed<Known, ()>>
-    requires { FitsTyped operand.typed }
-    ensures value { result ≡ typing.applied_to_one knowns operator token operand }
-    ensures fits { IfOk result FitsTyped }
+    operand: OperandOf<V>,
+) -> Outcome<TypedOf<V>, V>
+    requires { OperandFits V.fits operand }
+    ensures value { IfOk result (λ j. j ≡ typing.applied_to_one V.algebra operator token operand) }
+    ensures fits { IfOk result (λ j. IfOk j (TypedFits V.fits)) }
 {
     match operator {
-        Operator::Unary(operator) => Ok(unary(operator, as_bits(operand.token, operand.typed)?)),
-        Operator::Not => Ok(Typed::Test(as_test(operand.token, operand.typed)?)),
-        Operator::SignExtend(to) => {
-            sign_extended(operand.token, to, as_bits(operand.token, operand.typed)?)
-        }
-        Operator::ZeroExtend(to) => {
-            zero_extended(operand.token, to, as_bits(operand.token, operand.typed)?)
-        }
-        Operator::LowBits(to) => shortened(
-            operand.token,
-            to,
-            as_bits(operand.token, operand.typed)?,
-        ),
-        Operator::Binary(_) => Err(faulty(Rule::UnknownOperator, token)),
-        Operator::Compare(_) => Err(faulty(Rule::UnknownOperator, token)),
-        Operator::Conjoin => Err(faulty(Rule::UnknownOperator, token)),
-        Operator::Disjoin => Err(faulty(Rule::UnknownOperator, token)),
+        Operator::Unary(operator) => match as_bits::<V>(operand.token, operand.typed) {
+            Ok(bits) => Ok(Ok(unary(values, operator, bits)?)),
+            Err(broken) => Ok(Err(broken)),
+        },
+        Operator::Not => match as_test::<V>(operand.token, operand.typed) {
+            Ok(p) => Ok(Ok(negated(values, p)?)),
+            Err(broken) => Ok(Err(broken)),
+        },
+        Operator::SignExtend(to) => match as_bits::<V>(operand.token, operand.typed) {
+            Ok(bits) => sign_extended(values, operand.token, to, bits),
+            Err(broken) => Ok(Err(broken)),
+        },
+        Operator::ZeroExtend(to) => match as_bits::<V>(operand.token, operand.typed) {
+            Ok(bits) => zero_extended(values, operand.token, to, bits),
+            Err(broken) => Ok(Err(broken)),
+        },
+        Operator::LowBits(to) => match as_bits::<V>(operand.token, operand.typed) {
+            Ok(bits) => shortened(values, operand.token, to, bits),
+            Err(broken) => Ok(Err(broken)),
+        },
+        Operator::Binary(_) => Ok(Err(faulty(Rule::UnknownOperator, token))),
+        Operator::Compare(_) => Ok(Err(faulty(Rule::UnknownOperator, token))),
+        Operator::Conjoin => Ok(Err(faulty(Rule::UnknownOperator, token))),
+        Operator::Disjoin => Ok(Err(faulty(Rule::UnknownOperator, token))),
     }
 }
 
 /// An operator at two operands, where the operator stands at a token: else rule 26.
-pub fn applied_to_two(
+pub(crate) fn applied_to_two<V: Values>(
+    values: &V,
     operator: Operator,
     token: u32,
-    left: Operand<Known, ()>,
-    right: Operand<Known, ()>,
-) -> Judged<Typed<Known, ()>>
-    requires left { FitsTyped left.typed }
-    requires right { FitsTyped right.typed }
-    ensures value { result ≡ typing.applied_to_two knowns operator token left right }
-    ensures fits { IfOk result FitsTyped }
+    left: OperandOf<V>,
+    right: OperandOf<V>,
+) -> Outcome<TypedOf<V>, V>
+    requires left { OperandFits V.fits left }
+    requires right { OperandFits V.fits right }
+    ensures value { IfOk result (λ j. j ≡ typing.applied_to_two V.algebra operator token left right) }
+    ensures fits { IfOk result (λ j. IfOk j (TypedFits V.fits)) }
 {
     match operator {
-        Operator::Binary(operator) => match alike(left, right) {
-            Ok(pair) => Ok(binary(operator, pair.0, pair.1)),
-            Err(broken) => Err(broken),
+        Operator::Binary(operator) => match alike::<V>(left, right) {
+            Ok(pair) => Ok(Ok(binary(values, operator, pair.0, pair.1)?)),
+            Err(broken) => Ok(Err(broken)),
         },
-        Operator::Compare(_) => match alike(left, right) {
-            Ok(pair) => Ok(Typed::Test(both_known(pair.0.value, pair.1.value))),
-            Err(broken) => Err(broken),
+        Operator::Compare(comparison) => match alike::<V>(left, right) {
+            Ok(pair) => Ok(Ok(compared(values, comparison, pair.0, pair.1)?)),
+            Err(broken) => Ok(Err(broken)),
         },
-        Operator::Conjoin => conditions(left, right),
-        Operator::Disjoin => conditions(left, right),
-        Operator::Unary(_) => Err(faulty(Rule::UnknownOperator, token)),
-        Operator::Not => Err(faulty(Rule::UnknownOperator, token)),
-        Operator::SignExtend(_) => Err(faulty(Rule::UnknownOperator, token)),
-        Operator::ZeroExtend(_) => Err(faulty(Rule::UnknownOperator, token)),
-        Operator::LowBits(_) => Err(faulty(Rule::UnknownOperator, token)),
+        Operator::Conjoin => match conditions::<V>(left, right) {
+            Ok(pair) => Ok(Ok(conjoined(values, pair.0, pair.1)?)),
+            Err(broken) => Ok(Err(broken)),
+        },
+        Operator::Disjoin => match conditions::<V>(left, right) {
+            Ok(pair) => Ok(Ok(disjoined(values, pair.0, pair.1)?)),
+            Err(broken) => Ok(Err(broken)),
+        },
+        Operator::Unary(_) => Ok(Err(faulty(Rule::UnknownOperator, token))),
+        Operator::Not => Ok(Err(faulty(Rule::UnknownOperator, token))),
+        Operator::SignExtend(_) => Ok(Err(faulty(Rule::UnknownOperator, token))),
+        Operator::ZeroExtend(_) => Ok(Err(faulty(Rule::UnknownOperator, token))),
+        Operator::LowBits(_) => Ok(Err(faulty(Rule::UnknownOperator, token))),
     }
 }

@@ -1,25 +1,28 @@
-//! The judgement of expressions, over whatever tells what names mean.
+//! The judgement of expressions, over whatever tells what names mean and whatever stands for their values.
 
-ghost use Rattle.std.specs.Prelude.{◌≡◌, IfOk};
-ghost use Rattle.cmm_accepted.specs.Algebras.{knowns};
+ghost use Rattle.std.specs.Prelude.{◌≡◌, IfOk, Ok};
 ghost use Rattle.cmm_accepted.specs.Typing as typing;
-ghost use Rattle.cmm_typing.specs.Fitting.{AreWords, FitsTyped};
-ghost use Rattle.cmm_typing.specs.inside.Operands.{FitsOperands, list_operands};
+ghost use Rattle.cmm_typing.specs.Fitting.{AreWords, TypedFits};
+ghost use Rattle.cmm_typing.specs.inside.Operands.{OperandsFit, list_operands};
 
 use crate::joining::{applied, infixed, loaded, prefixed, with_operand};
 use crate::leaf::{literal_type, name_type, type_width};
 use crate::names::Names;
 use crate::operators::operator_named;
-use crate::wanted::Judged;
-use cmm_accepted::{Known, Operands, Typed};
+use crate::values::{OperandsOf, Outcome, TypedOf, Values};
+use cmm_accepted::Operands;
 use cmm_ast::{Expr, ExprForm, Memory, PrimForm};
 
-/// What an expression is judged to be among names. Takes no memory.
+/// What an expression is judged to be among names, with what stands for its value.
 #[cycle(expression)]
-pub fn judge<N: Names>(names: &N, e: &Expr) -> Judged<Typed<Known, ()>>
+pub(crate) fn judge_by<N: Names, V: Values>(
+    names: &N,
+    values: &V,
+    e: &Expr,
+) -> Outcome<TypedOf<V>, V>
     requires { AreWords (N.senses names.now) }
-    ensures value { result ≡ typing.expr_type knowns (N.senses names.now) e.now }
-    ensures fits { IfOk result FitsTyped }
+    ensures value { IfOk result (λ j. j ≡ typing.expr_type V.algebra (N.senses names.now) e.now) }
+    ensures fits { IfOk result (λ j. IfOk j (TypedFits V.fits)) }
 {
     match &e.form {
         ExprForm::Infix {
@@ -27,66 +30,85 @@ pub fn judge<N: Names>(names: &N, e: &Expr) -> Judged<Typed<Known, ()>>
             operator,
             right,
         } => {
-            let a = judge(names, left.get());
-            let b = judge(names, right.get());
+            let a = judge_by(names, values, left.get())?;
+            let b = judge_by(names, values, right.get())?;
             infixed(
+                values,
                 e.token,
                 *operator,
-                left.get().token,
-                a,
-                right.get().token,
-                b,
+                (left.get().token, a),
+                (right.get().token, b),
             )
         }
         ExprForm::Prefix { operator, operand } => {
-            let a = judge(names, operand.get());
-            prefixed(e.token, *operator, operand.get().token, a)
+            let a = judge_by(names, values, operand.get())?;
+            prefixed(values, e.token, *operator, operand.get().token, a)
         }
-        ExprForm::Prim(prim) => judge_primary(names, e.token, prim),
-        ExprForm::Memory(memory) => judge_memory(names, memory),
+        ExprForm::Prim(prim) => judge_primary(names, values, e.token, prim),
+        ExprForm::Memory(memory) => judge_memory(names, values, memory),
         ExprForm::Named { operator, operands } => {
-            let given = judge_operands(names, operands.as_slice());
-            applied(e.token, operator_named(operator), given)
+            let given = judge_operands(names, values, operands.as_slice())?;
+            applied(values, e.token, operator_named(operator), given)
         }
     }
 }
 
 /// A primary expression, by its first token.
 #[cycle(expression)]
-fn judge_primary<N: Names>(names: &N, token: u32, prim: &PrimForm) -> Judged<Typed<Known, ()>>
+fn judge_primary<N: Names, V: Values>(
+    names: &N,
+    values: &V,
+    token: u32,
+    prim: &PrimForm,
+) -> Outcome<TypedOf<V>, V>
     requires { AreWords (N.senses names.now) }
-    ensures value { result ≡ typing.prim_type knowns (N.senses names.now) token prim.now }
-    ensures fits { IfOk result FitsTyped }
+    ensures value { IfOk result (λ j. j ≡ typing.prim_type V.algebra (N.senses names.now) token prim.now) }
+    ensures fits { IfOk result (λ j. IfOk j (TypedFits V.fits)) }
 {
     match prim {
-        PrimForm::Literal { number, width } => literal_type(names, token, *number, width),
-        PrimForm::Name(name) => name_type(token, names.sense(name)),
-        PrimForm::Bracketed(inner) => judge(names, inner.get()),
+        PrimForm::Literal { number, width } => literal_type(names, values, token, *number, width),
+        PrimForm::Name(name) => name_type(values, token, names.sense(name)),
+        PrimForm::Bracketed(inner) => judge_by(names, values, inner.get()),
     }
 }
 
 /// A word in memory.
 #[cycle(expression)]
-fn judge_memory<N: Names>(names: &N, memory: &Memory) -> Judged<Typed<Known, ()>>
+fn judge_memory<N: Names, V: Values>(
+    names: &N,
+    values: &V,
+    memory: &Memory,
+) -> Outcome<TypedOf<V>, V>
     requires { AreWords (N.senses names.now) }
-    ensures value { result ≡ typing.memory_type knowns (N.senses names.now) memory.now }
-    ensures fits { IfOk result FitsTyped }
+    ensures value { IfOk result (λ j. j ≡ typing.memory_type V.algebra (N.senses names.now) memory.now) }
+    ensures fits { IfOk result (λ j. IfOk j (TypedFits V.fits)) }
 {
     let width = type_width(names, &memory.width);
-    let address = judge(names, memory.address.get());
-    loaded(width, memory.address.get().token, address)
+    let address = judge_by(names, values, memory.address.get())?;
+    loaded(
+        values,
+        width,
+        memory.address.get().token,
+        address,
+        memory.aligned,
+    )
 }
 
 /// The operands of an operator that is written by its name.
 #[cycle(expression)]
-fn judge_operands<N: Names>(names: &N, operands: &[Expr]) -> Judged<Operands<Known, ()>>
+fn judge_operands<N: Names, V: Values>(
+    names: &N,
+    values: &V,
+    operands: &[Expr],
+) -> Outcome<OperandsOf<V>, V>
     requires { AreWords (N.senses names.now) }
-    ensures value { result ≡ list_operands (N.senses names.now) (Ok Operands.Zero) operands.now }
-    ensures fits { IfOk result FitsOperands }
+    ensures value { IfOk result (λ j. j ≡ list_operands V.algebra (N.senses names.now) (Ok Operands.Zero) operands.now) }
+    ensures fits { IfOk result (λ j. IfOk j (OperandsFit V.fits)) }
 {
     let mut given = Ok(Operands::Zero);
     for e in operands {
-        given = with_operand(given, e.token, judge(names, e));
+        let judged = judge_by(names, values, e)?;
+        given = with_operand::<V>(given, e.token, judged);
     }
-    given
+    Ok(given)
 }

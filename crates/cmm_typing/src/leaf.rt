@@ -1,16 +1,15 @@
 //! Judgements of what holds no other expression: types, literals and names.
 
-ghost use Rattle.std.specs.Prelude.{◌≡◌, IfOk};
+ghost use Rattle.std.specs.Prelude.{◌≡◌, IfOk, Ok};
 ghost use Rattle.cmm_words.specs.Constants.{Fits};
 ghost use Rattle.cmm_accepted.specs.Senses.{constant_width};
-ghost use Rattle.cmm_accepted.specs.Algebras.{knowns};
 ghost use Rattle.cmm_accepted.specs.Typing as typing;
-ghost use Rattle.cmm_typing.specs.Fitting.{FitsSense, FitsTyped};
+ghost use Rattle.cmm_typing.specs.Fitting.{FitsSense, TypedFits};
 
-use crate::known::known_constant;
 use crate::names::Names;
+use crate::values::{Outcome, TypedOf, Values};
 use crate::wanted::{Judged, faulty};
-use cmm_accepted::{Bits, Known, Sense, Typed};
+use cmm_accepted::{Bits, Sense, Typed};
 use cmm_ast::{Number, TypeForm, TypeName};
 use cmm_rules::Rule;
 use cmm_words::{Constant, Width};
@@ -37,18 +36,15 @@ pub fn type_width<N: Names>(names: &N, t: &TypeName) -> Judged<Width>
 }
 
 /// A number of this width at a token: rule 25 where it does not fit.
-pub(crate) fn literal(token: u32, value: u64, width: Width) -> Judged<Typed<Known, ()>>
-    ensures value { result ≡ typing.literal knowns token value width }
-    ensures fits { IfOk result FitsTyped }
+fn literal<V: Values>(values: &V, token: u32, value: u64, width: Width) -> Outcome<TypedOf<V>, V>
+    ensures value { IfOk result (λ j. j ≡ typing.literal V.algebra token value width) }
+    ensures fits { IfOk result (λ j. IfOk j (TypedFits V.fits)) }
 {
-    if value <= width.max() {
-        Ok(Typed::Bits(Bits {
-            width,
-            value: Some(Known::Number(value)),
-        }))
-    } else {
-        Err(faulty(Rule::LiteralDoesNotFit, token))
+    if value > width.max() {
+        return Ok(Err(faulty(Rule::LiteralDoesNotFit, token)));
     }
+    let value = Some(values.constant(Constant::Number(value, width))?);
+    Ok(Ok(Typed::Bits(Bits { width, value })))
 }
 
 fn number_value(number: Number) -> u64
@@ -79,39 +75,50 @@ fn literal_width<N: Names>(names: &N, number: Number, width: &Option<TypeName>) 
 }
 
 /// A literal, by its first token.
-pub(crate) fn literal_type<N: Names>(
+pub(crate) fn literal_type<N: Names, V: Values>(
     names: &N,
+    values: &V,
     token: u32,
     number: Number,
     width: &Option<TypeName>,
-) -> Judged<Typed<Known, ()>>
-    ensures value { result ≡ typing.literal_type knowns (N.senses names.now) token number width.now }
-    ensures fits { IfOk result FitsTyped }
+) -> Outcome<TypedOf<V>, V>
+    ensures value { IfOk result (λ j. j ≡ typing.literal_type V.algebra (N.senses names.now) token number width.now) }
+    ensures fits { IfOk result (λ j. IfOk j (TypedFits V.fits)) }
 {
     match literal_width(names, number, width) {
-        Ok(width) => literal(token, number_value(number), width),
-        Err(broken) => Err(broken),
+        Ok(width) => literal(values, token, number_value(number), width),
+        Err(broken) => Ok(Err(broken)),
     }
 }
 
-/// A value of this width of which nothing is known before the program runs.
-fn unknown_of(width: Option<Width>) -> Judged<Typed<Known, ()>>
-    ensures value { result ≡ typing.of_target knowns width (λ w. Known.Nothing) }
-    ensures fits { IfOk result FitsTyped }
+/// A variable, where its width is not broken.
+fn variable<V: Values>(values: &V, number: u32, width: Option<Width>) -> Outcome<TypedOf<V>, V>
+    ensures value { IfOk result (λ j. j ≡ typing.of_target V.algebra width (V.algebra.variable number)) }
+    ensures fits { IfOk result (λ j. IfOk j (TypedFits V.fits)) }
 {
-    match width {
-        Some(width) => Ok(Typed::Bits(Bits {
-            width,
-            value: Some(Known::Nothing),
-        })),
-        None => Err(None),
-    }
+    let Some(width) = width else {
+        return Ok(Err(None));
+    };
+    let value = Some(values.variable(number, width)?);
+    Ok(Ok(Typed::Bits(Bits { width, value })))
+}
+
+/// A global register, where its width is not broken.
+fn register<V: Values>(values: &V, number: u32, width: Option<Width>) -> Outcome<TypedOf<V>, V>
+    ensures value { IfOk result (λ j. j ≡ typing.of_target V.algebra width (V.algebra.register number)) }
+    ensures fits { IfOk result (λ j. IfOk j (TypedFits V.fits)) }
+{
+    let Some(width) = width else {
+        return Ok(Err(None));
+    };
+    let value = Some(values.register(number, width)?);
+    Ok(Ok(Typed::Bits(Bits { width, value })))
 }
 
 /// A constant that is broken elsewhere, with its width where that is known.
-fn broken_of(width: Option<Width>) -> Judged<Typed<Known, ()>>
-    ensures value { result ≡ typing.of_broken knowns width }
-    ensures fits { IfOk result FitsTyped }
+fn broken<V: Values>(width: Option<Width>) -> Judged<TypedOf<V>>
+    ensures value { result ≡ typing.of_broken V.algebra width }
+    ensures fits { IfOk result (TypedFits V.fits) }
 {
     match width {
         Some(width) => Ok(Typed::Bits(Bits { width, value: None })),
@@ -131,35 +138,63 @@ fn width_of(constant: Constant) -> Width
 }
 
 /// A constant or an address.
-fn value_of(constant: Constant) -> Judged<Typed<Known, ()>>
+fn constant<V: Values>(values: &V, constant: Constant) -> Result<TypedOf<V>, V::Failure>
     requires { Fits constant }
-    ensures value { result ≡ typing.word knowns (constant_width constant) (knowns.constant constant) }
-    ensures fits { IfOk result FitsTyped }
+    ensures value { IfOk result (λ t. Ok t ≡ typing.word V.algebra (constant_width constant) (V.algebra.constant constant)) }
+    ensures fits { IfOk result (TypedFits V.fits) }
 {
+    let width = width_of(constant);
+    let value = Some(values.constant(constant)?);
+    Ok(Typed::Bits(Bits { width, value }))
+}
+
+/// The address of a stackdata label.
+fn stackdata<V: Values>(values: &V, number: u32) -> Result<TypedOf<V>, V::Failure>
+    ensures value { IfOk result (λ t. Ok t ≡ typing.word V.algebra Width.W64 (V.algebra.stackdata number)) }
+    ensures fits { IfOk result (TypedFits V.fits) }
+{
+    let value = Some(values.stackdata(number)?);
     Ok(Typed::Bits(Bits {
-        width: width_of(constant),
-        value: Some(known_constant(constant)),
+        width: Width::W64,
+        value,
+    }))
+}
+
+/// The value of a continuation.
+fn continuation<V: Values>(values: &V, number: u32) -> Result<TypedOf<V>, V::Failure>
+    ensures value { IfOk result (λ t. Ok t ≡ typing.word V.algebra Width.W64 (V.algebra.continuation number)) }
+    ensures fits { IfOk result (TypedFits V.fits) }
+{
+    let value = Some(values.continuation(number)?);
+    Ok(Typed::Bits(Bits {
+        width: Width::W64,
+        value,
     }))
 }
 
 /// A name in an expression, at a token: rule 21 where it is no value.
-pub fn name_type(token: u32, sense: Option<Sense>) -> Judged<Typed<Known, ()>>
+pub(crate) fn name_type<V: Values>(
+    values: &V,
+    token: u32,
+    sense: Option<Sense>,
+) -> Outcome<TypedOf<V>, V>
     requires { FitsSense sense }
-    ensures value { result ≡ typing.name_type knowns token sense }
-    ensures fits { IfOk result FitsTyped }
+    ensures value { IfOk result (λ j. j ≡ typing.name_type V.algebra token sense) }
+    ensures fits { IfOk result (λ j. IfOk j (TypedFits V.fits)) }
 {
     let Some(sense) = sense else {
-        return Err(faulty(Rule::Undeclared, token));
+        return Ok(Err(faulty(Rule::Undeclared, token)));
     };
     match sense {
-        Sense::Variable(_, width) => unknown_of(width),
-        Sense::Register(_, width) => unknown_of(width),
-        Sense::Value(constant) => value_of(constant),
-        Sense::Broken(width) => broken_of(width),
-        Sense::Stackdata(_) => unknown_of(Some(Width::W64)),
-        Sense::Continuation(_) => unknown_of(Some(Width::W64)),
-        Sense::Host(_) => unknown_of(Some(Width::W64)),
-        Sense::Typedef(_) => Err(faulty(Rule::Undeclared, token)),
-        Sense::CodeLabel => Err(faulty(Rule::Undeclared, token)),
+        Sense::Variable(number, width) => variable(values, number, width),
+        Sense::Register(number, width) => register(values, number, width),
+        Sense::Value(known) => Ok(Ok(constant(values, known)?)),
+        Sense::Broken(width) => Ok(broken::<V>(width)),
+        Sense::Stackdata(number) => Ok(Ok(stackdata(values, number)?)),
+        Sense::Continuation(number) => Ok(Ok(continuation(values, number)?)),
+        // It breaks a rule of its own, and what stands for it is asked by nobody.
+        Sense::Host(_) => Ok(Ok(continuation(values, 0)?)),
+        Sense::Typedef(_) => Ok(Err(faulty(Rule::Undeclared, token))),
+        Sense::CodeLabel => Ok(Err(faulty(Rule::Undeclared, token))),
     }
 }

@@ -1,34 +1,47 @@
-//! The types of expressions, and their values where those are constants.
+//! The types of expressions, their values where those are constants, and expressions with names resolved.
 //!
-//! An expression is judged by one engine over whatever tells what its names mean, and in no memory. What it answers is exactly the judgement of
-//! `cmm_accepted`: bits of a width or a condition, what is known of the value before the program runs, or the first place in it at which a rule
-//! is broken.
+//! An expression is judged by one engine over whatever tells what its names mean and whatever stands for its values. What it answers is exactly
+//! the judgement of `cmm_accepted`: bits of a width or a condition, with what stands for them, or the first place in it at which a rule is
+//! broken. Where what is known of a value before the program runs stands for it, no memory is taken; where the resolved expression does, want of
+//! memory is the only failure.
 //!
 //! - `scope`: `type_of` and `constant`, the type and the value of an expression in a `Scope`, a list of names.
 //! - `meaning`: what a name means in a scope, and the answers.
+//! - `judging`: `judge`, what an expression is judged to be among names, and `resolve`, the same with names resolved; the judgement of names
+//!   and of operators, and what is wanted of expressions.
 //! - `names`: `Names`, which tells what names mean.
-//! - `engine`: `judge`, what an expression is judged to be among names.
+//! - `engine`: the judgement of an expression from those of its parts.
 //! - `leaf`, `joining`: the judgement of what holds no other expression, and of what holds some from theirs.
-//! - `operators`, `applying`, `known`: operators by their names and signs, at operands, and at what is known of values.
+//! - `operators`, `applying`: operators by their names and signs, and at operands.
 //! - `wanted`: what is wanted of an expression: bits, a condition or a constant.
+//! - `values`: `Values`, what stands for values and conditions; `knowns` and `known`, what is known before the program runs; `expressions`, the
+//!   resolved ones.
 #![tactic(auto)]
 
 mod applying;
 mod engine;
+mod expressions;
 mod joining;
+mod judging;
 mod known;
+mod knowns;
 mod leaf;
 mod meaning;
 mod names;
 mod operators;
 mod scope;
+mod values;
 mod wanted;
 
-pub use applying::{applied_to_one, applied_to_two};
-pub use engine::judge;
-pub use leaf::{name_type, type_width};
+pub use judging::{
+    applied_to_one, applied_to_two, as_bits, as_test, as_wanted, judge, name_type, resolve,
+};
+pub use leaf::type_width;
 pub use meaning::{ExprType, Meaning, TypeFault};
 pub use names::Names;
 pub use operators::{checked_named, infix_operator, operator_named, prefix_operator};
 pub use scope::{Scope, constant, type_of};
-pub use wanted::{Judged, as_bits, as_constant, as_number, as_test, as_wanted};
+pub use wanted::{Judged, as_constant, as_number};
+
+#[cfg(test)]
+mod tests;

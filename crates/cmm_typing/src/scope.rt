@@ -7,10 +7,10 @@ ghost use Rattle.cmm_accepted.specs.Typing.{expr_type};
 ghost use Rattle.cmm_typing.specs.Fitting.{AreWords};
 ghost use Rattle.cmm_typing.specs.Meanings.{Answers, fault_of, meaning_in, sense_of, senses_of, type_shown};
 
-use crate::engine::judge;
+use crate::judging::{as_wanted, judge};
 use crate::meaning::{ExprType, Meaning, TypeFault};
 use crate::names::Names;
-use crate::wanted::{Judged, as_constant, as_wanted};
+use crate::wanted::{Judged, as_constant};
 use cmm_accepted::{Host, Known, Sense, Spot, Typed};
 use cmm_ast::Expr;
 use cmm_items::Items;

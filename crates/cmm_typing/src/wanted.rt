@@ -3,8 +3,9 @@
 ghost use Rattle.std.specs.Prelude.{◌≡◌, IfOk};
 ghost use Rattle.cmm_accepted.specs.Judging as judging;
 ghost use Rattle.cmm_accepted.specs.Constants as constants;
-ghost use Rattle.cmm_typing.specs.Fitting.{FitsBits, FitsTyped, IsKnownIf};
+ghost use Rattle.cmm_typing.specs.Fitting.{BitsFit, FitsIf, TypedFits};
 
+use crate::values::{BitsOf, TypedOf, Values};
 use cmm_accepted::{Bits, Known, Spot, Typed};
 use cmm_rules::Rule;
 use cmm_words::{Constant, Width};
@@ -20,9 +21,9 @@ pub(crate) fn faulty(rule: Rule, token: u32) -> Option<Spot>
 }
 
 /// Bits are wanted of what stands at a token: else rule 24.
-pub fn as_bits(token: u32, typed: Typed<Known, ()>) -> Judged<Bits<Known>>
+pub(crate) fn as_bits<V: Values>(token: u32, typed: TypedOf<V>) -> Judged<BitsOf<V>>
     ensures value { result ≡ judging.as_bits token typed }
-    ensures fits { FitsTyped typed → IfOk result FitsBits }
+    ensures fits { TypedFits V.fits typed → IfOk result (BitsFit V.fits) }
 {
     match typed {
         Typed::Bits(bits) => Ok(bits),
@@ -31,7 +32,7 @@ pub fn as_bits(token: u32, typed: Typed<Known, ()>) -> Judged<Bits<Known>>
 }
 
 /// A condition is wanted of what stands at a token: else rule 24.
-pub fn as_test(token: u32, typed: Typed<Known, ()>) -> Judged<Option<()>>
+pub(crate) fn as_test<V: Values>(token: u32, typed: TypedOf<V>) -> Judged<Option<V::Condition>>
     ensures { result ≡ judging.as_test token typed }
 {
     match typed {
@@ -41,10 +42,10 @@ pub fn as_test(token: u32, typed: Typed<Known, ()>) -> Judged<Option<()>>
 }
 
 /// Bits of this width are wanted at a token: else rule 23.
-pub(crate) fn of_width(wanted: Width, token: u32, bits: Bits<Known>) -> Judged<Bits<Known>>
+pub(crate) fn of_width<V: Values>(wanted: Width, token: u32, bits: BitsOf<V>) -> Judged<BitsOf<V>>
     ensures value { result ≡ judging.of_width wanted token bits }
-    ensures fits { FitsBits bits → IfOk result (λ found. IsKnownIf wanted found.value) }
-    ensures same { FitsBits bits → IfOk result FitsBits }
+    ensures fits { BitsFit V.fits bits → IfOk result (λ found. FitsIf (V.fits wanted) found.value) }
+    ensures same { BitsFit V.fits bits → IfOk result (BitsFit V.fits) }
 {
     if bits.width.bits() == wanted.bits() {
         Ok(bits)
@@ -54,13 +55,17 @@ pub(crate) fn of_width(wanted: Width, token: u32, bits: Bits<Known>) -> Judged<B
 }
 
 /// Bits are wanted at a token, of this width where there is one: else rule 24 or 23.
-pub fn as_wanted(wanted: Option<Width>, token: u32, typed: Typed<Known, ()>) -> Judged<Bits<Known>>
+pub(crate) fn as_wanted<V: Values>(
+    wanted: Option<Width>,
+    token: u32,
+    typed: TypedOf<V>,
+) -> Judged<BitsOf<V>>
     ensures value { result ≡ judging.as_wanted wanted token typed }
-    ensures fits { FitsTyped typed → IfOk result FitsBits }
+    ensures fits { TypedFits V.fits typed → IfOk result (BitsFit V.fits) }
 {
-    let bits = as_bits(token, typed)?;
+    let bits = as_bits::<V>(token, typed)?;
     match wanted {
-        Some(width) => of_width(width, token, bits),
+        Some(width) => of_width::<V>(width, token, bits),
         None => Ok(bits),
     }
 }

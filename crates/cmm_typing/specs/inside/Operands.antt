@@ -1,26 +1,27 @@
--- The operands of an operator: that they are words of their widths, and those of a list.
+-- The operands of an operator: that they fit, and those of a list.
 use Rattle.std.specs.Prelude.{List, [], ◌∷◌}
+use Rattle.cmm_words.specs.declared.width.Width.{Width}
 use Rattle.cmm_ast.specs.declared.expression.Expr.{Expr}
-use Rattle.cmm_accepted.specs.declared.known.Known.{Known}
 use Rattle.cmm_accepted.specs.declared.judged.Operand.{Operand}
 use Rattle.cmm_accepted.specs.declared.judged.Operands.{Operands}
 use Rattle.cmm_accepted.specs.declared.judged.Operands.TheVariants as operands
 use Rattle.cmm_accepted.specs.Senses.{Senses}
-use Rattle.cmm_accepted.specs.Algebras.{knowns}
+use Rattle.cmm_accepted.specs.Algebras.{Algebra}
 use Rattle.cmm_accepted.specs.Judging.{Judged}
 use Rattle.cmm_accepted.specs.Typing.{expr_type, operand_at, with_operand}
-use Rattle.cmm_typing.specs.Fitting.{FitsTyped}
+use Rattle.cmm_typing.specs.Fitting.{TypedFits}
 
-abbrev pub FitsOperand : Operand Known (Unit {0}) → Type 0
-FitsOperand o = FitsTyped o.typed
+abbrev pub OperandFits : {E C : Type 0} → (Width → E → Type 0) → Operand E C → Type 0
+OperandFits fits o = TypedFits fits o.typed
 
-abbrev pub FitsOperands : Operands Known (Unit {0}) → Type 0
-FitsOperands operands.Zero = Unit {0}
-FitsOperands (operands.One a) = FitsOperand a
-FitsOperands (operands.Two a b) = FitsOperand a × FitsOperand b
-FitsOperands operands.More = Unit {0}
+abbrev pub OperandsFit : {E C : Type 0} → (Width → E → Type 0) → Operands E C → Type 0
+OperandsFit fits operands.Zero = Unit {0}
+OperandsFit fits (operands.One a) = OperandFits fits a
+OperandsFit fits (operands.Two a b) = OperandFits fits a × OperandFits fits b
+OperandsFit fits operands.More = Unit {0}
 
 -- some operands, and those of a list after them
-abbrev pub list_operands : Senses → Judged (Operands Known (Unit {0})) → List Expr → Judged (Operands Known (Unit {0}))
-list_operands names before [] = before
-list_operands names before (e ∷ es) = list_operands names (with_operand knowns before (operand_at knowns e.token (expr_type knowns names e))) es
+abbrev pub list_operands : {E C : Type 0} → Algebra E C → Senses → Judged (Operands E C) → List Expr → Judged (Operands E C)
+list_operands algebra names before [] = before
+list_operands algebra names before (e ∷ es) =
+    list_operands algebra names (with_operand algebra before (operand_at algebra e.token (expr_type algebra names e))) es

@@ -1,24 +1,31 @@
-use Rattle.std.proofs.Common.{refl}
-use Rattle.cmm_ast.specs.declared.expression.Memory.{out-Memory}
-use Rattle.cmm_typing.proofs.Forms.{infix_law, prefix_law, named_law, bracketed_law, memory_law}
+use Rattle.cmm_typing.proofs.Forms.{infix_joined, prefix_joined, named_joined, bracketed_joined, memory_joined}
 use Rattle.cmm_typing.proofs.engine.+expression.Goals as goal
 
-pub judge-returns-in-Infix-clause-value : goal.judge-returns-in-Infix-clause-value
-judge-returns-in-Infix-clause-value g t c =
-    rw (infix_law _ c.args.e.now c.in-Infix.left c.in-Infix.operator c.in-Infix.right c.in-Infix.is, c.infixed.ensures.value, c.judge-a.ensures.value, c.judge-b.ensures.value, c.get.ensures, c.get-in-Infix.ensures, c.get-in-Infix-2.ensures, c.get-in-Infix-3.ensures) refl
+pub judge_by-returns-in_ok-b-in-Infix-clause-value : goal.judge_by-returns-in_ok-b-in-Infix-clause-value
+judge_by-returns-in_ok-b-in-Infix-clause-value g t c =
+    infix_joined g.V.Values.algebra (g.N.Names.senses c.args.names.now) c.infixed.result c.args.e.now c.in-Infix.left c.in-Infix.operator c.in-Infix.right c.in-Infix.is
+    c.get.result.now c.get-in-Infix-2.result.now c.get-in-Infix.result.now c.get-in-Infix-3.result.now
+    c.get.ensures c.get-in-Infix-2.ensures c.get-in-Infix.ensures c.get-in-Infix-3.ensures
+    c.in_ok-a-in-Infix.a c.in_ok-b-in-Infix.b c.in_ok-a-in-Infix.ensures.value c.in_ok-b-in-Infix.ensures.value c.infixed.ensures.value
 
-pub judge-returns-in-Prefix-clause-value : goal.judge-returns-in-Prefix-clause-value
-judge-returns-in-Prefix-clause-value g t c =
-    rw (prefix_law _ c.args.e.now c.in-Prefix.operator c.in-Prefix.operand c.in-Prefix.is, c.prefixed.ensures.value, c.judge-a-in-Prefix.ensures.value, c.get-in-Prefix.ensures, c.get-in-Prefix-2.ensures) refl
+pub judge_by-returns-in_ok-a-in-Prefix-clause-value : goal.judge_by-returns-in_ok-a-in-Prefix-clause-value
+judge_by-returns-in_ok-a-in-Prefix-clause-value g t c =
+    prefix_joined g.V.Values.algebra (g.N.Names.senses c.args.names.now) c.prefixed.result c.args.e.now c.in-Prefix.operator c.in-Prefix.operand c.in-Prefix.is
+    c.get-in-Prefix.result.now c.get-in-Prefix-2.result.now c.get-in-Prefix.ensures c.get-in-Prefix-2.ensures
+    c.in_ok-a-in-Prefix.a c.in_ok-a-in-Prefix.ensures.value c.prefixed.ensures.value
 
-pub judge-returns-in-Named-clause-value : goal.judge-returns-in-Named-clause-value
-judge-returns-in-Named-clause-value g t c =
-    rw (named_law _ c.args.e.now c.in-Named.operator c.in-Named.operands c.in-Named.is, c.applied.ensures.value, c.judge_operands-given.ensures.value, c.as_slice.ensures, c.operator_named.ensures) refl
+pub judge_by-returns-in_ok-given-in-Named-clause-value : goal.judge_by-returns-in_ok-given-in-Named-clause-value
+judge_by-returns-in_ok-given-in-Named-clause-value g t c =
+    named_joined g.V.Values.algebra (g.N.Names.senses c.args.names.now) c.applied.result c.args.e.now c.in-Named.operator c.in-Named.operands c.in-Named.is
+    c.as_slice.result.now c.as_slice.ensures c.in_ok-given-in-Named.given c.in_ok-given-in-Named.ensures.value
+    c.operator_named.result c.operator_named.ensures c.applied.ensures.value
 
 pub judge_memory-returns-clause-value : goal.judge_memory-returns-clause-value
 judge_memory-returns-clause-value g t c =
-    rw (memory_law, c.loaded.ensures.value (out-Memory c.args.memory.now).aligned, c.judge-address.ensures.value, c.type_width-width.ensures, c.get.ensures, c.get-2.ensures) refl
+    memory_joined g.V.Values.algebra (g.N.Names.senses c.args.names.now) c.loaded.result c.args.memory.now c.type_width-width.result c.type_width-width.ensures
+    c.get.result.now c.get-2.result.now c.get.ensures c.get-2.ensures c.in_ok-address.address c.in_ok-address.ensures.value c.loaded.ensures.value
 
 pub judge_primary-returns-in-Bracketed-clause-value : goal.judge_primary-returns-in-Bracketed-clause-value
 judge_primary-returns-in-Bracketed-clause-value g t c =
-    rw (bracketed_law _ c.args.token c.args.prim.now c.in-Bracketed.inner c.in-Bracketed.is, c.judge.ensures.value, c.get.ensures) refl
+    bracketed_joined g.V.Values.algebra (g.N.Names.senses c.args.names.now) c.judge_by.result c.args.token c.args.prim.now c.in-Bracketed.inner c.in-Bracketed.is
+    c.get.result.now c.get.ensures c.judge_by.ensures.value
