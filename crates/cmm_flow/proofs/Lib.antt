@@ -49,6 +49,7 @@ pub mod Marking
 pub mod Blocks
 pub mod LayingBlocks
 pub mod Lacking
+pub mod Numbering
 pub mod Whole
 mod FlowRows
 mod CallRows

@@ -11,16 +11,17 @@ use Rattle.cmm_program.specs.declared.procedure.Cont.{Cont}
 use Rattle.cmm_program.specs.declared.procedure.Proc.{Proc}
 use Rattle.cmm_program.specs.declared.statement.Form.TheVariants.{Span}
 use Rattle.cmm_program.specs.declared.statement.Statement.{Statement}
+use Rattle.cmm_program.specs.Errors.{with_some}
 use Rattle.cmm_program.specs.Bodies.{Mark, AtContinuation, AtLabel, after_inside, follow}
 use Rattle.cmm_graph.specs.declared.graph.Graph.{Graph}
 use Rattle.cmm_graph.specs.declared.node.Node.{Node}
 use Rattle.cmm_graph.specs.declared.node.NodeKind.TheVariants.{CopyIn, Entry, Goto, Stop}
 use Rattle.cmm_graph.specs.declared.number.NodeId.{NodeId}
 use Rattle.cmm_graph.specs.declared.number.Variable.{Variable}
-use Rattle.cmm_graph.specs.Counterpart.{parameter_targets}
+use Rattle.cmm_graph.specs.Counterpart.{formals_of, parameter_targets, taken_at, taken_by}
 use Rattle.cmm_flow.specs.declared.builder.Builder.{Builder}
 use Rattle.cmm_flow.specs.Code.{IsNode}
-use Rattle.cmm_flow.specs.Flow.{IsBegun, IsBehindLabel, IsFlowOf, IsLandedAt}
+use Rattle.cmm_flow.specs.Flow.{IsBegun, IsBehindLabel, IsFlow, IsFlowOf, IsLandedAt}
 use Rattle.cmm_flow.specs.Statements.{ListCode}
 use Rattle.cmm_flow.specs.inside.Fronts.{IsFinished, IsNew, copy_in, copy_ins, goto_nodes}
 use Rattle.cmm_flow.specs.inside.Laying.{IsReady, Lays, LaysMarked, label_of}
@@ -51,6 +52,17 @@ get_zip (z ∷ xs) (w ∷ ys) (suc n) x y is other = get_zip xs ys n x y is othe
 
 there : {A : Type 0} (xs : List A) (n count : ℕ) (x : A) → length xs ≡ count → n < count → slice_get xs n ≡ Some (get_or xs n x)
 there xs n count x many less = slice_get-get_or xs n x (omega (arith, many, less))
+
+-- lists of the same elements
+same_elements : {A : Type 0} (xs ys : List A) → length xs ≡ length ys → ((k : ℕ) → k < length xs → slice_get xs k ≡ slice_get ys k) → xs ≡ ys
+same_elements [] [] many same = refl
+same_elements [] (y ∷ ys) many same = absurd (omega (arith, many))
+same_elements (x ∷ xs) [] many same = absurd (omega (arith, many))
+same_elements (x ∷ xs) (y ∷ ys) many same =
+    let first : Some x ≡ Some y = same 0 (omega arith) in
+    let one : x ≡ y = cc in
+    let rest = same_elements xs ys (omega (arith, many)) (λ k less. same (suc k) (omega (arith, less))) in
+    ap (λ z. z ∷ xs) one ∙ ap (λ zs. y ∷ zs) rest
 
 -- nodes that are numbered one after the other
 get_numbered : (ns : List NodeId) (first count k : ℕ) → map (λ n. n.number) ns ≡ range_with_len first count → k < count →
@@ -202,17 +214,59 @@ module _ (q : Proc) (labels : ℕ) (a b c : Builder) (g : Graph) (formals : List
             (behind_mark (AtContinuation k) after ((whole.marks front front_many).continuations k a.stop after before is));
       }
 
-  pub is_flow : IsTrue (list_all (λ node. nat_le node.tokens q.tokens) g.nodes) → IsFlowOf q g
+  -- ---- the parts that a graph has of its procedure
+
+  copy_there : (k : ℕ) (cont : Cont) → slice_get q.conts k ≡ Some cont →
+      slice_get all (length c.labels + 1 + k) ≡ Some (copy_in q cont (get_or c.continuations k a.stop))
+  copy_there k cont is =
+      let less : k < length q.conts = slice_get_within q.conts k cont is in
+      let after = get_or c.continuations k a.stop in
+      let led = there c.continuations k (length q.conts) a.stop continuations_many less in
+      in_front (length c.labels + 1 + k) _
+      (get_behind gotos (copy_ins q c.continuations) k (length c.labels + 1 + k) (omega (arith, gotos_many, labels_many))
+      ∙ get_map (λ (x : Cont × NodeId). copy_in q x.0 x.1) (zip q.conts c.continuations) k (cont, after) (get_zip q.conts c.continuations k cont after is led))
+
+  landings_many : length g.continuations ≡ length q.conts
+  landings_many =
+      sym (length-map g.continuations (λ (n : NodeId). n.number)) ∙ ap length finished.continuations
+      ∙ length-range_with_len (length c.labels + 1) (length c.continuations) ∙ continuations_many
+
+  landing_takes : (k : ℕ) → k < length q.conts →
+      slice_get (map (taken_at g) g.continuations) k ≡ slice_get (map (λ c. Some (parameter_targets q c)) q.conts) k
+  landing_takes k less =
+      let cont = get_or q.conts k record { params = [] } in
+      let is : slice_get q.conts k ≡ Some cont = slice_get-get_or q.conts k record { params = [] } less in
+      let at : NodeId = record { number = length c.labels + 1 + k } in
+      let landing = get_numbered g.continuations (length c.labels + 1) (length c.continuations) k finished.continuations (omega (arith, continuations_many, less)) in
+      let node = ap (λ nodes. slice_get nodes at.number) finished.nodes ∙ copy_there k cont is in
+      get_map (taken_at g) g.continuations k at landing ∙ ap (λ o. Some (with_some o (λ node. taken_by node.kind))) node
+      ∙ sym (get_map (λ (c : Cont). Some (parameter_targets q c)) q.conts k cont is)
+
+  entry_there : slice_get g.nodes g.first.number ≡ Some record { tokens = q.tokens; kind = Entry formals next }
+  entry_there =
+      ap (λ nodes. slice_get nodes g.first.number) finished.nodes ∙ ap (λ (n : NodeId). slice_get all n.number) finished.first ∙ (whole.code front front_many).1
+
+  is_flow : IsTrue (list_all (λ node. nat_le node.tokens q.tokens) g.nodes) → IsFlowOf q g
   is_flow tokens = record {
     label_node = node_of_label;
     begun = record {
       formals = formals;
       next = next;
-      node = of_graph (λ nodes. IsNode nodes g.first q.tokens (Entry formals next))
-          (ap (λ (n : NodeId). slice_get all n.number) finished.first ∙ (whole.code front front_many).1);
+      node = entry_there;
       code = of_graph (λ nodes. ListCode q nodes node_of_label q.body next) body_code;
     };
     labels = label;
     continuations = continuation;
     tokens = tokens;
+  }
+
+  pub is_answered : map (λ (v : Variable). v.number) formals ≡ range_with_len 0 q.formals → IsFlow q g
+  is_answered numbers = record {
+    flow = is_flow;
+    variables = finished.variables;
+    formals = ap (λ o. with_some o (λ node. formals_of node.kind)) entry_there ∙ ap Some numbers;
+    continuations =
+        same_elements (map (taken_at g) g.continuations) (map (λ c. Some (parameter_targets q c)) q.conts)
+        (length-map g.continuations (taken_at g) ∙ landings_many ∙ sym (length-map q.conts (λ (c : Cont). Some (parameter_targets q c))))
+        (λ k less. landing_takes k (omega (arith, length-map g.continuations (taken_at g), landings_many, less)));
   }

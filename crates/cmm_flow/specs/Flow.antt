@@ -1,15 +1,17 @@
 -- When a graph is the flow of a procedure: its nodes are the code of the body, and of what follows each label and each
 -- continuation.
-use Rattle.std.specs.Prelude.{◌≡◌, ℕ, ◌+◌, ◌*◌, ◌<◌, ◌≤◌, nat_le, IsTrue, List, length, Some}
-use Rattle.std.specs.List.{list_all}
+use Rattle.std.specs.Prelude.{◌≡◌, ℕ, ◌+◌, ◌*◌, ◌<◌, ◌≤◌, nat_le, IsTrue, List, length, map, Some}
+use Rattle.std.specs.List.{list_all, range_with_len}
 use Rattle.cmm_program.specs.declared.procedure.Proc.{Proc}
 use Rattle.cmm_program.specs.declared.procedure.Target.{Target}
 use Rattle.cmm_program.specs.Bodies.{AtLabel, AtContinuation, follow}
+use Rattle.cmm_program.specs.Errors.{with_some}
 use Rattle.cmm_graph.specs.declared.number.NodeId.{NodeId}
 use Rattle.cmm_graph.specs.declared.number.Variable.{Variable}
 use Rattle.cmm_graph.specs.declared.node.NodeKind.TheVariants.{Entry, CopyIn, Goto}
 use Rattle.cmm_graph.specs.declared.graph.Graph.{Graph}
-use Rattle.cmm_graph.specs.Paths.{landing_of}
+use Rattle.cmm_graph.specs.Counterpart.{formals_of, parameter_targets, taken_at}
+use Rattle.cmm_graph.specs.Paths.{landing_of, node_of}
 use Rattle.cmm_flow.specs.Code.{IsNode}
 use Rattle.cmm_flow.specs.Statements.{ListCode}
 
@@ -44,6 +46,14 @@ pub record IsFlowOf (q : Proc) (g : Graph) : Type 0 where
   pub continuations : (k : ℕ) → k < length q.conts → IsLandedAt q g label_node k
   -- no node has more tokens than the procedure
   pub tokens : IsTrue (list_all (λ node. nat_le node.tokens q.tokens) g.nodes)
+
+-- What `flow` answers: the flow of the procedure, where no node has more tokens than that. The graph has the variables of the procedure,
+-- its Entry takes the arguments to the formals, and the CopyIn of each continuation takes the parameters.
+pub record IsFlow (q : Proc) (g : Graph) : Type 0 where
+  pub flow : IsTrue (list_all (λ node. nat_le node.tokens q.tokens) g.nodes) → IsFlowOf q g
+  pub variables : g.variables ≡ length q.vars
+  pub formals : with_some (node_of g g.first) (λ node. formals_of node.kind) ≡ Some (range_with_len 0 q.formals)
+  pub continuations : map (taken_at g) g.continuations ≡ map (λ c. Some (parameter_targets q c)) q.conts
 
 -- variables, temporaries and continuations have at most 8 bytes of a frame for each token of the procedure: a pair for a continuation
 abbrev pub IsBounded : Proc → Graph → Type 0

@@ -7,14 +7,17 @@
 //! tokens of the longest procedure.
 //!
 //! Nodes are laid from the last statement to the first, each behind those to which it leads, so that what was laid stays as
-//! it is (`specs/inside/Laying`). So far this is done for statements without blocks, labels and continuations, in private
-//! modules. Blocks, labels and whole procedures come next.
+//! it is (`specs/inside/Laying`). The nodes of labels and continuations stand in front of all, with numbers that are known
+//! from the beginning, and where each leads is noted when its statement is reached (`specs/inside/Marks`). `flow` makes the
+//! graph of a whole procedure, and fails only for want of memory.
 //!
 //! - `builder`: a graph that is being made.
 //! - `expression`, `condition`: expressions, by the temporaries that their operators write, and conditions, as branches.
 //! - `assignment`, `call`, `checked`: assignments; statements that leave their procedure or wait at a site; divisions that yield.
 //! - `simple`: all statements without blocks, labels and continuations.
-//! - `sites`, `counts`: the exits of call sites; counts of nodes and of tokens.
+//! - `block`: blocks, with the statements that hold others, labels, `goto` and continuations.
+//! - `procedure`: `flow`, and the nodes in front.
+//! - `sites`, `counts`, `labels`: the exits of call sites; counts of nodes and of tokens; how many labels a body has.
 //! - `laws`: what runs over the flows of a program's procedures do.
 #![tactic(auto)]
 

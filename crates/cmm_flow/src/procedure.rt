@@ -4,11 +4,11 @@
 //! each label, one for all labels that the body lacks, and the CopyIn of each continuation. The Stop at the body's end
 //! follows, and then what is laid.
 
-ghost use Rattle.std.specs.Prelude.{◌≡◌, ◌++◌, nat_le, IfOk, IsTrue, OnOk, map, replicate};
-ghost use Rattle.std.specs.List.{list_all, range_with_len};
+ghost use Rattle.std.specs.Prelude.{◌≡◌, ◌++◌, IfOk, OnOk, map, replicate};
+ghost use Rattle.std.specs.List.{range_with_len};
 ghost use Rattle.cmm_program.specs.Exits.{variable_width as width_of_variable};
 ghost use Rattle.cmm_program.specs.declared.procedure.Target.TheVariants.{Variable as OfVariable};
-ghost use Rattle.cmm_flow.specs.Flow.{IsFlowOf};
+ghost use Rattle.cmm_flow.specs.Flow.{IsFlow};
 ghost use Rattle.cmm_flow.specs.inside.Fronts.{IsFinished, IsNew, copy_in, copy_ins, goto_nodes};
 
 use crate::builder::{Builder, as_number, following};
@@ -172,7 +172,7 @@ impl Builder {
 
 /// The graph of a procedure. Its only error is want of memory.
 pub fn flow(alloc: Global, p: &Proc) -> Result<Graph, AllocError>
-    ensures { IfOk result (λ g. IsTrue (list_all (λ node. nat_le node.tokens p.now.tokens) g.nodes) → IsFlowOf p.now g) }
+    ensures { IfOk result (λ g. IsFlow p.now g) }
 {
     let labels = labels_in(p.body.as_slice())?;
     let mut builder = Builder::of(alloc, labels, as_number(p.conts.len())?)?;
