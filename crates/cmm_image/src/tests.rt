@@ -182,3 +182,12 @@ fn the_most_sites_end_with_the_bytes(rt: HostRuntime) -> Result<(), Fail> {
     assert_eq!(rt; refusal(rt.alloc(), &bytes), Some((Rule::ImageIsCut, 318)));
     Ok(())
 }
+
+#[test]
+fn sites_are_found_by_their_return_addresses(rt: HostRuntime) -> Result<(), Fail> {
+    let image = read_image(rt.alloc(), &BYTES)?;
+    assert_eq!(rt; image.site_of(0x1_0008), Some(0));
+    assert_eq!(rt; image.site_of(0x1_000c), None);
+    assert_eq!(rt; image.site_of(0x1_0010), Some(1));
+    Ok(())
+}
