@@ -39,7 +39,7 @@ use Rattle.cmm_flow.proofs.Expressions.{into_temporary, operand_brings}
 use Rattle.cmm_flow.proofs.Leaving.{IsSilent}
 use Rattle.cmm_flow.proofs.Operands.{value_kept}
 use Rattle.cmm_flow.proofs.Steps.{Goes, Run, Youngest, at, at_most, shown_as, stays_there, then_goes}
-use Rattle.cmm_flow.proofs.Tests.{branch_goes}
+use Rattle.cmm_flow.proofs.Conditions.{branch_goes}
 use Rattle.cmm_flow.proofs.Writes.{Leaves, assigned_leaves, leaves_itself}
 
 -- a division has a value unless the divisor is 0, and any other operator has one

@@ -2,7 +2,7 @@ pub mod Steps
 pub mod Operands
 pub mod Expressions
 pub mod OperandLists
-pub mod Tests
+pub mod Conditions
 pub mod Rows
 pub mod Writes
 pub mod Assigning

@@ -38,7 +38,7 @@ use Rattle.cmm_flow.proofs.Done.{CodeOf, IsDone, Passes, Quietly, asked, is_done
 use Rattle.cmm_flow.proofs.Expressions.{operand_brings}
 use Rattle.cmm_flow.proofs.Rows.{arm_node, row_leads, switch_leads}
 use Rattle.cmm_flow.proofs.Steps.{Goes, Run, Youngest, at, at_most, goto_goes, passes_one, place, then_goes}
-use Rattle.cmm_flow.proofs.Tests.{chosen, test_decides}
+use Rattle.cmm_flow.proofs.Conditions.{chosen, test_decides}
 use Rattle.cmm_flow.proofs.Writes.{leaves_itself}
 
 module _ {r : Run} (y : Youngest r) (q : Proc) (flow : IsFlowOf q y.graph) (store : Store) (running : store.status ≡ Running) where
