@@ -12,7 +12,7 @@ use Rattle.cmm_parser.specs.declared.fault.SyntaxFault.TheVariants as syntax
 use Rattle.cmm_parser.specs.Faults.{IsFaultOf}
 use Rattle.cmm_rules.specs.declared.rule.Rule.TheVariants.{FormNotBuilt}
 use Rattle.cmm_rules.specs.Rules.{rule_number}
-use Rattle.cmm_static.specs.NameFaults.{first_fault_of_names}
+use Rattle.cmm_static.specs.StandingFaults.{first_standing_fault}
 use Rattle.cmm_top.specs.declared.first.Fault.{Fault}
 use Rattle.cmm_top.specs.declared.first.FirstFault.{FirstFault}
 use Rattle.cmm_top.specs.declared.first.FirstFault.TheVariants.{Refused, Memory}
@@ -55,25 +55,25 @@ pub record BreaksSyntax (fault : Fault) (unit : List ℕ) : Type 0 where
 abbrev pub in_one_unit : StaticFault → Fault
 in_one_unit f = record { rule = f.rule; line = f.line; column = f.column }
 
--- a unit of the language, its tokens where they stand, that breaks a rule on names, exports, imports or the target: this is the first
-pub record BreaksNames (fault : Fault) (unit : List ℕ) : Type 0 where
+-- a unit of the language, its tokens where they stand, that breaks a static rule of those that are tested: this is the first
+pub record BreaksStatic (fault : Fault) (unit : List ℕ) : Type 0 where
   pub tree : UnitTree
   pub is_tree : IsTreeOf unit tree
   pub places : tree.places ≡ places_in unit
-  pub broken : option_map in_one_unit (first_fault_of_names (tree ∷ [])) ≡ Some fault
+  pub broken : option_map in_one_unit (first_standing_fault (tree ∷ [])) ≡ Some fault
 
 -- a unit of the language that breaks none of these and is not of the first form
 pub record IsOtherForm (fault : Fault) (unit : List ℕ) : Type 0 where
   pub tree : UnitTree
   pub is_tree : IsTreeOf unit tree
-  pub unbroken : first_fault_of_names (tree ∷ []) ≡ None
+  pub unbroken : first_standing_fault (tree ∷ []) ≡ None
   pub value : form_value tree ≡ None
   pub says : fault ≡ record { rule = FormNotBuilt; line = 1; column = 1 }
 
--- why a unit is refused: for the first rule of the lexical form that it breaks, or else for its syntax, or else for the first rule on names,
+-- why a unit is refused: for the first rule of the lexical form that it breaks, or else for its syntax, or else for the first static rule,
 -- or else because it is not of the first form
 abbrev pub IsFault : Fault → List ℕ → Type 0
-IsFault fault unit = IsFirstFault unit (At (rule_number fault.rule) fault.line fault.column) ⊎ (BreaksSyntax fault unit ⊎ (BreaksNames fault unit ⊎ IsOtherForm fault unit))
+IsFault fault unit = IsFirstFault unit (At (rule_number fault.rule) fault.line fault.column) ⊎ (BreaksSyntax fault unit ⊎ (BreaksStatic fault unit ⊎ IsOtherForm fault unit))
 
 -- why a unit has no code
 abbrev pub HasNoCode : List ℕ → FirstFault → Type 0

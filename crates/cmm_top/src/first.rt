@@ -70,7 +70,7 @@ pub fn compile_first(alloc: Global, unit: &[u8]) -> Result<Vec<u8>, FirstFault>
     Ok(placed.bytes.into_vec())
 }
 
-/// Why a unit that is not of the first form is refused: for the first rule on names that it breaks, or else because it is not of the form.
+/// Why a unit that is not of the first form is refused: for the first static rule that it breaks, or else because it is not of the form.
 fn refusal_of(alloc: Global, tree: &Unit) -> FirstFault
     ensures { Refuses tree.now result }
 {

@@ -194,6 +194,10 @@ const UNITS: [(&str, &str); 56] = [
         "a.cmm:2:17: 20 declared twice\n",
     ),
     (
+        "export main;\nmain() { return (1); }\ntypedef word t;",
+        "a.cmm:3:9: 21 undeclared\n",
+    ),
+    (
         "export main, x; main() { return (1); }",
         "a.cmm:1:14: 21 undeclared\n",
     ),
