@@ -32,7 +32,6 @@ pub fn judge<N: Names>(names: &N, e: &Expr) -> Judged<Typed<Known, ()>>
 
 /// What an expression is judged to be among names, with names resolved: the expression or the condition of a program. Fails only for want of
 /// memory. An alignment of 2^32 bytes or more, which no program has, is given as 2^32 - 1.
-
 pub fn resolve<N: Names>(
     alloc: Global,
     names: &N,

@@ -42,6 +42,3 @@ pub use names::Names;
 pub use operators::{checked_named, infix_operator, operator_named, prefix_operator};
 pub use scope::{Scope, constant, type_of};
 pub use wanted::{Judged, as_constant, as_number};
-
-#[cfg(test)]
-mod tests;
