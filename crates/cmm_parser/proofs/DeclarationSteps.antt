@@ -12,39 +12,39 @@ use Rattle.cmm_ast.specs.Taking.{is_word}
 use Rattle.cmm_lexer.specs.declared.keyword.Keyword.TheVariants.{Span as SpanWord}
 use Rattle.cmm_ast.specs.declared.unit.Item.{Item}
 use Rattle.cmm_parser.specs.declared.fault.Stop.{Stop}
-use Rattle.cmm_parser.specs.inside.Parsing.{Answered, Parses, Skips, Stays, Bits}
-use Rattle.cmm_parser.proofs.Steps.{steps, holds, takes, leaves, gives}
+use Rattle.cmm_parser.specs.inside.Parsing.{Answered, Parsed, Takes, MayTake, Skips, Stays, Bits}
+use Rattle.cmm_parser.proofs.Steps.{loosely, steps, holds, takes, leaves, gives}
 
 -- a word that may be left out was next or not
 pub accepted : {test : Lexeme → Bool} {before between : Point} (found : Bool) → (IsTrue found → Skips test before between) → (IsFalse found → Stays test before between) →
-    Parses (λ fuel. if_next test (skip >>= λ _. give true) (give false)) before (Ok found) between
-accepted true taken kept = takes (taken refl) gives
+    MayTake (λ fuel. if_next test (skip >>= λ _. give true) (give false)) before (Ok found) between
+accepted true taken kept = loosely (takes (taken refl) gives)
 accepted false taken kept = leaves (kept refl) gives
 
 -- the number of the next token is kept
-pub from_here : {A : Type 0} {before after : Point} {token : ℕ} {result : Result A Stop} (rest : ℕ → ℕ → Reads A) → token ≡ before.taken →
-    Parses (rest token) before result after → Parses (λ fuel. here >>= λ token. rest token fuel) before result after
-from_here {A} {before} {after} {token} {result} rest is one = record {
+pub from_here : {A : Type 0} {some : Bool} {before after : Point} {token : ℕ} {result : Result A Stop} (rest : ℕ → ℕ → Reads A) → token ≡ before.taken →
+    Parsed some (rest token) before result after → Parsed some (λ fuel. here >>= λ token. rest token fuel) before result after
+from_here {A} {some} {before} {after} {token} {result} rest is one = record {
   answers = λ fuel less. subst (λ token. Answered (rest token fuel true before) result after) is (one.answers fuel less);
-  fewer = one.fewer;
+  taken = one.taken;
 }
 
 -- a reader of a value by another name
-pub reads_same : {A B : Type 0} {before after : Point} {a b : A} {result : Result B Stop} (rest : A → ℕ → Reads B) → a ≡ b → Parses (rest a) before result after →
-    Parses (rest b) before result after
-reads_same {before = before} {after = after} {result = result} rest same one = subst (λ a. Parses (rest a) before result after) same one
+pub reads_same : {A B : Type 0} {some : Bool} {before after : Point} {a b : A} {result : Result B Stop} (rest : A → ℕ → Reads B) → a ≡ b → Parsed some (rest a) before result after →
+    Parsed some (rest b) before result after
+reads_same {some = some} {before = before} {after = after} {result = result} rest same one = subst (λ a. Parsed some (rest a) before result after) same one
 
 -- a word for bits was next or not
-pub bits_next : {before after : Point} {width : TypeName} → Bits width before after → Parses (λ fuel. bits) before (Ok (Some width)) after
+pub bits_next : {before after : Point} {width : TypeName} → Bits width before after → MayTake (λ fuel. bits) before (Ok (Some width)) after
 bits_next found =
-    let typed : Parses (λ fuel. type_name) _ (Ok _) _ = record { answers = λ fuel less. found.reads; fewer = let less = found.fewer in omega arith } in
-    holds found.passing (steps _ typed gives)
+    let typed : Takes (λ fuel. type_name) _ (Ok _) _ = record { answers = λ fuel less. found.reads; taken = found.fewer } in
+    loosely (holds found.passing (steps _ typed gives))
 
-pub no_bits : {before after : Point} → Stays is_width before after → Parses (λ fuel. bits) before (Ok None) after
+pub no_bits : {before after : Point} → Stays is_width before after → MayTake (λ fuel. bits) before (Ok None) after
 no_bits stays = leaves stays gives
 
 pub may_bits : {before after : Point} (found : Option TypeName) → MatchOption found (Stays is_width before after) (λ width. Bits width before after) →
-    Parses (λ fuel. bits) before (Ok found) after
+    MayTake (λ fuel. bits) before (Ok found) after
 may_bits (Some width) is = bits_next is
 may_bits None is = no_bits is
 
@@ -52,8 +52,8 @@ may_bits None is = no_bits is
 abbrev pub item_turn : ℕ → Reads Item
 item_turn fuel = if_next (is_word SpanWord) (span (pred fuel) (item (pred fuel) block)) (flat_item fuel (block fuel))
 
-pub item_turned : {before after : Point} {result : Result Item Stop} → Parses item_turn before result after → Parses (λ fuel. item fuel block) before result after
-item_turned {before} {after} {result} one = record { answers = by; fewer = one.fewer } where
+pub item_turned : {some : Bool} {before after : Point} {result : Result Item Stop} → Parsed some item_turn before result after → Parsed some (λ fuel. item fuel block) before result after
+item_turned {some} {before} {after} {result} one = record { answers = by; taken = one.taken } where
   by : (fuel : ℕ) → length before.left < fuel → Answered (item fuel block true before) result after
   by zero less = absurd (omega arith)
   by (suc fuel) less = one.answers (suc fuel) less

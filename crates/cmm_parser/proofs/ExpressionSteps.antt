@@ -11,15 +11,10 @@ use Rattle.cmm_ast.specs.declared.expression.ExprForm.TheVariants.{Named, Prim}
 use Rattle.cmm_lexer.specs.declared.token.TokenKind.{TokenKind}
 use Rattle.cmm_lexer.specs.declared.tokens.Tokens.{Tokens}
 use Rattle.cmm_parser.specs.declared.fault.Stop.{Stop}
-use Rattle.cmm_parser.specs.inside.Parsing.{Answered, Parses}
+use Rattle.cmm_parser.specs.inside.Parsing.{Answered, Parsed, Takes}
 use Rattle.cmm_parser.specs.Faults.{lexeme_in}
 use Rattle.cmm_parser.proofs.Steps.{stop_first}
 use Rattle.cmm_parser.proofs.Loops.{Reaches, Turns, goes_on, ends, breaks}
-
--- something holds, and a token was taken
-pub record Strict (P : Type 0) (before now : Point) : Type 0 where
-  pub holds : P
-  pub fewer : length now.left < length before.left
 
 -- how an expression goes on after its first operand
 abbrev pub climbing : ℕ → Expr → ℕ → ℕ → Reads Expr
@@ -31,24 +26,24 @@ first_operand fuel = look (unary_by (pred fuel) (operand (pred fuel)))
 abbrev pub begun : Point → ExprForm → Expr
 begun before form = record { token = before.taken; form = form }
 
-pub operand_starts : {before now : Point} {form : ExprForm} {left : Expr} (level : ℕ) → Parses first_operand before (Ok form) now →
-    left ≡ begun before form → Reaches (λ fuel. operand fuel level) before (climbing level left) now
+pub operand_starts : {before now : Point} {form : ExprForm} {left : Expr} (level : ℕ) → Takes first_operand before (Ok form) now →
+    left ≡ begun before form → Reaches true (λ fuel. operand fuel level) before (climbing level left) now
 operand_starts {before} {now} {form} level one is =
-    subst (λ left. Reaches (λ fuel. operand fuel level) before (climbing level left) now) (sym is) (record { goes = goes; fewer = one.fewer })
+    subst (λ left. Reaches true (λ fuel. operand fuel level) before (climbing level left) now) (sym is) (record { goes = goes; taken = one.taken })
   where
     goes : (fuel : ℕ) → length before.left < fuel →
         Turns (operand fuel level true before) (λ turns. climbing level (begun before form) fuel turns true now) (length now.left)
     goes zero less = absurd (omega arith)
-    goes (suc fuel) less = let below = one.fewer in record {
+    goes (suc fuel) less = let below = one.taken in record {
       turns = suc fuel;
       enough = omega arith;
       same = ap (λ o. and_then o (λ form. climb (suc fuel) (operand fuel) level (begun before form) true)) (one.answers (suc fuel) less);
     }
 
-pub operand_breaks : {before now : Point} {e : Stop} {result : Result Expr Stop} (level : ℕ) → Parses first_operand before (Err e) now → result ≡ Err e →
-    Parses (λ fuel. operand fuel level) before result now
+pub operand_breaks : {before now : Point} {e : Stop} {result : Result Expr Stop} (level : ℕ) → Takes first_operand before (Err e) now → result ≡ Err e →
+    Takes (λ fuel. operand fuel level) before result now
 operand_breaks {before} {now} {e} {result} level one is =
-    subst (λ result. Parses (λ fuel. operand fuel level) before result now) (sym is) (record { answers = answers; fewer = tt })
+    subst (λ result. Takes (λ fuel. operand fuel level) before result now) (sym is) (record { answers = answers; taken = tt })
   where
     answers : (fuel : ℕ) → length before.left < fuel → Answered (operand fuel level true before) (Err e) now
     answers zero less = absurd (omega arith)
@@ -62,13 +57,13 @@ by_operator turns fuel level left found = elim found [
   | None ↦ give left
 ]
 
-pub climb_turn : {before now between later : Point} {level : ℕ} {left right more : Expr} {op : Infix} {whole : ℕ → Reads Expr} → Reaches whole before (climbing level left) now →
-    infix_next level left.form (next now.left) ≡ Some op → Parses (λ fuel. skip_operator) now (Ok tt) between → length between.left < length now.left →
-    Parses (λ fuel. operand fuel (right_level op)) between (Ok right) later → more ≡ joined left op right →
-    Reaches whole before (climbing level more) later
-climb_turn {before} {now} {between} {later} {level} {left} {right} {more} {op} {whole} reached is taken fewer one made =
-    let below = one.fewer in
-    subst (λ more. Reaches whole before (climbing level more) later) (sym made)
+pub climb_turn : {before now between later : Point} {level : ℕ} {left right more : Expr} {op : Infix} {whole : ℕ → Reads Expr} → Reaches true whole before (climbing level left) now →
+    infix_next level left.form (next now.left) ≡ Some op → Takes (λ fuel. skip_operator) now (Ok tt) between →
+    Takes (λ fuel. operand fuel (right_level op)) between (Ok right) later → more ≡ joined left op right →
+    Reaches true whole before (climbing level more) later
+climb_turn {before} {now} {between} {later} {level} {left} {right} {more} {op} {whole} reached is taken one made =
+    let below = one.taken in
+    subst (λ more. Reaches true whole before (climbing level more) later) (sym made)
     (goes_on reached (omega arith) turn)
   where
     turn : (fuel turns : ℕ) → length now.left < fuel → climbing level left fuel (suc turns) true now ≡ climbing level (joined left op right) fuel turns true later
@@ -78,17 +73,17 @@ climb_turn {before} {now} {between} {later} {level} {left} {right} {more} {op} {
         ∙ ap (λ o. and_then o (λ _ p. and_then (operand fuel (right_level op) true p) (λ right. climb turns (operand fuel) level (joined left op right) true))) (taken.answers (suc fuel) less)
         ∙ ap (λ o. and_then o (λ right. climb turns (operand fuel) level (joined left op right) true)) (one.answers fuel (omega arith))
 
-pub climb_ends : {before now : Point} {level : ℕ} {left : Expr} {whole : ℕ → Reads Expr} → Reaches whole before (climbing level left) now →
-    infix_next level left.form (next now.left) ≡ None → Parses whole before (Ok left) now
+pub climb_ends : {before now : Point} {level : ℕ} {left : Expr} {whole : ℕ → Reads Expr} → Reaches true whole before (climbing level left) now →
+    infix_next level left.form (next now.left) ≡ None → Takes whole before (Ok left) now
 climb_ends {now = now} {level = level} {left = left} reached is =
     ends reached (omega arith) (λ fuel turns less. ap (λ found. by_operator turns (pred fuel) level left found true now) is)
 
 -- the operator passes a limit
 pub climb_stops : {before now between : Point} {level : ℕ} {left : Expr} {op : Infix} {e : Stop} {result : Result Expr Stop} {whole : ℕ → Reads Expr} →
-    Reaches whole before (climbing level left) now → infix_next level left.form (next now.left) ≡ Some op →
-    Parses (λ fuel. skip_operator) now (Err e) between → result ≡ Err e → Parses whole before result between
+    Reaches true whole before (climbing level left) now → infix_next level left.form (next now.left) ≡ Some op →
+    Takes (λ fuel. skip_operator) now (Err e) between → result ≡ Err e → Takes whole before result between
 climb_stops {before} {now} {between} {level} {left} {op} {e} {result} {whole} reached is taken same =
-    subst (λ result. Parses whole before result between) (sym same)
+    subst (λ result. Takes whole before result between) (sym same)
     (breaks e reached (λ fuel turns less.
     subst (λ found. Answered (by_operator turns (pred fuel) level left found true now) (Err e) between) (sym is)
     (stop_first e (skip_operator true now) (λ _ p. and_then (operand (pred fuel) (right_level op) true p) (λ right. climb turns (operand (pred fuel)) level (joined left op right) true))
@@ -96,11 +91,11 @@ climb_stops {before} {now} {between} {level} {left} {op} {e} {result} {whole} re
 
 -- the operand to its right is refused
 pub climb_breaks : {before now between later : Point} {level : ℕ} {left : Expr} {op : Infix} {e : Stop} {result : Result Expr Stop} {whole : ℕ → Reads Expr} →
-    Reaches whole before (climbing level left) now → infix_next level left.form (next now.left) ≡ Some op →
-    Parses (λ fuel. skip_operator) now (Ok tt) between → length between.left < length now.left →
-    Parses (λ fuel. operand fuel (right_level op)) between (Err e) later → result ≡ Err e → Parses whole before result later
-climb_breaks {before} {now} {between} {later} {level} {left} {op} {e} {result} {whole} reached is taken fewer one same =
-    subst (λ result. Parses whole before result later) (sym same) (breaks e reached stop)
+    Reaches true whole before (climbing level left) now → infix_next level left.form (next now.left) ≡ Some op →
+    Takes (λ fuel. skip_operator) now (Ok tt) between →
+    Takes (λ fuel. operand fuel (right_level op)) between (Err e) later → result ≡ Err e → Takes whole before result later
+climb_breaks {before} {now} {between} {later} {level} {left} {op} {e} {result} {whole} reached is taken one same =
+    subst (λ result. Takes whole before result later) (sym same) (breaks e reached stop)
   where
     stop : (fuel turns : ℕ) → length now.left < fuel → Answered (climbing level left fuel (suc turns) true now) (Err e) later
     stop zero turns less = absurd (omega arith)
@@ -119,8 +114,8 @@ named_is (Read u p) a rest = refl
 named_is (Stopped fault token) a rest = refl
 
 pub by_name : {before after : Point} {bytes : List ℕ} {result : Result ExprForm Stop} → next before.left ≡ Some (l.Op bytes) →
-    Parses (λ fuel. named (pred fuel) (operand (pred fuel))) before result after → Parses first_operand before result after
-by_name {before} {after} {bytes} {result} is one = record { answers = answers; fewer = one.fewer } where
+    Takes (λ fuel. named (pred fuel) (operand (pred fuel))) before result after → Takes first_operand before result after
+by_name {before} {after} {bytes} {result} is one = record { answers = answers; taken = one.taken } where
   rest : ℕ → List ℕ → Reads ExprForm
   rest fuel name = round (listed (pred fuel) begins_expression (operand (pred fuel) 0)) >>= λ operands. give (Named name operands)
 

@@ -4,7 +4,7 @@ ghost use Rattle.std.specs.Prelude.{◌≡◌, ◌+◌, ◌-◌, ◌<◌, ◌≤
 ghost use Rattle.cmm_lexer.specs.Spellings.{keyword_number, symbol_number};
 ghost use Rattle.cmm_ast.specs.Taking.{is_word, is_sign};
 ghost use Rattle.cmm_readers.specs.Reading.{skip_opening, skip_operator, if_next, stop};
-ghost use Rattle.cmm_parser.specs.inside.Parsing.{Parses, point_of, opening, chaining, closing, without};
+ghost use Rattle.cmm_parser.specs.inside.Parsing.{Takes, Opens, point_of, opening, chaining, closing};
 
 use crate::fault::Stop;
 use crate::parser::Parser;
@@ -29,8 +29,7 @@ impl Parser<'_> {
     #[tactic(auto, unfolding(crate::specs::inside::Parsing::point_of))]
     pub(crate) fn operator(&mut self) -> Result<(), Stop>
         requires { 0 < length (point_of self.old).left }
-        ensures answers { Parses (λ fuel. skip_operator) (point_of self.old) result (point_of self.new) }
-        ensures taken { OnOk result (length (point_of self.new).left < length (point_of self.old).left) }
+        ensures { Takes (λ fuel. skip_operator) (point_of self.old) result (point_of self.new) }
     {
         if self.operators >= OPERATOR_LIMIT {
             return Err(Stop::TooDeep(self.taken));
@@ -43,9 +42,7 @@ impl Parser<'_> {
     /// Takes an opening bracket, and gives how many were open before it.
     #[tactic(auto, unfolding(crate::specs::inside::Parsing::point_of))]
     pub(crate) fn enter(&mut self, bracket: Symbol) -> Result<u32, Stop>
-        ensures answers { Parses (λ fuel. opening bracket) (point_of self.old) (without result) (point_of self.new) }
-        ensures outside { IfOk result (λ outside. outside ≡ (point_of self.old).open_brackets) }
-        ensures taken { OnOk result (length (point_of self.new).left < length (point_of self.old).left) }
+        ensures { Opens (opening bracket) (point_of self.old) result (point_of self.new) }
     {
         if !self.is_symbol(bracket) {
             return Err(self.unexpected());
@@ -56,9 +53,7 @@ impl Parser<'_> {
     /// Takes the `if` after an `else`, which counts as an open bracket until its chain ends, and gives how many were open before it.
     #[tactic(auto, unfolding(crate::specs::inside::Parsing::point_of))]
     pub(crate) fn enter_if(&mut self) -> Result<u32, Stop>
-        ensures answers { Parses (λ fuel. chaining) (point_of self.old) (without result) (point_of self.new) }
-        ensures outside { IfOk result (λ outside. outside ≡ (point_of self.old).open_brackets) }
-        ensures taken { OnOk result (length (point_of self.new).left < length (point_of self.old).left) }
+        ensures { Opens chaining (point_of self.old) result (point_of self.new) }
     {
         if !self.is_word(Keyword::If) {
             return Err(self.unexpected());
@@ -70,9 +65,7 @@ impl Parser<'_> {
     #[tactic(auto, unfolding(crate::specs::inside::Parsing::point_of))]
     fn deepen(&mut self) -> Result<u32, Stop>
         requires { 0 < length (point_of self.old).left }
-        ensures answers { Parses (λ fuel. skip_opening) (point_of self.old) (without result) (point_of self.new) }
-        ensures outside { IfOk result (λ outside. outside ≡ (point_of self.old).open_brackets) }
-        ensures taken { OnOk result (length (point_of self.new).left < length (point_of self.old).left) }
+        ensures { Opens skip_opening (point_of self.old) result (point_of self.new) }
     {
         let outside = self.open;
         if outside >= BRACKET_LIMIT {
@@ -86,8 +79,7 @@ impl Parser<'_> {
     /// Takes a closing bracket, outside of which this many are open.
     #[tactic(auto, unfolding(crate::specs::inside::Parsing::point_of))]
     pub(crate) fn leave(&mut self, bracket: Symbol, outside: u32) -> Result<(), Stop>
-        ensures answers { Parses (λ fuel. closing bracket outside) (point_of self.old) result (point_of self.new) }
-        ensures taken { OnOk result (length (point_of self.new).left < length (point_of self.old).left) }
+        ensures { Takes (λ fuel. closing bracket outside) (point_of self.old) result (point_of self.new) }
     {
         self.expect(bracket)?;
         self.close(outside);

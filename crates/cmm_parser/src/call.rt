@@ -7,7 +7,7 @@ ghost use Rattle.cmm_readers.specs.ExpressionReading.{whole};
 ghost use Rattle.cmm_readers.specs.Reading as readers;
 ghost use Rattle.cmm_readers.specs.PartReading as parts;
 ghost use Rattle.cmm_readers.specs.CallReading as calls;
-ghost use Rattle.cmm_parser.specs.inside.Parsing.{Parses, point_of};
+ghost use Rattle.cmm_parser.specs.inside.Parsing.{Takes, MayTake, point_of};
 
 use crate::fault::Stop;
 use crate::list::Listed;
@@ -79,8 +79,7 @@ fn called(lvalue: Lvalue) -> CalleeForm
 impl Parser<'_> {
     /// The values that are passed, in their brackets.
     pub(crate) fn arguments(&mut self) -> Result<Items<Actual>, Stop>
-        ensures answers { Parses (λ fuel. parts.arguments fuel) (point_of self.old) result (point_of self.new) }
-        ensures taken { OnOk result (length (point_of self.new).left < length (point_of self.old).left) }
+        ensures { Takes (λ fuel. parts.arguments fuel) (point_of self.old) result (point_of self.new) }
     {
         self.begin_outermost();
         let outside = self.enter(Symbol::Open)?;
@@ -91,8 +90,7 @@ impl Parser<'_> {
 
     /// An expression in round brackets.
     fn whole_in_brackets(&mut self) -> Result<Expr, Stop>
-        ensures answers { Parses (λ fuel. round (whole fuel)) (point_of self.old) result (point_of self.new) }
-        ensures taken { OnOk result (length (point_of self.new).left < length (point_of self.old).left) }
+        ensures { Takes (λ fuel. round (whole fuel)) (point_of self.old) result (point_of self.new) }
     {
         let outside = self.enter(Symbol::Open)?;
         let inner = self.whole()?;
@@ -102,8 +100,7 @@ impl Parser<'_> {
 
     /// What is called: an expression in round brackets, a name or a word in memory.
     fn callee_form(&mut self) -> Result<CalleeForm, Stop>
-        ensures answers { Parses (λ fuel. parts.callee_form fuel) (point_of self.old) result (point_of self.new) }
-        ensures taken { OnOk result (length (point_of self.new).left < length (point_of self.old).left) }
+        ensures { Takes (λ fuel. parts.callee_form fuel) (point_of self.old) result (point_of self.new) }
     {
         if self.is_symbol(Symbol::Open) {
             let inner = self.whole_in_brackets()?;
@@ -116,8 +113,7 @@ impl Parser<'_> {
 
     /// What is called, jumped to or cut to.
     pub(crate) fn callee(&mut self) -> Result<Callee, Stop>
-        ensures answers { Parses (λ fuel. parts.callee fuel) (point_of self.old) result (point_of self.new) }
-        ensures taken { OnOk result (length (point_of self.new).left < length (point_of self.old).left) }
+        ensures { Takes (λ fuel. parts.callee fuel) (point_of self.old) result (point_of self.new) }
     {
         let token = self.here();
         let form = self.callee_form()?;
@@ -131,8 +127,7 @@ impl Parser<'_> {
         convention: Option<Text>,
         callee: Callee,
     ) -> Result<StmtForm, Stop>
-        ensures answers { Parses (λ fuel. calls.call fuel results convention callee) (point_of self.old) result (point_of self.new) }
-        ensures taken { OnOk result (length (point_of self.new).left < length (point_of self.old).left) }
+        ensures { Takes (λ fuel. calls.call fuel results convention callee) (point_of self.old) result (point_of self.new) }
     {
         let actuals = self.arguments()?;
         let flows = self.annotations()?;
@@ -148,7 +143,7 @@ impl Parser<'_> {
 
     /// The convention of a call, where it has one.
     fn convention(&mut self) -> Result<Option<Text>, Stop>
-        ensures { Parses (λ fuel. calls.convention) (point_of self.old) result (point_of self.new) }
+        ensures { MayTake (λ fuel. calls.convention) (point_of self.old) result (point_of self.new) }
     {
         if self.accept_word(Keyword::Foreign) {
             Ok(Some(self.text()?))
@@ -159,8 +154,7 @@ impl Parser<'_> {
 
     /// A call after the `=` that follows its results, or one without them.
     pub(crate) fn call_after(&mut self, results: Items<Kinded>) -> Result<StmtForm, Stop>
-        ensures answers { Parses (λ fuel. calls.call_after fuel results) (point_of self.old) result (point_of self.new) }
-        ensures taken { OnOk result (length (point_of self.new).left < length (point_of self.old).left) }
+        ensures { Takes (λ fuel. calls.call_after fuel results) (point_of self.old) result (point_of self.new) }
     {
         let convention = self.convention()?;
         let callee = self.callee()?;
@@ -169,15 +163,14 @@ impl Parser<'_> {
 
     /// The comma that may stand here.
     fn may_comma(&mut self)
-        ensures { Parses (λ fuel. parts.may_comma) (point_of self.old) (Ok tt) (point_of self.new) }
+        ensures { MayTake (λ fuel. parts.may_comma) (point_of self.old) (Ok tt) (point_of self.new) }
     {
         self.accept(Symbol::Comma);
     }
 
     /// The continuations of an annotation, and the comma that may follow them.
     fn names_to(&mut self) -> Result<Items<Ident>, Stop>
-        ensures answers { Parses (λ fuel. followed_by (keyword To) (λ _. listed fuel parts.is_any_name readers.ident)) (point_of self.old) result (point_of self.new) }
-        ensures taken { OnOk result (length (point_of self.new).left < length (point_of self.old).left) }
+        ensures { Takes (λ fuel. followed_by (keyword To) (λ _. listed fuel parts.is_any_name readers.ident)) (point_of self.old) result (point_of self.new) }
     {
         self.expect_word(Keyword::To)?;
         self.listed()
@@ -185,8 +178,7 @@ impl Parser<'_> {
 
     /// What follows an `also`.
     fn also(&mut self) -> Result<FlowForm, Stop>
-        ensures answers { Parses (λ fuel. parts.also fuel) (point_of self.old) result (point_of self.new) }
-        ensures taken { OnOk result (length (point_of self.new).left < length (point_of self.old).left) }
+        ensures { Takes (λ fuel. parts.also fuel) (point_of self.old) result (point_of self.new) }
     {
         if self.accept_word(Keyword::Aborts) {
             self.may_comma();
@@ -203,8 +195,7 @@ impl Parser<'_> {
 
     /// What an annotation says.
     fn flow_form(&mut self) -> Result<FlowForm, Stop>
-        ensures answers { Parses (λ fuel. parts.flow_form fuel) (point_of self.old) result (point_of self.new) }
-        ensures taken { OnOk result (length (point_of self.new).left < length (point_of self.old).left) }
+        ensures { Takes (λ fuel. parts.flow_form fuel) (point_of self.old) result (point_of self.new) }
     {
         if self.accept_word(Keyword::Never) {
             self.expect_word(Keyword::Returns)?;
@@ -218,15 +209,14 @@ impl Parser<'_> {
 
     /// The annotations, after each of which a comma may stand.
     pub(crate) fn annotations(&mut self) -> Result<Items<Flow>, Stop>
-        ensures { Parses (λ fuel. parts.annotations fuel) (point_of self.old) result (point_of self.new) }
+        ensures { MayTake (λ fuel. parts.annotations fuel) (point_of self.old) result (point_of self.new) }
     {
         self.many()
     }
 
     /// The exit of a return.
     pub(crate) fn exit(&mut self) -> Result<Exit, Stop>
-        ensures answers { Parses (λ fuel. parts.exit fuel) (point_of self.old) result (point_of self.new) }
-        ensures taken { OnOk result (length (point_of self.new).left < length (point_of self.old).left) }
+        ensures { Takes (λ fuel. parts.exit fuel) (point_of self.old) result (point_of self.new) }
     {
         let token = self.here();
         self.expect(Symbol::Less)?;

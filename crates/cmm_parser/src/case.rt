@@ -5,7 +5,7 @@ ghost use Rattle.cmm_readers.specs.Reading.{next, passes};
 ghost use Rattle.cmm_readers.specs.ExpressionReading.{begins_expression};
 ghost use Rattle.cmm_readers.specs.PartReading as parts;
 ghost use Rattle.cmm_readers.specs.StatementReading as statements;
-ghost use Rattle.cmm_parser.specs.inside.Parsing.{Parses, point_of};
+ghost use Rattle.cmm_parser.specs.inside.Parsing.{Takes, MayTake, point_of};
 
 use crate::fault::Stop;
 use crate::list::Listed;
@@ -32,7 +32,7 @@ impl Listed for Range {
 impl Parser<'_> {
     /// The end of a range after its symbol, where there is one.
     fn range_end(&mut self) -> Result<Option<Expr>, Stop>
-        ensures { Parses (λ fuel. parts.range_end fuel) (point_of self.old) result (point_of self.new) }
+        ensures { MayTake (λ fuel. parts.range_end fuel) (point_of self.old) result (point_of self.new) }
     {
         if self.accept(Symbol::Range) {
             Ok(Some(self.whole()?))
@@ -43,8 +43,7 @@ impl Parser<'_> {
 
     /// What an arm is for, with the colon.
     pub(crate) fn case(&mut self) -> Result<Case, Stop>
-        ensures answers { Parses (λ fuel. statements.case fuel) (point_of self.old) result (point_of self.new) }
-        ensures taken { OnOk result (length (point_of self.new).left < length (point_of self.old).left) }
+        ensures { Takes (λ fuel. statements.case fuel) (point_of self.old) result (point_of self.new) }
     {
         if self.accept_word(Keyword::Default) {
             self.expect(Symbol::Colon)?;
@@ -59,8 +58,7 @@ impl Parser<'_> {
 
     /// Two values with the symbol of a range between them.
     fn span_ends(&mut self) -> Result<Span, Stop>
-        ensures answers { Parses (λ fuel. statements.span_ends fuel) (point_of self.old) result (point_of self.new) }
-        ensures taken { OnOk result (length (point_of self.new).left < length (point_of self.old).left) }
+        ensures { Takes (λ fuel. statements.span_ends fuel) (point_of self.old) result (point_of self.new) }
     {
         let from = self.whole()?;
         self.expect(Symbol::Range)?;
@@ -70,8 +68,7 @@ impl Parser<'_> {
 
     /// The values that a switch is over, in square brackets.
     pub(crate) fn switch_span(&mut self) -> Result<Span, Stop>
-        ensures answers { Parses (λ fuel. statements.switch_span fuel) (point_of self.old) result (point_of self.new) }
-        ensures taken { OnOk result (length (point_of self.new).left < length (point_of self.old).left) }
+        ensures { Takes (λ fuel. statements.switch_span fuel) (point_of self.old) result (point_of self.new) }
     {
         let outside = self.enter(Symbol::OpenSquare)?;
         let span = self.span_ends()?;

@@ -3,7 +3,7 @@
 ghost use Rattle.std.specs.Prelude.{◌≡◌, ◌-◌, ◌<◌, ◌≤◌, length, OnOk};
 ghost use Rattle.cmm_readers.specs.StatementReading.{block};
 ghost use Rattle.cmm_readers.specs.UnitReading as readers;
-ghost use Rattle.cmm_parser.specs.inside.Parsing.{Parses, point_of};
+ghost use Rattle.cmm_parser.specs.inside.Parsing.{Takes, MayTake, point_of};
 
 use crate::fault::Stop;
 use crate::parser::Parser;
@@ -31,7 +31,7 @@ fn datum_at(token: u32, form: DatumForm) -> Item
 impl Parser<'_> {
     /// What stands in the square brackets.
     fn count_in(&mut self) -> Result<Option<Expr>, Stop>
-        ensures { Parses (λ fuel. readers.count_in fuel) (point_of self.old) result (point_of self.new) }
+        ensures { MayTake (λ fuel. readers.count_in fuel) (point_of self.old) result (point_of self.new) }
     {
         if self.is_symbol(Symbol::CloseSquare) {
             Ok(None)
@@ -42,7 +42,7 @@ impl Parser<'_> {
 
     /// How many values a datum has.
     fn count(&mut self) -> Result<Count, Stop>
-        ensures { Parses (λ fuel. readers.count fuel) (point_of self.old) result (point_of self.new) }
+        ensures { MayTake (λ fuel. readers.count fuel) (point_of self.old) result (point_of self.new) }
     {
         if self.is_symbol(Symbol::OpenSquare) {
             let outside = self.enter(Symbol::OpenSquare)?;
@@ -55,8 +55,7 @@ impl Parser<'_> {
 
     /// The values that a datum begins as.
     fn values(&mut self) -> Result<Initial, Stop>
-        ensures answers { Parses (λ fuel. readers.values fuel) (point_of self.old) result (point_of self.new) }
-        ensures taken { OnOk result (length (point_of self.new).left < length (point_of self.old).left) }
+        ensures { Takes (λ fuel. readers.values fuel) (point_of self.old) result (point_of self.new) }
     {
         let outside = self.enter(Symbol::OpenBrace)?;
         let values = self.listed()?;
@@ -66,7 +65,7 @@ impl Parser<'_> {
 
     /// What a datum begins as.
     fn initial(&mut self) -> Result<Initial, Stop>
-        ensures { Parses (λ fuel. readers.initial fuel) (point_of self.old) result (point_of self.new) }
+        ensures { MayTake (λ fuel. readers.initial fuel) (point_of self.old) result (point_of self.new) }
     {
         if self.is_text() {
             return Ok(Initial::Text(self.text()?));
@@ -79,8 +78,7 @@ impl Parser<'_> {
 
     /// Data after its type.
     fn values_of(&mut self, width: TypeName) -> Result<DatumForm, Stop>
-        ensures answers { Parses (λ fuel. readers.values_of fuel width) (point_of self.old) result (point_of self.new) }
-        ensures taken { OnOk result (length (point_of self.new).left < length (point_of self.old).left) }
+        ensures { Takes (λ fuel. readers.values_of fuel width) (point_of self.old) result (point_of self.new) }
     {
         let count = self.count()?;
         let initial = self.initial()?;
@@ -94,8 +92,7 @@ impl Parser<'_> {
 
     /// A label, or data of the type of this name.
     fn named_datum(&mut self, name: Ident) -> Result<DatumForm, Stop>
-        ensures answers { Parses (λ fuel. readers.named_datum fuel name) (point_of self.old) result (point_of self.new) }
-        ensures taken { OnOk result (length (point_of self.new).left < length (point_of self.old).left) }
+        ensures { Takes (λ fuel. readers.named_datum fuel name) (point_of self.old) result (point_of self.new) }
     {
         if self.accept(Symbol::Colon) {
             Ok(DatumForm::Label(name))
@@ -106,8 +103,7 @@ impl Parser<'_> {
 
     /// An item after the name that it begins with: a procedure, a label, or data of the type that it names.
     fn named_item(&mut self, name: Ident) -> Result<Item, Stop>
-        ensures answers { Parses (λ fuel. readers.named_item fuel (block fuel) name) (point_of self.old) result (point_of self.new) }
-        ensures taken { OnOk result (length (point_of self.new).left < length (point_of self.old).left) }
+        ensures { Takes (λ fuel. readers.named_item fuel (block fuel) name) (point_of self.old) result (point_of self.new) }
     {
         if self.is_symbol(Symbol::Open) {
             return Ok(Item::Proc(self.procedure(name)?));
@@ -118,8 +114,7 @@ impl Parser<'_> {
     }
 
     fn align_item(&mut self) -> Result<Item, Stop>
-        ensures answers { Parses (λ fuel. readers.align_item) (point_of self.old) result (point_of self.new) }
-        ensures taken { OnOk result (length (point_of self.new).left < length (point_of self.old).left) }
+        ensures { Takes (λ fuel. readers.align_item) (point_of self.old) result (point_of self.new) }
     {
         let token = self.here();
         self.expect_word(Keyword::Align)?;
@@ -130,8 +125,7 @@ impl Parser<'_> {
 
     /// Data of this type, or a declaration where there is none.
     fn item_by(&mut self, width: Option<TypeName>) -> Result<Item, Stop>
-        ensures answers { Parses (λ fuel. readers.item_by fuel width) (point_of self.old) result (point_of self.new) }
-        ensures taken { OnOk result (length (point_of self.new).left < length (point_of self.old).left) }
+        ensures { Takes (λ fuel. readers.item_by fuel width) (point_of self.old) result (point_of self.new) }
     {
         match width {
             Some(width) => {
@@ -145,8 +139,7 @@ impl Parser<'_> {
 
     /// An item that holds no other.
     pub(crate) fn flat_item(&mut self) -> Result<Item, Stop>
-        ensures answers { Parses (λ fuel. readers.flat_item fuel (block fuel)) (point_of self.old) result (point_of self.new) }
-        ensures taken { OnOk result (length (point_of self.new).left < length (point_of self.old).left) }
+        ensures { Takes (λ fuel. readers.flat_item fuel (block fuel)) (point_of self.old) result (point_of self.new) }
     {
         if self.is_name() {
             let name = self.ident()?;

@@ -9,7 +9,7 @@ ghost use Rattle.cmm_readers.specs.Reading.{next, passes};
 ghost use Rattle.cmm_readers.specs.Reading as tokens;
 ghost use Rattle.cmm_readers.specs.PartReading.{is_any_name, is_any_text};
 ghost use Rattle.cmm_readers.specs.DeclarationReading as readers;
-ghost use Rattle.cmm_parser.specs.inside.Parsing.{Parses, point_of};
+ghost use Rattle.cmm_parser.specs.inside.Parsing.{Takes, MayTake, point_of};
 
 use crate::fault::Stop;
 use crate::list::Listed;
@@ -86,7 +86,7 @@ impl Listed for Property {
 impl Parser<'_> {
     /// A type, or else the first name where there is none: a name is a type where a name or a text follows.
     fn head(&mut self) -> Result<Head, Stop>
-        ensures { Parses (λ fuel. readers.head) (point_of self.old) result (point_of self.new) }
+        ensures { MayTake (λ fuel. readers.head) (point_of self.old) result (point_of self.new) }
     {
         match self.bits() {
             Some(width) => Ok(Head::TypeFirst(width)),
@@ -96,7 +96,7 @@ impl Parser<'_> {
 
     /// The same where the type is no word for bits.
     fn untyped_head(&mut self) -> Result<Head, Stop>
-        ensures { Parses (λ fuel. readers.head_by None) (point_of self.old) result (point_of self.new) }
+        ensures { MayTake (λ fuel. readers.head_by None) (point_of self.old) result (point_of self.new) }
     {
         if self.is_name() {
             self.name_head()
@@ -106,8 +106,7 @@ impl Parser<'_> {
     }
 
     fn name_head(&mut self) -> Result<Head, Stop>
-        ensures answers { Parses (λ fuel. readers.name_head) (point_of self.old) result (point_of self.new) }
-        ensures taken { OnOk result (length (point_of self.new).left < length (point_of self.old).left) }
+        ensures { Takes (λ fuel. readers.name_head) (point_of self.old) result (point_of self.new) }
     {
         let name = self.ident()?;
         if self.is_name() || self.is_text() {
@@ -119,8 +118,7 @@ impl Parser<'_> {
 
     /// The name under which another unit exports it, and `as`.
     fn text_as(&mut self) -> Result<Text, Stop>
-        ensures answers { Parses (λ fuel. readers.text_as) (point_of self.old) result (point_of self.new) }
-        ensures taken { OnOk result (length (point_of self.new).left < length (point_of self.old).left) }
+        ensures { Takes (λ fuel. readers.text_as) (point_of self.old) result (point_of self.new) }
     {
         let name = self.text()?;
         self.expect_word(Keyword::As)?;
@@ -128,7 +126,7 @@ impl Parser<'_> {
     }
 
     fn import_link(&mut self) -> Result<Option<Text>, Stop>
-        ensures { Parses (λ fuel. tokens.optional is_any_text readers.text_as) (point_of self.old) result (point_of self.new) }
+        ensures { MayTake (λ fuel. tokens.optional is_any_text readers.text_as) (point_of self.old) result (point_of self.new) }
     {
         if self.is_text() {
             Ok(Some(self.text_as()?))
@@ -139,15 +137,14 @@ impl Parser<'_> {
 
     /// `as`, and the name under which it is published.
     fn as_text(&mut self) -> Result<Text, Stop>
-        ensures answers { Parses (λ fuel. readers.as_text) (point_of self.old) result (point_of self.new) }
-        ensures taken { OnOk result (length (point_of self.new).left < length (point_of self.old).left) }
+        ensures { Takes (λ fuel. readers.as_text) (point_of self.old) result (point_of self.new) }
     {
         self.expect_word(Keyword::As)?;
         self.text()
     }
 
     fn export_link(&mut self) -> Result<Option<Text>, Stop>
-        ensures { Parses (λ fuel. tokens.optional (is_word Keyword.As) readers.as_text) (point_of self.old) result (point_of self.new) }
+        ensures { MayTake (λ fuel. tokens.optional (is_word Keyword.As) readers.as_text) (point_of self.old) result (point_of self.new) }
     {
         if self.is_word(Keyword::As) {
             Ok(Some(self.as_text()?))
@@ -158,7 +155,7 @@ impl Parser<'_> {
 
     /// An export after its name.
     fn export_of(&mut self, name: Ident) -> Result<Export, Stop>
-        ensures { Parses (λ fuel. readers.export_of name) (point_of self.old) result (point_of self.new) }
+        ensures { MayTake (λ fuel. readers.export_of name) (point_of self.old) result (point_of self.new) }
     {
         let link = self.export_link()?;
         Ok(Export { name, link })
@@ -166,7 +163,7 @@ impl Parser<'_> {
 
     /// What is imported, after the head.
     fn imports_by(&mut self, head: Head) -> Result<(Option<TypeName>, Items<Import>), Stop>
-        ensures { Parses (λ fuel. readers.imports_by fuel head) (point_of self.old) result (point_of self.new) }
+        ensures { MayTake (λ fuel. readers.imports_by fuel head) (point_of self.old) result (point_of self.new) }
     {
         match head {
             Head::TypeFirst(width) => {
@@ -186,7 +183,7 @@ impl Parser<'_> {
 
     /// What is exported, after the head.
     fn exports_by(&mut self, head: Head) -> Result<(Option<TypeName>, Items<Export>), Stop>
-        ensures { Parses (λ fuel. readers.exports_by fuel head) (point_of self.old) result (point_of self.new) }
+        ensures { MayTake (λ fuel. readers.exports_by fuel head) (point_of self.old) result (point_of self.new) }
     {
         match head {
             Head::TypeFirst(width) => {
@@ -207,7 +204,7 @@ impl Parser<'_> {
 
     /// The name of a constant, after the head.
     fn typed_name_by(&mut self, head: Head) -> Result<(Option<TypeName>, Ident), Stop>
-        ensures { Parses (λ fuel. readers.typed_name_by head) (point_of self.old) result (point_of self.new) }
+        ensures { MayTake (λ fuel. readers.typed_name_by head) (point_of self.old) result (point_of self.new) }
     {
         match head {
             Head::TypeFirst(width) => {
@@ -223,8 +220,7 @@ impl Parser<'_> {
     }
 
     fn byte_order(&mut self) -> Result<ByteOrder, Stop>
-        ensures answers { Parses (λ fuel. readers.byte_order) (point_of self.old) result (point_of self.new) }
-        ensures taken { OnOk result (length (point_of self.new).left < length (point_of self.old).left) }
+        ensures { Takes (λ fuel. readers.byte_order) (point_of self.old) result (point_of self.new) }
     {
         if self.accept_word(Keyword::Little) {
             return Ok(ByteOrder::Little);
@@ -235,8 +231,7 @@ impl Parser<'_> {
 
     /// What a property says.
     fn property_form(&mut self) -> Result<PropertyForm, Stop>
-        ensures answers { Parses (λ fuel. readers.property_form) (point_of self.old) result (point_of self.new) }
-        ensures taken { OnOk result (length (point_of self.new).left < length (point_of self.old).left) }
+        ensures { Takes (λ fuel. readers.property_form) (point_of self.old) result (point_of self.new) }
     {
         if self.accept_word(Keyword::Memsize) {
             return Ok(PropertyForm::Memsize(self.int()?));
@@ -253,8 +248,7 @@ impl Parser<'_> {
 
     /// What follows an `import`.
     fn imports(&mut self) -> Result<DeclForm, Stop>
-        ensures answers { Parses (λ fuel. readers.imports fuel) (point_of self.old) result (point_of self.new) }
-        ensures taken { OnOk result (length (point_of self.new).left < length (point_of self.old).left) }
+        ensures { Takes (λ fuel. readers.imports fuel) (point_of self.old) result (point_of self.new) }
     {
         let head = self.head()?;
         let (width, imports) = self.imports_by(head)?;
@@ -264,8 +258,7 @@ impl Parser<'_> {
 
     /// What follows an `export`.
     fn exports(&mut self) -> Result<DeclForm, Stop>
-        ensures answers { Parses (λ fuel. readers.exports fuel) (point_of self.old) result (point_of self.new) }
-        ensures taken { OnOk result (length (point_of self.new).left < length (point_of self.old).left) }
+        ensures { Takes (λ fuel. readers.exports fuel) (point_of self.old) result (point_of self.new) }
     {
         let head = self.head()?;
         let (width, exports) = self.exports_by(head)?;
@@ -275,8 +268,7 @@ impl Parser<'_> {
 
     /// What follows a `const`.
     fn constant(&mut self) -> Result<DeclForm, Stop>
-        ensures answers { Parses (λ fuel. readers.constant fuel) (point_of self.old) result (point_of self.new) }
-        ensures taken { OnOk result (length (point_of self.new).left < length (point_of self.old).left) }
+        ensures { Takes (λ fuel. readers.constant fuel) (point_of self.old) result (point_of self.new) }
     {
         let head = self.head()?;
         let (width, name) = self.typed_name_by(head)?;
@@ -288,8 +280,7 @@ impl Parser<'_> {
 
     /// What follows a `typedef`.
     fn typedef(&mut self) -> Result<DeclForm, Stop>
-        ensures answers { Parses (λ fuel. readers.typedef fuel) (point_of self.old) result (point_of self.new) }
-        ensures taken { OnOk result (length (point_of self.new).left < length (point_of self.old).left) }
+        ensures { Takes (λ fuel. readers.typedef fuel) (point_of self.old) result (point_of self.new) }
     {
         let width = self.type_name()?;
         let names = self.listed()?;
@@ -299,8 +290,7 @@ impl Parser<'_> {
 
     /// What follows a `target`.
     fn target(&mut self) -> Result<DeclForm, Stop>
-        ensures answers { Parses (λ fuel. readers.target fuel) (point_of self.old) result (point_of self.new) }
-        ensures taken { OnOk result (length (point_of self.new).left < length (point_of self.old).left) }
+        ensures { Takes (λ fuel. readers.target fuel) (point_of self.old) result (point_of self.new) }
     {
         let properties = self.many()?;
         self.expect(Symbol::Semicolon)?;
@@ -309,8 +299,7 @@ impl Parser<'_> {
 
     /// A declaration of registers, whole.
     fn register(&mut self) -> Result<DeclForm, Stop>
-        ensures answers { Parses (λ fuel. readers.register fuel) (point_of self.old) result (point_of self.new) }
-        ensures taken { OnOk result (length (point_of self.new).left < length (point_of self.old).left) }
+        ensures { Takes (λ fuel. readers.register fuel) (point_of self.old) result (point_of self.new) }
     {
         let invariant = self.accept_word(Keyword::Invariant);
         self.expect_word(Keyword::Register)?;
@@ -328,8 +317,7 @@ impl Parser<'_> {
 
     /// What a declaration is, by its first word.
     fn decl_form(&mut self) -> Result<DeclForm, Stop>
-        ensures answers { Parses (λ fuel. readers.decl_form fuel) (point_of self.old) result (point_of self.new) }
-        ensures taken { OnOk result (length (point_of self.new).left < length (point_of self.old).left) }
+        ensures { Takes (λ fuel. readers.decl_form fuel) (point_of self.old) result (point_of self.new) }
     {
         if self.accept_word(Keyword::Import) {
             return self.imports();
@@ -350,8 +338,7 @@ impl Parser<'_> {
     }
 
     pub(crate) fn decl(&mut self) -> Result<Decl, Stop>
-        ensures answers { Parses (λ fuel. readers.decl fuel) (point_of self.old) result (point_of self.new) }
-        ensures taken { OnOk result (length (point_of self.new).left < length (point_of self.old).left) }
+        ensures { Takes (λ fuel. readers.decl fuel) (point_of self.old) result (point_of self.new) }
     {
         let token = self.here();
         let form = self.decl_form()?;

@@ -4,7 +4,7 @@ ghost use Rattle.std.specs.Prelude.{◌≡◌, ◌+◌, ◌-◌, ◌<◌, ◌≤
 ghost use Rattle.cmm_readers.specs.Reading.{listed, look, next, passes};
 ghost use Rattle.cmm_readers.specs.ExpressionReading as readers;
 ghost use Rattle.cmm_readers.specs.ExpressionReading.{begins_expression};
-ghost use Rattle.cmm_parser.specs.inside.Parsing.{Parses, point_of, prefix_next};
+ghost use Rattle.cmm_parser.specs.inside.Parsing.{Takes, point_of, prefix_next};
 
 use crate::fault::Stop;
 use crate::list::Listed;
@@ -68,8 +68,7 @@ impl Parser<'_> {
 
     /// An expression that stands in no other.
     pub(crate) fn whole(&mut self) -> Result<Expr, Stop>
-        ensures answers { Parses (λ fuel. readers.whole fuel) (point_of self.old) result (point_of self.new) }
-        ensures taken { OnOk result (length (point_of self.new).left < length (point_of self.old).left) }
+        ensures { Takes (λ fuel. readers.whole fuel) (point_of self.old) result (point_of self.new) }
     {
         self.begin_outermost();
         self.operand(0)
@@ -77,8 +76,7 @@ impl Parser<'_> {
 
     /// A primary expression that stands in no other.
     pub(crate) fn whole_prim(&mut self) -> Result<Primary, Stop>
-        ensures answers { Parses (λ fuel. readers.whole_prim fuel) (point_of self.old) result (point_of self.new) }
-        ensures taken { OnOk result (length (point_of self.new).left < length (point_of self.old).left) }
+        ensures { Takes (λ fuel. readers.whole_prim fuel) (point_of self.old) result (point_of self.new) }
     {
         self.begin_outermost();
         let token = self.here();
@@ -87,8 +85,7 @@ impl Parser<'_> {
     }
 
     fn prim_form(&mut self) -> Result<PrimForm, Stop>
-        ensures answers { Parses (λ fuel. look (readers.prim_by (readers.operand fuel))) (point_of self.old) result (point_of self.new) }
-        ensures taken { OnOk result (length (point_of self.new).left < length (point_of self.old).left) }
+        ensures { Takes (λ fuel. look (readers.prim_by (readers.operand fuel))) (point_of self.old) result (point_of self.new) }
     {
         let Some(kind) = self.next() else {
             return Err(self.unexpected());
@@ -102,8 +99,7 @@ impl Parser<'_> {
 
     /// The word in memory of this type, whose address stands in no other expression.
     pub(crate) fn whole_memory(&mut self, width: TypeName) -> Result<Memory, Stop>
-        ensures answers { Parses (λ fuel. readers.whole_memory fuel width) (point_of self.old) result (point_of self.new) }
-        ensures taken { OnOk result (length (point_of self.new).left < length (point_of self.old).left) }
+        ensures { Takes (λ fuel. readers.whole_memory fuel width) (point_of self.old) result (point_of self.new) }
     {
         self.begin_outermost();
         self.memory(width)
@@ -112,8 +108,7 @@ impl Parser<'_> {
     /// An expression that binds at least as tightly as this level: operators group to the left, and comparisons do not group.
     #[cycle(expression)]
     pub(crate) fn operand(&mut self, level: u8) -> Result<Expr, Stop>
-        ensures answers { Parses (λ fuel. readers.operand fuel level) (point_of self.old) result (point_of self.new) }
-        ensures taken { OnOk result (length (point_of self.new).left < length (point_of self.old).left) }
+        ensures { Takes (λ fuel. readers.operand fuel level) (point_of self.old) result (point_of self.new) }
     {
         let token = self.here();
         let form = self.unary()?;
@@ -129,8 +124,7 @@ impl Parser<'_> {
     /// An expression without an operator between operands, brackets aside.
     #[cycle(expression)]
     fn unary(&mut self) -> Result<ExprForm, Stop>
-        ensures answers { Parses (λ fuel. look (readers.unary_by (pred fuel) (readers.operand (pred fuel)))) (point_of self.old) result (point_of self.new) }
-        ensures taken { OnOk result (length (point_of self.new).left < length (point_of self.old).left) }
+        ensures { Takes (λ fuel. look (readers.unary_by (pred fuel) (readers.operand (pred fuel)))) (point_of self.old) result (point_of self.new) }
     {
         let Some(kind) = self.next() else {
             return Err(self.unexpected());
@@ -153,8 +147,7 @@ impl Parser<'_> {
     /// A name, or the word in memory whose type it names.
     #[cycle(expression)]
     fn name_or_memory(&mut self) -> Result<ExprForm, Stop>
-        ensures answers { Parses (λ fuel. readers.name_or_memory (readers.operand (pred fuel))) (point_of self.old) result (point_of self.new) }
-        ensures taken { OnOk result (length (point_of self.new).left < length (point_of self.old).left) }
+        ensures { Takes (λ fuel. readers.name_or_memory (readers.operand (pred fuel))) (point_of self.old) result (point_of self.new) }
     {
         let name = self.ident()?;
         if self.is_symbol(Symbol::OpenSquare) {
@@ -168,8 +161,7 @@ impl Parser<'_> {
     #[cycle(expression)]
     fn prefix(&mut self, operator: Prefix) -> Result<ExprForm, Stop>
         requires { 0 < length (point_of self.old).left }
-        ensures answers { Parses (λ fuel. readers.prefixed (readers.operand (pred fuel)) (Some operator)) (point_of self.old) result (point_of self.new) }
-        ensures taken { OnOk result (length (point_of self.new).left < length (point_of self.old).left) }
+        ensures { Takes (λ fuel. readers.prefixed (readers.operand (pred fuel)) (Some operator)) (point_of self.old) result (point_of self.new) }
     {
         self.operator()?;
         let operand = self.operand(UNARY_LEVEL)?;
@@ -182,8 +174,7 @@ impl Parser<'_> {
     /// The operator that is next by its name, and its operands in brackets.
     #[cycle(expression)]
     fn named(&mut self) -> Result<ExprForm, Stop>
-        ensures answers { Parses (λ fuel. readers.named (pred fuel) (readers.operand (pred fuel))) (point_of self.old) result (point_of self.new) }
-        ensures taken { OnOk result (length (point_of self.new).left < length (point_of self.old).left) }
+        ensures { Takes (λ fuel. readers.named (pred fuel) (readers.operand (pred fuel))) (point_of self.old) result (point_of self.new) }
     {
         let operator = self.operator_name()?;
         let outside = self.enter(Symbol::Open)?;
@@ -195,7 +186,7 @@ impl Parser<'_> {
     /// One operand or more, after which a comma may stand.
     #[cycle(expression)]
     fn operands(&mut self) -> Result<Items<Expr>, Stop>
-        ensures { Parses (λ fuel. listed fuel readers.begins_expression (readers.operand fuel 0)) (point_of self.old) result (point_of self.new) }
+        ensures { Takes (λ fuel. listed fuel readers.begins_expression (readers.operand fuel 0)) (point_of self.old) result (point_of self.new) }
     {
         let mut operands = Items::new(self.alloc);
         operands.push(self.operand(0)?)?;
@@ -207,8 +198,7 @@ impl Parser<'_> {
 
     #[cycle(expression)]
     pub(crate) fn bracketed(&mut self) -> Result<PrimForm, Stop>
-        ensures answers { Parses (λ fuel. readers.bracketed (readers.operand (pred fuel))) (point_of self.old) result (point_of self.new) }
-        ensures taken { OnOk result (length (point_of self.new).left < length (point_of self.old).left) }
+        ensures { Takes (λ fuel. readers.bracketed (readers.operand (pred fuel))) (point_of self.old) result (point_of self.new) }
     {
         let outside = self.enter(Symbol::Open)?;
         let inner = self.operand(0)?;
@@ -219,8 +209,7 @@ impl Parser<'_> {
     /// The word in memory of this type, at the address that is next.
     #[cycle(expression)]
     pub(crate) fn memory(&mut self, width: TypeName) -> Result<Memory, Stop>
-        ensures answers { Parses (λ fuel. readers.memory (readers.operand (pred fuel)) width) (point_of self.old) result (point_of self.new) }
-        ensures taken { OnOk result (length (point_of self.new).left < length (point_of self.old).left) }
+        ensures { Takes (λ fuel. readers.memory (readers.operand (pred fuel)) width) (point_of self.old) result (point_of self.new) }
     {
         let outside = self.enter(Symbol::OpenSquare)?;
         let address = self.operand(0)?;

@@ -4,7 +4,7 @@ ghost use Rattle.std.specs.Prelude.{◌≡◌, ◌-◌, ◌<◌, ◌≤◌, ◌�
 ghost use Rattle.cmm_lexer.specs.declared.piece.Lexeme.{Lexeme};
 ghost use Rattle.cmm_readers.specs.Reading.{Reads, next, passes};
 ghost use Rattle.cmm_readers.specs.Reading as readers;
-ghost use Rattle.cmm_parser.specs.inside.Parsing.{Parses, point_of};
+ghost use Rattle.cmm_parser.specs.inside.Parsing.{Takes, MayTake, point_of};
 ghost use Rattle.cmm_parser.specs.Faults.{lexeme_in};
 
 use crate::fault::Stop;
@@ -25,14 +25,13 @@ pub(crate) trait Listed: Drop {
         ensures { passes Self.begins (next (point_of parser.now).left) ≡ result };
 
     fn parse(parser: &mut Parser<'_>) -> Result<Self, Stop>
-        ensures answers { Parses (λ fuel. Self.reads fuel) (point_of parser.old) result (point_of parser.new) }
-        ensures taken { OnOk result (length (point_of parser.new).left < length (point_of parser.old).left) };
+        ensures { Takes (λ fuel. Self.reads fuel) (point_of parser.old) result (point_of parser.new) };
 }
 
 impl Parser<'_> {
     /// One or more.
     pub(crate) fn commas<T: Listed>(&mut self) -> Result<Items<T>, Stop>
-        ensures { Parses (λ fuel. readers.commas fuel (T.reads fuel)) (point_of self.old) result (point_of self.new) }
+        ensures { Takes (λ fuel. readers.commas fuel (T.reads fuel)) (point_of self.old) result (point_of self.new) }
     {
         let mut items = Items::new(self.alloc);
         items.push(T::parse(self)?)?;
@@ -44,7 +43,7 @@ impl Parser<'_> {
 
     /// One or more, after which a comma may stand.
     pub(crate) fn listed<T: Listed>(&mut self) -> Result<Items<T>, Stop>
-        ensures { Parses (λ fuel. readers.listed fuel T.begins (T.reads fuel)) (point_of self.old) result (point_of self.new) }
+        ensures { Takes (λ fuel. readers.listed fuel T.begins (T.reads fuel)) (point_of self.old) result (point_of self.new) }
     {
         let first = T::parse(self)?;
         self.listed_from(first)
@@ -52,7 +51,7 @@ impl Parser<'_> {
 
     /// One or more, the first of which is taken, after which a comma may stand.
     pub(crate) fn listed_from<T: Listed>(&mut self, first: T) -> Result<Items<T>, Stop>
-        ensures { Parses (λ fuel. readers.more_listed fuel T.begins (T.reads fuel) (first ∷ [])) (point_of self.old) result (point_of self.new) }
+        ensures { MayTake (λ fuel. readers.more_listed fuel T.begins (T.reads fuel) (first ∷ [])) (point_of self.old) result (point_of self.new) }
     {
         let mut items = Items::new(self.alloc);
         items.push(first)?;
@@ -64,7 +63,7 @@ impl Parser<'_> {
 
     /// None, or one or more, after which a comma may stand.
     pub(crate) fn may_list<T: Listed>(&mut self) -> Result<Items<T>, Stop>
-        ensures { Parses (λ fuel. readers.may_list fuel T.begins (T.reads fuel)) (point_of self.old) result (point_of self.new) }
+        ensures { MayTake (λ fuel. readers.may_list fuel T.begins (T.reads fuel)) (point_of self.old) result (point_of self.new) }
     {
         if T::is_next(self) {
             self.listed()
@@ -75,7 +74,7 @@ impl Parser<'_> {
 
     /// As many as there are.
     pub(crate) fn many<T: Listed>(&mut self) -> Result<Items<T>, Stop>
-        ensures { Parses (λ fuel. readers.many fuel T.begins (T.reads fuel) []) (point_of self.old) result (point_of self.new) }
+        ensures { MayTake (λ fuel. readers.many fuel T.begins (T.reads fuel) []) (point_of self.old) result (point_of self.new) }
     {
         let mut items = Items::new(self.alloc);
         while T::is_next(self) {

@@ -11,7 +11,7 @@ ghost use Rattle.cmm_readers.specs.ExpressionReading.{whole_memory};
 ghost use Rattle.cmm_readers.specs.ProcedureReading.{variables};
 ghost use Rattle.cmm_readers.specs.PartReading as parts;
 ghost use Rattle.cmm_readers.specs.StatementReading as readers;
-ghost use Rattle.cmm_parser.specs.inside.Parsing.{Parses, point_of};
+ghost use Rattle.cmm_parser.specs.inside.Parsing.{Takes, MayTake, point_of};
 
 use crate::fault::Stop;
 use crate::parser::Parser;
@@ -65,8 +65,7 @@ fn memory_token(memory: &Memory) -> u32
 impl Parser<'_> {
     /// A part that holds no block.
     pub(crate) fn flat_part(&mut self) -> Result<PartForm, Stop>
-        ensures answers { Parses (λ fuel. readers.flat_part fuel) (point_of self.old) result (point_of self.new) }
-        ensures taken { OnOk result (length (point_of self.new).left < length (point_of self.old).left) }
+        ensures { Takes (λ fuel. readers.flat_part fuel) (point_of self.old) result (point_of self.new) }
     {
         let Some(kind) = self.next() else {
             return self.symbol_part();
@@ -81,8 +80,7 @@ impl Parser<'_> {
 
     /// A part that begins with a symbol.
     fn symbol_part(&mut self) -> Result<PartForm, Stop>
-        ensures answers { Parses (λ fuel. readers.of_stmt (readers.symbol_stmt fuel)) (point_of self.old) result (point_of self.new) }
-        ensures taken { OnOk result (length (point_of self.new).left < length (point_of self.old).left) }
+        ensures { Takes (λ fuel. readers.of_stmt (readers.symbol_stmt fuel)) (point_of self.old) result (point_of self.new) }
     {
         let form = self.symbol_stmt()?;
         Ok(PartForm::OfStmt(form))
@@ -90,8 +88,7 @@ impl Parser<'_> {
 
     /// Variables, as a part.
     fn variables_part(&mut self, modifiers: Modifiers, width: TypeName) -> Result<PartForm, Stop>
-        ensures answers { Parses (λ fuel. readers.of_local (variables fuel modifiers width)) (point_of self.old) result (point_of self.new) }
-        ensures taken { OnOk result (length (point_of self.new).left < length (point_of self.old).left) }
+        ensures { Takes (λ fuel. readers.of_local (variables fuel modifiers width)) (point_of self.old) result (point_of self.new) }
     {
         let form = self.variables(modifiers, width)?;
         Ok(PartForm::OfLocal(form))
@@ -99,8 +96,7 @@ impl Parser<'_> {
 
     /// A part that begins with a name: where another name follows, it is the type of variables.
     fn name_part(&mut self) -> Result<PartForm, Stop>
-        ensures answers { Parses (λ fuel. readers.name_part fuel) (point_of self.old) result (point_of self.new) }
-        ensures taken { OnOk result (length (point_of self.new).left < length (point_of self.old).left) }
+        ensures { Takes (λ fuel. readers.name_part fuel) (point_of self.old) result (point_of self.new) }
     {
         let name = self.ident()?;
         if self.is_name() {
@@ -113,8 +109,7 @@ impl Parser<'_> {
 
     /// A part that begins with a text, which is the kind of variables or of a result.
     fn text_part(&mut self) -> Result<PartForm, Stop>
-        ensures answers { Parses (λ fuel. readers.text_part fuel) (point_of self.old) result (point_of self.new) }
-        ensures taken { OnOk result (length (point_of self.new).left < length (point_of self.old).left) }
+        ensures { Takes (λ fuel. readers.text_part fuel) (point_of self.old) result (point_of self.new) }
     {
         let kind = self.text()?;
         if self.accept_word(Keyword::Invariant) {
@@ -127,8 +122,7 @@ impl Parser<'_> {
 
     /// What follows a kind that no `invariant` follows.
     fn kind_part(&mut self, kind: Text) -> Result<PartForm, Stop>
-        ensures answers { Parses (λ fuel. readers.kind_part fuel kind) (point_of self.old) result (point_of self.new) }
-        ensures taken { OnOk result (length (point_of self.new).left < length (point_of self.old).left) }
+        ensures { Takes (λ fuel. readers.kind_part fuel kind) (point_of self.old) result (point_of self.new) }
     {
         match self.bits() {
             Some(width) => self.variables_part(Modifiers::Kind(kind), width),
@@ -141,8 +135,7 @@ impl Parser<'_> {
 
     /// What follows a kind and a name, which is the type of variables or a result.
     fn kinded_part(&mut self, kind: Text, name: Ident) -> Result<PartForm, Stop>
-        ensures answers { Parses (λ fuel. readers.kinded_part fuel kind name) (point_of self.old) result (point_of self.new) }
-        ensures taken { OnOk result (length (point_of self.new).left < length (point_of self.old).left) }
+        ensures { Takes (λ fuel. readers.kinded_part fuel kind name) (point_of self.old) result (point_of self.new) }
     {
         if self.is_name() {
             self.variables_part(Modifiers::Kind(kind), named_type(name))
@@ -155,8 +148,7 @@ impl Parser<'_> {
 
     /// A part that begins with a reserved word.
     fn word_part(&mut self) -> Result<PartForm, Stop>
-        ensures answers { Parses (λ fuel. readers.word_part fuel) (point_of self.old) result (point_of self.new) }
-        ensures taken { OnOk result (length (point_of self.new).left < length (point_of self.old).left) }
+        ensures { Takes (λ fuel. readers.word_part fuel) (point_of self.old) result (point_of self.new) }
     {
         match self.bits() {
             Some(width) => self.width_part(width),
@@ -166,8 +158,7 @@ impl Parser<'_> {
 
     /// What follows a type: a word in memory or variables.
     fn width_part(&mut self, width: TypeName) -> Result<PartForm, Stop>
-        ensures answers { Parses (λ fuel. readers.width_part fuel width) (point_of self.old) result (point_of self.new) }
-        ensures taken { OnOk result (length (point_of self.new).left < length (point_of self.old).left) }
+        ensures { Takes (λ fuel. readers.width_part fuel width) (point_of self.old) result (point_of self.new) }
     {
         if self.is_symbol(Symbol::OpenSquare) {
             let form = self.memory_first(width)?;
@@ -179,8 +170,7 @@ impl Parser<'_> {
 
     /// A part that begins with a reserved word that is no type.
     fn other_part(&mut self) -> Result<PartForm, Stop>
-        ensures answers { Parses (λ fuel. readers.other_part fuel) (point_of self.old) result (point_of self.new) }
-        ensures taken { OnOk result (length (point_of self.new).left < length (point_of self.old).left) }
+        ensures { Takes (λ fuel. readers.other_part fuel) (point_of self.old) result (point_of self.new) }
     {
         if self.is_word(Keyword::Invariant) {
             let modifiers = self.modifiers_of()?;
@@ -197,8 +187,7 @@ impl Parser<'_> {
 
     /// A statement that begins with a word in memory of this type.
     fn memory_first(&mut self, width: TypeName) -> Result<StmtForm, Stop>
-        ensures answers { Parses (λ fuel. followed_by (whole_memory fuel width) (λ m. readers.memory_stmt fuel m)) (point_of self.old) result (point_of self.new) }
-        ensures taken { OnOk result (length (point_of self.new).left < length (point_of self.old).left) }
+        ensures { Takes (λ fuel. followed_by (whole_memory fuel width) (λ m. readers.memory_stmt fuel m)) (point_of self.old) result (point_of self.new) }
     {
         let memory = self.whole_memory(width)?;
         self.memory_stmt(memory)
@@ -206,8 +195,7 @@ impl Parser<'_> {
 
     /// A statement after its first name.
     fn name_stmt(&mut self, name: Ident) -> Result<StmtForm, Stop>
-        ensures answers { Parses (λ fuel. readers.name_stmt fuel name) (point_of self.old) result (point_of self.new) }
-        ensures taken { OnOk result (length (point_of self.new).left < length (point_of self.old).left) }
+        ensures { Takes (λ fuel. readers.name_stmt fuel name) (point_of self.old) result (point_of self.new) }
     {
         if self.accept(Symbol::Colon) {
             Ok(StmtForm::Label(name))
@@ -227,8 +215,7 @@ impl Parser<'_> {
 
     /// A statement after the word in memory that it begins with.
     fn memory_stmt(&mut self, memory: Memory) -> Result<StmtForm, Stop>
-        ensures answers { Parses (λ fuel. readers.memory_stmt fuel memory) (point_of self.old) result (point_of self.new) }
-        ensures taken { OnOk result (length (point_of self.new).left < length (point_of self.old).left) }
+        ensures { Takes (λ fuel. readers.memory_stmt fuel memory) (point_of self.old) result (point_of self.new) }
     {
         if self.is_symbol(Symbol::Open) {
             let token = memory_token(&memory);
@@ -245,8 +232,7 @@ impl Parser<'_> {
 
     /// A statement that begins with a reserved word.
     fn word_stmt(&mut self) -> Result<StmtForm, Stop>
-        ensures answers { Parses (λ fuel. readers.word_stmt fuel) (point_of self.old) result (point_of self.new) }
-        ensures taken { OnOk result (length (point_of self.new).left < length (point_of self.old).left) }
+        ensures { Takes (λ fuel. readers.word_stmt fuel) (point_of self.old) result (point_of self.new) }
     {
         if self.accept_word(Keyword::Return) {
             self.return_form()
@@ -267,8 +253,7 @@ impl Parser<'_> {
 
     /// A statement that begins with a symbol.
     fn symbol_stmt(&mut self) -> Result<StmtForm, Stop>
-        ensures answers { Parses (λ fuel. readers.symbol_stmt fuel) (point_of self.old) result (point_of self.new) }
-        ensures taken { OnOk result (length (point_of self.new).left < length (point_of self.old).left) }
+        ensures { Takes (λ fuel. readers.symbol_stmt fuel) (point_of self.old) result (point_of self.new) }
     {
         if self.is_symbol(Symbol::Open) {
             self.call_after(Items::new(self.alloc))
@@ -280,8 +265,7 @@ impl Parser<'_> {
 
     /// What follows a `return`.
     fn return_form(&mut self) -> Result<StmtForm, Stop>
-        ensures answers { Parses (λ fuel. readers.return_form fuel) (point_of self.old) result (point_of self.new) }
-        ensures taken { OnOk result (length (point_of self.new).left < length (point_of self.old).left) }
+        ensures { Takes (λ fuel. readers.return_form fuel) (point_of self.old) result (point_of self.new) }
     {
         let exit = self.optional_exit()?;
         let values = self.optional_arguments()?;
@@ -291,7 +275,7 @@ impl Parser<'_> {
 
     /// The exit that may stand here.
     fn optional_exit(&mut self) -> Result<Option<Exit>, Stop>
-        ensures { Parses (λ fuel. optional (is_sign Less) (parts.exit fuel)) (point_of self.old) result (point_of self.new) }
+        ensures { MayTake (λ fuel. optional (is_sign Less) (parts.exit fuel)) (point_of self.old) result (point_of self.new) }
     {
         if self.is_symbol(Symbol::Less) {
             Ok(Some(self.exit()?))
@@ -302,7 +286,7 @@ impl Parser<'_> {
 
     /// The values in brackets that may stand here.
     fn optional_arguments(&mut self) -> Result<Option<Items<Actual>>, Stop>
-        ensures { Parses (λ fuel. optional (is_sign Open) (parts.arguments fuel)) (point_of self.old) result (point_of self.new) }
+        ensures { MayTake (λ fuel. optional (is_sign Open) (parts.arguments fuel)) (point_of self.old) result (point_of self.new) }
     {
         if self.is_symbol(Symbol::Open) {
             Ok(Some(self.arguments()?))
@@ -313,8 +297,7 @@ impl Parser<'_> {
 
     /// What follows a `goto`.
     fn goto(&mut self) -> Result<StmtForm, Stop>
-        ensures answers { Parses (λ fuel. readers.goto) (point_of self.old) result (point_of self.new) }
-        ensures taken { OnOk result (length (point_of self.new).left < length (point_of self.old).left) }
+        ensures { Takes (λ fuel. readers.goto) (point_of self.old) result (point_of self.new) }
     {
         let name = self.ident()?;
         self.expect(Symbol::Semicolon)?;
@@ -323,8 +306,7 @@ impl Parser<'_> {
 
     /// What follows a `jump`.
     fn jump(&mut self) -> Result<StmtForm, Stop>
-        ensures answers { Parses (λ fuel. readers.jump fuel) (point_of self.old) result (point_of self.new) }
-        ensures taken { OnOk result (length (point_of self.new).left < length (point_of self.old).left) }
+        ensures { Takes (λ fuel. readers.jump fuel) (point_of self.old) result (point_of self.new) }
     {
         let callee = self.callee()?;
         let actuals = self.arguments()?;
@@ -334,8 +316,7 @@ impl Parser<'_> {
 
     /// What follows a `cut`.
     fn cut(&mut self) -> Result<StmtForm, Stop>
-        ensures answers { Parses (λ fuel. readers.cut fuel) (point_of self.old) result (point_of self.new) }
-        ensures taken { OnOk result (length (point_of self.new).left < length (point_of self.old).left) }
+        ensures { Takes (λ fuel. readers.cut fuel) (point_of self.old) result (point_of self.new) }
     {
         self.expect_word(Keyword::To)?;
         let callee = self.callee()?;
@@ -351,8 +332,7 @@ impl Parser<'_> {
 
     /// What follows a `continuation`.
     fn continuation(&mut self) -> Result<StmtForm, Stop>
-        ensures answers { Parses (λ fuel. readers.continuation fuel) (point_of self.old) result (point_of self.new) }
-        ensures taken { OnOk result (length (point_of self.new).left < length (point_of self.old).left) }
+        ensures { Takes (λ fuel. readers.continuation fuel) (point_of self.old) result (point_of self.new) }
     {
         let name = self.ident()?;
         let parameters = self.parameters()?;
@@ -362,8 +342,7 @@ impl Parser<'_> {
 
     /// The parameters of a continuation, in their brackets.
     fn parameters(&mut self) -> Result<Items<Kinded>, Stop>
-        ensures answers { Parses (λ fuel. round (may_list fuel parts.begins_kinded parts.kinded)) (point_of self.old) result (point_of self.new) }
-        ensures taken { OnOk result (length (point_of self.new).left < length (point_of self.old).left) }
+        ensures { Takes (λ fuel. round (may_list fuel parts.begins_kinded parts.kinded)) (point_of self.old) result (point_of self.new) }
     {
         let outside = self.enter(Symbol::Open)?;
         let parameters = self.may_list()?;

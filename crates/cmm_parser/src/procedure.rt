@@ -8,7 +8,7 @@ ghost use Rattle.cmm_readers.specs.ExpressionReading.{whole};
 ghost use Rattle.cmm_readers.specs.StatementReading.{block};
 ghost use Rattle.cmm_readers.specs.DeclarationReading.{is_other};
 ghost use Rattle.cmm_readers.specs.ProcedureReading as readers;
-ghost use Rattle.cmm_parser.specs.inside.Parsing.{Parses, point_of};
+ghost use Rattle.cmm_parser.specs.inside.Parsing.{Takes, MayTake, point_of};
 
 use crate::fault::Stop;
 use crate::list::Listed;
@@ -74,8 +74,7 @@ fn invariant_by(first: u32, kind: Option<Text>) -> Modifiers
 impl Parser<'_> {
     /// The word `invariant`, and the kind that may follow it.
     fn invariant_first(&mut self) -> Result<Modifiers, Stop>
-        ensures answers { Parses (λ fuel. readers.invariant_first) (point_of self.old) result (point_of self.new) }
-        ensures taken { OnOk result (length (point_of self.new).left < length (point_of self.old).left) }
+        ensures { Takes (λ fuel. readers.invariant_first) (point_of self.old) result (point_of self.new) }
     {
         let first = self.here();
         self.expect_word(Keyword::Invariant)?;
@@ -85,7 +84,7 @@ impl Parser<'_> {
 
     /// The word `invariant` that may follow a kind.
     fn kind_by(&mut self, kind: Option<Text>) -> Modifiers
-        ensures { Parses (λ fuel. readers.kind_by kind) (point_of self.old) (Ok result) (point_of self.new) }
+        ensures { MayTake (λ fuel. readers.kind_by kind) (point_of self.old) (Ok result) (point_of self.new) }
     {
         match kind {
             Some(kind) => {
@@ -101,7 +100,7 @@ impl Parser<'_> {
 
     /// What stands before the type of a variable.
     pub(crate) fn modifiers_of(&mut self) -> Result<Modifiers, Stop>
-        ensures { Parses (λ fuel. readers.modifiers_of) (point_of self.old) result (point_of self.new) }
+        ensures { MayTake (λ fuel. readers.modifiers_of) (point_of self.old) result (point_of self.new) }
     {
         if self.is_word(Keyword::Invariant) {
             return self.invariant_first();
@@ -116,8 +115,7 @@ impl Parser<'_> {
         modifiers: Modifiers,
         width: TypeName,
     ) -> Result<LocalForm, Stop>
-        ensures answers { Parses (λ fuel. readers.variables fuel modifiers width) (point_of self.old) result (point_of self.new) }
-        ensures taken { OnOk result (length (point_of self.new).left < length (point_of self.old).left) }
+        ensures { Takes (λ fuel. readers.variables fuel modifiers width) (point_of self.old) result (point_of self.new) }
     {
         let names = self.listed()?;
         self.expect(Symbol::Semicolon)?;
@@ -130,8 +128,7 @@ impl Parser<'_> {
 
     /// How many values there is room for, in its brackets.
     fn room_size(&mut self) -> Result<Expr, Stop>
-        ensures answers { Parses (λ fuel. tokens.square (whole fuel)) (point_of self.old) result (point_of self.new) }
-        ensures taken { OnOk result (length (point_of self.new).left < length (point_of self.old).left) }
+        ensures { Takes (λ fuel. tokens.square (whole fuel)) (point_of self.old) result (point_of self.new) }
     {
         let outside = self.enter(Symbol::OpenSquare)?;
         let size = self.whole()?;
@@ -140,7 +137,7 @@ impl Parser<'_> {
     }
 
     fn room_count(&mut self) -> Result<Option<Expr>, Stop>
-        ensures { Parses (λ fuel. readers.room_count fuel) (point_of self.old) result (point_of self.new) }
+        ensures { MayTake (λ fuel. readers.room_count fuel) (point_of self.old) result (point_of self.new) }
     {
         if self.is_symbol(Symbol::OpenSquare) {
             Ok(Some(self.room_size()?))
@@ -151,8 +148,7 @@ impl Parser<'_> {
 
     /// Room for values of this type.
     fn sized_room(&mut self, width: TypeName) -> Result<RoomForm, Stop>
-        ensures answers { Parses (λ fuel. readers.sized_room fuel width) (point_of self.old) result (point_of self.new) }
-        ensures taken { OnOk result (length (point_of self.new).left < length (point_of self.old).left) }
+        ensures { Takes (λ fuel. readers.sized_room fuel width) (point_of self.old) result (point_of self.new) }
     {
         let count = self.room_count()?;
         self.expect(Symbol::Semicolon)?;
@@ -161,8 +157,7 @@ impl Parser<'_> {
 
     /// A label, or room for values of the type of this name.
     fn named_room(&mut self) -> Result<RoomForm, Stop>
-        ensures answers { Parses (λ fuel. readers.room_by fuel None) (point_of self.old) result (point_of self.new) }
-        ensures taken { OnOk result (length (point_of self.new).left < length (point_of self.old).left) }
+        ensures { Takes (λ fuel. readers.room_by fuel None) (point_of self.old) result (point_of self.new) }
     {
         let name = self.ident()?;
         if self.accept(Symbol::Colon) {
@@ -174,8 +169,7 @@ impl Parser<'_> {
 
     /// What a piece of stackdata is.
     fn room_form(&mut self) -> Result<RoomForm, Stop>
-        ensures answers { Parses (λ fuel. readers.room_form fuel) (point_of self.old) result (point_of self.new) }
-        ensures taken { OnOk result (length (point_of self.new).left < length (point_of self.old).left) }
+        ensures { Takes (λ fuel. readers.room_form fuel) (point_of self.old) result (point_of self.new) }
     {
         if self.accept_word(Keyword::Align) {
             let bytes = self.int()?;
@@ -190,8 +184,7 @@ impl Parser<'_> {
 
     /// What follows a `stackdata`.
     pub(crate) fn stackdata(&mut self) -> Result<LocalForm, Stop>
-        ensures answers { Parses (λ fuel. readers.stackdata fuel) (point_of self.old) result (point_of self.new) }
-        ensures taken { OnOk result (length (point_of self.new).left < length (point_of self.old).left) }
+        ensures { Takes (λ fuel. readers.stackdata fuel) (point_of self.old) result (point_of self.new) }
     {
         let outside = self.enter(Symbol::OpenBrace)?;
         let rooms = self.many()?;
@@ -201,8 +194,7 @@ impl Parser<'_> {
 
     /// A procedure after its name.
     pub(crate) fn procedure(&mut self, name: Ident) -> Result<Proc, Stop>
-        ensures answers { Parses (λ fuel. readers.procedure fuel (block fuel) name) (point_of self.old) result (point_of self.new) }
-        ensures taken { OnOk result (length (point_of self.new).left < length (point_of self.old).left) }
+        ensures { Takes (λ fuel. readers.procedure fuel (block fuel) name) (point_of self.old) result (point_of self.new) }
     {
         let outside = self.enter(Symbol::Open)?;
         let formals = self.may_list()?;
@@ -218,8 +210,7 @@ impl Parser<'_> {
     }
 
     pub(crate) fn proc(&mut self) -> Result<Proc, Stop>
-        ensures answers { Parses (λ fuel. readers.proc fuel (block fuel)) (point_of self.old) result (point_of self.new) }
-        ensures taken { OnOk result (length (point_of self.new).left < length (point_of self.old).left) }
+        ensures { Takes (λ fuel. readers.proc fuel (block fuel)) (point_of self.old) result (point_of self.new) }
     {
         let name = self.ident()?;
         self.procedure(name)

@@ -7,7 +7,7 @@ ghost use Rattle.cmm_ast.specs.Taking.{is_sign};
 ghost use Rattle.cmm_readers.specs.Reading.{optional, many};
 ghost use Rattle.cmm_readers.specs.StatementReading as readers;
 ghost use Rattle.cmm_readers.specs.StatementReading.{is_within};
-ghost use Rattle.cmm_parser.specs.inside.Parsing.{Parses, ParsesBlocks, ParsesChain, point_of};
+ghost use Rattle.cmm_parser.specs.inside.Parsing.{Takes, MayTake, TakesBlocks, MayTakeBlocks, TakesChain, MayTakeChain, point_of};
 
 use crate::fault::Stop;
 use crate::parser::Parser;
@@ -30,8 +30,7 @@ impl Parser<'_> {
     /// Statements and declarations in braces.
     #[cycle(statement)]
     pub(crate) fn block(&mut self) -> Result<Block, Stop>
-        ensures answers { Parses (λ fuel. readers.block fuel) (point_of self.old) result (point_of self.new) }
-        ensures taken { OnOk result (length (point_of self.new).left < length (point_of self.old).left) }
+        ensures { Takes (λ fuel. readers.block fuel) (point_of self.old) result (point_of self.new) }
     {
         let outside = self.enter(Symbol::OpenBrace)?;
         let parts = self.body()?;
@@ -42,7 +41,7 @@ impl Parser<'_> {
     /// The parts of a block, up to its closing brace.
     #[cycle(statement)]
     fn body(&mut self) -> Result<Items<Part>, Stop>
-        ensures { ParsesBlocks (λ fuel blocks. many fuel is_within (readers.part fuel blocks) []) (point_of self.old) result (point_of self.new) }
+        ensures { MayTakeBlocks (λ fuel blocks. many fuel is_within (readers.part fuel blocks) []) (point_of self.old) result (point_of self.new) }
     {
         let mut parts = Items::new(self.alloc);
         while self.is_within(Symbol::CloseBrace) {
@@ -54,8 +53,7 @@ impl Parser<'_> {
     /// A statement or a declaration.
     #[cycle(statement)]
     pub(crate) fn part(&mut self) -> Result<Part, Stop>
-        ensures answers { ParsesBlocks readers.part (point_of self.old) result (point_of self.new) }
-        ensures taken { OnOk result (length (point_of self.new).left < length (point_of self.old).left) }
+        ensures { TakesBlocks readers.part (point_of self.old) result (point_of self.new) }
     {
         let token = self.here();
         let form = self.part_form()?;
@@ -66,8 +64,7 @@ impl Parser<'_> {
     /// What a part of a block is, by its first token.
     #[cycle(statement)]
     fn part_form(&mut self) -> Result<PartForm, Stop>
-        ensures answers { ParsesBlocks readers.part_form (point_of self.old) result (point_of self.new) }
-        ensures taken { OnOk result (length (point_of self.new).left < length (point_of self.old).left) }
+        ensures { TakesBlocks readers.part_form (point_of self.old) result (point_of self.new) }
     {
         if self.accept_word(Keyword::If) {
             Ok(PartForm::OfStmt(self.if_form()?))
@@ -83,8 +80,7 @@ impl Parser<'_> {
     /// What follows an `if`.
     #[cycle(statement)]
     fn if_form(&mut self) -> Result<StmtForm, Stop>
-        ensures answers { ParsesChain (λ turns fuel blocks. readers.if_form fuel blocks (readers.otherwise turns fuel blocks)) (point_of self.old) result (point_of self.new) }
-        ensures taken { OnOk result (length (point_of self.new).left < length (point_of self.old).left) }
+        ensures { TakesChain (λ turns fuel blocks. readers.if_form fuel blocks (readers.otherwise turns fuel blocks)) (point_of self.old) result (point_of self.new) }
     {
         let condition = self.whole()?;
         let then = self.block()?;
@@ -99,7 +95,7 @@ impl Parser<'_> {
     /// What stands after the block of an `if`.
     #[cycle(statement)]
     fn otherwise(&mut self) -> Result<Otherwise, Stop>
-        ensures { ParsesChain readers.otherwise (point_of self.old) result (point_of self.new) }
+        ensures { MayTakeChain readers.otherwise (point_of self.old) result (point_of self.new) }
     {
         if self.accept_word(Keyword::Else) {
             if self.is_symbol(Symbol::OpenBrace) {
@@ -114,8 +110,7 @@ impl Parser<'_> {
     /// An `if` after an `else`, which counts as an open bracket until its chain ends.
     #[cycle(statement)]
     fn chained(&mut self) -> Result<Stmt, Stop>
-        ensures answers { ParsesChain (λ turns fuel blocks. readers.chained (readers.if_form fuel blocks (readers.otherwise turns fuel blocks))) (point_of self.old) result (point_of self.new) }
-        ensures taken { OnOk result (length (point_of self.new).left < length (point_of self.old).left) }
+        ensures { TakesChain (λ turns fuel blocks. readers.chained (readers.if_form fuel blocks (readers.otherwise turns fuel blocks))) (point_of self.old) result (point_of self.new) }
     {
         let token = self.here();
         let outside = self.enter_if()?;
@@ -128,8 +123,7 @@ impl Parser<'_> {
     /// What follows a `switch`.
     #[cycle(statement)]
     fn switch_form(&mut self) -> Result<StmtForm, Stop>
-        ensures answers { ParsesBlocks readers.switch_form (point_of self.old) result (point_of self.new) }
-        ensures taken { OnOk result (length (point_of self.new).left < length (point_of self.old).left) }
+        ensures { TakesBlocks readers.switch_form (point_of self.old) result (point_of self.new) }
     {
         let range = self.optional_span()?;
         let value = self.whole()?;
@@ -141,7 +135,7 @@ impl Parser<'_> {
 
     /// The values that a switch is over, where they stand in square brackets.
     fn optional_span(&mut self) -> Result<Option<Span>, Stop>
-        ensures { Parses (λ fuel. optional (is_sign OpenSquare) (readers.switch_span fuel)) (point_of self.old) result (point_of self.new) }
+        ensures { MayTake (λ fuel. optional (is_sign OpenSquare) (readers.switch_span fuel)) (point_of self.old) result (point_of self.new) }
     {
         if self.is_symbol(Symbol::OpenSquare) {
             Ok(Some(self.switch_span()?))
@@ -153,7 +147,7 @@ impl Parser<'_> {
     /// The arms of a switch, up to its closing brace.
     #[cycle(statement)]
     fn arms(&mut self) -> Result<Items<Arm>, Stop>
-        ensures { ParsesBlocks (λ fuel blocks. many fuel is_within (readers.arm fuel blocks) []) (point_of self.old) result (point_of self.new) }
+        ensures { MayTakeBlocks (λ fuel blocks. many fuel is_within (readers.arm fuel blocks) []) (point_of self.old) result (point_of self.new) }
     {
         let mut arms = Items::new(self.alloc);
         while self.is_within(Symbol::CloseBrace) {
@@ -164,8 +158,7 @@ impl Parser<'_> {
 
     #[cycle(statement)]
     fn arm(&mut self) -> Result<Arm, Stop>
-        ensures answers { ParsesBlocks readers.arm (point_of self.old) result (point_of self.new) }
-        ensures taken { OnOk result (length (point_of self.new).left < length (point_of self.old).left) }
+        ensures { TakesBlocks readers.arm (point_of self.old) result (point_of self.new) }
     {
         let token = self.here();
         let case = self.case()?;
@@ -176,8 +169,7 @@ impl Parser<'_> {
     /// What follows a `span`.
     #[cycle(statement)]
     fn span_form(&mut self) -> Result<StmtForm, Stop>
-        ensures answers { ParsesBlocks readers.span_form (point_of self.old) result (point_of self.new) }
-        ensures taken { OnOk result (length (point_of self.new).left < length (point_of self.old).left) }
+        ensures { TakesBlocks readers.span_form (point_of self.old) result (point_of self.new) }
     {
         let key = self.whole_prim()?;
         let value = self.whole()?;

@@ -7,7 +7,7 @@ ghost use Rattle.cmm_readers.specs.ExpressionReading.{begins_expression, whole};
 ghost use Rattle.cmm_readers.specs.PartReading as parts;
 ghost use Rattle.cmm_readers.specs.TargetReading as readers;
 ghost use Rattle.cmm_readers.specs.declared.told_apart.Targets.TheVariants.{Names};
-ghost use Rattle.cmm_parser.specs.inside.Parsing.{Parses, point_of};
+ghost use Rattle.cmm_parser.specs.inside.Parsing.{Takes, MayTake, point_of};
 
 use crate::fault::Stop;
 use crate::list::Listed;
@@ -96,8 +96,7 @@ fn callee_of_form(token: u32, form: ExprForm) -> Option<CalleeForm>
 impl Parser<'_> {
     /// A name, or a word in memory.
     pub(crate) fn lvalue(&mut self) -> Result<Lvalue, Stop>
-        ensures answers { Parses (λ fuel. parts.lvalue fuel) (point_of self.old) result (point_of self.new) }
-        ensures taken { OnOk result (length (point_of self.new).left < length (point_of self.old).left) }
+        ensures { Takes (λ fuel. parts.lvalue fuel) (point_of self.old) result (point_of self.new) }
     {
         match self.bits() {
             Some(width) => Ok(Lvalue::Memory(self.whole_memory(width)?)),
@@ -110,7 +109,7 @@ impl Parser<'_> {
 
     /// What this name begins: a name alone, or a word in memory.
     fn lvalue_from(&mut self, name: Ident) -> Result<Lvalue, Stop>
-        ensures { Parses (λ fuel. parts.lvalue_from fuel name) (point_of self.old) result (point_of self.new) }
+        ensures { MayTake (λ fuel. parts.lvalue_from fuel name) (point_of self.old) result (point_of self.new) }
     {
         if self.is_symbol(Symbol::OpenSquare) {
             Ok(Lvalue::Memory(self.whole_memory(named_type(name))?))
@@ -121,8 +120,7 @@ impl Parser<'_> {
 
     /// The rest of an assignment or of a call with results, after the first target.
     pub(crate) fn assignment(&mut self, first: Targets) -> Result<StmtForm, Stop>
-        ensures answers { Parses (λ fuel. readers.assignment fuel first) (point_of self.old) result (point_of self.new) }
-        ensures taken { OnOk result (length (point_of self.new).left < length (point_of self.old).left) }
+        ensures { Takes (λ fuel. readers.assignment fuel first) (point_of self.old) result (point_of self.new) }
     {
         let targets = self.more_targets(first)?;
         self.expect(Symbol::Assign)?;
@@ -131,7 +129,7 @@ impl Parser<'_> {
 
     /// The other targets.
     fn more_targets(&mut self, first: Targets) -> Result<Targets, Stop>
-        ensures { Parses (λ fuel. readers.more_targets fuel fuel first) (point_of self.old) result (point_of self.new) }
+        ensures { MayTake (λ fuel. readers.more_targets fuel fuel first) (point_of self.old) result (point_of self.new) }
     {
         let mut targets = first;
         while self.accept(Symbol::Comma) {
@@ -142,8 +140,7 @@ impl Parser<'_> {
 
     /// One more target.
     fn next_target(&mut self, targets: Targets) -> Result<Targets, Stop>
-        ensures answers { Parses (λ fuel. readers.next_target fuel targets) (point_of self.old) result (point_of self.new) }
-        ensures taken { OnOk result (length (point_of self.new).left < length (point_of self.old).left) }
+        ensures { Takes (λ fuel. readers.next_target fuel targets) (point_of self.old) result (point_of self.new) }
     {
         match targets {
             Targets::Names(names) => self.target_after_names(names),
@@ -162,8 +159,7 @@ impl Parser<'_> {
 
     /// One more target after names alone.
     fn target_after_names(&mut self, names: Items<Ident>) -> Result<Targets, Stop>
-        ensures answers { Parses (λ fuel. readers.next_target fuel (Names names)) (point_of self.old) result (point_of self.new) }
-        ensures taken { OnOk result (length (point_of self.new).left < length (point_of self.old).left) }
+        ensures { Takes (λ fuel. readers.next_target fuel (Names names)) (point_of self.old) result (point_of self.new) }
     {
         if self.is_text() {
             let kinded = Kinded::parse(self)?;
@@ -179,8 +175,7 @@ impl Parser<'_> {
 
     /// What follows the `=`.
     fn assigned(&mut self, targets: Targets) -> Result<StmtForm, Stop>
-        ensures answers { Parses (λ fuel. readers.assigned fuel targets) (point_of self.old) result (point_of self.new) }
-        ensures taken { OnOk result (length (point_of self.new).left < length (point_of self.old).left) }
+        ensures { Takes (λ fuel. readers.assigned fuel targets) (point_of self.old) result (point_of self.new) }
     {
         match targets {
             Targets::Names(names) => self.after_names(names),
@@ -191,8 +186,7 @@ impl Parser<'_> {
 
     /// The values that are assigned.
     fn assign(&mut self, to: Items<Lvalue>) -> Result<StmtForm, Stop>
-        ensures answers { Parses (λ fuel. readers.assign fuel to (listed fuel begins_expression (whole fuel))) (point_of self.old) result (point_of self.new) }
-        ensures taken { OnOk result (length (point_of self.new).left < length (point_of self.old).left) }
+        ensures { Takes (λ fuel. readers.assign fuel to (listed fuel begins_expression (whole fuel))) (point_of self.old) result (point_of self.new) }
     {
         let values = self.listed()?;
         self.expect(Symbol::Semicolon)?;
@@ -201,8 +195,7 @@ impl Parser<'_> {
 
     /// What follows names and an `=`: a call, a checked operator or values.
     fn after_names(&mut self, names: Items<Ident>) -> Result<StmtForm, Stop>
-        ensures answers { Parses (λ fuel. readers.after_names fuel names) (point_of self.old) result (point_of self.new) }
-        ensures taken { OnOk result (length (point_of self.new).left < length (point_of self.old).left) }
+        ensures { Takes (λ fuel. readers.after_names fuel names) (point_of self.old) result (point_of self.new) }
     {
         if self.is_word(Keyword::Foreign) {
             let results = results_of(self.alloc, names)?;
@@ -216,8 +209,7 @@ impl Parser<'_> {
 
     /// Values, or a call without a convention.
     fn values_or_call(&mut self, names: Items<Ident>) -> Result<StmtForm, Stop>
-        ensures answers { Parses (λ fuel. readers.values fuel names) (point_of self.old) result (point_of self.new) }
-        ensures taken { OnOk result (length (point_of self.new).left < length (point_of self.old).left) }
+        ensures { Takes (λ fuel. readers.values fuel names) (point_of self.old) result (point_of self.new) }
     {
         let value = self.whole()?;
         if self.is_symbol(Symbol::Open) {
@@ -239,8 +231,7 @@ impl Parser<'_> {
         token: u32,
         form: Option<CalleeForm>,
     ) -> Result<StmtForm, Stop>
-        ensures answers { Parses (λ fuel. readers.called fuel names token form) (point_of self.old) result (point_of self.new) }
-        ensures taken { OnOk result (length (point_of self.new).left < length (point_of self.old).left) }
+        ensures { Takes (λ fuel. readers.called fuel names token form) (point_of self.old) result (point_of self.new) }
     {
         match form {
             Some(form) => {
@@ -258,8 +249,7 @@ impl Parser<'_> {
     }
 
     fn checked_operator(&mut self) -> Result<Ident, Stop>
-        ensures answers { Parses (λ fuel. readers.checked_operator) (point_of self.old) result (point_of self.new) }
-        ensures taken { OnOk result (length (point_of self.new).left < length (point_of self.old).left) }
+        ensures { Takes (λ fuel. readers.checked_operator) (point_of self.old) result (point_of self.new) }
     {
         let token = self.here();
         let Some(TokenKind::Checked(number)) = self.next() else {
@@ -272,8 +262,7 @@ impl Parser<'_> {
 
     /// Two values with a comma between them.
     fn two_values(&mut self) -> Result<(Expr, Expr), Stop>
-        ensures answers { Parses (λ fuel. readers.two_values fuel) (point_of self.old) result (point_of self.new) }
-        ensures taken { OnOk result (length (point_of self.new).left < length (point_of self.old).left) }
+        ensures { Takes (λ fuel. readers.two_values fuel) (point_of self.old) result (point_of self.new) }
     {
         let left = self.whole()?;
         self.expect(Symbol::Comma)?;
@@ -283,8 +272,7 @@ impl Parser<'_> {
 
     /// The operands of a checked operator, in their brackets.
     fn checked_operands(&mut self) -> Result<(Expr, Expr), Stop>
-        ensures answers { Parses (λ fuel. round (readers.two_values fuel)) (point_of self.old) result (point_of self.new) }
-        ensures taken { OnOk result (length (point_of self.new).left < length (point_of self.old).left) }
+        ensures { Takes (λ fuel. round (readers.two_values fuel)) (point_of self.old) result (point_of self.new) }
     {
         let outside = self.enter(Symbol::Open)?;
         let values = self.two_values()?;
@@ -294,8 +282,7 @@ impl Parser<'_> {
 
     /// What a checked operator gives, of which there is one result.
     fn checked(&mut self, names: Items<Ident>) -> Result<StmtForm, Stop>
-        ensures answers { Parses (λ fuel. readers.checked fuel names) (point_of self.old) result (point_of self.new) }
-        ensures taken { OnOk result (length (point_of self.new).left < length (point_of self.old).left) }
+        ensures { Takes (λ fuel. readers.checked fuel names) (point_of self.old) result (point_of self.new) }
     {
         match only(names) {
             Some(name) => self.checked_to(name),
@@ -305,8 +292,7 @@ impl Parser<'_> {
 
     /// What a checked operator gives, by the name of its result.
     fn checked_to(&mut self, name: Ident) -> Result<StmtForm, Stop>
-        ensures answers { Parses (λ fuel. readers.checked fuel (name ∷ [])) (point_of self.old) result (point_of self.new) }
-        ensures taken { OnOk result (length (point_of self.new).left < length (point_of self.old).left) }
+        ensures { Takes (λ fuel. readers.checked fuel (name ∷ [])) (point_of self.old) result (point_of self.new) }
     {
         let operator = self.checked_operator()?;
         let (left, right) = self.checked_operands()?;

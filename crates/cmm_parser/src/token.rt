@@ -9,7 +9,7 @@ ghost use Rattle.cmm_readers.specs.ExpressionReading.{operator_name};
 ghost use Rattle.cmm_readers.specs.PartReading.{is_any_name, is_any_text};
 ghost use Rattle.cmm_readers.specs.DeclarationReading.{is_other, optional_text};
 ghost use Rattle.cmm_lexer.specs.declared.piece.Lexeme.{Lexeme};
-ghost use Rattle.cmm_parser.specs.inside.Parsing.{Parses, Skips, Stays, NoWord, NoSymbol, skipped, point_of};
+ghost use Rattle.cmm_parser.specs.inside.Parsing.{Takes, MayTake, Skips, Stays, NoWord, NoSymbol, skipped, point_of};
 ghost use Rattle.cmm_parser.specs.Faults.{lexeme_in};
 ghost use Rattle.cmm_parser.specs.declared.fault.Stop.{Stop};
 
@@ -136,8 +136,7 @@ impl Parser<'_> {
     }
 
     pub(crate) fn expect(&mut self, symbol: Symbol) -> Result<(), Stop>
-        ensures answers { Parses (λ fuel. readers.symbol symbol) (point_of self.old) result (point_of self.new) }
-        ensures taken { OnOk result (length (point_of self.new).left < length (point_of self.old).left) }
+        ensures { Takes (λ fuel. readers.symbol symbol) (point_of self.old) result (point_of self.new) }
     {
         if self.accept(symbol) {
             Ok(())
@@ -147,8 +146,7 @@ impl Parser<'_> {
     }
 
     pub(crate) fn expect_word(&mut self, word: Keyword) -> Result<(), Stop>
-        ensures answers { Parses (λ fuel. readers.keyword word) (point_of self.old) result (point_of self.new) }
-        ensures taken { OnOk result (length (point_of self.new).left < length (point_of self.old).left) }
+        ensures { Takes (λ fuel. readers.keyword word) (point_of self.old) result (point_of self.new) }
     {
         if self.accept_word(word) {
             Ok(())
@@ -158,8 +156,7 @@ impl Parser<'_> {
     }
 
     pub(crate) fn name(&mut self) -> Result<Name, Stop>
-        ensures answers { Parses (λ fuel. readers.name) (point_of self.old) result (point_of self.new) }
-        ensures taken { OnOk result (length (point_of self.new).left < length (point_of self.old).left) }
+        ensures { Takes (λ fuel. readers.name) (point_of self.old) result (point_of self.new) }
     {
         let Some(TokenKind::Name(number)) = self.next() else {
             return Err(self.unexpected());
@@ -170,8 +167,7 @@ impl Parser<'_> {
     }
 
     pub(crate) fn ident(&mut self) -> Result<Ident, Stop>
-        ensures answers { Parses (λ fuel. readers.ident) (point_of self.old) result (point_of self.new) }
-        ensures taken { OnOk result (length (point_of self.new).left < length (point_of self.old).left) }
+        ensures { Takes (λ fuel. readers.ident) (point_of self.old) result (point_of self.new) }
     {
         let token = self.here();
         let name = self.name()?;
@@ -179,8 +175,7 @@ impl Parser<'_> {
     }
 
     pub(crate) fn text(&mut self) -> Result<Text, Stop>
-        ensures answers { Parses (λ fuel. readers.text) (point_of self.old) result (point_of self.new) }
-        ensures taken { OnOk result (length (point_of self.new).left < length (point_of self.old).left) }
+        ensures { Takes (λ fuel. readers.text) (point_of self.old) result (point_of self.new) }
     {
         let token = self.here();
         let Some(TokenKind::Text(number)) = self.next() else {
@@ -193,7 +188,7 @@ impl Parser<'_> {
 
     /// The text that may stand here.
     pub(crate) fn optional_text(&mut self) -> Result<Option<Text>, Stop>
-        ensures { Parses (λ fuel. optional_text) (point_of self.old) result (point_of self.new) }
+        ensures { MayTake (λ fuel. optional_text) (point_of self.old) result (point_of self.new) }
     {
         if self.is_text() {
             Ok(Some(self.text()?))
@@ -203,8 +198,7 @@ impl Parser<'_> {
     }
 
     pub(crate) fn int(&mut self) -> Result<Int, Stop>
-        ensures answers { Parses (λ fuel. readers.int) (point_of self.old) result (point_of self.new) }
-        ensures taken { OnOk result (length (point_of self.new).left < length (point_of self.old).left) }
+        ensures { Takes (λ fuel. readers.int) (point_of self.old) result (point_of self.new) }
     {
         let token = self.here();
         let Some(TokenKind::Int(value)) = self.next() else {
@@ -216,8 +210,7 @@ impl Parser<'_> {
 
     /// The operator that is next by its name, of which an outermost expression may have one more.
     pub(crate) fn operator_name(&mut self) -> Result<Name, Stop>
-        ensures answers { Parses (λ fuel. operator_name) (point_of self.old) result (point_of self.new) }
-        ensures taken { OnOk result (length (point_of self.new).left < length (point_of self.old).left) }
+        ensures { Takes (λ fuel. operator_name) (point_of self.old) result (point_of self.new) }
     {
         let Some(TokenKind::Op(number)) = self.next() else {
             return Err(self.unexpected());

@@ -4,7 +4,7 @@ ghost use Rattle.std.specs.Prelude.{◌≡◌, ◌-◌, ◌<◌, ◌≤◌, true
 ghost use Rattle.cmm_readers.specs.Reading.{next, passes, pick};
 ghost use Rattle.cmm_readers.specs.ExpressionReading as readers;
 ghost use Rattle.cmm_readers.specs.PartReading.{is_width};
-ghost use Rattle.cmm_parser.specs.inside.Parsing.{Parses, Stays, point_of, width_next, Bits};
+ghost use Rattle.cmm_parser.specs.inside.Parsing.{Takes, MayTake, Stays, point_of, width_next, Bits};
 
 use crate::fault::Stop;
 use crate::operators::width_of;
@@ -45,8 +45,7 @@ impl Parser<'_> {
     }
 
     pub(crate) fn type_name(&mut self) -> Result<TypeName, Stop>
-        ensures answers { Parses (λ fuel. readers.type_name) (point_of self.old) result (point_of self.new) }
-        ensures taken { OnOk result (length (point_of self.new).left < length (point_of self.old).left) }
+        ensures { Takes (λ fuel. readers.type_name) (point_of self.old) result (point_of self.new) }
     {
         match self.bits() {
             Some(width) => Ok(width),
@@ -56,8 +55,7 @@ impl Parser<'_> {
 
     /// A number or a character.
     fn number(&mut self) -> Result<Number, Stop>
-        ensures answers { Parses (λ fuel. pick readers.number_in) (point_of self.old) result (point_of self.new) }
-        ensures taken { OnOk result (length (point_of self.new).left < length (point_of self.old).left) }
+        ensures { Takes (λ fuel. pick readers.number_in) (point_of self.old) result (point_of self.new) }
     {
         let number = match self.next() {
             Some(TokenKind::Int(value)) => Number::Int(value),
@@ -70,7 +68,7 @@ impl Parser<'_> {
 
     /// The type of a literal, where it has one.
     fn typed(&mut self) -> Result<Option<TypeName>, Stop>
-        ensures { Parses (λ fuel. readers.typed) (point_of self.old) result (point_of self.new) }
+        ensures { MayTake (λ fuel. readers.typed) (point_of self.old) result (point_of self.new) }
     {
         if self.accept(Symbol::Colons) {
             Ok(Some(self.type_name()?))
@@ -81,8 +79,7 @@ impl Parser<'_> {
 
     /// A number or a character, and after `::` its type.
     pub(crate) fn literal(&mut self) -> Result<PrimForm, Stop>
-        ensures answers { Parses (λ fuel. readers.literal) (point_of self.old) result (point_of self.new) }
-        ensures taken { OnOk result (length (point_of self.new).left < length (point_of self.old).left) }
+        ensures { Takes (λ fuel. readers.literal) (point_of self.old) result (point_of self.new) }
     {
         let number = self.number()?;
         let width = self.typed()?;
@@ -91,7 +88,7 @@ impl Parser<'_> {
 
     /// What the address of a word in memory is said to be a multiple of.
     pub(crate) fn aligned(&mut self) -> Result<Option<Int>, Stop>
-        ensures { Parses (λ fuel. readers.aligned) (point_of self.old) result (point_of self.new) }
+        ensures { MayTake (λ fuel. readers.aligned) (point_of self.old) result (point_of self.new) }
     {
         if self.accept_word(Keyword::Aligned) || self.accept_word(Keyword::Align) {
             Ok(Some(self.int()?))

@@ -8,7 +8,7 @@ ghost use Rattle.cmm_readers.specs.DeclarationReading.{is_other};
 ghost use Rattle.cmm_readers.specs.UnitReading as readers;
 ghost use Rattle.cmm_ast.specs.Derivation.{DerivesWithin, at_start};
 ghost use Rattle.cmm_readers.specs.ReadingLaws.{point};
-ghost use Rattle.cmm_parser.specs.inside.Parsing.{Parses, point_of};
+ghost use Rattle.cmm_parser.specs.inside.Parsing.{Takes, MayTake, point_of};
 ghost use Rattle.cmm_parser.specs.Faults.{IsFaultOf, lexemes_of, places_of};
 
 use crate::fault::{Stop, SyntaxFault};
@@ -93,7 +93,7 @@ impl Parser<'_> {
     /// Items up to the brace that ends them.
     #[cycle(item)]
     fn items(&mut self) -> Result<Items<Item>, Stop>
-        ensures { Parses (λ fuel. many fuel (is_other Symbol.CloseBrace) (readers.item fuel block) []) (point_of self.old) result (point_of self.new) }
+        ensures { MayTake (λ fuel. many fuel (is_other Symbol.CloseBrace) (readers.item fuel block) []) (point_of self.old) result (point_of self.new) }
     {
         let mut items = Items::new(self.alloc);
         while self.is_within(Symbol::CloseBrace) {
@@ -105,8 +105,7 @@ impl Parser<'_> {
     /// The items of a section or of a span, in their braces.
     #[cycle(item)]
     fn in_braces(&mut self) -> Result<Items<Item>, Stop>
-        ensures answers { Parses (λ fuel. readers.in_braces fuel (readers.item fuel block)) (point_of self.old) result (point_of self.new) }
-        ensures taken { OnOk result (length (point_of self.new).left < length (point_of self.old).left) }
+        ensures { Takes (λ fuel. readers.in_braces fuel (readers.item fuel block)) (point_of self.old) result (point_of self.new) }
     {
         let outside = self.enter(Symbol::OpenBrace)?;
         let items = self.items()?;
@@ -116,8 +115,7 @@ impl Parser<'_> {
 
     #[cycle(item)]
     fn span(&mut self) -> Result<Item, Stop>
-        ensures answers { Parses (λ fuel. readers.span (pred fuel) (readers.item (pred fuel) block)) (point_of self.old) result (point_of self.new) }
-        ensures taken { OnOk result (length (point_of self.new).left < length (point_of self.old).left) }
+        ensures { Takes (λ fuel. readers.span (pred fuel) (readers.item (pred fuel) block)) (point_of self.old) result (point_of self.new) }
     {
         let token = self.here();
         self.expect_word(Keyword::Span)?;
@@ -134,8 +132,7 @@ impl Parser<'_> {
 
     #[cycle(item)]
     pub(crate) fn item(&mut self) -> Result<Item, Stop>
-        ensures answers { Parses (λ fuel. readers.item fuel block) (point_of self.old) result (point_of self.new) }
-        ensures taken { OnOk result (length (point_of self.new).left < length (point_of self.old).left) }
+        ensures { Takes (λ fuel. readers.item fuel block) (point_of self.old) result (point_of self.new) }
     {
         if self.is_word(Keyword::Span) {
             return self.span();
@@ -144,8 +141,7 @@ impl Parser<'_> {
     }
 
     fn section(&mut self) -> Result<Section, Stop>
-        ensures answers { Parses (λ fuel. readers.section fuel block) (point_of self.old) result (point_of self.new) }
-        ensures taken { OnOk result (length (point_of self.new).left < length (point_of self.old).left) }
+        ensures { Takes (λ fuel. readers.section fuel block) (point_of self.old) result (point_of self.new) }
     {
         let token = self.here();
         self.expect_word(Keyword::Section)?;
@@ -156,7 +152,7 @@ impl Parser<'_> {
 
     /// The parts of a unit, up to its end.
     pub(crate) fn parts(&mut self) -> Result<Items<TopLevel>, Stop>
-        ensures { Parses (λ fuel. readers.parts fuel block) (point_of self.old) result (point_of self.new) }
+        ensures { MayTake (λ fuel. readers.parts fuel block) (point_of self.old) result (point_of self.new) }
     {
         self.many()
     }

@@ -1,5 +1,5 @@
 -- What a method of the parser owes the reader of the same name: where there is memory, it answers what the reader answers.
-use Rattle.std.specs.Prelude.{◌≡◌, ℕ, suc, ◌<◌, ◌≤◌, Bool, true, false, List, map, length, Option, Some, None, Result, Ok, Err, OnOk}
+use Rattle.std.specs.Prelude.{◌≡◌, ℕ, suc, ◌<◌, ◌≤◌, Bool, true, false, List, map, length, Option, Some, None, Result, Ok, Err, OnOk, IfOk}
 use Rattle.cmm_words.specs.declared.width.Width.{Width}
 use Rattle.cmm_lexer.specs.declared.keyword.Keyword.{Keyword}
 use Rattle.cmm_lexer.specs.declared.piece.Lexeme.{Lexeme}
@@ -40,21 +40,46 @@ fault_of (stop.Unexpected token) = faults.At (rule_number rules.Syntax) token
 fault_of (stop.TooDeep token) = faults.At (rule_number rules.TooDeep) token
 fault_of stop.Memory = faults.Memory
 
+-- where something is read, whether it has a token or may be empty
+abbrev pub Fewer : Bool → ℕ → ℕ → Type 0
+Fewer true after before = after < before
+Fewer false after before = after ≤ before
+
 -- from one point to another a parser answers what this reader answers, for any count above the tokens that are left
-pub record Parses {A : Type 0} (reads : ℕ → Reads A) (before : Point) (result : Result A Stop) (after : Point) : Type 0 where
+pub record Parsed {A : Type 0} (some : Bool) (reads : ℕ → Reads A) (before : Point) (result : Result A Stop) (after : Point) : Type 0 where
   pub answers : (fuel : ℕ) → length before.left < fuel → Answered (reads fuel true before) result after
-  pub fewer : OnOk result (length after.left ≤ length before.left)
+  pub taken : OnOk result (Fewer some (length after.left) (length before.left))
 
--- as `Parses`, of what may hold blocks, which are read by any count above the tokens that are left
-abbrev pub ParsesBlocks : {A : Type 0} → (ℕ → Reads Block → Reads A) → Point → Result A Stop → Point → Type 0
-ParsesBlocks reads before result after =
-    (depth : ℕ) → length before.left < depth → Parses (λ fuel. reads fuel (block depth)) before result after
+-- what is read has a token
+abbrev pub Takes : {A : Type 0} → (ℕ → Reads A) → Point → Result A Stop → Point → Type 0
+Takes reads before result after = Parsed true reads before result after
 
--- as `ParsesBlocks`, of a chain of `if`s, whose turns are counted by any such count too
-abbrev pub ParsesChain : {A : Type 0} → (ℕ → ℕ → Reads Block → Reads A) → Point → Result A Stop → Point → Type 0
-ParsesChain reads before result after =
-    (turns depth : ℕ) → length before.left < turns → length before.left < depth →
-    Parses (λ fuel. reads turns fuel (block depth)) before result after
+-- what is read may be empty
+abbrev pub MayTake : {A : Type 0} → (ℕ → Reads A) → Point → Result A Stop → Point → Type 0
+MayTake reads before result after = Parsed false reads before result after
+
+-- as `Parsed`, of what may hold blocks, which are read by any count above the tokens that are left
+pub record ParsedBlocks {A : Type 0} (some : Bool) (reads : ℕ → Reads Block → Reads A) (before : Point) (result : Result A Stop) (after : Point) : Type 0 where
+  pub answers : (depth : ℕ) → length before.left < depth → Parsed some (λ fuel. reads fuel (block depth)) before result after
+  pub taken : OnOk result (Fewer some (length after.left) (length before.left))
+
+abbrev pub TakesBlocks : {A : Type 0} → (ℕ → Reads Block → Reads A) → Point → Result A Stop → Point → Type 0
+TakesBlocks reads before result after = ParsedBlocks true reads before result after
+
+abbrev pub MayTakeBlocks : {A : Type 0} → (ℕ → Reads Block → Reads A) → Point → Result A Stop → Point → Type 0
+MayTakeBlocks reads before result after = ParsedBlocks false reads before result after
+
+-- as `ParsedBlocks`, of a chain of `if`s, whose turns are counted by any such count too
+pub record ParsedChain {A : Type 0} (some : Bool) (reads : ℕ → ℕ → Reads Block → Reads A) (before : Point) (result : Result A Stop) (after : Point) : Type 0 where
+  pub answers : (turns depth : ℕ) → length before.left < turns → length before.left < depth →
+      Parsed some (λ fuel. reads turns fuel (block depth)) before result after
+  pub taken : OnOk result (Fewer some (length after.left) (length before.left))
+
+abbrev pub TakesChain : {A : Type 0} → (ℕ → ℕ → Reads Block → Reads A) → Point → Result A Stop → Point → Type 0
+TakesChain reads before result after = ParsedChain true reads before result after
+
+abbrev pub MayTakeChain : {A : Type 0} → (ℕ → ℕ → Reads Block → Reads A) → Point → Result A Stop → Point → Type 0
+MayTakeChain reads before result after = ParsedChain false reads before result after
 
 -- after the next token
 abbrev pub skipped : Point → Point
@@ -103,6 +128,11 @@ closing bracket outside limited p = and_then (symbol bracket limited p) (λ _ af
 abbrev pub without : {A : Type 0} → Result A Stop → Result (Unit {0}) Stop
 without (Ok a) = Ok tt
 without (Err e) = Err e
+
+-- the next token is taken as an opening bracket, and how many were open before it is given
+pub record Opens (reads : Reads (Unit {0})) (before : Point) (result : Result ℕ Stop) (after : Point) : Type 0 where
+  pub answers : Takes (λ fuel. reads) before (without result) after
+  pub outside : IfOk result (λ outside. outside ≡ before.open_brackets)
 
 -- the next token is a word for bits, which is taken as a type
 pub record Bits (width : TypeName) (before after : Point) : Type 0 where

@@ -1,12 +1,11 @@
-use Rattle.std.proofs.Common.{rules}
 use Rattle.cmm_readers.specs.Reading.{◌>>=◌, give}
 use Rattle.cmm_readers.specs.PartReading.{flow_form}
-use Rattle.cmm_parser.proofs.Steps.{steps, stops, gives}
+use Rattle.cmm_parser.proofs.Steps.{handed, steps, stops, gives}
 use Rattle.cmm_parser.proofs.CallSteps.{at_token}
 use Rattle.cmm_parser.proofs.call.FlowListed.parse.Goals as goal
 
-pub returns-in_err-form-clause-answers : goal.returns-in_err-form-clause-answers
-returns-in_err-form-clause-answers c = at_token (λ token fuel. flow_form fuel >>= λ form. give record { token = token; form = form }) c.here-token.ensures (stops _ c.in_err-form.ensures.answers (search rules))
+pub returns-in_err-form : goal.returns-in_err-form
+returns-in_err-form c = at_token (λ token fuel. flow_form fuel >>= λ form. give record { token = token; form = form }) c.here-token.ensures (stops _ c.in_err-form.ensures (handed c.from_residual.ensures.1))
 
-pub returns-clause-answers : goal.returns-clause-answers
-returns-clause-answers c = at_token (λ token fuel. flow_form fuel >>= λ form. give record { token = token; form = form }) c.here-token.ensures (steps _ c.in_ok-form.ensures.answers (gives))
+pub returns : goal.returns
+returns c = at_token (λ token fuel. flow_form fuel >>= λ form. give record { token = token; form = form }) c.here-token.ensures (steps _ c.in_ok-form.ensures (gives))

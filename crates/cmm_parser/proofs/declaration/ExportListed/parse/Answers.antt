@@ -1,5 +1,5 @@
 use Rattle.cmm_parser.proofs.Steps.{steps}
 use Rattle.cmm_parser.proofs.declaration.ExportListed.parse.Goals as goal
 
-pub returns-clause-answers : goal.returns-clause-answers
-returns-clause-answers c = steps _ c.in_ok-name.ensures.answers c.export_of.ensures
+pub returns : goal.returns
+returns c = steps _ c.in_ok-name.ensures c.export_of.ensures

@@ -1,10 +1,10 @@
 -- Each call takes a token first, or is of a function of a lower rank.
-use Rattle.std.proofs.Common.{◌+◌, ◌*◌, length}
+use Rattle.std.proofs.Common.{◌+◌, ◌*◌, length, true}
 use Rattle.cmm_readers.specs.Reading.{listed, more_listed}
 use Rattle.cmm_readers.specs.ExpressionReading as readers
 use Rattle.cmm_parser.specs.inside.Parsing.{point_of}
 use Rattle.cmm_parser.proofs.Loops.{Reaches}
-use Rattle.cmm_parser.proofs.ExpressionSteps.{climbing, Strict}
+use Rattle.cmm_parser.proofs.ExpressionSteps.{climbing}
 use Rattle.cmm_parser.proofs.parser.Parser.+expression.Given as goal
 
 abbrev pub decreases-bracketed : goal.decreases-bracketed
@@ -33,14 +33,14 @@ decreases-unary l = 4 * length (point_of l.self.now).left + 1
 
 abbrev pub invariant-operand-loop-operator : goal.invariant-operand-loop-operator
 invariant-operand-loop-operator l =
-    Strict (Reaches (λ fuel. readers.operand fuel l.fn.level) (point_of l.fn.self) (climbing l.fn.level l.left) (point_of l.self)) (point_of l.fn.self) (point_of l.self)
+    Reaches true (λ fuel. readers.operand fuel l.fn.level) (point_of l.fn.self) (climbing l.fn.level l.left) (point_of l.self)
 
 abbrev pub decreases-operand-loop-operator : goal.decreases-operand-loop-operator
 decreases-operand-loop-operator l = length (point_of l.self).left
 
 abbrev pub invariant-operands-loop-self : goal.invariant-operands-loop-self
 invariant-operands-loop-self l =
-    Reaches (λ fuel. listed fuel readers.begins_expression (readers.operand fuel 0)) (point_of l.fn.self)
+    Reaches true (λ fuel. listed fuel readers.begins_expression (readers.operand fuel 0)) (point_of l.fn.self)
     (λ fuel turns. more_listed turns readers.begins_expression (readers.operand fuel 0) l.operands) (point_of l.self)
 
 abbrev pub decreases-operands-loop-self : goal.decreases-operands-loop-self

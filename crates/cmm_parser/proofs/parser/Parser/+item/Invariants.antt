@@ -1,5 +1,5 @@
 -- Each call takes a token first, or is of a function of a lower rank.
-use Rattle.std.proofs.Common.{◌+◌, ◌*◌, [], length}
+use Rattle.std.proofs.Common.{◌+◌, ◌*◌, [], length, false}
 use Rattle.cmm_lexer.specs.declared.symbol.Symbol.TheVariants.{CloseBrace}
 use Rattle.cmm_readers.specs.Reading.{many}
 use Rattle.cmm_readers.specs.StatementReading.{block}
@@ -23,7 +23,7 @@ decreases-items l = 3 * length (point_of l.self.now).left + 2
 
 abbrev pub invariant-items-loop-items : goal.invariant-items-loop-items
 invariant-items-loop-items l =
-    Reaches (λ fuel. many fuel (is_other CloseBrace) (item fuel block) []) (point_of l.fn.self)
+    Reaches false (λ fuel. many fuel (is_other CloseBrace) (item fuel block) []) (point_of l.fn.self)
     (λ fuel turns. many turns (is_other CloseBrace) (item fuel block) l.items) (point_of l.self)
 
 abbrev pub decreases-items-loop-items : goal.decreases-items-loop-items

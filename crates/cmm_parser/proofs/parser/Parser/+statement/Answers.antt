@@ -10,9 +10,9 @@ use Rattle.cmm_readers.specs.declared.told_apart.PartForm.{PartForm}
 use Rattle.cmm_readers.specs.Reading.{Reads, ◌>>=◌, give, here, many}
 use Rattle.cmm_readers.specs.StatementReading as readers
 use Rattle.cmm_parser.specs.inside.Parsing.{chaining, point_of}
-use Rattle.cmm_parser.proofs.Steps.{steps, stops, halts, stopped, gives, gives_same, holds, fails, takes, leaves, brackets, stops_opening, stops_inside, stops_closing, brackets_below, stops_inside_below, stops_closing_below}
+use Rattle.cmm_parser.proofs.Steps.{handed, loosely, steps, stops, halts, stopped, gives, gives_same, holds, fails, takes, leaves, brackets, stops_opening, stops_inside, stops_closing, brackets_below, stops_inside_below, stops_closing_below}
 use Rattle.cmm_parser.proofs.Loops.{many_turn, many_ends, many_breaks}
-use Rattle.cmm_parser.proofs.StatementSteps.{at_count, diagonal, after_here, encloses, stops_enclosed, by_turns, body_of, body_counts, block_counts, still_less, numbered_stmt, numbered_part}
+use Rattle.cmm_parser.proofs.StatementSteps.{by_chain, by_depth, at_count, diagonal, after_here, encloses, stops_enclosed, by_turns, body_of, body_counts, block_counts, still_less, numbered_stmt, numbered_part}
 use Rattle.cmm_parser.proofs.parser.Parser.+statement.Goals as goal
 
 abbrev arms_of : ℕ → ℕ → Reads (List Arm)
@@ -23,82 +23,85 @@ arms_of depth fuel = many fuel readers.is_within (readers.arm fuel (readers.bloc
 abbrev arm_at : ℕ → ℕ → ℕ → Reads Arm
 arm_at depth token fuel = readers.case fuel >>= λ what. readers.block depth >>= λ body. give (record { token = token; case = what; body = body })
 
-pub arm-returns-in_err-case-clause-answers : goal.arm-returns-in_err-case-clause-answers
-arm-returns-in_err-case-clause-answers t c = λ depth less. after_here (arm_at depth) (stops _ c.in_err-case.ensures.answers (search rules))
+pub arm-returns-in_err-case : goal.arm-returns-in_err-case
+arm-returns-in_err-case t c =
+    by_depth (λ depth less. after_here (arm_at depth) (stops _ c.in_err-case.ensures (handed c.from_residual.ensures.1)))
 
-pub arm-returns-in_err-body-clause-answers : goal.arm-returns-in_err-body-clause-answers
-arm-returns-in_err-body-clause-answers t c =
-    λ depth less.
+pub arm-returns-in_err-body : goal.arm-returns-in_err-body
+arm-returns-in_err-body t c =
+    by_depth (λ depth less.
     let taken = c.in_ok-case.ensures.taken in
-    after_here (arm_at depth) (steps _ c.in_ok-case.ensures.answers (stops _ (at_count depth (omega arith) c.in_err-body.ensures.answers) (search rules)))
+    after_here (arm_at depth) (steps _ c.in_ok-case.ensures (stops _ (at_count depth (omega arith) c.in_err-body.ensures) (handed c.from_residual-in_err-body.ensures.1))))
 
-pub arm-returns-clause-answers : goal.arm-returns-clause-answers
-arm-returns-clause-answers t c =
-    λ depth less.
+pub arm-returns : goal.arm-returns
+arm-returns t c =
+    by_depth (λ depth less.
     let taken = c.in_ok-case.ensures.taken in
     after_here (arm_at depth)
-    (steps _ c.in_ok-case.ensures.answers (steps _ (at_count depth (omega arith) c.in_ok-body.ensures.answers)
-    (gives_same (ap (λ token. record { token = token; case = c.in_ok-case.case; body = c.in_ok-body.body }) c.here-token.ensures))))
+    (steps _ c.in_ok-case.ensures (steps _ (at_count depth (omega arith) c.in_ok-body.ensures)
+    (gives_same (ap (λ token. record { token = token; case = c.in_ok-case.case; body = c.in_ok-body.body }) c.here-token.ensures)))))
 
 pub arms-returns-in_err-arm : goal.arms-returns-in_err-arm
 arms-returns-in_err-arm t c =
-    λ depth less.
+    by_depth (λ depth less.
     let reached = c.loop-arms.invariant depth less in
-    let fewer = reached.fewer in
-    many_breaks reached (c.is_within.ensures ∙ c.loop-arms-test.true) (c.in_err-arm.ensures.answers depth (omega arith)) (search rules)
+    let fewer = reached.taken in
+    many_breaks reached (c.is_within.ensures ∙ c.loop-arms-test.true) (c.in_err-arm.ensures.answers depth (omega arith)) (handed c.from_residual.ensures.1))
 
 pub arms-loop-arms-preserved : goal.arms-loop-arms-preserved
 arms-loop-arms-preserved t c =
     λ depth less.
     let reached = c.loop-arms.invariant depth less in
-    let fewer = reached.fewer in
-    many_turn reached (c.is_within.ensures ∙ c.loop-arms-test.true) (c.in_ok-arm.ensures.answers depth (omega arith)) c.in_ok-arm.ensures.taken c.in_ok-push.ensures.ok
+    let fewer = reached.taken in
+    many_turn reached (c.is_within.ensures ∙ c.loop-arms-test.true) (c.in_ok-arm.ensures.answers depth (omega arith)) c.in_ok-push.ensures.ok
 
 pub arms-returns : goal.arms-returns
-arms-returns t c = λ depth less. many_ends (c.loop-arms.invariant depth less) (c.is_within.ensures ∙ c.loop-arms-test.false)
+arms-returns t c =
+    by_depth (λ depth less. many_ends (c.loop-arms.invariant depth less) (c.is_within.ensures ∙ c.loop-arms-test.false))
 
 -- ---- the parts of a block
 
 pub body-returns-in_err-part : goal.body-returns-in_err-part
 body-returns-in_err-part t c =
-    λ depth less.
+    by_depth (λ depth less.
     let reached = c.loop-parts.invariant depth less in
-    let fewer = reached.fewer in
-    many_breaks reached (c.is_within.ensures ∙ c.loop-parts-test.true) (c.in_err-part.ensures.answers depth (omega arith)) (search rules)
+    let fewer = reached.taken in
+    many_breaks reached (c.is_within.ensures ∙ c.loop-parts-test.true) (c.in_err-part.ensures.answers depth (omega arith)) (handed c.from_residual.ensures.1))
 
 pub body-loop-parts-preserved : goal.body-loop-parts-preserved
 body-loop-parts-preserved t c =
     λ depth less.
     let reached = c.loop-parts.invariant depth less in
-    let fewer = reached.fewer in
-    many_turn reached (c.is_within.ensures ∙ c.loop-parts-test.true) (c.in_ok-part.ensures.answers depth (omega arith)) c.in_ok-part.ensures.taken c.in_ok-push.ensures.ok
+    let fewer = reached.taken in
+    many_turn reached (c.is_within.ensures ∙ c.loop-parts-test.true) (c.in_ok-part.ensures.answers depth (omega arith)) c.in_ok-push.ensures.ok
 
 pub body-returns : goal.body-returns
-body-returns t c = λ depth less. many_ends (c.loop-parts.invariant depth less) (c.is_within.ensures ∙ c.loop-parts-test.false)
+body-returns t c =
+    by_depth (λ depth less. many_ends (c.loop-parts.invariant depth less) (c.is_within.ensures ∙ c.loop-parts-test.false))
 
 -- ---- blocks
 
-pub block-returns-in_err-parts-clause-answers : goal.block-returns-in_err-parts-clause-answers
-block-returns-in_err-parts-clause-answers t c =
+pub block-returns-in_err-parts : goal.block-returns-in_err-parts
+block-returns-in_err-parts t c =
     block_counts
     (stops _
-    (stops_inside_below body_of OpenBrace CloseBrace c.in_ok-outside.ensures.taken c.in_ok-outside.ensures.answers (body_counts c.in_err-parts.ensures))
-    (search rules))
+    (stops_inside_below body_of OpenBrace CloseBrace c.in_ok-outside.ensures (body_counts c.in_err-parts.ensures.answers))
+    (handed c.from_residual-in_err-parts.ensures.1))
 
-pub block-returns-in_err-leave-clause-answers : goal.block-returns-in_err-leave-clause-answers
-block-returns-in_err-leave-clause-answers t c =
+pub block-returns-in_err-leave : goal.block-returns-in_err-leave
+block-returns-in_err-leave t c =
     block_counts
     (stops _
-    (stops_closing_below body_of OpenBrace CloseBrace c.in_ok-outside.ensures.taken c.in_ok-outside.ensures.answers c.in_ok-outside.ensures.outside
-    (body_counts c.in_ok-parts.ensures) c.in_err-leave.ensures.answers)
-    (search rules))
+    (stops_closing_below body_of OpenBrace CloseBrace c.in_ok-outside.ensures
+    (body_counts c.in_ok-parts.ensures.answers) c.in_err-leave.ensures)
+    (handed c.from_residual-in_err-leave.ensures.1))
 
-pub block-returns-clause-answers : goal.block-returns-clause-answers
-block-returns-clause-answers t c =
+pub block-returns : goal.block-returns
+block-returns t c =
     block_counts
     (steps _
-    (brackets_below body_of OpenBrace CloseBrace c.in_ok-outside.ensures.taken c.in_ok-outside.ensures.answers c.in_ok-outside.ensures.outside
-    (body_counts c.in_ok-parts.ensures) c.in_ok-leave.ensures.answers)
+    (brackets_below body_of OpenBrace CloseBrace c.in_ok-outside.ensures
+    (body_counts c.in_ok-parts.ensures.answers) c.in_ok-leave.ensures)
     gives)
 
 -- ---- `if`
@@ -114,52 +117,53 @@ chain_at turns depth token fuel =
 abbrev chain_past : ℕ → StmtForm → ℕ → ℕ → Reads Stmt
 chain_past token form past fuel = give (record { token = token; past = past; form = form })
 
-pub chained-returns-in_err-form-clause-answers : goal.chained-returns-in_err-form-clause-answers
-chained-returns-in_err-form-clause-answers t c =
-    λ turns depth lt ld.
-    let taken = c.in_ok-outside.ensures.taken in
+pub chained-returns-in_err-form : goal.chained-returns-in_err-form
+chained-returns-in_err-form t c =
+    by_chain (λ turns depth lt ld.
+    let taken = c.in_ok-outside.ensures.answers.taken in
     stopped
     (stops_enclosed (after_here (chain_at turns depth)
     (steps _ c.in_ok-outside.ensures.answers (halts _ (c.in_err-form.ensures.answers turns depth (omega arith) (omega arith))))))
-    (search rules)
+    (handed c.from_residual-in_err-form.ensures.1))
 
-pub chained-returns-clause-answers : goal.chained-returns-clause-answers
-chained-returns-clause-answers t c =
-    λ turns depth lt ld.
-    let taken = c.in_ok-outside.ensures.taken in
+pub chained-returns : goal.chained-returns
+chained-returns t c =
+    by_chain (λ turns depth lt ld.
+    let taken = c.in_ok-outside.ensures.answers.taken in
     encloses
     (after_here (chain_at turns depth)
     (steps _ c.in_ok-outside.ensures.answers
     (steps _ (c.in_ok-form.ensures.answers turns depth (omega arith) (omega arith))
     (after_here (chain_past (point_of c.args.self.now).taken c.in_ok-form.form)
     (gives_same (numbered_stmt _ _ _ _ c.in_ok-form.form c.here-token.ensures c.here-past.ensures))))))
-    c.in_ok-outside.ensures.outside c.close.ensures
+    c.in_ok-outside.ensures.outside c.close.ensures)
 
-pub if_form-returns-in_err-condition-clause-answers : goal.if_form-returns-in_err-condition-clause-answers
-if_form-returns-in_err-condition-clause-answers t c = λ turns depth lt ld. stops _ c.in_err-condition.ensures.answers (search rules)
+pub if_form-returns-in_err-condition : goal.if_form-returns-in_err-condition
+if_form-returns-in_err-condition t c =
+    by_chain (λ turns depth lt ld. stops _ c.in_err-condition.ensures (handed c.from_residual.ensures.1))
 
-pub if_form-returns-in_err-then-clause-answers : goal.if_form-returns-in_err-then-clause-answers
-if_form-returns-in_err-then-clause-answers t c =
-    λ turns depth lt ld.
+pub if_form-returns-in_err-then : goal.if_form-returns-in_err-then
+if_form-returns-in_err-then t c =
+    by_chain (λ turns depth lt ld.
     let taken = c.in_ok-condition.ensures.taken in
-    steps _ c.in_ok-condition.ensures.answers (stops _ (at_count depth (omega arith) c.in_err-then.ensures.answers) (search rules))
+    steps _ c.in_ok-condition.ensures (stops _ (at_count depth (omega arith) c.in_err-then.ensures) (handed c.from_residual-in_err-then.ensures.1)))
 
-pub if_form-returns-in_err-otherwise-clause-answers : goal.if_form-returns-in_err-otherwise-clause-answers
-if_form-returns-in_err-otherwise-clause-answers t c =
-    λ turns depth lt ld.
-    let taken = c.in_ok-condition.ensures.taken in
-    let more = c.in_ok-then.ensures.taken in
-    steps _ c.in_ok-condition.ensures.answers
-    (steps _ (at_count depth (omega arith) c.in_ok-then.ensures.answers)
-    (stops _ (c.in_err-otherwise.ensures turns depth (omega arith) (omega arith)) (search rules)))
-
-pub if_form-returns-clause-answers : goal.if_form-returns-clause-answers
-if_form-returns-clause-answers t c =
-    λ turns depth lt ld.
+pub if_form-returns-in_err-otherwise : goal.if_form-returns-in_err-otherwise
+if_form-returns-in_err-otherwise t c =
+    by_chain (λ turns depth lt ld.
     let taken = c.in_ok-condition.ensures.taken in
     let more = c.in_ok-then.ensures.taken in
-    steps _ c.in_ok-condition.ensures.answers
-    (steps _ (at_count depth (omega arith) c.in_ok-then.ensures.answers) (steps _ (c.in_ok-otherwise.ensures turns depth (omega arith) (omega arith)) gives))
+    steps _ c.in_ok-condition.ensures
+    (steps _ (at_count depth (omega arith) c.in_ok-then.ensures)
+    (stops _ (c.in_err-otherwise.ensures.answers turns depth (omega arith) (omega arith)) (handed c.from_residual-in_err-otherwise.ensures.1))))
+
+pub if_form-returns : goal.if_form-returns
+if_form-returns t c =
+    by_chain (λ turns depth lt ld.
+    let taken = c.in_ok-condition.ensures.taken in
+    let more = c.in_ok-then.ensures.taken in
+    steps _ c.in_ok-condition.ensures
+    (steps _ (at_count depth (omega arith) c.in_ok-then.ensures) (steps _ (c.in_ok-otherwise.ensures.answers turns depth (omega arith) (omega arith)) gives)))
 
 abbrev block_to : ℕ → ℕ → Reads Otherwise
 block_to depth fuel = readers.block depth >>= λ body. give (Else body)
@@ -169,42 +173,43 @@ chained_to depth turns fuel = readers.chained (chosen_if depth turns fuel) >>= �
 
 pub otherwise-returns-in_err-block : goal.otherwise-returns-in_err-block
 otherwise-returns-in_err-block t c =
-    λ turns depth lt ld.
+    by_chain (λ turns depth lt ld. loosely (
     let taken = (c.accept_word.ensures.taken c.if-accept_word.true).fewer in
     by_turns turns (readers.block depth) lt (λ fewer less.
     takes (c.accept_word.ensures.taken c.if-accept_word.true)
     (holds {no_ = chained_to depth fewer} (c.is_symbol.ensures ∙ c.if-is_symbol.true)
-    (stops (λ body fuel. give (Else body)) (at_count depth (omega arith) c.in_err-block.ensures.answers) (search rules))))
+    (stops (λ body fuel. give (Else body)) (at_count depth (omega arith) c.in_err-block.ensures) (handed c.from_residual.ensures.1))))))
 
 pub otherwise-returns-then-is_symbol : goal.otherwise-returns-then-is_symbol
 otherwise-returns-then-is_symbol t c =
-    λ turns depth lt ld.
+    by_chain (λ turns depth lt ld. loosely (
     let taken = (c.accept_word.ensures.taken c.if-accept_word.true).fewer in
     by_turns turns (readers.block depth) lt (λ fewer less.
     takes (c.accept_word.ensures.taken c.if-accept_word.true)
     (holds {no_ = chained_to depth fewer} (c.is_symbol.ensures ∙ c.if-is_symbol.true)
-    (steps (λ body fuel. give (Else body)) (at_count depth (omega arith) c.in_ok-block.ensures.answers) gives)))
+    (steps (λ body fuel. give (Else body)) (at_count depth (omega arith) c.in_ok-block.ensures) gives)))))
 
 pub otherwise-returns-in_err-chained : goal.otherwise-returns-in_err-chained
 otherwise-returns-in_err-chained t c =
-    λ turns depth lt ld.
+    by_chain (λ turns depth lt ld. loosely (
     let taken = (c.accept_word.ensures.taken c.if-accept_word.true).fewer in
     by_turns turns (readers.block depth) lt (λ fewer less.
     takes (c.accept_word.ensures.taken c.if-accept_word.true)
     (fails {yes_ = block_to depth} (c.is_symbol.ensures ∙ c.if-is_symbol.false)
-    (stops (λ s fuel. give (ElseIf s)) (c.in_err-chained.ensures.answers fewer depth (omega arith) (omega arith)) (search rules))))
+    (stops (λ s fuel. give (ElseIf s)) (c.in_err-chained.ensures.answers fewer depth (omega arith) (omega arith)) (handed c.from_residual-in_err-chained.ensures.1))))))
 
 pub otherwise-returns-then-accept_word : goal.otherwise-returns-then-accept_word
 otherwise-returns-then-accept_word t c =
-    λ turns depth lt ld.
+    by_chain (λ turns depth lt ld. loosely (
     let taken = (c.accept_word.ensures.taken c.if-accept_word.true).fewer in
     by_turns turns (readers.block depth) lt (λ fewer less.
     takes (c.accept_word.ensures.taken c.if-accept_word.true)
     (fails {yes_ = block_to depth} (c.is_symbol.ensures ∙ c.if-is_symbol.false)
-    (steps (λ s fuel. give (ElseIf s)) (c.in_ok-chained.ensures.answers fewer depth (omega arith) (omega arith)) (gives_same (search rules)))))
+    (steps (λ s fuel. give (ElseIf s)) (c.in_ok-chained.ensures.answers fewer depth (omega arith) (omega arith)) (gives_same (search rules)))))))
 
 pub otherwise-returns : goal.otherwise-returns
-otherwise-returns t c = λ turns depth lt ld. by_turns turns (readers.block depth) lt (λ fewer less. leaves (c.accept_word.ensures.kept c.if-accept_word.false) gives)
+otherwise-returns t c =
+    by_chain (λ turns depth lt ld. by_turns turns (readers.block depth) lt (λ fewer less. leaves (c.accept_word.ensures.kept c.if-accept_word.false) gives))
 
 -- ---- parts
 
@@ -214,145 +219,141 @@ part_at depth token fuel = readers.part_form fuel (readers.block depth) >>= λ f
 abbrev part_past : ℕ → PartForm → ℕ → ℕ → Reads Part
 part_past token form past fuel = give (readers.part_of token past form)
 
-pub part-returns-in_err-form-clause-answers : goal.part-returns-in_err-form-clause-answers
-part-returns-in_err-form-clause-answers t c = λ depth less. after_here (part_at depth) (stops _ (c.in_err-form.ensures.answers depth less) (search rules))
+pub part-returns-in_err-form : goal.part-returns-in_err-form
+part-returns-in_err-form t c =
+    by_depth (λ depth less. after_here (part_at depth) (stops _ (c.in_err-form.ensures.answers depth less) (handed c.from_residual.ensures.1)))
 
-pub part-returns-clause-answers : goal.part-returns-clause-answers
-part-returns-clause-answers t c =
-    λ depth less.
+pub part-returns : goal.part-returns
+part-returns t c =
+    by_depth (λ depth less.
     after_here (part_at depth)
     (steps _ (c.in_ok-form.ensures.answers depth less)
     (after_here (part_past (point_of c.args.self.now).taken c.in_ok-form.form)
-    (gives_same (c.part_of.ensures ∙ numbered_part _ _ _ _ c.in_ok-form.form c.here-token.ensures c.here-past.ensures))))
+    (gives_same (c.part_of.ensures ∙ numbered_part _ _ _ _ c.in_ok-form.form c.here-token.ensures c.here-past.ensures)))))
 
-pub part_form-returns-in_err-if_form-clause-answers : goal.part_form-returns-in_err-if_form-clause-answers
-part_form-returns-in_err-if_form-clause-answers t c =
-    λ depth less.
+pub part_form-returns-in_err-if_form : goal.part_form-returns-in_err-if_form
+part_form-returns-in_err-if_form t c =
+    by_depth (λ depth less.
     let taken = (c.accept_word.ensures.taken c.if-accept_word.true).fewer in
     takes (c.accept_word.ensures.taken c.if-accept_word.true)
-    (stops _ (diagonal (chosen_if depth) (λ turns under. c.in_err-if_form.ensures.answers turns depth under (omega arith))) (search rules))
+    (stops _ (diagonal (chosen_if depth) (λ turns under. c.in_err-if_form.ensures.answers turns depth under (omega arith))) (handed c.from_residual.ensures.1)))
 
-pub part_form-returns-in_err-switch_form-clause-answers : goal.part_form-returns-in_err-switch_form-clause-answers
-part_form-returns-in_err-switch_form-clause-answers t c =
-    λ depth less.
+pub part_form-returns-in_err-switch_form : goal.part_form-returns-in_err-switch_form
+part_form-returns-in_err-switch_form t c =
+    by_depth (λ depth less.
     let no_if = c.accept_word.ensures.kept c.if-accept_word.false in
     let switch = c.accept_word-else-accept_word.ensures.taken c.if-accept_word-2.true in
     let taken = switch.fewer in
     let still = still_less depth no_if less in
-    leaves no_if (takes switch (stops _ (c.in_err-switch_form.ensures.answers depth (omega arith)) (search rules)))
+    leaves no_if (takes switch (stops _ (c.in_err-switch_form.ensures.answers depth (omega arith)) (handed c.from_residual-in_err-switch_form.ensures.1))))
 
-pub part_form-returns-in_err-span_form-clause-answers : goal.part_form-returns-in_err-span_form-clause-answers
-part_form-returns-in_err-span_form-clause-answers t c =
-    λ depth less.
+pub part_form-returns-in_err-span_form : goal.part_form-returns-in_err-span_form
+part_form-returns-in_err-span_form t c =
+    by_depth (λ depth less.
     let no_if = c.accept_word.ensures.kept c.if-accept_word.false in
     let no_switch = c.accept_word-else-accept_word.ensures.kept c.if-accept_word-2.false in
     let span = c.accept_word-else-accept_word-2.ensures.taken c.if-accept_word-3.true in
     let taken = span.fewer in
     let still = still_less depth no_switch (still_less depth no_if less) in
-    leaves no_if (leaves no_switch (takes span (stops _ (c.in_err-span_form.ensures.answers depth (omega arith)) (search rules))))
+    leaves no_if (leaves no_switch (takes span (stops _ (c.in_err-span_form.ensures.answers depth (omega arith)) (handed c.from_residual-in_err-span_form.ensures.1)))))
 
-pub part_form-returns-in_ok-if_form-clause-answers : goal.part_form-returns-in_ok-if_form-clause-answers
-part_form-returns-in_ok-if_form-clause-answers t c =
-    λ depth less.
+pub part_form-returns-in_ok-if_form : goal.part_form-returns-in_ok-if_form
+part_form-returns-in_ok-if_form t c =
+    by_depth (λ depth less.
     let taken = (c.accept_word.ensures.taken c.if-accept_word.true).fewer in
     takes (c.accept_word.ensures.taken c.if-accept_word.true)
-    (steps _ (diagonal (chosen_if depth) (λ turns under. c.in_ok-if_form.ensures.answers turns depth under (omega arith))) gives)
+    (steps _ (diagonal (chosen_if depth) (λ turns under. c.in_ok-if_form.ensures.answers turns depth under (omega arith))) gives))
 
-pub part_form-returns-in_ok-switch_form-clause-answers : goal.part_form-returns-in_ok-switch_form-clause-answers
-part_form-returns-in_ok-switch_form-clause-answers t c =
-    λ depth less.
+pub part_form-returns-in_ok-switch_form : goal.part_form-returns-in_ok-switch_form
+part_form-returns-in_ok-switch_form t c =
+    by_depth (λ depth less.
     let no_if = c.accept_word.ensures.kept c.if-accept_word.false in
     let switch = c.accept_word-else-accept_word.ensures.taken c.if-accept_word-2.true in
     let taken = switch.fewer in
     let still = still_less depth no_if less in
-    leaves no_if (takes switch (steps _ (c.in_ok-switch_form.ensures.answers depth (omega arith)) gives))
+    leaves no_if (takes switch (steps _ (c.in_ok-switch_form.ensures.answers depth (omega arith)) gives)))
 
-pub part_form-returns-in_ok-span_form-clause-answers : goal.part_form-returns-in_ok-span_form-clause-answers
-part_form-returns-in_ok-span_form-clause-answers t c =
-    λ depth less.
+pub part_form-returns-in_ok-span_form : goal.part_form-returns-in_ok-span_form
+part_form-returns-in_ok-span_form t c =
+    by_depth (λ depth less.
     let no_if = c.accept_word.ensures.kept c.if-accept_word.false in
     let no_switch = c.accept_word-else-accept_word.ensures.kept c.if-accept_word-2.false in
     let span = c.accept_word-else-accept_word-2.ensures.taken c.if-accept_word-3.true in
     let taken = span.fewer in
     let still = still_less depth no_switch (still_less depth no_if less) in
-    leaves no_if (leaves no_switch (takes span (steps _ (c.in_ok-span_form.ensures.answers depth (omega arith)) gives)))
+    leaves no_if (leaves no_switch (takes span (steps _ (c.in_ok-span_form.ensures.answers depth (omega arith)) gives))))
 
 -- ---- `span`
 
-pub span_form-returns-in_err-key-clause-answers : goal.span_form-returns-in_err-key-clause-answers
-span_form-returns-in_err-key-clause-answers t c = λ depth less. stops _ c.in_err-key.ensures.answers (search rules)
+pub span_form-returns-in_err-key : goal.span_form-returns-in_err-key
+span_form-returns-in_err-key t c =
+    by_depth (λ depth less. stops _ c.in_err-key.ensures (handed c.from_residual.ensures.1))
 
-pub span_form-returns-in_err-value-clause-answers : goal.span_form-returns-in_err-value-clause-answers
-span_form-returns-in_err-value-clause-answers t c = λ depth less. steps _ c.in_ok-key.ensures.answers (stops _ c.in_err-value.ensures.answers (search rules))
+pub span_form-returns-in_err-value : goal.span_form-returns-in_err-value
+span_form-returns-in_err-value t c =
+    by_depth (λ depth less. steps _ c.in_ok-key.ensures (stops _ c.in_err-value.ensures (handed c.from_residual-in_err-value.ensures.1)))
 
-pub span_form-returns-in_err-body-clause-answers : goal.span_form-returns-in_err-body-clause-answers
-span_form-returns-in_err-body-clause-answers t c =
-    λ depth less.
+pub span_form-returns-in_err-body : goal.span_form-returns-in_err-body
+span_form-returns-in_err-body t c =
+    by_depth (λ depth less.
     let taken = c.in_ok-key.ensures.taken in
     let more = c.in_ok-value.ensures.taken in
-    steps _ c.in_ok-key.ensures.answers
-    (steps _ c.in_ok-value.ensures.answers (stops _ (at_count depth (omega arith) c.in_err-body.ensures.answers) (search rules)))
+    steps _ c.in_ok-key.ensures
+    (steps _ c.in_ok-value.ensures (stops _ (at_count depth (omega arith) c.in_err-body.ensures) (handed c.from_residual-in_err-body.ensures.1))))
 
-pub span_form-returns-clause-answers : goal.span_form-returns-clause-answers
-span_form-returns-clause-answers t c =
-    λ depth less.
+pub span_form-returns : goal.span_form-returns
+span_form-returns t c =
+    by_depth (λ depth less.
     let taken = c.in_ok-key.ensures.taken in
     let more = c.in_ok-value.ensures.taken in
-    steps _ c.in_ok-key.ensures.answers (steps _ c.in_ok-value.ensures.answers (steps _ (at_count depth (omega arith) c.in_ok-body.ensures.answers) gives))
+    steps _ c.in_ok-key.ensures (steps _ c.in_ok-value.ensures (steps _ (at_count depth (omega arith) c.in_ok-body.ensures) gives)))
 
 -- ---- `switch`
 
-pub switch_form-returns-in_err-range-clause-answers : goal.switch_form-returns-in_err-range-clause-answers
-switch_form-returns-in_err-range-clause-answers t c = λ depth less. stops _ c.in_err-range.ensures (search rules)
+pub switch_form-returns-in_err-range : goal.switch_form-returns-in_err-range
+switch_form-returns-in_err-range t c =
+    by_depth (λ depth less. stops _ c.in_err-range.ensures (handed c.from_residual.ensures.1))
 
-pub switch_form-returns-in_err-value-clause-answers : goal.switch_form-returns-in_err-value-clause-answers
-switch_form-returns-in_err-value-clause-answers t c = λ depth less. steps _ c.in_ok-range.ensures (stops _ c.in_err-value.ensures.answers (search rules))
+pub switch_form-returns-in_err-value : goal.switch_form-returns-in_err-value
+switch_form-returns-in_err-value t c =
+    by_depth (λ depth less. steps _ c.in_ok-range.ensures (stops _ c.in_err-value.ensures (handed c.from_residual-in_err-value.ensures.1)))
 
-pub switch_form-returns-in_err-outside-clause-answers : goal.switch_form-returns-in_err-outside-clause-answers
-switch_form-returns-in_err-outside-clause-answers t c =
-    λ depth less.
+pub switch_form-returns-in_err-outside : goal.switch_form-returns-in_err-outside
+switch_form-returns-in_err-outside t c =
+    by_depth (λ depth less.
     steps _ c.in_ok-range.ensures
-    (steps _ c.in_ok-value.ensures.answers (stops _ (stops_opening (arms_of depth) OpenBrace CloseBrace c.in_err-outside.ensures.answers) (search rules)))
+    (steps _ c.in_ok-value.ensures (stops _ (stops_opening (arms_of depth) OpenBrace CloseBrace c.in_err-outside.ensures) (handed c.from_residual-in_err-outside.ensures.1))))
 
-pub switch_form-returns-in_err-arms-clause-answers : goal.switch_form-returns-in_err-arms-clause-answers
-switch_form-returns-in_err-arms-clause-answers t c =
-    λ depth less.
-    let some = c.in_ok-range.ensures.fewer in
+pub switch_form-returns-in_err-arms : goal.switch_form-returns-in_err-arms
+switch_form-returns-in_err-arms t c =
+    by_depth (λ depth less.
+    let range = c.in_ok-range.ensures.taken in
     let taken = c.in_ok-value.ensures.taken in
-    let bracket = c.in_ok-outside.ensures.taken in
+    let bracket = c.in_ok-outside.ensures.answers.taken in
     steps _ c.in_ok-range.ensures
-    (steps _ c.in_ok-value.ensures.answers
-    (stops _ (stops_inside OpenBrace CloseBrace c.in_ok-outside.ensures.answers (c.in_err-arms.ensures depth (omega arith))) (search rules)))
+    (steps _ c.in_ok-value.ensures
+    (stops _ (stops_inside OpenBrace CloseBrace c.in_ok-outside.ensures (c.in_err-arms.ensures.answers depth (omega arith))) (handed c.from_residual-in_err-arms.ensures.1))))
 
-pub switch_form-returns-in_err-leave-clause-answers : goal.switch_form-returns-in_err-leave-clause-answers
-switch_form-returns-in_err-leave-clause-answers t c =
-    λ depth less.
-    let some = c.in_ok-range.ensures.fewer in
+pub switch_form-returns-in_err-leave : goal.switch_form-returns-in_err-leave
+switch_form-returns-in_err-leave t c =
+    by_depth (λ depth less.
+    let range = c.in_ok-range.ensures.taken in
     let taken = c.in_ok-value.ensures.taken in
-    let bracket = c.in_ok-outside.ensures.taken in
+    let bracket = c.in_ok-outside.ensures.answers.taken in
     steps _ c.in_ok-range.ensures
-    (steps _ c.in_ok-value.ensures.answers
+    (steps _ c.in_ok-value.ensures
     (stops _
-    (stops_closing OpenBrace CloseBrace c.in_ok-outside.ensures.answers c.in_ok-outside.ensures.outside (c.in_ok-arms.ensures depth (omega arith)) c.in_err-leave.ensures.answers)
-    (search rules)))
+    (stops_closing OpenBrace CloseBrace c.in_ok-outside.ensures (c.in_ok-arms.ensures.answers depth (omega arith)) c.in_err-leave.ensures)
+    (handed c.from_residual-in_err-leave.ensures.1))))
 
-pub switch_form-returns-clause-answers : goal.switch_form-returns-clause-answers
-switch_form-returns-clause-answers t c =
-    λ depth less.
-    let some = c.in_ok-range.ensures.fewer in
+pub switch_form-returns : goal.switch_form-returns
+switch_form-returns t c =
+    by_depth (λ depth less.
+    let range = c.in_ok-range.ensures.taken in
     let taken = c.in_ok-value.ensures.taken in
-    let bracket = c.in_ok-outside.ensures.taken in
+    let bracket = c.in_ok-outside.ensures.answers.taken in
     steps _ c.in_ok-range.ensures
-    (steps _ c.in_ok-value.ensures.answers
+    (steps _ c.in_ok-value.ensures
     (steps _
-    (brackets OpenBrace CloseBrace c.in_ok-outside.ensures.answers c.in_ok-outside.ensures.outside (c.in_ok-arms.ensures depth (omega arith)) c.in_ok-leave.ensures.answers)
-    gives))
-
-pub switch_form-returns-clause-taken : goal.switch_form-returns-clause-taken
-switch_form-returns-clause-taken t c =
-    let some = c.in_ok-range.ensures.fewer in
-    let taken = c.in_ok-value.ensures.taken in
-    let bracket = c.in_ok-outside.ensures.taken in
-    let arms = (c.in_ok-arms.ensures (suc (length (point_of c.enter.new.self).left)) (omega arith)).fewer in
-    let closing = c.in_ok-leave.ensures.taken in
-    omega arith
+    (brackets OpenBrace CloseBrace c.in_ok-outside.ensures (c.in_ok-arms.ensures.answers depth (omega arith)) c.in_ok-leave.ensures)
+    gives)))

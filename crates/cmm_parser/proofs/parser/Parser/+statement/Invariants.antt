@@ -1,5 +1,5 @@
 -- Each call takes a token first, or is of a function of a lower rank.
-use Rattle.std.proofs.Common.{◌+◌, ◌*◌, ◌<◌, [], ℕ, length}
+use Rattle.std.proofs.Common.{◌+◌, ◌*◌, ◌<◌, [], ℕ, length, false}
 use Rattle.cmm_readers.specs.Reading.{many}
 use Rattle.cmm_readers.specs.StatementReading as readers
 use Rattle.cmm_parser.specs.inside.Parsing.{point_of}
@@ -42,7 +42,7 @@ decreases-switch_form l = 4 * length (point_of l.self.now).left
 abbrev pub invariant-body-loop-parts : goal.invariant-body-loop-parts
 invariant-body-loop-parts l =
     (depth : ℕ) → length (point_of l.fn.self).left < depth →
-    Reaches (λ fuel. many fuel readers.is_within (readers.part fuel (readers.block depth)) []) (point_of l.fn.self)
+    Reaches false (λ fuel. many fuel readers.is_within (readers.part fuel (readers.block depth)) []) (point_of l.fn.self)
     (λ fuel turns. many turns readers.is_within (readers.part fuel (readers.block depth)) l.parts) (point_of l.self)
 
 abbrev pub decreases-body-loop-parts : goal.decreases-body-loop-parts
@@ -51,7 +51,7 @@ decreases-body-loop-parts l = length (point_of l.self).left
 abbrev pub invariant-arms-loop-arms : goal.invariant-arms-loop-arms
 invariant-arms-loop-arms l =
     (depth : ℕ) → length (point_of l.fn.self).left < depth →
-    Reaches (λ fuel. many fuel readers.is_within (readers.arm fuel (readers.block depth)) []) (point_of l.fn.self)
+    Reaches false (λ fuel. many fuel readers.is_within (readers.arm fuel (readers.block depth)) []) (point_of l.fn.self)
     (λ fuel turns. many turns readers.is_within (readers.arm fuel (readers.block depth)) l.arms) (point_of l.self)
 
 abbrev pub decreases-arms-loop-arms : goal.decreases-arms-loop-arms

@@ -1,12 +1,11 @@
-use Rattle.std.proofs.Common.{rules}
-use Rattle.cmm_parser.proofs.Steps.{steps, stops, gives}
+use Rattle.cmm_parser.proofs.Steps.{handed, steps, stops, gives}
 use Rattle.cmm_parser.proofs.parser.Parser.assign.Goals as goal
 
-pub returns-in_err-values-clause-answers : goal.returns-in_err-values-clause-answers
-returns-in_err-values-clause-answers c = stops _ c.in_err-values.ensures (search rules)
+pub returns-in_err-values : goal.returns-in_err-values
+returns-in_err-values c = stops _ c.in_err-values.ensures (handed c.from_residual.ensures.1)
 
-pub returns-in_err-expect-clause-answers : goal.returns-in_err-expect-clause-answers
-returns-in_err-expect-clause-answers c = steps _ c.in_ok-values.ensures (stops _ c.in_err-expect.ensures.answers (search rules))
+pub returns-in_err-expect : goal.returns-in_err-expect
+returns-in_err-expect c = steps _ c.in_ok-values.ensures (stops _ c.in_err-expect.ensures (handed c.from_residual-in_err-expect.ensures.1))
 
-pub returns-clause-answers : goal.returns-clause-answers
-returns-clause-answers c = steps _ c.in_ok-values.ensures (steps _ c.in_ok-expect.ensures.answers (gives))
+pub returns : goal.returns
+returns c = steps _ c.in_ok-values.ensures (steps _ c.in_ok-expect.ensures (gives))

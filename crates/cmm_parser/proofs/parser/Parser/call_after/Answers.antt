@@ -1,9 +1,11 @@
-use Rattle.std.proofs.Common.{rules}
-use Rattle.cmm_parser.proofs.Steps.{steps, stops}
+use Rattle.cmm_parser.proofs.Steps.{handed, steps, stops}
 use Rattle.cmm_parser.proofs.parser.Parser.call_after.Goals as goal
 
-pub returns-in_err-callee-clause-answers : goal.returns-in_err-callee-clause-answers
-returns-in_err-callee-clause-answers c = steps _ c.in_ok-convention.ensures (stops _ c.in_err-callee.ensures.answers (search rules))
+pub returns-in_err-convention : goal.returns-in_err-convention
+returns-in_err-convention c = stops _ c.in_err-convention.ensures (handed c.from_residual.ensures.1)
 
-pub returns-clause-answers : goal.returns-clause-answers
-returns-clause-answers c = steps _ c.in_ok-convention.ensures (steps _ c.in_ok-callee.ensures.answers (c.call.ensures.answers))
+pub returns-in_err-callee : goal.returns-in_err-callee
+returns-in_err-callee c = steps _ c.in_ok-convention.ensures (stops _ c.in_err-callee.ensures (handed c.from_residual-in_err-callee.ensures.1))
+
+pub returns : goal.returns
+returns c = steps _ c.in_ok-convention.ensures (steps _ c.in_ok-callee.ensures (c.call.ensures))

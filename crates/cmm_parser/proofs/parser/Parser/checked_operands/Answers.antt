@@ -1,10 +1,9 @@
-use Rattle.std.proofs.Common.{rules}
-use Rattle.cmm_parser.proofs.Steps.{stopped, stops_inside, stops_closing}
+use Rattle.cmm_parser.proofs.Steps.{handed, stopped, stops_inside, stops_closing}
 use Rattle.cmm_lexer.specs.declared.symbol.Symbol.TheVariants.{Open, Close}
 use Rattle.cmm_parser.proofs.parser.Parser.checked_operands.Goals as goal
 
-pub returns-in_err-values-clause-answers : goal.returns-in_err-values-clause-answers
-returns-in_err-values-clause-answers c = stopped (stops_inside Open Close c.in_ok-outside.ensures.answers c.in_err-values.ensures.answers) (search rules)
+pub returns-in_err-values : goal.returns-in_err-values
+returns-in_err-values c = stopped (stops_inside Open Close c.in_ok-outside.ensures c.in_err-values.ensures) (handed c.from_residual-in_err-values.ensures.1)
 
-pub returns-in_err-leave-clause-answers : goal.returns-in_err-leave-clause-answers
-returns-in_err-leave-clause-answers c = stopped (stops_closing Open Close c.in_ok-outside.ensures.answers c.in_ok-outside.ensures.outside c.in_ok-values.ensures.answers c.in_err-leave.ensures.answers) (search rules)
+pub returns-in_err-leave : goal.returns-in_err-leave
+returns-in_err-leave c = stopped (stops_closing Open Close c.in_ok-outside.ensures c.in_ok-values.ensures c.in_err-leave.ensures) (handed c.from_residual-in_err-leave.ensures.1)

@@ -1,15 +1,14 @@
-use Rattle.std.proofs.Common.{rules}
-use Rattle.cmm_parser.proofs.Steps.{steps, stops, gives}
+use Rattle.cmm_parser.proofs.Steps.{handed, steps, stops, gives}
 use Rattle.cmm_parser.proofs.parser.Parser.checked_to.Goals as goal
 
-pub returns-in_err-left-clause-answers : goal.returns-in_err-left-clause-answers
-returns-in_err-left-clause-answers c = steps _ c.in_ok-operator.ensures.answers (stops _ c.in_err-left.ensures.answers (search rules))
+pub returns-in_err-left : goal.returns-in_err-left
+returns-in_err-left c = steps _ c.in_ok-operator.ensures (stops _ c.in_err-left.ensures (handed c.from_residual-in_err-left.ensures.1))
 
-pub returns-in_err-flows-clause-answers : goal.returns-in_err-flows-clause-answers
-returns-in_err-flows-clause-answers c = steps _ c.in_ok-operator.ensures.answers (steps _ c.in_ok-left.ensures.answers (stops _ c.in_err-flows.ensures (search rules)))
+pub returns-in_err-flows : goal.returns-in_err-flows
+returns-in_err-flows c = steps _ c.in_ok-operator.ensures (steps _ c.in_ok-left.ensures (stops _ c.in_err-flows.ensures (handed c.from_residual-in_err-flows.ensures.1)))
 
-pub returns-in_err-expect-clause-answers : goal.returns-in_err-expect-clause-answers
-returns-in_err-expect-clause-answers c = steps _ c.in_ok-operator.ensures.answers (steps _ c.in_ok-left.ensures.answers (steps _ c.in_ok-flows.ensures (stops _ c.in_err-expect.ensures.answers (search rules))))
+pub returns-in_err-expect : goal.returns-in_err-expect
+returns-in_err-expect c = steps _ c.in_ok-operator.ensures (steps _ c.in_ok-left.ensures (steps _ c.in_ok-flows.ensures (stops _ c.in_err-expect.ensures (handed c.from_residual-in_err-expect.ensures.1))))
 
-pub returns-clause-answers : goal.returns-clause-answers
-returns-clause-answers c = steps _ c.in_ok-operator.ensures.answers (steps _ c.in_ok-left.ensures.answers (steps _ c.in_ok-flows.ensures (steps _ c.in_ok-expect.ensures.answers (gives))))
+pub returns : goal.returns
+returns c = steps _ c.in_ok-operator.ensures (steps _ c.in_ok-left.ensures (steps _ c.in_ok-flows.ensures (steps _ c.in_ok-expect.ensures (gives))))

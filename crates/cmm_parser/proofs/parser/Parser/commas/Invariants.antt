@@ -1,4 +1,4 @@
-use Rattle.std.proofs.Common.{length}
+use Rattle.std.proofs.Common.{length, true}
 use Rattle.cmm_readers.specs.Reading as readers
 use Rattle.cmm_parser.specs.inside.Parsing.{point_of}
 use Rattle.cmm_parser.proofs.Loops.{Reaches}
@@ -6,7 +6,7 @@ use Rattle.cmm_parser.proofs.parser.Parser.commas.Given as goal
 
 abbrev pub invariant-loop-items : goal.invariant-loop-items
 invariant-loop-items g l =
-    Reaches (λ fuel. readers.commas fuel (g.T.Listed.reads fuel)) (point_of l.fn.self)
+    Reaches true (λ fuel. readers.commas fuel (g.T.Listed.reads fuel)) (point_of l.fn.self)
     (λ fuel turns. readers.more_commas turns (g.T.Listed.reads fuel) l.items) (point_of l.self)
 
 abbrev pub decreases-loop-items : goal.decreases-loop-items

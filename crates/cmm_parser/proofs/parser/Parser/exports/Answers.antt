@@ -1,13 +1,15 @@
-use Rattle.std.proofs.Common.{rules}
-use Rattle.cmm_parser.proofs.Steps.{steps, stops, gives}
+use Rattle.cmm_parser.proofs.Steps.{halts, handed, steps, stops, gives}
 use Rattle.cmm_parser.proofs.parser.Parser.exports.Goals as goal
 
-pub returns-in_err-width-clause-answers : goal.returns-in_err-width-clause-answers
-returns-in_err-width-clause-answers c = stops _ (steps _ c.in_ok-head.ensures c.in_err-width.ensures) (search rules)
+pub returns-in_err-head : goal.returns-in_err-head
+returns-in_err-head c = stops _ (halts _ c.in_err-head.ensures) (handed c.from_residual.ensures.1)
 
-pub returns-in_err-expect-clause-answers : goal.returns-in_err-expect-clause-answers
-returns-in_err-expect-clause-answers c =
-    steps _ (steps _ c.in_ok-head.ensures c.in_ok-width.ensures) (stops _ c.in_err-expect.ensures.answers (search rules))
+pub returns-in_err-width : goal.returns-in_err-width
+returns-in_err-width c = stops _ (steps _ c.in_ok-head.ensures c.in_err-width.ensures) (handed c.from_residual-in_err-width.ensures.1)
 
-pub returns-clause-answers : goal.returns-clause-answers
-returns-clause-answers c = steps _ (steps _ c.in_ok-head.ensures c.in_ok-width.ensures) (steps _ c.in_ok-expect.ensures.answers gives)
+pub returns-in_err-expect : goal.returns-in_err-expect
+returns-in_err-expect c =
+    steps _ (steps _ c.in_ok-head.ensures c.in_ok-width.ensures) (stops _ c.in_err-expect.ensures (handed c.from_residual-in_err-expect.ensures.1))
+
+pub returns : goal.returns
+returns c = steps _ (steps _ c.in_ok-head.ensures c.in_ok-width.ensures) (steps _ c.in_ok-expect.ensures gives)

@@ -1,9 +1,11 @@
-use Rattle.std.proofs.Common.{rules}
-use Rattle.cmm_parser.proofs.Steps.{steps, stops, gives}
+use Rattle.cmm_parser.proofs.Steps.{handed, steps, stops, gives}
 use Rattle.cmm_parser.proofs.parser.Parser.goto.Goals as goal
 
-pub returns-in_err-expect-clause-answers : goal.returns-in_err-expect-clause-answers
-returns-in_err-expect-clause-answers c = steps _ c.in_ok-name.ensures.answers (stops _ c.in_err-expect.ensures.answers (search rules))
+pub returns-in_err-name : goal.returns-in_err-name
+returns-in_err-name c = stops _ c.in_err-name.ensures (handed c.from_residual.ensures.1)
 
-pub returns-clause-answers : goal.returns-clause-answers
-returns-clause-answers c = steps _ c.in_ok-name.ensures.answers (steps _ c.in_ok-expect.ensures.answers (gives))
+pub returns-in_err-expect : goal.returns-in_err-expect
+returns-in_err-expect c = steps _ c.in_ok-name.ensures (stops _ c.in_err-expect.ensures (handed c.from_residual-in_err-expect.ensures.1))
+
+pub returns : goal.returns
+returns c = steps _ c.in_ok-name.ensures (steps _ c.in_ok-expect.ensures (gives))

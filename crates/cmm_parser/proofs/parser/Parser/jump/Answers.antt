@@ -1,15 +1,14 @@
-use Rattle.std.proofs.Common.{rules}
-use Rattle.cmm_parser.proofs.Steps.{steps, stops, gives}
+use Rattle.cmm_parser.proofs.Steps.{handed, steps, stops, gives}
 use Rattle.cmm_parser.proofs.parser.Parser.jump.Goals as goal
 
-pub returns-in_err-callee-clause-answers : goal.returns-in_err-callee-clause-answers
-returns-in_err-callee-clause-answers c = stops _ c.in_err-callee.ensures.answers (search rules)
+pub returns-in_err-callee : goal.returns-in_err-callee
+returns-in_err-callee c = stops _ c.in_err-callee.ensures (handed c.from_residual.ensures.1)
 
-pub returns-in_err-actuals-clause-answers : goal.returns-in_err-actuals-clause-answers
-returns-in_err-actuals-clause-answers c = steps _ c.in_ok-callee.ensures.answers (stops _ c.in_err-actuals.ensures.answers (search rules))
+pub returns-in_err-actuals : goal.returns-in_err-actuals
+returns-in_err-actuals c = steps _ c.in_ok-callee.ensures (stops _ c.in_err-actuals.ensures (handed c.from_residual-in_err-actuals.ensures.1))
 
-pub returns-in_err-expect-clause-answers : goal.returns-in_err-expect-clause-answers
-returns-in_err-expect-clause-answers c = steps _ c.in_ok-callee.ensures.answers (steps _ c.in_ok-actuals.ensures.answers (stops _ c.in_err-expect.ensures.answers (search rules)))
+pub returns-in_err-expect : goal.returns-in_err-expect
+returns-in_err-expect c = steps _ c.in_ok-callee.ensures (steps _ c.in_ok-actuals.ensures (stops _ c.in_err-expect.ensures (handed c.from_residual-in_err-expect.ensures.1)))
 
-pub returns-clause-answers : goal.returns-clause-answers
-returns-clause-answers c = steps _ c.in_ok-callee.ensures.answers (steps _ c.in_ok-actuals.ensures.answers (steps _ c.in_ok-expect.ensures.answers (gives)))
+pub returns : goal.returns
+returns c = steps _ c.in_ok-callee.ensures (steps _ c.in_ok-actuals.ensures (steps _ c.in_ok-expect.ensures (gives)))

@@ -1,9 +1,11 @@
-use Rattle.std.proofs.Common.{rules}
-use Rattle.cmm_parser.proofs.Steps.{steps, stops, gives}
+use Rattle.cmm_parser.proofs.Steps.{handed, steps, stops, gives}
 use Rattle.cmm_parser.proofs.parser.Parser.literal.Goals as goal
 
-pub returns-in_err-width-clause-answers : goal.returns-in_err-width-clause-answers
-returns-in_err-width-clause-answers c = steps _ c.in_ok-number.ensures.answers (stops _ c.in_err-width.ensures (search rules))
+pub returns-in_err-number : goal.returns-in_err-number
+returns-in_err-number c = stops _ c.in_err-number.ensures (handed c.from_residual.ensures.1)
 
-pub returns-clause-answers : goal.returns-clause-answers
-returns-clause-answers c = steps _ c.in_ok-number.ensures.answers (steps _ c.in_ok-width.ensures gives)
+pub returns-in_err-width : goal.returns-in_err-width
+returns-in_err-width c = steps _ c.in_ok-number.ensures (stops _ c.in_err-width.ensures (handed c.from_residual-in_err-width.ensures.1))
+
+pub returns : goal.returns
+returns c = steps _ c.in_ok-number.ensures (steps _ c.in_ok-width.ensures gives)

@@ -5,11 +5,11 @@ use Rattle.cmm_parser.proofs.Steps.{steps, stops, gives, leaves}
 use Rattle.cmm_parser.proofs.CallSteps.{takes_bits}
 use Rattle.cmm_parser.proofs.parser.Parser.lvalue.Goals as goal
 
-pub returns-in_err-whole_memory-in-Some-clause-answers : goal.returns-in_err-whole_memory-in-Some-clause-answers
-returns-in_err-whole_memory-in-Some-clause-answers c = takes_bits c.in-Some.ensures (stops _ c.in_err-whole_memory-in-Some.ensures.answers (search rules))
+pub returns-in_err-whole_memory-in-Some : goal.returns-in_err-whole_memory-in-Some
+returns-in_err-whole_memory-in-Some c = takes_bits c.in-Some.ensures (stops _ c.in_err-whole_memory-in-Some.ensures (search rules))
 
-pub returns-in_ok-whole_memory-in-Some-clause-answers : goal.returns-in_ok-whole_memory-in-Some-clause-answers
-returns-in_ok-whole_memory-in-Some-clause-answers c = takes_bits c.in-Some.ensures (steps _ c.in_ok-whole_memory-in-Some.ensures.answers gives)
+pub returns-in_ok-whole_memory-in-Some : goal.returns-in_ok-whole_memory-in-Some
+returns-in_ok-whole_memory-in-Some c = takes_bits c.in-Some.ensures (steps _ c.in_ok-whole_memory-in-Some.ensures gives)
 
-pub returns-in_ok-name-in-None-clause-answers : goal.returns-in_ok-name-in-None-clause-answers
-returns-in_ok-name-in-None-clause-answers c = let stays : Stays is_width (point_of c.args.self.now) (point_of c.bits.new.self) = search rules in leaves stays (steps _ c.in_ok-name-in-None.ensures.answers c.lvalue_from.ensures)
+pub returns-in_ok-name-in-None : goal.returns-in_ok-name-in-None
+returns-in_ok-name-in-None c = let stays : Stays is_width (point_of c.args.self.now) (point_of c.bits.new.self) = search rules in leaves stays (steps _ c.in_ok-name-in-None.ensures c.lvalue_from.ensures)

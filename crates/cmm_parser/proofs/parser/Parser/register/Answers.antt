@@ -1,28 +1,27 @@
-use Rattle.std.proofs.Common.{rules}
-use Rattle.cmm_parser.proofs.Steps.{steps, stops, gives}
+use Rattle.cmm_parser.proofs.Steps.{handed, steps, stops, gives}
 use Rattle.cmm_parser.proofs.DeclarationSteps.{accepted}
 use Rattle.cmm_parser.proofs.parser.Parser.register.Goals as goal
 
-pub returns-in_err-width-clause-answers : goal.returns-in_err-width-clause-answers
-returns-in_err-width-clause-answers c =
+pub returns-in_err-width : goal.returns-in_err-width
+returns-in_err-width c =
     steps _ (accepted _ c.accept_word-invariant.ensures.taken c.accept_word-invariant.ensures.kept)
-    (steps _ c.in_ok-expect_word.ensures.answers (steps _ c.in_ok-kind.ensures (stops _ c.in_err-width.ensures.answers (search rules))))
+    (steps _ c.in_ok-expect_word.ensures (steps _ c.in_ok-kind.ensures (stops _ c.in_err-width.ensures (handed c.from_residual-in_err-width.ensures.1))))
 
-pub returns-in_err-names-clause-answers : goal.returns-in_err-names-clause-answers
-returns-in_err-names-clause-answers c =
+pub returns-in_err-names : goal.returns-in_err-names
+returns-in_err-names c =
     steps _ (accepted _ c.accept_word-invariant.ensures.taken c.accept_word-invariant.ensures.kept)
-    (steps _ c.in_ok-expect_word.ensures.answers
-    (steps _ c.in_ok-kind.ensures (steps _ c.in_ok-width.ensures.answers (stops _ c.in_err-names.ensures (search rules)))))
+    (steps _ c.in_ok-expect_word.ensures
+    (steps _ c.in_ok-kind.ensures (steps _ c.in_ok-width.ensures (stops _ c.in_err-names.ensures (handed c.from_residual-in_err-names.ensures.1)))))
 
-pub returns-in_err-expect-clause-answers : goal.returns-in_err-expect-clause-answers
-returns-in_err-expect-clause-answers c =
+pub returns-in_err-expect : goal.returns-in_err-expect
+returns-in_err-expect c =
     steps _ (accepted _ c.accept_word-invariant.ensures.taken c.accept_word-invariant.ensures.kept)
-    (steps _ c.in_ok-expect_word.ensures.answers
+    (steps _ c.in_ok-expect_word.ensures
     (steps _ c.in_ok-kind.ensures
-    (steps _ c.in_ok-width.ensures.answers (steps _ c.in_ok-names.ensures (stops _ c.in_err-expect.ensures.answers (search rules))))))
+    (steps _ c.in_ok-width.ensures (steps _ c.in_ok-names.ensures (stops _ c.in_err-expect.ensures (handed c.from_residual-in_err-expect.ensures.1))))))
 
-pub returns-clause-answers : goal.returns-clause-answers
-returns-clause-answers c =
+pub returns : goal.returns
+returns c =
     steps _ (accepted _ c.accept_word-invariant.ensures.taken c.accept_word-invariant.ensures.kept)
-    (steps _ c.in_ok-expect_word.ensures.answers
-    (steps _ c.in_ok-kind.ensures (steps _ c.in_ok-width.ensures.answers (steps _ c.in_ok-names.ensures (steps _ c.in_ok-expect.ensures.answers gives)))))
+    (steps _ c.in_ok-expect_word.ensures
+    (steps _ c.in_ok-kind.ensures (steps _ c.in_ok-width.ensures (steps _ c.in_ok-names.ensures (steps _ c.in_ok-expect.ensures gives)))))

@@ -5,8 +5,8 @@ use Rattle.cmm_parser.proofs.Steps.{leaves}
 use Rattle.cmm_parser.proofs.CallSteps.{takes_bits}
 use Rattle.cmm_parser.proofs.parser.Parser.word_part.Goals as goal
 
-pub returns-in-Some-clause-answers : goal.returns-in-Some-clause-answers
-returns-in-Some-clause-answers c = takes_bits c.in-Some.ensures c.width_part.ensures.answers
+pub returns-in-Some : goal.returns-in-Some
+returns-in-Some c = takes_bits c.in-Some.ensures c.width_part.ensures
 
-pub returns-in-None-clause-answers : goal.returns-in-None-clause-answers
-returns-in-None-clause-answers c = let stays : Stays is_width (point_of c.args.self.now) (point_of c.bits.new.self) = search rules in leaves stays c.other_part.ensures.answers
+pub returns-in-None : goal.returns-in-None
+returns-in-None c = let stays : Stays is_width (point_of c.args.self.now) (point_of c.bits.new.self) = search rules in leaves stays c.other_part.ensures

@@ -1,14 +1,13 @@
-use Rattle.std.proofs.Common.{rules}
-use Rattle.cmm_parser.proofs.Steps.{steps, stops, gives}
+use Rattle.cmm_parser.proofs.Steps.{handed, steps, stops, gives}
 use Rattle.cmm_parser.proofs.procedure.FormalListed.parse.Goals as goal
 
-pub returns-in_err-width-clause-answers : goal.returns-in_err-width-clause-answers
-returns-in_err-width-clause-answers c = steps _ c.in_ok-modifiers.ensures (stops _ c.in_err-width.ensures.answers (search rules))
+pub returns-in_err-width : goal.returns-in_err-width
+returns-in_err-width c = steps _ c.in_ok-modifiers.ensures (stops _ c.in_err-width.ensures (handed c.from_residual-in_err-width.ensures.1))
 
-pub returns-in_err-name-clause-answers : goal.returns-in_err-name-clause-answers
-returns-in_err-name-clause-answers c =
-    steps _ c.in_ok-modifiers.ensures (steps _ c.in_ok-width.ensures.answers (stops _ c.in_err-name.ensures.answers (search rules)))
+pub returns-in_err-name : goal.returns-in_err-name
+returns-in_err-name c =
+    steps _ c.in_ok-modifiers.ensures (steps _ c.in_ok-width.ensures (stops _ c.in_err-name.ensures (handed c.from_residual-in_err-name.ensures.1)))
 
-pub returns-clause-answers : goal.returns-clause-answers
-returns-clause-answers c =
-    steps _ c.in_ok-modifiers.ensures (steps _ c.in_ok-width.ensures.answers (steps _ c.in_ok-name.ensures.answers gives))
+pub returns : goal.returns
+returns c =
+    steps _ c.in_ok-modifiers.ensures (steps _ c.in_ok-width.ensures (steps _ c.in_ok-name.ensures gives))
