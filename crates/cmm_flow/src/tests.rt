@@ -83,29 +83,48 @@ fn procedure(
     })
 }
 
-/// `f() { bits64 i, s; loop: if i < 4 { s = s + i * i; i = i + 1; goto loop; } return (s); }`
-fn sum_of_squares(alloc: Global) -> Result<Proc, AllocError> {
-    let square = binary(alloc, Op2::Mul, local(0), local(0))?;
-    let sum = binary(alloc, Op2::Add, local(1), square)?;
-    let following = binary(alloc, Op2::Add, local(0), word(1))?;
+/// The assignment of a sum to a variable.
+fn assign_sum(
+    alloc: Global,
+    to: u32,
+    left: Expression,
+    right: Expression,
+) -> Result<Form, AllocError> {
+    let sum = binary(alloc, Op2::Add, left, right)?;
+    assign(alloc, to, sum)
+}
+
+/// `i < 4`
+fn is_below_four(alloc: Global) -> Result<Condition, AllocError> {
     let left = Boxed::new(alloc, local(0))?;
     let right = Boxed::new(alloc, word(4))?;
-    let condition = Condition::Compare(Cmp::Ltu, Width::W64, left, right);
-    let then = Items::from_vec(vec![in alloc;
-        statement(8, assign(alloc, 1, sum)?),
-        statement(6, assign(alloc, 0, following)?),
-        statement(3, Form::Goto(0)),
-    ]?);
+    Ok(Condition::Compare(Cmp::Ltu, Width::W64, left, right))
+}
+
+/// `s = s + i * i; i = i + 1; goto loop;`
+fn turn(alloc: Global) -> Result<Items<Statement>, AllocError> {
+    let square = binary(alloc, Op2::Mul, local(0), local(0))?;
+    let sum = assign_sum(alloc, 1, local(1), square)?;
+    let following = assign_sum(alloc, 0, local(0), word(1))?;
+    let mut statements = Items::new(alloc);
+    statements.push(statement(8, sum))?;
+    statements.push(statement(6, following))?;
+    statements.push(statement(3, Form::Goto(0)))?;
+    Ok(statements)
+}
+
+/// `f() { bits64 i, s; loop: if i < 4 { s = s + i * i; i = i + 1; goto loop; } return (s); }`
+fn sum_of_squares(alloc: Global) -> Result<Proc, AllocError> {
     let branch = Form::If {
-        condition,
-        then,
+        condition: is_below_four(alloc)?,
+        then: turn(alloc)?,
         otherwise: Items::new(alloc),
     };
-    let body = Items::from_vec(vec![in alloc;
-        statement(2, Form::Label(0)),
-        statement(6, branch),
-        statement(5, returns(alloc, local(1))?),
-    ]?);
+    let result = returns(alloc, local(1))?;
+    let mut body = Items::new(alloc);
+    body.push(statement(2, Form::Label(0)))?;
+    body.push(statement(6, branch))?;
+    body.push(statement(5, result))?;
     procedure(alloc, 40, 0, 2, Items::new(alloc), Items::new(alloc), body)
 }
 
@@ -161,11 +180,10 @@ fn caller(alloc: Global) -> Result<Proc, AllocError> {
 }
 
 #[test]
-fn graphs_of_procedures(rt: HostRuntime) -> Result<(), Fail> {
-    let alloc = rt.alloc();
-    let looping = flow(alloc, &sum_of_squares(alloc)?)?;
-    assert!(rt; looping.valid());
-    let text = format!(in alloc; "{looping}")?;
+fn graph_of_a_loop(rt: HostRuntime) -> Result<(), Fail> {
+    let graph = flow(rt.alloc(), &sum_of_squares(rt.alloc())?)?;
+    assert!(rt; graph.valid());
+    let text = format!(in rt.alloc(); "{graph}")?;
     assert_eq!(rt;
         text.as_str(),
         "from n9, 2 variables, 2 temporaries\n\
@@ -180,9 +198,14 @@ fn graphs_of_procedures(rt: HostRuntime) -> Result<(), Fail> {
         n8: goto n7\n\
         n9: entry () -> n8\n"
     );
-    let calling = flow(alloc, &caller(alloc)?)?;
-    assert!(rt; calling.valid());
-    let text = format!(in alloc; "{calling}")?;
+    Ok(())
+}
+
+#[test]
+fn graph_of_a_caller(rt: HostRuntime) -> Result<(), Fail> {
+    let graph = flow(rt.alloc(), &caller(rt.alloc())?)?;
+    assert!(rt; graph.valid());
+    let text = format!(in rt.alloc(); "{graph}")?;
     assert_eq!(rt;
         text.as_str(),
         "from n10, 1 variables, 0 temporaries\n\
