@@ -181,7 +181,7 @@ greater_alignment a b h k = elim (cases_lt a b) [
   | inr not_less ↦ subst (λ n. is_alignment n ≡ true) (let e : a ≡ max a b = omega arith in e) h
 ]
 
-piece_alignment : (s : Scope) (form : RoomForm) (token : ℕ) → is_alignment (room_piece s record { token = token; form = form }).align ≡ true
+pub piece_alignment : (s : Scope) (form : RoomForm) (token : ℕ) → is_alignment (room_piece s record { token = token; form = form }).align ≡ true
 piece_alignment s (rooms.Label name) token = refl
 piece_alignment s (rooms.Align k) token = own_alignment (is_alignment k.value) k.value refl
 piece_alignment s (rooms.Data width size) token = bytes_alignment (if_ok (type_width (types s) width))
@@ -191,7 +191,7 @@ label_by s (rooms.Label name) token rs later = later
 label_by s (rooms.Align k) token rs later = greater_alignment (room_piece s record { token = token; form = rooms.Align k }).align (label_alignment s rs) (piece_alignment s (rooms.Align k) token) later
 label_by s (rooms.Data width size) token rs later = piece_alignment s (rooms.Data width size) token
 
-label_aligned : (s : Scope) (rs : List Room) → is_alignment (label_alignment s rs) ≡ true
+pub label_aligned : (s : Scope) (rs : List Room) → is_alignment (label_alignment s rs) ≡ true
 label_aligned s [] = refl
 label_aligned s (r ∷ rs) = label_by s r.form r.token rs (label_aligned s rs)
 

@@ -24,3 +24,6 @@ pub mod SiteParts
 pub mod Sums
 pub mod ProgramLimits
 pub mod Leading
+pub mod Aligning
+pub mod Rooms
+pub mod Short

@@ -5,7 +5,8 @@ use Rattle.std.specs.Option.{is_some}
 use Rattle.cmm_ast.specs.declared.unit.Unit.{Unit as UnitTree}
 use Rattle.cmm_program.specs.declared.procedure.Proc.{Proc}
 use Rattle.cmm_program.specs.declared.statement.Form.{Form}
-use Rattle.cmm_program.specs.InRange.{below, is_continuation, is_item, is_site}
+use Rattle.cmm_program.specs.InRange.{below, is_continuation, is_item, is_name, is_site}
+use Rattle.cmm_program.specs.Layout.{stackdata_size}
 use Rattle.cmm_program.specs.Bodies.{AtLabel, after_inside, body_statements}
 use Rattle.cmm_program.specs.declared.statement.Form.TheVariants.{Cut, Goto, Span}
 use Rattle.cmm_program.specs.Numbering.{AreNumbered, body_numbers, label_number, continuation_number, site_number}
@@ -92,3 +93,15 @@ leads q _ = true
 
 abbrev pub WaysAreThere : Type 0
 WaysAreThere = (us : List UnitTree) → AreAccepted us → All (λ q. IsTrue (list_all (λ st. leads q st.form) (body_statements q))) (meaning_of us).procs
+
+-- the stackdata of each procedure of accepted units takes at most 64 KiB
+abbrev pub StackdataFits : Type 0
+StackdataFits = (us : List UnitTree) → AreAccepted us → All (λ q. stackdata_size q.stack ≤ 65536) (meaning_of us).procs
+
+-- names and kinds of variables have at most 255 bytes
+pub record NamesShort (q : Proc) : Type 0 where
+  pub name : IsTrue (is_name q.name)
+  pub kinds : IsTrue (list_all (λ v. is_name v.kind) q.vars)
+
+abbrev pub NamesAreShort : Type 0
+NamesAreShort = (us : List UnitTree) → AreAccepted us → All NamesShort (meaning_of us).procs

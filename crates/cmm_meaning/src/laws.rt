@@ -1,7 +1,7 @@
 //! What holds of the program that units mean. Each law is the contract of a function that does nothing. Together they are most of what makes a
 //! program in range. What its statements compute with, its data, and counts of tokens against the shortest text are still to come.
 
-ghost use Rattle.cmm_meaning.specs.Laws.{LimitsAreKept, MarksAreInOrder, NamesAreThere, ScopesFit, SitesAreInOrder, SitesAreThere, WaysAreThere, WidthsAreKept};
+ghost use Rattle.cmm_meaning.specs.Laws.{LimitsAreKept, MarksAreInOrder, NamesAreShort, NamesAreThere, ScopesFit, SitesAreInOrder, SitesAreThere, StackdataFits, WaysAreThere, WidthsAreKept};
 
 /// In the program of any units, the call sites of a procedure stand in its body once each, in textual order, from number 0 on.
 pub fn sites_are_in_order()
@@ -48,4 +48,14 @@ pub fn sites_are_there()
 /// In the program of accepted units, a `goto` leads to a label that stands in its procedure, and a cut statement to continuations of it.
 pub fn ways_are_there()
     ensures { WaysAreThere }
+{}
+
+/// In the program of accepted units, the stackdata of each procedure takes at most 64 KiB, with its labels where what comes behind them stands.
+pub fn stackdata_fits()
+    ensures { StackdataFits }
+{}
+
+/// In the program of accepted units, the name of a procedure and the kind of each of its variables have at most 255 bytes.
+pub fn names_are_short()
+    ensures { NamesAreShort }
 {}
