@@ -43,7 +43,7 @@ fn call(
 }
 
 /// Units and what the log must say of each.
-const UNITS: [(&str, &str); 56] = [
+const UNITS: [(&str, &str); 57] = [
     ("export main; main() { return (2 + 3); }", "result 5\n"),
     (
         "export main; main() { return (0 - 1); }",
