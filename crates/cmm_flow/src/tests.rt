@@ -1,12 +1,11 @@
-//! The graphs of two procedures, as text.
+//! The graph of a procedure, as text.
 
 use super::*;
 use cmm_items::{Boxed, Items};
 use cmm_program::{
-    Arm, Case, Condition, Cont, Expression, Form, Lvalue, Proc, Range, Site, Statement, Target,
-    VarInfo,
+    Arm, Case, Cont, Expression, Form, Lvalue, Proc, Range, Site, Statement, Target, VarInfo,
 };
-use cmm_words::{Cmp, Constant, Name, Op2, Width};
+use cmm_words::{Constant, Name, Op2, Width};
 use std::alloc::{AllocError, Global};
 use std::test::Fail;
 
@@ -83,51 +82,6 @@ fn procedure(
     })
 }
 
-/// The assignment of a sum to a variable.
-fn assign_sum(
-    alloc: Global,
-    to: u32,
-    left: Expression,
-    right: Expression,
-) -> Result<Form, AllocError> {
-    let sum = binary(alloc, Op2::Add, left, right)?;
-    assign(alloc, to, sum)
-}
-
-/// `i < 4`
-fn is_below_four(alloc: Global) -> Result<Condition, AllocError> {
-    let left = Boxed::new(alloc, local(0))?;
-    let right = Boxed::new(alloc, word(4))?;
-    Ok(Condition::Compare(Cmp::Ltu, Width::W64, left, right))
-}
-
-/// `s = s + i * i; i = i + 1; goto loop;`
-fn turn(alloc: Global) -> Result<Items<Statement>, AllocError> {
-    let square = binary(alloc, Op2::Mul, local(0), local(0))?;
-    let sum = assign_sum(alloc, 1, local(1), square)?;
-    let following = assign_sum(alloc, 0, local(0), word(1))?;
-    let mut statements = Items::new(alloc);
-    statements.push(statement(8, sum))?;
-    statements.push(statement(6, following))?;
-    statements.push(statement(3, Form::Goto(0)))?;
-    Ok(statements)
-}
-
-/// `f() { bits64 i, s; loop: if i < 4 { s = s + i * i; i = i + 1; goto loop; } return (s); }`
-fn sum_of_squares(alloc: Global) -> Result<Proc, AllocError> {
-    let branch = Form::If {
-        condition: is_below_four(alloc)?,
-        then: turn(alloc)?,
-        otherwise: Items::new(alloc),
-    };
-    let result = returns(alloc, local(1))?;
-    let mut body = Items::new(alloc);
-    body.push(statement(2, Form::Label(0)))?;
-    body.push(statement(6, branch))?;
-    body.push(statement(5, result))?;
-    procedure(alloc, 40, 0, 2, Items::new(alloc), Items::new(alloc), body)
-}
-
 /// `f(bits64 x) { x = p1(x) also returns to k; switch x { case 0..9: { x = 1; } default: { x = x + 2; } } return (x);
 /// continuation k(x): jump p1(x); }`
 fn caller(alloc: Global) -> Result<Proc, AllocError> {
@@ -177,28 +131,6 @@ fn caller(alloc: Global) -> Result<Proc, AllocError> {
     let conts = Items::from_vec(vec![in alloc; continuation]?);
     let sites = Items::from_vec(vec![in alloc; site]?);
     procedure(alloc, 61, 1, 1, conts, sites, body)
-}
-
-#[test]
-fn graph_of_a_loop(rt: HostRuntime) -> Result<(), Fail> {
-    let graph = flow(rt.alloc(), &sum_of_squares(rt.alloc())?)?;
-    assert!(rt; graph.valid());
-    let text = format!(in rt.alloc(); "{graph}")?;
-    assert_eq!(rt;
-        text.as_str(),
-        "from n9, 2 variables, 2 temporaries\n\
-        n0: goto n7\n\
-        n1: goto n2\n\
-        n2: stop\n\
-        n3: return 0/0 (v1:64)\n\
-        n4: v0 = add.64 v0, 1 -> n0\n\
-        n5: v1 = add.64 v1, t1 -> n4\n\
-        n6: t1 = mul.64 v0, v0 -> n5\n\
-        n7: if ltu.64 v0, 4 -> n6 else n3\n\
-        n8: goto n7\n\
-        n9: entry () -> n8\n"
-    );
-    Ok(())
 }
 
 #[test]
