@@ -5,4 +5,6 @@ mod Finding
 mod Samples
 mod RunRows
 mod EventRows
+mod OneClient
+mod StoreRows
 pub mod Shared

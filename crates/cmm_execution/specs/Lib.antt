@@ -7,3 +7,4 @@ pub mod Changes
 pub mod Machine
 pub mod Observed
 pub mod Laws
+pub mod Clients
