@@ -75,11 +75,11 @@ module _ (s : Setting) where
   parts_of : (a : Activation) (here : Suspended) → suspended_at s (a ∷ []) ≡ Some here → (here.activation ≡ a) × (procedure_at s a.procedure ≡ Some here.procedure)
   parts_of a here is =
       let site = some_by a.site (λ n. with_some (procedure_at s a.procedure) (λ p. with_some (slice_get p.sites n) (λ site.
-          let there : Suspended = record { activation = a; procedure = p; number = n; site = site } in Some there))) here is in
+      let there : Suspended = record { activation = a; procedure = p; number = n; site = site } in Some there))) here is in
       let proc = some_by (procedure_at s a.procedure) (λ p. with_some (slice_get p.sites site.0) (λ t.
-          let there : Suspended = record { activation = a; procedure = p; number = site.0; site = t } in Some there)) here site.2 in
+      let there : Suspended = record { activation = a; procedure = p; number = site.0; site = t } in Some there)) here site.2 in
       let at = some_by (slice_get proc.0.sites site.0) (λ t.
-          let there : Suspended = record { activation = a; procedure = proc.0; number = site.0; site = t } in Some there) here proc.2 in
+      let there : Suspended = record { activation = a; procedure = proc.0; number = site.0; site = t } in Some there) here proc.2 in
       let same = same_Some _ here at.2 in
       (sym (ap (λ (h : Suspended). h.activation) same), proc.1 ∙ ap (λ (h : Suspended). Some h.procedure) same)
 
@@ -244,7 +244,7 @@ module _ (s : Setting) (log : List ℕ) (store : Store) where
       let found : Found = record { younger = n; procedure = a.procedure; continuation = k } in
       let exit : found_exit s found ≡ Some there.0 = ap (λ (o : Option Proc). with_some {A = Proc} {B = exits.Exit} o (λ p. continuation_exit p k)) at ∙ there.1 in
       subst (λ (x : Option exits.Exit). Alike (elim (exit_by store (located n here) x) as (λ _. Asked Located Store Landed) [ Some e ↦ client.resumed (Some e) values | None ↦ more ])
-          (machine.resumed n (found_exit s found) values (with_log log store))) (sym there.1)
+      (machine.resumed n (found_exit s found) values (with_log log store))) (sym there.1)
       (subst (λ (x : Option exits.Exit). Alike (client.resumed (exit_by store (located n here) (Some there.0)) values) (machine.resumed n x values (with_log log store))) (sym exit)
       (resumed_alike (located n here) (Some there.0) values))
 
@@ -271,9 +271,9 @@ module _ (s : Setting) (log : List ℕ) (store : Store) where
       let q = λ (k : ℕ). continuation_value s (a ∷ older) k == to in
       let next = λ (found : Found). machine.resumed found.younger (found_exit s found) values (with_log log store) in
       subst (λ (xs : List Activation).
-          Alike (elim (with_some (find (λ k. continuation_value s xs k == to) here.site.cuts) (λ k. exit_by store (located n here) (continuation_exit here.procedure k)))
-              as (λ _. Asked Located Store Landed) [ Some e ↦ client.resumed (Some e) values | None ↦ client.cut (store_askable s) store to values None ys ])
-          (given (cut_among s n here.site.cuts to (a ∷ older)) NoCut next)) (sym is)
+      Alike (elim (with_some (find (λ k. continuation_value s xs k == to) here.site.cuts) (λ k. exit_by store (located n here) (continuation_exit here.procedure k)))
+      as (λ _. Asked Located Store Landed) [ Some e ↦ client.resumed (Some e) values | None ↦ client.cut (store_askable s) store to values None ys ])
+      (given (cut_among s n here.site.cuts to (a ∷ older)) NoCut next)) (sym is)
       (cut_step n a here (find q here.site.cuts) values (client.cut (store_askable s) store to values None ys)
       (cut_among s (suc n) (site_cuts s older) to older) (parts_of s a here at).1
       (λ k found. found_passes (λ k. nat_lt k (length here.procedure.conts)) q here.site.cuts k inside found) alike)
@@ -330,7 +330,7 @@ module _ (s : Setting) (log : List ℕ) (store : Store) where
 
     seek_alike : (rest : List Activation) (n token value : ℕ) → drop n store.activations ≡ rest → AreSuspended s rest →
         Alike (given (with_some (suspended_at s rest) (λ a. Some (located n a))) NoActivation
-            (λ a. client.sought (store_askable s) store token value None (a ∷ all_located s (suc a.younger) (drop (suc a.younger) store.activations))))
+        (λ a. client.sought (store_askable s) store token value None (a ∷ all_located s (suc a.younger) (drop (suc a.younger) store.activations))))
         (machine.sought s token value n rest (with_log log store))
     seek_alike [] n token value is all = refl
     seek_alike (a ∷ older) n token value is all =
@@ -346,7 +346,7 @@ module _ (s : Setting) (log : List ℕ) (store : Store) where
     variable_alike n k here f g is alike =
         let values = values_here s (drop n store.activations) here is in
         let whole = ap (λ (vs : List ℕ). slice_get (variables_shown here.procedure here.number vs 0 here.procedure.vars) k) values
-            ∙ shown_of here.procedure here.number here.activation.variables k here.procedure.vars in
+        ∙ shown_of here.procedure here.number here.activation.variables k here.procedure.vars in
         subst (λ (o : Option Shown). Alike (given o NoVariable f) (given (machine.variable_info here k) NoVariable g)) (sym whole)
         (given_alike NoVariable (slice_get here.procedure.vars k) (variable_shown here.procedure here.number here.activation.variables k) f g alike)
 
@@ -367,10 +367,10 @@ module _ (s : Setting) (log : List ℕ) (store : Store) where
     set_alike : (n k value : ℕ) (here : Suspended) (v : VarInfo) → at_cursor s n store ≡ Some here → slice_get here.procedure.vars k ≡ Some v →
         let variable = variable_shown here.procedure here.number here.activation.variables k v in
         Alike (provided (not (is_invariant (located n here) k)) InvariantVariable
-            (given variable.value DeadVariable (λ old. provided (nat_lt value (2 ^ variable.width)) DoesNotFit
-            (says ok_line (at_number s n store) (with_variable store (located n here) k value)))))
+        (given variable.value DeadVariable (λ old. provided (nat_lt value (2 ^ variable.width)) DoesNotFit
+        (says ok_line (at_number s n store) (with_variable store (located n here) k value)))))
         (provided (not v.invariant) InvariantVariable (provided (is_live_at here.procedure here.number k) DeadVariable
-            (provided (machine.fits v.width value) DoesNotFit (Ok (machine.set_done n k value (with_log log store))))))
+        (provided (machine.fits v.width value) DoesNotFit (Ok (machine.set_done n k value (with_log log store))))))
     set_alike n k value here v is there =
         let invariant = ap (λ (o : Option VarInfo). elim o as (λ _. Bool) [ Some info ↦ info.invariant | None ↦ false ]) there in
         may_change _ v.invariant _ _ invariant (
@@ -385,10 +385,10 @@ module _ (s : Setting) (log : List ℕ) (store : Store) where
 
     poke_alike : (n offset value : ℕ) (o : Option Label) →
         Alike (given (with_some o (λ l. let address = label_address s.program l + offset in
-            elim (machine.may_poke store.memory.data_room address) as (λ _. Option Store) [
-              | true ↦ Some record store { memory = with_bytes store.memory address (bytes_of 8 value) }
-              | false ↦ None
-            ])) NoPlace (says ok_line (at_number s n store)))
+        elim (machine.may_poke store.memory.data_room address) as (λ _. Option Store) [
+          | true ↦ Some record store { memory = with_bytes store.memory address (bytes_of 8 value) }
+          | false ↦ None
+        ])) NoPlace (says ok_line (at_number s n store)))
         (given o NoPlace (λ l. machine.poked n (label_address s.program l + offset) value (with_log log store)))
     poke_alike n offset value (Some l) = let address = label_address s.program l + offset in
         poke_at n (machine.may_poke store.memory.data_room address) (record store { memory = with_bytes store.memory address (bytes_of 8 value) }) refl

@@ -53,8 +53,9 @@ yielding = record {
 -- both are suspended, as the law wants it
 both_suspended : AreSuspended told yielding.activations
 both_suspended = (
-    record { here = record { activation = youngest; procedure = told-f; number = 0; site = yield_site [] 1 }; is = refl; cuts = refl },
-    (record { here = record { activation = oldest; procedure = told-main; number = 0; site = record (call_site (0 ∷ [])) { cuts = 0 ∷ [] } }; is = refl; cuts = refl }, tt))
+  record { here = record { activation = youngest; procedure = told-f; number = 0; site = yield_site [] 1 }; is = refl; cuts = refl },
+  (record { here = record { activation = oldest; procedure = told-main; number = 0; site = record (call_site (0 ∷ [])) { cuts = 0 ∷ [] } }; is = refl; cuts = refl }, tt),
+)
 
 abbrev answer : List Command → Answer Store Landed
 answer commands = answer_of (store_askable told) (1 ∷ []) [] (at_number told 0 yielding) yielding commands

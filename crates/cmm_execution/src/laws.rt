@@ -1,4 +1,4 @@
-//! Laws of runs and of chains: each is the contract of a function that does nothing.
+//! Laws of runs, of chains and of clients: each is the contract of a function that does nothing.
 ghost use Rattle.cmm_execution.specs.Clients.{AnswersAreAlike, CommandsAreAlike, RunsAreAlike};
 ghost use Rattle.cmm_execution.specs.Laws.{ChainGoesOn, ElementsFit, EndsOnce, ImagesKeepFrames, ImagesLast, InputIsKept, OverStays, RunGrows, RunsAreTheMachine, SitesAreFound, StepGrows, WalkReadsTheStack};
 
