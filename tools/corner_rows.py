@@ -1,10 +1,10 @@
 #!/usr/bin/env python3
-"""Prints the rows of crates/cmm_words/src/tests/corners.rt: each operator on corner operands at each width.
+"""Prints the rows of crates/base_tests/src/words/corners.rt: each operator on corner operands at each width.
 
 The values are those of Python's integers, by the table of operators of the C-- Language Specification 2.0: a word of
 w bits is a number below 2**w, its signed reading is less by 2**w where the top bit is set, and each result is taken
 modulo 2**w. Python's // rounds down; a quotient rounded toward zero is found from the absolute values.
-Run: python3 tools/corner_rows.py > crates/cmm_words/src/tests/corners.rt, and then rt fmt in crates/cmm_words.
+Run: python3 tools/corner_rows.py > crates/base_tests/src/words/corners.rt, and then rt fmt in crates/base_tests.
 """
 
 WIDTHS = (8, 16, 32, 64)
@@ -69,7 +69,7 @@ def main():
     print("//! Made by tools/corner_rows.py, which has the operators over Python's integers.")
     print()
     print("use super::Row;")
-    print("use crate::Width;")
+    print("use cmm_words::Width;")
     print()
     rows = [(w, a, b) for w in WIDTHS for a, b in operands(w)]
     print(f"pub static ROWS: [Row; {len(rows)}] = rows! {{")

@@ -1,7 +1,7 @@
 #!/usr/bin/env python3
 """The bytes of an image with a field of every kind, written from the format's table with `struct`, and where each field begins.
 
-Usage: tools/image_bytes.py. It prints the tables `BYTES` and `FIELDS` of crates/cmm_image/src/tests.rt.
+Usage: tools/image_bytes.py. It prints the tables `BYTES` and `FIELDS` of crates/back_tests/src/image.rt.
 """
 import struct
 

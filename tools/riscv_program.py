@@ -1,7 +1,7 @@
 #!/usr/bin/env python3
-"""Makes the program that crates/rv_sim runs in its tests: its bytes by the GNU assembler, the data that it leaves by QEMU.
+"""Makes the program that the tests of crates/rv_sim run: its bytes by the GNU assembler, the data that it leaves by QEMU.
 
-    tools/riscv_program.py            writes crates/rv_sim/src/tests/program.rt (run rt fmt in crates/rv_sim after)
+    tools/riscv_program.py            writes crates/run_tests/src/sim/program.rt (run rt fmt in crates/run_tests after)
     tools/riscv_program.py --check    compares what it makes with that file
 
 Where the assembler or the emulator is missing it says so and ends with status 0.
@@ -190,7 +190,7 @@ pub static AFTER: [u8; {len(after)}] = [{", ".join(str(b) for b in after)}];
 
 
 def made_files(folder):
-    return {"crates/rv_sim/src/tests/program.rt": made(folder)}
+    return {"crates/run_tests/src/sim/program.rt": made(folder)}
 
 
 sys.exit(write_or_compare(made_files))

@@ -1,7 +1,7 @@
 #!/usr/bin/env python3
 """Makes the table of single steps that crates/rv_sim tries: words by the GNU assembler, what they do by QEMU.
 
-    tools/riscv_steps.py            writes crates/rv_sim/src/tests/rows.rt (run rt fmt in crates/rv_sim after)
+    tools/riscv_steps.py            writes crates/run_tests/src/sim/rows.rt (run rt fmt in crates/run_tests after)
     tools/riscv_steps.py --check    compares what it makes with that file
 
 Where the assembler or the emulator is missing it says so and ends with status 0.
@@ -155,7 +155,7 @@ def access_line(word, first, second, written, cell):
 
 def made_files(folder):
     return {
-        "crates/rv_sim/src/tests/rows.rt": f"""//! Single steps by the GNU assembler and QEMU, made by tools/riscv_steps.py.
+        "crates/run_tests/src/sim/rows.rt": f"""//! Single steps by the GNU assembler and QEMU, made by tools/riscv_steps.py.
 
 /// A register and its value.
 type Held = (u8, u64);

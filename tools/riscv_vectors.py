@@ -1,7 +1,7 @@
 #!/usr/bin/env python3
 """Makes the outside vectors of crates/rv_code: words by the GNU assembler, results by QEMU.
 
-    tools/riscv_vectors.py            writes crates/rv_code/src/tests/words.rt and results.rt (run rt fmt in crates/rv_code after)
+    tools/riscv_vectors.py            writes crates/back_tests/src/code/words.rt and results.rt (run rt fmt in crates/back_tests after)
     tools/riscv_vectors.py --check    compares what it makes with those files
 
 Where the assembler or the emulator is missing it says so and ends with status 0.
@@ -166,7 +166,7 @@ def results_file(folder):
 
 
 def made_files(folder):
-    tests = "crates/rv_code/src/tests/"
+    tests = "crates/back_tests/src/code/"
     return {tests + "words.rt": words_file(folder), tests + "results.rt": results_file(folder)}
 
 

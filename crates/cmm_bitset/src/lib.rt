@@ -12,8 +12,6 @@
 pub mod bit_set;
 pub mod laws;
 pub mod members;
-#[cfg(test)]
-mod tests;
 mod words;
 
 pub use bit_set::BitSet;

@@ -7,3 +7,4 @@ mod Waiting
 mod Layable
 mod Images
 mod Rows
+pub mod Shared

@@ -18,6 +18,3 @@ mod layout;
 
 pub use fix::{Fix, fill};
 pub use layout::{DataImage, lay_out};
-
-#[cfg(test)]
-mod tests;

@@ -36,6 +36,3 @@ mod simple;
 mod sites;
 
 pub use procedure::flow;
-
-#[cfg(test)]
-mod tests;

@@ -31,6 +31,3 @@ pub use graph::Graph;
 pub use node::{Arm, Exits, HostCall, Node, NodeKind};
 pub use number::{ContinuationId, NodeId, Register, SiteId, StackLabel, Temporary, Variable};
 pub use operand::{Argument, Comparison, Destination, Local, Operand, Rvalue};
-
-#[cfg(test)]
-mod tests;

@@ -45,6 +45,3 @@ pub use rows::{
     SpanRow, StackLabelRow, UnwindRow, VariableNumber, VariablePlace, VariableRow,
 };
 pub use writing::write_image;
-
-#[cfg(test)]
-mod tests;

@@ -14,6 +14,3 @@ mod items;
 
 pub use boxed::Boxed;
 pub use items::Items;
-
-#[cfg(test)]
-mod tests;

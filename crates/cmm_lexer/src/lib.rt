@@ -20,8 +20,6 @@ mod number;
 mod piece;
 mod spelling;
 mod symbol;
-#[cfg(test)]
-mod tests;
 mod token;
 mod tokens;
 

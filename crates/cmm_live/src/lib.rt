@@ -29,6 +29,3 @@ mod worklist;
 
 pub use live_sets::{LiveSets, liveness};
 pub use locals::number_of;
-
-#[cfg(test)]
-mod tests;

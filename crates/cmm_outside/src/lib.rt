@@ -23,12 +23,6 @@ pub mod output;
 mod place;
 pub mod standard;
 pub mod storage;
-#[cfg(test)]
-mod system_tests;
-#[cfg(test)]
-mod tests;
-#[cfg(test)]
-mod troubled_files;
 
 pub use input::Source;
 pub use memory_files::MemFiles;

@@ -7,8 +7,6 @@
 #![tactic(auto)]
 
 mod peeling;
-#[cfg(test)]
-mod tests;
 mod users;
 mod waiting;
 

@@ -22,4 +22,3 @@ mod Storing
 mod StoreRows
 mod Flowing
 mod LiveRows
-mod PlacedRows

@@ -26,6 +26,3 @@ pub use placement::{PlaceRow, Placement};
 pub use procedure::{Cont, Proc, Site, StackItem, Target, VarInfo};
 pub use program::{Datum, Global, Label, Program};
 pub use statement::{Arm, Case, Form, Lvalue, Range, Statement};
-
-#[cfg(test)]
-mod tests;

@@ -12,9 +12,6 @@ ghost use Rattle.cmm_script.specs.Kinds.{is_plain as is_plain_byte, kind_byte, k
 use cmm_outside::{Failed, Sink, write_all};
 use itoa::Buffer;
 
-#[cfg(test)]
-mod tests;
-
 /// Writes a number in decimal, without leading zeros.
 pub fn put_number<E: Sink>(to: &mut E, n: u64) -> Result<(), Failed>
     ensures { WritesAll E.taken E.faults to.old to.new (decimal n) result }

@@ -11,6 +11,3 @@ pub mod laws;
 mod rule;
 
 pub use rule::{Phase, Rule};
-
-#[cfg(test)]
-mod tests;

@@ -14,8 +14,6 @@ mod fault;
 mod host;
 mod linking;
 mod target;
-#[cfg(test)]
-mod tests;
 mod typed;
 mod unit;
 mod unit_names;

@@ -20,8 +20,6 @@ mod line;
 mod run;
 mod status;
 mod term;
-#[cfg(test)]
-mod tests;
 mod top;
 
 pub use first::{Fault, FirstFault, compile_first};

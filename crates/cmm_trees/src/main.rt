@@ -4,9 +4,6 @@
 //! are no units; `stdout` has what `tools/parser_oracle.py` prints for them, a recognizer that knows nothing of the parser.
 #![tactic(auto)]
 
-#[cfg(test)]
-mod limit_tests;
-
 use cmm_lexer::lex;
 use cmm_parser::parse;
 use std::io;

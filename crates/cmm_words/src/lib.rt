@@ -37,6 +37,3 @@ pub use name::Name;
 pub use operators::{Cmp, Op1, Op2};
 pub use quoted::Quoted;
 pub use width::Width;
-
-#[cfg(test)]
-mod tests;

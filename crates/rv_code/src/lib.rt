@@ -18,6 +18,3 @@ pub mod laws;
 pub use bytes::bytes_of;
 pub use decoding::decode;
 pub use encoding::encode;
-
-#[cfg(test)]
-mod tests;

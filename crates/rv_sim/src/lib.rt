@@ -13,6 +13,3 @@ mod instruction;
 
 pub use event::Event;
 pub use instruction::step;
-
-#[cfg(test)]
-mod tests;
