@@ -5,6 +5,8 @@ use Rattle.std.proofs.lemmas.Bool.{and_parts, or_cases}
 use Rattle.cmm_words.specs.declared.constant.Constant.{Constant}
 use Rattle.cmm_words.specs.declared.constant.Constant.TheVariants.{Number, Code, Address}
 use Rattle.cmm_ast.specs.declared.token.Ident.{Ident}
+use Rattle.cmm_ast.specs.declared.expression.Expr.{Expr}
+use Rattle.cmm_ast.specs.declared.expression.TypeName.{TypeName}
 use Rattle.cmm_ast.specs.declared.declaration.DeclForm.{DeclForm}
 use Rattle.cmm_ast.specs.declared.declaration.DeclForm.TheVariants as decls
 use Rattle.cmm_ast.specs.declared.declaration.Export.{Export}
@@ -29,7 +31,7 @@ abbrev pub EachEntry : (Entry → Type 0) → List (Declared Entry) → Type 0
 EachEntry P [] = Unit {0}
 EachEntry P (d ∷ ds) = P d.as_what × EachEntry P ds
 
-entries_append : (P : Entry → Type 0) (xs ys : List (Declared Entry)) → EachEntry P xs → EachEntry P ys → EachEntry P (xs ++ ys)
+pub entries_append : (P : Entry → Type 0) (xs ys : List (Declared Entry)) → EachEntry P xs → EachEntry P ys → EachEntry P (xs ++ ys)
 entries_append P [] ys h k = k
 entries_append P (x ∷ xs) ys h k = (h.0, entries_append P xs ys h.1 k)
 
@@ -49,6 +51,32 @@ pub unit_each : (P : NamedUnit → Type 0) (earlier later : List NamedUnit) (u :
 unit_each P [] later u h = h.0
 unit_each P (e ∷ es) later u h = unit_each P es later u h.1
 
+-- ---- what has no number is kept by what says nothing of it
+
+-- what holds of everything that is no procedure and no data label
+pub record HoldsElsewhere (P : Entry → Type 0) : Type 0 where
+  pub typedef : (t : TypeName) → P (Typedef t)
+  pub const : (t : Option TypeName) (e : Expr) → P (Const t e)
+  pub register : (t : TypeName) → P (Register t)
+  pub import_ : (link : List ℕ) → P (Import link)
+
+module _ (P : Entry → Type 0) (elsewhere : HoldsElsewhere P) where
+  all_as : (e : Entry) (is : List Ident) → P e → EachEntry P (each_as e is)
+  all_as e [] h = tt
+  all_as e (i ∷ is) h = (h, all_as e is h)
+
+  imports_hold : (is : List ImportTree) → EachEntry P (map import_entry is)
+  imports_hold [] = tt
+  imports_hold (i ∷ is) = (elsewhere.import_ _, imports_hold is)
+
+  pub decl_holds : (form : DeclForm) → EachEntry P (decl_entries form)
+  decl_holds (decls.Import width imports) = imports_hold imports
+  decl_holds (decls.Export width exports) = tt
+  decl_holds (decls.Const width name value) = (elsewhere.const width value, tt)
+  decl_holds (decls.Typedef width names) = all_as (Typedef width) names (elsewhere.typedef width)
+  decl_holds (decls.Register invariant kind width names) = all_as (Register width) names (elsewhere.register width)
+  decl_holds (decls.Target properties) = tt
+
 -- ---- numbers of procedures and labels
 
 module _ (procedures labels : ℕ) where
@@ -60,21 +88,8 @@ module _ (procedures labels : ℕ) where
   EntryFits (Register t) = Unit {0}
   EntryFits (Import link) = Unit {0}
 
-  all_as : (e : Entry) (is : List Ident) → EntryFits e → EachEntry EntryFits (each_as e is)
-  all_as e [] h = tt
-  all_as e (i ∷ is) h = (h, all_as e is h)
-
-  imports_fit : (is : List ImportTree) → EachEntry EntryFits (map import_entry is)
-  imports_fit [] = tt
-  imports_fit (i ∷ is) = (tt, imports_fit is)
-
   decl_fits : (form : DeclForm) → EachEntry EntryFits (decl_entries form)
-  decl_fits (decls.Import width imports) = imports_fit imports
-  decl_fits (decls.Export width exports) = tt
-  decl_fits (decls.Const width name value) = (tt, tt)
-  decl_fits (decls.Typedef width names) = all_as (Typedef width) names tt
-  decl_fits (decls.Register invariant kind width names) = all_as (Register width) names tt
-  decl_fits (decls.Target properties) = tt
+  decl_fits form = decl_holds EntryFits (record { typedef = λ t. tt; const = λ t e. tt; register = λ t. tt; import_ = λ link. tt }) form
 
   datum_fits : (before : ℕ) (form : DatumForm) (token : ℕ) → before + labels_in (items.Datum record { token = token; form = form }) ≤ labels → EachEntry EntryFits (datum_entries before form)
   datum_fits before (data_forms.Label name) token below = (let h : before < labels = omega arith in h, tt)

@@ -27,3 +27,4 @@ pub mod Leading
 pub mod Aligning
 pub mod Rooms
 pub mod Short
+pub mod Starting

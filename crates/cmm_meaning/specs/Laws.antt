@@ -1,5 +1,5 @@
 -- What holds of the program that units mean.
-use Rattle.std.specs.Prelude.{◌≡◌, ℕ, ◌<◌, ◌≤◌, ◌&&◌, nat_le, Bool, true, IsTrue, All, List, [], length, sum_by, ◌*◌}
+use Rattle.std.specs.Prelude.{◌≡◌, ℕ, ◌<◌, ◌≤◌, ◌&&◌, nat_le, Bool, true, IsTrue, All, List, [], length, sum_by, ◌*◌, slice_get, Some}
 use Rattle.std.specs.List.{list_all, range_with_len}
 use Rattle.std.specs.Option.{is_some}
 use Rattle.cmm_ast.specs.declared.unit.Unit.{Unit as UnitTree}
@@ -105,3 +105,7 @@ pub record NamesShort (q : Proc) : Type 0 where
 
 abbrev pub NamesAreShort : Type 0
 NamesAreShort = (us : List UnitTree) → AreAccepted us → All NamesShort (meaning_of us).procs
+
+-- the procedure that the program starts with has no formals
+abbrev pub StartHasNoFormals : Type 0
+StartHasNoFormals = (us : List UnitTree) → AreAccepted us → (q : Proc) → slice_get (meaning_of us).procs (meaning_of us).main ≡ Some q → q.formals ≡ 0
