@@ -28,3 +28,4 @@ pub mod Aligning
 pub mod Rooms
 pub mod Short
 pub mod Starting
+pub mod Labels

@@ -40,16 +40,16 @@ use Rattle.cmm_meaning.proofs.Entries.{EachUnit}
 abbrev pub Short : List Ident → Type 0
 Short is = flat_map long_spots is ≡ []
 
-short_left : (xs ys : List Ident) → Short (xs ++ ys) → Short xs
+pub short_left : (xs ys : List Ident) → Short (xs ++ ys) → Short xs
 short_left xs ys h = no_left (flat_map long_spots xs) (flat_map long_spots ys) (sym (flat_map-append long_spots xs ys) ∙ h)
 
-short_right : (xs ys : List Ident) → Short (xs ++ ys) → Short ys
+pub short_right : (xs ys : List Ident) → Short (xs ++ ys) → Short ys
 short_right xs ys h = no_right (flat_map long_spots xs) (flat_map long_spots ys) (sym (flat_map-append long_spots xs ys) ∙ h)
 
-short_first : (i : Ident) (is : List Ident) → Short (i ∷ is) → is_name i.name ≡ true
+pub short_first : (i : Ident) (is : List Ident) → Short (i ∷ is) → is_name i.name ≡ true
 short_first i is h = no_unless (nat_le (length i.name) 255) Limit i.token (no_left (long_spots i) (flat_map long_spots is) h)
 
-short_rest : (i : Ident) (is : List Ident) → Short (i ∷ is) → Short is
+pub short_rest : (i : Ident) (is : List Ident) → Short (i ∷ is) → Short is
 short_rest i is h = no_right (long_spots i) (flat_map long_spots is) h
 
 -- ---- kinds of variables
@@ -126,7 +126,7 @@ units_short program unit (u ∷ us) h =
 
 -- ---- accepted units
 
-each_short : (all earlier : List NamedUnit) (number : ℕ) (us : List NamedUnit) → each_unit (name_spots all) earlier number us ≡ [] → EachUnit (λ u. Short (names_in u.items)) us
+pub each_short : (all earlier : List NamedUnit) (number : ℕ) (us : List NamedUnit) → each_unit (name_spots all) earlier number us ≡ [] → EachUnit (λ u. Short (names_in u.items)) us
 each_short all earlier number [] none = tt
 each_short all earlier number (u ∷ us) none = (
   no_right _ (flat_map long_spots (names_in u.items)) (first_unit (name_spots all) earlier number u us none),

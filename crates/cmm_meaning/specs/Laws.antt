@@ -5,7 +5,7 @@ use Rattle.std.specs.Option.{is_some}
 use Rattle.cmm_ast.specs.declared.unit.Unit.{Unit as UnitTree}
 use Rattle.cmm_program.specs.declared.procedure.Proc.{Proc}
 use Rattle.cmm_program.specs.declared.statement.Form.{Form}
-use Rattle.cmm_program.specs.InRange.{below, is_continuation, is_item, is_name, is_site}
+use Rattle.cmm_program.specs.InRange.{below, is_continuation, is_item, is_label, is_name, is_site}
 use Rattle.cmm_program.specs.Layout.{stackdata_size}
 use Rattle.cmm_program.specs.Bodies.{AtLabel, after_inside, body_statements}
 use Rattle.cmm_program.specs.declared.statement.Form.TheVariants.{Cut, Goto, Span}
@@ -109,3 +109,7 @@ NamesAreShort = (us : List UnitTree) → AreAccepted us → All NamesShort (mean
 -- the procedure that the program starts with has no formals
 abbrev pub StartHasNoFormals : Type 0
 StartHasNoFormals = (us : List UnitTree) → AreAccepted us → (q : Proc) → slice_get (meaning_of us).procs (meaning_of us).main ≡ Some q → q.formals ≡ 0
+
+-- each data label stands on a datum or behind one, and its name and link names have at most 255 bytes
+abbrev pub LabelsAreThere : Type 0
+LabelsAreThere = (us : List UnitTree) → AreAccepted us → IsTrue (list_all (is_label (meaning_of us)) (meaning_of us).labels)

@@ -1,7 +1,7 @@
 //! What holds of the program that units mean. Each law is the contract of a function that does nothing. Together they are most of what makes a
 //! program in range. What its statements compute with, its data, and counts of tokens against the shortest text are still to come.
 
-ghost use Rattle.cmm_meaning.specs.Laws.{LimitsAreKept, MarksAreInOrder, NamesAreShort, NamesAreThere, ScopesFit, SitesAreInOrder, SitesAreThere, StackdataFits, StartHasNoFormals, WaysAreThere, WidthsAreKept};
+ghost use Rattle.cmm_meaning.specs.Laws.{LabelsAreThere, LimitsAreKept, MarksAreInOrder, NamesAreShort, NamesAreThere, ScopesFit, SitesAreInOrder, SitesAreThere, StackdataFits, StartHasNoFormals, WaysAreThere, WidthsAreKept};
 
 /// In the program of any units, the call sites of a procedure stand in its body once each, in textual order, from number 0 on.
 pub fn sites_are_in_order()
@@ -63,4 +63,10 @@ pub fn names_are_short()
 /// In the program of accepted units, the procedure that the program starts with has no formals.
 pub fn start_has_no_formals()
     ensures { StartHasNoFormals }
+{}
+
+/// In the program of accepted units, each data label stands on a datum or behind one, and its name and the names under which it is exported have at
+/// most 255 bytes.
+pub fn labels_are_there()
+    ensures { LabelsAreThere }
 {}
