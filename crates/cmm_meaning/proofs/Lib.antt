@@ -29,3 +29,4 @@ pub mod Rooms
 pub mod Short
 pub mod Starting
 pub mod Labels
+pub mod RegisterNames

@@ -113,3 +113,6 @@ StartHasNoFormals = (us : List UnitTree) → AreAccepted us → (q : Proc) → s
 -- each data label stands on a datum or behind one, and its name and link names have at most 255 bytes
 abbrev pub LabelsAreThere : Type 0
 LabelsAreThere = (us : List UnitTree) → AreAccepted us → IsTrue (list_all (is_label (meaning_of us)) (meaning_of us).labels)
+
+abbrev pub RegisterNamesAreShort : Type 0
+RegisterNamesAreShort = (us : List UnitTree) → AreAccepted us → IsTrue (list_all (λ g. is_name g.name) (meaning_of us).globals)
