@@ -167,11 +167,11 @@ width_alignment W16 = refl
 width_alignment W32 = refl
 width_alignment W64 = refl
 
-bytes_alignment : (o : Option Width) → is_alignment (elim o as (λ x. ℕ) [ Some width ↦ bytes width | None ↦ 1 ]) ≡ true
+pub bytes_alignment : (o : Option Width) → is_alignment (elim o as (λ x. ℕ) [ Some width ↦ bytes width | None ↦ 1 ]) ≡ true
 bytes_alignment (Some w) = width_alignment w
 bytes_alignment None = refl
 
-own_alignment : (b : Bool) (k : ℕ) → is_alignment k ≡ b → is_alignment (elim b as (λ x. ℕ) [ true ↦ k | false ↦ 1 ]) ≡ true
+pub own_alignment : (b : Bool) (k : ℕ) → is_alignment k ≡ b → is_alignment (elim b as (λ x. ℕ) [ true ↦ k | false ↦ 1 ]) ≡ true
 own_alignment true k is = is
 own_alignment false k is = refl
 

@@ -30,3 +30,4 @@ pub mod Short
 pub mod Starting
 pub mod Labels
 pub mod RegisterNames
+pub mod DataSize

@@ -1,12 +1,12 @@
 -- What holds of the program that units mean.
-use Rattle.std.specs.Prelude.{◌≡◌, ℕ, ◌<◌, ◌≤◌, ◌&&◌, nat_le, Bool, true, IsTrue, All, List, [], length, sum_by, ◌*◌, slice_get, Some}
+use Rattle.std.specs.Prelude.{◌≡◌, ℕ, ◌+◌, ◌<◌, ◌≤◌, ◌&&◌, nat_le, Bool, true, IsTrue, All, List, [], length, sum_by, ◌*◌, slice_get, Some}
 use Rattle.std.specs.List.{list_all, range_with_len}
 use Rattle.std.specs.Option.{is_some}
 use Rattle.cmm_ast.specs.declared.unit.Unit.{Unit as UnitTree}
 use Rattle.cmm_program.specs.declared.procedure.Proc.{Proc}
 use Rattle.cmm_program.specs.declared.statement.Form.{Form}
 use Rattle.cmm_program.specs.InRange.{below, is_continuation, is_item, is_label, is_name, is_site}
-use Rattle.cmm_program.specs.Layout.{stackdata_size}
+use Rattle.cmm_program.specs.Layout.{end_before, stackdata_size}
 use Rattle.cmm_program.specs.Bodies.{AtLabel, after_inside, body_statements}
 use Rattle.cmm_program.specs.declared.statement.Form.TheVariants.{Cut, Goto, Span}
 use Rattle.cmm_program.specs.Numbering.{AreNumbered, body_numbers, label_number, continuation_number, site_number}
@@ -116,3 +116,7 @@ LabelsAreThere = (us : List UnitTree) → AreAccepted us → IsTrue (list_all (i
 
 abbrev pub RegisterNamesAreShort : Type 0
 RegisterNamesAreShort = (us : List UnitTree) → AreAccepted us → IsTrue (list_all (λ g. is_name g.name) (meaning_of us).globals)
+
+-- the data of all units ends at most 64 MiB behind where it begins, before the first datum
+abbrev pub DataFits : Type 0
+DataFits = (us : List UnitTree) → AreAccepted us → let p = meaning_of us in end_before p (length p.datums) ≤ end_before p 0 + 67108864
