@@ -25,7 +25,7 @@ use Rattle.cmm_meaning.proofs.Naming.{same_name}
 
 -- ---- names among names
 
-abbrev Name : Type 0
+abbrev pub Name : Type 0
 Name = List ℕ
 
 pub one_name : (a b : Name) → bytes_eq a b ≡ true → a ≡ b
@@ -39,7 +39,7 @@ is_key n [] = false
 is_key n (k ∷ ks) = bytes_eq n k || is_key n ks
 
 -- a name stands a second time behind where it stands first
-record Twice (xs : List Name) : Type 0 where
+pub record Twice (xs : List Name) : Type 0 where
   pub before : List Name
   pub name : Name
   pub between : List Name
@@ -55,7 +55,7 @@ abbrev Others : Name → List Name → Type 0
 Others n [] = Unit {0}
 Others n (x ∷ xs) = (n ≡ x → ⊥) × Others n xs
 
-abbrev Keys : List Name → List Name → Type 0
+abbrev pub Keys : List Name → List Name → Type 0
 Keys ks [] = Unit {0}
 Keys ks (x ∷ xs) = (is_key x ks ≡ true) × Keys ks xs
 
@@ -97,7 +97,7 @@ kept_keys n ks [] others keys = tt
 kept_keys n ks (x ∷ xs) others keys = (kept_key n x ks others.0 keys.0, kept_keys n ks xs others.1 keys.1)
 
 -- more names than keys
-twice : (xs ks : List Name) → Keys ks xs → length ks < length xs → Twice xs
+pub twice : (xs ks : List Name) → Keys ks xs → length ks < length xs → Twice xs
 twice [] ks keys many = absurd (omega arith)
 twice (x ∷ xs) ks keys many = elim (stands x xs) [
   | inl s ↦ record { before = []; name = x; between = s.before; behind = s.behind; is = ap (λ ys. x ∷ ys) s.is }
@@ -124,7 +124,7 @@ reaches_more ds n (suc count) from is =
       | inr later ↦ or_right (bytes_eq m n) (reaches (suc count) ds n (named_by (entry_of m ds))) (reaches_more ds n count (named_by (entry_of m ds)) later)
     ]) is
 
-reaches_in : (ds : List (Declared Entry)) (n : Name) (more count : ℕ) (from : List Name) → reaches count ds n from ≡ true → reaches (more + count) ds n from ≡ true
+pub reaches_in : (ds : List (Declared Entry)) (n : Name) (more count : ℕ) (from : List Name) → reaches count ds n from ≡ true → reaches (more + count) ds n from ≡ true
 reaches_in ds n zero count from is = subst (λ c. reaches c ds n from ≡ true) (let e : count ≡ 0 + count = omega arith in e) is
 reaches_in ds n (suc more) count from is =
     subst (λ c. reaches c ds n from ≡ true) (let e : suc (more + count) ≡ suc more + count = omega arith in e) (reaches_more ds n (more + count) from (reaches_in ds n more count from is))
@@ -147,11 +147,11 @@ pub found_at : {A : Type 0} (f : Declared A → List Spot) (name : Name) (a : A)
 found_at f name a [] none is = let bad : None ≡ Some a = is in cc
 found_at f name a (d ∷ ds) none is = is_at f name a (bytes_eq name d.name.name) d ds refl is none (found_at f name a ds)
 
-abbrev keys_of : List (Declared Entry) → List Name
+abbrev pub keys_of : List (Declared Entry) → List Name
 keys_of [] = []
 keys_of (d ∷ ds) = d.name.name ∷ keys_of ds
 
-keys_length : (ds : List (Declared Entry)) → length (keys_of ds) ≡ length ds
+pub keys_length : (ds : List (Declared Entry)) → length (keys_of ds) ≡ length ds
 keys_length [] = refl
 keys_length (d ∷ ds) = ap suc (keys_length ds)
 
@@ -159,7 +159,7 @@ key_by : (same : Bool) (x e : Entry) (o : Option Entry) (rest : Bool) → ◌≡
 key_by true x e o rest is later = refl
 key_by false x e o rest is later = later is
 
-found_key : (name : Name) (e : Entry) (ds : List (Declared Entry)) → found name ds ≡ Some e → is_key name (keys_of ds) ≡ true
+pub found_key : (name : Name) (e : Entry) (ds : List (Declared Entry)) → found name ds ≡ Some e → is_key name (keys_of ds) ≡ true
 found_key name e [] is = let bad : None ≡ Some e = is in cc
 found_key name e (d ∷ ds) is = key_by (bytes_eq name d.name.name) d.as_what e (found name ds) (is_key name (keys_of ds)) is (found_key name e ds)
 

@@ -65,7 +65,7 @@ module _ (program : Linked) (ds : List (Declared Entry)) where
   abbrev pub meant : (Option TypeName → Expr → Sense) → List ℕ → Option Host → Option Entry → Option Sense
   meant value name h o = elim h [ Some x ↦ Some (meanings.Host x) | None ↦ elim o [ Some e ↦ Some (entry_sense program ds value name e) | None ↦ None ] ]
 
-  entry_by : (name : List ℕ) (e : Entry) → host_named name ≡ None → found name ds ≡ Some e → entry_of name ds ≡ Some e
+  pub entry_by : (name : List ℕ) (e : Entry) → host_named name ≡ None → found name ds ≡ Some e → entry_of name ds ≡ Some e
   entry_by name e host is = ap (λ h. elim (is_there h) as (λ b. Option Entry) [ true ↦ None | false ↦ found name ds ]) host ∙ is
 
   typedef_by : (name : List ℕ) (w : Option Width) (h : Option Host) (o : Option Entry) → host_named name ≡ h → found name ds ≡ o →

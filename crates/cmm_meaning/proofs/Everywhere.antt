@@ -71,6 +71,13 @@ module _ (P : Proc → Type 0) (program : Linked) (all : List NamedUnit)
       (ap suc counted ∙ (let e : suc (length earlier) ≡ length earlier + 1 = omega arith in e) ∙ sym (length-append earlier (u ∷ [])))
       (other_units (procedure_spots program) earlier number u us none))
 
+-- what holds of each of some units, by those before it and behind it
+pub all_at : (P : NamedUnit → Type 0) (all earlier rest : List NamedUnit) → all ≡ earlier ++ rest →
+    ((before behind : List NamedUnit) (u : NamedUnit) → all ≡ before ++ u ∷ behind → P u) → All P rest
+all_at P all earlier [] is each = All-nil P
+all_at P all earlier (u ∷ rest) is each =
+    All-cons P u rest (each earlier rest u is) (all_at P all (earlier ++ u ∷ []) rest (is ∙ sym (append_assoc earlier (u ∷ []) rest)) each)
+
 -- what holds of each procedure of accepted units
 pub all_accepted : (P : Proc → Type 0) (us : List UnitTree) → AreAccepted us →
     ((earlier : List NamedUnit) (u : NamedUnit) (number : ℕ) → Place (named_units us) earlier u number → (around : List SpanTree) (p : ProcTree) →

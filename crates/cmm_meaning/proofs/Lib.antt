@@ -31,3 +31,7 @@ pub mod Starting
 pub mod Labels
 pub mod RegisterNames
 pub mod DataSize
+pub mod Mentioned
+pub mod Whole
+pub mod Settled
+pub mod WholeUnits

@@ -3,7 +3,6 @@ use Rattle.std.proofs.Common.{◌≡◌, ℕ, suc, ◌<◌, refl, sym, ap, ◌�
 use Rattle.std.specs.Prelude.{map, flat_map, option_map, unwrap_or, bytes_eq, slice_get, ◌||◌, ◌==◌}
 use Rattle.std.proofs.lemmas.Option.{slice_get-map}
 use Rattle.std.proofs.lemmas.Grind.{flat_map-append}
-use Rattle.std.proofs.lemmas.List.Elements.{All-nil, All-cons}
 use Rattle.cmm_words.specs.declared.width.Width.{Width}
 use Rattle.cmm_words.specs.declared.width.Width.TheVariants.{W64}
 use Rattle.cmm_words.specs.Widths.{bits}
@@ -26,6 +25,7 @@ use Rattle.cmm_accepted.specs.Faults.{AreAccepted, each_unit, declaration_spots,
 use Rattle.cmm_meaning.specs.Meaning.{meaning_of, register_width, global_of}
 use Rattle.cmm_meaning.specs.Fitting.{NamesFit}
 use Rattle.cmm_meaning.specs.Laws.{NamesAreThere}
+use Rattle.cmm_meaning.proofs.Everywhere.{all_at}
 use Rattle.cmm_meaning.proofs.Nothing.{no_left, no_right, no_unless, first_unit, other_units, unbroken, declarations_kept}
 use Rattle.cmm_meaning.proofs.Judged.{same_bits}
 use Rattle.cmm_meaning.proofs.Widths.{own_width}
@@ -208,12 +208,16 @@ module _ (us : List UnitTree) (accepted : AreAccepted us) where
   declared : each_unit (declaration_spots program) [] 0 units ≡ []
   declared = declarations_kept units (unbroken us accepted).nowhere
 
+  -- no rule on declarations and data is broken in a unit, by those before it
+  pub declarations_at : (earlier later : List NamedUnit) (u : NamedUnit) → units ≡ earlier ++ u ∷ later → declaration_spots program earlier u ≡ []
+  declarations_at earlier later u is = declared_at program [] earlier later 0 u (subst (λ vs. each_unit (declaration_spots program) [] 0 vs ≡ []) is declared)
+
   -- a register of a unit
   register_there : (earlier later : List NamedUnit) (u : NamedUnit) → units ≡ earlier ++ u ∷ later → (name : List ℕ) (t : TypeName) → host_named name ≡ None →
       found name u.entries ≡ Some (Register t) → (w : Width) → width_in u.entries t ≡ Some w → has_register p (register_number program name) w ≡ true
   register_there earlier later u is name t host declared_ w wide =
       let own = register_found name t u host declared_ in
-      let at_ : declaration_spots program earlier u ≡ [] = declared_at program [] earlier later 0 u (subst (λ vs. each_unit (declaration_spots program) [] 0 vs ≡ []) is declared) in
+      let at_ : declaration_spots program earlier u ≡ [] = declarations_at earlier later u is in
       let each : EachUnit (AreDeclared program) earlier = each_left (AreDeclared program) earlier (u ∷ later) (subst (EachUnit (AreDeclared program)) is (all_declared program [] 0 units declared)) in
       let none = registers_none program earlier u at_ in
       let apart = all_wide program earlier each name in
@@ -235,13 +239,7 @@ module _ (us : List UnitTree) (accepted : AreAccepted us) where
   -- and its declarations break no rule
   pub declared_there : (earlier later : List NamedUnit) (u : NamedUnit) → units ≡ earlier ++ u ∷ later → AreDeclared program u
   declared_there earlier later u is =
-      entries_of program earlier u (declared_at program [] earlier later 0 u (subst (λ vs. each_unit (declaration_spots program) [] 0 vs ≡ []) is declared))
-
-  all_names : (earlier rest : List NamedUnit) → units ≡ earlier ++ rest → All (λ u. (q : Proc) → NamesFit p q (unit_senses program u.entries)) rest
-  all_names earlier [] is = All-nil (λ u. (q : Proc) → NamesFit p q (unit_senses program u.entries))
-  all_names earlier (u ∷ rest) is =
-      All-cons (λ v. (q : Proc) → NamesFit p q (unit_senses program v.entries)) u rest (names_of earlier rest u is)
-      (all_names (earlier ++ u ∷ []) rest (is ∙ sym (append_assoc earlier (u ∷ []) rest)))
+      entries_of program earlier u (declarations_at earlier later u is)
 
 pub names_are_there : NamesAreThere
-names_are_there us accepted = all_names us accepted [] (named_units us) refl
+names_are_there us accepted = all_at (λ u. (q : Proc) → NamesFit (meaning_of us) q (unit_senses (program_of (named_units us)) u.entries)) (named_units us) [] (named_units us) refl (names_of us accepted)

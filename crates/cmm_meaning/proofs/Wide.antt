@@ -91,20 +91,24 @@ module _ (program : Linked) (ds : List (Declared Entry)) where
   wide_const (suc count) (Some t) x = wide_typed (senses_by program ds (const_sense program ds count)) x (width_in ds t)
 
   module _ (none : flat_map (entry_spots (unit_senses program ds) ds) ds ≡ []) where
-    wide_meant : (name : List ℕ) (h : Option Host) (o : Option Entry) → found name ds ≡ o → IsWide (meant program ds (const_sense program ds (suc (length ds))) name h o)
-    wide_meant name (Some x) o is = tt
-    wide_meant name None None is = tt
-    wide_meant name None (Some (Typedef t)) is =
+    wide_meant : (count : ℕ) (name : List ℕ) (h : Option Host) (o : Option Entry) → found name ds ≡ o → IsWide (meant program ds (const_sense program ds count) name h o)
+    wide_meant count name (Some x) o is = tt
+    wide_meant count name None None is = tt
+    wide_meant count name None (Some (Typedef t)) is =
         wide_typedef (width_in ds t) (type_wide program ds none t (no_left (type_spots (unit_senses program ds) t) _ (found_at (entry_spots (unit_senses program ds) ds) name (Typedef t) ds none is).nothing))
-    wide_meant name None (Some (Const t x)) is = wide_const (suc (length ds)) t x
-    wide_meant name None (Some (Register t)) is =
+    wide_meant count name None (Some (Const t x)) is = wide_const count t x
+    wide_meant count name None (Some (Register t)) is =
         wide_register (register_number program name) (width_in ds t) (type_wide program ds none t (found_at (entry_spots (unit_senses program ds) ds) name (Register t) ds none is).nothing)
-    wide_meant name None (Some (Import link)) is = wide_imported (host_named link) _
-    wide_meant name None (Some (DataLabel n)) is = tt
-    wide_meant name None (Some (Procedure n p)) is = tt
+    wide_meant count name None (Some (Import link)) is = wide_imported (host_named link) _
+    wide_meant count name None (Some (DataLabel n)) is = tt
+    wide_meant count name None (Some (Procedure n p)) is = tt
+
+    -- also where constants are asked for in so many steps alone
+    pub steps_wide : (count : ℕ) (name : List ℕ) → IsWide (senses_by program ds (const_sense program ds count) name)
+    steps_wide count name = wide_meant count name (host_named name) (found name ds) refl
 
     pub unit_wide : (name : List ℕ) → IsWide (unit_senses program ds name)
-    unit_wide name = wide_meant name (host_named name) (found name ds) refl
+    unit_wide name = steps_wide (suc (length ds)) name
 
 -- ---- a procedure
 

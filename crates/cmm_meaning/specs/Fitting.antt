@@ -1,5 +1,5 @@
 -- When what names mean, and what an expression is judged to be, fits a program: each number names what is there, and it has the width.
-use Rattle.std.specs.Prelude.{◌≡◌, ℕ, nat_lt, Bool, true, List, IsTrue, IfSome, length, Some, Option, Ok, Err}
+use Rattle.std.specs.Prelude.{◌≡◌, ℕ, nat_lt, Bool, true, false, List, IsTrue, IfSome, length, Some, Option, Ok, Err}
 use Rattle.std.specs.Option.{is_some}
 use Rattle.cmm_program.specs.declared.expression.Expression.{Expression}
 use Rattle.cmm_program.specs.declared.expression.Condition.{Condition}
@@ -10,7 +10,7 @@ use Rattle.cmm_program.specs.Typing.{constant_width, has_variable, has_register,
 use Rattle.cmm_accepted.specs.declared.judged.Typed.{Typed}
 use Rattle.cmm_accepted.specs.declared.judged.Typed.TheVariants as typed
 use Rattle.cmm_accepted.specs.declared.sense.Sense.{Sense}
-use Rattle.cmm_accepted.specs.declared.sense.Sense.TheVariants.{Variable, Register, Value, Stackdata, Continuation}
+use Rattle.cmm_accepted.specs.declared.sense.Sense.TheVariants.{Variable, Register, Value, Broken, Stackdata, Continuation, Typedef}
 use Rattle.cmm_accepted.specs.Senses.{Senses}
 use Rattle.cmm_accepted.specs.Judging.{Judged}
 
@@ -25,6 +25,14 @@ sense_fits p q _ = true
 
 abbrev pub NamesFit : Program → Proc → Senses → Type 0
 NamesFit p q names = (name : List ℕ) → IsTrue (sense_fits p q (names name))
+
+-- what a name means is not broken: it has a width where it is to have one, and a constant has a value
+abbrev pub is_whole : Option Sense → Bool
+is_whole (Some (Variable n width)) = is_some width
+is_whole (Some (Register n width)) = is_some width
+is_whole (Some (Typedef width)) = is_some width
+is_whole (Some (Broken width)) = false
+is_whole _ = true
 
 -- what stands for an expression has the width that the expression is judged to have, and what stands for a condition keeps the rules
 abbrev pub JudgedFits : Program → Proc → Judged (Typed Expression Condition) → Type 0

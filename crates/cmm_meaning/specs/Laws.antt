@@ -24,7 +24,7 @@ use Rattle.cmm_accepted.specs.Linking.{program_of}
 use Rattle.cmm_accepted.specs.Statements.{scope_of}
 use Rattle.cmm_meaning.specs.Procedures.{procedure_of}
 use Rattle.cmm_accepted.specs.Faults.{AreAccepted}
-use Rattle.cmm_meaning.specs.Fitting.{NamesFit, JudgedFits}
+use Rattle.cmm_meaning.specs.Fitting.{NamesFit, JudgedFits, is_whole}
 use Rattle.cmm_meaning.specs.Meaning.{meaning_of}
 
 -- the numbers that the statements of a body have are those below a count, once each, in textual order
@@ -120,3 +120,8 @@ RegisterNamesAreShort = (us : List UnitTree) → AreAccepted us → IsTrue (list
 -- the data of all units ends at most 64 MiB behind where it begins, before the first datum
 abbrev pub DataFits : Type 0
 DataFits = (us : List UnitTree) → AreAccepted us → let p = meaning_of us in end_before p (length p.datums) ≤ end_before p 0 + 67108864
+
+-- no name of an accepted unit is broken
+abbrev pub NamesAreWhole : Type 0
+NamesAreWhole = (us : List UnitTree) → AreAccepted us →
+    All (λ u. (name : List ℕ) → IsTrue (is_whole (unit_senses (program_of (named_units us)) u.entries name))) (named_units us)

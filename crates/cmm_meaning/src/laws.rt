@@ -1,7 +1,7 @@
 //! What holds of the program that units mean. Each law is the contract of a function that does nothing. Together they are most of what makes a
 //! program in range. What its statements compute with, its data, and counts of tokens against the shortest text are still to come.
 
-ghost use Rattle.cmm_meaning.specs.Laws.{DataFits, LabelsAreThere, LimitsAreKept, MarksAreInOrder, NamesAreShort, NamesAreThere, RegisterNamesAreShort, ScopesFit, SitesAreInOrder, SitesAreThere, StackdataFits, StartHasNoFormals, WaysAreThere, WidthsAreKept};
+ghost use Rattle.cmm_meaning.specs.Laws.{DataFits, LabelsAreThere, LimitsAreKept, MarksAreInOrder, NamesAreShort, NamesAreThere, NamesAreWhole, RegisterNamesAreShort, ScopesFit, SitesAreInOrder, SitesAreThere, StackdataFits, StartHasNoFormals, WaysAreThere, WidthsAreKept};
 
 /// In the program of any units, the call sites of a procedure stand in its body once each, in textual order, from number 0 on.
 pub fn sites_are_in_order()
@@ -79,4 +79,9 @@ pub fn register_names_are_short()
 /// The data of accepted units takes at most 64 MiB, with its padding.
 pub fn data_fits()
     ensures { DataFits }
+{}
+
+/// In accepted units no name of a unit is broken: each typedef and each register has a width, and each constant a value.
+pub fn names_are_whole()
+    ensures { NamesAreWhole }
 {}
