@@ -29,7 +29,7 @@ use Rattle.cmm_accepted.specs.Expressions.{type_spots}
 use Rattle.cmm_accepted.specs.Units.{cycle_spots, entry_spots}
 use Rattle.cmm_meaning.specs.Fitting.{sense_fits, NamesFit}
 use Rattle.cmm_meaning.proofs.Judged.{SenseFits}
-use Rattle.cmm_meaning.proofs.Knowing.{IsKnown, untyped_known, typed_known, untyped_is, typed_is}
+use Rattle.cmm_meaning.proofs.Knowing.{IsKnown, known_from, untyped_known, typed_known, untyped_is, typed_is}
 use Rattle.cmm_meaning.proofs.Entries.{EachEntry, EntryFits, found_each, AddressFits, EachPublished, published_fits, some_address}
 use Rattle.cmm_meaning.proofs.Cycles.{AreSound, IsAt, found_at, own_is, has_width}
 use Rattle.cmm_meaning.proofs.Nothing.{no_left, no_right, no_unless}
@@ -124,8 +124,8 @@ module _ (program : Linked) (ds : List (Declared Entry)) where
 
     address_known : (c : Constant) → AddressFits procedures labels c → SenseFits knowns (IsKnown p) (Some (meanings.Value c))
     address_known (Number value width) h = absurd h
-    address_known (Code n plus) h = code_fits n plus h
-    address_known (Address n plus) h = label_fits n plus h
+    address_known (Code n plus) h = known_from p q (Some (meanings.Value (Code n plus))) (code_fits n plus h)
+    address_known (Address n plus) h = known_from p q (Some (meanings.Value (Address n plus))) (label_fits n plus h)
 
     imported_address : (link : List ℕ) → AddressFits procedures labels (unwrap_or (published_as link program.exports) (Code 0 0))
     imported_address link = some_address procedures labels (published_as link program.exports) some (published_fits procedures labels link program.exports exported)
@@ -147,8 +147,8 @@ module _ (program : Linked) (ds : List (Declared Entry)) where
     meant_known value each name None (Some (Const t x)) is = each t x
     meant_known value each name None (Some (Register t)) is = register_known (register_number program name) (width_in ds t)
     meant_known value each name None (Some (Import link)) is = imported_known link (host_named link)
-    meant_known value each name None (Some (DataLabel n)) is = label_fits n 0 (found_each (EntryFits procedures labels) name (DataLabel n) ds entries is)
-    meant_known value each name None (Some (Procedure n x)) is = code_fits n 0 (found_each (EntryFits procedures labels) name (Procedure n x) ds entries is)
+    meant_known value each name None (Some (DataLabel n)) is = address_known (Address n 0) (found_each (EntryFits procedures labels) name (DataLabel n) ds entries is)
+    meant_known value each name None (Some (Procedure n x)) is = address_known (Code n 0) (found_each (EntryFits procedures labels) name (Procedure n x) ds entries is)
 
     const_known : (count : ℕ) (t : Option TypeName) (x : Expr) → SenseFits knowns (IsKnown p) (Some (const_sense program ds count t x))
     const_known zero t x = tt

@@ -161,7 +161,7 @@ module _ (outer : Senses) (tree : ProcTree) where
 
 -- ---- stackdata
 
-width_alignment : (w : Width) → is_alignment (bytes w) ≡ true
+pub width_alignment : (w : Width) → is_alignment (bytes w) ≡ true
 width_alignment W8 = refl
 width_alignment W16 = refl
 width_alignment W32 = refl

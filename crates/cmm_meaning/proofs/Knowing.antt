@@ -1,5 +1,5 @@
 -- What is known of a value before the program runs is a word of its width.
-use Rattle.std.proofs.Common.{◌≡◌, ℕ, ◌^◌, ◌<◌, refl, ap, subst, Bool, true, false, List, Option, Some, None, Ok, Err, arith, pow_mono, lt_of_lt_of_le, inr}
+use Rattle.std.proofs.Common.{◌≡◌, ℕ, ◌^◌, ◌<◌, refl, ap, subst, Bool, true, false, List, Option, Some, None, Ok, Err, arith, pow_mono, lt_of_lt_of_le, inr, length}
 use Rattle.std.specs.Prelude.{nat_lt, nat_le, IfSome}
 use Rattle.std.specs.Option.{is_some}
 use Rattle.std.proofs.lemmas.Bool.{lt-ltb, ltb-true, leb-true}
@@ -31,17 +31,17 @@ use Rattle.cmm_accepted.specs.Algebras.{knowns, known_constant, known_value, kno
 use Rattle.cmm_accepted.specs.Operators.{prefix_operator}
 use Rattle.cmm_accepted.specs.Judging.{Judged, as_wanted}
 use Rattle.cmm_accepted.specs.Typing.{expr_type, wanted, literal, operand_at, applied_to_one}
-use Rattle.cmm_accepted.specs.Constants.{Alone, Plain, Negative, alone, alone_type, alone_or, wanted_alone, number_known, as_number, number_alone, constant_known, as_constant, constant_of}
+use Rattle.cmm_accepted.specs.Constants.{Alone, Plain, Negative, alone, alone_type, alone_or, wanted_alone, number_known, as_number, number_alone, constant_known, as_constant, constant_alone, constant_of}
 use Rattle.cmm_accepted.specs.Scopes.{valued, untyped_sense, typed_sense}
 use Rattle.cmm_meaning.specs.Fitting.{sense_fits, NamesFit}
 use Rattle.cmm_meaning.specs.Resolving.{or_zero, constant_at}
 use Rattle.cmm_meaning.proofs.Judged.{Holds, OnSome, IsKept, SenseFits, BitsFit, TypedFits, OperandFits, WantedFit, holds_with, bits_fit, wanted_fits, literal_fits, one_fits, operand_fits, clean_fits}
 
--- a number that is known is a word, and an address is there in a program
+-- a number that is known is a word, and an address is there in a program, with its width
 abbrev pub IsKnown : Program → Width → Known → Type 0
 IsKnown p w (known.Number a) = nat_lt a (2 ^ bits w) ≡ true
-IsKnown p w (known.Symbol c) = is_some (constant_width p c) ≡ true
-IsKnown p w (known.Sum c) = is_some (constant_width p c) ≡ true
+IsKnown p w (known.Symbol c) = constant_width p c ≡ Some w
+IsKnown p w (known.Sum c) = constant_width p c ≡ Some w
 IsKnown p w known.Nothing = Unit {0}
 
 -- of conditions nothing is known
@@ -69,14 +69,14 @@ module _ (p : Program) where
   value_known w (Some a) h = is_word w a h
   value_known w None h = tt
 
-  moved_there : (c : Constant) (more : ℕ) → is_some (constant_width p c) ≡ true → is_some (constant_width p (moved c more)) ≡ true
-  moved_there (Number value width) more h = h
-  moved_there (Code n plus) more h = h
-  moved_there (Address n plus) more h = h
+  moved_there : (w : Width) (c : Constant) (more : ℕ) → constant_width p c ≡ Some w → constant_width p (moved c more) ≡ Some w
+  moved_there w (Number value width) more h = h
+  moved_there w (Code n plus) more h = h
+  moved_there w (Address n plus) more h = h
 
-  sum_known : (w : Width) (o : Op2) (c : Constant) (b : ℕ) → is_some (constant_width p c) ≡ true → IsKnown p w (known_sum o c b)
-  sum_known w op.Add c b h = moved_there c _ h
-  sum_known w op.Sub c b h = moved_there c _ h
+  sum_known : (w : Width) (o : Op2) (c : Constant) (b : ℕ) → constant_width p c ≡ Some w → IsKnown p w (known_sum o c b)
+  sum_known w op.Add c b h = moved_there w c _ h
+  sum_known w op.Sub c b h = moved_there w c _ h
   sum_known w op.Mul c b h = tt
   sum_known w op.And c b h = tt
   sum_known w op.Or c b h = tt
@@ -182,6 +182,23 @@ module _ (p : Program) (names : Senses) (sound : (name : List ℕ) → SenseFits
       holds_with (WantedFit knowns (IsKnown p) Any width) (IsNumber width) (wanted_alone knowns names (Some width) e) (as_number e.token) (alone_or_known width e (alone e.form))
       (λ x h. subst (λ w. Holds (IsNumber w) (as_number e.token x)) h.1 (some_number e.token x.width x.value h.0))
 
+  -- a constant that takes the width that is wanted has it
+  constant_wide : (token : ℕ) (w : Width) (a : Known) → IsKnown p w a → Holds (λ c. constant_width p c ≡ Some w) (constant_known token w a)
+  constant_wide token w (known.Number a) h = ap (λ b. if_holds b w) h
+  constant_wide token w (known.Symbol c) h = h
+  constant_wide token w (known.Sum c) h = h
+  constant_wide token w known.Nothing h = tt
+
+  some_constant : (token : ℕ) (w : Width) (o : Option Known) → OnSome (IsKnown p w) o → Holds (λ c. constant_width p c ≡ Some w) (as_constant token record { width = w; value = o })
+  some_constant token w (Some a) h = constant_wide token w a h
+  some_constant token w None h = tt
+
+  pub constant_alone_is : (width : Width) (e : Expr) → Holds (λ c. constant_width p c ≡ Some width) (constant_alone names (Some width) e)
+  constant_alone_is width e =
+      holds_with (WantedFit knowns (IsKnown p) Any width) (λ c. constant_width p c ≡ Some width) (wanted_alone knowns names (Some width) e) (as_constant e.token)
+      (alone_or_known width e (alone e.form))
+      (λ x h. subst (λ w. Holds (λ c. constant_width p c ≡ Some w) (as_constant e.token x)) h.1 (some_constant e.token x.width x.value h.0))
+
   -- ---- what a constant of a unit means fits every program
 
   module _ (q : Proc) where
@@ -225,8 +242,8 @@ known_by false w is = cc
 
 value_from : (p : Program) (c : Constant) → is_some (constant_width p c) ≡ true → IsKnown p (declared_width c) (known_constant c)
 value_from p (Number value width) is = known_by (nat_lt value (2 ^ bits width)) width is
-value_from p (Code n plus) is = is
-value_from p (Address n plus) is = is
+value_from p (Code n plus) is = ap (λ b. if_holds b W64) (known_by (nat_lt n (length p.procs)) W64 is)
+value_from p (Address n plus) is = ap (λ b. if_holds b W64) (known_by (nat_lt n (length p.labels)) W64 is)
 
 pub known_from : (p : Program) (q : Proc) (sense : Option Sense) → sense_fits p q sense ≡ true → SenseFits knowns (IsKnown p) sense
 known_from p q (Some (meanings.Variable n (Some w))) is = tt
@@ -248,8 +265,8 @@ IsThere p c = is_some (constant_width p c) ≡ true
 
 constant_by : (p : Program) (token : ℕ) (w : Width) (a : Known) → IsKnown p w a → Holds (IsThere p) (constant_known token w a)
 constant_by p token w (known.Number a) h = ap (λ b. elim (if_holds b w) as (λ o. Bool) [ Some u ↦ true | None ↦ false ]) h
-constant_by p token w (known.Symbol c) h = h
-constant_by p token w (known.Sum c) h = h
+constant_by p token w (known.Symbol c) h = ap is_some h
+constant_by p token w (known.Sum c) h = ap is_some h
 constant_by p token w known.Nothing h = tt
 
 constant_in : (p : Program) (token : ℕ) (w : Width) (o : Option Known) → OnSome (IsKnown p w) o → Holds (IsThere p) (as_constant token record { width = w; value = o })

@@ -35,3 +35,5 @@ pub mod Mentioned
 pub mod Whole
 pub mod Settled
 pub mod WholeUnits
+pub mod Datums
+mod LawRows

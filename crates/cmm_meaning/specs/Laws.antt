@@ -5,13 +5,18 @@ use Rattle.std.specs.Option.{is_some}
 use Rattle.cmm_ast.specs.declared.unit.Unit.{Unit as UnitTree}
 use Rattle.cmm_program.specs.declared.procedure.Proc.{Proc}
 use Rattle.cmm_program.specs.declared.statement.Form.{Form}
-use Rattle.cmm_program.specs.InRange.{below, is_continuation, is_item, is_label, is_name, is_site}
+use Rattle.cmm_program.specs.InRange.{below, is_continuation, is_datum, is_item, is_label, is_name, is_site}
 use Rattle.cmm_program.specs.Layout.{end_before, stackdata_size}
 use Rattle.cmm_program.specs.Bodies.{AtLabel, after_inside, body_statements}
 use Rattle.cmm_program.specs.declared.statement.Form.TheVariants.{Cut, Goto, Span}
 use Rattle.cmm_program.specs.Numbering.{AreNumbered, body_numbers, label_number, continuation_number, site_number}
 use Rattle.cmm_program.specs.declared.program.Program.{Program}
 use Rattle.cmm_ast.specs.declared.expression.Expr.{Expr}
+use Rattle.cmm_ast.specs.declared.unit.DatumForm.TheVariants.{Data}
+use Rattle.cmm_ast.specs.declared.unit.Initial.{Initial}
+use Rattle.cmm_ast.specs.declared.unit.Initial.TheVariants.{Text}
+use Rattle.cmm_ast.specs.declared.unit.Item.{Item}
+use Rattle.cmm_ast.specs.declared.unit.Item.TheVariants.{Datum}
 use Rattle.cmm_accepted.specs.Senses.{Senses}
 use Rattle.cmm_accepted.specs.Algebras.{expressions}
 use Rattle.cmm_accepted.specs.Typing.{expr_type}
@@ -125,3 +130,19 @@ DataFits = (us : List UnitTree) → AreAccepted us → let p = meaning_of us in 
 abbrev pub NamesAreWhole : Type 0
 NamesAreWhole = (us : List UnitTree) → AreAccepted us →
     All (λ u. (name : List ℕ) → IsTrue (is_whole (unit_senses (program_of (named_units us)) u.entries name))) (named_units us)
+
+-- a text that data begins with is one of bytes, as each text is that is read
+abbrev pub has_bytes : Initial → Bool
+has_bytes (Text text) = list_all (below 256) text.bytes
+has_bytes _ = true
+
+abbrev pub of_bytes : Item → Bool
+of_bytes (Datum d) = elim d.form [ Data t count initial ↦ has_bytes initial | _ ↦ true ]
+of_bytes _ = true
+
+abbrev pub TextsAreBytes : List UnitTree → Type 0
+TextsAreBytes us = IsTrue (list_all (λ u. list_all (λ i. of_bytes i.what) u.items) (named_units us))
+
+-- alignments are those of the language, and the values of a datum fill it, each with its width
+abbrev pub DatumsAreInRange : Type 0
+DatumsAreInRange = (us : List UnitTree) → AreAccepted us → TextsAreBytes us → IsTrue (list_all (is_datum (meaning_of us)) (meaning_of us).datums)

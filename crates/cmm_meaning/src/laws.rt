@@ -1,7 +1,7 @@
 //! What holds of the program that units mean. Each law is the contract of a function that does nothing. Together they are most of what makes a
 //! program in range. What its statements compute with, its data, and counts of tokens against the shortest text are still to come.
 
-ghost use Rattle.cmm_meaning.specs.Laws.{DataFits, LabelsAreThere, LimitsAreKept, MarksAreInOrder, NamesAreShort, NamesAreThere, NamesAreWhole, RegisterNamesAreShort, ScopesFit, SitesAreInOrder, SitesAreThere, StackdataFits, StartHasNoFormals, WaysAreThere, WidthsAreKept};
+ghost use Rattle.cmm_meaning.specs.Laws.{DataFits, DatumsAreInRange, LabelsAreThere, LimitsAreKept, MarksAreInOrder, NamesAreShort, NamesAreThere, NamesAreWhole, RegisterNamesAreShort, ScopesFit, SitesAreInOrder, SitesAreThere, StackdataFits, StartHasNoFormals, WaysAreThere, WidthsAreKept};
 
 /// In the program of any units, the call sites of a procedure stand in its body once each, in textual order, from number 0 on.
 pub fn sites_are_in_order()
@@ -84,4 +84,10 @@ pub fn data_fits()
 /// In accepted units no name of a unit is broken: each typedef and each register has a width, and each constant a value.
 pub fn names_are_whole()
     ensures { NamesAreWhole }
+{}
+
+/// In the program of accepted units whose texts are of bytes, each datum has an alignment of the language, and its values fill it, each with its
+/// width and there in the program.
+pub fn datums_are_in_range()
+    ensures { DatumsAreInRange }
 {}
