@@ -1,0 +1,4 @@
+mod Places
+mod Following
+pub mod Shared
+mod Rows
