@@ -196,7 +196,7 @@ module _ (outer : Senses) (unit : ℕ) (around : List SpanTree) (tree : ProcTree
       ∙ both_true (list_all (λ st. leads q st.form) (part_of s n p)) _ (part_leads n p (no_left (part_spots s p) (flat_map (part_spots s) ps) free))
       (flat_leads (n + sites_of p) ps (no_right (part_spots s p) (flat_map (part_spots s) ps) free))
 
-  all_lead : list_all (λ st. leads q st.form) (body_statements q) ≡ true
+  pub all_lead : list_all (λ st. leads q st.form) (body_statements q) ≡ true
   all_lead = ap (list_all (λ st. leads q st.form)) (procedure_is outer unit around tree)
       ∙ flat_leads 0 (parts_of tree.body) (no_right _ (flat_map (part_spots s) (parts_of tree.body)) (no_left (proc_spots outer tree) (proc_limits outer tree) none))
 

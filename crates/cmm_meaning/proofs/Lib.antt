@@ -37,3 +37,7 @@ pub mod Settled
 pub mod WholeUnits
 pub mod Datums
 mod LawRows
+pub mod Values
+pub mod Assigning
+pub mod Checking
+pub mod Forms

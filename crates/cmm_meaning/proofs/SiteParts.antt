@@ -117,7 +117,7 @@ module _ (p : Program) (q : Proc) where
 
 -- ---- targets
 
-target_there : (p : Program) (q : Proc) (token : ℕ) (sense : Option Sense) → target_spots token sense ≡ [] → sense_fits p q sense ≡ true → IsWide sense → is_target p q (target_in sense) ≡ true
+pub target_there : (p : Program) (q : Proc) (token : ℕ) (sense : Option Sense) → target_spots token sense ≡ [] → sense_fits p q sense ≡ true → IsWide sense → is_target p q (target_in sense) ≡ true
 target_there p q token (Some (meanings.Variable n (Some w))) none fit wide = fit
 target_there p q token (Some (meanings.Variable n None)) none fit wide = absurd wide
 target_there p q token (Some (meanings.Register n (Some w))) none fit wide = fit

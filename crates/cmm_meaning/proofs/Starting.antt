@@ -77,7 +77,7 @@ counts_length (i ∷ is) = length-append (item_counts i.what) (counts is) ∙ rw
 
 -- ---- each procedure of a unit stands at its number
 
-behind : {A : Type 0} (xs : List A) (y : A) (ys : List A) (n : ℕ) → n ≡ length xs → slice_get (xs ++ y ∷ ys) n ≡ Some y
+pub behind : {A : Type 0} (xs : List A) (y : A) (ys : List A) (n : ℕ) → n ≡ length xs → slice_get (xs ++ y ∷ ys) n ≡ Some y
 behind [] y ys zero e = refl
 behind [] y ys (suc n) e = absurd (omega arith)
 behind (x ∷ xs) y ys zero e = absurd (omega arith)

@@ -5,10 +5,11 @@ use Rattle.std.specs.Option.{is_some}
 use Rattle.cmm_ast.specs.declared.unit.Unit.{Unit as UnitTree}
 use Rattle.cmm_program.specs.declared.procedure.Proc.{Proc}
 use Rattle.cmm_program.specs.declared.statement.Form.{Form}
-use Rattle.cmm_program.specs.InRange.{below, is_continuation, is_datum, is_item, is_label, is_name, is_site}
+use Rattle.cmm_program.specs.InRange.{are_assigned, below, is_continuation, is_datum, is_form, is_item, is_label, is_name, is_site}
 use Rattle.cmm_program.specs.Layout.{end_before, stackdata_size}
 use Rattle.cmm_program.specs.Bodies.{AtLabel, after_inside, body_statements}
-use Rattle.cmm_program.specs.declared.statement.Form.TheVariants.{Cut, Goto, Span}
+use Rattle.cmm_program.specs.declared.statement.Form.TheVariants.{Assign, Cut, Goto, Span, Switch'}
+use Rattle.cmm_program.specs.Typing.{is_typed}
 use Rattle.cmm_program.specs.Numbering.{AreNumbered, body_numbers, label_number, continuation_number, site_number}
 use Rattle.cmm_program.specs.declared.program.Program.{Program}
 use Rattle.cmm_ast.specs.declared.expression.Expr.{Expr}
@@ -146,3 +147,13 @@ TextsAreBytes us = IsTrue (list_all (λ u. list_all (λ i. of_bytes i.what) u.it
 -- alignments are those of the language, and the values of a datum fill it, each with its width
 abbrev pub DatumsAreInRange : Type 0
 DatumsAreInRange = (us : List UnitTree) → AreAccepted us → TextsAreBytes us → IsTrue (list_all (is_datum (meaning_of us)) (meaning_of us).datums)
+
+-- what the rules ask of a statement. That something is assigned to, and that each arm of a switch but the default has a range, is of the grammar;
+-- the ranges stand apart.
+abbrev pub keeps_rules : Program → Proc → Form → Bool
+keeps_rules p q (Assign to values) = are_assigned p q to values
+keeps_rules p q (Switch' value _ arms) = is_typed p q value
+keeps_rules p q form = is_form p q form
+
+abbrev pub StatementsKeepRules : Type 0
+StatementsKeepRules = (us : List UnitTree) → AreAccepted us → All (λ q. IsTrue (list_all (λ st. keeps_rules (meaning_of us) q st.form) (body_statements q))) (meaning_of us).procs

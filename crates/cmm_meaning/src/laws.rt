@@ -1,7 +1,7 @@
 //! What holds of the program that units mean. Each law is the contract of a function that does nothing. Together they are most of what makes a
 //! program in range. What its statements compute with, its data, and counts of tokens against the shortest text are still to come.
 
-ghost use Rattle.cmm_meaning.specs.Laws.{DataFits, DatumsAreInRange, LabelsAreThere, LimitsAreKept, MarksAreInOrder, NamesAreShort, NamesAreThere, NamesAreWhole, RegisterNamesAreShort, ScopesFit, SitesAreInOrder, SitesAreThere, StackdataFits, StartHasNoFormals, WaysAreThere, WidthsAreKept};
+ghost use Rattle.cmm_meaning.specs.Laws.{DataFits, DatumsAreInRange, LabelsAreThere, LimitsAreKept, MarksAreInOrder, NamesAreShort, NamesAreThere, NamesAreWhole, RegisterNamesAreShort, ScopesFit, SitesAreInOrder, SitesAreThere, StackdataFits, StartHasNoFormals, StatementsKeepRules, WaysAreThere, WidthsAreKept};
 
 /// In the program of any units, the call sites of a procedure stand in its body once each, in textual order, from number 0 on.
 pub fn sites_are_in_order()
@@ -90,4 +90,11 @@ pub fn names_are_whole()
 /// width and there in the program.
 pub fn datums_are_in_range()
     ensures { DatumsAreInRange }
+{}
+
+/// In the program of accepted units, each statement keeps the rules: what it names is there, values have the widths of their places and conditions
+/// those of their operands, no more than 64 values are passed, a call site is one of its kind, a checked operator is a division, and an exit is one of
+/// those that there are. The ranges of a switch are left aside.
+pub fn statements_keep_rules()
+    ensures { StatementsKeepRules }
 {}
