@@ -41,3 +41,4 @@ pub mod Values
 pub mod Assigning
 pub mod Checking
 pub mod Forms
+pub mod Switching

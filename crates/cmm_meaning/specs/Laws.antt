@@ -1,16 +1,20 @@
 -- What holds of the program that units mean.
-use Rattle.std.specs.Prelude.{◌≡◌, ℕ, ◌+◌, ◌<◌, ◌≤◌, ◌&&◌, nat_le, Bool, true, IsTrue, All, List, [], length, sum_by, ◌*◌, slice_get, Some}
+use Rattle.std.specs.Prelude.{◌≡◌, ℕ, suc, ◌+◌, ◌^◌, ◌<◌, ◌≤◌, ◌&&◌, nat_le, Bool, true, false, IsTrue, All, List, [], length, sum_by, ◌*◌, slice_get, Option, Some, None}
 use Rattle.std.specs.List.{list_all, range_with_len}
 use Rattle.std.specs.Option.{is_some}
+use Rattle.cmm_lexer.specs.declared.piece.Lexeme.{Lexeme}
+use Rattle.cmm_ast.specs.Derivation.{Derives}
 use Rattle.cmm_ast.specs.declared.unit.Unit.{Unit as UnitTree}
+use Rattle.cmm_words.specs.declared.width.Width.{Width}
 use Rattle.cmm_program.specs.declared.procedure.Proc.{Proc}
 use Rattle.cmm_program.specs.declared.statement.Form.{Form}
-use Rattle.cmm_program.specs.InRange.{are_assigned, below, is_continuation, is_datum, is_form, is_item, is_label, is_name, is_site}
+use Rattle.cmm_program.specs.InRange.{IsInRange, all_ranges, are_assigned, below, defaults, is_continuation, is_datum, is_form, is_item, is_label, is_name, is_range, is_site, none_meet}
 use Rattle.cmm_program.specs.Layout.{end_before, stackdata_size}
-use Rattle.cmm_program.specs.Bodies.{AtLabel, after_inside, body_statements}
+use Rattle.cmm_program.specs.Bodies.{AtLabel, Branch, after_inside, body_statements, branches}
 use Rattle.cmm_program.specs.declared.statement.Form.TheVariants.{Assign, Cut, Goto, Span, Switch'}
-use Rattle.cmm_program.specs.Typing.{is_typed}
-use Rattle.cmm_program.specs.Numbering.{AreNumbered, body_numbers, label_number, continuation_number, site_number}
+use Rattle.cmm_program.specs.Typing.{is_typed, typed}
+use Rattle.cmm_program.specs.Tokens.{own_tokens, procedure_tokens}
+use Rattle.cmm_program.specs.Numbering.{AreNumbered, body_numbers, body_tokens, label_number, continuation_number, site_number}
 use Rattle.cmm_program.specs.declared.program.Program.{Program}
 use Rattle.cmm_ast.specs.declared.expression.Expr.{Expr}
 use Rattle.cmm_ast.specs.declared.unit.DatumForm.TheVariants.{Data}
@@ -157,3 +161,15 @@ keeps_rules p q form = is_form p q form
 
 abbrev pub StatementsKeepRules : Type 0
 StatementsKeepRules = (us : List UnitTree) → AreAccepted us → All (λ q. IsTrue (list_all (λ st. keeps_rules (meaning_of us) q st.form) (body_statements q))) (meaning_of us).procs
+
+-- the ranges of a switch on values of a width: none falls or leaves the width, no two meet, and there is one default at most
+abbrev pub are_apart : Option Width → List Branch → Bool
+are_apart None bs = false
+are_apart (Some width) bs = list_all (is_range width) (all_ranges bs) && none_meet (all_ranges bs) && nat_le (defaults bs) 1
+
+abbrev pub ranges_apart : Program → Proc → Form → Bool
+ranges_apart p q (Switch' value _ arms) = are_apart (typed p q value) (branches arms)
+ranges_apart p q _ = true
+
+abbrev pub RangesAreApart : Type 0
+RangesAreApart = (us : List UnitTree) → AreAccepted us → All (λ q. IsTrue (list_all (λ st. ranges_apart (meaning_of us) q st.form) (body_statements q))) (meaning_of us).procs

@@ -1,7 +1,7 @@
 //! What holds of the program that units mean. Each law is the contract of a function that does nothing. Together they are most of what makes a
-//! program in range. What its statements compute with, its data, and counts of tokens against the shortest text are still to come.
+//! program in range. Counts of tokens against the shortest text are still to come.
 
-ghost use Rattle.cmm_meaning.specs.Laws.{DataFits, DatumsAreInRange, LabelsAreThere, LimitsAreKept, MarksAreInOrder, NamesAreShort, NamesAreThere, NamesAreWhole, RegisterNamesAreShort, ScopesFit, SitesAreInOrder, SitesAreThere, StackdataFits, StartHasNoFormals, StatementsKeepRules, WaysAreThere, WidthsAreKept};
+ghost use Rattle.cmm_meaning.specs.Laws.{DataFits, DatumsAreInRange, LabelsAreThere, LimitsAreKept, MarksAreInOrder, NamesAreShort, NamesAreThere, NamesAreWhole, RangesAreApart, RegisterNamesAreShort, ScopesFit, SitesAreInOrder, SitesAreThere, StackdataFits, StartHasNoFormals, StatementsKeepRules, WaysAreThere, WidthsAreKept};
 
 /// In the program of any units, the call sites of a procedure stand in its body once each, in textual order, from number 0 on.
 pub fn sites_are_in_order()
@@ -97,4 +97,10 @@ pub fn datums_are_in_range()
 /// those that there are. The ranges of a switch are left aside.
 pub fn statements_keep_rules()
     ensures { StatementsKeepRules }
+{}
+
+/// In the program of accepted units, no range of a switch falls or leaves the width of the value, no two ranges meet, and there is one default at
+/// most.
+pub fn ranges_are_apart()
+    ensures { RangesAreApart }
 {}
