@@ -51,7 +51,7 @@ use Rattle.cmm_accepted.specs.Typing.{expr_type, of_primary}
 use Rattle.cmm_accepted.specs.Constants.{number_of}
 use Rattle.cmm_accepted.specs.Calls.{ident_spots, results_spots, actuals_spots, flows_spots, site_flows_spots, callee_spots, foreign_callee, foreign_callee_spots, may_be_bits64, may_hold_bits64, is_host_call, is_foreign, too_many_names, too_many_actuals}
 use Rattle.cmm_accepted.specs.Expressions.{bits_spots, number_spots}
-use Rattle.cmm_accepted.specs.Declarations.{named_units}
+use Rattle.cmm_accepted.specs.Declarations.{NamedUnit, named_units}
 use Rattle.cmm_accepted.specs.Linking.{program_of}
 use Rattle.cmm_accepted.specs.Limits.{number_or_zero, sites_of, proc_limits}
 use Rattle.cmm_accepted.specs.Scopes.{Scope, senses, unit_senses}
@@ -66,7 +66,7 @@ use Rattle.cmm_meaning.specs.Procedures.{procedure_of}
 use Rattle.cmm_meaning.specs.Meaning.{meaning_of}
 use Rattle.cmm_meaning.specs.Laws.{AreInOrder, leads, keeps_rules, StatementsKeepRules}
 use Rattle.cmm_meaning.proofs.Nothing.{no_left, no_right, no_unless}
-use Rattle.cmm_meaning.proofs.Everywhere.{all_accepted}
+use Rattle.cmm_meaning.proofs.Everywhere.{Place, all_accepted}
 use Rattle.cmm_meaning.proofs.Flat.{whats, flat_from, procedure_is}
 use Rattle.cmm_meaning.proofs.Judged.{same_bits}
 use Rattle.cmm_meaning.proofs.Keeping.{both_true}
@@ -245,7 +245,7 @@ apart f g [] h = refl
 apart f g (x ∷ xs) h = let both = and_parts (list_all f (g x)) (list_all f (flat_map g xs)) (sym (list_all-append f (g x) (flat_map g xs)) ∙ h) in
     both_true (list_all f (g x)) _ both.0 (apart f g xs both.1)
 
-all_three : {A : Type 0} (f g h r : A → Bool) → ((x : A) → f x ≡ true → g x ≡ true → h x ≡ true → r x ≡ true) → (xs : List A) → list_all f xs ≡ true → list_all g xs ≡ true → list_all h xs ≡ true → list_all r xs ≡ true
+pub all_three : {A : Type 0} (f g h r : A → Bool) → ((x : A) → f x ≡ true → g x ≡ true → h x ≡ true → r x ≡ true) → (xs : List A) → list_all f xs ≡ true → list_all g xs ≡ true → list_all h xs ≡ true → list_all r xs ≡ true
 all_three f g h r each [] a b c = refl
 all_three f g h r each (x ∷ xs) a b c =
     let a' = and_parts (f x) (list_all f xs) a in let b' = and_parts (g x) (list_all g xs) b in let c' = and_parts (h x) (list_all h xs) c in
@@ -270,8 +270,11 @@ module _ (p : Program) (q : Proc) where
       all_three (λ st. computes p q st.form) (λ st. leads q st.form) (λ st. numbered q st.form) (λ st. keeps_rules p q st.form) (λ st. together p q st.form) (body_statements q) a b
       (apart (below (length q.conts)) (λ st. continuation_number st.form) (body_statements q) inside)
 
-pub statements_keep_rules : StatementsKeepRules
-statements_keep_rules us accepted = all_accepted (λ q. IsTrue (list_all (λ st. keeps_rules (meaning_of us) q st.form) (body_statements q))) us accepted (λ earlier u number place around tree none.
+-- the statements of the procedure that a tree of accepted units means
+pub statement_kept : (us : List UnitTree) (accepted : AreAccepted us) (earlier : List NamedUnit) (u : NamedUnit) (number : ℕ) (place : Place (named_units us) earlier u number) (around : List SpanTree) (tree : ProcTree) →
+    item_procedure_spots (unit_senses (program_of (named_units us)) u.entries) (items.Proc tree) ≡ [] → let q = procedure_of (unit_senses (program_of (named_units us)) u.entries) number around tree in
+    list_all (λ st. keeps_rules (meaning_of us) q st.form) (body_statements q) ≡ true
+statement_kept us accepted earlier u number place around tree none =
     let program = program_of (named_units us) in let outer = unit_senses program u.entries in
     let p = meaning_of us in let q = procedure_of outer number around tree in let s = scope_of outer tree in
     let rules = no_left (proc_spots outer tree) (proc_limits outer tree) none in
@@ -282,4 +285,7 @@ statements_keep_rules us accepted = all_accepted (λ q. IsTrue (list_all (λ st.
     kept_by p q
     (ap (list_all (λ st. computes p q st.form)) (procedure_is outer number around tree)
     ∙ flat_computes p q s fit wide unbroken 0 [] (map (span_value outer) around) (parts_in [] tree.body) refl refl (no_right _ (flat_map (part_spots s) (parts_of tree.body)) rules))
-    (all_lead outer number around tree none) (continuations_in_order outer number around tree (declared_once outer tree none)))
+    (all_lead outer number around tree none) (continuations_in_order outer number around tree (declared_once outer tree none))
+
+pub statements_keep_rules : StatementsKeepRules
+statements_keep_rules us accepted = all_accepted (λ q. IsTrue (list_all (λ st. keeps_rules (meaning_of us) q st.form) (body_statements q))) us accepted (statement_kept us accepted)

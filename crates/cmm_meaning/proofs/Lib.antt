@@ -42,3 +42,5 @@ pub mod Assigning
 pub mod Checking
 pub mod Forms
 pub mod Switching
+pub mod Derived
+pub mod AllForms

@@ -173,3 +173,10 @@ ranges_apart p q _ = true
 
 abbrev pub RangesAreApart : Type 0
 RangesAreApart = (us : List UnitTree) → AreAccepted us → All (λ q. IsTrue (list_all (λ st. ranges_apart (meaning_of us) q st.form) (body_statements q))) (meaning_of us).procs
+
+-- each unit derives some tokens, by the grammar
+abbrev pub AreDerived : List UnitTree → Type 0
+AreDerived us = All (λ u. (tokens : List Lexeme) × Derives tokens u) us
+
+abbrev pub FormsAreInRange : Type 0
+FormsAreInRange = (us : List UnitTree) → AreAccepted us → AreDerived us → All (λ q. IsTrue (list_all (λ st. is_form (meaning_of us) q st.form) (body_statements q))) (meaning_of us).procs
