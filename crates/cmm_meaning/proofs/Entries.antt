@@ -146,7 +146,7 @@ procedures_length program unit (u ∷ us) =
     length-append (unit_procedures program unit u) (procedures_from program (suc unit) us)
     ∙ rw (items_length (unit_senses program u.entries) unit u.items, procedures_length program (suc unit) us) refl
 
-sum_append : (count : Item → ℕ) (xs ys : List (Within Item)) → sum_of count (xs ++ ys) ≡ sum_of count xs + sum_of count ys
+pub sum_append : (count : Item → ℕ) (xs ys : List (Within Item)) → sum_of count (xs ++ ys) ≡ sum_of count xs + sum_of count ys
 sum_append count [] ys = let e : sum_of count ys ≡ 0 + sum_of count ys = omega arith in e
 sum_append count (x ∷ xs) ys = ap (λ n. count x.what + n) (sum_append count xs ys)
     ∙ (let e : count x.what + (sum_of count xs + sum_of count ys) ≡ count x.what + sum_of count xs + sum_of count ys = omega arith in e)

@@ -52,11 +52,11 @@ items_length names [] = refl
 items_length names (i ∷ is) =
     length-append (item_datums names i.what) (flat_map (λ j. item_datums names j.what) is) ∙ rw (item_length names i.what, items_length names is) refl
 
-abbrev all_datums : List NamedUnit → ℕ
+abbrev pub all_datums : List NamedUnit → ℕ
 all_datums [] = 0
 all_datums (u ∷ us) = datums_among u.items + all_datums us
 
-datums_length : (program : Linked) (us : List NamedUnit) → length (flat_map (unit_datums program) us) ≡ all_datums us
+pub datums_length : (program : Linked) (us : List NamedUnit) → length (flat_map (unit_datums program) us) ≡ all_datums us
 datums_length program [] = refl
 datums_length program (u ∷ us) =
     length-append (unit_datums program u) (flat_map (unit_datums program) us) ∙ rw (items_length (unit_senses program u.entries) u.items, datums_length program us) refl

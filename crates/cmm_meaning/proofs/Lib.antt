@@ -44,3 +44,6 @@ pub mod Forms
 pub mod Switching
 pub mod Derived
 pub mod AllForms
+pub mod Steady
+pub mod SteadyUnits
+pub mod Weighing

@@ -180,3 +180,16 @@ AreDerived us = All (λ u. (tokens : List Lexeme) × Derives tokens u) us
 
 abbrev pub FormsAreInRange : Type 0
 FormsAreInRange = (us : List UnitTree) → AreAccepted us → AreDerived us → All (λ q. IsTrue (list_all (λ st. is_form (meaning_of us) q st.form) (body_statements q))) (meaning_of us).procs
+
+-- each unit derives some tokens, with a place for each of them and for its end
+abbrev pub AreRead : List UnitTree → Type 0
+AreRead us = All (λ u. (tokens : List Lexeme) × (Derives tokens u × (length u.places ≡ suc (length tokens)))) us
+
+-- the limits on sums that come from counting tokens
+pub record KeepsCounts (p : Program) : Type 0 where
+  pub tokens : sum_by (λ q. q.tokens) p.procs ≤ 1000000
+  pub datum_count : length p.datums < 2 ^ 32
+  pub label_count : length p.labels < 2 ^ 32
+
+abbrev pub CountsAreKept : Type 0
+CountsAreKept = (us : List UnitTree) → AreAccepted us → AreRead us → KeepsCounts (meaning_of us)

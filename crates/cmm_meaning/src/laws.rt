@@ -1,7 +1,7 @@
 //! What holds of the program that units mean. Each law is the contract of a function that does nothing. Together they are most of what makes a
 //! program in range. Counts of tokens against the shortest text are still to come.
 
-ghost use Rattle.cmm_meaning.specs.Laws.{DataFits, DatumsAreInRange, FormsAreInRange, LabelsAreThere, LimitsAreKept, MarksAreInOrder, NamesAreShort, NamesAreThere, NamesAreWhole, RangesAreApart, RegisterNamesAreShort, ScopesFit, SitesAreInOrder, SitesAreThere, StackdataFits, StartHasNoFormals, StatementsKeepRules, WaysAreThere, WidthsAreKept};
+ghost use Rattle.cmm_meaning.specs.Laws.{CountsAreKept, DataFits, DatumsAreInRange, FormsAreInRange, LabelsAreThere, LimitsAreKept, MarksAreInOrder, NamesAreShort, NamesAreThere, NamesAreWhole, RangesAreApart, RegisterNamesAreShort, ScopesFit, SitesAreInOrder, SitesAreThere, StackdataFits, StartHasNoFormals, StatementsKeepRules, WaysAreThere, WidthsAreKept};
 
 /// In the program of any units, the call sites of a procedure stand in its body once each, in textual order, from number 0 on.
 pub fn sites_are_in_order()
@@ -108,4 +108,10 @@ pub fn ranges_are_apart()
 /// In the program of accepted units that derive some tokens, each statement is in range, its count of tokens left aside.
 pub fn forms_are_in_range()
     ensures { FormsAreInRange }
+{}
+
+/// In the program of accepted units that derive as many tokens as they have places for, procedures have at most a million tokens together, and datums
+/// and labels are fewer than 2 to the 32.
+pub fn counts_are_kept()
+    ensures { CountsAreKept }
 {}
