@@ -47,3 +47,4 @@ pub mod AllForms
 pub mod Steady
 pub mod SteadyUnits
 pub mod Weighing
+pub mod BodyTokens

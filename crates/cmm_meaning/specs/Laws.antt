@@ -193,3 +193,7 @@ pub record KeepsCounts (p : Program) : Type 0 where
 
 abbrev pub CountsAreKept : Type 0
 CountsAreKept = (us : List UnitTree) → AreAccepted us → AreRead us → KeepsCounts (meaning_of us)
+
+-- the counts of a procedure's statements come to at most its own
+abbrev pub BodiesAreCounted : Type 0
+BodiesAreCounted = (us : List UnitTree) → AreAccepted us → AreDerived us → All (λ q. body_tokens q ≤ q.tokens) (meaning_of us).procs

@@ -1,7 +1,7 @@
 //! What holds of the program that units mean. Each law is the contract of a function that does nothing. Together they are most of what makes a
 //! program in range. Counts of tokens against the shortest text are still to come.
 
-ghost use Rattle.cmm_meaning.specs.Laws.{CountsAreKept, DataFits, DatumsAreInRange, FormsAreInRange, LabelsAreThere, LimitsAreKept, MarksAreInOrder, NamesAreShort, NamesAreThere, NamesAreWhole, RangesAreApart, RegisterNamesAreShort, ScopesFit, SitesAreInOrder, SitesAreThere, StackdataFits, StartHasNoFormals, StatementsKeepRules, WaysAreThere, WidthsAreKept};
+ghost use Rattle.cmm_meaning.specs.Laws.{BodiesAreCounted, CountsAreKept, DataFits, DatumsAreInRange, FormsAreInRange, LabelsAreThere, LimitsAreKept, MarksAreInOrder, NamesAreShort, NamesAreThere, NamesAreWhole, RangesAreApart, RegisterNamesAreShort, ScopesFit, SitesAreInOrder, SitesAreThere, StackdataFits, StartHasNoFormals, StatementsKeepRules, WaysAreThere, WidthsAreKept};
 
 /// In the program of any units, the call sites of a procedure stand in its body once each, in textual order, from number 0 on.
 pub fn sites_are_in_order()
@@ -114,4 +114,9 @@ pub fn forms_are_in_range()
 /// and labels are fewer than 2 to the 32.
 pub fn counts_are_kept()
     ensures { CountsAreKept }
+{}
+
+/// In the program of accepted units that derive some tokens, the counts of a procedure's statements come to at most its own.
+pub fn bodies_are_counted()
+    ensures { BodiesAreCounted }
 {}
