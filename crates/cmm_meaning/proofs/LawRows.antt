@@ -1,10 +1,14 @@
--- Worked rows: what laws ask of units, of small ones from their text: they break no rule, and their texts are of bytes.
-use Rattle.std.proofs.Common.{◌≡◌, refl, List, [], ◌∷◌}
-use Rattle.std.specs.Prelude.{codes}
+-- Worked rows: what laws ask of units, of small ones from their text: they break no rule, their texts are of bytes, and they derive their tokens.
+use Rattle.std.proofs.Common.{◌≡◌, suc, refl, List, [], ◌∷◌, length}
+use Rattle.std.specs.Prelude.{codes, map, None}
+use Rattle.std.proofs.lemmas.List.Elements.{All-nil, All-cons}
+use Rattle.cmm_lexer.specs.declared.piece.Lexeme.{Lexeme}
+use Rattle.cmm_lexer.specs.Lexing.{tokens_of}
+use Rattle.cmm_ast.specs.Derivation.{Derives}
 use Rattle.cmm_ast.specs.declared.unit.Unit.{Unit as UnitTree}
 use Rattle.cmm_accepted.specs.Faults.{AreAccepted}
 use Rattle.cmm_accepted.proofs.Shared.{unit_of}
-use Rattle.cmm_meaning.specs.Laws.{TextsAreBytes}
+use Rattle.cmm_meaning.specs.Laws.{AreRead, TextsAreBytes}
 use Rattle.cmm_meaning.proofs.Texts.{opened}
 
 abbrev sample : List UnitTree
@@ -19,3 +23,21 @@ row_accepted = refl
 row_bytes : TextsAreBytes sample
 unfolding opened
 row_bytes = refl
+
+abbrev small : UnitTree
+small = unit_of (codes "export main; main() { bits64 x; x = 1; return (x); }")
+
+abbrev lexemes : List Lexeme
+lexemes = map (λ t. t.lexeme) (tokens_of (codes "export main; main() { bits64 x; x = 1; return (x); }"))
+
+row_derives : Derives lexemes small
+unfolding opened
+row_derives = record { after = record { left = []; taken = 20; open_brackets = 0; operators = 0; over = None }; takes = refl; all = refl }
+
+row_places : length small.places ≡ suc (length lexemes)
+unfolding opened
+row_places = refl
+
+row_read : AreRead (small ∷ [])
+row_read = All-cons (λ u. (tokens : List Lexeme) × (Derives tokens u × (length u.places ≡ suc (length tokens)))) small [] (lexemes, (row_derives, row_places))
+    (All-nil (λ u. (tokens : List Lexeme) × (Derives tokens u × (length u.places ≡ suc (length tokens)))))

@@ -48,3 +48,4 @@ pub mod Steady
 pub mod SteadyUnits
 pub mod Weighing
 pub mod BodyTokens
+pub mod Together

@@ -197,3 +197,11 @@ CountsAreKept = (us : List UnitTree) → AreAccepted us → AreRead us → Keeps
 -- the counts of a procedure's statements come to at most its own
 abbrev pub BodiesAreCounted : Type 0
 BodiesAreCounted = (us : List UnitTree) → AreAccepted us → AreDerived us → All (λ q. body_tokens q ≤ q.tokens) (meaning_of us).procs
+
+-- each statement of a procedure, and the whole of it, counts at least as many tokens as its shortest text has
+pub record HasShortest (q : Proc) : Type 0 where
+  pub statements : IsTrue (list_all (λ st. nat_le (own_tokens q st.form) st.tokens) (body_statements q))
+  pub whole : procedure_tokens q ≤ q.tokens
+
+abbrev pub ProgramsAreInRange : Type 0
+ProgramsAreInRange = (us : List UnitTree) → AreAccepted us → AreRead us → TextsAreBytes us → All HasShortest (meaning_of us).procs → IsInRange (meaning_of us)
