@@ -1,6 +1,6 @@
 -- Each statement of accepted units that derive some tokens is in range.
-use Rattle.std.proofs.Common.{◌≡◌, ℕ, ◌+◌, ◌<◌, refl, sym, ap, ◌∙◌, subst, Bool, true, false, List, [], ◌∷◌, ◌++◌, Option, Some, None, arith, length, All, IsTrue}
-use Rattle.std.specs.Prelude.{map, flat_map, nat_lt, nat_le, ◌&&◌}
+use Rattle.std.proofs.Common.{◌≡◌, ℕ, ◌+◌, refl, sym, ap, ◌∙◌, Bool, true, false, List, [], ◌∷◌, Option, Some, None, length, IsTrue}
+use Rattle.std.specs.Prelude.{map, nat_lt, nat_le, ◌&&◌}
 use Rattle.std.specs.List.{list_all}
 use Rattle.std.proofs.lemmas.Bool.{and_parts}
 use Rattle.std.proofs.lemmas.List.{length-map}
@@ -16,36 +16,32 @@ use Rattle.cmm_ast.specs.declared.statement.Exit.{Exit}
 use Rattle.cmm_ast.specs.declared.statement.Kinded.{Kinded}
 use Rattle.cmm_ast.specs.declared.statement.Part.{Part}
 use Rattle.cmm_ast.specs.declared.statement.Part.TheVariants as parts
-use Rattle.cmm_ast.specs.declared.statement.StmtForm.{StmtForm, Row_of-Arm, end_of-Arm, more_of-Arm}
+use Rattle.cmm_ast.specs.declared.statement.StmtForm.{Row_of-Arm, end_of-Arm, more_of-Arm}
 use Rattle.cmm_ast.specs.declared.statement.StmtForm.TheVariants as stmts
-use Rattle.cmm_ast.specs.declared.unit.Item.{Item}
 use Rattle.cmm_ast.specs.declared.unit.Unit.{Unit as UnitTree}
 use Rattle.cmm_ast.specs.Derivation.{Derives}
 use Rattle.cmm_program.specs.declared.expression.Expression.{Expression}
 use Rattle.cmm_program.specs.declared.procedure.Proc.{Proc}
 use Rattle.cmm_program.specs.declared.program.Program.{Program}
-use Rattle.cmm_program.specs.declared.statement.Arm.{Arm, roll-Arm}
-use Rattle.cmm_program.specs.declared.statement.Case.TheVariants as cases
+use Rattle.cmm_program.specs.declared.statement.Arm.{Arm}
 use Rattle.cmm_program.specs.declared.statement.Form.{Form}
 use Rattle.cmm_program.specs.declared.statement.Form.TheVariants as forms
-use Rattle.cmm_program.specs.declared.statement.Statement.{Statement}
 use Rattle.cmm_program.specs.Bodies.{Branch, branches, body_statements}
 use Rattle.cmm_program.specs.InRange.{has_ranges, is_range, all_ranges, none_meet, defaults, are_arms, is_form}
-use Rattle.cmm_program.specs.Typing.{typed as width_of, is_typed}
+use Rattle.cmm_program.specs.Typing.{typed as width_of}
 use Rattle.cmm_accepted.specs.declared.sense.Host.{Host}
 use Rattle.cmm_accepted.specs.declared.sense.Host.TheVariants.{Yield, PutByte, GetByte}
-use Rattle.cmm_accepted.specs.Items.{SpanTree, items_of, parts_of}
+use Rattle.cmm_accepted.specs.Items.{items_of, parts_of}
 use Rattle.cmm_accepted.specs.Calls.{foreign_callee}
 use Rattle.cmm_accepted.specs.Switches.{heads}
-use Rattle.cmm_accepted.specs.Declarations.{NamedUnit, named_units, units_from, procs_in, labels_in, sum_of}
+use Rattle.cmm_accepted.specs.Declarations.{named_units, units_from, procs_in, labels_in, sum_of}
 use Rattle.cmm_accepted.specs.Linking.{program_of}
 use Rattle.cmm_accepted.specs.Limits.{sites_of}
 use Rattle.cmm_accepted.specs.Scopes.{Scope, senses, unit_senses}
 use Rattle.cmm_accepted.specs.Statements.{scope_of}
-use Rattle.cmm_accepted.specs.Faults.{AreAccepted}
 use Rattle.cmm_meaning.specs.Resolving.{value_of, values_of, callee_of, place_of}
 use Rattle.cmm_meaning.specs.Sites.{is_yield}
-use Rattle.cmm_meaning.specs.Bodies.{sites_in_row, value_width, range_of, case_of, row_of, arms_of, form_of, part_of, host_form, return_form}
+use Rattle.cmm_meaning.specs.Bodies.{sites_in_row, value_width, range_of, case_of, row_of, arms_of, part_of, host_form, return_form}
 use Rattle.cmm_meaning.specs.Procedures.{procedure_of}
 use Rattle.cmm_meaning.specs.Meaning.{meaning_of}
 use Rattle.cmm_meaning.specs.Laws.{AreDerived, keeps_rules, are_apart, ranges_apart, FormsAreInRange}
@@ -54,7 +50,7 @@ use Rattle.cmm_meaning.proofs.Flat.{flat_from, procedure_is}
 use Rattle.cmm_meaning.proofs.Keeping.{both_true}
 use Rattle.cmm_meaning.proofs.Forms.{all_three, statement_kept}
 use Rattle.cmm_meaning.proofs.Switching.{branch_of, hidden_branches, rolled_case, statement_apart}
-use Rattle.cmm_meaning.proofs.Derived.{has_range, has_parts, part_has, item_has, unit_has}
+use Rattle.cmm_meaning.proofs.Derived.{has_range, part_has, item_has, unit_has}
 
 -- what the grammar asks of a resolved statement
 abbrev has_all : Form → Bool

@@ -1,18 +1,15 @@
 -- The places and values of assignments that break no rule, and the operands of checked operators: each value has the width of its place.
 use mathlib.Core.Former.{one_more}
-use Rattle.std.proofs.Common.{◌≡◌, ℕ, refl, sym, ap, ◌∙◌, subst, Bool, true, false, List, [], ◌∷◌, ◌++◌, Option, Some, None, Ok, Err, arith, length}
-use Rattle.std.specs.Prelude.{map, flat_map, option_map, unwrap_or, ◌==◌, ◌&&◌}
+use Rattle.std.proofs.Common.{◌≡◌, ℕ, refl, sym, ap, ◌∙◌, subst, true, List, [], ◌∷◌, ◌++◌, Option, Some, None, Ok, Err, arith, length}
+use Rattle.std.specs.Prelude.{map, flat_map, option_map, unwrap_or, ◌==◌}
 use Rattle.std.proofs.lemmas.Bool.{eqb-true}
 use Rattle.std.proofs.lemmas.Grind.{flat_map-append}
 use Rattle.cmm_words.specs.declared.width.Width.{Width}
 use Rattle.cmm_words.specs.declared.width.Width.TheVariants.{W64}
-use Rattle.cmm_words.specs.declared.operators.Op2.{Op2}
-use Rattle.cmm_words.specs.Widths.{bits}
-use Rattle.cmm_words.specs.Words.{is_division}
 use Rattle.cmm_ast.specs.declared.token.Ident.{Ident}
 use Rattle.cmm_ast.specs.declared.token.Int.{Int as IntTree}
 use Rattle.cmm_ast.specs.declared.expression.Expr.{Expr}
-use Rattle.cmm_ast.specs.declared.expression.ExprForm.{ExprForm, Row_of-Expr, more_of-Expr}
+use Rattle.cmm_ast.specs.declared.expression.ExprForm.{Row_of-Expr, more_of-Expr}
 use Rattle.cmm_ast.specs.declared.expression.Memory.{Memory, Memory'}
 use Rattle.cmm_ast.specs.declared.expression.TypeName.{TypeName}
 use Rattle.cmm_ast.specs.declared.statement.Lvalue.{Lvalue as LvalueTree}
@@ -24,7 +21,6 @@ use Rattle.cmm_program.specs.declared.program.Program.{Program}
 use Rattle.cmm_program.specs.InRange.{is_lvalue, are_assigned, lvalue_width}
 use Rattle.cmm_program.specs.Orders.{target_width as resolved_width}
 use Rattle.cmm_program.specs.Typing.{is_alignment, has_width}
-use Rattle.cmm_accepted.specs.declared.judged.Bits.{Bits}
 use Rattle.cmm_accepted.specs.declared.judged.Typed.{Typed}
 use Rattle.cmm_accepted.specs.declared.judged.Typed.TheVariants as typed
 use Rattle.cmm_accepted.specs.declared.judged.Operand.{Operand}
@@ -36,19 +32,19 @@ use Rattle.cmm_accepted.specs.Algebras.{knowns, expressions}
 use Rattle.cmm_accepted.specs.Calls.{target_spots}
 use Rattle.cmm_accepted.specs.Judging.{Judged, with_ok, with_both, as_wanted, spots, if_ok}
 use Rattle.cmm_accepted.specs.Mentions.{values_alone, form_names, row_names, form_alignments, row_alignments, listed}
-use Rattle.cmm_accepted.specs.Typing.{type_width, alignment, load, operand_at, operand, form_type, memory_type, wanted}
+use Rattle.cmm_accepted.specs.Typing.{type_width, alignment, load, operand_at, operand, form_type, wanted}
 use Rattle.cmm_accepted.specs.Expressions.{host_spots, alignment_spots, inner_spots, bits_spots}
 use Rattle.cmm_accepted.specs.Scopes.{Scope, senses}
 use Rattle.cmm_accepted.specs.Statements.{memory_expr, lvalue_spots, lvalue_width as wanted_width, sides}
-use Rattle.cmm_meaning.specs.Fitting.{NamesFit, sense_fits}
-use Rattle.cmm_meaning.specs.Resolving.{value_in, value_of, width_at, target_in, operand_in, memory_place, place_of}
+use Rattle.cmm_meaning.specs.Fitting.{NamesFit}
+use Rattle.cmm_meaning.specs.Resolving.{value_in, value_of, width_at, target_in, operand_in, place_of}
 use Rattle.cmm_meaning.proofs.Nothing.{no_left, no_right}
 use Rattle.cmm_meaning.proofs.Judged.{alignment_is}
 use Rattle.cmm_meaning.proofs.Keeping.{both_true}
 use Rattle.cmm_meaning.proofs.SiteParts.{target_there}
 use Rattle.cmm_meaning.proofs.Wide.{IsWide}
 use Rattle.cmm_meaning.proofs.Whole.{IsUnbroken}
-use Rattle.cmm_meaning.proofs.Values.{was_ok, AreBits, bits_from, bits_are_there, wide_value, has_wanted}
+use Rattle.cmm_meaning.proofs.Values.{was_ok, bits_from, bits_are_there, wide_value, has_wanted}
 
 pub record BothOk {A B C : Type 0} (i : Judged A) (j : Judged B) (next : A → B → Judged C) (c : C) : Type 0 where
   pub first : A

@@ -1,7 +1,7 @@
 -- The counts of a procedure's statements come to at most the procedure's own, where its unit derives some tokens: a statement has what stands between its
 -- ends, without what stands in the blocks inside it.
-use Rattle.std.proofs.Common.{◌≡◌, ℕ, suc, ◌+◌, ◌-◌, ◌≤◌, refl, sym, ap, ◌∙◌, subst, Bool, true, false, List, [], ◌∷◌, ◌++◌, Option, Some, None, arith, length, All}
-use Rattle.std.specs.Prelude.{map, flat_map, nat_le, sum_by, ◌&&◌}
+use Rattle.std.proofs.Common.{◌≡◌, ℕ, ◌+◌, ◌-◌, ◌≤◌, refl, sym, ap, ◌∙◌, subst, Bool, true, List, [], ◌∷◌, ◌++◌, Some, None, arith}
+use Rattle.std.specs.Prelude.{map, flat_map, nat_le, sum_by}
 use Rattle.std.specs.List.{list_all}
 use Rattle.std.proofs.lemmas.Bool.{le-leb, leb-true}
 use Rattle.std.proofs.lemmas.List.Elements.{All-head, All-tail}
@@ -9,7 +9,7 @@ use Rattle.std.proofs.lemmas.List.Sums.{sum_by-append, sum_by-cons}
 use Rattle.cmm_lexer.specs.declared.piece.Lexeme.{Lexeme}
 use Rattle.cmm_lexer.specs.declared.keyword.Keyword.TheVariants.{Else, If, Span as SpanWord, Switch}
 use Rattle.cmm_ast.specs.declared.procedure.Proc.{Proc as ProcTree}
-use Rattle.cmm_ast.specs.declared.statement.Block.{Block, Row_of-Part, end_of-Part, more_of-Part}
+use Rattle.cmm_ast.specs.declared.statement.Block.{Row_of-Part, end_of-Part, more_of-Part}
 use Rattle.cmm_ast.specs.declared.statement.Otherwise.{Otherwise, more_of-Stmt}
 use Rattle.cmm_ast.specs.declared.statement.Otherwise.TheVariants.{Nothing as NoElse, Else', ElseIf'}
 use Rattle.cmm_ast.specs.declared.statement.Otherwise.TheBlock as OtherwiseForms
@@ -17,19 +17,15 @@ use Rattle.cmm_ast.specs.declared.statement.Part.{Part}
 use Rattle.cmm_ast.specs.declared.statement.Part.TheVariants as parts
 use Rattle.cmm_ast.specs.declared.statement.StmtForm.{StmtForm, Row_of-Arm, end_of-Arm, more_of-Arm}
 use Rattle.cmm_ast.specs.declared.statement.StmtForm.TheVariants as stmts
-use Rattle.cmm_ast.specs.declared.unit.Item.{Item}
-use Rattle.cmm_ast.specs.declared.unit.Item.TheVariants as items
 use Rattle.cmm_ast.specs.declared.unit.Unit.{Unit as UnitTree}
 use Rattle.cmm_ast.specs.Derivation.{Derives}
 use Rattle.cmm_ast.specs.Taking.{Reading, Takes, ◌⨾◌, token, is_name, keyword, here, opening, enclosed, round, braces, optional, may_list}
 use Rattle.cmm_ast.specs.ExpressionGrammar.{ident, whole, whole_prim}
 use Rattle.cmm_ast.specs.StatementGrammar.{formal, case, switch_span, local_form, stmt_form, otherwise_, chained, part_row, part_, arm_row, block, proc}
-use Rattle.cmm_program.specs.declared.procedure.Proc.{Proc}
 use Rattle.cmm_program.specs.declared.statement.Statement.{Statement}
-use Rattle.cmm_program.specs.Bodies.{body_statements}
 use Rattle.cmm_program.specs.Numbering.{body_tokens}
 use Rattle.cmm_accepted.specs.Items.{SpanTree, Within, items_of, parts_inside, parts_otherwise, part_within, parts_row, parts_of_arms, parts_in, parts_of}
-use Rattle.cmm_accepted.specs.Declarations.{NamedUnit, named_units, units_from, procs_in, labels_in, sum_of}
+use Rattle.cmm_accepted.specs.Declarations.{named_units, units_from, procs_in, labels_in, sum_of}
 use Rattle.cmm_accepted.specs.Linking.{program_of}
 use Rattle.cmm_accepted.specs.Limits.{sites_of}
 use Rattle.cmm_accepted.specs.Scopes.{Scope, unit_senses}
@@ -40,10 +36,10 @@ use Rattle.cmm_meaning.specs.Laws.{AreDerived, BodiesAreCounted}
 use Rattle.cmm_meaning.proofs.Everywhere.{all_read}
 use Rattle.cmm_meaning.proofs.Flat.{flat_from, procedure_is}
 use Rattle.cmm_meaning.proofs.Keeping.{both_true}
-use Rattle.cmm_meaning.proofs.Derived.{Taken, Middle, middle, hidden_parts, block_is, item_test, unit_test}
-use Rattle.cmm_meaning.proofs.Steady.{IsSteady, Moves, here_is, steady_keyword, steady_opening, steady_whole, steady_primary, steady_optional, steady_round, steady_list, steady_ident, steady_braces}
+use Rattle.cmm_meaning.proofs.Derived.{Taken, middle, hidden_parts, block_is, item_test, unit_test}
+use Rattle.cmm_meaning.proofs.Steady.{IsSteady, here_is, steady_keyword, steady_opening, steady_whole, steady_primary, steady_optional, steady_round, steady_list, steady_ident}
 use Rattle.cmm_meaning.proofs.SteadyUnits.{steady_case, steady_span, steady_formal, steady_local, steady_stmt}
-use Rattle.cmm_meaning.proofs.Weighing.{Inside, inside_of, taken_of}
+use Rattle.cmm_meaning.proofs.Weighing.{inside_of, taken_of}
 
 -- a statement's own tokens, and those of some parts
 abbrev own : Part → ℕ

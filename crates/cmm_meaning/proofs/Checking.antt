@@ -1,6 +1,6 @@
 -- Checked operators that break no rule: a division, of two operands of one width, whose result has a place of it.
-use Rattle.std.proofs.Common.{◌≡◌, ℕ, refl, sym, ap, ◌∙◌, subst, Bool, true, false, List, [], ◌∷◌, ◌++◌, Option, Some, None, Ok, Err}
-use Rattle.std.specs.Prelude.{option_map, ◌==◌, ◌&&◌}
+use Rattle.std.proofs.Common.{◌≡◌, ℕ, refl, sym, ap, ◌∙◌, subst, Bool, true, false, List, [], Option, Some, None, Ok}
+use Rattle.std.specs.Prelude.{option_map, ◌==◌}
 use Rattle.cmm_words.specs.declared.width.Width.{Width}
 use Rattle.cmm_words.specs.declared.operators.Op2.{Op2}
 use Rattle.cmm_words.specs.Widths.{bits}
@@ -16,9 +16,7 @@ use Rattle.cmm_accepted.specs.declared.spot.Spot.{Spot}
 use Rattle.cmm_accepted.specs.declared.operator.Operator.{Operator}
 use Rattle.cmm_accepted.specs.declared.operator.Operator.TheVariants as operators
 use Rattle.cmm_accepted.specs.declared.judged.Bits.{Bits}
-use Rattle.cmm_accepted.specs.declared.judged.Typed.{Typed}
 use Rattle.cmm_accepted.specs.declared.judged.Typed.TheVariants as typed
-use Rattle.cmm_accepted.specs.declared.judged.Operand.{Operand}
 use Rattle.cmm_accepted.specs.declared.judged.Operands.TheVariants as operands
 use Rattle.cmm_accepted.specs.declared.known.Known.{Known}
 use Rattle.cmm_accepted.specs.Spots.{at}
@@ -26,7 +24,7 @@ use Rattle.cmm_accepted.specs.Senses.{Senses, target_width}
 use Rattle.cmm_accepted.specs.Operators.{operator_named, if_division, checked_named}
 use Rattle.cmm_accepted.specs.Algebras.{knowns}
 use Rattle.cmm_accepted.specs.Calls.{ident_spots}
-use Rattle.cmm_accepted.specs.Judging.{Judged, with_ok, as_bits, as_wanted, of_width, bits_of, spots, if_ok}
+use Rattle.cmm_accepted.specs.Judging.{with_ok, as_bits, as_wanted, of_width, spots, if_ok}
 use Rattle.cmm_accepted.specs.Mentions.{values_alone, expr_names}
 use Rattle.cmm_accepted.specs.Typing.{expr_type, operand_at, binary, applied, wanted, with_values}
 use Rattle.cmm_accepted.specs.Expressions.{inner_spots}
@@ -42,8 +40,8 @@ use Rattle.cmm_meaning.proofs.Wide.{IsWide}
 use Rattle.cmm_meaning.proofs.Whole.{Whole, IsUnbroken, whole_both, TypedWhole, OperandWhole, operand_at_whole, applied_whole, expression_whole}
 use Rattle.cmm_meaning.proofs.Settled.{whole_ok}
 use Rattle.cmm_meaning.proofs.Datums.{all_unbroken}
-use Rattle.cmm_meaning.proofs.Values.{was_ok, ok_is, AreBits, bits_from, wide_value}
-use Rattle.cmm_meaning.proofs.Assigning.{BothOk, both_ok, operand_was, ident_place}
+use Rattle.cmm_meaning.proofs.Values.{was_ok, ok_is, bits_from, wide_value}
+use Rattle.cmm_meaning.proofs.Assigning.{both_ok, operand_was, ident_place}
 
 -- ---- the operator
 

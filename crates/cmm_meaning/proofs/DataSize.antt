@@ -1,21 +1,19 @@
 -- The data of accepted units takes at most 64 MiB, from where data begins.
-use Rattle.std.proofs.Common.{◌≡◌, ℕ, ◌+◌, ◌≤◌, refl, sym, ap, ◌∙◌, subst, Bool, true, false, List, [], ◌∷◌, ◌++◌, Option, Some, None, arith, length, take}
+use Rattle.std.proofs.Common.{◌≡◌, ℕ, ◌+◌, ◌≤◌, refl, sym, ap, ◌∙◌, subst, true, List, [], ◌∷◌, ◌++◌, arith, length, take}
 use Rattle.std.specs.Prelude.{map, flat_map}
 use Rattle.std.proofs.lemmas.Bool.{and_parts, leb-true}
 use Rattle.std.proofs.lemmas.List.{map-append, length-map, take_all}
-use Rattle.cmm_words.specs.declared.width.Width.{Width}
-use Rattle.cmm_words.specs.Widths.{bytes}
 use Rattle.cmm_ast.specs.declared.unit.DatumForm.{DatumForm}
 use Rattle.cmm_ast.specs.declared.unit.DatumForm.TheVariants as data_forms
 use Rattle.cmm_ast.specs.declared.unit.Item.{Item}
 use Rattle.cmm_ast.specs.declared.unit.Item.TheVariants as items
-use Rattle.cmm_program.specs.Layout.{Piece, aligned_up, end_of, datum_piece, end_before}
+use Rattle.cmm_program.specs.Layout.{Piece, aligned_up, end_of, datum_piece}
 use Rattle.cmm_program.specs.Typing.{is_alignment}
 use Rattle.cmm_accepted.specs.Senses.{Senses}
 use Rattle.cmm_accepted.specs.Items.{Within}
 use Rattle.cmm_accepted.specs.Declarations.{NamedUnit, named_units}
 use Rattle.cmm_accepted.specs.Linking.{Program as Linked, program_of}
-use Rattle.cmm_accepted.specs.Limits.{bytes_of, align_piece, datum_pieces, item_pieces, data_pieces}
+use Rattle.cmm_accepted.specs.Limits.{datum_pieces, item_pieces, data_pieces}
 use Rattle.cmm_accepted.specs.Scopes.{unit_senses}
 use Rattle.cmm_accepted.specs.Judging.{if_ok}
 use Rattle.cmm_accepted.specs.Typing.{type_width}

@@ -1,6 +1,6 @@
 -- The data of accepted units is in range: alignments are those of the language, and the values of a datum fill it, each with its width.
-use Rattle.std.proofs.Common.{◌≡◌, ℕ, ◌+◌, ◌*◌, refl, sym, ap, ◌∙◌, subst, Bool, true, false, List, [], ◌∷◌, ◌++◌, append_assoc, Option, Some, None, Ok, Err, length}
-use Rattle.std.specs.Prelude.{map, flat_map, unwrap_or, nat_lt, ◌==◌, ◌&&◌}
+use Rattle.std.proofs.Common.{◌≡◌, ℕ, ◌*◌, refl, sym, ap, ◌∙◌, subst, Bool, true, false, List, [], ◌∷◌, ◌++◌, append_assoc, Option, Some, None, Ok, Err, length}
+use Rattle.std.specs.Prelude.{map, flat_map, unwrap_or, ◌==◌}
 use Rattle.std.specs.List.{list_all}
 use Rattle.std.proofs.lemmas.Bool.{and_parts, eqb-true, eq-eqb}
 use Rattle.std.proofs.lemmas.List.{length-map}
@@ -27,7 +27,6 @@ use Rattle.cmm_program.specs.declared.program.Program.{Program}
 use Rattle.cmm_program.specs.InRange.{below, is_datum, is_initial}
 use Rattle.cmm_program.specs.Typing.{same_width, if_holds, is_alignment, constant_width}
 use Rattle.cmm_rules.specs.declared.rule.Rule.TheVariants.{WidthsDiffer, CountsDiffer}
-use Rattle.cmm_accepted.specs.declared.judged.Bits.{Bits}
 use Rattle.cmm_accepted.specs.declared.known.Known.{Known}
 use Rattle.cmm_accepted.specs.declared.known.Known.TheVariants as known
 use Rattle.cmm_accepted.specs.Senses.{Senses}
@@ -39,7 +38,7 @@ use Rattle.cmm_accepted.specs.Typing.{type_width, wanted}
 use Rattle.cmm_accepted.specs.Constants.{wanted_alone, as_number, constant_known, as_constant, number_of, constant_alone}
 use Rattle.cmm_accepted.specs.Expressions.{inner_spots, type_spots, number_spots, constant_alone_spots}
 use Rattle.cmm_accepted.specs.Units.{width_spots, count_spots, initial_spots, initial_count, is_count, counts_agree, datum_spots, item_spots}
-use Rattle.cmm_accepted.specs.Limits.{bytes_of, piece_of, data_count}
+use Rattle.cmm_accepted.specs.Limits.{piece_of, data_count}
 use Rattle.cmm_accepted.specs.Declarations.{NamedUnit, named_units}
 use Rattle.cmm_accepted.specs.Linking.{program_of}
 use Rattle.cmm_accepted.specs.Scopes.{unit_senses}

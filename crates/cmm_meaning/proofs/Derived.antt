@@ -1,6 +1,6 @@
 -- What the grammar asks of the statements of a unit that derives some tokens: something is assigned to, and each arm of a switch but the default has
 -- a range.
-use Rattle.std.proofs.Common.{◌≡◌, ℕ, suc, ◌+◌, ◌<◌, refl, sym, ap, ◌∙◌, subst, Bool, true, false, List, [], ◌∷◌, ◌++◌, Option, Some, None, arith, length}
+use Rattle.std.proofs.Common.{◌≡◌, refl, sym, ap, ◌∙◌, subst, Bool, true, List, [], ◌∷◌, ◌++◌, Option, Some, None, arith, length}
 use Rattle.std.specs.Prelude.{map, flat_map, nat_lt, ◌&&◌}
 use Rattle.std.specs.List.{list_all}
 use Rattle.std.proofs.lemmas.Bool.{lt-ltb}
@@ -9,10 +9,9 @@ use denote.Hole.Carrier as Carrier
 use Rattle.cmm_lexer.specs.declared.piece.Lexeme.{Lexeme}
 use Rattle.cmm_lexer.specs.declared.keyword.Keyword.TheVariants.{Else, If, Section as SectionWord, Span as SpanWord, Switch}
 use Rattle.cmm_lexer.specs.declared.keyword.Keyword.TheVariants as word
-use Rattle.cmm_lexer.specs.declared.symbol.Symbol.{Symbol}
 use Rattle.cmm_lexer.specs.declared.symbol.Symbol.TheVariants.{Assign, Colon, Semicolon, OpenBrace, CloseBrace}
 use Rattle.cmm_ast.specs.declared.procedure.Proc.{Proc}
-use Rattle.cmm_ast.specs.declared.statement.Block.{Block, Row_of-Part, end_of-Part, more_of-Part, items-the_row-Part, items_hidden-the_row-Part-0}
+use Rattle.cmm_ast.specs.declared.statement.Block.{Row_of-Part, end_of-Part, more_of-Part, items-the_row-Part, items_hidden-the_row-Part-0}
 use Rattle.cmm_ast.specs.declared.statement.Case.{Case}
 use Rattle.cmm_ast.specs.declared.statement.Case.TheVariants.{Ranges, Default}
 use Rattle.cmm_ast.specs.declared.statement.Otherwise.{Otherwise, more_of-Stmt}
@@ -31,9 +30,9 @@ use Rattle.cmm_ast.specs.Derivation.{Derives, at_start}
 use Rattle.cmm_ast.specs.Taking.{Reading, Takes, ◌⨾◌, keyword, symbol, here, opening, enclosed, round, braces, optional, many, commas, listed, may_list}
 use Rattle.cmm_ast.specs.ExpressionGrammar.{ident, text, whole, whole_prim}
 use Rattle.cmm_ast.specs.StatementGrammar.{formal, lvalue, range, case, switch_span, stmt_form, otherwise_, chained, part_row, part_, arm_row, block, proc}
-use Rattle.cmm_ast.specs.UnitGrammar.{item, item_row, top_level, unit}
-use Rattle.cmm_accepted.specs.Items.{SpanTree, Within, within, item_within, items_within, top_items, items_of, parts_inside, parts_otherwise, part_within, parts_row, parts_of_arms, parts_in, parts_of}
-use Rattle.cmm_accepted.specs.Switches.{Head, heads}
+use Rattle.cmm_ast.specs.UnitGrammar.{item, item_row, top_level}
+use Rattle.cmm_accepted.specs.Items.{SpanTree, Within, item_within, items_within, top_items, items_of, parts_inside, parts_otherwise, part_within, parts_row, parts_of_arms, parts_in, parts_of}
+use Rattle.cmm_accepted.specs.Switches.{heads}
 use Rattle.cmm_meaning.proofs.Keeping.{both_true}
 
 -- ---- what is taken has been taken part by part

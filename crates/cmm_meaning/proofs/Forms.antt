@@ -1,5 +1,5 @@
 -- The statements of accepted units keep the rules on what they compute with, on call sites, and on ways to go.
-use Rattle.std.proofs.Common.{◌≡◌, ℕ, zero, suc, ◌+◌, ◌<◌, ◌≤◌, refl, sym, ap, ◌∙◌, subst, Bool, true, false, List, [], ◌∷◌, ◌++◌, append_assoc, Option, Some, None, Ok, Err, arith, length, length-append, All, IsTrue, inl, inr}
+use Rattle.std.proofs.Common.{◌≡◌, ℕ, zero, suc, ◌+◌, ◌≤◌, refl, sym, ap, ◌∙◌, subst, Bool, true, false, List, [], ◌∷◌, ◌++◌, append_assoc, Option, Some, None, arith, length, length-append, IsTrue, inl, inr}
 use Rattle.std.specs.Prelude.{map, flat_map, unwrap_or, not, nat_le, slice_get, ◌==◌, ◌&&◌}
 use Rattle.std.specs.List.{list_all, range_with_len}
 use Rattle.std.specs.Option.{is_some}
@@ -10,7 +10,6 @@ use Rattle.cmm_words.specs.declared.width.Width.TheVariants.{W64}
 use Rattle.cmm_words.specs.Widths.{bits}
 use Rattle.cmm_words.specs.Words.{is_division}
 use Rattle.cmm_ast.specs.declared.procedure.Proc.{Proc as ProcTree}
-use Rattle.cmm_ast.specs.declared.expression.Expr.{Expr}
 use Rattle.cmm_ast.specs.declared.token.Ident.{Ident}
 use Rattle.cmm_ast.specs.declared.statement.Actual.{Actual}
 use Rattle.cmm_ast.specs.declared.statement.Callee.{Callee}
@@ -23,25 +22,20 @@ use Rattle.cmm_ast.specs.declared.statement.StmtForm.{StmtForm}
 use Rattle.cmm_ast.specs.declared.statement.StmtForm.TheVariants as stmts
 use Rattle.cmm_ast.specs.declared.unit.Item.TheVariants as items
 use Rattle.cmm_ast.specs.declared.unit.Unit.{Unit as UnitTree}
-use Rattle.cmm_program.specs.declared.expression.Expression.{Expression}
 use Rattle.cmm_program.specs.declared.procedure.Proc.{Proc}
 use Rattle.cmm_program.specs.declared.procedure.Site.{Site}
 use Rattle.cmm_program.specs.declared.procedure.Target.{Target}
 use Rattle.cmm_program.specs.declared.program.Program.{Program}
 use Rattle.cmm_program.specs.declared.statement.Form.{Form}
 use Rattle.cmm_program.specs.declared.statement.Form.TheVariants as forms
-use Rattle.cmm_program.specs.declared.statement.Statement.{Statement}
 use Rattle.cmm_program.specs.Bodies.{body_statements}
 use Rattle.cmm_program.specs.Numbering.{continuation_number}
 use Rattle.cmm_program.specs.Orders.{target_width as resolved_width}
-use Rattle.cmm_program.specs.InRange.{below, at_site, is_call_site, is_yield_site, is_checked_site, are_passed, are_assigned, is_form}
-use Rattle.cmm_program.specs.Typing.{same_width, is_target, is_typed, has_width, is_condition}
+use Rattle.cmm_program.specs.InRange.{below, at_site, is_call_site, is_yield_site, is_checked_site, are_passed}
+use Rattle.cmm_program.specs.Typing.{same_width, has_width}
 use Rattle.cmm_rules.specs.declared.rule.Rule.TheVariants.{BadReturnIndex, BadHostCall, CountsDiffer}
-use Rattle.cmm_accepted.specs.declared.judged.Bits.{Bits}
-use Rattle.cmm_accepted.specs.declared.judged.Typed.TheVariants as typed
-use Rattle.cmm_accepted.specs.declared.known.Known.{Known}
 use Rattle.cmm_accepted.specs.declared.sense.Host.{Host}
-use Rattle.cmm_accepted.specs.declared.sense.Host.TheVariants.{Yield, PutByte, GetByte}
+use Rattle.cmm_accepted.specs.declared.sense.Host.TheVariants.{PutByte, GetByte}
 use Rattle.cmm_accepted.specs.Senses.{Senses, target_width}
 use Rattle.cmm_accepted.specs.Operators.{checked_named}
 use Rattle.cmm_accepted.specs.Algebras.{knowns}
@@ -55,13 +49,12 @@ use Rattle.cmm_accepted.specs.Declarations.{NamedUnit, named_units}
 use Rattle.cmm_accepted.specs.Linking.{program_of}
 use Rattle.cmm_accepted.specs.Limits.{number_or_zero, sites_of, proc_limits}
 use Rattle.cmm_accepted.specs.Scopes.{Scope, senses, unit_senses}
-use Rattle.cmm_accepted.specs.Statements.{lvalue_spots, sides, is_exit, return_spots, passed, stmt_spots, checked_spots, part_spots, scope_of, proc_spots}
+use Rattle.cmm_accepted.specs.Statements.{lvalue_spots, sides, is_exit, return_spots, stmt_spots, checked_spots, part_spots, scope_of, proc_spots}
 use Rattle.cmm_accepted.specs.Faults.{AreAccepted, item_procedure_spots}
-use Rattle.cmm_accepted.specs.Switches.{heads, switch_spots}
 use Rattle.cmm_meaning.specs.Fitting.{NamesFit}
 use Rattle.cmm_meaning.specs.Resolving.{value_of, values_of, callee_of, target_of}
 use Rattle.cmm_meaning.specs.Sites.{SpanValue, span_value, innermost, is_yield, yielded_by, site_with, form_sites, part_sites, sites_among}
-use Rattle.cmm_meaning.specs.Bodies.{host_form, return_form, form_of, part_of, value_width, width_or, division}
+use Rattle.cmm_meaning.specs.Bodies.{host_form, return_form, form_of, part_of, division}
 use Rattle.cmm_meaning.specs.Procedures.{procedure_of}
 use Rattle.cmm_meaning.specs.Meaning.{meaning_of}
 use Rattle.cmm_meaning.specs.Laws.{AreInOrder, leads, keeps_rules, StatementsKeepRules}

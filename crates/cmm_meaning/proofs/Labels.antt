@@ -1,5 +1,5 @@
 -- The data labels of accepted units stand on datums of their program, or behind one, and their names are short.
-use Rattle.std.proofs.Common.{◌≡◌, ℕ, suc, ◌+◌, ◌≤◌, refl, sym, ap, ◌∙◌, subst, Bool, true, false, cond, List, [], ◌∷◌, ◌++◌, Option, Some, None, arith, length, length-append, IsTrue}
+use Rattle.std.proofs.Common.{◌≡◌, ℕ, suc, ◌+◌, ◌≤◌, refl, ap, ◌∙◌, subst, Bool, true, false, cond, List, [], ◌∷◌, ◌++◌, Option, Some, None, arith, length, length-append}
 use Rattle.std.specs.Prelude.{map, flat_map, filter, bytes_eq, nat_le, nat_lt}
 use Rattle.std.specs.List.{list_all}
 use Rattle.std.proofs.lemmas.Bool.{le-leb, lt-ltb, and_parts}
@@ -22,7 +22,7 @@ use Rattle.cmm_program.specs.InRange.{is_name, is_label}
 use Rattle.cmm_accepted.specs.Senses.{Senses}
 use Rattle.cmm_accepted.specs.Items.{SpanTree, Within, top_items, items_of}
 use Rattle.cmm_accepted.specs.Mentions.{listed, type_names}
-use Rattle.cmm_accepted.specs.LongNames.{long_spots, of_text, of_export, of_item, names_in}
+use Rattle.cmm_accepted.specs.LongNames.{of_text, of_export, of_item, names_in}
 use Rattle.cmm_accepted.specs.Declarations.{NamedUnit, named_units, units_from, entries_from, sum_of, procs_in, labels_in, link_name}
 use Rattle.cmm_accepted.specs.Linking.{Program as Linked, program_of, item_exports, exports_of, export_link}
 use Rattle.cmm_accepted.specs.Scopes.{unit_senses}

@@ -1,6 +1,6 @@
 -- What holds of each name that stands in an expression; and an expression is judged by what those names and its types mean.
 use mathlib.Core.Former.{one_more}
-use Rattle.std.proofs.Common.{◌≡◌, ℕ, refl, ap, ◌∙◌, List, [], ◌∷◌, ◌++◌, Option, Some, None, Ok, Err}
+use Rattle.std.proofs.Common.{◌≡◌, ℕ, refl, ap, ◌∙◌, List, [], ◌∷◌, ◌++◌, Option, Some, None, Ok}
 use Rattle.cmm_ast.specs.declared.token.Ident.{Ident}
 use Rattle.cmm_ast.specs.declared.expression.Expr.{Expr}
 use Rattle.cmm_ast.specs.declared.expression.ExprForm.{ExprForm, Row_of-Expr, end_of-Expr, more_of-Expr}
@@ -16,8 +16,8 @@ use Rattle.cmm_accepted.specs.Senses.{Senses}
 use Rattle.cmm_accepted.specs.Operators.{operator_named, infix_operator, prefix_operator}
 use Rattle.cmm_accepted.specs.Algebras.{Algebra}
 use Rattle.cmm_accepted.specs.Judging.{Judged, with_ok, with_both}
-use Rattle.cmm_accepted.specs.Mentions.{values_alone, form_names, row_names, prim_names, memory_names, expr_names, ident}
-use Rattle.cmm_accepted.specs.Typing.{type_width, literal_width, number_value, name_type, literal, literal_type, applied_to_one, applied_to_two, applied, with_operand, load, operand_at, form_type, operand, given_operands, prim_type, memory_type, expr_type}
+use Rattle.cmm_accepted.specs.Mentions.{values_alone, form_names, row_names, prim_names, memory_names, expr_names}
+use Rattle.cmm_accepted.specs.Typing.{type_width, literal_width, number_value, name_type, literal, applied_to_one, applied_to_two, applied, with_operand, load, operand_at, form_type, operand, given_operands, prim_type, memory_type, expr_type}
 
 abbrev pub EachName : (Ident → Type 0) → List Ident → Type 0
 EachName P [] = Unit {0}

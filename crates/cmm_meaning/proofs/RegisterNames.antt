@@ -21,7 +21,7 @@ use Rattle.cmm_accepted.specs.Mentions.{listed, type_names}
 use Rattle.cmm_accepted.specs.LongNames.{of_text, of_expr, of_formal, of_part, of_item, names_in}
 use Rattle.cmm_accepted.specs.Declarations.{Declared, Entry, Typedef, Const, Register, Import, DataLabel, Procedure, NamedUnit, named_units, units_from, each_as, import_entry, decl_entries, datum_entries, found, firsts, item_entries, entries_from, procs_in, labels_in, sum_of}
 use Rattle.cmm_accepted.specs.Linking.{is_among, register_entry, registers_of, distinct, register_names}
-use Rattle.cmm_meaning.specs.Meaning.{meaning_of, global_of}
+use Rattle.cmm_meaning.specs.Meaning.{global_of}
 use Rattle.cmm_meaning.specs.Laws.{RegisterNamesAreShort}
 use Rattle.cmm_meaning.proofs.Nothing.{unbroken, names_kept}
 use Rattle.cmm_meaning.proofs.Keeping.{both_true}

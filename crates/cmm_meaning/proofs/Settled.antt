@@ -23,7 +23,7 @@ use Rattle.cmm_accepted.specs.Algebras.{knowns}
 use Rattle.cmm_accepted.specs.Judging.{Judged, faulty, with_ok, as_wanted, spots, if_ok}
 use Rattle.cmm_accepted.specs.Mentions.{values_alone, expr_names}
 use Rattle.cmm_accepted.specs.Typing.{typedef_width, type_width, expr_type, wanted}
-use Rattle.cmm_accepted.specs.Constants.{Alone, Plain, Negative, alone, alone_type, alone_or, wanted_alone, number_known, as_number, number_alone}
+use Rattle.cmm_accepted.specs.Constants.{Alone, alone, alone_or, wanted_alone, number_known, as_number, number_alone}
 use Rattle.cmm_accepted.specs.Declarations.{Declared, Entry, Typedef, Const, Register, Import, DataLabel, Procedure, found, entry_of}
 use Rattle.cmm_accepted.specs.Linking.{Program as Linked}
 use Rattle.cmm_accepted.specs.Scopes.{typedef_sense, type_in, width_in, senses_by, valued, untyped_sense, typed_sense, const_sense, unit_senses, named_by, reaches, depends_on_itself}
@@ -33,9 +33,9 @@ use Rattle.cmm_meaning.proofs.Nothing.{no_left, no_right, no_unless}
 use Rattle.cmm_meaning.proofs.Naming.{same_name}
 use Rattle.cmm_meaning.proofs.Cycles.{Name, one_name, is_key, Twice, Keys, twice, reaches_in, IsAt, found_at, keys_of, keys_length, found_key, own_is}
 use Rattle.cmm_meaning.proofs.Declaring.{meant, entry_by, type_wide}
-use Rattle.cmm_meaning.proofs.Wide.{IsWide, steps_wide}
+use Rattle.cmm_meaning.proofs.Wide.{steps_wide}
 use Rattle.cmm_meaning.proofs.Mentioned.{EachName, judged_same}
-use Rattle.cmm_meaning.proofs.Whole.{Whole, Present, IsUnbroken, whole_with, BitsWhole, TypedWhole, bits_whole, wanted_whole, bits_wanted_whole, wanted_alone_whole}
+use Rattle.cmm_meaning.proofs.Whole.{Whole, Present, IsUnbroken, whole_with, BitsWhole, wanted_alone_whole}
 
 -- ---- numbers
 

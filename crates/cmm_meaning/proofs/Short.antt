@@ -17,7 +17,6 @@ use Rattle.cmm_ast.specs.declared.statement.Part.{Part}
 use Rattle.cmm_ast.specs.declared.statement.Part.TheVariants as parts
 use Rattle.cmm_ast.specs.declared.unit.Item.{Item}
 use Rattle.cmm_ast.specs.declared.unit.Item.TheVariants as items
-use Rattle.cmm_program.specs.declared.procedure.Proc.{Proc}
 use Rattle.cmm_program.specs.InRange.{is_name}
 use Rattle.cmm_rules.specs.declared.rule.Rule.TheVariants.{Limit}
 use Rattle.cmm_accepted.specs.Senses.{Senses}

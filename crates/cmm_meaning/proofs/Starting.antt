@@ -6,7 +6,6 @@ use Rattle.std.proofs.lemmas.List.{map-append}
 use Rattle.std.proofs.lemmas.Option.{slice_get-map}
 use Rattle.std.proofs.lemmas.Grind.{flat_map-append}
 use Rattle.cmm_words.specs.declared.constant.Constant.{Constant}
-use Rattle.cmm_words.specs.declared.constant.Constant.TheVariants.{Code}
 use Rattle.cmm_ast.specs.declared.declaration.Export.{Export}
 use Rattle.cmm_ast.specs.declared.procedure.Formal.{Formal}
 use Rattle.cmm_ast.specs.declared.unit.DatumForm.{DatumForm}
@@ -18,10 +17,10 @@ use Rattle.cmm_program.specs.declared.procedure.Proc.{Proc}
 use Rattle.cmm_rules.specs.declared.rule.Rule.TheVariants.{ExportedTwice}
 use Rattle.cmm_accepted.specs.Senses.{Senses}
 use Rattle.cmm_accepted.specs.Items.{Within, items_of}
-use Rattle.cmm_accepted.specs.Declarations.{Declared, Entry, Typedef, Const, Register, Import, DataLabel, Procedure, NamedUnit, named_units, found, each_as, datum_entries, item_entries, procs_in, labels_in, entries_from, sum_of, units_from, entry_of}
+use Rattle.cmm_accepted.specs.Declarations.{Declared, Entry, Typedef, Const, Register, Import, DataLabel, Procedure, NamedUnit, named_units, found, datum_entries, item_entries, procs_in, labels_in, entries_from, sum_of, units_from, entry_of}
 use Rattle.cmm_accepted.specs.Linking.{Program as Linked, Published, program_of, is_among, address_of, published, published_as, exports_of, export_link, export_links, twice, is_start, starts, has_main}
 use Rattle.cmm_accepted.specs.Scopes.{unit_senses}
-use Rattle.cmm_accepted.specs.Faults.{AreAccepted, each_unit, name_spots}
+use Rattle.cmm_accepted.specs.Faults.{each_unit, name_spots}
 use Rattle.cmm_meaning.specs.Meaning.{item_procedures, unit_procedures, procedures_from, procedure_number, meaning_of}
 use Rattle.cmm_meaning.specs.Laws.{StartHasNoFormals}
 use Rattle.cmm_meaning.proofs.Nothing.{no_left, no_right, no_unless, first_unit, other_units, unbroken, names_kept}

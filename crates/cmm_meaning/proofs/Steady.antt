@@ -25,7 +25,7 @@ use Rattle.cmm_ast.specs.declared.expression.TypeForm.TheVariants.{Bits, Named a
 use Rattle.cmm_ast.specs.declared.expression.TypeName.{TypeName}
 use Rattle.cmm_ast.specs.Taking.{Reading, Takes, ◌⨾◌, token, is_name, is_text, is_operator, is_int, is_char, is_word, is_sign, keyword, symbol, here, nothing, first_over, opening, enclosed, operator, outermost, in_brackets, round, square, braces, optional, many, commas, may_comma, listed, may_list}
 use Rattle.cmm_ast.specs.ExpressionGrammar.{width_word, infix_symbol, prefix_symbol, unary_level, left_level, right_level, ident, text, int, type_form, type_name, number_of, aligned_by, level_of, binds, expr_form, operand, operand_list, more_operands, prim_form, memory, expr, prim, whole, whole_prim, whole_memory}
-use Rattle.cmm_meaning.proofs.Derived.{Middle, middle}
+use Rattle.cmm_meaning.proofs.Derived.{middle}
 
 -- from one reading to another, so many tokens were taken from the front
 pub record Moves (r s : Reading) : Type 0 where

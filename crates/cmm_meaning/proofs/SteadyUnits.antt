@@ -1,5 +1,5 @@
 -- Statements, procedures and what stands in a unit take tokens from the front, as many as they count.
-use Rattle.std.proofs.Common.{◌≡◌, ℕ, Bool, true, false, List, [], ◌∷◌, Option, Some, None}
+use Rattle.std.proofs.Common.{◌≡◌, Bool, true, false, List, [], ◌∷◌, Some, None}
 use Rattle.cmm_lexer.specs.declared.keyword.Keyword.{Keyword}
 use Rattle.cmm_lexer.specs.declared.keyword.Keyword.TheVariants.{Aborts, Align, Also, As, Big, Byteorder, Const, Cut, Cuts, Default as DefaultWord, Else, Export as ExportWord, Foreign, Goto, If, Import as ImportWord, Invariant, Jump, Little, Memsize, Never, Pointersize, Register, Return, Returns, Section as SectionWord, Span as SpanWord, Stackdata, Switch, Target, To, Typedef, Unwinds, Wordsize}
 use Rattle.cmm_lexer.specs.declared.keyword.Keyword.TheVariants as word
@@ -20,11 +20,10 @@ use Rattle.cmm_ast.specs.declared.procedure.LocalForm.TheVariants as locals
 use Rattle.cmm_ast.specs.declared.procedure.Modifiers.{Modifiers}
 use Rattle.cmm_ast.specs.declared.procedure.Modifiers.TheVariants.{Nothing, Kind, KindInvariant, Invariant as Unchanged, InvariantKind}
 use Rattle.cmm_ast.specs.declared.procedure.Proc.{Proc}
-use Rattle.cmm_ast.specs.declared.procedure.Room.{Room}
 use Rattle.cmm_ast.specs.declared.procedure.RoomForm.{RoomForm}
 use Rattle.cmm_ast.specs.declared.procedure.RoomForm.TheVariants as rooms
 use Rattle.cmm_ast.specs.declared.statement.Actual.{Actual}
-use Rattle.cmm_ast.specs.declared.statement.Block.{Block, Row_of-Part, end_of-Part, more_of-Part}
+use Rattle.cmm_ast.specs.declared.statement.Block.{Row_of-Part, end_of-Part, more_of-Part}
 use Rattle.cmm_ast.specs.declared.statement.Callee.{Callee}
 use Rattle.cmm_ast.specs.declared.statement.CalleeForm.{CalleeForm}
 use Rattle.cmm_ast.specs.declared.statement.CalleeForm.TheVariants as callees
@@ -56,10 +55,10 @@ use Rattle.cmm_ast.specs.declared.unit.Item.TheVariants as items
 use Rattle.cmm_ast.specs.declared.unit.TopLevel.{TopLevel}
 use Rattle.cmm_ast.specs.declared.unit.TopLevel.TheVariants as tops
 use Rattle.cmm_ast.specs.declared.unit.Unit.{Unit as UnitTree}
-use Rattle.cmm_ast.specs.Taking.{Reading, Takes, ◌⨾◌, token, is_checked, keyword, symbol, here, nothing, opening, enclosed, outermost, round, square, braces, optional, many, commas, listed, may_list, may_comma}
-use Rattle.cmm_ast.specs.ExpressionGrammar.{ident, text, int, type_name, whole, whole_prim, whole_memory}
+use Rattle.cmm_ast.specs.Taking.{Takes, ◌⨾◌, token, is_checked, keyword, symbol, here, nothing, opening, enclosed, round, square, braces, optional, many, commas, listed, may_list, may_comma}
+use Rattle.cmm_ast.specs.ExpressionGrammar.{ident, text, int, type_name, whole, whole_prim}
 use Rattle.cmm_ast.specs.StatementGrammar.{modifiers, formal, room_form, local_form, kinded, actual, arguments, lvalue, callee_form, callee, names_to, flow_form, annotated, exit, results, range, case, switch_span, checked, stmt_form, otherwise_, chained, part_row, part_, arm_row, inside, block, proc}
-use Rattle.cmm_ast.specs.UnitGrammar.{import_name, export_name, byte_order, property_form, if_invariant, decl_form, decl, count, initial, datum_form, item, item_row, section, top_level, unit}
+use Rattle.cmm_ast.specs.UnitGrammar.{import_name, export_name, byte_order, property_form, if_invariant, decl_form, decl, count, initial, datum_form, item, item_row, top_level, unit}
 use Rattle.cmm_meaning.proofs.Steady.{IsSteady, steady_then, steady_nothing, steady_token, steady_here, steady_keyword, steady_symbol, steady_opening, steady_enclosed, steady_outermost, steady_round, steady_square, steady_braces, steady_optional, steady_many, steady_commas, steady_comma, steady_listed, steady_list, steady_ident, steady_text, steady_int, steady_type, steady_whole, steady_primary, steady_place}
 
 steady_modifiers : (m : Modifiers) → IsSteady (modifiers m)

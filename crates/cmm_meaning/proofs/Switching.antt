@@ -1,9 +1,8 @@
 -- The arms of a switch that breaks no rule: no range falls or leaves the width of the value, no two meet, and there is one default at most.
-use Rattle.std.proofs.Common.{◌≡◌, ℕ, zero, suc, ◌+◌, ◌^◌, ◌<◌, ◌≤◌, refl, sym, ap, ◌∙◌, subst, Bool, true, false, cond, List, [], ◌∷◌, ◌++◌, append_assoc, Option, Some, None, Ok, Err, arith, length, IsTrue}
+use Rattle.std.proofs.Common.{◌≡◌, ℕ, ◌+◌, ◌^◌, ◌≤◌, refl, sym, ap, ◌∙◌, subst, Bool, true, false, cond, List, [], ◌∷◌, ◌++◌, Option, Some, None, Ok, Err, arith, IsTrue}
 use Rattle.std.specs.Prelude.{map, flat_map, option_map, not, nat_le, nat_lt, ◌&&◌, ◌||◌}
 use Rattle.std.specs.List.{list_all}
 use Rattle.std.proofs.lemmas.Bool.{and_parts, le-leb}
-use Rattle.std.proofs.lemmas.List.{map-append}
 use Rattle.std.proofs.lemmas.List.Folds.{list_all-append}
 use denote.Hole.Carrier as Carrier
 use Rattle.cmm_words.specs.declared.width.Width.{Width}
@@ -19,7 +18,7 @@ use Rattle.cmm_ast.specs.declared.statement.Part.{Part}
 use Rattle.cmm_ast.specs.declared.statement.Part.TheVariants as parts
 use Rattle.cmm_ast.specs.declared.statement.Range.{Range as RangeTree}
 use Rattle.cmm_ast.specs.declared.statement.Span.{Span}
-use Rattle.cmm_ast.specs.declared.statement.StmtForm.{StmtForm, Row_of-Arm, end_of-Arm, more_of-Arm}
+use Rattle.cmm_ast.specs.declared.statement.StmtForm.{Row_of-Arm, end_of-Arm, more_of-Arm}
 use Rattle.cmm_ast.specs.declared.statement.StmtForm.TheVariants as stmts
 use Rattle.cmm_ast.specs.declared.unit.Item.TheVariants as items
 use Rattle.cmm_ast.specs.declared.unit.Unit.{Unit as UnitTree}
@@ -38,7 +37,6 @@ use Rattle.cmm_program.specs.Bodies.{Branch, statements, branches, body_statemen
 use Rattle.cmm_program.specs.InRange.{is_range, do_not_meet, none_meet, all_ranges, defaults}
 use Rattle.cmm_program.specs.Typing.{typed as width_of}
 use Rattle.cmm_rules.specs.declared.rule.Rule.TheVariants.{ArmsOverlap}
-use Rattle.cmm_accepted.specs.declared.known.Known.{Known}
 use Rattle.cmm_accepted.specs.declared.sense.Host.{Host}
 use Rattle.cmm_accepted.specs.declared.sense.Host.TheVariants.{Yield, PutByte, GetByte}
 use Rattle.cmm_accepted.specs.Spots.{unless}
@@ -47,7 +45,6 @@ use Rattle.cmm_accepted.specs.Algebras.{knowns}
 use Rattle.cmm_accepted.specs.Items.{SpanTree, parts_of}
 use Rattle.cmm_accepted.specs.Judging.{Judged, spots, if_ok}
 use Rattle.cmm_accepted.specs.Mentions.{values_alone, expr_names}
-use Rattle.cmm_accepted.specs.Typing.{wanted}
 use Rattle.cmm_accepted.specs.Constants.{as_number, number_alone, wanted_alone}
 use Rattle.cmm_accepted.specs.Calls.{foreign_callee}
 use Rattle.cmm_accepted.specs.Expressions.{inner_spots, bits_spots, number_alone_spots}
@@ -61,7 +58,7 @@ use Rattle.cmm_accepted.specs.Statements.{part_spots, scope_of, proc_spots}
 use Rattle.cmm_meaning.specs.Fitting.{NamesFit}
 use Rattle.cmm_meaning.specs.Resolving.{value_of, values_of, callee_of}
 use Rattle.cmm_meaning.specs.Sites.{is_yield}
-use Rattle.cmm_meaning.specs.Bodies.{sites_in_row, value_width, range_of, case_of, row_of, arms_of, form_of, part_of, host_form, return_form}
+use Rattle.cmm_meaning.specs.Bodies.{sites_in_row, value_width, range_of, case_of, row_of, arms_of, part_of, host_form, return_form}
 use Rattle.cmm_meaning.specs.Procedures.{procedure_of}
 use Rattle.cmm_meaning.specs.Meaning.{meaning_of}
 use Rattle.cmm_meaning.specs.Laws.{are_apart, ranges_apart, RangesAreApart}
@@ -78,7 +75,7 @@ use Rattle.cmm_meaning.proofs.Whole.{IsUnbroken, whole_with, BitsWhole, wanted_a
 use Rattle.cmm_meaning.proofs.Settled.{as_number_whole, whole_ok, unit_unbroken}
 use Rattle.cmm_meaning.proofs.WholeUnits.{scope_unbroken}
 use Rattle.cmm_meaning.proofs.Datums.{all_unbroken}
-use Rattle.cmm_meaning.proofs.Values.{AreBits, bits_are_there}
+use Rattle.cmm_meaning.proofs.Values.{bits_are_there}
 
 -- ---- the arms of a resolved switch as a list
 

@@ -1,10 +1,9 @@
 -- The program of accepted units is in range, part by part, where its counts of tokens are those of texts.
-use Rattle.std.proofs.Common.{◌≡◌, ℕ, suc, ◌≤◌, refl, true, List, [], ◌∷◌, length, All, IsTrue}
+use Rattle.std.proofs.Common.{◌≡◌, suc, ◌≤◌, List, [], ◌∷◌, length, All, IsTrue}
 use Rattle.std.specs.Prelude.{nat_le}
 use Rattle.std.specs.List.{list_all}
 use Rattle.std.proofs.lemmas.List.Elements.{All-nil, All-cons, All-head, All-tail, All-weaker}
 use Rattle.cmm_lexer.specs.declared.piece.Lexeme.{Lexeme}
-use Rattle.cmm_ast.specs.declared.unit.Unit.{Unit as UnitTree}
 use Rattle.cmm_ast.specs.Derivation.{Derives}
 use Rattle.cmm_program.specs.declared.procedure.Proc.{Proc}
 use Rattle.cmm_program.specs.declared.program.Program.{Program}
@@ -13,9 +12,8 @@ use Rattle.cmm_program.specs.InRange.{is_form, is_statement, is_site, IsProcInRa
 use Rattle.cmm_program.specs.Layout.{stackdata_size}
 use Rattle.cmm_program.specs.Numbering.{body_tokens, site_number}
 use Rattle.cmm_program.specs.Tokens.{own_tokens}
-use Rattle.cmm_accepted.specs.Faults.{AreAccepted}
 use Rattle.cmm_meaning.specs.Meaning.{meaning_of}
-use Rattle.cmm_meaning.specs.Laws.{AreInOrder, MarksInOrder, ProcKeepsLimits, NamesShort, AreRead, AreDerived, HasShortest, ProgramsAreInRange}
+use Rattle.cmm_meaning.specs.Laws.{AreInOrder, MarksInOrder, ProcKeepsLimits, NamesShort, AreDerived, HasShortest, ProgramsAreInRange}
 use Rattle.cmm_meaning.proofs.Keeping.{both_true}
 use Rattle.cmm_meaning.proofs.SiteNumbers.{sites_are_in_order}
 use Rattle.cmm_meaning.proofs.MarkNumbers.{marks_are_in_order}

@@ -1,13 +1,12 @@
 -- What stands for the values and conditions of statements that break no rule: it has the width that is wanted.
 use Rattle.std.proofs.Common.{◌≡◌, ℕ, ◌≤◌, refl, sym, ap, ◌∙◌, subst, Bool, true, false, List, [], ◌∷◌, ◌++◌, Option, Some, None, Ok, Err, length, inl, inr, ◌⊎◌}
-use Rattle.std.specs.Prelude.{map, flat_map, option_map, nat_le, IfSome, ◌==◌, ◌&&◌}
+use Rattle.std.specs.Prelude.{flat_map, IfSome, ◌==◌}
 use Rattle.std.specs.List.{list_all}
 use Rattle.std.proofs.lemmas.Bool.{le-leb}
 use Rattle.std.proofs.lemmas.List.{length-map}
 use Rattle.cmm_words.specs.declared.width.Width.{Width}
 use Rattle.cmm_words.specs.declared.width.Width.TheVariants.{W64}
 use Rattle.cmm_words.specs.Widths.{bits}
-use Rattle.cmm_ast.specs.declared.token.Ident.{Ident}
 use Rattle.cmm_ast.specs.declared.expression.Expr.{Expr}
 use Rattle.cmm_ast.specs.declared.expression.ExprForm.TheVariants.{Prim}
 use Rattle.cmm_ast.specs.declared.expression.PrimForm.TheVariants.{Name as NameOf}
@@ -33,20 +32,20 @@ use Rattle.cmm_accepted.specs.declared.sense.Sense.TheVariants as meanings
 use Rattle.cmm_accepted.specs.Senses.{Senses}
 use Rattle.cmm_accepted.specs.Spots.{unless}
 use Rattle.cmm_accepted.specs.Algebras.{knowns, expressions}
-use Rattle.cmm_accepted.specs.Judging.{Judged, faulty, with_ok, as_bits, as_test, as_wanted, of_width, spots, if_ok}
+use Rattle.cmm_accepted.specs.Judging.{Judged, faulty, with_ok, as_bits, as_test, as_wanted, of_width, spots}
 use Rattle.cmm_accepted.specs.Laws.{presence, bits_presence, typed_presence, judged_map}
 use Rattle.cmm_accepted.specs.Mentions.{values_alone, expr_names}
-use Rattle.cmm_accepted.specs.Typing.{expr_type, name_type, wanted, of_memory}
-use Rattle.cmm_accepted.specs.Expressions.{is_not_host, inner_spots, bits_spots, test_spots, past_limit}
+use Rattle.cmm_accepted.specs.Typing.{expr_type, wanted, of_memory}
+use Rattle.cmm_accepted.specs.Expressions.{is_not_host, inner_spots, bits_spots, test_spots}
 use Rattle.cmm_accepted.specs.Calls.{first_token, too_many_actuals, actuals_spots, called_host, callee_spots}
 use Rattle.cmm_accepted.specs.Scopes.{Scope, senses}
 use Rattle.cmm_accepted.proofs.Shared.{judged_alike}
 use Rattle.cmm_meaning.specs.Fitting.{NamesFit, JudgedFits}
 use Rattle.cmm_meaning.specs.Resolving.{value_in, value_of, values_of, condition_in, condition_of, callee_of}
 use Rattle.cmm_meaning.specs.Sites.{is_yield}
-use Rattle.cmm_meaning.proofs.Nothing.{no_left, no_right, no_unless}
+use Rattle.cmm_meaning.proofs.Nothing.{no_left, no_right}
 use Rattle.cmm_meaning.proofs.Judged.{same_bits}
-use Rattle.cmm_meaning.proofs.Widths.{own_width, has_own, widths_are_kept}
+use Rattle.cmm_meaning.proofs.Widths.{has_own, widths_are_kept}
 use Rattle.cmm_meaning.proofs.Keeping.{both_true, within}
 use Rattle.cmm_meaning.proofs.Wide.{IsWide}
 use Rattle.cmm_meaning.proofs.Whole.{Whole, Present, IsUnbroken, whole_with, TypedWhole, BitsWhole, test_whole, expression_whole, bits_wanted_whole}

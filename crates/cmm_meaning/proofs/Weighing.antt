@@ -1,8 +1,8 @@
 -- How many tokens what stands in a unit has at least: a datum one, and a procedure as many as it counts. So counts of procedures, data and labels come
 -- to at most the tokens of units that derive as many as they have places for.
-use Rattle.std.proofs.Common.{◌≡◌, ℕ, suc, ◌+◌, ◌-◌, ◌^◌, ◌<◌, ◌≤◌, refl, sym, ap, ◌∙◌, subst, Bool, true, false, List, [], ◌∷◌, ◌++◌, Option, Some, None, arith, length, All}
-use Rattle.std.specs.Prelude.{map, flat_map, nat_le, sum_by, ◌==◌, ◌&&◌}
-use Rattle.std.proofs.lemmas.Bool.{and_parts, eqb-true, leb-true}
+use Rattle.std.proofs.Common.{◌≡◌, ℕ, suc, ◌+◌, ◌-◌, ◌<◌, ◌≤◌, refl, sym, ap, ◌∙◌, subst, List, [], ◌∷◌, ◌++◌, Option, Some, None, arith, length}
+use Rattle.std.specs.Prelude.{flat_map, sum_by}
+use Rattle.std.proofs.lemmas.Bool.{and_parts, leb-true}
 use Rattle.std.proofs.lemmas.List.Elements.{All-head, All-tail}
 use Rattle.cmm_lexer.specs.declared.piece.Lexeme.{Lexeme}
 use Rattle.cmm_lexer.specs.declared.keyword.Keyword.{Keyword}
@@ -21,23 +21,20 @@ use Rattle.cmm_ast.specs.Derivation.{Derives, at_start}
 use Rattle.cmm_ast.specs.Taking.{Reading, Takes, ◌⨾◌, token, is_name, keyword, symbol, here, opening, round, braces, many, may_list}
 use Rattle.cmm_ast.specs.ExpressionGrammar.{ident, text, int, type_name, whole, whole_prim}
 use Rattle.cmm_ast.specs.StatementGrammar.{formal, block, proc}
-use Rattle.cmm_ast.specs.UnitGrammar.{count, initial, datum_form, item, item_row, top_level, unit}
-use Rattle.cmm_accepted.specs.Senses.{Senses}
+use Rattle.cmm_ast.specs.UnitGrammar.{count, initial, datum_form, item, item_row, top_level}
 use Rattle.cmm_accepted.specs.Items.{SpanTree, Within, item_within, items_within, top_items, items_of}
 use Rattle.cmm_accepted.specs.Declarations.{NamedUnit, named_units, units_from, procs_in, labels_in, sum_of}
 use Rattle.cmm_accepted.specs.Linking.{Program as Linked, program_of}
-use Rattle.cmm_accepted.specs.Limits.{over_units, over_procs, token_count, sums_are_within}
-use Rattle.cmm_accepted.specs.Scopes.{unit_senses}
-use Rattle.cmm_accepted.specs.Faults.{AreAccepted}
+use Rattle.cmm_accepted.specs.Limits.{over_units, over_procs, token_count}
 use Rattle.cmm_meaning.specs.Data.{datums_in, datums_among}
 use Rattle.cmm_meaning.specs.Meaning.{meaning_of}
-use Rattle.cmm_meaning.specs.Laws.{AreRead, KeepsCounts, CountsAreKept}
+use Rattle.cmm_meaning.specs.Laws.{AreRead, CountsAreKept}
 use Rattle.cmm_meaning.proofs.Nothing.{unbroken}
 use Rattle.cmm_meaning.proofs.Entries.{counted_in, sum_append, labels_length}
 use Rattle.cmm_meaning.proofs.Labels.{all_datums, datums_length}
 use Rattle.cmm_meaning.proofs.Sums.{units_sum}
-use Rattle.cmm_meaning.proofs.Derived.{Middle, middle}
-use Rattle.cmm_meaning.proofs.Steady.{IsSteady, Moves, here_is, next_token, steady_token, steady_keyword, steady_symbol, steady_opening, steady_type, steady_ident, steady_int, steady_whole, steady_primary, steady_text, steady_then}
+use Rattle.cmm_meaning.proofs.Derived.{middle}
+use Rattle.cmm_meaning.proofs.Steady.{IsSteady, here_is, next_token, steady_keyword, steady_symbol, steady_opening, steady_type, steady_ident, steady_int, steady_whole, steady_primary, steady_text, steady_then}
 use Rattle.cmm_meaning.proofs.SteadyUnits.{steady_proc, steady_decl, steady_count, steady_initial, steady_unit}
 
 abbrev weight : Item → ℕ

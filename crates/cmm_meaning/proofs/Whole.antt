@@ -1,15 +1,12 @@
 -- Where no name is broken, an expression is not either: it breaks a rule at a place, or something stands for its value.
 use mathlib.Core.Former.{one_more}
-use Rattle.std.proofs.Common.{◌≡◌, ℕ, ◌^◌, refl, List, [], ◌∷◌, ◌++◌, Bool, true, false, Option, Some, None, Ok, Err}
+use Rattle.std.proofs.Common.{ℕ, ◌^◌, List, Bool, true, false, Option, Some, None, Ok, Err}
 use Rattle.std.specs.Prelude.{option_map, nat_lt, nat_le, ◌==◌}
 use Rattle.cmm_words.specs.declared.width.Width.{Width}
 use Rattle.cmm_words.specs.declared.width.Width.TheVariants.{W64}
 use Rattle.cmm_words.specs.declared.constant.Constant.TheVariants.{Number as NumberOf}
-use Rattle.cmm_words.specs.declared.operators.Op2.{Op2}
-use Rattle.cmm_words.specs.declared.operators.Cmp.{Cmp}
 use Rattle.cmm_words.specs.Widths.{bits}
 use Rattle.cmm_ast.specs.declared.token.Ident.{Ident}
-use Rattle.cmm_ast.specs.declared.token.Int.{Int}
 use Rattle.cmm_ast.specs.declared.expression.Expr.{Expr}
 use Rattle.cmm_ast.specs.declared.expression.ExprForm.{ExprForm, Row_of-Expr, end_of-Expr, more_of-Expr}
 use Rattle.cmm_ast.specs.declared.expression.ExprForm.TheVariants.{Infix', Prefix', Prim, Memory as InMemory, Named'}
@@ -32,7 +29,7 @@ use Rattle.cmm_accepted.specs.declared.judged.Typed.TheVariants as typed
 use Rattle.cmm_accepted.specs.declared.judged.Operand.{Operand}
 use Rattle.cmm_accepted.specs.declared.judged.Operands.{Operands}
 use Rattle.cmm_accepted.specs.declared.judged.Operands.TheVariants as operands
-use Rattle.cmm_accepted.specs.Spots.{comes_before, sooner}
+use Rattle.cmm_accepted.specs.Spots.{comes_before}
 use Rattle.cmm_accepted.specs.Senses.{Senses}
 use Rattle.cmm_accepted.specs.Operators.{operator_named, infix_operator, prefix_operator}
 use Rattle.cmm_accepted.specs.Algebras.{Algebra}

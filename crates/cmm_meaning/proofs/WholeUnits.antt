@@ -1,16 +1,13 @@
 -- No name of accepted units, or of a procedure of them, is broken.
-use Rattle.std.proofs.Common.{◌≡◌, ℕ, refl, true, List, [], ◌∷◌, ◌++◌, Option, Some, None}
-use Rattle.cmm_words.specs.declared.width.Width.{Width}
+use Rattle.std.proofs.Common.{◌≡◌, ℕ, refl, true, List, [], Option, Some, None}
 use Rattle.cmm_ast.specs.declared.procedure.Proc.{Proc as ProcTree}
-use Rattle.cmm_ast.specs.declared.unit.Unit.{Unit as UnitTree}
 use Rattle.cmm_accepted.specs.declared.sense.Sense.{Sense}
 use Rattle.cmm_accepted.specs.declared.sense.Sense.TheVariants as meanings
 use Rattle.cmm_accepted.specs.Senses.{Senses}
-use Rattle.cmm_accepted.specs.Declarations.{Local, Variable, Room as RoomName, Label, Continuation, NamedUnit, named_units, found}
+use Rattle.cmm_accepted.specs.Declarations.{Local, Variable, Room as RoomName, Label, Continuation, named_units, found}
 use Rattle.cmm_accepted.specs.Linking.{program_of}
 use Rattle.cmm_accepted.specs.Scopes.{Scope, local_sense, senses, unit_senses}
 use Rattle.cmm_accepted.specs.Statements.{scope_of}
-use Rattle.cmm_accepted.specs.Faults.{AreAccepted}
 use Rattle.cmm_meaning.specs.Fitting.{is_whole}
 use Rattle.cmm_meaning.specs.Laws.{NamesAreWhole}
 use Rattle.cmm_meaning.proofs.Everywhere.{all_at}
