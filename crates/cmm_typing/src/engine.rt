@@ -2,16 +2,16 @@
 
 ghost use Rattle.std.specs.Prelude.{◌≡◌, IfOk, Ok};
 ghost use Rattle.cmm_accepted.specs.Typing as typing;
-ghost use Rattle.cmm_typing.specs.Fitting.{AreWords, TypedFits};
+ghost use Rattle.cmm_operators.specs.Fitting.{TypedFits};
+ghost use Rattle.cmm_typing.specs.Fitting.{AreWords};
 ghost use Rattle.cmm_typing.specs.inside.Operands.{OperandsFit, list_operands};
 
 use crate::joining::{applied, infixed, loaded, prefixed, with_operand};
 use crate::leaf::{literal_type, name_type, type_width};
 use crate::names::Names;
-use crate::operators::operator_named;
-use crate::values::{OperandsOf, Outcome, TypedOf, Values};
 use cmm_accepted::Operands;
 use cmm_ast::{Expr, ExprForm, Memory, PrimForm};
+use cmm_operators::{OperandsOf, Outcome, TypedOf, Values, operator_named};
 
 /// What an expression is judged to be among names, with what stands for its value.
 #[cycle(expression)]

@@ -2,8 +2,8 @@
 
 ghost use Rattle.cmm_typing.specs.Resolved.{resolved};
 
-use crate::values::Values;
 use cmm_items::Boxed;
+use cmm_operators::Values;
 use cmm_program::{Condition, Expression};
 use cmm_words::{Cmp, Constant, Op1, Op2, Width};
 use std::alloc::{AllocError, Global};

@@ -4,15 +4,15 @@ ghost use Rattle.std.specs.Prelude.{◌≡◌, IfOk, option_map};
 ghost use Rattle.cmm_accepted.specs.Judging.{with_ok, with_both};
 ghost use Rattle.cmm_accepted.specs.Operators as operators;
 ghost use Rattle.cmm_accepted.specs.Typing as typing;
-ghost use Rattle.cmm_typing.specs.Fitting.{TypedFits};
-ghost use Rattle.cmm_typing.specs.inside.Operands.{OperandFits, OperandsFit};
+ghost use Rattle.cmm_operators.specs.Fitting.{OperandFits, TypedFits};
+ghost use Rattle.cmm_typing.specs.inside.Operands.{OperandsFit};
 
-use crate::applying::{applied_to_one, applied_to_two};
-use crate::operators::{infix_operator, prefix_operator};
-use crate::values::{OperandOf, OperandsOf, Outcome, TypedOf, Values};
-use crate::wanted::{Judged, as_wanted, faulty};
 use cmm_accepted::{Bits, Operand, Operands, Operator, Spot, Typed};
 use cmm_ast::{Infix, Int, Prefix};
+use cmm_operators::{
+    Judged, OperandOf, OperandsOf, Outcome, TypedOf, Values, applied_to_one, applied_to_two,
+    as_wanted, faulty, infix_operator, prefix_operator,
+};
 use cmm_rules::Rule;
 use cmm_words::Width;
 

@@ -10,12 +10,11 @@ ghost use Rattle.cmm_typing.specs.Resolved.{AlignmentsFit, resolved};
 
 use crate::engine::judge_by;
 use crate::expressions::Expressions;
-use crate::knowns::Knowns;
+use crate::leaf;
 use crate::names::Names;
-use crate::wanted::Judged;
-use crate::{applying, leaf, wanted};
 use cmm_accepted::{Bits, Known, Operand, Operator, Sense, Typed};
 use cmm_ast::Expr;
+use cmm_operators::{Judged, Knowns};
 use cmm_program::{Condition, Expression};
 use cmm_words::Width;
 use std::alloc::{AllocError, Global};
@@ -64,7 +63,7 @@ pub fn applied_to_one(
     ensures value { result ≡ typing.applied_to_one knowns operator token operand }
     ensures fits { IfOk result FitsTyped }
 {
-    let Ok(judged) = applying::applied_to_one(&Knowns, operator, token, operand);
+    let Ok(judged) = cmm_operators::applied_to_one(&Knowns, operator, token, operand);
     judged
 }
 
@@ -80,7 +79,7 @@ pub fn applied_to_two(
     ensures value { result ≡ typing.applied_to_two knowns operator token left right }
     ensures fits { IfOk result FitsTyped }
 {
-    let Ok(judged) = applying::applied_to_two(&Knowns, operator, token, left, right);
+    let Ok(judged) = cmm_operators::applied_to_two(&Knowns, operator, token, left, right);
     judged
 }
 
@@ -89,14 +88,14 @@ pub fn as_bits(token: u32, typed: Typed<Known, ()>) -> Judged<Bits<Known>>
     ensures value { result ≡ judging.as_bits token typed }
     ensures fits { FitsTyped typed → IfOk result FitsBits }
 {
-    wanted::as_bits::<Knowns>(token, typed)
+    cmm_operators::as_bits::<Knowns>(token, typed)
 }
 
 /// A condition is wanted of what stands at a token: else rule 24.
 pub fn as_test(token: u32, typed: Typed<Known, ()>) -> Judged<Option<()>>
     ensures { result ≡ judging.as_test token typed }
 {
-    wanted::as_test::<Knowns>(token, typed)
+    cmm_operators::as_test::<Knowns>(token, typed)
 }
 
 /// Bits are wanted at a token, of this width where there is one: else rule 24 or 23.
@@ -104,5 +103,5 @@ pub fn as_wanted(wanted: Option<Width>, token: u32, typed: Typed<Known, ()>) -> 
     ensures value { result ≡ judging.as_wanted wanted token typed }
     ensures fits { FitsTyped typed → IfOk result FitsBits }
 {
-    wanted::as_wanted::<Knowns>(wanted, token, typed)
+    cmm_operators::as_wanted::<Knowns>(wanted, token, typed)
 }

@@ -4,13 +4,13 @@ ghost use Rattle.std.specs.Prelude.{◌≡◌, IfOk, Ok};
 ghost use Rattle.cmm_words.specs.Constants.{Fits};
 ghost use Rattle.cmm_accepted.specs.Senses.{constant_width};
 ghost use Rattle.cmm_accepted.specs.Typing as typing;
-ghost use Rattle.cmm_typing.specs.Fitting.{FitsSense, TypedFits};
+ghost use Rattle.cmm_operators.specs.Fitting.{TypedFits};
+ghost use Rattle.cmm_typing.specs.Fitting.{FitsSense};
 
 use crate::names::Names;
-use crate::values::{Outcome, TypedOf, Values};
-use crate::wanted::{Judged, faulty};
 use cmm_accepted::{Bits, Sense, Typed};
 use cmm_ast::{Number, TypeForm, TypeName};
+use cmm_operators::{Judged, Outcome, TypedOf, Values, faulty};
 use cmm_rules::Rule;
 use cmm_words::{Constant, Width};
 

@@ -11,34 +11,27 @@
 //!   and of operators, and what is wanted of expressions.
 //! - `names`: `Names`, which tells what names mean.
 //! - `engine`: the judgement of an expression from those of its parts.
-//! - `leaf`, `joining`: the judgement of what holds no other expression, and of what holds some from theirs.
-//! - `operators`, `applying`: operators by their names and signs, and at operands.
-//! - `wanted`: what is wanted of an expression: bits, a condition or a constant.
-//! - `values`: `Values`, what stands for values and conditions; `knowns` and `known`, what is known before the program runs; `expressions`, the
-//!   resolved ones.
+//! - `leaf`, `joining`: the judgement of what holds no other expression, and of what holds some from theirs. Operators at operands, and what
+//!   stands for values, are those of `cmm_operators`.
+//! - `expressions`: the resolved expressions in the place of values.
 #![tactic(auto)]
 
-mod applying;
 mod engine;
 mod expressions;
 mod joining;
 mod judging;
-mod known;
-mod knowns;
 mod leaf;
 mod meaning;
 mod names;
-mod operators;
 mod scope;
-mod values;
-mod wanted;
 
+pub use cmm_operators::{
+    Judged, as_constant, as_number, checked_named, infix_operator, operator_named, prefix_operator,
+};
 pub use judging::{
     applied_to_one, applied_to_two, as_bits, as_test, as_wanted, judge, name_type, resolve,
 };
 pub use leaf::type_width;
 pub use meaning::{ExprType, Meaning, TypeFault};
 pub use names::Names;
-pub use operators::{checked_named, infix_operator, operator_named, prefix_operator};
 pub use scope::{Scope, constant, type_of};
-pub use wanted::{Judged, as_constant, as_number};

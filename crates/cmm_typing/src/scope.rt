@@ -10,10 +10,10 @@ ghost use Rattle.cmm_typing.specs.Meanings.{Answers, fault_of, meaning_in, sense
 use crate::judging::{as_wanted, judge};
 use crate::meaning::{ExprType, Meaning, TypeFault};
 use crate::names::Names;
-use crate::wanted::{Judged, as_constant};
 use cmm_accepted::{Host, Known, Sense, Spot, Typed};
 use cmm_ast::Expr;
 use cmm_items::Items;
+use cmm_operators::{Judged, as_constant};
 use cmm_rules::Rule;
 use cmm_words::{Constant, Name};
 

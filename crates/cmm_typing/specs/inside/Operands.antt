@@ -2,17 +2,13 @@
 use Rattle.std.specs.Prelude.{List, [], ◌∷◌}
 use Rattle.cmm_words.specs.declared.width.Width.{Width}
 use Rattle.cmm_ast.specs.declared.expression.Expr.{Expr}
-use Rattle.cmm_accepted.specs.declared.judged.Operand.{Operand}
 use Rattle.cmm_accepted.specs.declared.judged.Operands.{Operands}
 use Rattle.cmm_accepted.specs.declared.judged.Operands.TheVariants as operands
 use Rattle.cmm_accepted.specs.Senses.{Senses}
 use Rattle.cmm_accepted.specs.Algebras.{Algebra}
 use Rattle.cmm_accepted.specs.Judging.{Judged}
 use Rattle.cmm_accepted.specs.Typing.{expr_type, operand_at, with_operand}
-use Rattle.cmm_typing.specs.Fitting.{TypedFits}
-
-abbrev pub OperandFits : {E C : Type 0} → (Width → E → Type 0) → Operand E C → Type 0
-OperandFits fits o = TypedFits fits o.typed
+use Rattle.cmm_operators.specs.Fitting.{OperandFits}
 
 abbrev pub OperandsFit : {E C : Type 0} → (Width → E → Type 0) → Operands E C → Type 0
 OperandsFit fits operands.Zero = Unit {0}

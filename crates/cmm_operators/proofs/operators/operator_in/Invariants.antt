@@ -1,6 +1,6 @@
 use Rattle.std.proofs.Common.{◌≡◌, map, drop}
 use Rattle.cmm_accepted.specs.Operators as operators
-use Rattle.cmm_typing.proofs.operators.operator_in.Given as goal
+use Rattle.cmm_operators.proofs.operators.operator_in.Given as goal
 
 -- the rows that are left say what all rows do
 abbrev pub invariant-loop-spelling : goal.invariant-loop-spelling

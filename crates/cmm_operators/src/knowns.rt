@@ -1,7 +1,7 @@
 //! What is known of values before the program runs, in the place of values.
 
 ghost use Rattle.cmm_accepted.specs.Algebras.{knowns};
-ghost use Rattle.cmm_typing.specs.Fitting.{IsKnown};
+ghost use Rattle.cmm_operators.specs.Fitting.{IsKnown};
 
 use crate::known::{
     known_binary, known_constant, known_low_bits, known_sign_extended, known_unary,
@@ -14,7 +14,7 @@ use std::convert::Infallible;
 
 /// What is known of values before the program runs. Of a condition nothing is.
 #[derive(Drop)]
-pub(crate) struct Knowns;
+pub struct Knowns;
 
 impl Values for Knowns {
     type Value = Known;

@@ -3,7 +3,7 @@
 ghost use Rattle.std.specs.Prelude.{◌≡◌, IfOk};
 ghost use Rattle.cmm_accepted.specs.Judging as judging;
 ghost use Rattle.cmm_accepted.specs.Constants as constants;
-ghost use Rattle.cmm_typing.specs.Fitting.{BitsFit, FitsIf, TypedFits};
+ghost use Rattle.cmm_operators.specs.Fitting.{BitsFit, FitsIf, TypedFits};
 
 use crate::values::{BitsOf, TypedOf, Values};
 use cmm_accepted::{Bits, Known, Spot, Typed};
@@ -14,14 +14,14 @@ use cmm_words::{Constant, Width};
 pub type Judged<T> = Result<T, Option<Spot>>;
 
 /// A rule that is broken at a token.
-pub(crate) fn faulty(rule: Rule, token: u32) -> Option<Spot>
+pub fn faulty(rule: Rule, token: u32) -> Option<Spot>
     ensures { result ≡ judging.broken_at rule token }
 {
     Some(Spot { token, rule })
 }
 
 /// Bits are wanted of what stands at a token: else rule 24.
-pub(crate) fn as_bits<V: Values>(token: u32, typed: TypedOf<V>) -> Judged<BitsOf<V>>
+pub fn as_bits<V: Values>(token: u32, typed: TypedOf<V>) -> Judged<BitsOf<V>>
     ensures value { result ≡ judging.as_bits token typed }
     ensures fits { TypedFits V.fits typed → IfOk result (BitsFit V.fits) }
 {
@@ -32,7 +32,7 @@ pub(crate) fn as_bits<V: Values>(token: u32, typed: TypedOf<V>) -> Judged<BitsOf
 }
 
 /// A condition is wanted of what stands at a token: else rule 24.
-pub(crate) fn as_test<V: Values>(token: u32, typed: TypedOf<V>) -> Judged<Option<V::Condition>>
+pub fn as_test<V: Values>(token: u32, typed: TypedOf<V>) -> Judged<Option<V::Condition>>
     ensures { result ≡ judging.as_test token typed }
 {
     match typed {
@@ -55,7 +55,7 @@ pub(crate) fn of_width<V: Values>(wanted: Width, token: u32, bits: BitsOf<V>) ->
 }
 
 /// Bits are wanted at a token, of this width where there is one: else rule 24 or 23.
-pub(crate) fn as_wanted<V: Values>(
+pub fn as_wanted<V: Values>(
     wanted: Option<Width>,
     token: u32,
     typed: TypedOf<V>,

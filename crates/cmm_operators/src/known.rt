@@ -6,7 +6,7 @@ ghost use Rattle.cmm_words.specs.Words.{sign_extended, low_bits};
 ghost use Rattle.cmm_words.specs.Constants.{Fits};
 ghost use Rattle.cmm_accepted.specs.Senses.{constant_width};
 ghost use Rattle.cmm_accepted.specs.Algebras as algebras;
-ghost use Rattle.cmm_typing.specs.Fitting.{IsKnown};
+ghost use Rattle.cmm_operators.specs.Fitting.{IsKnown};
 
 use cmm_accepted::Known;
 use cmm_words::{Constant, Op1, Op2, Width, apply1, apply2, extend, low};

@@ -12,7 +12,7 @@ use cmm_accepted::{Bits, Operand, Operands, Typed};
 use cmm_words::{Cmp, Constant, Op1, Op2, Width};
 
 /// What stands for the values of expressions and for conditions, made from what stands for their parts.
-pub(crate) trait Values {
+pub trait Values {
     type Value: Drop;
 
     type Condition: Drop;
@@ -138,16 +138,16 @@ pub(crate) trait Values {
 }
 
 /// Bits, with what stands for them.
-pub(crate) type BitsOf<V> = Bits<<V as Values>::Value>;
+pub type BitsOf<V> = Bits<<V as Values>::Value>;
 
 /// Bits or a condition, with what stands for them.
-pub(crate) type TypedOf<V> = Typed<<V as Values>::Value, <V as Values>::Condition>;
+pub type TypedOf<V> = Typed<<V as Values>::Value, <V as Values>::Condition>;
 
 /// An operand, with what stands for it.
-pub(crate) type OperandOf<V> = Operand<<V as Values>::Value, <V as Values>::Condition>;
+pub type OperandOf<V> = Operand<<V as Values>::Value, <V as Values>::Condition>;
 
 /// The operands of an operator, with what stands for them.
-pub(crate) type OperandsOf<V> = Operands<<V as Values>::Value, <V as Values>::Condition>;
+pub type OperandsOf<V> = Operands<<V as Values>::Value, <V as Values>::Condition>;
 
 /// A judgement, unless making what stands for it fails.
-pub(crate) type Outcome<T, V> = Result<Judged<T>, <V as Values>::Failure>;
+pub type Outcome<T, V> = Result<Judged<T>, <V as Values>::Failure>;

@@ -5,14 +5,14 @@ ghost use Rattle.cmm_accepted.specs.Judging.{Judged as JudgedAs};
 ghost use Rattle.cmm_accepted.specs.Typing as typing;
 ghost use Rattle.cmm_accepted.specs.declared.judged.Bits.{Bits as BitsAs};
 ghost use Rattle.cmm_accepted.specs.declared.judged.Typed.{Typed as TypedAs};
-ghost use Rattle.cmm_typing.specs.Fitting.{BitsFit, FitsIf, TypedFits};
-ghost use Rattle.cmm_typing.specs.inside.Operands.{OperandFits};
+ghost use Rattle.cmm_operators.specs.Fitting.{BitsFit, FitsIf, OperandFits, TypedFits};
 
+use crate::converting::{Conversion, converted};
 use crate::values::{BitsOf, OperandOf, Outcome, TypedOf, Values};
 use crate::wanted::{Judged, as_bits, as_test, faulty, of_width};
 use cmm_accepted::{Bits, Operator, Spot, Typed};
 use cmm_rules::Rule;
-use cmm_words::{Cmp, Op1, Op2, Width};
+use cmm_words::{Cmp, Op1, Op2};
 
 /// An operator with one operand, on bits.
 fn unary<V: Values>(values: &V, operator: Op1, bits: BitsOf<V>) -> Result<TypedOf<V>, V::Failure>
@@ -144,82 +144,8 @@ fn negated<V: Values>(values: &V, p: Option<V::Condition>) -> Result<TypedOf<V>,
     Ok(Typed::Test(Some(values.negated(p)?)))
 }
 
-/// To a width that is not less than the operand's, by the top bit: else rule 23.
-fn sign_extended<V: Values>(
-    values: &V,
-    token: u32,
-    to: Width,
-    bits: BitsOf<V>,
-) -> Outcome<TypedOf<V>, V>
-    requires { BitsFit V.fits bits }
-    ensures value { IfOk result (λ j. j ≡ typing.extended V.algebra token to V.algebra.sign_extend bits) }
-    ensures fits { IfOk result (λ j. IfOk j (TypedFits V.fits)) }
-{
-    let Bits { width, value } = bits;
-    if width.bits() > to.bits() {
-        return Ok(Err(faulty(Rule::WidthsDiffer, token)));
-    }
-    let Some(a) = value else {
-        return Ok(Ok(Typed::Bits(Bits {
-            width: to,
-            value: None,
-        })));
-    };
-    let value = Some(values.sign_extend(width, to, a)?);
-    Ok(Ok(Typed::Bits(Bits { width: to, value })))
-}
-
-/// To a width that is not less than the operand's, by zeros: else rule 23.
-fn zero_extended<V: Values>(
-    values: &V,
-    token: u32,
-    to: Width,
-    bits: BitsOf<V>,
-) -> Outcome<TypedOf<V>, V>
-    requires { BitsFit V.fits bits }
-    ensures value { IfOk result (λ j. j ≡ typing.extended V.algebra token to V.algebra.zero_extend bits) }
-    ensures fits { IfOk result (λ j. IfOk j (TypedFits V.fits)) }
-{
-    let Bits { width, value } = bits;
-    if width.bits() > to.bits() {
-        return Ok(Err(faulty(Rule::WidthsDiffer, token)));
-    }
-    let Some(a) = value else {
-        return Ok(Ok(Typed::Bits(Bits {
-            width: to,
-            value: None,
-        })));
-    };
-    let value = Some(values.zero_extend(width, to, a)?);
-    Ok(Ok(Typed::Bits(Bits { width: to, value })))
-}
-
-/// To a width that is not greater than the operand's: else rule 23.
-fn shortened<V: Values>(
-    values: &V,
-    token: u32,
-    to: Width,
-    bits: BitsOf<V>,
-) -> Outcome<TypedOf<V>, V>
-    ensures value { IfOk result (λ j. j ≡ typing.shortened V.algebra token to bits) }
-    ensures fits { IfOk result (λ j. IfOk j (TypedFits V.fits)) }
-{
-    let Bits { width, value } = bits;
-    if to.bits() > width.bits() {
-        return Ok(Err(faulty(Rule::WidthsDiffer, token)));
-    }
-    let Some(a) = value else {
-        return Ok(Ok(Typed::Bits(Bits {
-            width: to,
-            value: None,
-        })));
-    };
-    let value = Some(values.low_part(width, to, a)?);
-    Ok(Ok(Typed::Bits(Bits { width: to, value })))
-}
-
 /// An operator at one operand, where the operator stands at a token: else rule 26.
-pub(crate) fn applied_to_one<V: Values>(
+pub fn applied_to_one<V: Values>(
     values: &V,
     operator: Operator,
     token: u32,
@@ -238,18 +164,9 @@ pub(crate) fn applied_to_one<V: Values>(
             Ok(p) => Ok(Ok(negated(values, p)?)),
             Err(broken) => Ok(Err(broken)),
         },
-        Operator::SignExtend(to) => match as_bits::<V>(operand.token, operand.typed) {
-            Ok(bits) => sign_extended(values, operand.token, to, bits),
-            Err(broken) => Ok(Err(broken)),
-        },
-        Operator::ZeroExtend(to) => match as_bits::<V>(operand.token, operand.typed) {
-            Ok(bits) => zero_extended(values, operand.token, to, bits),
-            Err(broken) => Ok(Err(broken)),
-        },
-        Operator::LowBits(to) => match as_bits::<V>(operand.token, operand.typed) {
-            Ok(bits) => shortened(values, operand.token, to, bits),
-            Err(broken) => Ok(Err(broken)),
-        },
+        Operator::SignExtend(to) => converted(values, Conversion::SignExtend, to, operand),
+        Operator::ZeroExtend(to) => converted(values, Conversion::ZeroExtend, to, operand),
+        Operator::LowBits(to) => converted(values, Conversion::LowBits, to, operand),
         Operator::Binary(_) => Ok(Err(faulty(Rule::UnknownOperator, token))),
         Operator::Compare(_) => Ok(Err(faulty(Rule::UnknownOperator, token))),
         Operator::Conjoin => Ok(Err(faulty(Rule::UnknownOperator, token))),
@@ -258,7 +175,7 @@ pub(crate) fn applied_to_one<V: Values>(
 }
 
 /// An operator at two operands, where the operator stands at a token: else rule 26.
-pub(crate) fn applied_to_two<V: Values>(
+pub fn applied_to_two<V: Values>(
     values: &V,
     operator: Operator,
     token: u32,
