@@ -84,6 +84,20 @@ module _ {x : Code} {from to : ℕ} {P : MemoryMap → State → Type 0} {Q : St
     go = λ s sound at p. reaches_weaker (first.runs.go s sound at p) (omega arith) (omega arith) (λ t arrived. arrived);
   }
 
+module _ {x : Code} {from to : ℕ} {P : MemoryMap → State → Type 0} {Q : State → State → Type 0} {most : ℕ} where
+  -- no instruction at all
+  pub runs_none : from ≡ to → ((s : State) → IsSound s → P x.map s → Q s s) → Runs 0 most P Q x from to
+  runs_none is holds = record {
+    go = λ s sound at p. record {
+      count = 0;
+      to = s;
+      enough = omega arith;
+      few = omega arith;
+      runs = refl;
+      arrives = (at ∙ is, holds s sound p);
+    };
+  }
+
 -- ---- pieces that are added
 
 module _ {old new : List Part} {P : Code → ℕ → ℕ → Type 0} {a b : ℕ} where

@@ -1,0 +1,12 @@
+mod Sums
+mod Places
+mod Numbers
+mod Wide
+mod Widths
+mod Shifting
+mod Operating
+mod Rotating
+mod Signs
+mod Rounding
+mod Accessing
+mod Chains

@@ -1,0 +1,131 @@
+-- An operator at a width is the operator of 64 bits and a cut, on words as they are or with their sign.
+use Rattle.std.proofs.Common.{◌≡◌, ℕ, ◌+◌, refl, sym, ◌∙◌, ap, subst, arith, Some, None, Option}
+use Rattle.std.specs.Prelude.{option_map, IsTrue}
+use Rattle.cmm_words.specs.Laws.{IsCut2, IsCutOfExtended}
+use Rattle.cmm_words.specs.Widths.{IsWord}
+use Rattle.cmm_words.specs.Words.{low_bits, sign_extended, value2}
+use Rattle.cmm_words.specs.declared.operators.Op2.{Op2}
+use Rattle.cmm_words.specs.declared.operators.Op2.TheVariants as op
+use Rattle.cmm_words.specs.declared.width.Width.{Width}
+use Rattle.cmm_words.specs.declared.width.Width.TheVariants.{W64}
+use Rattle.rv_asm.specs.Parts.{Code}
+use Rattle.rv_table.specs.Machine.{State}
+use Rattle.cmm_changes.proofs.Shared.{keeps_then, runs_then, runs_weaker, set_keeps}
+use Rattle.cmm_changes.specs.Changes.{Keeps}
+use Rattle.cmm_changes.specs.Pieces.{Always, Runs}
+use Rattle.cmm_select.specs.Operators.{Extends, HasWord, HaveWords, Narrows, Operates, is_built}
+use Rattle.cmm_select.specs.declared.operator.Method.TheVariants.{Plain, Shift, Signed}
+use Rattle.cmm_select.specs.inside.Wide.{is_plain, is_shift, is_signed, method_of}
+
+-- where a value is cut from one of 64 bits, there is that one
+wide_value : (w : Width) (o : Option ℕ) (v : ℕ) → option_map (low_bits w) o ≡ Some v → (u : ℕ) × (o ≡ Some u) × (low_bits w u ≡ v)
+wide_value w (Some u) v is = (u, refl, cc)
+wide_value w None v is = absurd (cc)
+
+module _ (x : Code) (from mid to n k : ℕ) (o : Op2) (w : Width) where
+  pub cut_operates : IsCut2 o → Runs 0 n Always (Operates o W64) x from mid → Runs 0 k Always (Narrows w) x mid to →
+      Runs 0 (n + k) (HaveWords w) (Operates o w) x from to
+  cut_operates cut first second =
+      runs_weaker (runs_then first second (λ s t sound also p q. tt)) (omega arith) (omega arith) (λ s sound words. tt)
+      (λ s u sound words both. record {
+        given = λ v is. cut_value s both.0 u v words both.1 both.2 is;
+        keeps = keeps_then s both.0 u both.1.keeps both.2.keeps;
+      })
+    where
+      cut_value : (s t u : State) (v : ℕ) → HaveWords w x.map s → Operates o W64 s t → Narrows w t u → value2 o w (s.registers 5) (s.registers 7) ≡ Some v →
+          u.registers 5 ≡ v
+      cut_value s t u v words operates narrows is =
+          let wide = wide_value w (value2 o W64 (s.registers 5) (s.registers 7)) v (sym (cut w (s.registers 5) (s.registers 7) words.0 words.1) ∙ is) in
+          narrows.given ∙ ap (low_bits w) (operates.given wide.0 wide.1) ∙ wide.2
+
+-- both words with their sign
+pub record Signs (w : Width) (s t : State) : Type 0 where
+  pub left : t.registers 5 ≡ sign_extended w W64 (s.registers 5)
+  pub right : t.registers 7 ≡ sign_extended w W64 (s.registers 7)
+  pub keeps : Keeps s t
+
+module _ (x : Code) (w : Width) where
+  pub both_signed : (from mid to n : ℕ) → Runs 0 n (HasWord w 5) (Extends w 5) x from mid → Runs 0 n (HasWord w 7) (Extends w 7) x mid to →
+      Runs 0 (n + n) (HaveWords w) (Signs w) x from to
+  both_signed from mid to n first second =
+      runs_weaker
+      (runs_then (runs_weaker {R = HaveWords w} {S = Extends w 5} {b = n} {k = 0} first (omega arith) (omega arith) (λ s sound words. words.0) (λ s t sound words extends. extends)) second
+      (λ s t sound also words extends. right_word s t words extends))
+      (omega arith) (omega arith) (λ s sound words. words)
+      (λ s u sound words both. signs s both.0 u both.1 both.2)
+    where
+      right_word : (s t : State) → HaveWords w x.map s → Extends w 5 s t → HasWord w 7 x.map t
+      right_word s t words extends = subst (λ (a : ℕ). IsWord w a) (sym (extends.others 7 refl)) words.1
+
+      signs : (s t u : State) → Extends w 5 s t → Extends w 7 t u → Signs w s u
+      signs s t u left right = record {
+        left = right.others 5 refl ∙ left.given;
+        right = right.given ∙ ap (sign_extended w W64) (left.others 7 refl);
+        keeps = keeps_then s t u (set_keeps 5 (sign_extended w W64 (s.registers 5)) s t refl left) (set_keeps 7 (sign_extended w W64 (t.registers 7)) t u refl right);
+      }
+
+  pub signed_operates : (from one two to m n k : ℕ) (o : Op2) → IsCutOfExtended o → Runs 0 m (HaveWords w) (Signs w) x from one →
+      Runs 0 n Always (Operates o W64) x one two → Runs 0 k Always (Narrows w) x two to → Runs 0 (m + (n + k)) (HaveWords w) (Operates o w) x from to
+  signed_operates from one two to m n k o cut first second third =
+      runs_weaker (runs_then first (runs_then second third (λ s t sound also p q. tt)) (λ s t sound also p q. tt)) (omega arith) (omega arith) (λ s sound words. words)
+      (λ s u sound words all. record {
+        given = λ v is. cut_value s all.0 all.2.0 u v words all.1 all.2.1 all.2.2 is;
+        keeps = keeps_then s all.0 u all.1.keeps (keeps_then all.0 all.2.0 u all.2.1.keeps all.2.2.keeps);
+      })
+    where
+      cut_value : (s r t u : State) (v : ℕ) → HaveWords w x.map s → Signs w s r → Operates o W64 r t → Narrows w t u →
+          value2 o w (s.registers 5) (s.registers 7) ≡ Some v → u.registers 5 ≡ v
+      cut_value s r t u v words signs operates narrows is =
+          let a = sign_extended w W64 (s.registers 5) in
+          let b = sign_extended w W64 (s.registers 7) in
+          let wide = wide_value w (value2 o W64 a b) v (sym (cut w (s.registers 5) (s.registers 7) words.0 words.1) ∙ is) in
+          let operands : value2 o W64 (r.registers 5) (r.registers 7) ≡ value2 o W64 a b =
+          ap (λ (n : ℕ). value2 o W64 n (r.registers 7)) signs.left ∙ ap (value2 o W64 a) signs.right
+          in
+          narrows.given ∙ ap (low_bits w) (operates.given wide.0 (operands ∙ wide.1)) ∙ wide.2
+
+-- ---- which law an operator has
+
+pub plain_cut : (o : Op2) → IsTrue (is_plain o) → IsCut2 op.Add → IsCut2 op.Sub → IsCut2 op.Mul → IsCut2 op.And → IsCut2 op.Or → IsCut2 op.Xor →
+    IsCut2 op.Divu → IsCut2 op.Modu → IsCut2 o
+plain_cut op.Add is add sub mul and or xor divu modu = add
+plain_cut op.Sub is add sub mul and or xor divu modu = sub
+plain_cut op.Mul is add sub mul and or xor divu modu = mul
+plain_cut op.And is add sub mul and or xor divu modu = and
+plain_cut op.Or is add sub mul and or xor divu modu = or
+plain_cut op.Xor is add sub mul and or xor divu modu = xor
+plain_cut op.Divu is add sub mul and or xor divu modu = divu
+plain_cut op.Modu is add sub mul and or xor divu modu = modu
+plain_cut _ is add sub mul and or xor divu modu = absurd (cc)
+
+pub shift_cut : (o : Op2) → IsTrue (is_shift o) → IsCut2 op.Shl → IsCut2 op.Shrl → IsCut2 o
+shift_cut op.Shl is shl shrl = shl
+shift_cut op.Shrl is shl shrl = shrl
+shift_cut _ is shl shrl = absurd (cc)
+
+pub signed_cut : (o : Op2) → IsTrue (is_signed o) → IsCutOfExtended op.Quot → IsCutOfExtended op.Rem → IsCutOfExtended o
+signed_cut op.Quot is quot rem = quot
+signed_cut op.Rem is quot rem = rem
+signed_cut _ is quot rem = absurd (cc)
+
+-- an operator that is built is done by its method
+pub built_plain : (o : Op2) → IsTrue (is_built o) → method_of o ≡ Plain → IsTrue (is_plain o)
+built_plain op.Add built is = refl
+built_plain op.Sub built is = refl
+built_plain op.Mul built is = refl
+built_plain op.And built is = refl
+built_plain op.Or built is = refl
+built_plain op.Xor built is = refl
+built_plain op.Divu built is = refl
+built_plain op.Modu built is = refl
+built_plain _ built is = absurd (cc)
+
+pub built_shift : (o : Op2) → method_of o ≡ Shift → IsTrue (is_shift o)
+built_shift op.Shl is = refl
+built_shift op.Shrl is = refl
+built_shift _ is = absurd (cc)
+
+pub built_signed : (o : Op2) → method_of o ≡ Signed → IsTrue (is_signed o)
+built_signed op.Quot is = refl
+built_signed op.Rem is = refl
+built_signed _ is = absurd (cc)

@@ -1,0 +1,15 @@
+use Rattle.std.proofs.Common.{◌∷◌, ◌++◌, [], arith, pos}
+use Rattle.rv_asm.specs.declared.part.Part.TheVariants.{Single}
+use Rattle.rv_table.specs.declared.instruction.Instr.TheVariants.{Slli, Srai}
+use Rattle.cmm_changes.proofs.Shared.{adds_one, adds_then, adds_weaker}
+use Rattle.cmm_select.proofs.Widths.{shifts_back}
+use Rattle.cmm_select.proofs.operator.shift_back.Goals as goal
+
+pub returns-clause-shifts : goal.returns-clause-shifts
+returns-clause-shifts c =
+    let k = c.args.amount in
+    let rd = c.args.rd in
+    let old = c.args.asm.now.parts in
+    rw (c.in_ok-emit-2.ensures.parts, c.in_ok-emit.ensures.parts, c.shift_left.ensures.is, c.shift_right_signed.ensures.is)
+    (adds_weaker (adds_then (adds_one old (Slli rd rd (pos k))) (adds_one (old ++ Single (Slli rd rd (pos k)) ∷ []) (Srai rd rd (pos k)))) (omega arith)
+    (λ x from to does. shifts_back x from to rd k (omega (arith, c.requires.low)) c.requires.amount does))

@@ -1,0 +1,14 @@
+use Rattle.std.proofs.Common.{◌∷◌, ◌++◌, [], arith, pos}
+use Rattle.rv_asm.specs.declared.part.Part.TheVariants.{Single}
+use Rattle.rv_table.specs.declared.instruction.Instr.TheVariants.{Slli, Srli}
+use Rattle.cmm_changes.proofs.Shared.{adds_one, adds_then, adds_weaker}
+use Rattle.cmm_select.proofs.Widths.{shifts_out}
+use Rattle.cmm_select.proofs.operator.shift_out.Goals as goal
+
+pub returns-clause-shifts : goal.returns-clause-shifts
+returns-clause-shifts c =
+    let k = c.args.amount in
+    let old = c.args.asm.now.parts in
+    rw (c.in_ok-emit-2.ensures.parts, c.in_ok-emit.ensures.parts, c.shift_left.ensures.is, c.shift_right.ensures.is)
+    (adds_weaker (adds_then (adds_one old (Slli 5 5 (pos k))) (adds_one (old ++ Single (Slli 5 5 (pos k)) ∷ []) (Srli 5 5 (pos k)))) (omega arith)
+    (λ x from to does. shifts_out x from to 5 k (omega arith) c.requires does))

@@ -1,0 +1,49 @@
+-- What the pieces for operators do, with their operands in registers 5 and 7 and their result in register 5.
+use Rattle.std.specs.Prelude.{◌≡◌, ℕ, Bool, true, false, Some}
+use Rattle.cmm_words.specs.Widths.{IsWord}
+use Rattle.cmm_words.specs.Words.{low_bits, sign_extended, value2}
+use Rattle.cmm_words.specs.declared.operators.Op2.{Op2}
+use Rattle.cmm_words.specs.declared.operators.Op2.TheVariants.{Shra, Rotl, Rotr, Div, Mod}
+use Rattle.cmm_words.specs.declared.width.Width.{Width}
+use Rattle.cmm_words.specs.declared.width.Width.TheVariants.{W8, W16, W32, W64}
+use Rattle.rv_table.specs.Machine.{MemoryMap, State}
+use Rattle.cmm_changes.specs.Changes.{Keeps, Sets}
+
+-- a register has a word of a width
+abbrev pub HasWord : Width → ℕ → MemoryMap → State → Type 0
+HasWord w r m s = IsWord w (s.registers r)
+
+-- both operands are words of a width
+abbrev pub HaveWords : Width → MemoryMap → State → Type 0
+HaveWords w m s = IsWord w (s.registers 5) × IsWord w (s.registers 7)
+
+-- the result is the operator's value, if it has one (C-- Language Specification 2.0, the table of primitive operators), and nothing but
+-- registers 5 to 7 is changed
+pub record Operates (op : Op2) (w : Width) (s t : State) : Type 0 where
+  pub given : (v : ℕ) → value2 op w (s.registers 5) (s.registers 7) ≡ Some v → t.registers 5 ≡ v
+  pub keeps : Keeps s t
+
+-- the number in register 5 is cut to a width
+pub record Narrows (w : Width) (s t : State) : Type 0 where
+  pub given : t.registers 5 ≡ low_bits w (s.registers 5)
+  pub keeps : Keeps s t
+
+-- the word in a register gets its sign
+abbrev pub Extends : Width → ℕ → State → State → Type 0
+Extends w r s t = Sets r (sign_extended w W64 (s.registers r)) s t
+
+-- how many shifts cut a number to a width, or extend a word of it: none at 64 bits
+abbrev pub shifts_of : Width → ℕ
+shifts_of W8 = 2
+shifts_of W16 = 2
+shifts_of W32 = 2
+shifts_of W64 = 0
+
+-- the operators whose code is built so far
+abbrev pub is_built : Op2 → Bool
+is_built Shra = false
+is_built Rotl = false
+is_built Rotr = false
+is_built Div = false
+is_built Mod = false
+is_built _ = true

@@ -1,0 +1,56 @@
+-- The instructions of operators at 64 bits: RISC-V ISA Volume I, "Integer Register-Register Operations" and the M extension.
+use Rattle.std.specs.Prelude.{Bool, true, false}
+use Rattle.cmm_words.specs.declared.operators.Op2.{Op2}
+use Rattle.cmm_words.specs.declared.operators.Op2.TheVariants as op
+use Rattle.cmm_select.specs.declared.operator.Method.{Method}
+use Rattle.cmm_select.specs.declared.operator.Method.TheVariants.{Plain, Shift, Signed}
+use Rattle.rv_table.specs.declared.instruction.Instr.{Instr}
+use Rattle.rv_table.specs.declared.instruction.Instr.TheVariants.{Add, Sub, Mul, And, Or, Xor, Sll, Srl, Div, Divu, Rem, Remu}
+
+-- the operators that one instruction does on any words of 64 bits: at a width on words as they are,
+abbrev pub is_plain : Op2 → Bool
+is_plain op.Add = true
+is_plain op.Sub = true
+is_plain op.Mul = true
+is_plain op.And = true
+is_plain op.Or = true
+is_plain op.Xor = true
+is_plain op.Divu = true
+is_plain op.Modu = true
+is_plain _ = false
+
+-- or on words with their sign
+abbrev pub is_signed : Op2 → Bool
+is_signed op.Quot = true
+is_signed op.Rem = true
+is_signed _ = false
+
+-- and those that an instruction does where their count is below 64
+abbrev pub is_shift : Op2 → Bool
+is_shift op.Shl = true
+is_shift op.Shrl = true
+is_shift _ = false
+
+-- that instruction
+abbrev pub direct : Op2 → Instr
+direct op.Add = Add 5 5 7
+direct op.Sub = Sub 5 5 7
+direct op.Mul = Mul 5 5 7
+direct op.And = And 5 5 7
+direct op.Or = Or 5 5 7
+direct op.Xor = Xor 5 5 7
+direct op.Shl = Sll 5 5 7
+direct op.Shrl = Srl 5 5 7
+direct op.Divu = Divu 5 5 7
+direct op.Modu = Remu 5 5 7
+direct op.Quot = Div 5 5 7
+direct op.Rem = Rem 5 5 7
+direct _ = Add 5 5 7
+
+-- how an operator is done; one that isn't built has the first way
+abbrev pub method_of : Op2 → Method
+method_of op.Shl = Shift
+method_of op.Shrl = Shift
+method_of op.Quot = Signed
+method_of op.Rem = Signed
+method_of _ = Plain

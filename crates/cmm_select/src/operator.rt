@@ -1,0 +1,245 @@
+//! Operators on the words in registers 5 and 7.
+
+ghost use Rattle.std.specs.Prelude.{◌≡◌, ◌≢◌, ◌+◌, ◌*◌, ◌<◌, ◌≤◌, pos, IsTrue, OnOk};
+ghost use Rattle.cmm_words.specs.Widths.{IsWord};
+ghost use Rattle.cmm_words.specs.declared.width.Width.TheVariants.{W64};
+ghost use Rattle.rv_table.specs.Table.{IsValid};
+ghost use Rattle.rv_table.specs.Words.{shifted_left, shifted_right, shifted_right_signed};
+ghost use Rattle.rv_table.specs.declared.instruction.Instr.TheVariants.{Slli, Srai, Srli};
+ghost use Rattle.cmm_changes.specs.Changes.{Sets};
+ghost use Rattle.cmm_changes.specs.Pieces.{Adds, Always, Runs};
+ghost use Rattle.cmm_select.specs.Operators.{Extends, HasWord, HaveWords, Narrows, Operates, is_built, shifts_of};
+ghost use Rattle.cmm_select.specs.inside.Wide.{direct, is_plain, is_shift, is_signed, method_of};
+
+use crate::place::{FIRST, HELP, SECOND};
+use cmm_words::laws::wide_operators;
+use cmm_words::{Op2, Width};
+use rv_asm::Asm;
+use rv_table::Instr;
+use std::alloc::AllocError;
+
+/// Cuts the number in register 5 to a width: its upper bits are shifted out. An error is want of memory, and then some of the
+/// instructions may be there.
+pub fn narrow(asm: &mut Asm, width: Width) -> Result<(), AllocError>
+    ensures narrows { OnOk result (Adds (shifts_of width) asm.old.parts asm.new.parts (Runs 0 (shifts_of width) Always (Narrows width))) }
+    ensures labels { asm.new.labels ≡ asm.old.labels }
+{
+    match width {
+        Width::W8 => {
+            shift_out(asm, 56)?;
+            Ok(())
+        }
+        Width::W16 => {
+            shift_out(asm, 48)?;
+            Ok(())
+        }
+        Width::W32 => {
+            shift_out(asm, 32)?;
+            Ok(())
+        }
+        Width::W64 => Ok(()),
+    }
+}
+
+/// Gives the word in register `rd`, one of 5 to 7, its sign: copies of its top bit above it. An error is want of memory, and then some
+/// of the instructions may be there.
+pub fn extend(asm: &mut Asm, width: Width, rd: u8) -> Result<(), AllocError>
+    requires low { 5 ≤ rd }
+    requires high { rd ≤ 7 }
+    ensures extends { OnOk result (Adds (shifts_of width) asm.old.parts asm.new.parts (Runs 0 (shifts_of width) (HasWord width rd) (Extends width rd))) }
+    ensures labels { asm.new.labels ≡ asm.old.labels }
+{
+    match width {
+        Width::W8 => {
+            shift_back(asm, rd, 56)?;
+            Ok(())
+        }
+        Width::W16 => {
+            shift_back(asm, rd, 48)?;
+            Ok(())
+        }
+        Width::W32 => {
+            shift_back(asm, rd, 32)?;
+            Ok(())
+        }
+        Width::W64 => Ok(()),
+    }
+}
+
+/// Shifts register 5 to the left, and back with zeros.
+fn shift_out(asm: &mut Asm, amount: u8) -> Result<(), AllocError>
+    requires { amount < 64 }
+    ensures shifts { OnOk result (Adds 2 asm.old.parts asm.new.parts (Runs 0 2 Always (λ s t. Sets 5 (shifted_right (shifted_left (s.registers 5) amount) amount) s t))) }
+    ensures labels { asm.new.labels ≡ asm.old.labels }
+{
+    asm.emit(shift_left(FIRST, amount))?;
+    asm.emit(shift_right(FIRST, amount))?;
+    Ok(())
+}
+
+/// Shifts register `rd` to the left, and back with copies of the top bit.
+fn shift_back(asm: &mut Asm, rd: u8, amount: u8) -> Result<(), AllocError>
+    requires amount { amount < 64 }
+    requires low { 5 ≤ rd }
+    requires high { rd ≤ 7 }
+    ensures shifts { OnOk result (Adds 2 asm.old.parts asm.new.parts (Runs 0 2 Always (λ s t. Sets rd (shifted_right_signed 64 (shifted_left (s.registers rd) amount) amount) s t))) }
+    ensures labels { asm.new.labels ≡ asm.old.labels }
+{
+    asm.emit(shift_left(rd, amount))?;
+    asm.emit(shift_right_signed(rd, amount))?;
+    Ok(())
+}
+
+fn shift_left(rd: u8, amount: u8) -> Instr
+    requires register { rd < 32 }
+    requires amount { amount < 64 }
+    ensures is { result ≡ Slli rd rd (pos amount) }
+    ensures valid { IsValid result }
+{
+    Instr::Slli {
+        rd,
+        rs1: rd,
+        imm: i32::from(amount),
+    }
+}
+
+fn shift_right(rd: u8, amount: u8) -> Instr
+    requires register { rd < 32 }
+    requires amount { amount < 64 }
+    ensures is { result ≡ Srli rd rd (pos amount) }
+    ensures valid { IsValid result }
+{
+    Instr::Srli {
+        rd,
+        rs1: rd,
+        imm: i32::from(amount),
+    }
+}
+
+fn shift_right_signed(rd: u8, amount: u8) -> Instr
+    requires register { rd < 32 }
+    requires amount { amount < 64 }
+    ensures is { result ≡ Srai rd rd (pos amount) }
+    ensures valid { IsValid result }
+{
+    Instr::Srai {
+        rd,
+        rs1: rd,
+        imm: i32::from(amount),
+    }
+}
+
+/// How an operator of 64 bits is done.
+#[derive(Clone, Copy)]
+enum Method {
+    /// By one instruction, on words as they are.
+    Plain,
+    /// By one instruction, whose result is cleared where the count is past its bits.
+    Shift,
+    /// By one instruction, on words with their sign.
+    Signed,
+}
+
+/// Gives register 5 what an operator gives on the words in registers 5 and 7; register 6 helps. An error is want of memory, and then
+/// some of the instructions may be there.
+pub fn operate(asm: &mut Asm, operator: Op2, width: Width) -> Result<(), AllocError>
+    requires { IsTrue (is_built operator) }
+    ensures operates { OnOk result (Adds (3 * shifts_of width + 6) asm.old.parts asm.new.parts (Runs 0 (3 * shifts_of width + 6) (HaveWords width) (Operates operator width))) }
+    ensures labels { asm.new.labels ≡ asm.old.labels }
+{
+    match method_for(operator) {
+        Method::Plain => {
+            plain(asm, operator, width)?;
+            Ok(())
+        }
+        Method::Shift => {
+            shift(asm, operator, width)?;
+            Ok(())
+        }
+        Method::Signed => {
+            signed(asm, operator, width)?;
+            Ok(())
+        }
+    }
+}
+
+/// How the operator is done. One that is not built has the first.
+fn method_for(operator: Op2) -> Method
+    ensures { result ≡ method_of operator }
+{
+    match operator {
+        Op2::Shl | Op2::Shrl => Method::Shift,
+        Op2::Quot | Op2::Rem => Method::Signed,
+        _ => Method::Plain,
+    }
+}
+
+/// The operator of 64 bits in one instruction, and a cut.
+fn plain(asm: &mut Asm, operator: Op2, width: Width) -> Result<(), AllocError>
+    requires { IsTrue (is_plain operator) }
+    ensures operates { OnOk result (Adds (1 + shifts_of width) asm.old.parts asm.new.parts (Runs 0 (1 + shifts_of width) (HaveWords width) (Operates operator width))) }
+    ensures labels { asm.new.labels ≡ asm.old.labels }
+{
+    wide_operators();
+    asm.emit(instruction(operator))?;
+    narrow(asm, width)?;
+    Ok(())
+}
+
+/// A shift of 64 bits, cleared where the count is not below 64, and a cut.
+fn shift(asm: &mut Asm, operator: Op2, width: Width) -> Result<(), AllocError>
+    requires { IsTrue (is_shift operator) }
+    ensures operates { OnOk result (Adds (3 + shifts_of width) asm.old.parts asm.new.parts (Runs 0 (3 + shifts_of width) (HaveWords width) (Operates operator width))) }
+    ensures labels { asm.new.labels ≡ asm.old.labels }
+{
+    wide_operators();
+    asm.emit(Instr::Sltiu {
+        rd: HELP,
+        rs1: SECOND,
+        imm: 64,
+    })?;
+    asm.emit(instruction(operator))?;
+    asm.emit(Instr::Mul {
+        rd: FIRST,
+        rs1: FIRST,
+        rs2: HELP,
+    })?;
+    narrow(asm, width)?;
+    Ok(())
+}
+
+/// Both words get their sign, and then the operator of 64 bits in one instruction, and a cut.
+fn signed(asm: &mut Asm, operator: Op2, width: Width) -> Result<(), AllocError>
+    requires { IsTrue (is_signed operator) }
+    ensures operates { OnOk result (Adds (3 * shifts_of width + 1) asm.old.parts asm.new.parts (Runs 0 (3 * shifts_of width + 1) (HaveWords width) (Operates operator width))) }
+    ensures labels { asm.new.labels ≡ asm.old.labels }
+{
+    wide_operators();
+    extend(asm, width, FIRST)?;
+    extend(asm, width, SECOND)?;
+    asm.emit(instruction(operator))?;
+    narrow(asm, width)?;
+    Ok(())
+}
+
+/// The instruction of an operator of 64 bits.
+fn instruction(operator: Op2) -> Instr
+    ensures is { result ≡ direct operator }
+    ensures valid { IsValid result }
+{
+    let (rd, rs1, rs2) = (FIRST, FIRST, SECOND);
+    match operator {
+        Op2::Sub => Instr::Sub { rd, rs1, rs2 },
+        Op2::Mul => Instr::Mul { rd, rs1, rs2 },
+        Op2::And => Instr::And { rd, rs1, rs2 },
+        Op2::Or => Instr::Or { rd, rs1, rs2 },
+        Op2::Xor => Instr::Xor { rd, rs1, rs2 },
+        Op2::Shl => Instr::Sll { rd, rs1, rs2 },
+        Op2::Shrl => Instr::Srl { rd, rs1, rs2 },
+        Op2::Divu => Instr::Divu { rd, rs1, rs2 },
+        Op2::Modu => Instr::Remu { rd, rs1, rs2 },
+        Op2::Quot => Instr::Div { rd, rs1, rs2 },
+        Op2::Rem => Instr::Rem { rd, rs1, rs2 },
+        _ => Instr::Add { rd, rs1, rs2 },
+    }
+}
