@@ -12,7 +12,7 @@ abbrev p : Program
 p = program (alternates-main ∷ alternates-h ∷ [])
 
 -- the call in `main`
-call_has_site : AreExitsOf alternates-main main-graph (s 0) (exits (n 2) (0 ∷ 1 ∷ []) [])
+call_has_site : AreExitsOf alternates-main main-graph (s 0) (exits (n 2) (0 ∷ 1 ∷ []) [] [])
 call_has_site = record { site = record (call_site (0 ∷ [])) { returns = 0 ∷ 1 ∷ [] }; is_site = refl; normal = refl; returns = refl; unwinds = refl; cuts = refl }
 
 main_is_graph : IsGraphOf p alternates-main main-graph

@@ -35,9 +35,9 @@ loop-setting = setting (alone (procedure [] 99 0 2 [] []) (frame 16)) 4096 no_cl
 abbrev pub switch : List Graph
 switch =
     graph 2 1 (Entry [] (n 1)
-    ∷ Call (s 0) (code 1) (arg (num 11) ∷ []) (exits (n 2) [] [])
+    ∷ Call (s 0) (code 1) (arg (num 11) ∷ []) (exits (n 2) [] [] [])
     ∷ CopyIn (variables_of (0 ∷ [])) (n 3)
-    ∷ Call (s 1) (code 1) (arg (num 12) ∷ []) (exits (n 4) [] [])
+    ∷ Call (s 1) (code 1) (arg (num 12) ∷ []) (exits (n 4) [] [] [])
     ∷ CopyIn (variables_of (1 ∷ [])) (n 5)
     ∷ set_temporary 0 (op Mul (v 0) (num 100)) (n 6)
     ∷ set_temporary 0 (op Add (t 0) (v 1)) (n 7)
@@ -68,7 +68,7 @@ switch-setting =
 abbrev pub main-graph : Graph
 main-graph =
     graph 1 1 (Entry [] (n 1)
-    ∷ Call (s 0) (code 1) (arg (num 5) ∷ []) (exits (n 2) (0 ∷ 1 ∷ []) [])
+    ∷ Call (s 0) (code 1) (arg (num 5) ∷ []) (exits (n 2) (0 ∷ 1 ∷ []) [] [])
     ∷ CopyIn (variables_of (0 ∷ [])) (n 3)
     ∷ Return 0 0 (arg (v 0) ∷ [])
     ∷ CopyIn (variables_of (0 ∷ [])) (n 5)
@@ -110,14 +110,14 @@ abbrev pub cutting : List Graph
 cutting =
     graph 1 0 (Entry [] (n 1)
     ∷ set_variable 0 (Copy (num 1)) (n 2)
-    ∷ Call (s 0) (code 1) (arg (Continuation (k 0)) ∷ []) (exits (n 3) [] (0 ∷ []))
+    ∷ Call (s 0) (code 1) (arg (Continuation (k 0)) ∷ []) (exits (n 3) [] [] (0 ∷ []))
     ∷ CopyIn (variables_of (0 ∷ [])) (n 4)
     ∷ Return 0 0 (arg (num 0) ∷ [])
     ∷ CopyIn (variables_of (0 ∷ [])) (n 6)
     ∷ Return 0 0 (arg (v 0) ∷ [])
     ∷ []) (n 5 ∷ [])
     ∷ graph 2 0 (Entry (variable 0 ∷ []) (n 1)
-    ∷ Call (s 0) (code 2) (arg (v 0) ∷ []) (exits (n 2) [] [])
+    ∷ Call (s 0) (code 2) (arg (v 0) ∷ []) (exits (n 2) [] [] [])
     ∷ CopyIn (variables_of (1 ∷ [])) (n 3)
     ∷ Return 0 0 (arg (v 1) ∷ [])
     ∷ []) []
@@ -141,7 +141,7 @@ cutting-setting =
 abbrev pub yielding : List Graph
 yielding =
     graph 1 1 (Entry [] (n 1)
-    ∷ Yield (s 0) (num 3 ∷ num 9 ∷ []) (exits (n 2) (0 ∷ []) [])
+    ∷ Yield (s 0) (num 3 ∷ num 9 ∷ []) (exits (n 2) (0 ∷ []) [] [])
     ∷ CopyIn (variables_of (0 ∷ [])) (n 3)
     ∷ Return 0 0 (arg (v 0) ∷ [])
     ∷ CopyIn (variables_of (0 ∷ [])) (n 5)

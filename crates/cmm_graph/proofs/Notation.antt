@@ -67,8 +67,9 @@ op operator left right = rvalue.Binary operator W64 left right
 abbrev pub test : Cmp → Operand → Operand → Comparison
 test operator left right = record { operator = operator; width = W64; left = left; right = right }
 
-abbrev pub exits : NodeId → List ℕ → List ℕ → Exits
-exits normal returns cuts = record { normal = Some normal; returns = map k returns; unwinds = []; cuts = map k cuts }
+-- the exits of a site: to the normal one, to alternate ones, to unwind exits and to cut exits
+abbrev pub exits : NodeId → List ℕ → List ℕ → List ℕ → Exits
+exits normal returns unwinds cuts = record { normal = Some normal; returns = map k returns; unwinds = map k unwinds; cuts = map k cuts }
 
 -- a graph that begins at its first node, each node with one token
 abbrev pub graph : ℕ → ℕ → List NodeKind → List NodeId → Graph

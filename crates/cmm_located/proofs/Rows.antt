@@ -19,7 +19,8 @@ use Rattle.cmm_program.proofs.Shared as sample
 use Rattle.cmm_program.proofs.Shared.{opened, variables_of, continuation, call_site, procedure, program, frame, frame_with, setting, yield_site, client, other, no_client}
 use Rattle.cmm_located.specs.Answering.{shown}
 use Rattle.cmm_located.specs.Compiled.{Compiled}
-use Rattle.cmm_located.proofs.Notation.{n, s, k, v, t, num, code, arg, variable, set_variable, set_temporary, sum, exits, graph, laid, all_saved, compiled, located_after, located_status, graph_status}
+use Rattle.cmm_graph.proofs.Shared.{n, s, k, v, t, num, code, arg, variable, set_variable, set_temporary, exits, graph}
+use Rattle.cmm_located.proofs.Notation.{sum, added_to, laid, all_saved, compiled, located_after, located_status, graph_status}
 
 -- ---- a cut past a frame that saved the register
 --     main() { bits64 v, r; v = 41; r = c(); return (v + r); }
@@ -28,13 +29,7 @@ use Rattle.cmm_located.proofs.Notation.{n, s, k, v, t, num, code, arg, variable,
 -- v is in register 9, as a is; c may be cut to, and saves every callee-saves register.
 abbrev cutting : Compiled
 cutting = compiled
-    (graph 2 1 (Entry [] (n 1)
-    ∷ set_variable 0 (Copy (num 41)) (n 2)
-    ∷ Call (s 0) (code 1) [] (exits (n 3) [] [] [])
-    ∷ CopyIn (variables_of (1 ∷ [])) (n 4)
-    ∷ set_temporary 0 (sum (v 0) (v 1)) (n 5)
-    ∷ Return 0 0 (arg (t 0) ∷ [])
-    ∷ []) []
+    (added_to 41 (Call (s 0) (code 1) [] (exits (n 3) [] [] [])) [] []
     ∷ graph 1 0 (Entry [] (n 1)
     ∷ Call (s 0) (code 2) (arg (Continuation (k 0)) ∷ []) (exits (n 2) [] [] (0 ∷ []))
     ∷ CopyIn (variables_of (0 ∷ [])) (n 3)
@@ -82,21 +77,8 @@ saving_too_little_located = refl
 --     g() { bits64 a, x; a = 7; x = yield(3); return (a + x); }
 abbrev yielding : Compiled
 yielding = compiled
-    (graph 2 1 (Entry [] (n 1)
-    ∷ set_variable 0 (Copy (num 40)) (n 2)
-    ∷ Call (s 0) (code 1) [] (exits (n 3) [] (0 ∷ []) [])
-    ∷ CopyIn (variables_of (1 ∷ [])) (n 4)
-    ∷ set_temporary 0 (sum (v 0) (v 1)) (n 5)
-    ∷ Return 0 0 (arg (t 0) ∷ [])
-    ∷ CopyIn (variables_of (1 ∷ [])) (n 4)
-    ∷ []) (n 6 ∷ [])
-    ∷ graph 2 1 (Entry [] (n 1)
-    ∷ set_variable 0 (Copy (num 7)) (n 2)
-    ∷ Yield (s 0) (num 3 ∷ []) (exits (n 3) [] [] [])
-    ∷ CopyIn (variables_of (1 ∷ [])) (n 4)
-    ∷ set_temporary 0 (sum (v 0) (v 1)) (n 5)
-    ∷ Return 0 0 (arg (t 0) ∷ [])
-    ∷ []) []
+    (added_to 40 (Call (s 0) (code 1) [] (exits (n 3) [] (0 ∷ []) [])) (CopyIn (variables_of (1 ∷ [])) (n 4) ∷ []) (n 6 ∷ [])
+    ∷ added_to 7 (Yield (s 0) (num 3 ∷ []) (exits (n 3) [] [] [])) [] []
     ∷ [])
     (laid 48 8 ((9, 16) ∷ []) (24 ∷ []) ∷ laid 32 8 ((9, 16) ∷ []) [] ∷ [])
     ((Saved 9 ∷ Slot 0 ∷ Temp 12 ∷ []) ∷ (Saved 9 ∷ Slot 0 ∷ Temp 12 ∷ []) ∷ [])
@@ -202,13 +184,7 @@ returning_located = refl
 --     g(bits64 x) { return (x); }
 abbrev jumping : Compiled
 jumping = compiled
-    (graph 2 1 (Entry [] (n 1)
-    ∷ set_variable 0 (Copy (num 35)) (n 2)
-    ∷ Call (s 0) (code 1) [] (exits (n 3) [] [] [])
-    ∷ CopyIn (variables_of (1 ∷ [])) (n 4)
-    ∷ set_temporary 0 (sum (v 0) (v 1)) (n 5)
-    ∷ Return 0 0 (arg (t 0) ∷ [])
-    ∷ []) []
+    (added_to 35 (Call (s 0) (code 1) [] (exits (n 3) [] [] [])) [] []
     ∷ graph 1 0 (Entry [] (n 1)
     ∷ set_variable 0 (Copy (num 1)) (n 2)
     ∷ Jump (code 2) (arg (num 7) ∷ [])
