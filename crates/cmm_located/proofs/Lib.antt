@@ -3,5 +3,9 @@ pub mod Framing
 pub mod ShowingWalks
 pub mod Levels
 pub mod Ordering
+pub mod Parts
+pub mod Following
+pub mod Staying
+pub mod LeadingOn
 mod Notation
 mod Rows

@@ -33,7 +33,7 @@ use Rattle.cmm_located.specs.SameOrders.{HasFrames, ReadsAreLive, FrameIsThere, 
 -- ---- where the frame is
 
 -- the frames of a chain are as large as those of its activations
-same_sizes : (s : Setting) (c : Compiled) (frames : HasFrames s c) (top : ℕ) (contents : Contents) (activations : List Activation) (ps : List Position) (point : Point) →
+pub same_sizes : (s : Setting) (c : Compiled) (frames : HasFrames s c) (top : ℕ) (contents : Contents) (activations : List Activation) (ps : List Position) (point : Point) →
     AllWait c.graphs activations ps → IsChain c.plan top contents (suspensions c.graphs activations ps) point →
     chain_size c.plan (suspensions c.graphs activations ps) ≡ sum_of_sizes s activations
 same_sizes s c frames top contents [] [] point waits chain = refl
@@ -56,7 +56,7 @@ frame_is_there s c live a older p ps at frames runs =
 module _ (s : Setting) (c : Compiled) (live : Liveness) (st : State Position) (a : Activation) (older : List Activation) (p : Position) (ps : List Position)
     (at : Located) (frames : HasFrames s c) (is_youngest : st.store.activations ≡ a ∷ older)
     (is_store : at.store ≡ record st.store { activations = at.store.activations }) (runs : Runs s c live a older p ps at) where
-  abbrev variables : ℕ → ℕ
+  abbrev pub variables : ℕ → ℕ
   variables n = slice_index_or a.variables n 0
 
   -- the same, by fields
@@ -83,7 +83,7 @@ module _ (s : Setting) (c : Compiled) (live : Liveness) (st : State Position) (a
       ∙ (ap (λ f. f + slice_index_or (place_row s a.procedure).pairs k 0) (frame_is_there s c live a older p ps at frames runs)
       ∙ sym (ap (λ activations. continuation_value s activations k) is_youngest)))
 
-  same_reads : record (reads_at s c at) { variable = variables } ≡ reads_of s st.store
+  pub same_reads : record (reads_at s c at) { variable = variables } ≡ reads_of s st.store
   same_reads =
       let first : record (reads_at s c at) { variable = variables } ≡ reads_from variables (stackdata_address s st.store.activations) (continuation_value s st.store.activations) st.store.registers st.store.memory =
       ap (λ (f : ℕ → ℕ). record (reads_at s c at) { variable = variables; stackdata = f }) (fun_ext same_stackdata)
@@ -115,7 +115,7 @@ module _ (s : Setting) (c : Compiled) (live : Liveness) (st : State Position) (a
         ])) past
         ∙ ap (λ m. Ok (p.temporaries (record { number = m }))) number
 
-    hold_alike : HoldAlike (keeping s c at).held (graph.keeping p).held (reads_at s c at) variables (reads kind)
+    pub hold_alike : HoldAlike (keeping s c at).held (graph.keeping p).held (reads_at s c at) variables (reads kind)
     hold_alike l is_read =
         let is = node.reads_live l is_read in
         ap (λ q. number_of (held at.holdings (c.plan.place q (number_in c.graphs q l)))) runs.same

@@ -7,4 +7,5 @@ pub mod ShownWalks
 pub mod Relation
 pub mod Laws
 pub mod SameOrders
+pub mod Steps
 pub mod inside

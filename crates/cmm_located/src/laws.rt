@@ -3,6 +3,7 @@
 ghost use Rattle.cmm_located.specs.Laws.{RelatedAreLevel};
 ghost use Rattle.cmm_located.specs.SameOrders.{FrameIsThere, SameOrders};
 ghost use Rattle.cmm_located.specs.ShownWalks.{WalkIsShown};
+ghost use Rattle.cmm_located.specs.Steps.{NodesAreFollowed};
 
 /// What the client is shown over places is the walk of the C-- machine.
 #[tactic(auto, using(crate::proofs::ShowingWalks::walk_is_shown))]
@@ -24,6 +25,13 @@ pub fn frames_are_there()
 /// A node that is no assignment asks for the same order over places as over a graph.
 pub fn orders_are_same()
     ensures { SameOrders }
+{
+    cmm_graph::laws::nodes_ask_by_reads();
+}
+
+/// A step of the machine over graphs at a node that leads on is one step over places, at the same cost.
+pub fn nodes_are_followed()
+    ensures { NodesAreFollowed }
 {
     cmm_graph::laws::nodes_ask_by_reads();
 }
