@@ -7,5 +7,7 @@ pub mod Parts
 pub mod Following
 pub mod Staying
 pub mod LeadingOn
+pub mod Entries
+pub mod Calls
 mod Notation
 mod Rows

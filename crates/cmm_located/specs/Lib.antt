@@ -8,4 +8,5 @@ pub mod Relation
 pub mod Laws
 pub mod SameOrders
 pub mod Steps
+pub mod Entering
 pub mod inside

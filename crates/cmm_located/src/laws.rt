@@ -1,5 +1,6 @@
 //! Laws of the machine over places. Each is the contract of a function that does nothing.
 
+ghost use Rattle.cmm_located.specs.Entering.{CallsAreFollowed, ProceduresAreEntered};
 ghost use Rattle.cmm_located.specs.Laws.{RelatedAreLevel};
 ghost use Rattle.cmm_located.specs.SameOrders.{FrameIsThere, SameOrders};
 ghost use Rattle.cmm_located.specs.ShownWalks.{WalkIsShown};
@@ -32,6 +33,18 @@ pub fn orders_are_same()
 /// A step of the machine over graphs at a node that leads on is one step over places, at the same cost.
 pub fn nodes_are_followed()
     ensures { NodesAreFollowed }
+{
+    cmm_graph::laws::nodes_ask_by_reads();
+}
+
+/// At its Entry a procedure is entered over places as over graphs, or the run ends at the stack limit.
+pub fn procedures_are_entered()
+    ensures { ProceduresAreEntered }
+{}
+
+/// A call and a tail call are two steps over places: control leaves with the arguments, and the procedure is entered.
+pub fn calls_are_followed()
+    ensures { CallsAreFollowed }
 {
     cmm_graph::laws::nodes_ask_by_reads();
 }
