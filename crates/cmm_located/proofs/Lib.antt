@@ -9,5 +9,7 @@ pub mod Staying
 pub mod LeadingOn
 pub mod Entries
 pub mod Calls
+pub mod GoingOn
+pub mod Returns
 mod Notation
 mod Rows

@@ -9,4 +9,5 @@ pub mod Laws
 pub mod SameOrders
 pub mod Steps
 pub mod Entering
+pub mod Returning
 pub mod inside

@@ -2,6 +2,7 @@
 
 ghost use Rattle.cmm_located.specs.Entering.{CallsAreFollowed, ProceduresAreEntered};
 ghost use Rattle.cmm_located.specs.Laws.{RelatedAreLevel};
+ghost use Rattle.cmm_located.specs.Returning.{ReturnsAreFollowed};
 ghost use Rattle.cmm_located.specs.SameOrders.{FrameIsThere, SameOrders};
 ghost use Rattle.cmm_located.specs.ShownWalks.{WalkIsShown};
 ghost use Rattle.cmm_located.specs.Steps.{NodesAreFollowed};
@@ -45,6 +46,13 @@ pub fn procedures_are_entered()
 /// A call and a tail call are two steps over places: control leaves with the arguments, and the procedure is entered.
 pub fn calls_are_followed()
     ensures { CallsAreFollowed }
+{
+    cmm_graph::laws::nodes_ask_by_reads();
+}
+
+/// A return is at most two steps over places: the frame goes, and the CopyIn of the exit takes the values, or the run is over.
+pub fn returns_are_followed()
+    ensures { ReturnsAreFollowed }
 {
     cmm_graph::laws::nodes_ask_by_reads();
 }
