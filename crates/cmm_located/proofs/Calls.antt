@@ -31,23 +31,23 @@ use Rattle.cmm_graph.specs.GraphControl.{Position, graph_control, in_graph, kind
 use Rattle.cmm_graph.specs.GraphMachine.{graph_step, tokens_of_youngest}
 use Rattle.cmm_graph.specs.Values.{operand_value, passed}
 use Rattle.cmm_graph.specs.Laws.{OrderIsByReads}
-use Rattle.cmm_live.specs.Sites.{site_of}
 use Rattle.cmm_chain.specs.Chain.{IsChain}
 use Rattle.cmm_chain.specs.Plans.{IsPlanned}
 use Rattle.cmm_chain.specs.Running.{Holdings, called, left}
-use Rattle.cmm_chain.proofs.Shared.{call_suspends, left_is_chain}
+use Rattle.cmm_chain.proofs.Shared.{left_is_chain}
 use Rattle.cmm_located.specs.Answering.{shown}
 use Rattle.cmm_located.specs.Compiled.{Compiled, Located, bare}
 use Rattle.cmm_located.specs.Entering.{CallsAreFollowed, HasEntry, HaveEntries, IsReady, IsWithinMost, enters_procedure}
 use Rattle.cmm_located.specs.LocatedMachine.{located_step, tried}
 use Rattle.cmm_located.specs.Nodes.{to_procedure}
-use Rattle.cmm_located.specs.Relation.{Liveness, AllWait, Related, Runs, Waits, suspension_of, suspensions}
+use Rattle.cmm_located.specs.Relation.{Liveness, AllWait, Related, Runs, suspensions}
 use Rattle.cmm_located.specs.SameOrders.{HasFrames, ReadsAreLive}
 use Rattle.cmm_located.specs.Steps.{IsFollowed, kind_of_youngest}
 use Rattle.cmm_located.proofs.Entries.{Enters as ToEnter, asks_nothing, enters, enters_silently, landing_is}
 use Rattle.cmm_located.proofs.Following.{Moves, asks_alike, in_two, wrong_in}
 use Rattle.cmm_located.proofs.Ordering.{same_orders}
 use Rattle.cmm_located.proofs.Parts.{by_parts, located_of, position_of, running, state_of}
+use Rattle.cmm_located.proofs.Suspending.{call_chain, caller_waits}
 use Rattle.cmm_located.proofs.Staying.{after_transfer, places_do, places_step_is, step_is}
 
 pub have_length : (widths : List Width) (words : List Word) → have_widths widths words ≡ true → length widths ≡ length words
@@ -134,13 +134,6 @@ module _ (s : Setting) (c : Compiled) (live : Liveness) (frames : HasFrames s c)
       abbrev Caller : Activation
       Caller = record a { site = Some site.number }
 
-      caller_waits : Waits c.graphs Caller Here
-      caller_waits = record { procedure = refl; variables = runs.variables; site = site.number; is_site = refl; stands = ap site_of is }
-
-      call_chain : IsChain c.plan (stack_top s) h.contents (suspensions c.graphs (Caller ∷ older) (Here ∷ ps)) (called a.procedure site.number h).point
-      call_chain = call_suspends c.plan (stack_top s) (suspension_of c.graphs Caller Here) (suspensions c.graphs older ps) h runs.exists
-          (λ v is_live. let r = ready.ready site v refl is_live in (r.0, runs.values v r.1)) runs.framed
-
       call_goes : (to : ℕ) (words : List Word) (q : ℕ) (n : NodeId) → procedure_from 0 to s.placement.rows ≡ Some q → in_graph c.graphs q (λ g. Some g.first) ≡ Some n →
           places call (Ok (order.Call site.number to words)) ≡ record {
             store = running store (map bare (Caller ∷ older));
@@ -164,7 +157,8 @@ module _ (s : Setting) (c : Compiled) (live : Liveness) (frames : HasFrames s c)
       call_at to words t (EntersAt q pr is_q is_pr have) right =
           let entry = entries q pr is_pr in
           to_entry q pr is_pr (numbers words) (Caller ∷ older) (Here ∷ ps) (called a.procedure site.number h)
-          (as_many pr words entry.formals_are_variables have) call_chain (caller_waits, runs.waits)
+          (as_many pr words entry.formals_are_variables have) (call_chain s c live store a older p ps h carried runs call site is refl ready)
+          (caller_waits s c live store a older p ps h carried runs call site is refl ready, runs.waits)
           (Called site.number q (numbers words)) Now (Here ∷ ps) (places call (Ok (order.Call site.number to words)))
           ((entering_lands s Now q pr (numbers words) is_pr).0 site.number) refl refl (call_goes to words q entry.first is_q entry.is_first)
       call_at to words t (EntersNot e) right = absurd (cc)

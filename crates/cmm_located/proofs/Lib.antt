@@ -8,6 +8,8 @@ pub mod Following
 pub mod Staying
 pub mod LeadingOn
 pub mod Entries
+pub mod Suspending
+pub mod Yields
 pub mod Calls
 pub mod GoingOn
 pub mod Returns

@@ -9,5 +9,6 @@ pub mod Laws
 pub mod SameOrders
 pub mod Steps
 pub mod Entering
+pub mod Yielding
 pub mod Returning
 pub mod inside

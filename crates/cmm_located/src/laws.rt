@@ -6,6 +6,7 @@ ghost use Rattle.cmm_located.specs.Returning.{ReturnsAreFollowed};
 ghost use Rattle.cmm_located.specs.SameOrders.{FrameIsThere, SameOrders};
 ghost use Rattle.cmm_located.specs.ShownWalks.{WalkIsShown};
 ghost use Rattle.cmm_located.specs.Steps.{NodesAreFollowed};
+ghost use Rattle.cmm_located.specs.Yielding.{YieldsAreFollowed};
 
 /// What the client is shown over places is the walk of the C-- machine.
 #[tactic(auto, using(crate::proofs::ShowingWalks::walk_is_shown))]
@@ -53,6 +54,13 @@ pub fn calls_are_followed()
 /// A return is at most two steps over places: the frame goes, and the CopyIn of the exit takes the values, or the run is over.
 pub fn returns_are_followed()
     ensures { ReturnsAreFollowed }
+{
+    cmm_graph::laws::nodes_ask_by_reads();
+}
+
+/// A yield is one step over places, and the stack is then the chain of all activations.
+pub fn yields_are_followed()
+    ensures { YieldsAreFollowed }
 {
     cmm_graph::laws::nodes_ask_by_reads();
 }
