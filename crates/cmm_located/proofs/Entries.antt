@@ -11,6 +11,7 @@ use Rattle.cmm_program.specs.Control.{State, arrived, landed, over}
 use Rattle.cmm_program.specs.Errors.{with_some}
 use Rattle.cmm_program.specs.Exits.{Instead, Landing, begun, land}
 use Rattle.cmm_program.specs.Frames.{fits_stack, frame_size, new_activation, place_row, procedure_at, room_of, sum_of_sizes}
+use Rattle.cmm_program.specs.Machine.{first_store}
 use Rattle.cmm_program.specs.Memory.{Room}
 use Rattle.cmm_program.specs.State.{Setting, Activation, Store, Running, Ended, StackLimit, stack_top}
 use Rattle.cmm_laws.specs.Landings.{begun_above}
@@ -22,21 +23,22 @@ use Rattle.cmm_graph.specs.declared.node.NodeKind.{NodeKind}
 use Rattle.cmm_graph.specs.declared.node.NodeKind.TheVariants.{Entry}
 use Rattle.cmm_graph.specs.Acting.{act_of}
 use Rattle.cmm_graph.specs.GraphControl.{Position, behind, graph_control, in_graph, kind_at, moved_to}
+use Rattle.cmm_graph.specs.GraphMachine.{graph_start}
 use Rattle.cmm_chain.specs.declared.frame.Location.{Location}
 use Rattle.cmm_chain.specs.declared.frame.Location.TheVariants.{Slot, Saved, Temp}
 use Rattle.cmm_chain.specs.Chain.{IsChain, Suspension}
-use Rattle.cmm_chain.specs.Contents.{Number}
+use Rattle.cmm_chain.specs.Contents.{LastReturn, Number}
 use Rattle.cmm_chain.specs.Plans.{IsPlanned, Plan}
 use Rattle.cmm_chain.specs.Running as running_
 use Rattle.cmm_chain.specs.Running.{Holdings, HasValues, IsFramed, held, put_in}
 use Rattle.cmm_chain.proofs.Shared.{entered_is_framed, frames_reach_top, others_stay, put_is_held, put_keeps_frame}
 use Rattle.cmm_located.specs.Answering.{shown}
 use Rattle.cmm_located.specs.Compiled.{Compiled, Located, bare}
-use Rattle.cmm_located.specs.LocatedMachine.{located_step, tried}
+use Rattle.cmm_located.specs.LocatedMachine.{located_start, located_step, tried}
 use Rattle.cmm_located.specs.Nodes.{keeping, passed_to, ran_at, zeros_in}
 use Rattle.cmm_located.specs.Relation.{Liveness, AllWait, Related, Runs, suspensions, value_at, variable_count}
 use Rattle.cmm_located.specs.SameOrders.{HasFrames}
-use Rattle.cmm_located.specs.Entering.{HasEntry, ProceduresAreEntered}
+use Rattle.cmm_located.specs.Entering.{HasEntry, ProceduresAreEntered, RunsBeginAlike}
 use Rattle.cmm_located.proofs.Ordering.{same_sizes}
 use Rattle.cmm_located.proofs.Parts.{running}
 
@@ -341,3 +343,28 @@ procedures_are_entered s c live q p values store older ps h frames planned is_p 
     subst (λ st. Related s c live st (located_step s c (Enters s c live frames planned q p values now older ps ps h is_p entry count chain waits)))
     (sym (landing_is s c q p values now older (Instead q values) ps ps (entering_lands s now q p values is_p).1 refl))
     (enters s c live frames planned q p values now older ps ps h is_p entry count chain waits)
+
+-- ---- the start
+
+pub runs_begin_alike : RunsBeginAlike
+runs_begin_alike s c live p input frames planned is_p no_formals entry =
+    let begins : Holdings = record {
+      point = record { at = stack_top s; back = LastReturn; kept = running_.none_known };
+      temps = running_.none_known;
+      contents = running_.none_known;
+    } in
+    let same : located_start s c input ≡ record {
+      store = first_store s input;
+      holdings = begins;
+      procedure = s.program.main;
+      node = entry.first;
+      carried = [];
+    } = ap (λ (o : Option NodeId). record {
+      store = first_store s input;
+      holdings = begins;
+      procedure = s.program.main;
+      node = elim o as (λ _. NodeId) [ Some n ↦ n | None ↦ record { number = 0 } ];
+      carried = [];
+    }) entry.is_first in
+    subst (λ at. Related s c live (graph_start c.graphs s input) (located_step s c at)) (sym same)
+    (procedures_are_entered s c live s.program.main p [] (first_store s input) [] [] begins frames planned is_p entry (sym no_formals) (refl, refl) tt)

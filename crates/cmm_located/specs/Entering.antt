@@ -12,13 +12,13 @@ use Rattle.cmm_graph.specs.declared.number.Variable.{Variable}
 use Rattle.cmm_graph.specs.declared.node.NodeKind.{NodeKind}
 use Rattle.cmm_graph.specs.declared.node.NodeKind.TheVariants.{Entry, Call, Jump}
 use Rattle.cmm_graph.specs.GraphControl.{Position, graph_control, in_graph, kind_at}
-use Rattle.cmm_graph.specs.GraphMachine.{tokens_at, tokens_of_youngest}
+use Rattle.cmm_graph.specs.GraphMachine.{graph_start, tokens_at, tokens_of_youngest}
 use Rattle.cmm_live.specs.Sites.{site_of}
 use Rattle.cmm_chain.specs.Chain.{IsChain}
 use Rattle.cmm_chain.specs.Plans.{IsPlanned}
 use Rattle.cmm_chain.specs.Running.{Holdings, lasts}
 use Rattle.cmm_located.specs.Compiled.{Compiled, Located, bare}
-use Rattle.cmm_located.specs.LocatedMachine.{located_step}
+use Rattle.cmm_located.specs.LocatedMachine.{located_start, located_step}
 use Rattle.cmm_located.specs.Relation.{Liveness, AllWait, Related, suspensions, variable_count}
 use Rattle.cmm_located.specs.SameOrders.{HasFrames}
 use Rattle.cmm_located.specs.Steps.{IsClosed, IsFollowed, kind_of_youngest}
@@ -81,3 +81,11 @@ abbrev pub CallsAreFollowed : Type 0
 CallsAreFollowed = (s : Setting) (c : Compiled) (live : Liveness) (most : ℕ) (st : State Position) (at : Located) → HasFrames s c → IsPlanned c.plan →
     IsClosed c live → HaveEntries s c live → AreReady c live → IsWithinMost c most → Related s c live st at → st.store.status ≡ Running →
     enters_procedure (kind_of_youngest c st) ≡ true → IsFollowed s c live (tokens_of_youngest c.graphs st + most) st at
+
+-- ---- the start
+
+-- A run over places begins at the Entry of `main`, and comes from there to what stands for the first state over graphs.
+abbrev pub RunsBeginAlike : Type 0
+RunsBeginAlike = (s : Setting) (c : Compiled) (live : Liveness) (p : Proc) (input : List ℕ) → HasFrames s c → IsPlanned c.plan →
+    procedure_at s s.program.main ≡ Some p → p.formals ≡ 0 → HasEntry c live s.program.main p →
+    Related s c live (graph_start c.graphs s input) (located_step s c (located_start s c input))

@@ -1,6 +1,6 @@
 //! Laws of the machine over places. Each is the contract of a function that does nothing.
 
-ghost use Rattle.cmm_located.specs.Entering.{CallsAreFollowed, ProceduresAreEntered};
+ghost use Rattle.cmm_located.specs.Entering.{CallsAreFollowed, ProceduresAreEntered, RunsBeginAlike};
 ghost use Rattle.cmm_located.specs.Laws.{RelatedAreLevel};
 ghost use Rattle.cmm_located.specs.Returning.{ReturnsAreFollowed};
 ghost use Rattle.cmm_located.specs.SameOrders.{FrameIsThere, SameOrders};
@@ -64,3 +64,8 @@ pub fn yields_are_followed()
 {
     cmm_graph::laws::nodes_ask_by_reads();
 }
+
+/// The first state over graphs is that to which a run over places comes by its first step.
+pub fn runs_begin_alike()
+    ensures { RunsBeginAlike }
+{}
