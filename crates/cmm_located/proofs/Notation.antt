@@ -1,5 +1,5 @@
 -- A notation for graphs and layouts of worked rows. Their programs come from the sample programs.
-use Rattle.std.proofs.Common.{ℕ, Bool, List, [], ◌∷◌}
+use Rattle.std.proofs.Common.{ℕ, Bool, List, [], ◌∷◌, length}
 use Rattle.std.specs.Prelude.{nat_lt, slice_index_or}
 use Rattle.cmm_words.specs.declared.operators.Op2.TheVariants.{Add}
 use Rattle.cmm_program.specs.State.{Setting, Status}
@@ -51,7 +51,7 @@ abbrev pub compiled : List Graph → List Frame → List (List Location) → (�
 compiled graphs frames places live zeroed = record {
   graphs = graphs;
   plan = record {
-    is_procedure = λ q. nat_lt q 3;
+    is_procedure = λ q. nat_lt q (length graphs);
     frame = λ q. slice_index_or frames q (laid 16 0 [] []);
     place = λ q v. slice_index_or (slice_index_or places q []) v (Temp 28);
     live = live;

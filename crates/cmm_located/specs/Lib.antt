@@ -11,4 +11,5 @@ pub mod Steps
 pub mod Entering
 pub mod Yielding
 pub mod Returning
+pub mod RunningSteps
 pub mod inside

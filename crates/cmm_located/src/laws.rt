@@ -3,6 +3,7 @@
 ghost use Rattle.cmm_located.specs.Entering.{CallsAreFollowed, ProceduresAreEntered, RunsBeginAlike};
 ghost use Rattle.cmm_located.specs.Laws.{RelatedAreLevel};
 ghost use Rattle.cmm_located.specs.Returning.{ReturnsAreFollowed};
+ghost use Rattle.cmm_located.specs.RunningSteps.{StepsAreFollowed};
 ghost use Rattle.cmm_located.specs.SameOrders.{FrameIsThere, SameOrders};
 ghost use Rattle.cmm_located.specs.ShownWalks.{WalkIsShown};
 ghost use Rattle.cmm_located.specs.Steps.{NodesAreFollowed};
@@ -61,6 +62,13 @@ pub fn returns_are_followed()
 /// A yield is one step over places, and the stack is then the chain of all activations.
 pub fn yields_are_followed()
     ensures { YieldsAreFollowed }
+{
+    cmm_graph::laws::nodes_ask_by_reads();
+}
+
+/// Every step of an activation but a cut is done over places, at the cost of its node and of the node where it lands.
+pub fn steps_are_followed()
+    ensures { StepsAreFollowed }
 {
     cmm_graph::laws::nodes_ask_by_reads();
 }
