@@ -15,11 +15,13 @@ use Rattle.cmm_located.specs.Entering.{enters_procedure}
 use Rattle.cmm_chain.specs.Running.{Holdings}
 use Rattle.cmm_located.specs.Relation.{Liveness, Related, Runs}
 use Rattle.cmm_located.specs.Returning.{is_return}
-use Rattle.cmm_located.specs.RunningSteps.{IsCompiled, StepsAreFollowed, is_cut}
+use Rattle.cmm_located.specs.RunningSteps.{IsCompiled, StepsAreFollowed}
+use Rattle.cmm_located.specs.Cutting.{is_cut}
 use Rattle.cmm_located.specs.SameOrders.{HasFrames}
 use Rattle.cmm_located.specs.Steps.{IsFollowed, kind_of_youngest, leads_on}
 use Rattle.cmm_located.specs.Yielding.{is_yield}
 use Rattle.cmm_located.proofs.Calls.{calls_are_followed}
+use Rattle.cmm_located.proofs.Cuts.{cuts_are_followed}
 use Rattle.cmm_located.proofs.LeadingOn.{nodes_are_followed}
 use Rattle.cmm_located.proofs.Parts.{by_parts, located_of, position_of, state_of}
 use Rattle.cmm_located.proofs.Returns.{returns_are_followed}
@@ -78,27 +80,30 @@ module _ (by_reads : OrderIsByReads) (by_values : ValueIsByReads) (s : Setting) 
   yielding yields = costs_more s c live st at (tokens_of_youngest c.graphs st) cost (omega arith)
       (yields_are_followed by_reads s c live st at compiled.frames compiled.closed compiled.ready related status yields)
 
+  cutting : is_cut (kind_of_youngest c st) ≡ true → IsFollowed s c live cost st at
+  cutting = cuts_are_followed by_reads s c live most st at compiled.frames compiled.planned compiled.closed compiled.cuts compiled.own_cuts compiled.pairs compiled.within related status
+
   failing : fails (kind_of_youngest c st) ≡ true → IsFollowed s c live cost st at
   failing = by_parts s c live (λ st at. fails (kind_of_youngest c st) ≡ true → IsFollowed s c live cost st at) st at
       (λ store a older p ps h carried runs fails_ right.
       absurd (goes_wrong s c live compiled.frames store a older p ps h carried runs (kind_at c.graphs a.procedure p.node) refl fails_ right)) status related
 
-  by_node : (node : NodeKind) → kind_of_youngest c st ≡ node → is_cut node ≡ false → IsFollowed s c live cost st at
-  by_node (kind.Entry formals next) is cut = failing (ap fails is)
-  by_node (kind.CopyIn to next) is cut = failing (ap fails is)
-  by_node (kind.Assign to value next) is cut = leading (ap leads_on is)
-  by_node (kind.Store width aligned address value next) is cut = leading (ap leads_on is)
-  by_node (kind.Branch test then_ otherwise) is cut = leading (ap leads_on is)
-  by_node (kind.Switch value arms otherwise) is cut = leading (ap leads_on is ∙ switch_leads_on (slice_get arms 0) otherwise)
-  by_node (kind.Call site callee arguments exits) is cut = entering (ap enters_procedure is)
-  by_node (kind.Yield site values exits) is cut = yielding (ap is_yield is)
-  by_node (kind.Jump callee arguments) is cut = entering (ap enters_procedure is)
-  by_node (kind.Cut to arguments own) is cut = absurd (cc)
-  by_node (kind.Return exit alternates results) is cut = returning (ap is_return is)
-  by_node (kind.Host call next) is cut = leading (ap leads_on is)
-  by_node (kind.Goto next) is cut = leading (ap leads_on is)
-  by_node kind.Stop is cut = failing (ap fails is)
+  by_node : (node : NodeKind) → kind_of_youngest c st ≡ node → IsFollowed s c live cost st at
+  by_node (kind.Entry formals next) is = failing (ap fails is)
+  by_node (kind.CopyIn to next) is = failing (ap fails is)
+  by_node (kind.Assign to value next) is = leading (ap leads_on is)
+  by_node (kind.Store width aligned address value next) is = leading (ap leads_on is)
+  by_node (kind.Branch test then_ otherwise) is = leading (ap leads_on is)
+  by_node (kind.Switch value arms otherwise) is = leading (ap leads_on is ∙ switch_leads_on (slice_get arms 0) otherwise)
+  by_node (kind.Call site callee arguments exits) is = entering (ap enters_procedure is)
+  by_node (kind.Yield site values exits) is = yielding (ap is_yield is)
+  by_node (kind.Jump callee arguments) is = entering (ap enters_procedure is)
+  by_node (kind.Cut to arguments own) is = cutting (ap is_cut is)
+  by_node (kind.Return exit alternates results) is = returning (ap is_return is)
+  by_node (kind.Host call next) is = leading (ap leads_on is)
+  by_node (kind.Goto next) is = leading (ap leads_on is)
+  by_node kind.Stop is = failing (ap fails is)
 
 pub steps_are_followed : OrderIsByReads → ValueIsByReads → StepsAreFollowed
-steps_are_followed by_reads by_values s c live most st at compiled related status cut =
-    by_node by_reads by_values s c live most st at compiled related status (kind_of_youngest c st) refl cut
+steps_are_followed by_reads by_values s c live most st at compiled related status =
+    by_node by_reads by_values s c live most st at compiled related status (kind_of_youngest c st) refl

@@ -4,17 +4,21 @@ use Rattle.std.proofs.lemmas.Bool.Decides.{nat_tests}
 use Rattle.std.proofs.lemmas.List.{get_or-set_same, get_or-set_other, length-set}
 use Rattle.cmm_program.specs.declared.procedure.Target.{Target}
 use Rattle.cmm_program.specs.declared.procedure.Target.TheVariants as target
-use Rattle.cmm_program.specs.Control.{State}
+use Rattle.cmm_program.specs.Control.{State, arrived, landed, over}
+use Rattle.cmm_program.specs.Errors.{with_some}
+use Rattle.cmm_program.specs.Exits.{Landing, gone_on, land}
 use Rattle.cmm_program.specs.Frames.{with_site}
-use Rattle.cmm_program.specs.State.{Setting, Activation, Store, Running, stack_top}
+use Rattle.cmm_program.specs.State.{Setting, Activation, Store, Running, Ended, StackLimit, stack_top}
 use Rattle.cmm_laws.specs.Landings.{registers_after, variables_after}
+use Rattle.cmm_laws.specs.Observed.{store_seen}
+use Rattle.cmm_laws.proofs.Shared.{targets_take}
 use Rattle.cmm_graph.specs.declared.number.NodeId.{NodeId}
 use Rattle.cmm_graph.specs.declared.operand.Local.{Local}
 use Rattle.cmm_graph.specs.declared.operand.Local.TheVariants as local
 use Rattle.cmm_graph.specs.declared.node.NodeKind.{NodeKind}
 use Rattle.cmm_graph.specs.declared.node.NodeKind.TheVariants.{CopyIn}
 use Rattle.cmm_graph.specs.declared.graph.Graph.{Graph}
-use Rattle.cmm_graph.specs.GraphControl.{Position, kind_at}
+use Rattle.cmm_graph.specs.GraphControl.{Position, behind as behind_node, graph_control, kind_at, moved_to}
 use Rattle.cmm_graph.specs.Paths.{written_to}
 use Rattle.cmm_live.specs.Locals.{local_number}
 use Rattle.cmm_chain.specs.Chain.{Suspension}
@@ -23,11 +27,12 @@ use Rattle.cmm_chain.specs.Plans.{IsPlanned, Plan}
 use Rattle.cmm_chain.specs.Running.{Holdings, HasValues, IsFramed, held, put_in}
 use Rattle.cmm_chain.proofs.Shared.{others_stay, put_is_held, put_keeps_frame}
 use Rattle.cmm_located.specs.Compiled.{Compiled, Located, bare}
+use Rattle.cmm_located.specs.Entering.{IsWithinMost}
 use Rattle.cmm_located.specs.LocatedMachine.{located_step, tried}
 use Rattle.cmm_located.specs.Nodes.{ran_at, taken}
 use Rattle.cmm_located.specs.Relation.{Liveness, AllWait, Related, suspensions, value_at, variable_count}
-use Rattle.cmm_located.specs.Returning.{LandsAt}
 use Rattle.cmm_located.specs.Steps.{KeepsLive}
+use Rattle.cmm_located.proofs.Following.{Moves, asks_none_at_copy}
 use Rattle.cmm_located.proofs.Parts.{running}
 
 -- ---- targets that are variables
@@ -106,10 +111,10 @@ variables_count (target.Register n width ∷ ts) (x ∷ values) xs = variables_c
 -- ---- the CopyIn
 
 module _ (s : Setting) (c : Compiled) (live : Liveness) (planned : IsPlanned c.plan) (store : Store) (f : Activation) (older : List Activation) (p : Position)
-    (ps : List Position) (h : Holdings) (site : ℕ) (to : List Target) (n : NodeId) (lands : LandsAt c live f.procedure site to n) (g : Graph)
-    (is_graph : slice_get c.graphs f.procedure ≡ Some g) (keeps : KeepsLive c live f.procedure n (CopyIn to lands.next)) (values : List ℕ)
+    (ps : List Position) (h : Holdings) (to : List Target) (n next : NodeId) (is_copy : kind_at c.graphs f.procedure n ≡ CopyIn to next) (g : Graph)
+    (is_graph : slice_get c.graphs f.procedure ≡ Some g) (keeps : KeepsLive c live f.procedure n (CopyIn to next)) (values : List ℕ)
     (count : length to ≡ length values) (exists : c.plan.is_procedure f.procedure ≡ true) (variables : length f.variables ≡ variable_count c.graphs f.procedure)
-    (holds : (u : ℕ) → c.plan.live f.procedure site u ≡ true → held h (c.plan.place f.procedure u) ≡ Number (value_at c.graphs f p u))
+    (holds : (u : ℕ) → live f.procedure n u ≡ true → held h (c.plan.place f.procedure u) ≡ Number (value_at c.graphs f p u))
     (framed : IsFramed c.plan (stack_top s) f.procedure (suspensions c.graphs older ps) h) (waits : AllWait c.graphs older ps) where
   -- control has come to the CopyIn
   abbrev pub Lands : Located
@@ -124,7 +129,7 @@ module _ (s : Setting) (c : Compiled) (live : Liveness) (planned : IsPlanned c.p
   abbrev pub gone_state : State Position
   gone_state = record {
     store = running (record store { registers = registers_after to values store.registers }) (record f { variables = variables_after to values f.variables; site = None } ∷ older);
-    controls = record p { procedure = f.procedure; node = lands.next } ∷ ps;
+    controls = record p { procedure = f.procedure; node = next } ∷ ps;
   }
 
   abbrev Copied : Located
@@ -132,36 +137,36 @@ module _ (s : Setting) (c : Compiled) (live : Liveness) (planned : IsPlanned c.p
     store = record Lands.store { registers = registers_after to values store.registers };
     holdings = taken c.plan f.procedure to values h;
     procedure = f.procedure;
-    node = lands.next;
+    node = next;
     carried = [];
   }
 
   pub step_copies : located_step s c Lands ≡ Copied
-  step_copies = ap (λ node. tried s c Lands (ran_at s c node Lands)) lands.is_copy
+  step_copies = ap (λ node. tried s c Lands (ran_at s c node Lands)) is_copy
 
   -- what a temporary of this number holds
   abbrev value_past : ℕ → ℕ
   value_past u = p.temporaries (record { number = u - variable_count c.graphs f.procedure })
 
-  abbrev leads : Contains (lands.next ∷ []) lands.next
+  abbrev leads : Contains (next ∷ []) next
   leads = (0, omega arith, refl)
 
   count_is : variable_count c.graphs f.procedure ≡ g.variables
   count_is = ap (λ o. elim o as (λ _. ℕ) [ Some g ↦ g.variables | None ↦ 0 ]) is_graph
 
-  apart : (u v : ℕ) → live f.procedure lands.next u ≡ true → Taken to v → u ≢ v → c.plan.place f.procedure v ≢ c.plan.place f.procedure u
-  apart u v is_live is other = keeps.apart g lands.next u (local.Variable (record { number = v })) is_graph leads is_live (taken_written to v is) other
+  apart : (u v : ℕ) → live f.procedure next u ≡ true → Taken to v → u ≢ v → c.plan.place f.procedure v ≢ c.plan.place f.procedure u
+  apart u v is_live is other = keeps.apart g next u (local.Variable (record { number = v })) is_graph leads is_live (taken_written to v is) other
 
   below : (v : ℕ) → Taken to v → v < variable_count c.graphs f.procedure
   below v is =
       let under : nat_lt v g.variables ≡ true = keeps.written g (local.Variable (record { number = v })) is_graph (taken_written to v is) in
       let less : v < g.variables = grind (arith, nat_tests, under) in omega (arith, count_is)
 
-  held_before : (u : ℕ) → live f.procedure lands.next u ≡ true → (Taken to u → ⊥) → held h (c.plan.place f.procedure u) ≡ Number (value_at c.graphs f p u)
+  held_before : (u : ℕ) → live f.procedure next u ≡ true → (Taken to u → ⊥) → held h (c.plan.place f.procedure u) ≡ Number (value_at c.graphs f p u)
   held_before u is_live none =
-      holds u (lands.at_site u (keeps.unwritten g lands.next u is_graph leads is_live (λ found. none (written_taken g to u found.0 found.1 found.2))))
+      holds u (keeps.unwritten g next u is_graph leads is_live (λ found. none (written_taken g to u found.0 found.1 found.2)))
 
-  copied_values : HasValues c.plan f.procedure (taken c.plan f.procedure to values h) (live f.procedure lands.next)
+  copied_values : HasValues c.plan f.procedure (taken c.plan f.procedure to values h) (live f.procedure next)
       (value_at c.graphs (record f { variables = variables_after to values f.variables; site = None }) p)
   copied_values u is_live = by (nat_lt u (variable_count c.graphs f.procedure)) refl
     where
@@ -196,3 +201,39 @@ module _ (s : Setting) (c : Compiled) (live : Liveness) (planned : IsPlanned c.p
       waits = waits;
     };
   }
+
+  -- ---- the step of the machine over graphs
+
+  -- it comes there by two steps over places
+  pub lands_moves : (most : ℕ) → IsWithinMost c most → (before after : State Position) (here : Located) → store_seen (running store older) ≡ store_seen before.store →
+      after ≡ gone_state → here ≡ Lands → Moves s c live most before after here
+  lands_moves most is_most before after here same is goes = record {
+    first = Lands;
+    goes = goes;
+    running = refl;
+    silent = same;
+    shows = ap (λ (x : Located). store_seen x.store) step_copies ∙ same;
+    asks = asks_none_at_copy s c Lands to next is_copy refl;
+    related = subst (λ st. Related s c live st (located_step s c Lands)) (sym is) goes_behind;
+    within = is_most record { procedure = f.procedure; node = n; temporaries = λ t. 0 };
+  }
+
+  -- where the machine over graphs lands
+  pub landing_goes : (landing : Landing) (move : Position → Position) → land s landing (running store (f ∷ older)) ≡ Some (gone_on to values (running store (f ∷ older))) →
+      arrived (graph_control c.graphs) landing (p ∷ ps) ≡ move p ∷ ps → move p ≡ record p { procedure = f.procedure; node = next } →
+      landed (graph_control c.graphs) s landing (running store (f ∷ older)) (p ∷ ps) ≡ gone_state
+  landing_goes landing move lands arrives moves =
+      ap (λ (o : Option Store). elim o as (λ _. State Position) [
+        | Some after ↦ record { store = over Running after; controls = arrived (graph_control c.graphs) landing (p ∷ ps) }
+        | None ↦ record { store = over (Ended StackLimit) (running store (f ∷ older)); controls = p ∷ ps }
+      ]) lands
+      ∙ (ap (λ (after : Store). record { store = over Running after; controls = arrived (graph_control c.graphs) landing (p ∷ ps) })
+      (targets_take to values (running store (f ∷ older)) f older refl)
+      ∙ ap (λ (cs : List Position). record { store = gone_state.store; controls = cs }) (arrives ∙ ap (λ (m : Position). m ∷ ps) moves))
+
+  pub moves_behind : p.procedure ≡ f.procedure → (o : Option NodeId) → o ≡ Some n →
+      moved_to (with_some o (λ m. Some (behind_node (kind_at c.graphs p.procedure m) m))) p ≡ record p { procedure = f.procedure; node = next }
+  moves_behind same o is =
+      ap (λ o. moved_to (with_some o (λ m. Some (behind_node (kind_at c.graphs p.procedure m) m))) p) is
+      ∙ (ap (λ r. moved_to (Some (behind_node (kind_at c.graphs r n) n)) (record p { procedure = r })) same
+      ∙ ap (λ node. moved_to (Some (behind_node node n)) (record p { procedure = f.procedure })) is_copy)

@@ -13,6 +13,7 @@ pub mod Yields
 pub mod Calls
 pub mod GoingOn
 pub mod Returns
+pub mod Cuts
 pub mod Assembling
 mod Notation
 mod Rows

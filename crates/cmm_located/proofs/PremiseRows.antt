@@ -4,6 +4,7 @@
 use Rattle.std.proofs.Common.{◌≡◌, ◌≢◌, ◌⊎◌, inl, inr, ℕ, zero, suc, ◌+◌, ◌<◌, ◌≤◌, ◌==◌, ◌&&◌, ◌||◌, nat_lt, Bool, true, false, Contains, List, [], ◌∷◌, map, length, slice_get, slice_index_or, Option, Some, None, arith, refl, sym, ap, ◌∙◌, subst}
 use Rattle.std.proofs.lemmas.Bool.{and_parts}
 use Rattle.std.proofs.lemmas.Bool.Decides.{nat_tests}
+use Rattle.cmm_program.specs.declared.procedure.Cont.{Cont}
 use Rattle.cmm_program.specs.declared.procedure.Proc.{Proc}
 use Rattle.cmm_program.specs.declared.procedure.Site.{Site}
 use Rattle.cmm_program.specs.Frames.{place_row, procedure_at}
@@ -17,6 +18,7 @@ use Rattle.cmm_graph.specs.declared.operand.Local.TheVariants as local
 use Rattle.cmm_graph.specs.declared.graph.Graph.{Graph}
 use Rattle.cmm_graph.specs.declared.node.NodeKind.{NodeKind}
 use Rattle.cmm_graph.specs.declared.node.NodeKind.TheVariants.{Entry, CopyIn, Call, Return, Stop}
+use Rattle.cmm_graph.specs.Counterpart.{parameter_targets}
 use Rattle.cmm_graph.specs.GraphControl.{Position, kind_at}
 use Rattle.cmm_graph.specs.GraphMachine.{tokens_at}
 use Rattle.cmm_graph.specs.Paths.{reads, successors, writes}
@@ -27,6 +29,7 @@ use Rattle.cmm_live.specs.Sites.{site_of}
 use Rattle.cmm_chain.specs.declared.frame.Location.TheVariants.{Slot, Temp}
 use Rattle.cmm_chain.specs.Plans.{is_laid, is_place}
 use Rattle.cmm_located.specs.Compiled.{Compiled, exits_of}
+use Rattle.cmm_located.specs.Cutting.{LandInside, LandsByCut}
 use Rattle.cmm_located.specs.Entering.{HasEntry, IsReady}
 use Rattle.cmm_located.specs.Relation.{Liveness}
 use Rattle.cmm_located.specs.Returning.{HasExits, IsInRange}
@@ -283,6 +286,40 @@ calling_returns (suc zero) (suc zero) is = omega arith
 calling_returns (suc zero) (suc (suc m)) is = tt
 calling_returns (suc (suc q)) m is = absurd (past q is)
 
+-- nothing is cut to
+calling_cuts : (q : ℕ) (p : Proc) (number : ℕ) (site : Site) (k : ℕ) (cont : Cont) → procedure_at calling-setting q ≡ Some p → slice_get p.sites number ≡ Some site →
+    Contains site.cuts k → slice_get p.conts k ≡ Some cont → LandsByCut calling calling-live q number k (parameter_targets p cont)
+calling_cuts zero p number site k cont is is_site listed is_cont =
+    let same : calling-main ≡ p = cc (is) in
+    let at : slice_get calling-main.sites number ≡ Some site = subst (λ (x : Proc). slice_get x.sites number ≡ Some site) (sym same) is_site in
+    absurd (main_cuts number at)
+  where
+    main_cuts : (number : ℕ) → slice_get calling-main.sites number ≡ Some site → ⊥
+    main_cuts zero is =
+        let same : call_site (0 ∷ []) ≡ site = cc (is) in none_numbered k (subst (λ (x : Site). Contains x.cuts k) (sym same) listed)
+    main_cuts (suc number) is = absurd (cc (is))
+calling_cuts (suc zero) p number site k cont is is_site listed is_cont =
+    let same : calling-h ≡ p = cc (is) in
+    let gone : slice_get calling-h.sites number ≡ Some site = subst (λ (x : Proc). slice_get x.sites number ≡ Some site) (sym same) is_site in
+    absurd (cc (gone))
+calling_cuts (suc (suc q)) p number site k cont is is_site listed is_cont = absurd (cc (is))
+
+calling_own_cuts : (q : ℕ) (p : Proc) (m : ℕ) → procedure_at calling-setting q ≡ Some p → LandInside calling calling-live q p (n m) (kind_at calling.graphs q (n m))
+calling_own_cuts zero p zero is = tt
+calling_own_cuts zero p (suc zero) is = tt
+calling_own_cuts zero p (suc (suc zero)) is = tt
+calling_own_cuts zero p (suc (suc (suc zero))) is = tt
+calling_own_cuts zero p (suc (suc (suc (suc m)))) is = tt
+calling_own_cuts (suc zero) p zero is = tt
+calling_own_cuts (suc zero) p (suc zero) is = tt
+calling_own_cuts (suc zero) p (suc (suc m)) is = tt
+calling_own_cuts (suc (suc q)) p m is = absurd (cc (is))
+
+calling_pairs : (q : ℕ) (p : Proc) → procedure_at calling-setting q ≡ Some p → length (place_row calling-setting q).pairs ≡ length p.conts
+calling_pairs zero p is = let same : calling-main ≡ p = cc (is) in subst (λ (x : Proc). 0 ≡ length x.conts) same refl
+calling_pairs (suc zero) p is = let same : calling-h ≡ p = cc (is) in subst (λ (x : Proc). 0 ≡ length x.conts) same refl
+calling_pairs (suc (suc q)) p is = absurd (cc (is))
+
 -- each node has one token
 one_token : (q m : ℕ) (temporaries : Temporary → ℕ) → tokens_at calling.graphs (record { procedure = q; node = n m; temporaries = temporaries }) ≤ 1
 one_token zero zero temporaries = omega arith
@@ -304,5 +341,8 @@ calling_is_compiled = record {
   entries = calling_entries;
   exits = calling_exits;
   returns = λ q m is. calling_returns q m.number is;
+  cuts = calling_cuts;
+  own_cuts = λ q p m is. calling_own_cuts q p m.number is;
+  pairs = calling_pairs;
   within = λ p. one_token p.procedure p.node.number p.temporaries;
 }

@@ -55,15 +55,15 @@ use Rattle.cmm_located.specs.Returning.{HasExits, HaveExits, IsInRange, LandsAt,
 use Rattle.cmm_located.specs.SameOrders.{HasFrames, ReadsAreLive}
 use Rattle.cmm_located.specs.Steps.{IsClosed, IsFollowed, KeepsLive, kind_of_youngest}
 use Rattle.cmm_located.proofs.Calls.{have_length}
-use Rattle.cmm_located.proofs.Following.{Moves, asks_alike, asks_none_at_copy, in_either, wrong_in}
-use Rattle.cmm_located.proofs.GoingOn.{Lands, goes_behind, gone_state, step_copies}
+use Rattle.cmm_located.proofs.Following.{Moves, asks_alike, in_either, wrong_in}
+use Rattle.cmm_located.proofs.GoingOn.{Lands, landing_goes, lands_moves, moves_behind}
 use Rattle.cmm_located.proofs.Ordering.{same_orders}
 use Rattle.cmm_located.proofs.Parts.{by_parts, located_of, position_of, running, state_of}
 use Rattle.cmm_located.proofs.Staying.{after_transfer, places_do, places_step_is, step_is}
 
 -- ---- small facts
 
-with_some_is : {A B : Type 0} (o : Option A) (f : A → Option B) (b : B) → with_some o f ≡ Some b → (x : A) × (o ≡ Some x) × (f x ≡ Some b)
+pub with_some_is : {A B : Type 0} (o : Option A) (f : A → Option B) (b : B) → with_some o f ≡ Some b → (x : A) × (o ≡ Some x) × (f x ≡ Some b)
 with_some_is (Some x) f b is = (x, refl, is)
 with_some_is None f b is = absurd (cc)
 
@@ -118,7 +118,7 @@ by_exit p site exit e is = by (nat_lt exit (length site.returns)) is
     by false is = inr (normal (exit == length site.returns) site.never refl refl is)
 
 -- what is found of an activation that waits
-suspended_parts : (s : Setting) (f : Activation) (older : List Activation) (n : ℕ) (sa : Suspended) → f.site ≡ Some n → suspended_at s (f ∷ older) ≡ Some sa →
+pub suspended_parts : (s : Setting) (f : Activation) (older : List Activation) (n : ℕ) (sa : Suspended) → f.site ≡ Some n → suspended_at s (f ∷ older) ≡ Some sa →
     (procedure_at s f.procedure ≡ Some sa.procedure) × (slice_get sa.procedure.sites n ≡ Some sa.site)
 suspended_parts s f older n sa is_site is =
     let one = with_some_is f.site (λ m. with_some (procedure_at s f.procedure) (λ p. with_some (slice_get p.sites m) (λ site.
@@ -186,46 +186,24 @@ module _ (s : Setting) (c : Compiled) (live : Liveness) (frames : HasFrames s c)
     keeps : KeepsLive c live f.procedure n (kind.CopyIn to lands.next)
     keeps = subst (λ node. KeepsLive c live f.procedure n node) lands.is_copy (closed.keeps f.procedure n chain.0.exists)
 
-    abbrev At : Located
-    At = Lands s c live planned (without 1 Now) f older q ps gone waits.site to n lands reads.of reads.is_graph keeps values count chain.0.exists waits.variables back_holds
-        back_framed runs.waits.1
+    there_holds : (u : ℕ) → live f.procedure n u ≡ true → held gone (c.plan.place f.procedure u) ≡ Number (value_at c.graphs f q u)
+    there_holds u is = back_holds u (lands.at_site u is)
 
-    abbrev Goes : State Position
-    Goes = gone_state s c live planned (without 1 Now) f older q ps gone waits.site to n lands reads.of reads.is_graph keeps values count chain.0.exists waits.variables back_holds
-        back_framed runs.waits.1
-
-    lands_moves : (after : State Position) (here : Located) → after ≡ Goes → here ≡ At → Moves s c live most Before after here
-    lands_moves after here is goes = record {
-      first = At;
-      goes = goes;
-      running = refl;
-      silent = refl;
-      shows = ap (λ (x : Located). store_seen x.store) (step_copies s c live planned (without 1 Now) f older q ps gone waits.site to n lands reads.of reads.is_graph keeps values count
-          chain.0.exists waits.variables back_holds back_framed runs.waits.1);
-      asks = asks_none_at_copy s c At to lands.next lands.is_copy refl;
-      related = subst (λ st. Related s c live st (located_step s c At)) (sym is) (goes_behind s c live planned (without 1 Now) f older q ps gone waits.site to n lands reads.of
-          reads.is_graph keeps values count chain.0.exists waits.variables back_holds back_framed runs.waits.1);
-      within = is_most record { procedure = f.procedure; node = n; temporaries = λ t. 0 };
-    }
-
-    -- where the machine over graphs lands
-    landing_goes : (landing : Landing) (move : Position → Position) → land s landing (without 1 Now) ≡ Some (gone_on to values (without 1 Now)) →
-        arrived (graph_control c.graphs) landing (q ∷ ps) ≡ move q ∷ ps → move q ≡ record q { procedure = f.procedure; node = lands.next } →
-        landed (graph_control c.graphs) s landing (without 1 Now) (q ∷ ps) ≡ Goes
-    landing_goes landing move lands_ arrives moves =
-        ap (λ (o : Option Store). elim o as (λ _. State Position) [
-          | Some after ↦ record { store = over Running after; controls = arrived (graph_control c.graphs) landing (q ∷ ps) }
-          | None ↦ record { store = over (Ended StackLimit) (without 1 Now); controls = q ∷ ps }
-        ]) lands_
-        ∙ (ap (λ (after : Store). record { store = over Running after; controls = arrived (graph_control c.graphs) landing (q ∷ ps) }) (targets_take to values (without 1 Now) f older refl)
-        ∙ ap (λ (cs : List Position). record { store = Goes.store; controls = cs }) (arrives ∙ ap (λ (m : Position). m ∷ ps) moves))
-
-    moves_behind : (o : Option NodeId) → o ≡ Some n →
-        moved_to (with_some o (λ m. Some (behind_node (kind_at c.graphs q.procedure m) m))) q ≡ record q { procedure = f.procedure; node = lands.next }
-    moves_behind o is =
-        ap (λ o. moved_to (with_some o (λ m. Some (behind_node (kind_at c.graphs q.procedure m) m))) q) is
-        ∙ (ap (λ r. moved_to (Some (behind_node (kind_at c.graphs r n) n)) (record q { procedure = r })) waits.procedure
-        ∙ ap (λ node. moved_to (Some (behind_node node n)) (record q { procedure = f.procedure })) lands.is_copy)
+    -- by a landing and its move of the position
+    comes_to : (landing : Landing) (move : Position → Position) (o : Option NodeId) (here : Located) →
+        land s landing (without 1 Now) ≡ Some (gone_on to values (without 1 Now)) → arrived (graph_control c.graphs) landing (q ∷ ps) ≡ move q ∷ ps →
+        move q ≡ moved_to (with_some o (λ m. Some (behind_node (kind_at c.graphs q.procedure m) m))) q → o ≡ Some n →
+        here ≡ Lands s c live planned (without 1 Now) f older q ps gone to n lands.next lands.is_copy reads.of reads.is_graph keeps values count chain.0.exists waits.variables
+        there_holds back_framed runs.waits.1 →
+        Moves s c live most Before (landed (graph_control c.graphs) s landing (without 1 Now) (q ∷ ps)) here
+    comes_to landing move o here lands_ arrives moves is_node goes =
+        lands_moves s c live planned (without 1 Now) f older q ps gone to n lands.next lands.is_copy reads.of reads.is_graph keeps values count chain.0.exists waits.variables
+        there_holds back_framed runs.waits.1 most is_most Before _ here refl
+        (landing_goes s c live planned (without 1 Now) f older q ps gone to n lands.next lands.is_copy reads.of reads.is_graph keeps values count chain.0.exists waits.variables
+        there_holds back_framed runs.waits.1 landing move lands_ arrives
+        (moves ∙ moves_behind s c live planned (without 1 Now) f older q ps gone to n lands.next lands.is_copy reads.of reads.is_graph keeps values count chain.0.exists
+        waits.variables there_holds back_framed runs.waits.1 waits.procedure o is_node))
+        goes
 
   -- over places, to the node of the exit
   module _ (exit alternates : ℕ) (words : List Word) (pr : Proc) (site : Site) (e : HasExits c live f.procedure pr waits.site site) where
@@ -272,15 +250,14 @@ module _ (s : Setting) (c : Compiled) (live : Liveness) (frames : HasFrames s c)
       let landing : Resumed x.k (numbers words) ≡ by.landing (numbers words) = ap (λ (y : Exit). y.landing (numbers words)) x.is_exit in
       let count = widths_count by.widths words to have
       (sym (ap (λ (l : List Width). length l) widths) ∙ (length-map x.cont.params (variable_width pr) ∙ sym (length-map x.cont.params (λ n. target.Variable n (variable_width pr n))))) in
-      lands_moves to lands.0 lands.2 (numbers words) count _ _
-      (ap (λ l. landed (graph_control c.graphs) s l (without 1 Now) (q ∷ ps)) (sym landing)
-      ∙ landing_goes to lands.0 lands.2 (numbers words) count (Resumed x.k (numbers words)) ((graph_control c.graphs).resume x.k)
-      (resuming_lands s (without 1 Now) f older pr x.k x.cont (numbers words) refl is_pr x.is_cont) refl
-      (moves_behind to lands.0 lands.2 (numbers words) count (in_graph c.graphs q.procedure (λ g. landing_of g (record { number = x.k })))
-      (ap (λ r. landing_in c.graphs r x.k) waits.procedure ∙ lands.1)))
+      subst (λ l. Moves s c live most Before (landed (graph_control c.graphs) s l (without 1 Now) (q ∷ ps)) (here exit alternates words pr site e)) landing
+      (comes_to to lands.0 lands.2 (numbers words) count (Resumed x.k (numbers words)) ((graph_control c.graphs).resume x.k)
+      (in_graph c.graphs q.procedure (λ g. landing_of g (record { number = x.k }))) (here exit alternates words pr site e)
+      (resuming_lands s (without 1 Now) f older pr x.k x.cont (numbers words) refl is_pr x.is_cont) refl refl
+      (ap (λ r. landing_in c.graphs r x.k) waits.procedure ∙ lands.1)
       (return_goes exit alternates words pr site e lands.0 (some_within e.exits.returns exit found.0 found.1)
       (ap (λ (o : Option ContinuationId). elim o as (λ _. Option NodeId) [ Some k ↦ landing_in c.graphs f.procedure k.number | None ↦ e.exits.normal ]) found.1
-      ∙ (ap (λ k. landing_in c.graphs f.procedure k) found.2 ∙ lands.1)))
+      ∙ (ap (λ k. landing_in c.graphs f.procedure k) found.2 ∙ lands.1))))
   exit_moves exit alternates words pr site e by sa is_sa same is_pr have (inr x) =
       let lands = e.normal x.returns in
       let to = site.results in
@@ -288,15 +265,14 @@ module _ (s : Setting) (c : Compiled) (live : Liveness) (frames : HasFrames s c)
       let landing : Back (numbers words) ≡ by.landing (numbers words) = ap (λ (y : Exit). y.landing (numbers words)) x.is_exit in
       let count = widths_count by.widths words to have (sym (ap (λ (l : List Width). length l) widths) ∙ length-map site.results target_width) in
       let many : length e.exits.returns ≡ exit = sym (length-map e.exits.returns (λ (k : ContinuationId). k.number)) ∙ (ap (λ (l : List ℕ). length l) e.returns ∙ sym x.last) in
-      lands_moves to lands.0 lands.2 (numbers words) count _ _
-      (ap (λ l. landed (graph_control c.graphs) s l (without 1 Now) (q ∷ ps)) (sym landing)
-      ∙ landing_goes to lands.0 lands.2 (numbers words) count (Back (numbers words)) (graph_control c.graphs).back
-      (returning_lands s (without 1 Now) sa (numbers words) is_sa ∙ ap (λ (y : Site). Some (gone_on y.results (numbers words) (without 1 Now))) same) refl
-      (moves_behind to lands.0 lands.2 (numbers words) count (normal_of (kind_at c.graphs q.procedure q.node))
-      (normal_is (kind_at c.graphs q.procedure q.node) e.exits of_here ∙ lands.1)))
+      subst (λ l. Moves s c live most Before (landed (graph_control c.graphs) s l (without 1 Now) (q ∷ ps)) (here exit alternates words pr site e)) landing
+      (comes_to to lands.0 lands.2 (numbers words) count (Back (numbers words)) (graph_control c.graphs).back
+      (normal_of (kind_at c.graphs q.procedure q.node)) (here exit alternates words pr site e)
+      (returning_lands s (without 1 Now) sa (numbers words) is_sa ∙ ap (λ (y : Site). Some (gone_on y.results (numbers words) (without 1 Now))) same) refl refl
+      (normal_is (kind_at c.graphs q.procedure q.node) e.exits of_here ∙ lands.1)
       (return_goes exit alternates words pr site e lands.0 (let le : exit ≤ length e.exits.returns = omega arith in grind (arith, nat_tests))
       (ap (λ (o : Option ContinuationId). elim o as (λ _. Option NodeId) [ Some k ↦ landing_in c.graphs f.procedure k.number | None ↦ e.exits.normal ]) (get_none e.exits.returns exit (omega arith))
-      ∙ lands.1))
+      ∙ lands.1)))
     where
       of_here : exits_of (kind_at c.graphs q.procedure q.node) ≡ Some e.exits
       of_here =

@@ -11,5 +11,6 @@ pub mod Steps
 pub mod Entering
 pub mod Yielding
 pub mod Returning
+pub mod Cutting
 pub mod RunningSteps
 pub mod inside

@@ -1,5 +1,6 @@
 //! Laws of the machine over places. Each is the contract of a function that does nothing.
 
+ghost use Rattle.cmm_located.specs.Cutting.{CutsAreFollowed};
 ghost use Rattle.cmm_located.specs.Entering.{CallsAreFollowed, ProceduresAreEntered, RunsBeginAlike};
 ghost use Rattle.cmm_located.specs.Laws.{RelatedAreLevel};
 ghost use Rattle.cmm_located.specs.Returning.{ReturnsAreFollowed};
@@ -66,14 +67,21 @@ pub fn yields_are_followed()
     cmm_graph::laws::nodes_ask_by_reads();
 }
 
-/// Every step of an activation but a cut is done over places, at the cost of its node and of the node where it lands.
+/// The first state over graphs is that to which a run over places comes by its first step.
+pub fn runs_begin_alike()
+    ensures { RunsBeginAlike }
+{}
+
+/// A cut is two steps over places: control moves to the frame of the activation, and the CopyIn of the continuation takes the values.
+pub fn cuts_are_followed()
+    ensures { CutsAreFollowed }
+{
+    cmm_graph::laws::nodes_ask_by_reads();
+}
+
+/// Every step of an activation is done over places, at the cost of its node and of the node where it lands.
 pub fn steps_are_followed()
     ensures { StepsAreFollowed }
 {
     cmm_graph::laws::nodes_ask_by_reads();
 }
-
-/// The first state over graphs is that to which a run over places comes by its first step.
-pub fn runs_begin_alike()
-    ensures { RunsBeginAlike }
-{}
