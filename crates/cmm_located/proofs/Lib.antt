@@ -15,6 +15,7 @@ pub mod GoingOn
 pub mod Returns
 pub mod Cuts
 pub mod Assembling
+pub mod Resting
 mod Notation
 mod Rows
 mod PremiseRows

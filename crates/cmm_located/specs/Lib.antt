@@ -13,4 +13,5 @@ pub mod Yielding
 pub mod Returning
 pub mod Cutting
 pub mod RunningSteps
+pub mod Resting
 pub mod inside

@@ -3,6 +3,7 @@
 ghost use Rattle.cmm_located.specs.Cutting.{CutsAreFollowed};
 ghost use Rattle.cmm_located.specs.Entering.{CallsAreFollowed, ProceduresAreEntered, RunsBeginAlike};
 ghost use Rattle.cmm_located.specs.Laws.{RelatedAreLevel};
+ghost use Rattle.cmm_located.specs.Resting.{EndsAreFollowed};
 ghost use Rattle.cmm_located.specs.Returning.{ReturnsAreFollowed};
 ghost use Rattle.cmm_located.specs.RunningSteps.{StepsAreFollowed};
 ghost use Rattle.cmm_located.specs.SameOrders.{FrameIsThere, SameOrders};
@@ -85,3 +86,8 @@ pub fn steps_are_followed()
 {
     cmm_graph::laws::nodes_ask_by_reads();
 }
+
+/// A run that is over stays over in both machines, and shows nothing more.
+pub fn ends_are_followed()
+    ensures { EndsAreFollowed }
+{}
