@@ -10,7 +10,7 @@ use Rattle.cmm_peeling.specs.Peeled.{IsPeeled, is_ordered, is_stuck}
 use Rattle.cmm_peeling.proofs.Counting.{all_at, among_of, among_first, none_of, among-last, among_start}
 
 -- what passes a test, where something does
-any_at : (p : ℕ → Bool) (xs : List ℕ) → list_any p xs ≡ true → (m : ℕ) × (is_among m xs ≡ true) × (p m ≡ true)
+pub any_at : (p : ℕ → Bool) (xs : List ℕ) → list_any p xs ≡ true → (m : ℕ) × (is_among m xs ≡ true) × (p m ≡ true)
 any_at p [] h = cc
 any_at p (x ∷ xs) h = elim (or_cases (p x) (list_any p xs) h) [
   | inl here ↦ (x, among_first x xs, here)
