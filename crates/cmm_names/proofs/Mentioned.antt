@@ -22,46 +22,46 @@ use Rattle.cmm_ast.specs.declared.statement.StmtForm.TheVariants as stmts
 use Rattle.cmm_ast.specs.declared.unit.Item.{Item}
 use Rattle.cmm_ast.specs.declared.unit.Item.TheVariants as items
 use Rattle.cmm_ast.specs.declared.unit.Item.TheBlock as Items
-use Rattle.cmm_accepted.specs.Mentions.{all_names, form_names, row_names, prim_names, memory_names, primary_names, type_names, listed}
+use Rattle.cmm_accepted.specs.Mentions.{Taken, all_names, expr_names, form_names, row_names, prim_names, memory_names, primary_names, listed}
 use Rattle.cmm_accepted.specs.Switches.{heads}
 use Rattle.cmm_accepted.specs.LongNames.{of_expr, of_stmt, of_head, of_span, of_item}
 use Rattle.cmm_names.specs.inside.Arms.{of_case}
 
-infix_form : (token : ℕ) (l : Expr) (op : Sign) (r : Expr) → form_names all_names token (Infix l op r) ≡ (of_expr l ++ []) ++ (of_expr r ++ [])
+infix_form : (take : Taken) (token : ℕ) (l : Expr) (op : Sign) (r : Expr) → form_names take token (Infix l op r) ≡ (expr_names take l ++ []) ++ (expr_names take r ++ [])
 unfolding ExprForms.hidden-the_row-Expr-0 Carrier.hidden
-infix_form token l op r = refl
+infix_form take token l op r = refl
 
-prefix_form : (token : ℕ) (op : PrefixSign) (a : Expr) → form_names all_names token (Prefix op a) ≡ of_expr a ++ []
+prefix_form : (take : Taken) (token : ℕ) (op : PrefixSign) (a : Expr) → form_names take token (Prefix op a) ≡ expr_names take a ++ []
 unfolding ExprForms.hidden-the_row-Expr-0 Carrier.hidden
-prefix_form token op a = refl
+prefix_form take token op a = refl
 
-bracketed_form : (token : ℕ) (a : Expr) → prim_names all_names token (Bracketed a) ≡ of_expr a ++ []
+bracketed_form : (take : Taken) (token : ℕ) (a : Expr) → prim_names take token (Bracketed a) ≡ expr_names take a ++ []
 unfolding ExprForms.hidden-the_row-Expr-0 Carrier.hidden
-bracketed_form token a = refl
+bracketed_form take token a = refl
 
-rows : (n : _) (row : Row_of-Expr n) → row_names all_names row ≡ flat_map of_expr (items-the_row-Expr n row)
-rows n end_of-Expr = refl
-rows n (more_of-Expr {n = m} token form rest) = ap (λ t. form_names all_names token form ++ t) (rows m rest)
+rows : (take : Taken) (n : _) (row : Row_of-Expr n) → row_names take row ≡ flat_map (expr_names take) (items-the_row-Expr n row)
+rows take n end_of-Expr = refl
+rows take n (more_of-Expr {n = m} token form rest) = ap (λ t. form_names take token form ++ t) (rows take m rest)
 
-named_form : (token : ℕ) (name : List ℕ) (es : List Expr) → form_names all_names token (Named name es) ≡ flat_map of_expr es
+named_form : (take : Taken) (token : ℕ) (name : List ℕ) (es : List Expr) → form_names take token (Named name es) ≡ flat_map (expr_names take) es
 unfolding ExprForms.hidden-the_row-Expr-1 Carrier.hidden
-named_form token name es = rows _ (ExprForms.hidden-the_row-Expr-1 es) ∙ ap (flat_map of_expr) (items_hidden-the_row-Expr-1 es)
+named_form take token name es = rows take _ (ExprForms.hidden-the_row-Expr-1 es) ∙ ap (flat_map (expr_names take)) (items_hidden-the_row-Expr-1 es)
 
-pub infix_law : (e l : Expr) (op : Sign) (r : Expr) → e.form ≡ Infix l op r → of_expr e ≡ of_expr l ++ of_expr r
-infix_law e l op r is = ap (form_names all_names e.token) is ∙ infix_form e.token l op r ∙ ap (λ t. t ++ (of_expr r ++ [])) (append-nil (of_expr l)) ∙ ap (λ t. of_expr l ++ t) (append-nil (of_expr r))
+pub infix_law : (take : Taken) (e l : Expr) (op : Sign) (r : Expr) → e.form ≡ Infix l op r → expr_names take e ≡ expr_names take l ++ expr_names take r
+infix_law take e l op r is = ap (form_names take e.token) is ∙ infix_form take e.token l op r ∙ ap (λ t. t ++ (expr_names take r ++ [])) (append-nil (expr_names take l)) ∙ ap (λ t. expr_names take l ++ t) (append-nil (expr_names take r))
 
-pub prefix_law : (e : Expr) (op : PrefixSign) (a : Expr) → e.form ≡ Prefix op a → of_expr e ≡ of_expr a
-prefix_law e op a is = ap (form_names all_names e.token) is ∙ prefix_form e.token op a ∙ append-nil (of_expr a)
+pub prefix_law : (take : Taken) (e : Expr) (op : PrefixSign) (a : Expr) → e.form ≡ Prefix op a → expr_names take e ≡ expr_names take a
+prefix_law take e op a is = ap (form_names take e.token) is ∙ prefix_form take e.token op a ∙ append-nil (expr_names take a)
 
-pub named_law : (e : Expr) (name : List ℕ) (es : List Expr) → e.form ≡ Named name es → of_expr e ≡ flat_map of_expr es
-named_law e name es is = ap (form_names all_names e.token) is ∙ named_form e.token name es
+pub named_law : (take : Taken) (e : Expr) (name : List ℕ) (es : List Expr) → e.form ≡ Named name es → expr_names take e ≡ flat_map (expr_names take) es
+named_law take e name es is = ap (form_names take e.token) is ∙ named_form take e.token name es
 
-pub bracketed_law : (token : ℕ) (p : PrimForm) (a : Expr) → p ≡ Bracketed a → prim_names all_names token p ≡ of_expr a
-bracketed_law token p a is = ap (prim_names all_names token) is ∙ bracketed_form token a ∙ append-nil (of_expr a)
+pub bracketed_law : (take : Taken) (token : ℕ) (p : PrimForm) (a : Expr) → p ≡ Bracketed a → prim_names take token p ≡ expr_names take a
+bracketed_law take token p a is = ap (prim_names take token) is ∙ bracketed_form take token a ∙ append-nil (expr_names take a)
 
-pub memory_law : (m : Memory) → memory_names all_names m ≡ type_names (out-Memory m).width ++ of_expr (out-Memory m).address
+pub memory_law : (take : Taken) (m : Memory) → memory_names take m ≡ take.of_type (out-Memory m).width ++ expr_names take (out-Memory m).address
 unfolding ExprForms.hidden-the_row-Expr-0 Carrier.hidden out-Memory Carrier.out ExprForms.shown-the_row-Expr-0 Carrier.shown
-memory_law (Memory' width _ (more_of-Expr token form end_of-Expr) aligned) = ap (λ t. type_names width ++ t) (append-nil (form_names all_names token form))
+memory_law take (Memory' width _ (more_of-Expr token form end_of-Expr) aligned) = ap (λ t. take.of_type width ++ t) (append-nil (form_names take token form))
 
 -- ---- statements that hold blocks
 
