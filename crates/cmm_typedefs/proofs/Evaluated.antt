@@ -2,6 +2,7 @@
 use Rattle.std.proofs.Common.{◌≡◌, ℕ, suc, zero, ◌+◌, ◌<◌, ◌≤◌, ◌==◌, Bool, true, false, ◌||◌, ◌&&◌, List, [], ◌∷◌, ◌++◌, length, map, take, get_or, replicate, set, Option, Some, None, refl, sym, ◌∙◌, ap, subst, arith}
 use Rattle.std.specs.Prelude.{option_and_then, nat_lt}
 use Rattle.std.specs.List.{list_all}
+use Rattle.std.proofs.Math.Path.{fun_ext}
 use Rattle.std.proofs.lemmas.Bool.{and_parts, lt-ltb, eqb-true, eq-eqb, ltb-true}
 use Rattle.std.proofs.lemmas.Bool.Decides.{nat_tests}
 use Rattle.std.proofs.lemmas.List.{length-map, get_or-replicate, get_or_past, length-replicate, length-set}
@@ -17,13 +18,14 @@ use Rattle.cmm_accepted.specs.Judging.{Judged, if_ok}
 use Rattle.cmm_accepted.specs.Typing.{typedef_width}
 use Rattle.cmm_accepted.specs.Mentions.{listed}
 use Rattle.cmm_accepted.specs.Declarations.{Declared, Entry, Typedef, Const, Register, Import, DataLabel, Procedure, found, entry_of}
-use Rattle.cmm_accepted.specs.Scopes.{type_in, typedef_sense}
+use Rattle.cmm_accepted.specs.Scopes.{type_in, width_in, typedef_sense}
 use Rattle.cmm_peeling.specs.Graphs.{is_among, are_below, is_graph, mentions}
 use Rattle.cmm_peeling.specs.Peeled.{IsPeeled}
 use Rattle.cmm_peeling.proofs.Shared.{IsLocal, AreSteps, final_in_order, left_as_begun, AreSet, set_next, set_all, below_index, all_from, below_wider}
-use Rattle.cmm_typedefs.specs.inside.Numbers.{numbering, number_in, type_number, entry_number, type_graph, width_at, type_by, entry_by}
-use Rattle.cmm_typedefs.specs.inside.Widths.{entry_at, entry_in, value_in, AreWidths}
-use Rattle.cmm_typedefs.proofs.Numbering.{found_numbering, found_below, IsBelow}
+use Rattle.cmm_typedefs.specs.Numbers.{numbering, number_in, type_number, entry_at}
+use Rattle.cmm_typedefs.specs.inside.Numbers.{entry_number, type_graph, width_at, type_by, entry_by}
+use Rattle.cmm_typedefs.specs.inside.Widths.{entry_in, value_in, AreWidths, AreSettled}
+use Rattle.cmm_typedefs.proofs.Numbering.{found_numbering, found_below, IsBelow, host_below}
 
 abbrev next : List (Declared Entry) → (ℕ → Option Width) → ℕ → Option Width
 next ds w v = option_and_then (entry_by w (numbering ds)) (entry_at ds v)
@@ -157,10 +159,6 @@ listed_below : (size : ℕ) (o : Option ℕ) → IsBelow size o → are_below si
 listed_below size None h = refl
 listed_below size (Some j) h = rw (lt-ltb j size h) refl
 
-host_below : (host : Bool) (size : ℕ) (o : Option ℕ) → IsBelow size o → IsBelow size (elim host as (λ _. Option ℕ) [ true ↦ None | false ↦ o ])
-host_below true size o h = tt
-host_below false size o h = h
-
 form_below : (ds : List (Declared Entry)) (token : ℕ) (f : TypeForm) → IsBelow (length ds) (type_number (numbering ds) (record { token = token; form = f }))
 form_below ds token (OfBits width) = tt
 form_below ds token (OfName name) = host_below (is_host name) (length ds) (found name (numbering ds)) (found_below name ds)
@@ -221,23 +219,48 @@ entry_past [] v le = refl
 entry_past (d ∷ ds) zero le = absurd (omega arith)
 entry_past (d ∷ ds) (suc v) le = entry_past ds v (omega arith)
 
-pub widths_done : (numbers : List (Declared ℕ)) (ds : List (Declared Entry)) (order left : List ℕ) (widths : List (Option Width)) → numbers ≡ numbering ds →
-    IsPeeled (type_graph numbers ds) order left → length widths ≡ length ds → AreSet (final ds) None order widths → AreWidths ds widths
-widths_done numbers ds order left widths is peeled size are v = by (nat_lt v (length ds)) refl
-  where
-    own : IsPeeled (graph ds) order left
-    own = subst (λ (q : List (Declared ℕ)). IsPeeled (type_graph q ds) order left) is peeled
+-- a step less gives each typedef its width
+settled_set : (ds : List (Declared Entry)) (order left : List ℕ) (widths : List (Option Width)) → IsPeeled (graph ds) order left → AreSet (final ds) None order widths →
+    AreSet (value_in ds (length ds)) None order widths
+settled_set ds order left widths peeled are = record {
+  done = λ v among. are.done v among ∙ final_in_order (graph ds) (next ds) (value_in ds) (local ds) (steps ds) order peeled.ordered v among (length ds) (order_short ds order left peeled);
+  others = are.others;
+}
 
-    by : (b : Bool) → nat_lt v (length ds) ≡ b → width_at widths v ≡ final ds v
+set_after : (count : ℕ) (ds : List (Declared Entry)) (order left : List ℕ) (widths : List (Option Width)) → IsPeeled (graph ds) order left → length widths ≡ length ds →
+    AreSet (value_in ds count) None order widths → (v : ℕ) → width_at widths v ≡ value_in ds count v
+set_after count ds order left widths peeled size are v = by (nat_lt v (length ds)) refl
+  where
+    by : (b : Bool) → nat_lt v (length ds) ≡ b → width_at widths v ≡ value_in ds count v
     by true e =
         let lt : v < length ds = ltb-true v (length ds) e in
-        let count : length (graph ds) ≡ length ds = size_of_graph (numbering ds) ds in
-        set_all (graph ds) (final ds) None order left own
-        (λ u among. left_as_begun (graph ds) (next ds) (value_in ds) (steps ds) None (λ n. entry_begun ds (entry_at ds n)) (strict ds) left own.stuck (suc (length ds)) u among)
+        let nodes : length (graph ds) ≡ length ds = size_of_graph (numbering ds) ds in
+        set_all (graph ds) (value_in ds count) None order left peeled
+        (λ u among. left_as_begun (graph ds) (next ds) (value_in ds) (steps ds) None (λ n. entry_begun ds (entry_at ds n)) (strict ds) left peeled.stuck count u among)
         widths are v (omega arith)
     by false e =
         let past : length ds ≤ v = grind (arith, nat_tests) in
-        get_or_past widths v None (omega arith) ∙ sym (ap (option_and_then (entry_in (suc (length ds)) ds)) (entry_past ds v past))
+        get_or_past widths v None (omega arith) ∙ sym (ap (option_and_then (entry_in count ds)) (entry_past ds v past))
+
+own_peeled : (numbers : List (Declared ℕ)) (ds : List (Declared Entry)) (order left : List ℕ) → numbers ≡ numbering ds → IsPeeled (type_graph numbers ds) order left → IsPeeled (graph ds) order left
+own_peeled numbers ds order left is peeled = subst (λ (q : List (Declared ℕ)). IsPeeled (type_graph q ds) order left) is peeled
+
+pub widths_done : (numbers : List (Declared ℕ)) (ds : List (Declared Entry)) (order left : List ℕ) (widths : List (Option Width)) → numbers ≡ numbering ds →
+    IsPeeled (type_graph numbers ds) order left → length widths ≡ length ds → AreSet (final ds) None order widths → AreWidths ds widths
+widths_done numbers ds order left widths is peeled size are v = set_after (suc (length ds)) ds order left widths (own_peeled numbers ds order left is peeled) size are v
+
+pub widths_settled : (numbers : List (Declared ℕ)) (ds : List (Declared Entry)) (order left : List ℕ) (widths : List (Option Width)) → numbers ≡ numbering ds →
+    IsPeeled (type_graph numbers ds) order left → length widths ≡ length ds → AreSet (final ds) None order widths → AreSettled ds widths
+widths_settled numbers ds order left widths is peeled size are v =
+    let own : IsPeeled (graph ds) order left = own_peeled numbers ds order left is peeled in
+    set_after (length ds) ds order left widths own size (settled_set ds order left widths own are) v
+
+-- so a step more gives a type no other width
+pub type_settled : (ds : List (Declared Entry)) (widths : List (Option Width)) → AreWidths ds widths → AreSettled ds widths → (t : TypeName) → type_in (suc (suc (length ds))) ds t ≡ width_in ds t
+type_settled ds widths are settled t =
+    form_step t.token (suc (length ds)) ds t.form
+    ∙ ap (λ (w : ℕ → Option Width). type_by w (numbering ds) t) (fun_ext (λ v. sym (are v) ∙ settled v))
+    ∙ sym (form_step t.token (length ds) ds t.form)
 
 -- the node that is done is a declaration
 pub node_below : (numbers : List (Declared ℕ)) (ds : List (Declared Entry)) (order left : List ℕ) (k : ℕ) → IsPeeled (type_graph numbers ds) order left → k < length order → get_or order k 0 < length ds

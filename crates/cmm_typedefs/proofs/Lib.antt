@@ -1,3 +1,4 @@
 pub mod Numbering
 pub mod Evaluated
 pub mod Meanings
+pub mod Shared

@@ -13,7 +13,8 @@ use Rattle.cmm_names.specs.declared.entry.Entry.{Entry as EntryTree}
 use Rattle.cmm_names.proofs.Shared.{found_with}
 use Rattle.cmm_typedefs.specs.Types.{type_sense, type_senses}
 use Rattle.cmm_typedefs.specs.inside.Numbers.{sense_by, width_at}
-use Rattle.cmm_typedefs.specs.inside.Widths.{entry_at, entry_in, value_in, AreWidths}
+use Rattle.cmm_typedefs.specs.inside.Widths.{entry_in, value_in, AreWidths}
+use Rattle.cmm_typedefs.specs.Numbers.{entry_at}
 
 -- the declaration with a number, as it is listed
 pub entry_listed : (ds : List (Named EntryTree)) (k : ℕ) (d : Named EntryTree) → k < length ds → d ≡ get_or ds k d → entry_at (map shown ds) k ≡ Some (entry_shown d.what)

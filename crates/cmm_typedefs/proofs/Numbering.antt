@@ -7,8 +7,7 @@ use Rattle.cmm_names.specs.Shown.{named, shown, with_what}
 use Rattle.cmm_names.specs.declared.table.Named.{Named}
 use Rattle.cmm_names.specs.declared.entry.Entry.{Entry as EntryTree}
 use Rattle.cmm_names.proofs.Shared.{found_with, mapped_next}
-use Rattle.cmm_typedefs.specs.inside.Numbers.{numbering}
-use Rattle.cmm_typedefs.specs.inside.Widths.{entry_at}
+use Rattle.cmm_typedefs.specs.Numbers.{numbering, entry_at}
 
 numbering_last : (ds : List (Declared Entry)) (d : Declared Entry) → numbering (ds ++ d ∷ []) ≡ numbering ds ++ record { name = d.name; as_what = length ds } ∷ []
 numbering_last [] d = refl
@@ -47,6 +46,10 @@ found_below name [] = tt
 found_below name (d ∷ ds) =
     let P : Option ℕ → Type 0 = λ o. IsBelow (suc (length ds)) (elim (bytes_eq name d.name.name) as (λ _. Option ℕ) [ true ↦ Some 0 | false ↦ o ]) in
     subst P (sym (found_with (λ n. suc n) name (numbering ds))) (below_or (bytes_eq name d.name.name) (length ds) (found name (numbering ds)) (found_below name ds))
+
+pub host_below : (host : Bool) (size : ℕ) (o : Option ℕ) → IsBelow size o → IsBelow size (elim host as (λ _. Option ℕ) [ true ↦ None | false ↦ o ])
+host_below true size o h = tt
+host_below false size o h = h
 
 -- one more name where it is declared
 pub named_pushed : {E : Type 0} (ns ns' : List (Named E)) (n : Named E) (xs : List (Declared E)) (x : Declared E) → ns' ≡ ns ++ n ∷ [] → map named ns ≡ xs → named n ≡ x → map named ns' ≡ xs ++ x ∷ []

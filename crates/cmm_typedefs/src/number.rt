@@ -2,7 +2,8 @@
 
 ghost use Rattle.std.specs.Prelude.{◌≡◌, map, IfOk};
 ghost use Rattle.cmm_names.specs.Shown.{named, shown, entry_shown};
-ghost use Rattle.cmm_typedefs.specs.inside.Numbers.{numbering, number_in, type_number, entry_number};
+ghost use Rattle.cmm_typedefs.specs.Numbers.{numbering, number_in, type_number};
+ghost use Rattle.cmm_typedefs.specs.inside.Numbers.{entry_number};
 
 use cmm_ast::{TypeForm, TypeName};
 use cmm_items::Items;
@@ -11,7 +12,7 @@ use cmm_words::Name;
 use std::alloc::{AllocError, Global};
 
 /// Declarations as their numbers, in textual order.
-pub(crate) fn numbered<'a>(
+pub fn numbered<'a>(
     alloc: Global,
     declared: &[Named<'a, Entry<'a>>],
 ) -> Result<Items<Named<'a, usize>>, AllocError>
@@ -28,7 +29,7 @@ pub(crate) fn numbered<'a>(
 }
 
 /// The number of what a name is first declared as, if it is none of the host.
-pub(crate) fn number_of<'a>(numbers: &Table<'a, usize>, name: &Name) -> Option<usize>
+pub fn number_of<'a>(numbers: &Table<'a, usize>, name: &Name) -> Option<usize>
     ensures { result ≡ number_in (map named numbers.now.declared) name.now }
 {
     if is_host(name.as_bytes()) {
@@ -38,7 +39,8 @@ pub(crate) fn number_of<'a>(numbers: &Table<'a, usize>, name: &Name) -> Option<u
     }
 }
 
-fn type_number<'a>(numbers: &Table<'a, usize>, t: &TypeName) -> Option<usize>
+/// The number of the declaration that a type names, if it names one.
+pub fn type_number<'a>(numbers: &Table<'a, usize>, t: &TypeName) -> Option<usize>
     ensures { result ≡ type_number (map named numbers.now.declared) t.now }
 {
     match &t.form {

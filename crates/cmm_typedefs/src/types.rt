@@ -1,6 +1,10 @@
 //! What names mean as types.
 
 ghost use Rattle.std.specs.Prelude.{◌≡◌, ℕ, List, Some, map, IfOk};
+ghost use Rattle.cmm_accepted.specs.Judging.{if_ok};
+ghost use Rattle.cmm_accepted.specs.Scopes.{width_in};
+ghost use Rattle.cmm_accepted.specs.Typing.{type_width};
+ghost use Rattle.cmm_ast.specs.declared.expression.TypeName.{TypeName};
 ghost use Rattle.cmm_names.specs.Shown.{named, shown, entry_shown, with_what};
 ghost use Rattle.cmm_typedefs.specs.Types.{type_sense, type_senses, senses_of};
 ghost use Rattle.cmm_typedefs.specs.inside.Numbers.{sense_by};
@@ -67,12 +71,13 @@ fn sensed<'a>(
     Ok(senses)
 }
 
-/// What the names that a unit declares mean as types.
+/// What the names that a unit declares mean as types. The width of a type by that is the one that the declarations give it.
 pub fn types_of<'a>(
     alloc: Global,
     declared: &[Named<'a, Entry<'a>>],
 ) -> Result<Types<'a>, AllocError>
-    ensures { IfOk result (λ types. (name : List ℕ) → senses_of types name ≡ type_senses (map shown declared.now) name) }
+    ensures senses { IfOk result (λ types. (name : List ℕ) → senses_of types name ≡ type_senses (map shown declared.now) name) }
+    ensures widths { IfOk result (λ types. (t : TypeName) → if_ok (type_width (senses_of types) t) ≡ width_in (map shown declared.now) t) }
 {
     let mut repeated = None;
     let numbers = Table::of(alloc, numbered(alloc, declared)?, &mut repeated)?;

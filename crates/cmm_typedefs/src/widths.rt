@@ -2,8 +2,9 @@
 
 ghost use Rattle.std.specs.Prelude.{◌≡◌, ℕ, None, map, replicate, length, IfOk};
 ghost use Rattle.cmm_names.specs.Shown.{named, shown, entry_shown};
-ghost use Rattle.cmm_typedefs.specs.inside.Numbers.{numbering, width_at, type_by, entry_by};
-ghost use Rattle.cmm_typedefs.specs.inside.Widths.{AreWidths};
+ghost use Rattle.cmm_typedefs.specs.Numbers.{numbering};
+ghost use Rattle.cmm_typedefs.specs.inside.Numbers.{width_at, type_by, entry_by};
+ghost use Rattle.cmm_typedefs.specs.inside.Widths.{AreWidths, AreSettled};
 
 use crate::graph::graph_of;
 use crate::number::number_of;
@@ -76,7 +77,8 @@ pub(crate) fn widths_of<'a>(
     declared: &[Named<'a, Entry<'a>>],
 ) -> Result<Items<Option<Width>>, AllocError>
     requires { map named numbers.now.declared ≡ numbering (map shown declared.now) }
-    ensures { IfOk result (AreWidths (map shown declared.now)) }
+    ensures widths { IfOk result (AreWidths (map shown declared.now)) }
+    ensures settled { IfOk result (AreSettled (map shown declared.now)) }
 {
     let graph = graph_of(alloc, numbers, declared)?;
     let peeled = peel(alloc, graph.as_slice())?;

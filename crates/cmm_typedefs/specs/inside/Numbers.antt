@@ -1,28 +1,15 @@
--- Declarations by their numbers, which of them names another as its type, and their widths.
-use Rattle.std.specs.Prelude.{ℕ, suc, true, false, List, [], ◌∷◌, map, slice_index_or, option_and_then, Option, Some, None}
+-- Which declaration names another as its type, and their widths.
+use Rattle.std.specs.Prelude.{ℕ, List, map, slice_index_or, option_and_then, Option, Some, None}
 use Rattle.cmm_words.specs.declared.width.Width.{Width}
 use Rattle.cmm_ast.specs.declared.expression.TypeName.{TypeName}
 use Rattle.cmm_ast.specs.declared.expression.TypeForm.TheVariants.{Bits as OfBits, Named as OfName}
 use Rattle.cmm_accepted.specs.declared.sense.Sense.{Sense}
-use Rattle.cmm_accepted.specs.Senses.{is_host}
 use Rattle.cmm_accepted.specs.Mentions.{listed}
-use Rattle.cmm_accepted.specs.Declarations.{Declared, Entry, Typedef, found}
+use Rattle.cmm_accepted.specs.Declarations.{Declared, Entry, Typedef}
 use Rattle.cmm_accepted.specs.Scopes.{typedef_sense}
-use Rattle.cmm_names.specs.Shown.{with_what}
-
--- declarations as their numbers
-abbrev pub numbering : List (Declared Entry) → List (Declared ℕ)
-numbering [] = []
-numbering (d ∷ ds) = record { name = d.name; as_what = 0 } ∷ map (with_what (λ n. suc n)) (numbering ds)
-
--- the number of what a name is first declared as
-abbrev pub number_in : List (Declared ℕ) → List ℕ → Option ℕ
-number_in numbers name = elim (is_host name) [ true ↦ None | false ↦ found name numbers ]
+use Rattle.cmm_typedefs.specs.Numbers.{number_in, type_number}
 
 -- the declaration that a typedef names as its type
-abbrev pub type_number : List (Declared ℕ) → TypeName → Option ℕ
-type_number numbers t = elim t.form [ OfBits width ↦ None | OfName name ↦ number_in numbers name ]
-
 abbrev pub entry_number : List (Declared ℕ) → Entry → Option ℕ
 entry_number numbers (Typedef t) = type_number numbers t
 entry_number numbers _ = None

@@ -1,15 +1,10 @@
 -- The widths of declarations by their numbers.
-use Rattle.std.specs.Prelude.{◌≡◌, ℕ, zero, suc, List, [], ◌∷◌, length, option_and_then, Option, Some, None}
+use Rattle.std.specs.Prelude.{◌≡◌, ℕ, suc, List, length, option_and_then, Option, None}
 use Rattle.cmm_words.specs.declared.width.Width.{Width}
 use Rattle.cmm_accepted.specs.Declarations.{Declared, Entry, Typedef}
 use Rattle.cmm_accepted.specs.Scopes.{type_in}
+use Rattle.cmm_typedefs.specs.Numbers.{entry_at}
 use Rattle.cmm_typedefs.specs.inside.Numbers.{width_at}
-
--- the declaration with a number
-abbrev pub entry_at : List (Declared Entry) → ℕ → Option Entry
-entry_at [] number = None
-entry_at (d ∷ ds) zero = Some d.as_what
-entry_at (d ∷ ds) (suc number) = entry_at ds number
 
 -- the width of a typedef by so many steps
 abbrev pub entry_in : ℕ → List (Declared Entry) → Entry → Option Width
@@ -22,3 +17,7 @@ value_in ds count number = option_and_then (entry_in count ds) (entry_at ds numb
 -- each typedef has its width, nothing else has one
 abbrev pub AreWidths : List (Declared Entry) → List (Option Width) → Type 0
 AreWidths ds widths = (number : ℕ) → width_at widths number ≡ value_in ds (suc (length ds)) number
+
+-- and would have it after a step less
+abbrev pub AreSettled : List (Declared Entry) → List (Option Width) → Type 0
+AreSettled ds widths = (number : ℕ) → width_at widths number ≡ value_in ds (length ds) number

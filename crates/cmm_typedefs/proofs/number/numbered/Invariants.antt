@@ -1,6 +1,6 @@
 use Rattle.std.proofs.Common.{◌≡◌, map, take}
 use Rattle.cmm_names.specs.Shown.{named, shown}
-use Rattle.cmm_typedefs.specs.inside.Numbers.{numbering}
+use Rattle.cmm_typedefs.specs.Numbers.{numbering}
 use Rattle.cmm_typedefs.proofs.number.numbered.Given as goal
 
 abbrev pub invariant-loop-number : goal.invariant-loop-number

@@ -6,7 +6,7 @@ use Rattle.cmm_names.specs.declared.entry.Entry.{Entry}
 use Rattle.cmm_peeling.specs.Graphs.{is_graph}
 use Rattle.cmm_peeling.proofs.Shared.{AreSet}
 use Rattle.cmm_typedefs.specs.inside.Numbers.{entry_by, width_at}
-use Rattle.cmm_typedefs.proofs.Evaluated.{graph_is, widths_begun, widths_next, widths_done, node_below, peeled_as, final}
+use Rattle.cmm_typedefs.proofs.Evaluated.{graph_is, widths_begun, widths_next, widths_done, widths_settled, node_below, peeled_as, final}
 use Rattle.cmm_typedefs.proofs.Meanings.{entry_listed}
 use Rattle.cmm_typedefs.proofs.widths.widths_of.Goals as goal
 
@@ -32,8 +32,8 @@ loop-node-preserved c =
           (c.entry_by-width.ensures ∙ ap (λ (n : Named Entry). entry_by (width_at c.loop-node.widths) numbers (entry_shown n.what)) (sym c.index-declared-node.is))),
     )
 
-pub returns : goal.returns
-returns c =
+pub returns-clause-widths : goal.returns-clause-widths
+returns-clause-widths c =
     let numbers = map named c.args.numbers.now.declared in
     let ds = map shown c.args.declared.now in
     let order = c.as_slice-node-items.result.now in
@@ -41,4 +41,15 @@ returns c =
     let peeled = peeled_as c.as_slice.result.now _ c.in_ok-peeled.peeled.order order c.in_ok-peeled.peeled.left (c.as_slice.ensures ∙ c.in_ok-graph.ensures) c.as_slice-node-items.ensures c.in_ok-peeled.ensures in
     let count : length ds ≡ length c.args.declared.now = length-map c.args.declared.now shown in
     widths_done numbers ds order c.in_ok-peeled.peeled.left c.loop-node.widths c.requires peeled (c.loop-node.invariant.0 ∙ sym count)
+    (subst (λ (q : List ℕ). AreSet (final ds) None q c.loop-node.widths) (take_all k order c.loop-node-test.false) c.loop-node.invariant.1)
+
+pub returns-clause-settled : goal.returns-clause-settled
+returns-clause-settled c =
+    let numbers = map named c.args.numbers.now.declared in
+    let ds = map shown c.args.declared.now in
+    let order = c.as_slice-node-items.result.now in
+    let k = c.loop-node.node-index in
+    let peeled = peeled_as c.as_slice.result.now _ c.in_ok-peeled.peeled.order order c.in_ok-peeled.peeled.left (c.as_slice.ensures ∙ c.in_ok-graph.ensures) c.as_slice-node-items.ensures c.in_ok-peeled.ensures in
+    let count : length ds ≡ length c.args.declared.now = length-map c.args.declared.now shown in
+    widths_settled numbers ds order c.in_ok-peeled.peeled.left c.loop-node.widths c.requires peeled (c.loop-node.invariant.0 ∙ sym count)
     (subst (λ (q : List ℕ). AreSet (final ds) None q c.loop-node.widths) (take_all k order c.loop-node-test.false) c.loop-node.invariant.1)
