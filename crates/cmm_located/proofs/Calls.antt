@@ -1,5 +1,5 @@
 -- calls and tail calls: control leaves, and a procedure is entered
-use Rattle.std.proofs.Common.{◌≡◌, ℕ, suc, ◌+◌, ◌≤◌, Bool, true, false, List, [], ◌∷◌, drop, map, take, length, Ok, Err, Option, Some, None, arith, refl, sym, ap, ◌∙◌, subst}
+use Rattle.std.proofs.Common.{◌≡◌, ℕ, suc, ◌+◌, ◌≤◌, true, false, List, [], ◌∷◌, map, take, length, Ok, Err, Option, Some, arith, refl, sym, ap, ◌∙◌, subst}
 use Rattle.std.proofs.lemmas.Bool.Decides.{nat_tests}
 use Rattle.std.proofs.lemmas.List.{length-map, length-take}
 use Rattle.cmm_words.specs.declared.width.Width.{Width}
@@ -13,7 +13,7 @@ use Rattle.cmm_program.specs.Frames.{procedure_at, without}
 use Rattle.cmm_program.specs.Orders as order
 use Rattle.cmm_program.specs.Orders.{Order, Word}
 use Rattle.cmm_program.specs.Performing.{Transfer, Away, perform, procedure_from}
-use Rattle.cmm_program.specs.State.{Setting, Activation, Store, Running, stack_top}
+use Rattle.cmm_program.specs.State.{Setting, Activation, Store, stack_top}
 use Rattle.cmm_program.specs.Writes.{reads_of}
 use Rattle.cmm_laws.specs.Landings.{begun_above}
 use Rattle.cmm_laws.specs.Observed.{store_seen}

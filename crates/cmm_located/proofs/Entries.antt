@@ -1,5 +1,5 @@
 -- a procedure is entered over places as over graphs
-use Rattle.std.proofs.Common.{◌≡◌, ◌≢◌, ◌⊎◌, inl, inr, ℕ, zero, suc, ◌+◌, ◌-◌, ◌<◌, ◌≤◌, nat_lt, Bool, true, false, Contains, List, [], ◌∷◌, ◌++◌, drop, map, length, nat_le, slice_get, slice_index_or, Ok, Err, Option, Some, None, arith, refl, sym, ap, ◌∙◌, subst}
+use Rattle.std.proofs.Common.{◌≡◌, ◌≢◌, ◌⊎◌, inl, inr, ℕ, zero, suc, ◌+◌, ◌-◌, ◌<◌, ◌≤◌, nat_lt, Bool, true, false, Contains, List, [], ◌∷◌, ◌++◌, drop, map, length, nat_le, slice_index_or, Option, Some, None, arith, refl, sym, ap, ◌∙◌, subst}
 use Rattle.std.specs.List.{range_with_len}
 use Rattle.std.proofs.lemmas.Bool.Decides.{nat_tests}
 use Rattle.std.proofs.lemmas.List.{length-append, length-map}
@@ -19,10 +19,8 @@ use Rattle.cmm_laws.specs.Observed.{event_at, store_seen}
 use Rattle.cmm_laws.proofs.Shared.{entering_lands}
 use Rattle.cmm_graph.specs.declared.number.NodeId.{NodeId}
 use Rattle.cmm_graph.specs.declared.number.Variable.{Variable}
-use Rattle.cmm_graph.specs.declared.node.NodeKind.{NodeKind}
-use Rattle.cmm_graph.specs.declared.node.NodeKind.TheVariants.{Entry}
 use Rattle.cmm_graph.specs.Acting.{act_of}
-use Rattle.cmm_graph.specs.GraphControl.{Position, behind, graph_control, in_graph, kind_at, moved_to}
+use Rattle.cmm_graph.specs.GraphControl.{Position, behind, graph_control, kind_at, moved_to}
 use Rattle.cmm_graph.specs.GraphMachine.{graph_start}
 use Rattle.cmm_chain.specs.declared.frame.Location.{Location}
 use Rattle.cmm_chain.specs.declared.frame.Location.TheVariants.{Slot, Saved, Temp}
@@ -36,7 +34,7 @@ use Rattle.cmm_located.specs.Answering.{shown}
 use Rattle.cmm_located.specs.Compiled.{Compiled, Located, bare}
 use Rattle.cmm_located.specs.LocatedMachine.{located_start, located_step, tried}
 use Rattle.cmm_located.specs.Nodes.{keeping, passed_to, ran_at, zeros_in}
-use Rattle.cmm_located.specs.Relation.{Liveness, AllWait, Related, Runs, suspensions, value_at, variable_count}
+use Rattle.cmm_located.specs.Relation.{Liveness, AllWait, Related, suspensions, value_at, variable_count}
 use Rattle.cmm_located.specs.SameOrders.{HasFrames}
 use Rattle.cmm_located.specs.Entering.{HasEntry, ProceduresAreEntered, RunsBeginAlike}
 use Rattle.cmm_located.proofs.Ordering.{same_sizes}

@@ -1,5 +1,5 @@
 -- Steps of the machine over graphs are paths of the machine over places.
-use Rattle.std.proofs.Common.{◌≡◌, ◌⊎◌, inl, inr, ℕ, ◌+◌, ◌≤◌, Bool, true, false, List, Option, Some, None, arith, refl, sym, ap, ◌∙◌, subst}
+use Rattle.std.proofs.Common.{◌≡◌, ◌⊎◌, inl, inr, ℕ, ◌+◌, ◌≤◌, Bool, true, false, List, Some, None, arith, refl, sym, ap, ◌∙◌, subst}
 use Rattle.cmm_following.specs.Machine.{Machine}
 use Rattle.cmm_following.specs.Observing.{Passes}
 use Rattle.cmm_following.specs.Seen.{Seen, IsWithin, Event}

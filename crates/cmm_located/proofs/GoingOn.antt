@@ -1,5 +1,5 @@
 -- an activation that waited goes on: a CopyIn takes what control brings
-use Rattle.std.proofs.Common.{◌≡◌, ◌≢◌, ◌⊎◌, inl, inr, ℕ, zero, suc, ◌+◌, ◌-◌, ◌<◌, ◌≤◌, ◌==◌, nat_lt, Bool, true, false, Contains, List, [], ◌∷◌, ◌++◌, flat_map, map, length, slice_get, slice_index_or, slice_set, Ok, Option, Some, None, arith, refl, sym, ap, ◌∙◌, subst}
+use Rattle.std.proofs.Common.{◌≡◌, ◌≢◌, ◌⊎◌, inl, inr, ℕ, zero, suc, ◌-◌, ◌<◌, ◌≤◌, ◌==◌, nat_lt, Bool, true, false, Contains, List, [], ◌∷◌, flat_map, map, length, slice_get, slice_index_or, slice_set, Option, Some, None, arith, refl, sym, ap, ◌∙◌, subst}
 use Rattle.std.proofs.lemmas.Bool.Decides.{nat_tests}
 use Rattle.std.proofs.lemmas.List.{get_or-set_same, get_or-set_other, length-set}
 use Rattle.cmm_program.specs.declared.procedure.Target.{Target}
@@ -13,9 +13,7 @@ use Rattle.cmm_laws.specs.Landings.{registers_after, variables_after}
 use Rattle.cmm_laws.specs.Observed.{store_seen}
 use Rattle.cmm_laws.proofs.Shared.{targets_take}
 use Rattle.cmm_graph.specs.declared.number.NodeId.{NodeId}
-use Rattle.cmm_graph.specs.declared.operand.Local.{Local}
 use Rattle.cmm_graph.specs.declared.operand.Local.TheVariants as local
-use Rattle.cmm_graph.specs.declared.node.NodeKind.{NodeKind}
 use Rattle.cmm_graph.specs.declared.node.NodeKind.TheVariants.{CopyIn}
 use Rattle.cmm_graph.specs.declared.graph.Graph.{Graph}
 use Rattle.cmm_graph.specs.GraphControl.{Position, behind as behind_node, graph_control, kind_at, moved_to}

@@ -1,7 +1,7 @@
 -- related states that run, taken apart
 use Rattle.std.proofs.Common.{◌≡◌, ℕ, List, [], ◌∷◌, map, refl, sym, ap, ◌∙◌, subst}
 use Rattle.cmm_program.specs.Control.{State}
-use Rattle.cmm_program.specs.State.{Setting, Activation, Store, Status, Running}
+use Rattle.cmm_program.specs.State.{Setting, Activation, Store, Running}
 use Rattle.cmm_graph.specs.declared.number.NodeId.{NodeId}
 use Rattle.cmm_graph.specs.GraphControl.{Position}
 use Rattle.cmm_chain.specs.Running.{Holdings}

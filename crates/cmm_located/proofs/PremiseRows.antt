@@ -1,7 +1,7 @@
 -- A worked row: the premises of the laws of steps hold of a small program, so the laws say something.
 --     main() { bits64 x; x = h(5); return (x); }
 --     h(bits64 i) { return (i); }
-use Rattle.std.proofs.Common.{◌≡◌, ◌≢◌, ◌⊎◌, inl, inr, ℕ, zero, suc, ◌+◌, ◌<◌, ◌≤◌, ◌==◌, ◌&&◌, ◌||◌, nat_lt, Bool, true, false, Contains, List, [], ◌∷◌, map, length, slice_get, slice_index_or, Option, Some, None, arith, refl, sym, ap, ◌∙◌, subst}
+use Rattle.std.proofs.Common.{◌≡◌, inl, ℕ, zero, suc, ◌<◌, ◌≤◌, ◌==◌, ◌&&◌, ◌||◌, nat_lt, Bool, true, false, Contains, [], ◌∷◌, map, length, slice_get, slice_index_or, Some, arith, refl, sym, ap, ◌∙◌, subst}
 use Rattle.std.proofs.lemmas.Bool.{and_parts}
 use Rattle.std.proofs.lemmas.Bool.Decides.{nat_tests}
 use Rattle.cmm_program.specs.declared.procedure.Cont.{Cont}
@@ -19,7 +19,7 @@ use Rattle.cmm_graph.specs.declared.graph.Graph.{Graph}
 use Rattle.cmm_graph.specs.declared.node.NodeKind.{NodeKind}
 use Rattle.cmm_graph.specs.declared.node.NodeKind.TheVariants.{Entry, CopyIn, Call, Return, Stop}
 use Rattle.cmm_graph.specs.Counterpart.{parameter_targets}
-use Rattle.cmm_graph.specs.GraphControl.{Position, kind_at}
+use Rattle.cmm_graph.specs.GraphControl.{kind_at}
 use Rattle.cmm_graph.specs.GraphMachine.{tokens_at}
 use Rattle.cmm_graph.specs.Paths.{reads, successors, writes}
 use Rattle.cmm_graph.specs.Ranges.{is_local}
@@ -30,7 +30,7 @@ use Rattle.cmm_chain.specs.declared.frame.Location.TheVariants.{Slot, Temp}
 use Rattle.cmm_chain.specs.Plans.{is_laid, is_place}
 use Rattle.cmm_located.specs.Compiled.{Compiled, exits_of}
 use Rattle.cmm_located.specs.Cutting.{LandInside, LandsByCut}
-use Rattle.cmm_located.specs.Entering.{HasEntry, IsReady}
+use Rattle.cmm_located.specs.Entering.{HasEntry}
 use Rattle.cmm_located.specs.Relation.{Liveness}
 use Rattle.cmm_located.specs.Returning.{HasExits, IsInRange}
 use Rattle.cmm_located.specs.RunningSteps.{IsCompiled}

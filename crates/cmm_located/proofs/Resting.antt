@@ -1,18 +1,17 @@
 -- a run that is over stays over
-use Rattle.std.proofs.Common.{◌≡◌, ℕ, List, Some, arith, refl, sym, ap, ◌∙◌, subst}
-use Rattle.cmm_following.specs.Seen.{Event, End}
-use Rattle.cmm_program.specs.Control.{State, next_act}
+use Rattle.std.proofs.Common.{◌≡◌, ℕ, List, Some, arith, sym, ap, ◌∙◌, subst}
+use Rattle.cmm_following.specs.Seen.{End}
+use Rattle.cmm_program.specs.Control.{next_act}
 use Rattle.cmm_program.specs.Errors.{UncheckedError}
-use Rattle.cmm_program.specs.State.{Setting, Outcome, Status, Store, Running, Waiting, Ended, Wrong}
-use Rattle.cmm_laws.specs.Observed.{Call, event_at, store_seen}
+use Rattle.cmm_program.specs.State.{Outcome, Status, Store, Running, Waiting, Ended, Wrong}
+use Rattle.cmm_laws.specs.Observed.{event_at, store_seen}
 use Rattle.cmm_graph.specs.Acting.{act_of}
-use Rattle.cmm_graph.specs.GraphControl.{Position, graph_control, kind_at}
+use Rattle.cmm_graph.specs.GraphControl.{graph_control, kind_at}
 use Rattle.cmm_graph.specs.GraphMachine.{graph_step}
 use Rattle.cmm_located.specs.Answering.{shown}
-use Rattle.cmm_located.specs.Compiled.{Compiled, Located}
 use Rattle.cmm_located.specs.LocatedMachine.{located_step, tokens_at}
 use Rattle.cmm_located.specs.Nodes.{keeping}
-use Rattle.cmm_located.specs.Relation.{Liveness, Related}
+use Rattle.cmm_located.specs.Relation.{Related}
 use Rattle.cmm_located.specs.Resting.{EndsAreFollowed}
 use Rattle.cmm_located.proofs.Following.{in_one}
 

@@ -1,12 +1,11 @@
 -- returns: the frame goes, and control goes on at an exit of the site, or the run is over
-use Rattle.std.proofs.Common.{◌≡◌, ◌⊎◌, inl, inr, ℕ, zero, suc, ◌+◌, ◌<◌, ◌≤◌, ◌==◌, ◌&&◌, nat_lt, nat_le, Bool, true, false, Contains, List, [], ◌∷◌, drop, map, length, slice_get, slice_index_or, Ok, Err, Option, Some, None, arith, refl, sym, ap, ◌∙◌, subst}
+use Rattle.std.proofs.Common.{◌≡◌, ◌⊎◌, inl, inr, ℕ, zero, suc, ◌+◌, ◌≤◌, ◌==◌, ◌&&◌, nat_lt, nat_le, Bool, true, false, Contains, List, [], ◌∷◌, map, length, slice_get, Ok, Err, Option, Some, None, arith, refl, sym, ap, ◌∙◌, subst}
 use Rattle.std.specs.Prelude.{not}
 use Rattle.std.proofs.lemmas.Bool.{and_from}
 use Rattle.std.proofs.lemmas.Bool.Decides.{nat_tests}
 use Rattle.std.proofs.lemmas.List.{length-map}
 use Rattle.std.proofs.lemmas.Option.{slice_get_within}
 use Rattle.cmm_words.specs.declared.width.Width.{Width}
-use Rattle.cmm_words.specs.declared.width.Width.TheVariants.{W64}
 use Rattle.cmm_program.specs.declared.procedure.Cont.{Cont}
 use Rattle.cmm_program.specs.declared.procedure.Proc.{Proc}
 use Rattle.cmm_program.specs.declared.procedure.Site.{Site}
@@ -19,12 +18,11 @@ use Rattle.cmm_program.specs.Exits.{Back, Exit, Landing, Resumed, continuation_e
 use Rattle.cmm_program.specs.Frames.{Suspended, procedure_at, suspended_at, without}
 use Rattle.cmm_program.specs.Orders as order
 use Rattle.cmm_program.specs.Orders.{Order, Word, target_width}
-use Rattle.cmm_program.specs.Performing.{Transfer, Away, Over, perform}
-use Rattle.cmm_program.specs.State.{Setting, Activation, Store, Running, Ended, Done, StackLimit, stack_top}
+use Rattle.cmm_program.specs.Performing.{Transfer, Over, perform}
+use Rattle.cmm_program.specs.State.{Setting, Activation, Store, Ended, Done, stack_top}
 use Rattle.cmm_program.specs.Writes.{reads_of}
-use Rattle.cmm_laws.specs.Observed.{store_seen}
 use Rattle.cmm_laws.specs.Transfers.{Leaves, LeavesTo, Ends, LeavesNot}
-use Rattle.cmm_laws.proofs.Shared.{resuming_lands, return_leaves, returning_lands, targets_take}
+use Rattle.cmm_laws.proofs.Shared.{resuming_lands, return_leaves, returning_lands}
 use Rattle.cmm_graph.specs.declared.number.ContinuationId.{ContinuationId}
 use Rattle.cmm_graph.specs.declared.number.NodeId.{NodeId}
 use Rattle.cmm_graph.specs.declared.operand.Argument.{Argument}
@@ -39,8 +37,8 @@ use Rattle.cmm_graph.specs.Laws.{OrderIsByReads}
 use Rattle.cmm_graph.specs.Paths.{landing_of}
 use Rattle.cmm_graph.specs.Values.{passed}
 use Rattle.cmm_live.specs.Sites.{site_of}
-use Rattle.cmm_chain.specs.Chain.{IsChain, IsSuspended, Point, behind}
-use Rattle.cmm_chain.specs.Contents.{Content, LastReturn, Number, ReturnTo, is_callee_saves}
+use Rattle.cmm_chain.specs.Chain.{IsChain, Point, behind}
+use Rattle.cmm_chain.specs.Contents.{LastReturn, Number, ReturnTo}
 use Rattle.cmm_chain.specs.Laws.{IsBackAt}
 use Rattle.cmm_chain.specs.Plans.{IsPlanned}
 use Rattle.cmm_chain.specs.Running.{Holdings, IsFramed, held, left}
@@ -50,8 +48,8 @@ use Rattle.cmm_located.specs.Compiled.{Compiled, Located, bare, exits_of, landin
 use Rattle.cmm_located.specs.Entering.{IsWithinMost}
 use Rattle.cmm_located.specs.LocatedMachine.{located_step, tried}
 use Rattle.cmm_located.specs.Nodes.{exit_node, to_landing, to_return}
-use Rattle.cmm_located.specs.Relation.{Liveness, AllWait, Related, Runs, Waits, site_number, suspension_of, suspensions, value_at}
-use Rattle.cmm_located.specs.Returning.{HasExits, HaveExits, IsInRange, LandsAt, ReturnsAreFollowed, ReturnsAreInRange, is_return}
+use Rattle.cmm_located.specs.Relation.{Liveness, Related, Runs, Waits, site_number, suspension_of, suspensions, value_at}
+use Rattle.cmm_located.specs.Returning.{HasExits, HaveExits, IsInRange, LandsAt, ReturnsAreFollowed, is_return}
 use Rattle.cmm_located.specs.SameOrders.{HasFrames, ReadsAreLive}
 use Rattle.cmm_located.specs.Steps.{IsClosed, IsFollowed, KeepsLive, kind_of_youngest}
 use Rattle.cmm_located.proofs.Calls.{have_length}

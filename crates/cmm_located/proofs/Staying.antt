@@ -1,5 +1,5 @@
 -- nodes that lead on in their activation
-use Rattle.std.proofs.Common.{◌≡◌, ◌≢◌, ℕ, zero, suc, ◌+◌, ◌-◌, ◌<◌, ◌≤◌, ◌==◌, nat_lt, Bool, true, false, Contains, List, [], ◌∷◌, ◌++◌, flat_map, map, length, slice_get, slice_index_or, slice_set, Ok, Err, Option, Some, None, arith, refl, sym, ap, ◌∙◌, subst}
+use Rattle.std.proofs.Common.{◌≡◌, ◌≢◌, ℕ, zero, suc, ◌+◌, ◌-◌, ◌<◌, nat_lt, Bool, true, false, Contains, List, [], ◌∷◌, ◌++◌, map, length, slice_get, slice_index_or, slice_set, Ok, Err, Option, Some, None, arith, refl, sym, ap, ◌∙◌, subst}
 use Rattle.std.specs.Prelude.{◌%◌}
 use Rattle.std.proofs.lemmas.Bool.Decides.{nat_tests}
 use Rattle.std.proofs.lemmas.List.{get_or-set_same, get_or-set_other, length-set}
@@ -11,14 +11,14 @@ use Rattle.cmm_program.specs.declared.procedure.Target.TheVariants as target
 use Rattle.cmm_program.specs.Acts as act
 use Rattle.cmm_program.specs.Acts.{evaluated}
 use Rattle.cmm_program.specs.Control.{State, over, transferred}
-use Rattle.cmm_program.specs.Errors.{Tried, UncheckedError, and_then, all_of, provided, BadAccess}
+use Rattle.cmm_program.specs.Errors.{Tried, and_then, all_of, provided, BadAccess}
 use Rattle.cmm_program.specs.Layout.{bytes_of}
 use Rattle.cmm_program.specs.Machine.{step_of}
 use Rattle.cmm_program.specs.Memory.{cell_at, with_bytes}
 use Rattle.cmm_program.specs.Orders as order
 use Rattle.cmm_program.specs.Orders.{Order, Held, Memory, Place}
 use Rattle.cmm_program.specs.Performing.{Transfer, Stay, perform, next_byte}
-use Rattle.cmm_program.specs.State.{Setting, Activation, Store, Running, Wrong, stack_top}
+use Rattle.cmm_program.specs.State.{Setting, Activation, Store, Wrong, stack_top}
 use Rattle.cmm_program.specs.Values.{Reads, may_access}
 use Rattle.cmm_program.specs.Writes.{assigned, reads_of}
 use Rattle.cmm_graph.specs.declared.number.NodeId.{NodeId}

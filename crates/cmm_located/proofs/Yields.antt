@@ -1,5 +1,5 @@
 -- yields
-use Rattle.std.proofs.Common.{◌≡◌, ℕ, true, false, List, [], ◌∷◌, Ok, Err, arith, refl, sym, ap, ◌∙◌, subst}
+use Rattle.std.proofs.Common.{◌≡◌, ℕ, true, false, List, ◌∷◌, Ok, Err, arith, refl, sym, ap, ◌∙◌}
 use Rattle.cmm_program.specs.Acts.{values_of}
 use Rattle.cmm_program.specs.Control.{State}
 use Rattle.cmm_program.specs.Errors.{Tried, and_then}
@@ -14,14 +14,13 @@ use Rattle.cmm_graph.specs.declared.node.NodeKind.{NodeKind}
 use Rattle.cmm_graph.specs.declared.node.NodeKind.TheVariants as kind
 use Rattle.cmm_graph.specs.GraphControl as graph
 use Rattle.cmm_graph.specs.GraphControl.{Position, kind_at}
-use Rattle.cmm_graph.specs.GraphMachine.{graph_step, tokens_of_youngest}
+use Rattle.cmm_graph.specs.GraphMachine.{tokens_of_youngest}
 use Rattle.cmm_graph.specs.Laws.{OrderIsByReads}
 use Rattle.cmm_graph.specs.Values.{operand_values}
 use Rattle.cmm_chain.specs.Running.{Holdings}
 use Rattle.cmm_located.specs.Answering.{shown}
 use Rattle.cmm_located.specs.Compiled.{Compiled, Located}
 use Rattle.cmm_located.specs.Entering.{IsReady}
-use Rattle.cmm_located.specs.LocatedMachine.{located_step}
 use Rattle.cmm_located.specs.Relation.{Liveness, Related, Runs}
 use Rattle.cmm_located.specs.SameOrders.{HasFrames, ReadsAreLive}
 use Rattle.cmm_located.specs.Steps.{IsFollowed, kind_of_youngest}

@@ -1,5 +1,5 @@
 -- Control goes back to an activation that waits: what the machine over graphs does as it lands is a step at the CopyIn over places.
-use Rattle.std.specs.Prelude.{◌≡◌, ℕ, ◌+◌, ◌≤◌, Bool, true, false, Contains, List, map, slice_get, Some}
+use Rattle.std.specs.Prelude.{◌≡◌, ℕ, ◌+◌, ◌≤◌, Bool, true, false, Contains, List, slice_get, Some}
 use Rattle.cmm_program.specs.declared.procedure.Proc.{Proc}
 use Rattle.cmm_program.specs.declared.procedure.Cont.{Cont}
 use Rattle.cmm_program.specs.declared.procedure.Site.{Site}

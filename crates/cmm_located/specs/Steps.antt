@@ -1,5 +1,5 @@
 -- What a step of the machine over graphs is over places.
-use Rattle.std.specs.Prelude.{◌≡◌, ◌≢◌, ℕ, Bool, true, false, Contains, List, [], ◌∷◌, map, slice_get, is_some, Some, None}
+use Rattle.std.specs.Prelude.{◌≡◌, ◌≢◌, ℕ, Bool, true, false, Contains, [], ◌∷◌, map, slice_get, is_some, Some}
 use Rattle.cmm_program.specs.Control.{State}
 use Rattle.cmm_program.specs.State.{Setting, Running}
 use Rattle.cmm_following.specs.Observing.{Passes}
