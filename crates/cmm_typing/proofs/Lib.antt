@@ -2,3 +2,4 @@ pub mod Forms
 pub mod Aligning
 pub mod Wholes
 pub mod Answering
+pub mod Words

@@ -1,4 +1,5 @@
 pub mod Fitting
 pub mod Resolved
 pub mod Meanings
+pub mod Words
 pub mod inside

@@ -1,11 +1,12 @@
 //! The types and the values of expressions in a scope that is a list of names.
 
-ghost use Rattle.std.specs.Prelude.{◌≡◌};
+ghost use Rattle.std.specs.Prelude.{◌≡◌, IsTrue};
 ghost use Rattle.cmm_accepted.specs.Algebras.{knowns};
 ghost use Rattle.cmm_accepted.specs.Constants.{constant_of};
 ghost use Rattle.cmm_accepted.specs.Typing.{expr_type};
 ghost use Rattle.cmm_typing.specs.Fitting.{AreWords};
 ghost use Rattle.cmm_typing.specs.Meanings.{Answers, fault_of, meaning_in, sense_of, senses_of, type_shown};
+ghost use Rattle.cmm_typing.specs.Words.{are_words, is_word};
 
 use crate::judging::{as_wanted, judge};
 use crate::meaning::{ExprType, Meaning, TypeFault};
@@ -21,6 +22,43 @@ use cmm_words::{Constant, Name};
 #[derive(Debug, Drop)]
 pub struct Scope {
     pub names: Items<(Name, Meaning)>,
+}
+
+impl Meaning {
+    /// Whether a constant is a word of its width.
+    fn fits(self) -> bool
+        ensures { result ≡ is_word self }
+    {
+        match self {
+            Meaning::Value(Constant::Number(word, width)) => word <= width.max(),
+            Meaning::Value(Constant::Code { .. }) => true,
+            Meaning::Value(Constant::Address { .. }) => true,
+            Meaning::Variable(_, _) => true,
+            Meaning::Register(_, _) => true,
+            Meaning::Stack(_) => true,
+            Meaning::Continuation(_) => true,
+            Meaning::Typedef(_) => true,
+            Meaning::CodeLabel => true,
+            Meaning::Host => true,
+        }
+    }
+}
+
+/// Whether each constant is a word of its width.
+fn are_words(entries: &[(Name, Meaning)]) -> bool
+    ensures { result ≡ are_words entries.now }
+{
+    entries.iter().all(|entry| entry.1.fits())
+}
+
+impl Scope {
+    /// Whether each constant is a word of its width, as the judgements ask.
+    pub fn fits(&self) -> bool
+        ensures each { result ≡ are_words self.now.names }
+        ensures words { IsTrue result → AreWords (senses_of self.now.names) }
+    {
+        are_words(self.names.as_slice())
+    }
 }
 
 /// What a meaning is among senses.
