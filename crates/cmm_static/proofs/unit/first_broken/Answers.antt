@@ -11,7 +11,7 @@ pub returns-clause-best : goal.returns-clause-best
 returns-clause-best c = λ all. λ before. λ are. λ earlier.
     noted_unit all before (unit_flat c.args.unit.now) c.args.unit.now.repeated c.note_hosts.new.best c.note_exports.new.best c.note_twice.new.best c.note_imports.new.best c.note_targets.new.best
     c.note_things.new.best c.note_entries.new.best c.note_items.new.best (senses_of c.in_ok-types.types)
-    (fun_ext (rw c.as_slice-declared.ensures at c.in_ok-types.ensures))
+    (fun_ext (rw c.as_slice-declared.ensures at c.in_ok-types.ensures.senses))
     (c.args.unit.now.noted ∙ ap (first_of None) (again_shown c.args.unit.now.table.declared))
     (rw c.as_slice-declared.ensures at c.note_hosts.ensures)
     (rw c.as_slice-exports.ensures at c.note_exports.ensures)
