@@ -4,6 +4,7 @@ mod Numbers
 mod Wide
 mod Widths
 mod Shifting
+mod Methods
 mod Operating
 mod Rotating
 mod Signs

@@ -1,7 +1,7 @@
 -- An operator at a width is the operator of 64 bits and a cut, on words as they are or with their sign.
-use Rattle.std.proofs.Common.{◌≡◌, ℕ, ◌+◌, refl, sym, ◌∙◌, ap, subst, arith, Some, None, Option}
+use Rattle.std.proofs.Common.{◌≡◌, ◌≢◌, ℕ, ◌+◌, ◌*◌, ◌<◌, ◌≤◌, ◌^◌, refl, sym, ◌∙◌, ap, subst, arith, Some, None, Option}
 use Rattle.std.specs.Prelude.{option_map, IsTrue}
-use Rattle.cmm_words.specs.Laws.{IsCut2, IsCutOfExtended}
+use Rattle.cmm_words.specs.Laws.{IsCut2, IsCutOfExtended, IsCutOfExtendedFirst}
 use Rattle.cmm_words.specs.Widths.{IsWord}
 use Rattle.cmm_words.specs.Words.{low_bits, sign_extended, value2}
 use Rattle.cmm_words.specs.declared.operators.Op2.{Op2}
@@ -11,11 +11,11 @@ use Rattle.cmm_words.specs.declared.width.Width.TheVariants.{W64}
 use Rattle.rv_asm.specs.Parts.{Code}
 use Rattle.rv_table.specs.Machine.{State}
 use Rattle.cmm_changes.proofs.Shared.{keeps_then, runs_then, runs_weaker, set_keeps}
-use Rattle.cmm_changes.specs.Changes.{Keeps}
+use Rattle.cmm_changes.specs.Changes.{Keeps, Sets}
 use Rattle.cmm_changes.specs.Pieces.{Always, Runs}
-use Rattle.cmm_select.specs.Operators.{Extends, HasWord, HaveWords, Narrows, Operates, is_built}
-use Rattle.cmm_select.specs.declared.operator.Method.TheVariants.{Plain, Shift, Signed}
-use Rattle.cmm_select.specs.inside.Wide.{is_plain, is_shift, is_signed, method_of}
+use Rattle.cmm_select.proofs.Rotating.{OperatesUncut}
+use Rattle.cmm_select.specs.Operators.{Extends, HasWord, HaveWords, Narrows, Operates}
+use Rattle.cmm_select.specs.inside.Wide.{is_plain, is_shift, is_signed}
 
 -- where a value is cut from one of 64 bits, there is that one
 wide_value : (w : Width) (o : Option ℕ) (v : ℕ) → option_map (low_bits w) o ≡ Some v → (u : ℕ) × (o ≡ Some u) × (low_bits w u ≡ v)
@@ -108,24 +108,36 @@ signed_cut op.Quot is quot rem = quot
 signed_cut op.Rem is quot rem = rem
 signed_cut _ is quot rem = absurd (cc)
 
--- an operator that is built is done by its method
-pub built_plain : (o : Op2) → IsTrue (is_built o) → method_of o ≡ Plain → IsTrue (is_plain o)
-built_plain op.Add built is = refl
-built_plain op.Sub built is = refl
-built_plain op.Mul built is = refl
-built_plain op.And built is = refl
-built_plain op.Or built is = refl
-built_plain op.Xor built is = refl
-built_plain op.Divu built is = refl
-built_plain op.Modu built is = refl
-built_plain _ built is = absurd (cc)
+-- an operator whose value is only to be cut, and one that takes its first word with its sign
+module _ (x : Code) (w : Width) where
+  pub uncut_operates : (from mid to n k : ℕ) (o : Op2) → Runs 0 n (HaveWords w) (OperatesUncut o w) x from mid → Runs 0 k Always (Narrows w) x mid to →
+      Runs 0 (n + k) (HaveWords w) (Operates o w) x from to
+  uncut_operates from mid to n k o first second =
+      runs_weaker (runs_then first second (λ s t sound also p q. tt)) (omega arith) (omega arith) (λ s sound words. words)
+      (λ s u sound words both. record {
+        given = λ v is. both.2.given ∙ both.1.given v is;
+        keeps = keeps_then s both.0 u both.1.keeps both.2.keeps;
+      })
 
-pub built_shift : (o : Op2) → method_of o ≡ Shift → IsTrue (is_shift o)
-built_shift op.Shl is = refl
-built_shift op.Shrl is = refl
-built_shift _ is = absurd (cc)
-
-pub built_signed : (o : Op2) → method_of o ≡ Signed → IsTrue (is_signed o)
-built_signed op.Quot is = refl
-built_signed op.Rem is = refl
-built_signed _ is = absurd (cc)
+  pub first_operates : (from one two to m n k : ℕ) (o : Op2) → IsCutOfExtendedFirst o → Runs 0 m (HasWord w 5) (Extends w 5) x from one →
+      Runs 0 n Always (Operates o W64) x one two → Runs 0 k Always (Narrows w) x two to → Runs 0 (m + (n + k)) (HaveWords w) (Operates o w) x from to
+  first_operates from one two to m n k o cut first second third =
+      runs_weaker
+      (runs_then (runs_weaker {R = HaveWords w} {S = Extends w 5} {b = m} {k = 0} first (omega arith) (omega arith) (λ s sound words. words.0) (λ s t sound words extends. extends))
+      (runs_then second third (λ s t sound also p q. tt)) (λ s t sound also p q. tt))
+      (omega arith) (omega arith) (λ s sound words. words)
+      (λ s u sound words all. record {
+        given = λ v is. cut_value s all.0 all.2.0 u v words all.1 all.2.1 all.2.2 is;
+        keeps = keeps_then s all.0 u (set_keeps 5 (sign_extended w W64 (s.registers 5)) s all.0 refl all.1) (keeps_then all.0 all.2.0 u all.2.1.keeps all.2.2.keeps);
+      })
+    where
+      cut_value : (s r t u : State) (v : ℕ) → HaveWords w x.map s → Extends w 5 s r → Operates o W64 r t → Narrows w t u →
+          value2 o w (s.registers 5) (s.registers 7) ≡ Some v → u.registers 5 ≡ v
+      cut_value s r t u v words extends operates narrows is =
+          let a = sign_extended w W64 (s.registers 5) in
+          let b = s.registers 7 in
+          let wide = wide_value w (value2 o W64 a b) v (sym (cut w (s.registers 5) b words.0 words.1) ∙ is) in
+          let operands : value2 o W64 (r.registers 5) (r.registers 7) ≡ value2 o W64 a b =
+          ap (λ (n : ℕ). value2 o W64 n (r.registers 7)) extends.given ∙ ap (value2 o W64 a) (extends.others 7 refl)
+          in
+          narrows.given ∙ ap (low_bits w) (operates.given wide.0 (operands ∙ wide.1)) ∙ wide.2

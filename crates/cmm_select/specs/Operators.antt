@@ -1,9 +1,8 @@
 -- What the pieces for operators do, with their operands in registers 5 and 7 and their result in register 5.
-use Rattle.std.specs.Prelude.{◌≡◌, ℕ, Bool, true, false, Some}
+use Rattle.std.specs.Prelude.{◌≡◌, ℕ, Some}
 use Rattle.cmm_words.specs.Widths.{IsWord}
 use Rattle.cmm_words.specs.Words.{low_bits, sign_extended, value2}
 use Rattle.cmm_words.specs.declared.operators.Op2.{Op2}
-use Rattle.cmm_words.specs.declared.operators.Op2.TheVariants.{Shra, Rotl, Rotr, Div, Mod}
 use Rattle.cmm_words.specs.declared.width.Width.{Width}
 use Rattle.cmm_words.specs.declared.width.Width.TheVariants.{W8, W16, W32, W64}
 use Rattle.rv_table.specs.Machine.{MemoryMap, State}
@@ -38,12 +37,3 @@ shifts_of W8 = 2
 shifts_of W16 = 2
 shifts_of W32 = 2
 shifts_of W64 = 0
-
--- the operators whose code is built so far
-abbrev pub is_built : Op2 → Bool
-is_built Shra = false
-is_built Rotl = false
-is_built Rotr = false
-is_built Div = false
-is_built Mod = false
-is_built _ = true

@@ -1,18 +1,18 @@
 //! Operators on the words in registers 5 and 7.
 
-ghost use Rattle.std.specs.Prelude.{◌≡◌, ◌≢◌, ◌+◌, ◌*◌, ◌<◌, ◌≤◌, pos, IsTrue, OnOk};
-ghost use Rattle.cmm_words.specs.Widths.{IsWord};
+ghost use Rattle.std.specs.Prelude.{◌≡◌, ◌+◌, ◌-◌, ◌*◌, ◌<◌, ◌≤◌, pos, negsuc, IsTrue, OnOk};
+ghost use Rattle.cmm_words.specs.Widths.{bits};
 ghost use Rattle.cmm_words.specs.declared.width.Width.TheVariants.{W64};
 ghost use Rattle.rv_table.specs.Table.{IsValid};
 ghost use Rattle.rv_table.specs.Words.{shifted_left, shifted_right, shifted_right_signed};
-ghost use Rattle.rv_table.specs.declared.instruction.Instr.TheVariants.{Slli, Srai, Srli};
+ghost use Rattle.rv_table.specs.declared.instruction.Instr.TheVariants.{Addi, Andi, Slli, Srai, Srli};
 ghost use Rattle.cmm_changes.specs.Changes.{Sets};
-ghost use Rattle.cmm_changes.specs.Pieces.{Adds, Always, Runs};
-ghost use Rattle.cmm_select.specs.Operators.{Extends, HasWord, HaveWords, Narrows, Operates, is_built, shifts_of};
+ghost use Rattle.cmm_changes.specs.Pieces.{Adds, Always, Leads, Runs};
+ghost use Rattle.cmm_select.specs.Operators.{Extends, HasWord, HaveWords, Narrows, Operates, shifts_of};
 ghost use Rattle.cmm_select.specs.inside.Wide.{direct, is_plain, is_shift, is_signed, method_of};
 
-use crate::place::{FIRST, HELP, SECOND};
-use cmm_words::laws::wide_operators;
+use crate::place::{FIRST, HELP, SECOND, ZERO};
+use cmm_words::laws::{divisions_by_each_other, wide_operators};
 use cmm_words::{Op2, Width};
 use rv_asm::Asm;
 use rv_table::Instr;
@@ -136,14 +136,23 @@ enum Method {
     Plain,
     /// By one instruction, whose result is cleared where the count is past its bits.
     Shift,
+    /// By a shift that copies the top bit, on a word with its sign.
+    Copies,
+    /// By two shifts, to the left by the count.
+    Left,
+    /// By two shifts, to the right by the count.
+    Right,
     /// By one instruction, on words with their sign.
     Signed,
+    /// By a quotient rounded toward zero that is made one rounded down.
+    Quotient,
+    /// By the remainder of such a quotient.
+    Remainder,
 }
 
 /// Gives register 5 what an operator gives on the words in registers 5 and 7; register 6 helps. An error is want of memory, and then
 /// some of the instructions may be there.
 pub fn operate(asm: &mut Asm, operator: Op2, width: Width) -> Result<(), AllocError>
-    requires { IsTrue (is_built operator) }
     ensures operates { OnOk result (Adds (3 * shifts_of width + 6) asm.old.parts asm.new.parts (Runs 0 (3 * shifts_of width + 6) (HaveWords width) (Operates operator width))) }
     ensures labels { asm.new.labels ≡ asm.old.labels }
 {
@@ -156,20 +165,45 @@ pub fn operate(asm: &mut Asm, operator: Op2, width: Width) -> Result<(), AllocEr
             shift(asm, operator, width)?;
             Ok(())
         }
+        Method::Copies => {
+            shift_signed(asm, width)?;
+            Ok(())
+        }
+        Method::Left => {
+            rotate_left(asm, width)?;
+            Ok(())
+        }
+        Method::Right => {
+            rotate_right(asm, width)?;
+            Ok(())
+        }
         Method::Signed => {
             signed(asm, operator, width)?;
+            Ok(())
+        }
+        Method::Quotient => {
+            divide_down(asm, width)?;
+            Ok(())
+        }
+        Method::Remainder => {
+            modulo_down(asm, width)?;
             Ok(())
         }
     }
 }
 
-/// How the operator is done. One that is not built has the first.
+/// How the operator is done.
 fn method_for(operator: Op2) -> Method
     ensures { result ≡ method_of operator }
 {
     match operator {
         Op2::Shl | Op2::Shrl => Method::Shift,
+        Op2::Shra => Method::Copies,
+        Op2::Rotl => Method::Left,
+        Op2::Rotr => Method::Right,
         Op2::Quot | Op2::Rem => Method::Signed,
+        Op2::Div => Method::Quotient,
+        Op2::Mod => Method::Remainder,
         _ => Method::Plain,
     }
 }
@@ -241,5 +275,261 @@ fn instruction(operator: Op2) -> Instr
         Op2::Quot => Instr::Div { rd, rs1, rs2 },
         Op2::Rem => Instr::Rem { rd, rs1, rs2 },
         _ => Instr::Add { rd, rs1, rs2 },
+    }
+}
+
+/// The shift to the right that copies the top bit, of 64 bits: by 63 first where the count is not below 64, and a cut.
+fn shift_signed(asm: &mut Asm, width: Width) -> Result<(), AllocError>
+    ensures operates { OnOk result (Adds (2 * shifts_of width + 4) asm.old.parts asm.new.parts (Runs 0 (2 * shifts_of width + 4) (HaveWords width) (Operates Op2.Shra width))) }
+    ensures labels { asm.new.labels ≡ asm.old.labels }
+{
+    wide_operators();
+    extend(asm, width, FIRST)?;
+    shift_copies(asm)?;
+    narrow(asm, width)?;
+    Ok(())
+}
+
+/// The same of 64 bits.
+fn shift_copies(asm: &mut Asm) -> Result<(), AllocError>
+    ensures operates { OnOk result (Adds 4 asm.old.parts asm.new.parts (Leads 4 Always (Operates Op2.Shra W64))) }
+    ensures labels { asm.new.labels ≡ asm.old.labels }
+{
+    asm.emit(Instr::Sltiu {
+        rd: HELP,
+        rs1: SECOND,
+        imm: 64,
+    })?;
+    asm.emit(Instr::Addi {
+        rd: HELP,
+        rs1: HELP,
+        imm: -1,
+    })?;
+    asm.emit(Instr::Sra {
+        rd: FIRST,
+        rs1: FIRST,
+        rs2: HELP,
+    })?;
+    asm.emit(Instr::Sra {
+        rd: FIRST,
+        rs1: FIRST,
+        rs2: SECOND,
+    })?;
+    Ok(())
+}
+
+/// A quotient rounded down, of signed words: that toward zero, less by 1 where it was rounded up, and a cut.
+fn divide_down(asm: &mut Asm, width: Width) -> Result<(), AllocError>
+    ensures operates { OnOk result (Adds (3 * shifts_of width + 5) asm.old.parts asm.new.parts (Runs 0 (3 * shifts_of width + 5) (HaveWords width) (Operates Op2.Div width))) }
+    ensures labels { asm.new.labels ≡ asm.old.labels }
+{
+    wide_operators();
+    extend(asm, width, FIRST)?;
+    extend(asm, width, SECOND)?;
+    quotient_down(asm)?;
+    narrow(asm, width)?;
+    Ok(())
+}
+
+/// The same of 64 bits.
+fn quotient_down(asm: &mut Asm) -> Result<(), AllocError>
+    ensures operates { OnOk result (Adds 5 asm.old.parts asm.new.parts (Leads 5 Always (Operates Op2.Div W64))) }
+    ensures labels { asm.new.labels ≡ asm.old.labels }
+{
+    divisions_by_each_other();
+    asm.emit(Instr::Rem {
+        rd: HELP,
+        rs1: FIRST,
+        rs2: SECOND,
+    })?;
+    asm.emit(Instr::Div {
+        rd: FIRST,
+        rs1: FIRST,
+        rs2: SECOND,
+    })?;
+    asm.emit(Instr::Mulh {
+        rd: HELP,
+        rs1: HELP,
+        rs2: SECOND,
+    })?;
+    asm.emit(Instr::Srli {
+        rd: HELP,
+        rs1: HELP,
+        imm: 63,
+    })?;
+    asm.emit(Instr::Sub {
+        rd: FIRST,
+        rs1: FIRST,
+        rs2: HELP,
+    })?;
+    Ok(())
+}
+
+/// The remainder of such a quotient: that of the one toward zero, more by the divisor where that was rounded up, and a cut.
+fn modulo_down(asm: &mut Asm, width: Width) -> Result<(), AllocError>
+    ensures operates { OnOk result (Adds (3 * shifts_of width + 5) asm.old.parts asm.new.parts (Runs 0 (3 * shifts_of width + 5) (HaveWords width) (Operates Op2.Mod width))) }
+    ensures labels { asm.new.labels ≡ asm.old.labels }
+{
+    wide_operators();
+    extend(asm, width, FIRST)?;
+    extend(asm, width, SECOND)?;
+    remainder_down(asm)?;
+    narrow(asm, width)?;
+    Ok(())
+}
+
+/// The same of 64 bits.
+fn remainder_down(asm: &mut Asm) -> Result<(), AllocError>
+    ensures operates { OnOk result (Adds 5 asm.old.parts asm.new.parts (Leads 5 Always (Operates Op2.Mod W64))) }
+    ensures labels { asm.new.labels ≡ asm.old.labels }
+{
+    divisions_by_each_other();
+    asm.emit(Instr::Rem {
+        rd: FIRST,
+        rs1: FIRST,
+        rs2: SECOND,
+    })?;
+    asm.emit(Instr::Mulh {
+        rd: HELP,
+        rs1: FIRST,
+        rs2: SECOND,
+    })?;
+    asm.emit(Instr::Srli {
+        rd: HELP,
+        rs1: HELP,
+        imm: 63,
+    })?;
+    asm.emit(Instr::Mul {
+        rd: HELP,
+        rs1: HELP,
+        rs2: SECOND,
+    })?;
+    asm.emit(Instr::Add {
+        rd: FIRST,
+        rs1: FIRST,
+        rs2: HELP,
+    })?;
+    Ok(())
+}
+
+/// A rotation to the left: a shift by the count and one the other way by what it leaves of the width, and a cut.
+fn rotate_left(asm: &mut Asm, width: Width) -> Result<(), AllocError>
+    ensures operates { OnOk result (Adds (shifts_of width + 6) asm.old.parts asm.new.parts (Runs 0 (shifts_of width + 6) (HaveWords width) (Operates Op2.Rotl width))) }
+    ensures labels { asm.new.labels ≡ asm.old.labels }
+{
+    wide_operators();
+    asm.emit(count_of(width))?;
+    asm.emit(Instr::Sll {
+        rd: HELP,
+        rs1: FIRST,
+        rs2: SECOND,
+    })?;
+    asm.emit(without_width(width))?;
+    asm.emit(Instr::Sub {
+        rd: SECOND,
+        rs1: ZERO,
+        rs2: SECOND,
+    })?;
+    asm.emit(Instr::Srl {
+        rd: FIRST,
+        rs1: FIRST,
+        rs2: SECOND,
+    })?;
+    asm.emit(Instr::Or {
+        rd: FIRST,
+        rs1: HELP,
+        rs2: FIRST,
+    })?;
+    narrow(asm, width)?;
+    Ok(())
+}
+
+/// A rotation to the right, with the two shifts turned.
+fn rotate_right(asm: &mut Asm, width: Width) -> Result<(), AllocError>
+    ensures operates { OnOk result (Adds (shifts_of width + 6) asm.old.parts asm.new.parts (Runs 0 (shifts_of width + 6) (HaveWords width) (Operates Op2.Rotr width))) }
+    ensures labels { asm.new.labels ≡ asm.old.labels }
+{
+    wide_operators();
+    asm.emit(count_of(width))?;
+    asm.emit(Instr::Srl {
+        rd: HELP,
+        rs1: FIRST,
+        rs2: SECOND,
+    })?;
+    asm.emit(without_width(width))?;
+    asm.emit(Instr::Sub {
+        rd: SECOND,
+        rs1: ZERO,
+        rs2: SECOND,
+    })?;
+    asm.emit(Instr::Sll {
+        rd: FIRST,
+        rs1: FIRST,
+        rs2: SECOND,
+    })?;
+    asm.emit(Instr::Or {
+        rd: FIRST,
+        rs1: FIRST,
+        rs2: HELP,
+    })?;
+    narrow(asm, width)?;
+    Ok(())
+}
+
+/// The instruction that takes the count of a rotation modulo the width.
+fn count_of(width: Width) -> Instr
+    ensures is { result ≡ Andi 7 7 (pos (bits width - 1)) }
+    ensures valid { IsValid result }
+{
+    match width {
+        Width::W8 => Instr::Andi {
+            rd: SECOND,
+            rs1: SECOND,
+            imm: 7,
+        },
+        Width::W16 => Instr::Andi {
+            rd: SECOND,
+            rs1: SECOND,
+            imm: 15,
+        },
+        Width::W32 => Instr::Andi {
+            rd: SECOND,
+            rs1: SECOND,
+            imm: 31,
+        },
+        Width::W64 => Instr::Andi {
+            rd: SECOND,
+            rs1: SECOND,
+            imm: 63,
+        },
+    }
+}
+
+/// The instruction that takes the width away from a count.
+fn without_width(width: Width) -> Instr
+    ensures is { result ≡ Addi 7 7 (negsuc (bits width - 1)) }
+    ensures valid { IsValid result }
+{
+    match width {
+        Width::W8 => Instr::Addi {
+            rd: SECOND,
+            rs1: SECOND,
+            imm: -8,
+        },
+        Width::W16 => Instr::Addi {
+            rd: SECOND,
+            rs1: SECOND,
+            imm: -16,
+        },
+        Width::W32 => Instr::Addi {
+            rd: SECOND,
+            rs1: SECOND,
+            imm: -32,
+        },
+        Width::W64 => Instr::Addi {
+            rd: SECOND,
+            rs1: SECOND,
+            imm: -64,
+        },
     }
 }

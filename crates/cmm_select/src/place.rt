@@ -13,7 +13,7 @@ use rv_table::Instr;
 use std::alloc::AllocError;
 
 /// Always 0.
-const ZERO: u8 = 0;
+pub(crate) const ZERO: u8 = 0;
 
 /// The address of the frame.
 const FRAME: u8 = 2;

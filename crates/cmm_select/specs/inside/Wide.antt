@@ -1,9 +1,9 @@
 -- The instructions of operators at 64 bits: RISC-V ISA Volume I, "Integer Register-Register Operations" and the M extension.
-use Rattle.std.specs.Prelude.{Bool, true, false}
+use Rattle.std.specs.Prelude.{◌≡◌, ℕ, Bool, true, false, pos}
 use Rattle.cmm_words.specs.declared.operators.Op2.{Op2}
 use Rattle.cmm_words.specs.declared.operators.Op2.TheVariants as op
 use Rattle.cmm_select.specs.declared.operator.Method.{Method}
-use Rattle.cmm_select.specs.declared.operator.Method.TheVariants.{Plain, Shift, Signed}
+use Rattle.cmm_select.specs.declared.operator.Method.TheVariants.{Plain, Shift, Copies, Left, Right, Signed, Quotient, Remainder}
 use Rattle.rv_table.specs.declared.instruction.Instr.{Instr}
 use Rattle.rv_table.specs.declared.instruction.Instr.TheVariants.{Add, Sub, Mul, And, Or, Xor, Sll, Srl, Div, Divu, Rem, Remu}
 
@@ -47,10 +47,15 @@ direct op.Quot = Div 5 5 7
 direct op.Rem = Rem 5 5 7
 direct _ = Add 5 5 7
 
--- how an operator is done; one that isn't built has the first way
+-- how an operator is done
 abbrev pub method_of : Op2 → Method
 method_of op.Shl = Shift
 method_of op.Shrl = Shift
+method_of op.Shra = Copies
+method_of op.Rotl = Left
+method_of op.Rotr = Right
 method_of op.Quot = Signed
 method_of op.Rem = Signed
+method_of op.Div = Quotient
+method_of op.Mod = Remainder
 method_of _ = Plain
