@@ -19,11 +19,7 @@ pub(crate) fn no_marks(alloc: Global, size: usize) -> Result<Vec<bool>, AllocErr
 }
 
 /// Marks a node, and adds it to those that are found, if it is not marked.
-fn add_one(
-    node: usize,
-    marks: &mut Vec<bool>,
-    found: &mut Items<usize>,
-) -> Result<(), AllocError>
+fn add_one(node: usize, marks: &mut Vec<bool>, found: &mut Items<usize>) -> Result<(), AllocError>
     requires { node < length marks.old.items }
     ensures { OnOk result (IsGrown (node ∷ []) marks.old.items found.old marks.new.items found.new) }
 {

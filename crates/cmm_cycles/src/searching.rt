@@ -26,11 +26,7 @@ fn add_mentioned(
 
 /// Whether a node leads back to itself: it mentions itself, or a node that does or leads to it. A graph is, for each node by its number
 /// from 0, the nodes that it mentions.
-pub fn comes_back(
-    alloc: Global,
-    graph: &[Items<usize>],
-    node: usize,
-) -> Result<bool, AllocError>
+pub fn comes_back(alloc: Global, graph: &[Items<usize>], node: usize) -> Result<bool, AllocError>
     requires graph { is_graph graph.now ≡ true }
     requires node { node < length graph.now }
     ensures { IfOk result (λ comes. comes ≡ comes_back graph.now node) }
