@@ -1,0 +1,80 @@
+#!/usr/bin/env python3
+"""How many tokens per second the program reads, and how many it tests against the static rules.
+
+Usage: bench/static.py [PROGRAM], at the top of the repository; PROGRAM is the built `cmm`, crates/cmm/out/cmm by default, which `rt ci` leaves there.
+
+It makes units of nearly 1 MiB, and of each another that lacks its last token, so that it ends with the fault of the syntax there: with that one the
+program lexes and parses, with the whole unit it tests the static rules as well, and the difference is their time. Each takes the least of seven runs,
+less the time for a small unit, which is that of a process. The tokens are counted here.
+"""
+import os
+import re
+import subprocess
+import sys
+import tempfile
+import time
+
+SIZE = 1_048_000
+MAIN = "export main; main() { return (1); }\n"
+
+
+def name(number):
+    return "n" + "".join("abcdefghijklmnop"[number >> shift & 15] for shift in (12, 8, 4, 0))
+
+
+def filled(line):
+    """A unit of such lines, each made of its number."""
+    lines, size = [], len(MAIN)
+    while size < SIZE - 64 and len(lines) < 65_000:
+        lines.append(line(len(lines)))
+        size += len(lines[-1])
+    return lines
+
+
+def units():
+    """Each unit with its sort. The first declaration of one that refers to the next has to end somewhere."""
+    chain = filled(lambda n: f"typedef {name(n + 1)} {name(n)};\n")
+    labels = filled(lambda n: f"{name(n)}: bits64[] {{ {n} }};\n")
+    statements = filled(lambda n: "    x = y + x;\n")
+    yield "typedefs, each of a width", MAIN + "".join(filled(lambda n: f"typedef bits64 {name(n)};\n"))
+    yield "typedefs, each of the next", MAIN + "".join(chain) + f"typedef bits64 {name(len(chain))};\n"
+    yield "constants", MAIN + "".join(filled(lambda n: f"const bits64 {name(n)} = {n};\n"))
+    yield "registers", MAIN + "".join(filled(lambda n: f"register bits64 {name(n)};\n"))
+    yield "data with labels", MAIN + 'section "data" {\n' + "".join(labels) + "}\n"
+    yield "one procedure", MAIN + "f(bits64 x, bits64 y) {\n" + "".join(statements) + "}\n"
+
+
+def tokens(unit):
+    return len(re.findall(r'"[^"]*"|\w+|[^\w\s]', unit))
+
+
+def seconds(program, unit):
+    """The least time of some runs on a unit, and the program's line."""
+    with tempfile.TemporaryDirectory() as folder:
+        path = os.path.join(folder, "a.cmm")
+        with open(path, "w", encoding="ascii") as file:
+            file.write(unit)
+        best, line = None, b""
+        for _ in range(7):
+            start = time.perf_counter()
+            line = subprocess.run([program, "exec", path], stderr=subprocess.PIPE, check=False).stderr
+            took = time.perf_counter() - start
+            best = took if best is None else min(best, took)
+    return best, line.decode().strip().rsplit("a.cmm:", 1)[-1]
+
+
+def main(program="crates/cmm/out/cmm"):
+    process, _ = seconds(program, MAIN)
+    print("| unit | tokens | lexed and parsed, per second | tested, per second |\n|---|---|---|---|")
+    for sort, unit in units():
+        count = tokens(unit)
+        read, fault = seconds(program, unit.rstrip()[:-1])
+        assert ": 10 " in fault, fault
+        whole, answer = seconds(program, unit)
+        assert ": 90 " in answer, answer
+        test = max(whole - read, 1e-4)
+        print(f"| {sort} | {count:,} | {count / (read - process) / 1e6:.1f} million | {count / test / 1e6:.1f} million |")
+
+
+if __name__ == "__main__":
+    main(*sys.argv[1:])
