@@ -1,5 +1,5 @@
 -- Blocks and arms as lists: their code, and what follows marks in them.
-use Rattle.std.proofs.Common.{◌≡◌, ℕ, Bool, true, false, Option, Some, None, List, [], ◌∷◌, refl, sym, ap, ◌∙◌, subst}
+use Rattle.std.proofs.Common.{◌≡◌, ℕ, true, false, Option, Some, List, ◌∷◌, refl, sym, ap, ◌∙◌, subst}
 use denote.Hole.Carrier as Carrier
 use mathlib.Core.Former.{Count}
 use Rattle.cmm_program.specs.declared.expression.Condition.{Condition}
@@ -8,10 +8,9 @@ use Rattle.cmm_program.specs.declared.procedure.Proc.{Proc}
 use Rattle.cmm_program.specs.declared.statement.Arm.{Arm, Arm', Row_of-Statement, end_of-Statement, more_of-Statement, out-Arm}
 use Rattle.cmm_program.specs.declared.statement.Arm.{items_shown-the_row-Statement-0}
 use Rattle.cmm_program.specs.declared.statement.Case.TheVariants.{In, Default}
-use Rattle.cmm_program.specs.declared.statement.Form.{Form, Row_of-Arm, end_of-Arm, more_of-Arm, items-the_row-Arm, items_hidden-the_row-Arm-1}
+use Rattle.cmm_program.specs.declared.statement.Form.{Row_of-Arm, end_of-Arm, more_of-Arm, items-the_row-Arm, items_hidden-the_row-Arm-1}
 use Rattle.cmm_program.specs.declared.statement.Form.TheBlock.{hidden-the_row-Statement-0, hidden-the_row-Arm-1, shown-the_row-Statement-0}
 use Rattle.cmm_program.specs.declared.statement.Form.TheVariants as form
-use Rattle.cmm_program.specs.declared.statement.Range.{Range}
 use Rattle.cmm_program.specs.declared.statement.Statement.{Statement}
 use Rattle.cmm_program.specs.Bodies.{Mark, AtContinuation, AtLabel, AtSite, after_in, after_in_arms, after_inside, first_of_two, is_mark, outward, statements}
 use Rattle.cmm_graph.specs.declared.node.Arm.{Arm as Way}
@@ -41,7 +40,7 @@ after_row_arms : (mark : Mark) (i : Count) (row : Row_of-Arm i) → after_in_arm
 after_row_arms mark i end_of-Arm = refl
 after_row_arms mark i (more_of-Arm (Arm' case _ body) rest) = ap (first_of_two (after_in mark body)) (after_row_arms mark _ rest)
 
-shown_statements : (x : _) (body : Row_of-Statement _) → shown-the_row-Statement-0 x body ≡ statements body
+pub shown_statements : (x : _) (body : Row_of-Statement _) → shown-the_row-Statement-0 x body ≡ statements body
 shown_statements x body = items_shown-the_row-Statement-0 x body ∙ sym (row_items _ body)
 
 module _ (mark : Mark) where

@@ -124,7 +124,6 @@ main_flows = record {
   begun = record { formals = []; next = n 1; node = refl; code = main_code };
   labels = λ l. record { next = n 4; node = refl; code = refl };
   continuations = λ k less. absurd (omega (arith, less));
-  tokens = refl;
 }
 
 f_flows : IsFlowOf f f-graph
@@ -134,7 +133,6 @@ f_flows = record {
   begun = record { formals = record { number = 0 } ∷ []; next = n 1; node = refl; code = f_code };
   labels = λ l. record { next = n 4; node = refl; code = refl };
   continuations = λ k less. absurd (omega (arith, less));
-  tokens = refl;
 }
 
 -- ---- the premise of the laws
@@ -157,6 +155,7 @@ are_flows : AreFlows calling (main-graph ∷ f-graph ∷ [])
 are_flows = record {
   counted = All-cons Counted main (f ∷ []) main_counted (All-cons Counted f [] f_counted (All-nil Counted));
   flows = (main_flows, (f_flows, tt));
+  tokens = (refl, (refl, tt));
 }
 
 -- and the run over them ends as the program does

@@ -1,5 +1,5 @@
 -- A worked row: the graph of a small procedure, written by hand, is its flow, and the premise of the laws is built for its program.
-use Rattle.std.proofs.Common.{◌≡◌, ℕ, zero, suc, ◌<◌, IsTrue, List, [], ◌∷◌, refl, arith}
+use Rattle.std.proofs.Common.{◌≡◌, ℕ, zero, suc, ◌<◌, IsTrue, List, [], ◌∷◌, refl, arith, lit≤}
 use Rattle.std.proofs.lemmas.Bool.Decides.{nat_tests}
 use Rattle.std.proofs.lemmas.List.Elements.{All-nil, All-cons}
 use Rattle.std.specs.List.{list_all}
@@ -26,7 +26,7 @@ use Rattle.cmm_graph.specs.declared.operand.Operand.{Operand}
 use Rattle.cmm_graph.specs.declared.operand.Operand.TheVariants as operand
 use Rattle.cmm_graph.specs.declared.operand.Rvalue.TheVariants as rvalue
 use Rattle.cmm_graph.specs.GraphMachine.{graph_state_after}
-use Rattle.cmm_flow.specs.Flow.{IsBehindLabel, IsFlowOf, IsLandedAt}
+use Rattle.cmm_flow.specs.Flow.{CoversParts, IsBehindLabel, IsFlowOf, IsLandedAt}
 use Rattle.cmm_flow.specs.Laws.{AreFlows}
 use Rattle.cmm_flow.specs.Operands.{temporary}
 use Rattle.cmm_flow.specs.Relation.{is_counted}
@@ -132,8 +132,12 @@ main_flows = record {
   begun = record { formals = []; next = n 1; node = refl; code = whole };
   labels = label_is;
   continuations = landing_is;
-  tokens = refl;
 }
+
+-- it has tokens for its parts
+covers : CoversParts main
+unfolding opened
+covers = record { sites = record { positive = lit≤ tt; results = refl }; statements = refl; parameters = refl }
 
 -- ---- the premise of the laws
 
@@ -148,6 +152,7 @@ are_flows : AreFlows small (graph ∷ [])
 are_flows = record {
   counted = All-cons (λ q. IsTrue (list_all (is_counted q) (body_statements q))) main [] counted (All-nil (λ q. IsTrue (list_all (is_counted q) (body_statements q))));
   flows = (main_flows, tt);
+  tokens = (refl, tt);
 }
 
 -- and the run over it ends as the program does

@@ -1,5 +1,5 @@
 -- What is laid for statements with what they hold, from what is laid for their parts.
-use Rattle.std.proofs.Common.{◌≡◌, ℕ, zero, suc, ◌+◌, Bool, true, false, Option, Some, None, List, [], ◌∷◌, ◌++◌, length, map, reverse, slice_get, append-nil, refl, sym, ap, ◌∙◌, subst, arith}
+use Rattle.std.proofs.Common.{◌≡◌, ℕ, ◌≤◌, true, false, None, List, [], ◌∷◌, ◌++◌, length, map, reverse, append-nil, refl, sym, ap, ◌∙◌, subst, arith}
 use Rattle.std.proofs.lemmas.List.{map-append, reverse-append, reverse-reverse}
 use Rattle.cmm_program.specs.declared.expression.Condition.{Condition}
 use Rattle.cmm_program.specs.declared.expression.Expression.{Expression}
@@ -18,14 +18,14 @@ use Rattle.cmm_flow.specs.Code.{IsNode, OperandCode, TestCode}
 use Rattle.cmm_flow.specs.Operands.{nodes, operand_of}
 use Rattle.cmm_flow.specs.Statements.{FormCode, remaining}
 use Rattle.cmm_flow.specs.inside.Blocks.{is_simple}
-use Rattle.cmm_flow.specs.inside.Laying.{IsReady, Lays, LaysMarked, SetsMark, label_of}
-use Rattle.cmm_flow.specs.inside.LayingBlocks.{LaysArms, LaysBlock, LaysForm, LaysStatement}
-use Rattle.cmm_flow.specs.inside.Marks.{FrontCode, LeadsBehind, LeadsBehindArms, LeadsBehindForm, LeadsBehindList, PutsArm}
+use Rattle.cmm_flow.specs.inside.Laying.{AreWithin, Covers, CoversBoth, Lays, LaysMarked, LaysWithin, SetsMark, label_of}
+use Rattle.cmm_flow.specs.inside.LayingBlocks.{LaysArms, LaysBlock, LaysForm, LaysStatement, is_within}
+use Rattle.cmm_flow.specs.inside.Marks.{FrontCode, LeadsBehind, LeadsBehindArms, LeadsBehindForm, LeadsBehindList, OtherwiseCode, PutsArm, WaysCode}
 use Rattle.cmm_flow.proofs.Blocks.{after_arm, after_if, after_span, after_switch, arm_code, if_code, no_mark_if, no_mark_span, no_mark_switch, span_code, switch_code}
-use Rattle.cmm_flow.proofs.ExpressionsStay.{node_stays}
+use Rattle.cmm_flow.proofs.Covering.{at_most, if_of, span_of, switch_of}
 use Rattle.cmm_flow.proofs.FormsStay.{front_stays, leads_stay, otherwise_stays, ways_stay}
-use Rattle.cmm_flow.proofs.Laying.{lays_nothing}
-use Rattle.cmm_flow.proofs.Marking.{lays_marked, marked_other, ready_later, then_marked}
+use Rattle.cmm_flow.proofs.Laying.{get_behind, lays_nothing, lays_other}
+use Rattle.cmm_flow.proofs.Marking.{lays_marked, ready_later, then_marked}
 use Rattle.cmm_flow.proofs.Marks.{first_leads, form_leads, list_leads}
 
 -- ---- a loop over a list from its end
@@ -36,103 +36,122 @@ turned f ys y = ap reverse (map-append f ys (y ∷ [])) ∙ reverse-append (map 
 pub turned_back : {A : Type 0} (ys xs : List A) → ys ≡ reverse xs → reverse ys ≡ xs
 turned_back ys xs same = ap reverse same ∙ reverse-reverse xs
 
--- the nodes behind others
-pub get_behind : {A : Type 0} (front xs : List A) (n i : ℕ) → length front + n ≡ i → slice_get (front ++ xs) i ≡ slice_get xs n
-get_behind [] xs n i same = ap (slice_get xs) (omega arith)
-get_behind (x ∷ front) xs n zero same = absurd (omega arith)
-get_behind (x ∷ front) xs n (suc i) same = get_behind front xs n i (omega arith)
-
 module _ (q : Proc) where
   -- ---- blocks
 
   pub block_none : (a : Builder) (k : NodeId) → LaysBlock a a q [] k k
-  block_none a k count ready =
-      lays_marked (λ nodes. LeadsBehindList q nodes (label_of count) [] k) (lays_nothing a (λ nodes. k ≡ k) (λ nodes. refl)) (λ nodes l n. refl) (λ nodes c n. refl)
+  block_none a k = record {
+    lays = λ count ready.
+        lays_marked (λ nodes. LeadsBehindList q nodes (label_of count) [] k) (lays_nothing {T = λ most. 1 ≤ most} a (λ nodes. k ≡ k) (λ nodes. refl)) (λ nodes l n. refl)
+        (λ nodes c n. refl);
+    keeps = λ most bound are. are;
+  }
 
   pub block_more : {a b c : Builder} (x : Statement) (xs : List Statement) (n m k : NodeId) → LaysBlock a b q xs m k → LaysStatement b c q x n m →
       LaysBlock a c q (x ∷ xs) n k
-  block_more x xs n m k first second count ready =
-      let later = first count ready in
-      then_marked _ _ later (second count (ready_later later ready)) (λ nodes more. front_stays nodes more q (label_of count) xs m k)
-      (λ mark before after nodes more. leads_stay nodes more q (label_of count) _ k before after)
-      (λ nodes front code. (m, code, front))
-      (λ nodes mark before between after front code earlier now. list_leads q nodes (label_of count) mark x xs m k before between after front earlier now)
+  block_more x xs n m k first second = record {
+    lays = λ count ready.
+        let later = first.lays count ready in
+        then_marked _ _ later (second.lays count (ready_later later ready)) (λ nodes more. front_stays nodes more q (label_of count) xs m k)
+        (λ mark before after nodes more. leads_stay nodes more q (label_of count) _ k before after)
+        (λ nodes front code. (m, code, front))
+        (λ nodes mark before between after front code earlier now. list_leads q nodes (label_of count) mark x xs m k before between after front earlier now);
+    keeps = λ most bound are. second.keeps most ((bound.0, at_most x.tokens most bound.1.0.0), bound.1.0.1) (first.keeps most (bound.0, bound.1.1) are);
+  }
 
   -- ---- arms
 
   pub arms_none : (a : Builder) (k : NodeId) → LaysArms a a q [] [] a.stop k
-  arms_none a k count ready =
-      lays_marked (λ nodes. LeadsBehindArms q nodes (label_of count) [] k)
-      (record {
-        extends = record { more = []; nodes = sym (append-nil a.nodes); stop = refl };
-        labels = refl;
-        continuations = refl;
-        code = λ front many. (refl, get_behind front a.nodes 0 a.stop.number (omega (arith, many)) ∙ ready.stop);
-      })
-      (λ nodes l n. refl) (λ nodes c n. refl)
+  arms_none a k = record {
+    lays = λ count ready.
+        let laid : Lays a a (λ nodes. WaysCode q nodes (label_of count) [] [] k × OtherwiseCode q nodes (label_of count) [] a.stop k) = record {
+          extends = record { more = []; nodes = sym (append-nil a.nodes); stop = refl };
+          labels = refl;
+          continuations = refl;
+          code = λ front many. (refl, get_behind front a.nodes 0 a.stop.number (omega (arith, many)) ∙ ready.stop);
+          keeps = λ most bound are. are;
+        } in
+        lays_marked (λ nodes. LeadsBehindArms q nodes (label_of count) [] k) laid (λ nodes l n. refl) (λ nodes c n. refl);
+    keeps = λ most bound are. are;
+  }
 
   pub arms_more : {a b c : Builder} (arm : Arm) (arms : List Arm) (to to_after : List Way) (n otherwise otherwise_after k : NodeId) →
       LaysArms a b q arms to otherwise k → LaysBlock b c q (out-Arm arm).body n k → PutsArm (out-Arm arm).case n to otherwise to_after otherwise_after →
       LaysArms a c q (arm ∷ arms) to_after otherwise_after k
-  arms_more arm arms to to_after n otherwise otherwise_after k first second puts count ready =
-      let later = first count ready in
-      then_marked _ _ later (second count (ready_later later ready))
-      (λ nodes more f. (ways_stay nodes more q (label_of count) arms to k f.0, otherwise_stays nodes more q (label_of count) arms otherwise k f.1))
-      (λ mark before after nodes more. leads_stay nodes more q (label_of count) _ k before after)
-      (λ nodes others code. arm_code q nodes (label_of count) arm arms to to_after n otherwise otherwise_after k puts code others)
-      (λ nodes mark before between after others code earlier now.
-      subst (λ o. LeadsBehind q nodes (label_of count) o k before after) (sym (after_arm mark arm arms))
-      (first_leads q nodes (label_of count) _ _ k before between after earlier now))
+  arms_more arm arms to to_after n otherwise otherwise_after k first second puts = record {
+    lays = λ count ready.
+        let later = first.lays count ready in
+        then_marked _ _ later (second.lays count (ready_later later ready))
+        (λ nodes more f. (ways_stay nodes more q (label_of count) arms to k f.0, otherwise_stays nodes more q (label_of count) arms otherwise k f.1))
+        (λ mark before after nodes more. leads_stay nodes more q (label_of count) _ k before after)
+        (λ nodes others code. arm_code q nodes (label_of count) arm arms to to_after n otherwise otherwise_after k puts code others)
+        (λ nodes mark before between after others code earlier now.
+        subst (λ o. LeadsBehind q nodes (label_of count) o k before after) (sym (after_arm mark arm arms))
+        (first_leads q nodes (label_of count) _ _ k before between after earlier now));
+    keeps = λ most bound are. second.keeps most (bound.0, bound.1.0) (first.keeps most (bound.0, bound.1.1) are);
+  }
 
   -- ---- forms
 
   pub if_lays : {a b c d : Builder} (tokens : ℕ) (condition : Condition) (then_ otherwise : List Statement) (n held failed k : NodeId) →
       LaysBlock a b q otherwise failed k → LaysBlock b c q then_ held k → Lays c d (λ nodes. TestCode nodes condition n held failed) →
       LaysForm a d q tokens (form.If condition then_ otherwise) n k
-  if_lays tokens condition then_ otherwise n held failed k first second third count ready =
-      let one = first count ready in
-      let two = second count (ready_later one ready) in
-      let front = λ (nodes more : List Node). front_stays nodes more q (label_of count) in
-      let stays = λ (nodes more : List Node). leads_stay nodes more q (label_of count) in
-      let both =
-      then_marked (λ nodes. FrontCode q nodes (label_of count) otherwise failed k × FrontCode q nodes (label_of count) then_ held k)
-      (λ nodes mark. LeadsBehind q nodes (label_of count) (after_inside mark (form.If condition then_ otherwise)) k)
-      one two (λ nodes more. front nodes more otherwise failed k) (λ mark before after nodes more. stays nodes more _ k before after)
-      (λ nodes f g. (f, g))
-      (λ nodes mark before between after f g earlier now.
-      subst (λ o. LeadsBehind q nodes (label_of count) o k before after) (sym (after_if mark condition then_ otherwise))
-      (first_leads q nodes (label_of count) _ _ k before between after earlier now)) in
-      then_marked _ _ both (lays_marked (λ nodes mark before after. after ≡ before) third (λ nodes l n. refl) (λ nodes c n. refl))
-      (λ nodes more f. (front nodes more otherwise failed k f.0, front nodes more then_ held k f.1)) (λ mark before after nodes more. stays nodes more _ k before after)
-      (λ nodes f test. if_code q nodes (label_of count) tokens condition then_ otherwise n held failed k f.0 f.1 test)
-      (λ nodes mark before between after f test earlier same.
-      form_leads q nodes (label_of count) mark (form.If condition then_ otherwise) k before after (no_mark_if mark condition then_ otherwise)
-      (subst (LeadsBehind q nodes (label_of count) (after_inside mark (form.If condition then_ otherwise)) k before) (sym same) earlier))
+  if_lays tokens condition then_ otherwise n held failed k first second third = record {
+    lays = λ count ready.
+        let one = first.lays count ready in
+        let two = second.lays count (ready_later one ready) in
+        let front = λ (nodes more : List Node). front_stays nodes more q (label_of count) in
+        let stays = λ (nodes more : List Node). leads_stay nodes more q (label_of count) in
+        let both =
+        then_marked (λ nodes. FrontCode q nodes (label_of count) otherwise failed k × FrontCode q nodes (label_of count) then_ held k)
+        (λ nodes mark. LeadsBehind q nodes (label_of count) (after_inside mark (form.If condition then_ otherwise)) k)
+        one two (λ nodes more. front nodes more otherwise failed k) (λ mark before after nodes more. stays nodes more _ k before after)
+        (λ nodes f g. (f, g))
+        (λ nodes mark before between after f g earlier now.
+        subst (λ o. LeadsBehind q nodes (label_of count) o k before after) (sym (after_if mark condition then_ otherwise))
+        (first_leads q nodes (label_of count) _ _ k before between after earlier now)) in
+        then_marked _ _ both (lays_marked (λ nodes mark before after. after ≡ before) third (λ nodes l n. refl) (λ nodes c n. refl))
+        (λ nodes more f. (front nodes more otherwise failed k f.0, front nodes more then_ held k f.1)) (λ mark before after nodes more. stays nodes more _ k before after)
+        (λ nodes f test. if_code q nodes (label_of count) tokens condition then_ otherwise n held failed k f.0 f.1 test)
+        (λ nodes mark before between after f test earlier same.
+        form_leads q nodes (label_of count) mark (form.If condition then_ otherwise) k before after (no_mark_if mark condition then_ otherwise)
+        (subst (LeadsBehind q nodes (label_of count) (after_inside mark (form.If condition then_ otherwise)) k before) (sym same) earlier));
+    keeps = λ most bound are.
+        let inner = if_of (is_within most) condition then_ otherwise bound.1 in
+        third.keeps most bound.0.0.positive (second.keeps most (bound.0.0, inner.0) (first.keeps most (bound.0.0, inner.1) are));
+  }
 
   pub span_lays : {a b c : Builder} (tokens : ℕ) (body : List Statement) (n j k : NodeId) → LaysBlock a b q body j k →
       Lays b c (λ nodes. IsNode nodes n 1 (node.Goto j)) → LaysForm a c q tokens (form.Span body) n k
-  span_lays tokens body n j k first second count ready =
-      then_marked _ _ (first count ready) (lays_marked (λ nodes mark before after. after ≡ before) second (λ nodes l n. refl) (λ nodes c n. refl))
-      (λ nodes more. front_stays nodes more q (label_of count) body j k) (λ mark before after nodes more. leads_stay nodes more q (label_of count) _ k before after)
-      (λ nodes f is. span_code q nodes (label_of count) tokens body n j k f is)
-      (λ nodes mark before between after f is earlier same.
-      form_leads q nodes (label_of count) mark (form.Span body) k before after (no_mark_span mark body)
-      (subst (LeadsBehind q nodes (label_of count) (after_inside mark (form.Span body)) k before) (sym same)
-      (subst (λ o. LeadsBehind q nodes (label_of count) o k before between) (sym (after_span mark body)) earlier)))
+  span_lays tokens body n j k first second = record {
+    lays = λ count ready.
+        then_marked _ _ (first.lays count ready) (lays_marked (λ nodes mark before after. after ≡ before) second (λ nodes l n. refl) (λ nodes c n. refl))
+        (λ nodes more. front_stays nodes more q (label_of count) body j k) (λ mark before after nodes more. leads_stay nodes more q (label_of count) _ k before after)
+        (λ nodes f is. span_code q nodes (label_of count) tokens body n j k f is)
+        (λ nodes mark before between after f is earlier same.
+        form_leads q nodes (label_of count) mark (form.Span body) k before after (no_mark_span mark body)
+        (subst (LeadsBehind q nodes (label_of count) (after_inside mark (form.Span body)) k before) (sym same)
+        (subst (λ o. LeadsBehind q nodes (label_of count) o k before between) (sym (after_span mark body)) earlier)));
+    keeps = λ most bound are. second.keeps most bound.0.0.positive (first.keeps most (bound.0.0, span_of (is_within most) body bound.1) are);
+  }
 
   pub switch_lays : {a b c : Builder} (tokens : ℕ) (value : Expression) (arms : List Arm) (to : List Way) (n otherwise k : NodeId) →
       LaysArms a b q arms to otherwise k →
-      Lays b c (λ all. (j : NodeId) × OperandCode all value 0 n j × IsNode all j (remaining tokens (nodes value)) (node.Switch (operand_of 0 value) to otherwise)) →
+      LaysWithin (Covers tokens) b c (λ all. (j : NodeId) × OperandCode all value 0 n j × IsNode all j (remaining tokens (nodes value)) (node.Switch (operand_of 0 value) to otherwise)) →
       LaysForm a c q tokens (form.Switch value arms) n k
-  switch_lays tokens value arms to n otherwise k first second count ready =
-      then_marked _ _ (first count ready) (lays_marked (λ nodes mark before after. after ≡ before) second (λ nodes l n. refl) (λ nodes c n. refl))
-      (λ nodes more f. (ways_stay nodes more q (label_of count) arms to k f.0, otherwise_stays nodes more q (label_of count) arms otherwise k f.1))
-      (λ mark before after nodes more. leads_stay nodes more q (label_of count) _ k before after)
-      (λ all f s. switch_code q all (label_of count) tokens value arms to n s.0 otherwise k f.0 f.1 s.2 s.1)
-      (λ nodes mark before between after f s earlier same.
-      form_leads q nodes (label_of count) mark (form.Switch value arms) k before after (no_mark_switch mark value arms)
-      (subst (LeadsBehind q nodes (label_of count) (after_inside mark (form.Switch value arms)) k before) (sym same)
-      (subst (λ o. LeadsBehind q nodes (label_of count) o k before between) (sym (after_switch mark value arms)) earlier)))
+  switch_lays tokens value arms to n otherwise k first second = record {
+    lays = λ count ready.
+        then_marked _ _ (first.lays count ready) (lays_marked (λ nodes mark before after. after ≡ before) second (λ nodes l n. refl) (λ nodes c n. refl))
+        (λ nodes more f. (ways_stay nodes more q (label_of count) arms to k f.0, otherwise_stays nodes more q (label_of count) arms otherwise k f.1))
+        (λ mark before after nodes more. leads_stay nodes more q (label_of count) _ k before after)
+        (λ all f s. switch_code q all (label_of count) tokens value arms to n s.0 otherwise k f.0 f.1 s.2 s.1)
+        (λ nodes mark before between after f s earlier same.
+        form_leads q nodes (label_of count) mark (form.Switch value arms) k before after (no_mark_switch mark value arms)
+        (subst (LeadsBehind q nodes (label_of count) (after_inside mark (form.Switch value arms)) k before) (sym same)
+        (subst (λ o. LeadsBehind q nodes (label_of count) o k before between) (sym (after_switch mark value arms)) earlier)));
+    keeps = λ most bound are.
+        second.keeps most (bound.0.0.positive, bound.0.1) (first.keeps most (bound.0.0, switch_of (is_within most) value arms bound.1) are);
+  }
 
   -- a statement without blocks has no label and no continuation
   simple_label : (form : Form) (l : ℕ) → is_simple form ≡ true → (is_mark (AtLabel l) form ≡ false) × (after_inside (AtLabel l) form ≡ None)
@@ -166,38 +185,53 @@ module _ (q : Proc) where
       form_leads q nodes label_node mark form k n n other (subst (λ o. LeadsBehind q nodes label_node o k n n) (sym none) refl)
 
   pub simple_lays : {a b : Builder} (tokens : ℕ) (form : Form) (n k : NodeId) → is_simple form ≡ true →
-      Lays a b (λ nodes. (label_node : ℕ → NodeId) → FormCode q nodes label_node tokens form n k) → LaysForm a b q tokens form n k
-  simple_lays {b = b} tokens form n k is l count ready =
-      lays_marked (λ nodes. LeadsBehindForm q nodes (label_of count) form k)
-      (record { extends = l.extends; labels = l.labels; continuations = l.continuations; code = λ front many. l.code front many (label_of count) })
-      (λ nodes i m. let none = simple_label form i is in kept nodes (label_of count) (AtLabel i) form k m none.0 none.1)
-      (λ nodes i m. let none = simple_continuation form i is in kept nodes (label_of count) (AtContinuation i) form k m none.0 none.1)
+      LaysWithin (CoversBoth q tokens) a b (λ nodes. (label_node : ℕ → NodeId) → FormCode q nodes label_node tokens form n k) → LaysForm a b q tokens form n k
+  simple_lays tokens form n k is l = record {
+    lays = λ count ready.
+        lays_marked (λ nodes. LeadsBehindForm q nodes (label_of count) form k)
+        (lays_other (λ nodes. FormCode q nodes (label_of count) tokens form n k) l (λ nodes code. code (label_of count)))
+        (λ nodes i m. let none = simple_label form i is in kept nodes (label_of count) (AtLabel i) form k m none.0 none.1)
+        (λ nodes i m. let none = simple_continuation form i is in kept nodes (label_of count) (AtContinuation i) form k m none.0 none.1);
+    keeps = λ most bound are. l.keeps most bound.0 are;
+  }
 
   pub empty_lays : {a b : Builder} (tokens : ℕ) (n k : NodeId) → Lays a b (λ nodes. IsNode nodes n 1 (node.Goto k)) → LaysForm a b q tokens form.Empty n k
-  empty_lays tokens n k l count ready =
-      lays_marked (λ nodes. LeadsBehindForm q nodes (label_of count) form.Empty k) l (λ nodes i m. refl) (λ nodes i m. refl)
+  empty_lays tokens n k l = record {
+    lays = λ count ready.
+        lays_marked (λ nodes. LeadsBehindForm q nodes (label_of count) form.Empty k) l (λ nodes i m. refl) (λ nodes i m. refl);
+    keeps = λ most bound are. l.keeps most bound.0.0.positive are;
+  }
 
   pub goto_lays : (a : Builder) (tokens l : ℕ) (n k : NodeId) → n ≡ label_of (length a.labels) l → LaysForm a a q tokens (form.Goto l) n k
-  goto_lays a tokens l n k same count ready =
-      lays_marked (λ nodes. LeadsBehindForm q nodes (label_of count) (form.Goto l) k)
-      (lays_nothing a (λ nodes. n ≡ label_of count l) (λ nodes. same ∙ ap (λ c. label_of c l) ready.labels)) (λ nodes i m. refl) (λ nodes i m. refl)
+  goto_lays a tokens l n k same = record {
+    lays = λ count ready.
+        lays_marked (λ nodes. LeadsBehindForm q nodes (label_of count) (form.Goto l) k)
+        (lays_nothing {T = λ most. 1 ≤ most} a (λ nodes. n ≡ label_of count l) (λ nodes. same ∙ ap (λ c. label_of c l) ready.labels)) (λ nodes i m. refl) (λ nodes i m. refl);
+    keeps = λ most bound are. are;
+  }
 
   pub label_lays : {a b c : Builder} (tokens l : ℕ) (n k : NodeId) → LaysMarked a b (λ nodes. Unit {0}) (λ nodes. SetsMark (form.Label l) k) →
-      Lays b c (λ nodes. IsNode nodes n 1 (node.Goto k)) → LaysForm a c q tokens (form.Label l) n k
-  label_lays tokens l n k first second count ready =
-      then_marked _ _ first (lays_marked (λ nodes mark before after. after ≡ before) second (λ nodes i m. refl) (λ nodes i m. refl))
-      (λ nodes more f. tt) (λ mark before after nodes more is. is) (λ nodes f is. is)
-      (λ nodes mark before between after f is set same. subst (SetsMark (form.Label l) k mark before) (sym same) set)
+      b.nodes ≡ a.nodes → Lays b c (λ nodes. IsNode nodes n 1 (node.Goto k)) → LaysForm a c q tokens (form.Label l) n k
+  label_lays tokens l n k first same second = record {
+    lays = λ count ready.
+        then_marked _ _ first (lays_marked (λ nodes mark before after. after ≡ before) second (λ nodes i m. refl) (λ nodes i m. refl))
+        (λ nodes more f. tt) (λ mark before after nodes more is. is) (λ nodes f is. is)
+        (λ nodes mark before between after f is set same. subst (SetsMark (form.Label l) k mark before) (sym same) set);
+    keeps = λ most bound are. second.keeps most bound.0.0.positive (subst (AreWithin most) (sym same) are);
+  }
 
   -- where control reaches a continuation from above it has come to the end of the run
   pub continuation_lays : {a b : Builder} (tokens c : ℕ) (k : NodeId) → LaysMarked a b (λ nodes. Unit {0}) (λ nodes. SetsMark (form.Continuation c) k) →
-      LaysForm a b q tokens (form.Continuation c) b.stop k
-  continuation_lays {b = b} tokens c k first count ready =
-      let later = ready_later first ready in
-      record {
-        extends = first.extends;
-        labels = first.labels;
-        continuations = first.continuations;
-        code = λ front many. get_behind front b.nodes 0 b.stop.number (omega (arith, many)) ∙ later.stop;
-        marks = first.marks;
-      }
+      b.nodes ≡ a.nodes → LaysForm a b q tokens (form.Continuation c) b.stop k
+  continuation_lays {b = b} tokens c k first same = record {
+    lays = λ count ready.
+        let later = ready_later first ready in
+        record {
+          extends = first.extends;
+          labels = first.labels;
+          continuations = first.continuations;
+          code = λ front many. get_behind front b.nodes 0 b.stop.number (omega (arith, many)) ∙ later.stop;
+          marks = first.marks;
+        };
+    keeps = λ most bound are. subst (AreWithin most) (sym same) are;
+  }

@@ -47,10 +47,12 @@ pub mod LivenessSets
 pub mod FormsStay
 pub mod Marking
 pub mod Blocks
+pub mod Covering
 pub mod LayingBlocks
 pub mod Lacking
 pub mod Numbering
 pub mod Whole
+pub mod RangesCovering
 mod FlowRows
 mod CallRows
 mod LivenessRows

@@ -138,7 +138,6 @@ flow = record {
   begun = record { formals = []; next = n 1; node = refl; code = whole };
   labels = λ l. record { next = n 8; node = refl; code = refl };
   continuations = landing_is;
-  tokens = refl;
 }
 
 call_has_site : AreExitsOf f graph (site_id 0) exits

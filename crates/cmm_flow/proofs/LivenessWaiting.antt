@@ -93,7 +93,7 @@ module _ (site : ℕ) where
         ∙ ap₂ (λ b c. b || c) (found_in body) (found_in_arms rest) ∙ two_numbers site (within_block body) (within_arms rest)
 
 -- numbers that stand once each are there
-each_tested : (test : ℕ → Bool) (from count n : ℕ) → list_all test (range_with_len from count) ≡ true → from ≤ n → n < from + count → test n ≡ true
+pub each_tested : (test : ℕ → Bool) (from count n : ℕ) → list_all test (range_with_len from count) ≡ true → from ≤ n → n < from + count → test n ≡ true
 each_tested test from zero n all low high = absurd (omega (arith, low, high))
 each_tested test from (suc count) n all low high =
     let both = and_parts (test from) (list_all test (range_with_len (from + 1) count)) all in
@@ -103,7 +103,7 @@ each_tested test from (suc count) n all low high =
     by here later (inl same) = subst (λ n. test n ≡ true) same here
     by here later (inr other) = later (omega (arith, low, other))
 
-counted_among : (site : ℕ) (ns : List ℕ) → 1 ≤ length (filter (λ m. m == site) ns) → is_among site ns ≡ true
+pub counted_among : (site : ℕ) (ns : List ℕ) → 1 ≤ length (filter (λ m. m == site) ns) → is_among site ns ≡ true
 counted_among site [] some = absurd (omega (arith, some))
 counted_among site (n ∷ ns) some = by (counted_among site ns) (n == site) refl some
   where

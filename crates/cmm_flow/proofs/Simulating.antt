@@ -34,7 +34,7 @@ use Rattle.cmm_graph.specs.Acting.{act_of as node_act}
 use Rattle.cmm_graph.specs.GraphControl.{Position, graph_control, keeping}
 use Rattle.cmm_graph.specs.GraphMachine.{tokens_at}
 use Rattle.cmm_graph.specs.Paths.{node_of}
-use Rattle.cmm_flow.specs.Flow.{IsFlowOf}
+use Rattle.cmm_flow.specs.Flow.{HasTokens}
 use Rattle.cmm_flow.specs.Laws.{AreFlows}
 use Rattle.cmm_flow.specs.Relation.{AreCounted, AreGoing, AreRelated, AreWaiting, HasFlow, Related, StandsFor, longest}
 use Rattle.cmm_flow.proofs.Arriving.{counted_in, instead_related, kind_there, landed_by, stands_at, zipped_back}
@@ -102,8 +102,8 @@ module _ (r : Run) (flows : AreFlows r.setting r.graphs) where
           elim o as (λ _. ℕ) [ Some node ↦ node.tokens | None ↦ 0 ] ≤ longest s.program
       by_node g q is_graph n None is = omega arith
       by_node g q is_graph n (Some node) is =
-          let found = zipped_back IsFlowOf s.program.procs r.graphs q g flows.flows is_graph in
-          let holds = list_all_get (λ (node : Node). nat_le node.tokens found.0.tokens) g.nodes n.number node found.2.tokens is in
+          let found = zipped_back HasTokens s.program.procs r.graphs q g flows.tokens is_graph in
+          let holds = list_all_get (λ (node : Node). nat_le node.tokens found.0.tokens) g.nodes n.number node found.2 is in
           let most : node.tokens ≤ found.0.tokens = grind (arith, nat_tests, holds) in
           omega (arith, most, longest_is s.program.procs q found.0 found.1)
 

@@ -1,11 +1,11 @@
 -- What is laid for a body, with the nodes of labels and continuations in front, is the flow of its procedure.
-use Rattle.std.proofs.Common.{◌≡◌, ℕ, zero, suc, ◌+◌, ◌<◌, ◌≤◌, min, nat_lt, nat_le, Bool, true, false, IsTrue, Option, Some, None, List, [], ◌∷◌, ◌++◌, append-nil, append_assoc, get_or, length, map, replicate, slice_get, refl, sym, ap, ◌∙◌, subst, arith}
+use Rattle.std.proofs.Common.{◌≡◌, ℕ, zero, suc, ◌+◌, ◌<◌, ◌≤◌, min, nat_lt, Bool, true, false, Some, None, List, [], ◌∷◌, ◌++◌, append-nil, get_or, length, map, replicate, slice_get, refl, sym, ap, ◌∙◌, subst, arith}
 use Rattle.std.proofs.lemmas.Bool.Decides.{nat_tests}
 use Rattle.std.proofs.lemmas.List.{get_or-map, get_or-replicate, length-append, length-map, length-replicate}
 use Rattle.std.proofs.lemmas.List.FromFn.{get_or-range_with_len, length-range_with_len}
 use Rattle.std.proofs.lemmas.Option.{slice_get-get_or, slice_get-map, slice_get_within}
 use Rattle.std.proofs.lemmas.Slice.Zip.{length-zip}
-use Rattle.std.specs.List.{list_all, range_with_len, zip}
+use Rattle.std.specs.List.{range_with_len, zip}
 use Rattle.std.specs.Option.{option_map}
 use Rattle.cmm_program.specs.declared.procedure.Cont.{Cont}
 use Rattle.cmm_program.specs.declared.procedure.Proc.{Proc}
@@ -15,22 +15,22 @@ use Rattle.cmm_program.specs.Errors.{with_some}
 use Rattle.cmm_program.specs.Bodies.{Mark, AtContinuation, AtLabel, after_inside, follow}
 use Rattle.cmm_graph.specs.declared.graph.Graph.{Graph}
 use Rattle.cmm_graph.specs.declared.node.Node.{Node}
-use Rattle.cmm_graph.specs.declared.node.NodeKind.TheVariants.{CopyIn, Entry, Goto, Stop}
+use Rattle.cmm_graph.specs.declared.node.NodeKind.TheVariants.{Entry, Goto, Stop}
 use Rattle.cmm_graph.specs.declared.number.NodeId.{NodeId}
 use Rattle.cmm_graph.specs.declared.number.Variable.{Variable}
 use Rattle.cmm_graph.specs.Counterpart.{formals_of, parameter_targets, taken_at, taken_by}
 use Rattle.cmm_flow.specs.declared.builder.Builder.{Builder}
 use Rattle.cmm_flow.specs.Code.{IsNode}
-use Rattle.cmm_flow.specs.Flow.{IsBegun, IsBehindLabel, IsFlow, IsFlowOf, IsLandedAt}
+use Rattle.cmm_flow.specs.Flow.{CoversParts, HasTokens, IsBehindLabel, IsFlow, IsFlowOf, IsLandedAt}
 use Rattle.cmm_flow.specs.Statements.{ListCode}
 use Rattle.cmm_flow.specs.inside.Fronts.{IsFinished, IsNew, copy_in, copy_ins, goto_nodes}
-use Rattle.cmm_flow.specs.inside.Laying.{IsReady, Lays, LaysMarked, label_of}
-use Rattle.cmm_flow.specs.inside.LayingBlocks.{LaysBlock}
+use Rattle.cmm_flow.specs.inside.Laying.{AreWithin, IsReady, LaysMarked, LaysWithin, label_of}
+use Rattle.cmm_flow.specs.inside.LayingBlocks.{LaysBlock, is_within}
 use Rattle.cmm_flow.specs.inside.Marks.{FrontCode, LeadsBehind, LeadsBehindList, after_list}
 use Rattle.cmm_flow.proofs.Blocks.{after_span}
+use Rattle.cmm_flow.proofs.Covering.{copies_within, gotos_within, span_of}
 use Rattle.cmm_flow.proofs.FormsStay.{front_stays, leads_stay}
-use Rattle.cmm_flow.proofs.Laying.{get_before}
-use Rattle.cmm_flow.proofs.LayingBlocks.{get_behind}
+use Rattle.cmm_flow.proofs.Laying.{both_within, get_before, get_behind}
 use Rattle.cmm_flow.proofs.Marking.{lays_marked, ready_later, then_marked}
 use Rattle.cmm_flow.proofs.Marks.{follow_leads, front_list}
 
@@ -78,7 +78,7 @@ get_numbered ns first count k are less =
 
 module _ (q : Proc) (labels : ℕ) (a b c : Builder) (g : Graph) (formals : List Variable) (next begin : NodeId)
     (new : IsNew labels (length q.conts) a) (lacked : (l : ℕ) → labels ≤ l → after_list (AtLabel l) q.body ≡ None)
-    (laid : LaysBlock a b q q.body next a.stop) (entry : Lays b c (λ nodes. IsNode nodes begin q.tokens (Entry formals next)))
+    (laid : LaysBlock a b q q.body next a.stop) (entry : LaysWithin (λ most. q.tokens ≤ most) b c (λ nodes. IsNode nodes begin q.tokens (Entry formals next)))
     (finished : IsFinished c q begin g) where
   ready : IsReady labels a
   ready = record { labels = ap length new.labels_lead ∙ length-replicate labels a.stop; stop = ap (λ nodes. slice_get nodes 0) new.nodes }
@@ -89,7 +89,7 @@ module _ (q : Proc) (labels : ℕ) (a b c : Builder) (g : Graph) (formals : List
   whole : LaysMarked a c (λ nodes. FrontCode q nodes node_of_label q.body next a.stop × IsNode nodes begin q.tokens (Entry formals next))
       (λ nodes. LeadsBehindList q nodes node_of_label q.body a.stop)
   whole =
-      then_marked _ _ (laid labels ready) (lays_marked (λ nodes mark before after. after ≡ before) entry (λ nodes l n. refl) (λ nodes k n. refl))
+      then_marked _ _ (laid.lays labels ready) (lays_marked (λ nodes mark before after. after ≡ before) entry (λ nodes l n. refl) (λ nodes k n. refl))
       (λ nodes more. front_stays nodes more q node_of_label q.body next a.stop)
       (λ mark before after nodes more. leads_stay nodes more q node_of_label (after_list mark q.body) a.stop before after) (λ nodes f e. (f, e))
       (λ nodes mark before between after f e earlier same. subst (LeadsBehindList q nodes node_of_label q.body a.stop mark before) (sym same) earlier)
@@ -246,8 +246,8 @@ module _ (q : Proc) (labels : ℕ) (a b c : Builder) (g : Graph) (formals : List
   entry_there =
       ap (λ nodes. slice_get nodes g.first.number) finished.nodes ∙ ap (λ (n : NodeId). slice_get all n.number) finished.first ∙ (whole.code front front_many).1
 
-  is_flow : IsTrue (list_all (λ node. nat_le node.tokens q.tokens) g.nodes) → IsFlowOf q g
-  is_flow tokens = record {
+  is_flow : IsFlowOf q g
+  is_flow = record {
     label_node = node_of_label;
     begun = record {
       formals = formals;
@@ -257,12 +257,25 @@ module _ (q : Proc) (labels : ℕ) (a b c : Builder) (g : Graph) (formals : List
     };
     labels = label;
     continuations = continuation;
-    tokens = tokens;
   }
+
+  -- ---- tokens
+
+  gives_tokens : CoversParts q → HasTokens q g
+  gives_tokens covers =
+      let most = q.tokens in
+      let positive = covers.sites.positive in
+      let first : AreWithin most a.nodes = subst (AreWithin most) (sym new.nodes) (grind (arith, nat_tests, positive)) in
+      let body = laid.keeps most (covers.sites, span_of (is_within most) q.body covers.statements) first in
+      let behind = entry.keeps most (omega arith) body in
+      let marks = both_within most (goto_nodes c.labels) (goto_nodes (c.stop ∷ [])) (gotos_within most c.labels positive) (gotos_within most (c.stop ∷ []) positive) in
+      let front = both_within most gotos (copy_ins q c.continuations) marks (copies_within q most q.conts c.continuations covers.parameters) in
+      of_graph (AreWithin most) (both_within most _ c.nodes front behind)
 
   pub is_answered : map (λ (v : Variable). v.number) formals ≡ range_with_len 0 q.formals → IsFlow q g
   is_answered numbers = record {
     flow = is_flow;
+    tokens = gives_tokens;
     variables = finished.variables;
     formals = ap (λ o. with_some o (λ node. formals_of node.kind)) entry_there ∙ ap Some numbers;
     continuations =

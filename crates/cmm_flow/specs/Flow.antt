@@ -1,10 +1,10 @@
 -- When a graph is the flow of a procedure: its nodes are the code of the body, and of what follows each label and each
 -- continuation.
-use Rattle.std.specs.Prelude.{◌≡◌, ℕ, ◌+◌, ◌*◌, ◌<◌, ◌≤◌, nat_le, IsTrue, List, length, map, Some}
+use Rattle.std.specs.Prelude.{◌≡◌, ℕ, ◌+◌, ◌*◌, ◌<◌, ◌≤◌, nat_le, nat_lt, IsTrue, List, length, map, Some}
 use Rattle.std.specs.List.{list_all, range_with_len}
 use Rattle.cmm_program.specs.declared.procedure.Proc.{Proc}
 use Rattle.cmm_program.specs.declared.procedure.Target.{Target}
-use Rattle.cmm_program.specs.Bodies.{AtLabel, AtContinuation, follow}
+use Rattle.cmm_program.specs.Bodies.{AtLabel, AtContinuation, body_statements, follow}
 use Rattle.cmm_program.specs.Errors.{with_some}
 use Rattle.cmm_graph.specs.declared.number.NodeId.{NodeId}
 use Rattle.cmm_graph.specs.declared.number.Variable.{Variable}
@@ -44,13 +44,28 @@ pub record IsFlowOf (q : Proc) (g : Graph) : Type 0 where
   pub begun : IsBegun q g label_node
   pub labels : (l : ℕ) → IsBehindLabel q g label_node l
   pub continuations : (k : ℕ) → k < length q.conts → IsLandedAt q g label_node k
-  -- no node has more tokens than the procedure
-  pub tokens : IsTrue (list_all (λ node. nat_le node.tokens q.tokens) g.nodes)
 
--- What `flow` answers: the flow of the procedure, where no node has more tokens than that. The graph has the variables of the procedure,
--- its Entry takes the arguments to the formals, and the CopyIn of each continuation takes the parameters.
+-- no node has more tokens than the procedure
+abbrev pub HasTokens : Proc → Graph → Type 0
+HasTokens q g = IsTrue (list_all (λ node. nat_le node.tokens q.tokens) g.nodes)
+
+-- so many tokens are as many as those of the CopyIn of each site, which has one, and one for each result
+pub record CoversSites (q : Proc) (most : ℕ) : Type 0 where
+  pub positive : 1 ≤ most
+  pub results : IsTrue (list_all (λ site. nat_lt (length site.results) most) q.sites)
+
+-- A procedure has tokens for each of its parts: no statement has more, and no CopyIn of a site or of a continuation.
+pub record CoversParts (q : Proc) : Type 0 where
+  pub sites : CoversSites q q.tokens
+  pub statements : IsTrue (list_all (λ s. nat_le s.tokens q.tokens) (body_statements q))
+  pub parameters : IsTrue (list_all (λ c. nat_lt (length c.params) q.tokens) q.conts)
+
+-- What `flow` answers: the flow of the procedure, where no node has more tokens than the procedure if that has tokens for its
+-- parts. The graph has the variables of the procedure, its Entry takes the arguments to the formals, and the CopyIn of each
+-- continuation takes the parameters.
 pub record IsFlow (q : Proc) (g : Graph) : Type 0 where
-  pub flow : IsTrue (list_all (λ node. nat_le node.tokens q.tokens) g.nodes) → IsFlowOf q g
+  pub flow : IsFlowOf q g
+  pub tokens : CoversParts q → HasTokens q g
   pub variables : g.variables ≡ length q.vars
   pub formals : with_some (node_of g g.first) (λ node. formals_of node.kind) ≡ Some (range_with_len 0 q.formals)
   pub continuations : map (taken_at g) g.continuations ≡ map (λ c. Some (parameter_targets q c)) q.conts

@@ -13,13 +13,14 @@ use Rattle.cmm_laws.specs.Observed.{machine_of}
 use Rattle.cmm_graph.specs.declared.graph.Graph.{Graph}
 use Rattle.cmm_graph.specs.GraphControl.{graph_control}
 use Rattle.cmm_graph.specs.GraphMachine.{graph_start, tokens_of_youngest}
-use Rattle.cmm_flow.specs.Flow.{IsFlowOf}
+use Rattle.cmm_flow.specs.Flow.{HasTokens, IsFlow, IsFlowOf}
 use Rattle.cmm_flow.specs.Relation.{IsProgramCounted, Related, longest}
 
--- a program whose statements are counted, and the flow of each of its procedures
+-- a program whose statements are counted, and the flow of each of its procedures, where no node has more tokens than the procedure
 pub record AreFlows (s : Setting) (graphs : List Graph) : Type 0 where
   pub counted : IsProgramCounted s.program
   pub flows : AllZip IsFlowOf s.program.procs graphs
+  pub tokens : AllZip HasTokens s.program.procs graphs
 
 -- a step of the C-- machine is a path over the graphs
 abbrev pub FlowSimulates : Type 0
@@ -42,3 +43,7 @@ FlowAgrees = (s : Setting) (graphs : List Graph) (input : List ℕ) → AreFlows
 -- the statements of a program in range are counted
 abbrev pub RangeIsCounted : Type 0
 RangeIsCounted = (p : Program) → IsInRange p → IsProgramCounted p
+
+-- and what `flow` answers for each of its procedures are its flows
+abbrev pub AnswersAreFlows : Type 0
+AnswersAreFlows = (s : Setting) (graphs : List Graph) → IsInRange s.program → AllZip IsFlow s.program.procs graphs → AreFlows s graphs

@@ -23,13 +23,17 @@ use Rattle.cmm_flow.specs.Statements.{ListCode, NormalCode}
 abbrev pub is_counted : Proc → Statement → Bool
 is_counted q statement = nat_le (own_tokens q statement.form) statement.tokens && nat_le statement.tokens q.tokens
 
--- and so have those inside it
-abbrev pub IsCounted : Proc → Statement → Type 0
-IsCounted q statement = IsTrue (is_counted q statement) × IsTrue (list_all (is_counted q) (within statement.form))
+-- a test holds of a statement and of those inside it
+abbrev pub IsAll : (Statement → Bool) → Statement → Type 0
+IsAll test statement = IsTrue (test statement) × IsTrue (list_all test (within statement.form))
 
+abbrev pub AreAll : (Statement → Bool) → List Statement → Type 0
+AreAll test [] = Unit {0}
+AreAll test (statement ∷ rest) = IsAll test statement × AreAll test rest
+
+-- statements are counted, and so are those inside them
 abbrev pub AreCounted : Proc → List Statement → Type 0
-AreCounted q [] = Unit {0}
-AreCounted q (statement ∷ rest) = IsCounted q statement × AreCounted q rest
+AreCounted q = AreAll (is_counted q)
 
 -- the statements of each procedure are counted
 abbrev pub IsProgramCounted : Program → Type 0

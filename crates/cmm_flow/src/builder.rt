@@ -4,10 +4,10 @@
 //! led to before it is known where they lead, those of labels and of continuations, have the first numbers and are
 //! made last.
 
-ghost use Rattle.std.specs.Prelude.{◌≡◌, suc, ◌+◌, ◌<◌, [], ◌∷◌, IfOk, OnOk, length, min};
+ghost use Rattle.std.specs.Prelude.{◌≡◌, suc, ◌+◌, ◌<◌, ◌≤◌, [], ◌∷◌, IfOk, OnOk, length, min};
 ghost use Rattle.cmm_graph.specs.declared.node.NodeKind.TheVariants.{Stop};
 ghost use Rattle.cmm_flow.specs.Code.{IsNode, to_temporary};
-ghost use Rattle.cmm_flow.specs.inside.Laying.{Lays, LaysMarked, SetsMark};
+ghost use Rattle.cmm_flow.specs.inside.Laying.{Lays, LaysMarked, LaysWithin, SetsMark};
 ghost use Rattle.cmm_program.specs.declared.statement.Form.TheVariants.{Label, Continuation};
 
 use cmm_graph::{Destination, Node, NodeId, NodeKind, Temporary};
@@ -64,7 +64,7 @@ fn sum(a: u32, b: u32) -> Result<u32, AllocError>
 impl Builder {
     /// Adds a node, and answers its number.
     pub fn push(&mut self, tokens: u32, kind: NodeKind) -> Result<NodeId, AllocError>
-        ensures { IfOk result (λ n. Lays self.old self.new (λ nodes. IsNode nodes n tokens kind)) }
+        ensures { IfOk result (λ n. LaysWithin (λ most. tokens ≤ most) self.old self.new (λ nodes. IsNode nodes n tokens kind)) }
     {
         let number = sum(self.stop.number, as_number(self.nodes.len())?)?;
         self.nodes.push(Node { tokens, kind })?;
@@ -95,7 +95,8 @@ impl Builder {
 
     /// Notes that a label leads to a node. One that the body lacks is left out.
     pub fn mark_label(&mut self, label: u32, to: NodeId)
-        ensures { LaysMarked self.old self.new (λ nodes. Unit {0}) (λ nodes. SetsMark (Label label) to) }
+        ensures marks { LaysMarked self.old self.new (λ nodes. Unit {0}) (λ nodes. SetsMark (Label label) to) }
+        ensures nodes { self.new.nodes ≡ self.old.nodes }
     {
         if (label as usize) < self.labels.len() {
             self.labels.set(label as usize, to);
@@ -104,7 +105,8 @@ impl Builder {
 
     /// Notes that a continuation leads to a node.
     pub fn mark_continuation(&mut self, continuation: u32, to: NodeId)
-        ensures { LaysMarked self.old self.new (λ nodes. Unit {0}) (λ nodes. SetsMark (Continuation continuation) to) }
+        ensures marks { LaysMarked self.old self.new (λ nodes. Unit {0}) (λ nodes. SetsMark (Continuation continuation) to) }
+        ensures nodes { self.new.nodes ≡ self.old.nodes }
     {
         if (continuation as usize) < self.continuations.len() {
             self.continuations.set(continuation as usize, to);

@@ -1,6 +1,6 @@
 //! Counts of nodes and of tokens.
 
-ghost use Rattle.std.specs.Prelude.{◌≡◌, ◌+◌, ℕ, slice_get};
+ghost use Rattle.std.specs.Prelude.{◌≡◌, ◌+◌, ◌≤◌, ℕ, max, slice_get};
 ghost use Rattle.cmm_flow.specs.Operands.{nodes, nodes_of_all as nodes_of_list};
 ghost use Rattle.cmm_flow.specs.Statements.{normal_tokens as normal_tokens_of, remaining as remaining_of};
 ghost use Rattle.cmm_flow.specs.inside.Counts.{capped};
@@ -47,7 +47,8 @@ pub fn sum(a: u32, b: u32) -> u32
 
 /// The tokens that the other nodes of a statement leave, and one at least.
 pub fn remaining(tokens: u32, used: u32) -> u32
-    ensures { (n : ℕ) → used ≡ capped n → result ≡ remaining_of tokens n }
+    ensures left { (n : ℕ) → used ≡ capped n → result ≡ remaining_of tokens n }
+    ensures within { result ≤ max 1 tokens }
 {
     tokens.saturating_sub(used).max(1)
 }

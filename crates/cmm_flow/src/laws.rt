@@ -1,6 +1,6 @@
 //! The laws that join the C-- machine and the machine over graphs. Each is the contract of a function that does nothing.
 
-ghost use Rattle.cmm_flow.specs.Laws.{FlowAgrees, FlowFollows, FlowSimulates, RangeIsCounted};
+ghost use Rattle.cmm_flow.specs.Laws.{AnswersAreFlows, FlowAgrees, FlowFollows, FlowSimulates, RangeIsCounted};
 ghost use Rattle.cmm_flow.specs.Liveness.{CodeKeepsLiveness, SetsAreOfProcedure, SitesHaveNodes, SitesKeepLiveness};
 
 use cmm_program::laws::liveness_is_by_paths;
@@ -19,6 +19,12 @@ pub fn flows_do_what_programs_do()
 #[tactic(auto, using(crate::proofs::Ranges::range_is_counted))]
 pub fn programs_in_range_are_counted()
     ensures { RangeIsCounted }
+{}
+
+/// What `flow` answers for each procedure of a program in range are the flows of the program, of which the laws speak.
+#[tactic(auto, using(crate::proofs::RangesCovering::answers_are_flows))]
+pub fn answers_are_flows()
+    ensures { AnswersAreFlows }
 {}
 
 /// What is live in a procedure is live in its flow: some path from statements of the procedure reads a variable before it is written just where

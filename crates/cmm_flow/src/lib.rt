@@ -35,4 +35,4 @@ mod procedure;
 mod simple;
 mod sites;
 
-pub use procedure::flow;
+pub use procedure::{flow, flows};

@@ -5,17 +5,20 @@
 //! follows, and then what is laid.
 
 ghost use Rattle.std.specs.Prelude.{◌≡◌, ◌++◌, IfOk, OnOk, map, replicate};
-ghost use Rattle.std.specs.List.{range_with_len};
+ghost use Rattle.std.specs.List.{AllZip, range_with_len};
 ghost use Rattle.cmm_program.specs.Exits.{variable_width as width_of_variable};
 ghost use Rattle.cmm_program.specs.declared.procedure.Target.TheVariants.{Variable as OfVariable};
+ghost use Rattle.cmm_program.specs.InRange.{IsInRange};
+ghost use Rattle.cmm_program.specs.State.{Setting};
 ghost use Rattle.cmm_flow.specs.Flow.{IsFlow};
+ghost use Rattle.cmm_flow.specs.Laws.{AreFlows};
 ghost use Rattle.cmm_flow.specs.inside.Fronts.{IsFinished, IsNew, copy_in, copy_ins, goto_nodes};
 
 use crate::builder::{Builder, as_number, following};
 use crate::labels::labels_in;
 use cmm_graph::{Graph, Node, NodeId, NodeKind, Variable};
 use cmm_items::Items;
-use cmm_program::{Cont, Proc, Target};
+use cmm_program::{Cont, Proc, Program, Target};
 use cmm_words::Width;
 use std::alloc::{AllocError, Global};
 
@@ -170,7 +173,7 @@ impl Builder {
     }
 }
 
-/// The graph of a procedure. Its only error is want of memory.
+/// The graph of a procedure. Its only error is want of memory, as which count 2^32 nodes, and a label with the number 2^32 - 1.
 pub fn flow(alloc: Global, p: &Proc) -> Result<Graph, AllocError>
     ensures { IfOk result (λ g. IsFlow p.now g) }
 {
@@ -181,4 +184,17 @@ pub fn flow(alloc: Global, p: &Proc) -> Result<Graph, AllocError>
     let formals = formals(alloc, p.formals)?;
     let first = builder.push(p.tokens, NodeKind::Entry { formals, next })?;
     builder.finish(p, first)
+}
+
+/// The graph of each procedure of a program, in their order. Its only error is want of memory.
+pub fn flows(alloc: Global, program: &Program) -> Result<Items<Graph>, AllocError>
+    ensures each { IfOk result (λ graphs. AllZip IsFlow program.now.procs graphs) }
+    ensures are_flows { IfOk result (λ graphs. (s : Setting) → s.program ≡ program.now → IsInRange program.now → AreFlows s graphs) }
+{
+    let procs = program.procs.as_slice();
+    let mut graphs = Items::new(alloc);
+    for q in procs {
+        graphs.push(flow(alloc, q)?)?;
+    }
+    Ok(graphs)
 }

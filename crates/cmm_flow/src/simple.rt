@@ -5,7 +5,7 @@ ghost use Rattle.cmm_graph.specs.declared.node.HostCall.TheVariants.{PutByte, Ge
 ghost use Rattle.cmm_graph.specs.declared.number.NodeId.{NodeId as NodeNumber};
 ghost use Rattle.cmm_flow.specs.Statements.{FormCode};
 ghost use Rattle.cmm_flow.specs.inside.Blocks.{PutCode, is_simple};
-ghost use Rattle.cmm_flow.specs.inside.Laying.{Lays};
+ghost use Rattle.cmm_flow.specs.inside.Laying.{CoversBoth, Lays, LaysWithin};
 
 use crate::builder::Builder;
 use crate::expression::operand_of;
@@ -32,7 +32,7 @@ impl Builder {
         next: NodeId,
     ) -> Result<NodeId, AllocError>
         requires { is_simple form.now ≡ true }
-        ensures { IfOk result (λ n. Lays self.old self.new (λ nodes. (label_node : ℕ → NodeNumber) → FormCode q.now nodes label_node tokens form.now n next)) }
+        ensures { IfOk result (λ n. LaysWithin (CoversBoth q.now tokens) self.old self.new (λ nodes. (label_node : ℕ → NodeNumber) → FormCode q.now nodes label_node tokens form.now n next)) }
     {
         match form {
             Form::Assign { to, values } => self.assign(to.as_slice(), values.as_slice(), next),

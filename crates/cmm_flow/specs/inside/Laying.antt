@@ -1,12 +1,15 @@
 -- What a builder lays: nodes behind those that it has, which are the code of something wherever those of labels and
 -- continuations, which stand in front of all, lead.
-use Rattle.std.specs.Prelude.{◌≡◌, ℕ, ◌++◌, true, false, List, length, min, slice_get, Some}
+use Rattle.std.specs.Prelude.{◌≡◌, ℕ, ◌++◌, ◌≤◌, nat_le, true, false, IsTrue, List, length, min, slice_get, Some}
+use Rattle.std.specs.List.{list_all}
+use Rattle.cmm_program.specs.declared.procedure.Proc.{Proc}
 use Rattle.cmm_program.specs.declared.statement.Form.{Form}
 use Rattle.cmm_program.specs.Bodies.{Mark, AtContinuation, AtLabel, is_mark}
 use Rattle.cmm_graph.specs.declared.node.Node.{Node}
 use Rattle.cmm_graph.specs.declared.node.NodeKind.TheVariants.{Stop}
 use Rattle.cmm_graph.specs.declared.number.NodeId.{NodeId}
 use Rattle.cmm_flow.specs.declared.builder.Builder.{Builder}
+use Rattle.cmm_flow.specs.Flow.{CoversSites}
 
 -- behind any nodes in front, as many as there are to be
 abbrev pub OnFronts : Builder → (List Node → Type 0) → Type 0
@@ -18,12 +21,35 @@ pub record Extends (a b : Builder) : Type 0 where
   pub nodes : b.nodes ≡ a.nodes ++ more
   pub stop : b.stop ≡ a.stop
 
--- nodes of which this holds, with labels and continuations left as they were
-pub record Lays (a b : Builder) (P : List Node → Type 0) : Type 0 where
+-- no node has more tokens than so many
+abbrev pub AreWithin : ℕ → List Node → Type 0
+AreWithin most nodes = IsTrue (list_all (λ node. nat_le node.tokens most) nodes)
+
+-- what bounds the tokens of a builder's nodes bounds those of another's, if it is a bound of this kind too
+abbrev pub Keeps : (ℕ → Type 0) → Builder → Builder → Type 0
+Keeps IsBound a b = (most : ℕ) → IsBound most → AreWithin most a.nodes → AreWithin most b.nodes
+
+-- nodes of which this holds, with labels and continuations left as they were; a bound of this kind is one of their tokens
+pub record LaysWithin (IsBound : ℕ → Type 0) (a b : Builder) (P : List Node → Type 0) : Type 0 where
   pub extends : Extends a b
   pub labels : b.labels ≡ a.labels
   pub continuations : b.continuations ≡ a.continuations
   pub code : OnFronts b P
+  pub keeps : Keeps IsBound a b
+
+-- nodes of one token each
+abbrev pub Lays : Builder → Builder → (List Node → Type 0) → Type 0
+Lays a b P = LaysWithin (λ most. 1 ≤ most) a b P
+
+-- ---- bounds on tokens
+
+-- of the nodes of a statement of so many tokens that waits at no site
+abbrev pub Covers : ℕ → ℕ → Type 0
+Covers tokens most = (1 ≤ most) × (tokens ≤ most)
+
+-- of those of any statement of so many tokens, with the CopyIn of its site
+abbrev pub CoversBoth : Proc → ℕ → ℕ → Type 0
+CoversBoth q tokens most = CoversSites q most × (tokens ≤ most)
 
 -- ---- statements with labels and continuations
 

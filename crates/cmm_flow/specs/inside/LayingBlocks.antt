@@ -1,31 +1,47 @@
 -- What a builder lays for statements with what they hold, in front of a node.
-use Rattle.std.specs.Prelude.{ℕ, List, length}
+use Rattle.std.specs.Prelude.{ℕ, nat_le, Bool, IsTrue, List, [], ◌∷◌}
+use Rattle.std.specs.List.{list_all}
 use Rattle.cmm_program.specs.declared.procedure.Proc.{Proc}
-use Rattle.cmm_program.specs.declared.statement.Arm.{Arm}
+use Rattle.cmm_program.specs.declared.statement.Arm.{Arm, out-Arm}
 use Rattle.cmm_program.specs.declared.statement.Form.{Form}
 use Rattle.cmm_program.specs.declared.statement.Statement.{Statement}
+use Rattle.cmm_program.specs.Bodies.{within}
 use Rattle.cmm_graph.specs.declared.node.Arm.{Arm as Way}
 use Rattle.cmm_graph.specs.declared.number.NodeId.{NodeId}
 use Rattle.cmm_flow.specs.declared.builder.Builder.{Builder}
+use Rattle.cmm_flow.specs.Flow.{CoversSites}
+use Rattle.cmm_flow.specs.Relation.{AreAll}
 use Rattle.cmm_flow.specs.Statements.{FormCode}
-use Rattle.cmm_flow.specs.inside.Laying.{IsReady, LaysMarked, label_of}
+use Rattle.cmm_flow.specs.inside.Laying.{CoversBoth, IsReady, Keeps, LaysMarked, label_of}
 use Rattle.cmm_flow.specs.inside.Marks.{FrontCode, LeadsBehindArms, LeadsBehindForm, LeadsBehindList, OtherwiseCode, WaysCode}
 
+-- a statement has at most so many tokens
+abbrev pub is_within : ℕ → Statement → Bool
+is_within most s = nat_le s.tokens most
+
+-- a test holds of all statements of arms
+abbrev pub AreAllArms : (Statement → Bool) → List Arm → Type 0
+AreAllArms test [] = Unit {0}
+AreAllArms test (arm ∷ arms) = AreAll test (out-Arm arm).body × AreAllArms test arms
+
 -- one statement
-abbrev pub LaysForm : Builder → Builder → Proc → ℕ → Form → NodeId → NodeId → Type 0
-LaysForm a b q tokens form n k = (count : ℕ) → IsReady count a →
-    LaysMarked a b (λ nodes. FormCode q nodes (label_of count) tokens form n k) (λ nodes. LeadsBehindForm q nodes (label_of count) form k)
+pub record LaysForm (a b : Builder) (q : Proc) (tokens : ℕ) (form : Form) (n k : NodeId) : Type 0 where
+  pub lays : (count : ℕ) → IsReady count a →
+      LaysMarked a b (λ nodes. FormCode q nodes (label_of count) tokens form n k) (λ nodes. LeadsBehindForm q nodes (label_of count) form k)
+  pub keeps : Keeps (λ most. CoversBoth q tokens most × IsTrue (list_all (is_within most) (within form))) a b
 
 abbrev pub LaysStatement : Builder → Builder → Proc → Statement → NodeId → NodeId → Type 0
 LaysStatement a b q s n k = LaysForm a b q s.tokens s.form n k
 
 -- a block
-abbrev pub LaysBlock : Builder → Builder → Proc → List Statement → NodeId → NodeId → Type 0
-LaysBlock a b q statements n k = (count : ℕ) → IsReady count a → LaysMarked a b (λ nodes. FrontCode q nodes (label_of count) statements n k)
-    (λ nodes. LeadsBehindList q nodes (label_of count) statements k)
+pub record LaysBlock (a b : Builder) (q : Proc) (statements : List Statement) (n k : NodeId) : Type 0 where
+  pub lays : (count : ℕ) → IsReady count a → LaysMarked a b (λ nodes. FrontCode q nodes (label_of count) statements n k)
+      (λ nodes. LeadsBehindList q nodes (label_of count) statements k)
+  pub keeps : Keeps (λ most. CoversSites q most × AreAll (is_within most) statements) a b
 
 -- the arms of a switch
-abbrev pub LaysArms : Builder → Builder → Proc → List Arm → List Way → NodeId → NodeId → Type 0
-LaysArms a b q arms to otherwise k = (count : ℕ) → IsReady count a →
-    LaysMarked a b (λ nodes. WaysCode q nodes (label_of count) arms to k × OtherwiseCode q nodes (label_of count) arms otherwise k)
-    (λ nodes. LeadsBehindArms q nodes (label_of count) arms k)
+pub record LaysArms (a b : Builder) (q : Proc) (arms : List Arm) (to : List Way) (otherwise k : NodeId) : Type 0 where
+  pub lays : (count : ℕ) → IsReady count a →
+      LaysMarked a b (λ nodes. WaysCode q nodes (label_of count) arms to k × OtherwiseCode q nodes (label_of count) arms otherwise k)
+      (λ nodes. LeadsBehindArms q nodes (label_of count) arms k)
+  pub keeps : Keeps (λ most. CoversSites q most × AreAllArms (is_within most) arms) a b

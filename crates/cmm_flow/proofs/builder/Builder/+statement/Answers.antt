@@ -1,11 +1,9 @@
-use Rattle.std.proofs.Common.{◌≡◌, ◌++◌, ◌∷◌, [], List, map, reverse, sym, ap, ◌∙◌, subst}
+use Rattle.std.proofs.Common.{◌≡◌, [], map, reverse, sym, subst}
 use Rattle.std.proofs.lemmas.Iterator.Adapters.{YieldsList-from_rev_slice}
 use Rattle.std.proofs.lemmas.Iterator.Consumers.{YieldsList-end}
-use Rattle.cmm_program.specs.declared.statement.Statement.{Statement}
-use Rattle.cmm_program.specs.declared.statement.Arm.{Arm}
 use Rattle.cmm_flow.specs.inside.LayingBlocks.{LaysArms, LaysBlock, LaysForm}
 use Rattle.cmm_flow.proofs.Laying.{if_ok}
-use Rattle.cmm_flow.proofs.LayingBlocks.{arms_more, arms_none, block_more, block_none, continuation_lays, empty_lays, goto_lays, if_lays, label_lays, simple_lays, span_lays, switch_lays, turned, turned_back}
+use Rattle.cmm_flow.proofs.LayingBlocks.{arms_more, arms_none, block_more, block_none, continuation_lays, if_lays, span_lays, switch_lays, turned, turned_back}
 use Rattle.cmm_flow.proofs.builder.Builder.+statement.Goals as goal
 
 pub block-loop-statement-init : goal.block-loop-statement-init
@@ -79,4 +77,4 @@ statement-returns-in-Continuation t c =
     let after = c.mark_continuation.new.self in
     let tokens = c.args.statement.now.tokens in
     subst (λ f. LaysForm c.args.self.now after c.args.q.now tokens f after.stop c.args.next) (sym c.in-Continuation.is)
-    (continuation_lays c.args.q.now tokens c.in-Continuation.number c.args.next c.mark_continuation.ensures)
+    (continuation_lays c.args.q.now tokens c.in-Continuation.number c.args.next c.mark_continuation.ensures.marks c.mark_continuation.ensures.nodes)

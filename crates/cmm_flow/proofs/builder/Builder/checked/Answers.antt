@@ -1,19 +1,16 @@
-use Rattle.std.proofs.Common.{List, ◌+◌, ◌≡◌, ◌∙◌, ap, refl, sym, slice_get}
-use Rattle.cmm_words.specs.declared.operators.Cmp.TheVariants.{Eq}
-use Rattle.cmm_words.specs.declared.constant.Constant.TheVariants.{Number}
+use Rattle.std.proofs.Common.{List, ◌+◌}
 use Rattle.cmm_graph.specs.declared.node.Node.{Node}
-use Rattle.cmm_graph.specs.declared.operand.Operand.TheVariants.{Constant}
 use Rattle.cmm_graph.specs.declared.node.NodeKind.TheVariants as kinds
 use Rattle.cmm_graph.specs.declared.operand.Rvalue.TheVariants.{Binary}
 use Rattle.cmm_program.specs.Todo.{site_results}
 use Rattle.cmm_flow.specs.Operands.{nodes as nodes_in, operand_of}
 use Rattle.cmm_flow.specs.Code.{IsNode}
-use Rattle.cmm_flow.specs.Statements.{first_result, normal_tokens}
+use Rattle.cmm_flow.specs.Statements.{first_result}
 use Rattle.cmm_flow.specs.inside.Passing.{GuardCode}
-use Rattle.cmm_flow.proofs.Laying.{lays_after, lays_as, lays_nothing, then_lays}
+use Rattle.cmm_flow.specs.inside.Laying.{CoversBoth}
+use Rattle.cmm_flow.proofs.Laying.{bounded, lays_both, then_lays}
 use Rattle.cmm_flow.proofs.ExpressionsStay.{node_stays}
-use Rattle.cmm_flow.proofs.Passing.{normal_stays, told}
-use Rattle.cmm_flow.proofs.Divisions.{yield_stays, guard_stays, zero_code, guarded, unguarded, checked_code}
+use Rattle.cmm_flow.proofs.Divisions.{guard_stays, checked_code}
 use Rattle.cmm_flow.proofs.builder.Builder.checked.Goals as goal
 
 pub returns : goal.returns
@@ -21,9 +18,10 @@ returns c =
     let q = c.args.q.now in let d = c.in_ok-division.division in let j = c.in_ok-first.first in let used = nodes_in c.args.left.now + nodes_in c.args.right.now in
     let kind = kinds.Assign (first_result (site_results q c.args.site)) (Binary c.args.operator c.args.width (operand_of 0 c.args.left.now) (operand_of 1 c.args.right.now)) c.args.next in
     let keep = λ (nodes more : List Node). node_stays nodes more d 1 kind in
-    lays_after _ _ _ c.two.result
+    let is_bound = CoversBoth q c.args.tokens in
+    lays_both is_bound _ _ _ c.two.result
     (then_lays (λ nodes. IsNode nodes d 1 kind × GuardCode nodes q c.args.tokens used c.args.site c.args.operator c.args.width c.args.right.now j d c.args.next)
-    c.in_ok-division.ensures c.in_ok-first.ensures keep (λ nodes a b. (a, b)))
+    (bounded is_bound c.in_ok-division.ensures (λ most covers. covers.0.positive)) c.in_ok-first.ensures keep (λ nodes a b. (a, b)))
     (λ nodes more both. (keep nodes more both.0, guard_stays nodes more q c.args.tokens used c.args.site c.args.operator c.args.width c.args.right.now j d c.args.next both.1))
-    c.two.ensures
+    c.two.ensures (λ most covers. covers) (λ most covers. covers.0.positive)
     (λ n nodes both two. checked_code nodes q c.args.tokens c.args.site c.args.operator c.args.width c.args.left.now c.args.right.now n j d c.args.next both.0 both.1 two)

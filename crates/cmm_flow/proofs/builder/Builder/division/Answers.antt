@@ -1,23 +1,15 @@
-use Rattle.std.proofs.Common.{List, ◌+◌, ◌≡◌, ◌∙◌, ap, refl, sym, slice_get}
-use Rattle.cmm_words.specs.declared.operators.Cmp.TheVariants.{Eq}
-use Rattle.cmm_words.specs.declared.constant.Constant.TheVariants.{Number}
-use Rattle.cmm_graph.specs.declared.node.Node.{Node}
-use Rattle.cmm_graph.specs.declared.operand.Operand.TheVariants.{Constant}
+use Rattle.std.proofs.Common.{◌∙◌, ap, refl}
 use Rattle.cmm_graph.specs.declared.node.NodeKind.TheVariants as kinds
 use Rattle.cmm_graph.specs.declared.operand.Rvalue.TheVariants.{Binary}
 use Rattle.cmm_program.specs.Todo.{site_results}
-use Rattle.cmm_flow.specs.Operands.{nodes as nodes_in, operand_of}
-use Rattle.cmm_flow.specs.Code.{IsNode}
-use Rattle.cmm_flow.specs.Statements.{first_result, normal_tokens}
-use Rattle.cmm_flow.specs.inside.Passing.{GuardCode}
-use Rattle.cmm_flow.proofs.Laying.{lays_after, lays_as, lays_nothing, then_lays}
-use Rattle.cmm_flow.proofs.ExpressionsStay.{node_stays}
-use Rattle.cmm_flow.proofs.Passing.{normal_stays, told}
-use Rattle.cmm_flow.proofs.Divisions.{yield_stays, guard_stays, zero_code, guarded, unguarded, checked_code}
+use Rattle.cmm_flow.specs.Operands.{operand_of}
+use Rattle.cmm_flow.specs.Statements.{first_result}
+use Rattle.cmm_flow.proofs.Laying.{lays_as}
+use Rattle.cmm_flow.proofs.Passing.{told}
 use Rattle.cmm_flow.proofs.builder.Builder.division.Goals as goal
 
 pub returns : goal.returns
-returns c = lays_as _ _ _ _ c.push.result c.push.ensures (λ n nodes is. told nodes n 1 1 _ _ refl
+returns c = lays_as _ _ _ _ _ c.push.result c.push.ensures (λ n nodes is. told nodes n 1 1 _ _ refl
     (ap (λ to. kinds.Assign to (Binary c.args.operator c.args.width c.operand_of.result c.operand_of-2.result) c.args.next) c.first_result-to.ensures
     ∙ ap (λ l. kinds.Assign (first_result (site_results c.args.q.now c.args.site)) (Binary c.args.operator c.args.width l c.operand_of-2.result) c.args.next) c.operand_of.ensures
     ∙ ap (λ r. kinds.Assign (first_result (site_results c.args.q.now c.args.site)) (Binary c.args.operator c.args.width (operand_of 0 c.args.left.now) r) c.args.next) c.operand_of-2.ensures) is)
