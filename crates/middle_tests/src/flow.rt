@@ -3,7 +3,8 @@
 use cmm_flow::*;
 use cmm_items::{Boxed, Items};
 use cmm_program::{
-    Arm, Case, Cont, Expression, Form, Lvalue, Proc, Range, Site, Statement, Target, VarInfo,
+    Arm, Case, Cont, Expression, Form, Lvalue, Proc, Program, Range, Site, Statement, Target,
+    VarInfo,
 };
 use cmm_words::{Constant, Name, Op2, Width};
 use std::alloc::{AllocError, Global};
@@ -153,6 +154,37 @@ fn graph_of_a_caller(rt: HostRuntime) -> Result<(), Fail> {
         n9: call s0 p1 (v0:64) -> n8 returns k0\n\
         n10: entry (v0) -> n9\n\
         k0: n1\n"
+    );
+    Ok(())
+}
+
+/// `f(bits64 x) { return (x); }`
+fn identity(alloc: Global) -> Result<Proc, AllocError> {
+    let body = Items::from_vec(vec![in alloc; statement(5, returns(alloc, local(0))?)]?);
+    procedure(alloc, 11, 1, 1, Items::new(alloc), Items::new(alloc), body)
+}
+
+#[test]
+fn graphs_of_a_program(rt: HostRuntime) -> Result<(), Fail> {
+    let alloc = rt.alloc();
+    let program = Program {
+        procs: Items::from_vec(vec![in alloc; caller(alloc)?, identity(alloc)?]?),
+        datums: Items::new(alloc),
+        globals: Items::new(alloc),
+        labels: Items::new(alloc),
+        main: 0,
+    };
+    let graphs = flows(alloc, &program)?;
+    assert_eq!(rt; graphs.len(), 2);
+    let graph = graphs.last().ok_or("no graph")?;
+    let text = format!(in alloc; "{graph}")?;
+    assert_eq!(rt;
+        text.as_str(),
+        "from n3, 1 variables, 0 temporaries\n\
+        n0: goto n1\n\
+        n1: stop\n\
+        n2: return 0/0 (v0:64)\n\
+        n3: entry (v0) -> n2\n"
     );
     Ok(())
 }
