@@ -13,7 +13,7 @@ use Rattle.cmm_flow.specs.Operands.{temporary, operand_of}
 use Rattle.cmm_flow.specs.Code.{IsNode, ValueCode, ValuesCode, to_temporary}
 use Rattle.cmm_flow.specs.Statements.{AddressesCode, AssignCode, SeveralCode, StoresCode}
 use Rattle.cmm_flow.specs.inside.Parts.{AddressCode, TwoCode, store_node}
-use Rattle.cmm_flow.proofs.ExpressionsStay.{node_stays, value_stays, values_stay}
+use Rattle.cmm_flow.proofs.ExpressionsStay.{node_stays, value_stays}
 
 module _ (nodes more : List Node) where
   abbrev all : List Node

@@ -1,11 +1,10 @@
 -- Code of divisions that yield where their divisor is 0: that it stays where more nodes are laid, and how it is made of its parts.
-use Rattle.std.proofs.Common.{◌≡◌, ℕ, ◌+◌, Bool, true, false, List, [], ◌∷◌, ◌++◌, slice_get, refl, sym, ap, ◌∙◌, subst}
+use Rattle.std.proofs.Common.{◌≡◌, ℕ, ◌+◌, Bool, true, false, List, ◌++◌, slice_get, refl, sym, ap, subst}
 use Rattle.cmm_words.specs.Words.{is_division}
 use Rattle.cmm_words.specs.declared.constant.Constant.TheVariants.{Number}
 use Rattle.cmm_words.specs.declared.operators.Cmp.TheVariants.{Eq}
 use Rattle.cmm_words.specs.declared.operators.Op2.{Op2}
 use Rattle.cmm_words.specs.declared.width.Width.{Width}
-use Rattle.cmm_words.specs.declared.width.Width.TheVariants.{W64}
 use Rattle.cmm_program.specs.declared.expression.Expression.{Expression}
 use Rattle.cmm_program.specs.declared.procedure.Proc.{Proc}
 use Rattle.cmm_program.specs.Todo.{site_results}
@@ -13,12 +12,11 @@ use Rattle.cmm_graph.specs.declared.number.NodeId.{NodeId}
 use Rattle.cmm_graph.specs.declared.operand.Operand.{Operand}
 use Rattle.cmm_graph.specs.declared.operand.Operand.TheVariants.{Constant}
 use Rattle.cmm_graph.specs.declared.operand.Rvalue.TheVariants.{Binary}
-use Rattle.cmm_graph.specs.declared.node.Exits.{Exits}
 use Rattle.cmm_graph.specs.declared.node.Node.{Node}
-use Rattle.cmm_graph.specs.declared.node.NodeKind.TheVariants.{Assign, Branch, Yield}
+use Rattle.cmm_graph.specs.declared.node.NodeKind.TheVariants.{Assign, Branch}
 use Rattle.cmm_flow.specs.Operands.{nodes, operand_of}
 use Rattle.cmm_flow.specs.Code.{IsNode}
-use Rattle.cmm_flow.specs.Statements.{CheckedCode, NormalCode, ZeroCode, first_result, normal_tokens, remaining}
+use Rattle.cmm_flow.specs.Statements.{CheckedCode, ZeroCode, first_result, normal_tokens, remaining}
 use Rattle.cmm_flow.specs.inside.Parts.{TwoCode}
 use Rattle.cmm_flow.specs.inside.Passing.{GuardCode, YieldOne}
 use Rattle.cmm_flow.proofs.ExpressionsStay.{node_stays}

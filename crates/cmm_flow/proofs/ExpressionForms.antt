@@ -1,9 +1,8 @@
 -- One law for each form of expression: what its code is in terms of its parts.
-use Rattle.std.proofs.Common.{◌≡◌, ℕ, suc, ◌+◌, List, ◌∷◌, refl, ap}
+use Rattle.std.proofs.Common.{◌≡◌, ℕ, suc, ◌+◌, List, refl}
 use denote.Hole.Carrier as Carrier
 use Rattle.cmm_words.specs.declared.operators.Op1.{Op1}
 use Rattle.cmm_words.specs.declared.operators.Op2.{Op2}
-use Rattle.cmm_words.specs.declared.operators.Cmp.{Cmp}
 use Rattle.cmm_words.specs.declared.width.Width.{Width}
 use Rattle.cmm_program.specs.declared.expression.Expression.{Expression}
 use Rattle.cmm_program.specs.declared.expression.Expression.TheBlock as Expressions

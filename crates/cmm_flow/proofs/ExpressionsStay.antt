@@ -1,5 +1,5 @@
 -- Code of expressions and conditions stays where more nodes are laid.
-use Rattle.std.proofs.Common.{◌≡◌, ℕ, suc, Bool, true, false, List, [], ◌∷◌, ◌++◌, Some, slice_get, refl, arith}
+use Rattle.std.proofs.Common.{◌≡◌, ℕ, suc, Bool, true, false, List, [], ◌∷◌, ◌++◌}
 use mathlib.Core.Former.{one_more}
 use Rattle.cmm_program.specs.declared.expression.Expression.{Expression, Row_of-Expression, more_of-Expression}
 use Rattle.cmm_program.specs.declared.expression.Expression.TheVariants.{Known, Variable, Register, Stackdata, Continuation, Load', Unary', Binary', SignExtend', ZeroExtend', LowBits'}
@@ -12,7 +12,7 @@ use Rattle.cmm_graph.specs.declared.node.NodeKind.{NodeKind}
 use Rattle.cmm_flow.specs.Operands.{is_plain}
 use Rattle.cmm_flow.specs.Code.{to_temporary, IsNode, ValueCode, PartCode, SameCode, OperandCode, OperandsCode, ValuesCode, TestCode, TestPart}
 use Rattle.cmm_flow.specs.inside.Parts.{PartsCode, PartsCodeIn, TwoCode}
-use Rattle.cmm_flow.proofs.Laying.{get_before, Stays}
+use Rattle.cmm_flow.proofs.Laying.{get_before}
 
 -- of two things by a test, the second is changed
 abbrev pub Choice : Bool → Type 0 → Type 0 → Type 0

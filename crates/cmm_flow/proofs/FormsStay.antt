@@ -1,6 +1,5 @@
 -- Code of statements stays where more nodes are laid, and so does where marks lead.
 use Rattle.std.proofs.Common.{◌≡◌, ℕ, Bool, true, false, Option, Some, None, List, [], ◌∷◌, ◌++◌, length, slice_get}
-use Rattle.cmm_words.specs.Words.{is_division}
 use Rattle.cmm_program.specs.declared.procedure.Proc.{Proc}
 use Rattle.cmm_program.specs.declared.expression.Expression.{Expression}
 use Rattle.cmm_program.specs.declared.statement.Arm.{Arm, Arm', Row_of-Statement, end_of-Statement, more_of-Statement}

@@ -1,5 +1,5 @@
 -- Where marks lead while statements are laid from the last one to the first: the first one that has a mark is laid last, and counts.
-use Rattle.std.proofs.Common.{◌≡◌, ℕ, Bool, true, false, Option, Some, None, List, [], ◌∷◌, ◌++◌, append-nil, refl, sym, ◌∙◌, subst, arith}
+use Rattle.std.proofs.Common.{◌≡◌, ℕ, Bool, true, false, Option, Some, None, List, [], ◌∷◌, ◌++◌, append-nil, sym, ◌∙◌, subst}
 use Rattle.cmm_program.specs.declared.procedure.Proc.{Proc}
 use Rattle.cmm_program.specs.declared.statement.Form.{Form}
 use Rattle.cmm_program.specs.declared.statement.Form.TheVariants.{Span}

@@ -1,5 +1,5 @@
 -- The operands of an expression's outermost operator, and then the node that computes its value, are the code of the expression.
-use Rattle.std.proofs.Common.{◌≡◌, ℕ, suc, List, ◌∷◌, Some, slice_get, refl, ap, ◌∙◌, sym, subst}
+use Rattle.std.proofs.Common.{◌≡◌, ℕ, suc, List, ◌∷◌, slice_get, ap, ◌∙◌, sym, subst}
 use mathlib.Core.Former.{one_more}
 use Rattle.cmm_program.specs.declared.expression.Expression.{Expression, Row_of-Expression, more_of-Expression}
 use Rattle.cmm_program.specs.declared.expression.Expression.TheVariants.{Known, Variable, Register, Stackdata, Continuation, Load', Unary', Binary', SignExtend', ZeroExtend', LowBits'}

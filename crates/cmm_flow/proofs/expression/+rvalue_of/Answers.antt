@@ -1,5 +1,4 @@
-use Rattle.std.proofs.Common.{refl, ◌∙◌, sym, ap}
-use Rattle.cmm_flow.specs.inside.Parts.{rvalue_of}
+use Rattle.std.proofs.Common.{refl, ◌∙◌, sym}
 use Rattle.cmm_flow.proofs.ExpressionForms.{rvalue_of_load, rvalue_of_unary, rvalue_of_binary, rvalue_of_sign_extend, rvalue_of_zero_extend, rvalue_of_low_bits}
 use Rattle.cmm_flow.proofs.Laying.{if_ok}
 use Rattle.cmm_flow.proofs.expression.+rvalue_of.Goals as goal

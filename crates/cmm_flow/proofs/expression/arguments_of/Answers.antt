@@ -1,6 +1,5 @@
 use Rattle.std.proofs.Common.{refl}
-use Rattle.cmm_program.specs.Values.{width_of}
-use Rattle.cmm_flow.specs.Operands.{arguments_of, operand_of}
+use Rattle.cmm_flow.specs.Operands.{arguments_of}
 use Rattle.cmm_flow.proofs.GoingOn.{goes_on, ends}
 use Rattle.cmm_flow.proofs.expression.arguments_of.Goals as goal
 
