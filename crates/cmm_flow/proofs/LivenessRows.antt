@@ -1,7 +1,7 @@
 -- A worked row: a procedure in which one variable is live on an unwinding exit alone and one on a cut exit alone. The premises of the laws on
--- liveness are built for it, and both sides are worked out.
+-- liveness are built for it, and both sides are worked out; and those of the law on what `flow` answers for a program in range.
 use Rattle.std.proofs.Common.{◌≡◌, ℕ, zero, suc, ◌<◌, true, false, List, [], ◌∷◌, map, Some, Contains, refl, ap, sym, ◌∙◌, subst, arith, lit<, lit≤}
-use Rattle.std.proofs.lemmas.List.Elements.{All-from_recursion}
+use Rattle.std.proofs.lemmas.List.Elements.{All-cons, All-from_recursion, All-nil}
 use Rattle.cmm_words.specs.declared.constant.Constant.TheVariants.{Code}
 use Rattle.cmm_words.specs.declared.width.Width.TheVariants.{W64}
 use Rattle.cmm_program.proofs.Shared.{opened}
@@ -13,9 +13,10 @@ use Rattle.cmm_program.specs.declared.program.Program.{Program}
 use Rattle.cmm_program.specs.declared.statement.Form.TheVariants as form
 use Rattle.cmm_program.specs.declared.statement.Statement.{Statement}
 use Rattle.cmm_program.specs.Bodies.{AtContinuation, follow}
-use Rattle.cmm_program.specs.InRange.{IsProcInRange}
+use Rattle.cmm_program.specs.InRange.{IsInRange, IsProcInRange}
 use Rattle.cmm_program.specs.Liveness.{is_among, is_live_at, read_in, ways}
 use Rattle.cmm_program.specs.LivePaths as paths
+use Rattle.cmm_program.specs.State.{Setting}
 use Rattle.cmm_graph.specs.declared.graph.Graph.{Graph}
 use Rattle.cmm_graph.specs.declared.node.Exits.{Exits}
 use Rattle.cmm_graph.specs.declared.node.Node.{Node}
@@ -26,11 +27,13 @@ use Rattle.cmm_graph.specs.declared.operand.Operand.TheVariants as operand
 use Rattle.cmm_graph.specs.Counterpart.{AreExitsOf, HasSite, IsGraphOf}
 use Rattle.cmm_graph.specs.Liveness.{Here, Onward}
 use Rattle.cmm_live.specs.Sites.{IsLiveAt, IsLiveOnCut}
-use Rattle.cmm_flow.specs.Flow.{IsFlowOf, IsLandedAt}
+use Rattle.cmm_flow.specs.Flow.{IsFlow, IsFlowOf, IsLandedAt}
+use Rattle.cmm_flow.specs.Laws.{AreFlows}
 use Rattle.cmm_flow.specs.Liveness as live
 use Rattle.cmm_flow.specs.Liveness.{IsFlowInRange, WaitOnce, site_id, variable}
 use Rattle.cmm_flow.specs.Statements.{ListCode}
 use Rattle.cmm_flow.proofs.LivenessSets.{sites_keep_liveness}
+use Rattle.cmm_flow.proofs.RangesCovering.{flows_given}
 
 -- ---- the procedure
 --     f() {
@@ -177,6 +180,34 @@ flows = record { range = in_range; graph = is_graph; flow = flow }
 
 once : WaitOnce graph
 once = refl
+
+-- ---- the graph as an answer of `flow`, for a program in range
+
+answer : IsFlow f graph
+answer = record { flow = flow; tokens = λ covers. refl; variables = refl; formals = refl; continuations = refl }
+
+program_in_range : IsInRange p
+unfolding opened
+program_in_range = record {
+  procedures = All-cons (IsProcInRange p) f [] in_range (All-nil (IsProcInRange p));
+  procedure_count = lit≤ tt;
+  main = lit< tt;
+  main_formals = λ q is. let same : q ≡ f = cc in ap (λ (q : Proc). q.formals) same;
+  datums = refl;
+  datum_count = lit< tt;
+  data_size = lit≤ tt;
+  labels = refl;
+  label_count = lit< tt;
+  registers = lit≤ tt;
+  register_names = refl;
+  tokens = lit≤ tt;
+  site_variables = lit≤ tt;
+  site_spans = lit≤ tt;
+}
+
+-- so it is the flow of the program, wherever that is placed
+are_flows : (s : Setting) → s.program ≡ p → AreFlows s (graph ∷ [])
+are_flows s same = flows_given p (graph ∷ []) (answer, tt) s same program_in_range
 
 -- ---- both sides
 
