@@ -1,6 +1,8 @@
 -- The first fault of a unit from its parts, and the fault that is named of units.
 use Rattle.std.proofs.Common.{◌≡◌, ℕ, Bool, true, false, map, ap, sym, ◌∙◌, List, [], ◌++◌, Option, Some, None}
 use Rattle.std.specs.Prelude.{flat_map}
+use Rattle.cmm_words.specs.declared.width.Width.{Width}
+use Rattle.cmm_ast.specs.declared.expression.TypeName.{TypeName}
 use Rattle.cmm_rules.specs.declared.rule.Rule.TheVariants.{NoMain}
 use Rattle.cmm_ast.specs.declared.unit.Unit.{Unit as UnitTree}
 use Rattle.cmm_accepted.specs.declared.spot.Spot.{Spot}
@@ -10,11 +12,12 @@ use Rattle.cmm_accepted.specs.Senses.{Senses}
 use Rattle.cmm_accepted.specs.Declarations.{named_units, again, host_again}
 use Rattle.cmm_accepted.specs.Linking.{export_spots, twice, import_spots}
 use Rattle.cmm_accepted.specs.Units.{target_decl_spots}
+use Rattle.cmm_accepted.specs.Scopes.{width_in}
 use Rattle.cmm_accepted.specs.LongNames.{long_spots, of_item}
 use Rattle.cmm_accepted.specs.Faults.{Placed, stands_before, fault_at, at_beginning}
 use Rattle.cmm_static.specs.TypeFaults.{entry_type_spots, item_type_spots}
 use Rattle.cmm_static.specs.StandingFaults.{first_standing_fault, fault_of_main, broken_standing}
-use Rattle.cmm_static.specs.inside.Flat.{Flat, flat_unit, flat_links, flat_name_spots, flat_spots, flats_broken, some_starts}
+use Rattle.cmm_static.specs.inside.Flat.{Flat, flat_unit, links_before, widths_before, registers_in, register_spots_by, flat_register_spots, flat_name_spots, flat_spots, flats_broken, some_starts}
 use Rattle.cmm_names.specs.Noted.{long_of}
 use Rattle.cmm_names.proofs.Shared.{first_of_append, long_is}
 use Rattle.cmm_typedefs.specs.Types.{type_senses}
@@ -44,30 +47,37 @@ noted_all all before f b1 b2 b3 b4 b5 b6 b7 e1 e2 e3 e4 e5 e6 e7 =
     e6)
     (e7 ∙ long_is b6 (flat_map of_item f.items))
 
-noted_types : (all before : List (List ℕ)) (f : Flat) (b7 b8 b9 : Option Spot) → b7 ≡ first_of None (flat_name_spots all before f) →
+noted_types : (all : List (List ℕ)) (before : List Flat) (f : Flat) (b7 b8 b9 b10 : Option Spot) → b7 ≡ first_of None (flat_name_spots all (links_before before) f) →
     b8 ≡ first_of b7 (flat_map (λ d. entry_type_spots (type_senses f.entries) d.as_what) f.entries) → b9 ≡ first_of b8 (flat_map (item_type_spots (type_senses f.entries)) f.items) →
-    b9 ≡ first_of None (flat_spots all before f)
-noted_types all before f b7 b8 b9 e7 e8 e9 =
+    b10 ≡ first_of b9 (flat_register_spots (widths_before before) f) → b10 ≡ first_of None (flat_spots all before f)
+noted_types all before f b7 b8 b9 b10 e7 e8 e9 e10 =
     let s8 = flat_map (λ d. entry_type_spots (type_senses f.entries) d.as_what) f.entries in
     let s9 = flat_map (item_type_spots (type_senses f.entries)) f.items in
-    e9 ∙ ap (λ q. first_of q s9) e8 ∙ sym (first_of_append b7 s8 s9) ∙ ap (λ q. first_of q (s8 ++ s9)) e7 ∙ sym (first_of_append None (flat_name_spots all before f) (s8 ++ s9))
+    let s10 = flat_register_spots (widths_before before) f in
+    after b9 b10 (flat_name_spots all (links_before before) f ++ (s8 ++ s9)) s10
+    (e9 ∙ ap (λ q. first_of q s9) e8 ∙ sym (first_of_append b7 s8 s9) ∙ ap (λ q. first_of q (s8 ++ s9)) e7
+    ∙ sym (first_of_append None (flat_name_spots all (links_before before) f) (s8 ++ s9)))
+    e10
 
 -- what is noted of a unit, rule by rule
-pub noted_unit : (all before : List (List ℕ)) (f : Flat) (b1 b2 b3 b4 b5 b6 b7 b8 b9 : Option Spot) (names : Senses) → names ≡ type_senses f.entries →
+pub noted_unit : (all : List (List ℕ)) (before : List Flat) (f : Flat) (b1 b2 b3 b4 b5 b6 b7 b8 b9 b10 : Option Spot) (names : Senses) (width : TypeName → Option Width) →
+    names ≡ type_senses f.entries → width ≡ width_in f.entries →
     b1 ≡ first_of None (again [] f.entries) → b2 ≡ first_of b1 (flat_map host_again f.entries) → b3 ≡ first_of b2 (flat_map (export_spots f.entries) f.exports) →
-    b4 ≡ first_of b3 (twice before f.exports) → b5 ≡ first_of b4 (flat_map (import_spots all) f.entries) → b6 ≡ first_of b5 (flat_map target_decl_spots f.items) →
+    b4 ≡ first_of b3 (twice (links_before before) f.exports) → b5 ≡ first_of b4 (flat_map (import_spots all) f.entries) → b6 ≡ first_of b5 (flat_map target_decl_spots f.items) →
     b7 ≡ long_of b6 (flat_map of_item f.items) → b8 ≡ first_of b7 (flat_map (λ d. entry_type_spots names d.as_what) f.entries) → b9 ≡ first_of b8 (flat_map (item_type_spots names) f.items) →
-    b9 ≡ first_of None (flat_spots all before f)
-noted_unit all before f b1 b2 b3 b4 b5 b6 b7 b8 b9 names are e1 e2 e3 e4 e5 e6 e7 e8 e9 =
-    noted_types all before f b7 b8 b9 (noted_all all before f b1 b2 b3 b4 b5 b6 b7 e1 e2 e3 e4 e5 e6 e7)
+    b10 ≡ first_of b9 (flat_map (register_spots_by (widths_before before) width) (registers_in f.entries)) →
+    b10 ≡ first_of None (flat_spots all before f)
+noted_unit all before f b1 b2 b3 b4 b5 b6 b7 b8 b9 b10 names width are same e1 e2 e3 e4 e5 e6 e7 e8 e9 e10 =
+    noted_types all before f b7 b8 b9 b10 (noted_all all (links_before before) f b1 b2 b3 b4 b5 b6 b7 e1 e2 e3 e4 e5 e6 e7)
     (e8 ∙ ap (λ q. first_of b7 (flat_map (λ d. entry_type_spots q d.as_what) f.entries)) are)
     (e9 ∙ ap (λ q. first_of b8 (flat_map (item_type_spots q) f.items)) are)
+    (e10 ∙ ap (λ q. first_of b9 (flat_map (register_spots_by (widths_before before) q) (registers_in f.entries))) same)
 
 -- what is first among units laid flat is so among the units
 pub first_found : (us : List UnitTree) (fs : List Flat) (first : Option Placed) → fs ≡ map flat_unit us →
-    first ≡ first_by stands_before None (flats_broken (flat_map flat_links fs) [] 0 fs) → first_by stands_before None (broken_standing (named_units us)) ≡ first
+    first ≡ first_by stands_before None (flats_broken (links_before fs) [] 0 fs) → first_by stands_before None (broken_standing (named_units us)) ≡ first
 first_found us fs first are is =
-    ap (first_by stands_before None) (broken_flat us) ∙ sym (is ∙ ap (λ q. first_by stands_before None (flats_broken (flat_map flat_links q) [] 0 q)) are)
+    ap (first_by stands_before None) (broken_flat us) ∙ sym (is ∙ ap (λ q. first_by stands_before None (flats_broken (links_before q) [] 0 q)) are)
 
 pub named_fault : (us : List UnitTree) (p : Placed) → first_by stands_before None (broken_standing (named_units us)) ≡ Some p → first_standing_fault us ≡ Some (fault_at us p)
 named_fault us p is = ap (λ o. elim o as (λ _. Option Fault) [ Some q ↦ Some (fault_at us q) | None ↦ fault_of_main (named_units us) ]) is

@@ -1,12 +1,12 @@
 -- The first fault of units, a unit after the other: what the first broken one breaks comes before all that later ones do.
 use Rattle.std.proofs.Common.{◌≡◌, ℕ, suc, ◌+◌, ◌<◌, ◌==◌, length, take, drop, get_or, Bool, true, false, ◌||◌, ◌&&◌, map, refl, ap, sym, ◌∙◌, List, [], ◌∷◌, ◌++◌, Option, Some, None, option_map, arith}
-use Rattle.std.specs.Prelude.{nat_lt, flat_map}
+use Rattle.std.specs.Prelude.{nat_lt}
 use Rattle.std.proofs.lemmas.Bool.Decides.{nat_tests}
 use Rattle.cmm_accepted.specs.declared.spot.Spot.{Spot}
 use Rattle.cmm_accepted.specs.Spots.{first_by, sooner_by, comes_before, first_of}
 use Rattle.cmm_accepted.specs.Faults.{stands_before}
-use Rattle.cmm_static.specs.inside.Flat.{Flat, flat_links, flat_spots, placed, flats_broken}
-use Rattle.cmm_names.proofs.Shared.{first_by_append, rest_next, flat_next}
+use Rattle.cmm_static.specs.inside.Flat.{Flat, flat_spots, placed, flats_broken}
+use Rattle.cmm_names.proofs.Shared.{first_by_append, rest_next, mapped_next}
 
 not_less : (n : ℕ) → nat_lt n n ≡ false
 not_less n = grind (arith, nat_tests)
@@ -47,49 +47,49 @@ stays m n s [] less = refl
 stays m n s (t ∷ ss) less =
     ap (λ b. first_by stands_before (chosen b (placed m t) (placed n s)) (map (placed m) ss)) (in_later m n (comes_before t s) less) ∙ stays m n s ss less
 
-later_stays : (all earlier : List (List ℕ)) (m n : ℕ) (s : Spot) (fs : List Flat) → n < m → first_by stands_before (Some (placed n s)) (flats_broken all earlier m fs) ≡ Some (placed n s)
-later_stays all earlier m n s [] less = refl
-later_stays all earlier m n s (f ∷ fs) less =
-    first_by_append stands_before (Some (placed n s)) (map (placed m) (flat_spots all earlier f)) (flats_broken all (earlier ++ flat_links f) (suc m) fs)
-    ∙ ap (λ q. first_by stands_before q (flats_broken all (earlier ++ flat_links f) (suc m) fs)) (stays m n s (flat_spots all earlier f) less)
-    ∙ later_stays all (earlier ++ flat_links f) (suc m) n s fs (omega arith)
+later_stays : (all : List (List ℕ)) (before : List Flat) (m n : ℕ) (s : Spot) (fs : List Flat) → n < m → first_by stands_before (Some (placed n s)) (flats_broken all before m fs) ≡ Some (placed n s)
+later_stays all before m n s [] less = refl
+later_stays all before m n s (f ∷ fs) less =
+    first_by_append stands_before (Some (placed n s)) (map (placed m) (flat_spots all before f)) (flats_broken all (before ++ f ∷ []) (suc m) fs)
+    ∙ ap (λ q. first_by stands_before q (flats_broken all (before ++ f ∷ []) (suc m) fs)) (stays m n s (flat_spots all before f) less)
+    ∙ later_stays all (before ++ f ∷ []) (suc m) n s fs (omega arith)
 
 -- whatever the first unit breaks
-by_unit : (all earlier : List (List ℕ)) (n : ℕ) (f : Flat) (fs : List Flat) → first_by stands_before None (flats_broken all earlier n (f ∷ fs))
-    ≡ first_by stands_before (option_map (placed n) (first_of None (flat_spots all earlier f))) (flats_broken all (earlier ++ flat_links f) (suc n) fs)
-by_unit all earlier n f fs =
-    first_by_append stands_before None (map (placed n) (flat_spots all earlier f)) (flats_broken all (earlier ++ flat_links f) (suc n) fs)
-    ∙ ap (λ q. first_by stands_before q (flats_broken all (earlier ++ flat_links f) (suc n) fs)) (first_placed n None (flat_spots all earlier f))
+by_unit : (all : List (List ℕ)) (before : List Flat) (n : ℕ) (f : Flat) (fs : List Flat) → first_by stands_before None (flats_broken all before n (f ∷ fs))
+    ≡ first_by stands_before (option_map (placed n) (first_of None (flat_spots all before f))) (flats_broken all (before ++ f ∷ []) (suc n) fs)
+by_unit all before n f fs =
+    first_by_append stands_before None (map (placed n) (flat_spots all before f)) (flats_broken all (before ++ f ∷ []) (suc n) fs)
+    ∙ ap (λ q. first_by stands_before q (flats_broken all (before ++ f ∷ []) (suc n) fs)) (first_placed n None (flat_spots all before f))
 
-pub first_here : (all earlier : List (List ℕ)) (n : ℕ) (f : Flat) (fs : List Flat) (s : Spot) → first_of None (flat_spots all earlier f) ≡ Some s →
-    first_by stands_before None (flats_broken all earlier n (f ∷ fs)) ≡ Some (placed n s)
-first_here all earlier n f fs s is =
-    by_unit all earlier n f fs ∙ ap (λ q. first_by stands_before (option_map (placed n) q) (flats_broken all (earlier ++ flat_links f) (suc n) fs)) is
-    ∙ later_stays all (earlier ++ flat_links f) (suc n) n s fs (omega arith)
+pub first_here : (all : List (List ℕ)) (before : List Flat) (n : ℕ) (f : Flat) (fs : List Flat) (s : Spot) → first_of None (flat_spots all before f) ≡ Some s →
+    first_by stands_before None (flats_broken all before n (f ∷ fs)) ≡ Some (placed n s)
+first_here all before n f fs s is =
+    by_unit all before n f fs ∙ ap (λ q. first_by stands_before (option_map (placed n) q) (flats_broken all (before ++ f ∷ []) (suc n) fs)) is
+    ∙ later_stays all (before ++ f ∷ []) (suc n) n s fs (omega arith)
 
-pub first_later : (all earlier : List (List ℕ)) (n : ℕ) (f : Flat) (fs : List Flat) → first_of None (flat_spots all earlier f) ≡ None →
-    first_by stands_before None (flats_broken all earlier n (f ∷ fs)) ≡ first_by stands_before None (flats_broken all (earlier ++ flat_links f) (suc n) fs)
-first_later all earlier n f fs is =
-    by_unit all earlier n f fs ∙ ap (λ q. first_by stands_before (option_map (placed n) q) (flats_broken all (earlier ++ flat_links f) (suc n) fs)) is
+pub first_later : (all : List (List ℕ)) (before : List Flat) (n : ℕ) (f : Flat) (fs : List Flat) → first_of None (flat_spots all before f) ≡ None →
+    first_by stands_before None (flats_broken all before n (f ∷ fs)) ≡ first_by stands_before None (flats_broken all (before ++ f ∷ []) (suc n) fs)
+first_later all before n f fs is =
+    by_unit all before n f fs ∙ ap (λ q. first_by stands_before (option_map (placed n) q) (flats_broken all (before ++ f ∷ []) (suc n) fs)) is
 
 -- a turn of a loop over units, of which this one breaks nothing
 pub later_step : {A : Type 0} (h : A → Flat) (all : List (List ℕ)) (xs : List A) (i : ℕ) (x : A) → i < length xs → x ≡ get_or xs i x →
-    first_of None (flat_spots all (flat_map flat_links (map h (take i xs))) (h x)) ≡ None →
-    first_by stands_before None (flats_broken all (flat_map flat_links (map h (take i xs))) i (map h (drop i xs)))
-    ≡ first_by stands_before None (flats_broken all (flat_map flat_links (map h (take (i + 1) xs))) (i + 1) (map h (drop (i + 1) xs)))
+    first_of None (flat_spots all (map h (take i xs)) (h x)) ≡ None →
+    first_by stands_before None (flats_broken all (map h (take i xs)) i (map h (drop i xs)))
+    ≡ first_by stands_before None (flats_broken all (map h (take (i + 1) xs)) (i + 1) (map h (drop (i + 1) xs)))
 later_step h all xs i x within is none =
     let e : suc i ≡ i + 1 = omega arith in
-    let before = flat_map flat_links (map h (take i xs)) in
+    let before = map h (take i xs) in
     let rest = map h (drop (i + 1) xs) in
     ap (λ q. first_by stands_before None (flats_broken all before i q)) (rest_next h xs i x within is)
     ∙ first_later all before i (h x) rest none
-    ∙ ap (λ q. first_by stands_before None (flats_broken all q (suc i) rest)) (sym (flat_next h flat_links xs i x within is))
-    ∙ ap (λ k. first_by stands_before None (flats_broken all (flat_map flat_links (map h (take (i + 1) xs))) k rest)) e
+    ∙ ap (λ q. first_by stands_before None (flats_broken all q (suc i) rest)) (sym (mapped_next h xs i x within is))
+    ∙ ap (λ k. first_by stands_before None (flats_broken all (map h (take (i + 1) xs)) k rest)) e
 
 -- and of which this one is the first that breaks something
 pub here_step : {A : Type 0} (h : A → Flat) (all : List (List ℕ)) (xs : List A) (i : ℕ) (x : A) (s : Spot) → i < length xs → x ≡ get_or xs i x →
-    first_of None (flat_spots all (flat_map flat_links (map h (take i xs))) (h x)) ≡ Some s →
-    first_by stands_before None (flats_broken all (flat_map flat_links (map h (take i xs))) i (map h (drop i xs))) ≡ Some (placed i s)
+    first_of None (flat_spots all (map h (take i xs)) (h x)) ≡ Some s →
+    first_by stands_before None (flats_broken all (map h (take i xs)) i (map h (drop i xs))) ≡ Some (placed i s)
 here_step h all xs i x s within is some =
-    ap (λ q. first_by stands_before None (flats_broken all (flat_map flat_links (map h (take i xs))) i q)) (rest_next h xs i x within is)
-    ∙ first_here all (flat_map flat_links (map h (take i xs))) i (h x) (map h (drop (i + 1) xs)) s some
+    ap (λ q. first_by stands_before None (flats_broken all (map h (take i xs)) i q)) (rest_next h xs i x within is)
+    ∙ first_here all (map h (take i xs)) i (h x) (map h (drop (i + 1) xs)) s some

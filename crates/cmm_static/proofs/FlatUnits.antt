@@ -1,35 +1,26 @@
 -- Units laid flat break rules as units do.
-use Rattle.std.proofs.Common.{◌≡◌, ℕ, suc, ◌+◌, Bool, true, false, ◌||◌, not, map, refl, ap, sym, ◌∙◌, List, [], ◌∷◌, ◌++◌, Option, Some, None, option_map, append_assoc, append-nil}
+use Rattle.std.proofs.Common.{◌≡◌, ℕ, suc, ◌+◌, ◌||◌, map, refl, ap, sym, ◌∙◌, List, [], ◌∷◌, ◌++◌}
 use Rattle.std.specs.Prelude.{flat_map}
 use Rattle.std.proofs.lemmas.List.{map-append}
 use Rattle.std.proofs.lemmas.List.Folds.{flat_map-map}
-use Rattle.cmm_ast.specs.declared.token.Ident.{Ident}
-use Rattle.cmm_ast.specs.declared.declaration.DeclForm.{DeclForm}
-use Rattle.cmm_ast.specs.declared.declaration.DeclForm.TheVariants as decls
-use Rattle.cmm_ast.specs.declared.declaration.Export.{Export}
-use Rattle.cmm_ast.specs.declared.unit.DatumForm.{DatumForm}
-use Rattle.cmm_ast.specs.declared.unit.DatumForm.TheVariants as data_forms
 use Rattle.cmm_ast.specs.declared.unit.Item.{Item}
-use Rattle.cmm_ast.specs.declared.unit.Item.TheVariants as items
 use Rattle.cmm_ast.specs.declared.unit.Unit.{Unit as UnitTree}
-use Rattle.cmm_rules.specs.declared.rule.Rule.TheVariants.{DeclaredTwice}
-use Rattle.cmm_accepted.specs.Spots.{unless}
-use Rattle.cmm_accepted.specs.Senses.{is_there, is_host}
 use Rattle.cmm_accepted.specs.Items.{Within, items_of}
-use Rattle.cmm_accepted.specs.Declarations.{Declared, Entry, Typedef, Const, Register, Import, DataLabel, Procedure, NamedUnit, found, each_as, import_entry, decl_entries, datum_entries, item_entries, entries_from, procs_in, labels_in, sum_of, units_from, named_units, entry_of, is_own_import, host_again}
-use Rattle.cmm_accepted.specs.Linking.{item_exports, export_link, export_links, address_of, export_spots, twice, import_spots, is_start, starts, has_main}
-use Rattle.cmm_accepted.specs.Units.{target_decl_spots}
+use Rattle.cmm_accepted.specs.Declarations.{NamedUnit, procs_in, labels_in, sum_of, units_from, named_units, host_again}
+use Rattle.cmm_accepted.specs.Linking.{item_exports, export_link, export_links, export_spots, twice, import_spots, starts, has_main}
+use Rattle.cmm_accepted.specs.Units.{target_decl_spots, register_spots}
 use Rattle.cmm_accepted.specs.LongNames.{long_spots, of_item}
-use Rattle.cmm_accepted.specs.Faults.{name_spots, each_unit, broken_names}
-use Rattle.cmm_names.specs.Shown.{with_what, whats}
-use Rattle.cmm_static.specs.inside.Flat.{Flat, flat_unit, flat_links, flat_spots, placed, flats_broken, flat_starts, some_starts}
-use Rattle.cmm_names.proofs.Shared.{found_with, again_with}
-use Rattle.cmm_accepted.specs.Linking.{program_of}
+use Rattle.cmm_accepted.specs.Faults.{name_spots, register_widths, each_unit}
+use Rattle.cmm_names.specs.Shown.{whats}
+use Rattle.cmm_static.specs.inside.Flat.{Flat, flat_unit, flat_links, links_before, widths_before, flat_widths, flat_type_spots, flat_spots, placed, flats_broken, flat_starts, some_starts}
+use Rattle.cmm_names.proofs.Shared.{again_with}
+use Rattle.cmm_accepted.specs.Linking.{program_of, registers_of}
 use Rattle.cmm_static.specs.TypeFaults.{unit_type_spots}
-use Rattle.cmm_static.specs.StandingFaults.{standing_spots, broken_standing}
+use Rattle.cmm_static.specs.StandingFaults.{unit_register_spots, standing_spots, broken_standing}
 use Rattle.cmm_static.specs.inside.Flat.{flat_name_spots}
 use Rattle.cmm_static.proofs.Unnumbered.{plain, unnumbered, entries_plain, host_plain, import_plain, export_plain, starts_plain, each_same, each_alike}
 use Rattle.cmm_static.proofs.TypesUnnumbered.{types_flat}
+use Rattle.cmm_static.proofs.RegistersUnnumbered.{registers_flat, unit_widths}
 
 -- ---- units
 
@@ -58,24 +49,25 @@ names_flat us earlier u = seven
     (sym (flat_map-map target_decl_spots (λ w. w.what) u.items))
     (ap (flat_map long_spots) (sym (flat_map-map of_item (λ w. w.what) u.items)))
 
-spots_flat : (us earlier : List NamedUnit) (u : NamedUnit) →
-    standing_spots us earlier u ≡ flat_spots (flat_map flat_links (map flat_named us)) (flat_map flat_links (map flat_named earlier)) (flat_named u)
+spots_flat : (us earlier : List NamedUnit) (u : NamedUnit) → standing_spots us earlier u ≡ flat_spots (links_before (map flat_named us)) (map flat_named earlier) (flat_named u)
 spots_flat us earlier u =
-    ap (λ t. t ++ unit_type_spots (program_of us) u) (names_flat us earlier u)
-    ∙ ap (λ t. flat_name_spots (flat_map flat_links (map flat_named us)) (flat_map flat_links (map flat_named earlier)) (flat_named u) ++ t) (types_flat (program_of us) u)
-
-links_plus : (earlier : List NamedUnit) (u : NamedUnit) → flat_map flat_links (map flat_named (earlier ++ u ∷ [])) ≡ flat_map flat_links (map flat_named earlier) ++ flat_links (flat_named u)
-links_plus [] u = append-nil (flat_links (flat_named u))
-links_plus (e ∷ es) u = ap (λ t. flat_links (flat_named e) ++ t) (links_plus es u) ∙ sym (append_assoc (flat_links (flat_named e)) (flat_map flat_links (map flat_named es)) (flat_links (flat_named u)))
+    ap (λ t. t ++ unit_type_spots (program_of us) u ++ unit_register_spots earlier u) (names_flat us earlier u)
+    ∙ ap (λ t. flat_name_spots (links_before (map flat_named us)) (links_before (map flat_named earlier)) (flat_named u) ++ t ++ unit_register_spots earlier u) (types_flat (program_of us) u)
+    ∙ ap (λ t. flat_name_spots (links_before (map flat_named us)) (links_before (map flat_named earlier)) (flat_named u) ++ flat_type_spots (flat_named u) ++ t)
+    (ap (λ w. flat_map (register_spots w u.entries) (registers_of u)) (widths_flat earlier) ∙ registers_flat (widths_before (map flat_named earlier)) u.entries)
+  where
+    widths_flat : (us : List NamedUnit) → flat_map register_widths us ≡ widths_before (map flat_named us)
+    widths_flat [] = refl
+    widths_flat (v ∷ us) = ap (λ t. t ++ flat_map register_widths us) (unit_widths v.entries) ∙ ap (λ t. flat_widths (flat_named v) ++ t) (widths_flat us)
 
 each_flat : (us earlier : List NamedUnit) (number : ℕ) (rest : List NamedUnit) →
-    each_unit (standing_spots us) earlier number rest ≡ flats_broken (flat_map flat_links (map flat_named us)) (flat_map flat_links (map flat_named earlier)) number (map flat_named rest)
+    each_unit (standing_spots us) earlier number rest ≡ flats_broken (links_before (map flat_named us)) (map flat_named earlier) number (map flat_named rest)
 each_flat us earlier number [] = refl
 each_flat us earlier number (u ∷ rest) =
     ap (λ t. map (placed number) t ++ each_unit (standing_spots us) (earlier ++ u ∷ []) (suc number) rest) (spots_flat us earlier u)
-    ∙ ap (λ t. map (placed number) (flat_spots (flat_map flat_links (map flat_named us)) (flat_map flat_links (map flat_named earlier)) (flat_named u)) ++ t)
+    ∙ ap (λ t. map (placed number) (flat_spots (links_before (map flat_named us)) (map flat_named earlier) (flat_named u)) ++ t)
     (each_flat us (earlier ++ u ∷ []) (suc number) rest
-    ∙ ap (λ q. flats_broken (flat_map flat_links (map flat_named us)) q (suc number) (map flat_named rest)) (links_plus earlier u))
+    ∙ ap (λ q. flats_broken (links_before (map flat_named us)) q (suc number) (map flat_named rest)) (map-append flat_named earlier (u ∷ [])))
 
 flats : (procs labels : ℕ) (us : List UnitTree) → map flat_named (units_from procs labels us) ≡ map flat_unit us
 flats procs labels [] = refl
@@ -84,8 +76,8 @@ flats procs labels (u ∷ us) =
     (entries_plain procs labels (items_of u))
     ∙ ap (λ t. flat_unit u ∷ t) (flats (procs + sum_of procs_in (items_of u)) (labels + sum_of labels_in (items_of u)) us)
 
-pub broken_flat : (us : List UnitTree) → broken_standing (named_units us) ≡ flats_broken (flat_map flat_links (map flat_unit us)) [] 0 (map flat_unit us)
-broken_flat us = each_flat (named_units us) [] 0 (named_units us) ∙ ap (λ fs. flats_broken (flat_map flat_links fs) [] 0 fs) (flats 0 0 us)
+pub broken_flat : (us : List UnitTree) → broken_standing (named_units us) ≡ flats_broken (links_before (map flat_unit us)) [] 0 (map flat_unit us)
+broken_flat us = each_flat (named_units us) [] 0 (named_units us) ∙ ap (λ fs. flats_broken (links_before fs) [] 0 fs) (flats 0 0 us)
 
 main_flat : (us : List NamedUnit) → has_main us ≡ some_starts (map flat_named us)
 main_flat [] = refl

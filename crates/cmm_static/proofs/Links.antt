@@ -1,6 +1,7 @@
 -- Link names, one after the other.
 use Rattle.std.proofs.Common.{◌≡◌, ℕ, ◌+◌, ◌<◌, Bool, true, false, ◌||◌, not, length, map, take, get_or, refl, ap, sym, ◌∙◌, List, [], ◌∷◌, ◌++◌, Option, Some, None, append_assoc, append-nil}
-use Rattle.std.specs.Prelude.{bytes_eq}
+use Rattle.std.specs.Prelude.{bytes_eq, flat_map}
+use Rattle.std.proofs.lemmas.Grind.{flat_map-append}
 use Rattle.std.proofs.Math.Bool.{or-false}
 use Rattle.cmm_ast.specs.declared.declaration.Export.{Export}
 use Rattle.cmm_rules.specs.declared.rule.Rule.TheVariants.{ExportedTwice}
@@ -32,7 +33,7 @@ pub links_push : (old new : Index (Unit {0})) (names : List (List ℕ)) (n : Lis
 links_push old new names n are is x =
     ap is_there (is x) ∙ there_else (indexed old x) (bytes_eq x n) tt ∙ ap (λ b. b || bytes_eq x n) (are x) ∙ sym (among_push x names n)
 
-pub links_next : {A B : Type 0} (h : A → B) (f : B → List ℕ) (before : List (List ℕ)) (xs : List A) (i : ℕ) (e : A) → i < length xs → e ≡ get_or xs i e →
+pub links_next : {A B C : Type 0} (h : A → B) (f : B → C) (before : List C) (xs : List A) (i : ℕ) (e : A) → i < length xs → e ≡ get_or xs i e →
     (before ++ map f (map h (take i xs))) ++ f (h e) ∷ [] ≡ before ++ map f (map h (take (i + 1) xs))
 links_next h f before xs i e within is =
     append_assoc before (map f (map h (take i xs))) (f (h e) ∷ [])
@@ -41,6 +42,10 @@ links_next h f before xs i e within is =
     map_last : (ys : _) → map f (ys ++ h e ∷ []) ≡ map f ys ++ f (h e) ∷ []
     map_last [] = refl
     map_last (y ∷ ys) = ap (λ t. f y ∷ t) (map_last ys)
+
+-- what is listed of one more
+pub before_plus : {A B : Type 0} (f : A → List B) (before : List A) (x : A) → flat_map f (before ++ x ∷ []) ≡ flat_map f before ++ f x
+before_plus f before x = flat_map-append f before (x ∷ []) ∙ ap (λ t. flat_map f before ++ t) (append-nil (f x))
 
 pub AreLinks-of : (t : Index (Unit {0})) (a b : List (List ℕ)) → a ≡ b → AreLinks t a → AreLinks t b
 AreLinks-of t a b e are x = are x ∙ ap (is_among x) e

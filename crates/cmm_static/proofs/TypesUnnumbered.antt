@@ -1,5 +1,5 @@
 -- The rules on types ask for no number of a procedure or of a data label, and for no value of a constant.
-use Rattle.std.proofs.Common.{◌≡◌, ℕ, suc, zero, ◌+◌, Bool, true, false, length, map, refl, ap, sym, ◌∙◌, List, [], ◌∷◌, ◌++◌, Option, Some, None, option_map, Ok, Err}
+use Rattle.std.proofs.Common.{◌≡◌, ℕ, suc, zero, true, false, length, map, refl, ap, sym, ◌∙◌, List, ◌++◌, Option, Some, None, option_map, Ok, Err}
 use Rattle.std.specs.Prelude.{flat_map}
 use Rattle.std.proofs.Math.Path.{fun_ext}
 use Rattle.std.proofs.lemmas.List.{length-map}
@@ -23,21 +23,19 @@ use Rattle.cmm_accepted.specs.declared.known.Known.{Known}
 use Rattle.cmm_accepted.specs.declared.sense.Host.{Host as HostName}
 use Rattle.cmm_accepted.specs.declared.sense.Sense.{Sense}
 use Rattle.cmm_accepted.specs.declared.sense.Sense.TheVariants as senses
-use Rattle.cmm_accepted.specs.Senses.{Senses, host_named, is_there, is_host}
+use Rattle.cmm_accepted.specs.Senses.{Senses, host_named, is_there}
 use Rattle.cmm_accepted.specs.Algebras.{knowns}
 use Rattle.cmm_accepted.specs.Judging.{Judged, faulty, if_ok, spots}
 use Rattle.cmm_accepted.specs.Typing.{typedef_width, type_width, wanted}
 use Rattle.cmm_accepted.specs.Constants.{as_number, number_alone}
 use Rattle.cmm_accepted.specs.Expressions.{type_spots}
 use Rattle.cmm_accepted.specs.Units.{link_type_spots, width_spots, decl_spots}
-use Rattle.cmm_accepted.specs.Items.{Within}
 use Rattle.cmm_accepted.specs.Declarations.{Declared, Entry, Typedef, Const, Register, Import, DataLabel, Procedure, NamedUnit, found, entry_of}
-use Rattle.cmm_accepted.specs.Linking.{Program, Published, imported, published_as}
+use Rattle.cmm_accepted.specs.Linking.{Program}
 use Rattle.cmm_accepted.specs.Scopes.{type_in, width_in, typedef_sense, entry_sense, senses_by, valued, untyped_sense, typed_sense, const_sense, unit_senses}
-use Rattle.cmm_names.specs.Shown.{with_what, whats}
+use Rattle.cmm_names.specs.Shown.{whats}
 use Rattle.cmm_typedefs.specs.Types.{type_senses}
 use Rattle.cmm_static.specs.TypeFaults.{const_type_spots, entry_type_spots, text_spots, datum_type_spots, item_type_spots, unit_type_spots}
-use Rattle.cmm_static.specs.inside.Flat.{Flat, flat_type_spots}
 use Rattle.cmm_static.proofs.Unnumbered.{unnumbered, plain, entry_plain, each_same, each_alike}
 
 -- ---- names that mean alike as types
@@ -160,7 +158,7 @@ senses_with w ds name = typedef_sense w (entry_of name ds)
 senses_plain : (w : TypeName → Option Width) (ds : List (Declared Entry)) → senses_with w (map plain ds) ≡ senses_with w ds
 senses_plain w ds = fun_ext (λ name. ap (typedef_sense w) (entry_plain name ds) ∙ sense_plain w (entry_of name ds))
 
-type_plain : (count : ℕ) (ds : List (Declared Entry)) → type_in count (map plain ds) ≡ type_in count ds
+pub type_plain : (count : ℕ) (ds : List (Declared Entry)) → type_in count (map plain ds) ≡ type_in count ds
 type_plain zero ds = fun_ext (λ t. refl)
 type_plain (suc count) ds = fun_ext (λ t.
     ap (λ (w : TypeName → Option Width). if_ok (type_width (senses_with w (map plain ds)) t)) (type_plain count ds)

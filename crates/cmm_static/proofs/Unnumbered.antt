@@ -1,8 +1,7 @@
 -- The rules on names ask for no number of a procedure or of a data label: units laid flat break them as units do.
-use Rattle.std.proofs.Common.{◌≡◌, ℕ, suc, ◌+◌, Bool, true, false, ◌||◌, not, map, refl, ap, sym, ◌∙◌, List, [], ◌∷◌, ◌++◌, Option, Some, None, option_map, append_assoc, append-nil}
+use Rattle.std.proofs.Common.{◌≡◌, ℕ, ◌+◌, Bool, true, false, ◌||◌, not, map, refl, ap, ◌∙◌, List, [], ◌∷◌, ◌++◌, Option, Some, None, option_map}
 use Rattle.std.specs.Prelude.{flat_map}
 use Rattle.std.proofs.lemmas.List.{map-append}
-use Rattle.std.proofs.lemmas.List.Folds.{flat_map-map}
 use Rattle.cmm_ast.specs.declared.token.Ident.{Ident}
 use Rattle.cmm_ast.specs.declared.declaration.DeclForm.{DeclForm}
 use Rattle.cmm_ast.specs.declared.declaration.DeclForm.TheVariants as decls
@@ -11,19 +10,14 @@ use Rattle.cmm_ast.specs.declared.unit.DatumForm.{DatumForm}
 use Rattle.cmm_ast.specs.declared.unit.DatumForm.TheVariants as data_forms
 use Rattle.cmm_ast.specs.declared.unit.Item.{Item}
 use Rattle.cmm_ast.specs.declared.unit.Item.TheVariants as items
-use Rattle.cmm_ast.specs.declared.unit.Unit.{Unit as UnitTree}
 use Rattle.cmm_rules.specs.declared.rule.Rule.TheVariants.{DeclaredTwice}
 use Rattle.cmm_accepted.specs.Spots.{unless}
 use Rattle.cmm_accepted.specs.Senses.{is_there, is_host}
-use Rattle.cmm_accepted.specs.Items.{Within, items_of}
-use Rattle.cmm_accepted.specs.Declarations.{Declared, Entry, Typedef, Const, Register, Import, DataLabel, Procedure, NamedUnit, found, each_as, import_entry, decl_entries, datum_entries, item_entries, entries_from, procs_in, labels_in, sum_of, units_from, named_units, entry_of, is_own_import, host_again}
-use Rattle.cmm_accepted.specs.Linking.{item_exports, export_link, export_links, address_of, export_spots, twice, import_spots, is_start, starts, has_main}
-use Rattle.cmm_accepted.specs.Units.{target_decl_spots}
-use Rattle.cmm_accepted.specs.LongNames.{long_spots, of_item}
-use Rattle.cmm_accepted.specs.Faults.{name_spots, each_unit, broken_names}
+use Rattle.cmm_accepted.specs.Items.{Within}
+use Rattle.cmm_accepted.specs.Declarations.{Declared, Entry, Typedef, Const, Register, Import, DataLabel, Procedure, found, each_as, import_entry, decl_entries, datum_entries, item_entries, entries_from, procs_in, labels_in, entry_of, is_own_import, host_again}
+use Rattle.cmm_accepted.specs.Linking.{address_of, export_spots, import_spots, is_start, starts}
 use Rattle.cmm_names.specs.Shown.{with_what, whats}
-use Rattle.cmm_static.specs.inside.Flat.{Flat, flat_unit, flat_links, flat_spots, placed, flats_broken, flat_starts, some_starts}
-use Rattle.cmm_names.proofs.Shared.{found_with, again_with}
+use Rattle.cmm_names.proofs.Shared.{found_with}
 
 abbrev pub unnumbered : Entry → Entry
 unnumbered (Procedure number p) = Procedure 0 p

@@ -14,7 +14,7 @@ use Rattle.cmm_accepted.specs.Judging.{if_ok}
 use Rattle.cmm_accepted.specs.Typing.{type_width}
 use Rattle.cmm_accepted.specs.Expressions.{alignment_spots, type_spots}
 use Rattle.cmm_accepted.specs.Units.{width_spots, decl_spots}
-use Rattle.cmm_accepted.specs.Declarations.{Declared, Entry, Typedef, Const, Register, NamedUnit}
+use Rattle.cmm_accepted.specs.Declarations.{Entry, Typedef, Const, Register, NamedUnit}
 use Rattle.cmm_accepted.specs.Linking.{Program}
 use Rattle.cmm_accepted.specs.Scopes.{unit_senses}
 

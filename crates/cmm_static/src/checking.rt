@@ -9,6 +9,7 @@ ghost use Rattle.cmm_static.specs.inside.Linked.{AreLinks};
 ghost use Rattle.cmm_static.specs.inside.Flat.{flat_unit, flat_links, flats_broken, some_starts};
 ghost use Rattle.cmm_static.specs.inside.Units.{unit_flat, broken_placed};
 
+use crate::earlier::Earlier;
 use crate::fault::StaticFault;
 use crate::linking::{add_links, starts};
 use crate::unit::{first_broken, names_of};
@@ -58,7 +59,7 @@ fn first_of_all<'a>(
     requires { length units.now < 2 ^ 32 }
     ensures { IfOk result (λ first. (all : List (List ℕ)) → AreLinks links.now all → option_map broken_placed first ≡ first_by stands_before None (flats_broken all [] 0 (map unit_flat units.now))) }
 {
-    let mut earlier = Index::new(alloc);
+    let mut earlier = Earlier::none(alloc);
     let mut number: u32 = 0;
     for unit in units {
         let first = first_broken(alloc, unit, links, &mut earlier)?;
@@ -108,9 +109,10 @@ fn fault_at(units: &[Unit], broken: Broken) -> Fault
     }
 }
 
-/// Whether units break no rule that stands: 20 of units, 21 of exports and of types, 23 of the types of imports, exports and texts, 34, 35,
-/// 37, and 40 of names and of the alignments of data; and 36 where none of these is broken, at the beginning of the first unit. Else the
-/// first fault by unit, place and rule. Units are those that `cmm_parser` gives, and fewer than 2^32.
+/// Whether units break no rule that stands: 20 of units, 21 of exports and of types, 23 of the types of imports, exports and texts and of
+/// registers that an earlier unit has with another width, 34, 35, 37, and 40 of names and of the alignments of data; and 36 where none of
+/// these is broken, at the beginning of the first unit. Else the first fault by unit, place and rule. Units are those that `cmm_parser`
+/// gives, and fewer than 2^32.
 pub fn check(alloc: Global, units: &[Unit]) -> Result<(), StaticFault>
     requires { length units.now < 2 ^ 32 }
     ensures ok { OnOk result (first_standing_fault units.now ≡ None) }

@@ -40,7 +40,7 @@ fn note_type<'a>(types: &Types<'a>, t: &TypeName, best: &mut Option<Spot>)
 }
 
 /// The width of a type, if it is not broken.
-fn width_of<'a>(types: &Types<'a>, t: &TypeName) -> Option<Width>
+pub(crate) fn width_of<'a>(types: &Types<'a>, t: &TypeName) -> Option<Width>
     ensures { result ≡ if_ok (type_width (senses_of types.now) t.now) }
 {
     match type_width(types, t) {
@@ -50,7 +50,7 @@ fn width_of<'a>(types: &Types<'a>, t: &TypeName) -> Option<Width>
 }
 
 /// Notes a type that is of another width: rule 23.
-fn note_width(bits: u64, token: u32, width: Option<Width>, best: &mut Option<Spot>)
+pub(crate) fn note_width(bits: u64, token: u32, width: Option<Width>, best: &mut Option<Spot>)
     ensures { best.new ≡ first_of best.old (units.width_spots bits token width) }
 {
     match width {

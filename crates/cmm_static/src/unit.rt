@@ -1,13 +1,15 @@
-//! The names of one unit, and the rules on them and on types.
+//! The names of one unit, and the rules on them, on types and on registers.
 
-ghost use Rattle.std.specs.Prelude.{◌≡◌, ◌++◌, None, List, ℕ, IfOk, OnOk};
+ghost use Rattle.std.specs.Prelude.{◌≡◌, ◌++◌, ◌∷◌, [], None, List, ℕ, IfOk, OnOk};
 ghost use Rattle.cmm_accepted.specs.Spots.{first_of};
 ghost use Rattle.cmm_static.specs.inside.Linked.{AreLinks};
-ghost use Rattle.cmm_static.specs.inside.Flat.{flat_unit, flat_links, flat_spots};
-ghost use Rattle.cmm_static.specs.inside.Units.{unit_flat};
+ghost use Rattle.cmm_static.specs.inside.Flat.{Flat, flat_unit, flat_spots};
+ghost use Rattle.cmm_static.specs.inside.Units.{AreEarlier, unit_flat};
 
+use crate::earlier::Earlier;
 use crate::host::note_hosts;
 use crate::linking::{note_exports, note_imports, note_twice};
+use crate::registers::{add_registers, note_registers, registers_in};
 use crate::target::note_targets;
 use crate::typed::{note_entries, note_items};
 use crate::unit_names::UnitNames;
@@ -34,27 +36,30 @@ pub(crate) fn names_of<'a>(alloc: Global, unit: &'a Unit) -> Result<UnitNames<'a
     })
 }
 
-/// The first fault of a unit. Its link names are added to those of earlier units.
+/// The first fault of a unit. It is added to what is known of earlier units.
 pub(crate) fn first_broken<'a>(
     alloc: Global,
     unit: &UnitNames<'a>,
     links: &Index<()>,
-    earlier: &mut Index<()>,
+    earlier: &mut Earlier,
 ) -> Result<Option<Spot>, AllocError>
-    ensures links { OnOk result ((before : List (List ℕ)) → AreLinks earlier.old before → AreLinks earlier.new (before ++ flat_links (unit_flat unit.now))) }
-    ensures best { IfOk result (λ best. (all before : List (List ℕ)) → AreLinks links.now all → AreLinks earlier.old before → best ≡ first_of None (flat_spots all before (unit_flat unit.now))) }
+    ensures earlier { OnOk result ((before : List Flat) → AreEarlier earlier.old before → AreEarlier earlier.new (before ++ unit_flat unit.now ∷ [])) }
+    ensures best { IfOk result (λ best. (all : List (List ℕ)) (before : List Flat) → AreLinks links.now all → AreEarlier earlier.old before → best ≡ first_of None (flat_spots all before (unit_flat unit.now))) }
 {
     let mut best = unit.repeated;
     let declared = unit.table.declared.as_slice();
     let exports = unit.exports.as_slice();
     note_hosts(declared, &mut best);
     note_exports(&unit.table, exports, &mut best);
-    note_twice(alloc, exports, earlier, &mut best)?;
+    note_twice(alloc, exports, &mut earlier.links, &mut best)?;
     note_imports(alloc, links, declared, &mut best)?;
     note_targets(unit.things.as_slice(), &mut best);
     note_things(alloc, unit.things.as_slice(), &mut best)?;
     let types = types_of(alloc, declared)?;
     note_entries(&types, declared, &mut best);
     note_items(&types, unit.things.as_slice(), &mut best);
+    let registers = registers_in(alloc, declared)?;
+    note_registers(&types, registers.as_slice(), &earlier.registers, &mut best);
+    add_registers(alloc, &types, registers.as_slice(), &mut earlier.registers)?;
     Ok(best)
 }

@@ -1,18 +1,22 @@
 -- A unit as the rules on names and types see it: what it declares, what it exports, and what stands in it. Procedures and data labels have no numbers.
-use Rattle.std.specs.Prelude.{ℕ, suc, Bool, false, ◌||◌, ◌&&◌, bytes_eq, codes, List, [], ◌∷◌, ◌++◌, map, flat_map}
+use Rattle.std.specs.Prelude.{ℕ, suc, Bool, false, ◌||◌, ◌&&◌, bytes_eq, codes, List, [], ◌∷◌, ◌++◌, map, flat_map, Option, Some, None}
+use Rattle.cmm_words.specs.declared.width.Width.{Width}
+use Rattle.cmm_words.specs.Widths.{bits}
+use Rattle.cmm_ast.specs.declared.expression.TypeName.{TypeName}
 use Rattle.cmm_ast.specs.declared.declaration.Export.{Export}
 use Rattle.cmm_ast.specs.declared.unit.Item.{Item}
 use Rattle.cmm_ast.specs.declared.unit.Unit.{Unit as UnitTree}
 use Rattle.cmm_accepted.specs.declared.spot.Spot.{Spot}
 use Rattle.cmm_accepted.specs.Items.{items_of}
-use Rattle.cmm_accepted.specs.Declarations.{Declared, Entry, entry_of, item_entries, again, host_again}
-use Rattle.cmm_accepted.specs.Linking.{item_exports, export_link, export_spots, twice, import_spots, is_start, starts}
-use Rattle.cmm_accepted.specs.Units.{target_decl_spots}
+use Rattle.cmm_accepted.specs.Declarations.{Declared, Entry, found, firsts, entry_of, item_entries, again, host_again}
+use Rattle.cmm_accepted.specs.Linking.{item_exports, export_link, export_spots, twice, import_spots, register_entry, is_start, starts}
+use Rattle.cmm_accepted.specs.Units.{target_decl_spots, width_spots}
+use Rattle.cmm_accepted.specs.Scopes.{width_in}
 use Rattle.cmm_accepted.specs.LongNames.{long_spots, of_item}
 use Rattle.cmm_accepted.specs.Faults.{Placed}
 use Rattle.cmm_typedefs.specs.Types.{type_senses}
 use Rattle.cmm_static.specs.TypeFaults.{entry_type_spots, item_type_spots}
-use Rattle.cmm_names.specs.Shown.{whats}
+use Rattle.cmm_names.specs.Shown.{whats, with_what}
 
 pub record Flat : Type 0 where
   pub entries : List (Declared Entry)
@@ -38,15 +42,44 @@ flat_name_spots all earlier f =
 abbrev pub flat_type_spots : Flat → List Spot
 flat_type_spots f = let names = type_senses f.entries in flat_map (λ d. entry_type_spots names d.as_what) f.entries ++ flat_map (item_type_spots names) f.items
 
-abbrev pub flat_spots : List (List ℕ) → List (List ℕ) → Flat → List Spot
-flat_spots all earlier f = flat_name_spots all earlier f ++ flat_type_spots f
+-- ---- registers
+
+abbrev pub registers_in : List (Declared Entry) → List (Declared TypeName)
+registers_in ds = flat_map register_entry (firsts [] ds)
+
+abbrev pub widths_by : (TypeName → Option Width) → List (Declared TypeName) → List (Declared (Option Width))
+widths_by width rs = map (with_what width) rs
+
+abbrev pub flat_widths : Flat → List (Declared (Option Width))
+flat_widths f = widths_by (width_in f.entries) (registers_in f.entries)
+
+-- 23: a register has one width in all units
+abbrev pub register_spots_by : List (Declared (Option Width)) → (TypeName → Option Width) → Declared TypeName → List Spot
+register_spots_by earlier width d = elim (found d.name.name earlier) [
+  | Some first ↦ elim first [ Some w ↦ width_spots (bits w) d.as_what.token (width d.as_what) | None ↦ [] ]
+  | None ↦ []
+]
+
+abbrev pub flat_register_spots : List (Declared (Option Width)) → Flat → List Spot
+flat_register_spots earlier f = flat_map (register_spots_by earlier (width_in f.entries)) (registers_in f.entries)
+
+-- ---- all rules that stand, from the link names of all units and from the units before
+
+abbrev pub links_before : List Flat → List (List ℕ)
+links_before before = flat_map flat_links before
+
+abbrev pub widths_before : List Flat → List (Declared (Option Width))
+widths_before before = flat_map flat_widths before
+
+abbrev pub flat_spots : List (List ℕ) → List Flat → Flat → List Spot
+flat_spots all before f = flat_name_spots all (links_before before) f ++ flat_type_spots f ++ flat_register_spots (widths_before before) f
 
 abbrev pub placed : ℕ → Spot → Placed
 placed number s = record { unit = number; spot = s }
 
-abbrev pub flats_broken : List (List ℕ) → List (List ℕ) → ℕ → List Flat → List Placed
-flats_broken all earlier number [] = []
-flats_broken all earlier number (f ∷ fs) = map (placed number) (flat_spots all earlier f) ++ flats_broken all (earlier ++ flat_links f) (suc number) fs
+abbrev pub flats_broken : List (List ℕ) → List Flat → ℕ → List Flat → List Placed
+flats_broken all before number [] = []
+flats_broken all before number (f ∷ fs) = map (placed number) (flat_spots all before f) ++ flats_broken all (before ++ f ∷ []) (suc number) fs
 
 abbrev pub flat_starts : Flat → Bool
 flat_starts f = starts f.entries f.exports

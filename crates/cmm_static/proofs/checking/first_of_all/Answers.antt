@@ -1,9 +1,7 @@
-use Rattle.std.proofs.Common.{◌+◌, ◌++◌, Some, map, take, sym, ap, ◌∙◌}
-use Rattle.std.specs.Prelude.{flat_map}
-use Rattle.cmm_static.specs.inside.Flat.{flat_links, placed}
-use Rattle.cmm_static.specs.inside.Units.{unit_flat}
-use Rattle.cmm_names.proofs.Shared.{flat_next}
-use Rattle.cmm_static.proofs.Links.{AreLinks-of}
+use Rattle.std.proofs.Common.{◌+◌, Some, map, take, sym, ap, ◌∙◌, subst}
+use Rattle.cmm_static.specs.inside.Flat.{placed}
+use Rattle.cmm_static.specs.inside.Units.{AreEarlier, unit_flat}
+use Rattle.cmm_names.proofs.Shared.{mapped_next}
 use Rattle.cmm_static.proofs.FirstUnit.{later_step, here_step}
 use Rattle.cmm_static.proofs.checking.first_of_all.Goals as goal
 
@@ -12,10 +10,9 @@ loop-unit-preserved c =
     let i = c.loop-unit.invariant in
     let k = c.loop-unit.unit-index in
     let us = c.args.units.now in
-    let before = flat_map flat_links (map unit_flat (take k us)) in (
+    let before = map unit_flat (take k us) in (
       ap (λ n. n + 1) i.0,
-      AreLinks-of c.first_broken.new.earlier (before ++ flat_links (unit_flat c.unit-item.result)) (flat_map flat_links (map unit_flat (take (k + 1) us)))
-          (sym (flat_next unit_flat flat_links us k c.unit-item.result c.loop-unit-test.true c.unit-item.is)) (c.in_ok-first.ensures.links before i.1),
+      subst (AreEarlier c.first_broken.new.earlier) (sym (mapped_next unit_flat us k c.unit-item.result c.loop-unit-test.true c.unit-item.is)) (c.in_ok-first.ensures.earlier before i.1),
       λ all. λ are.
           sym (later_step unit_flat all us k c.unit-item.result c.loop-unit-test.true c.unit-item.is (sym (c.in_ok-first.ensures.best all before are i.1) ∙ c.in-None.is)) ∙ i.2 all are,
     )
@@ -27,4 +24,4 @@ returns-in-Some c = λ all. λ are.
     let us = c.args.units.now in
     ap (λ n. Some (placed n c.in-Some.spot)) i.0
     ∙ sym (sym (i.2 all are) ∙ here_step unit_flat all us k c.unit-item.result c.in-Some.spot c.loop-unit-test.true c.unit-item.is
-    (sym (c.in_ok-first.ensures.best all (flat_map flat_links (map unit_flat (take k us))) are i.1) ∙ c.in-Some.is))
+    (sym (c.in_ok-first.ensures.best all (map unit_flat (take k us)) are i.1) ∙ c.in-Some.is))

@@ -1,17 +1,16 @@
 use Rattle.std.proofs.Common.{◌≡◌, ℕ, List, [], None, map, take, drop}
-use Rattle.std.specs.Prelude.{flat_map}
 use Rattle.cmm_accepted.specs.Spots.{first_by}
 use Rattle.cmm_accepted.specs.Faults.{stands_before}
 use Rattle.cmm_static.specs.inside.Linked.{AreLinks}
-use Rattle.cmm_static.specs.inside.Flat.{flat_links, flats_broken}
-use Rattle.cmm_static.specs.inside.Units.{unit_flat}
+use Rattle.cmm_static.specs.inside.Flat.{flats_broken}
+use Rattle.cmm_static.specs.inside.Units.{AreEarlier, unit_flat}
 use Rattle.cmm_static.proofs.checking.first_of_all.Given as goal
 
 -- the units that are left break first what all do
 abbrev pub invariant-loop-unit : goal.invariant-loop-unit
 invariant-loop-unit l =
     (l.number ≡ l.unit-index)
-    × AreLinks l.earlier (flat_map flat_links (map unit_flat (take l.unit-index l.units)))
+    × AreEarlier l.earlier (map unit_flat (take l.unit-index l.units))
     × ((all : List (List ℕ)) → AreLinks l.links all →
-    first_by stands_before None (flats_broken all (flat_map flat_links (map unit_flat (take l.unit-index l.units))) l.unit-index (map unit_flat (drop l.unit-index l.units)))
+    first_by stands_before None (flats_broken all (map unit_flat (take l.unit-index l.units)) l.unit-index (map unit_flat (drop l.unit-index l.units)))
     ≡ first_by stands_before None (flats_broken all [] 0 (map unit_flat l.units)))

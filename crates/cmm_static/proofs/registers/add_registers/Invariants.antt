@@ -1,0 +1,14 @@
+use Rattle.std.proofs.Common.{◌++◌, List, Option, map, take}
+use Rattle.cmm_words.specs.declared.width.Width.{Width}
+use Rattle.cmm_accepted.specs.Declarations.{Declared}
+use Rattle.cmm_accepted.specs.Judging.{if_ok}
+use Rattle.cmm_accepted.specs.Typing.{type_width}
+use Rattle.cmm_static.specs.inside.Flat.{widths_by}
+use Rattle.cmm_static.specs.inside.Linked.{AreFound}
+use Rattle.cmm_static.specs.inside.Units.{register_shown}
+use Rattle.cmm_typedefs.specs.Types.{senses_of}
+use Rattle.cmm_static.proofs.registers.add_registers.Given as goal
+
+abbrev pub invariant-loop-register : goal.invariant-loop-register
+invariant-loop-register l = (before : List (Declared (Option Width))) → AreFound l.fn.earlier before →
+    AreFound l.earlier (before ++ widths_by (λ t. if_ok (type_width (senses_of l.types) t)) (map register_shown (take l.register-index l.registers)))
