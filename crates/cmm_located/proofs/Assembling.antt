@@ -30,7 +30,7 @@ use Rattle.cmm_located.proofs.Following.{wrong_in}
 use Rattle.cmm_located.proofs.Yields.{yields_are_followed}
 
 -- a path may cost more
-costs_more : (s : Setting) (c : Compiled) (live : Liveness) (st : State Position) (at : Located) (a b : ℕ) → a ≤ b → IsFollowed s c live a st at → IsFollowed s c live b st at
+pub costs_more : (s : Setting) (c : Compiled) (live : Liveness) (st : State Position) (at : Located) (a b : ℕ) → a ≤ b → IsFollowed s c live a st at → IsFollowed s c live b st at
 costs_more s c live st at a b le follows right =
     let path = follows right in
     record { steps = path.steps; through = path.through; arrives = path.arrives; enough = path.enough; within = omega (arith, path.within) }

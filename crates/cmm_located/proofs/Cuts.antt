@@ -63,7 +63,7 @@ use Rattle.cmm_located.proofs.Staying.{after_transfer, places_do, places_step_is
 
 -- ---- the search finds the same among activations without their values
 
-abbrev cuts_of : Option Suspended → List ℕ
+abbrev pub cuts_of : Option Suspended → List ℕ
 cuts_of o = elim o as (λ _. List ℕ) [ Some a ↦ a.site.cuts | None ↦ [] ]
 
 module _ (s : Setting) (a : Activation) (older : List Activation) where
@@ -85,11 +85,11 @@ module _ (s : Setting) (a : Activation) (older : List Activation) where
   at_number (Some n) = at_procedure n (procedure_at s a.procedure)
   at_number None = refl
 
-bare_sites : (s : Setting) (activations : List Activation) → site_cuts s (map bare activations) ≡ site_cuts s activations
+pub bare_sites : (s : Setting) (activations : List Activation) → site_cuts s (map bare activations) ≡ site_cuts s activations
 bare_sites s [] = refl
 bare_sites s (a ∷ older) = at_number s a older a.site
 
-bare_search : (s : Setting) (value : ℕ) (activations : List Activation) (own : List ℕ) (younger : ℕ) →
+pub bare_search : (s : Setting) (value : ℕ) (activations : List Activation) (own : List ℕ) (younger : ℕ) →
     cut_among s younger own value (map bare activations) ≡ cut_among s younger own value activations
 bare_search s value [] own younger = refl
 bare_search s value (a ∷ older) own younger =
@@ -102,7 +102,7 @@ bare_search s value (a ∷ older) own younger =
       | None ↦ o
     ]) (ap (λ l. cut_among s (suc younger) l value (map bare older)) (bare_sites s older) ∙ bare_search s value older (site_cuts s older) (suc younger))
 
-drop_bare : (m : ℕ) (activations : List Activation) → drop m (map bare activations) ≡ map bare (drop m activations)
+pub drop_bare : (m : ℕ) (activations : List Activation) → drop m (map bare activations) ≡ map bare (drop m activations)
 drop_bare zero activations = refl
 drop_bare (suc m) [] = refl
 drop_bare (suc m) (a ∷ older) = drop_bare m older
@@ -122,7 +122,7 @@ pub record Reached (c : Compiled) (top : ℕ) (contents : Contents) (ps : List P
   pub waits : AllWait c.graphs (f ∷ fs) (position ∷ rest)
   pub chain : IsChain c.plan top contents (suspensions c.graphs (f ∷ fs) (position ∷ rest)) point
 
-reach : (c : Compiled) (top : ℕ) (contents : Contents) (f : Activation) (fs : List Activation) (m : ℕ) (activations : List Activation) (ps : List Position) (point : Point) →
+pub reach : (c : Compiled) (top : ℕ) (contents : Contents) (f : Activation) (fs : List Activation) (m : ℕ) (activations : List Activation) (ps : List Position) (point : Point) →
     AllWait c.graphs activations ps → IsChain c.plan top contents (suspensions c.graphs activations ps) point → drop m activations ≡ f ∷ fs → Reached c top contents ps m f fs
 reach c top contents f fs zero (x ∷ xs) (q ∷ qs) point waits chain is = record {
   point = point;

@@ -104,13 +104,14 @@ module _ (s : Setting) (c : Compiled) (live : Liveness) where
     pub related : Related s c live after (located_step s c first)
     pub within : tokens_at s c first ≤ most
 
-  pub in_two : (cost most : ℕ) (st : State Position) (at : Located) →
-      (over_graphs.wrong (over_graphs.step st) ≡ false → Moves most st (over_graphs.step st) (located_step s c at)) →
+  -- by moves from any state that shows what the step shows
+  pub in_two_from : (cost most : ℕ) (st before : State Position) (at : Located) →
+      (over_graphs.wrong (over_graphs.step st) ≡ false → Moves most before (over_graphs.step st) (located_step s c at)) →
       ((event : Event Call Outcome) → over_places.asks at ≡ Some event → over_graphs.asks st ≡ Some event) → store_seen at.store ≡ store_seen st.store →
       tokens_at s c at ≤ cost → IsFollowed s c live (cost + most) st at
-  in_two cost most st at moves asks same within right =
+  in_two_from cost most st before at moves asks same within right =
       let m = moves right in
-      let shown : store_seen st.store ≡ store_seen (over_graphs.step st).store = sym m.shows ∙ seen_alike (over_graphs.step st) (located_step s c m.first) m.related in
+      let shown : store_seen before.store ≡ store_seen (over_graphs.step st).store = sym m.shows ∙ seen_alike (over_graphs.step st) (located_step s c m.first) m.related in
       let first_step : Leads over_places (tokens_at s c) (Passes over_graphs over_places st) (λ u. u ≡ m.first) 1 cost at =
       one_step
       (record {
@@ -132,6 +133,12 @@ module _ (s : Setting) (c : Compiled) (live : Liveness) where
     where
       no_event : (event : Event Call Outcome) → None ≡ Some event → ⊥
       no_event event is = absurd (cc)
+
+  pub in_two : (cost most : ℕ) (st : State Position) (at : Located) →
+      (over_graphs.wrong (over_graphs.step st) ≡ false → Moves most st (over_graphs.step st) (located_step s c at)) →
+      ((event : Event Call Outcome) → over_places.asks at ≡ Some event → over_graphs.asks st ≡ Some event) → store_seen at.store ≡ store_seen st.store →
+      tokens_at s c at ≤ cost → IsFollowed s c live (cost + most) st at
+  in_two cost most st at moves asks same within right = in_two_from cost most st st at moves asks same within right
 
   -- one step or two over places
   pub in_either : (cost most : ℕ) (st : State Position) (at : Located) →

@@ -217,16 +217,16 @@ module _ (s : Setting) (c : Compiled) (live : Liveness) (planned : IsPlanned c.p
   }
 
   -- where the machine over graphs lands
-  pub landing_goes : (landing : Landing) (move : Position → Position) → land s landing (running store (f ∷ older)) ≡ Some (gone_on to values (running store (f ∷ older))) →
+  pub landing_goes : (landing : Landing) (move : Position → Position) → land s landing (record store { activations = f ∷ older }) ≡ Some (gone_on to values (record store { activations = f ∷ older })) →
       arrived (graph_control c.graphs) landing (p ∷ ps) ≡ move p ∷ ps → move p ≡ record p { procedure = f.procedure; node = next } →
-      landed (graph_control c.graphs) s landing (running store (f ∷ older)) (p ∷ ps) ≡ gone_state
+      landed (graph_control c.graphs) s landing (record store { activations = f ∷ older }) (p ∷ ps) ≡ gone_state
   landing_goes landing move lands arrives moves =
       ap (λ (o : Option Store). elim o as (λ _. State Position) [
         | Some after ↦ record { store = over Running after; controls = arrived (graph_control c.graphs) landing (p ∷ ps) }
-        | None ↦ record { store = over (Ended StackLimit) (running store (f ∷ older)); controls = p ∷ ps }
+        | None ↦ record { store = over (Ended StackLimit) (record store { activations = f ∷ older }); controls = p ∷ ps }
       ]) lands
       ∙ (ap (λ (after : Store). record { store = over Running after; controls = arrived (graph_control c.graphs) landing (p ∷ ps) })
-      (targets_take to values (running store (f ∷ older)) f older refl)
+      (targets_take to values (record store { activations = f ∷ older }) f older refl)
       ∙ ap (λ (cs : List Position). record { store = gone_state.store; controls = cs }) (arrives ∙ ap (λ (m : Position). m ∷ ps) moves))
 
   pub moves_behind : p.procedure ≡ f.procedure → (o : Option NodeId) → o ≡ Some n →

@@ -36,7 +36,7 @@ module _ (s : Setting) (c : Compiled) (counts : HasVariables s c) where
         ]) is_variable;
   }
 
-  all_told : (activations : List Activation) (ps : List Position) → AllWait c.graphs activations ps →
+  pub all_told : (activations : List Activation) (ps : List Position) → AllWait c.graphs activations ps →
       AllZip (IsToldOf s) activations (suspensions c.graphs activations ps)
   all_told [] [] waits = tt
   all_told (a ∷ older) (p ∷ ps) waits = (told_of a p waits.0, all_told older ps waits.1)
@@ -62,7 +62,7 @@ no_event s store (Fail error) = refl
 
 module _ (s : Setting) (c : Compiled) (live : Liveness) (st : State Position) (at : Located) (counts : HasVariables s c) (knows : KnowsLive s c)
     (related : Related s c live st at) where
-  same_walk : IsSuspendedAll s c st.store.activations st.controls at → walk_of s (shown s c at) ≡ walk_of s st.store
+  pub same_walk : IsSuspendedAll s c st.store.activations st.controls at → walk_of s (shown s c at) ≡ walk_of s st.store
   same_walk waiting =
       walk_is_shown s c (stack_top s) st.store (suspensions c.graphs st.store.activations st.controls) at knows
       (all_told s c counts st.store.activations st.controls waiting.waits) waiting.chain (related.store ∙ ap (λ activations. record st.store { activations = activations }) waiting.ghosts)

@@ -16,6 +16,12 @@ pub mod Returns
 pub mod Cuts
 pub mod Assembling
 pub mod Resting
+pub mod Asking
+pub mod Standing
+pub mod ClientSets
+pub mod Resuming
+pub mod Commands
+pub mod Clients
 mod Notation
 mod Rows
 mod PremiseRows

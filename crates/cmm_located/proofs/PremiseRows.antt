@@ -10,7 +10,7 @@ use Rattle.cmm_program.specs.declared.procedure.Site.{Site}
 use Rattle.cmm_program.specs.Frames.{place_row, procedure_at}
 use Rattle.cmm_program.specs.State.{Setting, Ended, Done}
 use Rattle.cmm_program.proofs.Shared as sample
-use Rattle.cmm_program.proofs.Shared.{call_site, frame, no_client, procedure, program, setting, variables_of}
+use Rattle.cmm_program.proofs.Shared.{call_site, frame, no_client, opened, procedure, program, setting, variables_of}
 use Rattle.cmm_graph.specs.declared.number.NodeId.{NodeId}
 use Rattle.cmm_graph.specs.declared.number.Temporary.{Temporary}
 use Rattle.cmm_graph.specs.declared.operand.Local.{Local}
@@ -28,6 +28,8 @@ use Rattle.cmm_live.specs.Locals.{local_number}
 use Rattle.cmm_live.specs.Sites.{site_of}
 use Rattle.cmm_chain.specs.declared.frame.Location.TheVariants.{Slot, Temp}
 use Rattle.cmm_chain.specs.Plans.{is_laid, is_place}
+use Rattle.cmm_program.specs.Liveness.{is_among, is_live_at}
+use Rattle.cmm_located.specs.Clients.{IsShowable}
 use Rattle.cmm_located.specs.Compiled.{Compiled, exits_of}
 use Rattle.cmm_located.specs.Cutting.{LandInside, LandsByCut}
 use Rattle.cmm_located.specs.Entering.{HasEntry}
@@ -267,6 +269,7 @@ calling_exits zero p number site is is_site =
           returns = refl;
           normal = λ returns. (n 2, refl, record { next = n 3; is_copy = refl; at_site = λ u is_live. absurd (cc (is_live)) });
           alternate = λ k cont listed is_cont. absurd (none_numbered k listed);
+          unwinds = λ k cont listed is_cont. absurd (none_numbered k listed);
         }
     main_exits (suc number) site is = absurd (cc (is))
 calling_exits (suc zero) p number site is is_site =
@@ -345,4 +348,33 @@ calling_is_compiled = record {
   own_cuts = λ q p m is. calling_own_cuts q p m.number is;
   pairs = calling_pairs;
   within = λ p. one_token p.procedure p.node.number p.temporaries;
+}
+
+-- ---- the client
+
+-- no variable is live at a site
+never : (b : Bool) → elim b as (λ _. Bool) [ true ↦ false | false ↦ false ] ≡ true → ⊥
+never true is = absurd (cc (is))
+never false is = absurd (cc (is))
+
+main_dead : (site u : ℕ) → is_live_at calling-main site u ≡ true → ⊥
+unfolding opened
+main_dead zero u is_live = never (is_among u (0 ∷ [])) is_live
+main_dead (suc site) u is_live = absurd (cc (is_live))
+
+h_dead : (site u : ℕ) → is_live_at calling-h site u ≡ true → ⊥
+h_dead site u is_live = absurd (cc (is_live))
+
+calling_dead : (q site u : ℕ) (p : Proc) → procedure_at calling-setting q ≡ Some p → is_live_at p site u ≡ true → ⊥
+calling_dead zero site u p is is_live =
+    let same : calling-main ≡ p = cc (is) in main_dead site u (subst (λ (x : Proc). is_live_at x site u ≡ true) (sym same) is_live)
+calling_dead (suc zero) site u p is is_live =
+    let same : calling-h ≡ p = cc (is) in h_dead site u (subst (λ (x : Proc). is_live_at x site u ≡ true) (sym same) is_live)
+calling_dead (suc (suc q)) site u p is is_live = absurd (cc (is))
+
+calling_is_showable : IsShowable calling-setting calling
+calling_is_showable = record {
+  variables = λ q p is. (calling_entries q p is).variables;
+  live = λ q site u p is less is_live. absurd (calling_dead q site u p is is_live);
+  apart = λ q site u w exists is_live lives other. absurd (cc (is_live));
 }

@@ -75,7 +75,7 @@ get_none [] i le = refl
 get_none (x ∷ xs) zero le = absurd (omega arith)
 get_none (x ∷ xs) (suc i) le = get_none xs i (omega arith)
 
-get_contains : (xs : List ℕ) (i k : ℕ) → slice_get xs i ≡ Some k → Contains xs k
+pub get_contains : (xs : List ℕ) (i k : ℕ) → slice_get xs i ≡ Some k → Contains xs k
 get_contains [] i k is = absurd (cc)
 get_contains (x ∷ xs) zero k is = (0, omega arith, cc)
 get_contains (x ∷ xs) (suc i) k is = let rest = get_contains xs i k is in (suc rest.0, omega (arith, rest.1), rest.2)
@@ -96,7 +96,7 @@ pub record ByNormal (site : Site) (exit : ℕ) (e : Exit) : Type 0 where
   pub returns : site.never ≡ false
   pub is_exit : normal_exit site ≡ e
 
-by_exit : (p : Proc) (site : Site) (exit : ℕ) (e : Exit) → return_exit p site exit ≡ Some e → ByAlternate p site exit e ⊎ ByNormal site exit e
+pub by_exit : (p : Proc) (site : Site) (exit : ℕ) (e : Exit) → return_exit p site exit ≡ Some e → ByAlternate p site exit e ⊎ ByNormal site exit e
 by_exit p site exit e is = by (nat_lt exit (length site.returns)) is
   where
     normal : (last never : Bool) → (exit == length site.returns) ≡ last → site.never ≡ never →
@@ -130,7 +130,7 @@ suspended_parts s f older n sa is_site is =
     subst (λ (x : Suspended). (procedure_at s f.procedure ≡ Some x.procedure) × (slice_get x.procedure.sites n ≡ Some x.site)) same
     (two.1, ap (λ m. slice_get two.0.sites m) number ∙ three.1)
 
-normal_is : (node : NodeKind) (exits : Exits) → exits_of node ≡ Some exits → normal_of node ≡ exits.normal
+pub normal_is : (node : NodeKind) (exits : Exits) → exits_of node ≡ Some exits → normal_of node ≡ exits.normal
 normal_is (kind.Call site callee arguments x) exits is = ap (λ (o : Option Exits). elim o as (λ _. Option NodeId) [ Some e ↦ e.normal | None ↦ None ]) is
 normal_is (kind.Yield site values x) exits is = ap (λ (o : Option Exits). elim o as (λ _. Option NodeId) [ Some e ↦ e.normal | None ↦ None ]) is
 normal_is node exits is = absurd (cc)

@@ -28,7 +28,7 @@ use Rattle.cmm_located.specs.ShownWalks.{IsToldOf, KnowsLive, WalkIsShown}
 abbrev valued : Bool → List ℕ → ℕ → Option ℕ
 valued live values n = elim live [ true ↦ Some (slice_index_or values n 0) | false ↦ None ]
 
-same_value : (p : Proc) (site n : ℕ) (vs ws : List ℕ) → (is_live_at p site n ≡ true → slice_index_or vs n 0 ≡ slice_index_or ws n 0) →
+pub same_value : (p : Proc) (site n : ℕ) (vs ws : List ℕ) → (is_live_at p site n ≡ true → slice_index_or vs n 0 ≡ slice_index_or ws n 0) →
     live_value p site vs n ≡ live_value p site ws n
 same_value p site n vs ws same = by (is_live_at p site n) refl
   where
@@ -100,7 +100,7 @@ module _ (s : Setting) where
 
 module _ (s : Setting) (c : Compiled) (at : Located) (knows : KnowsLive s c) where
   -- a live variable has its value in what the walk shows
-  value_is_shown : (a : Activation) (t : Suspension) (e : Element) → IsToldOf s a t → Shows c.plan at.holdings t e →
+  pub value_is_shown : (a : Activation) (t : Suspension) (e : Element) → IsToldOf s a t → Shows c.plan at.holdings t e →
       (p : Proc) → procedure_at s a.procedure ≡ Some p → (v : ℕ) → v < length p.vars → is_live_at p t.site v ≡ true →
       slice_index_or (activation_of s c at e).variables v 0 ≡ slice_index_or a.variables v 0
   value_is_shown a t e told shows p is v less alive =
@@ -135,7 +135,7 @@ module _ (s : Setting) (c : Compiled) (at : Located) (knows : KnowsLive s c) whe
   same_walk [] [] (e ∷ es) told shows = absurd shows
   same_walk (a ∷ older) (t ∷ ts) [] told shows = absurd shows
 
-  as_many : (activations : List Activation) (suspended : List Suspension) → AllZip (IsToldOf s) activations suspended → length suspended ≡ length activations
+  pub as_many : (activations : List Activation) (suspended : List Suspension) → AllZip (IsToldOf s) activations suspended → length suspended ≡ length activations
   as_many [] [] told = refl
   as_many (a ∷ older) (t ∷ ts) told = ap suc (as_many older ts told.1)
   as_many [] (t ∷ ts) told = absurd told

@@ -91,7 +91,7 @@ switch_leads arms otherwise way None is = (
 )
 
 -- the value of a local once a variable has another one
-variable_value : (count n v u : ℕ) (xs : List ℕ) (f : ℕ → ℕ) → n < count → length xs ≡ count →
+pub variable_value : (count n v u : ℕ) (xs : List ℕ) (f : ℕ → ℕ) → n < count → length xs ≡ count →
     with_number n v (λ w. elim (nat_lt w count) as (λ _. ℕ) [ true ↦ slice_index_or xs w 0 | false ↦ f w ]) u
     ≡ elim (nat_lt u count) as (λ _. ℕ) [ true ↦ slice_index_or (slice_set xs n v) u 0 | false ↦ f u ]
 variable_value count n v u xs f less same =

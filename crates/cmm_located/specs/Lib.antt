@@ -15,3 +15,4 @@ pub mod Cutting
 pub mod RunningSteps
 pub mod Resting
 pub mod inside
+pub mod Clients

@@ -29,7 +29,7 @@ pub record LandsAt (c : Compiled) (live : Liveness) (q site : ℕ) (to : List Ta
   pub at_site : (u : ℕ) → live q n u ≡ true → c.plan.live q site u ≡ true
 
 -- the exits of a site of a procedure are those of its node: results take what the normal one brings, and the parameters of a
--- continuation what an alternate one does
+-- continuation what an alternate one or an unwinding does
 pub record HasExits (c : Compiled) (live : Liveness) (q : ℕ) (p : Proc) (number : ℕ) (site : Site) : Type 0 where
   pub exits : Exits
   pub is_exits : site_exits c.graphs q number ≡ Some exits
@@ -37,6 +37,8 @@ pub record HasExits (c : Compiled) (live : Liveness) (q : ℕ) (p : Proc) (numbe
   pub returns : numbers_of exits.returns ≡ site.returns
   pub normal : site.never ≡ false → (n : NodeId) × (exits.normal ≡ Some n) × LandsAt c live q number site.results n
   pub alternate : (k : ℕ) (cont : Cont) → Contains site.returns k → slice_get p.conts k ≡ Some cont →
+      (n : NodeId) × (landing_in c.graphs q k ≡ Some n) × LandsAt c live q number (parameter_targets p cont) n
+  pub unwinds : (k : ℕ) (cont : Cont) → Contains site.unwinds k → slice_get p.conts k ≡ Some cont →
       (n : NodeId) × (landing_in c.graphs q k ≡ Some n) × LandsAt c live q number (parameter_targets p cont) n
 
 -- each site of the program has its exits

@@ -1,5 +1,6 @@
 //! Laws of the machine over places. Each is the contract of a function that does nothing.
 
+ghost use Rattle.cmm_located.specs.Clients.{ClientsAreFollowed};
 ghost use Rattle.cmm_located.specs.Cutting.{CutsAreFollowed};
 ghost use Rattle.cmm_located.specs.Entering.{CallsAreFollowed, ProceduresAreEntered, RunsBeginAlike};
 ghost use Rattle.cmm_located.specs.Laws.{RelatedAreLevel};
@@ -90,4 +91,10 @@ pub fn steps_are_followed()
 /// A run that is over stays over in both machines, and shows nothing more.
 pub fn ends_are_followed()
     ensures { EndsAreFollowed }
+{}
+
+/// The client's answer is at most two steps over places: each command does the same, and where the run goes on, the CopyIn of the exit
+/// takes the values.
+pub fn clients_are_followed()
+    ensures { ClientsAreFollowed }
 {}
