@@ -22,6 +22,7 @@ pub mod ClientSets
 pub mod Resuming
 pub mod Commands
 pub mod Clients
+pub mod Simulating
 mod Notation
 mod Rows
 mod PremiseRows

@@ -16,3 +16,4 @@ pub mod RunningSteps
 pub mod Resting
 pub mod inside
 pub mod Clients
+pub mod Simulating

@@ -9,6 +9,7 @@ ghost use Rattle.cmm_located.specs.Returning.{ReturnsAreFollowed};
 ghost use Rattle.cmm_located.specs.RunningSteps.{StepsAreFollowed};
 ghost use Rattle.cmm_located.specs.SameOrders.{FrameIsThere, SameOrders};
 ghost use Rattle.cmm_located.specs.ShownWalks.{WalkIsShown};
+ghost use Rattle.cmm_located.specs.Simulating.{PlacesFollow, PlacesSimulate};
 ghost use Rattle.cmm_located.specs.Steps.{NodesAreFollowed};
 ghost use Rattle.cmm_located.specs.Yielding.{YieldsAreFollowed};
 
@@ -98,3 +99,17 @@ pub fn ends_are_followed()
 pub fn clients_are_followed()
     ensures { ClientsAreFollowed }
 {}
+
+/// The machine over places simulates the machine over graphs.
+pub fn places_simulate()
+    ensures { PlacesSimulate }
+{
+    cmm_graph::laws::nodes_ask_by_reads();
+}
+
+/// A run over places follows the run over graphs, from behind its first step on.
+pub fn places_follow()
+    ensures { PlacesFollow }
+{
+    cmm_graph::laws::nodes_ask_by_reads();
+}

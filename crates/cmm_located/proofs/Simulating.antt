@@ -1,0 +1,64 @@
+-- the machine over places simulates the machine over graphs
+use Rattle.std.proofs.Common.{◌≡◌, ℕ, ◌+◌, ◌≤◌, Bool, true, false, List, arith, refl, sym, ap, ◌∙◌}
+use Rattle.cmm_following.proofs.Followings.{follows_of_simulates}
+use Rattle.cmm_program.specs.Control.{State}
+use Rattle.cmm_program.specs.Errors.{UncheckedError}
+use Rattle.cmm_program.specs.State.{Setting, Status, Running, Waiting, Ended, Wrong}
+use Rattle.cmm_laws.proofs.Shared.{machine_lasts}
+use Rattle.cmm_graph.specs.GraphControl.{Position, graph_control}
+use Rattle.cmm_graph.specs.GraphMachine.{graph_step, tokens_of_youngest}
+use Rattle.cmm_graph.specs.Laws.{OrderIsByReads, ValueIsByReads}
+use Rattle.cmm_located.specs.Clients.{IsShowable}
+use Rattle.cmm_located.specs.Compiled.{Compiled, Located}
+use Rattle.cmm_located.specs.LocatedMachine.{tokens_at}
+use Rattle.cmm_located.specs.Relation.{Liveness, Related}
+use Rattle.cmm_located.specs.RunningSteps.{IsCompiled}
+use Rattle.cmm_located.specs.Simulating.{PlacesFollow, PlacesSimulate, step_cost}
+use Rattle.cmm_located.specs.Steps.{IsFollowed}
+use Rattle.cmm_located.proofs.Assembling.{costs_more, steps_are_followed}
+use Rattle.cmm_located.proofs.Clients.{clients_are_followed}
+use Rattle.cmm_located.proofs.Entries.{runs_begin_alike}
+use Rattle.cmm_located.proofs.Following.{wrong_in}
+use Rattle.cmm_located.proofs.Levels.{related_are_level}
+use Rattle.cmm_located.proofs.Resting.{ends_are_followed}
+
+-- where the status is that of a run that went wrong
+at_wrong : {A : Type 0} (runs : A) (waits : List ℕ → A) (ends wrong : A) (status : Status) (error : UncheckedError) → status ≡ Wrong error →
+    elim status as (λ _. A) [ Running ↦ runs | Waiting v ↦ waits v | Ended o ↦ ends | Wrong e ↦ wrong ] ≡ wrong
+at_wrong {A = A} runs waits ends wrong status error is = ap (λ x. elim x as (λ _. A) [ Running ↦ runs | Waiting v ↦ waits v | Ended o ↦ ends | Wrong e ↦ wrong ]) is
+
+module _ (by_reads : OrderIsByReads) (by_values : ValueIsByReads) (s : Setting) (c : Compiled) (live : Liveness) (most : ℕ) (compiled : IsCompiled s c live most)
+    (showable : IsShowable s c) (st : State Position) (at : Located) (related : Related s c live st at) where
+  abbrev here : Position
+  here = record { procedure = at.procedure; node = at.node; temporaries = λ t. 0 }
+
+  in_most : tokens_at s c at ≤ most
+  in_most = compiled.within here
+
+  goes_wrong : (error : UncheckedError) → st.store.status ≡ Wrong error → wrong_in (graph_step c.graphs s st).store ≡ false → ⊥
+  goes_wrong error is right =
+      let stays : graph_step c.graphs s st ≡ st = at_wrong _ _ _ _ st.store.status error is in
+      differ (sym (ap (λ (x : State Position). wrong_in x.store) stays ∙ ap (λ status. elim status as (λ _. Bool) [ Wrong error ↦ true | _ ↦ false ]) is) ∙ right)
+    where
+      differ : true ≡ false → ⊥
+      differ is = absurd (cc)
+
+  step_leads : (status : Status) → st.store.status ≡ status → IsFollowed s c live (step_cost c most st) st at
+  step_leads Running is = costs_more s c live st at (tokens_of_youngest c.graphs st + most) (step_cost c most st) (omega arith)
+      (steps_are_followed by_reads by_values s c live most st at compiled related is)
+  step_leads (Waiting values) is = let within = in_most in
+      costs_more s c live st at (tokens_at s c at + most) (step_cost c most st) (omega arith) (clients_are_followed s c live most values st at compiled showable related is)
+  step_leads (Ended outcome) is = let within = in_most in
+      costs_more s c live st at (tokens_at s c at) (step_cost c most st) (omega arith) (ends_are_followed s c live st at outcome related is)
+  step_leads (Wrong error) is = λ right. absurd (goes_wrong error is right)
+
+pub places_simulate : OrderIsByReads → ValueIsByReads → PlacesSimulate
+places_simulate by_reads by_values s c live most compiled showable = record {
+  level = λ st at related. related_are_level s c live st at showable.variables showable.live related;
+  leads = λ st at related. step_leads by_reads by_values s c live most compiled showable st at related st.store.status refl;
+}
+
+pub places_follow : OrderIsByReads → ValueIsByReads → PlacesFollow
+places_follow by_reads by_values s c live most p input compiled showable is_main none =
+    follows_of_simulates (machine_lasts (graph_control c.graphs) s) (places_simulate by_reads by_values s c live most compiled showable)
+    (runs_begin_alike s c live p input compiled.frames compiled.planned is_main none (compiled.entries s.program.main p is_main))

@@ -1,0 +1,33 @@
+-- Runs over places follow runs over graphs.
+use Rattle.std.specs.Prelude.{◌≡◌, ℕ, ◌+◌, List, Some}
+use Rattle.cmm_program.specs.declared.procedure.Proc.{Proc}
+use Rattle.cmm_program.specs.Control.{State}
+use Rattle.cmm_program.specs.Frames.{procedure_at}
+use Rattle.cmm_program.specs.State.{Setting}
+use Rattle.cmm_following.specs.Following.{Follows}
+use Rattle.cmm_following.specs.Simulation.{Simulates}
+use Rattle.cmm_laws.specs.Observed.{machine_of}
+use Rattle.cmm_graph.specs.GraphControl.{Position, graph_control}
+use Rattle.cmm_graph.specs.GraphMachine.{graph_start, tokens_of_youngest}
+use Rattle.cmm_located.specs.Clients.{IsShowable}
+use Rattle.cmm_located.specs.Compiled.{Compiled}
+use Rattle.cmm_located.specs.LocatedMachine.{located_machine, located_start, located_step, tokens_at}
+use Rattle.cmm_located.specs.Relation.{Liveness, Related}
+use Rattle.cmm_located.specs.RunningSteps.{IsCompiled}
+
+-- What a step over a graph costs over places, where no node has more than so many tokens: its node and a node where control lands, or
+-- two nodes where the client answers.
+abbrev pub step_cost : Compiled → ℕ → State Position → ℕ
+step_cost c most st = tokens_of_youngest c.graphs st + (most + most)
+
+-- That one state stands for another is a simulation.
+abbrev pub PlacesSimulate : Type 0
+PlacesSimulate = (s : Setting) (c : Compiled) (live : Liveness) (most : ℕ) → IsCompiled s c live most → IsShowable s c →
+    Simulates (machine_of (graph_control c.graphs) s) (step_cost c most) (located_machine s c) (tokens_at s c) (Related s c live)
+
+-- A run over places follows the run over graphs, from behind its first step on, which enters `main`.
+abbrev pub PlacesFollow : Type 0
+PlacesFollow = (s : Setting) (c : Compiled) (live : Liveness) (most : ℕ) (p : Proc) (input : List ℕ) → IsCompiled s c live most → IsShowable s c →
+    procedure_at s s.program.main ≡ Some p → p.formals ≡ 0 →
+    Follows (machine_of (graph_control c.graphs) s) (step_cost c most) (located_machine s c) (tokens_at s c) (graph_start c.graphs s input)
+    (located_step s c (located_start s c input))
