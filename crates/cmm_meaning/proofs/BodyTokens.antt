@@ -41,12 +41,12 @@ use Rattle.cmm_meaning.proofs.Steady.{IsSteady, here_is, steady_keyword, steady_
 use Rattle.cmm_meaning.proofs.SteadyUnits.{steady_case, steady_span, steady_formal, steady_local, steady_stmt}
 use Rattle.cmm_meaning.proofs.Weighing.{inside_of, taken_of}
 
--- a statement's own tokens, and those of some parts
-abbrev own : Part → ℕ
-own (parts.Local l) = 0
+-- the tokens of a declaration and a statement's own, and those of some parts
+abbrev pub own : Part → ℕ
+own (parts.Local l) = l.past - l.token
 own (parts.Stmt' first past form) = past - first - blocks_length form
 
-abbrev owns : List (Within Part) → ℕ
+abbrev pub owns : List (Within Part) → ℕ
 owns [] = 0
 owns (p ∷ ps) = own p.what + owns ps
 
@@ -56,7 +56,7 @@ owns_append (x ∷ xs) ys = let e : owns (xs ++ ys) ≡ owns xs + owns ys = owns
 
 -- ---- what blocks have, between two readings
 
-record Fits (ps : List (Within Part)) (size : ℕ) (r s : Reading) : Type 0 where
+pub record Fits (ps : List (Within Part)) (size : ℕ) (r s : Reading) : Type 0 where
   pub few : owns ps ≤ size
   pub room : r.taken + size ≤ s.taken
 
@@ -147,7 +147,7 @@ mutual
       let b = middle (stmt_form form a.at_) (here past) s a.next in
       one_fits spans first past form r a.at_ b.at_ s (here_is first r a.at_ a.first) (here_is past b.at_ s b.next) (form_fits spans form a.at_ b.at_ b.first (steady_stmt form a.at_ b.at_ b.first).grows)
 
-  row_fits : (spans : List SpanTree) (n : _) (row : Row_of-Part n) (r s : Reading) → part_row row r ≡ Some s → Fits (parts_row spans row) (row_length row) r s
+  pub row_fits : (spans : List SpanTree) (n : _) (row : Row_of-Part n) (r s : Reading) → part_row row r ≡ Some s → Fits (parts_row spans row) (row_length row) r s
   row_fits spans n end_of-Part r s is = none_fit r s (let e : r.taken ≡ s.taken = ap taken_of is in omega arith)
   row_fits spans n (more_of-Part {n = k} p rest) r s is =
       let m = middle (part_ p r) (part_row rest) s is in
@@ -166,11 +166,11 @@ mutual
 
 -- ---- a procedure
 
-abbrev sum_owns : List Part → ℕ
+abbrev pub sum_owns : List Part → ℕ
 sum_owns [] = 0
 sum_owns (p ∷ ps) = own p + sum_owns ps
 
-without_spans : (ps : List (Within Part)) → owns ps ≡ sum_owns (map (λ p. p.what) ps)
+pub without_spans : (ps : List (Within Part)) → owns ps ≡ sum_owns (map (λ p. p.what) ps)
 without_spans [] = refl
 without_spans (p ∷ ps) = ap (λ n. own p.what + n) (without_spans ps)
 
@@ -200,15 +200,29 @@ counted_by p t =
     let same : owns (flat_map (part_within []) p.body.parts) ≡ sum_owns (parts_of p.body) = without_spans (parts_in [] p.body) in
     le-leb (sum_owns (parts_of p.body)) (p.past - p.name.token) (omega arith)
 
-one_counted : (s : Scope) (n : ℕ) (x : Part) → sum_by (λ st. st.tokens) (part_of s n x) ≡ own x
-one_counted s n (parts.Local l) = refl
-one_counted s n (parts.Stmt' first past form) = sum_by-cons (λ (st : Statement). st.tokens) (counted first past form (form_of s n form)) [] ∙ (let e : past - first - blocks_length form + 0 ≡ past - first - blocks_length form = omega arith in e)
+-- those of the declarations alone
+abbrev declared : Part → ℕ
+declared (parts.Local l) = l.past - l.token
+declared (parts.Stmt' first past form) = 0
 
-flat_counted : (s : Scope) (n : ℕ) (ps : List Part) → sum_by (λ st. st.tokens) (flat_from s n ps) ≡ sum_owns ps
+abbrev pub all_declared : List Part → ℕ
+all_declared [] = 0
+all_declared (p ∷ ps) = declared p + all_declared ps
+
+one_counted : (s : Scope) (n : ℕ) (x : Part) → sum_by (λ st. st.tokens) (part_of s n x) + declared x ≡ own x
+one_counted s n (parts.Local l) = let e : 0 + (l.past - l.token) ≡ l.past - l.token = omega arith in e
+one_counted s n (parts.Stmt' first past form) =
+    let e : sum_by (λ (st : Statement). st.tokens) (counted first past form (form_of s n form) ∷ []) ≡ past - first - blocks_length form + 0 = sum_by-cons (λ (st : Statement). st.tokens) (counted first past form (form_of s n form)) [] in
+    let goal : sum_by (λ (st : Statement). st.tokens) (counted first past form (form_of s n form) ∷ []) + 0 ≡ past - first - blocks_length form = omega arith in goal
+
+pub flat_counted : (s : Scope) (n : ℕ) (ps : List Part) → sum_by (λ st. st.tokens) (flat_from s n ps) + all_declared ps ≡ sum_owns ps
 flat_counted s n [] = refl
 flat_counted s n (x ∷ ps) =
-    sum_by-append (λ st. st.tokens) (part_of s n x) (flat_from s (n + sites_of x) ps)
-    ∙ ap (λ m. m + sum_by (λ st. st.tokens) (flat_from s (n + sites_of x) ps)) (one_counted s n x) ∙ ap (λ m. own x + m) (flat_counted s (n + sites_of x) ps)
+    let rest = flat_from s (n + sites_of x) ps in
+    let a : sum_by (λ (st : Statement). st.tokens) (part_of s n x ++ rest) ≡ sum_by (λ st. st.tokens) (part_of s n x) + sum_by (λ st. st.tokens) rest = sum_by-append (λ st. st.tokens) (part_of s n x) rest in
+    let b : sum_by (λ st. st.tokens) (part_of s n x) + declared x ≡ own x = one_counted s n x in
+    let d : sum_by (λ st. st.tokens) rest + all_declared ps ≡ sum_owns ps = flat_counted s (n + sites_of x) ps in
+    let goal : sum_by (λ (st : Statement). st.tokens) (part_of s n x ++ rest) + (declared x + all_declared ps) ≡ own x + sum_owns ps = omega arith in goal
 
 named_counted : (procs labels : ℕ) (us : List UnitTree) → AreDerived us → list_all (λ u. list_all (λ i. item_test is_counted i.what) u.items) (units_from procs labels us) ≡ true
 named_counted procs labels [] derived = refl
@@ -219,6 +233,8 @@ named_counted procs labels (u ∷ us) derived = let d = All-head (λ v. (tokens 
 pub bodies_are_counted : BodiesAreCounted
 bodies_are_counted us accepted derived = all_read (item_test is_counted) (λ q. body_tokens q ≤ q.tokens) us accepted (named_counted 0 0 us derived)
     (λ earlier u number place around tree none has.
-    let outer = unit_senses (program_of (named_units us)) u.entries in let q = procedure_of outer number around tree in
-    subst (λ n. n ≤ tree.past - tree.name.token) (sym (ap (sum_by (λ st. st.tokens)) (procedure_is outer number around tree) ∙ flat_counted (scope_of outer tree) 0 (parts_of tree.body)))
-    (leb-true (sum_owns (parts_of tree.body)) (tree.past - tree.name.token) has))
+    let outer = unit_senses (program_of (named_units us)) u.entries in let s = scope_of outer tree in let ps = parts_of tree.body in
+    let few : sum_owns ps ≤ tree.past - tree.name.token = leb-true (sum_owns ps) (tree.past - tree.name.token) has in
+    let all : sum_by (λ (st : Statement). st.tokens) (flat_from s 0 ps) + all_declared ps ≡ sum_owns ps = flat_counted s 0 ps in
+    let flat : sum_by (λ (st : Statement). st.tokens) (flat_from s 0 ps) ≤ tree.past - tree.name.token = omega arith in
+    subst (λ n. n ≤ tree.past - tree.name.token) (sym (ap (sum_by (λ st. st.tokens)) (procedure_is outer number around tree))) flat)

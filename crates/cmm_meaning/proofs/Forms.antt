@@ -90,7 +90,7 @@ module _ (p : Program) (q : Proc) (s : Scope) (fit : NamesFit p q (senses s)) (w
   names = senses s
 
   -- the sites of a statement stand in the procedure from its number on
-  abbrev SitesAt : ℕ → List Site → Type 0
+  abbrev pub SitesAt : ℕ → List Site → Type 0
   SitesAt n [] = Unit {0}
   SitesAt n (x ∷ xs) = slice_get q.sites n ≡ Some x
 
@@ -204,14 +204,14 @@ module _ (p : Program) (q : Proc) (s : Scope) (fit : NamesFit p q (senses s)) (w
   part_computes n spans (parts.Local l) free sites = refl
   part_computes n spans (parts.Stmt' first past form) free sites = both_true _ true (form_computes n first spans form free sites) refl
 
-  one_site : (spans : List SpanValue) (x : Part) → length (part_sites s spans x) ≡ sites_of x
+  pub one_site : (spans : List SpanValue) (x : Part) → length (part_sites s spans x) ≡ sites_of x
   one_site spans (parts.Local l) = refl
   one_site spans (parts.Stmt' first past (stmts.Call results None callee actuals flows)) = refl
   one_site spans (parts.Stmt' first past (stmts.Call results (Some convention) callee actuals flows)) = refl
   one_site spans (parts.Stmt' first past (stmts.Checked result operator left right flows)) = refl
   one_site spans (parts.Stmt' first past form) = refl
 
-  own_sites : (n : ℕ) (before own after : List Site) → q.sites ≡ before ++ (own ++ after) → n ≡ length before → SitesAt n own
+  pub own_sites : (n : ℕ) (before own after : List Site) → q.sites ≡ before ++ (own ++ after) → n ≡ length before → SitesAt n own
   own_sites n before [] after is counted = tt
   own_sites n before (x ∷ own) after is counted = ap (λ xs. slice_get xs n) is ∙ behind before x (own ++ after) n counted
 

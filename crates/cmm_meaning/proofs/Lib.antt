@@ -48,4 +48,10 @@ pub mod Steady
 pub mod SteadyUnits
 pub mod Weighing
 pub mod BodyTokens
+pub mod Spent
+pub mod SpentForms
+pub mod SpentStatements
+pub mod SpentNames
+pub mod TakenParts
+pub mod SpentBodies
 pub mod Together

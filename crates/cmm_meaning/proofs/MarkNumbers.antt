@@ -159,7 +159,7 @@ labels_in_order names unit around p once =
     marks_in_order is_label label_number labels_alone label_part names unit around p _ once
     (ap length (marks_ascend is_label label_number labels_alone label_part names unit around p once) ∙ length-range_with_len 0 (how_many is_label rest))
 
-part_conts_are : (s : Scope) (p : Part) → length (part_conts s p) ≡ how_many is_continuation (part_names p)
+pub part_conts_are : (s : Scope) (p : Part) → length (part_conts s p) ≡ how_many is_continuation (part_names p)
 part_conts_are s (parts.Local l) = sym (local_none is_continuation continuations_alone l.form)
 part_conts_are s (parts.Stmt' first past (stmts.Continuation name parameters)) = refl
 part_conts_are s (parts.Stmt' first past (stmts.Label name)) = refl

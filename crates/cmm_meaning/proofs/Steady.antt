@@ -184,7 +184,7 @@ aligned_from : (i : Int) (o : Option Reading) (r s : Reading) → ◌≡◌ {A =
 aligned_from i (Some m) r s is h = after r m s (h m refl) (steady_int i m s is)
 aligned_from i None r s is h = steady_then (keyword Align) (int i) (steady_keyword Align) (steady_int i) r s is
 
-steady_aligned : (i : Int) → IsSteady (aligned_by i)
+pub steady_aligned : (i : Int) → IsSteady (aligned_by i)
 steady_aligned i r s is = aligned_from i (keyword Aligned r) r s is (λ m at_. steady_keyword Aligned r m at_)
 
 steady_binds : (level : ℕ) (form : ExprForm) → IsSteady (binds level form)
@@ -203,11 +203,11 @@ mutual
       steady_then (operator (token (is_operator name))) (round (operand_list operands ⨾ may_comma)) (steady_operator (token (is_operator name)) (steady_token (is_operator name)))
       (steady_round (operand_list operands ⨾ may_comma) (steady_then (operand_list operands) may_comma (steady_operands _ operands) steady_comma))
 
-  steady_operand : (n : _) (level : ℕ) (row : Row_of-Expr (one_more n)) → IsSteady (operand level row)
+  pub steady_operand : (n : _) (level : ℕ) (row : Row_of-Expr (one_more n)) → IsSteady (operand level row)
   steady_operand n level (more_of-Expr first form rest) =
       steady_then (binds level form) (here first ⨾ expr_form form) (steady_binds level form) (steady_then (here first) (expr_form form) (steady_here first) (steady_form form))
 
-  steady_operands : (n : _) (row : Row_of-Expr n) → IsSteady (operand_list row)
+  pub steady_operands : (n : _) (row : Row_of-Expr n) → IsSteady (operand_list row)
   steady_operands n end_of-Expr = λ r s is. let bad : None ≡ Some s = is in cc
   steady_operands n (more_of-Expr {n = m} first form rest) =
       steady_then (here first) (expr_form form ⨾ more_operands rest) (steady_here first) (steady_then (expr_form form) (more_operands rest) (steady_form form) (steady_more m rest))

@@ -209,7 +209,7 @@ mutual
       (steady_then (callee what) (arguments actuals ⨾ annotated annotations ⨾ symbol sign.Semicolon) (steady_callee what)
       (steady_then (arguments actuals) (annotated annotations ⨾ symbol sign.Semicolon) (steady_arguments actuals) (ends (annotated annotations) sign.Semicolon (steady_annotated annotations)))))
 
-  steady_chained : (form : StmtForm) → IsSteady (chained form)
+  pub steady_chained : (form : StmtForm) → IsSteady (chained form)
   steady_chained (stmts.If' condition _ body otherwise) =
       steady_then (opening (keyword If)) (whole condition ⨾ braces (part_row body) ⨾ otherwise_ otherwise) (steady_opening (keyword If) (steady_keyword If))
       (steady_then (whole condition) (braces (part_row body) ⨾ otherwise_ otherwise) (steady_whole condition)

@@ -123,6 +123,16 @@ module _ (p : Program) (q : Proc) where
   test_from (Ok (typed.Bits x)) c alike whole fits = cc
   test_from (Err x) c alike whole fits = cc
 
+  some_tested : (o : Option Condition) → Present o → (t : Condition) × ◌≡◌ {A = Judged (Typed Expression Condition)} (Ok (typed.Test o)) (Ok (typed.Test (Some t)))
+  some_tested (Some t) h = (t, refl)
+  some_tested None h = absurd h
+
+  tested_from : (j : Judged (Typed Expression Condition)) (c : Option (Unit {0})) → Ok (typed.Test (presence c)) ≡ judged_map typed_presence j → Whole (TypedWhole expressions) j →
+      (t : Condition) × (j ≡ Ok (typed.Test (Some t)))
+  tested_from (Ok (typed.Test t)) c alike whole = some_tested t whole
+  tested_from (Ok (typed.Bits x)) c alike whole = cc
+  tested_from (Err x) c alike whole = cc
+
   module _ (names : Senses) (fit : NamesFit p q names) (wide : (name : List ℕ) → IsWide (names name)) (unbroken : (name : List ℕ) → IsUnbroken (names name)) where
     -- bits that are wanted and break no rule
     pub record AreBits (o : Option Width) (e : Expr) : Type 0 where
@@ -164,6 +174,17 @@ module _ (p : Program) (q : Proc) where
     pub is_some_width : (e : Expr) → bits_spots names None e ≡ [] → is_typed p q (value_of names e) ≡ true
     is_some_width e free = let b = bits_are_there None e free in
         ap (is_typed p q) b.value.is ∙ ap (λ t. elim t as (λ x. Bool) [ Some found ↦ true | None ↦ false ]) b.value.fits
+
+    -- a condition that breaks no rule is one
+    pub test_judged : (e : Expr) → test_spots names e ≡ [] → (t : Condition) × (expr_type expressions names e ≡ Ok (typed.Test (Some t)))
+    test_judged e free =
+        let next = as_test e.token in
+        let c = whole_ok Present (with_ok (expr_type knowns names e) next)
+        (whole_with (TypedWhole knowns) Present (expr_type knowns names e) next (expression_whole knowns names wide e (all_unbroken names wide unbroken (expr_names values_alone e))) (test_whole knowns e.token))
+        (no_left (spots (with_ok (expr_type knowns names e) next)) (inner_spots names e) free) in
+        let first = was_ok (expr_type knowns names e) next c.0 c.1 in
+        let whole = first.is ∙ ap Ok (test_is e.token first.value c.0 first.then_) in
+        tested_from (expr_type expressions names e) c.0 (sym (ap (judged_map typed_presence) whole) ∙ judged_alike names e) (all_whole e)
 
     pub test_is_there : (e : Expr) → test_spots names e ≡ [] → is_condition p q (condition_of names e) ≡ true
     test_is_there e free =
