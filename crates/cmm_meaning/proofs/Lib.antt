@@ -54,4 +54,6 @@ pub mod SpentStatements
 pub mod SpentNames
 pub mod TakenParts
 pub mod SpentBodies
+pub mod SpentHeadings
+pub mod SpentProcedures
 pub mod Together

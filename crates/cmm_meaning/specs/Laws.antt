@@ -202,6 +202,10 @@ BodiesAreCounted = (us : List UnitTree) → AreAccepted us → AreDerived us →
 abbrev pub StatementsHaveShortest : Type 0
 StatementsHaveShortest = (us : List UnitTree) → AreAccepted us → AreDerived us → All (λ q. IsTrue (list_all (λ st. nat_le (own_tokens q st.form) st.tokens) (body_statements q))) (meaning_of us).procs
 
+-- and so does each whole procedure
+abbrev pub ProceduresHaveShortest : Type 0
+ProceduresHaveShortest = (us : List UnitTree) → AreAccepted us → AreDerived us → All (λ q. procedure_tokens q ≤ q.tokens) (meaning_of us).procs
+
 -- each statement of a procedure, and the whole of it, counts at least as many tokens as its shortest text has
 pub record HasShortest (q : Proc) : Type 0 where
   pub statements : IsTrue (list_all (λ st. nat_le (own_tokens q st.form) st.tokens) (body_statements q))

@@ -1,7 +1,7 @@
 //! What holds of the program that units mean. Each law is the contract of a function that does nothing. Together they make a program in range, but for
 //! counts of tokens against the shortest text, which are still to come: the last law asks for them.
 
-ghost use Rattle.cmm_meaning.specs.Laws.{BodiesAreCounted, CountsAreKept, DataFits, DatumsAreInRange, FormsAreInRange, LabelsAreThere, LimitsAreKept, MarksAreInOrder, NamesAreShort, NamesAreThere, NamesAreWhole, ProgramsAreInRange, RangesAreApart, RegisterNamesAreShort, ScopesFit, SitesAreInOrder, SitesAreThere, StackdataFits, StartHasNoFormals, StatementsHaveShortest, StatementsKeepRules, WaysAreThere, WidthsAreKept};
+ghost use Rattle.cmm_meaning.specs.Laws.{BodiesAreCounted, CountsAreKept, DataFits, DatumsAreInRange, FormsAreInRange, LabelsAreThere, LimitsAreKept, MarksAreInOrder, NamesAreShort, NamesAreThere, NamesAreWhole, ProceduresHaveShortest, ProgramsAreInRange, RangesAreApart, RegisterNamesAreShort, ScopesFit, SitesAreInOrder, SitesAreThere, StackdataFits, StartHasNoFormals, StatementsHaveShortest, StatementsKeepRules, WaysAreThere, WidthsAreKept};
 
 /// In the program of any units, the call sites of a procedure stand in its body once each, in textual order, from number 0 on.
 pub fn sites_are_in_order()
@@ -125,6 +125,11 @@ pub fn bodies_are_counted()
 /// it left out.
 pub fn statements_have_shortest()
     ensures { StatementsHaveShortest }
+{}
+
+/// In the program of accepted units that derive some tokens, each procedure counts at least the tokens of its shortest text, with its declarations.
+pub fn procedures_have_shortest()
+    ensures { ProceduresHaveShortest }
 {}
 
 /// The program of accepted units is in range, where the units derive as many tokens as they have places for, their texts are of bytes, and each statement
