@@ -11,9 +11,9 @@ use Rattle.cmm_program.specs.Bodies.{body_statements}
 use Rattle.cmm_program.specs.InRange.{is_form, is_statement, is_site, IsProcInRange}
 use Rattle.cmm_program.specs.Layout.{stackdata_size}
 use Rattle.cmm_program.specs.Numbering.{body_tokens, site_number}
-use Rattle.cmm_program.specs.Tokens.{own_tokens}
+use Rattle.cmm_program.specs.Tokens.{own_tokens, procedure_tokens}
 use Rattle.cmm_meaning.specs.Meaning.{meaning_of}
-use Rattle.cmm_meaning.specs.Laws.{AreInOrder, MarksInOrder, ProcKeepsLimits, NamesShort, AreDerived, HasShortest, ProgramsAreInRange}
+use Rattle.cmm_meaning.specs.Laws.{AreInOrder, MarksInOrder, ProcKeepsLimits, NamesShort, AreDerived, ProgramsAreInRange}
 use Rattle.cmm_meaning.proofs.Keeping.{both_true}
 use Rattle.cmm_meaning.proofs.SiteNumbers.{sites_are_in_order}
 use Rattle.cmm_meaning.proofs.MarkNumbers.{marks_are_in_order}
@@ -30,6 +30,8 @@ use Rattle.cmm_meaning.proofs.Forms.{all_three}
 use Rattle.cmm_meaning.proofs.AllForms.{forms_are_in_range}
 use Rattle.cmm_meaning.proofs.Weighing.{counts_are_kept}
 use Rattle.cmm_meaning.proofs.BodyTokens.{bodies_are_counted}
+use Rattle.cmm_meaning.proofs.SpentBodies.{statements_have_shortest}
+use Rattle.cmm_meaning.proofs.SpentProcedures.{procedures_have_shortest}
 
 all_both : {A : Type 0} (P Q : A → Type 0) (xs : List A) → All P xs → All Q xs → All (λ x. P x × Q x) xs
 all_both P Q [] h k = All-nil (λ x. P x × Q x)
@@ -45,7 +47,8 @@ record Parts (p : Program) (q : Proc) : Type 0 where
   pub ascending : AreInOrder site_number (length q.sites) q
   pub stackdata : stackdata_size q.stack ≤ 65536
   pub counts : body_tokens q ≤ q.tokens
-  pub shortest : HasShortest q
+  pub statements : IsTrue (list_all (λ st. nat_le (own_tokens q st.form) st.tokens) (body_statements q))
+  pub whole : procedure_tokens q ≤ q.tokens
 
 procedure_in : (p : Program) (q : Proc) → Parts p q → IsProcInRange p q
 procedure_in p q x = record {
@@ -58,16 +61,16 @@ procedure_in p q x = record {
   continuations = x.limits.continuations;
   sites = x.sites;
   body = all_three (λ st. is_form p q st.form) (λ st. nat_le (own_tokens q st.form) st.tokens) (λ st. nat_le (own_tokens q st.form) st.tokens) (is_statement p q)
-      (λ st a b c. both_true (is_form p q st.form) (nat_le (own_tokens q st.form) st.tokens) a b) (body_statements q) x.forms x.shortest.statements x.shortest.statements;
+      (λ st a b c. both_true (is_form p q st.form) (nat_le (own_tokens q st.form) st.tokens) a b) (body_statements q) x.forms x.statements x.statements;
   labels_numbered = x.marks.labels.once;
   continuations_numbered = x.marks.continuations.once;
   sites_numbered = x.ascending.once;
-  shortest = x.shortest.whole;
+  shortest = x.whole;
   counts = x.counts;
 }
 
 pub programs_are_in_range : ProgramsAreInRange
-programs_are_in_range us accepted read text shortest =
+programs_are_in_range us accepted read text =
     let p = meaning_of us in let qs = p.procs in
     let derived : AreDerived us = All-weaker (λ v. (tokens : List Lexeme) × (Derives tokens v × (length v.places ≡ suc (length tokens)))) (λ v. (tokens : List Lexeme) × Derives tokens v) (λ v x. (x.0, x.1.0)) us read in
     let limits = limits_are_kept us accepted in let counts = counts_are_kept us accepted read in
@@ -80,9 +83,12 @@ programs_are_in_range us accepted read text shortest =
     let first : Proc → Type 0 = λ q. (NamesShort q × ProcKeepsLimits p q) × (IsTrue (list_all (is_site p q) q.sites) × IsTrue (list_all (λ st. is_form p q st.form) (body_statements q))) in
     let second : Proc → Type 0 = λ q. (MarksInOrder q × AreInOrder site_number (length q.sites) q) × ((stackdata_size q.stack ≤ 65536) × (body_tokens q ≤ q.tokens)) in
     let abcd = all_both first second qs ab cd in
-    let all = all_both (λ q. first q × second q) HasShortest qs abcd shortest in
+    let short = all_both (λ q. IsTrue (list_all (λ st. nat_le (own_tokens q st.form) st.tokens) (body_statements q))) (λ q. procedure_tokens q ≤ q.tokens) qs
+    (statements_have_shortest us accepted derived) (procedures_have_shortest us accepted derived) in
+    let third : Proc → Type 0 = λ q. IsTrue (list_all (λ st. nat_le (own_tokens q st.form) st.tokens) (body_statements q)) × (procedure_tokens q ≤ q.tokens) in
+    let all = all_both (λ q. first q × second q) third qs abcd short in
     record {
-      procedures = All-weaker (λ q. (first q × second q) × HasShortest q) (IsProcInRange p) (λ q x. procedure_in p q record {
+      procedures = All-weaker (λ q. (first q × second q) × third q) (IsProcInRange p) (λ q x. procedure_in p q record {
         names = x.0.0.0.0;
         limits = x.0.0.0.1;
         sites = x.0.0.1.0;
@@ -91,7 +97,8 @@ programs_are_in_range us accepted read text shortest =
         ascending = x.0.1.0.1;
         stackdata = x.0.1.1.0;
         counts = x.0.1.1.1;
-        shortest = x.1;
+        statements = x.1.0;
+        whole = x.1.1;
       }) qs all;
       procedure_count = limits.procedure_count;
       main = limits.main;

@@ -206,10 +206,5 @@ StatementsHaveShortest = (us : List UnitTree) → AreAccepted us → AreDerived 
 abbrev pub ProceduresHaveShortest : Type 0
 ProceduresHaveShortest = (us : List UnitTree) → AreAccepted us → AreDerived us → All (λ q. procedure_tokens q ≤ q.tokens) (meaning_of us).procs
 
--- each statement of a procedure, and the whole of it, counts at least as many tokens as its shortest text has
-pub record HasShortest (q : Proc) : Type 0 where
-  pub statements : IsTrue (list_all (λ st. nat_le (own_tokens q st.form) st.tokens) (body_statements q))
-  pub whole : procedure_tokens q ≤ q.tokens
-
 abbrev pub ProgramsAreInRange : Type 0
-ProgramsAreInRange = (us : List UnitTree) → AreAccepted us → AreRead us → TextsAreBytes us → All HasShortest (meaning_of us).procs → IsInRange (meaning_of us)
+ProgramsAreInRange = (us : List UnitTree) → AreAccepted us → AreRead us → TextsAreBytes us → IsInRange (meaning_of us)

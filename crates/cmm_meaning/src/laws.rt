@@ -1,5 +1,4 @@
-//! What holds of the program that units mean. Each law is the contract of a function that does nothing. Together they make a program in range, but for
-//! counts of tokens against the shortest text, which are still to come: the last law asks for them.
+//! What holds of the program that units mean. Each law is the contract of a function that does nothing. Together they make a program in range.
 
 ghost use Rattle.cmm_meaning.specs.Laws.{BodiesAreCounted, CountsAreKept, DataFits, DatumsAreInRange, FormsAreInRange, LabelsAreThere, LimitsAreKept, MarksAreInOrder, NamesAreShort, NamesAreThere, NamesAreWhole, ProceduresHaveShortest, ProgramsAreInRange, RangesAreApart, RegisterNamesAreShort, ScopesFit, SitesAreInOrder, SitesAreThere, StackdataFits, StartHasNoFormals, StatementsHaveShortest, StatementsKeepRules, WaysAreThere, WidthsAreKept};
 
@@ -132,8 +131,7 @@ pub fn procedures_have_shortest()
     ensures { ProceduresHaveShortest }
 {}
 
-/// The program of accepted units is in range, where the units derive as many tokens as they have places for, their texts are of bytes, and each statement
-/// and each procedure counts at least the tokens of its shortest text.
+/// The program of accepted units is in range, where the units derive as many tokens as they have places for, and their texts are of bytes.
 pub fn programs_are_in_range()
     ensures { ProgramsAreInRange }
 {}
