@@ -107,8 +107,11 @@ module _ {old new : List Part} {P : Code → ℕ → ℕ → Type 0} {a b : ℕ}
   pub adds_weaker : {Q : Code → ℕ → ℕ → Type 0} → Adds a old new P → a ≤ b → ((x : Code) (from to : ℕ) → P x from to → Q x from to) → Adds b old new Q
   adds_weaker first most more = record { appends = appends_weaker first.appends more; few = omega (arith, first.few, most) }
 
+pub adds_part : (old : List Part) (p : Part) (most : ℕ) → longest p ≤ 4 * most → Adds most old (old ++ p ∷ []) (λ x from to. Does x p from to)
+adds_part old p most few = record { appends = appends_one old p; few = rw (longest-append old (p ∷ [])) (omega (arith, few)) }
+
 pub adds_one : (old : List Part) (i : Instr) → Adds 1 old (old ++ Single i ∷ []) (λ x from to. Does x (Single i) from to)
-adds_one old i = record { appends = appends_one old (Single i); few = rw (longest-append old (Single i ∷ [])) (omega arith) }
+adds_one old i = adds_part old (Single i) 1 (omega arith)
 
 pub adds_none : (old : List Part) → Adds 0 old old (λ x from to. from ≡ to)
 adds_none old = record { appends = appends_none old; few = omega arith }

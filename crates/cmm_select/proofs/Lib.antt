@@ -11,3 +11,4 @@ mod Signs
 mod Rounding
 mod Accessing
 mod Chains
+mod Deciding

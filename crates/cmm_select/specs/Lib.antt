@@ -1,3 +1,4 @@
 pub mod Operators
 pub mod Cells
+pub mod Comparisons
 pub mod inside

@@ -9,14 +9,17 @@
 //! - `number`: a register gets a number.
 //! - `cell`: a word of memory is loaded or stored.
 //! - `operator`: register 5 gets what an operator gives on the words in registers 5 and 7.
+//! - `comparing`: control goes by a comparison of these words.
 #![tactic(auto)]
 
 mod cell;
+mod comparing;
 mod number;
 mod operator;
 mod place;
 
 pub use cell::{load_cell, store_cell};
+pub use comparing::branch;
 pub use number::load_number;
 pub use operator::{extend, narrow, operate};
 pub use place::{read, write};

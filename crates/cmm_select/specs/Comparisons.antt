@@ -1,0 +1,19 @@
+-- What the pieces for comparisons do, with their operands in registers 5 and 7 (C-- Language Specification 2.0, the table of primitive
+-- operators).
+use Rattle.std.specs.Prelude.{◌≡◌, ℕ}
+use Rattle.cmm_words.specs.Words.{holds}
+use Rattle.cmm_words.specs.declared.operators.Cmp.{Cmp}
+use Rattle.cmm_words.specs.declared.width.Width.{Width}
+use Rattle.rv_asm.specs.Parts.{Code, way}
+use Rattle.rv_asm.specs.Reaching.{Reaches}
+use Rattle.rv_asm.specs.declared.part.Label.{Label}
+use Rattle.rv_table.specs.Bounds.{IsSound}
+use Rattle.rv_table.specs.Machine.{State}
+use Rattle.cmm_changes.specs.Changes.{Keeps}
+use Rattle.cmm_select.specs.Operators.{HaveWords}
+
+-- from every sound state at one address, with words of a width for operands, so many instructions at most, and none of them asks or traps,
+-- lead to the label where the comparison holds, and else to the other address, and nothing but registers 5 to 7 is changed
+pub record Chooses (most : ℕ) (c : Cmp) (w : Width) (l : Label) (x : Code) (from to : ℕ) : Type 0 where
+  pub go : (s : State) → IsSound s → s.pc ≡ from → HaveWords w x.map s →
+      Reaches x.map 1 most s (λ t. (t.pc ≡ way (holds c w (s.registers 5) (s.registers 7)) (x.at l.number) to) × Keeps s t)

@@ -1,0 +1,30 @@
+-- How comparisons are made at 64 bits: RISC-V ISA Volume I, "Conditional Branches", which has six of them.
+use Rattle.std.specs.Prelude.{◌≡◌, Bool, true, false, Option, Some, None}
+use Rattle.cmm_words.specs.Words.{holds}
+use Rattle.cmm_words.specs.declared.operators.Cmp.{Cmp}
+use Rattle.cmm_words.specs.declared.operators.Cmp.TheVariants.{Lt, Le, Gt, Ge, Ltu, Leu, Gtu, Geu}
+use Rattle.cmm_words.specs.declared.width.Width.{Width}
+use Rattle.cmm_words.specs.declared.width.Width.TheVariants.{W64}
+use Rattle.rv_table.specs.Machine.{State}
+use Rattle.cmm_changes.specs.Changes.{Keeps}
+
+-- the comparisons of signed words
+abbrev pub compares_integers : Cmp → Bool
+compares_integers Lt = true
+compares_integers Le = true
+compares_integers Gt = true
+compares_integers Ge = true
+compares_integers _ = false
+
+-- the comparison at 64 bits is that at the width before, and nothing but registers 5 to 7 is changed
+pub record Readies (c : Cmp) (w : Width) (s t : State) : Type 0 where
+  pub same : holds c W64 (t.registers 5) (t.registers 7) ≡ holds c w (s.registers 5) (s.registers 7)
+  pub keeps : Keeps s t
+
+-- the branch on the operands with their places changed, where there is none on them as they are
+abbrev pub turned_of : Cmp → Option Cmp
+turned_of Le = Some Ge
+turned_of Gt = Some Lt
+turned_of Leu = Some Geu
+turned_of Gtu = Some Ltu
+turned_of _ = None
