@@ -1,7 +1,7 @@
 #!/usr/bin/env python3
-"""Runs the examples of README.md with a built program, and compares what they print: examples.py [PROGRAM].
+"""Runs the examples of README.md and examples/README.md with a built program, and compares what they print: examples.py [PROGRAM].
 
-An example is an indented line `$ COMMAND` of README.md with the lines below it, up to the next such line or the end of its block: what the command
+An example is an indented line `$ COMMAND` of these pages with the lines below it, up to the next such line or the end of its block: what the command
 must print on both streams together. A command that is `./cmm ..; echo $?` so shows its exit status; any other must end with 0. Each .cmm file of
 examples/ must stand in an example. PROGRAM is run in place of ./cmm, which would prove and build the program first where its sources have changed:
 `rt ci` leaves the one that it proved in crates/cmm/out/cmm. The last line is `N passed, M failed`.
@@ -42,10 +42,12 @@ def fault_of(command, wanted, program):
 
 
 def main(program="./cmm"):
-    with open(f"{TOP}/README.md", encoding="utf-8") as page:
-        found = examples(page.read())
+    found = []
+    for name in ("README.md", "examples/README.md"):
+        with open(f"{TOP}/{name}", encoding="utf-8") as page:
+            found += examples(page.read())
     shown = " ".join(command for command, _ in found)
-    faults = [f"{name}: no example of README.md runs it" for name in sorted(os.listdir(f"{TOP}/examples")) if name.endswith(".cmm") and not re.search(rf"\./cmm .*\bexamples/{re.escape(name)}\b", shown)]
+    faults = [f"{name}: no example runs it" for name in sorted(os.listdir(f"{TOP}/examples")) if name.endswith(".cmm") and not re.search(rf"\./cmm .*\bexamples/{re.escape(name)}\b", shown)]
     passed = 0
     for command, wanted in found:
         fault = fault_of(command, wanted, program)
