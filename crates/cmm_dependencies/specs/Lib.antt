@@ -1,0 +1,3 @@
+pub mod Depending
+pub mod Dependent
+pub mod inside

@@ -1,0 +1,52 @@
+//! What depends on itself.
+
+ghost use Rattle.std.specs.Prelude.{◌≡◌, ◌<◌, List, Some, map, length, IfOk};
+ghost use Rattle.cmm_accepted.specs.Declarations.{Declared, Entry as UnitEntry};
+ghost use Rattle.cmm_accepted.specs.Scopes.{depends_on_itself};
+ghost use Rattle.cmm_names.specs.Shown.{shown};
+ghost use Rattle.cmm_typedefs.specs.Numbers.{numbering, number_in, entry_at};
+ghost use Rattle.cmm_dependencies.specs.Dependent.{AreDependencies};
+
+use crate::graph::graph_of;
+use cmm_cycles::{comes_back, suspects};
+use cmm_items::Items;
+use cmm_names::{Entry, Named, Table};
+use cmm_typedefs::numbered;
+use std::alloc::{AllocError, Global};
+
+/// Which declarations of a unit name which.
+#[derive(Drop)]
+pub struct Dependencies {
+    pub(crate) graph: Items<Items<usize>>,
+    pub(crate) suspects: Vec<bool>,
+}
+
+impl Dependencies {
+    /// Whether the declaration with a number, the first of its name, depends on itself.
+    pub fn on_itself(&self, alloc: Global, number: usize) -> Result<bool, AllocError>
+        requires { (ds : List (Declared UnitEntry)) × AreDependencies ds self.now × (number < length ds) }
+        ensures { IfOk result (λ depends. (ds : List (Declared UnitEntry)) (d : Declared UnitEntry) → AreDependencies ds self.now → number_in (numbering ds) d.name.name ≡ Some number →
+            entry_at ds number ≡ Some d.as_what → depends ≡ depends_on_itself ds d) }
+    {
+        if self.suspects[number] {
+            let comes = comes_back(alloc, self.graph.as_slice(), number)?;
+            Ok(comes)
+        } else {
+            Ok(false)
+        }
+    }
+}
+
+/// Which declarations of a unit name which.
+pub fn dependencies_of<'a>(
+    alloc: Global,
+    declared: &[Named<'a, Entry<'a>>],
+) -> Result<Dependencies, AllocError>
+    ensures { IfOk result (AreDependencies (map shown declared.now)) }
+{
+    let mut repeated = None;
+    let numbers = Table::of(alloc, numbered(alloc, declared)?, &mut repeated)?;
+    let graph = graph_of(alloc, &numbers, declared)?;
+    let suspects = suspects(alloc, graph.as_slice())?;
+    Ok(Dependencies { graph, suspects })
+}
