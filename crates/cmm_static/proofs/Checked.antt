@@ -1,5 +1,5 @@
 -- The first fault of a unit from its parts, and the fault that is named of units.
-use Rattle.std.proofs.Common.{◌≡◌, ℕ, Bool, true, false, map, ap, sym, ◌∙◌, List, [], ◌++◌, Option, Some, None}
+use Rattle.std.proofs.Common.{◌≡◌, ℕ, Bool, true, false, map, refl, ap, sym, ◌∙◌, subst, List, [], ◌++◌, Option, Some, None, append_assoc}
 use Rattle.std.specs.Prelude.{flat_map}
 use Rattle.cmm_words.specs.declared.width.Width.{Width}
 use Rattle.cmm_ast.specs.declared.expression.TypeName.{TypeName}
@@ -17,10 +17,12 @@ use Rattle.cmm_accepted.specs.LongNames.{long_spots, of_item}
 use Rattle.cmm_accepted.specs.Faults.{Placed, stands_before, fault_at, at_beginning}
 use Rattle.cmm_static.specs.TypeFaults.{entry_type_spots, item_type_spots}
 use Rattle.cmm_static.specs.StandingFaults.{first_standing_fault, fault_of_main, broken_standing}
-use Rattle.cmm_static.specs.inside.Flat.{Flat, flat_unit, links_before, widths_before, registers_in, register_spots_by, flat_register_spots, flat_name_spots, flat_spots, flats_broken, some_starts}
+use Rattle.cmm_static.specs.inside.Flat.{Flat, flat_unit, links_before, widths_before, registers_in, register_spots_by, flat_register_spots, flat_cycle_spots, flat_type_spots, flat_name_spots, flat_spots, flats_broken, some_starts}
 use Rattle.cmm_names.specs.Noted.{long_of}
 use Rattle.cmm_names.proofs.Shared.{first_of_append, long_is}
 use Rattle.cmm_typedefs.specs.Types.{type_senses}
+use Rattle.cmm_static.specs.inside.Cyclic.{AreNoted}
+use Rattle.cmm_static.proofs.Cyclic.{are_noted}
 use Rattle.cmm_static.proofs.FlatUnits.{broken_flat, has_main_flat}
 
 after : (b c : Option Spot) (xs ys : List Spot) → b ≡ first_of None xs → c ≡ first_of b ys → c ≡ first_of None (xs ++ ys)
@@ -49,7 +51,8 @@ noted_all all before f b1 b2 b3 b4 b5 b6 b7 e1 e2 e3 e4 e5 e6 e7 =
 
 noted_types : (all : List (List ℕ)) (before : List Flat) (f : Flat) (b7 b8 b9 b10 : Option Spot) → b7 ≡ first_of None (flat_name_spots all (links_before before) f) →
     b8 ≡ first_of b7 (flat_map (λ d. entry_type_spots (type_senses f.entries) d.as_what) f.entries) → b9 ≡ first_of b8 (flat_map (item_type_spots (type_senses f.entries)) f.items) →
-    b10 ≡ first_of b9 (flat_register_spots (widths_before before) f) → b10 ≡ first_of None (flat_spots all before f)
+    b10 ≡ first_of b9 (flat_register_spots (widths_before before) f) →
+    b10 ≡ first_of None (flat_name_spots all (links_before before) f ++ flat_type_spots f ++ flat_register_spots (widths_before before) f)
 noted_types all before f b7 b8 b9 b10 e7 e8 e9 e10 =
     let s8 = flat_map (λ d. entry_type_spots (type_senses f.entries) d.as_what) f.entries in
     let s9 = flat_map (item_type_spots (type_senses f.entries)) f.items in
@@ -59,19 +62,48 @@ noted_types all before f b7 b8 b9 b10 e7 e8 e9 e10 =
     ∙ sym (first_of_append None (flat_name_spots all (links_before before) f) (s8 ++ s9)))
     e10
 
+-- what follows a beginning, with more after it
+next_after : (first rest more whole : List Spot) → whole ≡ first ++ rest → whole ++ more ≡ first ++ (rest ++ more)
+next_after first rest more whole is = ap (λ t. t ++ more) is ∙ append_assoc first rest more
+
+-- before cycles are noted, names that are declared again are
+noted_cycles : (all : List (List ℕ)) (before : List Flat) (f : Flat) (b10 b11 : Option Spot) →
+    b10 ≡ first_of None (flat_name_spots all (links_before before) f ++ flat_type_spots f ++ flat_register_spots (widths_before before) f) →
+    (AreNoted b10 f.entries → b11 ≡ first_of b10 (flat_cycle_spots f)) → b11 ≡ first_of None (flat_spots all before f)
+noted_cycles all before f b10 b11 e10 e11 =
+    let s12 = again [] f.entries ++ flat_map host_again f.entries in
+    let s3 = flat_map (export_spots f.entries) f.exports in
+    let s4 = twice (links_before before) f.exports in
+    let s5 = flat_map (import_spots all) f.entries in
+    let s6 = flat_map target_decl_spots f.items in
+    let s7 = flat_map long_spots (flat_map of_item f.items) in
+    let s8 = flat_type_spots f in
+    let s9 = flat_register_spots (widths_before before) f in
+    let twice_first : s12 ++ s3 ++ s4 ++ s5 ++ s6 ++ s7 ++ s8 ++ s9 ≡ s12 ++ (s3 ++ s4 ++ s5 ++ s6 ++ s7 ++ s8 ++ s9) =
+    next_after s12 (s3 ++ s4 ++ s5 ++ s6 ++ s7 ++ s8) s9 (s12 ++ s3 ++ s4 ++ s5 ++ s6 ++ s7 ++ s8)
+    (next_after s12 (s3 ++ s4 ++ s5 ++ s6 ++ s7) s8 (s12 ++ s3 ++ s4 ++ s5 ++ s6 ++ s7)
+    (next_after s12 (s3 ++ s4 ++ s5 ++ s6) s7 (s12 ++ s3 ++ s4 ++ s5 ++ s6)
+    (next_after s12 (s3 ++ s4 ++ s5) s6 (s12 ++ s3 ++ s4 ++ s5)
+    (next_after s12 (s3 ++ s4) s5 (s12 ++ s3 ++ s4)
+    (next_after s12 s3 s4 (s12 ++ s3) refl))))) in
+    after b10 b11 (flat_name_spots all (links_before before) f ++ s8 ++ s9) (flat_cycle_spots f) e10
+    (e11 (subst (λ (b : Option Spot). AreNoted b f.entries) (sym (e10 ∙ ap (first_of None) twice_first)) (are_noted f.entries (s3 ++ s4 ++ s5 ++ s6 ++ s7 ++ s8 ++ s9))))
+
 -- what is noted of a unit, rule by rule
-pub noted_unit : (all : List (List ℕ)) (before : List Flat) (f : Flat) (b1 b2 b3 b4 b5 b6 b7 b8 b9 b10 : Option Spot) (names : Senses) (width : TypeName → Option Width) →
+pub noted_unit : (all : List (List ℕ)) (before : List Flat) (f : Flat) (b1 b2 b3 b4 b5 b6 b7 b8 b9 b10 b11 : Option Spot) (names : Senses) (width : TypeName → Option Width) →
     names ≡ type_senses f.entries → width ≡ width_in f.entries →
     b1 ≡ first_of None (again [] f.entries) → b2 ≡ first_of b1 (flat_map host_again f.entries) → b3 ≡ first_of b2 (flat_map (export_spots f.entries) f.exports) →
     b4 ≡ first_of b3 (twice (links_before before) f.exports) → b5 ≡ first_of b4 (flat_map (import_spots all) f.entries) → b6 ≡ first_of b5 (flat_map target_decl_spots f.items) →
     b7 ≡ long_of b6 (flat_map of_item f.items) → b8 ≡ first_of b7 (flat_map (λ d. entry_type_spots names d.as_what) f.entries) → b9 ≡ first_of b8 (flat_map (item_type_spots names) f.items) →
     b10 ≡ first_of b9 (flat_map (register_spots_by (widths_before before) width) (registers_in f.entries)) →
-    b10 ≡ first_of None (flat_spots all before f)
-noted_unit all before f b1 b2 b3 b4 b5 b6 b7 b8 b9 b10 names width are same e1 e2 e3 e4 e5 e6 e7 e8 e9 e10 =
+    (AreNoted b10 f.entries → b11 ≡ first_of b10 (flat_cycle_spots f)) → b11 ≡ first_of None (flat_spots all before f)
+noted_unit all before f b1 b2 b3 b4 b5 b6 b7 b8 b9 b10 b11 names width are same e1 e2 e3 e4 e5 e6 e7 e8 e9 e10 e11 =
+    noted_cycles all before f b10 b11 (
     noted_types all before f b7 b8 b9 b10 (noted_all all (links_before before) f b1 b2 b3 b4 b5 b6 b7 e1 e2 e3 e4 e5 e6 e7)
     (e8 ∙ ap (λ q. first_of b7 (flat_map (λ d. entry_type_spots q d.as_what) f.entries)) are)
     (e9 ∙ ap (λ q. first_of b8 (flat_map (item_type_spots q) f.items)) are)
     (e10 ∙ ap (λ q. first_of b9 (flat_map (register_spots_by (widths_before before) q) (registers_in f.entries))) same)
+    ) e11
 
 -- what is first among units laid flat is so among the units
 pub first_found : (us : List UnitTree) (fs : List Flat) (first : Option Placed) → fs ≡ map flat_unit us →

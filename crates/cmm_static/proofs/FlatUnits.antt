@@ -17,9 +17,11 @@ use Rattle.cmm_names.proofs.Shared.{again_with}
 use Rattle.cmm_accepted.specs.Linking.{program_of, registers_of}
 use Rattle.cmm_static.specs.TypeFaults.{unit_type_spots}
 use Rattle.cmm_static.specs.StandingFaults.{unit_register_spots, standing_spots, broken_standing}
-use Rattle.cmm_static.specs.inside.Flat.{flat_name_spots}
+use Rattle.cmm_static.specs.inside.Flat.{flat_name_spots, flat_register_spots}
 use Rattle.cmm_static.proofs.Unnumbered.{plain, unnumbered, entries_plain, host_plain, import_plain, export_plain, starts_plain, each_same, each_alike}
 use Rattle.cmm_static.proofs.TypesUnnumbered.{types_flat}
+use Rattle.cmm_static.specs.CycleFaults.{unit_cycle_spots}
+use Rattle.cmm_static.proofs.CyclesUnnumbered.{cycles_flat}
 use Rattle.cmm_static.proofs.RegistersUnnumbered.{registers_flat, unit_widths}
 
 -- ---- units
@@ -51,10 +53,13 @@ names_flat us earlier u = seven
 
 spots_flat : (us earlier : List NamedUnit) (u : NamedUnit) → standing_spots us earlier u ≡ flat_spots (links_before (map flat_named us)) (map flat_named earlier) (flat_named u)
 spots_flat us earlier u =
-    ap (λ t. t ++ unit_type_spots (program_of us) u ++ unit_register_spots earlier u) (names_flat us earlier u)
-    ∙ ap (λ t. flat_name_spots (links_before (map flat_named us)) (links_before (map flat_named earlier)) (flat_named u) ++ t ++ unit_register_spots earlier u) (types_flat (program_of us) u)
-    ∙ ap (λ t. flat_name_spots (links_before (map flat_named us)) (links_before (map flat_named earlier)) (flat_named u) ++ flat_type_spots (flat_named u) ++ t)
+    ap (λ t. t ++ unit_type_spots (program_of us) u ++ unit_register_spots earlier u ++ unit_cycle_spots u) (names_flat us earlier u)
+    ∙ ap (λ t. flat_name_spots (links_before (map flat_named us)) (links_before (map flat_named earlier)) (flat_named u) ++ t ++ unit_register_spots earlier u ++ unit_cycle_spots u) (types_flat (program_of us) u)
+    ∙ ap (λ t. flat_name_spots (links_before (map flat_named us)) (links_before (map flat_named earlier)) (flat_named u) ++ flat_type_spots (flat_named u) ++ t ++ unit_cycle_spots u)
     (ap (λ w. flat_map (register_spots w u.entries) (registers_of u)) (widths_flat earlier) ∙ registers_flat (widths_before (map flat_named earlier)) u.entries)
+    ∙ ap (λ t. flat_name_spots (links_before (map flat_named us)) (links_before (map flat_named earlier)) (flat_named u) ++ flat_type_spots (flat_named u)
+    ++ flat_register_spots (widths_before (map flat_named earlier)) (flat_named u) ++ t)
+    (cycles_flat u.entries)
   where
     widths_flat : (us : List NamedUnit) → flat_map register_widths us ≡ widths_before (map flat_named us)
     widths_flat [] = refl

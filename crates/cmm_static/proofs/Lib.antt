@@ -2,6 +2,8 @@ pub mod Links
 pub mod Unnumbered
 pub mod TypesUnnumbered
 pub mod RegistersUnnumbered
+pub mod CyclesUnnumbered
+pub mod Cyclic
 pub mod Registering
 pub mod FlatUnits
 pub mod FirstUnit

@@ -1,3 +1,4 @@
 pub mod TypeFaults
+pub mod CycleFaults
 pub mod StandingFaults
 pub mod inside

@@ -1,3 +1,4 @@
 pub mod Linked
 pub mod Flat
+pub mod Cyclic
 pub mod Units

@@ -110,8 +110,8 @@ fn fault_at(units: &[Unit], broken: Broken) -> Fault
 }
 
 /// Whether units break no rule that stands: 20 of units, 21 of exports and of types, 23 of the types of imports, exports and texts and of
-/// registers that an earlier unit has with another width, 34, 35, 37, and 40 of names and of the alignments of data; and 36 where none of
-/// these is broken, at the beginning of the first unit. Else the first fault by unit, place and rule. Units are those that `cmm_parser`
+/// registers that an earlier unit has with another width, 34, 35, 37, 39, and 40 of names and of the alignments of data; and 36 where none
+/// of these is broken, at the beginning of the first unit. Else the first fault by unit, place and rule. Units are those that `cmm_parser`
 /// gives, and fewer than 2^32.
 pub fn check(alloc: Global, units: &[Unit]) -> Result<(), StaticFault>
     requires { length units.now < 2 ^ 32 }

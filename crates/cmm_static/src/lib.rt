@@ -1,5 +1,5 @@
-//! Which static rules units break: so far those on names, exports, imports and the target, on types, and on the
-//! width of registers.
+//! Which static rules units break: so far those on names, exports, imports and the target, on types, on the
+//! width of registers, and on what depends on itself.
 //!
 //! `check` answers the fault that is named of units by the groups of rules that stand, exactly: `specs/StandingFaults` says which, from the
 //! definitions of `cmm_accepted`. Of the faults the first is kept while walking, so that each function's clause says how the first fault
@@ -8,10 +8,11 @@
 //! - `checking`: the call `check`, over all units. `unit`, `unit_names`: the rules on one unit, laid flat.
 //! - `fault`: the answer.
 //! - `host`, `linking`, `target`, `typed`, `registers`: names of the host, exports and imports, properties of the target, types, registers.
-//! - `earlier`: what is known of the units before one.
+//! - `cycles`: typedefs and constants that depend on themselves. `earlier`: what is known of the units before one.
 #![tactic(auto)]
 
 mod checking;
+mod cycles;
 mod earlier;
 mod fault;
 mod host;

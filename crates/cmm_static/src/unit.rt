@@ -1,4 +1,4 @@
-//! The names of one unit, and the rules on them, on types and on registers.
+//! The names of one unit, and the rules on them, on types, on registers and on what depends on itself.
 
 ghost use Rattle.std.specs.Prelude.{◌≡◌, ◌++◌, ◌∷◌, [], None, List, ℕ, IfOk, OnOk};
 ghost use Rattle.cmm_accepted.specs.Spots.{first_of};
@@ -6,6 +6,7 @@ ghost use Rattle.cmm_static.specs.inside.Linked.{AreLinks};
 ghost use Rattle.cmm_static.specs.inside.Flat.{Flat, flat_unit, flat_spots};
 ghost use Rattle.cmm_static.specs.inside.Units.{AreEarlier, unit_flat};
 
+use crate::cycles::note_cycles;
 use crate::earlier::Earlier;
 use crate::host::note_hosts;
 use crate::linking::{note_exports, note_imports, note_twice};
@@ -15,6 +16,7 @@ use crate::typed::{note_entries, note_items};
 use crate::unit_names::UnitNames;
 use cmm_accepted::Spot;
 use cmm_ast::Unit;
+use cmm_dependencies::dependencies_of;
 use cmm_names::{Index, Table, declared_in, exports_in, note_things, things_of};
 use cmm_typedefs::types_of;
 use std::alloc::{AllocError, Global};
@@ -60,6 +62,8 @@ pub(crate) fn first_broken<'a>(
     note_items(&types, unit.things.as_slice(), &mut best);
     let registers = registers_in(alloc, declared)?;
     note_registers(&types, registers.as_slice(), &earlier.registers, &mut best);
+    let dependencies = dependencies_of(alloc, declared)?;
+    note_cycles(alloc, &dependencies, declared, &mut best)?;
     add_registers(alloc, &types, registers.as_slice(), &mut earlier.registers)?;
     Ok(best)
 }

@@ -16,6 +16,7 @@ use Rattle.cmm_accepted.specs.LongNames.{long_spots, of_item}
 use Rattle.cmm_accepted.specs.Faults.{Placed}
 use Rattle.cmm_typedefs.specs.Types.{type_senses}
 use Rattle.cmm_static.specs.TypeFaults.{entry_type_spots, item_type_spots}
+use Rattle.cmm_static.specs.CycleFaults.{entry_cycle_spots}
 use Rattle.cmm_names.specs.Shown.{whats, with_what}
 
 pub record Flat : Type 0 where
@@ -63,6 +64,10 @@ register_spots_by earlier width d = elim (found d.name.name earlier) [
 abbrev pub flat_register_spots : List (Declared (Option Width)) → Flat → List Spot
 flat_register_spots earlier f = flat_map (register_spots_by earlier (width_in f.entries)) (registers_in f.entries)
 
+-- typedefs and constants that depend on themselves
+abbrev pub flat_cycle_spots : Flat → List Spot
+flat_cycle_spots f = flat_map (entry_cycle_spots f.entries) f.entries
+
 -- ---- all rules that stand, from the link names of all units and from the units before
 
 abbrev pub links_before : List Flat → List (List ℕ)
@@ -72,7 +77,7 @@ abbrev pub widths_before : List Flat → List (Declared (Option Width))
 widths_before before = flat_map flat_widths before
 
 abbrev pub flat_spots : List (List ℕ) → List Flat → Flat → List Spot
-flat_spots all before f = flat_name_spots all (links_before before) f ++ flat_type_spots f ++ flat_register_spots (widths_before before) f
+flat_spots all before f = flat_name_spots all (links_before before) f ++ flat_type_spots f ++ flat_register_spots (widths_before before) f ++ flat_cycle_spots f
 
 abbrev pub placed : ℕ → Spot → Placed
 placed number s = record { unit = number; spot = s }

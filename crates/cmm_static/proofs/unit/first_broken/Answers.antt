@@ -21,7 +21,7 @@ use Rattle.cmm_static.proofs.unit.first_broken.Goals as goal
 pub returns-clause-best : goal.returns-clause-best
 returns-clause-best c = λ all. λ before. λ are. λ earlier.
     noted_unit all before (unit_flat c.args.unit.now) c.args.unit.now.repeated c.note_hosts.new.best c.note_exports.new.best c.note_twice.new.best c.note_imports.new.best c.note_targets.new.best
-    c.note_things.new.best c.note_entries.new.best c.note_items.new.best c.note_registers.new.best (senses_of c.in_ok-types.types) (λ t. if_ok (type_width (senses_of c.in_ok-types.types) t))
+    c.note_things.new.best c.note_entries.new.best c.note_items.new.best c.note_registers.new.best c.note_cycles.new.best (senses_of c.in_ok-types.types) (λ t. if_ok (type_width (senses_of c.in_ok-types.types) t))
     (fun_ext (rw c.as_slice-declared.ensures at c.in_ok-types.ensures.senses))
     (fun_ext (rw c.as_slice-declared.ensures at c.in_ok-types.ensures.widths))
     (c.args.unit.now.noted ∙ ap (first_of None) (again_shown c.args.unit.now.table.declared))
@@ -36,6 +36,7 @@ returns-clause-best c = λ all. λ before. λ are. λ earlier.
     (c.note_registers.ensures (widths_before before) earlier.registers
     ∙ ap (λ (rs : List (Declared TypeName)). first_of c.note_items.new.best (flat_map (register_spots_by (widths_before before) (λ t. if_ok (type_width (senses_of c.in_ok-types.types) t))) rs))
     (ap (map register_shown) c.as_slice-4.ensures ∙ c.in_ok-registers.ensures ∙ ap (λ ds. registers_in (map shown ds)) c.as_slice-declared.ensures))
+    (rw c.as_slice-declared.ensures at c.in_ok-note_cycles.ensures)
 
 pub returns-clause-earlier : goal.returns-clause-earlier
 returns-clause-earlier c = λ before. λ earlier.
