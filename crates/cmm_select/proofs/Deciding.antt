@@ -1,5 +1,5 @@
 -- Comparisons at 64 bits by the six branches that there are: the other four with their operands turned.
-use Rattle.std.proofs.Common.{◌≡◌, ◌≢◌, ℕ, ◌+◌, ◌<◌, ◌^◌, refl, sym, ◌∙◌, ap, subst, arith, ℤ, Option, Some, None}
+use Rattle.std.proofs.Common.{◌≡◌, ℕ, ◌+◌, ◌<◌, ◌^◌, refl, sym, ◌∙◌, ap, subst, arith, ℤ, Some, None}
 use Rattle.std.specs.Prelude.{Bool, true, false, not, int_lt, int_le, nat_lt, nat_le, IsTrue}
 use Rattle.std.proofs.lemmas.Bool.Decides.{nat_tests}
 use Rattle.std.proofs.lemmas.Int.{ints}
@@ -29,13 +29,13 @@ use Rattle.cmm_select.specs.inside.Comparing.{Readies, compares_integers, turned
 
 -- ---- what a branch tells of two words
 
-not_less : (x y : ℤ) → not (int_lt x y) ≡ int_le y x
+pub not_less : (x y : ℤ) → not (int_lt x y) ≡ int_le y x
 not_less x y = grind (arith, ints, nat_tests)
 
 pub less_same : (a b : ℕ) → a < 2 ^ 64 → b < 2 ^ 64 → is_less a b ≡ int_lt (word_signed 64 a) (word_signed 64 b)
 less_same a b h g = ap (λ (z : ℤ). int_lt z (signed 64 b)) (signed_same a h) ∙ ap (int_lt (word_signed 64 a)) (signed_same b g)
 
-not_below : (a b : ℕ) → not (nat_lt a b) ≡ nat_le b a
+pub not_below : (a b : ℕ) → not (nat_lt a b) ≡ nat_le b a
 not_below a b = grind (arith, nat_tests)
 
 pub straight_taken : (c : Cmp) → turned_of c ≡ None → (a b : ℕ) → a < 2 ^ 64 → b < 2 ^ 64 → taken c a b ≡ holds c W64 a b

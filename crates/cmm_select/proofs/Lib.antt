@@ -12,3 +12,6 @@ mod Rounding
 mod Accessing
 mod Chains
 mod Deciding
+mod Telling
+mod Converting
+mod Rows

@@ -1,5 +1,5 @@
 -- An operator at a width is the operator of 64 bits and a cut, on words as they are or with their sign.
-use Rattle.std.proofs.Common.{◌≡◌, ◌≢◌, ℕ, ◌+◌, ◌*◌, ◌<◌, ◌≤◌, ◌^◌, refl, sym, ◌∙◌, ap, subst, arith, Some, None, Option}
+use Rattle.std.proofs.Common.{◌≡◌, ℕ, ◌+◌, refl, sym, ◌∙◌, ap, subst, arith, Some, None, Option}
 use Rattle.std.specs.Prelude.{option_map, IsTrue}
 use Rattle.cmm_words.specs.Laws.{IsCut2, IsCutOfExtended, IsCutOfExtendedFirst}
 use Rattle.cmm_words.specs.Widths.{IsWord}
@@ -11,7 +11,7 @@ use Rattle.cmm_words.specs.declared.width.Width.TheVariants.{W64}
 use Rattle.rv_asm.specs.Parts.{Code}
 use Rattle.rv_table.specs.Machine.{State}
 use Rattle.cmm_changes.proofs.Shared.{keeps_then, runs_then, runs_weaker, set_keeps}
-use Rattle.cmm_changes.specs.Changes.{Keeps, Sets}
+use Rattle.cmm_changes.specs.Changes.{Keeps}
 use Rattle.cmm_changes.specs.Pieces.{Always, Runs}
 use Rattle.cmm_select.proofs.Rotating.{OperatesUncut}
 use Rattle.cmm_select.specs.Operators.{Extends, HasWord, HaveWords, Narrows, Operates}

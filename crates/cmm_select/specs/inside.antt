@@ -1,3 +1,4 @@
 pub mod Wide
 pub mod Accesses
 pub mod Comparing
+pub mod Complements

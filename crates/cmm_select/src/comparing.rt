@@ -1,18 +1,20 @@
 //! Comparisons of the words in registers 5 and 7.
 
-ghost use Rattle.std.specs.Prelude.{◌≡◌, ◌+◌, ◌*◌, OnOk};
+ghost use Rattle.std.specs.Prelude.{◌≡◌, ◌+◌, ◌*◌, None, OnOk};
 ghost use Rattle.cmm_words.specs.declared.width.Width.TheVariants.{W64};
 ghost use Rattle.rv_asm.specs.Assembly.{IsInner};
-ghost use Rattle.cmm_changes.specs.Pieces.{Adds, Runs};
-ghost use Rattle.cmm_select.specs.Comparisons.{Chooses};
+ghost use Rattle.rv_table.specs.Table.{IsValid};
+ghost use Rattle.cmm_changes.specs.Pieces.{Adds, Always, Runs};
+ghost use Rattle.cmm_select.specs.Comparisons.{Chooses, Tells};
 ghost use Rattle.cmm_select.specs.Operators.{HaveWords, shifts_of};
-ghost use Rattle.cmm_select.specs.inside.Comparing.{Readies, compares_integers, turned_of};
+ghost use Rattle.cmm_select.specs.inside.Comparing.{Readies, compares_integers, contrary_of, less_of, turned_of};
 
 use crate::operator::extend;
 use crate::place::{FIRST, SECOND};
 use cmm_words::laws::wide_comparisons;
 use cmm_words::{Cmp, Width};
 use rv_asm::{Asm, Label};
+use rv_table::Instr;
 use std::alloc::AllocError;
 
 /// Goes to a label where a comparison holds of the words in registers 5 and 7, and on otherwise. An error is want of memory, and then
@@ -76,5 +78,118 @@ fn turned(comparison: Cmp) -> Option<Cmp>
         Cmp::Leu => Some(Cmp::Geu),
         Cmp::Gtu => Some(Cmp::Ltu),
         _ => None,
+    }
+}
+
+/// Gives register 5 the number 1 where a comparison holds of the words in registers 5 and 7, and 0 elsewhere. An error is want of
+/// memory, and then some of the instructions may be there.
+pub fn compare(asm: &mut Asm, comparison: Cmp, width: Width) -> Result<(), AllocError>
+    ensures tells { OnOk result (Adds (2 * shifts_of width + 3) asm.old.parts asm.new.parts (Runs 0 (2 * shifts_of width + 3) (HaveWords width) (Tells comparison width))) }
+    ensures labels { asm.new.labels ≡ asm.old.labels }
+{
+    give_signs(asm, comparison, width)?;
+    compare_wide(asm, comparison)?;
+    Ok(())
+}
+
+/// The same at 64 bits.
+fn compare_wide(asm: &mut Asm, comparison: Cmp) -> Result<(), AllocError>
+    ensures tells { OnOk result (Adds 3 asm.old.parts asm.new.parts (Runs 0 3 Always (Tells comparison W64))) }
+    ensures labels { asm.new.labels ≡ asm.old.labels }
+{
+    match contrary(comparison) {
+        Some(other) => {
+            compare_directly(asm, other)?;
+            asm.emit(Instr::Xori {
+                rd: FIRST,
+                rs1: FIRST,
+                imm: 1,
+            })?;
+            Ok(())
+        }
+        None => {
+            compare_directly(asm, comparison)?;
+            Ok(())
+        }
+    }
+}
+
+/// The comparison that holds where this one doesn't, if no instruction makes it as it is.
+fn contrary(comparison: Cmp) -> Option<Cmp>
+    ensures { result ≡ contrary_of comparison }
+{
+    match comparison {
+        Cmp::Ne => Some(Cmp::Eq),
+        Cmp::Le => Some(Cmp::Gt),
+        Cmp::Ge => Some(Cmp::Lt),
+        Cmp::Leu => Some(Cmp::Gtu),
+        Cmp::Geu => Some(Cmp::Ltu),
+        _ => None,
+    }
+}
+
+/// A comparison whether words are the same, or one is less than the other.
+fn compare_directly(asm: &mut Asm, comparison: Cmp) -> Result<(), AllocError>
+    requires { contrary_of comparison ≡ None }
+    ensures tells { OnOk result (Adds 2 asm.old.parts asm.new.parts (Runs 0 2 Always (Tells comparison W64))) }
+    ensures labels { asm.new.labels ≡ asm.old.labels }
+{
+    match comparison {
+        Cmp::Eq => {
+            equal(asm)?;
+            Ok(())
+        }
+        _ => {
+            asm.emit(less(comparison))?;
+            Ok(())
+        }
+    }
+}
+
+/// Whether words are the same: whether their difference is below 1.
+fn equal(asm: &mut Asm) -> Result<(), AllocError>
+    ensures tells { OnOk result (Adds 2 asm.old.parts asm.new.parts (Runs 0 2 Always (Tells Cmp.Eq W64))) }
+    ensures labels { asm.new.labels ≡ asm.old.labels }
+{
+    asm.emit(Instr::Sub {
+        rd: FIRST,
+        rs1: FIRST,
+        rs2: SECOND,
+    })?;
+    asm.emit(Instr::Sltiu {
+        rd: FIRST,
+        rs1: FIRST,
+        imm: 1,
+    })?;
+    Ok(())
+}
+
+/// The instruction that tells whether one word is less than the other.
+fn less(comparison: Cmp) -> Instr
+    ensures is { result ≡ less_of comparison }
+    ensures valid { IsValid result }
+{
+    let rd = FIRST;
+    match comparison {
+        Cmp::Lt => Instr::Slt {
+            rd,
+            rs1: FIRST,
+            rs2: SECOND,
+        },
+        Cmp::Gt => Instr::Slt {
+            rd,
+            rs1: SECOND,
+            rs2: FIRST,
+        },
+        Cmp::Gtu => Instr::Sltu {
+            rd,
+            rs1: SECOND,
+            rs2: FIRST,
+        },
+        _ => Instr::Sltu {
+            rd,
+            rs1: FIRST,
+            rs2: SECOND,
+        },
     }
 }

@@ -9,7 +9,8 @@
 //! - `number`: a register gets a number.
 //! - `cell`: a word of memory is loaded or stored.
 //! - `operator`: register 5 gets what an operator gives on the words in registers 5 and 7.
-//! - `comparing`: control goes by a comparison of these words.
+//! - `comparing`: control goes by a comparison of these words, or register 5 gets what it tells.
+//! - `unary`: register 5 gets what an operator gives on the word in it alone, or this word with its sign at another width.
 #![tactic(auto)]
 
 mod cell;
@@ -17,9 +18,11 @@ mod comparing;
 mod number;
 mod operator;
 mod place;
+mod unary;
 
 pub use cell::{load_cell, store_cell};
-pub use comparing::branch;
+pub use comparing::{branch, compare};
 pub use number::load_number;
 pub use operator::{extend, narrow, operate};
 pub use place::{read, write};
+pub use unary::{convert, operate_on_one};

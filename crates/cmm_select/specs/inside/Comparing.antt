@@ -2,10 +2,12 @@
 use Rattle.std.specs.Prelude.{◌≡◌, Bool, true, false, Option, Some, None}
 use Rattle.cmm_words.specs.Words.{holds}
 use Rattle.cmm_words.specs.declared.operators.Cmp.{Cmp}
-use Rattle.cmm_words.specs.declared.operators.Cmp.TheVariants.{Lt, Le, Gt, Ge, Ltu, Leu, Gtu, Geu}
+use Rattle.cmm_words.specs.declared.operators.Cmp.TheVariants.{Eq, Ne, Lt, Le, Gt, Ge, Ltu, Leu, Gtu, Geu}
 use Rattle.cmm_words.specs.declared.width.Width.{Width}
 use Rattle.cmm_words.specs.declared.width.Width.TheVariants.{W64}
 use Rattle.rv_table.specs.Machine.{State}
+use Rattle.rv_table.specs.declared.instruction.Instr.{Instr}
+use Rattle.rv_table.specs.declared.instruction.Instr.TheVariants.{Slt, Sltu}
 use Rattle.cmm_changes.specs.Changes.{Keeps}
 
 -- the comparisons of signed words
@@ -28,3 +30,20 @@ turned_of Gt = Some Lt
 turned_of Leu = Some Geu
 turned_of Gtu = Some Ltu
 turned_of _ = None
+
+-- the comparison that holds where another doesn't, where no instruction makes that one as it is: RISC-V ISA Volume I, "Integer
+-- Register-Register Operations"
+abbrev pub contrary_of : Cmp → Option Cmp
+contrary_of Ne = Some Eq
+contrary_of Le = Some Gt
+contrary_of Ge = Some Lt
+contrary_of Leu = Some Gtu
+contrary_of Geu = Some Ltu
+contrary_of _ = None
+
+-- the instruction for a comparison whether one word is less than the other
+abbrev pub less_of : Cmp → Instr
+less_of Lt = Slt 5 5 7
+less_of Gt = Slt 5 7 5
+less_of Gtu = Sltu 5 7 5
+less_of _ = Sltu 5 5 7

@@ -1,5 +1,5 @@
 -- The instructions of operators at 64 bits: RISC-V ISA Volume I, "Integer Register-Register Operations" and the M extension.
-use Rattle.std.specs.Prelude.{◌≡◌, ℕ, Bool, true, false, pos}
+use Rattle.std.specs.Prelude.{Bool, true, false}
 use Rattle.cmm_words.specs.declared.operators.Op2.{Op2}
 use Rattle.cmm_words.specs.declared.operators.Op2.TheVariants as op
 use Rattle.cmm_select.specs.declared.operator.Method.{Method}

@@ -1,0 +1,39 @@
+-- Worked rows: the code of operators and comparisons, run.
+use Rattle.std.proofs.Common.{◌≡◌, ℕ, List, [], ◌∷◌, refl, true, false, lit<, Option, Some, None}
+use Rattle.cmm_words.specs.Words.{holds, value2}
+use Rattle.cmm_words.specs.declared.operators.Cmp.TheVariants as cmp
+use Rattle.cmm_words.specs.declared.operators.Op2.TheVariants as op
+use Rattle.cmm_words.specs.declared.width.Width.TheVariants.{W8, W64}
+use Rattle.rv_table.specs.Machine.{MemoryMap, State, steps}
+use Rattle.rv_table.specs.Registers.{with_register}
+use Rattle.cmm_select.specs.Operators.{HaveWords}
+
+abbrev running : List ℕ → MemoryMap
+running code = record { code = code; data_length = 0; stack_size = 4096 }
+
+abbrev on_words : ℕ → ℕ → State
+on_words a b = record { registers = with_register (with_register (λ r. 0) 5 a) 7 b; pc = 0x10000; memory = λ k. 0 }
+
+abbrev result : Option State → Option ℕ
+result (Some t) = Some (t.registers 5)
+result None = None
+
+-- sub x5, x5, x7; slli x5, x5, 56; srli x5, x5, 56
+abbrev difference : MemoryMap
+difference = running (0xb3 ∷ 0x82 ∷ 0x72 ∷ 0x40 ∷ 0x93 ∷ 0x92 ∷ 0x82 ∷ 0x03 ∷ 0x93 ∷ 0xd2 ∷ 0x82 ∷ 0x03 ∷ [])
+
+words_are_given : HaveWords W8 difference (on_words 5 7)
+words_are_given = (lit< tt, lit< tt)
+
+difference_is_cut : (result (steps difference 3 (on_words 5 7)) ≡ Some 254) × (value2 op.Sub W8 5 7 ≡ Some 254)
+difference_is_cut = (refl, refl)
+
+-- sltu x5, x5, x7; xori x5, x5, 1
+abbrev not_below : MemoryMap
+not_below = running (0xb3 ∷ 0xb2 ∷ 0x72 ∷ 0x00 ∷ 0x93 ∷ 0xc2 ∷ 0x12 ∷ 0x00 ∷ [])
+
+comparison_is_told : (result (steps not_below 2 (on_words 9 7)) ≡ Some 1) × (holds cmp.Geu W64 9 7 ≡ true)
+comparison_is_told = (refl, refl)
+
+comparison_fails : (result (steps not_below 2 (on_words 5 7)) ≡ Some 0) × (holds cmp.Geu W64 5 7 ≡ false)
+comparison_fails = (refl, refl)

@@ -1,0 +1,14 @@
+use Rattle.std.proofs.Common.{arith}
+use Rattle.cmm_changes.proofs.Shared.{adds_one, adds_weaker}
+use Rattle.cmm_select.proofs.Telling.{tells_less}
+use Rattle.cmm_select.specs.inside.Comparing.{less_of}
+use Rattle.cmm_select.proofs.comparing.compare_directly.Goals as goal
+
+pub returns-in_ok-equal-in-Eq-clause-tells : goal.returns-in_ok-equal-in-Eq-clause-tells
+returns-in_ok-equal-in-Eq-clause-tells c = rw c.in-Eq.is c.in_ok-equal-in-Eq.ensures.tells
+
+pub returns-in_ok-emit-in_default-clause-tells : goal.returns-in_ok-emit-in_default-clause-tells
+returns-in_ok-emit-in_default-clause-tells c =
+    rw (c.in_ok-emit-in_default.ensures.parts, c.less.ensures.is)
+    (adds_weaker (adds_one c.args.asm.now.parts (less_of c.args.comparison)) (omega arith)
+    (λ x from to does. tells_less x from to c.args.comparison c.requires c.in_default.not-Eq does))

@@ -1,0 +1,13 @@
+use Rattle.std.proofs.Common.{◌∷◌, ◌++◌, [], arith, pos}
+use Rattle.rv_asm.specs.declared.part.Part.TheVariants.{Single}
+use Rattle.rv_table.specs.declared.instruction.Instr.TheVariants.{Sltiu, Sub}
+use Rattle.cmm_changes.proofs.Shared.{adds_one, adds_then, adds_weaker}
+use Rattle.cmm_select.proofs.Telling.{tells_same}
+use Rattle.cmm_select.proofs.comparing.equal.Goals as goal
+
+pub returns-clause-tells : goal.returns-clause-tells
+returns-clause-tells c =
+    let old = c.args.asm.now.parts in
+    rw (c.in_ok-emit-2.ensures.parts, c.in_ok-emit.ensures.parts)
+    (adds_weaker (adds_then (adds_one old (Sub 5 5 7)) (adds_one (old ++ Single (Sub 5 5 7) ∷ []) (Sltiu 5 5 (pos 1)))) (omega arith)
+    (λ x from to does. tells_same x from to does))
