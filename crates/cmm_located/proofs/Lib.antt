@@ -26,3 +26,7 @@ pub mod Simulating
 mod Notation
 mod Rows
 mod PremiseRows
+mod ExitSample
+mod ExitNodes
+mod ExitRows
+mod ExitShown
