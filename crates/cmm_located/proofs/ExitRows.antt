@@ -1,6 +1,6 @@
 -- A second worked row: the premises of the laws of steps hold of a program that cuts, returns alternately, unwinds, and has variables
 -- that are live at its sites.
-use Rattle.std.proofs.Common.{◌≡◌, ◌≢◌, inl, ℕ, zero, suc, ◌<◌, ◌≤◌, true, Contains, [], ◌∷◌, length, slice_get, Some, is_some, arith, refl, sym, ap, subst}
+use Rattle.std.proofs.Common.{◌≡◌, ◌≢◌, inl, inr, ℕ, zero, suc, ◌<◌, ◌≤◌, true, Contains, [], ◌∷◌, length, slice_get, Some, is_some, arith, refl, sym, ap, subst}
 use Rattle.std.proofs.lemmas.Bool.Decides.{nat_tests}
 use Rattle.cmm_program.specs.declared.procedure.Cont.{Cont}
 use Rattle.cmm_program.specs.declared.procedure.Proc.{Proc}
@@ -96,8 +96,8 @@ c_entry = record {
   is_entry = refl;
   numbered = refl;
   formals_are_variables = omega arith;
-  known = λ u is_live. absurd (cc (is_live));
-  apart = λ u v is_live less other. absurd (cc (is_live));
+  known = λ u is_live. (let first : u ≡ 0 = grind (arith, nat_tests, is_live) in (omega arith, inr (0, omega arith, sym first)));
+  apart = λ u v is_live less other. absurd (omega arith);
 }
 
 d_entry : HasEntry exiting exit-live 2 d-proc
