@@ -162,7 +162,7 @@ d_leads (suc (suc (suc (suc (suc zero))))) is = absurd (cc (is))
 d_leads (suc (suc (suc (suc (suc (suc zero)))))) is = absurd (cc (is))
 d_leads (suc (suc (suc (suc (suc (suc (suc m))))))) is = absurd (cc (is))
 
-abbrev c-site : Site
+abbrev pub c-site : Site
 c-site = record (call_site (1 ∷ [])) { returns = 1 ∷ []; cuts = 0 ∷ [] }
 
 abbrev d-site : Site

@@ -1,13 +1,26 @@
 -- The client can be shown the program with exits of each kind: what is live at its sites is known, and stands in places that are apart.
-use Rattle.std.proofs.Common.{◌≡◌, ◌≢◌, ℕ, zero, suc, ◌<◌, true, List, [], ◌∷◌, length, Some, arith, refl, subst}
+use Rattle.std.proofs.Common.{◌≡◌, ◌≢◌, ℕ, zero, suc, ◌<◌, true, false, List, [], ◌∷◌, length, Some, arith, refl, subst, ◌==◌, ◌&&◌}
+use Rattle.cmm_following.specs.Following.{Follows}
+use Rattle.cmm_laws.specs.Observed.{machine_of}
 use Rattle.cmm_program.specs.declared.procedure.Proc.{Proc}
 use Rattle.cmm_program.specs.Frames.{procedure_at}
 use Rattle.cmm_program.specs.Liveness.{is_among, is_live_at}
-use Rattle.cmm_program.proofs.Shared.{opened}
+use Rattle.cmm_program.proofs.Shared.{opened, continuation}
+use Rattle.cmm_graph.specs.GraphControl.{graph_control}
+use Rattle.cmm_graph.specs.GraphMachine.{graph_start}
+use Rattle.cmm_graph.specs.Laws.{OrderIsByReads, ValueIsByReads}
+use Rattle.cmm_graph.proofs.Shared.{n}
+use Rattle.cmm_chain.specs.declared.frame.Location.TheVariants.{Saved}
 use Rattle.cmm_located.specs.Clients.{IsShowable}
+use Rattle.cmm_located.specs.Compiled.{Compiled}
+use Rattle.cmm_located.specs.Cutting.{HaveCuts}
+use Rattle.cmm_located.specs.LocatedMachine.{located_machine, located_start, located_step, tokens_at}
+use Rattle.cmm_located.specs.Simulating.{step_cost}
 use Rattle.cmm_located.proofs.ExitNodes.{among, every, is_apart, past, places_apart}
-use Rattle.cmm_located.proofs.ExitRows.{row-setting, exiting_is_compiled}
-use Rattle.cmm_located.proofs.ExitSample.{main-proc, c-proc, d-proc, exiting}
+use Rattle.cmm_located.proofs.ExitRows.{row-setting, exiting_is_compiled, c-site}
+use Rattle.cmm_located.proofs.ExitSample.{main-proc, c-proc, d-proc, exiting, exit-live}
+use Rattle.cmm_located.proofs.Notation.{laid}
+use Rattle.cmm_located.proofs.Simulating.{places_follow}
 
 -- ---- which variables are live at a site
 
@@ -68,3 +81,38 @@ exiting_is_showable = record {
   live = live_known;
   apart = live_apart;
 }
+
+-- ---- what the law of runs says of it
+
+exiting_is_followed : OrderIsByReads → ValueIsByReads → (input : List ℕ) →
+    Follows (machine_of (graph_control exiting.graphs) row-setting) (step_cost exiting 1) (located_machine row-setting exiting) (tokens_at row-setting exiting)
+    (graph_start exiting.graphs row-setting input) (located_step row-setting exiting (located_start row-setting exiting input))
+exiting_is_followed by_reads by_values input =
+    places_follow by_reads by_values row-setting exiting exit-live 1 main-proc input exiting_is_compiled exiting_is_showable refl refl
+
+-- ---- what the premises refuse
+
+-- c saves no more than it uses
+abbrev saving_too_little : Compiled
+saving_too_little = record exiting {
+  plan = record exiting.plan { frame = λ q. elim (q == 1) [ true ↦ laid 144 8 ((9, 16) ∷ []) (104 ∷ 120 ∷ []) | false ↦ exiting.plan.frame q ] };
+}
+
+saving_too_little_not : ¬ HaveCuts row-setting saving_too_little exit-live
+saving_too_little_not have =
+    let lands = have 1 c-proc 0 c-site 0 (continuation (1 ∷ [])) refl refl (0, omega arith, refl) refl in
+    let saved = lands.saves 18 refl in
+    absurd (cc (saved))
+
+-- w is in a register, which a cut does not restore
+abbrev in_register : Compiled
+in_register = record exiting {
+  plan = record exiting.plan { place = λ q u. elim ((q == 1) && (u == 0)) [ true ↦ Saved 18 | false ↦ exiting.plan.place q u ] };
+}
+
+in_register_not : ¬ HaveCuts row-setting in_register exit-live
+in_register_not have =
+    let lands = have 1 c-proc 0 c-site 0 (continuation (1 ∷ [])) refl refl (0, omega arith, refl) refl in
+    let at_landing : n 6 ≡ lands.node = cc (lands.is_node) in
+    let slot = lands.in_slots 0 (subst (λ x. exit-live 1 x 0 ≡ true) at_landing refl) in
+    absurd (cc (slot.1))
