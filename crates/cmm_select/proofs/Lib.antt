@@ -14,4 +14,5 @@ mod Chains
 mod Deciding
 mod Telling
 mod Converting
+mod Operands
 mod Rows

@@ -7,6 +7,7 @@
 //!
 //! - `place`: a place is read into one of these registers, and written from register 5.
 //! - `number`: a register gets a number.
+//! - `source`: a register gets an operand, from a place, a number or an address of the frame.
 //! - `cell`: a word of memory is loaded or stored.
 //! - `operator`: register 5 gets what an operator gives on the words in registers 5 and 7.
 //! - `comparing`: control goes by a comparison of these words, or register 5 gets what it tells.
@@ -18,6 +19,7 @@ mod comparing;
 mod number;
 mod operator;
 mod place;
+mod source;
 mod unary;
 
 pub use cell::{load_cell, store_cell};
@@ -25,4 +27,5 @@ pub use comparing::{branch, compare};
 pub use number::load_number;
 pub use operator::{extend, narrow, operate};
 pub use place::{read, write};
+pub use source::{Source, bring};
 pub use unary::{convert, operate_on_one};

@@ -16,7 +16,7 @@ use std::alloc::AllocError;
 pub(crate) const ZERO: u8 = 0;
 
 /// The address of the frame.
-const FRAME: u8 = 2;
+pub(crate) const FRAME: u8 = 2;
 
 /// The first operand, and the result.
 pub(crate) const FIRST: u8 = 5;
@@ -28,7 +28,7 @@ pub(crate) const SECOND: u8 = 7;
 pub(crate) const HELP: u8 = 6;
 
 /// Offsets below this fit an immediate.
-const NEAR: u32 = 2048;
+pub(crate) const NEAR: u32 = 2048;
 
 /// Brings what a place has into register `rd`, one of 5 to 7. An error is want of memory, and then some of the instructions may be there.
 pub fn read(asm: &mut Asm, from: Location, rd: u8) -> Result<(), AllocError>
@@ -109,7 +109,7 @@ fn store(asm: &mut Asm, offset: u32) -> Result<(), AllocError>
 }
 
 /// Gives register `rd` an address of the frame from which an immediate reaches the offset.
-fn approach(asm: &mut Asm, offset: u32, rd: u8) -> Result<(), AllocError>
+pub(crate) fn approach(asm: &mut Asm, offset: u32, rd: u8) -> Result<(), AllocError>
     requires frame { offset < 2 ^ 21 }
     requires low { 5 ≤ rd }
     requires high { rd ≤ 7 }

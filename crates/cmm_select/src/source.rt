@@ -1,0 +1,64 @@
+//! Operands, and where they come from.
+
+ghost use Rattle.std.specs.Prelude.{◌≡◌, ◌+◌, ◌^◌, ◌<◌, ◌≤◌, OnOk};
+ghost use Rattle.cmm_changes.specs.Changes.{Sets};
+ghost use Rattle.cmm_changes.specs.Pieces.{Adds, Leads};
+ghost use Rattle.cmm_select.specs.Sources.{CanBring, IsSource, brought};
+
+use crate::number::load_number;
+use crate::place::{FRAME, NEAR, add_to, approach, read};
+use cmm_chain::Location;
+use rv_asm::Asm;
+use std::alloc::AllocError;
+
+/// Where an operand comes from.
+#[derive(Clone, Copy, Debug, PartialEq, Eq)]
+pub enum Source {
+    /// What a place has.
+    Place(Location),
+    /// A number.
+    Number(u64),
+    /// The address so many bytes above that of the frame, less than 2 MiB.
+    Address(u32),
+}
+
+/// Brings an operand into register `rd`, one of 5 to 7. An error is want of memory, and then some of the instructions may be there.
+pub fn bring(asm: &mut Asm, from: &Source, rd: u8) -> Result<(), AllocError>
+    requires source { IsSource from.now }
+    requires low { 5 ≤ rd }
+    requires high { rd ≤ 7 }
+    ensures brings { OnOk result (Adds 11 asm.old.parts asm.new.parts (Leads 11 (CanBring from.now) (λ s t. Sets rd (brought from.now s) s t))) }
+    ensures labels { asm.new.labels ≡ asm.old.labels }
+{
+    match *from {
+        Source::Place(place) => {
+            read(asm, place, rd)?;
+            Ok(())
+        }
+        Source::Number(number) => {
+            load_number(asm, number, rd, 5)?;
+            Ok(())
+        }
+        Source::Address(offset) => {
+            address(asm, offset, rd)?;
+            Ok(())
+        }
+    }
+}
+
+/// Gives register `rd` the address at an offset of the frame.
+fn address(asm: &mut Asm, offset: u32, rd: u8) -> Result<(), AllocError>
+    requires frame { offset < 2 ^ 21 }
+    requires low { 5 ≤ rd }
+    requires high { rd ≤ 7 }
+    ensures brings { OnOk result (Adds 4 asm.old.parts asm.new.parts (Leads 4 (CanBring (Source.Address offset)) (λ s t. Sets rd (brought (Source.Address offset) s) s t))) }
+    ensures labels { asm.new.labels ≡ asm.old.labels }
+{
+    if offset < NEAR {
+        asm.emit(add_to(rd, FRAME, offset))?;
+        return Ok(());
+    }
+    approach(asm, offset, rd)?;
+    asm.emit(add_to(rd, rd, offset % NEAR))?;
+    Ok(())
+}
