@@ -15,4 +15,5 @@ mod Deciding
 mod Telling
 mod Converting
 mod Operands
+mod Binary
 mod Rows

@@ -1,12 +1,17 @@
--- Worked rows: the code of operators and comparisons, run.
+-- Worked rows: the code of operators, comparisons and an assignment, run.
 use Rattle.std.proofs.Common.{◌≡◌, ℕ, List, [], ◌∷◌, refl, true, false, lit<, Option, Some, None}
+use Rattle.cmm_chain.specs.declared.frame.Location.TheVariants.{Slot, Saved}
 use Rattle.cmm_words.specs.Words.{holds, value2}
 use Rattle.cmm_words.specs.declared.operators.Cmp.TheVariants as cmp
 use Rattle.cmm_words.specs.declared.operators.Op2.TheVariants as op
 use Rattle.cmm_words.specs.declared.width.Width.TheVariants.{W8, W64}
 use Rattle.rv_table.specs.Machine.{MemoryMap, State, steps}
 use Rattle.rv_table.specs.Registers.{with_register}
+use Rattle.cmm_changes.specs.Changes.{read_at}
+use Rattle.cmm_select.specs.Assignments.{CanAssign}
 use Rattle.cmm_select.specs.Operators.{HaveWords}
+use Rattle.cmm_select.specs.Sources.{brought}
+use Rattle.cmm_select.specs.declared.source.Source.TheVariants.{Place, Number, Address}
 
 abbrev running : List ℕ → MemoryMap
 running code = record { code = code; data_length = 0; stack_size = 4096 }
@@ -37,3 +42,27 @@ comparison_is_told = (refl, refl)
 
 comparison_fails : (result (steps not_below 2 (on_words 5 7)) ≡ Some 0) × (holds cmp.Geu W64 5 7 ≡ false)
 comparison_fails = (refl, refl)
+
+-- ---- a difference at 8 bits, of what register 9 has and 7, in a slot of the frame at 0x60001000
+
+-- addi x5, x9, 0; addi x7, x0, 7; sub x5, x5, x7; slli x5, x5, 56; srli x5, x5, 56; sd x5, 8(x2)
+abbrev assignment : MemoryMap
+assignment =
+    running
+    (0x93 ∷ 0x82 ∷ 0x04 ∷ 0x00 ∷ 0x93 ∷ 0x03 ∷ 0x70 ∷ 0x00 ∷ 0xb3 ∷ 0x82 ∷ 0x72 ∷ 0x40 ∷ 0x93 ∷ 0x92 ∷ 0x82 ∷ 0x03 ∷ 0x93 ∷ 0xd2 ∷ 0x82 ∷ 0x03 ∷ 0x23 ∷ 0x34 ∷ 0x51 ∷ 0x00 ∷ [])
+
+abbrev before : State
+before = record { registers = with_register (with_register (λ r. 0) 2 0x60001000) 9 5; pc = 0x10000; memory = λ k. 0 }
+
+abbrev in_slot : Option State → Option ℕ
+in_slot (Some t) = Some (read_at (Slot 8) t)
+in_slot None = None
+
+may_be_assigned : CanAssign W8 (Place (Saved 9)) (Number 7) (Slot 8) assignment before
+may_be_assigned = record { brings_left = tt; brings_right = tt; left_word = lit< tt; right_word = lit< tt; reaches = (lit< tt, refl) }
+
+difference_is_assigned : in_slot (steps assignment 6 before) ≡ Some 254
+difference_is_assigned = refl
+
+operands_are_brought : (brought (Place (Saved 9)) before ≡ 5) × (brought (Number 7) before ≡ 7) × (brought (Address 16) before ≡ 0x60001010)
+operands_are_brought = (refl, refl, refl)

@@ -12,8 +12,10 @@
 //! - `operator`: register 5 gets what an operator gives on the words in registers 5 and 7.
 //! - `comparing`: control goes by a comparison of these words, or register 5 gets what it tells.
 //! - `unary`: register 5 gets what an operator gives on the word in it alone, or this word with its sign at another width.
+//! - `assigning`: a place gets what an operator gives on two operands.
 #![tactic(auto)]
 
+mod assigning;
 mod cell;
 mod comparing;
 mod number;
@@ -22,6 +24,7 @@ mod place;
 mod source;
 mod unary;
 
+pub use assigning::assign_binary;
 pub use cell::{load_cell, store_cell};
 pub use comparing::{branch, compare};
 pub use number::load_number;
