@@ -1,10 +1,11 @@
-//! The tests of `cmm_items`, `cmm_rules`, `cmm_words`, `cmm_bitset`, `cmm_peeling`: of what no clause says.
+//! The tests of `cmm_items`, `cmm_rules`, `cmm_words`, `cmm_bitset`, `cmm_peeling`, `cmm_moves`: of what no clause says.
 #![tactic(auto)]
 
 #[cfg(test)]
 mod bitset;
 #[cfg(test)]
 mod items;
+mod moves;
 #[cfg(test)]
 mod peeling;
 #[cfg(test)]

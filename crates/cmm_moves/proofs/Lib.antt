@@ -1,0 +1,4 @@
+pub mod Places
+pub mod Moving
+pub mod Paths
+mod Rows
