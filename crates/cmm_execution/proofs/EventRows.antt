@@ -7,8 +7,10 @@ use Rattle.cmm_script.specs.Walk.{Activation}
 use Rattle.rv_table.specs.declared.instruction.Instr.TheVariants.{Addi, Ecall}
 use Rattle.cmm_following.specs.Seen.{Event, Input, Client, End}
 use Rattle.cmm_following.specs.Machine.{after}
+use Rattle.cmm_program.specs.State.{Done, Stopped, StackLimit}
+use Rattle.cmm_laws.specs.Observed.{Call, Ending}
 use Rattle.cmm_execution.specs.Machine.{Launch, first_run}
-use Rattle.cmm_execution.specs.Observed.{Call, Ending, Done, Stopped, StackLimit, image_machine}
+use Rattle.cmm_execution.specs.Observed.{image_machine}
 use Rattle.cmm_execution.proofs.Samples.{yielding, spoiling, bare, launch}
 
 -- where an image stands after so many instructions
@@ -42,14 +44,14 @@ logs_nothing_yet : (image_machine (launch yielding [])).seen (after (image_machi
 logs_nothing_yet = refl
 
 -- to a stopped run its walk belongs
-ends_stopped : stands (launch yielding []) 300 ≡ Some (End (Stopped (Some both)))
+ends_stopped : stands (launch yielding []) 300 ≡ Some (End record { outcome = Stopped; walk = Some both })
 ends_stopped = refl
 
 -- unless its chain breaks
-ends_broken : stands (launch spoiling (Set 0 (Number 0) ∷ [])) 300 ≡ Some (End (Stopped None))
+ends_broken : stands (launch spoiling (Set 0 (Number 0) ∷ [])) 300 ≡ Some (End record { outcome = Stopped; walk = None })
 ends_broken = refl
 
-ends_done : stands (launch yielding (Return 1 [] ∷ [])) 238 ≡ Some (End (Done 419))
+ends_done : stands (launch yielding (Return 1 [] ∷ [])) 238 ≡ Some (End record { outcome = Done 419; walk = None })
 ends_done = refl
 
 -- a torn run stands at nothing, and has failed
@@ -64,5 +66,5 @@ fails_torn = refl
 stands_at_input : stands (launch (bare (Addi 5 0 (pos 2) ∷ Ecall ∷ [])) []) 1 ≡ Some Input
 stands_at_input = refl
 
-ends_at_limit : stands (launch (bare (Addi 5 0 (pos 4) ∷ Ecall ∷ [])) []) 2 ≡ Some (End StackLimit)
+ends_at_limit : stands (launch (bare (Addi 5 0 (pos 4) ∷ Ecall ∷ [])) []) 2 ≡ Some (End record { outcome = StackLimit; walk = None })
 ends_at_limit = refl

@@ -8,13 +8,14 @@ use Rattle.cmm_script.specs.Lines.{yield_line}
 use Rattle.cmm_following.specs.Seen.{End as EndEvent}
 use Rattle.cmm_following.specs.Machine.{after}
 use Rattle.cmm_following.proofs.Runs.{one_end}
+use Rattle.cmm_laws.specs.Observed.{Ending}
 use Rattle.cmm_following.proofs.Prefixes.{prefix_refl, prefix_more, within_refl, within_trans}
 use Rattle.cmm_execution.specs.Asking.{Break}
 use Rattle.cmm_execution.specs.Commands.{Left}
 use Rattle.cmm_execution.specs.Commands as client
 use Rattle.cmm_execution.specs.Frames.{Element, chain_of}
 use Rattle.cmm_execution.specs.Machine.{Launch, Run, Status, Running, Ended, Trapped, Torn, map_of, region_of, answered, left, yields, yielded_at, yielded, one_taken, goes_on, requested, after_instruction, step, steps_of, first_run, image_after}
-use Rattle.cmm_execution.specs.Observed.{Ending, asked_at, event_at, has_failed, seen_of, image_machine}
+use Rattle.cmm_execution.specs.Observed.{asked_at, event_at, has_failed, seen_of, image_machine}
 use Rattle.cmm_execution.specs.Laws.{Grows, OverStays, StepGrows, RunGrows, InputIsKept, ImagesLast, RunsAreTheMachine, EndsOnce}
 
 -- ---- over

@@ -1,5 +1,5 @@
 -- The machine's client is the client of the machine's store as a program that can be asked: command by command, and so each answer.
-use Rattle.std.proofs.Common.{◌≡◌, ℕ, zero, suc, ◌+◌, ◌<◌, ◌≤◌, ◌==◌, ◌&&◌, ◌^◌, not, nat_lt, Bool, true, false, List, [], ◌∷◌, ◌++◌, map, drop, find, length, slice_get, Result, Ok, Err, Option, Some, None, inl, inr, refl, sym, ap, subst, zero-add, ◌∙◌, append_assoc, arith}
+use Rattle.std.proofs.Common.{◌≡◌, ℕ, zero, suc, ◌+◌, ◌≤◌, ◌==◌, ◌^◌, not, nat_lt, Bool, true, false, List, [], ◌∷◌, ◌++◌, map, drop, find, length, slice_get, Result, Ok, Err, Option, Some, None, inl, inr, refl, sym, ap, subst, zero-add, ◌∙◌, append_assoc, arith}
 use Rattle.std.specs.Prelude.{slice_set}
 use Rattle.std.specs.List.{list_all}
 use Rattle.std.proofs.lemmas.List.{append-nil}
@@ -7,7 +7,7 @@ use Rattle.std.proofs.lemmas.Bool.{and_parts}
 use Rattle.std.proofs.lemmas.Bool.Decides.{nat_tests}
 use Rattle.std.proofs.lemmas.Option.{same_Some, slice_get_cases}
 use Rattle.cmm_rules.specs.declared.rule.Rule.{Rule}
-use Rattle.cmm_rules.specs.declared.rule.Rule.TheVariants.{NoActivation, NoVariable, DeadVariable, DoesNotFit, NoExit, OtherCount, InvariantVariable, NoCut, NoPlace}
+use Rattle.cmm_rules.specs.declared.rule.Rule.TheVariants.{NoActivation, NoVariable, DeadVariable, DoesNotFit, OtherCount, InvariantVariable, NoCut, NoPlace}
 use Rattle.cmm_words.specs.Widths.{bits}
 use Rattle.cmm_script.specs.declared.script.Command.{Command}
 use Rattle.cmm_script.specs.declared.script.Command.TheVariants.{List as ListAll, Youngest, Next, Desc, Seek, Var, Set, Poke, Return, Unwind, Cut, Stop}
@@ -31,10 +31,9 @@ use Rattle.cmm_program.specs.Liveness.{is_live_at}
 use Rattle.cmm_program.specs.Walks.{live_value, spans_shown, variables_shown, activation_shown, activations_shown}
 use Rattle.cmm_program.specs.Client as machine
 use Rattle.cmm_program.specs.Client.{at_cursor, with_value, number_given, numbers_given, commands_for, commands_run}
-use Rattle.cmm_execution.specs.Asking.{Chain, Exit, Askable}
 use Rattle.cmm_execution.specs.Commands as client
 use Rattle.cmm_execution.specs.Commands.{Asked, After, Answer, asked, answer_of, at_first, says}
-use Rattle.cmm_execution.specs.Clients.{Located, located, all_located, chain_behind, values_at, located_shown, is_invariant, with_variable, with_data, Landed, exit_to, exit_by, cut_exit, store_askable, at_number, IsSuspended, AreSuspended, with_log, stopped, GoesAlike, ComesTo, IsAlike, CommandsAreAlike, left_by, RunsAreAlike, AnswersAreAlike}
+use Rattle.cmm_execution.specs.Clients.{Located, located, all_located, chain_behind, values_at, located_shown, is_invariant, with_variable, Landed, exit_by, store_askable, at_number, AreSuspended, with_log, ComesTo, IsAlike, CommandsAreAlike, left_by, RunsAreAlike, AnswersAreAlike}
 
 -- ---- lists and options
 

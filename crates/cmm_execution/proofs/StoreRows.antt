@@ -1,8 +1,8 @@
 -- Worked rows: a store of two suspended activations is asked by each way of the run-time interface.
-use Rattle.std.proofs.Common.{◌≡◌, ℕ, true, List, [], ◌∷◌, Some, None, refl}
+use Rattle.std.proofs.Common.{◌≡◌, ℕ, List, [], ◌∷◌, Some, refl}
 use Rattle.std.specs.Prelude.{codes, flat_map}
 use Rattle.cmm_script.specs.declared.script.Command.{Command}
-use Rattle.cmm_script.specs.declared.script.Command.TheVariants.{List as ListAll, Youngest, Next, Desc, Seek, Var, Set, Poke, Return, Unwind, Cut, Stop}
+use Rattle.cmm_script.specs.declared.script.Command.TheVariants.{List as ListAll, Next, Var, Set, Return, Cut, Stop}
 use Rattle.cmm_script.specs.declared.script.Value.TheVariants.{Number, Yielded}
 use Rattle.cmm_script.specs.Walk.{line, kind_byte}
 use Rattle.cmm_words.specs.declared.operators.Op2.TheVariants.{Add}
@@ -10,7 +10,7 @@ use Rattle.cmm_program.specs.declared.expression.Expression.TheVariants as e
 use Rattle.cmm_program.specs.declared.statement.Form.TheVariants as f
 use Rattle.cmm_program.specs.declared.procedure.Proc.{Proc}
 use Rattle.cmm_program.specs.State.{Setting, Activation, Store, Waiting}
-use Rattle.cmm_program.specs.Exits.{Landing, Back, Resumed}
+use Rattle.cmm_program.specs.Exits.{Back, Resumed}
 use Rattle.cmm_program.proofs.Shared.{num, local, code, op, is, continuation, call_site, yield_site, procedure, program, frame, frame_with, sample, setting, no_client, opened}
 use Rattle.cmm_execution.specs.Commands as client
 use Rattle.cmm_execution.specs.Commands.{Answer, answer_of}

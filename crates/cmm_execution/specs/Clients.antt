@@ -1,8 +1,7 @@
 -- The store of the C-- machine as a program whose activations can be asked, and that the machine's client is the client of such programs
 -- (C-- Language Specification 2.0, the run-time interface).
-use Rattle.std.specs.Prelude.{◌≡◌, ℕ, suc, ◌+◌, ◌==◌, nat_lt, IsTrue, true, false, Bool, List, [], ◌∷◌, ◌++◌, drop, find, length, slice_get, Result, Ok, Err, Option, Some, None}
+use Rattle.std.specs.Prelude.{◌≡◌, ℕ, suc, ◌+◌, ◌==◌, nat_lt, true, false, Bool, List, [], ◌∷◌, ◌++◌, drop, find, length, slice_get, Ok, Err, Option, Some, None}
 use Rattle.std.specs.List.{list_all}
-use Rattle.cmm_rules.specs.declared.rule.Rule.{Rule}
 use Rattle.cmm_script.specs.declared.script.Command.{Command}
 use Rattle.cmm_script.specs.Walk as walk
 use Rattle.cmm_program.specs.declared.procedure.Proc.{Proc}

@@ -5,6 +5,7 @@ use Rattle.std.specs.Option.{option_and_then}
 use Rattle.rv_table.specs.Machine.{State}
 use Rattle.cmm_following.specs.Seen.{IsWithin, End}
 use Rattle.cmm_following.specs.Machine.{Lasts, after}
+use Rattle.cmm_laws.specs.Observed.{Ending}
 use Rattle.cmm_image.specs.declared.parts.ImageParts.{ImageParts}
 use Rattle.cmm_image.specs.declared.rows.SiteRow.{SiteRow}
 use Rattle.cmm_image.specs.ImageFormat.{procedure_at}
@@ -16,7 +17,7 @@ use Rattle.cmm_execution.specs.Regions.{Region, bottom, top, Place, InRegister, 
 use Rattle.cmm_execution.specs.Frames.{Element, Point, is_frame, site_at, found_at, along, chain_from, chain_of, older_than}
 use Rattle.cmm_execution.specs.Walks.{chain_walk}
 use Rattle.cmm_execution.specs.Machine.{Launch, Run, Running, step, first_run, image_after}
-use Rattle.cmm_execution.specs.Observed.{Ending, image_machine, seen_of}
+use Rattle.cmm_execution.specs.Observed.{image_machine, seen_of}
 
 -- ---- runs
 

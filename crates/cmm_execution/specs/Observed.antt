@@ -1,28 +1,16 @@
 -- What is seen of an image that runs, as a machine of the theory of following.
-use Rattle.std.specs.Prelude.{ℕ, Bool, true, false, List, Option, Some, None}
+use Rattle.std.specs.Prelude.{ℕ, Bool, true, false, Option, Some, None}
 use Rattle.rv_table.specs.declared.request.Request.TheVariants.{GetByte, Yield}
 use Rattle.rv_table.specs.Machine as rv
 use Rattle.rv_table.specs.Machine.{State, instruction_step}
-use Rattle.cmm_script.specs.Walk.{Activation}
-use Rattle.cmm_program.specs.State as c
-use Rattle.cmm_program.specs.State.{Outcome}
 use Rattle.cmm_following.specs.Seen.{Seen, Event, Input, Client, End}
 use Rattle.cmm_following.specs.Machine.{Machine}
+use Rattle.cmm_laws.specs.Observed.{Call, Ending, ending_of}
 use Rattle.cmm_execution.specs.Frames.{chain_of}
 use Rattle.cmm_execution.specs.Walks.{chain_walk}
 use Rattle.cmm_execution.specs.Machine.{Launch, Run, Status, Running, Ended, Trapped, Torn, map_of, region_of, yielded_at, step}
 
--- what the client sees when it is called: the values of the yield, and the walk, unless the chain of frames breaks
-pub record Call : Type 0 where
-  pub values : List ℕ
-  pub walk : Option (List Activation)
-
--- how a run ended; to a stopped one belongs its walk, unless the chain breaks
-pub data Ending : Type 0 where
-  Done : ℕ → Ending
-  Stopped : Option (List Activation) → Ending
-  StackLimit : Ending
-
+-- the values of the yield, and the walk unless the chain of frames breaks
 abbrev pub call_at : Launch → State → Call
 call_at l s = record {
   values = yielded_at (region_of l) s (chain_of l.image (region_of l) s).activations;
@@ -35,14 +23,9 @@ asked_at l s (rv.Asks GetByte) = Some Input
 asked_at l s (rv.Asks Yield) = Some (Client (call_at l s))
 asked_at l s _ = None
 
-abbrev pub ending_of : Launch → State → Outcome → Ending
-ending_of l s (c.Done value) = Done value
-ending_of l s c.Stopped = Stopped (chain_walk l.image (region_of l) s)
-ending_of l s c.StackLimit = StackLimit
-
 abbrev pub event_at : Launch → State → Status → Option (Event Call Ending)
 event_at l s Running = asked_at l s (instruction_step (map_of l) s)
-event_at l s (Ended outcome) = Some (End (ending_of l s outcome))
+event_at l s (Ended outcome) = Some (End (ending_of outcome (chain_walk l.image (region_of l) s)))
 event_at l s (Trapped kind pc) = None
 event_at l s (Torn b) = None
 

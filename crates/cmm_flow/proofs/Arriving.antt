@@ -24,7 +24,7 @@ use Rattle.cmm_flow.specs.Code.{IsNode}
 use Rattle.cmm_flow.specs.Flow.{IsFlowOf}
 use Rattle.cmm_flow.specs.Laws.{AreFlows}
 use Rattle.cmm_flow.specs.Relation.{AreCounted, AreGoing, AreOfOne, AreWaiting, HasFlow, IsCodeOf, Related, StandsFor, WaitsFor, is_counted}
-use Rattle.cmm_flow.specs.Statements.{NormalCode}
+use Rattle.cmm_flow.specs.Statements.{ExitsCode}
 use Rattle.cmm_flow.proofs.Counting.{body_counted, follow_counted}
 use Rattle.cmm_flow.proofs.Landing.{IsExit, IsToContinuation, ToContinuation, ToNormal, begun_is, gone_on_is}
 
@@ -120,12 +120,12 @@ module _ (s : Setting) (graphs : List Graph) (flows : AreFlows s graphs) where
       let of = waits.one.of in
       let is_q : procedure_at s a.procedure ≡ Some of.procedure = ap (procedure_at s) waits.one.activation ∙ of.is_procedure in
       let site = suspended_site a older f of.procedure waits.site waits.is_site is_q at in
-      let normal = subst (λ o. NormalCode of.graph.nodes o waits.exits waits.behind) site waits.normal in
+      let normal = subst (λ o. ExitsCode of.graph.nodes o waits.exits waits.behind) site waits.normal in
       let code =
       subst (λ b. elim b as (λ _. Type 0) [
         | true ↦ waits.exits.normal ≡ None
         | false ↦ (j : NodeId) × (waits.exits.normal ≡ Some j) × IsNode of.graph.nodes j (suc (length f.site.results)) (CopyIn f.site.results waits.behind)
-      ]) never normal in
+      ]) never normal.1 in
       let there = landed_is c t.procedure of code.0 waits.behind (suc (length f.site.results)) (CopyIn f.site.results waits.behind) waits.one.position code.2 refl
       (normal_of (kind_here graphs c)) (waits.stands ∙ code.1) in
       stands_at b t ((graph_control graphs).back c) t.rest waits.behind

@@ -12,8 +12,14 @@ use Rattle.cmm_graph.specs.declared.node.NodeKind.TheVariants.{Store}
 use Rattle.cmm_flow.specs.Operands.{temporary, operand_of}
 use Rattle.cmm_flow.specs.Code.{IsNode, ValueCode, ValuesCode, to_temporary}
 use Rattle.cmm_flow.specs.Statements.{AddressesCode, AssignCode, SeveralCode, StoresCode}
+use Rattle.cmm_flow.specs.Waiting.{waiting_at}
 use Rattle.cmm_flow.specs.inside.Parts.{AddressCode, TwoCode, store_node}
 use Rattle.cmm_flow.proofs.ExpressionsStay.{node_stays, value_stays}
+
+-- the node that stores a value waits at no site
+pub store_waits : (kind : NodeKind) (l : Lvalue) (address value : Operand) (k : NodeId) → kind ≡ store_node l address value k → waiting_at kind ≡ []
+store_waits kind (lvalue.Target target) address value k is = ap waiting_at is
+store_waits kind (lvalue.Memory width aligned at) address value k is = ap waiting_at is
 
 module _ (nodes more : List Node) where
   abbrev all : List Node

@@ -99,7 +99,7 @@ label_node l = n 5
 
 main_code : ListCode main main-graph.nodes label_node main.body (n 1)
 unfolding opened
-main_code = (n 3, (n 1, n 1, exits, refl, (n 1, refl, refl), refl, (n 2, refl, refl)), (n 4, (n 3, (n 3, refl, refl), refl), refl))
+main_code = (n 3, (n 1, n 1, exits, refl, (n 1, refl, refl), refl, (record { returns = refl; unwinds = refl; cuts = refl }, (n 2, refl, refl))), (n 4, (n 3, (n 3, refl, refl), refl), refl))
 
 f_code : ListCode f f-graph.nodes label_node f.body (n 1)
 unfolding opened

@@ -22,7 +22,7 @@ use Rattle.cmm_graph.specs.declared.number.NodeId.{NodeId}
 use Rattle.cmm_flow.specs.declared.builder.Builder.{Builder}
 use Rattle.cmm_flow.specs.Flow.{CoversSites}
 use Rattle.cmm_flow.specs.Relation.{AreAll}
-use Rattle.cmm_flow.specs.Statements.{NormalCode}
+use Rattle.cmm_flow.specs.Statements.{ExitsCode}
 use Rattle.cmm_flow.specs.inside.Fronts.{copy_in, goto_nodes}
 use Rattle.cmm_flow.specs.inside.Laying.{AreWithin, Covers, LaysWithin}
 use Rattle.cmm_flow.specs.inside.LayingBlocks.{AreAllArms}
@@ -75,10 +75,10 @@ site_covered q n site most is covers =
 
 -- the exits of a site by its number
 pub exits_laid : {a b : Builder} (q : Proc) (n : ℕ) (site : Site) (exits : Exits) (k : NodeId) → slice_get q.sites n ≡ Some site →
-    LaysWithin (λ most. length site.results < most) a b (λ nodes. NormalCode nodes (Some site) exits k) →
-    LaysWithin (CoversSites q) a b (λ nodes. NormalCode nodes (slice_get q.sites n) exits k)
+    LaysWithin (λ most. length site.results < most) [] a b (λ nodes. ExitsCode nodes (Some site) exits k) →
+    LaysWithin (CoversSites q) [] a b (λ nodes. ExitsCode nodes (slice_get q.sites n) exits k)
 exits_laid q n site exits k is laid =
-    bounded (CoversSites q) (lays_other (λ nodes. NormalCode nodes (slice_get q.sites n) exits k) laid (λ nodes code. subst (λ o. NormalCode nodes o exits k) (sym is) code))
+    bounded (CoversSites q) (lays_other (λ nodes. ExitsCode nodes (slice_get q.sites n) exits k) laid (λ nodes code. subst (λ o. ExitsCode nodes o exits k) (sym is) code))
     (λ most covers. site_covered q n site most is covers)
 
 pub last_covered : (tokens count most : ℕ) → count ≤ max 1 tokens → Covers tokens most → count ≤ most

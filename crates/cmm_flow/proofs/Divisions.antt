@@ -20,17 +20,17 @@ use Rattle.cmm_flow.specs.Statements.{CheckedCode, ZeroCode, first_result, norma
 use Rattle.cmm_flow.specs.inside.Parts.{TwoCode}
 use Rattle.cmm_flow.specs.inside.Passing.{GuardCode, YieldOne}
 use Rattle.cmm_flow.proofs.ExpressionsStay.{node_stays}
-use Rattle.cmm_flow.proofs.Passing.{normal_stays, told}
+use Rattle.cmm_flow.proofs.Passing.{exits_stay, told}
 
 module _ (nodes_there more : List Node) where
   pub yield_stays : (q : Proc) (tokens site : ℕ) (n k : NodeId) → YieldOne nodes_there q tokens site n k → YieldOne (nodes_there ++ more) q tokens site n k
   yield_stays q tokens site n k (exits, is, normal) =
-      (exits, node_stays nodes_there more n _ _ is, normal_stays nodes_there more (slice_get q.sites site) exits k normal)
+      (exits, node_stays nodes_there more n _ _ is, exits_stay nodes_there more (slice_get q.sites site) exits k normal)
 
   zero_stays : (q : Proc) (tokens used site : ℕ) (width : Width) (divisor : Expression) (n otherwise k : NodeId) →
       ZeroCode nodes_there q tokens used site width divisor n otherwise k → ZeroCode (nodes_there ++ more) q tokens used site width divisor n otherwise k
   zero_stays q tokens used site width divisor n otherwise k (y, exits, test, is, normal) =
-      (y, exits, node_stays nodes_there more n _ _ test, node_stays nodes_there more y _ _ is, normal_stays nodes_there more (slice_get q.sites site) exits k normal)
+      (y, exits, node_stays nodes_there more n _ _ test, node_stays nodes_there more y _ _ is, exits_stay nodes_there more (slice_get q.sites site) exits k normal)
 
   guard_by : (q : Proc) (tokens used site : ℕ) (width : Width) (divisor : Expression) (n division k : NodeId) (b : Bool) →
       elim b as (λ _. Type 0) [ true ↦ ZeroCode nodes_there q tokens used site width divisor n division k | false ↦ n ≡ division ] →

@@ -22,7 +22,7 @@ use Rattle.cmm_graph.specs.Acting.{act_of, led}
 use Rattle.cmm_graph.specs.GraphControl.{keeping, normal_of}
 use Rattle.cmm_flow.specs.Code.{IsNode}
 use Rattle.cmm_flow.specs.Flow.{IsFlowOf}
-use Rattle.cmm_flow.specs.Statements.{ListCode, NormalCode}
+use Rattle.cmm_flow.specs.Statements.{ListCode, ExitsCode}
 use Rattle.cmm_flow.proofs.Steps.{Goes, Run, Youngest, at, place}
 use Rattle.cmm_flow.proofs.Writes.{Leaves}
 
@@ -53,7 +53,7 @@ module _ {r : Run} (y : Youngest r) (q : Proc) (flow : IsFlowOf q y.graph) (stor
   -- the normal exit of a node's site leads there
   abbrev pub ComesBack : NodeKind → List Statement → ℕ → Type 0
   ComesBack kind rest site =
-      (exits : Exits) × (k : NodeId) × (normal_of kind ≡ exits.normal) × NormalCode y.graph.nodes (slice_get q.sites site) exits k × CodeOf rest k
+      (exits : Exits) × (k : NodeId) × (normal_of kind ≡ exits.normal) × ExitsCode y.graph.nodes (slice_get q.sites site) exits k × CodeOf rest k
 
   -- where a node goes on after its order
   abbrev pub GoesOn : NodeKind → List Statement → Order → Type 0

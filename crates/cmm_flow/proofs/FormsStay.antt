@@ -19,7 +19,7 @@ use Rattle.cmm_flow.specs.inside.Marks.{FrontCode, LeadsBehind, LeadsBehindForm,
 use Rattle.cmm_flow.proofs.Assignments.{addresses_stay, stores_stay}
 use Rattle.cmm_flow.proofs.Divisions.{guard_stays}
 use Rattle.cmm_flow.proofs.ExpressionsStay.{node_stays, operand_stays, operands_stay, test_stays, value_stays, values_stay}
-use Rattle.cmm_flow.proofs.Passing.{normal_stays}
+use Rattle.cmm_flow.proofs.Passing.{exits_stay}
 
 module _ (nodes more : List Node) where
   abbrev all : List Node
@@ -55,10 +55,10 @@ module _ (nodes more : List Node) where
         operand_stays nodes more callee 0 n m first,
         operands_stay nodes more actuals 1 m j rest,
         node_stays nodes more j _ _ is,
-        normal_stays nodes more (slice_get q.sites site) exits k normal,
+        exits_stay nodes more (slice_get q.sites site) exits k normal,
       )
       form_stays tokens (Yield site values) n k (j, exits, rest, is, normal) =
-          (j, exits, operands_stay nodes more values 0 n j rest, node_stays nodes more j _ _ is, normal_stays nodes more (slice_get q.sites site) exits k normal)
+          (j, exits, operands_stay nodes more values 0 n j rest, node_stays nodes more j _ _ is, exits_stay nodes more (slice_get q.sites site) exits k normal)
       form_stays tokens (Checked site op width left right) n k (m, j, d, first, second, is, guard) = (
         m,
         j,

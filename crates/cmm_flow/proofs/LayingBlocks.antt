@@ -18,15 +18,18 @@ use Rattle.cmm_flow.specs.Code.{IsNode, OperandCode, TestCode}
 use Rattle.cmm_flow.specs.Operands.{nodes, operand_of}
 use Rattle.cmm_flow.specs.Statements.{FormCode, remaining}
 use Rattle.cmm_flow.specs.inside.Blocks.{is_simple}
-use Rattle.cmm_flow.specs.inside.Laying.{AreWithin, Covers, CoversBoth, Lays, LaysMarked, LaysWithin, SetsMark, label_of}
-use Rattle.cmm_flow.specs.inside.LayingBlocks.{LaysArms, LaysBlock, LaysForm, LaysStatement, is_within}
+use Rattle.cmm_program.specs.Numbering.{site_number}
+use Rattle.cmm_flow.specs.Waiting.{times, waiting_sites}
+use Rattle.cmm_flow.specs.inside.Laying.{AddsSites, AreWithin, Covers, CoversBoth, Lays, LaysMarked, LaysWithin, SetsMark, label_of}
+use Rattle.cmm_flow.specs.inside.LayingBlocks.{LaysArms, LaysBlock, LaysForm, LaysStatement, arm_sites, block_sites, form_sites, is_within}
 use Rattle.cmm_flow.specs.inside.Marks.{FrontCode, LeadsBehind, LeadsBehindArms, LeadsBehindForm, LeadsBehindList, OtherwiseCode, PutsArm, WaysCode}
 use Rattle.cmm_flow.proofs.Blocks.{after_arm, after_if, after_span, after_switch, arm_code, if_code, no_mark_if, no_mark_span, no_mark_switch, span_code, switch_code}
 use Rattle.cmm_flow.proofs.Covering.{at_most, if_of, span_of, switch_of}
 use Rattle.cmm_flow.proofs.FormsStay.{front_stays, leads_stay, otherwise_stays, ways_stay}
-use Rattle.cmm_flow.proofs.Laying.{get_behind, lays_nothing, lays_other}
+use Rattle.cmm_flow.proofs.Laying.{adds_nothing, get_behind, lays_nothing, lays_other, then_adds_before}
 use Rattle.cmm_flow.proofs.Marking.{lays_marked, ready_later, then_marked}
 use Rattle.cmm_flow.proofs.Marks.{first_leads, form_leads, list_leads}
+use Rattle.cmm_flow.proofs.WaitingSites.{if_sites, simple_sites, span_sites, switch_sites}
 
 -- ---- a loop over a list from its end
 
@@ -42,14 +45,15 @@ module _ (q : Proc) where
   pub block_none : (a : Builder) (k : NodeId) → LaysBlock a a q [] k k
   block_none a k = record {
     lays = λ count ready.
-        lays_marked (λ nodes. LeadsBehindList q nodes (label_of count) [] k) (lays_nothing {T = λ most. 1 ≤ most} a (λ nodes. k ≡ k) (λ nodes. refl)) (λ nodes l n. refl)
+        lays_marked (λ nodes. LeadsBehindList q nodes (label_of count) [] k) (lays_nothing {T = λ most. 1 ≤ most} {sites = []} a (λ nodes. k ≡ k) (λ nodes. refl)) (λ nodes l n. refl)
         (λ nodes c n. refl);
     keeps = λ most bound are. are;
+    waits = adds_nothing a [];
   }
 
   pub block_more : {a b c : Builder} (x : Statement) (xs : List Statement) (n m k : NodeId) → LaysBlock a b q xs m k → LaysStatement b c q x n m →
       LaysBlock a c q (x ∷ xs) n k
-  block_more x xs n m k first second = record {
+  block_more {a = a} {b = b} {c = c} x xs n m k first second = record {
     lays = λ count ready.
         let later = first.lays count ready in
         then_marked _ _ later (second.lays count (ready_later later ready)) (λ nodes more. front_stays nodes more q (label_of count) xs m k)
@@ -57,6 +61,7 @@ module _ (q : Proc) where
         (λ nodes front code. (m, code, front))
         (λ nodes mark before between after front code earlier now. list_leads q nodes (label_of count) mark x xs m k before between after front earlier now);
     keeps = λ most bound are. second.keeps most ((bound.0, at_most x.tokens most bound.1.0.0), bound.1.0.1) (first.keeps most (bound.0, bound.1.1) are);
+    waits = then_adds_before a b c (block_sites xs) (form_sites x.form) first.waits second.waits;
   }
 
   -- ---- arms
@@ -70,15 +75,17 @@ module _ (q : Proc) where
           continuations = refl;
           code = λ front many. (refl, get_behind front a.nodes 0 a.stop.number (omega (arith, many)) ∙ ready.stop);
           keeps = λ most bound are. are;
+          waits = adds_nothing a [];
         } in
         lays_marked (λ nodes. LeadsBehindArms q nodes (label_of count) [] k) laid (λ nodes l n. refl) (λ nodes c n. refl);
     keeps = λ most bound are. are;
+    waits = adds_nothing a [];
   }
 
   pub arms_more : {a b c : Builder} (arm : Arm) (arms : List Arm) (to to_after : List Way) (n otherwise otherwise_after k : NodeId) →
       LaysArms a b q arms to otherwise k → LaysBlock b c q (out-Arm arm).body n k → PutsArm (out-Arm arm).case n to otherwise to_after otherwise_after →
       LaysArms a c q (arm ∷ arms) to_after otherwise_after k
-  arms_more arm arms to to_after n otherwise otherwise_after k first second puts = record {
+  arms_more {a = a} {b = b} {c = c} arm arms to to_after n otherwise otherwise_after k first second puts = record {
     lays = λ count ready.
         let later = first.lays count ready in
         then_marked _ _ later (second.lays count (ready_later later ready))
@@ -89,6 +96,7 @@ module _ (q : Proc) where
         subst (λ o. LeadsBehind q nodes (label_of count) o k before after) (sym (after_arm mark arm arms))
         (first_leads q nodes (label_of count) _ _ k before between after earlier now));
     keeps = λ most bound are. second.keeps most (bound.0, bound.1.0) (first.keeps most (bound.0, bound.1.1) are);
+    waits = then_adds_before a b c (arm_sites arms) (block_sites (out-Arm arm).body) first.waits second.waits;
   }
 
   -- ---- forms
@@ -96,7 +104,7 @@ module _ (q : Proc) where
   pub if_lays : {a b c d : Builder} (tokens : ℕ) (condition : Condition) (then_ otherwise : List Statement) (n held failed k : NodeId) →
       LaysBlock a b q otherwise failed k → LaysBlock b c q then_ held k → Lays c d (λ nodes. TestCode nodes condition n held failed) →
       LaysForm a d q tokens (form.If condition then_ otherwise) n k
-  if_lays tokens condition then_ otherwise n held failed k first second third = record {
+  if_lays {a = a} {b = b} {c = c} {d = d} tokens condition then_ otherwise n held failed k first second third = record {
     lays = λ count ready.
         let one = first.lays count ready in
         let two = second.lays count (ready_later one ready) in
@@ -119,11 +127,15 @@ module _ (q : Proc) where
     keeps = λ most bound are.
         let inner = if_of (is_within most) condition then_ otherwise bound.1 in
         third.keeps most bound.0.0.positive (second.keeps most (bound.0.0, inner.0) (first.keeps most (bound.0.0, inner.1) are));
+    waits =
+        let blocks = then_adds_before a b c (block_sites otherwise) (block_sites then_) first.waits second.waits in
+        subst (λ ns. AddsSites ns a d) (sym (if_sites condition then_ otherwise))
+        (then_adds_before a c d (block_sites then_ ++ block_sites otherwise) [] blocks third.waits);
   }
 
   pub span_lays : {a b c : Builder} (tokens : ℕ) (body : List Statement) (n j k : NodeId) → LaysBlock a b q body j k →
       Lays b c (λ nodes. IsNode nodes n 1 (node.Goto j)) → LaysForm a c q tokens (form.Span body) n k
-  span_lays tokens body n j k first second = record {
+  span_lays {a = a} {b = b} {c = c} tokens body n j k first second = record {
     lays = λ count ready.
         then_marked _ _ (first.lays count ready) (lays_marked (λ nodes mark before after. after ≡ before) second (λ nodes l n. refl) (λ nodes c n. refl))
         (λ nodes more. front_stays nodes more q (label_of count) body j k) (λ mark before after nodes more. leads_stay nodes more q (label_of count) _ k before after)
@@ -133,13 +145,14 @@ module _ (q : Proc) where
         (subst (LeadsBehind q nodes (label_of count) (after_inside mark (form.Span body)) k before) (sym same)
         (subst (λ o. LeadsBehind q nodes (label_of count) o k before between) (sym (after_span mark body)) earlier)));
     keeps = λ most bound are. second.keeps most bound.0.0.positive (first.keeps most (bound.0.0, span_of (is_within most) body bound.1) are);
+    waits = subst (λ ns. AddsSites ns a c) (sym (span_sites body)) (then_adds_before a b c (block_sites body) [] first.waits second.waits);
   }
 
   pub switch_lays : {a b c : Builder} (tokens : ℕ) (value : Expression) (arms : List Arm) (to : List Way) (n otherwise k : NodeId) →
       LaysArms a b q arms to otherwise k →
-      LaysWithin (Covers tokens) b c (λ all. (j : NodeId) × OperandCode all value 0 n j × IsNode all j (remaining tokens (nodes value)) (node.Switch (operand_of 0 value) to otherwise)) →
+      LaysWithin (Covers tokens) [] b c (λ all. (j : NodeId) × OperandCode all value 0 n j × IsNode all j (remaining tokens (nodes value)) (node.Switch (operand_of 0 value) to otherwise)) →
       LaysForm a c q tokens (form.Switch value arms) n k
-  switch_lays tokens value arms to n otherwise k first second = record {
+  switch_lays {a = a} {b = b} {c = c} tokens value arms to n otherwise k first second = record {
     lays = λ count ready.
         then_marked _ _ (first.lays count ready) (lays_marked (λ nodes mark before after. after ≡ before) second (λ nodes l n. refl) (λ nodes c n. refl))
         (λ nodes more f. (ways_stay nodes more q (label_of count) arms to k f.0, otherwise_stays nodes more q (label_of count) arms otherwise k f.1))
@@ -151,6 +164,7 @@ module _ (q : Proc) where
         (subst (λ o. LeadsBehind q nodes (label_of count) o k before between) (sym (after_switch mark value arms)) earlier)));
     keeps = λ most bound are.
         second.keeps most (bound.0.0.positive, bound.0.1) (first.keeps most (bound.0.0, switch_of (is_within most) value arms bound.1) are);
+    waits = subst (λ ns. AddsSites ns a c) (sym (switch_sites value arms)) (then_adds_before a b c (arm_sites arms) [] first.waits second.waits);
   }
 
   -- a statement without blocks has no label and no continuation
@@ -185,14 +199,15 @@ module _ (q : Proc) where
       form_leads q nodes label_node mark form k n n other (subst (λ o. LeadsBehind q nodes label_node o k n n) (sym none) refl)
 
   pub simple_lays : {a b : Builder} (tokens : ℕ) (form : Form) (n k : NodeId) → is_simple form ≡ true →
-      LaysWithin (CoversBoth q tokens) a b (λ nodes. (label_node : ℕ → NodeId) → FormCode q nodes label_node tokens form n k) → LaysForm a b q tokens form n k
-  simple_lays tokens form n k is l = record {
+      LaysWithin (CoversBoth q tokens) (site_number form) a b (λ nodes. (label_node : ℕ → NodeId) → FormCode q nodes label_node tokens form n k) → LaysForm a b q tokens form n k
+  simple_lays {a = a} {b = b} tokens form n k is l = record {
     lays = λ count ready.
         lays_marked (λ nodes. LeadsBehindForm q nodes (label_of count) form k)
         (lays_other (λ nodes. FormCode q nodes (label_of count) tokens form n k) l (λ nodes code. code (label_of count)))
         (λ nodes i m. let none = simple_label form i is in kept nodes (label_of count) (AtLabel i) form k m none.0 none.1)
         (λ nodes i m. let none = simple_continuation form i is in kept nodes (label_of count) (AtContinuation i) form k m none.0 none.1);
     keeps = λ most bound are. l.keeps most bound.0 are;
+    waits = subst (λ ns. AddsSites ns a b) (sym (simple_sites form is)) l.waits;
   }
 
   pub empty_lays : {a b : Builder} (tokens : ℕ) (n k : NodeId) → Lays a b (λ nodes. IsNode nodes n 1 (node.Goto k)) → LaysForm a b q tokens form.Empty n k
@@ -200,14 +215,16 @@ module _ (q : Proc) where
     lays = λ count ready.
         lays_marked (λ nodes. LeadsBehindForm q nodes (label_of count) form.Empty k) l (λ nodes i m. refl) (λ nodes i m. refl);
     keeps = λ most bound are. l.keeps most bound.0.0.positive are;
+    waits = l.waits;
   }
 
   pub goto_lays : (a : Builder) (tokens l : ℕ) (n k : NodeId) → n ≡ label_of (length a.labels) l → LaysForm a a q tokens (form.Goto l) n k
   goto_lays a tokens l n k same = record {
     lays = λ count ready.
         lays_marked (λ nodes. LeadsBehindForm q nodes (label_of count) (form.Goto l) k)
-        (lays_nothing {T = λ most. 1 ≤ most} a (λ nodes. n ≡ label_of count l) (λ nodes. same ∙ ap (λ c. label_of c l) ready.labels)) (λ nodes i m. refl) (λ nodes i m. refl);
+        (lays_nothing {T = λ most. 1 ≤ most} {sites = []} a (λ nodes. n ≡ label_of count l) (λ nodes. same ∙ ap (λ c. label_of c l) ready.labels)) (λ nodes i m. refl) (λ nodes i m. refl);
     keeps = λ most bound are. are;
+    waits = adds_nothing a [];
   }
 
   pub label_lays : {a b c : Builder} (tokens l : ℕ) (n k : NodeId) → LaysMarked a b (λ nodes. Unit {0}) (λ nodes. SetsMark (form.Label l) k) →
@@ -218,6 +235,7 @@ module _ (q : Proc) where
         (λ nodes more f. tt) (λ mark before after nodes more is. is) (λ nodes f is. is)
         (λ nodes mark before between after f is set same. subst (SetsMark (form.Label l) k mark before) (sym same) set);
     keeps = λ most bound are. second.keeps most bound.0.0.positive (subst (AreWithin most) (sym same) are);
+    waits = λ site. omega (arith, second.waits site, ap (λ nodes. times site (waiting_sites nodes)) same);
   }
 
   -- where control reaches a continuation from above it has come to the end of the run
@@ -234,4 +252,5 @@ module _ (q : Proc) where
           marks = first.marks;
         };
     keeps = λ most bound are. subst (AreWithin most) (sym same) are;
+    waits = λ site. omega (arith, ap (λ nodes. times site (waiting_sites nodes)) same);
   }

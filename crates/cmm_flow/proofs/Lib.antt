@@ -49,6 +49,10 @@ pub mod Marking
 pub mod Blocks
 pub mod Covering
 pub mod LayingBlocks
+pub mod WaitingSites
+pub mod WaitingOnce
+pub mod SitesOfNodes
+pub mod Landings
 pub mod Lacking
 pub mod Numbering
 pub mod Whole

@@ -24,11 +24,12 @@ use Rattle.cmm_graph.specs.declared.node.NodeKind.TheVariants as kind
 use Rattle.cmm_graph.specs.declared.number.NodeId.{NodeId}
 use Rattle.cmm_graph.specs.declared.operand.Operand.TheVariants.{Constant}
 use Rattle.cmm_graph.specs.declared.operand.Rvalue.TheVariants as rvalue
-use Rattle.cmm_graph.specs.Counterpart.{AreExitsOf, IsGraphOf}
+use Rattle.cmm_graph.specs.Counterpart.{AreExitsOf}
 use Rattle.cmm_graph.specs.Paths.{exit_nodes, written_to_destination}
 use Rattle.cmm_flow.specs.Code.{IsNode, OperandCode}
 use Rattle.cmm_flow.specs.Flow.{IsFlowOf}
 use Rattle.cmm_flow.specs.Operands.{nodes, operand_of}
+use Rattle.cmm_flow.specs.Liveness.{HasLandingsOf}
 use Rattle.cmm_flow.specs.Statements.{CheckedCode, ZeroCode, first_result, normal_tokens, remaining}
 use Rattle.cmm_flow.proofs.LivenessExits.{AreExits, exits_by, exits_to, target_writes}
 use Rattle.cmm_flow.proofs.LivenessExpressions.{branch_piece, operand_piece}
@@ -55,7 +56,7 @@ result_written v width [] is = absurd (cc)
 result_written v width (t ∷ []) is = target_writes v t ∙ ap (is_among v) (sym (append-nil (written_to t)))
 result_written v width (t ∷ u ∷ ts) is = let none = eqb-true (length (u ∷ ts)) 0 (and_parts (same_width (target_width t) width) (length (u ∷ ts) == 0) is).1 in absurd (omega (arith, none))
 
-module _ (p : Program) (q : Proc) (g : Graph) (range : IsProcInRange p q) (graph : IsGraphOf p q g) (flow : IsFlowOf q g) (v : ℕ) where
+module _ (p : Program) (q : Proc) (g : Graph) (range : IsProcInRange p q) (graph : HasLandingsOf q g) (flow : IsFlowOf q g) (v : ℕ) where
   abbrev Reached : List Way → NodeId → Type 0
   Reached = ByWay q g flow.label_node v
 

@@ -21,12 +21,13 @@ use Rattle.cmm_graph.specs.declared.node.Exits.{Exits}
 use Rattle.cmm_graph.specs.declared.node.NodeKind.TheVariants.{CopyIn}
 use Rattle.cmm_graph.specs.declared.number.ContinuationId.{ContinuationId}
 use Rattle.cmm_graph.specs.declared.number.NodeId.{NodeId}
-use Rattle.cmm_graph.specs.Counterpart.{IsGraphOf, numbers_of, parameter_targets, taken_at, taken_by}
+use Rattle.cmm_graph.specs.Counterpart.{numbers_of, parameter_targets, taken_at, taken_by}
 use Rattle.cmm_graph.specs.Paths as paths
 use Rattle.cmm_graph.specs.Paths.{exit_nodes, if_there, landing_of, landings, node_of}
 use Rattle.cmm_flow.specs.Code.{IsNode}
 use Rattle.cmm_flow.specs.Flow.{IsFlowOf}
-use Rattle.cmm_flow.specs.Statements.{NormalCode}
+use Rattle.cmm_flow.specs.Liveness.{HasLandingsOf}
+use Rattle.cmm_flow.specs.Statements.{ExitsCode}
 use Rattle.cmm_flow.proofs.LivenessMembers.{Among, all_among, among_flat, among_left, among_map, among_more, among_parts, among_right, among_unflat, among_unmap, is_among-append}
 use Rattle.cmm_flow.proofs.LivenessPieces.{Gone, Piece, Within, any_local, any_local-append, longer, one_node}
 use Rattle.cmm_flow.proofs.LivenessStatements.{Arrives, ByWay, Code, ToNode}
@@ -48,7 +49,7 @@ parameters_written : (q : Proc) (ns : List ℕ) → flat_map written_to (map (λ
 parameters_written q [] = refl
 parameters_written q (n ∷ ns) = ap (λ ms. n ∷ ms) (parameters_written q ns)
 
-module _ (p : Program) (q : Proc) (g : Graph) (graph : IsGraphOf p q g) (flow : IsFlowOf q g) (v : ℕ) where
+module _ (p : Program) (q : Proc) (g : Graph) (graph : HasLandingsOf q g) (flow : IsFlowOf q g) (v : ℕ) where
   abbrev Comes : NodeId → Way → Type 0
   Comes = Arrives q g flow.label_node v
 
@@ -154,7 +155,7 @@ module _ (p : Program) (q : Proc) (g : Graph) (graph : IsGraphOf p q g) (flow : 
     pub unwinds : numbers_of ends.unwinds ≡ site.unwinds
     pub cuts : numbers_of ends.cuts ≡ site.cuts
     pub behind : NodeId
-    pub normal : NormalCode g.nodes (Some site) ends behind
+    pub normal : ExitsCode g.nodes (Some site) ends behind
     pub code : CodeOf rest behind
 
   module _ (ends : Exits) (site : Site) (rest : List Statement) (are : AreExits ends site rest) where
@@ -259,7 +260,7 @@ module _ (p : Program) (q : Proc) (g : Graph) (graph : IsGraphOf p q g) (flow : 
         among_all k (inr is) = among_cuts k is
 
         by : Among (normal_ways site.never) way ⊎ Among (map (to_continuation q) all) way → Reaching Exit way
-        by (inl is) = reaching_as (λ m. Among (if_there ends.normal) m) Exit way node_normal (to_normal site.never are.normal way is)
+        by (inl is) = reaching_as (λ m. Among (if_there ends.normal) m) Exit way node_normal (to_normal site.never are.normal.1 way is)
         by (inr is) =
             let found = among_unmap (to_continuation q) all way is in
             subst (Reaching Exit) found.2 (among_all found.0 (among_parts (site.returns ++ site.unwinds) site.cuts found.0 found.1))
@@ -270,7 +271,7 @@ module _ (p : Program) (q : Proc) (g : Graph) (graph : IsGraphOf p q g) (flow : 
         by_return : Among (if_there ends.normal) m ⊎ Among (landings g ends.returns) m → Reached (exits q site rest) m
         by_return (inl is) =
             reached_as (normal_ways site.never) (exits q site rest) m (λ w is. among_left (normal_ways site.never) (map (to_continuation q) all) w is)
-            (by_normal site.never are.normal m is)
+            (by_normal site.never are.normal.1 m is)
         by_return (inr is) =
             reached_as (map (to_continuation q) site.returns) (exits q site rest) m way_return (by_landing ends.returns site.returns are.returns returns_there m is)
 

@@ -18,12 +18,12 @@ use Rattle.cmm_graph.specs.declared.node.Arm.{Arm}
 use Rattle.cmm_graph.specs.declared.node.HostCall.TheVariants as host
 use Rattle.cmm_graph.specs.declared.node.NodeKind.TheVariants as kind
 use Rattle.cmm_graph.specs.declared.number.NodeId.{NodeId}
-use Rattle.cmm_graph.specs.Counterpart.{IsGraphOf}
 use Rattle.cmm_graph.specs.Paths as paths
 use Rattle.cmm_graph.specs.Paths.{arm_nodes}
 use Rattle.cmm_flow.specs.Code.{IsNode, OperandCode}
 use Rattle.cmm_flow.specs.Flow.{IsFlowOf}
 use Rattle.cmm_flow.specs.Operands.{operand_of}
+use Rattle.cmm_flow.specs.Liveness.{HasLandingsOf}
 use Rattle.cmm_flow.specs.Statements.{ArmsCode, DefaultCode, FormCode}
 use Rattle.cmm_flow.proofs.LivenessArms.{FromDefault, Nowhere, OfBranch, There, default_counted, few_defaults, from_arm, from_default, to_arm, to_default}
 use Rattle.cmm_flow.proofs.LivenessAssignments.{assign_stands}
@@ -43,7 +43,7 @@ assigned_length p q [] (e ∷ es) is = absurd (cc)
 assigned_length p q (l ∷ ls) [] is = absurd (cc)
 assigned_length p q (l ∷ ls) (e ∷ es) is = ap (λ n. suc n) (assigned_length p q ls es (and_parts _ _ is).1)
 
-module _ (p : Program) (q : Proc) (g : Graph) (range : IsProcInRange p q) (graph : IsGraphOf p q g) (flow : IsFlowOf q g) (v : ℕ) where
+module _ (p : Program) (q : Proc) (g : Graph) (range : IsProcInRange p q) (graph : HasLandingsOf q g) (flow : IsFlowOf q g) (v : ℕ) where
   abbrev Here : NodeId → Bool → List Way → Type 0
   Here = StandsAt p q g range graph flow v
 

@@ -10,9 +10,8 @@ use Rattle.cmm_program.specs.Liveness.{Way, is_among, read_in, ways}
 use Rattle.cmm_program.specs.LivePaths.{IsReadFrom, Here, Onward}
 use Rattle.cmm_graph.specs.declared.graph.Graph.{Graph}
 use Rattle.cmm_graph.specs.declared.number.NodeId.{NodeId}
-use Rattle.cmm_graph.specs.Counterpart.{IsGraphOf}
 use Rattle.cmm_flow.specs.Flow.{IsFlowOf}
-use Rattle.cmm_flow.specs.Liveness.{AreInRange, CodeKeepsLiveness}
+use Rattle.cmm_flow.specs.Liveness.{AreInRange, CodeKeepsLiveness, HasLandingsOf}
 use Rattle.cmm_flow.proofs.LivenessForms.{form_stands, nothing_lives}
 use Rattle.cmm_flow.proofs.LivenessMembers.{Among, among_of, contains_of}
 use Rattle.cmm_flow.proofs.LivenessPieces.{Live, Within, all_of, path_length}
@@ -20,7 +19,7 @@ use Rattle.cmm_flow.proofs.LivenessRanges.{AllPass, ways_lead}
 use Rattle.cmm_flow.proofs.LivenessTransfers.{IsCode, StandsAt}
 use Rattle.cmm_flow.proofs.LivenessStatements.{Goes}
 
-module _ (p : Program) (q : Proc) (g : Graph) (range : IsProcInRange p q) (graph : IsGraphOf p q g) (flow : IsFlowOf q g) (v : ℕ) where
+module _ (p : Program) (q : Proc) (g : Graph) (range : IsProcInRange p q) (graph : HasLandingsOf q g) (flow : IsFlowOf q g) (v : ℕ) where
   abbrev Good : List Statement → Type 0
   Good = AllPass (is_statement p q)
 

@@ -16,6 +16,7 @@ use Rattle.cmm_program.specs.Bodies.{AtContinuation, follow}
 use Rattle.cmm_program.specs.InRange.{IsInRange, IsProcInRange}
 use Rattle.cmm_program.specs.Liveness.{is_among, is_live_at, read_in, ways}
 use Rattle.cmm_program.specs.LivePaths as paths
+use Rattle.cmm_program.specs.Numbering.{body_numbers, site_number}
 use Rattle.cmm_program.specs.State.{Setting}
 use Rattle.cmm_graph.specs.declared.graph.Graph.{Graph}
 use Rattle.cmm_graph.specs.declared.node.Exits.{Exits}
@@ -30,7 +31,8 @@ use Rattle.cmm_live.specs.Sites.{IsLiveAt, IsLiveOnCut}
 use Rattle.cmm_flow.specs.Flow.{IsFlow, IsFlowOf, IsLandedAt}
 use Rattle.cmm_flow.specs.Laws.{AreFlows}
 use Rattle.cmm_flow.specs.Liveness as live
-use Rattle.cmm_flow.specs.Liveness.{IsFlowInRange, WaitOnce, site_id, variable}
+use Rattle.cmm_flow.specs.Liveness.{IsFlowInRange, site_id, variable}
+use Rattle.cmm_flow.specs.Waiting.{WaitOnce, times, waiting_sites}
 use Rattle.cmm_flow.specs.Statements.{ListCode}
 use Rattle.cmm_flow.proofs.LivenessSets.{sites_keep_liveness}
 use Rattle.cmm_flow.proofs.RangesCovering.{flows_given}
@@ -127,7 +129,7 @@ behind_k = (n 6, (n 5, (n 5, refl, refl), refl), (n 7, refl, behind_c))
 
 whole : Begins body (n 1)
 unfolding opened
-whole = (n 3, (n 1, n 1, exits, refl, refl, refl, (n 2, refl, refl)), (n 4, (n 3, (n 3, refl, refl), refl), (n 5, refl, behind_k)))
+whole = (n 3, (n 1, n 1, exits, refl, refl, refl, (record { returns = refl; unwinds = refl; cuts = refl }, (n 2, refl, refl))), (n 4, (n 3, (n 3, refl, refl), refl), (n 5, refl, behind_k)))
 
 landing_is : (k : ℕ) → k < 2 → IsLandedAt f graph label_node k
 landing_is zero less = record { at = n 9; tokens = 1; to = []; next = n 5; landing = refl; node = refl; code = behind_k }
@@ -176,15 +178,30 @@ in_range = record {
 }
 
 flows : IsFlowInRange p f graph
-flows = record { range = in_range; graph = is_graph; flow = flow }
+flows = record {
+  range = in_range;
+  graph = record { variables = is_graph.variables; continuations = is_graph.continuations; sites = is_graph.sites };
+  flow = flow;
+}
 
 once : WaitOnce graph
 once = refl
 
 -- ---- the graph as an answer of `flow`, for a program in range
 
+waits : waiting_sites graph.nodes ≡ body_numbers site_number f
+unfolding opened
+waits = refl
+
 answer : IsFlow f graph
-answer = record { flow = flow; tokens = λ covers. refl; variables = refl; formals = refl; continuations = refl }
+answer = record {
+  flow = flow;
+  tokens = λ covers. refl;
+  variables = refl;
+  formals = refl;
+  continuations = refl;
+  waits = λ site. omega (arith, ap (times site) waits);
+}
 
 program_in_range : IsInRange p
 unfolding opened

@@ -1,6 +1,6 @@
 -- Where no two nodes wait at one site, what is live at the site by the graph's paths, and what the sets of the graph have, is what is live
 -- there by those of the procedure.
-use Rattle.std.proofs.Common.{◌≡◌, ◌↔◌, ℕ, zero, suc, ◌==◌, not, Bool, true, false, Contains, Option, Some, None, List, [], ◌∷◌, ◌++◌, flat_map, slice_get, refl, ap, sym, ◌∙◌, subst, arith, true≢false}
+use Rattle.std.proofs.Common.{◌≡◌, ◌↔◌, ℕ, zero, suc, ◌==◌, not, Bool, true, false, Contains, Option, Some, None, List, [], ◌∷◌, ◌++◌, slice_get, refl, ap, sym, ◌∙◌, subst, arith, true≢false}
 use Rattle.std.proofs.lemmas.Bool.{and_parts, eq-eqb, lt-ltb, not-true, or_left, or_right}
 use Rattle.cmm_program.specs.Laws.{LivenessIsByPaths}
 use Rattle.cmm_program.specs.Liveness.{is_among, is_live_at}
@@ -16,7 +16,8 @@ use Rattle.cmm_graph.specs.Ranges.{is_local}
 use Rattle.cmm_live.specs.Exact.{is_at}
 use Rattle.cmm_live.specs.Sites as GraphSites
 use Rattle.cmm_live.specs.Sites.{IsLiveOn, cut_nodes, site_of}
-use Rattle.cmm_flow.specs.Liveness.{HasNode, IsLiveOnCut, SetsAreOfProcedure, SitesKeepLiveness, all_different, site_id, variable, waiting_at}
+use Rattle.cmm_flow.specs.Liveness.{HasNode, IsLiveOnCut, SetsAreOfProcedure, SitesKeepLiveness, site_id, variable}
+use Rattle.cmm_flow.specs.Waiting.{all_different, waiting_sites}
 use Rattle.cmm_flow.proofs.LivenessAtSites.{sites_have_nodes}
 use Rattle.cmm_flow.proofs.LivenessMembers.{is_among-append}
 
@@ -24,9 +25,6 @@ use Rattle.cmm_flow.proofs.LivenessMembers.{is_among-append}
 
 abbrev at_site : Option SiteId → List ℕ
 at_site o = elim o [ Some site ↦ site.number ∷ [] | None ↦ [] ]
-
-abbrev sites_of : List Node → List ℕ
-sites_of nodes = flat_map (λ (node : Node). waiting_at node.kind) nodes
 
 different_later : (o : Option SiteId) (ns : List ℕ) → all_different (at_site o ++ ns) ≡ true → all_different ns ≡ true
 different_later (Some site) ns all = (and_parts (not (is_among site.number ns)) (all_different ns) all).1
@@ -40,32 +38,32 @@ different_first o site ns is all =
 its_own : (o : Option SiteId) (site : SiteId) → o ≡ Some site → is_among site.number (at_site o) ≡ true
 its_own o site is = subst (λ o. is_among site.number (at_site o) ≡ true) (sym is) (or_left (site.number == site.number) false (eq-eqb site.number site.number refl))
 
-listed : (site : SiteId) (nodes : List Node) (n : ℕ) (node : Node) → slice_get nodes n ≡ Some node → site_of node.kind ≡ Some site →
-    is_among site.number (sites_of nodes) ≡ true
+pub listed : (site : SiteId) (nodes : List Node) (n : ℕ) (node : Node) → slice_get nodes n ≡ Some node → site_of node.kind ≡ Some site →
+    is_among site.number (waiting_sites nodes) ≡ true
 listed site [] n node is waits = absurd (cc)
 listed site (x ∷ nodes) zero node is waits =
     let same : x ≡ node = cc in
-    is_among-append site.number (at_site (site_of x.kind)) (sites_of nodes)
-    ∙ or_left (is_among site.number (at_site (site_of x.kind))) (is_among site.number (sites_of nodes))
+    is_among-append site.number (at_site (site_of x.kind)) (waiting_sites nodes)
+    ∙ or_left (is_among site.number (at_site (site_of x.kind))) (is_among site.number (waiting_sites nodes))
     (its_own (site_of x.kind) site (ap (λ (node : Node). site_of node.kind) same ∙ waits))
 listed site (x ∷ nodes) (suc n) node is waits =
-    is_among-append site.number (at_site (site_of x.kind)) (sites_of nodes)
-    ∙ or_right (is_among site.number (at_site (site_of x.kind))) (is_among site.number (sites_of nodes)) (listed site nodes n node is waits)
+    is_among-append site.number (at_site (site_of x.kind)) (waiting_sites nodes)
+    ∙ or_right (is_among site.number (at_site (site_of x.kind))) (is_among site.number (waiting_sites nodes)) (listed site nodes n node is waits)
 
-same_node : (site : SiteId) (nodes : List Node) → all_different (sites_of nodes) ≡ true → (n m : ℕ) (a b : Node) → slice_get nodes n ≡ Some a →
+pub same_node : (site : SiteId) (nodes : List Node) → all_different (waiting_sites nodes) ≡ true → (n m : ℕ) (a b : Node) → slice_get nodes n ≡ Some a →
     slice_get nodes m ≡ Some b → site_of a.kind ≡ Some site → site_of b.kind ≡ Some site → a ≡ b
 same_node site [] all n m a b is_a is_b waits_a waits_b = absurd (cc)
 same_node site (x ∷ nodes) all zero zero a b is_a is_b waits_a waits_b = cc
 same_node site (x ∷ nodes) all zero (suc m) a b is_a is_b waits_a waits_b =
     let same : x ≡ a = cc in
     absurd (true≢false (sym (listed site nodes m b is_b waits_b)
-    ∙ different_first (site_of x.kind) site (sites_of nodes) (ap (λ (node : Node). site_of node.kind) same ∙ waits_a) all))
+    ∙ different_first (site_of x.kind) site (waiting_sites nodes) (ap (λ (node : Node). site_of node.kind) same ∙ waits_a) all))
 same_node site (x ∷ nodes) all (suc n) zero a b is_a is_b waits_a waits_b =
     let same : x ≡ b = cc in
     absurd (true≢false (sym (listed site nodes n a is_a waits_a)
-    ∙ different_first (site_of x.kind) site (sites_of nodes) (ap (λ (node : Node). site_of node.kind) same ∙ waits_b) all))
+    ∙ different_first (site_of x.kind) site (waiting_sites nodes) (ap (λ (node : Node). site_of node.kind) same ∙ waits_b) all))
 same_node site (x ∷ nodes) all (suc n) (suc m) a b is_a is_b waits_a waits_b =
-    same_node site nodes (different_later (site_of x.kind) (sites_of nodes) all) n m a b is_a is_b waits_a waits_b
+    same_node site nodes (different_later (site_of x.kind) (waiting_sites nodes) all) n m a b is_a is_b waits_a waits_b
 
 -- ---- at a site
 

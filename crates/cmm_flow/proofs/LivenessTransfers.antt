@@ -14,12 +14,13 @@ use Rattle.cmm_graph.specs.declared.node.NodeKind.{NodeKind}
 use Rattle.cmm_graph.specs.declared.node.NodeKind.TheVariants as kind
 use Rattle.cmm_graph.specs.declared.number.ContinuationId.{ContinuationId}
 use Rattle.cmm_graph.specs.declared.number.NodeId.{NodeId}
-use Rattle.cmm_graph.specs.Counterpart.{AreExitsOf, HasSite, IsGraphOf, numbers_of}
+use Rattle.cmm_graph.specs.Counterpart.{AreExitsOf, HasSite, numbers_of}
 use Rattle.cmm_graph.specs.Paths.{exit_nodes, landings, values_of}
 use Rattle.cmm_flow.specs.Code.{IsNode, OperandCode, OperandsCode}
 use Rattle.cmm_flow.specs.Flow.{IsFlowOf}
 use Rattle.cmm_flow.specs.Operands.{arguments_of, operand_of, operands_of}
-use Rattle.cmm_flow.specs.Statements.{CallCode, CutCode, JumpCode, NormalCode, ReturnCode, YieldCode}
+use Rattle.cmm_flow.specs.Liveness.{HasLandingsOf}
+use Rattle.cmm_flow.specs.Statements.{CallCode, CutCode, JumpCode, ExitsCode, ReturnCode, YieldCode}
 use Rattle.cmm_flow.proofs.LivenessExits.{AreExits, by_landing, exits_by, exits_to, to_landing}
 use Rattle.cmm_flow.proofs.LivenessExpressions.{alone, operand_piece, operands_piece, values_passed}
 use Rattle.cmm_flow.proofs.LivenessMembers.{Among, is_among-append, or_nothing, or_swapped}
@@ -31,7 +32,7 @@ numbered : (own : List ℕ) → numbers_of (map (λ k. record { number = k }) ow
 numbered [] = refl
 numbered (k ∷ ks) = ap (λ ns. k ∷ ns) (numbered ks)
 
-module _ (p : Program) (q : Proc) (g : Graph) (range : IsProcInRange p q) (graph : IsGraphOf p q g) (flow : IsFlowOf q g) (v : ℕ) where
+module _ (p : Program) (q : Proc) (g : Graph) (range : IsProcInRange p q) (graph : HasLandingsOf q g) (flow : IsFlowOf q g) (v : ℕ) where
   abbrev pub StandsAt : NodeId → Bool → List Way → Type 0
   StandsAt = Stands q g flow.label_node v
 
@@ -44,14 +45,14 @@ module _ (p : Program) (q : Proc) (g : Graph) (range : IsProcInRange p q) (graph
   has_site n tokens kind is = all_get (λ node. HasSite q g node.kind) g.nodes n.number (record { tokens = tokens; kind = kind }) graph.sites is
 
   pub are_exits : (n : ℕ) (ends : Exits) (k : NodeId) (rest : List Statement) (of : AreExitsOf q g (record { number = n }) ends) →
-      NormalCode g.nodes (slice_get q.sites n) ends k → IsCode rest k → AreExits p q g graph flow v ends of.site rest
+      ExitsCode g.nodes (slice_get q.sites n) ends k → IsCode rest k → AreExits p q g graph flow v ends of.site rest
   are_exits n ends k rest of normal code = record {
     in_range = list_all_get (is_site p q) q.sites n of.site range.sites of.is_site;
     returns = of.returns;
     unwinds = of.unwinds;
     cuts = of.cuts;
     behind = k;
-    normal = subst (λ o. NormalCode g.nodes o ends k) of.is_site normal;
+    normal = subst (λ o. ExitsCode g.nodes o ends k) of.is_site normal;
     code = code;
   }
 
@@ -59,7 +60,7 @@ module _ (p : Program) (q : Proc) (g : Graph) (range : IsProcInRange p q) (graph
   Exit ends m = Among (exit_nodes g ends) m
 
   waits : (n : NodeId) (site : ℕ) (ends : Exits) (k : NodeId) (rest : List Statement) (read : Bool) → AreExitsOf q g (record { number = site }) ends →
-      NormalCode g.nodes (slice_get q.sites site) ends k → IsCode rest k → Piece g v 1 n read (Exit ends) → StandsAt n read (exits_at q site rest)
+      ExitsCode g.nodes (slice_get q.sites site) ends k → IsCode rest k → Piece g v 1 n read (Exit ends) → StandsAt n read (exits_at q site rest)
   waits n site ends k rest read of normal code piece =
       let are = are_exits site ends k rest of normal code in
       subst (λ o. StandsAt n read (elim o as (λ _. List Way) [ Some site ↦ exits q site rest | None ↦ [] ])) (sym of.is_site)

@@ -31,7 +31,7 @@ use Rattle.cmm_graph.specs.Paths.{exit_nodes, landings, successors}
 use Rattle.cmm_live.specs.Sites.{cut_nodes, site_of}
 use Rattle.cmm_flow.specs.Code.{IsNode}
 use Rattle.cmm_flow.specs.Operands.{nodes}
-use Rattle.cmm_flow.specs.Statements.{ArmsCode, DefaultCode, FormCode, ListCode, NormalCode, RowCode, ZeroCode}
+use Rattle.cmm_flow.specs.Statements.{ArmsCode, DefaultCode, FormCode, ListCode, ExitsCode, RowCode, ZeroCode}
 use Rattle.cmm_flow.proofs.Counting.{row_statements}
 use Rattle.cmm_flow.proofs.LivenessArms.{few_defaults}
 use Rattle.cmm_flow.proofs.LivenessMembers.{is_among-append, or_nothing}
@@ -169,7 +169,7 @@ module _ (p : Program) (q : Proc) (g : Graph) (label_node : ℕ → NodeId) (sit
     pub ends : Exits
     pub waits : IsWaiting kind (record { number = site }) ends
     pub behind : NodeId
-    pub normal : NormalCode g.nodes (slice_get q.sites site) ends behind
+    pub normal : ExitsCode g.nodes (slice_get q.sites site) ends behind
     pub code : Begins rest behind
 
   abbrev Pass : List Statement → Type 0

@@ -1,8 +1,9 @@
 -- Code of statements that leave their procedure, or wait at a site: that it stays where more nodes are laid, and how it is made of its parts.
-use Rattle.std.proofs.Common.{◌≡◌, ℕ, suc, ◌+◌, Bool, true, false, List, ◌++◌, map, length, slice_get, Option, Some, None, sym, ap, ◌∙◌, add-one}
+use Rattle.std.proofs.Common.{◌≡◌, ℕ, suc, ◌+◌, Bool, true, false, List, [], ◌∷◌, ◌++◌, refl, map, length, slice_get, Option, Some, None, sym, ap, ◌∙◌, add-one}
 use Rattle.cmm_program.specs.declared.expression.Expression.{Expression}
 use Rattle.cmm_program.specs.declared.procedure.Proc.{Proc}
 use Rattle.cmm_program.specs.declared.procedure.Site.{Site}
+use Rattle.cmm_graph.specs.Counterpart.{numbers_of}
 use Rattle.cmm_graph.specs.declared.number.NodeId.{NodeId}
 use Rattle.cmm_graph.specs.declared.number.ContinuationId.{ContinuationId}
 use Rattle.cmm_graph.specs.declared.operand.Operand.{Operand}
@@ -13,7 +14,7 @@ use Rattle.cmm_graph.specs.declared.node.NodeKind.{NodeKind}
 use Rattle.cmm_graph.specs.declared.node.NodeKind.TheVariants.{Call, Yield, Jump, Cut, Return, CopyIn}
 use Rattle.cmm_flow.specs.Operands.{arguments_of, nodes, nodes_of_all, operand_of, operands_of}
 use Rattle.cmm_flow.specs.Code.{IsNode, OperandsCode}
-use Rattle.cmm_flow.specs.Statements.{CallCode, CutCode, JumpCode, NormalCode, ReturnCode, YieldCode, normal_tokens, remaining}
+use Rattle.cmm_flow.specs.Statements.{CallCode, CutCode, JumpCode, ExitsCode, ReturnCode, YieldCode, normal_tokens, remaining}
 use Rattle.cmm_flow.specs.inside.Counts.{capped}
 use Rattle.cmm_flow.specs.inside.Passing.{PassingCode}
 use Rattle.cmm_flow.proofs.ExpressionsStay.{node_stays}
@@ -25,15 +26,23 @@ with_node : (nodes more : List Node) (normal : Option NodeId) (tokens : ℕ) (ki
     ((j : NodeId) × (normal ≡ Some j) × IsNode nodes j tokens kind) → ((j : NodeId) × (normal ≡ Some j) × IsNode (nodes ++ more) j tokens kind)
 with_node nodes more normal tokens kind (j, is, node) = (j, is, node_stays nodes more j tokens kind node)
 
+numbered : (ns : List ℕ) → numbers_of (map (λ k. record { number = k }) ns) ≡ ns
+numbered [] = refl
+numbered (n ∷ ns) = ap (λ ms. n ∷ ms) (numbered ns)
+
+-- continuations that are made of numbers have these
+pub numbers_back : (ks : List ContinuationId) (ns ms : List ℕ) → ks ≡ map (λ k. record { number = k }) ns → ns ≡ ms → numbers_of ks ≡ ms
+numbers_back ks ns ms made same = ap numbers_of made ∙ numbered ns ∙ same
+
 normal_by : (nodes more : List Node) (site : Site) (normal : Option NodeId) (k : NodeId) (b : Bool) →
     elim b as (λ _. Type 0) [ true ↦ normal ≡ None | false ↦ (j : NodeId) × (normal ≡ Some j) × IsNode nodes j (suc (length site.results)) (CopyIn site.results k) ] →
     elim b as (λ _. Type 0) [ true ↦ normal ≡ None | false ↦ (j : NodeId) × (normal ≡ Some j) × IsNode (nodes ++ more) j (suc (length site.results)) (CopyIn site.results k) ]
 normal_by nodes more site normal k true is = is
 normal_by nodes more site normal k false is = with_node nodes more normal _ _ is
 
-pub normal_stays : (nodes more : List Node) (site : Option Site) (exits : Exits) (k : NodeId) → NormalCode nodes site exits k → NormalCode (nodes ++ more) site exits k
-normal_stays nodes more None exits k is = is
-normal_stays nodes more (Some site) exits k is = normal_by nodes more site exits.normal k site.never is
+pub exits_stay : (nodes more : List Node) (site : Option Site) (exits : Exits) (k : NodeId) → ExitsCode nodes site exits k → ExitsCode (nodes ++ more) site exits k
+exits_stay nodes more None exits k is = is
+exits_stay nodes more (Some site) exits k is = (is.0, normal_by nodes more site exits.normal k site.never is.1)
 
 -- ---- the tokens of a normal exit
 
@@ -52,7 +61,7 @@ module _ (nodes_there : List Node) where
   pub call_code : (q : Proc) (tokens site : ℕ) (callee : Expression) (actuals : List Expression) (exits : Exits) (to : Operand) (arguments : List Argument)
       (count : ℕ) (n j k : NodeId) → to ≡ operand_of 0 callee → arguments ≡ arguments_of 1 actuals →
       count ≡ remaining tokens (nodes callee + nodes_of_all actuals + normal_tokens (slice_get q.sites site)) →
-      NormalCode nodes_there (slice_get q.sites site) exits k → IsNode nodes_there j count (Call record { number = site } to arguments exits) →
+      ExitsCode nodes_there (slice_get q.sites site) exits k → IsNode nodes_there j count (Call record { number = site } to arguments exits) →
       PassingCode nodes_there callee actuals n j → CallCode nodes_there q tokens site callee actuals n k
   call_code q tokens site callee actuals exits to arguments count n j k at passed counts normal node (m, first, second) = (
     m,
@@ -68,7 +77,7 @@ module _ (nodes_there : List Node) where
   pub yield_code : (q : Proc) (tokens site : ℕ) (values : List Expression) (exits : Exits) (operands : List Operand)
       (count : ℕ) (n j k : NodeId) → operands ≡ operands_of 0 values →
       count ≡ remaining tokens (nodes_of_all values + normal_tokens (slice_get q.sites site)) →
-      NormalCode nodes_there (slice_get q.sites site) exits k → IsNode nodes_there j count (Yield record { number = site } operands exits) →
+      ExitsCode nodes_there (slice_get q.sites site) exits k → IsNode nodes_there j count (Yield record { number = site } operands exits) →
       OperandsCode nodes_there values 0 n j → YieldCode nodes_there q tokens site values n k
   yield_code q tokens site values exits operands count n j k passed counts normal node second =
       (j, exits, second, told nodes_there j _ _ _ _ counts (ap (λ os. Yield record { number = site } os exits) passed) node, normal)

@@ -9,7 +9,7 @@ use Rattle.cmm_following.specs.Observing.{Level, Passes}
 use Rattle.cmm_following.specs.Seen.{IsWithin, but_input}
 use Rattle.cmm_following.specs.Simulation.{Leads, Simulates}
 use Rattle.cmm_laws.proofs.Shared.{machine_lasts}
-use Rattle.cmm_laws.specs.Observed.{Call, event_at, machine_of, store_seen}
+use Rattle.cmm_laws.specs.Observed.{Call, Ending, event_at, machine_of, store_seen}
 use Rattle.cmm_program.proofs.Shared.{list_all_get}
 use Rattle.cmm_program.specs.declared.procedure.Proc.{Proc}
 use Rattle.cmm_program.specs.declared.statement.Statement.{Statement}
@@ -69,7 +69,7 @@ module _ (r : Run) (flows : AreFlows r.setting r.graphs) where
   abbrev s : Setting
   s = r.setting
 
-  abbrev A : Machine (State Todo) ℕ Call Outcome
+  abbrev A : Machine (State Todo) ℕ Call Ending
   A = machine_of (todo_control s.program) s
 
   abbrev Rel : State Todo → State Position → Type 0

@@ -4,13 +4,13 @@ use Rattle.cmm_following.proofs.Paths.{one_step, joined, weaker}
 use Rattle.cmm_following.specs.Machine.{Machine}
 use Rattle.cmm_following.specs.Seen.{Seen}
 use Rattle.cmm_following.specs.Simulation.{Leads}
-use Rattle.cmm_laws.specs.Observed.{Call, event_at, machine_of, store_seen}
+use Rattle.cmm_laws.specs.Observed.{Call, Ending, event_at, machine_of, store_seen}
 use Rattle.cmm_program.specs.Acts.{evaluated}
 use Rattle.cmm_program.specs.Control.{State}
 use Rattle.cmm_program.specs.Orders as order
 use Rattle.cmm_program.specs.Orders.{Order}
 use Rattle.cmm_program.specs.Performing.{Stay, perform}
-use Rattle.cmm_program.specs.State.{Outcome, Running, Setting, Store}
+use Rattle.cmm_program.specs.State.{Running, Setting, Store}
 use Rattle.cmm_program.specs.Writes.{reads_of}
 use Rattle.cmm_graph.specs.declared.graph.Graph.{Graph}
 use Rattle.cmm_graph.specs.declared.node.NodeKind.{NodeKind}
@@ -29,7 +29,7 @@ pub record Run : Type 0 where
   pub cost : State Position → ℕ
   pub cheap : (u : State Position) → cost u ≤ max 1 (tokens_of_youngest graphs u)
 
-abbrev pub machine : Run → Machine (State Position) ℕ Call Outcome
+abbrev pub machine : Run → Machine (State Position) ℕ Call Ending
 machine r = machine_of (graph_control r.graphs) r.setting
 
 -- a state is passed in silence where the step from it shows no more than this, takes nothing and does not go wrong

@@ -1,5 +1,5 @@
 -- What is laid for a body, with the nodes of labels and continuations in front, is the flow of its procedure.
-use Rattle.std.proofs.Common.{◌≡◌, ℕ, zero, suc, ◌+◌, ◌<◌, ◌≤◌, min, nat_lt, Bool, true, false, Some, None, List, [], ◌∷◌, ◌++◌, append-nil, get_or, length, map, replicate, slice_get, refl, sym, ap, ◌∙◌, subst, arith}
+use Rattle.std.proofs.Common.{◌≡◌, ap₂, ℕ, zero, suc, ◌+◌, ◌<◌, ◌≤◌, min, nat_lt, Bool, true, false, Some, None, List, [], ◌∷◌, ◌++◌, append-nil, get_or, length, map, replicate, slice_get, refl, sym, ap, ◌∙◌, subst, arith}
 use Rattle.std.proofs.lemmas.Bool.Decides.{nat_tests}
 use Rattle.std.proofs.lemmas.List.{get_or-map, get_or-replicate, length-append, length-map, length-replicate}
 use Rattle.std.proofs.lemmas.List.FromFn.{get_or-range_with_len, length-range_with_len}
@@ -13,6 +13,7 @@ use Rattle.cmm_program.specs.declared.statement.Form.TheVariants.{Span}
 use Rattle.cmm_program.specs.declared.statement.Statement.{Statement}
 use Rattle.cmm_program.specs.Errors.{with_some}
 use Rattle.cmm_program.specs.Bodies.{Mark, AtContinuation, AtLabel, after_inside, follow}
+use Rattle.cmm_program.specs.Numbering.{body_numbers, site_number}
 use Rattle.cmm_graph.specs.declared.graph.Graph.{Graph}
 use Rattle.cmm_graph.specs.declared.node.Node.{Node}
 use Rattle.cmm_graph.specs.declared.node.NodeKind.TheVariants.{Entry, Goto, Stop}
@@ -23,16 +24,18 @@ use Rattle.cmm_flow.specs.declared.builder.Builder.{Builder}
 use Rattle.cmm_flow.specs.Code.{IsNode}
 use Rattle.cmm_flow.specs.Flow.{CoversParts, HasTokens, IsBehindLabel, IsFlow, IsFlowOf, IsLandedAt}
 use Rattle.cmm_flow.specs.Statements.{ListCode}
+use Rattle.cmm_flow.specs.Waiting.{WaitAtSites, times, waiting_sites}
 use Rattle.cmm_flow.specs.inside.Fronts.{IsFinished, IsNew, copy_in, copy_ins, goto_nodes}
 use Rattle.cmm_flow.specs.inside.Laying.{AreWithin, IsReady, LaysMarked, LaysWithin, label_of}
-use Rattle.cmm_flow.specs.inside.LayingBlocks.{LaysBlock, is_within}
+use Rattle.cmm_flow.specs.inside.LayingBlocks.{LaysBlock, block_sites, is_within}
 use Rattle.cmm_flow.specs.inside.Marks.{FrontCode, LeadsBehind, LeadsBehindList, after_list}
 use Rattle.cmm_flow.proofs.Blocks.{after_span}
 use Rattle.cmm_flow.proofs.Covering.{copies_within, gotos_within, span_of}
 use Rattle.cmm_flow.proofs.FormsStay.{front_stays, leads_stay}
-use Rattle.cmm_flow.proofs.Laying.{both_within, get_before, get_behind}
+use Rattle.cmm_flow.proofs.Laying.{both_within, get_before, get_behind, waiting_sites-append}
 use Rattle.cmm_flow.proofs.Marking.{lays_marked, ready_later, then_marked}
 use Rattle.cmm_flow.proofs.Marks.{follow_leads, front_list}
+use Rattle.cmm_flow.proofs.WaitingSites.{copies_wait, gotos_wait, span_sites}
 
 -- ---- elements of lists
 
@@ -78,7 +81,7 @@ get_numbered ns first count k are less =
 
 module _ (q : Proc) (labels : ℕ) (a b c : Builder) (g : Graph) (formals : List Variable) (next begin : NodeId)
     (new : IsNew labels (length q.conts) a) (lacked : (l : ℕ) → labels ≤ l → after_list (AtLabel l) q.body ≡ None)
-    (laid : LaysBlock a b q q.body next a.stop) (entry : LaysWithin (λ most. q.tokens ≤ most) b c (λ nodes. IsNode nodes begin q.tokens (Entry formals next)))
+    (laid : LaysBlock a b q q.body next a.stop) (entry : LaysWithin (λ most. q.tokens ≤ most) [] b c (λ nodes. IsNode nodes begin q.tokens (Entry formals next)))
     (finished : IsFinished c q begin g) where
   ready : IsReady labels a
   ready = record { labels = ap length new.labels_lead ∙ length-replicate labels a.stop; stop = ap (λ nodes. slice_get nodes 0) new.nodes }
@@ -272,10 +275,30 @@ module _ (q : Proc) (labels : ℕ) (a b c : Builder) (g : Graph) (formals : List
       let front = both_within most gotos (copy_ins q c.continuations) marks (copies_within q most q.conts c.continuations covers.parameters) in
       of_graph (AreWithin most) (both_within most _ c.nodes front behind)
 
+  -- ---- sites
+
+  front_waits : waiting_sites front ≡ []
+  front_waits =
+      waiting_sites-append gotos (copy_ins q c.continuations)
+      ∙ ap₂ (λ xs ys. xs ++ ys)
+      (waiting_sites-append (goto_nodes c.labels) (goto_nodes (c.stop ∷ [])) ∙ ap (λ xs. xs ++ []) (gotos_wait c.labels))
+      (copies_wait q q.conts c.continuations)
+
+  all_wait : waiting_sites all ≡ waiting_sites c.nodes
+  all_wait = waiting_sites-append front c.nodes ∙ ap (λ xs. xs ++ waiting_sites c.nodes) front_waits
+
+  gives_waits : WaitAtSites q g
+  gives_waits site =
+      let first : times site (waiting_sites a.nodes) ≡ 0 = ap (λ nodes. times site (waiting_sites nodes)) new.nodes in
+      let numbers : times site (block_sites q.body) ≡ times site (body_numbers site_number q) = ap (times site) (sym (span_sites q.body)) in
+      of_graph (λ nodes. times site (waiting_sites nodes) ≤ times site (body_numbers site_number q))
+      (omega (arith, laid.waits site, entry.waits site, first, numbers, ap (times site) all_wait))
+
   pub is_answered : map (λ (v : Variable). v.number) formals ≡ range_with_len 0 q.formals → IsFlow q g
   is_answered numbers = record {
     flow = is_flow;
     tokens = gives_tokens;
+    waits = gives_waits;
     variables = finished.variables;
     formals = ap (λ o. with_some o (λ node. formals_of node.kind)) entry_there ∙ ap Some numbers;
     continuations =

@@ -14,6 +14,7 @@ use Rattle.cmm_graph.specs.Counterpart.{formals_of, parameter_targets, taken_at}
 use Rattle.cmm_graph.specs.Paths.{landing_of, node_of}
 use Rattle.cmm_flow.specs.Code.{IsNode}
 use Rattle.cmm_flow.specs.Statements.{ListCode}
+use Rattle.cmm_flow.specs.Waiting.{WaitAtSites}
 
 -- a procedure's Entry, of as many tokens as the procedure, leads to the code of its body
 pub record IsBegun (q : Proc) (g : Graph) (label_node : ℕ → NodeId) : Type 0 where
@@ -62,13 +63,14 @@ pub record CoversParts (q : Proc) : Type 0 where
 
 -- What `flow` answers: the flow of the procedure, where no node has more tokens than the procedure if that has tokens for its
 -- parts. The graph has the variables of the procedure, its Entry takes the arguments to the formals, and the CopyIn of each
--- continuation takes the parameters.
+-- continuation takes the parameters. No more nodes wait at a site than statements have its number.
 pub record IsFlow (q : Proc) (g : Graph) : Type 0 where
   pub flow : IsFlowOf q g
   pub tokens : CoversParts q → HasTokens q g
   pub variables : g.variables ≡ length q.vars
   pub formals : with_some (node_of g g.first) (λ node. formals_of node.kind) ≡ Some (range_with_len 0 q.formals)
   pub continuations : map (taken_at g) g.continuations ≡ map (λ c. Some (parameter_targets q c)) q.conts
+  pub waits : WaitAtSites q g
 
 -- variables, temporaries and continuations have at most 8 bytes of a frame for each token of the procedure: a pair for a continuation
 abbrev pub IsBounded : Proc → Graph → Type 0

@@ -1,6 +1,7 @@
 pub mod Operands
 pub mod Code
 pub mod Statements
+pub mod Waiting
 pub mod Flow
 pub mod Relation
 pub mod Laws

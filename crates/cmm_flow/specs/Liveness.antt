@@ -1,7 +1,7 @@
 -- A variable is live in the graph of a procedure just where it is live in the procedure (Ramsey and Peyton Jones, PLDI 2000, flow edges): before the
 -- code of statements where some path from these reads it before it is written, and behind the node of a call site where it is live at the site.
-use Rattle.std.specs.Prelude.{◌≡◌, ℕ, ◌<◌, ◌↔◌, ◌&&◌, not, Bool, true, IsTrue, IsFalse, Contains, List, [], ◌∷◌, flat_map, length, slice_get, Some, None}
-use Rattle.std.specs.List.{list_all}
+use Rattle.std.specs.Prelude.{◌≡◌, ℕ, ◌<◌, ◌↔◌, ◌&&◌, true, IsTrue, IsFalse, Contains, List, length, map, slice_get, Some}
+use Rattle.std.specs.List.{All, list_all}
 use Rattle.cmm_program.specs.declared.procedure.Proc.{Proc}
 use Rattle.cmm_program.specs.declared.procedure.Site.{Site}
 use Rattle.cmm_program.specs.declared.program.Program.{Program}
@@ -14,30 +14,41 @@ use Rattle.cmm_program.specs.LivePaths
 use Rattle.cmm_program.specs.LivePaths.{IsReadFrom}
 use Rattle.cmm_graph.specs.declared.graph.Graph.{Graph}
 use Rattle.cmm_graph.specs.declared.node.Node.{Node}
-use Rattle.cmm_graph.specs.declared.node.NodeKind.{NodeKind}
 use Rattle.cmm_graph.specs.declared.number.NodeId.{NodeId}
 use Rattle.cmm_graph.specs.declared.number.SiteId.{SiteId}
 use Rattle.cmm_graph.specs.declared.operand.Local.{Local}
 use Rattle.cmm_graph.specs.declared.operand.Local.TheVariants as local
-use Rattle.cmm_graph.specs.Counterpart.{IsGraphOf}
+use Rattle.cmm_graph.specs.Counterpart.{HasSite, parameter_targets, taken_at}
 use Rattle.cmm_graph.specs.Liveness.{IsLiveAfter, IsLiveBefore}
 use Rattle.cmm_graph.specs.Paths.{node_of}
 use Rattle.cmm_live.specs.declared.live_sets.LiveSets.{LiveSets}
 use Rattle.cmm_live.specs.Exact.{AreLiveSets, is_at, is_on_cut}
 use Rattle.cmm_live.specs.Sites as GraphSites
 use Rattle.cmm_live.specs.Sites.{IsLiveAt, cut_nodes, site_of}
-use Rattle.cmm_flow.specs.Flow.{IsFlowOf}
+use Rattle.cmm_flow.specs.Flow.{IsFlow, IsFlowOf}
 use Rattle.cmm_flow.specs.Statements.{ListCode}
+use Rattle.cmm_flow.specs.Waiting.{WaitOnce}
 
 -- a variable of the procedure in its graph
 abbrev pub variable : ℕ → Local
 variable v = local.Variable record { number = v }
 
+-- A graph has the variables of a procedure, the CopyIn of each continuation takes its parameters, and each node that waits has the exits
+-- of its site.
+pub record HasLandingsOf (q : Proc) (g : Graph) : Type 0 where
+  pub variables : g.variables ≡ length q.vars
+  pub continuations : map (taken_at g) g.continuations ≡ map (λ c. Some (parameter_targets q c)) q.conts
+  pub sites : All (λ node. HasSite q g node.kind) g.nodes
+
 -- a graph of a procedure in range, which is the procedure's flow
 pub record IsFlowInRange (p : Program) (q : Proc) (g : Graph) : Type 0 where
   pub range : IsProcInRange p q
-  pub graph : IsGraphOf p q g
+  pub graph : HasLandingsOf q g
   pub flow : IsFlowOf q g
+
+-- as is what `flow` answers for such a procedure
+abbrev pub AnswersAreInRange : Type 0
+AnswersAreInRange = (p : Program) (q : Proc) (g : Graph) → IsProcInRange p q → IsFlow q g → IsFlowInRange p q g
 
 -- ---- where the code of statements begins
 
@@ -81,18 +92,6 @@ pub record HasNode (q : Proc) (g : Graph) (site : ℕ) : Type 0 where
 -- each site of a procedure has its node
 abbrev pub SitesHaveNodes : Type 0
 SitesHaveNodes = (p : Program) (q : Proc) (g : Graph) → IsFlowInRange p q g → (site : ℕ) → site < length q.sites → HasNode q g site
-
--- the site at which a node waits, if it does
-abbrev pub waiting_at : NodeKind → List ℕ
-waiting_at kind = elim (site_of kind) [ Some site ↦ site.number ∷ [] | None ↦ [] ]
-
-abbrev pub all_different : List ℕ → Bool
-all_different [] = true
-all_different (n ∷ ns) = not (is_among n ns) && all_different ns
-
--- no two nodes wait at one site
-abbrev pub WaitOnce : Graph → Type 0
-WaitOnce g = IsTrue (all_different (flat_map (λ node. waiting_at node.kind) g.nodes))
 
 -- what is live at a site, and on its cut exits, by the paths of the procedure and by those of the graph
 pub record IsKeptAtSite (q : Proc) (g : Graph) (site v : ℕ) : Type 0 where

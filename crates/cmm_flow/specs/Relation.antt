@@ -15,7 +15,7 @@ use Rattle.cmm_graph.specs.declared.node.Exits.{Exits}
 use Rattle.cmm_graph.specs.declared.number.NodeId.{NodeId}
 use Rattle.cmm_graph.specs.GraphControl.{Position, kind_here, normal_of}
 use Rattle.cmm_flow.specs.Flow.{IsFlowOf}
-use Rattle.cmm_flow.specs.Statements.{ListCode, NormalCode}
+use Rattle.cmm_flow.specs.Statements.{ListCode, ExitsCode}
 
 -- ---- counts of tokens
 
@@ -82,7 +82,7 @@ module _ (p : Program) (graphs : List Graph) where
     pub exits : Exits
     pub stands : normal_of (kind_here graphs c) ≡ exits.normal
     pub behind : NodeId
-    pub normal : NormalCode one.of.graph.nodes (slice_get one.of.procedure.sites site) exits behind
+    pub normal : ExitsCode one.of.graph.nodes (slice_get one.of.procedure.sites site) exits behind
     pub code : IsCodeOf one.of t.rest behind
     pub counted : AreCounted one.of.procedure t.rest
 

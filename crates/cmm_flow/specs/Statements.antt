@@ -31,6 +31,7 @@ use Rattle.cmm_graph.specs.declared.node.HostCall.TheVariants as host
 use Rattle.cmm_graph.specs.declared.node.Node.{Node}
 use Rattle.cmm_graph.specs.declared.node.NodeKind.{NodeKind}
 use Rattle.cmm_graph.specs.declared.node.NodeKind.TheVariants as node
+use Rattle.cmm_graph.specs.Counterpart.{numbers_of}
 use Rattle.cmm_flow.specs.Operands.{temporary, operand_of, operands_of, arguments_of, nodes, nodes_of_all}
 use Rattle.cmm_flow.specs.Code.{to_temporary, IsNode, OperandCode, OperandsCode, TestCode, ValueCode, ValuesCode}
 
@@ -51,6 +52,12 @@ normal_tokens None = 0
 abbrev pub first_result : List Target → Destination
 first_result [] = to_temporary 0
 first_result (t ∷ ts) = destination.Target t
+
+-- the continuations to which exits lead are those of a site
+pub record HasContinuations (site : Site) (exits : Exits) : Type 0 where
+  pub returns : numbers_of exits.returns ≡ site.returns
+  pub unwinds : numbers_of exits.unwinds ≡ site.unwinds
+  pub cuts : numbers_of exits.cuts ≡ site.cuts
 
 module _ (nodes_there : List Node) where
   abbrev pub Is : NodeId → ℕ → NodeKind → Type 0
@@ -87,13 +94,17 @@ module _ (nodes_there : List Node) where
       × Is j 1 (node.Store width aligned (operand_of 0 address) (operand_of 1 e) k)
   AssignCode to (e ∷ es) n k = SeveralCode to (e ∷ es) n k
 
-  -- the normal exit of a site, if it has one, takes the results and leads behind the statement
-  abbrev pub NormalCode : Option Site → Exits → NodeId → Type 0
-  NormalCode None exits k = Unit {0}
-  NormalCode (Some site) exits k = elim site.never [
-    | true ↦ exits.normal ≡ None
-    | false ↦ (j : NodeId) × (exits.normal ≡ Some j) × Is j (suc (length site.results)) (node.CopyIn site.results k)
+  -- the normal exit of a site, if it has one, takes the results and leads to a node
+  abbrev pub NormalExit : Site → Option NodeId → NodeId → Type 0
+  NormalExit site normal k = elim site.never [
+    | true ↦ normal ≡ None
+    | false ↦ (j : NodeId) × (normal ≡ Some j) × Is j (suc (length site.results)) (node.CopyIn site.results k)
   ]
+
+  -- the exits of a site are its continuations and its normal exit, which leads behind the statement
+  abbrev pub ExitsCode : Option Site → Exits → NodeId → Type 0
+  ExitsCode None exits k = Unit {0}
+  ExitsCode (Some site) exits k = HasContinuations site exits × NormalExit site exits.normal k
 
   -- a divisor of 0 is yielded for, with the value 1
   abbrev pub ZeroCode : Proc → ℕ → ℕ → ℕ → Width → Expression → NodeId → NodeId → NodeId → Type 0
@@ -102,7 +113,7 @@ module _ (nodes_there : List Node) where
       × Is n 1 (node.Branch record { operator = Eq; width = width; left = operand_of 1 divisor; right = Constant (Number 0 width) } y otherwise)
       × Is y (remaining tokens (used + 2 + normal_tokens (slice_get q.sites site)))
       (node.Yield record { number = site } (Constant (Number 1 W64) ∷ []) exits)
-      × NormalCode (slice_get q.sites site) exits k
+      × ExitsCode (slice_get q.sites site) exits k
 
   -- only a division has no value for 0
   abbrev pub CheckedCode : Proc → ℕ → ℕ → Op2 → Width → Expression → Expression → NodeId → NodeId → Type 0
@@ -116,14 +127,14 @@ module _ (nodes_there : List Node) where
       (m : NodeId) × (j : NodeId) × (exits : Exits) × OperandCode nodes_there callee 0 n m × OperandsCode nodes_there actuals 1 m j
       × Is j (remaining tokens (nodes callee + nodes_of_all actuals + normal_tokens (slice_get q.sites site)))
       (node.Call record { number = site } (operand_of 0 callee) (arguments_of 1 actuals) exits)
-      × NormalCode (slice_get q.sites site) exits k
+      × ExitsCode (slice_get q.sites site) exits k
 
   abbrev pub YieldCode : Proc → ℕ → ℕ → List Expression → NodeId → NodeId → Type 0
   YieldCode q tokens site values n k =
       (j : NodeId) × (exits : Exits) × OperandsCode nodes_there values 0 n j
       × Is j (remaining tokens (nodes_of_all values + normal_tokens (slice_get q.sites site)))
       (node.Yield record { number = site } (operands_of 0 values) exits)
-      × NormalCode (slice_get q.sites site) exits k
+      × ExitsCode (slice_get q.sites site) exits k
 
   abbrev pub JumpCode : ℕ → Expression → List Expression → NodeId → Type 0
   JumpCode tokens callee actuals n =

@@ -7,6 +7,7 @@
 ghost use Rattle.std.specs.Prelude.{◌≡◌, suc, ◌+◌, ◌<◌, ◌≤◌, [], ◌∷◌, IfOk, OnOk, length, min};
 ghost use Rattle.cmm_graph.specs.declared.node.NodeKind.TheVariants.{Stop};
 ghost use Rattle.cmm_flow.specs.Code.{IsNode, to_temporary};
+ghost use Rattle.cmm_flow.specs.Waiting.{waiting_at};
 ghost use Rattle.cmm_flow.specs.inside.Laying.{Lays, LaysMarked, LaysWithin, SetsMark};
 ghost use Rattle.cmm_program.specs.declared.statement.Form.TheVariants.{Label, Continuation};
 
@@ -64,7 +65,7 @@ fn sum(a: u32, b: u32) -> Result<u32, AllocError>
 impl Builder {
     /// Adds a node, and answers its number.
     pub fn push(&mut self, tokens: u32, kind: NodeKind) -> Result<NodeId, AllocError>
-        ensures { IfOk result (λ n. LaysWithin (λ most. tokens ≤ most) self.old self.new (λ nodes. IsNode nodes n tokens kind)) }
+        ensures { IfOk result (λ n. LaysWithin (λ most. tokens ≤ most) (waiting_at kind) self.old self.new (λ nodes. IsNode nodes n tokens kind)) }
     {
         let number = sum(self.stop.number, as_number(self.nodes.len())?)?;
         self.nodes.push(Node { tokens, kind })?;

@@ -50,7 +50,7 @@ impl Builder {
         site: u32,
         next: NodeId,
     ) -> Result<NodeId, AllocError>
-        ensures { IfOk result (λ n. LaysWithin (CoversBoth q.now tokens) self.old self.new (λ nodes. YieldOne nodes q.now tokens site n next)) }
+        ensures { IfOk result (λ n. LaysWithin (CoversBoth q.now tokens) (site ∷ []) self.old self.new (λ nodes. YieldOne nodes q.now tokens site n next)) }
     {
         let values = one(self.alloc)?;
         let exits = self.exits_at(q, site, next)?;
@@ -97,7 +97,7 @@ impl Builder {
         division: NodeId,
         next: NodeId,
     ) -> Result<NodeId, AllocError>
-        ensures { IfOk result (λ n. LaysWithin (CoversBoth q.now tokens) self.old self.new (λ nodes. (count : ℕ) → used ≡ capped count → ZeroCode nodes q.now tokens count site width divisor.now n division next)) }
+        ensures { IfOk result (λ n. LaysWithin (CoversBoth q.now tokens) (site ∷ []) self.old self.new (λ nodes. (count : ℕ) → used ≡ capped count → ZeroCode nodes q.now tokens count site width divisor.now n division next)) }
     {
         let spent = sum(sum(used, 2), normal_tokens_at(q, site));
         let yields = self.yield_one(q, remaining(tokens, spent), site, next)?;
@@ -130,7 +130,7 @@ impl Builder {
         division: NodeId,
         next: NodeId,
     ) -> Result<NodeId, AllocError>
-        ensures { IfOk result (λ n. LaysWithin (CoversBoth q.now tokens) self.old self.new (λ nodes. GuardCode nodes q.now tokens (nodes_in left.now + nodes_in right.now) site operator width right.now n division next)) }
+        ensures { IfOk result (λ n. LaysWithin (CoversBoth q.now tokens) (site ∷ []) self.old self.new (λ nodes. GuardCode nodes q.now tokens (nodes_in left.now + nodes_in right.now) site operator width right.now n division next)) }
     {
         if is_division(operator) {
             let used = sum(nodes_of(left), nodes_of(right));
@@ -152,7 +152,7 @@ impl Builder {
         right: &Expression,
         next: NodeId,
     ) -> Result<NodeId, AllocError>
-        ensures { IfOk result (λ n. LaysWithin (CoversBoth q.now tokens) self.old self.new (λ nodes. CheckedCode nodes q.now tokens site operator width left.now right.now n next)) }
+        ensures { IfOk result (λ n. LaysWithin (CoversBoth q.now tokens) (site ∷ []) self.old self.new (λ nodes. CheckedCode nodes q.now tokens site operator width left.now right.now n next)) }
     {
         let division = self.division(q, site, operator, width, left, right, next)?;
         let first = self.guard_if(

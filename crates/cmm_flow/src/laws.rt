@@ -1,7 +1,7 @@
 //! The laws that join the C-- machine and the machine over graphs. Each is the contract of a function that does nothing.
 
-ghost use Rattle.cmm_flow.specs.Laws.{AnswersAreFlows, FlowAgrees, FlowFollows, FlowSimulates, RangeIsCounted};
-ghost use Rattle.cmm_flow.specs.Liveness.{CodeKeepsLiveness, SetsAreOfProcedure, SitesHaveNodes, SitesKeepLiveness};
+ghost use Rattle.cmm_flow.specs.Laws.{AnswersAreFlows, AnswersHaveSites, AnswersLand, AnswersWaitAtEach, AnswersWaitOnce, FlowAgrees, FlowFollows, FlowSimulates, RangeIsCounted};
+ghost use Rattle.cmm_flow.specs.Liveness.{AnswersAreInRange, CodeKeepsLiveness, SetsAreOfProcedure, SitesHaveNodes, SitesKeepLiveness};
 
 use cmm_program::laws::liveness_is_by_paths;
 
@@ -25,6 +25,25 @@ pub fn programs_in_range_are_counted()
 #[tactic(auto, using(crate::proofs::RangesCovering::answers_are_flows))]
 pub fn answers_are_flows()
     ensures { AnswersAreFlows }
+{}
+
+/// Of what `flow` answers for a procedure in range, one node waits at each site and no two do, and each node that waits has the exits of its site.
+#[tactic(auto, using(crate::proofs::WaitingOnce::answers_wait_once, crate::proofs::SitesOfNodes::answers_have_sites, crate::proofs::SitesOfNodes::answers_wait_at_each))]
+pub fn answers_wait_once()
+    ensures once { AnswersWaitOnce }
+    ensures sites { AnswersHaveSites }
+    ensures each { AnswersWaitAtEach }
+{}
+
+/// What `flow` answers begins at an Entry and lands at each continuation in a CopyIn, so that it is in range where its nodes are.
+pub fn answers_land()
+    ensures { AnswersLand }
+{}
+
+/// What `flow` answers for a procedure in range is all that the laws of liveness ask of a graph, with `answers_wait_once`.
+#[tactic(auto, using(crate::proofs::SitesOfNodes::answers_are_in_range))]
+pub fn answers_keep_liveness()
+    ensures { AnswersAreInRange }
 {}
 
 /// What is live in a procedure is live in its flow: some path from statements of the procedure reads a variable before it is written just where

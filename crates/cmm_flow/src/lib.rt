@@ -18,7 +18,7 @@
 //! - `block`: blocks, with the statements that hold others, labels, `goto` and continuations.
 //! - `procedure`: `flow`, and the nodes in front.
 //! - `sites`, `counts`, `labels`: the exits of call sites; counts of nodes and of tokens; how many labels a body has.
-//! - `laws`: what runs over the flows of a program's procedures do.
+//! - `laws`: what runs over the flows of a program's procedures do, at which sites their nodes wait, and that liveness is kept.
 #![tactic(auto)]
 
 mod assignment;

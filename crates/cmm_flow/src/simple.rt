@@ -1,6 +1,7 @@
 //! Statements without blocks, labels and continuations.
 
 ghost use Rattle.std.specs.Prelude.{◌≡◌, ℕ, true, IfOk};
+ghost use Rattle.cmm_program.specs.Numbering.{site_number};
 ghost use Rattle.cmm_graph.specs.declared.node.HostCall.TheVariants.{PutByte, GetByte};
 ghost use Rattle.cmm_graph.specs.declared.number.NodeId.{NodeId as NodeNumber};
 ghost use Rattle.cmm_flow.specs.Statements.{FormCode};
@@ -32,7 +33,7 @@ impl Builder {
         next: NodeId,
     ) -> Result<NodeId, AllocError>
         requires { is_simple form.now ≡ true }
-        ensures { IfOk result (λ n. LaysWithin (CoversBoth q.now tokens) self.old self.new (λ nodes. (label_node : ℕ → NodeNumber) → FormCode q.now nodes label_node tokens form.now n next)) }
+        ensures { IfOk result (λ n. LaysWithin (CoversBoth q.now tokens) (site_number form.now) self.old self.new (λ nodes. (label_node : ℕ → NodeNumber) → FormCode q.now nodes label_node tokens form.now n next)) }
     {
         match form {
             Form::Assign { to, values } => self.assign(to.as_slice(), values.as_slice(), next),

@@ -16,8 +16,9 @@ module _ {S T Line Call Ending : Type 0} (A : Machine S Line Call Ending) (B : M
 
 module _ {S T Line Call Ending : Type 0} (A : Machine S Line Call Ending) (B : Machine T Line Call Ending) where
   -- unless A goes wrong first, B does in factor * (m + 1) steps all that A does in m, but for the inputs at which it still waits, and
-  -- A does in factor * (n + 1) steps all that B does in n, inputs too
+  -- A does in factor * (n + 1) steps all that B does in n, inputs too, and B is not wrong
   pub record Agrees (factor : ℕ) (s : S) (t : T) : Type 0 where
     pub down : (m : ℕ) → A.wrong (after A m s) ≡ false → Does A B but_input (factor * m) (factor * (m + 1)) (after A m s) t
     pub up : (n : ℕ) → A.wrong (after A (factor * (n + 1)) s) ≡ false →
         Does B A (λ event. event) n (factor * (n + 1)) (after B n t) s
+    pub right : (n : ℕ) → A.wrong (after A (factor * (n + 1)) s) ≡ false → B.wrong (after B n t) ≡ false

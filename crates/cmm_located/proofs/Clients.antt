@@ -1,15 +1,12 @@
 -- the client's answer, command by command
-use Rattle.std.proofs.Common.{◌≡◌, inl, inr, ℕ, ◌+◌, List, [], ◌∷◌, ◌++◌, map, Ok, Err, Some, arith, refl, sym, ap, ◌∙◌, subst}
+use Rattle.std.proofs.Common.{◌≡◌, inl, inr, ℕ, ◌+◌, List, [], ◌∷◌, ◌++◌, map, Ok, Err, arith, refl, sym, ap, ◌∙◌, subst}
 use Rattle.cmm_script.specs.Lines.{refused_line}
-use Rattle.cmm_script.specs.Walk as walk
 use Rattle.cmm_script.specs.declared.script.Command.{Command}
-use Rattle.cmm_following.specs.Seen.{Client}
 use Rattle.cmm_program.specs.Client.{Asked, Reply, Then, Resumes, answered, asked, commands_for, commands_run, logged}
 use Rattle.cmm_program.specs.Control.{next_act, transferred}
 use Rattle.cmm_program.specs.Errors.{UncheckedError}
 use Rattle.cmm_program.specs.Performing.{Transfer}
 use Rattle.cmm_program.specs.State.{Setting, Status, Store, Running, Waiting, Ended, Wrong}
-use Rattle.cmm_program.specs.Walks.{walk_of}
 use Rattle.cmm_laws.specs.Observed.{event_at, store_seen}
 use Rattle.cmm_graph.specs.Acting.{act_of}
 use Rattle.cmm_graph.specs.GraphControl.{Position, graph_control, kind_at}
@@ -24,7 +21,7 @@ use Rattle.cmm_located.specs.RunningSteps.{IsCompiled}
 use Rattle.cmm_located.specs.Steps.{IsFollowed}
 use Rattle.cmm_located.proofs.Commands.{Alike, Comes, command_alike}
 use Rattle.cmm_located.proofs.Following.{in_one, in_two_from}
-use Rattle.cmm_located.proofs.Levels.{same_walk}
+use Rattle.cmm_located.proofs.Levels.{same_event}
 use Rattle.cmm_located.proofs.Standing.{Stands, waiting_of}
 
 module _ (s : Setting) (c : Compiled) (live : Liveness) (most : ℕ) (compiled : IsCompiled s c live most) (showable : IsShowable s c) (ps : List Position) (yielded : List ℕ) where
@@ -104,11 +101,10 @@ clients_are_followed s c live most values st at compiled showable related status
     (commands_come s c live most compiled showable st.controls values (commands_for values s.script) 0 st.store at stands)) in
     let act = next_act (graph_control c.graphs) st.controls in
     let other = act_of (keeping s c at) (kind_at c.graphs at.procedure at.node) in
-    let walks : walk_of s (shown s c at) ≡ walk_of s st.store = same_walk s c live st at showable.variables showable.live related waiting in
+    let same : event_at s (Waiting values) st.store act ≡ event_at s (Waiting values) (shown s c at) other =
+    same_event s c live st at showable.variables showable.live related (Waiting values) act other waiting in
     let asks : event_at s at.store.status (shown s c at) other ≡ event_at s st.store.status st.store act =
-    ap (λ status. event_at s status (shown s c at) other) over_there
-    ∙ (ap (λ (w : List walk.Activation). Some (Client (record { values = values; walk = w }))) walks
-    ∙ sym (ap (λ status. event_at s status st.store act) status)) in
+    ap (λ status. event_at s status (shown s c at) other) over_there ∙ sym same ∙ sym (ap (λ status. event_at s status st.store act) status) in
     elim comes as (λ _. IsFollowed s c live (tokens_at s c at + most) st at) [
       | inl there ↦ in_one s c live (tokens_at s c at + most) st at (λ right. there) (λ event is. sym asks ∙ is) (ap store_seen related.store) (omega arith)
       | inr moves ↦ in_two_from s c live (tokens_at s c at) most st moves.0 at (λ right. moves.1) (λ event is. sym asks ∙ is) (ap store_seen related.store) (omega arith)

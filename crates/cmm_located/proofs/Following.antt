@@ -11,8 +11,8 @@ use Rattle.cmm_program.specs.declared.procedure.Target.{Target}
 use Rattle.cmm_program.specs.Acts.{Fail}
 use Rattle.cmm_program.specs.Control.{State}
 use Rattle.cmm_program.specs.Errors.{EndOfBody}
-use Rattle.cmm_program.specs.State.{Setting, Store, Running, Wrong, Outcome}
-use Rattle.cmm_laws.specs.Observed.{Call, event_at, machine_of, store_seen}
+use Rattle.cmm_program.specs.State.{Setting, Store, Running, Wrong}
+use Rattle.cmm_laws.specs.Observed.{Call, Ending, event_at, machine_of, store_seen}
 use Rattle.cmm_graph.specs.declared.number.NodeId.{NodeId}
 use Rattle.cmm_graph.specs.declared.operand.Destination.TheVariants as destination
 use Rattle.cmm_graph.specs.declared.node.HostCall.TheVariants.{PutByte, GetByte}
@@ -63,10 +63,10 @@ abbrev pub wrong_in : Store → Bool
 wrong_in store = elim store.status [ Wrong error ↦ true | _ ↦ false ]
 
 module _ (s : Setting) (c : Compiled) (live : Liveness) where
-  abbrev pub over_graphs : Machine (State Position) ℕ Call Outcome
+  abbrev pub over_graphs : Machine (State Position) ℕ Call Ending
   over_graphs = machine_of (graph_control c.graphs) s
 
-  abbrev pub over_places : Machine Located ℕ Call Outcome
+  abbrev pub over_places : Machine Located ℕ Call Ending
   over_places = located_machine s c
 
   seen_alike : (st : State Position) (at : Located) → Related s c live st at → store_seen at.store ≡ store_seen st.store
@@ -77,7 +77,7 @@ module _ (s : Setting) (c : Compiled) (live : Liveness) where
 
   -- a state whose step is related to a step of the machine over graphs is passed, where it stands at no other event
   pub passing : (st : State Position) (at : Located) → Related s c live (over_graphs.step st) (located_step s c at) →
-      ((event : Event Call Outcome) → over_places.asks at ≡ Some event → over_graphs.asks st ≡ Some event) → store_seen at.store ≡ store_seen st.store →
+      ((event : Event Call Ending) → over_places.asks at ≡ Some event → over_graphs.asks st ≡ Some event) → store_seen at.store ≡ store_seen st.store →
       Passes over_graphs over_places st at
   passing st at related asks same = record {
     seen = within_same _ _ (seen_alike (over_graphs.step st) (located_step s c at) related);
@@ -88,7 +88,7 @@ module _ (s : Setting) (c : Compiled) (live : Liveness) where
   -- one step over places
   pub in_one : (cost : ℕ) (st : State Position) (at : Located) →
       (over_graphs.wrong (over_graphs.step st) ≡ false → Related s c live (over_graphs.step st) (located_step s c at)) →
-      ((event : Event Call Outcome) → over_places.asks at ≡ Some event → over_graphs.asks st ≡ Some event) → store_seen at.store ≡ store_seen st.store →
+      ((event : Event Call Ending) → over_places.asks at ≡ Some event → over_graphs.asks st ≡ Some event) → store_seen at.store ≡ store_seen st.store →
       tokens_at s c at ≤ cost → IsFollowed s c live cost st at
   in_one cost st at related asks same within right = one_step (passing st at (related right) asks same) (related right) within
 
@@ -107,7 +107,7 @@ module _ (s : Setting) (c : Compiled) (live : Liveness) where
   -- by moves from any state that shows what the step shows
   pub in_two_from : (cost most : ℕ) (st before : State Position) (at : Located) →
       (over_graphs.wrong (over_graphs.step st) ≡ false → Moves most before (over_graphs.step st) (located_step s c at)) →
-      ((event : Event Call Outcome) → over_places.asks at ≡ Some event → over_graphs.asks st ≡ Some event) → store_seen at.store ≡ store_seen st.store →
+      ((event : Event Call Ending) → over_places.asks at ≡ Some event → over_graphs.asks st ≡ Some event) → store_seen at.store ≡ store_seen st.store →
       tokens_at s c at ≤ cost → IsFollowed s c live (cost + most) st at
   in_two_from cost most st before at moves asks same within right =
       let m = moves right in
@@ -131,12 +131,12 @@ module _ (s : Setting) (c : Compiled) (live : Liveness) where
       (λ u is. subst (λ v. Leads over_places (tokens_at s c) (Passes over_graphs over_places st) (Related s c live (over_graphs.step st)) 1 most v) (sym is) second)
       (omega arith) (omega arith)
     where
-      no_event : (event : Event Call Outcome) → None ≡ Some event → ⊥
+      no_event : (event : Event Call Ending) → None ≡ Some event → ⊥
       no_event event is = absurd (cc)
 
   pub in_two : (cost most : ℕ) (st : State Position) (at : Located) →
       (over_graphs.wrong (over_graphs.step st) ≡ false → Moves most st (over_graphs.step st) (located_step s c at)) →
-      ((event : Event Call Outcome) → over_places.asks at ≡ Some event → over_graphs.asks st ≡ Some event) → store_seen at.store ≡ store_seen st.store →
+      ((event : Event Call Ending) → over_places.asks at ≡ Some event → over_graphs.asks st ≡ Some event) → store_seen at.store ≡ store_seen st.store →
       tokens_at s c at ≤ cost → IsFollowed s c live (cost + most) st at
   in_two cost most st at moves asks same within right = in_two_from cost most st st at moves asks same within right
 
@@ -144,7 +144,7 @@ module _ (s : Setting) (c : Compiled) (live : Liveness) where
   pub in_either : (cost most : ℕ) (st : State Position) (at : Located) →
       (over_graphs.wrong (over_graphs.step st) ≡ false →
       Related s c live (over_graphs.step st) (located_step s c at) ⊎ Moves most st (over_graphs.step st) (located_step s c at)) →
-      ((event : Event Call Outcome) → over_places.asks at ≡ Some event → over_graphs.asks st ≡ Some event) → store_seen at.store ≡ store_seen st.store →
+      ((event : Event Call Ending) → over_places.asks at ≡ Some event → over_graphs.asks st ≡ Some event) → store_seen at.store ≡ store_seen st.store →
       tokens_at s c at ≤ cost → IsFollowed s c live (cost + most) st at
   in_either cost most st at comes asks same within right = elim (comes right) [
     | inl related ↦ in_one (cost + most) st at (λ _. related) asks same (omega arith) right

@@ -3,13 +3,13 @@ use Rattle.std.proofs.Common.{◌≡◌, ℕ, ◌-◌, ◌<◌, Bool, true, fals
 use Rattle.std.specs.Prelude.{nat_lt, slice_index_or}
 use Rattle.std.specs.List.{AllZip}
 use Rattle.std.proofs.lemmas.Bool.Decides.{nat_tests}
-use Rattle.cmm_following.specs.Seen.{Client, but_input}
+use Rattle.cmm_following.specs.Seen.{Client, End, but_input}
 use Rattle.cmm_script.specs.Walk as walk
 use Rattle.cmm_program.specs.Acts.{Act, Nothing, Assign, Choose, PutByte, GetByte, Call, Yield, Checked, Jump, Return, Cut, Fail}
 use Rattle.cmm_program.specs.Control.{State, next_act}
-use Rattle.cmm_program.specs.State.{Setting, Activation, Status, Running, Waiting, Ended, Wrong, Store, stack_top}
+use Rattle.cmm_program.specs.State.{Setting, Activation, Status, Running, Waiting, Ended, Wrong, Done, Stopped, StackLimit, Store, stack_top}
 use Rattle.cmm_program.specs.Walks.{walk_of}
-use Rattle.cmm_laws.specs.Observed.{event_at, store_seen}
+use Rattle.cmm_laws.specs.Observed.{ending_of, event_at, store_seen}
 use Rattle.cmm_graph.specs.Acting.{act_of}
 use Rattle.cmm_graph.specs.GraphControl.{Position, graph_control, kind_at}
 use Rattle.cmm_located.specs.Answering.{shown}
@@ -62,17 +62,20 @@ no_event s store (Fail error) = refl
 
 module _ (s : Setting) (c : Compiled) (live : Liveness) (st : State Position) (at : Located) (counts : HasVariables s c) (knows : KnowsLive s c)
     (related : Related s c live st at) where
-  pub same_walk : IsSuspendedAll s c st.store.activations st.controls at → walk_of s (shown s c at) ≡ walk_of s st.store
+  same_walk : IsSuspendedAll s c st.store.activations st.controls at → walk_of s (shown s c at) ≡ walk_of s st.store
   same_walk waiting =
       walk_is_shown s c (stack_top s) st.store (suspensions c.graphs st.store.activations st.controls) at knows
       (all_told s c counts st.store.activations st.controls waiting.waits) waiting.chain (related.store ∙ ap (λ activations. record st.store { activations = activations }) waiting.ghosts)
 
-  same_event : (status : Status) (act other : Act) → IsStanding s c live status st at →
+  -- the walk of a run that waits or that the client has stopped is the same, so it stands at the same event
+  pub same_event : (status : Status) (act other : Act) → IsStanding s c live status st at →
       but_input (event_at s status st.store act) ≡ but_input (event_at s status (shown s c at) other)
   same_event Running act other stands = no_event s st.store act ∙ sym (no_event s (shown s c at) other)
   same_event (Waiting values) act other stands =
-      ap (λ (w : List walk.Activation). Some (Client (record { values = values; walk = w }))) (sym (same_walk stands))
-  same_event (Ended outcome) act other stands = refl
+      ap (λ (w : List walk.Activation). Some (Client (record { values = values; walk = Some w }))) (sym (same_walk stands))
+  same_event (Ended Stopped) act other stands = ap (λ (w : List walk.Activation). Some (End (ending_of Stopped (Some w)))) (sym (same_walk stands))
+  same_event (Ended (Done value)) act other stands = refl
+  same_event (Ended StackLimit) act other stands = refl
   same_event (Wrong error) act other stands = refl
 
 pub related_are_level : RelatedAreLevel

@@ -1,13 +1,20 @@
 -- Worked rows: the located machine beside the graph machine, on two programs that keep values in a callee-saves register.
-use Rattle.std.proofs.Common.{◌≡◌, ◌==◌, ◌&&◌, true, List, [], ◌∷◌, refl, ℕ, false}
+use Rattle.std.proofs.Common.{◌≡◌, ◌==◌, ◌&&◌, true, List, [], ◌∷◌, Option, Some, None, refl, ℕ, false}
 use Rattle.std.specs.Prelude.{slice_index_or}
 use Rattle.std.specs.Str.{bytes_eq}
 use Rattle.cmm_words.specs.declared.operators.Op2.TheVariants.{Add}
 use Rattle.cmm_script.specs.declared.script.Command.{Command}
 use Rattle.cmm_script.specs.declared.script.Command.TheVariants as command
 use Rattle.cmm_script.specs.declared.script.Value.TheVariants.{Number}
+use Rattle.cmm_script.specs.Walk.{Activation}
+use Rattle.cmm_following.specs.Seen.{Event, End}
 use Rattle.cmm_program.specs.declared.statement.Form.TheVariants as form
+use Rattle.cmm_program.specs.Machine.{state_after}
+use Rattle.cmm_program.specs.Todo.{todo_control}
 use Rattle.cmm_program.specs.Walks.{walk_of}
+use Rattle.cmm_laws.specs.Observed as observed
+use Rattle.cmm_laws.specs.Observed.{Ending, machine_of}
+use Rattle.cmm_graph.specs.GraphControl.{graph_control}
 use Rattle.cmm_graph.specs.GraphMachine.{graph_state_after}
 use Rattle.cmm_program.specs.declared.procedure.Proc.{Proc}
 use Rattle.cmm_program.specs.State.{Setting, Ended, Done, StackLimit, Stopped}
@@ -19,6 +26,7 @@ use Rattle.cmm_program.proofs.Shared as sample
 use Rattle.cmm_program.proofs.Shared.{opened, variables_of, continuation, call_site, procedure, program, frame, frame_with, setting, yield_site, client, other, no_client}
 use Rattle.cmm_located.specs.Answering.{shown}
 use Rattle.cmm_located.specs.Compiled.{Compiled}
+use Rattle.cmm_located.specs.LocatedMachine.{located_machine}
 use Rattle.cmm_graph.proofs.Shared.{n, s, k, v, t, num, code, arg, variable, set_variable, set_temporary, exits, graph}
 use Rattle.cmm_located.proofs.Notation.{sum, added_to, laid, all_saved, compiled, located_after, located_status, graph_status}
 
@@ -142,6 +150,33 @@ listing_walk = refl
 stopping_located : located_status (yielding-setting (command.Next ∷ [])) yielding 7 ≡ Ended Stopped
 unfolding opened
 stopping_located = refl
+
+-- it stands at that ending, with the walk of the activations that wait, where the first variable of each is live
+abbrev waits_with : ℕ → Activation
+waits_with value = record {
+  procedure = [];
+  site = 0;
+  spans = [];
+  variables = record { width = 64; kind = []; value = Some value } ∷ record { width = 64; kind = []; value = None } ∷ [];
+}
+
+abbrev stopped : Option (Event observed.Call Ending)
+stopped = Some (End record { outcome = Stopped; walk = Some (waits_with 7 ∷ waits_with 40 ∷ []) })
+
+stopping_ends : (located_machine (yielding-setting (command.Next ∷ [])) yielding).asks (located_after (yielding-setting (command.Next ∷ [])) yielding 7) ≡ stopped
+unfolding opened
+stopping_ends = refl
+
+-- as over graphs, and as the program itself
+stopping_ends_graph : (machine_of (graph_control yielding.graphs) (yielding-setting (command.Next ∷ []))).asks
+    (graph_state_after yielding.graphs (yielding-setting (command.Next ∷ [])) [] 5) ≡ stopped
+unfolding opened
+stopping_ends_graph = refl
+
+stopping_ends_program : let setting = yielding-setting (command.Next ∷ []) in
+    (machine_of (todo_control setting.program) setting).asks (state_after setting [] 5) ≡ stopped
+unfolding opened
+stopping_ends_program = refl
 
 -- ---- an alternate return
 --     main() { bits64 x; x = h(5) also returns to a; return (x); continuation a(x): return (x + 100); }

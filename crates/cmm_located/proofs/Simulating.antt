@@ -49,7 +49,8 @@ module _ (by_reads : OrderIsByReads) (by_values : ValueIsByReads) (s : Setting) 
   step_leads (Waiting values) is = let within = in_most in
       costs_more s c live st at (tokens_at s c at + most) (step_cost c most st) (omega arith) (clients_are_followed s c live most values st at compiled showable related is)
   step_leads (Ended outcome) is = let within = in_most in
-      costs_more s c live st at (tokens_at s c at) (step_cost c most st) (omega arith) (ends_are_followed s c live st at outcome related is)
+      costs_more s c live st at (tokens_at s c at) (step_cost c most st) (omega arith)
+      (ends_are_followed s c live st at outcome showable.variables showable.live related is)
   step_leads (Wrong error) is = λ right. absurd (goes_wrong error is right)
 
 pub places_simulate : OrderIsByReads → ValueIsByReads → PlacesSimulate

@@ -17,7 +17,7 @@ abbrev pub HasVariables : Setting → Compiled → Type 0
 HasVariables s c = (q : ℕ) (p : Proc) → procedure_at s q ≡ Some p → variable_count c.graphs q ≡ length p.vars
 
 -- Related states are level: the same has been seen of both, they are wrong together, and they wait for the client with the same values
--- and the same walk, or are over with the same outcome.
+-- and the same walk, or are over with the same ending.
 abbrev pub RelatedAreLevel : Type 0
 RelatedAreLevel = (s : Setting) (c : Compiled) (live : Liveness) (st : State Position) (at : Located) → HasVariables s c → KnowsLive s c →
     Related s c live st at → Level (machine_of (graph_control c.graphs) s) (located_machine s c) st at

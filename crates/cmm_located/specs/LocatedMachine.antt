@@ -5,8 +5,8 @@ use Rattle.cmm_following.specs.Machine.{Machine}
 use Rattle.cmm_program.specs.Control.{over}
 use Rattle.cmm_program.specs.Errors.{Tried}
 use Rattle.cmm_program.specs.Machine.{first_store}
-use Rattle.cmm_program.specs.State.{Setting, Running, Waiting, Ended, Wrong, Outcome, stack_top}
-use Rattle.cmm_laws.specs.Observed.{Call, event_at, store_seen}
+use Rattle.cmm_program.specs.State.{Setting, Running, Waiting, Ended, Wrong, stack_top}
+use Rattle.cmm_laws.specs.Observed.{Call, Ending, event_at, store_seen}
 use Rattle.cmm_graph.specs.Acting.{act_of}
 use Rattle.cmm_graph.specs.GraphControl.{in_graph, kind_at}
 use Rattle.cmm_graph.specs.Paths.{node_of}
@@ -43,8 +43,8 @@ module _ (s : Setting) (c : Compiled) where
     carried = [];
   }
 
-  -- the machine, in the theory of following; the client sees what the walk shows
-  abbrev pub located_machine : Machine Located ℕ Call Outcome
+  -- the machine, in the theory of following; the client, and who looks at a run that it has stopped, sees what the walk shows
+  abbrev pub located_machine : Machine Located ℕ Call Ending
   located_machine = record {
     step = located_step;
     seen = λ at. store_seen at.store;

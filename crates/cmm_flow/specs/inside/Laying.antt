@@ -1,6 +1,6 @@
 -- What a builder lays: nodes behind those that it has, which are the code of something wherever those of labels and
 -- continuations, which stand in front of all, lead.
-use Rattle.std.specs.Prelude.{◌≡◌, ℕ, ◌++◌, ◌≤◌, nat_le, true, false, IsTrue, List, length, min, slice_get, Some}
+use Rattle.std.specs.Prelude.{◌≡◌, ℕ, ◌+◌, ◌++◌, ◌≤◌, nat_le, true, false, IsTrue, List, [], length, min, slice_get, Some}
 use Rattle.std.specs.List.{list_all}
 use Rattle.cmm_program.specs.declared.procedure.Proc.{Proc}
 use Rattle.cmm_program.specs.declared.statement.Form.{Form}
@@ -10,6 +10,7 @@ use Rattle.cmm_graph.specs.declared.node.NodeKind.TheVariants.{Stop}
 use Rattle.cmm_graph.specs.declared.number.NodeId.{NodeId}
 use Rattle.cmm_flow.specs.declared.builder.Builder.{Builder}
 use Rattle.cmm_flow.specs.Flow.{CoversSites}
+use Rattle.cmm_flow.specs.Waiting.{times, waiting_sites}
 
 -- behind any nodes in front, as many as there are to be
 abbrev pub OnFronts : Builder → (List Node → Type 0) → Type 0
@@ -29,17 +30,23 @@ AreWithin most nodes = IsTrue (list_all (λ node. nat_le node.tokens most) nodes
 abbrev pub Keeps : (ℕ → Type 0) → Builder → Builder → Type 0
 Keeps IsBound a b = (most : ℕ) → IsBound most → AreWithin most a.nodes → AreWithin most b.nodes
 
--- nodes of which this holds, with labels and continuations left as they were; a bound of this kind is one of their tokens
-pub record LaysWithin (IsBound : ℕ → Type 0) (a b : Builder) (P : List Node → Type 0) : Type 0 where
+-- a builder's nodes wait where another's do, and at these sites at most
+abbrev pub AddsSites : List ℕ → Builder → Builder → Type 0
+AddsSites sites a b = (site : ℕ) → times site (waiting_sites b.nodes) ≤ times site (waiting_sites a.nodes) + times site sites
+
+-- nodes of which this holds, with labels and continuations left as they were; a bound of this kind is one of their tokens, and
+-- they wait at these sites at most
+pub record LaysWithin (IsBound : ℕ → Type 0) (sites : List ℕ) (a b : Builder) (P : List Node → Type 0) : Type 0 where
   pub extends : Extends a b
   pub labels : b.labels ≡ a.labels
   pub continuations : b.continuations ≡ a.continuations
   pub code : OnFronts b P
   pub keeps : Keeps IsBound a b
+  pub waits : AddsSites sites a b
 
--- nodes of one token each
+-- nodes of one token each, which wait at no site
 abbrev pub Lays : Builder → Builder → (List Node → Type 0) → Type 0
-Lays a b P = LaysWithin (λ most. 1 ≤ most) a b P
+Lays a b P = LaysWithin (λ most. 1 ≤ most) [] a b P
 
 -- ---- bounds on tokens
 

@@ -1,18 +1,19 @@
 -- What a builder lays for statements with what they hold, in front of a node.
-use Rattle.std.specs.Prelude.{ℕ, nat_le, Bool, IsTrue, List, [], ◌∷◌}
+use Rattle.std.specs.Prelude.{ℕ, ◌++◌, nat_le, Bool, IsTrue, List, [], ◌∷◌, flat_map}
 use Rattle.std.specs.List.{list_all}
 use Rattle.cmm_program.specs.declared.procedure.Proc.{Proc}
 use Rattle.cmm_program.specs.declared.statement.Arm.{Arm, out-Arm}
 use Rattle.cmm_program.specs.declared.statement.Form.{Form}
 use Rattle.cmm_program.specs.declared.statement.Statement.{Statement}
 use Rattle.cmm_program.specs.Bodies.{within}
+use Rattle.cmm_program.specs.Numbering.{site_number}
 use Rattle.cmm_graph.specs.declared.node.Arm.{Arm as Way}
 use Rattle.cmm_graph.specs.declared.number.NodeId.{NodeId}
 use Rattle.cmm_flow.specs.declared.builder.Builder.{Builder}
 use Rattle.cmm_flow.specs.Flow.{CoversSites}
 use Rattle.cmm_flow.specs.Relation.{AreAll}
 use Rattle.cmm_flow.specs.Statements.{FormCode}
-use Rattle.cmm_flow.specs.inside.Laying.{CoversBoth, IsReady, Keeps, LaysMarked, label_of}
+use Rattle.cmm_flow.specs.inside.Laying.{AddsSites, CoversBoth, IsReady, Keeps, LaysMarked, label_of}
 use Rattle.cmm_flow.specs.inside.Marks.{FrontCode, LeadsBehindArms, LeadsBehindForm, LeadsBehindList, OtherwiseCode, WaysCode}
 
 -- a statement has at most so many tokens
@@ -24,11 +25,24 @@ abbrev pub AreAllArms : (Statement → Bool) → List Arm → Type 0
 AreAllArms test [] = Unit {0}
 AreAllArms test (arm ∷ arms) = AreAll test (out-Arm arm).body × AreAllArms test arms
 
+-- the sites of a statement and of those inside it
+abbrev pub form_sites : Form → List ℕ
+form_sites form = site_number form ++ flat_map (λ s. site_number s.form) (within form)
+
+-- of the statements of a block
+abbrev pub block_sites : List Statement → List ℕ
+block_sites statements = flat_map (λ s. form_sites s.form) statements
+
+-- and of arms
+abbrev pub arm_sites : List Arm → List ℕ
+arm_sites arms = flat_map (λ arm. block_sites (out-Arm arm).body) arms
+
 -- one statement
 pub record LaysForm (a b : Builder) (q : Proc) (tokens : ℕ) (form : Form) (n k : NodeId) : Type 0 where
   pub lays : (count : ℕ) → IsReady count a →
       LaysMarked a b (λ nodes. FormCode q nodes (label_of count) tokens form n k) (λ nodes. LeadsBehindForm q nodes (label_of count) form k)
   pub keeps : Keeps (λ most. CoversBoth q tokens most × IsTrue (list_all (is_within most) (within form))) a b
+  pub waits : AddsSites (form_sites form) a b
 
 abbrev pub LaysStatement : Builder → Builder → Proc → Statement → NodeId → NodeId → Type 0
 LaysStatement a b q s n k = LaysForm a b q s.tokens s.form n k
@@ -38,6 +52,7 @@ pub record LaysBlock (a b : Builder) (q : Proc) (statements : List Statement) (n
   pub lays : (count : ℕ) → IsReady count a → LaysMarked a b (λ nodes. FrontCode q nodes (label_of count) statements n k)
       (λ nodes. LeadsBehindList q nodes (label_of count) statements k)
   pub keeps : Keeps (λ most. CoversSites q most × AreAll (is_within most) statements) a b
+  pub waits : AddsSites (block_sites statements) a b
 
 -- the arms of a switch
 pub record LaysArms (a b : Builder) (q : Proc) (arms : List Arm) (to : List Way) (otherwise k : NodeId) : Type 0 where
@@ -45,3 +60,4 @@ pub record LaysArms (a b : Builder) (q : Proc) (arms : List Arm) (to : List Way)
       LaysMarked a b (λ nodes. WaysCode q nodes (label_of count) arms to k × OtherwiseCode q nodes (label_of count) arms otherwise k)
       (λ nodes. LeadsBehindArms q nodes (label_of count) arms k)
   pub keeps : Keeps (λ most. CoversSites q most × AreAllArms (is_within most) arms) a b
+  pub waits : AddsSites (arm_sites arms) a b

@@ -1,5 +1,5 @@
--- What is passed, and the normal exit of a site.
-use Rattle.std.specs.Prelude.{◌≡◌, ℕ, suc, true, false, List, [], ◌∷◌, length, slice_get, Option, Some, None}
+-- What is passed, and a yield for a divisor.
+use Rattle.std.specs.Prelude.{◌≡◌, ℕ, true, false, List, [], ◌∷◌, slice_get}
 use Rattle.cmm_words.specs.Words.{is_division}
 use Rattle.cmm_words.specs.declared.constant.Constant.TheVariants.{Number}
 use Rattle.cmm_words.specs.declared.operators.Op2.{Op2}
@@ -7,23 +7,15 @@ use Rattle.cmm_words.specs.declared.width.Width.{Width}
 use Rattle.cmm_words.specs.declared.width.Width.TheVariants.{W64}
 use Rattle.cmm_program.specs.declared.expression.Expression.{Expression}
 use Rattle.cmm_program.specs.declared.procedure.Proc.{Proc}
-use Rattle.cmm_program.specs.declared.procedure.Site.{Site}
 use Rattle.cmm_graph.specs.declared.number.NodeId.{NodeId}
 use Rattle.cmm_graph.specs.declared.operand.Operand.TheVariants.{Constant}
 use Rattle.cmm_graph.specs.declared.node.Exits.{Exits}
 use Rattle.cmm_graph.specs.declared.node.Node.{Node}
-use Rattle.cmm_graph.specs.declared.node.NodeKind.TheVariants.{CopyIn, Yield}
+use Rattle.cmm_graph.specs.declared.node.NodeKind.TheVariants.{Yield}
 use Rattle.cmm_flow.specs.Code.{IsNode, OperandCode, OperandsCode}
-use Rattle.cmm_flow.specs.Statements.{NormalCode, ZeroCode}
+use Rattle.cmm_flow.specs.Statements.{ExitsCode, ZeroCode}
 
 module _ (nodes : List Node) where
-  -- the node of a normal exit, if a site has one
-  abbrev pub NormalExit : Site → Option NodeId → NodeId → Type 0
-  NormalExit site normal k = elim site.never [
-    | true ↦ normal ≡ None
-    | false ↦ (j : NodeId) × (normal ≡ Some j) × IsNode nodes j (suc (length site.results)) (CopyIn site.results k)
-  ]
-
   -- what is called, jumped to or cut to, and what is passed
   abbrev pub PassingCode : Expression → List Expression → NodeId → NodeId → Type 0
   PassingCode to actuals n k = (m : NodeId) × OperandCode nodes to 0 n m × OperandsCode nodes actuals 1 m k
@@ -32,7 +24,7 @@ module _ (nodes : List Node) where
   abbrev pub YieldOne : Proc → ℕ → ℕ → NodeId → NodeId → Type 0
   YieldOne q tokens site n k =
       (exits : Exits) × IsNode nodes n tokens (Yield record { number = site } (Constant (Number 1 W64) ∷ []) exits)
-      × NormalCode nodes (slice_get q.sites site) exits k
+      × ExitsCode nodes (slice_get q.sites site) exits k
 
   -- a division that is guarded, where its operator needs that
   abbrev pub GuardCode : Proc → ℕ → ℕ → ℕ → Op2 → Width → Expression → NodeId → NodeId → NodeId → Type 0

@@ -6,7 +6,7 @@ use Rattle.cmm_flow.proofs.ExpressionForms.{test_of_not, test_of_both, test_of_e
 use Rattle.cmm_flow.proofs.builder.Builder.+test.Goals as goal
 
 pub returns-in-Not : goal.returns-in-Not
-returns-in-Not t c = lays_as _ _ _ _ _ c.test.result c.test.ensures (λ n nodes is.
+returns-in-Not t c = lays_as _ _ _ _ _ _ c.test.result c.test.ensures (λ n nodes is.
     subst (λ a. TestCode nodes a n c.args.then c.args.otherwise) (sym c.in-Not.is)
     (test_of_not nodes n c.args.then c.args.otherwise c.in-Not.inner (subst (λ a. TestCode nodes a n c.args.otherwise c.args.then) c.get-in-Not.ensures is)))
 

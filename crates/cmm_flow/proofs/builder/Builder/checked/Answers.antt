@@ -19,7 +19,7 @@ returns c =
     let kind = kinds.Assign (first_result (site_results q c.args.site)) (Binary c.args.operator c.args.width (operand_of 0 c.args.left.now) (operand_of 1 c.args.right.now)) c.args.next in
     let keep = λ (nodes more : List Node). node_stays nodes more d 1 kind in
     let is_bound = CoversBoth q c.args.tokens in
-    lays_both is_bound _ _ _ c.two.result
+    lays_both is_bound _ _ _ _ c.two.result
     (then_lays (λ nodes. IsNode nodes d 1 kind × GuardCode nodes q c.args.tokens used c.args.site c.args.operator c.args.width c.args.right.now j d c.args.next)
     (bounded is_bound c.in_ok-division.ensures (λ most covers. covers.0.positive)) c.in_ok-first.ensures keep (λ nodes a b. (a, b)))
     (λ nodes more both. (keep nodes more both.0, guard_stays nodes more q c.args.tokens used c.args.site c.args.operator c.args.width c.args.right.now j d c.args.next both.1))

@@ -12,7 +12,7 @@ pub returns : goal.returns
 returns c =
     let is_bound = Covers c.args.tokens in
     let node = c.in_ok-node.node in let to = c.args.to.now in let values = c.args.values.now in
-    lays_both is_bound _ _ _ c.passing.result c.in_ok-node.ensures
+    lays_both is_bound _ _ _ _ c.passing.result c.in_ok-node.ensures
     (λ nodes more. node_stays nodes more node c.remaining.result (kinds.Cut c.operand_of.result c.in_ok-arguments.arguments c.in_ok-own.own)) c.passing.ensures
     (λ most covers. last_covered c.args.tokens c.remaining.result most c.remaining.ensures.within covers) (λ most covers. covers.0)
     (λ n now is passing. cut_code now c.args.tokens to values c.args.own.now c.operand_of.result c.in_ok-arguments.arguments c.in_ok-own.own c.remaining.result n node

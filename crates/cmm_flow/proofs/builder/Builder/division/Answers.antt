@@ -9,7 +9,7 @@ use Rattle.cmm_flow.proofs.Passing.{told}
 use Rattle.cmm_flow.proofs.builder.Builder.division.Goals as goal
 
 pub returns : goal.returns
-returns c = lays_as _ _ _ _ _ c.push.result c.push.ensures (λ n nodes is. told nodes n 1 1 _ _ refl
+returns c = lays_as _ _ _ _ _ _ c.push.result c.push.ensures (λ n nodes is. told nodes n 1 1 _ _ refl
     (ap (λ to. kinds.Assign to (Binary c.args.operator c.args.width c.operand_of.result c.operand_of-2.result) c.args.next) c.first_result-to.ensures
     ∙ ap (λ l. kinds.Assign (first_result (site_results c.args.q.now c.args.site)) (Binary c.args.operator c.args.width l c.operand_of-2.result) c.args.next) c.operand_of.ensures
     ∙ ap (λ r. kinds.Assign (first_result (site_results c.args.q.now c.args.site)) (Binary c.args.operator c.args.width (operand_of 0 c.args.left.now) r) c.args.next) c.operand_of-2.ensures) is)

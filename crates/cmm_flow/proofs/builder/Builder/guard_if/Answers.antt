@@ -5,7 +5,7 @@ use Rattle.cmm_flow.proofs.Divisions.{guarded, unguarded}
 use Rattle.cmm_flow.proofs.builder.Builder.guard_if.Goals as goal
 
 pub returns-then-is_division : goal.returns-then-is_division
-returns-then-is_division c = lays_as _ _ _ _ _ c.guard.result c.guard.ensures (λ n nodes is.
+returns-then-is_division c = lays_as _ _ _ _ _ _ c.guard.result c.guard.ensures (λ n nodes is.
     guarded nodes c.args.q.now c.args.tokens (nodes_in c.args.left.now + nodes_in c.args.right.now) c.args.site c.args.operator c.args.width c.args.right.now
     n c.args.division c.args.next (sym c.is_division.ensures ∙ c.if-is_division.true) (is (nodes_in c.args.left.now + nodes_in c.args.right.now)
     (c.sum-used.ensures (nodes_in c.args.left.now) (nodes_in c.args.right.now) c.nodes_of.ensures c.nodes_of-then-is_division.ensures)))

@@ -12,7 +12,7 @@ pub returns : goal.returns
 returns c =
     let is_bound = Covers c.args.tokens in
     let node = c.in_ok-node.node in let callee = c.args.callee.now in let actuals = c.args.actuals.now in
-    lays_both is_bound _ _ _ c.passing.result c.in_ok-node.ensures
+    lays_both is_bound _ _ _ _ c.passing.result c.in_ok-node.ensures
     (λ nodes more. node_stays nodes more node c.remaining.result (kinds.Jump c.operand_of.result c.in_ok-arguments.arguments)) c.passing.ensures
     (λ most covers. last_covered c.args.tokens c.remaining.result most c.remaining.ensures.within covers) (λ most covers. covers.0)
     (λ n now is passing. jump_code now c.args.tokens callee actuals c.operand_of.result c.in_ok-arguments.arguments c.remaining.result n node

@@ -11,7 +11,7 @@ use Rattle.cmm_flow.proofs.builder.Builder.switch.Goals as goal
 pub returns : goal.returns
 returns c =
     let is_bound = Covers c.args.tokens in
-    lays_both is_bound _ _ _ c.operand.result c.in_ok-node.ensures
+    lays_both is_bound _ _ _ _ c.operand.result c.in_ok-node.ensures
     (λ nodes more. node_stays nodes more c.in_ok-node.node c.remaining.result (Switch c.operand_of.result c.reversed.result c.args.ways.otherwise)) c.operand.ensures
     (λ most covers. last_covered c.args.tokens c.remaining.result most c.remaining.ensures.within covers) (λ most covers. covers.0)
     (λ n all is code. (
