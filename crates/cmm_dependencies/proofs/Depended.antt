@@ -65,7 +65,7 @@ entry_numbered ds n = entry_number (is_host n) ds (found n (numbering ds)) (foun
 
 -- ---- the graph
 
-mentions_is : (numbers : List (Declared ℕ)) (ds : List (Declared Entry)) (v : ℕ) → mentions (graph_by numbers ds) v ≡ mentioned_by numbers (entry_at ds v)
+pub mentions_is : (numbers : List (Declared ℕ)) (ds : List (Declared Entry)) (v : ℕ) → mentions (graph_by numbers ds) v ≡ mentioned_by numbers (entry_at ds v)
 mentions_is numbers [] v = refl
 mentions_is numbers (d ∷ ds) zero = refl
 mentions_is numbers (d ∷ ds) (suc v) = mentions_is numbers ds v

@@ -5,6 +5,7 @@ ghost use Rattle.cmm_accepted.specs.Declarations.{Declared, Entry as UnitEntry};
 ghost use Rattle.cmm_accepted.specs.Scopes.{depends_on_itself};
 ghost use Rattle.cmm_names.specs.Shown.{shown};
 ghost use Rattle.cmm_typedefs.specs.Numbers.{numbering, number_in, entry_at};
+ghost use Rattle.cmm_dependencies.specs.Depending.{graph_of};
 ghost use Rattle.cmm_dependencies.specs.Dependent.{AreDependencies};
 
 use crate::graph::graph_of;
@@ -22,6 +23,13 @@ pub struct Dependencies {
 }
 
 impl Dependencies {
+    /// For each declaration those that it names, by their numbers.
+    pub fn graph(&self) -> &[Items<usize>]
+        ensures { (ds : List (Declared UnitEntry)) → AreDependencies ds self.now → result.now ≡ graph_of ds }
+    {
+        self.graph.as_slice()
+    }
+
     /// Whether the declaration with a number, the first of its name, depends on itself.
     pub fn on_itself(&self, alloc: Global, number: usize) -> Result<bool, AllocError>
         requires { (ds : List (Declared UnitEntry)) × AreDependencies ds self.now × (number < length ds) }

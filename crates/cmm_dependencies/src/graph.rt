@@ -45,8 +45,8 @@ fn add_entry<'a>(
         }
         Entry::Register(_) => Ok(()),
         Entry::Import(_) => Ok(()),
-        Entry::DataLabel => Ok(()),
-        Entry::Procedure(_) => Ok(()),
+        Entry::DataLabel(_) => Ok(()),
+        Entry::Procedure(_, _) => Ok(()),
     }
 }
 

@@ -57,3 +57,4 @@ pub mod SpentBodies
 pub mod SpentHeadings
 pub mod SpentProcedures
 pub mod Together
+pub mod Shared

@@ -5,4 +5,6 @@ pub mod Flattening
 pub mod Nested
 pub mod Mentioned
 pub mod Owned
+pub mod Numbered
+pub mod Ordering
 pub mod Shared

@@ -1,11 +1,12 @@
 //! What a unit declares and exports.
 
 ghost use Rattle.std.specs.Prelude.{◌≡◌, ◌++◌, [], ◌∷◌, map, flat_map, IfOk, OnOk};
-ghost use Rattle.cmm_accepted.specs.Declarations.{each_as, import_entry, decl_entries, datum_entries, item_entries};
+ghost use Rattle.cmm_accepted.specs.Declarations.{each_as, import_entry, decl_entries, datum_entries, item_entries, entries_from};
 ghost use Rattle.cmm_accepted.specs.Linking.{decl_exports, item_exports};
-ghost use Rattle.cmm_names.specs.Shown.{thing_item, shown, entry_shown};
+ghost use Rattle.cmm_names.specs.Shown.{thing_item, alone, shown, entry_shown};
 
 use crate::entry::Entry;
+use crate::numbers::Numbers;
 use crate::table::Named;
 use crate::thing::Thing;
 use cmm_ast::{DatumForm, DeclForm, Export, Ident, Import, Item, Proc};
@@ -71,56 +72,72 @@ fn add_declaration<'a>(
     }
 }
 
-fn add_procedure<'a>(proc: &'a Proc, to: &mut Items<Named<'a, Entry<'a>>>) -> Result<(), AllocError>
-    ensures { OnOk result (map shown to.new ≡ map shown to.old ++ item_entries 0 0 (Item.Proc proc.now)) }
+fn add_procedure<'a>(
+    proc: &'a Proc,
+    numbers: Numbers,
+    to: &mut Items<Named<'a, Entry<'a>>>,
+) -> Result<(), AllocError>
+    ensures { OnOk result (map shown to.new ≡ map shown to.old ++ item_entries numbers.procedures numbers.labels (Item.Proc proc.now)) }
 {
-    add_one(&proc.name, Entry::Procedure(proc), to)
+    add_one(&proc.name, Entry::Procedure(numbers.procedures, proc), to)
 }
 
 fn add_datum<'a>(
     form: &'a DatumForm,
+    numbers: Numbers,
     to: &mut Items<Named<'a, Entry<'a>>>,
 ) -> Result<(), AllocError>
-    ensures { OnOk result (map shown to.new ≡ map shown to.old ++ datum_entries 0 form.now) }
+    ensures { OnOk result (map shown to.new ≡ map shown to.old ++ datum_entries numbers.labels form.now) }
 {
     match form {
-        DatumForm::Label(name) => add_one(name, Entry::DataLabel, to),
+        DatumForm::Label(name) => add_one(name, Entry::DataLabel(numbers.labels), to),
         DatumForm::Align(_) => Ok(()),
         DatumForm::Data { .. } => Ok(()),
     }
 }
 
-fn add_item<'a>(item: &'a Item, to: &mut Items<Named<'a, Entry<'a>>>) -> Result<(), AllocError>
-    ensures { OnOk result (map shown to.new ≡ map shown to.old ++ item_entries 0 0 item.now) }
+fn add_item<'a>(
+    item: &'a Item,
+    numbers: Numbers,
+    to: &mut Items<Named<'a, Entry<'a>>>,
+) -> Result<(), AllocError>
+    ensures { OnOk result (map shown to.new ≡ map shown to.old ++ item_entries numbers.procedures numbers.labels item.now) }
 {
     match item {
         Item::Decl(decl) => add_declaration(&decl.form, to),
-        Item::Proc(proc) => add_procedure(proc, to),
-        Item::Datum(datum) => add_datum(&datum.form, to),
+        Item::Proc(proc) => add_procedure(proc, numbers, to),
+        Item::Datum(datum) => add_datum(&datum.form, numbers, to),
         Item::Span { .. } => Ok(()),
     }
 }
 
-fn add_thing<'a>(thing: Thing<'a>, to: &mut Items<Named<'a, Entry<'a>>>) -> Result<(), AllocError>
-    ensures { OnOk result (map shown to.new ≡ map shown to.old ++ item_entries 0 0 (thing_item thing.entry)) }
+fn add_thing<'a>(
+    thing: Thing<'a>,
+    numbers: Numbers,
+    to: &mut Items<Named<'a, Entry<'a>>>,
+) -> Result<(), AllocError>
+    ensures { OnOk result (map shown to.new ≡ map shown to.old ++ item_entries numbers.procedures numbers.labels (thing_item thing.entry)) }
 {
     match thing {
-        Thing::Item(item) => add_item(item, to),
+        Thing::Item(item) => add_item(item, numbers, to),
         Thing::Decl(decl) => add_declaration(&decl.form, to),
-        Thing::Proc(proc) => add_procedure(proc, to),
+        Thing::Proc(proc) => add_procedure(proc, numbers, to),
     }
 }
 
-/// What is declared among what stands in a unit.
+/// What is declared among what stands in a unit, from the numbers of its first procedure and data label on.
 pub fn declared_in<'a>(
     alloc: Global,
     things: &[Thing<'a>],
+    first: Numbers,
 ) -> Result<Items<Named<'a, Entry<'a>>>, AllocError>
-    ensures { IfOk result (λ declared. map shown declared ≡ flat_map (item_entries 0 0) (map thing_item things.now)) }
+    ensures { IfOk result (λ declared. map shown declared ≡ entries_from first.procedures first.labels (map alone things.now)) }
 {
     let mut declared = Items::new(alloc);
+    let mut numbers = first;
     for thing in things {
-        add_thing(*thing, &mut declared)?;
+        add_thing(*thing, numbers, &mut declared)?;
+        numbers = numbers.after_one(*thing)?;
     }
     Ok(declared)
 }

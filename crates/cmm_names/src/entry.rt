@@ -9,6 +9,8 @@ pub enum Entry<'a> {
     Const(&'a Option<TypeName>, &'a Expr),
     Register(&'a TypeName),
     Import(&'a Import),
-    DataLabel,
-    Procedure(&'a Proc),
+    /// A data label, by its number among those of all units.
+    DataLabel(u32),
+    /// A procedure, by its number among those of all units.
+    Procedure(u32, &'a Proc),
 }

@@ -4,7 +4,8 @@
 //! while walking, so that a clause says how the first fault goes on. Time is linear: a name is hashed a bounded number of times.
 //!
 //! - `thing`, `piece`: what stands in a unit and in a body, whatever it is nested in.
-//! - `entry`, `declaring`: what names are declared as, and where. `host`: names of the host.
+//! - `entry`, `declaring`: what names are declared as, and where. `numbers`: how procedures and data labels are counted. `host`: names of the
+//!   host.
 //! - `table`, `index`: names that are found by their bytes. `noting`: how the first fault is kept.
 //! - `long`, `long_expression`, `long_statement`, `long_item`: names that are too long.
 #![tactic(auto)]
@@ -18,16 +19,18 @@ mod long_expression;
 mod long_item;
 mod long_statement;
 mod noting;
+mod numbers;
 mod piece;
 mod table;
 mod thing;
 
 pub use declaring::{declared_in, exports_in};
 pub use entry::Entry;
-pub use host::is_host;
+pub use host::{host_named, is_host};
 pub use index::Index;
 pub use long_item::note_things;
 pub use noting::unless;
+pub use numbers::Numbers;
 pub use piece::{Piece, pieces_of};
 pub use table::{Named, Table};
 pub use thing::{Thing, things_of};

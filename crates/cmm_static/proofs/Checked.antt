@@ -10,17 +10,18 @@ use Rattle.cmm_accepted.specs.declared.fault.Fault.{Fault}
 use Rattle.cmm_accepted.specs.Spots.{first_of, first_by}
 use Rattle.cmm_accepted.specs.Senses.{Senses}
 use Rattle.cmm_accepted.specs.Declarations.{named_units, again, host_again}
-use Rattle.cmm_accepted.specs.Linking.{export_spots, twice, import_spots}
-use Rattle.cmm_accepted.specs.Units.{target_decl_spots}
-use Rattle.cmm_accepted.specs.Scopes.{width_in}
+use Rattle.cmm_accepted.specs.Linking.{Program, program_of, export_spots, twice, import_spots}
+use Rattle.cmm_accepted.specs.Units.{target_decl_spots, item_spots}
+use Rattle.cmm_accepted.specs.Scopes.{width_in, unit_senses}
 use Rattle.cmm_accepted.specs.LongNames.{long_spots, of_item}
-use Rattle.cmm_accepted.specs.Faults.{Placed, stands_before, fault_at, at_beginning}
-use Rattle.cmm_static.specs.TypeFaults.{entry_type_spots, item_type_spots}
-use Rattle.cmm_static.specs.StandingFaults.{first_standing_fault, fault_of_main, broken_standing}
-use Rattle.cmm_static.specs.inside.Flat.{Flat, flat_unit, links_before, widths_before, registers_in, register_spots_by, flat_register_spots, flat_cycle_spots, flat_type_spots, flat_name_spots, flat_spots, flats_broken, some_starts}
+use Rattle.cmm_accepted.specs.Faults.{Placed, stands_before, all_broken, item_procedure_spots, fault_at, at_beginning}
+use Rattle.cmm_declarations.specs.EntryFaults.{entry_value_spots}
+use Rattle.cmm_static.specs.StandingFaults.{first_standing_fault, fault_of_main}
+use Rattle.cmm_static.specs.inside.Flat.{Flat, flat_unit, links_before, widths_before, register_spots_by, flat_register_spots, flat_cycle_spots, flat_procedure_spots, flat_value_spots, flat_name_spots, spots_by, flat_spots, flats_broken, some_starts}
+use Rattle.cmm_linked.specs.Exports.{exported_links}
+use Rattle.cmm_linked.specs.Registers.{registers_in}
 use Rattle.cmm_names.specs.Noted.{long_of}
 use Rattle.cmm_names.proofs.Shared.{first_of_append, long_is}
-use Rattle.cmm_typedefs.specs.Types.{type_senses}
 use Rattle.cmm_static.specs.inside.Cyclic.{AreNoted}
 use Rattle.cmm_static.proofs.Cyclic.{are_noted}
 use Rattle.cmm_static.proofs.FlatUnits.{broken_flat, has_main_flat}
@@ -29,11 +30,11 @@ after : (b c : Option Spot) (xs ys : List Spot) → b ≡ first_of None xs → c
 after b c xs ys is then_ = then_ ∙ ap (λ q. first_of q ys) is ∙ sym (first_of_append None xs ys)
 
 -- what is noted of the names of a unit, rule by rule
-noted_all : (all before : List (List ℕ)) (f : Flat) (b1 b2 b3 b4 b5 b6 b7 : Option Spot) →
+pub noted_names : (all before : List (List ℕ)) (f : Flat) (b1 b2 b3 b4 b5 b6 b7 : Option Spot) →
     b1 ≡ first_of None (again [] f.entries) → b2 ≡ first_of b1 (flat_map host_again f.entries) → b3 ≡ first_of b2 (flat_map (export_spots f.entries) f.exports) →
     b4 ≡ first_of b3 (twice before f.exports) → b5 ≡ first_of b4 (flat_map (import_spots all) f.entries) → b6 ≡ first_of b5 (flat_map target_decl_spots f.items) →
     b7 ≡ long_of b6 (flat_map of_item f.items) → b7 ≡ first_of None (flat_name_spots all before f)
-noted_all all before f b1 b2 b3 b4 b5 b6 b7 e1 e2 e3 e4 e5 e6 e7 =
+noted_names all before f b1 b2 b3 b4 b5 b6 b7 e1 e2 e3 e4 e5 e6 e7 =
     let s1 = again [] f.entries in
     let s2 = flat_map host_again f.entries in
     let s3 = flat_map (export_spots f.entries) f.exports in
@@ -49,13 +50,13 @@ noted_all all before f b1 b2 b3 b4 b5 b6 b7 e1 e2 e3 e4 e5 e6 e7 =
     e6)
     (e7 ∙ long_is b6 (flat_map of_item f.items))
 
-noted_types : (all : List (List ℕ)) (before : List Flat) (f : Flat) (b7 b8 b9 b10 : Option Spot) → b7 ≡ first_of None (flat_name_spots all (links_before before) f) →
-    b8 ≡ first_of b7 (flat_map (λ d. entry_type_spots (type_senses f.entries) d.as_what) f.entries) → b9 ≡ first_of b8 (flat_map (item_type_spots (type_senses f.entries)) f.items) →
+noted_values : (names : Senses) (all : List (List ℕ)) (before : List Flat) (f : Flat) (b7 b8 b9 b10 : Option Spot) → b7 ≡ first_of None (flat_name_spots all (links_before before) f) →
+    b8 ≡ first_of b7 (flat_map (λ d. entry_value_spots names d.as_what) f.entries) → b9 ≡ first_of b8 (flat_map (item_spots names) f.items) →
     b10 ≡ first_of b9 (flat_register_spots (widths_before before) f) →
-    b10 ≡ first_of None (flat_name_spots all (links_before before) f ++ flat_type_spots f ++ flat_register_spots (widths_before before) f)
-noted_types all before f b7 b8 b9 b10 e7 e8 e9 e10 =
-    let s8 = flat_map (λ d. entry_type_spots (type_senses f.entries) d.as_what) f.entries in
-    let s9 = flat_map (item_type_spots (type_senses f.entries)) f.items in
+    b10 ≡ first_of None (flat_name_spots all (links_before before) f ++ flat_value_spots names f ++ flat_register_spots (widths_before before) f)
+noted_values names all before f b7 b8 b9 b10 e7 e8 e9 e10 =
+    let s8 = flat_map (λ d. entry_value_spots names d.as_what) f.entries in
+    let s9 = flat_map (item_spots names) f.items in
     let s10 = flat_register_spots (widths_before before) f in
     after b9 b10 (flat_name_spots all (links_before before) f ++ (s8 ++ s9)) s10
     (e9 ∙ ap (λ q. first_of q s9) e8 ∙ sym (first_of_append b7 s8 s9) ∙ ap (λ q. first_of q (s8 ++ s9)) e7
@@ -67,17 +68,18 @@ next_after : (first rest more whole : List Spot) → whole ≡ first ++ rest →
 next_after first rest more whole is = ap (λ t. t ++ more) is ∙ append_assoc first rest more
 
 -- before cycles are noted, names that are declared again are
-noted_cycles : (all : List (List ℕ)) (before : List Flat) (f : Flat) (b10 b11 : Option Spot) →
-    b10 ≡ first_of None (flat_name_spots all (links_before before) f ++ flat_type_spots f ++ flat_register_spots (widths_before before) f) →
-    (AreNoted b10 f.entries → b11 ≡ first_of b10 (flat_cycle_spots f)) → b11 ≡ first_of None (flat_spots all before f)
-noted_cycles all before f b10 b11 e10 e11 =
+noted_cycles : (names : Senses) (all : List (List ℕ)) (before : List Flat) (f : Flat) (b10 b11 : Option Spot) →
+    b10 ≡ first_of None (flat_name_spots all (links_before before) f ++ flat_value_spots names f ++ flat_register_spots (widths_before before) f) →
+    (AreNoted b10 f.entries → b11 ≡ first_of b10 (flat_cycle_spots f)) →
+    b11 ≡ first_of None (flat_name_spots all (links_before before) f ++ flat_value_spots names f ++ flat_register_spots (widths_before before) f ++ flat_cycle_spots f)
+noted_cycles names all before f b10 b11 e10 e11 =
     let s12 = again [] f.entries ++ flat_map host_again f.entries in
     let s3 = flat_map (export_spots f.entries) f.exports in
     let s4 = twice (links_before before) f.exports in
     let s5 = flat_map (import_spots all) f.entries in
     let s6 = flat_map target_decl_spots f.items in
     let s7 = flat_map long_spots (flat_map of_item f.items) in
-    let s8 = flat_type_spots f in
+    let s8 = flat_value_spots names f in
     let s9 = flat_register_spots (widths_before before) f in
     let twice_first : s12 ++ s3 ++ s4 ++ s5 ++ s6 ++ s7 ++ s8 ++ s9 ≡ s12 ++ (s3 ++ s4 ++ s5 ++ s6 ++ s7 ++ s8 ++ s9) =
     next_after s12 (s3 ++ s4 ++ s5 ++ s6 ++ s7 ++ s8) s9 (s12 ++ s3 ++ s4 ++ s5 ++ s6 ++ s7 ++ s8)
@@ -90,32 +92,34 @@ noted_cycles all before f b10 b11 e10 e11 =
     (e11 (subst (λ (b : Option Spot). AreNoted b f.entries) (sym (e10 ∙ ap (first_of None) twice_first)) (are_noted f.entries (s3 ++ s4 ++ s5 ++ s6 ++ s7 ++ s8 ++ s9))))
 
 -- what is noted of a unit, rule by rule
-pub noted_unit : (all : List (List ℕ)) (before : List Flat) (f : Flat) (b1 b2 b3 b4 b5 b6 b7 b8 b9 b10 b11 : Option Spot) (names : Senses) (width : TypeName → Option Width) →
-    names ≡ type_senses f.entries → width ≡ width_in f.entries →
-    b1 ≡ first_of None (again [] f.entries) → b2 ≡ first_of b1 (flat_map host_again f.entries) → b3 ≡ first_of b2 (flat_map (export_spots f.entries) f.exports) →
-    b4 ≡ first_of b3 (twice (links_before before) f.exports) → b5 ≡ first_of b4 (flat_map (import_spots all) f.entries) → b6 ≡ first_of b5 (flat_map target_decl_spots f.items) →
-    b7 ≡ long_of b6 (flat_map of_item f.items) → b8 ≡ first_of b7 (flat_map (λ d. entry_type_spots names d.as_what) f.entries) → b9 ≡ first_of b8 (flat_map (item_type_spots names) f.items) →
-    b10 ≡ first_of b9 (flat_map (register_spots_by (widths_before before) width) (registers_in f.entries)) →
-    (AreNoted b10 f.entries → b11 ≡ first_of b10 (flat_cycle_spots f)) → b11 ≡ first_of None (flat_spots all before f)
-noted_unit all before f b1 b2 b3 b4 b5 b6 b7 b8 b9 b10 b11 names width are same e1 e2 e3 e4 e5 e6 e7 e8 e9 e10 e11 =
-    noted_cycles all before f b10 b11 (
-    noted_types all before f b7 b8 b9 b10 (noted_all all (links_before before) f b1 b2 b3 b4 b5 b6 b7 e1 e2 e3 e4 e5 e6 e7)
-    (e8 ∙ ap (λ q. first_of b7 (flat_map (λ d. entry_type_spots q d.as_what) f.entries)) are)
-    (e9 ∙ ap (λ q. first_of b8 (flat_map (item_type_spots q) f.items)) are)
-    (e10 ∙ ap (λ q. first_of b9 (flat_map (register_spots_by (widths_before before) q) (registers_in f.entries))) same)
-    ) e11
+pub noted_unit : (program : Program) (before : List Flat) (f : Flat) (b7 b8 b9 b10 b11 b12 : Option Spot) (names : Senses) (width : TypeName → Option Width) →
+    names ≡ unit_senses program f.entries → width ≡ width_in f.entries → b7 ≡ first_of None (flat_name_spots (exported_links program) (links_before before) f) →
+    b8 ≡ first_of b7 (flat_map (λ d. entry_value_spots names d.as_what) f.entries) → b9 ≡ first_of b8 (flat_map (item_spots names) f.items) →
+    b10 ≡ first_of b9 (flat_map (register_spots_by (widths_before before) width) (registers_in f.entries)) → (AreNoted b10 f.entries → b11 ≡ first_of b10 (flat_cycle_spots f)) →
+    b12 ≡ first_of b11 (flat_map (item_procedure_spots names) f.items) → b12 ≡ first_of None (flat_spots program before f)
+noted_unit program before f b7 b8 b9 b10 b11 b12 names width are same e7 e8 e9 e10 e11 e12 =
+    let all = exported_links program in
+    let first = flat_name_spots all (links_before before) f ++ flat_value_spots names f ++ flat_register_spots (widths_before before) f ++ flat_cycle_spots f in
+    after b11 b12 first (flat_procedure_spots names f) (
+    noted_cycles names all before f b10 b11
+    (noted_values names all before f b7 b8 b9 b10 e7 e8 e9 (e10 ∙ ap (λ q. first_of b9 (flat_map (register_spots_by (widths_before before) q) (registers_in f.entries))) same))
+    e11
+    ) e12
+    ∙ ap (λ n. first_of None (spots_by n all before f)) are
 
 -- what is first among units laid flat is so among the units
-pub first_found : (us : List UnitTree) (fs : List Flat) (first : Option Placed) → fs ≡ map flat_unit us →
-    first ≡ first_by stands_before None (flats_broken (links_before fs) [] 0 fs) → first_by stands_before None (broken_standing (named_units us)) ≡ first
-first_found us fs first are is =
-    ap (first_by stands_before None) (broken_flat us) ∙ sym (is ∙ ap (λ q. first_by stands_before None (flats_broken (links_before q) [] 0 q)) are)
+pub first_found : (us : List UnitTree) (fs : List Flat) (program : Program) (first : Option Placed) → fs ≡ map flat_unit (named_units us) → program ≡ program_of (named_units us) →
+    first ≡ first_by stands_before None (flats_broken program [] 0 fs) → first_by stands_before None (all_broken (named_units us)) ≡ first
+first_found us fs program first are knows is =
+    broken_flat (named_units us)
+    ∙ sym (is ∙ ap (λ q. first_by stands_before None (flats_broken program [] 0 q)) are
+    ∙ ap (λ q. first_by stands_before None (flats_broken q [] 0 (map flat_unit (named_units us)))) knows)
 
-pub named_fault : (us : List UnitTree) (p : Placed) → first_by stands_before None (broken_standing (named_units us)) ≡ Some p → first_standing_fault us ≡ Some (fault_at us p)
+pub named_fault : (us : List UnitTree) (p : Placed) → first_by stands_before None (all_broken (named_units us)) ≡ Some p → first_standing_fault us ≡ Some (fault_at us p)
 named_fault us p is = ap (λ o. elim o as (λ _. Option Fault) [ Some q ↦ Some (fault_at us q) | None ↦ fault_of_main (named_units us) ]) is
 
-pub named_main : (us : List UnitTree) (fs : List Flat) (b : Bool) → first_by stands_before None (broken_standing (named_units us)) ≡ None → fs ≡ map flat_unit us → some_starts fs ≡ b →
-    first_standing_fault us ≡ elim b as (λ _. Option Fault) [ true ↦ None | false ↦ at_beginning NoMain ]
+pub named_main : (us : List UnitTree) (fs : List Flat) (b : Bool) → first_by stands_before None (all_broken (named_units us)) ≡ None → fs ≡ map flat_unit (named_units us) →
+    some_starts fs ≡ b → first_standing_fault us ≡ elim b as (λ _. Option Fault) [ true ↦ None | false ↦ at_beginning NoMain ]
 named_main us fs b is are starts =
     ap (λ o. elim o as (λ _. Option Fault) [ Some q ↦ Some (fault_at us q) | None ↦ fault_of_main (named_units us) ]) is
-    ∙ ap (λ m. elim m as (λ _. Option Fault) [ true ↦ None | false ↦ at_beginning NoMain ]) (has_main_flat us ∙ ap some_starts (sym are) ∙ starts)
+    ∙ ap (λ m. elim m as (λ _. Option Fault) [ true ↦ None | false ↦ at_beginning NoMain ]) (has_main_flat (named_units us) ∙ ap some_starts (sym are) ∙ starts)

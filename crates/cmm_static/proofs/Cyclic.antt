@@ -1,12 +1,10 @@
 -- What is noted of declarations that don't count comes before what would be noted of their cycles.
-use Rattle.std.proofs.Common.{◌≡◌, ℕ, suc, ◌+◌, ◌<◌, ◌==◌, Bool, true, false, ◌||◌, ◌&&◌, not, ◌⊎◌, inl, inr, List, [], ◌∷◌, ◌++◌, length, map, take, drop, get_or, Option, Some, None, option_map, refl, sym, ◌∙◌, ap, subst, append_assoc, arith}
-use Rattle.std.specs.Prelude.{nat_lt, bytes_eq, flat_map, unwrap_or}
-use Rattle.std.proofs.lemmas.Bool.{and_parts, or_cases, eqb-true, eq-eqb, ltb-true, lt-ltb}
+use Rattle.std.proofs.Common.{◌≡◌, ℕ, suc, ◌+◌, ◌<◌, Bool, true, false, not, inl, inr, List, [], ◌∷◌, ◌++◌, length, map, take, drop, get_or, Option, Some, None, option_map, refl, sym, ◌∙◌, ap, subst, append_assoc, arith}
+use Rattle.std.specs.Prelude.{bytes_eq, flat_map, unwrap_or}
 use Rattle.std.proofs.lemmas.Slice.Eq.{bytes_eq-Decides}
 use Rattle.std.proofs.lemmas.Grind.{flat_map-append}
 use Rattle.std.proofs.lemmas.List.{length-map, length-take-le, map-append, take-append-drop}
 use Rattle.cmm_rules.specs.declared.rule.Rule.TheVariants.{DeclaredTwice, Cycle}
-use Rattle.cmm_rules.specs.Rules.{rule_number}
 use Rattle.cmm_accepted.specs.declared.spot.Spot.{Spot}
 use Rattle.cmm_accepted.specs.Spots.{comes_before, first_of, at, unless}
 use Rattle.cmm_accepted.specs.Senses.{is_there, is_host}
@@ -17,43 +15,10 @@ use Rattle.cmm_ast.specs.declared.token.Ident.{Ident}
 use Rattle.cmm_names.specs.Shown.{shown, entry_shown, with_what}
 use Rattle.cmm_names.specs.declared.table.Named.{Named}
 use Rattle.cmm_names.specs.declared.entry.Entry.{Entry as EntryTree}
-use Rattle.cmm_names.proofs.Shared.{first_of_append, found_with, again_append, rest_next}
+use Rattle.cmm_names.proofs.Shared.{first_of_append, found_with, again_append, rest_next, spot_order}
 use Rattle.cmm_typedefs.specs.Numbers.{numbering, number_in, entry_at}
 use Rattle.cmm_static.specs.inside.Cyclic.{is_dependent, IsNoted, CountsOrIsNoted, AreNoted}
-
--- ---- the order of spots
-
-abbrev test : ℕ → ℕ → ℕ → ℕ → Bool
-test a r b q = nat_lt a b || ((a == b) && nat_lt r q)
-
-abbrev Before : ℕ → ℕ → ℕ → ℕ → Type 0
-Before a r b q = (a < b) ⊎ ((a ≡ b) × (r < q))
-
-tells : (a r b q : ℕ) → test a r b q ≡ true → Before a r b q
-tells a r b q h = elim (or_cases (nat_lt a b) ((a == b) && nat_lt r q) h) [
-  | inl less ↦ inl (ltb-true a b less)
-  | inr same ↦ let parts : ((a == b) ≡ true) × (nat_lt r q ≡ true) = and_parts (a == b) (nat_lt r q) same in inr (eqb-true a b parts.0, ltb-true r q parts.1)
-]
-
-told : (a r b q : ℕ) → Before a r b q → test a r b q ≡ true
-told a r b q (inl less) = rw (lt-ltb a b less) refl
-told a r b q (inr same) = by (nat_lt a b)
-  where
-    by : (c : Bool) → (c || ((a == b) && nat_lt r q)) ≡ true
-    by true = refl
-    by false = rw (eq-eqb a b same.0, lt-ltb r q same.1) refl
-
-before_then : (a r b q c s : ℕ) → Before a r b q → Before b q c s → Before a r c s
-before_then a r b q c s (inl x) (inl y) = inl (omega arith)
-before_then a r b q c s (inl x) (inr y) = let e : b ≡ c = y.0 in inl (omega arith)
-before_then a r b q c s (inr x) (inl y) = let e : a ≡ b = x.0 in inl (omega arith)
-before_then a r b q c s (inr x) (inr y) = let e : r < q = x.1 in let f : q < s = y.1 in inr (x.0 ∙ y.0, omega arith)
-
-comes_then : (s t u : Spot) → comes_before s t ≡ true → comes_before t u ≡ true → comes_before s u ≡ true
-comes_then s t u h i =
-    told s.token (rule_number s.rule) u.token (rule_number u.rule)
-    (before_then s.token (rule_number s.rule) t.token (rule_number t.rule) u.token (rule_number u.rule)
-    (tells s.token (rule_number s.rule) t.token (rule_number t.rule) h) (tells t.token (rule_number t.rule) u.token (rule_number u.rule) i))
+use Rattle.cmm_static.proofs.FirstUnit.{in_one}
 
 -- ---- what comes after what is noted changes nothing, then and later
 
@@ -80,7 +45,7 @@ later_chosen : (s t u : Spot) → comes_before s t ≡ false → not_before s (c
 later_chosen s t u h = by (comes_before u t) refl
   where
     by : (b : Bool) → comes_before u t ≡ b → not_before s (chosen b u t)
-    by true sooner_ = not_both (comes_before s u) (λ before. let e : true ≡ false = sym (comes_then s u t before sooner_) ∙ h in cc)
+    by true sooner_ = not_both (comes_before s u) (λ before. let e : true ≡ false = sym (spot_order.through s u t before sooner_) ∙ h in cc)
     by false other = h
 
 later_all : (s : Spot) (best : Option Spot) (ss : List Spot) → not_before s best → not_before s (first_of best ss)
@@ -91,16 +56,9 @@ later_all s (Some t) (u ∷ ss) h = later_all s (chosen (comes_before u t) u t) 
 after_chosen : (s t u : Spot) → comes_before u s ≡ true → not_before s (chosen (comes_before u t) u t)
 after_chosen s t u first = by (comes_before u t) refl
   where
-    itself : (a : Spot) → comes_before a a ≡ true → ⊥
-    itself a h = none (tells a.token (rule_number a.rule) a.token (rule_number a.rule) h)
-      where
-        none : Before a.token (rule_number a.rule) a.token (rule_number a.rule) → ⊥
-        none (inl x) = absurd (omega arith)
-        none (inr x) = let e : rule_number a.rule < rule_number a.rule = x.1 in absurd (omega arith)
-
     by : (b : Bool) → comes_before u t ≡ b → not_before s (chosen b u t)
-    by true sooner_ = not_both (comes_before s u) (λ before. itself s (comes_then s u s before first))
-    by false other = not_both (comes_before s t) (λ before. let e : true ≡ false = sym (comes_then u s t first before) ∙ other in cc)
+    by true sooner_ = not_both (comes_before s u) (λ before. spot_order.itself s (spot_order.through s u s before first))
+    by false other = not_both (comes_before s t) (λ before. let e : true ≡ false = sym (spot_order.through u s t first before) ∙ other in cc)
 
 -- a spot that is in the list comes before another
 after_one : (s u : Spot) (best : Option Spot) → comes_before u s ≡ true → not_before s (first_of best (u ∷ []))
@@ -116,7 +74,7 @@ after_one s u (Some t) first = after_chosen s t u first
 
 -- rule 20 is named before 39 at one place
 twice_first : (token : ℕ) → comes_before (record { token = token; rule = DeclaredTwice }) (record { token = token; rule = Cycle }) ≡ true
-twice_first token = told token 20 token 39 (inr (refl, omega arith))
+twice_first token = in_one token true
 
 abbrev cycle_at : ℕ → Spot
 cycle_at token = record { token = token; rule = Cycle }
@@ -219,11 +177,7 @@ past_is s (Some t) h = by (comes_before s t) refl h
     by true before e = let same : s ≡ t = ap (λ (o : Option Spot). unwrap_or o s) e in let f : true ≡ false = sym before ∙ ap (comes_before s) (sym same) ∙ itself in cc
       where
         itself : comes_before s s ≡ false
-        itself = not_both (comes_before s s) (λ h. none (tells s.token (rule_number s.rule) s.token (rule_number s.rule) h))
-          where
-            none : Before s.token (rule_number s.rule) s.token (rule_number s.rule) → ⊥
-            none (inl x) = absurd (omega arith)
-            none (inr x) = let e : rule_number s.rule < rule_number s.rule = x.1 in absurd (omega arith)
+        itself = not_both (comes_before s s) (spot_order.itself s)
     by false before e = refl
 
 pub noted_later : (token : ℕ) (best : Option Spot) (ss : List Spot) → IsNoted token best → IsNoted token (first_of best ss)

@@ -1,10 +1,8 @@
 pub mod Links
-pub mod Unnumbered
-pub mod TypesUnnumbered
-pub mod RegistersUnnumbered
-pub mod CyclesUnnumbered
 pub mod Cyclic
-pub mod Registering
 pub mod FlatUnits
+pub mod Numbering
 pub mod FirstUnit
+pub mod PlacedOrder
 pub mod Checked
+pub mod Whole

@@ -8,11 +8,13 @@ use Rattle.cmm_rules.specs.declared.rule.Rule.TheVariants.{ExportedTwice}
 use Rattle.cmm_accepted.specs.declared.spot.Spot.{Spot}
 use Rattle.cmm_accepted.specs.Spots.{first_of, unless}
 use Rattle.cmm_accepted.specs.Senses.{is_there}
+use Rattle.cmm_accepted.specs.Declarations.{Declared}
 use Rattle.cmm_accepted.specs.Linking.{is_among, export_link, twice}
 use Rattle.cmm_names.specs.Indexed.{indexed, or_else}
-use Rattle.cmm_static.specs.inside.Linked.{AreLinks}
+use Rattle.cmm_linked.proofs.Shared.{listed_next}
+use Rattle.cmm_static.specs.inside.Linked.{AreLinks, AreFound}
 use Rattle.cmm_names.specs.declared.index.Index.{Index}
-use Rattle.cmm_names.proofs.Shared.{first_of_append, mapped_next}
+use Rattle.cmm_names.proofs.Shared.{first_of_append, found_push, mapped_next}
 
 or_assoc : (a b c : Bool) → (a || (b || c)) ≡ ((a || b) || c)
 or_assoc true b c = refl
@@ -32,16 +34,6 @@ pub links_push : (old new : Index (Unit {0})) (names : List (List ℕ)) (n : Lis
     ((x : List ℕ) → indexed new x ≡ or_else (indexed old x) (bytes_eq x n) tt) → AreLinks new (names ++ n ∷ [])
 links_push old new names n are is x =
     ap is_there (is x) ∙ there_else (indexed old x) (bytes_eq x n) tt ∙ ap (λ b. b || bytes_eq x n) (are x) ∙ sym (among_push x names n)
-
-pub links_next : {A B C : Type 0} (h : A → B) (f : B → C) (before : List C) (xs : List A) (i : ℕ) (e : A) → i < length xs → e ≡ get_or xs i e →
-    (before ++ map f (map h (take i xs))) ++ f (h e) ∷ [] ≡ before ++ map f (map h (take (i + 1) xs))
-links_next h f before xs i e within is =
-    append_assoc before (map f (map h (take i xs))) (f (h e) ∷ [])
-    ∙ ap (λ t. before ++ t) (sym (ap (map f) (mapped_next h xs i e within is) ∙ map_last (map h (take i xs))))
-  where
-    map_last : (ys : _) → map f (ys ++ h e ∷ []) ≡ map f ys ++ f (h e) ∷ []
-    map_last [] = refl
-    map_last (y ∷ ys) = ap (λ t. f y ∷ t) (map_last ys)
 
 -- what is listed of one more
 pub before_plus : {A B : Type 0} (f : A → List B) (before : List A) (x : A) → flat_map f (before ++ x ∷ []) ≡ flat_map f before ++ f x
@@ -74,7 +66,7 @@ pub links_step : {A : Type 0} (h : A → Export) (old new : Index (Unit {0})) (b
     ((x : List ℕ) → indexed new x ≡ or_else (indexed old x) (bytes_eq x link) tt) → AreLinks new (before ++ map export_link (map h (take (i + 1) xs)))
 links_step h old new before xs i e link within is same are added =
     AreLinks-of new ((before ++ map export_link (map h (take i xs))) ++ link ∷ []) (before ++ map export_link (map h (take (i + 1) xs)))
-    (ap (λ l. (before ++ map export_link (map h (take i xs))) ++ l ∷ []) same ∙ links_next h export_link before xs i e within is)
+    (ap (λ l. (before ++ map export_link (map h (take i xs))) ++ l ∷ []) same ∙ listed_next h export_link before xs i e within is)
     (links_push old new (before ++ map export_link (map h (take i xs))) link are added)
 
 -- and that notes those that are there
@@ -85,3 +77,9 @@ pub twice_step : {A : Type 0} (h : A → Export) (old : Index (Unit {0})) (best0
 twice_step h old best0 best1 best2 before xs i e link new within is same are fresh so_far noted =
     noted ∙ ap (λ n. first_of best1 (unless n ExportedTwice (h e).name.token)) (fresh ∙ ap not (are link ∙ ap (λ l. is_among l (before ++ map export_link (map h (take i xs)))) same))
     ∙ ap (λ b. first_of b (twice_last h before xs i e)) so_far ∙ twice_next h best0 before xs i e within is
+
+-- ---- a table of what is first declared, after one more declaration
+
+pub found_added : {A : Type 0} (old new : Index A) (before : List (Declared A)) (d : Declared A) → AreFound old before →
+    ((x : List ℕ) → indexed new x ≡ or_else (indexed old x) (bytes_eq x d.name.name) d.as_what) → AreFound new (before ++ d ∷ [])
+found_added old new before d are is x = is x ∙ ap (λ o. or_else o (bytes_eq x d.name.name) d.as_what) (are x) ∙ sym (found_push x before d)

@@ -1,4 +1,2 @@
-pub mod TypeFaults
-pub mod CycleFaults
 pub mod StandingFaults
 pub mod inside

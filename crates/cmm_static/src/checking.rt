@@ -1,23 +1,25 @@
 //! Which fault is named of units.
 
-ghost use Rattle.std.specs.Prelude.{◌≡◌, ◌<◌, ◌^◌, [], None, true, false, List, ℕ, map, flat_map, option_map, length, IfOk, OnOk, IfErr};
+ghost use Rattle.std.specs.Prelude.{◌≡◌, ◌<◌, ◌^◌, [], None, true, false, List, map, option_map, length, IfOk, OnOk, IfErr};
 ghost use Rattle.cmm_rules.specs.declared.rule.Rule.{Rule};
 ghost use Rattle.cmm_accepted.specs.Spots.{first_by};
+ghost use Rattle.cmm_accepted.specs.Declarations.{NamedUnit, named_units};
+ghost use Rattle.cmm_accepted.specs.Linking.{program_of};
 ghost use Rattle.cmm_accepted.specs.Faults.{stands_before, place_of, fault_at};
 ghost use Rattle.cmm_static.specs.StandingFaults.{first_standing_fault, IsFaultOf};
-ghost use Rattle.cmm_static.specs.inside.Linked.{AreLinks};
-ghost use Rattle.cmm_static.specs.inside.Flat.{flat_unit, flat_links, flats_broken, some_starts};
+ghost use Rattle.cmm_static.specs.inside.Flat.{flat_unit, flats_broken, some_starts};
 ghost use Rattle.cmm_static.specs.inside.Units.{unit_flat, broken_placed};
 
 use crate::earlier::Earlier;
 use crate::fault::StaticFault;
-use crate::linking::{add_links, starts};
+use crate::linking::starts;
 use crate::unit::{first_broken, names_of};
 use crate::unit_names::UnitNames;
 use cmm_accepted::{Fault, Spot};
 use cmm_ast::{Place, Unit};
 use cmm_items::Items;
-use cmm_names::Index;
+use cmm_linked::Linkage;
+use cmm_names::Numbers;
 use cmm_rules::Rule;
 use std::alloc::{AllocError, Global};
 
@@ -30,39 +32,42 @@ pub(crate) struct Broken {
 
 /// All units, laid flat.
 fn names_of_all<'a>(alloc: Global, units: &'a [Unit]) -> Result<Items<UnitNames<'a>>, AllocError>
-    ensures { IfOk result (λ named. map unit_flat named ≡ map flat_unit units.now) }
+    ensures { IfOk result (λ named. map unit_flat named ≡ map flat_unit (named_units units.now)) }
 {
     let mut named = Items::new(alloc);
+    let mut numbers = Numbers::first();
     for unit in units {
-        named.push(names_of(alloc, unit)?)?;
+        let names = names_of(alloc, unit, numbers)?;
+        numbers = numbers.after(names.things.as_slice())?;
+        named.push(names)?;
     }
     Ok(named)
 }
 
-/// The names under which all units export something.
-fn links_of_all<'a>(alloc: Global, units: &[UnitNames<'a>]) -> Result<Index<()>, AllocError>
-    ensures { IfOk result (λ links. AreLinks links (flat_map flat_links (map unit_flat units.now))) }
+/// What all units know of each other.
+fn linkage_of_all<'a>(alloc: Global, units: &[UnitNames<'a>]) -> Result<Linkage<'a>, AllocError>
+    ensures { IfOk result (λ linkage. (us : List NamedUnit) → map unit_flat units.now ≡ map flat_unit us → linkage ≡ program_of us) }
 {
-    let mut links = Index::new(alloc);
+    let mut linkage = Linkage::none(alloc);
     for unit in units {
-        add_links(alloc, unit.exports.as_slice(), &mut links)?;
+        linkage = linkage.with_unit(alloc, &unit.table, unit.exports.as_slice())?;
     }
-    Ok(links)
+    Ok(linkage)
 }
 
 /// The first fault of units by the rules that are tested unit by unit.
 fn first_of_all<'a>(
     alloc: Global,
     units: &[UnitNames<'a>],
-    links: &Index<()>,
+    linkage: &Linkage<'a>,
 ) -> Result<Option<Broken>, AllocError>
     requires { length units.now < 2 ^ 32 }
-    ensures { IfOk result (λ first. (all : List (List ℕ)) → AreLinks links.now all → option_map broken_placed first ≡ first_by stands_before None (flats_broken all [] 0 (map unit_flat units.now))) }
+    ensures { IfOk result (λ first. option_map broken_placed first ≡ first_by stands_before None (flats_broken linkage.now [] 0 (map unit_flat units.now))) }
 {
     let mut earlier = Earlier::none(alloc);
     let mut number: u32 = 0;
     for unit in units {
-        let first = first_broken(alloc, unit, links, &mut earlier)?;
+        let first = first_broken(alloc, unit, linkage, &mut earlier)?;
         match first {
             Some(spot) => return Ok(Some(Broken { unit: number, spot })),
             None => number += 1,
@@ -109,18 +114,16 @@ fn fault_at(units: &[Unit], broken: Broken) -> Fault
     }
 }
 
-/// Whether units break no rule that stands: 20 of units, 21 of exports and of types, 23 of the types of imports, exports and texts and of
-/// registers that an earlier unit has with another width, 34, 35, 37, 39, and 40 of names and of the alignments of data; and 36 where none
-/// of these is broken, at the beginning of the first unit. Else the first fault by unit, place and rule. Units are those that `cmm_parser`
-/// gives, and fewer than 2^32.
+/// Whether units break no static rule, 20 to 40, the limits on sums over all units left out. Else the fault is the first by unit, place and rule; or
+/// 36, at the beginning of the first unit, where none of the others is broken. Units are those that `cmm_parser` gives, and fewer than 2^32.
 pub fn check(alloc: Global, units: &[Unit]) -> Result<(), StaticFault>
     requires { length units.now < 2 ^ 32 }
     ensures ok { OnOk result (first_standing_fault units.now ≡ None) }
     ensures err { IfErr result (IsFaultOf units.now) }
 {
     let named = names_of_all(alloc, units)?;
-    let links = links_of_all(alloc, named.as_slice())?;
-    let first = first_of_all(alloc, named.as_slice(), &links)?;
+    let linkage = linkage_of_all(alloc, named.as_slice())?;
+    let first = first_of_all(alloc, named.as_slice(), &linkage)?;
     match first {
         Some(broken) => Err(StaticFault::of(fault_at(units, broken))),
         None => check_main(named.as_slice()),

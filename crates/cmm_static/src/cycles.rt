@@ -6,8 +6,7 @@ ghost use Rattle.cmm_accepted.specs.Spots.{first_of};
 ghost use Rattle.cmm_accepted.specs.Units.{cycle_spots};
 ghost use Rattle.cmm_dependencies.specs.Dependent.{AreDependencies};
 ghost use Rattle.cmm_names.specs.Shown.{shown, entry_shown};
-ghost use Rattle.cmm_static.specs.CycleFaults.{entry_cycle_spots};
-ghost use Rattle.cmm_static.specs.inside.Cyclic.{is_dependent, AreNoted, CountsOrIsNoted};
+ghost use Rattle.cmm_static.specs.inside.Cyclic.{entry_cycle_spots, is_dependent, AreNoted, CountsOrIsNoted};
 ghost use Rattle.cmm_typedefs.specs.Numbers.{entry_at};
 
 use cmm_accepted::Spot;
@@ -67,8 +66,8 @@ fn note_cycle<'a>(
         Entry::Const(_, _) => note_dependent(alloc, dependencies, number, named, best),
         Entry::Register(_) => Ok(()),
         Entry::Import(_) => Ok(()),
-        Entry::DataLabel => Ok(()),
-        Entry::Procedure(_) => Ok(()),
+        Entry::DataLabel(_) => Ok(()),
+        Entry::Procedure(_, _) => Ok(()),
     }
 }
 

@@ -2,39 +2,14 @@
 
 ghost use Rattle.std.specs.Prelude.{◌≡◌, ◌||◌, not, flat_map, map};
 ghost use Rattle.cmm_accepted.specs.Senses.{is_host};
-ghost use Rattle.cmm_accepted.specs.Declarations.{host_again, is_own_import, link_name};
-ghost use Rattle.cmm_accepted.specs.Linking.{export_link};
+ghost use Rattle.cmm_accepted.specs.Declarations.{host_again, is_own_import};
 ghost use Rattle.cmm_accepted.specs.Spots.{first_of};
 ghost use Rattle.cmm_names.specs.Shown.{shown};
 
 use cmm_accepted::Spot;
-use cmm_ast::{Export, Ident, Import, Text};
+use cmm_linked::import_link;
 use cmm_names::{Entry, Named, is_host, unless};
 use cmm_rules::Rule;
-
-/// A text in place of a name, where there is one.
-fn link_name<'a>(text: &'a Option<Text>, name: &'a Ident) -> &'a [u8]
-    ensures { result.now ≡ link_name text.now name.now }
-{
-    match text {
-        Some(text) => text.bytes.as_slice(),
-        None => name.name.as_bytes(),
-    }
-}
-
-/// The name under which a unit exports what is imported.
-pub(crate) fn import_link(import: &Import) -> &[u8]
-    ensures { result.now ≡ link_name import.now.link import.now.name }
-{
-    link_name(&import.link, &import.name)
-}
-
-/// The name under which something is exported.
-pub(crate) fn export_link(export: &Export) -> &[u8]
-    ensures { result.now ≡ export_link export.now }
-{
-    link_name(&export.link, &export.name)
-}
 
 /// Whether a name is an import of itself.
 fn is_own_import<'a>(named: &Named<'a, Entry<'a>>) -> bool
@@ -45,8 +20,8 @@ fn is_own_import<'a>(named: &Named<'a, Entry<'a>>) -> bool
         Entry::Typedef(_) => false,
         Entry::Const(_, _) => false,
         Entry::Register(_) => false,
-        Entry::DataLabel => false,
-        Entry::Procedure(_) => false,
+        Entry::DataLabel(_) => false,
+        Entry::Procedure(_, _) => false,
     }
 }
 

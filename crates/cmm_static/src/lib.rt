@@ -1,14 +1,13 @@
-//! Which static rules units break: so far those on names, exports, imports and the target, on types, on the
-//! width of registers, and on what depends on itself.
+//! Which static rules units break.
 //!
-//! `check` answers the fault that is named of units by the groups of rules that stand, exactly: `specs/StandingFaults` says which, from the
-//! definitions of `cmm_accepted`. Of the faults the first is kept while walking, so that each function's clause says how the first fault
-//! goes on. Time is linear in the units.
+//! `check` answers the fault that is named of units by the static rules, exactly: the first by unit, place and rule, from the definitions of
+//! `cmm_accepted`. Of the faults the first is kept while walking, so that each function's clause says how the first fault goes on. Time is linear in
+//! the units.
 //!
 //! - `checking`: the call `check`, over all units. `unit`, `unit_names`: the rules on one unit, laid flat.
 //! - `fault`: the answer.
-//! - `host`, `linking`, `target`, `typed`, `registers`: names of the host, exports and imports, properties of the target, types, registers.
-//! - `cycles`: typedefs and constants that depend on themselves. `earlier`: what is known of the units before one.
+//! - `host`, `linking`, `target`, `registers`: names of the host, exports and imports, properties of the target, registers.
+//! - `cycles`: typedefs and constants that depend on themselves. `procedures`: procedures. `earlier`: what is known of the units before one.
 #![tactic(auto)]
 
 mod checking;
@@ -17,9 +16,9 @@ mod earlier;
 mod fault;
 mod host;
 mod linking;
+mod procedures;
 mod registers;
 mod target;
-mod typed;
 mod unit;
 mod unit_names;
 

@@ -3,30 +3,19 @@
 ghost use Rattle.std.specs.Prelude.{◌≡◌, ◌++◌, List, ℕ, flat_map, map, option_map, IfOk, OnOk};
 ghost use Rattle.cmm_accepted.specs.Spots.{first_of};
 ghost use Rattle.cmm_accepted.specs.Senses.{is_there};
-ghost use Rattle.cmm_accepted.specs.Declarations.{entry_of};
 ghost use Rattle.cmm_accepted.specs.Linking.{address_of, export_spots, export_link, twice, import_spots, is_start, starts};
+ghost use Rattle.cmm_linked.specs.Exports.{exported_links};
 ghost use Rattle.cmm_static.specs.inside.Linked.{AreLinks};
 ghost use Rattle.cmm_static.specs.inside.Flat.{is_main};
 ghost use Rattle.cmm_names.specs.Shown.{shown, entry_shown};
 
-use crate::host::{export_link, import_link};
 use cmm_accepted::Spot;
 use cmm_ast::Export;
+use cmm_linked::{Linkage, entry_of, export_link, import_link};
 use cmm_names::{Entry, Index, Named, Table, is_host, unless};
 use cmm_rules::Rule;
 use cmm_words::Name;
 use std::alloc::{AllocError, Global};
-
-/// What a name of a unit is, where it is none of the host's.
-fn entry_of<'a>(table: &Table<'a, Entry<'a>>, name: &Name) -> Option<Entry<'a>>
-    ensures { option_map entry_shown result ≡ entry_of name.now (map shown table.now.declared) }
-{
-    if is_host(name.as_bytes()) {
-        None
-    } else {
-        table.find(name)
-    }
-}
 
 /// Whether it can be exported.
 fn has_address<'a>(entry: &Option<Entry<'a>>) -> bool
@@ -35,8 +24,8 @@ fn has_address<'a>(entry: &Option<Entry<'a>>) -> bool
     match entry {
         None => false,
         Some(entry) => match entry {
-            Entry::DataLabel => true,
-            Entry::Procedure(_) => true,
+            Entry::DataLabel(_) => true,
+            Entry::Procedure(_, _) => true,
             Entry::Typedef(_) => false,
             Entry::Const(_, _) => false,
             Entry::Register(_) => false,
@@ -82,59 +71,35 @@ pub(crate) fn note_twice<'a>(
     Ok(())
 }
 
-/// Adds the names under which a unit exports something.
-pub(crate) fn add_links<'a>(
-    alloc: Global,
-    exports: &[&'a Export],
-    links: &mut Index<()>,
-) -> Result<(), AllocError>
-    ensures { OnOk result ((before : List (List ℕ)) → AreLinks links.old before → AreLinks links.new (before ++ map export_link (map (λ e. e.now) exports.now))) }
-{
-    for export in exports {
-        let link = Name::from_slice(alloc, export_link(export))?;
-        links.add(link, ())?;
-    }
-    Ok(())
-}
-
 /// Notes an import of what no unit exports and is no procedure of the host: rule 34.
-fn note_import<'a>(
-    alloc: Global,
-    links: &Index<()>,
-    named: &Named<'a, Entry<'a>>,
-    best: &mut Option<Spot>,
-) -> Result<(), AllocError>
-    ensures { OnOk result ((all : List (List ℕ)) → AreLinks links.now all → best.new ≡ first_of best.old (import_spots all (shown named.now))) }
+fn note_import<'a>(linkage: &Linkage<'a>, named: &Named<'a, Entry<'a>>, best: &mut Option<Spot>)
+    ensures { best.new ≡ first_of best.old (import_spots (exported_links linkage.now) (shown named.now)) }
 {
     match named.what {
         Entry::Import(import) => {
             let host = is_host(import_link(import));
-            let link = Name::from_slice(alloc, import_link(import))?;
-            let exported = links.get(&link).is_some();
+            let exported = linkage.is_exported(import_link(import));
             unless(best, host || exported, Rule::NotExported, named.name.token);
-            Ok(())
         }
-        Entry::Typedef(_) => Ok(()),
-        Entry::Const(_, _) => Ok(()),
-        Entry::Register(_) => Ok(()),
-        Entry::DataLabel => Ok(()),
-        Entry::Procedure(_) => Ok(()),
+        Entry::Typedef(_) => {}
+        Entry::Const(_, _) => {}
+        Entry::Register(_) => {}
+        Entry::DataLabel(_) => {}
+        Entry::Procedure(_, _) => {}
     }
 }
 
-/// Notes imports of what no unit exports, by the link names of all: rule 34.
+/// Notes imports of what no unit exports: rule 34.
 pub(crate) fn note_imports<'a>(
-    alloc: Global,
-    links: &Index<()>,
+    linkage: &Linkage<'a>,
     declared: &[Named<'a, Entry<'a>>],
     best: &mut Option<Spot>,
-) -> Result<(), AllocError>
-    ensures { OnOk result ((all : List (List ℕ)) → AreLinks links.now all → best.new ≡ first_of best.old (flat_map (import_spots all) (map shown declared.now))) }
+)
+    ensures { best.new ≡ first_of best.old (flat_map (import_spots (exported_links linkage.now)) (map shown declared.now)) }
 {
     for named in declared {
-        note_import(alloc, links, named, best)?;
+        note_import(linkage, named, best);
     }
-    Ok(())
 }
 
 /// Whether it is a procedure without formals.
@@ -144,11 +109,11 @@ fn is_start<'a>(entry: &Option<Entry<'a>>) -> bool
     match entry {
         None => false,
         Some(entry) => match entry {
-            Entry::Procedure(proc) => match proc.formals.as_slice() {
+            Entry::Procedure(_, proc) => match proc.formals.as_slice() {
                 [] => true,
                 [_, ..] => false,
             },
-            Entry::DataLabel => false,
+            Entry::DataLabel(_) => false,
             Entry::Typedef(_) => false,
             Entry::Const(_, _) => false,
             Entry::Register(_) => false,

@@ -1,109 +1,24 @@
 //! Global registers: those of one name are one register, of one width in all units.
 #![tactic(auto, using(cmm_names::proofs::Shared::first_of_append))]
 
-ghost use Rattle.std.specs.Prelude.{◌≡◌, ◌++◌, List, [], map, flat_map, Option, IfOk, OnOk};
+ghost use Rattle.std.specs.Prelude.{◌≡◌, ◌++◌, List, map, flat_map, Option, OnOk};
 ghost use Rattle.cmm_words.specs.declared.width.Width.{Width};
-ghost use Rattle.cmm_accepted.specs.Declarations.{Declared, Entry as UnitEntry};
+ghost use Rattle.cmm_accepted.specs.Declarations.{Declared};
 ghost use Rattle.cmm_accepted.specs.Judging.{if_ok};
-ghost use Rattle.cmm_accepted.specs.Linking.{register_entry};
 ghost use Rattle.cmm_accepted.specs.Spots.{first_of};
 ghost use Rattle.cmm_accepted.specs.Typing.{type_width};
-ghost use Rattle.cmm_names.specs.Shown.{shown};
-ghost use Rattle.cmm_static.specs.inside.Flat.{registers_in, register_spots_by, widths_by};
-ghost use Rattle.cmm_static.specs.inside.Linked.{AreNamed, AreFound, counts_after, counted};
-ghost use Rattle.cmm_static.specs.inside.Units.{register_shown};
+ghost use Rattle.cmm_static.specs.inside.Flat.{register_spots_by, widths_by};
+ghost use Rattle.cmm_static.specs.inside.Linked.{AreFound};
+ghost use Rattle.cmm_linked.specs.Registers.{register_shown};
 ghost use Rattle.cmm_typedefs.specs.Types.{senses_of};
 
-use crate::typed::{note_width, width_of};
 use cmm_accepted::Spot;
-use cmm_ast::{Ident, TypeName};
-use cmm_items::Items;
-use cmm_names::{Entry, Index, Named, is_host};
+use cmm_linked::Register;
+use cmm_names::Index;
 use cmm_typedefs::Types;
+use cmm_wanted::{note_width, width_of};
 use cmm_words::{Name, Width};
 use std::alloc::{AllocError, Global};
-
-/// A register where a unit declares it.
-#[derive(Clone, Copy)]
-pub(crate) struct Register<'a> {
-    pub name: &'a Ident,
-    pub of_type: &'a TypeName,
-}
-
-/// Whether a declaration is the first of its name and the name none of the host. It is added to those that are.
-fn counts<'a>(
-    alloc: Global,
-    named: &Named<'a, Entry<'a>>,
-    seen: &mut Index<()>,
-) -> Result<bool, AllocError>
-    ensures counts { IfOk result (λ counts. (before : List (Declared UnitEntry)) → AreNamed seen.old before → counts ≡ counts_after before (shown named.now)) }
-    ensures seen { OnOk result ((before : List (Declared UnitEntry)) → AreNamed seen.old before → AreNamed seen.new (before ++ counted before (shown named.now))) }
-{
-    let name = named.name.name.as_bytes();
-    if is_host(name) {
-        return Ok(false);
-    }
-    let own = Name::from_slice(alloc, name)?;
-    let new = seen.add(own, ())?;
-    Ok(new)
-}
-
-/// Adds a declaration to registers, if it is one.
-fn add_register<'a>(
-    named: &Named<'a, Entry<'a>>,
-    to: &mut Items<Register<'a>>,
-) -> Result<(), AllocError>
-    ensures { OnOk result (map register_shown to.new ≡ map register_shown to.old ++ register_entry (shown named.now)) }
-{
-    match named.what {
-        Entry::Register(of_type) => {
-            to.push(Register {
-                name: named.name,
-                of_type,
-            })?;
-            Ok(())
-        }
-        Entry::Typedef(_) => Ok(()),
-        Entry::Const(_, _) => Ok(()),
-        Entry::Import(_) => Ok(()),
-        Entry::DataLabel => Ok(()),
-        Entry::Procedure(_) => Ok(()),
-    }
-}
-
-/// Adds a declaration to registers, if it is one and counts.
-fn add_counted<'a>(
-    alloc: Global,
-    named: &Named<'a, Entry<'a>>,
-    seen: &mut Index<()>,
-    to: &mut Items<Register<'a>>,
-) -> Result<(), AllocError>
-    ensures seen { OnOk result ((before : List (Declared UnitEntry)) → AreNamed seen.old before → AreNamed seen.new (before ++ counted before (shown named.now))) }
-    ensures to { OnOk result ((before : List (Declared UnitEntry)) → AreNamed seen.old before → map register_shown to.new ≡ map register_shown to.old ++ flat_map register_entry (counted before (shown named.now))) }
-{
-    let new = counts(alloc, named, seen)?;
-    if new {
-        add_register(named, to)?;
-        Ok(())
-    } else {
-        Ok(())
-    }
-}
-
-/// The registers of a unit: names that it first declares as registers.
-pub(crate) fn registers_in<'a>(
-    alloc: Global,
-    declared: &[Named<'a, Entry<'a>>],
-) -> Result<Items<Register<'a>>, AllocError>
-    ensures { IfOk result (λ registers. map register_shown registers ≡ registers_in (map shown declared.now)) }
-{
-    let mut seen = Index::new(alloc);
-    let mut registers = Items::new(alloc);
-    for named in declared {
-        add_counted(alloc, named, &mut seen, &mut registers)?;
-    }
-    Ok(registers)
-}
 
 /// A register has the width of the first one of its name in earlier units: else rule 23.
 fn note_register<'a>(

@@ -1,32 +1,40 @@
-//! The names of one unit, and the rules on them, on types, on registers and on what depends on itself.
+//! The first fault of one unit, and its names.
 
 ghost use Rattle.std.specs.Prelude.{◌≡◌, ◌++◌, ◌∷◌, [], None, List, ℕ, IfOk, OnOk};
 ghost use Rattle.cmm_accepted.specs.Spots.{first_of};
+ghost use Rattle.cmm_linked.specs.Exports.{exported_links};
+ghost use Rattle.cmm_static.specs.inside.Flat.{Flat, flat_links, flat_name_spots, flat_unit, numbered_unit, flat_spots};
 ghost use Rattle.cmm_static.specs.inside.Linked.{AreLinks};
-ghost use Rattle.cmm_static.specs.inside.Flat.{Flat, flat_unit, flat_spots};
 ghost use Rattle.cmm_static.specs.inside.Units.{AreEarlier, unit_flat};
 
 use crate::cycles::note_cycles;
 use crate::earlier::Earlier;
 use crate::host::note_hosts;
 use crate::linking::{note_exports, note_imports, note_twice};
-use crate::registers::{add_registers, note_registers, registers_in};
+use crate::procedures::note_procedures;
+use crate::registers::{add_registers, note_registers};
 use crate::target::note_targets;
-use crate::typed::{note_entries, note_items};
 use crate::unit_names::UnitNames;
 use cmm_accepted::Spot;
 use cmm_ast::Unit;
+use cmm_constants::senses_of_unit;
+use cmm_declarations::{note_entries, note_items};
 use cmm_dependencies::dependencies_of;
-use cmm_names::{Index, Table, declared_in, exports_in, note_things, things_of};
+use cmm_linked::{Linkage, registers_in};
+use cmm_names::{Index, Numbers, Table, declared_in, exports_in, note_things, things_of};
 use cmm_typedefs::types_of;
 use std::alloc::{AllocError, Global};
 
-/// A unit laid flat.
-pub(crate) fn names_of<'a>(alloc: Global, unit: &'a Unit) -> Result<UnitNames<'a>, AllocError>
-    ensures { IfOk result (λ names. unit_flat names ≡ flat_unit unit.now) }
+/// A unit laid flat, from the numbers of its first procedure and data label on.
+pub(crate) fn names_of<'a>(
+    alloc: Global,
+    unit: &'a Unit,
+    first: Numbers,
+) -> Result<UnitNames<'a>, AllocError>
+    ensures { IfOk result (λ names. unit_flat names ≡ flat_unit (numbered_unit first.procedures first.labels unit.now)) }
 {
     let things = things_of(alloc, unit)?;
-    let declared = declared_in(alloc, things.as_slice())?;
+    let declared = declared_in(alloc, things.as_slice(), first)?;
     let exports = exports_in(alloc, things.as_slice())?;
     let mut repeated = None;
     let table = Table::of(alloc, declared, &mut repeated)?;
@@ -38,32 +46,52 @@ pub(crate) fn names_of<'a>(alloc: Global, unit: &'a Unit) -> Result<UnitNames<'a
     })
 }
 
-/// The first fault of a unit. It is added to what is known of earlier units.
-pub(crate) fn first_broken<'a>(
+/// The first fault of the names of a unit, of its exports and imports and of its target. The link names of its exports are added to those of
+/// earlier units.
+fn first_of_names<'a>(
     alloc: Global,
     unit: &UnitNames<'a>,
-    links: &Index<()>,
-    earlier: &mut Earlier,
+    linkage: &Linkage<'a>,
+    links: &mut Index<()>,
 ) -> Result<Option<Spot>, AllocError>
-    ensures earlier { OnOk result ((before : List Flat) → AreEarlier earlier.old before → AreEarlier earlier.new (before ++ unit_flat unit.now ∷ [])) }
-    ensures best { IfOk result (λ best. (all : List (List ℕ)) (before : List Flat) → AreLinks links.now all → AreEarlier earlier.old before → best ≡ first_of None (flat_spots all before (unit_flat unit.now))) }
+    ensures links { OnOk result ((before : List (List ℕ)) → AreLinks links.old before → AreLinks links.new (before ++ flat_links (unit_flat unit.now))) }
+    ensures best { IfOk result (λ best. (before : List (List ℕ)) → AreLinks links.old before → best ≡ first_of None (flat_name_spots (exported_links linkage.now) before (unit_flat unit.now))) }
 {
     let mut best = unit.repeated;
     let declared = unit.table.declared.as_slice();
     let exports = unit.exports.as_slice();
+    let things = unit.things.as_slice();
     note_hosts(declared, &mut best);
     note_exports(&unit.table, exports, &mut best);
-    note_twice(alloc, exports, &mut earlier.links, &mut best)?;
-    note_imports(alloc, links, declared, &mut best)?;
-    note_targets(unit.things.as_slice(), &mut best);
-    note_things(alloc, unit.things.as_slice(), &mut best)?;
+    note_twice(alloc, exports, links, &mut best)?;
+    note_imports(linkage, declared, &mut best);
+    note_targets(things, &mut best);
+    note_things(alloc, things, &mut best)?;
+    Ok(best)
+}
+
+/// The first fault of a unit. It is added to what is known of earlier units.
+pub(crate) fn first_broken<'a>(
+    alloc: Global,
+    unit: &UnitNames<'a>,
+    linkage: &Linkage<'a>,
+    earlier: &mut Earlier,
+) -> Result<Option<Spot>, AllocError>
+    ensures earlier { OnOk result ((before : List Flat) → AreEarlier earlier.old before → AreEarlier earlier.new (before ++ unit_flat unit.now ∷ [])) }
+    ensures best { IfOk result (λ best. (before : List Flat) → AreEarlier earlier.old before → best ≡ first_of None (flat_spots linkage.now before (unit_flat unit.now))) }
+{
+    let mut best = first_of_names(alloc, unit, linkage, &mut earlier.links)?;
+    let declared = unit.table.declared.as_slice();
+    let things = unit.things.as_slice();
     let types = types_of(alloc, declared)?;
-    note_entries(&types, declared, &mut best);
-    note_items(&types, unit.things.as_slice(), &mut best);
+    let dependencies = dependencies_of(alloc, declared)?;
+    let senses = senses_of_unit(alloc, linkage, declared, &types, &dependencies)?;
+    note_entries(&senses, declared, &mut best);
+    note_items(&senses, things, &mut best);
     let registers = registers_in(alloc, declared)?;
     note_registers(&types, registers.as_slice(), &earlier.registers, &mut best);
-    let dependencies = dependencies_of(alloc, declared)?;
     note_cycles(alloc, &dependencies, declared, &mut best)?;
+    note_procedures(alloc, &senses, things, &mut best)?;
     add_registers(alloc, &types, registers.as_slice(), &mut earlier.registers)?;
     Ok(best)
 }

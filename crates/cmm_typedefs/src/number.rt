@@ -58,7 +58,7 @@ pub(crate) fn entry_number<'a>(numbers: &Table<'a, usize>, entry: Entry<'a>) -> 
         Entry::Const(_, _) => None,
         Entry::Register(_) => None,
         Entry::Import(_) => None,
-        Entry::DataLabel => None,
-        Entry::Procedure(_) => None,
+        Entry::DataLabel(_) => None,
+        Entry::Procedure(_, _) => None,
     }
 }

@@ -47,8 +47,8 @@ fn sense_by<'a>(width: Option<Width>, entry: Entry<'a>) -> Option<Sense>
         Entry::Const(_, _) => None,
         Entry::Register(_) => None,
         Entry::Import(_) => None,
-        Entry::DataLabel => None,
-        Entry::Procedure(_) => None,
+        Entry::DataLabel(_) => None,
+        Entry::Procedure(_, _) => None,
     }
 }
 

@@ -65,8 +65,8 @@ fn entry_by<'a>(
         Entry::Const(_, _) => None,
         Entry::Register(_) => None,
         Entry::Import(_) => None,
-        Entry::DataLabel => None,
-        Entry::Procedure(_) => None,
+        Entry::DataLabel(_) => None,
+        Entry::Procedure(_, _) => None,
     }
 }
 

@@ -1,11 +1,16 @@
--- What is noted of declarations that don't count before those that depend on themselves are noted.
-use Rattle.std.specs.Prelude.{◌≡◌, ◌⊎◌, ℕ, Bool, true, false, List, ◌∷◌, ◌++◌, length, Option, Some}
+-- What depends on itself in a unit, and what is noted before that of declarations that don't count.
+use Rattle.std.specs.Prelude.{◌≡◌, ◌⊎◌, ℕ, Bool, true, false, List, [], ◌∷◌, ◌++◌, length, Option, Some}
 use Rattle.cmm_ast.specs.declared.token.Ident.{Ident}
 use Rattle.cmm_rules.specs.declared.rule.Rule.TheVariants.{Cycle}
 use Rattle.cmm_accepted.specs.declared.spot.Spot.{Spot}
 use Rattle.cmm_accepted.specs.Spots.{first_of, at}
 use Rattle.cmm_accepted.specs.Declarations.{Declared, Entry, Typedef, Const}
+use Rattle.cmm_accepted.specs.Units.{cycle_spots}
 use Rattle.cmm_typedefs.specs.Numbers.{numbering, number_in}
+
+-- 39: a typedef or constant depends on itself
+abbrev pub entry_cycle_spots : List (Declared Entry) → Declared Entry → List Spot
+entry_cycle_spots ds d = elim d.as_what [ Typedef t ↦ cycle_spots ds d | Const t e ↦ cycle_spots ds d | _ ↦ [] ]
 
 abbrev pub is_dependent : Entry → Bool
 is_dependent (Typedef t) = true

@@ -1,4 +1,4 @@
--- A unit as the rules on names and types see it: what it declares, what it exports, and what stands in it. Procedures and data labels have no numbers.
+-- A unit as the rules see it: what it declares, what it exports, and what stands in it.
 use Rattle.std.specs.Prelude.{ℕ, suc, Bool, false, ◌||◌, ◌&&◌, bytes_eq, codes, List, [], ◌∷◌, ◌++◌, map, flat_map, Option, Some, None}
 use Rattle.cmm_words.specs.declared.width.Width.{Width}
 use Rattle.cmm_words.specs.Widths.{bits}
@@ -8,15 +8,17 @@ use Rattle.cmm_ast.specs.declared.unit.Item.{Item}
 use Rattle.cmm_ast.specs.declared.unit.Unit.{Unit as UnitTree}
 use Rattle.cmm_accepted.specs.declared.spot.Spot.{Spot}
 use Rattle.cmm_accepted.specs.Items.{items_of}
-use Rattle.cmm_accepted.specs.Declarations.{Declared, Entry, found, firsts, entry_of, item_entries, again, host_again}
-use Rattle.cmm_accepted.specs.Linking.{item_exports, export_link, export_spots, twice, import_spots, register_entry, is_start, starts}
-use Rattle.cmm_accepted.specs.Units.{target_decl_spots, width_spots}
-use Rattle.cmm_accepted.specs.Scopes.{width_in}
+use Rattle.cmm_accepted.specs.Declarations.{Declared, Entry, NamedUnit, found, entry_of, entries_from, again, host_again}
+use Rattle.cmm_accepted.specs.Linking.{Program, exports_of, export_link, export_spots, twice, import_spots, is_start, starts}
+use Rattle.cmm_accepted.specs.Senses.{Senses}
+use Rattle.cmm_accepted.specs.Units.{target_decl_spots, width_spots, item_spots}
+use Rattle.cmm_accepted.specs.Scopes.{width_in, unit_senses}
 use Rattle.cmm_accepted.specs.LongNames.{long_spots, of_item}
-use Rattle.cmm_accepted.specs.Faults.{Placed}
-use Rattle.cmm_typedefs.specs.Types.{type_senses}
-use Rattle.cmm_static.specs.TypeFaults.{entry_type_spots, item_type_spots}
-use Rattle.cmm_static.specs.CycleFaults.{entry_cycle_spots}
+use Rattle.cmm_accepted.specs.Faults.{Placed, item_procedure_spots}
+use Rattle.cmm_declarations.specs.EntryFaults.{entry_value_spots}
+use Rattle.cmm_linked.specs.Exports.{exported_links}
+use Rattle.cmm_linked.specs.Registers.{registers_in}
+use Rattle.cmm_static.specs.inside.Cyclic.{entry_cycle_spots}
 use Rattle.cmm_names.specs.Shown.{whats, with_what}
 
 pub record Flat : Type 0 where
@@ -24,11 +26,12 @@ pub record Flat : Type 0 where
   pub exports : List Export
   pub items : List Item
 
-abbrev pub flat_items : List Item → Flat
-flat_items is = record { entries = flat_map (item_entries 0 0) is; exports = flat_map item_exports is; items = is }
+abbrev pub flat_unit : NamedUnit → Flat
+flat_unit u = record { entries = u.entries; exports = exports_of u; items = whats u.items }
 
-abbrev pub flat_unit : UnitTree → Flat
-flat_unit u = flat_items (whats (items_of u))
+-- a unit before which so many procedures and data labels stand
+abbrev pub numbered_unit : ℕ → ℕ → UnitTree → NamedUnit
+numbered_unit procs labels u = record { tree = u; items = items_of u; entries = entries_from procs labels (items_of u) }
 
 abbrev pub flat_links : Flat → List (List ℕ)
 flat_links f = map export_link f.exports
@@ -39,14 +42,14 @@ flat_name_spots all earlier f =
     again [] f.entries ++ flat_map host_again f.entries ++ flat_map (export_spots f.entries) f.exports ++ twice earlier f.exports
     ++ flat_map (import_spots all) f.entries ++ flat_map target_decl_spots f.items ++ flat_map long_spots (flat_map of_item f.items)
 
--- the rules on types
-abbrev pub flat_type_spots : Flat → List Spot
-flat_type_spots f = let names = type_senses f.entries in flat_map (λ d. entry_type_spots names d.as_what) f.entries ++ flat_map (item_type_spots names) f.items
+-- the rules on types and values, from what names mean
+abbrev pub flat_value_spots : Senses → Flat → List Spot
+flat_value_spots names f = flat_map (λ d. entry_value_spots names d.as_what) f.entries ++ flat_map (item_spots names) f.items
+
+abbrev pub flat_procedure_spots : Senses → Flat → List Spot
+flat_procedure_spots names f = flat_map (item_procedure_spots names) f.items
 
 -- ---- registers
-
-abbrev pub registers_in : List (Declared Entry) → List (Declared TypeName)
-registers_in ds = flat_map register_entry (firsts [] ds)
 
 abbrev pub widths_by : (TypeName → Option Width) → List (Declared TypeName) → List (Declared (Option Width))
 widths_by width rs = map (with_what width) rs
@@ -68,7 +71,7 @@ flat_register_spots earlier f = flat_map (register_spots_by earlier (width_in f.
 abbrev pub flat_cycle_spots : Flat → List Spot
 flat_cycle_spots f = flat_map (entry_cycle_spots f.entries) f.entries
 
--- ---- all rules that stand, from the link names of all units and from the units before
+-- ---- all rules, from what units know of each other and from the units before
 
 abbrev pub links_before : List Flat → List (List ℕ)
 links_before before = flat_map flat_links before
@@ -76,15 +79,20 @@ links_before before = flat_map flat_links before
 abbrev pub widths_before : List Flat → List (Declared (Option Width))
 widths_before before = flat_map flat_widths before
 
-abbrev pub flat_spots : List (List ℕ) → List Flat → Flat → List Spot
-flat_spots all before f = flat_name_spots all (links_before before) f ++ flat_type_spots f ++ flat_register_spots (widths_before before) f ++ flat_cycle_spots f
+-- the same from what names mean and from the link names of all units
+abbrev pub spots_by : Senses → List (List ℕ) → List Flat → Flat → List Spot
+spots_by names all before f =
+    flat_name_spots all (links_before before) f ++ flat_value_spots names f ++ flat_register_spots (widths_before before) f ++ flat_cycle_spots f ++ flat_procedure_spots names f
+
+abbrev pub flat_spots : Program → List Flat → Flat → List Spot
+flat_spots program before f = spots_by (unit_senses program f.entries) (exported_links program) before f
 
 abbrev pub placed : ℕ → Spot → Placed
 placed number s = record { unit = number; spot = s }
 
-abbrev pub flats_broken : List (List ℕ) → List Flat → ℕ → List Flat → List Placed
-flats_broken all before number [] = []
-flats_broken all before number (f ∷ fs) = map (placed number) (flat_spots all before f) ++ flats_broken all (before ++ f ∷ []) (suc number) fs
+abbrev pub flats_broken : Program → List Flat → ℕ → List Flat → List Placed
+flats_broken program before number [] = []
+flats_broken program before number (f ∷ fs) = map (placed number) (flat_spots program before f) ++ flats_broken program (before ++ f ∷ []) (suc number) fs
 
 abbrev pub flat_starts : Flat → Bool
 flat_starts f = starts f.entries f.exports

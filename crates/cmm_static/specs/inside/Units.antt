@@ -1,14 +1,11 @@
 -- The names of units, laid flat, as the rules see them.
 use Rattle.std.specs.Prelude.{List, map}
-use Rattle.cmm_ast.specs.declared.expression.TypeName.{TypeName}
-use Rattle.cmm_accepted.specs.Declarations.{Declared}
 use Rattle.cmm_accepted.specs.Faults.{Placed}
 use Rattle.cmm_static.specs.inside.Flat.{Flat, links_before, widths_before}
 use Rattle.cmm_static.specs.inside.Linked.{AreLinks, AreFound}
 use Rattle.cmm_names.specs.Shown.{thing_item, shown}
 use Rattle.cmm_static.specs.declared.unit_names.UnitNames.{UnitNames}
 use Rattle.cmm_static.specs.declared.earlier.Earlier.{Earlier}
-use Rattle.cmm_static.specs.declared.registers.Register.{Register}
 use Rattle.cmm_static.specs.declared.checking.Broken.{Broken}
 
 abbrev pub unit_flat : UnitNames → Flat
@@ -16,9 +13,6 @@ unit_flat u = record { entries = map shown u.table.declared; exports = map (λ e
 
 abbrev pub broken_placed : Broken → Placed
 broken_placed b = record { unit = b.unit; spot = b.spot }
-
-abbrev pub register_shown : Register → Declared TypeName
-register_shown r = record { name = r.name.now; as_what = r.of_type.now }
 
 -- what is known of the units before
 pub record AreEarlier (e : Earlier) (before : List Flat) : Type 0 where

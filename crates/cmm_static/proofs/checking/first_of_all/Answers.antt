@@ -10,18 +10,19 @@ loop-unit-preserved c =
     let i = c.loop-unit.invariant in
     let k = c.loop-unit.unit-index in
     let us = c.args.units.now in
+    let program = c.args.linkage.now in
     let before = map unit_flat (take k us) in (
       ap (λ n. n + 1) i.0,
       subst (AreEarlier c.first_broken.new.earlier) (sym (mapped_next unit_flat us k c.unit-item.result c.loop-unit-test.true c.unit-item.is)) (c.in_ok-first.ensures.earlier before i.1),
-      λ all. λ are.
-          sym (later_step unit_flat all us k c.unit-item.result c.loop-unit-test.true c.unit-item.is (sym (c.in_ok-first.ensures.best all before are i.1) ∙ c.in-None.is)) ∙ i.2 all are,
+      sym (later_step unit_flat program us k c.unit-item.result c.loop-unit-test.true c.unit-item.is (sym (c.in_ok-first.ensures.best before i.1) ∙ c.in-None.is)) ∙ i.2,
     )
 
 pub returns-in-Some : goal.returns-in-Some
-returns-in-Some c = λ all. λ are.
+returns-in-Some c =
     let i = c.loop-unit.invariant in
     let k = c.loop-unit.unit-index in
     let us = c.args.units.now in
+    let program = c.args.linkage.now in
     ap (λ n. Some (placed n c.in-Some.spot)) i.0
-    ∙ sym (sym (i.2 all are) ∙ here_step unit_flat all us k c.unit-item.result c.in-Some.spot c.loop-unit-test.true c.unit-item.is
-    (sym (c.in_ok-first.ensures.best all (map unit_flat (take k us)) are i.1) ∙ c.in-Some.is))
+    ∙ sym (sym i.2 ∙ here_step unit_flat program us k c.unit-item.result c.in-Some.spot c.loop-unit-test.true c.unit-item.is
+    (sym (c.in_ok-first.ensures.best (map unit_flat (take k us)) i.1) ∙ c.in-Some.is))

@@ -1,7 +1,6 @@
-use Rattle.std.proofs.Common.{◌≡◌, ℕ, List, [], None, map, take, drop}
+use Rattle.std.proofs.Common.{◌≡◌, [], None, map, take, drop}
 use Rattle.cmm_accepted.specs.Spots.{first_by}
 use Rattle.cmm_accepted.specs.Faults.{stands_before}
-use Rattle.cmm_static.specs.inside.Linked.{AreLinks}
 use Rattle.cmm_static.specs.inside.Flat.{flats_broken}
 use Rattle.cmm_static.specs.inside.Units.{AreEarlier, unit_flat}
 use Rattle.cmm_static.proofs.checking.first_of_all.Given as goal
@@ -11,6 +10,5 @@ abbrev pub invariant-loop-unit : goal.invariant-loop-unit
 invariant-loop-unit l =
     (l.number ≡ l.unit-index)
     × AreEarlier l.earlier (map unit_flat (take l.unit-index l.units))
-    × ((all : List (List ℕ)) → AreLinks l.links all →
-    first_by stands_before None (flats_broken all (map unit_flat (take l.unit-index l.units)) l.unit-index (map unit_flat (drop l.unit-index l.units)))
-    ≡ first_by stands_before None (flats_broken all [] 0 (map unit_flat l.units)))
+    × (first_by stands_before None (flats_broken l.linkage (map unit_flat (take l.unit-index l.units)) l.unit-index (map unit_flat (drop l.unit-index l.units)))
+    ≡ first_by stands_before None (flats_broken l.linkage [] 0 (map unit_flat l.units)))

@@ -5,7 +5,7 @@ use Rattle.cmm_accepted.specs.Spots.{first_of}
 use Rattle.cmm_names.specs.Shown.{shown}
 use Rattle.cmm_names.proofs.Shared.{noted_next_of}
 use Rattle.cmm_typedefs.proofs.Shared.{entry_listed}
-use Rattle.cmm_static.specs.CycleFaults.{entry_cycle_spots}
+use Rattle.cmm_static.specs.inside.Cyclic.{entry_cycle_spots}
 use Rattle.cmm_static.proofs.Cyclic.{counted_now}
 use Rattle.cmm_static.proofs.cycles.note_cycles.Goals as goal
 

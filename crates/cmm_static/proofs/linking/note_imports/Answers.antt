@@ -1,8 +1,9 @@
 use Rattle.cmm_accepted.specs.Linking.{import_spots}
+use Rattle.cmm_linked.specs.Exports.{exported_links}
 use Rattle.cmm_names.specs.Shown.{shown}
 use Rattle.cmm_names.proofs.Shared.{noted_next_of}
 use Rattle.cmm_static.proofs.linking.note_imports.Goals as goal
 
 pub loop-named-preserved : goal.loop-named-preserved
-loop-named-preserved c = λ all. λ are. rw (c.in_ok-note_import.ensures all are, c.loop-named.invariant all are)
-    (noted_next_of shown (import_spots all) c.args.best.now c.args.declared.now c.loop-named.named-index c.named-item.result c.loop-named-test.true c.named-item.is)
+loop-named-preserved c = rw (c.note_import.ensures, c.loop-named.invariant)
+    (noted_next_of shown (import_spots (exported_links c.args.linkage.now)) c.args.best.now c.args.declared.now c.loop-named.named-index c.named-item.result c.loop-named-test.true c.named-item.is)

@@ -9,9 +9,9 @@ use Rattle.cmm_names.specs.Indexed.{indexed, or_else}
 use Rattle.cmm_names.specs.Shown.{with_what}
 use Rattle.cmm_static.specs.inside.Flat.{widths_by}
 use Rattle.cmm_static.specs.inside.Linked.{AreFound}
-use Rattle.cmm_static.specs.inside.Units.{register_shown}
-use Rattle.cmm_static.proofs.Links.{links_next}
-use Rattle.cmm_static.proofs.Registering.{found_added}
+use Rattle.cmm_linked.specs.Registers.{register_shown}
+use Rattle.cmm_linked.proofs.Shared.{listed_next}
+use Rattle.cmm_static.proofs.Links.{found_added}
 use Rattle.cmm_typedefs.specs.Types.{senses_of}
 use Rattle.cmm_static.proofs.registers.add_registers.Goals as goal
 
@@ -23,7 +23,7 @@ loop-register-preserved c = λ before. λ are.
     let r = c.register-item.result in
     let old = c.loop-register.earlier in
     let same : c.in_ok-name.name ≡ r.name.now.name = c.in_ok-name.ensures ∙ c.as_bytes.ensures in
-    subst (λ (q : List (Declared (Option Width))). AreFound c.add.new.self q) (links_next register_shown (with_what w) before rs k r c.loop-register-test.true c.register-item.is)
+    subst (λ (q : List (Declared (Option Width))). AreFound c.add.new.self q) (listed_next register_shown (with_what w) before rs k r c.loop-register-test.true c.register-item.is)
     (found_added old c.add.new.self (before ++ widths_by w (map register_shown (take k rs))) (with_what w (register_shown r)) (c.loop-register.invariant before are)
     (λ x. c.in_ok-add.ensures.names x ∙ ap (λ (n : List ℕ). or_else (indexed old x) (bytes_eq x n) c.width_of.result) same
     ∙ ap (λ (v : Option Width). or_else (indexed old x) (bytes_eq x r.name.now.name) v) c.width_of.ensures))

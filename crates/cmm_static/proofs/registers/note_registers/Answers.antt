@@ -6,7 +6,7 @@ use Rattle.cmm_accepted.specs.Spots.{first_of}
 use Rattle.cmm_accepted.specs.Typing.{type_width}
 use Rattle.cmm_names.proofs.Shared.{noted_next_of}
 use Rattle.cmm_static.specs.inside.Flat.{register_spots_by}
-use Rattle.cmm_static.specs.inside.Units.{register_shown}
+use Rattle.cmm_linked.specs.Registers.{register_shown}
 use Rattle.cmm_typedefs.specs.Types.{senses_of}
 use Rattle.cmm_static.proofs.registers.note_registers.Goals as goal
 

@@ -7,7 +7,7 @@ use Rattle.cmm_accepted.specs.Spots.{first_of}
 use Rattle.cmm_accepted.specs.Typing.{type_width}
 use Rattle.cmm_static.specs.inside.Flat.{register_spots_by}
 use Rattle.cmm_static.specs.inside.Linked.{AreFound}
-use Rattle.cmm_static.specs.inside.Units.{register_shown}
+use Rattle.cmm_linked.specs.Registers.{register_shown}
 use Rattle.cmm_typedefs.specs.Types.{senses_of}
 use Rattle.cmm_static.proofs.registers.note_registers.Given as goal
 

@@ -1,0 +1,3 @@
+pub mod EntryCycles
+pub mod Ends
+pub mod Shared

@@ -1,0 +1,2 @@
+pub mod EntryFaults
+pub mod DataEnds

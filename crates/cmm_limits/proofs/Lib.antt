@@ -1,0 +1,5 @@
+pub mod NamedVariables
+pub mod Rooms
+pub mod Counts
+pub mod Spans
+pub mod Sums

@@ -1,0 +1,106 @@
+-- Sums that are capped, and sums over the procedures of a unit.
+use Rattle.std.proofs.Common.{◌≡◌, ℕ, ◌+◌, ◌-◌, ◌^◌, ◌<◌, length, map, min, take, get_or, refl, sym, ap, ◌∙◌, arith, List, [], ◌∷◌, ◌++◌}
+use Rattle.std.specs.Prelude.{flat_map}
+use Rattle.cmm_ast.specs.declared.expression.Expr.{Expr}
+use Rattle.cmm_ast.specs.declared.expression.Primary.{Primary}
+use Rattle.cmm_ast.specs.declared.procedure.Proc.{Proc}
+use denote.Hole.Carrier as Carrier
+use Rattle.cmm_ast.specs.declared.unit.Item.{Item, Row_of-Item, end_of-Item, more_of-Item, items-the_row-Item, items_hidden-the_row-Item-0}
+use Rattle.cmm_ast.specs.declared.unit.Item.TheVariants as items
+use Rattle.cmm_ast.specs.declared.unit.Item.TheBlock as Items
+use Rattle.cmm_accepted.specs.Declarations.{NamedUnit, sum_of}
+use Rattle.cmm_accepted.specs.Items.{SpanTree, Within, item_within, items_within, parts_in}
+use Rattle.cmm_accepted.specs.Limits.{over_procs, site_tokens, site_variables, tokens_of}
+use Rattle.cmm_accepted.specs.Senses.{Senses}
+use Rattle.cmm_accepted.specs.Statements.{scope_of}
+use Rattle.cmm_names.specs.Shown.{alone, thing_item, whats}
+use Rattle.cmm_names.specs.declared.thing.Thing.{Thing}
+use Rattle.cmm_names.proofs.Shared.{flat_plain, mapped_next, sum_is}
+use Rattle.cmm_limits.specs.Capped.{capped}
+use Rattle.cmm_limits.specs.inside.OfUnits.{item_variables, spans_in}
+
+regrouped : (a b c : ℕ) → a + (b + c) ≡ (a + b) + c
+regrouped a b c = omega arith
+
+procs_append : (count : List SpanTree → Proc → ℕ) (xs ys : List (Within Item)) → over_procs count (xs ++ ys) ≡ over_procs count xs + over_procs count ys
+procs_append count [] ys = omega arith
+procs_append count (x ∷ xs) ys = ap (λ n. elim x.what [ items.Proc p ↦ count x.spans p | _ ↦ 0 ] + n) (procs_append count xs ys) ∙ regrouped _ (over_procs count xs) (over_procs count ys)
+
+sum_append : (count : Item → ℕ) (xs ys : List (Within Item)) → sum_of count (xs ++ ys) ≡ sum_of count xs + sum_of count ys
+sum_append count [] ys = omega arith
+sum_append count (x ∷ xs) ys = ap (λ n. count x.what + n) (sum_append count xs ys) ∙ regrouped (count x.what) (sum_of count xs) (sum_of count ys)
+
+one_sum : (count : Item → ℕ) (x : Within Item) → sum_of count (x ∷ []) ≡ count x.what
+one_sum count x = plain (count x.what)
+  where
+    plain : (n : ℕ) → n + 0 ≡ n
+    plain n = omega arith
+
+-- ---- what is capped
+
+pub capped_sum : (a b c d : ℕ) → c ≡ capped a → d ≡ capped b → capped (c + d) ≡ capped (a + b)
+capped_sum a b c d e f = under (2 ^ 64 - 1) a b c d e f
+  where
+    under : (m a b c d : ℕ) → c ≡ min a m → d ≡ min b m → min (c + d) m ≡ min (a + b) m
+    under m a b c d e f = omega arith
+
+-- a sum over what stands in two places
+pub capped_more : {B : Type 0} (sum : List B → ℕ) → ((xs ys : List B) → sum (xs ++ ys) ≡ sum xs + sum ys) → (xs ys whole : List B) (a b : ℕ) → whole ≡ xs ++ ys →
+    a ≡ capped (sum xs) → b ≡ capped (sum ys) → capped (a + b) ≡ capped (sum whole)
+capped_more sum appended xs ys whole a b is e f = capped_sum (sum xs) (sum ys) a b e f ∙ ap capped (sym (appended xs ys) ∙ ap sum (sym is))
+
+-- ---- turns of loops
+
+pub spans_next : {A : Type 0} (names : Senses) (f : A → List (Within Item)) (xs : List A) (i : ℕ) (x : A) (so_far more : ℕ) → i < length xs → x ≡ get_or xs i x →
+    so_far ≡ capped (spans_in names (flat_map f (take i xs))) → more ≡ capped (spans_in names (f x)) → capped (so_far + more) ≡ capped (spans_in names (flat_map f (take (i + 1) xs)))
+spans_next names f xs i x so_far more within is e g =
+    capped_more (spans_in names) (procs_append _) (flat_map f (take i xs)) (f x) (flat_map f (take (i + 1) xs)) so_far more (flat_plain f xs i x within is) e g
+
+pub variables_next : (ts : List Thing) (i : ℕ) (t : Thing) (so_far more : ℕ) → i < length ts → t ≡ get_or ts i t →
+    so_far ≡ capped (sum_of item_variables (map alone (take i ts))) → more ≡ capped (item_variables (thing_item t)) →
+    capped (so_far + more) ≡ capped (sum_of item_variables (map alone (take (i + 1) ts)))
+variables_next ts i t so_far more within is e g =
+    capped_more (sum_of item_variables) (sum_append item_variables) (map alone (take i ts)) (alone t ∷ []) (map alone (take (i + 1) ts)) so_far more (mapped_next alone ts i t within is) e
+    (g ∙ ap capped (sym (one_sum item_variables (alone t))))
+
+-- ---- the items of a section
+
+item_rows : (spans : List SpanTree) (n : _) (row : Row_of-Item n) → items_within spans row ≡ flat_map (item_within spans) (items-the_row-Item n row)
+item_rows spans n end_of-Item = refl
+item_rows spans n (more_of-Item {n = m} i rest) = ap (λ t. item_within spans i ++ t) (item_rows spans m rest)
+
+none_more : (n : ℕ) → 0 + n ≡ n
+none_more n = omega arith
+
+span_is : (names : Senses) (spans : List SpanTree) (t : ℕ) (key : Primary) (value : Expr) (inside : List Item) →
+    spans_in names (item_within spans (items.Span t key value inside)) ≡ spans_in names (flat_map (item_within (record { key = key; value = value } ∷ spans)) inside)
+unfolding Items.hidden-the_row-Item-0 Carrier.hidden
+span_is names spans t key value inside = let around = record { key = key; value = value } ∷ spans in
+    none_more (spans_in names (items_within around (Items.hidden-the_row-Item-0 inside)))
+    ∙ ap (spans_in names) (item_rows around _ (Items.hidden-the_row-Item-0 inside) ∙ ap (flat_map (item_within around)) (items_hidden-the_row-Item-0 inside))
+
+pub span_item : (names : Senses) (spans : List SpanTree) (i : Item) (t : ℕ) (key : Primary) (value : Expr) (inside : List Item) → i ≡ items.Span t key value inside →
+    spans_in names (item_within spans i) ≡ spans_in names (flat_map (item_within (record { key = key; value = value } ∷ spans)) inside)
+span_item names spans i t key value inside is = ap (λ j. spans_in names (item_within spans j)) is ∙ span_is names spans t key value inside
+
+pub proc_item : (names : Senses) (spans : List SpanTree) (i : Item) (p : Proc) → i ≡ items.Proc p →
+    spans_in names (item_within spans i) ≡ site_tokens (scope_of names p) (tokens_of names spans) (parts_in [] p.body)
+proc_item names spans i p is = ap (λ j. spans_in names (item_within spans j)) is ∙ no_more (site_tokens (scope_of names p) (tokens_of names spans) (parts_in [] p.body))
+  where
+    no_more : (n : ℕ) → n + 0 ≡ n
+    no_more n = omega arith
+
+-- ---- a whole unit
+
+item_more : (x : Item) (a b : ℕ) → a ≡ b → item_variables x + a ≡ elim x [ items.Proc p ↦ item_variables (items.Proc p) | _ ↦ 0 ] + b
+item_more (items.Proc p) a b e = ap (λ n. item_variables (items.Proc p) + n) e
+item_more (items.Decl d) a b e = ap (λ n. 0 + n) e
+item_more (items.Datum d) a b e = ap (λ n. 0 + n) e
+item_more (items.Span' t key value size inside) a b e = ap (λ n. 0 + n) e
+
+variables_are : (is : List (Within Item)) → sum_of item_variables is ≡ over_procs (λ spans p. item_variables (items.Proc p)) is
+variables_are [] = refl
+variables_are (i ∷ is) = item_more i.what (sum_of item_variables is) (over_procs (λ spans p. item_variables (items.Proc p)) is) (variables_are is)
+
+pub unit_variables : (names : Senses) (u : NamedUnit) (ts : List Thing) → map thing_item ts ≡ whats u.items → sum_of item_variables (map alone ts) ≡ site_variables names u
+unit_variables names u ts same = sum_is item_variables ts u.items same ∙ variables_are u.items

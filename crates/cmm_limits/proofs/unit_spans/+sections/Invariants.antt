@@ -1,0 +1,13 @@
+use Rattle.std.proofs.Common.{◌≡◌, List, take}
+use Rattle.std.specs.Prelude.{flat_map}
+use Rattle.cmm_accepted.specs.Items.{SpanTree, item_within}
+use Rattle.cmm_accepted.specs.Limits.{tokens_of}
+use Rattle.cmm_limits.specs.Capped.{capped}
+use Rattle.cmm_limits.specs.inside.InForce.{HasTokens}
+use Rattle.cmm_limits.specs.inside.OfUnits.{spans_in}
+use Rattle.cmm_limits.proofs.unit_spans.+sections.Given as goal
+
+abbrev pub invariant-in_items-loop-item : goal.invariant-in_items-loop-item
+invariant-in_items-loop-item g l = (l.tokens ≡ l.initial.tokens)
+    × ((spans : List SpanTree) → HasTokens l.initial.tokens l.different (tokens_of (g.N.Names.senses l.names) spans) →
+    l.sum ≡ capped (spans_in (g.N.Names.senses l.names) (flat_map (item_within spans) (take l.item-index l.items))))

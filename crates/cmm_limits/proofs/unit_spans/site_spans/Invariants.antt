@@ -1,0 +1,9 @@
+use Rattle.std.proofs.Common.{◌≡◌, take}
+use Rattle.std.specs.Prelude.{flat_map}
+use Rattle.cmm_accepted.specs.Items.{top_items}
+use Rattle.cmm_limits.specs.Capped.{capped}
+use Rattle.cmm_limits.specs.inside.OfUnits.{spans_in}
+use Rattle.cmm_limits.proofs.unit_spans.site_spans.Given as goal
+
+abbrev pub invariant-loop-part : goal.invariant-loop-part
+invariant-loop-part g l = l.sum ≡ capped (spans_in (g.N.Names.senses l.names) (flat_map top_items (take l.part-index l.part-items)))

@@ -1,0 +1,4 @@
+pub mod VariableNames
+pub mod Ends
+pub mod InForce
+pub mod OfUnits

@@ -1,0 +1,25 @@
+//! The limits on a procedure, and what the limits on sums over all units ask of it.
+//!
+//! `note_limits` notes what a procedure has past a limit: tokens, variables and stackdata, exactly as `cmm_accepted` has it. `variable_count`,
+//! `site_count` and `site_tokens` are numbers of a procedure, and `site_variables` and `site_spans` their sums over a unit. Time is linear, but
+//! that a token is looked for among those of the spans around it.
+//!
+//! - `limits`: the call `note_limits`. `variables`: the variables of a procedure. `stackdata`: where its stackdata ends.
+//! - `sites`: its call sites. `span_tokens`: the tokens that have a span there.
+//! - `unit_variables`, `unit_spans`: the same of all procedures of a unit, added up.
+#![tactic(auto)]
+
+mod limits;
+mod sites;
+mod span_tokens;
+mod stackdata;
+mod unit_spans;
+mod unit_variables;
+mod variables;
+
+pub use limits::note_limits;
+pub use sites::site_count;
+pub use span_tokens::site_tokens;
+pub use unit_spans::site_spans;
+pub use unit_variables::site_variables;
+pub use variables::variable_count;

@@ -1,0 +1,80 @@
+//! The limits on a procedure.
+#![tactic(auto, using(cmm_names::proofs::Shared::first_of_append))]
+
+ghost use Rattle.std.specs.Prelude.{◌≡◌, ◌+◌, ◌-◌, nat_le, map, OnOk};
+ghost use Rattle.cmm_accepted.specs.Expressions.{past_limit};
+ghost use Rattle.cmm_accepted.specs.Limits as limits;
+ghost use Rattle.cmm_accepted.specs.Scopes.{senses};
+ghost use Rattle.cmm_accepted.specs.Senses.{Senses};
+ghost use Rattle.cmm_accepted.specs.Spots.{first_of, unless};
+ghost use Rattle.cmm_accepted.specs.Statements.{scope_of};
+ghost use Rattle.cmm_rules.specs.declared.rule.Rule.TheVariants.{Limit};
+ghost use Rattle.cmm_scopes.specs.Bodies.{scope_of_body};
+ghost use Rattle.cmm_typing.specs.Fitting.{AreWords};
+
+use crate::stackdata::{note_rooms, rooms_of};
+use crate::variables::variables_of;
+use cmm_accepted::Spot;
+use cmm_ast::{Ident, Proc};
+use cmm_items::Items;
+use cmm_names::{pieces_of, unless};
+use cmm_rules::Rule;
+use cmm_scopes::BodyNames;
+use cmm_typing::Names;
+use std::alloc::{AllocError, Global};
+
+/// How many tokens a procedure may have, from its name to its closing brace.
+const TOKENS_LIMIT: u32 = 131_072;
+
+/// How many variables a procedure may have, its formals included.
+const VARIABLES_LIMIT: usize = 1024;
+
+/// Notes that a procedure has too many tokens: rule 40.
+fn note_tokens(proc: &Proc, best: &mut Option<Spot>)
+    ensures { best.new ≡ first_of best.old (unless (nat_le (proc.now.past - proc.now.name.token) 131072) Limit (proc.now.name.token + 131072)) }
+{
+    let first = proc.name.token;
+    let tokens = proc.past.saturating_sub(first);
+    if tokens > TOKENS_LIMIT {
+        unless(best, false, Rule::Limit, first + TOKENS_LIMIT);
+    }
+}
+
+/// Notes the first name past the limit on variables: rule 40.
+fn note_past_limit(names: &Items<&Ident>, best: &mut Option<Spot>)
+    ensures { best.new ≡ first_of best.old (past_limit Limit 1024 (λ i. i.token) (map (λ v. v.now) names.now)) }
+{
+    match names.get(VARIABLES_LIMIT) {
+        Some(name) => unless(best, false, Rule::Limit, name.token),
+        None => {}
+    }
+}
+
+/// Notes that a procedure has too many variables: rule 40.
+fn note_variables(alloc: Global, proc: &Proc, best: &mut Option<Spot>) -> Result<(), AllocError>
+    ensures { OnOk result (best.new ≡ first_of best.old (past_limit Limit 1024 (λ d. d.name.token) (limits.variables proc.now))) }
+{
+    let names = variables_of(alloc, proc)?;
+    note_past_limit(&names, best);
+    Ok(())
+}
+
+/// Notes what a procedure has past a limit, rule 40: tokens, variables and stackdata. Its names mean what `names` tells. Fails only for want
+/// of memory.
+pub fn note_limits<'a, N: Names>(
+    alloc: Global,
+    names: &BodyNames<'a, N>,
+    proc: &Proc,
+    best: &mut Option<Spot>,
+) -> Result<(), AllocError>
+    requires { AreWords (senses (scope_of_body N.senses names.now)) }
+    ensures { OnOk result ((outer : Senses) → scope_of_body N.senses names.now ≡ scope_of outer proc.now →
+        best.new ≡ first_of best.old (limits.proc_limits outer proc.now)) }
+{
+    note_tokens(proc, best);
+    note_variables(alloc, proc, best)?;
+    let pieces = pieces_of(alloc, &proc.body)?;
+    let rooms = rooms_of(alloc, pieces.as_slice())?;
+    note_rooms(names, rooms.as_slice(), best);
+    Ok(())
+}

@@ -1,0 +1,174 @@
+//! Where the stackdata of a procedure ends. What is broken takes no room.
+#![tactic(auto, using(cmm_names::proofs::Shared::first_of_append))]
+
+ghost use Rattle.std.specs.Prelude.{◌≡◌, ◌*◌, ◌<◌, ◌≤◌, ◌∷◌, ◌++◌, [], ℕ, nat_le, map, flat_map, IfOk, OnOk};
+ghost use Rattle.std.specs.Option.{ForSome};
+ghost use Rattle.cmm_accepted.specs.Limits as limits;
+ghost use Rattle.cmm_accepted.specs.Scopes.{senses, types};
+ghost use Rattle.cmm_accepted.specs.Spots.{first_of, unless};
+ghost use Rattle.cmm_limits.specs.inside.Ends.{IsWithin, form_piece, rooms_in, words_in};
+ghost use Rattle.cmm_names.specs.Shown.{piece_part};
+ghost use Rattle.cmm_program.specs.Layout.{aligned_up, end_of};
+ghost use Rattle.cmm_rules.specs.declared.rule.Rule.TheVariants.{Limit};
+ghost use Rattle.cmm_scopes.specs.Bodies.{scope_of_body};
+ghost use Rattle.cmm_typing.specs.Fitting.{AreWords};
+
+use cmm_accepted::Spot;
+use cmm_ast::{Expr, Int, LocalForm, Room, RoomForm, TypeName};
+use cmm_items::Items;
+use cmm_names::{Piece, unless};
+use cmm_rules::Rule;
+use cmm_scopes::BodyNames;
+use cmm_typing::Names;
+use cmm_wanted::{is_alignment, number_of, width_of};
+use std::alloc::{AllocError, Global};
+
+/// The most bytes that the stackdata of a procedure may have, with its padding: 64 KiB.
+const STACKDATA_LIMIT: u64 = 0x1_0000;
+
+/// The least multiple of an alignment that is not below a place.
+fn aligned_up(align: u64, place: u64) -> u64
+    requires align { 0 < align }
+    requires small { align ≤ 16 }
+    requires place { place ≤ 65536 }
+    ensures { result ≡ aligned_up align place }
+{
+    (place + (align - 1)) / align * align
+}
+
+/// Where so many words of a size end from a place on, unless that is past the limit.
+fn laid(place: u64, align: u64, size: u64, count: u64) -> Option<u64>
+    requires place { place ≤ 65536 }
+    requires align { 0 < align }
+    requires small { align ≤ 16 }
+    requires size { 0 < size }
+    ensures { IsWithin result (end_of place (record { align = align; length = count * size } ∷ [])) }
+{
+    let start = aligned_up(align, place);
+    let room = STACKDATA_LIMIT.checked_sub(start)?;
+    if count > room / size {
+        return None;
+    }
+    Some(start + count * size)
+}
+
+/// How many bytes a word of a type has.
+fn bytes_of<N: Names>(names: &N, t: &TypeName) -> u64
+    ensures value { result ≡ limits.bytes_of (N.senses names.now) t.now }
+    ensures some { 0 < result }
+    ensures small { result ≤ 16 }
+{
+    match width_of(names, t) {
+        Some(width) => width.bytes(),
+        None => 1,
+    }
+}
+
+/// How many words a room has.
+fn words_in<N: Names>(names: &N, count: &Option<Expr>) -> u64
+    requires { AreWords (N.senses names.now) }
+    ensures { result ≡ words_in (N.senses names.now) count.now }
+{
+    match count {
+        Some(e) => number_of(names, e).unwrap_or(0),
+        None => 1,
+    }
+}
+
+/// Where an alignment ends.
+fn after_alignment(alignment: &Int, place: u64) -> Option<u64>
+    requires { place ≤ 65536 }
+    ensures { IsWithin result (end_of place (limits.align_piece alignment.now.value ∷ [])) }
+{
+    if is_alignment(alignment.value) {
+        laid(place, alignment.value, 1, 0)
+    } else {
+        laid(place, 1, 1, 0)
+    }
+}
+
+/// Where a room ends from a place on, unless that is past the limit.
+fn after_room<'a, N: Names>(names: &BodyNames<'a, N>, form: &RoomForm, place: u64) -> Option<u64>
+    requires words { AreWords (senses (scope_of_body N.senses names.now)) }
+    requires place { place ≤ 65536 }
+    ensures { IsWithin result (end_of place (form_piece (scope_of_body N.senses names.now) form.now ∷ [])) }
+{
+    match form {
+        RoomForm::Label(_) => laid(place, 1, 1, 0),
+        RoomForm::Align(alignment) => after_alignment(alignment, place),
+        RoomForm::Data { width, count } => {
+            let size = bytes_of(names.types(), width);
+            laid(place, size, size, words_in(names, count))
+        }
+    }
+}
+
+/// The same where the place may be past the limit.
+fn after_any<'a, N: Names>(names: &BodyNames<'a, N>, room: &Room, place: Option<u64>) -> Option<u64>
+    requires words { AreWords (senses (scope_of_body N.senses names.now)) }
+    requires place { ForSome place (λ p. p ≤ 65536) }
+    ensures { (at : ℕ) → IsWithin place at → IsWithin result (end_of at (limits.room_piece (scope_of_body N.senses names.now) room.now ∷ [])) }
+{
+    match place {
+        Some(place) => after_room(names, &room.form, place),
+        None => None,
+    }
+}
+
+fn add_each<'a>(rooms: &'a [Room], to: &mut Items<&'a Room>) -> Result<(), AllocError>
+    ensures { OnOk result (map (λ r. r.now) to.new ≡ map (λ r. r.now) to.old ++ rooms.now) }
+{
+    for room in rooms {
+        to.push(room)?;
+    }
+    Ok(())
+}
+
+fn add_local<'a>(form: &'a LocalForm, to: &mut Items<&'a Room>) -> Result<(), AllocError>
+    ensures { OnOk result (map (λ r. r.now) to.new ≡ map (λ r. r.now) to.old ++ rooms_in form.now) }
+{
+    match form {
+        LocalForm::Stackdata(rooms) => add_each(rooms.as_slice(), to),
+        LocalForm::Variables { .. } => Ok(()),
+    }
+}
+
+/// Adds the rooms that a piece of a body declares.
+fn add_declared<'a>(piece: Piece<'a>, to: &mut Items<&'a Room>) -> Result<(), AllocError>
+    ensures { OnOk result (map (λ r. r.now) to.new ≡ map (λ r. r.now) to.old ++ limits.local_rooms (piece_part piece.entry)) }
+{
+    match piece {
+        Piece::Local(local) => add_local(&local.form, to),
+        Piece::Stmt(_) => Ok(()),
+    }
+}
+
+/// The rooms of a procedure, in textual order.
+pub(crate) fn rooms_of<'a>(
+    alloc: Global,
+    pieces: &[Piece<'a>],
+) -> Result<Items<&'a Room>, AllocError>
+    ensures { IfOk result (λ rooms. map (λ r. r.now) rooms ≡ flat_map limits.local_rooms (map piece_part pieces.now)) }
+{
+    let mut rooms = Items::new(alloc);
+    for piece in pieces {
+        add_declared(*piece, &mut rooms)?;
+    }
+    Ok(rooms)
+}
+
+/// Notes each room that ends past the limit: rule 40.
+pub(crate) fn note_rooms<'a, N: Names>(
+    names: &BodyNames<'a, N>,
+    rooms: &[&Room],
+    best: &mut Option<Spot>,
+)
+    requires { AreWords (senses (scope_of_body N.senses names.now)) }
+    ensures { best.new ≡ first_of best.old (limits.room_limits (scope_of_body N.senses names.now) 0 (map (λ r. r.now) rooms.now)) }
+{
+    let mut place = Some(0);
+    for room in rooms {
+        place = after_any(names, room, place);
+        unless(best, place.is_some(), Rule::Limit, room.token);
+    }
+}

@@ -1,0 +1,3 @@
+pub mod Registering
+pub mod Gathering
+pub mod Shared

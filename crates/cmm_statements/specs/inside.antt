@@ -1,0 +1,4 @@
+pub mod Forms
+pub mod Parted
+pub mod Sides
+pub mod Formals

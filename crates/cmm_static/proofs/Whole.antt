@@ -1,0 +1,18 @@
+-- What is noted of a procedure: its faults, and then what it has past a limit.
+use Rattle.std.proofs.Common.{◌≡◌, List, ◌++◌, Option, ap, sym, ◌∙◌}
+use Rattle.cmm_ast.specs.declared.procedure.Proc.{Proc}
+use Rattle.cmm_ast.specs.declared.unit.Item.TheVariants as items
+use Rattle.cmm_accepted.specs.declared.spot.Spot.{Spot}
+use Rattle.cmm_accepted.specs.Faults.{item_procedure_spots}
+use Rattle.cmm_accepted.specs.Limits.{proc_limits}
+use Rattle.cmm_accepted.specs.Senses.{Senses}
+use Rattle.cmm_accepted.specs.Spots.{first_of}
+use Rattle.cmm_accepted.specs.Statements.{proc_spots}
+use Rattle.cmm_names.proofs.Shared.{first_of_append}
+
+joined : (b0 b1 b2 : Option Spot) (xs ys : List Spot) → b1 ≡ first_of b0 xs → b2 ≡ first_of b1 ys → b2 ≡ first_of b0 (xs ++ ys)
+joined b0 b1 b2 xs ys first then_ = then_ ∙ ap (λ b. first_of b ys) first ∙ sym (first_of_append b0 xs ys)
+
+pub proc_noted : (names : Senses) (p : Proc) (b0 b1 b2 : Option Spot) → b1 ≡ first_of b0 (proc_spots names p) → b2 ≡ first_of b1 (proc_limits names p) →
+    b2 ≡ first_of b0 (item_procedure_spots names (items.Proc p))
+proc_noted names p b0 b1 b2 first then_ = joined b0 b1 b2 (proc_spots names p) (proc_limits names p) first then_

@@ -1,0 +1,9 @@
+use Rattle.cmm_accepted.specs.Faults.{item_procedure_spots}
+use Rattle.cmm_names.specs.Shown.{thing_item}
+use Rattle.cmm_names.proofs.Shared.{noted_next_of}
+use Rattle.cmm_static.proofs.procedures.note_procedures.Goals as goal
+
+pub loop-thing-preserved : goal.loop-thing-preserved
+loop-thing-preserved g c = rw (c.in_ok-note_thing.ensures, c.loop-thing.invariant)
+    (noted_next_of thing_item (item_procedure_spots (g.N.Names.senses c.args.names.now)) c.args.best.now c.args.things.now c.loop-thing.thing-index c.thing-item.result
+    c.loop-thing-test.true c.thing-item.is)

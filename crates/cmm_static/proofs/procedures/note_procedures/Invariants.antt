@@ -1,0 +1,9 @@
+use Rattle.std.proofs.Common.{◌≡◌, map, take}
+use Rattle.std.specs.Prelude.{flat_map}
+use Rattle.cmm_accepted.specs.Spots.{first_of}
+use Rattle.cmm_accepted.specs.Faults.{item_procedure_spots}
+use Rattle.cmm_names.specs.Shown.{thing_item}
+use Rattle.cmm_static.proofs.procedures.note_procedures.Given as goal
+
+abbrev pub invariant-loop-thing : goal.invariant-loop-thing
+invariant-loop-thing g l = l.best ≡ first_of l.fn.best (flat_map (item_procedure_spots (g.N.Names.senses l.names)) (map thing_item (take l.thing-index l.things)))

@@ -1,0 +1,4 @@
+pub mod InOrder
+pub mod Extents
+pub mod Heads
+pub mod inside

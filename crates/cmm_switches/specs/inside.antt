@@ -1,0 +1,3 @@
+pub mod Earlier
+pub mod Arms
+pub mod Falling

@@ -1,0 +1,4 @@
+pub mod FirstFaults
+pub mod Named
+pub mod Aligned
+pub mod PartTypes
