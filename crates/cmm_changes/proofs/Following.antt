@@ -3,22 +3,20 @@ use Rattle.std.proofs.Common.{◌≡◌, ◌≢◌, ℕ, ◌+◌, ◌*◌, ◌�
 use Rattle.std.specs.Prelude.{◌==◌, Bool, true, false, IsTrue}
 use Rattle.std.proofs.lemmas.Bool.Decides.{nat_tests}
 use Rattle.rv_asm.proofs.Shared.{appends_none, appends_one, appends_then, appends_weaker, longest-append, reaches_then, reaches_weaker, single_does}
-use Rattle.rv_asm.specs.Appending.{Appends, Then}
+use Rattle.rv_asm.specs.Appending.{Then}
 use Rattle.rv_asm.specs.Parts.{Code, Does, Gives}
 use Rattle.rv_asm.specs.Reaching.{Reaches}
-use Rattle.rv_asm.specs.Singles.{SingleDoes}
-use Rattle.rv_asm.specs.Sizes.{all_longest, longest}
+use Rattle.rv_asm.specs.Sizes.{longest}
 use Rattle.rv_asm.specs.declared.part.Part.{Part}
 use Rattle.rv_asm.specs.declared.part.Part.TheVariants.{Single}
 use Rattle.rv_table.proofs.Shared.{sound_steps}
 use Rattle.rv_table.specs.Bounds.{IsSound}
-use Rattle.rv_table.specs.Machine.{MemoryMap, Outcome, State, Next, Asks, Traps, done, extended, instruction_step, is_accessible, loaded}
+use Rattle.rv_table.specs.Machine.{MemoryMap, State, Asks, done, extended, is_accessible, loaded}
 use Rattle.rv_table.specs.Row.{row}
 use Rattle.rv_table.specs.declared.effects.Effect.{Effect}
 use Rattle.rv_table.specs.declared.effects.Effect.TheVariants.{Set, Load, Store}
 use Rattle.rv_table.specs.declared.instruction.Instr.{Instr}
 use Rattle.rv_table.specs.declared.request.Request.{Request}
-use Rattle.rv_table.specs.declared.request.Request.TheVariants.{GetByte}
 use Rattle.cmm_changes.specs.Changes.{Sets, Writes}
 use Rattle.cmm_changes.specs.Laws.{SetsFollow}
 use Rattle.cmm_changes.specs.Pieces.{Adds, Always, BeginsQuietly, Leads, Runs}
@@ -119,7 +117,7 @@ adds_none old = record { appends = appends_none old; few = omega arith }
 -- ---- one instruction
 
 -- an instruction whose effect is not to ask
-quiet_by : (x : Code) (i : Instr) (from to : ℕ) → Does x (Single i) from to →
+pub quiet_by : (x : Code) (i : Instr) (from to : ℕ) → Does x (Single i) from to →
     ((s : State) (r : Request) → s.pc ≡ from → done x.map s (row s.registers from i) ≡ Asks r → ⊥) → BeginsQuietly x from
 quiet_by x i from to does never s r at asks = absurd (never s r at (sym (does.1 s at) ∙ asks))
 
@@ -149,7 +147,7 @@ never_after_store m s e address size value r is asks =
 differs : (r rd : ℕ) → (r == rd) ≡ false → r ≢ rd
 differs r rd h = grind (arith, nat_tests)
 
-gives_sets : (rd n to : ℕ) (s t : State) → Gives rd n to s t → (t.pc ≡ to) × Sets rd n s t
+pub gives_sets : (rd n to : ℕ) (s t : State) → Gives rd n to s t → (t.pc ≡ to) × Sets rd n s t
 gives_sets rd n to s t gives = (
   gives.pc,
   record {

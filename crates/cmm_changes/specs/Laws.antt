@@ -1,8 +1,9 @@
 -- What holds of changes.
-use Rattle.std.specs.Prelude.{◌≡◌, ◌≢◌, ℕ, ◌+◌, ◌<◌, ◌^◌}
+use Rattle.std.specs.Prelude.{◌≡◌, ℕ, ◌<◌, ◌^◌}
 use Rattle.cmm_chain.specs.declared.frame.Location.{Location}
 use Rattle.rv_asm.specs.Parts.{Code}
 use Rattle.rv_table.specs.Machine.{MemoryMap, State}
+use Rattle.cmm_changes.specs.Accesses.{CanReachGlobal, PutsGlobal, global_at}
 use Rattle.cmm_changes.specs.Changes.{CanReach, IsPlace, Keeps, Puts, Sets, read_at}
 use Rattle.cmm_changes.specs.Pieces.{Always, Leads}
 
@@ -22,3 +23,9 @@ abbrev pub SetsFollow : Type 0
 SetsFollow =
     (x : Code) (from mid to a b u v : ℕ) → Leads 1 Always (Sets a u) x from mid → Leads 1 Always (Sets b v) x mid to →
     Leads 2 Always (λ s t. (between : State) × Sets a u s between × Sets b v between t) x from to
+
+-- a global register has what was put there, and where only scratch registers are changed it has what it had
+pub record GlobalsAreRead : Type 0 where
+  pub put : (offset n : ℕ) (s t : State) → n < 2 ^ 64 → PutsGlobal offset n s t → global_at offset t ≡ n
+  pub kept : (offset : ℕ) (s t : State) → Keeps s t → global_at offset t ≡ global_at offset s
+  pub reachable : (offset : ℕ) (m : MemoryMap) (s t : State) → Keeps s t → CanReachGlobal offset m s → CanReachGlobal offset m t

@@ -1,5 +1,5 @@
 //! What is proved of changes, as contracts of functions that do nothing.
-ghost use Rattle.cmm_changes.specs.Laws.{KeptIsReachable, KeptIsRead, PutIsRead, SetsFollow};
+ghost use Rattle.cmm_changes.specs.Laws.{GlobalsAreRead, KeptIsReachable, KeptIsRead, PutIsRead, SetsFollow};
 
 /// A place has what was put there, and one that keeps its register and the memory has what it had.
 pub fn places_are_read()
@@ -12,4 +12,9 @@ pub fn places_are_read()
 /// likewise: `leads_then` and the other lemmas of proofs/Shared.antt.
 pub fn pieces_follow()
     ensures { SetsFollow }
+{}
+
+/// The same of global registers.
+pub fn globals_are_read()
+    ensures { GlobalsAreRead }
 {}

@@ -6,8 +6,11 @@
 //! above, says what it shows of them.
 //!
 //! - `specs/Changes`: the changes, and what a place of the activation has.
+//! - `specs/Accesses`: what a global register has, and that it gets a number.
 //! - `specs/Pieces`: pieces of code that make a change, with the instructions that they add and that they execute at most, and that the
 //!   first of them asks for nothing but input.
+//! - `specs/Ways`: pieces behind which control goes to an address that the state tells.
+//! - `specs/Requests`: pieces that ask once, and what is done behind the request.
 //! - `laws`: what is read after a change, and how pieces follow each other.
 //!
 //! Pieces range over everything that may be said of two states, which a contract cannot, so the laws by which they compose are public

@@ -1,6 +1,7 @@
 mod Sums
 mod Places
 mod Numbers
+mod Constants
 mod Wide
 mod Widths
 mod Shifting
@@ -15,5 +16,14 @@ mod Deciding
 mod Telling
 mod Converting
 mod Operands
-mod Binary
+mod Keeping
+mod Symbols
+mod Both
+mod Putting
+mod Loading
+mod Turning
+mod Asking
+mod Ranging
+mod Short
+mod Gathering
 mod Rows

@@ -1,5 +1,5 @@
 -- Worked rows: the code of operators, comparisons and an assignment, run.
-use Rattle.std.proofs.Common.{◌≡◌, ℕ, List, [], ◌∷◌, refl, true, false, lit<, Option, Some, None}
+use Rattle.std.proofs.Common.{◌≡◌, ℕ, ◌+◌, ◌*◌, List, [], ◌∷◌, refl, true, false, lit<, Option, Some, None}
 use Rattle.cmm_chain.specs.declared.frame.Location.TheVariants.{Slot, Saved}
 use Rattle.cmm_words.specs.Words.{holds, value2}
 use Rattle.cmm_words.specs.declared.operators.Cmp.TheVariants as cmp
@@ -8,9 +8,16 @@ use Rattle.cmm_words.specs.declared.width.Width.TheVariants.{W8, W64}
 use Rattle.rv_table.specs.Machine.{MemoryMap, State, steps}
 use Rattle.rv_table.specs.Registers.{with_register}
 use Rattle.cmm_changes.specs.Changes.{read_at}
-use Rattle.cmm_select.specs.Assignments.{CanAssign}
+use Rattle.cmm_select.specs.Assignments.{CanAssignBoth}
 use Rattle.cmm_select.specs.Operators.{HaveWords}
 use Rattle.cmm_select.specs.Sources.{brought}
+use Rattle.cmm_select.specs.declared.destination.Destination.TheVariants as destination
+use Rattle.cmm_select.specs.declared.operand.Operand.TheVariants.{Held, Symbol}
+use Rattle.cmm_graph.specs.declared.node.Arm.{Arm}
+use Rattle.rv_asm.specs.declared.part.Label.{Label}
+use Rattle.cmm_select.specs.Memory.{accesses}
+use Rattle.cmm_select.specs.Operands.{most_for, operand_at}
+use Rattle.cmm_select.specs.Switches.{arm_address}
 use Rattle.cmm_select.specs.declared.source.Source.TheVariants.{Place, Number, Address}
 
 abbrev running : List ℕ → MemoryMap
@@ -58,11 +65,46 @@ abbrev in_slot : Option State → Option ℕ
 in_slot (Some t) = Some (read_at (Slot 8) t)
 in_slot None = None
 
-may_be_assigned : CanAssign W8 (Place (Saved 9)) (Number 7) (Slot 8) assignment before
-may_be_assigned = record { brings_left = tt; brings_right = tt; left_word = lit< tt; right_word = lit< tt; reaches = (lit< tt, refl) }
+may_be_assigned : CanAssignBoth (λ l. 0) W8 (Held (Place (Saved 9))) (Held (Number 7)) (destination.Place (Slot 8)) assignment before
+may_be_assigned = record { brings = record { brings_left = tt; brings_right = tt }; words = (lit< tt, lit< tt); reaches = (lit< tt, refl) }
 
 difference_is_assigned : in_slot (steps assignment 6 before) ≡ Some 254
 difference_is_assigned = refl
 
 operands_are_brought : (brought (Place (Saved 9)) before ≡ 5) × (brought (Number 7) before ≡ 7) × (brought (Address 16) before ≡ 0x60001010)
 operands_are_brought = (refl, refl, refl)
+
+-- ---- operands that name a label, accesses, and the arms of a switch
+
+symbol_is_so_many_bytes_on : operand_at (λ l. 0x40000000) (Symbol (record { number = 3 }) 16) before ≡ 0x40000010
+symbol_is_so_many_bytes_on = refl
+
+symbol_goes_round : operand_at (λ l. 0x40000000) (Symbol (record { number = 3 }) 0xfffffffffffffff8) before ≡ 0x3ffffff8
+symbol_goes_round = refl
+
+short_number : most_for (Held (Number 0x10000000000)) ≡ 4
+short_number = refl
+
+long_number : most_for (Held (Number 0x10000000001)) ≡ 8
+long_number = refl
+
+four_accesses : accesses W64 6 ≡ 4
+four_accesses = refl
+
+one_access : accesses W64 16 ≡ 1
+one_access = refl
+
+abbrev two_arms : List Arm
+two_arms = record { ranges = record { from = 1; to = 5 } ∷ []; to = record { number = 1 } } ∷ record { ranges = record { from = 7; to = 7 } ∷ []; to = record { number = 0 } } ∷ []
+
+abbrev two_labels : List Label
+two_labels = record { number = 8 } ∷ record { number = 9 } ∷ []
+
+first_arm_is_taken : arm_address (λ l. 0x10000 + 4 * l) two_labels two_arms 5 0x10400 ≡ 0x10024
+first_arm_is_taken = refl
+
+second_arm_is_taken : arm_address (λ l. 0x10000 + 4 * l) two_labels two_arms 7 0x10400 ≡ 0x10020
+second_arm_is_taken = refl
+
+no_arm_is_taken : arm_address (λ l. 0x10000 + 4 * l) two_labels two_arms 6 0x10400 ≡ 0x10400
+no_arm_is_taken = refl

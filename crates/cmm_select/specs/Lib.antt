@@ -3,5 +3,11 @@ pub mod Cells
 pub mod Comparisons
 pub mod Unary
 pub mod Sources
+pub mod Operands
+pub mod Destinations
 pub mod Assignments
+pub mod Memory
+pub mod Going
+pub mod Switches
+pub mod Laws
 pub mod inside

@@ -1,4 +1,5 @@
 pub mod Wide
 pub mod Accesses
+pub mod Gathering
 pub mod Comparing
 pub mod Complements

@@ -1,39 +1,144 @@
-//! Assignments to places.
+//! Assignments to places and to global registers.
 
 ghost use Rattle.std.specs.Prelude.{◌≡◌, ◌+◌, ◌*◌, OnOk};
-ghost use Rattle.cmm_changes.specs.Changes.{IsPlace};
+ghost use Rattle.cmm_words.specs.Words.{low_bits, sign_extended, value1};
+ghost use Rattle.rv_asm.specs.Assembly.{IsLabel};
+ghost use Rattle.cmm_changes.specs.Accesses.{global_at};
 ghost use Rattle.cmm_changes.specs.Pieces.{Adds, Leads};
-ghost use Rattle.cmm_select.specs.Assignments.{Assigns, CanAssign};
+ghost use Rattle.cmm_select.specs.Assignments.{AssignsBinary, AssignsComparison, AssignsOne, CanCopyGlobal, Copies};
+ghost use Rattle.cmm_select.specs.Destinations.{IsDestination, PutsTo};
+ghost use Rattle.cmm_select.specs.Operands.{IsOperand, most_for};
 ghost use Rattle.cmm_select.specs.Operators.{shifts_of};
-ghost use Rattle.cmm_select.specs.Sources.{IsSource};
 
-use crate::operator::operate;
-use crate::place::{FIRST, SECOND, write};
-use crate::source::{Source, bring};
-use cmm_chain::Location;
-use cmm_words::{Op2, Width};
-use rv_asm::Asm;
+use crate::comparing::compare;
+use crate::destination::{Destination, put, read_global};
+use crate::operand::{Operand, bring_both, bring_operand};
+use crate::operator::{narrow, operate};
+use crate::place::FIRST;
+use crate::unary::{convert, operate_on_one};
+use cmm_words::{Cmp, Op1, Op2, Width};
+use rv_asm::{Asm, Label};
 use std::alloc::AllocError;
 
-/// Assigns to a place what an operator gives on two operands, words of a width (C-- Language Specification 2.0, the table of primitive
-/// operators). An error is want of memory, and then some of the instructions may be there.
+/// Assigns an operand. An error is want of memory, and then some of the instructions may be there; so it is of every function here.
+pub fn assign_copy(asm: &mut Asm, from: &Operand, to: &Destination) -> Result<(), AllocError>
+    requires operand { IsOperand asm.old.labels from.now }
+    requires destination { IsDestination asm.old.labels to.now }
+    ensures copies { OnOk result (Adds (most_for from.now + 4) asm.old.parts asm.new.parts (Copies (most_for from.now + 4) from.now to.now)) }
+    ensures labels { asm.new.labels ≡ asm.old.labels }
+{
+    bring_operand(asm, from, FIRST)?;
+    put(asm, to)?;
+    Ok(())
+}
+
+/// Assigns what a global register has, whose offset in the region a label stands for.
+pub fn assign_global(asm: &mut Asm, from: Label, to: &Destination) -> Result<(), AllocError>
+    requires label { IsLabel asm.old.labels from }
+    requires destination { IsDestination asm.old.labels to.now }
+    ensures copies { OnOk result (Adds 8 asm.old.parts asm.new.parts (λ x. Leads 8 (CanCopyGlobal x.at (x.at from.number) to.now) (λ s t. PutsTo x.at to.now (global_at (x.at from.number) s) s t) x)) }
+    ensures labels { asm.new.labels ≡ asm.old.labels }
+{
+    read_global(asm, from)?;
+    put(asm, to)?;
+    Ok(())
+}
+
+/// Assigns what an operator gives on a word of a width.
+pub fn assign_unary(
+    asm: &mut Asm,
+    operator: Op1,
+    width: Width,
+    operand: &Operand,
+    to: &Destination,
+) -> Result<(), AllocError>
+    requires operand { IsOperand asm.old.labels operand.now }
+    requires destination { IsDestination asm.old.labels to.now }
+    ensures assigns { OnOk result (Adds (most_for operand.now + shifts_of width + 5) asm.old.parts asm.new.parts (AssignsOne (most_for operand.now + shifts_of width + 5) width (value1 operator width) operand.now to.now)) }
+    ensures labels { asm.new.labels ≡ asm.old.labels }
+{
+    bring_operand(asm, operand, FIRST)?;
+    operate_on_one(asm, operator, width)?;
+    put(asm, to)?;
+    Ok(())
+}
+
+/// Assigns a word of the width `from` with its sign at another width.
+pub fn assign_extended(
+    asm: &mut Asm,
+    from: Width,
+    width: Width,
+    operand: &Operand,
+    to: &Destination,
+) -> Result<(), AllocError>
+    requires operand { IsOperand asm.old.labels operand.now }
+    requires destination { IsDestination asm.old.labels to.now }
+    ensures assigns { OnOk result (Adds (most_for operand.now + shifts_of from + shifts_of width + 4) asm.old.parts asm.new.parts (AssignsOne (most_for operand.now + shifts_of from + shifts_of width + 4) from (sign_extended from width) operand.now to.now)) }
+    ensures labels { asm.new.labels ≡ asm.old.labels }
+{
+    bring_operand(asm, operand, FIRST)?;
+    convert(asm, from, width)?;
+    put(asm, to)?;
+    Ok(())
+}
+
+/// Assigns the low bits of a word of the width `from`, as many as another width has.
+pub fn assign_low(
+    asm: &mut Asm,
+    from: Width,
+    width: Width,
+    operand: &Operand,
+    to: &Destination,
+) -> Result<(), AllocError>
+    requires operand { IsOperand asm.old.labels operand.now }
+    requires destination { IsDestination asm.old.labels to.now }
+    ensures assigns { OnOk result (Adds (most_for operand.now + shifts_of width + 4) asm.old.parts asm.new.parts (AssignsOne (most_for operand.now + shifts_of width + 4) from (low_bits width) operand.now to.now)) }
+    ensures labels { asm.new.labels ≡ asm.old.labels }
+{
+    bring_operand(asm, operand, FIRST)?;
+    narrow(asm, width)?;
+    put(asm, to)?;
+    Ok(())
+}
+
+/// Assigns what an operator gives on two words of a width.
 pub fn assign_binary(
     asm: &mut Asm,
     operator: Op2,
     width: Width,
-    left: &Source,
-    right: &Source,
-    to: Location,
+    left: &Operand,
+    right: &Operand,
+    to: &Destination,
 ) -> Result<(), AllocError>
-    requires left { IsSource left.now }
-    requires right { IsSource right.now }
-    requires place { IsPlace to }
-    ensures assigns { OnOk result (Adds (3 * shifts_of width + 32) asm.old.parts asm.new.parts (Leads (3 * shifts_of width + 32) (CanAssign width left.now right.now to) (Assigns operator width left.now right.now to))) }
+    requires left { IsOperand asm.old.labels left.now }
+    requires right { IsOperand asm.old.labels right.now }
+    requires destination { IsDestination asm.old.labels to.now }
+    ensures assigns { OnOk result (Adds (most_for left.now + most_for right.now + 3 * shifts_of width + 10) asm.old.parts asm.new.parts (AssignsBinary (most_for left.now + most_for right.now + 3 * shifts_of width + 10) operator width left.now right.now to.now)) }
     ensures labels { asm.new.labels ≡ asm.old.labels }
 {
-    bring(asm, left, FIRST)?;
-    bring(asm, right, SECOND)?;
+    bring_both(asm, left, right)?;
     operate(asm, operator, width)?;
-    write(asm, to)?;
+    put(asm, to)?;
+    Ok(())
+}
+
+/// Assigns 1 where a comparison holds of two words of a width, and else 0.
+pub fn assign_comparison(
+    asm: &mut Asm,
+    comparison: Cmp,
+    width: Width,
+    left: &Operand,
+    right: &Operand,
+    to: &Destination,
+) -> Result<(), AllocError>
+    requires left { IsOperand asm.old.labels left.now }
+    requires right { IsOperand asm.old.labels right.now }
+    requires destination { IsDestination asm.old.labels to.now }
+    ensures assigns { OnOk result (Adds (most_for left.now + most_for right.now + 2 * shifts_of width + 7) asm.old.parts asm.new.parts (AssignsComparison (most_for left.now + most_for right.now + 2 * shifts_of width + 7) comparison width left.now right.now to.now)) }
+    ensures labels { asm.new.labels ≡ asm.old.labels }
+{
+    bring_both(asm, left, right)?;
+    compare(asm, comparison, width)?;
+    put(asm, to)?;
     Ok(())
 }

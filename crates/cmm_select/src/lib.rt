@@ -3,32 +3,64 @@
 //! The code of a node is appended to an assembler, and its contract says what it changes of a machine state (`specs/Changes` of
 //! cmm_changes), how many instructions it adds, how many are executed at most, and that the first of them asks for nothing but input.
 //! Between two nodes the values of locals are in their places: slots of the frame, callee-saves registers, other registers. Within a
-//! node, registers 5 to 7 are used: the first operand and the result are in 5, the second operand is in 7, and 6 helps.
+//! node, registers 5 to 7 are used: the first operand and the result are in 5, the second operand is in 7, and 6 helps. A node's code
+//! ends where control goes on, so a jump is added only where another node follows.
+//!
+//! What nodes are made of:
 //!
 //! - `place`: a place is read into one of these registers, and written from register 5.
 //! - `number`: a register gets a number.
-//! - `source`: a register gets an operand, from a place, a number or an address of the frame.
-//! - `cell`: a word of memory is loaded or stored.
+//! - `source`: a register gets what a place has, a number or an address of the frame.
+//! - `operand`: a register gets an operand, which may name a label too; two registers get two.
+//! - `destination`: register 5 is put into a place or a global register.
+//! - `cell`, `accesses`: a word of memory is loaded or stored, at a multiple of its size, or of less.
 //! - `operator`: register 5 gets what an operator gives on the words in registers 5 and 7.
 //! - `comparing`: control goes by a comparison of these words, or register 5 gets what it tells.
 //! - `unary`: register 5 gets what an operator gives on the word in it alone, or this word with its sign at another width.
-//! - `assigning`: a place gets what an operator gives on two operands.
+//!
+//! Nodes:
+//!
+//! - `assigning`: a destination gets an operand, a global register, or what an operator, a conversion or a comparison gives on operands.
+//! - `memory`: a destination gets a word of memory; an operand is stored.
+//! - `going`: control goes by a comparison of operands, to a label, on, or to its end.
+//! - `switching`: control goes by the arms of a switch.
+//! - `host`: bytes are put and taken.
+//!
+//! - `laws`: how short the code of two operands is, and where switches lead.
 #![tactic(auto)]
 
+mod accesses;
 mod assigning;
 mod cell;
 mod comparing;
+mod destination;
+mod going;
+mod host;
+pub mod laws;
+mod memory;
 mod number;
+mod operand;
 mod operator;
 mod place;
 mod source;
+mod switching;
 mod unary;
 
-pub use assigning::assign_binary;
+pub use accesses::{load_word, store_word};
+pub use assigning::{
+    assign_binary, assign_comparison, assign_copy, assign_extended, assign_global, assign_low,
+    assign_unary,
+};
 pub use cell::{load_cell, store_cell};
 pub use comparing::{branch, compare};
-pub use number::load_number;
+pub use destination::{Destination, put, read_global};
+pub use going::{decide, go_on, go_to, stop};
+pub use host::{get_byte, put_byte};
+pub use memory::{assign_loaded, store};
+pub use number::{load_constant, load_number};
+pub use operand::{Operand, bring_both, bring_operand};
 pub use operator::{extend, narrow, operate};
 pub use place::{read, write};
 pub use source::{Source, bring};
+pub use switching::switch;
 pub use unary::{convert, operate_on_one};

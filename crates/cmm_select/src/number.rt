@@ -1,10 +1,14 @@
 //! Numbers in registers.
 
-ghost use Rattle.std.specs.Prelude.{◌≡◌, ◌+◌, ◌*◌, ◌^◌, ◌<◌, ◌≤◌, OnOk};
+ghost use Rattle.std.specs.Prelude.{◌≡◌, ◌+◌, ◌*◌, ◌/◌, ◌^◌, ◌<◌, ◌≤◌, pos, OnOk};
+ghost use Rattle.rv_table.specs.Table.{IsValid};
+ghost use Rattle.rv_table.specs.Words.{signed};
+ghost use Rattle.rv_table.specs.declared.instruction.Instr.TheVariants.{Addi, Lui};
 ghost use Rattle.cmm_changes.specs.Changes.{Sets};
 ghost use Rattle.cmm_changes.specs.Pieces.{Adds, Always, Leads};
+ghost use Rattle.cmm_select.specs.Operands.{most_for_number};
 
-use crate::place::add_to;
+use crate::place::{NEAR, ZERO, add_to};
 use rv_asm::Asm;
 use rv_table::Instr;
 use std::alloc::AllocError;
@@ -30,4 +34,96 @@ pub fn load_number(asm: &mut Asm, number: u64, rd: u8, more: u32) -> Result<(), 
     })?;
     asm.emit(add_to(rd, rd, (number % 2048) as u32))?;
     Ok(())
+}
+
+/// Numbers up to this are loaded by four instructions, and all others by eight.
+const SHORT: u64 = 0x100_0000_0000;
+
+/// Numbers below this are loaded by two instructions: 2^31 and half of what an immediate reaches below it.
+const LOW: u64 = 0x7FFF_F800;
+
+/// Gives register `rd`, one of 5 to 7, a number. An error is want of memory, and then some of the instructions may be there.
+pub fn load_constant(asm: &mut Asm, number: u64, rd: u8) -> Result<(), AllocError>
+    requires low { 5 ≤ rd }
+    requires high { rd ≤ 7 }
+    ensures sets { OnOk result (Adds (most_for_number number) asm.old.parts asm.new.parts (Leads (most_for_number number) Always (λ s t. Sets rd number s t))) }
+    ensures labels { asm.new.labels ≡ asm.old.labels }
+{
+    if number <= SHORT {
+        load_rounded(asm, number, rd, 1)?;
+        return Ok(());
+    }
+    load_rounded(asm, number, rd, 3)?;
+    Ok(())
+}
+
+/// Gives register `rd` a number, in pieces of 12 bits from the highest on, which are immediates with a sign: what is left of the number is
+/// rounded. `more` is how many pieces there are at most behind the first, which has 28 bits.
+fn load_rounded(asm: &mut Asm, number: u64, rd: u8, more: u32) -> Result<(), AllocError>
+    requires low { 5 ≤ rd }
+    requires high { rd ≤ 7 }
+    requires pieces { number ≤ 2 ^ (28 + 12 * more) }
+    ensures sets { OnOk result (Adds (2 + 2 * more) asm.old.parts asm.new.parts (Leads (2 + 2 * more) Always (λ s t. Sets rd number s t))) }
+    ensures labels { asm.new.labels ≡ asm.old.labels }
+{
+    if number < LOW {
+        load_low(asm, number, rd)?;
+        return Ok(());
+    }
+    load_rounded(asm, rounded(number), rd, more - 1)?;
+    asm.emit(Instr::Slli {
+        rd,
+        rs1: rd,
+        imm: 12,
+    })?;
+    asm.emit(add_rest(rd, number))?;
+    Ok(())
+}
+
+/// Gives register `rd` a number that an upper immediate and a lower one make up.
+fn load_low(asm: &mut Asm, number: u64, rd: u8) -> Result<(), AllocError>
+    requires low { 5 ≤ rd }
+    requires high { rd ≤ 7 }
+    requires near { number + 2048 < 2 ^ 31 }
+    ensures sets { OnOk result (Adds 2 asm.old.parts asm.new.parts (Leads 2 Always (λ s t. Sets rd number s t))) }
+    ensures labels { asm.new.labels ≡ asm.old.labels }
+{
+    if number < u64::from(NEAR) {
+        asm.emit(add_to(rd, ZERO, number as u32))?;
+        return Ok(());
+    }
+    asm.emit(upper(rd, rounded(number) as u32))?;
+    asm.emit(add_rest(rd, number))?;
+    Ok(())
+}
+
+/// How many times 4,096 a number is, rounded.
+fn rounded(number: u64) -> u64
+    ensures { result ≡ (number + 2048) / 4096 }
+{
+    number / 4096 + u64::from(number % 4096 >= 2048)
+}
+
+/// The instruction that gives a register a number times 4,096.
+fn upper(rd: u8, number: u32) -> Instr
+    requires register { rd < 32 }
+    requires number { number < 2 ^ 20 }
+    ensures is { result ≡ Lui rd (pos number) }
+    ensures valid { IsValid result }
+{
+    Instr::Lui {
+        rd,
+        imm: number as i32,
+    }
+}
+
+/// The instruction that adds to a register how much a number is above or below what it is rounded to.
+fn add_rest(rd: u8, number: u64) -> Instr
+    requires { rd < 32 }
+    ensures is { result ≡ Addi rd rd (signed 12 number) }
+    ensures valid { IsValid result }
+{
+    let bits = (number % 4096) as i32;
+    let imm = if bits < 2048 { bits } else { bits - 4096 };
+    Instr::Addi { rd, rs1: rd, imm }
 }

@@ -131,7 +131,7 @@ pub(crate) fn approach(asm: &mut Asm, offset: u32, rd: u8) -> Result<(), AllocEr
 }
 
 /// The instruction that copies a register.
-fn copy(rd: u8, rs1: u8) -> Instr
+pub(crate) fn copy(rd: u8, rs1: u8) -> Instr
     requires to { rd < 32 }
     requires from { rs1 < 32 }
     ensures is { result ≡ Addi rd rs1 (pos 0) }

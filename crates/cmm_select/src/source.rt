@@ -47,7 +47,7 @@ pub fn bring(asm: &mut Asm, from: &Source, rd: u8) -> Result<(), AllocError>
 }
 
 /// Gives register `rd` the address at an offset of the frame.
-fn address(asm: &mut Asm, offset: u32, rd: u8) -> Result<(), AllocError>
+pub(crate) fn address(asm: &mut Asm, offset: u32, rd: u8) -> Result<(), AllocError>
     requires frame { offset < 2 ^ 21 }
     requires low { 5 ≤ rd }
     requires high { rd ≤ 7 }

@@ -1,0 +1,112 @@
+-- Operands are brought, something is done with them, and the number in register 5 is put somewhere.
+use Rattle.std.proofs.Common.{◌≡◌, ℕ, ◌+◌, refl, sym, ◌∙◌, ap, subst, arith}
+use Rattle.std.specs.Prelude.{if◌then◌else◌}
+use Rattle.cmm_words.specs.Widths.{IsWord}
+use Rattle.cmm_words.specs.Words.{holds, value2}
+use Rattle.cmm_words.specs.declared.operators.Cmp.{Cmp}
+use Rattle.cmm_words.specs.declared.operators.Op2.{Op2}
+use Rattle.cmm_words.specs.declared.width.Width.{Width}
+use Rattle.rv_asm.specs.Appending.{Then}
+use Rattle.rv_asm.specs.Parts.{Code}
+use Rattle.rv_table.specs.Machine.{MemoryMap, State}
+use Rattle.cmm_changes.proofs.Shared.{keeps_then, leads_then, leads_weaker, runs_of}
+use Rattle.cmm_changes.specs.Changes.{Keeps}
+use Rattle.cmm_changes.specs.Pieces.{Leads, Runs}
+use Rattle.cmm_select.proofs.Keeping.{brings_keeps, put_after, put_as, still_put}
+use Rattle.cmm_select.specs.Assignments.{Assigns, AssignsBinary, AssignsComparison, AssignsOne, Copies}
+use Rattle.cmm_select.specs.Comparisons.{Tells}
+use Rattle.cmm_select.specs.Destinations.{CanPut, PutsFirst, PutsTo}
+use Rattle.cmm_select.specs.Operands.{AreWords, Brings, BringsBoth, BringsOperand, CanBringBoth, CanBringOperand, HasBoth, most_for, operand_at}
+use Rattle.cmm_select.specs.Operators.{HasWord, HaveWords, Operates}
+use Rattle.cmm_select.specs.declared.destination.Destination.{Destination}
+use Rattle.cmm_select.specs.declared.operand.Operand.{Operand}
+
+module _ (x : Code) {Q : State → State → Type 0} {n : ℕ} where
+  -- something is in register 5, and then it is put
+  pub then_put : {P : MemoryMap → State → Type 0} {from mid end : ℕ} (to : Destination) → Leads n P Q x from mid → ((s t : State) → Q s t → Keeps s t) →
+      PutsFirst to x mid end →
+      Leads (n + 4) (λ m s. P m s × CanPut x.at to m s) (λ s u. (t : State) × Q s t × PutsTo x.at to (t.registers 5) s u) x from end
+  then_put {P = P} to first keeps puts =
+      leads_weaker
+      (leads_then
+      (leads_weaker {R = λ m s. P m s × CanPut x.at to m s} {S = Q} {b = n} first (omega arith) (λ s sound p. p.0) (λ s t sound p q. q))
+      (runs_of puts)
+      (λ s t sound also p q. still_put x.at to x.map s t (keeps s t q) p.1))
+      (omega arith) (λ s sound p. p)
+      (λ s u sound p both. (both.0, both.1, put_after x.at to (both.0.registers 5) s both.0 u (keeps s both.0 both.1) both.2))
+
+  -- an operand is brought, and something is done with it
+  pub operand_then : {from mid end : ℕ} (w : Width) (a : Operand) → BringsOperand a 5 x from mid → Runs 0 n (HasWord w 5) Q x mid end →
+      Leads (most_for a + n) (λ m s. CanBringOperand a m s × IsWord w (operand_at x.at a s)) (λ s u. (t : State) × Brings 5 (operand_at x.at a s) s t × Q t u) x from end
+  operand_then w a first second =
+      leads_then
+      (leads_weaker {R = λ m s. CanBringOperand a m s × IsWord w (operand_at x.at a s)} {S = λ s t. Brings 5 (operand_at x.at a s) s t} {b = most_for a} first (omega arith)
+      (λ s sound p. p.0) (λ s t sound p q. q))
+      second
+      (λ s t sound also p brings. subst (λ (k : ℕ). IsWord w k) (sym brings.given) p.1)
+
+  -- two are brought, and something is done with them
+  pub both_then : {from mid end : ℕ} (w : Width) (left right : Operand) → BringsBoth left right x from mid → Runs 0 n (HaveWords w) Q x mid end →
+      Leads (most_for left + most_for right + n) (λ m s. CanBringBoth left right m s × AreWords x.at w left right s)
+      (λ s u. (t : State) × HasBoth x.at left right s t × Q t u) x from end
+  both_then w left right first second =
+      leads_then
+      (leads_weaker {R = λ m s. CanBringBoth left right m s × AreWords x.at w left right s} {S = HasBoth x.at left right} {b = most_for left + most_for right} first (omega arith)
+      (λ s sound p. p.0) (λ s t sound p q. q))
+      second
+      (λ s t sound also p has. (subst (λ (k : ℕ). IsWord w k) (sym has.first) p.1.0, subst (λ (k : ℕ). IsWord w k) (sym has.second) p.1.1))
+
+module _ (x : Code) (to : Destination) (from end : ℕ) where
+  pub copies_operand : (a : Operand) → Then (BringsOperand a 5) (PutsFirst to) x from end → Copies (most_for a + 4) a to x from end
+  copies_operand a does =
+      leads_weaker
+      (then_put x to does.1 (λ s t brings. brings_keeps 5 (operand_at x.at a s) s t refl brings) does.2)
+      (omega arith) (λ s sound can. (can.brings, can.reaches))
+      (λ s u sound can all. put_as x.at to (all.0.registers 5) (operand_at x.at a s) s u all.1.given all.2)
+
+  -- what a function gives for an operand
+  pub assigns_one : {Q : State → State → Type 0} {n : ℕ} (w : Width) (value : ℕ → ℕ) (a : Operand) → ((s t : State) → Q s t → t.registers 5 ≡ value (s.registers 5)) →
+      ((s t : State) → Q s t → Keeps s t) → Then (BringsOperand a 5) (Then (Runs 0 n (HasWord w 5) Q) (PutsFirst to)) x from end →
+      AssignsOne (most_for a + n + 4) w value a to x from end
+  assigns_one w value a gives keeps does =
+      leads_weaker
+      (then_put x to (operand_then x w a does.1 does.2.1)
+      (λ s u both. keeps_then s both.0 u (brings_keeps 5 (operand_at x.at a s) s both.0 refl both.1) (keeps both.0 u both.2))
+      does.2.2)
+      (omega arith) (λ s sound can. ((can.brings, can.word), can.reaches))
+      (λ s e sound can all.
+      put_as x.at to (all.0.registers 5) (value (operand_at x.at a s)) s e (gives all.1.0 all.0 all.1.2 ∙ ap value all.1.1.given) all.2)
+
+  module _ (w : Width) (left right : Operand) (n : ℕ) where
+    pub assigns_binary : (op : Op2) → Then (BringsBoth left right) (Then (Runs 0 n (HaveWords w) (Operates op w)) (PutsFirst to)) x from end →
+        AssignsBinary (most_for left + most_for right + n + 4) op w left right to x from end
+    assigns_binary op does =
+        leads_weaker
+        (then_put x to (both_then x w left right does.1 does.2.1) (λ s u both. keeps_then s both.0 u both.1.keeps both.2.keeps) does.2.2)
+        (omega arith) (λ s sound can. ((can.brings, can.words), can.reaches))
+        (λ s e sound can all. assigned s all.1.0 all.0 e all.1.1 all.1.2 all.2)
+      where
+        assigned : (s t u e : State) → HasBoth x.at left right s t → Operates op w t u → PutsTo x.at to (u.registers 5) s e → Assigns x.at op w left right to s e
+        assigned s t u e has operates puts = record {
+          number = u.registers 5;
+          given = λ v h.
+              operates.given v
+              (ap (λ (a : ℕ). value2 op w a (t.registers 7)) has.first ∙ ap (λ (b : ℕ). value2 op w (operand_at x.at left s) b) has.second ∙ h);
+          puts = puts;
+        }
+
+    pub assigns_comparison : (c : Cmp) → Then (BringsBoth left right) (Then (Runs 0 n (HaveWords w) (Tells c w)) (PutsFirst to)) x from end →
+        AssignsComparison (most_for left + most_for right + n + 4) c w left right to x from end
+    assigns_comparison c does =
+        leads_weaker
+        (then_put x to (both_then x w left right does.1 does.2.1) (λ s u both. keeps_then s both.0 u both.1.keeps both.2.keeps) does.2.2)
+        (omega arith) (λ s sound can. ((can.brings, can.words), can.reaches))
+        (λ s e sound can all. told s all.1.0 all.0 e all.1.1 all.1.2 all.2)
+      where
+        told : (s t u e : State) → HasBoth x.at left right s t → Tells c w t u → PutsTo x.at to (u.registers 5) s e →
+            PutsTo x.at to (if holds c w (operand_at x.at left s) (operand_at x.at right s) then 1 else 0) s e
+        told s t u e has tells puts =
+            put_as x.at to (u.registers 5) (if holds c w (operand_at x.at left s) (operand_at x.at right s) then 1 else 0) s e
+            (tells.given
+            ∙ ap (λ (a : ℕ). if holds c w a (t.registers 7) then 1 else 0) has.first
+            ∙ ap (λ (b : ℕ). if holds c w (operand_at x.at left s) b then 1 else 0) has.second) puts

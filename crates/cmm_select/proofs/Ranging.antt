@@ -1,0 +1,245 @@
+-- A value is in a range, in one of some ranges, or an arm is for it.
+use Rattle.std.proofs.Common.{◌≡◌, ℕ, ◌+◌, ◌-◌, ◌*◌, ◌<◌, ◌≤◌, ◌^◌, ◌⊎◌, inl, inr, suc, refl, sym, ◌∙◌, ap, subst, arith, List, [], ◌∷◌, ◌++◌, length, take, get_or, true, false}
+use Rattle.std.specs.Prelude.{◌||◌, ◌&&◌, Bool, not, nat_le, nat_lt}
+use Rattle.std.proofs.Math.Seq.{take-suc}
+use Rattle.std.proofs.lemmas.Bool.Decides.{nat_tests}
+use Rattle.cmm_graph.specs.declared.node.Arm.{Arm}
+use Rattle.cmm_program.specs.Bodies.{is_in_ranges}
+use Rattle.cmm_program.specs.declared.statement.Range.{Range}
+use Rattle.cmm_words.specs.declared.operators.Cmp.TheVariants.{Geu}
+use Rattle.rv_asm.specs.Appending.{Then}
+use Rattle.rv_asm.specs.Parts.{Code, Does, taken, way}
+use Rattle.rv_asm.specs.declared.part.Label.{Label}
+use Rattle.rv_asm.specs.declared.part.Part.TheVariants.{Branch}
+use Rattle.rv_table.specs.Machine.{State}
+use Rattle.rv_table.specs.Words.{difference}
+use Rattle.rv_table.specs.declared.instruction.Instr.TheVariants.{Sub}
+use Rattle.cmm_changes.proofs.Shared.{goes_choice, goes_keeps, goes_none, goes_weaker, keeps_same, keeps_then, leads_set, leads_then, leads_turns, reaches_more, runs_of, set_keeps, turns_weaker}
+use Rattle.cmm_changes.specs.Changes.{Sets}
+use Rattle.cmm_changes.specs.Pieces.{Always, Leads}
+use Rattle.cmm_changes.specs.Ways.{Goes}
+use Rattle.cmm_select.proofs.Keeping.{brings_keeps}
+use Rattle.cmm_select.proofs.Places.{One}
+use Rattle.cmm_select.specs.Operands.{Brings, BringsOperand, most_for, operand_at}
+use Rattle.cmm_select.specs.Switches.{GoesInArms, GoesInRanges, KeepsFirst, Switches, arm_address, label_of, ranges_in}
+use Rattle.cmm_select.specs.declared.operand.Operand.{Operand}
+
+keeps_first_then : (s t u : State) → KeepsFirst s t → KeepsFirst t u → KeepsFirst s u
+keeps_first_then s t u one two = record { first = two.first ∙ one.first; keeps = keeps_then s t u one.keeps two.keeps }
+
+-- ---- one range
+
+-- a value is as far above the first number as the last one is, or less
+inside : (f t v : ℕ) → f ≤ v → f ≤ t → v < 2 ^ 64 → not (nat_lt (t - f) (difference v f)) ≡ (nat_le f v && nat_le v t)
+inside f t v h order fits =
+    let e : difference v f ≡ v - f = omega arith in
+    ap (λ (d : ℕ). not (nat_lt (t - f) d)) e ∙ grind (arith, nat_tests)
+
+outside : (f t v : ℕ) → v < f → f ≤ t → t < 2 ^ 64 → not (nat_lt (t - f) (difference v f)) ≡ (nat_le f v && nat_le v t)
+outside f t v h order fits =
+    let e : difference v f ≡ v + 2 ^ 64 - f = omega arith in
+    ap (λ (d : ℕ). not (nat_lt (t - f) d)) e ∙ grind (arith, nat_tests)
+
+none_or : (b : Bool) → (b || false) ≡ b
+none_or true = refl
+none_or false = refl
+
+in_range : (f t v : ℕ) → f ≤ t → t < 2 ^ 64 → v < 2 ^ 64 → not (nat_lt (t - f) (difference v f)) ≡ ((nat_le f v && nat_le v t) || false)
+in_range f t v order fits small =
+    elim (either f v) [ inl low ↦ inside f t v low order small | inr high ↦ outside f t v high order fits ] ∙ sym (none_or (nat_le f v && nat_le v t))
+  where
+    either : (f v : ℕ) → (f ≤ v) ⊎ (v < f)
+    either f v = grind arith
+
+-- a range that falls has no value
+falls : (f t v : ℕ) → t < f → ((nat_le f v && nat_le v t) || false) ≡ false
+falls f t v h = none_or (nat_le f v && nat_le v t) ∙ grind (arith, nat_tests)
+
+module _ (x : Code) (from on : ℕ) (r : Range) (l : Label) where
+  pub goes_past : r.to < r.from → from ≡ on → GoesInRanges 20 (r ∷ []) l x from on
+  goes_past h is =
+      goes_weaker (goes_none {most = 20} {Q = KeepsFirst} is (λ s. record { first = refl; keeps = keeps_same s })) (omega arith) (omega arith)
+      (λ s. way (is_in_ranges (s.registers 5) (r ∷ [])) (x.at l.number) on)
+      (λ s sound. sym (ap (λ (b : Bool). way b (x.at l.number) on) (falls r.from r.to (s.registers 5) h)))
+      (λ s t keeps. keeps)
+
+  module _ (m n : ℕ) where
+    -- how far the value is above the first number, and how far the last one is
+    abbrev Measures : State → State → Type 0
+    Measures s w =
+        (t : State) × Sets 7 r.from s t
+        × ((u : State) × Sets 7 (difference (t.registers 5) (t.registers 7)) t u × Sets 6 (r.to - r.from) u w)
+
+    measured : (mid : ℕ) → Then (Leads m Always (λ s t. Sets 7 r.from s t)) (Then (One (Sub 7 5 7)) (Leads n Always (λ s t. Sets 6 (r.to - r.from) s t))) x from mid →
+        Leads (m + (1 + n)) Always Measures x from mid
+    measured mid does =
+        leads_then does.1
+        (runs_of (leads_then (leads_set x (Sub 7 5 7) does.0 does.2.0 7 (λ g. difference (g 5) (g 7)) (omega arith) (λ g pc. refl) does.2.1)
+        (runs_of does.2.2)
+        (λ s t sound also p q. tt)))
+        (λ s t sound also p q. tt)
+
+    keeps_measures : (s w : State) → Measures s w → KeepsFirst s w
+    keeps_measures s w ms = record {
+      first = ms.2.2.others 5 refl ∙ ms.2.1.others 5 refl ∙ ms.1.others 5 refl;
+      keeps = keeps_then s ms.0 w (set_keeps 7 r.from s ms.0 refl ms.1)
+          (keeps_then ms.0 ms.2.0 w (set_keeps 7 (difference (ms.0.registers 5) (ms.0.registers 7)) ms.0 ms.2.0 refl ms.2.1)
+          (set_keeps 6 (r.to - r.from) ms.2.0 w refl ms.2.2));
+    }
+
+    measure : (s w : State) → Measures s w → w.registers 7 ≡ difference (s.registers 5) r.from
+    measure s w ms =
+        ms.2.2.others 7 refl ∙ ms.2.1.given ∙ ap (λ (a : ℕ). difference a (ms.0.registers 7)) (ms.1.others 5 refl)
+        ∙ ap (difference (s.registers 5)) ms.1.given
+
+    branched : (mid : ℕ) → Does x (Branch Geu 6 7 l) mid on →
+        Goes 1 3 Always (λ s. way (not (nat_lt (s.registers 6) (s.registers 7))) (x.at l.number) on) KeepsFirst x mid
+    branched mid does = record {
+      go = λ s sound at p.
+          reaches_more (does s at)
+          (λ t goes. (
+            goes.pc,
+            record {
+              first = goes.registers 5 (omega arith);
+              keeps = goes_keeps (way (taken Geu (s.registers 6) (s.registers 7)) (x.at l.number) on) s t goes;
+            },
+          ));
+    }
+
+    pub goes_in_range : r.from ≤ r.to → r.to < 2 ^ 64 → m ≤ 8 → n ≤ 8 →
+        Then (Leads m Always (λ s t. Sets 7 r.from s t))
+        (Then (One (Sub 7 5 7)) (Then (Leads n Always (λ s t. Sets 6 (r.to - r.from) s t)) (λ x from on. Does x (Branch Geu 6 7 l) from on))) x from on →
+        GoesInRanges 20 (r ∷ []) l x from on
+    goes_in_range order fits few less does =
+        let turns = leads_turns (measured does.2.2.0 (does.0, does.1, (does.2.0, does.2.1, does.2.2.1))) (branched does.2.2.0 does.2.2.2) (λ s t sound also p q. tt)
+        (λ s. way (not (nat_lt (r.to - r.from) (difference (s.registers 5) r.from))) (x.at l.number) on)
+        (λ s w p ms.
+        ap (λ (a : ℕ). way (not (nat_lt a (w.registers 7))) (x.at l.number) on) ms.2.2.given
+        ∙ ap (λ (b : ℕ). way (not (nat_lt (r.to - r.from) b)) (x.at l.number) on) (measure s w ms))
+        in
+        goes_weaker turns.goes (omega arith) (omega (arith, few, less))
+        (λ s. way (is_in_ranges (s.registers 5) (r ∷ [])) (x.at l.number) on)
+        (λ s sound. ap (λ (b : Bool). way b (x.at l.number) on) (in_range r.from r.to (s.registers 5) order fits (sound.registers 5)))
+        (λ s u both. keeps_first_then s both.0 u (keeps_measures s both.0 both.1) both.2)
+
+-- ---- one after another
+
+way_or : (a b : Bool) (n m : ℕ) → way a n (way b n m) ≡ way (a || b) n m
+way_or true b n m = refl
+way_or false b n m = refl
+
+pub in_more : (v : ℕ) (rs : List Range) (r : Range) → is_in_ranges v (rs ++ r ∷ []) ≡ (is_in_ranges v rs || is_in_ranges v (r ∷ []))
+in_more v [] r = refl
+in_more v (q ∷ rs) r =
+    ap (λ (b : Bool). (nat_le q.from v && nat_le v q.to) || b) (in_more v rs r)
+    ∙ sym (or_assoc (nat_le q.from v && nat_le v q.to) (is_in_ranges v rs) (is_in_ranges v (r ∷ [])))
+  where
+    or_assoc : (a b c : Bool) → ((a || b) || c) ≡ (a || (b || c))
+    or_assoc true b c = refl
+    or_assoc false b c = refl
+
+way_split : (a b : Bool) (n first rest on : ℕ) → first ≡ way b rest on → way a n first ≡ way (a || b) (way a n rest) on
+way_split true b n first rest on is = refl
+way_split false b n first rest on is = is
+
+-- the elements up to one, and that
+up_to : {A : Type 0} (xs : List A) (i : ℕ) (d : A) → i < length xs → take (i + 1) xs ≡ take i xs ++ get_or xs i d ∷ []
+up_to xs i d within = let e : i + 1 ≡ suc i = omega arith in rw (e, take-suc xs i d within) refl
+
+ranges_more : (arms : List Arm) (arm : Arm) → ranges_in (arms ++ arm ∷ []) ≡ ranges_in arms + length arm.ranges
+ranges_more [] arm = omega arith
+ranges_more (a ∷ arms) arm = let e = ranges_more arms arm in omega (arith, e)
+
+pub next_count : (i : ℕ) (arms : List Arm) (arm : Arm) → i < length arms → arm ≡ get_or arms i arm →
+    20 * ranges_in (take (i + 1) arms) ≡ 20 * ranges_in (take i arms) + 20 * length arm.ranges
+next_count i arms arm within item =
+    let e : take (i + 1) arms ≡ take i arms ++ arm ∷ [] = up_to arms i arm within ∙ ap (λ (a : Arm). take i arms ++ a ∷ []) (sym item) in
+    let g = ranges_more (take i arms) arm in
+    ap (λ (qs : List Arm). 20 * ranges_in qs) e ∙ omega (arith, g)
+
+module _ (x : Code) where
+  pub no_ranges : (from on : ℕ) (l : Label) → from ≡ on → GoesInRanges 0 [] l x from on
+  no_ranges from on l is = goes_none is (λ s. record { first = refl; keeps = keeps_same s })
+
+  pub more_ranges : (from on most : ℕ) (rs : List Range) (r : Range) (l : Label) → Then (GoesInRanges most rs l) (GoesInRanges 20 (r ∷ []) l) x from on →
+      GoesInRanges (most + 20) (rs ++ r ∷ []) l x from on
+  more_ranges from on most rs r l does =
+      goes_weaker
+      (goes_choice does.0 (λ s. is_in_ranges (s.registers 5) rs) (λ s. x.at l.number) (λ s. way (is_in_ranges (s.registers 5) (r ∷ [])) (x.at l.number) on) keeps_first_then
+      (λ s t keeps. ap (λ (v : ℕ). way (is_in_ranges v (r ∷ [])) (x.at l.number) on) keeps.first) does.1 does.2)
+      (omega arith) (omega arith)
+      (λ s. way (is_in_ranges (s.registers 5) (rs ++ r ∷ [])) (x.at l.number) on)
+      (λ s sound.
+      way_or (is_in_ranges (s.registers 5) rs) (is_in_ranges (s.registers 5) (r ∷ [])) (x.at l.number) on
+      ∙ sym (ap (λ (b : Bool). way b (x.at l.number) on) (in_more (s.registers 5) rs r)))
+      (λ s t keeps. keeps)
+
+  pub next_range : (from on i : ℕ) (rs : List Range) (d : Range) (l : Label) → i < length rs →
+      Then (GoesInRanges (20 * i) (take i rs) l) (GoesInRanges 20 (get_or rs i d ∷ []) l) x from on → GoesInRanges (20 * (i + 1)) (take (i + 1) rs) l x from on
+  next_range from on i rs d l within does =
+      let e : 20 * (i + 1) ≡ 20 * i + 20 = omega arith in
+      subst (λ (qs : List Range). GoesInRanges (20 * (i + 1)) qs l x from on) (sym (up_to rs i d within))
+      (subst (λ (n : ℕ). GoesInRanges n (take i rs ++ get_or rs i d ∷ []) l x from on) (sym e) (more_ranges from on (20 * i) (take i rs) (get_or rs i d) l does))
+
+  -- ---- arms
+
+  module _ (labels : List Label) where
+    -- some arm is for a value
+    abbrev any_arm : List Arm → ℕ → Bool
+    any_arm [] v = false
+    any_arm (arm ∷ arms) v = is_in_ranges v arm.ranges || any_arm arms v
+
+    -- where no arm is for the value, control goes on
+    address_split : (arms : List Arm) (v on : ℕ) → arm_address x.at labels arms v on ≡ way (any_arm arms v) (arm_address x.at labels arms v 0) on
+    address_split [] v on = refl
+    address_split (arm ∷ arms) v on =
+        way_split (is_in_ranges v arm.ranges) (any_arm arms v) (x.at (label_of labels arm.to).number) (arm_address x.at labels arms v on) (arm_address x.at labels arms v 0) on
+        (address_split arms v on)
+
+    address_more : (arms : List Arm) (arm : Arm) (v on : ℕ) → arm_address x.at labels (arms ++ arm ∷ []) v on
+        ≡ arm_address x.at labels arms v (way (is_in_ranges v arm.ranges) (x.at (label_of labels arm.to).number) on)
+    address_more [] arm v on = refl
+    address_more (a ∷ arms) arm v on = ap (way (is_in_ranges v a.ranges) (x.at (label_of labels a.to).number)) (address_more arms arm v on)
+
+    pub no_arms : (from on : ℕ) → from ≡ on → GoesInArms 0 labels [] x from on
+    no_arms from on is = goes_none is (λ s. record { first = refl; keeps = keeps_same s })
+
+    pub more_arms : (from on most n : ℕ) (arms : List Arm) (arm : Arm) (l : Label) → label_of labels arm.to ≡ l →
+        Then (GoesInArms most labels arms) (GoesInRanges n arm.ranges l) x from on → GoesInArms (most + n) labels (arms ++ arm ∷ []) x from on
+    more_arms from on most n arms arm l is does =
+        goes_weaker
+        (goes_choice does.0 (λ s. any_arm arms (s.registers 5)) (λ s. arm_address x.at labels arms (s.registers 5) 0)
+        (λ s. way (is_in_ranges (s.registers 5) arm.ranges) (x.at l.number) on) keeps_first_then
+        (λ s t keeps. ap (λ (v : ℕ). way (is_in_ranges v arm.ranges) (x.at l.number) on) keeps.first)
+        (goes_weaker {k = 0} {b = most} does.1 (omega arith) (omega arith) (λ s. way (any_arm arms (s.registers 5)) (arm_address x.at labels arms (s.registers 5) 0) does.0)
+        (λ s sound. address_split arms (s.registers 5) does.0) (λ s t keeps. keeps))
+        does.2)
+        (omega arith) (omega arith)
+        (λ s. arm_address x.at labels (arms ++ arm ∷ []) (s.registers 5) on)
+        (λ s sound.
+        sym (address_split arms (s.registers 5) (way (is_in_ranges (s.registers 5) arm.ranges) (x.at l.number) on))
+        ∙ ap (λ (k : Label). arm_address x.at labels arms (s.registers 5) (way (is_in_ranges (s.registers 5) arm.ranges) (x.at k.number) on)) (sym is)
+        ∙ sym (address_more arms arm (s.registers 5) on))
+        (λ s t keeps. keeps)
+
+    pub next_arm : (from on i : ℕ) (arms : List Arm) (arm : Arm) (l : Label) → i < length arms → arm ≡ get_or arms i arm → label_of labels arm.to ≡ l →
+        Then (GoesInArms (20 * ranges_in (take i arms)) labels (take i arms)) (GoesInRanges (20 * length arm.ranges) arm.ranges l) x from on →
+        GoesInArms (20 * ranges_in (take (i + 1) arms)) labels (take (i + 1) arms) x from on
+    next_arm from on i arms arm l within item is does =
+        let e : take (i + 1) arms ≡ take i arms ++ arm ∷ [] = up_to arms i arm within ∙ ap (λ (a : Arm). take i arms ++ a ∷ []) (sym item) in
+        let g = ranges_more (take i arms) arm in
+        let f : 20 * ranges_in (take i arms ++ arm ∷ []) ≡ 20 * ranges_in (take i arms) + 20 * length arm.ranges = omega (arith, g) in
+        subst (λ (qs : List Arm). GoesInArms (20 * ranges_in qs) labels qs x from on) (sym e)
+        (subst (λ (n : ℕ). GoesInArms n labels (take i arms ++ arm ∷ []) x from on) (sym f)
+        (more_arms from on (20 * ranges_in (take i arms)) (20 * length arm.ranges) (take i arms) arm l is does))
+
+    -- the value is brought, and then the arms are gone through
+    pub switches : (arms : List Arm) (a : Operand) (from on : ℕ) → Then (BringsOperand a 5) (GoesInArms (20 * ranges_in arms) labels arms) x from on →
+        Switches (most_for a + 20 * ranges_in arms) a labels arms x from on
+    switches arms a from on does =
+        turns_weaker
+        (leads_turns {Q = λ s t. Brings 5 (operand_at x.at a s) s t} does.1 does.2 (λ s t sound also can brings. tt)
+        (λ s. arm_address x.at labels arms (operand_at x.at a s) on)
+        (λ s t can brings. ap (λ (v : ℕ). arm_address x.at labels arms v on) brings.given))
+        (omega arith) (λ s sound can. can)
+        (λ s u can both. keeps_then s both.0 u (brings_keeps 5 (operand_at x.at a s) s both.0 refl both.1) both.2.keeps)

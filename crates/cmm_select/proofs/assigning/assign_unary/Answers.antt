@@ -1,0 +1,13 @@
+use Rattle.std.proofs.Common.{arith}
+use Rattle.cmm_words.specs.Words.{value1}
+use Rattle.cmm_changes.proofs.Shared.{adds_then, adds_weaker, leads_weaker}
+use Rattle.cmm_select.proofs.Putting.{assigns_one}
+use Rattle.cmm_select.proofs.assigning.assign_unary.Goals as goal
+
+pub returns-clause-assigns : goal.returns-clause-assigns
+returns-clause-assigns c =
+    let w = c.args.width in
+    adds_weaker (adds_then c.in_ok-bring_operand.ensures.brings (adds_then c.in_ok-operate_on_one.ensures.operates c.in_ok-put.ensures.puts)) (omega arith)
+    (λ x from end does. leads_weaker
+    (assigns_one x c.args.to.now from end w (value1 c.args.operator w) c.args.operand.now (λ s t q. q.given) (λ s t q. q.keeps) does)
+    (omega arith) (λ s sound can. can) (λ s t sound can puts. puts))

@@ -1,0 +1,11 @@
+use Rattle.std.proofs.Common.{arith, pos}
+use Rattle.rv_table.specs.declared.instruction.Instr.TheVariants.{Ld}
+use Rattle.cmm_changes.proofs.Shared.{adds_one, adds_then, adds_weaker}
+use Rattle.cmm_select.proofs.Symbols.{loads_global}
+use Rattle.cmm_select.proofs.destination.read_global.Goals as goal
+
+pub returns-clause-reads : goal.returns-clause-reads
+returns-clause-reads c =
+    rw c.in_ok-emit.ensures.parts
+    (adds_weaker (adds_then c.in_ok-find_global.ensures.sets (adds_one c.find_global.new.asm.parts (Ld 5 5 (pos 0)))) (omega arith)
+    (λ x from to does. loads_global x from to c.args.of does))

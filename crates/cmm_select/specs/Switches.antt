@@ -1,0 +1,45 @@
+-- Which way switches go (C-- Language Specification 2.0, the switch statement).
+use Rattle.std.specs.Prelude.{◌≡◌, ℕ, ◌+◌, List, [], ◌∷◌, length, slice_index_or}
+use Rattle.cmm_graph.specs.declared.node.Arm.{Arm}
+use Rattle.cmm_graph.specs.declared.number.NodeId.{NodeId}
+use Rattle.cmm_program.specs.Bodies.{is_in_ranges}
+use Rattle.cmm_program.specs.declared.statement.Range.{Range}
+use Rattle.rv_asm.specs.Parts.{Code, way}
+use Rattle.rv_asm.specs.declared.part.Label.{Label}
+use Rattle.rv_table.specs.Machine.{State}
+use Rattle.cmm_changes.specs.Changes.{Keeps}
+use Rattle.cmm_changes.specs.Pieces.{Always}
+use Rattle.cmm_changes.specs.Ways.{Goes, Turns}
+use Rattle.cmm_select.specs.Operands.{CanBringOperand, operand_at}
+use Rattle.cmm_select.specs.declared.operand.Operand.{Operand}
+
+-- the value stays in register 5, and nothing else is changed but registers 6 and 7
+pub record KeepsFirst (s t : State) : Type 0 where
+  pub first : t.registers 5 ≡ s.registers 5
+  pub keeps : Keeps s t
+
+-- control goes to the label where the value in register 5 is in a range, and on otherwise
+abbrev pub GoesInRanges : ℕ → List Range → Label → Code → ℕ → ℕ → Type 0
+GoesInRanges most ranges l x from on = Goes 0 most Always (λ s. way (is_in_ranges (s.registers 5) ranges) (x.at l.number) on) KeepsFirst x from
+
+-- how many ranges arms have
+abbrev pub ranges_in : List Arm → ℕ
+ranges_in [] = 0
+ranges_in (arm ∷ arms) = length arm.ranges + ranges_in arms
+
+-- the label of a node
+abbrev pub label_of : List Label → NodeId → Label
+label_of labels n = slice_index_or labels n.number (record { number = 0 })
+
+-- where the first arm leads that is for a value, or on
+abbrev pub arm_address : (ℕ → ℕ) → List Label → List Arm → ℕ → ℕ → ℕ
+arm_address at labels [] value on = on
+arm_address at labels (arm ∷ arms) value on = way (is_in_ranges value arm.ranges) (at (label_of labels arm.to).number) (arm_address at labels arms value on)
+
+abbrev pub GoesInArms : ℕ → List Label → List Arm → Code → ℕ → ℕ → Type 0
+GoesInArms most labels arms x from on = Goes 0 most Always (λ s. arm_address x.at labels arms (s.registers 5) on) KeepsFirst x from
+
+-- control goes where an arm leads that is for an operand, and on where there is none; nothing is changed but scratch registers
+abbrev pub Switches : ℕ → Operand → List Label → List Arm → Code → ℕ → ℕ → Type 0
+Switches most a labels arms x from on =
+    Turns most (CanBringOperand a) (λ s. arm_address x.at labels arms (operand_at x.at a s) on) Keeps x from

@@ -1,0 +1,92 @@
+//! Where nodes put numbers.
+
+ghost use Rattle.std.specs.Prelude.{◌≡◌, ◌≢◌, ◌+◌, ◌<◌, ◌≤◌, OnOk};
+ghost use Rattle.rv_asm.specs.Assembly.{IsLabel};
+ghost use Rattle.rv_table.specs.Words.{sum};
+ghost use Rattle.cmm_changes.specs.Accesses.{CanReachGlobal, global_at};
+ghost use Rattle.cmm_changes.specs.Changes.{Sets};
+ghost use Rattle.cmm_changes.specs.Pieces.{Adds, Always, Leads};
+ghost use Rattle.cmm_select.specs.Destinations.{IsDestination, PutsFirst};
+
+use crate::place::{FIRST, HELP, write};
+use cmm_chain::Location;
+use rv_asm::{Asm, Label};
+use rv_table::Instr;
+use std::alloc::AllocError;
+
+/// The address of the region, in which the global registers are.
+const REGION: u8 = 4;
+
+/// Where a number is put.
+#[derive(Clone, Copy, Debug, PartialEq, Eq)]
+pub enum Destination {
+    /// A place of the activation.
+    Place(Location),
+    /// The global register whose offset in the region a label stands for.
+    Register(Label),
+}
+
+/// Puts the number in register 5 where it is to be. An error is want of memory, and then some of the instructions may be there.
+pub fn put(asm: &mut Asm, to: &Destination) -> Result<(), AllocError>
+    requires { IsDestination asm.old.labels to.now }
+    ensures puts { OnOk result (Adds 4 asm.old.parts asm.new.parts (PutsFirst to.now)) }
+    ensures labels { asm.new.labels ≡ asm.old.labels }
+{
+    match *to {
+        Destination::Place(place) => {
+            write(asm, place)?;
+            Ok(())
+        }
+        Destination::Register(of) => {
+            store_global(asm, of)?;
+            Ok(())
+        }
+    }
+}
+
+/// Puts the number in register 5 into a global register.
+fn store_global(asm: &mut Asm, of: Label) -> Result<(), AllocError>
+    requires { IsLabel asm.old.labels of }
+    ensures puts { OnOk result (Adds 4 asm.old.parts asm.new.parts (PutsFirst (Destination.Register of))) }
+    ensures labels { asm.new.labels ≡ asm.old.labels }
+{
+    find_global(asm, of, HELP)?;
+    asm.emit(Instr::Sd {
+        rs1: HELP,
+        rs2: FIRST,
+        imm: 0,
+    })?;
+    Ok(())
+}
+
+/// Gives register 5 what a global register has. An error is want of memory, and then some of the instructions may be there.
+pub fn read_global(asm: &mut Asm, of: Label) -> Result<(), AllocError>
+    requires { IsLabel asm.old.labels of }
+    ensures reads { OnOk result (Adds 4 asm.old.parts asm.new.parts (λ x. Leads 4 (CanReachGlobal (x.at of.number)) (λ s t. Sets 5 (global_at (x.at of.number) s) s t) x)) }
+    ensures labels { asm.new.labels ≡ asm.old.labels }
+{
+    find_global(asm, of, FIRST)?;
+    asm.emit(Instr::Ld {
+        rd: FIRST,
+        rs1: FIRST,
+        imm: 0,
+    })?;
+    Ok(())
+}
+
+/// Gives register `rd` the address of a global register.
+fn find_global(asm: &mut Asm, of: Label, rd: u8) -> Result<(), AllocError>
+    requires label { IsLabel asm.old.labels of }
+    requires low { 5 ≤ rd }
+    requires high { rd ≤ 7 }
+    ensures sets { OnOk result (Adds 3 asm.old.parts asm.new.parts (λ x. Leads 3 Always (λ s t. Sets rd (sum (x.at of.number) (s.registers 4)) s t) x)) }
+    ensures labels { asm.new.labels ≡ asm.old.labels }
+{
+    asm.address(rd, of)?;
+    asm.emit(Instr::Add {
+        rd,
+        rs1: rd,
+        rs2: REGION,
+    })?;
+    Ok(())
+}

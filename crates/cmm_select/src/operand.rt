@@ -1,0 +1,106 @@
+//! Operands of nodes, and how they are brought.
+
+ghost use Rattle.std.specs.Prelude.{◌≡◌, ◌≢◌, ◌+◌, ◌^◌, ◌<◌, ◌≤◌, OnOk};
+ghost use Rattle.rv_asm.specs.Assembly.{IsLabel};
+ghost use Rattle.cmm_changes.specs.Changes.{Sets};
+ghost use Rattle.cmm_changes.specs.Pieces.{Adds, Leads};
+ghost use Rattle.cmm_select.specs.Operands.{BringsBoth, BringsOperand, IsOperand, most_for, most_for_source};
+ghost use Rattle.cmm_select.specs.Sources.{CanBring, IsSource, brought};
+
+use crate::number::load_constant;
+use crate::place::{FIRST, HELP, SECOND, read};
+use crate::source::{Source, address};
+use rv_asm::{Asm, Label};
+use rv_table::Instr;
+use std::alloc::AllocError;
+
+/// What a node needs, as a word.
+#[derive(Clone, Copy, Debug, PartialEq, Eq)]
+pub enum Operand {
+    /// What the activation has, or a number.
+    Held(Source),
+    /// The number that a label stands for, so many bytes on, modulo 2^64: the address of a procedure or of a data label.
+    Symbol { of: Label, plus: u64 },
+}
+
+/// Brings an operand into register `rd`, 5 or 7; register 6 may help. An error is want of memory, and then some of the instructions may be
+/// there.
+pub fn bring_operand(asm: &mut Asm, from: &Operand, rd: u8) -> Result<(), AllocError>
+    requires operand { IsOperand asm.old.labels from.now }
+    requires low { 5 ≤ rd }
+    requires high { rd ≤ 7 }
+    requires beside { rd ≢ 6 }
+    ensures brings { OnOk result (Adds (most_for from.now) asm.old.parts asm.new.parts (BringsOperand from.now rd)) }
+    ensures labels { asm.new.labels ≡ asm.old.labels }
+{
+    match *from {
+        Operand::Held(source) => {
+            bring_held(asm, source, rd)?;
+            Ok(())
+        }
+        Operand::Symbol { of, plus } => {
+            bring_symbol(asm, of, plus, rd)?;
+            Ok(())
+        }
+    }
+}
+
+/// Brings what the activation has, or a number.
+fn bring_held(asm: &mut Asm, from: Source, rd: u8) -> Result<(), AllocError>
+    requires source { IsSource from }
+    requires low { 5 ≤ rd }
+    requires high { rd ≤ 7 }
+    ensures brings { OnOk result (Adds (most_for_source from) asm.old.parts asm.new.parts (Leads (most_for_source from) (CanBring from) (λ s t. Sets rd (brought from s) s t))) }
+    ensures labels { asm.new.labels ≡ asm.old.labels }
+{
+    match from {
+        Source::Place(place) => {
+            read(asm, place, rd)?;
+            Ok(())
+        }
+        Source::Number(number) => {
+            load_constant(asm, number, rd)?;
+            Ok(())
+        }
+        Source::Address(offset) => {
+            address(asm, offset, rd)?;
+            Ok(())
+        }
+    }
+}
+
+/// Brings the number that a label stands for, so many bytes on.
+fn bring_symbol(asm: &mut Asm, of: Label, plus: u64, rd: u8) -> Result<(), AllocError>
+    requires label { IsLabel asm.old.labels of }
+    requires low { 5 ≤ rd }
+    requires high { rd ≤ 7 }
+    requires beside { rd ≢ 6 }
+    ensures brings { OnOk result (Adds 11 asm.old.parts asm.new.parts (BringsOperand (Operand.Symbol of plus) rd)) }
+    ensures labels { asm.new.labels ≡ asm.old.labels }
+{
+    if plus == 0 {
+        asm.address(rd, of)?;
+        return Ok(());
+    }
+    load_constant(asm, plus, HELP)?;
+    asm.address(rd, of)?;
+    asm.emit(Instr::Add {
+        rd,
+        rs1: rd,
+        rs2: HELP,
+    })?;
+    Ok(())
+}
+
+/// Brings an operand into register 5 and another into register 7. An error is want of memory, and then some of the instructions may be
+/// there.
+pub fn bring_both(asm: &mut Asm, left: &Operand, right: &Operand) -> Result<(), AllocError>
+    requires left { IsOperand asm.old.labels left.now }
+    requires right { IsOperand asm.old.labels right.now }
+    ensures brings { OnOk result (Adds (most_for left.now + most_for right.now) asm.old.parts asm.new.parts (BringsBoth left.now right.now)) }
+    ensures labels { asm.new.labels ≡ asm.old.labels }
+{
+    bring_operand(asm, left, FIRST)?;
+    bring_operand(asm, right, SECOND)?;
+    Ok(())
+}

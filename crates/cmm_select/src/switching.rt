@@ -1,0 +1,82 @@
+//! Switches: a chain of branches, one a range.
+
+ghost use Rattle.std.specs.Prelude.{◌≡◌, ◌+◌, ◌*◌, ◌<◌, ◌∷◌, [], length, OnOk};
+ghost use Rattle.std.specs.List.{All};
+ghost use Rattle.rv_asm.specs.Assembly.{IsInner};
+ghost use Rattle.cmm_changes.specs.Pieces.{Adds};
+ghost use Rattle.cmm_select.specs.Operands.{IsOperand, most_for};
+ghost use Rattle.cmm_select.specs.Switches.{GoesInArms, GoesInRanges, Switches, ranges_in};
+
+use crate::number::load_constant;
+use crate::operand::{Operand, bring_operand};
+use crate::place::{FIRST, HELP, SECOND};
+use cmm_graph::Arm;
+use cmm_program::Range;
+use cmm_words::Cmp;
+use rv_asm::{Asm, Label};
+use rv_table::Instr;
+use std::alloc::AllocError;
+
+/// Goes to the label of the first arm that is for an operand, by the labels of nodes, and on where none is. An error is want of memory, and
+/// then some of the instructions may be there.
+pub fn switch(
+    asm: &mut Asm,
+    value: &Operand,
+    arms: &[Arm],
+    labels: &[Label],
+) -> Result<(), AllocError>
+    requires operand { IsOperand asm.old.labels value.now }
+    requires arms { All (λ arm. arm.to.number < length labels.now) arms.now }
+    requires inner { All (IsInner asm.old.labels) labels.now }
+    ensures switches { OnOk result (Adds (most_for value.now + 20 * ranges_in arms.now) asm.old.parts asm.new.parts (Switches (most_for value.now + 20 * ranges_in arms.now) value.now labels.now arms.now)) }
+    ensures labels { asm.new.labels ≡ asm.old.labels }
+{
+    bring_operand(asm, value, FIRST)?;
+    branch_in_arms(asm, arms, labels)?;
+    Ok(())
+}
+
+/// Goes to the label of the first arm that is for the value in register 5.
+fn branch_in_arms(asm: &mut Asm, arms: &[Arm], labels: &[Label]) -> Result<(), AllocError>
+    requires arms { All (λ arm. arm.to.number < length labels.now) arms.now }
+    requires inner { All (IsInner asm.old.labels) labels.now }
+    ensures goes { OnOk result (Adds (20 * ranges_in arms.now) asm.old.parts asm.new.parts (GoesInArms (20 * ranges_in arms.now) labels.now arms.now)) }
+    ensures labels { asm.new.labels ≡ asm.old.labels }
+{
+    for arm in arms {
+        branch_in_ranges(asm, arm.ranges.as_slice(), labels[arm.to.number as usize])?;
+    }
+    Ok(())
+}
+
+/// Goes to a label where the value in register 5 is in one of some ranges.
+fn branch_in_ranges(asm: &mut Asm, ranges: &[Range], to: Label) -> Result<(), AllocError>
+    requires { IsInner asm.old.labels to }
+    ensures goes { OnOk result (Adds (20 * length ranges.now) asm.old.parts asm.new.parts (GoesInRanges (20 * length ranges.now) ranges.now to)) }
+    ensures labels { asm.new.labels ≡ asm.old.labels }
+{
+    for range in ranges {
+        branch_between(asm, range.from, range.to, to)?;
+    }
+    Ok(())
+}
+
+/// Goes to a label where the value in register 5 is in a range: where it is above the first number by no more than the last one is.
+fn branch_between(asm: &mut Asm, first: u64, last: u64, to: Label) -> Result<(), AllocError>
+    requires { IsInner asm.old.labels to }
+    ensures goes { OnOk result (Adds 20 asm.old.parts asm.new.parts (GoesInRanges 20 (record { from = first; to = last } ∷ []) to)) }
+    ensures labels { asm.new.labels ≡ asm.old.labels }
+{
+    if last < first {
+        return Ok(());
+    }
+    load_constant(asm, first, SECOND)?;
+    asm.emit(Instr::Sub {
+        rd: SECOND,
+        rs1: FIRST,
+        rs2: SECOND,
+    })?;
+    load_constant(asm, last - first, HELP)?;
+    asm.branch(Cmp::Geu, HELP, SECOND, to)?;
+    Ok(())
+}
