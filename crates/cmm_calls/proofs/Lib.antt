@@ -1,0 +1,15 @@
+mod Offsets
+mod Reached
+mod Standing
+mod Saving
+mod Restoring
+mod Putting
+mod Rooms
+mod Pairing
+mod Making
+mod Leaving
+mod Taken
+mod Brought
+mod Beginning
+mod Going
+mod Rows

@@ -1,0 +1,4 @@
+pub mod Frames
+pub mod Values
+pub mod Calls
+pub mod inside

@@ -1,0 +1,5 @@
+pub mod Rooms
+pub mod Pairs
+pub mod Taking
+pub mod Giving
+pub mod Jumps

@@ -1,0 +1,112 @@
+//! A procedure is entered: its frame is made.
+
+ghost use Rattle.std.specs.Prelude.{◌≡◌, ◌+◌, ◌*◌, ◌^◌, ◌<◌, ◌≤◌, length, ◌∷◌, [], true, OnOk};
+ghost use Rattle.std.specs.List.{All, list_all};
+ghost use Rattle.cmm_chain.specs.Plans.{is_place};
+ghost use Rattle.rv_asm.specs.Assembly.{IsInner, IsLabel};
+ghost use Rattle.cmm_changes.specs.Pieces.{Adds, Runs};
+ghost use Rattle.cmm_calls.specs.Frames.{CanBeMade, Enters, HasFrame, HasRoom, Makes, Stores, entry_cost, fixed_numbers, pair_numbers};
+ghost use Rattle.cmm_calls.specs.Values.{Begins, are_taken_first};
+ghost use Rattle.cmm_calls.specs.inside.Pairs.{CanReachPair};
+
+use crate::place::zero_all;
+use crate::room::{NUMBER, check_room, move_down};
+use crate::saved::save_all;
+use crate::taking::take;
+use crate::word::{FRAME, RETURN, save};
+use cmm_chain::{Frame, Location};
+use rv_asm::{Asm, Label};
+use std::alloc::AllocError;
+
+/// Enters a procedure: where the stack has room, its frame is made, with the return address, the registers that it saves and the pair of
+/// each continuation, whose code begins at its landing, and then locals are made 0 in their places. Where the stack lacks room, control
+/// goes to `limit`. An error is want of memory, and then some of the instructions may be there.
+pub fn enter(
+    asm: &mut Asm,
+    frame: &Frame,
+    landings: &[Label],
+    zeroed: &[Location],
+    limit: Label,
+) -> Result<(), AllocError>
+    requires frame { CanBeMade frame.now }
+    requires landings { length landings.now ≡ length frame.now.pairs }
+    requires labels { All (IsLabel asm.old.labels) landings.now }
+    requires zeroed { list_all (is_place frame.now) zeroed.now ≡ true }
+    requires limit { IsInner asm.old.labels limit }
+    ensures enters { OnOk result (Adds (entry_cost frame.now zeroed.now) asm.old.parts asm.new.parts (Enters frame.now landings.now zeroed.now limit)) }
+    ensures labels { asm.new.labels ≡ asm.old.labels }
+{
+    check_room(asm, frame.size, limit)?;
+    make_frame(asm, frame, landings)?;
+    zero_all(asm, frame, zeroed)?;
+    Ok(())
+}
+
+/// Begins a procedure: enters it, and then its formals take the values that came. No formal's place may be a register in which a later
+/// value comes. An error is want of memory, and then some of the instructions may be there.
+pub fn begin(
+    asm: &mut Asm,
+    frame: &Frame,
+    landings: &[Label],
+    zeroed: &[Location],
+    formals: &[Location],
+    limit: Label,
+) -> Result<(), AllocError>
+    requires frame { CanBeMade frame.now }
+    requires landings { length landings.now ≡ length frame.now.pairs }
+    requires labels { All (IsLabel asm.old.labels) landings.now }
+    requires zeroed { list_all (is_place frame.now) zeroed.now ≡ true }
+    requires formals { list_all (is_place frame.now) formals.now ≡ true }
+    requires few { length formals.now ≤ 64 }
+    requires first { are_taken_first (length formals.now) 0 formals.now ≡ true }
+    requires limit { IsInner asm.old.labels limit }
+    ensures begins { OnOk result (Adds (entry_cost frame.now zeroed.now + 4 * length formals.now) asm.old.parts asm.new.parts (Begins frame.now landings.now zeroed.now formals.now limit)) }
+    ensures labels { asm.new.labels ≡ asm.old.labels }
+{
+    enter(asm, frame, landings, zeroed, limit)?;
+    take(asm, frame, formals)?;
+    Ok(())
+}
+
+/// Makes a frame, for which the stack has room.
+fn make_frame(asm: &mut Asm, frame: &Frame, landings: &[Label]) -> Result<(), AllocError>
+    requires frame { CanBeMade frame.now }
+    requires landings { length landings.now ≡ length frame.now.pairs }
+    requires labels { All (IsLabel asm.old.labels) landings.now }
+    ensures makes { OnOk result (Adds (7 + (3 * length frame.now.saved + 8 * length frame.now.pairs)) asm.old.parts asm.new.parts (λ x from to. Runs 0 (7 + (3 * length frame.now.saved + 8 * length frame.now.pairs)) (HasRoom frame.now.size) (λ s u. Makes frame.now.size (fixed_numbers x.at frame.now landings.now s.registers (u.registers 2)) s u) x from to)) }
+    ensures labels { asm.new.labels ≡ asm.old.labels }
+{
+    move_down(asm, frame.size)?;
+    save(asm, RETURN, frame.return_at)?;
+    save_all(asm, frame)?;
+    write_pairs(asm, frame, landings)?;
+    Ok(())
+}
+
+/// Writes the pairs of the continuations whose code begins at these landings.
+fn write_pairs(asm: &mut Asm, frame: &Frame, landings: &[Label]) -> Result<(), AllocError>
+    requires frame { CanBeMade frame.now }
+    requires landings { length landings.now ≡ length frame.now.pairs }
+    requires labels { All (IsLabel asm.old.labels) landings.now }
+    ensures writes { OnOk result (Adds (8 * length frame.now.pairs) asm.old.parts asm.new.parts (λ x from to. Runs 0 (8 * length frame.now.pairs) (HasFrame frame.now.size) (λ s t. Stores (pair_numbers x.at (s.registers 2) frame.now.pairs landings.now) s t) x from to)) }
+    ensures labels { asm.new.labels ≡ asm.old.labels }
+{
+    let pairs = frame.pairs.as_slice();
+    for (index, offset) in pairs.iter().enumerate() {
+        write_pair(asm, *offset, landings[index])?;
+    }
+    Ok(())
+}
+
+/// Writes the pair of a continuation at an offset: the address of its landing, and that of the frame.
+fn write_pair(asm: &mut Asm, offset: u32, landing: Label) -> Result<(), AllocError>
+    requires offset { offset + 8 < 2 ^ 21 }
+    requires landing { IsLabel asm.old.labels landing }
+    ensures writes { OnOk result (Adds 8 asm.old.parts asm.new.parts (λ x from to. Runs 0 8 (CanReachPair offset) (λ s t. Stores ((offset, x.at landing.number) ∷ (offset + 8, s.registers 2) ∷ []) s t) x from to)) }
+    ensures labels { asm.new.labels ≡ asm.old.labels }
+{
+    asm.address(NUMBER, landing)?;
+    save(asm, NUMBER, offset)?;
+    save(asm, FRAME, offset + 8)?;
+    Ok(())
+}

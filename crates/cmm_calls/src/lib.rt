@@ -1,0 +1,36 @@
+//! The code by which frames come and go.
+//!
+//! Each function appends code to an assembler, and its contract says what that changes of a machine state (`specs/Frames`, `specs/Values`,
+//! `specs/Calls`), how many instructions it adds, how many are executed at most, and, where it has one, that the first asks for nothing but
+//! input. A frame is any that `lay_frame` of cmm_located gives, of less than 2 MiB; an offset in it may be past what an instruction reaches.
+//! Between two pieces registers 5 to 7 have nothing; within one, an address may wait in register 7 while values go out.
+//!
+//! - `word`: a word of the frame is written from a register, or read into one.
+//! - `saved`: the registers that a procedure saves are saved, and restored.
+//! - `place`: a place is written from a register, and places are made 0.
+//! - `room`: whether the stack has room for a frame, and how register 2 moves.
+//! - `entry`: a procedure is entered, and its frame is made.
+//! - `exit`: a frame is left, and control goes back.
+//! - `taking`: values that control brings come to places.
+//! - `giving`: values go out to where they travel.
+//! - `calling`: control goes to another procedure, or is cut to a continuation.
+#![tactic(auto)]
+
+mod calling;
+mod entry;
+mod exit;
+mod giving;
+mod place;
+mod room;
+mod saved;
+mod taking;
+mod word;
+
+pub use calling::{call, call_by, cut, jump_by, lay_exits};
+pub use entry::{begin, enter};
+pub use exit::{jump, leave, leave_by, return_values};
+pub use giving::give;
+pub use place::{put, zero_all};
+pub use saved::{restore_all, save_all};
+pub use taking::take;
+pub use word::{restore, save};

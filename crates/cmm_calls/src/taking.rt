@@ -1,0 +1,71 @@
+//! Values that control brings come to places.
+
+ghost use Rattle.std.specs.Prelude.{◌≡◌, ◌-◌, ◌*◌, ◌<◌, ◌≤◌, length, pos, true, OnOk};
+ghost use Rattle.std.specs.List.{list_all};
+ghost use Rattle.cmm_chain.specs.Plans.{is_place};
+ghost use Rattle.rv_table.specs.Table.{IsValid};
+ghost use Rattle.rv_table.specs.declared.instruction.Instr.TheVariants.{Ld};
+ghost use Rattle.cmm_changes.specs.Changes.{IsPlace, Puts};
+ghost use Rattle.cmm_changes.specs.Pieces.{Adds, Leads};
+ghost use Rattle.cmm_calls.specs.Frames.{CanBeMade};
+ghost use Rattle.cmm_calls.specs.Values.{HasRegion, Passes, Takes, are_taken_first, value_in};
+ghost use Rattle.cmm_calls.specs.inside.Taking.{CanTake};
+
+use crate::place::put;
+use crate::room::{NUMBER, REGION};
+use cmm_chain::{Frame, Location};
+use rv_asm::Asm;
+use rv_table::Instr;
+use std::alloc::AllocError;
+
+/// How many values travel in registers.
+pub(crate) const IN_REGISTERS: u32 = 8;
+
+/// The register of the first value.
+pub(crate) const FIRST_VALUE: u8 = 10;
+
+/// Takes the values that control brings, each to its place, the first one first. No place may be a register in which a later value
+/// comes. An error is want of memory, and then some of the instructions may be there.
+pub fn take(asm: &mut Asm, frame: &Frame, places: &[Location]) -> Result<(), AllocError>
+    requires frame { CanBeMade frame.now }
+    requires places { list_all (is_place frame.now) places.now ≡ true }
+    requires few { length places.now ≤ 64 }
+    requires first { are_taken_first (length places.now) 0 places.now ≡ true }
+    ensures takes { OnOk result (Adds (4 * length places.now) asm.old.parts asm.new.parts (Passes (4 * length places.now) (HasRegion frame.now.size) (Takes places.now))) }
+    ensures labels { asm.new.labels ≡ asm.old.labels }
+{
+    for (index, place) in places.iter().enumerate() {
+        take_value(asm, index as u32, *place)?;
+    }
+    Ok(())
+}
+
+/// Takes the value with this index to a place.
+fn take_value(asm: &mut Asm, index: u32, to: Location) -> Result<(), AllocError>
+    requires few { index < 64 }
+    requires place { IsPlace to }
+    ensures takes { OnOk result (Adds 4 asm.old.parts asm.new.parts (Leads 4 (CanTake to) (λ s t. Puts to (value_in index s) s t))) }
+    ensures labels { asm.new.labels ≡ asm.old.labels }
+{
+    if index < IN_REGISTERS {
+        put(asm, FIRST_VALUE + index as u8, to)?;
+        return Ok(());
+    }
+    asm.emit(load_value(index))?;
+    put(asm, NUMBER, to)?;
+    Ok(())
+}
+
+/// The instruction that loads a value from the argument area.
+fn load_value(index: u32) -> Instr
+    requires area { 8 ≤ index }
+    requires few { index < 64 }
+    ensures is { result ≡ Ld 5 4 (pos (8 * (index - 8))) }
+    ensures valid { IsValid result }
+{
+    Instr::Ld {
+        rd: NUMBER,
+        rs1: REGION,
+        imm: (8 * (index - IN_REGISTERS)) as i32,
+    }
+}
