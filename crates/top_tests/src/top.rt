@@ -139,7 +139,7 @@ const UNITS: [(&str, &str); 57] = [
     ),
     (
         "export main; main() { return1 (1); }",
-        "a.cmm:1:1: 90 form not built\n",
+        "a.cmm:1:23: 21 undeclared\n",
     ),
     (
         "export main; main() { return (1) }",

@@ -1,0 +1,103 @@
+-- What is asked of the finished code of a program.
+use Rattle.std.specs.Prelude.{◌≡◌, ℕ, ◌%◌, ◌*◌, ◌<◌, ◌^◌, ◌==◌, ◌&&◌, Bool, true, false, List, [], ◌∷◌, is_some, slice_get, Ok, Some}
+use Rattle.std.specs.List.{list_all}
+use Rattle.cmm_words.specs.Widths.{IsWord, bytes}
+use Rattle.cmm_words.specs.declared.width.Width.{Width}
+use Rattle.cmm_chain.specs.Plans.{fixed_offsets}
+use Rattle.cmm_program.specs.declared.procedure.Proc.{Proc}
+use Rattle.cmm_program.specs.Frames.{place_row, procedure_at}
+use Rattle.cmm_program.specs.State.{Activation, Setting, Running}
+use Rattle.cmm_following.specs.Machine.{after}
+use Rattle.cmm_graph.specs.declared.number.NodeId.{NodeId}
+use Rattle.cmm_graph.specs.declared.operand.Operand.{Operand}
+use Rattle.cmm_graph.specs.declared.operand.Rvalue.{Rvalue}
+use Rattle.cmm_graph.specs.declared.operand.Rvalue.TheVariants as rvalue
+use Rattle.cmm_graph.specs.declared.node.HostCall.TheVariants.{PutByte}
+use Rattle.cmm_graph.specs.declared.node.Node.{Node}
+use Rattle.cmm_graph.specs.declared.node.NodeKind.{NodeKind}
+use Rattle.cmm_graph.specs.declared.node.NodeKind.TheVariants.{Entry, Assign, Store, Branch, Switch, Return, Host, Goto, Stop}
+use Rattle.cmm_graph.specs.declared.graph.Graph.{Graph}
+use Rattle.cmm_graph.specs.GraphControl.{in_graph, kind_at}
+use Rattle.cmm_graph.specs.Paths.{node_of}
+use Rattle.cmm_graph.specs.Ranges.{IsValid}
+use Rattle.cmm_graph.specs.Values.{operand_value, rvalue_value}
+use Rattle.cmm_calls.specs.Frames.{CanBeMade}
+use Rattle.cmm_execution.specs.Machine.{Launch, map_of}
+use Rattle.cmm_shown.specs.Shown.{AreWordsAt, IsFor, IsPlaceOf}
+use Rattle.cmm_located.specs.Compiled.{Compiled, Located}
+use Rattle.cmm_located.specs.LocatedMachine.{located_machine, located_start}
+use Rattle.cmm_located.specs.Nodes.{keeping, local_of, reads_at}
+use Rattle.cmm_coded.specs.Finished.{Finished}
+use Rattle.cmm_coded.specs.NodeCode.{IsCodeOf}
+
+-- ---- for which programs
+
+-- right sides that are done so far: those that read operands alone
+abbrev pub reads_operands : Rvalue → Bool
+reads_operands (rvalue.Register r) = false
+reads_operands (rvalue.Load width aligned address) = false
+reads_operands _ = true
+
+-- The nodes that are done so far: no other activation comes, by a call, a tail call, a cut or a yield; no formal takes an argument; only
+-- locals are assigned; nothing is loaded, and words are stored at multiples of their size alone; and no byte is taken.
+abbrev pub is_coded : NodeKind → Bool
+is_coded (Entry [] next) = true
+is_coded (Assign to value next) = is_some (local_of to) && reads_operands value
+is_coded (Branch test then_ otherwise) = true
+is_coded (Switch value arms otherwise) = true
+is_coded (Return exit alternates results) = true
+is_coded (Store width aligned address value next) = aligned == bytes width
+is_coded (Host (PutByte value) next) = true
+is_coded (Goto next) = true
+is_coded Stop = true
+is_coded _ = false
+
+-- ---- what the layers below promise of a procedure
+
+-- the frame and the places of a procedure are those of its activations
+pub record IsLaidFor (s : Setting) (c : Compiled) (q : ℕ) : Type 0 where
+  pub procedure : Proc
+  pub is_procedure : procedure_at s q ≡ Some procedure
+  pub size : (c.plan.frame q).size ≡ (place_row s q).frame
+  pub can : CanBeMade (c.plan.frame q)
+  pub words : (a : Activation) → a.procedure ≡ q → AreWordsAt s a (fixed_offsets (c.plan.frame q))
+  pub places : (a : Activation) (v : ℕ) → a.procedure ≡ q → IsPlaceOf s a (c.plan.place q v)
+
+-- ---- what the layers above promise of a run
+
+module _ (s : Setting) (c : Compiled) where
+  -- if an operand has a value, it is a word of a width
+  abbrev pub IsWordIn : Located → Width → Operand → Type 0
+  IsWordIn at w o = (v : ℕ) → operand_value (keeping s c at).held o (reads_at s c at) ≡ Ok v → IsWord w v
+
+  -- so are what an operator is applied to
+  abbrev pub HasWordsIn : Located → Rvalue → Type 0
+  HasWordsIn at (rvalue.Unary operator width o) = IsWordIn at width o
+  HasWordsIn at (rvalue.Binary operator width left right) = IsWordIn at width left × IsWordIn at width right
+  HasWordsIn at (rvalue.Compare test) = IsWordIn at test.width test.left × IsWordIn at test.width test.right
+  HasWordsIn at (rvalue.SignExtend narrow width o) = IsWordIn at narrow o
+  HasWordsIn at (rvalue.LowBits wide width o) = IsWordIn at wide o
+  HasWordsIn at _ = Unit {0}
+
+  -- what a node compares are words of the width, and what it assigns has 64 bits
+  abbrev pub HasWords : Located → NodeKind → Type 0
+  HasWords at (Assign to value next) =
+      HasWordsIn at value × ((v : ℕ) → rvalue_value (keeping s c at).held value (reads_at s c at) ≡ Ok v → v < 2 ^ 64)
+  HasWords at (Branch test then_ otherwise) = IsWordIn at test.width test.left × IsWordIn at test.width test.right
+  HasWords at _ = Unit {0}
+
+-- ---- the whole
+
+pub record IsCode (s : Setting) (c : Compiled) (l : Launch) (f : Finished) (input : List ℕ) : Type 0 where
+  pub is_for : IsFor s (map_of l)
+  pub coded : (q : ℕ) (g : Graph) → slice_get c.graphs q ≡ Some g → list_all (λ node. is_coded node.kind) g.nodes ≡ true
+  pub valid : (q : ℕ) (g : Graph) → slice_get c.graphs q ≡ Some g → IsValid g
+  pub laid : (q : ℕ) (g : Graph) → slice_get c.graphs q ≡ Some g → IsLaidFor s c q
+  pub nodes : (q : ℕ) (n : NodeId) (node : Node) → in_graph c.graphs q (λ g. node_of g n) ≡ Some node → IsCodeOf s c l f q n node.kind (32 * node.tokens)
+  -- the run ends at the first node of the first procedure, in name
+  pub first : Node
+  pub is_first : in_graph c.graphs 0 (λ g. node_of g (record { number = 0 })) ≡ Some first
+  pub back_aligned : f.symbols.last_return % 4 ≡ 0
+  pub back_fits : f.symbols.last_return < 2 ^ 64
+  pub words : (n : ℕ) → let at = after (located_machine s c) n (located_start s c input) in
+      at.store.status ≡ Running → HasWords s c at (kind_at c.graphs at.procedure at.node)

@@ -1,0 +1,69 @@
+-- Which states of the machine show a state of the located machine, with where control is.
+use Rattle.std.specs.Prelude.{◌≡◌, ℕ, ◌≤◌, Bool, true, false, List, [], ◌∷◌, Some}
+use Rattle.rv_table.specs.Bounds.{IsSound}
+use Rattle.rv_table.specs.Machine.{State}
+use Rattle.rv_table.specs.declared.trap.TrapKind.TheVariants.{Breakpoint}
+use Rattle.cmm_following.specs.Machine.{after}
+use Rattle.cmm_program.specs.State as c
+use Rattle.cmm_program.specs.State.{Activation, Setting}
+use Rattle.cmm_laws.specs.Observed.{store_seen}
+use Rattle.cmm_graph.specs.declared.node.Node.{Node}
+use Rattle.cmm_graph.specs.GraphControl.{in_graph}
+use Rattle.cmm_graph.specs.Paths.{node_of}
+use Rattle.cmm_graph.specs.Ranges.{is_entry}
+use Rattle.cmm_execution.specs.Machine.{Launch, Status, Running, Ended, Trapped, map_of}
+use Rattle.cmm_served.specs.Outside.{Outside}
+use Rattle.cmm_shown.specs.Shown.{IsShown}
+use Rattle.cmm_located.specs.Compiled.{Compiled, Located}
+use Rattle.cmm_located.specs.LocatedMachine.{located_machine, located_start, tokens_at}
+use Rattle.cmm_coded.specs.Finished.{Finished}
+
+-- ---- what is outside of registers and memory
+
+-- While the client is waited for, the image still runs. Of a wrong state nothing is asked.
+abbrev pub status_of : c.Status → Status
+status_of c.Running = Running
+status_of (c.Waiting values) = Running
+status_of (c.Ended outcome) = Ended outcome
+status_of (c.Wrong error) = Trapped Breakpoint 0
+
+abbrev pub outside_at : Located → Outside
+outside_at at = record {
+  input = at.store.input;
+  taken = at.store.taken;
+  output = at.store.output;
+  log = (store_seen at.store).log;
+  status = status_of at.store.status;
+}
+
+-- ---- where control is
+
+-- the activation that runs is the only one
+pub record IsAlone (at : Located) : Type 0 where
+  pub activation : Activation
+  pub youngest : at.store.activations ≡ activation ∷ []
+  pub same : activation.procedure ≡ at.procedure
+  pub carried : at.carried ≡ []
+
+-- at an Entry there is none yet
+abbrev pub IsInside : Bool → Located → Type 0
+IsInside true at = at.store.activations ≡ []
+IsInside false at = IsAlone at
+
+module _ (s : Setting) (c' : Compiled) (l : Launch) (f : Finished) where
+  pub record Stands (at : Located) (t : State) : Type 0 where
+    pub running : at.store.status ≡ c.Running
+    pub node : Node
+    pub there : in_graph c'.graphs at.procedure (λ g. node_of g at.node) ≡ Some node
+    pub inside : IsInside (is_entry node.kind) at
+    pub shown : IsShown f.symbols s (map_of l) at.holdings at.store at.carried t
+    pub pc : t.pc ≡ f.node_at at.procedure at.node
+    pub sound : IsSound t
+
+-- ---- the run
+
+-- a state of the run on an input, at a node
+pub record IsOfRun (s : Setting) (c' : Compiled) (input : List ℕ) (at : Located) : Type 0 where
+  pub steps : ℕ
+  pub reached : at ≡ after (located_machine s c') steps (located_start s c' input)
+  pub tokens : 1 ≤ tokens_at s c' at
