@@ -13,8 +13,8 @@ use cmm_names::Thing;
 use cmm_typing::Names;
 use cmm_wanted::{is_alignment, width_of};
 
-/// How many bytes a word of a type has.
-fn bytes_of<N: Names>(names: &N, t: &TypeName) -> u64
+/// How many bytes a word of a type has: one where the type is broken.
+pub fn bytes_of<N: Names>(names: &N, t: &TypeName) -> u64
     ensures value { result ≡ limits.bytes_of (N.senses names.now) t.now }
     ensures some { 0 < result }
     ensures small { result ≤ 16 }
@@ -32,8 +32,8 @@ fn number_or_zero<N: Names>(names: &N, e: &Expr) -> u64
     number(names, e).unwrap_or(0)
 }
 
-/// How many words a datum has.
-fn data_count<N: Names>(names: &N, count: &Count, initial: &Initial) -> u64
+/// How many words a datum has: none where their number is broken.
+pub fn data_count<N: Names>(names: &N, count: &Count, initial: &Initial) -> u64
     requires { AreWords (N.senses names.now) }
     ensures { result ≡ limits.data_count (N.senses names.now) count.now initial.now }
 {

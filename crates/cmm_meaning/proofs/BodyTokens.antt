@@ -36,7 +36,8 @@ use Rattle.cmm_meaning.specs.Laws.{AreDerived, BodiesAreCounted}
 use Rattle.cmm_meaning.proofs.Everywhere.{all_read}
 use Rattle.cmm_meaning.proofs.Flat.{flat_from, procedure_is}
 use Rattle.cmm_meaning.proofs.Keeping.{both_true}
-use Rattle.cmm_meaning.proofs.Derived.{Taken, middle, hidden_parts, block_is, item_test, unit_test}
+use Rattle.cmm_meaning.proofs.Derived.{Taken, middle, block_is, item_test, unit_test}
+use Rattle.cmm_meaning.proofs.Inside.{hidden_parts}
 use Rattle.cmm_meaning.proofs.Steady.{IsSteady, here_is, steady_keyword, steady_opening, steady_whole, steady_primary, steady_optional, steady_round, steady_list, steady_ident}
 use Rattle.cmm_meaning.proofs.SteadyUnits.{steady_case, steady_span, steady_formal, steady_local, steady_stmt}
 use Rattle.cmm_meaning.proofs.Weighing.{inside_of, taken_of}

@@ -11,7 +11,7 @@ use Rattle.cmm_lexer.specs.declared.keyword.Keyword.TheVariants.{Else, If, Secti
 use Rattle.cmm_lexer.specs.declared.keyword.Keyword.TheVariants as word
 use Rattle.cmm_lexer.specs.declared.symbol.Symbol.TheVariants.{Assign, Colon, Semicolon, OpenBrace, CloseBrace}
 use Rattle.cmm_ast.specs.declared.procedure.Proc.{Proc}
-use Rattle.cmm_ast.specs.declared.statement.Block.{Row_of-Part, end_of-Part, more_of-Part, items-the_row-Part, items_hidden-the_row-Part-0}
+use Rattle.cmm_ast.specs.declared.statement.Block.{Row_of-Part, end_of-Part, more_of-Part}
 use Rattle.cmm_ast.specs.declared.statement.Case.{Case}
 use Rattle.cmm_ast.specs.declared.statement.Case.TheVariants.{Ranges, Default}
 use Rattle.cmm_ast.specs.declared.statement.Otherwise.{Otherwise, more_of-Stmt}
@@ -33,6 +33,7 @@ use Rattle.cmm_ast.specs.StatementGrammar.{formal, lvalue, range, case, switch_s
 use Rattle.cmm_ast.specs.UnitGrammar.{item, item_row, top_level}
 use Rattle.cmm_accepted.specs.Items.{SpanTree, Within, item_within, items_within, top_items, items_of, parts_inside, parts_otherwise, part_within, parts_row, parts_of_arms, parts_in, parts_of}
 use Rattle.cmm_accepted.specs.Switches.{heads}
+use Rattle.cmm_meaning.proofs.Inside.{hidden_parts}
 use Rattle.cmm_meaning.proofs.Keeping.{both_true}
 
 -- ---- what is taken has been taken part by part
@@ -158,13 +159,6 @@ mutual
       (arms_have spans m rest (back (braces (part_row body)) (arm_row rest) b))
 
 -- ---- procedures
-
-part_rows : (spans : List SpanTree) (n : _) (row : Row_of-Part n) → parts_row spans row ≡ flat_map (part_within spans) (items-the_row-Part n row)
-part_rows spans n end_of-Part = refl
-part_rows spans n (more_of-Part {n = m} p rest) = ap (λ t. part_within spans p ++ t) (part_rows spans m rest)
-
-pub hidden_parts : (spans : List SpanTree) (ps : List Part) → parts_row spans (OtherwiseForms.hidden-the_row-Part-0 ps) ≡ flat_map (part_within spans) ps
-hidden_parts spans ps = part_rows spans _ (OtherwiseForms.hidden-the_row-Part-0 ps) ∙ ap (flat_map (part_within spans)) (items_hidden-the_row-Part-0 ps)
 
 pub block_is : (ps : List Part) → block (record { parts = ps }) ≡ braces (part_row (OtherwiseForms.hidden-the_row-Part-0 ps))
 unfolding Carrier.hidden Carrier.roll

@@ -49,7 +49,7 @@ opened = tt
 abbrev pub whats : List (Within Part) → List Part
 whats ps = map (λ p. p.what) ps
 
-whats_append : (xs ys : List (Within Part)) → whats (xs ++ ys) ≡ whats xs ++ whats ys
+pub whats_append : (xs ys : List (Within Part)) → whats (xs ++ ys) ≡ whats xs ++ whats ys
 whats_append xs ys = map-append (λ p. p.what) xs ys
 
 mutual
@@ -66,7 +66,7 @@ mutual
   alike_otherwise a b (Else' _ body) = alike_row a b _ body
   alike_otherwise a b (ElseIf' _ (more_of-Stmt first past form rest)) = ap (λ t. parts.Stmt' first past form ∷ t) (alike_form a b form)
 
-  alike_part : (a b : List SpanTree) (p : Part) → whats (part_within a p) ≡ whats (part_within b p)
+  pub alike_part : (a b : List SpanTree) (p : Part) → whats (part_within a p) ≡ whats (part_within b p)
   alike_part a b (parts.Local l) = refl
   alike_part a b (parts.Stmt' first past form) = ap (λ t. parts.Stmt' first past form ∷ t) (alike_form a b form)
 
@@ -81,6 +81,13 @@ mutual
   alike_arms a b n (more_of-Arm {n = m} first what _ body rest) =
       whats_append (parts_row a body) (parts_of_arms a rest)
       ∙ rw (alike_row a b _ body, alike_arms a b m rest) (sym (whats_append (parts_row b body) (parts_of_arms b rest)))
+
+-- what stands in a list of parts is the same whatever spans are around it
+pub whats_alike : (a b : List SpanTree) (ps : List Part) → whats (flat_map (part_within a) ps) ≡ whats (flat_map (part_within b) ps)
+whats_alike a b [] = refl
+whats_alike a b (p ∷ ps) =
+    whats_append (part_within a p) (flat_map (part_within a) ps)
+    ∙ rw (alike_part a b p, whats_alike a b ps) (sym (whats_append (part_within b p) (flat_map (part_within b) ps)))
 
 -- ---- statements with those inside them
 

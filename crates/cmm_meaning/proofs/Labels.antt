@@ -47,7 +47,7 @@ item_length names (items.Proc p) = refl
 item_length names (items.Datum d) = datum_length names d.form d.token
 item_length names (items.Span' first key value size inside) = refl
 
-items_length : (names : Senses) (is : List (Within Item)) → length (flat_map (λ i. item_datums names i.what) is) ≡ datums_among is
+pub items_length : (names : Senses) (is : List (Within Item)) → length (flat_map (λ i. item_datums names i.what) is) ≡ datums_among is
 items_length names [] = refl
 items_length names (i ∷ is) =
     length-append (item_datums names i.what) (flat_map (λ j. item_datums names j.what) is) ∙ rw (item_length names i.what, items_length names is) refl
@@ -61,7 +61,7 @@ datums_length program [] = refl
 datums_length program (u ∷ us) =
     length-append (unit_datums program u) (flat_map (unit_datums program) us) ∙ rw (items_length (unit_senses program u.entries) u.items, datums_length program us) refl
 
-among_append : (xs ys : List (Within Item)) → datums_among (xs ++ ys) ≡ datums_among xs + datums_among ys
+pub among_append : (xs ys : List (Within Item)) → datums_among (xs ++ ys) ≡ datums_among xs + datums_among ys
 among_append [] ys = let e : datums_among ys ≡ 0 + datums_among ys = omega arith in e
 among_append (x ∷ xs) ys = ap (λ n. datums_in x.what + n) (among_append xs ys)
     ∙ (let e : datums_in x.what + (datums_among xs + datums_among ys) ≡ datums_in x.what + datums_among xs + datums_among ys = omega arith in e)

@@ -2,6 +2,7 @@ mod Texts
 mod StatementRows
 mod UnitRows
 pub mod Flat
+pub mod Inside
 pub mod Ranges
 pub mod Counting
 pub mod Everywhere

@@ -1,4 +1,15 @@
--- What proofs of other crates may cite: what holds of judgements, that an expression is judged by what the names in it mean, and that constants are words.
+-- What proofs of other crates may cite: what holds of judgements, that an expression is judged by what the names in it mean, that constants are words,
+-- what stands inside a statement, how call sites are counted, that of broken places none is left, how many datums there are, what is declared once, and that
+-- the program of accepted units is in range.
 pub use Rattle.cmm_meaning.proofs.Judged.{Holds, holds_with, holds_both, SenseFits}
 pub use Rattle.cmm_meaning.proofs.Mentioned.{EachName, judged_same}
 pub use Rattle.cmm_meaning.proofs.Knowing.{IsKnownBy, untyped_is_word, typed_is_word}
+pub use Rattle.cmm_meaning.proofs.Inside.{hidden_parts, shown_parts, if_inside, span_inside, switch_inside, in_arms, else_inside, else_if_inside}
+pub use Rattle.cmm_meaning.proofs.Flat.{whats_append, alike_part, whats_alike, count_append, flat_from, procedure_is}
+pub use Rattle.cmm_meaning.proofs.SiteNumbers.{length_is, site_here}
+pub use Rattle.cmm_meaning.proofs.Nothing.{no_left, no_right, no_unless, unbroken, procedures_kept, first_unit, other_units}
+pub use Rattle.cmm_meaning.proofs.Labels.{all_datums, among_append, datums_length, items_length}
+pub use Rattle.cmm_meaning.proofs.Together.{programs_are_in_range}
+pub use Rattle.cmm_meaning.proofs.Naming.{same_name, again_head, again_rest}
+pub use Rattle.cmm_meaning.proofs.MarkNumbers.{declared_once}
+pub use Rattle.cmm_meaning.proofs.Keeping.{within}

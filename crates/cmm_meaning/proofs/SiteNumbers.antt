@@ -65,16 +65,16 @@ flat_numbers s n (p ∷ ps) =
 
 -- ---- and as many there are
 
-part_length : (s : Scope) (spans : List SpanValue) (p : Part) → length (part_sites s spans p) ≡ sites_of p
-part_length s spans (parts.Local l) = refl
-part_length s spans (parts.Stmt' first past (stmts.Call results None callee actuals flows)) = refl
-part_length s spans (parts.Stmt' first past (stmts.Call results (Some convention) callee actuals flows)) = refl
-part_length s spans (parts.Stmt' first past f) = refl
+pub site_here : (s : Scope) (spans : List SpanValue) (p : Part) → length (part_sites s spans p) ≡ sites_of p
+site_here s spans (parts.Local l) = refl
+site_here s spans (parts.Stmt' first past (stmts.Call results None callee actuals flows)) = refl
+site_here s spans (parts.Stmt' first past (stmts.Call results (Some convention) callee actuals flows)) = refl
+site_here s spans (parts.Stmt' first past f) = refl
 
 pub length_is : (s : Scope) (around : List SpanValue) (ps : List (Within Part)) → length (sites_among s around ps) ≡ site_count (whats ps)
 length_is s around [] = refl
 length_is s around (p ∷ ps) = let spans = innermost (map (span_value (senses s)) p.spans ++ around) in
-    length-append (part_sites s spans p.what) (sites_among s around ps) ∙ rw (part_length s spans p.what, length_is s around ps) refl
+    length-append (part_sites s spans p.what) (sites_among s around ps) ∙ rw (site_here s spans p.what, length_is s around ps) refl
 
 procedure_in_order : (names : Senses) (unit : ℕ) (around : List SpanTree) (p : ProcTree) →
     let q = procedure_of names unit around p in AreInOrder site_number (length q.sites) q

@@ -29,7 +29,8 @@ use Rattle.cmm_accepted.specs.Statements.{scope_of}
 use Rattle.cmm_meaning.specs.Bodies.{row_length}
 use Rattle.cmm_meaning.specs.Procedures.{formal_info, part_infos, stack_items, procedure_of}
 use Rattle.cmm_meaning.specs.Laws.{ProceduresHaveShortest}
-use Rattle.cmm_meaning.proofs.Derived.{Taken, middle, hidden_parts, block_is}
+use Rattle.cmm_meaning.proofs.Derived.{Taken, middle, block_is}
+use Rattle.cmm_meaning.proofs.Inside.{hidden_parts}
 use Rattle.cmm_meaning.proofs.Flat.{whats, flat_from, procedure_is}
 use Rattle.cmm_meaning.proofs.Steady.{here_is}
 use Rattle.cmm_meaning.proofs.BodyTokens.{owns, sum_owns, without_spans, all_declared, flat_counted, row_fits}

@@ -27,7 +27,8 @@ use Rattle.cmm_ast.specs.UnitGrammar.{item, item_row, top_level}
 use Rattle.cmm_accepted.specs.Items.{SpanTree, Within, within, item_within, items_within, top_items, items_of, parts_inside, parts_otherwise, part_within, parts_row, parts_of_arms, parts_in}
 use Rattle.cmm_accepted.specs.Declarations.{NamedUnit, units_from, procs_in, labels_in, sum_of}
 use Rattle.cmm_meaning.specs.Laws.{AreDerived}
-use Rattle.cmm_meaning.proofs.Derived.{Taken, middle, front, back, closed, inside_braces, hidden_parts, block_is}
+use Rattle.cmm_meaning.proofs.Derived.{Taken, middle, front, back, closed, inside_braces, block_is}
+use Rattle.cmm_meaning.proofs.Inside.{hidden_parts}
 use Rattle.cmm_meaning.proofs.Steady.{here_is}
 
 -- ---- parts of a body

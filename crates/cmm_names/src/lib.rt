@@ -33,4 +33,4 @@ pub use noting::unless;
 pub use numbers::Numbers;
 pub use piece::{Piece, pieces_of};
 pub use table::{Named, Table};
-pub use thing::{Thing, things_of};
+pub use thing::{Thing, things_in, things_of};

@@ -50,6 +50,15 @@ fn add_part<'a>(part: &'a TopLevel, to: &mut Items<Thing<'a>>) -> Result<(), All
     }
 }
 
+/// What stands in a part of a unit, in textual order.
+pub fn things_in<'a>(alloc: Global, part: &'a TopLevel) -> Result<Items<Thing<'a>>, AllocError>
+    ensures { IfOk result (λ things. map thing_item things ≡ whats (top_items part.now)) }
+{
+    let mut things = Items::new(alloc);
+    add_part(part, &mut things)?;
+    Ok(things)
+}
+
 /// What stands in a unit, in textual order.
 pub fn things_of<'a>(alloc: Global, unit: &'a Unit) -> Result<Items<Thing<'a>>, AllocError>
     ensures { IfOk result (λ things. map thing_item things ≡ whats (items_of unit.now)) }

@@ -1,8 +1,8 @@
 //! What names mean in a procedure.
 
-ghost use Rattle.std.specs.Prelude.{◌≡◌, [], IfOk, OnOk};
+ghost use Rattle.std.specs.Prelude.{◌≡◌, [], IfOk, IsTrue, OnOk};
 ghost use Rattle.cmm_accepted.specs.Declarations as declarations;
-ghost use Rattle.cmm_accepted.specs.Declarations.{again, own_names, is_declared};
+ghost use Rattle.cmm_accepted.specs.Declarations.{again, own_names, is_declared, number_in};
 ghost use Rattle.cmm_accepted.specs.Scopes.{senses, types};
 ghost use Rattle.cmm_accepted.specs.Spots.{first_of};
 ghost use Rattle.cmm_accepted.specs.Statements.{scope_of};
@@ -64,6 +64,17 @@ impl<'a, N: Names> BodyNames<'a, N> {
         match self.types.find(name) {
             Some(own) => matches!(own.local, Local::Variable(_)),
             None => false,
+        }
+    }
+
+    /// The number of a label of a statement; of any other name it says nothing.
+    pub fn label_number(&self, name: &Name) -> u32
+        ensures { IsTrue (is_declared declarations.is_label name.now (scope_of_body N.senses self.now).own) →
+            result ≡ number_in declarations.is_label name.now (scope_of_body N.senses self.now).own }
+    {
+        match self.types.find(name) {
+            Some(own) => own.number,
+            None => 0,
         }
     }
 

@@ -31,21 +31,21 @@ use Rattle.cmm_typing.specs.Resolved.{resolved, AlignmentsFit}
 
 -- ---- lists of which each element is something
 
-all_left : {A : Type 0} (P : A → Type 0) (xs ys : List A) → All P (xs ++ ys) → All P xs
+pub all_left : {A : Type 0} (P : A → Type 0) (xs ys : List A) → All P (xs ++ ys) → All P xs
 all_left P xs ys all k d inside = subst P (get_or_append_left xs ys d k inside) (all k d (omega (arith, inside, length-append xs ys)))
 
-all_right : {A : Type 0} (P : A → Type 0) (xs ys : List A) → All P (xs ++ ys) → All P ys
+pub all_right : {A : Type 0} (P : A → Type 0) (xs ys : List A) → All P (xs ++ ys) → All P ys
 all_right P xs ys all k d inside = subst P (get_or-append-add xs ys k d) (all (length xs + k) d (omega (arith, inside, length-append xs ys)))
 
 -- ---- words in memory
 
-abbrev Fits : Int → Type 0
-Fits k = k.value < 2 ^ 32
+abbrev pub IsSmall : Int → Type 0
+IsSmall k = k.value < 2 ^ 32
 
 kept : (n : ℕ) → n < 2 ^ 32 → min n (2 ^ 32 - 1) ≡ n
 kept n small = grind (arith, small)
 
-alignment_kept : (aligned : Option Int) → All Fits (listed aligned) → (width : Width) → min (typing.alignment width aligned) (2 ^ 32 - 1) ≡ typing.alignment width aligned
+pub alignment_kept : (aligned : Option Int) → All IsSmall (listed aligned) → (width : Width) → min (typing.alignment width aligned) (2 ^ 32 - 1) ≡ typing.alignment width aligned
 alignment_kept (Some k) fits width = kept k.value (fits 0 k (omega arith))
 alignment_kept None fits W8 = refl
 alignment_kept None fits W16 = refl
@@ -56,7 +56,7 @@ alignment_kept None fits W64 = refl
 abbrev word_at : Width → Operand Expression Condition → ℕ → Judged (Typed Expression Condition)
 word_at width o aligned = with_ok (as_wanted (Some W64) o.token o.typed) (λ a. Ok (typed.Bits record { width = width; value = option_map (Load width aligned) a.value }))
 
-load_same : (aligned : Option Int) → All Fits (listed aligned) → (width : Width) (o : Operand Expression Condition) →
+load_same : (aligned : Option Int) → All IsSmall (listed aligned) → (width : Width) (o : Operand Expression Condition) →
     typing.load resolved aligned width o ≡ typing.load expressions aligned width o
 load_same aligned fits width o = ap (word_at width o) (alignment_kept aligned fits width)
 
@@ -70,40 +70,40 @@ both_same (Err s) (Err t) next after same = refl
 
 module _ (names : Senses) where
   mutual
-    form_same : (token : ℕ) (form : ExprForm) → All Fits (form_alignments form) → typing.form_type resolved names token form ≡ typing.form_type expressions names token form
+    form_same : (token : ℕ) (form : ExprForm) → All IsSmall (form_alignments form) → typing.form_type resolved names token form ≡ typing.form_type expressions names token form
     form_same token (Infix' _ left operator _ right) fits =
         ap (λ j. with_both j (typing.operand resolved names right) (typing.applied_to_two expressions (infix_operator operator) token))
-        (operand_same left (all_left Fits (row_alignments left) (row_alignments right) fits))
+        (operand_same left (all_left IsSmall (row_alignments left) (row_alignments right) fits))
         ∙ ap (λ k. with_both (typing.operand expressions names left) k (typing.applied_to_two expressions (infix_operator operator) token))
-        (operand_same right (all_right Fits (row_alignments left) (row_alignments right) fits))
+        (operand_same right (all_right IsSmall (row_alignments left) (row_alignments right) fits))
     form_same token (Prefix' operator _ a) fits = ap (λ j. with_ok j (typing.applied_to_one expressions (prefix_operator operator) token)) (operand_same a fits)
     form_same token (Prim prim) fits = prim_same token prim fits
     form_same token (InMemory m) fits = memory_same m fits
     form_same token (Named' operator _ given) fits = ap (λ j. with_ok j (typing.applied expressions token (operator_named operator))) (given_same (Ok operands.Zero) given fits)
 
-    operand_same : {n : _} (row : Row_of-Expr (one_more n)) → All Fits (row_alignments row) → typing.operand resolved names row ≡ typing.operand expressions names row
+    operand_same : {n : _} (row : Row_of-Expr (one_more n)) → All IsSmall (row_alignments row) → typing.operand resolved names row ≡ typing.operand expressions names row
     operand_same (more_of-Expr token form rest) fits =
-        ap (typing.operand_at expressions token) (form_same token form (all_left Fits (form_alignments form) (row_alignments rest) fits))
+        ap (typing.operand_at expressions token) (form_same token form (all_left IsSmall (form_alignments form) (row_alignments rest) fits))
 
-    given_same : {n : _} (before : Judged (Operands Expression Condition)) (row : Row_of-Expr n) → All Fits (row_alignments row) →
+    given_same : {n : _} (before : Judged (Operands Expression Condition)) (row : Row_of-Expr n) → All IsSmall (row_alignments row) →
         typing.given_operands resolved names before row ≡ typing.given_operands expressions names before row
     given_same before end_of-Expr fits = refl
     given_same before (more_of-Expr token form rest) fits =
         ap (λ j. typing.given_operands resolved names (typing.with_operand expressions before (typing.operand_at expressions token j)) rest)
-        (form_same token form (all_left Fits (form_alignments form) (row_alignments rest) fits))
+        (form_same token form (all_left IsSmall (form_alignments form) (row_alignments rest) fits))
         ∙ given_same (typing.with_operand expressions before (typing.operand_at expressions token (typing.form_type expressions names token form))) rest
-        (all_right Fits (form_alignments form) (row_alignments rest) fits)
+        (all_right IsSmall (form_alignments form) (row_alignments rest) fits)
 
-    prim_same : (token : ℕ) (prim : PrimForm) → All Fits (prim_alignments prim) → typing.prim_type resolved names token prim ≡ typing.prim_type expressions names token prim
+    prim_same : (token : ℕ) (prim : PrimForm) → All IsSmall (prim_alignments prim) → typing.prim_type resolved names token prim ≡ typing.prim_type expressions names token prim
     prim_same token (Literal n t) fits = refl
     prim_same token (NameOf name) fits = refl
-    prim_same token (Bracketed' _ (more_of-Expr first form rest)) fits = form_same first form (all_left Fits (form_alignments form) (row_alignments rest) fits)
+    prim_same token (Bracketed' _ (more_of-Expr first form rest)) fits = form_same first form (all_left IsSmall (form_alignments form) (row_alignments rest) fits)
 
-    memory_same : (m : Memory) → All Fits (memory_alignments m) → typing.memory_type resolved names m ≡ typing.memory_type expressions names m
+    memory_same : (m : Memory) → All IsSmall (memory_alignments m) → typing.memory_type resolved names m ≡ typing.memory_type expressions names m
     memory_same (Memory' width _ address aligned) fits =
-        ap (λ k. with_both (typing.type_width names width) k (typing.load resolved aligned)) (operand_same address (all_left Fits (row_alignments address) (listed aligned) fits))
+        ap (λ k. with_both (typing.type_width names width) k (typing.load resolved aligned)) (operand_same address (all_left IsSmall (row_alignments address) (listed aligned) fits))
         ∙ both_same (typing.type_width names width) (typing.operand expressions names address) (typing.load resolved aligned) (typing.load expressions aligned)
-        (load_same aligned (all_right Fits (row_alignments address) (listed aligned) fits))
+        (load_same aligned (all_right IsSmall (row_alignments address) (listed aligned) fits))
 
   pub in_program : {F : Type 0} (r : Result (Judged (Typed Expression Condition)) F) (e : Expr) → IfOk r (λ j. j ≡ typing.expr_type resolved names e) →
       AlignmentsFit e → IfOk r (λ j. j ≡ typing.expr_type expressions names e)

@@ -3,3 +3,4 @@ pub mod Aligning
 pub mod Wholes
 pub mod Answering
 pub mod Words
+pub mod Shared

@@ -74,7 +74,7 @@ fn judge_primary<N: Names, V: Values>(
 
 /// A word in memory.
 #[cycle(expression)]
-fn judge_memory<N: Names, V: Values>(
+pub(crate) fn judge_memory<N: Names, V: Values>(
     names: &N,
     values: &V,
     memory: &Memory,

@@ -8,12 +8,12 @@ ghost use Rattle.cmm_accepted.specs.Typing as typing;
 ghost use Rattle.cmm_typing.specs.Fitting.{AreWords, FitsBits, FitsSense, FitsTyped};
 ghost use Rattle.cmm_typing.specs.Resolved.{AlignmentsFit, resolved};
 
-use crate::engine::judge_by;
+use crate::engine::{judge_by, judge_memory};
 use crate::expressions::Expressions;
 use crate::leaf;
 use crate::names::Names;
 use cmm_accepted::{Bits, Known, Operand, Operator, Sense, Typed};
-use cmm_ast::Expr;
+use cmm_ast::{Expr, Memory};
 use cmm_operators::{Judged, Knowns};
 use cmm_program::{Condition, Expression};
 use cmm_words::Width;
@@ -41,6 +41,32 @@ pub fn resolve<N: Names>(
     ensures in_program { AlignmentsFit e.now → IfOk result (λ j. j ≡ typing.expr_type expressions (N.senses names.now) e.now) }
 {
     judge_by(names, &Expressions { alloc }, e)
+}
+
+/// What a word in memory is judged to be among names, with names resolved. Fails only for want of memory. An alignment of 2^32 bytes or more is
+/// given as 2^32 - 1.
+pub fn resolve_memory<N: Names>(
+    alloc: Global,
+    names: &N,
+    memory: &Memory,
+) -> Result<Judged<Typed<Expression, Condition>>, AllocError>
+    requires { AreWords (N.senses names.now) }
+    ensures value { IfOk result (λ j. j ≡ typing.memory_type resolved (N.senses names.now) memory.now) }
+    ensures in_program { AlignmentsFit (typing.of_memory 0 memory.now) → IfOk result (λ j. j ≡ typing.memory_type expressions (N.senses names.now) memory.now) }
+{
+    judge_memory(names, &Expressions { alloc }, memory)
+}
+
+/// A name in an expression, at a token, with names resolved: rule 21 where it is no value. Fails only for want of memory.
+pub fn resolve_name(
+    alloc: Global,
+    token: u32,
+    sense: Option<Sense>,
+) -> Result<Judged<Typed<Expression, Condition>>, AllocError>
+    requires { FitsSense sense }
+    ensures { IfOk result (λ j. j ≡ typing.name_type expressions token sense) }
+{
+    leaf::name_type(&Expressions { alloc }, token, sense)
 }
 
 /// A name in an expression, at a token: rule 21 where it is no value.

@@ -7,8 +7,8 @@
 //!
 //! - `scope`: `type_of` and `constant`, the type and the value of an expression in a `Scope`, a list of names.
 //! - `meaning`: what a name means in a scope, and the answers.
-//! - `judging`: `judge`, what an expression is judged to be among names, and `resolve`, the same with names resolved; the judgement of names
-//!   and of operators, and what is wanted of expressions.
+//! - `judging`: `judge`, what an expression is judged to be among names, and `resolve`, the same with names resolved, also of a word in memory and
+//!   of a name alone; the judgement of names and of operators, and what is wanted of expressions.
 //! - `names`: `Names`, which tells what names mean.
 //! - `engine`: the judgement of an expression from those of its parts.
 //! - `leaf`, `joining`: the judgement of what holds no other expression, and of what holds some from theirs. Operators at operands, and what
@@ -30,6 +30,7 @@ pub use cmm_operators::{
 };
 pub use judging::{
     applied_to_one, applied_to_two, as_bits, as_test, as_wanted, judge, name_type, resolve,
+    resolve_memory, resolve_name,
 };
 pub use leaf::type_width;
 pub use meaning::{ExprType, Meaning, TypeFault};
