@@ -16,6 +16,8 @@ import time
 
 SIZE = 1_048_000
 MAIN = "export main; main() { return (1); }\n"
+# tokens of a procedure are limited
+STATEMENTS = 21_000
 
 
 def name(number):
@@ -31,17 +33,24 @@ def filled(line):
     return lines
 
 
+def called(number):
+    """A short procedure, with a call of itself, a condition and an annotation."""
+    own = name(number)
+    body = f"bits64 z; z = {own}(x, y + {number}) also aborts; if z > y {{ return (z * 2); }} k: x = x - 1; goto k;"
+    return f"{own}(bits64 x, bits64 y) {{ {body} }}\n"
+
+
 def units():
     """Each unit with its sort. The first declaration of one that refers to the next has to end somewhere."""
     chain = filled(lambda n: f"typedef {name(n + 1)} {name(n)};\n")
     labels = filled(lambda n: f"{name(n)}: bits64[] {{ {n} }};\n")
-    statements = filled(lambda n: "    x = y + x;\n")
+    statements = "    x = y + x;\n" * STATEMENTS
     yield "typedefs, each of a width", MAIN + "".join(filled(lambda n: f"typedef bits64 {name(n)};\n"))
     yield "typedefs, each of the next", MAIN + "".join(chain) + f"typedef bits64 {name(len(chain))};\n"
     yield "constants", MAIN + "".join(filled(lambda n: f"const bits64 {name(n)} = {n};\n"))
-    yield "registers", MAIN + "".join(filled(lambda n: f"register bits64 {name(n)};\n"))
     yield "data with labels", MAIN + 'section "data" {\n' + "".join(labels) + "}\n"
-    yield "one procedure", MAIN + "f(bits64 x, bits64 y) {\n" + "".join(statements) + "}\n"
+    yield "long procedures", MAIN + "".join(f"{f}(bits64 x, bits64 y) {{\n{statements}}}\n" for f in "fgh")
+    yield "procedures with a call", MAIN + "".join(filled(called))
 
 
 def tokens(unit):

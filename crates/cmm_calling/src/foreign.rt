@@ -105,7 +105,8 @@ fn host_of(sense: Option<Sense>) -> Option<Host>
     }
 }
 
-fn foreign_callee<'a, N: Names>(names: &BodyNames<'a, N>, callee: &Callee) -> Option<Host>
+/// The procedure of the host that is called, if it is one.
+pub fn foreign_callee<'a, N: Names>(names: &BodyNames<'a, N>, callee: &Callee) -> Option<Host>
     ensures { result ≡ calls.foreign_callee (scope_of_body N.senses names.now) callee.now }
 {
     match &callee.form {

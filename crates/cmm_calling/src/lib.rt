@@ -17,7 +17,7 @@ mod past_limit;
 
 pub use callee::{note_callee, note_foreign_callee};
 pub use flows::{note_flows, note_site_flows};
-pub use foreign::is_foreign;
+pub use foreign::{foreign_callee, is_foreign};
 pub use naming::{note_goto, note_target, note_target_of};
 pub use passing::{note_actuals, note_parameters, note_results};
 pub use past_limit::{Starts, note_past_limit};

@@ -4,7 +4,7 @@
 //! `site_count` and `site_tokens` are numbers of a procedure, and `site_variables` and `site_spans` their sums over a unit. Time is linear, but
 //! that a token is looked for among those of the spans around it.
 //!
-//! - `limits`: the call `note_limits`. `variables`: the variables of a procedure. `stackdata`: where its stackdata ends.
+//! - `limits`: the call `note_limits`. `variables`: the variables of a procedure. `stackdata`: its stackdata, and where that ends.
 //! - `sites`: its call sites. `span_tokens`: the tokens that have a span there.
 //! - `unit_variables`, `unit_spans`: the same of all procedures of a unit, added up.
 #![tactic(auto)]
@@ -20,6 +20,7 @@ mod variables;
 pub use limits::note_limits;
 pub use sites::site_count;
 pub use span_tokens::site_tokens;
+pub use stackdata::{rooms_of, words_in};
 pub use unit_spans::site_spans;
 pub use unit_variables::site_variables;
 pub use variables::variable_count;

@@ -6,7 +6,8 @@ ghost use Rattle.std.specs.Option.{ForSome};
 ghost use Rattle.cmm_accepted.specs.Limits as limits;
 ghost use Rattle.cmm_accepted.specs.Scopes.{senses, types};
 ghost use Rattle.cmm_accepted.specs.Spots.{first_of, unless};
-ghost use Rattle.cmm_limits.specs.inside.Ends.{IsWithin, form_piece, rooms_in, words_in};
+ghost use Rattle.cmm_limits.specs.inside.Ends.{IsWithin, form_piece, rooms_in};
+ghost use Rattle.cmm_limits.specs.Rooms.{words_in};
 ghost use Rattle.cmm_names.specs.Shown.{piece_part};
 ghost use Rattle.cmm_program.specs.Layout.{aligned_up, end_of};
 ghost use Rattle.cmm_rules.specs.declared.rule.Rule.TheVariants.{Limit};
@@ -64,8 +65,8 @@ fn bytes_of<N: Names>(names: &N, t: &TypeName) -> u64
     }
 }
 
-/// How many words a room has.
-fn words_in<N: Names>(names: &N, count: &Option<Expr>) -> u64
+/// How many words a room has: none where their number is broken.
+pub fn words_in<N: Names>(names: &N, count: &Option<Expr>) -> u64
     requires { AreWords (N.senses names.now) }
     ensures { result ≡ words_in (N.senses names.now) count.now }
 {
@@ -144,10 +145,7 @@ fn add_declared<'a>(piece: Piece<'a>, to: &mut Items<&'a Room>) -> Result<(), Al
 }
 
 /// The rooms of a procedure, in textual order.
-pub(crate) fn rooms_of<'a>(
-    alloc: Global,
-    pieces: &[Piece<'a>],
-) -> Result<Items<&'a Room>, AllocError>
+pub fn rooms_of<'a>(alloc: Global, pieces: &[Piece<'a>]) -> Result<Items<&'a Room>, AllocError>
     ensures { IfOk result (λ rooms. map (λ r. r.now) rooms ≡ flat_map limits.local_rooms (map piece_part pieces.now)) }
 {
     let mut rooms = Items::new(alloc);

@@ -122,11 +122,25 @@ impl<'a> Linkage<'a> {
         }
     }
 
+    /// How many registers units share.
+    pub fn register_count(&self) -> usize
+        ensures { result ≡ length self.now.registers }
+    {
+        self.registers.len()
+    }
+
     /// Whether something is exported under a link name.
     pub fn is_exported(&self, link: &[u8]) -> bool
         ensures { result ≡ is_among link.now (exported_links self.now) }
     {
         self.links.get(link).is_some()
+    }
+
+    /// The names of the registers, by their numbers.
+    pub fn register_names(&self) -> &[&'a [u8]]
+        ensures { map (λ n. n.now) result.now ≡ self.now.registers }
+    {
+        self.registers.as_slice()
     }
 
     /// That of one more unit, from what its names are declared as and what it exports. Want of memory is the answer, too, where registers

@@ -1,9 +1,8 @@
 -- The first fault of a unit from its parts, and the fault that is named of units.
-use Rattle.std.proofs.Common.{◌≡◌, ℕ, Bool, true, false, map, refl, ap, sym, ◌∙◌, subst, List, [], ◌++◌, Option, Some, None, append_assoc}
+use Rattle.std.proofs.Common.{◌≡◌, ℕ, map, refl, ap, sym, ◌∙◌, subst, List, [], ◌++◌, Option, Some, None, append_assoc}
 use Rattle.std.specs.Prelude.{flat_map}
 use Rattle.cmm_words.specs.declared.width.Width.{Width}
 use Rattle.cmm_ast.specs.declared.expression.TypeName.{TypeName}
-use Rattle.cmm_rules.specs.declared.rule.Rule.TheVariants.{NoMain}
 use Rattle.cmm_ast.specs.declared.unit.Unit.{Unit as UnitTree}
 use Rattle.cmm_accepted.specs.declared.spot.Spot.{Spot}
 use Rattle.cmm_accepted.specs.declared.fault.Fault.{Fault}
@@ -14,17 +13,16 @@ use Rattle.cmm_accepted.specs.Linking.{Program, program_of, export_spots, twice,
 use Rattle.cmm_accepted.specs.Units.{target_decl_spots, item_spots}
 use Rattle.cmm_accepted.specs.Scopes.{width_in, unit_senses}
 use Rattle.cmm_accepted.specs.LongNames.{long_spots, of_item}
-use Rattle.cmm_accepted.specs.Faults.{Placed, stands_before, all_broken, item_procedure_spots, fault_at, at_beginning}
+use Rattle.cmm_accepted.specs.Faults.{Placed, stands_before, all_broken, item_procedure_spots, fault_at, fault_of_all, first_fault}
 use Rattle.cmm_declarations.specs.EntryFaults.{entry_value_spots}
-use Rattle.cmm_static.specs.StandingFaults.{first_standing_fault, fault_of_main}
-use Rattle.cmm_static.specs.inside.Flat.{Flat, flat_unit, links_before, widths_before, register_spots_by, flat_register_spots, flat_cycle_spots, flat_procedure_spots, flat_value_spots, flat_name_spots, spots_by, flat_spots, flats_broken, some_starts}
+use Rattle.cmm_static.specs.inside.Flat.{Flat, flat_unit, links_before, widths_before, register_spots_by, flat_register_spots, flat_cycle_spots, flat_procedure_spots, flat_value_spots, flat_name_spots, spots_by, flat_spots, flats_broken}
 use Rattle.cmm_linked.specs.Exports.{exported_links}
 use Rattle.cmm_linked.specs.Registers.{registers_in}
 use Rattle.cmm_names.specs.Noted.{long_of}
 use Rattle.cmm_names.proofs.Shared.{first_of_append, long_is}
 use Rattle.cmm_static.specs.inside.Cyclic.{AreNoted}
 use Rattle.cmm_static.proofs.Cyclic.{are_noted}
-use Rattle.cmm_static.proofs.FlatUnits.{broken_flat, has_main_flat}
+use Rattle.cmm_static.proofs.FlatUnits.{broken_flat}
 
 after : (b c : Option Spot) (xs ys : List Spot) → b ≡ first_of None xs → c ≡ first_of b ys → c ≡ first_of None (xs ++ ys)
 after b c xs ys is then_ = then_ ∙ ap (λ q. first_of q ys) is ∙ sym (first_of_append None xs ys)
@@ -115,11 +113,8 @@ first_found us fs program first are knows is =
     ∙ sym (is ∙ ap (λ q. first_by stands_before None (flats_broken program [] 0 q)) are
     ∙ ap (λ q. first_by stands_before None (flats_broken q [] 0 (map flat_unit (named_units us)))) knows)
 
-pub named_fault : (us : List UnitTree) (p : Placed) → first_by stands_before None (all_broken (named_units us)) ≡ Some p → first_standing_fault us ≡ Some (fault_at us p)
-named_fault us p is = ap (λ o. elim o as (λ _. Option Fault) [ Some q ↦ Some (fault_at us q) | None ↦ fault_of_main (named_units us) ]) is
+pub named_fault : (us : List UnitTree) (p : Placed) → first_by stands_before None (all_broken (named_units us)) ≡ Some p → first_fault us ≡ Some (fault_at us p)
+named_fault us p is = ap (λ o. elim o as (λ _. Option Fault) [ Some q ↦ Some (fault_at us q) | None ↦ fault_of_all (named_units us) ]) is
 
-pub named_main : (us : List UnitTree) (fs : List Flat) (b : Bool) → first_by stands_before None (all_broken (named_units us)) ≡ None → fs ≡ map flat_unit (named_units us) →
-    some_starts fs ≡ b → first_standing_fault us ≡ elim b as (λ _. Option Fault) [ true ↦ None | false ↦ at_beginning NoMain ]
-named_main us fs b is are starts =
-    ap (λ o. elim o as (λ _. Option Fault) [ Some q ↦ Some (fault_at us q) | None ↦ fault_of_main (named_units us) ]) is
-    ∙ ap (λ m. elim m as (λ _. Option Fault) [ true ↦ None | false ↦ at_beginning NoMain ]) (has_main_flat (named_units us) ∙ ap some_starts (sym are) ∙ starts)
+pub named_together : (us : List UnitTree) → first_by stands_before None (all_broken (named_units us)) ≡ None → first_fault us ≡ fault_of_all (named_units us)
+named_together us is = ap (λ o. elim o as (λ _. Option Fault) [ Some q ↦ Some (fault_at us q) | None ↦ fault_of_all (named_units us) ]) is

@@ -6,3 +6,4 @@ pub mod FirstUnit
 pub mod PlacedOrder
 pub mod Checked
 pub mod Whole
+pub mod Totals

@@ -16,12 +16,12 @@ use Rattle.cmm_static.specs.inside.Flat.{Flat, flat_unit, numbered_unit}
 -- a unit laid flat, from what stands in it
 pub flat_of : (p l : ℕ) (u : UnitTree) (ts : List Thing) (entries : List (Declared Entry)) (exports : List Export) → map thing_item ts ≡ whats (items_of u) →
     entries ≡ entries_from p l (map alone ts) → exports ≡ flat_map item_exports (map thing_item ts) →
-    let f : Flat = record { entries = entries; exports = exports; items = map thing_item ts } in f ≡ flat_unit (numbered_unit p l u)
+    let f : Flat = record { tree = u; entries = entries; exports = exports; items = map thing_item ts } in f ≡ flat_unit (numbered_unit p l u)
 flat_of p l u ts entries exports items declared exported =
-    ap (λ (q : List (Declared Entry)). let f : Flat = record { entries = q; exports = exports; items = map thing_item ts } in f) (declared ∙ entries_are p l ts (items_of u) items)
-    ∙ ap (λ (q : List Export). let f : Flat = record { entries = entries_from p l (items_of u); exports = q; items = map thing_item ts } in f)
+    ap (λ (q : List (Declared Entry)). let f : Flat = record { tree = u; entries = q; exports = exports; items = map thing_item ts } in f) (declared ∙ entries_are p l ts (items_of u) items)
+    ∙ ap (λ (q : List Export). let f : Flat = record { tree = u; entries = entries_from p l (items_of u); exports = q; items = map thing_item ts } in f)
     (exported ∙ ap (flat_map item_exports) items ∙ flat_map-map item_exports (λ w. w.what) (items_of u))
-    ∙ ap (λ q. let f : Flat = record { entries = entries_from p l (items_of u); exports = (flat_unit (numbered_unit p l u)).exports; items = q } in f) items
+    ∙ ap (λ q. let f : Flat = record { tree = u; entries = entries_from p l (items_of u); exports = (flat_unit (numbered_unit p l u)).exports; items = q } in f) items
 
 -- a turn of the loop: the units that are laid flat, and then the rest, are all
 pub units_next : (before : List Flat) (f : Flat) (whole : List Flat) (p l p' l' : ℕ) (ts : List Thing) (us : List UnitTree) (k : ℕ) (u : UnitTree) → k < length us → u ≡ get_or us k u →

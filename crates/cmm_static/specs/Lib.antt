@@ -1,2 +1,2 @@
-pub mod StandingFaults
+pub mod Faults
 pub mod inside

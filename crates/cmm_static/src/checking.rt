@@ -1,18 +1,18 @@
 //! Which fault is named of units.
 
-ghost use Rattle.std.specs.Prelude.{◌≡◌, ◌<◌, ◌^◌, [], None, true, false, List, map, option_map, length, IfOk, OnOk, IfErr};
-ghost use Rattle.cmm_rules.specs.declared.rule.Rule.{Rule};
-ghost use Rattle.cmm_accepted.specs.Spots.{first_by};
+ghost use Rattle.std.specs.Prelude.{◌≡◌, ◌<◌, ◌^◌, List, map, length, IfOk, OnOk, IfErr};
 ghost use Rattle.cmm_accepted.specs.Declarations.{NamedUnit, named_units};
 ghost use Rattle.cmm_accepted.specs.Linking.{program_of};
-ghost use Rattle.cmm_accepted.specs.Faults.{stands_before, place_of, fault_at};
-ghost use Rattle.cmm_static.specs.StandingFaults.{first_standing_fault, IsFaultOf};
-ghost use Rattle.cmm_static.specs.inside.Flat.{flat_unit, flats_broken, some_starts};
+ghost use Rattle.cmm_accepted.specs.Faults.{AreAccepted, fault_at, first_fault, place_of};
+ghost use Rattle.cmm_static.specs.Faults.{IsFaultOf};
+ghost use Rattle.cmm_static.specs.inside.Flat.{flat_unit};
+ghost use Rattle.cmm_static.specs.inside.Found.{IsFound};
 ghost use Rattle.cmm_static.specs.inside.Units.{unit_flat, broken_placed};
 
 use crate::earlier::Earlier;
 use crate::fault::StaticFault;
-use crate::linking::starts;
+use crate::sums::Sums;
+use crate::together::fault_of_all;
 use crate::unit::{first_broken, names_of};
 use crate::unit_names::UnitNames;
 use cmm_accepted::{Fault, Spot};
@@ -20,7 +20,6 @@ use cmm_ast::{Place, Unit};
 use cmm_items::Items;
 use cmm_linked::Linkage;
 use cmm_names::Numbers;
-use cmm_rules::Rule;
 use std::alloc::{AllocError, Global};
 
 /// Where a rule is broken: in which unit, from 0, and where in it.
@@ -28,6 +27,15 @@ use std::alloc::{AllocError, Global};
 pub(crate) struct Broken {
     pub unit: u32,
     pub spot: Spot,
+}
+
+/// What is found of units by the rules that are tested unit by unit.
+#[derive(Clone, Copy)]
+pub(crate) enum Found {
+    /// The first rule that they break.
+    Broken(Broken),
+    /// They break none: what the limits over all units count of them.
+    Unbroken(Sums),
 }
 
 /// All units, laid flat.
@@ -55,37 +63,25 @@ fn linkage_of_all<'a>(alloc: Global, units: &[UnitNames<'a>]) -> Result<Linkage<
     Ok(linkage)
 }
 
-/// The first fault of units by the rules that are tested unit by unit.
+/// What is found of units by the rules that are tested unit by unit.
 fn first_of_all<'a>(
     alloc: Global,
     units: &[UnitNames<'a>],
     linkage: &Linkage<'a>,
-) -> Result<Option<Broken>, AllocError>
+) -> Result<Found, AllocError>
     requires { length units.now < 2 ^ 32 }
-    ensures { IfOk result (λ first. option_map broken_placed first ≡ first_by stands_before None (flats_broken linkage.now [] 0 (map unit_flat units.now))) }
+    ensures { IfOk result (IsFound linkage.now (map unit_flat units.now)) }
 {
     let mut earlier = Earlier::none(alloc);
     let mut number: u32 = 0;
     for unit in units {
         let first = first_broken(alloc, unit, linkage, &mut earlier)?;
         match first {
-            Some(spot) => return Ok(Some(Broken { unit: number, spot })),
+            Some(spot) => return Ok(Found::Broken(Broken { unit: number, spot })),
             None => number += 1,
         }
     }
-    Ok(None)
-}
-
-/// Whether some unit exports a procedure without formals as `main`.
-fn some_starts<'a>(units: &[UnitNames<'a>]) -> bool
-    ensures { result ≡ some_starts (map unit_flat units.now) }
-{
-    for unit in units {
-        if starts(&unit.table, unit.exports.as_slice()) {
-            return true;
-        }
-    }
-    false
+    Ok(Found::Unbroken(earlier.sums))
 }
 
 /// Where a token of a unit stands.
@@ -114,35 +110,30 @@ fn fault_at(units: &[Unit], broken: Broken) -> Fault
     }
 }
 
-/// Whether units break no static rule, 20 to 40, the limits on sums over all units left out. Else the fault is the first by unit, place and rule; or
-/// 36, at the beginning of the first unit, where none of the others is broken. Units are those that `cmm_parser` gives, and fewer than 2^32.
-pub fn check(alloc: Global, units: &[Unit]) -> Result<(), StaticFault>
+/// The fault that is named of units, if they break a rule.
+fn first_fault(alloc: Global, units: &[Unit]) -> Result<Option<Fault>, AllocError>
     requires { length units.now < 2 ^ 32 }
-    ensures ok { OnOk result (first_standing_fault units.now ≡ None) }
-    ensures err { IfErr result (IsFaultOf units.now) }
+    ensures { IfOk result (λ fault. fault ≡ first_fault units.now) }
 {
     let named = names_of_all(alloc, units)?;
     let linkage = linkage_of_all(alloc, named.as_slice())?;
-    let first = first_of_all(alloc, named.as_slice(), &linkage)?;
-    match first {
-        Some(broken) => Err(StaticFault::of(fault_at(units, broken))),
-        None => check_main(named.as_slice()),
+    let found = first_of_all(alloc, named.as_slice(), &linkage)?;
+    match found {
+        Found::Broken(broken) => Ok(Some(fault_at(units, broken))),
+        Found::Unbroken(sums) => Ok(fault_of_all(named.as_slice(), &linkage, &sums)),
     }
 }
 
-/// Whether some unit exports a procedure without formals as `main`: else rule 36.
-fn check_main<'a>(units: &[UnitNames<'a>]) -> Result<(), StaticFault>
-    ensures ok { OnOk result (some_starts (map unit_flat units.now) ≡ true) }
-    ensures err { IfErr result (λ fault. (some_starts (map unit_flat units.now) ≡ false) × (fault ≡ StaticFault.At Rule.NoMain 0 1 1)) }
+/// Whether units break no static rule, 20 to 40. Else the fault is the first by unit, place and rule; or, where none of the others is broken, that
+/// no unit exports `main`, rule 36, or that a limit over all units is passed, rule 40, at the beginning of the first unit. Units are those that
+/// `cmm_parser` gives, and fewer than 2^32.
+pub fn check(alloc: Global, units: &[Unit]) -> Result<(), StaticFault>
+    requires { length units.now < 2 ^ 32 }
+    ensures ok { OnOk result (AreAccepted units.now) }
+    ensures err { IfErr result (IsFaultOf units.now) }
 {
-    if some_starts(units) {
-        Ok(())
-    } else {
-        Err(StaticFault::At {
-            rule: Rule::NoMain,
-            unit: 0,
-            line: 1,
-            column: 1,
-        })
+    match first_fault(alloc, units)? {
+        Some(fault) => Err(StaticFault::of(fault)),
+        None => Ok(()),
     }
 }

@@ -1,10 +1,11 @@
 //! Which static rules units break.
 //!
 //! `check` answers the fault that is named of units by the static rules, exactly: the first by unit, place and rule, from the definitions of
-//! `cmm_accepted`. Of the faults the first is kept while walking, so that each function's clause says how the first fault goes on. Time is linear in
-//! the units.
+//! `cmm_accepted`. Of the faults the first is kept while walking, so that each function's clause says how the first fault goes on. What the limits over
+//! all units count is added up on the same walk, and tested last. Time is linear in the units.
 //!
-//! - `checking`: the call `check`, over all units. `unit`, `unit_names`: the rules on one unit, laid flat.
+//! - `checking`: the call `check`, over all units. `unit`, `unit_names`: the rules on one unit, laid flat. `together`, `sums`: those that all units break
+//!   together, and what the limits on them count.
 //! - `fault`: the answer.
 //! - `host`, `linking`, `target`, `registers`: names of the host, exports and imports, properties of the target, registers.
 //! - `cycles`: typedefs and constants that depend on themselves. `procedures`: procedures. `earlier`: what is known of the units before one.
@@ -18,7 +19,9 @@ mod host;
 mod linking;
 mod procedures;
 mod registers;
+mod sums;
 mod target;
+mod together;
 mod unit;
 mod unit_names;
 

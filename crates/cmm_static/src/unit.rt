@@ -1,11 +1,19 @@
 //! The first fault of one unit, and its names.
 
-ghost use Rattle.std.specs.Prelude.{◌≡◌, ◌++◌, ◌∷◌, [], None, List, ℕ, IfOk, OnOk};
+ghost use Rattle.std.specs.Prelude.{◌≡◌, ◌++◌, ◌∷◌, [], None, List, ℕ, flat_map, map, IfOk, OnOk};
+ghost use Rattle.cmm_accepted.specs.Declarations.{NamedUnit};
+ghost use Rattle.cmm_accepted.specs.Faults.{item_procedure_spots};
+ghost use Rattle.cmm_accepted.specs.Items.{items_of};
+ghost use Rattle.cmm_accepted.specs.Linking.{Program};
+ghost use Rattle.cmm_accepted.specs.Scopes.{unit_senses};
 ghost use Rattle.cmm_accepted.specs.Spots.{first_of};
 ghost use Rattle.cmm_linked.specs.Exports.{exported_links};
+ghost use Rattle.cmm_names.specs.Shown.{thing_item};
 ghost use Rattle.cmm_static.specs.inside.Flat.{Flat, flat_links, flat_name_spots, flat_unit, numbered_unit, flat_spots};
 ghost use Rattle.cmm_static.specs.inside.Linked.{AreLinks};
+ghost use Rattle.cmm_static.specs.inside.Totals.{AreSums};
 ghost use Rattle.cmm_static.specs.inside.Units.{AreEarlier, unit_flat};
+ghost use Rattle.cmm_typing.specs.Fitting.{AreWords};
 
 use crate::cycles::note_cycles;
 use crate::earlier::Earlier;
@@ -13,6 +21,7 @@ use crate::host::note_hosts;
 use crate::linking::{note_exports, note_imports, note_twice};
 use crate::procedures::note_procedures;
 use crate::registers::{add_registers, note_registers};
+use crate::sums::Sums;
 use crate::target::note_targets;
 use crate::unit_names::UnitNames;
 use cmm_accepted::Spot;
@@ -21,8 +30,9 @@ use cmm_constants::senses_of_unit;
 use cmm_declarations::{note_entries, note_items};
 use cmm_dependencies::dependencies_of;
 use cmm_linked::{Linkage, registers_in};
-use cmm_names::{Index, Numbers, Table, declared_in, exports_in, note_things, things_of};
+use cmm_names::{Index, Numbers, Table, Thing, declared_in, exports_in, note_things, things_of};
 use cmm_typedefs::types_of;
+use cmm_typing::Names;
 use std::alloc::{AllocError, Global};
 
 /// A unit laid flat, from the numbers of its first procedure and data label on.
@@ -39,6 +49,7 @@ pub(crate) fn names_of<'a>(
     let mut repeated = None;
     let table = Table::of(alloc, declared, &mut repeated)?;
     Ok(UnitNames {
+        tree: unit,
         things,
         exports,
         table,
@@ -70,6 +81,25 @@ fn first_of_names<'a>(
     Ok(best)
 }
 
+/// Notes the faults of the procedures of a unit, and adds what the limits over all units count of it to that of earlier units.
+fn note_and_count<'a, N: Names>(
+    alloc: Global,
+    names: &'a N,
+    things: &[Thing<'a>],
+    tree: &'a Unit,
+    best: &mut Option<Spot>,
+    sums: &mut Sums,
+) -> Result<(), AllocError>
+    requires { AreWords (N.senses names.now) }
+    ensures best { OnOk result (best.new ≡ first_of best.old (flat_map (item_procedure_spots (N.senses names.now)) (map thing_item things.now))) }
+    ensures sums { OnOk result ((program : Program) (before : List NamedUnit) (u : NamedUnit) → u.tree ≡ tree.now → u.items ≡ items_of tree.now →
+        N.senses names.now ≡ unit_senses program u.entries → AreSums program before sums.old → AreSums program (before ++ u ∷ []) sums.new) }
+{
+    note_procedures(alloc, names, things, best)?;
+    *sums = sums.with_unit(alloc, names, tree)?;
+    Ok(())
+}
+
 /// The first fault of a unit. It is added to what is known of earlier units.
 pub(crate) fn first_broken<'a>(
     alloc: Global,
@@ -77,8 +107,8 @@ pub(crate) fn first_broken<'a>(
     linkage: &Linkage<'a>,
     earlier: &mut Earlier,
 ) -> Result<Option<Spot>, AllocError>
-    ensures earlier { OnOk result ((before : List Flat) → AreEarlier earlier.old before → AreEarlier earlier.new (before ++ unit_flat unit.now ∷ [])) }
-    ensures best { IfOk result (λ best. (before : List Flat) → AreEarlier earlier.old before → best ≡ first_of None (flat_spots linkage.now before (unit_flat unit.now))) }
+    ensures earlier { OnOk result ((before : List Flat) → AreEarlier linkage.now earlier.old before → AreEarlier linkage.now earlier.new (before ++ unit_flat unit.now ∷ [])) }
+    ensures best { IfOk result (λ best. (before : List Flat) → AreEarlier linkage.now earlier.old before → best ≡ first_of None (flat_spots linkage.now before (unit_flat unit.now))) }
 {
     let mut best = first_of_names(alloc, unit, linkage, &mut earlier.links)?;
     let declared = unit.table.declared.as_slice();
@@ -91,7 +121,14 @@ pub(crate) fn first_broken<'a>(
     let registers = registers_in(alloc, declared)?;
     note_registers(&types, registers.as_slice(), &earlier.registers, &mut best);
     note_cycles(alloc, &dependencies, declared, &mut best)?;
-    note_procedures(alloc, &senses, things, &mut best)?;
+    note_and_count(
+        alloc,
+        &senses,
+        things,
+        unit.tree,
+        &mut best,
+        &mut earlier.sums,
+    )?;
     add_registers(alloc, &types, registers.as_slice(), &mut earlier.registers)?;
     Ok(best)
 }

@@ -6,13 +6,14 @@ ghost use Rattle.cmm_accepted.specs.Spots.{first_of};
 ghost use Rattle.cmm_names.specs.Shown.{named};
 
 use cmm_accepted::Spot;
-use cmm_ast::Export;
+use cmm_ast::{Export, Unit};
 use cmm_items::Items;
 use cmm_names::{Entry, Table, Thing};
 
 /// What stands in a unit, what it exports and what it declares.
 #[derive(Drop)]
 pub(crate) struct UnitNames<'a> {
+    pub tree: &'a Unit,
     pub things: Items<Thing<'a>>,
     pub exports: Items<&'a Export>,
     pub table: Table<'a, Entry<'a>>,

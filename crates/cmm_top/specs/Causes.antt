@@ -1,6 +1,7 @@
 -- Why a unit is refused, or run: what its bytes are.
 use Rattle.std.specs.Prelude.{◌≡◌, ℕ, ◌⊎◌, List, [], ◌∷◌, ◌++◌, drop, length, map, slice_get, Some, None, option_map}
 use Rattle.cmm_accepted.specs.declared.fault.Fault.{Fault as StaticFault}
+use Rattle.cmm_accepted.specs.Faults.{AreAccepted, first_fault as first_static_fault}
 use Rattle.cmm_ast.specs.declared.unit.Place.{Place}
 use Rattle.cmm_ast.specs.declared.unit.Unit.{Unit as UnitTree}
 use Rattle.cmm_ast.specs.Derivation.{DerivesWithin}
@@ -12,7 +13,6 @@ use Rattle.cmm_parser.specs.declared.fault.SyntaxFault.TheVariants as syntax
 use Rattle.cmm_parser.specs.Faults.{IsFaultOf}
 use Rattle.cmm_rules.specs.declared.rule.Rule.TheVariants.{FormNotBuilt}
 use Rattle.cmm_rules.specs.Rules.{rule_number}
-use Rattle.cmm_static.specs.StandingFaults.{first_standing_fault}
 use Rattle.cmm_top.specs.declared.first.Fault.{Fault}
 use Rattle.cmm_top.specs.declared.first.FirstFault.{FirstFault}
 use Rattle.cmm_top.specs.declared.first.FirstFault.TheVariants.{Refused, Memory}
@@ -55,18 +55,18 @@ pub record BreaksSyntax (fault : Fault) (unit : List ℕ) : Type 0 where
 abbrev pub in_one_unit : StaticFault → Fault
 in_one_unit f = record { rule = f.rule; line = f.line; column = f.column }
 
--- a unit of the language, its tokens where they stand, that breaks a static rule of those that are tested: this is the first
+-- a unit of the language, its tokens where they stand, that breaks a static rule: this is the fault that is named
 pub record BreaksStatic (fault : Fault) (unit : List ℕ) : Type 0 where
   pub tree : UnitTree
   pub is_tree : IsTreeOf unit tree
   pub places : tree.places ≡ places_in unit
-  pub broken : option_map in_one_unit (first_standing_fault (tree ∷ [])) ≡ Some fault
+  pub broken : option_map in_one_unit (first_static_fault (tree ∷ [])) ≡ Some fault
 
 -- a unit of the language that breaks none of these and is not of the first form
 pub record IsOtherForm (fault : Fault) (unit : List ℕ) : Type 0 where
   pub tree : UnitTree
   pub is_tree : IsTreeOf unit tree
-  pub unbroken : first_standing_fault (tree ∷ []) ≡ None
+  pub unbroken : AreAccepted (tree ∷ [])
   pub value : form_value tree ≡ None
   pub says : fault ≡ record { rule = FormNotBuilt; line = 1; column = 1 }
 

@@ -1,25 +1,19 @@
 -- Where stackdata ends, unless that is past the limit.
-use Rattle.std.specs.Prelude.{ℕ, ◌≤◌, List, [], Option, Some, None}
+use Rattle.std.specs.Prelude.{ℕ, ◌≤◌, List, [], Option}
 use Rattle.std.specs.Option.{SomeIff}
-use Rattle.cmm_ast.specs.declared.expression.Expr.{Expr}
 use Rattle.cmm_ast.specs.declared.procedure.LocalForm.{LocalForm}
 use Rattle.cmm_ast.specs.declared.procedure.LocalForm.TheVariants as locals
 use Rattle.cmm_ast.specs.declared.procedure.Room.{Room}
 use Rattle.cmm_ast.specs.declared.procedure.RoomForm.{RoomForm}
 use Rattle.cmm_ast.specs.declared.procedure.RoomForm.TheVariants as rooms
 use Rattle.cmm_program.specs.Layout.{Piece}
-use Rattle.cmm_accepted.specs.Limits.{align_piece, bytes_of, number_or_zero, piece_of}
-use Rattle.cmm_accepted.specs.Senses.{Senses}
+use Rattle.cmm_accepted.specs.Limits.{align_piece, bytes_of, piece_of}
 use Rattle.cmm_accepted.specs.Scopes.{Scope, senses, types}
+use Rattle.cmm_limits.specs.Rooms.{words_in}
 
 -- a place, or none where it is past 64 KiB
 abbrev pub IsWithin : Option ℕ → ℕ → Type 0
 IsWithin o place = SomeIff o (place ≤ 65536) place
-
--- how many words a room has
-abbrev pub words_in : Senses → Option Expr → ℕ
-words_in names (Some e) = number_or_zero names e
-words_in names None = 1
 
 -- the piece that a room is, by its form
 abbrev pub form_piece : Scope → RoomForm → Piece

@@ -1,4 +1,4 @@
--- A unit as the rules see it: what it declares, what it exports, and what stands in it.
+-- A unit as the rules see it: its tree, what it declares, what it exports, and what stands in it.
 use Rattle.std.specs.Prelude.{ℕ, suc, Bool, false, ◌||◌, ◌&&◌, bytes_eq, codes, List, [], ◌∷◌, ◌++◌, map, flat_map, Option, Some, None}
 use Rattle.cmm_words.specs.declared.width.Width.{Width}
 use Rattle.cmm_words.specs.Widths.{bits}
@@ -22,16 +22,21 @@ use Rattle.cmm_static.specs.inside.Cyclic.{entry_cycle_spots}
 use Rattle.cmm_names.specs.Shown.{whats, with_what}
 
 pub record Flat : Type 0 where
+  pub tree : UnitTree
   pub entries : List (Declared Entry)
   pub exports : List Export
   pub items : List Item
 
 abbrev pub flat_unit : NamedUnit → Flat
-flat_unit u = record { entries = u.entries; exports = exports_of u; items = whats u.items }
+flat_unit u = record { tree = u.tree; entries = u.entries; exports = exports_of u; items = whats u.items }
 
 -- a unit before which so many procedures and data labels stand
 abbrev pub numbered_unit : ℕ → ℕ → UnitTree → NamedUnit
 numbered_unit procs labels u = record { tree = u; items = items_of u; entries = entries_from procs labels (items_of u) }
+
+-- the unit that is laid flat
+abbrev pub flat_named : Flat → NamedUnit
+flat_named f = record { tree = f.tree; items = items_of f.tree; entries = f.entries }
 
 abbrev pub flat_links : Flat → List (List ℕ)
 flat_links f = map export_link f.exports

@@ -1,7 +1,9 @@
 -- The names of units, laid flat, as the rules see them.
 use Rattle.std.specs.Prelude.{List, map}
 use Rattle.cmm_accepted.specs.Faults.{Placed}
-use Rattle.cmm_static.specs.inside.Flat.{Flat, links_before, widths_before}
+use Rattle.cmm_accepted.specs.Linking.{Program}
+use Rattle.cmm_static.specs.inside.Flat.{Flat, flat_named, links_before, widths_before}
+use Rattle.cmm_static.specs.inside.Totals.{AreSums}
 use Rattle.cmm_static.specs.inside.Linked.{AreLinks, AreFound}
 use Rattle.cmm_names.specs.Shown.{thing_item, shown}
 use Rattle.cmm_static.specs.declared.unit_names.UnitNames.{UnitNames}
@@ -9,12 +11,13 @@ use Rattle.cmm_static.specs.declared.earlier.Earlier.{Earlier}
 use Rattle.cmm_static.specs.declared.checking.Broken.{Broken}
 
 abbrev pub unit_flat : UnitNames → Flat
-unit_flat u = record { entries = map shown u.table.declared; exports = map (λ e. e.now) u.exports; items = map thing_item u.things }
+unit_flat u = record { tree = u.tree.now; entries = map shown u.table.declared; exports = map (λ e. e.now) u.exports; items = map thing_item u.things }
 
 abbrev pub broken_placed : Broken → Placed
 broken_placed b = record { unit = b.unit; spot = b.spot }
 
 -- what is known of the units before
-pub record AreEarlier (e : Earlier) (before : List Flat) : Type 0 where
+pub record AreEarlier (program : Program) (e : Earlier) (before : List Flat) : Type 0 where
   pub links : AreLinks e.links (links_before before)
   pub registers : AreFound e.registers (widths_before before)
+  pub sums : AreSums program (map flat_named before) e.sums

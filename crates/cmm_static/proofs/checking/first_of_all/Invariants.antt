@@ -9,6 +9,6 @@ use Rattle.cmm_static.proofs.checking.first_of_all.Given as goal
 abbrev pub invariant-loop-unit : goal.invariant-loop-unit
 invariant-loop-unit l =
     (l.number ≡ l.unit-index)
-    × AreEarlier l.earlier (map unit_flat (take l.unit-index l.units))
+    × AreEarlier l.linkage l.earlier (map unit_flat (take l.unit-index l.units))
     × (first_by stands_before None (flats_broken l.linkage (map unit_flat (take l.unit-index l.units)) l.unit-index (map unit_flat (drop l.unit-index l.units)))
     ≡ first_by stands_before None (flats_broken l.linkage [] 0 (map unit_flat l.units)))

@@ -1,9 +1,10 @@
-use Rattle.std.proofs.Common.{◌≡◌, ◌++◌, ◌∷◌, ◌∙◌, List, [], Option, map, ap, subst, sym}
+use Rattle.std.proofs.Common.{◌≡◌, ◌++◌, ◌∷◌, ◌∙◌, List, [], Option, map, ap, refl, subst, sym}
+use Rattle.std.proofs.lemmas.List.{map-append}
 use Rattle.std.specs.Prelude.{flat_map}
 use Rattle.std.proofs.Math.Path.{fun_ext}
 use Rattle.cmm_words.specs.declared.width.Width.{Width}
 use Rattle.cmm_ast.specs.declared.expression.TypeName.{TypeName}
-use Rattle.cmm_accepted.specs.Declarations.{Declared}
+use Rattle.cmm_accepted.specs.Declarations.{Declared, NamedUnit}
 use Rattle.cmm_accepted.specs.Judging.{if_ok}
 use Rattle.cmm_accepted.specs.Scopes.{width_in}
 use Rattle.cmm_accepted.specs.Spots.{first_of}
@@ -12,8 +13,9 @@ use Rattle.cmm_constants.specs.Senses.{senses_of}
 use Rattle.cmm_linked.specs.Registers.{registers_in, register_shown}
 use Rattle.cmm_names.specs.Shown.{shown}
 use Rattle.cmm_typedefs.specs.Types.{senses_of as types_senses}
-use Rattle.cmm_static.specs.inside.Flat.{flat_links, flat_widths, links_before, register_spots_by, widths_before, widths_by}
+use Rattle.cmm_static.specs.inside.Flat.{flat_links, flat_named, flat_widths, links_before, register_spots_by, widths_before, widths_by}
 use Rattle.cmm_static.specs.inside.Linked.{AreFound}
+use Rattle.cmm_static.specs.inside.Totals.{AreSums}
 use Rattle.cmm_static.specs.inside.Units.{unit_flat}
 use Rattle.cmm_static.proofs.Links.{AreLinks-of, before_plus}
 use Rattle.cmm_static.proofs.Checked.{noted_unit}
@@ -22,7 +24,7 @@ use Rattle.cmm_static.proofs.unit.first_broken.Goals as goal
 pub returns-clause-best : goal.returns-clause-best
 returns-clause-best c = λ before. λ earlier.
     let w : TypeName → Option Width = λ t. if_ok (type_width (types_senses c.in_ok-types.types) t) in
-    noted_unit c.args.linkage.now before (unit_flat c.args.unit.now) c.in_ok-best.best c.note_entries.new.best c.note_items.new.best c.note_registers.new.best c.note_cycles.new.best c.note_procedures.new.best
+    noted_unit c.args.linkage.now before (unit_flat c.args.unit.now) c.in_ok-best.best c.note_entries.new.best c.note_items.new.best c.note_registers.new.best c.note_cycles.new.best c.note_and_count.new.best
     (senses_of c.in_ok-senses.senses) w
     (fun_ext (rw c.as_slice-declared.ensures at c.in_ok-senses.ensures.senses))
     (fun_ext (rw c.as_slice-declared.ensures at c.in_ok-types.ensures.widths))
@@ -33,7 +35,7 @@ returns-clause-best c = λ before. λ earlier.
     ∙ ap (λ (rs : List (Declared TypeName)). first_of c.note_items.new.best (flat_map (register_spots_by (widths_before before) w) rs))
     (ap (map register_shown) c.as_slice.ensures ∙ c.in_ok-registers.ensures ∙ ap (λ ds. registers_in (map shown ds)) c.as_slice-declared.ensures))
     (rw c.as_slice-declared.ensures at c.in_ok-note_cycles.ensures)
-    (rw c.as_slice-things.ensures at c.in_ok-note_procedures.ensures)
+    (rw c.as_slice-things.ensures at c.in_ok-note_and_count.ensures.best)
 
 pub returns-clause-earlier : goal.returns-clause-earlier
 returns-clause-earlier c = λ before. λ earlier.
@@ -48,4 +50,6 @@ returns-clause-earlier c = λ before. λ earlier.
           ∙ ap (λ (v : TypeName → Option Width). widths_by v (registers_in f.entries)) same)
           ∙ sym (before_plus flat_widths before f))
           (c.in_ok-add_registers.ensures (widths_before before) earlier.registers);
+      sums = subst (λ (us : List NamedUnit). AreSums c.args.linkage.now us c.note_and_count.new.sums) (sym (map-append flat_named before (f ∷ [])))
+          (c.in_ok-note_and_count.ensures.sums c.args.linkage.now (map flat_named before) (flat_named f) refl refl (fun_ext (rw c.as_slice-declared.ensures at c.in_ok-senses.ensures.senses)) earlier.sums);
     }

@@ -4,7 +4,7 @@ use Rattle.cmm_static.specs.inside.Flat.{some_starts}
 use Rattle.cmm_names.specs.Shown.{shown}
 use Rattle.cmm_static.specs.inside.Units.{unit_flat}
 use Rattle.cmm_names.proofs.Shared.{rest_next}
-use Rattle.cmm_static.proofs.checking.some_starts.Goals as goal
+use Rattle.cmm_static.proofs.together.some_starts.Goals as goal
 
 pub loop-unit-preserved : goal.loop-unit-preserved
 loop-unit-preserved c =

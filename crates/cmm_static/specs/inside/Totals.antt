@@ -1,0 +1,26 @@
+-- What is counted over all units, and the limits on it.
+use Rattle.std.specs.Prelude.{◌≡◌, ◌&&◌, is_some, nat_le, Bool, List}
+use Rattle.cmm_program.specs.Layout.{end_of}
+use Rattle.cmm_accepted.specs.Declarations.{NamedUnit}
+use Rattle.cmm_accepted.specs.Limits.{data_pieces, over_units, proc_count, site_spans, site_variables, token_count}
+use Rattle.cmm_accepted.specs.Linking.{Program}
+use Rattle.cmm_declarations.specs.DataEnds.{IsEnd}
+use Rattle.cmm_limits.specs.Capped.{capped}
+use Rattle.cmm_static.specs.declared.sums.Sums.{Sums}
+
+-- these are the sums over units, and where their data ends
+pub record AreSums (program : Program) (us : List NamedUnit) (s : Sums) : Type 0 where
+  pub tokens : s.tokens ≡ capped (over_units program token_count us)
+  pub procedures : s.procedures ≡ capped (over_units program proc_count us)
+  pub variables : s.site_variables ≡ capped (over_units program site_variables us)
+  pub spans : s.site_spans ≡ capped (over_units program site_spans us)
+  pub ends : IsEnd 0 (data_pieces program us) s.data_end
+
+-- none of them passes its limit
+abbrev pub are_within : Sums → Bool
+are_within s = nat_le s.tokens 1000000 && nat_le s.procedures 65535 && is_some s.data_end && nat_le s.site_variables 8000000 && nat_le s.site_spans 1000000
+
+abbrev pub totals_are_within : Program → List NamedUnit → Bool
+totals_are_within program us =
+    nat_le (over_units program token_count us) 1000000 && nat_le (over_units program proc_count us) 65535 && nat_le (end_of 0 (data_pieces program us)) 67108864
+    && nat_le (over_units program site_variables us) 8000000 && nat_le (over_units program site_spans us) 1000000
