@@ -1,0 +1,11 @@
+pub mod Passing
+pub mod Holding
+pub mod Labelled
+pub mod Numbered
+pub mod Linking
+pub mod MemoryPlaces
+pub mod Accepted
+pub mod Sizes
+pub mod Shared
+pub mod Behind
+pub mod Sections
