@@ -1,0 +1,13 @@
+pub mod Lengths
+pub mod Turns
+pub mod Continuations
+pub mod CallSites
+pub mod Variants
+pub mod Making
+pub mod Statements
+pub mod Whole
+pub mod Marked
+pub mod Kept
+pub mod Accepted
+pub mod Sections
+pub mod Shared
