@@ -1,5 +1,5 @@
 -- The code of an assignment: one value goes to its place, and several are stored one by one from temporaries.
-use Rattle.std.proofs.Common.{◌≡◌, ℕ, suc, ◌+◌, ◌≤◌, Ok, List, [], ◌∷◌, map, length, refl, ap, sym, ◌∙◌, subst, arith}
+use Rattle.std.proofs.Common.{◌≡◌, ℕ, suc, ◌+◌, ◌≤◌, max, Ok, List, [], ◌∷◌, map, length, refl, ap, sym, ◌∙◌, subst, arith}
 use Rattle.cmm_laws.specs.Observed.{store_seen}
 use Rattle.cmm_program.specs.declared.expression.Expression.{Expression}
 use Rattle.cmm_program.specs.declared.procedure.Target.{Target}
@@ -25,7 +25,7 @@ use Rattle.cmm_graph.specs.declared.operand.Rvalue.TheVariants as rvalue
 use Rattle.cmm_graph.specs.GraphControl.{held_by, with_temporary}
 use Rattle.cmm_graph.specs.Values.{operand_value, rvalue_value}
 use Rattle.cmm_flow.specs.Code.{IsNode, ValueCode, ValuesCode, to_temporary}
-use Rattle.cmm_flow.specs.Operands.{nodes, operand_of, temporary}
+use Rattle.cmm_flow.specs.Operands.{access_tokens, nodes, operand_of, temporary}
 use Rattle.cmm_flow.specs.Statements.{AddressesCode, AssignCode, SeveralCode, StoresCode}
 use Rattle.cmm_flow.proofs.Expressions.{bound, into_temporary, operand_brings, value_comes, written, written_below}
 use Rattle.cmm_flow.proofs.Operands.{AreSameBelow, inner, value_kept}
@@ -77,39 +77,44 @@ abbrev pub values_cost : List Expression → ℕ
 values_cost [] = 0
 values_cost (e ∷ es) = inner e + 1 + values_cost es
 
+abbrev pub stores_cost : List Lvalue → ℕ
+stores_cost [] = 0
+stores_cost (lvalue.Target target ∷ ls) = 1 + stores_cost ls
+stores_cost (lvalue.Memory width aligned address ∷ ls) = access_tokens width aligned + stores_cost ls
+
 abbrev pub assign_cost : List Lvalue → List Expression → ℕ
 assign_cost to [] = 1
 assign_cost (lvalue.Target target ∷ []) (e ∷ []) = inner e + 1
-assign_cost (lvalue.Memory width aligned address ∷ []) (e ∷ []) = nodes address + nodes e + 1
-assign_cost to (e ∷ es) = addresses_cost to + values_cost (e ∷ es) + length to
+assign_cost (lvalue.Memory width aligned address ∷ []) (e ∷ []) = nodes address + nodes e + access_tokens width aligned
+assign_cost to (e ∷ es) = addresses_cost to + values_cost (e ∷ es) + stores_cost to
 
 module _ {r : Run} (y : Youngest r) where
   -- ---- a node that puts a value into a place
 
-  pub target_goes : (store : Store) (temporaries : Temporary → ℕ) (n k : NodeId) (target : Target) (side : Rvalue) (v : ℕ) → store.status ≡ Running →
-      IsNode y.graph.nodes n 1 (kind.Assign (destination.Target target) side k) → rvalue_value (held_by temporaries) side (reads_of r.setting store) ≡ Ok v →
-      Goes r (store_seen (assigned target v store)) 1 1 (at y store temporaries n) (at y (assigned target v store) temporaries k)
-  target_goes store temporaries n k target side v running node is =
-      passes_one y store (assigned target v store) temporaries n 1 (kind.Assign (destination.Target target) side k)
+  pub target_goes : (store : Store) (temporaries : Temporary → ℕ) (n k : NodeId) (target : Target) (tokens : ℕ) (side : Rvalue) (v : ℕ) → store.status ≡ Running →
+      IsNode y.graph.nodes n tokens (kind.Assign (destination.Target target) side k) → rvalue_value (held_by temporaries) side (reads_of r.setting store) ≡ Ok v →
+      Goes r (store_seen (assigned target v store)) 1 (max 1 tokens) (at y store temporaries n) (at y (assigned target v store) temporaries k)
+  target_goes store temporaries n k target tokens side v running node is =
+      passes_one y store (assigned target v store) temporaries n tokens (kind.Assign (destination.Target target) side k)
       (order.Assign (record { place = Held target; value = v } ∷ [])) 0 running node
       (ap (λ t. and_then (and_then t (λ a. and_then (Ok []) (λ rest. Ok (a ∷ rest)))) (λ vs. Ok (order.Assign (writes (Held target ∷ []) vs)))) is)
-      refl ((assigned_leaves target v store).status ∙ running) refl
+      refl ((assigned_leaves target v store).status ∙ running) refl refl
 
   pub store_goes : (store after : Store) (temporaries : Temporary → ℕ) (n k : NodeId) (width : Width) (aligned : ℕ) (address value : Operand) (a v : ℕ) →
-      store.status ≡ Running → IsNode y.graph.nodes n 1 (kind.Store width aligned address value k) →
+      (tokens : ℕ) → store.status ≡ Running → IsNode y.graph.nodes n tokens (kind.Store width aligned address value k) →
       operand_value (held_by temporaries) address (reads_of r.setting store) ≡ Ok a →
       operand_value (held_by temporaries) value (reads_of r.setting store) ≡ Ok v →
       put (Memory width aligned a) v store ≡ Ok after →
-      Goes r (store_seen after) 1 1 (at y store temporaries n) (at y after temporaries k)
-  store_goes store after temporaries n k width aligned address value a v running node is_address is_value puts =
+      Goes r (store_seen after) 1 (max 1 tokens) (at y store temporaries n) (at y after temporaries k)
+  store_goes store after temporaries n k width aligned address value a v tokens running node is_address is_value puts =
       let value_there = operand_value (held_by temporaries) value (reads_of r.setting store) in
-      passes_one y store after temporaries n 1 (kind.Store width aligned address value k)
+      passes_one y store after temporaries n tokens (kind.Store width aligned address value k)
       (order.Assign (record { place = Memory width aligned a; value = v } ∷ [])) 0 running node
       (ap (λ t. and_then (and_then (and_then t (λ a. Ok (Memory width aligned a))) (λ p. and_then (Ok []) (λ rest. Ok (p ∷ rest))))
       (λ ps. and_then (and_then value_there (λ v. and_then (Ok []) (λ rest. Ok (v ∷ rest)))) (λ vs. Ok (order.Assign (writes ps vs))))) is_address
       ∙ ap (λ t. and_then (and_then t (λ v. and_then (Ok []) (λ rest. Ok (v ∷ rest)))) (λ vs. Ok (order.Assign (writes (Memory width aligned a ∷ []) vs)))) is_value)
       (ap (λ t. and_then (and_then t (put_all [])) (λ after. Ok (Stay 0 after))) puts)
-      ((put_leaves (Memory width aligned a) v store after puts).status ∙ running) refl
+      ((put_leaves (Memory width aligned a) v store after puts).status ∙ running) refl refl
 
   -- ---- values into temporaries, one after the other
 
@@ -127,7 +132,10 @@ module _ {r : Run} (y : Youngest r) where
         let comes = value_comes y store running e temporaries base (to_temporary base) n k v is code in
         record {
           after = with_temporary (numbered base) v comes.after;
-          path = at_most (then_goes comes.path (into_temporary y store running comes.after comes.last k base v comes.side comes.node comes.value)) (omega arith) (omega arith);
+          path =
+              let fits = comes.fits in
+              at_most (then_goes comes.path (into_temporary y store running comes.after comes.last k base v comes.tokens comes.side comes.node comes.value)) (omega arith)
+              (omega (arith, fits));
           holds = written y store running comes.after base v;
           below = λ u less. written_below y store running comes.after base v u less ∙ comes.below u less;
         }
@@ -206,14 +214,14 @@ module _ {r : Run} (y : Youngest r) where
   stores_go : (ls : List Lvalue) (es : List Expression) (ps : List Place) (vs : List ℕ) (store after : Store) (temporaries : Temporary → ℕ)
       (address value : ℕ) (n k : NodeId) → store.status ≡ Running → put_all (writes ps vs) store ≡ Ok after →
       HoldPlaces temporaries ls ps address → HoldValues temporaries es vs value → StoresCode y.graph.nodes ls es address value n k →
-      Stores store after temporaries n k (length ls)
+      Stores store after temporaries n k (stores_cost ls)
   stores_go [] es [] vs store after temporaries address value n k running is places values same =
       nothing_stores store after temporaries n k 0 same (grind (arith, is))
   stores_go [] es (p ∷ ps) vs store after temporaries address value n k running is places values same = elim places [ ]
   stores_go (l ∷ ls) [] (p ∷ ps) [] store after temporaries address value n k running is places values same =
-      nothing_stores store after temporaries n k (length (l ∷ ls)) same (grind (arith, is))
+      nothing_stores store after temporaries n k (stores_cost (l ∷ ls)) same (grind (arith, is))
   stores_go (l ∷ ls) [] [] [] store after temporaries address value n k running is places values same =
-      nothing_stores store after temporaries n k (length (l ∷ ls)) same (grind (arith, is))
+      nothing_stores store after temporaries n k (stores_cost (l ∷ ls)) same (grind (arith, is))
   stores_go (l ∷ ls) [] ps (v ∷ vs) store after temporaries address value n k running is places values same = elim values [ ]
   stores_go (l ∷ ls) (e ∷ es) ps [] store after temporaries address value n k running is places values code = elim values [ ]
   stores_go (lvalue.Target target ∷ ls) (e ∷ es) [] (v ∷ vs) store after temporaries address value n k running is places values code = elim places [ ]
@@ -222,7 +230,7 @@ module _ {r : Run} (y : Youngest r) where
   stores_go (lvalue.Target target ∷ ls) (e ∷ es) (p ∷ ps) (v ∷ vs) store after temporaries address value n k running is places values code =
       let later = ap (λ p. and_then (put p v store) (put_all (writes ps vs))) (sym places.0) ∙ is in
       let leaves = assigned_leaves target v store in
-      let first = target_goes store temporaries n code.0 target (rvalue.Copy (temporary value)) v running code.1 (ap Ok values.0) in
+      let first = target_goes store temporaries n code.0 target 1 (rvalue.Copy (temporary value)) v running code.1 (ap Ok values.0) in
       let others = stores_go ls es ps vs (assigned target v store) after temporaries (suc address) (suc value) code.0 k (leaves.status ∙ running) later places.1 values.1 code.2 in
       record { path = shown_as leaves.seen (at_most (then_goes first others.path) (omega arith) (omega arith)) }
   stores_go (lvalue.Memory width aligned a ∷ ls) (e ∷ es) (p ∷ ps) (v ∷ vs) store after temporaries address value n k running is places values code =
@@ -230,7 +238,7 @@ module _ {r : Run} (y : Youngest r) where
       let both = bound (put place v store) (put_all (writes ps vs)) after (ap (λ p. and_then (put p v store) (put_all (writes ps vs))) (sym places.0) ∙ is) in
       let leaves = put_leaves place v store both.0 both.1 in
       let first =
-      store_goes store both.0 temporaries n code.0 width aligned (temporary address) (temporary value) (temporaries (numbered address)) v running code.1 refl
+      store_goes store both.0 temporaries n code.0 width aligned (temporary address) (temporary value) (temporaries (numbered address)) v (access_tokens width aligned) running code.1 refl
       (ap Ok values.0) both.1 in
       let others = stores_go ls es ps vs both.0 after temporaries (suc address) (suc value) code.0 k (leaves.status ∙ running) both.2 places.1 values.1 code.2 in
       record { path = shown_as leaves.seen (at_most (then_goes first others.path) (omega arith) (omega arith)) }
@@ -246,7 +254,7 @@ module _ {r : Run} (y : Youngest r) where
       (n k : NodeId) → store.status ≡ Running → places_of (reads_of r.setting store) (map aim_of to) ≡ Ok ps →
       values_of (reads_of r.setting store) (map value_of (e ∷ es)) ≡ Ok vs → put_all (writes ps vs) store ≡ Ok after →
       SeveralCode y.graph.nodes to (e ∷ es) n k →
-      Assigned store after temporaries n k (addresses_cost to + values_cost (e ∷ es) + length to)
+      Assigned store after temporaries n k (addresses_cost to + values_cost (e ∷ es) + stores_cost to)
   several_done to e es ps vs store after temporaries n k running places values puts code =
       let first = addresses_move store running to temporaries 0 n code.0 ps places code.2 in
       let second = values_move store running (e ∷ es) first.after (length to) code.0 code.1 vs values code.3 in
@@ -276,11 +284,12 @@ module _ {r : Run} (y : Youngest r) where
       ap (λ ps. put_all (writes ps (first.0 ∷ [])) store) place ∙ ap (λ vs. put_all (writes ps vs) store) value ∙ puts in
       let same : assigned target first.0 store ≡ after = grind (arith, puts') in
       let comes = value_comes y store running e temporaries 0 (destination.Target target) n k first.0 first.1 code in
-      let last = target_goes store comes.after comes.last k target comes.side first.0 running comes.node comes.value in
+      let fits = comes.fits in
+      let last = target_goes store comes.after comes.last k target comes.tokens comes.side first.0 running comes.node comes.value in
       record {
         then_ = comes.after;
         path = subst (λ s. Goes r (store_seen store) 1 (inner e + 1) (at y store temporaries n) (at y s comes.after k)) same
-            (at_most (then_goes comes.path (shown_as (assigned_leaves target first.0 store).seen last)) (omega arith) (omega arith));
+            (at_most (then_goes comes.path (shown_as (assigned_leaves target first.0 store).seen last)) (omega arith) (omega (arith, fits)));
       }
   assign_done (lvalue.Memory width aligned address ∷ []) (e ∷ []) ps vs store after temporaries n k running places values puts code =
       let reads = reads_of r.setting store in
@@ -296,10 +305,10 @@ module _ {r : Run} (y : Youngest r) where
       let first = operand_brings y store running address temporaries 0 n code.0 a.0 a.1 code.2 in
       let second = operand_brings y store running e first.after 1 code.0 code.1 v.0 v.1 code.3 in
       let kept = value_kept 0 1 first.after second.after reads address (omega arith) second.below ∙ first.value in
-      let last = store_goes store both.0 second.after code.1 k width aligned (operand_of 0 address) (operand_of 1 e) a.0 v.0 running code.4 kept second.value both.1 in
+      let last = store_goes store both.0 second.after code.1 k width aligned (operand_of 0 address) (operand_of 1 e) a.0 v.0 (access_tokens width aligned) running code.4 kept second.value both.1 in
       record {
         then_ = second.after;
-        path = subst (λ s. Goes r (store_seen store) 1 (nodes address + nodes e + 1) (at y store temporaries n) (at y s second.after k)) same
+        path = subst (λ s. Goes r (store_seen store) 1 (nodes address + nodes e + access_tokens width aligned) (at y store temporaries n) (at y s second.after k)) same
             (at_most (then_goes (then_goes first.path second.path) (shown_as (put_leaves (Memory width aligned a.0) v.0 store both.0 both.1).seen last))
             (omega arith) (omega arith));
       }

@@ -9,11 +9,11 @@ use Rattle.cmm_graph.specs.declared.operand.Operand.{Operand}
 use Rattle.cmm_graph.specs.declared.node.Node.{Node}
 use Rattle.cmm_graph.specs.declared.node.NodeKind.{NodeKind}
 use Rattle.cmm_graph.specs.declared.node.NodeKind.TheVariants.{Store}
-use Rattle.cmm_flow.specs.Operands.{temporary, operand_of}
+use Rattle.cmm_flow.specs.Operands.{temporary, operand_of, access_tokens}
 use Rattle.cmm_flow.specs.Code.{IsNode, ValueCode, ValuesCode, to_temporary}
 use Rattle.cmm_flow.specs.Statements.{AddressesCode, AssignCode, SeveralCode, StoresCode}
 use Rattle.cmm_flow.specs.Waiting.{waiting_at}
-use Rattle.cmm_flow.specs.inside.Parts.{AddressCode, TwoCode, store_node}
+use Rattle.cmm_flow.specs.inside.Parts.{AddressCode, TwoCode, store_node, store_tokens}
 use Rattle.cmm_flow.proofs.ExpressionsStay.{node_stays, value_stays}
 
 -- the node that stores a value waits at no site
@@ -61,34 +61,34 @@ module _ (nodes : List Node) where
       subst (λ es. ValuesCode nodes es base n k) (sym same) (m, first, subst (λ b. ValuesCode nodes rest b m k) bases others)
 
   stores_first : (l : Lvalue) (ls : List Lvalue) (e : Expression) (es : List Expression) (address value : ℕ) (n m k : NodeId) →
-      StoresCode nodes ls es (suc address) (suc value) m k → IsNode nodes n 1 (store_node l (temporary address) (temporary value) m) →
+      StoresCode nodes ls es (suc address) (suc value) m k → IsNode nodes n (store_tokens l) (store_node l (temporary address) (temporary value) m) →
       StoresCode nodes (l ∷ ls) (e ∷ es) address value n k
   stores_first (lvalue.Target target) ls e es address value n m k others first = (m, first, others)
   stores_first (lvalue.Memory width aligned at) ls e es address value n m k others first = (m, first, others)
 
   pub stores_cons : (to ls : List Lvalue) (l : Lvalue) (values es : List Expression) (e : Expression) (address value addresses numbers : ℕ) (kind : NodeKind)
       (n m k : NodeId) → to ≡ l ∷ ls → values ≡ e ∷ es → addresses ≡ suc address → numbers ≡ suc value →
-      kind ≡ store_node l (temporary address) (temporary value) m → StoresCode nodes ls es addresses numbers m k → IsNode nodes n 1 kind →
+      kind ≡ store_node l (temporary address) (temporary value) m → StoresCode nodes ls es addresses numbers m k → IsNode nodes n (store_tokens l) kind →
       StoresCode nodes to values address value n k
   stores_cons to ls l values es e address value addresses numbers kind n m k places sources at of made others first =
       subst (λ ls. StoresCode nodes ls values address value n k) (sym places)
       (subst (λ es. StoresCode nodes (l ∷ ls) es address value n k) (sym sources)
       (stores_first l ls e es address value n m k
       (subst (λ b. StoresCode nodes ls es b (suc value) m k) at (subst (λ b. StoresCode nodes ls es addresses b m k) of others))
-      (first ∙ ap (λ kind. Some (record { tokens = 1; kind = kind })) made)))
+      (first ∙ ap (λ kind. Some (record { tokens = store_tokens l; kind = kind })) made)))
 
   -- ---- whole assignments
 
   pub assign_memory : (to : Lvalue) (width : Width) (aligned : ℕ) (address value : Expression) (l r : Operand) (kind : NodeKind) (n j k : NodeId) →
       to ≡ lvalue.Memory width aligned address → kind ≡ store_node to l r k → l ≡ operand_of 0 address → r ≡ operand_of 1 value →
-      IsNode nodes j 1 kind → TwoCode nodes address value n j → AssignCode nodes (to ∷ []) (value ∷ []) n k
+      IsNode nodes j (access_tokens width aligned) kind → TwoCode nodes address value n j → AssignCode nodes (to ∷ []) (value ∷ []) n k
   assign_memory to width aligned address value l r kind n j k place made left right is (m, first, second) =
       subst (λ to. AssignCode nodes (to ∷ []) (value ∷ []) n k) (sym place) (
         m,
         j,
         first,
         second,
-        is ∙ ap (λ kind. Some (record { tokens = 1; kind = kind }))
+        is ∙ ap (λ kind. Some (record { tokens = access_tokens width aligned; kind = kind }))
             (made ∙ ap (λ to. store_node to l r k) place ∙ ap (λ l. Store width aligned l r k) left ∙ ap (λ r. Store width aligned (operand_of 0 address) r k) right),
       )
 

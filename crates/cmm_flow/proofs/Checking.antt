@@ -78,9 +78,9 @@ module _ {r : Run} (y : Youngest r) (q : Proc) (flow : IsFlowOf q y.graph) (stor
   result_goes : (ts : List Target) (temporaries : Temporary → ℕ) (n k : NodeId) (side : Rvalue) (v : ℕ) → IsNode y.graph.nodes n 1 (Assign (first_result ts) side k) →
       rvalue_value (held_by temporaries) side (reads_of r.setting store) ≡ Ok v → TakesResult temporaries n k ts v
   result_goes [] temporaries n k side v node is =
-      record { after = with_temporary (record { number = 0 }) v temporaries; path = into_temporary y store running temporaries n k 0 v side node is }
+      record { after = with_temporary (record { number = 0 }) v temporaries; path = into_temporary y store running temporaries n k 0 v 1 side node is }
   result_goes (t ∷ ts) temporaries n k side v node is =
-      record { after = temporaries; path = shown_as (assigned_leaves t v store).seen (target_goes y store temporaries n k t side v running node is) }
+      record { after = temporaries; path = shown_as (assigned_leaves t v store).seen (target_goes y store temporaries n k t 1 side v running node is) }
 
   -- the test of the divisor
   abbrev Divides : Bool → ℕ → ℕ → ℕ → Width → Expression → NodeId → NodeId → NodeId → Type 0

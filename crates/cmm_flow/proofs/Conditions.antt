@@ -38,10 +38,10 @@ module _ {r : Run} (y : Youngest r) (store : Store) (running : store.status ≡ 
       Goes r (store_seen store) 1 1 (at y store temporaries n) (at y store temporaries (chosen found held failed))
   branch_goes temporaries n test held failed true node is =
       passes_one y store store temporaries n 1 (Branch test held failed) (order.Choose 0) 0 running node
-      (ap (λ t. and_then (and_then t (λ found. Ok (elim found [ true ↦ 0 | false ↦ 1 ]))) (λ way. Ok (order.Choose way))) is) refl running refl
+      (ap (λ t. and_then (and_then t (λ found. Ok (elim found [ true ↦ 0 | false ↦ 1 ]))) (λ way. Ok (order.Choose way))) is) refl running refl refl
   branch_goes temporaries n test held failed false node is =
       passes_one y store store temporaries n 1 (Branch test held failed) (order.Choose 1) 1 running node
-      (ap (λ t. and_then (and_then t (λ found. Ok (elim found [ true ↦ 0 | false ↦ 1 ]))) (λ way. Ok (order.Choose way))) is) refl running refl
+      (ap (λ t. and_then (and_then t (λ found. Ok (elim found [ true ↦ 0 | false ↦ 1 ]))) (λ way. Ok (order.Choose way))) is) refl running refl refl
 
   -- control comes from a node to that of the answer
   pub record Decides (temporaries : Temporary → ℕ) (n to : NodeId) (most : ℕ) : Type 0 where

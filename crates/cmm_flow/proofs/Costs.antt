@@ -1,7 +1,9 @@
 -- A passage through the code of a statement costs no more than the statement has tokens.
-use Rattle.std.proofs.Common.{◌≡◌, ℕ, zero, suc, ◌+◌, ◌≤◌, min, nat_le, Bool, true, false, Option, Some, None, List, [], ◌∷◌, length, slice_get, refl, arith}
+use Rattle.std.proofs.Common.{◌≡◌, ℕ, zero, suc, ◌+◌, ◌≤◌, min, nat_le, nat_lt, Bool, true, false, Option, Some, None, List, [], ◌∷◌, length, slice_get, refl, arith}
 use Rattle.std.proofs.lemmas.List.Sums.{sum_by-cons}
 use Rattle.std.specs.Prelude.{sum_by}
+use Rattle.cmm_words.specs.declared.width.Width.{Width}
+use Rattle.cmm_words.specs.Widths.{bytes}
 use Rattle.cmm_program.specs.declared.expression.Expression.{Expression, Row_of-Expression, more_of-Expression}
 use Rattle.cmm_program.specs.declared.expression.Expression.TheVariants.{Known, Variable, Register, Stackdata, Continuation, Load', Unary', Binary', SignExtend', ZeroExtend', LowBits'}
 use Rattle.cmm_program.specs.declared.expression.Condition.{Condition, Row_of-Condition, more_of-Condition}
@@ -19,9 +21,9 @@ use Rattle.cmm_words.specs.declared.constant.Constant.TheVariants.{Number, Code,
 use Rattle.cmm_words.specs.declared.operators.Cmp.{Cmp}
 use Rattle.cmm_words.specs.declared.operators.Cmp.TheVariants.{Lt, Le, Gt, Ge}
 use mathlib.Core.Former.{one_more}
-use Rattle.cmm_flow.specs.Operands.{is_plain, node_step, nodes, nodes_of_all, test_node_step, test_nodes}
+use Rattle.cmm_flow.specs.Operands.{extra_tokens, is_plain, node_step, nodes, nodes_of_all, test_node_step, test_nodes}
 use Rattle.cmm_flow.specs.Statements.{normal_tokens, remaining}
-use Rattle.cmm_flow.proofs.Assigning.{addresses_cost, assign_cost, values_cost}
+use Rattle.cmm_flow.proofs.Assigning.{addresses_cost, assign_cost, stores_cost, values_cost}
 use Rattle.cmm_flow.proofs.Forms.{form_cost}
 use Rattle.cmm_flow.proofs.Operands.{inner, inner_in, nodes_inner, plain_nodes}
 
@@ -46,8 +48,15 @@ binary_least None a b asked x y first second = omega (arith, first alone, second
 binary_least (Some level) a b asked x y first second =
     omega (arith, first alone, second alone, first level, second (suc level), level_least 7 (3 + two a b) asked, level_least level (a level + 1 + b (suc level)) asked)
 
+-- a word in memory has the tokens that its node has more
+extra_least : (width : Width) (aligned : ℕ) → extra_tokens width aligned ≤ 2
+extra_least width aligned = by (nat_lt aligned (bytes width)) where
+  by : (b : Bool) → elim b as (λ _. ℕ) [ true ↦ 2 | false ↦ 0 ] ≤ 2
+  by true = omega arith
+  by false = omega arith
+
 -- the nodes of an operand are at most those of its value
-operand_nodes : (e : Expression) → nodes e ≤ inner e + 1
+pub operand_nodes : (e : Expression) → nodes e ≤ inner e + 1
 operand_nodes e = by (is_plain e) refl where
   by : (plain : Bool) → is_plain e ≡ plain → nodes e ≤ inner e + 1
   by true plain = omega (arith, plain_nodes e plain)
@@ -61,7 +70,7 @@ mutual
   value_counted (Register number width) asked = omega arith
   value_counted (Stackdata number) asked = omega arith
   value_counted (Continuation number) asked = omega arith
-  value_counted (Load' width aligned _ address) asked = omega (arith, part_counted address alone)
+  value_counted (Load' width aligned _ address) asked = omega (arith, part_counted address alone, extra_least width aligned)
   value_counted (Unary' op width _ a) asked =
       omega (arith, part_counted a 7, part_counted a alone, level_least 7 (min (1 + fold_operand token_step a 7) (3 + fold_operand token_step a alone)) asked)
   value_counted (Binary' op width _ a _ b) asked =
@@ -90,7 +99,7 @@ compare_least Ge a b = omega (arith, operand_counted a alone, operand_counted b 
 compare_least op a b = omega (arith, operand_counted a 1, operand_counted b 1)
 
 mutual
-  test_counted : (c : Condition) → test_nodes c ≤ condition_tokens c
+  pub test_counted : (c : Condition) → test_nodes c ≤ condition_tokens c
   test_counted (Compare op width a b) = compare_least op a b
   test_counted (Not' _ a) = omega (arith, test_part a)
   test_counted (Both' _ a _ b) = omega (arith, test_part a, test_part b)
@@ -101,35 +110,35 @@ mutual
 
 -- ---- lists
 
-commas_least : {A : Type 0} (size : A → ℕ) (list : List A) → sum_by size list ≤ with_commas size list
+pub commas_least : {A : Type 0} (size : A → ℕ) (list : List A) → sum_by size list ≤ with_commas size list
 commas_least size [] = omega arith
 commas_least size (a ∷ more) = omega arith
 
-values_least : (es : List Expression) → values_cost es ≤ sum_by (expression_tokens alone) es
+pub values_least : (es : List Expression) → values_cost es ≤ sum_by (expression_tokens alone) es
 values_least [] = omega arith
 values_least (e ∷ es) = omega (arith, sum_by-cons (expression_tokens alone) e es, value_counted e alone, values_least es)
 
-operands_least : (es : List Expression) → nodes_of_all es ≤ sum_by (expression_tokens alone) es
+pub operands_least : (es : List Expression) → nodes_of_all es ≤ sum_by (expression_tokens alone) es
 operands_least [] = omega arith
 operands_least (e ∷ es) = omega (arith, sum_by-cons (expression_tokens alone) e es, operand_counted e alone, operands_least es)
 
-addresses_least : (ls : List Lvalue) → addresses_cost ls + length ls ≤ sum_by lvalue_tokens ls
+pub addresses_least : (ls : List Lvalue) → addresses_cost ls + stores_cost ls ≤ sum_by lvalue_tokens ls
 addresses_least [] = omega arith
 addresses_least (lvalue.Target target ∷ ls) = omega (arith, sum_by-cons lvalue_tokens (lvalue.Target target) ls, addresses_least ls)
 addresses_least (lvalue.Memory width aligned address ∷ ls) =
-    omega (arith, sum_by-cons lvalue_tokens (lvalue.Memory width aligned address) ls, value_counted address alone, addresses_least ls)
+    omega (arith, sum_by-cons lvalue_tokens (lvalue.Memory width aligned address) ls, value_counted address alone, extra_least width aligned, addresses_least ls)
 
-brackets_least : (es : List Expression) → nodes_of_all es + 2 ≤ bracketed es
+pub brackets_least : (es : List Expression) → nodes_of_all es + 2 ≤ bracketed es
 brackets_least es = omega (arith, operands_least es, commas_least (expression_tokens alone) es)
 
 -- ---- statements
 
-several_least : (to : List Lvalue) (es : List Expression) →
-    addresses_cost to + values_cost es + length to ≤ 2 + with_commas lvalue_tokens to + with_commas (expression_tokens alone) es
+pub several_least : (to : List Lvalue) (es : List Expression) →
+    addresses_cost to + values_cost es + stores_cost to ≤ 2 + with_commas lvalue_tokens to + with_commas (expression_tokens alone) es
 several_least to es =
     omega (arith, addresses_least to, values_least es, commas_least lvalue_tokens to, commas_least (expression_tokens alone) es)
 
-assign_least : (to : List Lvalue) (es : List Expression) → assign_cost to es ≤ 2 + with_commas lvalue_tokens to + with_commas (expression_tokens alone) es
+pub assign_least : (to : List Lvalue) (es : List Expression) → assign_cost to es ≤ 2 + with_commas lvalue_tokens to + with_commas (expression_tokens alone) es
 assign_least to [] = omega arith
 assign_least (lvalue.Target target ∷ []) (e ∷ []) = omega (arith, several_least (lvalue.Target target ∷ []) (e ∷ []))
 assign_least (lvalue.Memory width aligned address ∷ []) (e ∷ []) =

@@ -1,5 +1,5 @@
 -- Bounds on the tokens of statements and sites, and of the nodes that are laid for them.
-use Rattle.std.proofs.Common.{◌≡◌, ℕ, ◌<◌, ◌≤◌, max, nat_le, nat_lt, Bool, IsTrue, Some, List, [], ◌∷◌, length, map, slice_get, refl, sym, subst, arith}
+use Rattle.std.proofs.Common.{◌≡◌, ℕ, suc, ◌<◌, ◌≤◌, nat_le, nat_lt, Bool, IsTrue, true, Some, List, [], ◌∷◌, length, map, slice_get, refl, sym, subst, arith}
 use Rattle.std.proofs.lemmas.Bool.{and_parts}
 use Rattle.std.proofs.lemmas.Bool.Decides.{nat_tests}
 use Rattle.std.specs.List.{list_all, zip}
@@ -17,18 +17,19 @@ use Rattle.cmm_program.specs.declared.statement.Form.TheBlock.{hidden-the_row-St
 use Rattle.cmm_program.specs.declared.statement.Form.TheVariants.{If, Switch, Span}
 use Rattle.cmm_program.specs.declared.statement.Statement.{Statement}
 use Rattle.cmm_program.specs.Bodies.{within, within_arms, within_block}
-use Rattle.cmm_graph.specs.declared.node.Exits.{Exits}
+use Rattle.cmm_graph.specs.declared.node.Node.{Node}
+use Rattle.cmm_graph.specs.declared.node.NodeKind.TheVariants.{Goto}
 use Rattle.cmm_graph.specs.declared.number.NodeId.{NodeId}
-use Rattle.cmm_flow.specs.declared.builder.Builder.{Builder}
+use Rattle.cmm_graph.specs.Ranges.{is_step, leads_to}
 use Rattle.cmm_flow.specs.Flow.{CoversSites}
 use Rattle.cmm_flow.specs.Relation.{AreAll}
-use Rattle.cmm_flow.specs.Statements.{ExitsCode}
 use Rattle.cmm_flow.specs.inside.Fronts.{copy_in, goto_nodes}
-use Rattle.cmm_flow.specs.inside.Laying.{AreWithin, Covers, LaysWithin}
+use Rattle.cmm_flow.specs.inside.Laying.{AreAsked, AreSteps, Asked, leads_on, passes}
 use Rattle.cmm_flow.specs.inside.LayingBlocks.{AreAllArms}
+use Rattle.cmm_flow.specs.inside.Nodes.{goto, nowhere, unled}
 use Rattle.cmm_flow.proofs.Blocks.{shown_statements}
 use Rattle.cmm_flow.proofs.Counting.{apart, row_of, row_statements}
-use Rattle.cmm_flow.proofs.Laying.{bounded, lays_other}
+use Rattle.cmm_flow.proofs.Laying.{and_both}
 
 -- ---- statements inside others
 
@@ -58,13 +59,31 @@ module _ (test : Statement → Bool) where
   unfolding hidden-the_row-Arm-1 Carrier.hidden
   switch_of value arms is = subst (AreAllArms test) (items_hidden-the_row-Arm-1 arms) (arms_row _ (hidden-the_row-Arm-1 arms) is)
 
--- ---- sites, and what the last node of a statement has
+-- a test that holds where another does
+pub list_all_more : {A : Type 0} (test other : A → Bool) → ((a : A) → IsTrue (test a) → IsTrue (other a)) → (xs : List A) → IsTrue (list_all test xs) → IsTrue (list_all other xs)
+list_all_more test other more [] all = refl
+list_all_more test other more (x ∷ xs) all =
+    let both = and_parts (test x) (list_all test xs) all in
+    and_both (other x) (list_all other xs) (more x both.0) (list_all_more test other more xs both.1)
+
+pub AreAll_more : (test other : Statement → Bool) → ((s : Statement) → IsTrue (test s) → IsTrue (other s)) → (xs : List Statement) → AreAll test xs → AreAll other xs
+AreAll_more test other more [] all = tt
+AreAll_more test other more (x ∷ xs) all =
+    ((more x all.0.0, list_all_more test other more (within x.form) all.0.1), AreAll_more test other more xs all.1)
+
+-- ---- sites, and tests of counts
 
 pub at_most : (m n : ℕ) → IsTrue (nat_le m n) → m ≤ n
 at_most m n is = grind (arith, nat_tests, is)
 
 pub test_at_most : (m n : ℕ) → m ≤ n → IsTrue (nat_le m n)
 test_at_most m n most = grind (arith, nat_tests, most)
+
+pub less_of : (m n : ℕ) → IsTrue (nat_lt m n) → m < n
+less_of m n less = grind (arith, nat_tests, less)
+
+pub less_at_most : (m n : ℕ) → IsTrue (nat_lt m n) → IsTrue (nat_le (suc m) n)
+less_at_most m n less = grind (arith, nat_tests, less)
 
 pub test_less : (m n : ℕ) → m < n → IsTrue (nat_lt m n)
 test_less m n less = grind (arith, nat_tests, less)
@@ -73,27 +92,36 @@ pub site_covered : (q : Proc) (n : ℕ) (site : Site) (most : ℕ) → slice_get
 site_covered q n site most is covers =
     let holds = list_all_get (λ (site : Site). nat_lt (length site.results) most) q.sites n site covers.results is in grind (arith, nat_tests, holds)
 
--- the exits of a site by its number
-pub exits_laid : {a b : Builder} (q : Proc) (n : ℕ) (site : Site) (exits : Exits) (k : NodeId) → slice_get q.sites n ≡ Some site →
-    LaysWithin (λ most. length site.results < most) [] a b (λ nodes. ExitsCode nodes (Some site) exits k) →
-    LaysWithin (CoversSites q) [] a b (λ nodes. ExitsCode nodes (slice_get q.sites n) exits k)
-exits_laid q n site exits k is laid =
-    bounded (CoversSites q) (lays_other (λ nodes. ExitsCode nodes (slice_get q.sites n) exits k) laid (λ nodes code. subst (λ o. ExitsCode nodes o exits k) (sym is) code))
-    (λ most covers. site_covered q n site most is covers)
+-- a test that each element passes
+pub each_passes : {A : Type 0} (test : A → Bool) (xs : List A) → ((n : ℕ) (x : A) → slice_get xs n ≡ Some x → IsTrue (test x)) → IsTrue (list_all test xs)
+each_passes test [] passes = refl
+each_passes test (x ∷ xs) passes =
+    let first = passes 0 x refl in
+    let later = each_passes test xs (λ n y is. passes (suc n) y is) in
+    and_both (test x) (list_all test xs) first later
 
-pub last_covered : (tokens count most : ℕ) → count ≤ max 1 tokens → Covers tokens most → count ≤ most
-last_covered tokens count most within covers = omega (arith, within, covers.0, covers.1)
+-- no node has more tokens than so many
+abbrev pub AreWithin : ℕ → List Node → Type 0
+AreWithin most nodes = IsTrue (list_all (λ node. nat_le node.tokens most) nodes)
 
 -- ---- the nodes in front
 
-pub gotos_within : (most : ℕ) (to : List NodeId) → 1 ≤ most → AreWithin most (goto_nodes to)
-gotos_within most [] positive = refl
-gotos_within most (n ∷ to) positive = grind (arith, nat_tests, positive, gotos_within most to positive)
+pub gotos_asked : (x : Asked) (to : List NodeId) → IsTrue (x.test goto) → AreSteps x.graph to → AreAsked x (goto_nodes to)
+gotos_asked x [] test steps = refl
+gotos_asked x (n ∷ to) test steps =
+    let both = and_parts (leads_to x.graph is_step n) (list_all (leads_to x.graph is_step) to) steps in
+    let leads = and_both (list_all (leads_to x.graph is_step) (n ∷ [])) true (and_both (leads_to x.graph is_step n) true both.0 refl) refl in
+    let here = and_both (x.test goto) (leads_on x.graph (Goto n)) test leads in
+    and_both (passes x record { tokens = 1; kind = Goto n }) (list_all (passes x) (goto_nodes to)) here (gotos_asked x to test both.1)
 
-pub copies_within : (q : Proc) (most : ℕ) (conts : List Cont) (to : List NodeId) → IsTrue (list_all (λ c. nat_lt (length c.params) most) conts) →
-    AreWithin most (map (λ c. copy_in q c.0 c.1) (zip conts to))
-copies_within q most [] to are = refl
-copies_within q most (c ∷ conts) [] are = refl
-copies_within q most (c ∷ conts) (n ∷ to) are =
-    let both = and_parts (nat_lt (length c.params) most) (list_all (λ (c : Cont). nat_lt (length c.params) most) conts) are in
-    let later = copies_within q most conts to both.1 in grind (arith, nat_tests, both.0, later)
+pub copies_asked : (x : Asked) (q : Proc) (conts : List Cont) (to : List NodeId) → IsTrue (list_all (λ k. x.test (unled (copy_in q k nowhere))) conts) →
+    AreSteps x.graph to → AreAsked x (map (λ c. copy_in q c.0 c.1) (zip conts to))
+copies_asked x q [] to tests steps = refl
+copies_asked x q (k ∷ conts) [] tests steps = refl
+copies_asked x q (k ∷ conts) (n ∷ to) tests steps =
+    let test = and_parts (x.test (unled (copy_in q k nowhere))) (list_all (λ (k : Cont). x.test (unled (copy_in q k nowhere))) conts) tests in
+    let both = and_parts (leads_to x.graph is_step n) (list_all (leads_to x.graph is_step) to) steps in
+    let leads = and_both (list_all (leads_to x.graph is_step) (n ∷ [])) true (and_both (leads_to x.graph is_step n) true both.0 refl) refl in
+    let here = and_both (x.test (unled (copy_in q k n))) (leads_on x.graph (copy_in q k n).kind) test.0 leads in
+    and_both (passes x (copy_in q k n)) (list_all (passes x) (map (λ (c : Cont × NodeId). copy_in q c.0 c.1) (zip conts to))) here
+    (copies_asked x q conts to test.1 both.1)

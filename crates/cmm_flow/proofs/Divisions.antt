@@ -1,5 +1,5 @@
 -- Code of divisions that yield where their divisor is 0: that it stays where more nodes are laid, and how it is made of its parts.
-use Rattle.std.proofs.Common.{◌≡◌, ℕ, ◌+◌, Bool, true, false, List, ◌++◌, slice_get, refl, sym, ap, subst}
+use Rattle.std.proofs.Common.{◌≡◌, ℕ, ◌+◌, Bool, true, false, List, [], ◌∷◌, ◌++◌, slice_get, refl, sym, ap, subst}
 use Rattle.cmm_words.specs.Words.{is_division}
 use Rattle.cmm_words.specs.declared.constant.Constant.TheVariants.{Number}
 use Rattle.cmm_words.specs.declared.operators.Cmp.TheVariants.{Eq}
@@ -17,9 +17,14 @@ use Rattle.cmm_graph.specs.declared.node.NodeKind.TheVariants.{Assign, Branch}
 use Rattle.cmm_flow.specs.Operands.{nodes, operand_of}
 use Rattle.cmm_flow.specs.Code.{IsNode}
 use Rattle.cmm_flow.specs.Statements.{CheckedCode, ZeroCode, first_result, normal_tokens, remaining}
+use Rattle.cmm_flow.specs.declared.builder.Builder.{Builder}
+use Rattle.cmm_flow.specs.inside.Laying.{LaysAt, LaysNode}
+use Rattle.cmm_flow.specs.inside.Nodes.{nodes_of_guard, nodes_of_yield_one, nowhere}
 use Rattle.cmm_flow.specs.inside.Parts.{TwoCode}
 use Rattle.cmm_flow.specs.inside.Passing.{GuardCode, YieldOne}
+use Rattle.cmm_flow.proofs.Begins.{node_begins, on_two, one_step, the_two}
 use Rattle.cmm_flow.proofs.ExpressionsStay.{node_stays}
+use Rattle.cmm_flow.proofs.Laying.{led_one, lays_other, then_lays}
 use Rattle.cmm_flow.proofs.Passing.{exits_stay, told}
 
 module _ (nodes_there more : List Node) where
@@ -75,3 +80,21 @@ module _ (nodes_there : List Node) where
       GuardCode nodes_there q tokens (nodes left + nodes right) site op width right j d k → TwoCode nodes_there left right n j →
       CheckedCode nodes_there q tokens site op width left right n k
   checked_code q tokens site op width left right n j d k division guard (m, first, second) = (m, j, d, first, second, division, guard)
+
+-- a division is guarded, and goes on at the node behind the statement or at the division itself
+pub guard_laid : {a b c : Builder} (q : Proc) (tokens used site count : ℕ) (width : Width) (divisor : Expression) (n y division k : NodeId) →
+    LaysAt (site ∷ []) (nodes_of_yield_one q count site) (k ∷ []) [] a b (λ nodes. YieldOne nodes q count site y k) →
+    LaysNode record { tokens = 1; kind = Branch record { operator = Eq; width = width; left = operand_of 1 divisor; right = Constant (Number 0 width) } y division } b c n →
+    count ≡ remaining tokens (used + 2 + normal_tokens (slice_get q.sites site)) →
+    LaysAt (site ∷ []) (nodes_of_guard q tokens used site width divisor) (division ∷ k ∷ []) [] a c (λ nodes. ZeroCode nodes q tokens used site width divisor n division k)
+guard_laid q tokens used site count width divisor n y division k first test counts =
+    let Whole : List Node → Type 0 = λ nodes. ZeroCode nodes q tokens used site width divisor n division k in
+    lays_other Whole
+    (then_lays Whole (led_one (division ∷ k ∷ []) first (λ g steps. one_step g k (the_two g division k steps).1)) test
+    (λ nodes more. yield_stays nodes more q count site y k)
+    (λ g code steps normal. on_two g y division (node_begins g y count _ code.1 refl) (the_two g division k steps).0)
+    (λ nodes yields is. zero_code nodes q tokens used site count width divisor (operand_of 1 divisor) n y division k refl counts yields is))
+    (ap (λ (t : ℕ). record {
+      tokens = 1;
+      kind = Branch record { operator = Eq; width = width; left = operand_of 1 divisor; right = Constant (Number 0 width) } nowhere nowhere;
+    } ∷ nodes_of_yield_one q t site) counts) (λ nodes code. code)

@@ -1,9 +1,10 @@
 -- One law for each form of expression: what its code is in terms of its parts.
-use Rattle.std.proofs.Common.{◌≡◌, ℕ, suc, ◌+◌, List, refl}
+use Rattle.std.proofs.Common.{◌≡◌, ℕ, suc, ◌+◌, nat_lt, Bool, true, false, List, refl}
 use denote.Hole.Carrier as Carrier
 use Rattle.cmm_words.specs.declared.operators.Op1.{Op1}
 use Rattle.cmm_words.specs.declared.operators.Op2.{Op2}
 use Rattle.cmm_words.specs.declared.width.Width.{Width}
+use Rattle.cmm_words.specs.Widths.{bytes}
 use Rattle.cmm_program.specs.declared.expression.Expression.{Expression}
 use Rattle.cmm_program.specs.declared.expression.Expression.TheBlock as Expressions
 use Rattle.cmm_program.specs.declared.expression.Expression.TheVariants as e
@@ -13,8 +14,9 @@ use Rattle.cmm_program.specs.declared.expression.Condition.TheVariants as c
 use Rattle.cmm_graph.specs.declared.number.NodeId.{NodeId}
 use Rattle.cmm_graph.specs.declared.node.Node.{Node}
 use Rattle.cmm_graph.specs.declared.operand.Rvalue.TheVariants as rvalue
-use Rattle.cmm_flow.specs.Operands.{operand_of, is_plain, nodes}
+use Rattle.cmm_flow.specs.Operands.{access_tokens, operand_of, is_plain, nodes}
 use Rattle.cmm_flow.specs.Code.{OperandCode, TestCode}
+use Rattle.cmm_flow.specs.inside.Counts.{capped}
 use Rattle.cmm_flow.specs.inside.Parts.{PartsCode, rvalue_of}
 
 -- ---- word extended by zeros: the same as its operand
@@ -102,7 +104,7 @@ module _ (nodes_there : List Node) (n held failed : NodeId) where
 
 -- ---- counts of nodes
 
-pub nodes_of_load : (width : Width) (aligned : ℕ) (a : Expression) → nodes (e.Load width aligned a) ≡ nodes a + 1
+pub nodes_of_load : (width : Width) (aligned : ℕ) (a : Expression) → nodes (e.Load width aligned a) ≡ nodes a + access_tokens width aligned
 unfolding Expressions.hidden-the_row-Expression-0 Carrier.hidden
 nodes_of_load width aligned a = refl
 
@@ -125,3 +127,9 @@ nodes_of_zero_extend from to a = refl
 pub nodes_of_low_bits : (from to : Width) (a : Expression) → nodes (e.LowBits from to a) ≡ nodes a + 1
 unfolding Expressions.hidden-the_row-Expression-0 Carrier.hidden
 nodes_of_low_bits from to a = refl
+
+pub access_capped : (width : Width) (aligned : ℕ) → access_tokens width aligned ≡ capped (access_tokens width aligned)
+access_capped width aligned = by (nat_lt aligned (bytes width)) where
+  by : (b : Bool) → elim b as (λ _. ℕ) [ true ↦ 2 | false ↦ 0 ] + 1 ≡ capped (elim b as (λ _. ℕ) [ true ↦ 2 | false ↦ 0 ] + 1)
+  by true = refl
+  by false = refl

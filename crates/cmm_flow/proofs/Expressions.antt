@@ -1,5 +1,5 @@
 -- The code of an expression brings its value: once control has come through it, the operand has the value, in the same store.
-use Rattle.std.proofs.Common.{◌≡◌, ℕ, suc, Bool, true, false, Result, Ok, Err, refl, ap, ◌∙◌, subst, arith}
+use Rattle.std.proofs.Common.{◌≡◌, ℕ, suc, ◌+◌, ◌≤◌, max, Bool, true, false, Result, Ok, Err, refl, ap, ◌∙◌, subst, arith}
 use Rattle.std.proofs.lemmas.Bool.Decides.{nat_tests}
 use Rattle.cmm_laws.specs.Observed.{store_seen}
 use Rattle.cmm_program.specs.declared.expression.Expression.{Expression, Row_of-Expression, more_of-Expression}
@@ -23,7 +23,7 @@ use Rattle.cmm_graph.specs.declared.operand.Rvalue.TheVariants as rvalue
 use Rattle.cmm_graph.specs.GraphControl.{held_by, with_temporary}
 use Rattle.cmm_graph.specs.Values.{operand_value, rvalue_value}
 use Rattle.cmm_flow.specs.Code.{IsNode, OperandCode, PartCode, SameCode, ValueCode, operand_in, to_temporary}
-use Rattle.cmm_flow.specs.Operands.{is_plain, node_step, nodes, operand_of, temporary}
+use Rattle.cmm_flow.specs.Operands.{extra_tokens, is_plain, node_step, nodes, operand_of, temporary}
 use Rattle.cmm_flow.proofs.Operands.{AreSameBelow, in_temporary, inner, inner_in, nodes_inner, plain_value, value_kept}
 use Rattle.cmm_flow.proofs.Steps.{Goes, Run, Youngest, and_goes, at, passes_one, stays_there}
 
@@ -48,18 +48,22 @@ module _ {r : Run} (y : Youngest r) (store : Store) (running : store.status ≡ 
     pub after : Temporary → ℕ
     pub last : NodeId
     pub side : Rvalue
-    pub path : Goes r (store_seen store) 0 most (at y store temporaries n) (at y store after last)
-    pub node : IsNode y.graph.nodes last 1 (Assign to side k)
+    pub before : ℕ
+    pub tokens : ℕ
+    pub path : Goes r (store_seen store) 0 before (at y store temporaries n) (at y store after last)
+    pub node : IsNode y.graph.nodes last tokens (Assign to side k)
+    pub fits : before + max 1 tokens ≤ most + 1
     pub value : rvalue_value (held_by after) side (reads_of r.setting store) ≡ Ok v
     pub below : AreSameBelow base temporaries after
 
   -- the value of a right side into a temporary
-  pub into_temporary : (temporaries : Temporary → ℕ) (n k : NodeId) (base v : ℕ) (side : Rvalue) → IsNode y.graph.nodes n 1 (Assign (to_temporary base) side k) →
+  pub into_temporary : (temporaries : Temporary → ℕ) (n k : NodeId) (base v tokens : ℕ) (side : Rvalue) →
+      IsNode y.graph.nodes n tokens (Assign (to_temporary base) side k) →
       rvalue_value (held_by temporaries) side (reads_of r.setting store) ≡ Ok v →
-      Goes r (store_seen store) 1 1 (at y store temporaries n) (at y store (with_temporary (record { number = base }) v temporaries) k)
-  into_temporary temporaries n k base v side node is =
-      passes_one y store store temporaries n 1 (Assign (to_temporary base) side k) (order.Choose v) v running node
-      (ap (λ t. and_then t (λ way. Ok (order.Choose way))) is) refl running refl
+      Goes r (store_seen store) 1 (max 1 tokens) (at y store temporaries n) (at y store (with_temporary (record { number = base }) v temporaries) k)
+  into_temporary temporaries n k base v tokens side node is =
+      passes_one y store store temporaries n tokens (Assign (to_temporary base) side k) (order.Choose v) v running node
+      (ap (λ t. and_then t (λ way. Ok (order.Choose way))) is) refl running refl refl
 
   -- what the temporaries are once one has a value
   pub written : (temporaries : Temporary → ℕ) (base v : ℕ) → with_temporary (record { number = base }) v temporaries (record { number = base }) ≡ v
@@ -73,7 +77,10 @@ module _ {r : Run} (y : Youngest r) (store : Store) (running : store.status ≡ 
       operand_of base e ≡ temporary base → Comes temporaries n k (inner e) base (to_temporary base) v → Brings temporaries n k (nodes e) base (operand_of base e) v
   brings_last e temporaries n k base v is o comes = record {
     after = with_temporary (record { number = base }) v comes.after;
-    path = and_goes comes.path (into_temporary comes.after comes.last k base v comes.side comes.node comes.value) (omega arith) (omega (arith, nodes_inner e is));
+    path =
+        let fits = comes.fits in
+        and_goes comes.path (into_temporary comes.after comes.last k base v comes.tokens comes.side comes.node comes.value) (omega arith)
+        (omega (arith, fits, nodes_inner e is));
     value = rw o (ap Ok (written comes.after base v));
     below = λ u less. written_below comes.after base v u less ∙ comes.below u less;
   }
@@ -103,23 +110,29 @@ module _ {r : Run} (y : Youngest r) (store : Store) (running : store.status ≡ 
     after = temporaries;
     last = n;
     side = side;
+    before = 0;
+    tokens = 1;
     path = stays_there 0 (at y store temporaries n);
     node = node;
+    fits = omega arith;
     value = is;
     below = λ u less. refl;
   }
 
   -- the last node of an operator with one operand
-  one_operand : (temporaries : Temporary → ℕ) (n m k : NodeId) (most base : ℕ) (to : Destination) (o : Operand) (x v : ℕ) (side : Rvalue) →
-      Brings temporaries n m most base o x → IsNode y.graph.nodes m 1 (Assign to side k) →
+  one_operand : (temporaries : Temporary → ℕ) (n m k : NodeId) (before tokens most base : ℕ) → before + max 1 tokens ≤ most + 1 → (to : Destination) (o : Operand) (x v : ℕ) (side : Rvalue) →
+      Brings temporaries n m before base o x → IsNode y.graph.nodes m tokens (Assign to side k) →
       ((after : Temporary → ℕ) → gives after o ≡ Ok x → rvalue_value (held_by after) side (reads_of r.setting store) ≡ Ok v) →
       Comes temporaries n k most base to v
-  one_operand temporaries n m k most base to o x v side brings node is = record {
+  one_operand temporaries n m k before tokens most base fits to o x v side brings node is = record {
     after = brings.after;
     last = m;
     side = side;
+    before = before;
+    tokens = tokens;
     path = brings.path;
     node = node;
+    fits = fits;
     value = is brings.after brings.value;
     below = brings.below;
   }
@@ -135,12 +148,12 @@ module _ {r : Run} (y : Youngest r) (store : Store) (running : store.status ≡ 
     value_comes (Continuation number) temporaries base to n k v is node = one_node temporaries n k base to v _ node is
     value_comes (Load' width aligned _ address) temporaries base to n k v is code =
         let x = bound (fold_operand value_step address (reads_of r.setting store)) (loaded (reads_of r.setting store) width aligned) v is in
-        one_operand temporaries n code.0 k (fold_operand node_step address) base to (operand_in base address) x.0 v _
+        one_operand temporaries n code.0 k (fold_operand node_step address) (extra_tokens width aligned + 1) (fold_operand node_step address + extra_tokens width aligned) base (omega arith) to (operand_in base address) x.0 v _
         (part_brings address temporaries base n code.0 x.0 x.1 code.1) code.2
         (λ after gives. ap (λ t. and_then t (loaded (reads_of r.setting store) width aligned)) gives ∙ x.2)
     value_comes (Unary' op width _ a) temporaries base to n k v is code =
         let x = bound (fold_operand value_step a (reads_of r.setting store)) (λ x. Ok (value1 op width x)) v is in
-        one_operand temporaries n code.0 k (fold_operand node_step a) base to (operand_in base a) x.0 v _
+        one_operand temporaries n code.0 k (fold_operand node_step a) 1 (fold_operand node_step a) base (omega arith) to (operand_in base a) x.0 v _
         (part_brings a temporaries base n code.0 x.0 x.1 code.1) code.2
         (λ after gives. ap (λ t. and_then t (λ x. Ok (value1 op width x))) gives ∙ x.2)
     value_comes (Binary' op width _ a _ b) temporaries base to n k v is code =
@@ -153,8 +166,11 @@ module _ {r : Run} (y : Youngest r) (store : Store) (running : store.status ≡ 
           after = second.after;
           last = code.1;
           side = rvalue.Binary op width (operand_in base a) (operand_in (suc base) b);
+          before = fold_operand node_step a + fold_operand node_step b;
+          tokens = 1;
           path = and_goes first.path second.path (omega arith) (omega arith);
           node = code.4;
+          fits = omega arith;
           value =
               ap (λ t. and_then t (λ u. and_then (gives second.after (operand_in (suc base) b)) (λ w. given (value2 op width u w) ZeroDivisor Ok)))
               (part_kept base first.after second.after a second.below ∙ first.value)
@@ -163,13 +179,13 @@ module _ {r : Run} (y : Youngest r) (store : Store) (running : store.status ≡ 
         }
     value_comes (SignExtend' from to' _ a) temporaries base to n k v is code =
         let x = bound (fold_operand value_step a (reads_of r.setting store)) (λ x. Ok (sign_extended from to' x)) v is in
-        one_operand temporaries n code.0 k (fold_operand node_step a) base to (operand_in base a) x.0 v _
+        one_operand temporaries n code.0 k (fold_operand node_step a) 1 (fold_operand node_step a) base (omega arith) to (operand_in base a) x.0 v _
         (part_brings a temporaries base n code.0 x.0 x.1 code.1) code.2
         (λ after gives. ap (λ t. and_then t (λ x. Ok (sign_extended from to' x))) gives ∙ x.2)
     value_comes (ZeroExtend' from to' _ a) temporaries base to n k v is code = same_comes a temporaries base to n k v is code
     value_comes (LowBits' from to' _ a) temporaries base to n k v is code =
         let x = bound (fold_operand value_step a (reads_of r.setting store)) (λ x. Ok (low_bits to' x)) v is in
-        one_operand temporaries n code.0 k (fold_operand node_step a) base to (operand_in base a) x.0 v _
+        one_operand temporaries n code.0 k (fold_operand node_step a) 1 (fold_operand node_step a) base (omega arith) to (operand_in base a) x.0 v _
         (part_brings a temporaries base n code.0 x.0 x.1 code.1) code.2
         (λ after gives. ap (λ t. and_then t (λ x. Ok (low_bits to' x))) gives ∙ x.2)
 

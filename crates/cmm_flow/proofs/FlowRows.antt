@@ -137,7 +137,7 @@ main_flows = record {
 -- it has tokens for its parts
 covers : CoversParts main
 unfolding opened
-covers = record { sites = record { positive = lit≤ tt; results = refl }; statements = refl; parameters = refl }
+covers = record { sites = record { accesses = lit≤ tt; results = refl }; statements = refl; parameters = refl }
 
 -- ---- the premise of the laws
 

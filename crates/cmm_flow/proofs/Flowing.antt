@@ -1,36 +1,67 @@
 -- The laws: runs over the graphs of a program are runs of the C-- machine.
-use Rattle.std.proofs.Common.{List, arith}
+use Rattle.std.proofs.Common.{◌≡◌, ℕ, ◌+◌, List, subst, arith}
 use Rattle.cmm_following.proofs.Agreements.{agrees_of_follows}
 use Rattle.cmm_following.proofs.Followings.{follows_of_simulates}
+use Rattle.cmm_following.specs.Simulation.{Simulates}
 use Rattle.cmm_laws.proofs.Shared.{machine_lasts}
+use Rattle.cmm_laws.specs.Observed.{machine_of}
+use Rattle.cmm_program.specs.Control.{State}
 use Rattle.cmm_program.specs.State.{Setting}
 use Rattle.cmm_program.specs.Todo.{todo_control}
 use Rattle.cmm_graph.specs.declared.graph.Graph.{Graph}
-use Rattle.cmm_graph.specs.GraphControl.{graph_control}
+use Rattle.cmm_graph.specs.GraphControl.{Position, graph_control}
 use Rattle.cmm_graph.specs.GraphMachine.{tokens_of_youngest}
-use Rattle.cmm_flow.specs.Laws.{FlowAgrees, FlowFollows, FlowSimulates}
+use Rattle.cmm_flow.specs.Laws.{AreCosts, AreFlows, FlowAgrees, FlowFollows, FlowFollowsAt, FlowSimulates, FlowSimulatesAt}
+use Rattle.cmm_flow.specs.Relation.{Related, longest}
 use Rattle.cmm_flow.proofs.Counting.{longest_positive}
 use Rattle.cmm_flow.proofs.Simulating.{run_simulates, starts_related}
 use Rattle.cmm_flow.proofs.Steps.{Run}
 
--- a run at the cost of each node's tokens, and one at the same cost for every step
-by_tokens : Setting → List Graph → Run
-by_tokens s graphs = record { graphs = graphs; setting = s; cost = tokens_of_youngest graphs; cheap = λ u. omega arith }
+-- a run at these costs
+at_costs : (s : Setting) (graphs : List Graph) (cost : State Position → ℕ) (more : ℕ) → AreCosts s graphs cost more → Run
+at_costs s graphs cost more costs = record { graphs = graphs; setting = s; cost = cost; more = more; costs = costs }
 
-by_steps : Setting → List Graph → Run
-by_steps s graphs = record { graphs = graphs; setting = s; cost = λ u. 1; cheap = λ u. omega arith }
+pub flow_simulates_at : FlowSimulatesAt
+unfolding at_costs
+flow_simulates_at s graphs cost more flows costs = run_simulates (at_costs s graphs cost more costs) flows
+
+pub flow_follows_at : FlowFollowsAt
+unfolding at_costs
+flow_follows_at s graphs input cost more flows costs =
+    follows_of_simulates (machine_lasts (todo_control s.program) s) (flow_simulates_at s graphs cost more flows costs)
+    (starts_related (at_costs s graphs cost more costs) flows input)
+
+-- nothing is dearer
+abbrev simulates_for : (s : Setting) (graphs : List Graph) (cost : State Position → ℕ) → AreFlows s graphs → AreCosts s graphs cost 0 →
+    Simulates (machine_of (todo_control s.program) s) (λ _. longest s.program) (machine_of (graph_control graphs) s) cost (Related s.program graphs)
+simulates_for s graphs cost flows costs =
+    let same : longest s.program + 0 ≡ longest s.program = omega arith in
+    subst (λ n. Simulates (machine_of (todo_control s.program) s) (λ _. n) (machine_of (graph_control graphs) s) cost (Related s.program graphs)) same
+    (flow_simulates_at s graphs cost 0 flows costs)
+
+-- each node at the cost of its tokens, and every step at the same cost
+by_tokens : (s : Setting) (graphs : List Graph) → AreCosts s graphs (tokens_of_youngest graphs) 0
+by_tokens s graphs = record { leading = λ st runs leads. omega arith; running = λ st runs. omega arith; resting = λ st. omega arith }
+
+by_steps : (s : Setting) (graphs : List Graph) → AreCosts s graphs (λ _. 1) 0
+by_steps s graphs = record {
+  leading = λ st runs leads. omega arith;
+  running = λ st runs. omega arith;
+  resting = λ st. (let least = longest_positive s.program.procs in omega arith);
+}
 
 pub flow_simulates : FlowSimulates
-unfolding by_tokens
-flow_simulates s graphs flows = run_simulates (by_tokens s graphs) flows
+flow_simulates s graphs flows = simulates_for s graphs (tokens_of_youngest graphs) flows (by_tokens s graphs)
 
 pub flow_follows : FlowFollows
-unfolding by_tokens
+unfolding at_costs
 flow_follows s graphs input flows =
-    follows_of_simulates (machine_lasts (todo_control s.program) s) (flow_simulates s graphs flows) (starts_related (by_tokens s graphs) flows input)
+    follows_of_simulates (machine_lasts (todo_control s.program) s) (flow_simulates s graphs flows)
+    (starts_related (at_costs s graphs (tokens_of_youngest graphs) 0 (by_tokens s graphs)) flows input)
 
 pub flow_agrees : FlowAgrees
-unfolding by_steps
+unfolding at_costs
 flow_agrees s graphs input flows =
     agrees_of_follows (machine_lasts (todo_control s.program) s) (machine_lasts (graph_control graphs) s) (longest_positive s.program.procs)
-    (follows_of_simulates (machine_lasts (todo_control s.program) s) (run_simulates (by_steps s graphs) flows) (starts_related (by_steps s graphs) flows input))
+    (follows_of_simulates (machine_lasts (todo_control s.program) s) (simulates_for s graphs (λ _. 1) flows (by_steps s graphs))
+    (starts_related (at_costs s graphs (λ _. 1) 0 (by_steps s graphs)) flows input))

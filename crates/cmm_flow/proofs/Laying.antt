@@ -1,17 +1,20 @@
 -- Nodes that were laid stay where more are.
-use Rattle.std.proofs.Common.{Result, Ok, Err, IfOk, IsTrue, ◌≡◌, ℕ, zero, suc, ◌+◌, ◌<◌, ◌≤◌, nat_le, ◌&&◌, ◌==◌, filter, Bool, true, false, List, [], ◌∷◌, ◌++◌, length, Some, slice_get, refl, sym, ap, ◌∙◌, subst, append_assoc, arith}
-use Rattle.std.proofs.lemmas.Bool.Decides.{nat_tests}
+use Rattle.std.proofs.Common.{Result, Ok, Err, IfOk, IsTrue, ◌≡◌, ℕ, zero, suc, ◌+◌, ◌<◌, ◌&&◌, ◌==◌, filter, Bool, true, false, List, [], ◌∷◌, ◌++◌, length, Some, slice_get, refl, sym, ap, ◌∙◌, subst, append_assoc, arith}
+use Rattle.std.proofs.lemmas.Bool.{and_parts}
 use Rattle.std.proofs.lemmas.List.Concat.{flat_map-append}
 use Rattle.std.proofs.lemmas.List.Folds.{list_all-append}
 use Rattle.std.proofs.lemmas.Option.{get_or_from_slice_get, slice_get_within, slice_get-get_or}
 use Rattle.std.proofs.lemmas.List.Elements.{filter-append}
 use Rattle.std.proofs.lemmas.List.{append-nil, get_or_append_left, length-append}
 use Rattle.std.specs.List.{list_all}
+use Rattle.cmm_graph.specs.declared.graph.Graph.{Graph}
 use Rattle.cmm_graph.specs.declared.node.Node.{Node}
 use Rattle.cmm_graph.specs.declared.number.NodeId.{NodeId}
 use Rattle.cmm_flow.specs.declared.builder.Builder.{Builder}
 use Rattle.cmm_flow.specs.Waiting.{times, waiting_at, waiting_sites}
-use Rattle.cmm_flow.specs.inside.Laying.{AddsSites, AreWithin, Extends, Keeps, LaysWithin, OnFronts}
+use Rattle.cmm_graph.specs.Ranges.{is_copy_in, is_step, leads_to}
+use Rattle.cmm_flow.specs.inside.Laying.{AddsSites, AreAsked, AreCopyIns, AreSteps, Extends, Holds, Keeps, LaysAt, LaysNode, OnFronts, StandIn, leads_on, normal_of, passes, steps_of}
+use Rattle.cmm_flow.specs.inside.Nodes.{unled}
 
 pub get_before : {A : Type 0} (xs ys : List A) (n : ℕ) (x : A) → slice_get xs n ≡ Some x → slice_get (xs ++ ys) n ≡ Some x
 get_before xs ys n x is =
@@ -61,69 +64,92 @@ then_adds_before a b c xs ys first second site = omega (arith, first site, secon
 pub adds_nothing : (a : Builder) (sites : List ℕ) → AddsSites sites a a
 adds_nothing a sites site = omega arith
 
--- ---- pieces
+-- ---- in a graph
 
--- one piece of code and then another
-pub then_lays : {T : ℕ → Type 0} {xs ys : List ℕ} {a b c : Builder} {P Q : List Node → Type 0} (R : List Node → Type 0) → LaysWithin T xs a b P →
-    LaysWithin T ys b c Q → Stays P → ((nodes : List Node) → P nodes → Q nodes → R nodes) → LaysWithin T (xs ++ ys) a c R
-then_lays {xs = xs} {ys = ys} {a = a} {b = b} {c = c} {P = P} R first second stays joined = record {
-  extends = extends_more first.extends second.extends;
-  labels = second.labels ∙ first.labels;
-  continuations = second.continuations ∙ first.continuations;
-  code = λ front many. joined (front ++ c.nodes) (on_later b c P stays second.extends first.code front many) (second.code front many);
-  keeps = λ most bound are. second.keeps most bound (first.keeps most bound are);
-  waits = then_adds a b c xs ys first.waits second.waits;
+-- nodes stand in a graph where more stand
+pub stands_before : {a b : Builder} (g : Graph) → Extends a b → StandIn b g → StandIn a g
+stands_before {a = a} g e s = record {
+  front = s.front;
+  later = e.more ++ s.later;
+  many = s.many ∙ ap (λ n. n.number) e.stop;
+  nodes =
+      s.nodes ∙ ap (λ nodes. (s.front ++ nodes) ++ s.later) e.nodes ∙ ap (λ nodes. nodes ++ s.later) (sym (append_assoc s.front a.nodes e.more))
+      ∙ append_assoc (s.front ++ a.nodes) e.more s.later;
 }
 
--- nothing
-pub lays_nothing : {T : ℕ → Type 0} {sites : List ℕ} (a : Builder) (P : List Node → Type 0) → ((nodes : List Node) → P nodes) → LaysWithin T sites a a P
-lays_nothing {sites = sites} a P holds = record {
-  extends = record { more = []; nodes = sym (append-nil a.nodes); stop = refl };
-  labels = refl;
-  continuations = refl;
-  code = λ front many. holds (front ++ a.nodes);
-  keeps = λ most bound are. are;
-  waits = adds_nothing a sites;
-}
-
-pub lays_other : {T : ℕ → Type 0} {sites : List ℕ} {a b : Builder} {P : List Node → Type 0} (Q : List Node → Type 0) → LaysWithin T sites a b P →
-    ((nodes : List Node) → P nodes → Q nodes) → LaysWithin T sites a b Q
-lays_other {b = b} Q l other = record {
-  extends = l.extends;
-  labels = l.labels;
-  continuations = l.continuations;
-  code = λ front many. other (front ++ b.nodes) (l.code front many);
-  keeps = l.keeps;
-  waits = l.waits;
-}
-
--- a bound of which more is asked
-pub bounded : {T : ℕ → Type 0} {sites : List ℕ} {a b : Builder} {P : List Node → Type 0} (U : ℕ → Type 0) → LaysWithin T sites a b P →
-    ((most : ℕ) → U most → T most) → LaysWithin U sites a b P
-bounded U l weaker = record {
-  extends = l.extends;
-  labels = l.labels;
-  continuations = l.continuations;
-  code = l.code;
-  keeps = λ most bound are. l.keeps most (weaker most bound) are;
-  waits = l.waits;
-}
+-- what holds of nodes that were laid holds in it
+pub holds_in : (b : Builder) (g : Graph) (P : List Node → Type 0) → Stays P → StandIn b g → OnFronts b P → P g.nodes
+holds_in b g P stays s laid = subst P (sym s.nodes) (stays (s.front ++ b.nodes) s.later (laid s.front s.many))
 
 pub and_both : (x y : Bool) → IsTrue x → IsTrue y → IsTrue (x && y)
 and_both true y first second = second
 and_both false y first second = cc
 
-pub both_within : (most : ℕ) (xs ys : List Node) → AreWithin most xs → AreWithin most ys → AreWithin most (xs ++ ys)
-both_within most xs ys first second =
-    let test = λ (node : Node). nat_le node.tokens most in
-    subst IsTrue (sym (list_all-append test xs ys)) (and_both (list_all test xs) (list_all test ys) first second)
+-- a test of two lists, together and apart
+module _ {A : Type 0} (test : A → Bool) where
+  pub both_pass : (xs ys : List A) → IsTrue (list_all test xs) → IsTrue (list_all test ys) → IsTrue (list_all test (xs ++ ys))
+  both_pass xs ys first second = subst IsTrue (sym (list_all-append test xs ys)) (and_both (list_all test xs) (list_all test ys) first second)
+
+  pub each_pass : (xs ys : List A) → IsTrue (list_all test (xs ++ ys)) → IsTrue (list_all test xs) × IsTrue (list_all test ys)
+  each_pass xs ys all = and_parts (list_all test xs) (list_all test ys) (subst IsTrue (list_all-append test xs ys) all)
+
+-- ---- pieces
+
+-- where the second piece goes on, once the first is there
+abbrev pub GoOn : (List Node → Type 0) → List NodeId → List NodeId → List NodeId → List NodeId → Type 0
+GoOn P ahead normal on by_normal =
+    (g : Graph) → P g.nodes → AreSteps g ahead → AreCopyIns g normal → AreSteps g on × AreCopyIns g by_normal
+
+-- one piece of code and then another, which stands in front of it
+pub then_lays : {xs ys : List Node} {ks ms ns js : List NodeId} {ss ts : List ℕ} {a b c : Builder} {P Q : List Node → Type 0} (R : List Node → Type 0) →
+    LaysAt ss xs ks ns a b P → LaysAt ts ys ms js b c Q → Stays P → GoOn P ks ns ms js → ((nodes : List Node) → P nodes → Q nodes → R nodes) →
+    LaysAt (ss ++ ts) (ys ++ xs) ks ns a c R
+then_lays {xs = xs} {ys = ys} {ks = ks} {ns = ns} {ss = ss} {ts = ts} {a = a} {b = b} {c = c} {P = P} R first second stays leads joined = record {
+  extends = extends_more first.extends second.extends;
+  labels = second.labels ∙ first.labels;
+  continuations = second.continuations ∙ first.continuations;
+  code = λ front many. joined (front ++ c.nodes) (on_later b c P stays second.extends first.code front many) (second.code front many);
+  keeps = λ x stands holds are.
+      let before = stands_before x.graph second.extends stands in
+      let on = leads x.graph (holds_in b x.graph P stays before first.code) holds.steps holds.copy_ins in
+      let tests = each_pass x.test ys xs holds.test in
+      second.keeps x stands record { test = tests.0; steps = on.0; copy_ins = on.1 }
+      (first.keeps x before record { test = tests.1; steps = holds.steps; copy_ins = holds.copy_ins } are);
+  waits = then_adds a b c ss ts first.waits second.waits;
+}
+
+-- nothing
+pub lays_nothing : {sites : List ℕ} {laid : List Node} {ahead normal : List NodeId} (a : Builder) (P : List Node → Type 0) → ((nodes : List Node) → P nodes) →
+    LaysAt sites laid ahead normal a a P
+lays_nothing {sites = sites} a P holds = record {
+  extends = record { more = []; nodes = sym (append-nil a.nodes); stop = refl };
+  labels = refl;
+  continuations = refl;
+  code = λ front many. holds (front ++ a.nodes);
+  keeps = λ x stands holds are. are;
+  waits = adds_nothing a sites;
+}
+
+pub lays_other : {sites : List ℕ} {xs ys : List Node} {ahead normal : List NodeId} {a b : Builder} {P : List Node → Type 0} (Q : List Node → Type 0) →
+    LaysAt sites xs ahead normal a b P → xs ≡ ys → ((nodes : List Node) → P nodes → Q nodes) → LaysAt sites ys ahead normal a b Q
+lays_other {b = b} Q l same other = record {
+  extends = l.extends;
+  labels = l.labels;
+  continuations = l.continuations;
+  code = λ front many. other (front ++ b.nodes) (l.code front many);
+  keeps = λ x stands holds are.
+      l.keeps x stands record { test = subst (λ laid. IsTrue (list_all x.test laid)) (sym same) holds.test; steps = holds.steps; copy_ins = holds.copy_ins } are;
+  waits = l.waits;
+}
 
 -- one node behind the others
-pub push_keeps : (a b : Builder) (node : Node) → b.nodes ≡ a.nodes ++ node ∷ [] → Keeps (λ most. node.tokens ≤ most) a b
-push_keeps a b node pushed most bound are =
-    let here : IsTrue (nat_le node.tokens most) = grind (arith, nat_tests, bound) in
-    subst (AreWithin most) (sym pushed)
-    (both_within most a.nodes (node ∷ []) are (and_both (nat_le node.tokens most) true here refl))
+push_keeps : (a b : Builder) (node : Node) → b.nodes ≡ a.nodes ++ node ∷ [] → Keeps (Holds (unled node ∷ []) (steps_of node.kind) (normal_of node.kind)) a b
+push_keeps a b node pushed x stands holds are =
+    let test = and_parts (x.test (unled node)) true holds.test in
+    let on : IsTrue (leads_on x.graph node.kind) =
+    and_both (list_all (leads_to x.graph is_step) (steps_of node.kind)) (list_all (leads_to x.graph is_copy_in) (normal_of node.kind)) holds.steps holds.copy_ins in
+    let here : IsTrue (passes x node) = and_both (x.test (unled node)) (leads_on x.graph node.kind) test.0 on in
+    subst (AreAsked x) (sym pushed) (both_pass (passes x) a.nodes (node ∷ []) are (and_both (passes x node) true here refl))
 
 push_waits : (a b : Builder) (node : Node) → b.nodes ≡ a.nodes ++ node ∷ [] → AddsSites (waiting_at node.kind) a b
 push_waits a b node pushed site =
@@ -134,7 +160,7 @@ push_waits a b node pushed site =
     omega (arith, ap (times site) all, times-append site sites here)
 
 pub node_laid : (a : Builder) (nodes : List Node) (node : Node) (n : NodeId) → nodes ≡ a.nodes ++ node ∷ [] → n.number ≡ a.stop.number + length a.nodes →
-    LaysWithin (λ most. node.tokens ≤ most) (waiting_at node.kind) a (record a { nodes = nodes }) (λ nodes. slice_get nodes n.number ≡ Some node)
+    LaysNode node a (record a { nodes = nodes }) n
 node_laid a nodes node n pushed number = record {
   extends = record { more = node ∷ []; nodes = pushed; stop = refl };
   labels = refl;
@@ -153,25 +179,34 @@ if_ok (Ok a) other holds = other a holds
 if_ok (Err e) other holds = holds
 
 -- code that was laid, and then what an answer tells of
-pub lays_after : {A E : Type 0} {T : ℕ → Type 0} {a b : Builder} {P : List Node → Type 0} (c : Builder) (Q R : A → List Node → Type 0) (r : Result A E) →
-    LaysWithin T [] a b P → Stays P → IfOk r (λ n. LaysWithin T [] b c (Q n)) → ((n : A) (nodes : List Node) → P nodes → Q n nodes → R n nodes) →
-    IfOk r (λ n. LaysWithin T [] a c (R n))
-lays_after c Q R r first stays second joined = if_ok r (λ n lays. then_lays (R n) first lays stays (joined n)) second
+pub lays_after : {A E : Type 0} {xs : List Node} (ys zs : List Node) {ks ns : List NodeId} (ms js : List NodeId) {ss : List ℕ} (ts : List ℕ) {a b : Builder} {P : List Node → Type 0} (c : Builder)
+    (Q R : A → List Node → Type 0) (r : Result A E) → LaysAt ss xs ks ns a b P → Stays P → IfOk r (λ n. LaysAt ts ys ms js b c (Q n)) → ys ++ xs ≡ zs →
+    GoOn P ks ns ms js → ((n : A) (nodes : List Node) → P nodes → Q n nodes → R n nodes) → IfOk r (λ n. LaysAt (ss ++ ts) zs ks ns a c (R n))
+lays_after ys zs ms js ts {b = b} c Q R r first stays second same leads joined =
+    if_ok {P = λ n. LaysAt ts ys ms js b c (Q n)} r
+    (λ n lays. lays_other (R n) (then_lays (R n) first lays stays leads (joined n)) same (λ nodes holds. holds)) second
 
 -- what an answer tells of is the code of something else
-pub lays_as : {A E : Type 0} (T : ℕ → Type 0) (sites : List ℕ) (a c : Builder) (Q R : A → List Node → Type 0) (r : Result A E) →
-    IfOk r (λ n. LaysWithin T sites a c (Q n)) → ((n : A) (nodes : List Node) → Q n nodes → R n nodes) → IfOk r (λ n. LaysWithin T sites a c (R n))
-lays_as T sites a c Q R r lays other = if_ok {P = λ n. LaysWithin T sites a c (Q n)} r (λ n l. lays_other (R n) l (other n)) lays
+pub lays_as : {A E : Type 0} (sites : List ℕ) (xs ys : List Node) (ahead normal : List NodeId) (a c : Builder) (Q R : A → List Node → Type 0)
+    (r : Result A E) → IfOk r (λ n. LaysAt sites xs ahead normal a c (Q n)) → xs ≡ ys → ((n : A) (nodes : List Node) → Q n nodes → R n nodes) →
+    IfOk r (λ n. LaysAt sites ys ahead normal a c (R n))
+lays_as sites xs ys ahead normal a c Q R r lays same other =
+    if_ok {P = λ n. LaysAt sites xs ahead normal a c (Q n)} r (λ n l. lays_other (R n) l same (other n)) lays
 
--- and the same where the bounds of both are bounds of another kind
-pub lays_both : {A E : Type 0} {S T : ℕ → Type 0} {xs : List ℕ} (U : ℕ → Type 0) (ys : List ℕ) {a b : Builder} {P : List Node → Type 0} (c : Builder)
-    (Q R : A → List Node → Type 0) (r : Result A E) → LaysWithin S xs a b P → Stays P → IfOk r (λ n. LaysWithin T ys b c (Q n)) →
-    ((most : ℕ) → U most → S most) → ((most : ℕ) → U most → T most) → ((n : A) (nodes : List Node) → P nodes → Q n nodes → R n nodes) →
-    IfOk r (λ n. LaysWithin U (xs ++ ys) a c (R n))
-lays_both {T = T} U ys {b = b} c Q R r first stays second one two joined =
-    if_ok {P = λ n. LaysWithin T ys b c (Q n)} r (λ n lays. then_lays (R n) (bounded U first one) (bounded U lays two) stays (joined n)) second
+-- where control goes on at other nodes
+pub led_one : {sites : List ℕ} {laid : List Node} {ahead normal : List NodeId} (others : List NodeId) {a b : Builder} {P : List Node → Type 0} →
+    LaysAt sites laid ahead normal a b P → ((g : Graph) → AreSteps g others → AreSteps g ahead) → LaysAt sites laid others normal a b P
+led_one others l leads = record {
+  extends = l.extends;
+  labels = l.labels;
+  continuations = l.continuations;
+  code = l.code;
+  keeps = λ x stands holds are. l.keeps x stands record { test = holds.test; steps = leads x.graph holds.steps; copy_ins = holds.copy_ins } are;
+  waits = l.waits;
+}
 
--- one kind of code within bounds of another kind
-pub lays_bounded : {A E : Type 0} {T : ℕ → Type 0} (U : ℕ → Type 0) (sites : List ℕ) (a c : Builder) (Q : A → List Node → Type 0) (r : Result A E) →
-    IfOk r (λ n. LaysWithin T sites a c (Q n)) → ((most : ℕ) → U most → T most) → IfOk r (λ n. LaysWithin U sites a c (Q n))
-lays_bounded {T = T} U sites a c Q r lays weaker = if_ok {P = λ n. LaysWithin T sites a c (Q n)} r (λ n l. bounded U l weaker) lays
+pub led_by : {A E : Type 0} (sites : List ℕ) (laid : List Node) (ahead normal others : List NodeId) (a c : Builder) (Q : A → List Node → Type 0)
+    (r : Result A E) → IfOk r (λ n. LaysAt sites laid ahead normal a c (Q n)) → ((g : Graph) → AreSteps g others → AreSteps g ahead) →
+    IfOk r (λ n. LaysAt sites laid others normal a c (Q n))
+led_by sites laid ahead normal others a c Q r lays leads =
+    if_ok {P = λ n. LaysAt sites laid ahead normal a c (Q n)} r (λ n l. led_one others l leads) lays

@@ -1,5 +1,5 @@
 -- What is laid for statements with what they hold, from what is laid for their parts.
-use Rattle.std.proofs.Common.{◌≡◌, ℕ, ◌≤◌, true, false, None, List, [], ◌∷◌, ◌++◌, length, map, reverse, append-nil, refl, sym, ap, ◌∙◌, subst, arith}
+use Rattle.std.proofs.Common.{◌≡◌, ℕ, true, false, None, List, [], ◌∷◌, ◌++◌, length, map, reverse, append-nil, refl, sym, ap, ◌∙◌, subst, arith}
 use Rattle.std.proofs.lemmas.List.{map-append, reverse-append, reverse-reverse}
 use Rattle.cmm_program.specs.declared.expression.Condition.{Condition}
 use Rattle.cmm_program.specs.declared.expression.Expression.{Expression}
@@ -13,6 +13,8 @@ use Rattle.cmm_graph.specs.declared.node.Arm.{Arm as Way}
 use Rattle.cmm_graph.specs.declared.node.Node.{Node}
 use Rattle.cmm_graph.specs.declared.node.NodeKind.TheVariants as node
 use Rattle.cmm_graph.specs.declared.number.NodeId.{NodeId}
+use Rattle.cmm_graph.specs.Paths.{arm_nodes}
+use Rattle.cmm_graph.specs.Ranges.{is_step, leads_to}
 use Rattle.cmm_flow.specs.declared.builder.Builder.{Builder}
 use Rattle.cmm_flow.specs.Code.{IsNode, OperandCode, TestCode}
 use Rattle.cmm_flow.specs.Operands.{nodes, operand_of}
@@ -20,13 +22,15 @@ use Rattle.cmm_flow.specs.Statements.{FormCode, remaining}
 use Rattle.cmm_flow.specs.inside.Blocks.{is_simple}
 use Rattle.cmm_program.specs.Numbering.{site_number}
 use Rattle.cmm_flow.specs.Waiting.{times, waiting_sites}
-use Rattle.cmm_flow.specs.inside.Laying.{AddsSites, AreWithin, Covers, CoversBoth, Lays, LaysMarked, LaysWithin, SetsMark, label_of}
-use Rattle.cmm_flow.specs.inside.LayingBlocks.{LaysArms, LaysBlock, LaysForm, LaysStatement, arm_sites, block_sites, form_sites, is_within}
+use Rattle.cmm_flow.specs.inside.Laying.{AddsSites, AreAsked, Lays, LaysAt, LaysMarked, SetsMark, label_of}
+use Rattle.cmm_flow.specs.inside.LayingBlocks.{LaysArms, LaysBlock, LaysForm, LaysStatement, arm_sites, block_sites, form_sites, passes_own}
 use Rattle.cmm_flow.specs.inside.Marks.{FrontCode, LeadsBehind, LeadsBehindArms, LeadsBehindForm, LeadsBehindList, OtherwiseCode, PutsArm, WaysCode}
+use Rattle.cmm_flow.specs.inside.Nodes.{goto, nodes_of_form, nodes_of_switch, nodes_of_test}
+use Rattle.cmm_flow.proofs.Begins.{front_begins, one_step, otherwise_begins, two_steps, ways_begin}
 use Rattle.cmm_flow.proofs.Blocks.{after_arm, after_if, after_span, after_switch, arm_code, if_code, no_mark_if, no_mark_span, no_mark_switch, span_code, switch_code}
-use Rattle.cmm_flow.proofs.Covering.{at_most, if_of, span_of, switch_of}
+use Rattle.cmm_flow.proofs.Covering.{if_of, span_of, switch_of}
 use Rattle.cmm_flow.proofs.FormsStay.{front_stays, leads_stay, otherwise_stays, ways_stay}
-use Rattle.cmm_flow.proofs.Laying.{adds_nothing, get_behind, lays_nothing, lays_other, then_adds_before}
+use Rattle.cmm_flow.proofs.Laying.{adds_nothing, both_pass, get_behind, holds_in, lays_nothing, lays_other, stands_before, then_adds_before}
 use Rattle.cmm_flow.proofs.Marking.{lays_marked, ready_later, then_marked}
 use Rattle.cmm_flow.proofs.Marks.{first_leads, form_leads, list_leads}
 use Rattle.cmm_flow.proofs.WaitingSites.{if_sites, simple_sites, span_sites, switch_sites}
@@ -45,9 +49,10 @@ module _ (q : Proc) where
   pub block_none : (a : Builder) (k : NodeId) → LaysBlock a a q [] k k
   block_none a k = record {
     lays = λ count ready.
-        lays_marked (λ nodes. LeadsBehindList q nodes (label_of count) [] k) (lays_nothing {T = λ most. 1 ≤ most} {sites = []} a (λ nodes. k ≡ k) (λ nodes. refl)) (λ nodes l n. refl)
+        lays_marked (λ nodes. LeadsBehindList q nodes (label_of count) [] k)
+        (lays_nothing {sites = []} {laid = []} {ahead = []} {normal = []} a (λ nodes. k ≡ k) (λ nodes. refl)) (λ nodes l n. refl)
         (λ nodes c n. refl);
-    keeps = λ most bound are. are;
+    keeps = λ count ready asked stands when are. are;
     waits = adds_nothing a [];
   }
 
@@ -60,7 +65,15 @@ module _ (q : Proc) where
         (λ mark before after nodes more. leads_stay nodes more q (label_of count) _ k before after)
         (λ nodes front code. (m, code, front))
         (λ nodes mark before between after front code earlier now. list_leads q nodes (label_of count) mark x xs m k before between after front earlier now);
-    keeps = λ most bound are. second.keeps most ((bound.0, at_most x.tokens most bound.1.0.0), bound.1.0.1) (first.keeps most (bound.0, bound.1.1) are);
+    keeps = λ count ready asked stands when are.
+        let g = asked.graph in
+        let later = first.lays count ready in
+        let behind = ready_later later ready in
+        let before = stands_before g (second.lays count behind).extends stands in
+        let front = holds_in b g (λ nodes. FrontCode q nodes (label_of count) xs m k) (λ nodes more. front_stays nodes more q (label_of count) xs m k) before later.code in
+        let on = front_begins g q (label_of count) xs m k front when.0.labels when.0.next in
+        second.keeps count behind asked stands (record { labels = when.0.labels; next = on }, when.1.0.0, when.1.0.1)
+        (first.keeps count ready asked before (when.0, when.1.1) are);
     waits = then_adds_before a b c (block_sites xs) (form_sites x.form) first.waits second.waits;
   }
 
@@ -69,16 +82,16 @@ module _ (q : Proc) where
   pub arms_none : (a : Builder) (k : NodeId) → LaysArms a a q [] [] a.stop k
   arms_none a k = record {
     lays = λ count ready.
-        let laid : Lays a a (λ nodes. WaysCode q nodes (label_of count) [] [] k × OtherwiseCode q nodes (label_of count) [] a.stop k) = record {
+        let laid : Lays [] [] a a (λ nodes. WaysCode q nodes (label_of count) [] [] k × OtherwiseCode q nodes (label_of count) [] a.stop k) = record {
           extends = record { more = []; nodes = sym (append-nil a.nodes); stop = refl };
           labels = refl;
           continuations = refl;
           code = λ front many. (refl, get_behind front a.nodes 0 a.stop.number (omega (arith, many)) ∙ ready.stop);
-          keeps = λ most bound are. are;
+          keeps = λ asked stands holds are. are;
           waits = adds_nothing a [];
         } in
         lays_marked (λ nodes. LeadsBehindArms q nodes (label_of count) [] k) laid (λ nodes l n. refl) (λ nodes c n. refl);
-    keeps = λ most bound are. are;
+    keeps = λ count ready asked stands when are. are;
     waits = adds_nothing a [];
   }
 
@@ -95,14 +108,17 @@ module _ (q : Proc) where
         (λ nodes mark before between after others code earlier now.
         subst (λ o. LeadsBehind q nodes (label_of count) o k before after) (sym (after_arm mark arm arms))
         (first_leads q nodes (label_of count) _ _ k before between after earlier now));
-    keeps = λ most bound are. second.keeps most (bound.0, bound.1.0) (first.keeps most (bound.0, bound.1.1) are);
+    keeps = λ count ready asked stands when are.
+        let behind = ready_later (first.lays count ready) ready in
+        let before = stands_before asked.graph (second.lays count behind).extends stands in
+        second.keeps count behind asked stands (when.0, when.1.0) (first.keeps count ready asked before (when.0, when.1.1) are);
     waits = then_adds_before a b c (arm_sites arms) (block_sites (out-Arm arm).body) first.waits second.waits;
   }
 
   -- ---- forms
 
   pub if_lays : {a b c d : Builder} (tokens : ℕ) (condition : Condition) (then_ otherwise : List Statement) (n held failed k : NodeId) →
-      LaysBlock a b q otherwise failed k → LaysBlock b c q then_ held k → Lays c d (λ nodes. TestCode nodes condition n held failed) →
+      LaysBlock a b q otherwise failed k → LaysBlock b c q then_ held k → Lays (nodes_of_test condition) (held ∷ failed ∷ []) c d (λ nodes. TestCode nodes condition n held failed) →
       LaysForm a d q tokens (form.If condition then_ otherwise) n k
   if_lays {a = a} {b = b} {c = c} {d = d} tokens condition then_ otherwise n held failed k first second third = record {
     lays = λ count ready.
@@ -124,9 +140,21 @@ module _ (q : Proc) where
         (λ nodes mark before between after f test earlier same.
         form_leads q nodes (label_of count) mark (form.If condition then_ otherwise) k before after (no_mark_if mark condition then_ otherwise)
         (subst (LeadsBehind q nodes (label_of count) (after_inside mark (form.If condition then_ otherwise)) k before) (sym same) earlier));
-    keeps = λ most bound are.
-        let inner = if_of (is_within most) condition then_ otherwise bound.1 in
-        third.keeps most bound.0.0.positive (second.keeps most (bound.0.0, inner.0) (first.keeps most (bound.0.0, inner.1) are));
+    keeps = λ count ready asked stands when are.
+        let g = asked.graph in
+        let one = first.lays count ready in
+        let behind = ready_later one ready in
+        let two = second.lays count behind in
+        let in_c = stands_before g third.extends stands in
+        let in_b = stands_before g two.extends in_c in
+        let front = λ (b : Builder) (xs : List Statement) (m : NodeId).
+        holds_in b g (λ nodes. FrontCode q nodes (label_of count) xs m k) (λ nodes more. front_stays nodes more q (label_of count) xs m k) in
+        let begins = λ (xs : List Statement) (m : NodeId) (code : FrontCode q g.nodes (label_of count) xs m k).
+        front_begins g q (label_of count) xs m k code when.0.labels when.0.next in
+        let on = two_steps g held failed (begins then_ held (front c then_ held in_c two.code)) (begins otherwise failed (front b otherwise failed in_b one.code)) in
+        let inner = if_of (passes_own q asked.test) condition then_ otherwise when.2 in
+        third.keeps asked stands record { test = when.1; steps = on; copy_ins = refl }
+        (second.keeps count behind asked in_c (when.0, inner.0) (first.keeps count ready asked in_b (when.0, inner.1) are));
     waits =
         let blocks = then_adds_before a b c (block_sites otherwise) (block_sites then_) first.waits second.waits in
         subst (λ ns. AddsSites ns a d) (sym (if_sites condition then_ otherwise))
@@ -134,7 +162,7 @@ module _ (q : Proc) where
   }
 
   pub span_lays : {a b c : Builder} (tokens : ℕ) (body : List Statement) (n j k : NodeId) → LaysBlock a b q body j k →
-      Lays b c (λ nodes. IsNode nodes n 1 (node.Goto j)) → LaysForm a c q tokens (form.Span body) n k
+      Lays (goto ∷ []) (j ∷ []) b c (λ nodes. IsNode nodes n 1 (node.Goto j)) → LaysForm a c q tokens (form.Span body) n k
   span_lays {a = a} {b = b} {c = c} tokens body n j k first second = record {
     lays = λ count ready.
         then_marked _ _ (first.lays count ready) (lays_marked (λ nodes mark before after. after ≡ before) second (λ nodes l n. refl) (λ nodes c n. refl))
@@ -144,13 +172,20 @@ module _ (q : Proc) where
         form_leads q nodes (label_of count) mark (form.Span body) k before after (no_mark_span mark body)
         (subst (LeadsBehind q nodes (label_of count) (after_inside mark (form.Span body)) k before) (sym same)
         (subst (λ o. LeadsBehind q nodes (label_of count) o k before between) (sym (after_span mark body)) earlier)));
-    keeps = λ most bound are. second.keeps most bound.0.0.positive (first.keeps most (bound.0.0, span_of (is_within most) body bound.1) are);
+    keeps = λ count ready asked stands when are.
+        let g = asked.graph in
+        let one = first.lays count ready in
+        let before = stands_before g second.extends stands in
+        let front = holds_in b g (λ nodes. FrontCode q nodes (label_of count) body j k) (λ nodes more. front_stays nodes more q (label_of count) body j k) before one.code in
+        let on = one_step g j (front_begins g q (label_of count) body j k front when.0.labels when.0.next) in
+        second.keeps asked stands record { test = when.1; steps = on; copy_ins = refl }
+        (first.keeps count ready asked before (when.0, span_of (passes_own q asked.test) body when.2) are);
     waits = subst (λ ns. AddsSites ns a c) (sym (span_sites body)) (then_adds_before a b c (block_sites body) [] first.waits second.waits);
   }
 
   pub switch_lays : {a b c : Builder} (tokens : ℕ) (value : Expression) (arms : List Arm) (to : List Way) (n otherwise k : NodeId) →
       LaysArms a b q arms to otherwise k →
-      LaysWithin (Covers tokens) [] b c (λ all. (j : NodeId) × OperandCode all value 0 n j × IsNode all j (remaining tokens (nodes value)) (node.Switch (operand_of 0 value) to otherwise)) →
+      Lays (nodes_of_switch tokens value) (arm_nodes to ++ otherwise ∷ []) b c (λ all. (j : NodeId) × OperandCode all value 0 n j × IsNode all j (remaining tokens (nodes value)) (node.Switch (operand_of 0 value) to otherwise)) →
       LaysForm a c q tokens (form.Switch value arms) n k
   switch_lays {a = a} {b = b} {c = c} tokens value arms to n otherwise k first second = record {
     lays = λ count ready.
@@ -162,8 +197,18 @@ module _ (q : Proc) where
         form_leads q nodes (label_of count) mark (form.Switch value arms) k before after (no_mark_switch mark value arms)
         (subst (LeadsBehind q nodes (label_of count) (after_inside mark (form.Switch value arms)) k before) (sym same)
         (subst (λ o. LeadsBehind q nodes (label_of count) o k before between) (sym (after_switch mark value arms)) earlier)));
-    keeps = λ most bound are.
-        second.keeps most (bound.0.0.positive, bound.0.1) (first.keeps most (bound.0.0, switch_of (is_within most) value arms bound.1) are);
+    keeps = λ count ready asked stands when are.
+        let g = asked.graph in
+        let one = first.lays count ready in
+        let before = stands_before g second.extends stands in
+        let ways =
+        holds_in b g (λ nodes. WaysCode q nodes (label_of count) arms to k × OtherwiseCode q nodes (label_of count) arms otherwise k)
+        (λ nodes more f. (ways_stay nodes more q (label_of count) arms to k f.0, otherwise_stays nodes more q (label_of count) arms otherwise k f.1)) before one.code in
+        let on =
+        both_pass (leads_to g is_step) (arm_nodes to) (otherwise ∷ []) (ways_begin g q (label_of count) arms to k ways.0 when.0.labels when.0.next)
+        (one_step g otherwise (otherwise_begins g q (label_of count) arms otherwise k ways.1 when.0.labels when.0.next)) in
+        second.keeps asked stands record { test = when.1; steps = on; copy_ins = refl }
+        (first.keeps count ready asked before (when.0, switch_of (passes_own q asked.test) value arms when.2) are);
     waits = subst (λ ns. AddsSites ns a c) (sym (switch_sites value arms)) (then_adds_before a b c (arm_sites arms) [] first.waits second.waits);
   }
 
@@ -199,22 +244,22 @@ module _ (q : Proc) where
       form_leads q nodes label_node mark form k n n other (subst (λ o. LeadsBehind q nodes label_node o k n n) (sym none) refl)
 
   pub simple_lays : {a b : Builder} (tokens : ℕ) (form : Form) (n k : NodeId) → is_simple form ≡ true →
-      LaysWithin (CoversBoth q tokens) (site_number form) a b (λ nodes. (label_node : ℕ → NodeId) → FormCode q nodes label_node tokens form n k) → LaysForm a b q tokens form n k
+      LaysAt (site_number form) (nodes_of_form q tokens form) (k ∷ []) [] a b (λ nodes. (label_node : ℕ → NodeId) → FormCode q nodes label_node tokens form n k) → LaysForm a b q tokens form n k
   simple_lays {a = a} {b = b} tokens form n k is l = record {
     lays = λ count ready.
         lays_marked (λ nodes. LeadsBehindForm q nodes (label_of count) form k)
-        (lays_other (λ nodes. FormCode q nodes (label_of count) tokens form n k) l (λ nodes code. code (label_of count)))
+        (lays_other (λ nodes. FormCode q nodes (label_of count) tokens form n k) l refl (λ nodes code. code (label_of count)))
         (λ nodes i m. let none = simple_label form i is in kept nodes (label_of count) (AtLabel i) form k m none.0 none.1)
         (λ nodes i m. let none = simple_continuation form i is in kept nodes (label_of count) (AtContinuation i) form k m none.0 none.1);
-    keeps = λ most bound are. l.keeps most bound.0 are;
+    keeps = λ count ready asked stands when are. l.keeps asked stands record { test = when.1; steps = one_step asked.graph k when.0.next; copy_ins = refl } are;
     waits = subst (λ ns. AddsSites ns a b) (sym (simple_sites form is)) l.waits;
   }
 
-  pub empty_lays : {a b : Builder} (tokens : ℕ) (n k : NodeId) → Lays a b (λ nodes. IsNode nodes n 1 (node.Goto k)) → LaysForm a b q tokens form.Empty n k
+  pub empty_lays : {a b : Builder} (tokens : ℕ) (n k : NodeId) → Lays (goto ∷ []) (k ∷ []) a b (λ nodes. IsNode nodes n 1 (node.Goto k)) → LaysForm a b q tokens form.Empty n k
   empty_lays tokens n k l = record {
     lays = λ count ready.
         lays_marked (λ nodes. LeadsBehindForm q nodes (label_of count) form.Empty k) l (λ nodes i m. refl) (λ nodes i m. refl);
-    keeps = λ most bound are. l.keeps most bound.0.0.positive are;
+    keeps = λ count ready asked stands when are. l.keeps asked stands record { test = when.1; steps = one_step asked.graph k when.0.next; copy_ins = refl } are;
     waits = l.waits;
   }
 
@@ -222,19 +267,20 @@ module _ (q : Proc) where
   goto_lays a tokens l n k same = record {
     lays = λ count ready.
         lays_marked (λ nodes. LeadsBehindForm q nodes (label_of count) (form.Goto l) k)
-        (lays_nothing {T = λ most. 1 ≤ most} {sites = []} a (λ nodes. n ≡ label_of count l) (λ nodes. same ∙ ap (λ c. label_of c l) ready.labels)) (λ nodes i m. refl) (λ nodes i m. refl);
-    keeps = λ most bound are. are;
+        (lays_nothing {sites = []} {laid = []} {ahead = []} {normal = []} a (λ nodes. n ≡ label_of count l) (λ nodes. same ∙ ap (λ c. label_of c l) ready.labels)) (λ nodes i m. refl) (λ nodes i m. refl);
+    keeps = λ count ready asked stands when are. are;
     waits = adds_nothing a [];
   }
 
   pub label_lays : {a b c : Builder} (tokens l : ℕ) (n k : NodeId) → LaysMarked a b (λ nodes. Unit {0}) (λ nodes. SetsMark (form.Label l) k) →
-      b.nodes ≡ a.nodes → Lays b c (λ nodes. IsNode nodes n 1 (node.Goto k)) → LaysForm a c q tokens (form.Label l) n k
+      b.nodes ≡ a.nodes → Lays (goto ∷ []) (k ∷ []) b c (λ nodes. IsNode nodes n 1 (node.Goto k)) → LaysForm a c q tokens (form.Label l) n k
   label_lays tokens l n k first same second = record {
     lays = λ count ready.
         then_marked _ _ first (lays_marked (λ nodes mark before after. after ≡ before) second (λ nodes i m. refl) (λ nodes i m. refl))
         (λ nodes more f. tt) (λ mark before after nodes more is. is) (λ nodes f is. is)
         (λ nodes mark before between after f is set same. subst (SetsMark (form.Label l) k mark before) (sym same) set);
-    keeps = λ most bound are. second.keeps most bound.0.0.positive (subst (AreWithin most) (sym same) are);
+    keeps = λ count ready asked stands when are.
+        second.keeps asked stands record { test = when.1; steps = one_step asked.graph k when.0.next; copy_ins = refl } (subst (AreAsked asked) (sym same) are);
     waits = λ site. omega (arith, second.waits site, ap (λ nodes. times site (waiting_sites nodes)) same);
   }
 
@@ -251,6 +297,6 @@ module _ (q : Proc) where
           code = λ front many. get_behind front b.nodes 0 b.stop.number (omega (arith, many)) ∙ later.stop;
           marks = first.marks;
         };
-    keeps = λ most bound are. subst (AreWithin most) (sym same) are;
+    keeps = λ count ready asked stands when are. subst (AreAsked asked) (sym same) are;
     waits = λ site. omega (arith, ap (λ nodes. times site (waiting_sites nodes)) same);
   }

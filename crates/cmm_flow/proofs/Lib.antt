@@ -22,6 +22,17 @@ pub mod Flowing
 pub mod Ranges
 pub mod Marks
 pub mod Laying
+pub mod Begins
+pub mod NodeLists
+pub mod NodesPass
+pub mod Least
+pub mod TokensWithin
+pub mod Belongs
+pub mod FormsBelong
+pub mod Bounded
+pub mod Valid
+pub mod Ranged
+pub mod Graphs
 pub mod ExpressionsStay
 pub mod ExpressionForms
 pub mod Values
@@ -57,6 +68,7 @@ pub mod Lacking
 pub mod Numbering
 pub mod Whole
 pub mod RangesCovering
+pub mod Shared
 mod FlowRows
 mod CallRows
 mod LivenessRows

@@ -13,7 +13,7 @@ use Rattle.cmm_graph.specs.declared.operand.Destination.TheVariants as destinati
 use Rattle.cmm_graph.specs.declared.operand.Rvalue.TheVariants as rvalue
 use Rattle.cmm_graph.specs.Paths as paths
 use Rattle.cmm_flow.specs.Code.{to_temporary}
-use Rattle.cmm_flow.specs.Operands.{operand_of, temporary}
+use Rattle.cmm_flow.specs.Operands.{access_tokens, operand_of, temporary}
 use Rattle.cmm_flow.specs.Statements.{AddressesCode, AssignCode, SeveralCode, StoresCode}
 use Rattle.cmm_flow.proofs.LivenessExits.{target_writes}
 use Rattle.cmm_flow.proofs.LivenessExpressions.{into_temporary, operand_piece, some_values, value_piece}
@@ -50,7 +50,7 @@ module _ (g : Graph) (v : ℕ) where
       (λ m is. (joined ∙ is.0, is.1)) (λ m is. (sym joined ∙ is.0, is.1)) both
   stores_piece (lvalue.Memory width aligned a ∷ ls) (e ∷ es) address value n k same code =
       then_piece g v 1 0 0 (omega arith)
-      (quiet_node g v n code.0 1 (kind.Store width aligned (temporary address) (temporary value) code.0) code.1 refl refl)
+      (quiet_node g v n code.0 (access_tokens width aligned) (kind.Store width aligned (temporary address) (temporary value) code.0) code.1 refl refl)
       (stores_piece ls es (suc address) (suc value) code.0 k (omega (arith, same)) code.2)
 
 module _ (q : Proc) (g : Graph) (label_node : ℕ → NodeId) (v : ℕ) where
@@ -86,7 +86,7 @@ module _ (q : Proc) (g : Graph) (label_node : ℕ → NodeId) (v : ℕ) where
       let y = any_read v (operand_of 1 e) in
       let reads = is_among v (read_by address) in
       let value = is_among v (read_by e) in
-      let store = quiet_node g v code.1 k 1 (kind.Store width aligned (operand_of 0 address) (operand_of 1 e) k) code.4 refl refl in
+      let store = quiet_node g v code.1 k (access_tokens width aligned) (kind.Store width aligned (operand_of 0 address) (operand_of 1 e) k) code.4 refl refl in
       let second = operand_piece g v e 1 1 code.0 code.1 (x || false) (λ m. k ≡ m) code.3 (read_as g v (y || (x || false)) (or_turned x y false) store) in
       let first = operand_piece g v address 0 1 n code.0 (value || false) (λ m. k ≡ m) code.2 (read_as g v (x || (value || false)) (or_turned value x false) second) in
       let all = read_as g v (is_among v ((read_by address ++ []) ++ (read_by e ++ [])))

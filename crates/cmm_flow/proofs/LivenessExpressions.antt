@@ -16,7 +16,7 @@ use Rattle.cmm_graph.specs.declared.operand.Destination.{Destination}
 use Rattle.cmm_graph.specs.declared.operand.Rvalue.{Rvalue}
 use Rattle.cmm_graph.specs.declared.operand.Rvalue.TheVariants as rvalue
 use Rattle.cmm_graph.specs.Paths.{operands_of_rvalue, values_of, written_to_destination}
-use Rattle.cmm_flow.specs.Code.{Assigns, IsNode, OperandCode, OperandsCode, PartCode, SameCode, TestCode, TestPart, ValueCode, ValuesCode, operand_in, to_temporary}
+use Rattle.cmm_flow.specs.Code.{Assigns, IsNode, OperandCode, OperandsCode, PartCode, SameCode, TestCode, TestPart, ValueCode, ValuesCode, operand_in, to_temporary, right_tokens}
 use Rattle.cmm_flow.specs.Operands.{arguments_of, is_plain, operand_of, operands_of}
 use Rattle.cmm_flow.proofs.LivenessMembers.{is_among-append, or_among, or_nothing, or_turned}
 use Rattle.cmm_flow.proofs.LivenessPieces.{Piece, any_local, any_operand, any_read, fewer, left_as, node_piece, one_node, read_as, stay, then_either, then_piece}
@@ -34,7 +34,7 @@ module _ (g : Graph) (v : ℕ) where
 
   assigns_piece : (to : Destination) (value : Rvalue) (n k : NodeId) → Assigns g.nodes to value n k →
       Piece g v 1 n (any_operand v (operands_of_rvalue value)) (Written to k)
-  assigns_piece to value n k is = one_node g v n k 1 (Assign to value k) is refl
+  assigns_piece to value n k is = one_node g v n k (right_tokens value) (Assign to value k) is refl
 
   pub into_temporary : (base : ℕ) (n k : NodeId) (r : Bool) → Piece g v 1 n r (Written (to_temporary base) k) → Piece g v 1 n r (λ m. k ≡ m)
   into_temporary base n k r piece = left_as g v (λ m. k ≡ m) (λ m is. is.1) (λ m same. (refl, same)) piece
@@ -79,12 +79,12 @@ module _ (g : Graph) (v : ℕ) where
   mutual
     pub value_piece : (e : Expression) (base : ℕ) (to : Destination) (n k : NodeId) → ValueCode g.nodes e base to n k →
         Piece g v 1 n (is_among v (read_by e)) (Written to k)
-    value_piece (Known value) base to n k node = assigns_piece to _ n k node
+    value_piece (Known value) base to n k node = assigns_piece to (rvalue.Copy (operand_of base (Known value))) n k node
     value_piece (Variable number width) base to n k node =
-        read_as g v (is_among v (number ∷ [])) (or_nothing (is_among v (number ∷ []))) (assigns_piece to _ n k node)
-    value_piece (Register number width) base to n k node = assigns_piece to _ n k node
-    value_piece (Stackdata number) base to n k node = assigns_piece to _ n k node
-    value_piece (Continuation number) base to n k node = assigns_piece to _ n k node
+        read_as g v (is_among v (number ∷ [])) (or_nothing (is_among v (number ∷ []))) (assigns_piece to (rvalue.Copy (operand_of base (Variable number width))) n k node)
+    value_piece (Register number width) base to n k node = assigns_piece to (rvalue.Register record { number = number }) n k node
+    value_piece (Stackdata number) base to n k node = assigns_piece to (rvalue.Copy (operand_of base (Stackdata number))) n k node
+    value_piece (Continuation number) base to n k node = assigns_piece to (rvalue.Copy (operand_of base (Continuation number))) n k node
     value_piece (Load' width aligned _ address) base to n k code =
         alone (is_among v (fold_operand read_step address)) (part_piece address base n code.0 false to k code.1 (last_part address base to (rvalue.Load width aligned (operand_in base address)) code.0 k code.2 refl))
     value_piece (Unary' op width _ a) base to n k code = alone (is_among v (fold_operand read_step a)) (part_piece a base n code.0 false to k code.1 (last_part a base to (rvalue.Unary op width (operand_in base a)) code.0 k code.2 refl))

@@ -1,23 +1,27 @@
 -- A worked row: a procedure in which one variable is live on an unwinding exit alone and one on a cut exit alone. The premises of the laws on
 -- liveness are built for it, and both sides are worked out; and those of the law on what `flow` answers for a program in range.
-use Rattle.std.proofs.Common.{◌≡◌, ℕ, zero, suc, ◌<◌, true, false, List, [], ◌∷◌, map, Some, Contains, refl, ap, sym, ◌∙◌, subst, arith, lit<, lit≤}
+use Rattle.std.proofs.Common.{◌≡◌, ℕ, zero, suc, ◌<◌, ◌&&◌, nat_le, nat_lt, IsTrue, true, false, length, List, [], ◌∷◌, map, Some, Contains, refl, ap, sym, ◌∙◌, subst, arith, lit<, lit≤}
+use Rattle.std.proofs.lemmas.Bool.{and_parts}
 use Rattle.std.proofs.lemmas.List.Elements.{All-cons, All-from_recursion, All-nil}
+use Rattle.std.specs.List.{list_all}
 use Rattle.cmm_words.specs.declared.constant.Constant.TheVariants.{Code}
 use Rattle.cmm_words.specs.declared.width.Width.TheVariants.{W64}
 use Rattle.cmm_program.proofs.Shared.{opened}
-use Rattle.cmm_program.proofs.Shared.{call_site, code, continuation, is, local as variable_of, procedure, program}
+use Rattle.cmm_program.proofs.Shared.{call_site, code, continuation, is, list_all_get, local as variable_of, procedure, program}
 use Rattle.cmm_program.specs.declared.procedure.Proc.{Proc}
 use Rattle.cmm_program.specs.declared.procedure.Site.{Site}
 use Rattle.cmm_program.specs.declared.procedure.Target.TheVariants as target
 use Rattle.cmm_program.specs.declared.program.Program.{Program}
 use Rattle.cmm_program.specs.declared.statement.Form.TheVariants as form
 use Rattle.cmm_program.specs.declared.statement.Statement.{Statement}
-use Rattle.cmm_program.specs.Bodies.{AtContinuation, follow}
-use Rattle.cmm_program.specs.InRange.{IsInRange, IsProcInRange}
+use Rattle.cmm_program.specs.Bodies.{AtContinuation, body_statements, follow}
+use Rattle.cmm_program.specs.InRange.{IsInRange, IsProcInRange, are_passed, at_site, is_call_site, is_form, is_statement}
 use Rattle.cmm_program.specs.Liveness.{is_among, is_live_at, read_in, ways}
 use Rattle.cmm_program.specs.LivePaths as paths
 use Rattle.cmm_program.specs.Numbering.{body_numbers, site_number}
 use Rattle.cmm_program.specs.State.{Setting}
+use Rattle.cmm_program.specs.Tokens.{own_tokens}
+use Rattle.cmm_program.specs.Typing.{has_width}
 use Rattle.cmm_graph.specs.declared.graph.Graph.{Graph}
 use Rattle.cmm_graph.specs.declared.node.Exits.{Exits}
 use Rattle.cmm_graph.specs.declared.node.Node.{Node}
@@ -25,7 +29,7 @@ use Rattle.cmm_graph.specs.declared.node.NodeKind.{NodeKind}
 use Rattle.cmm_graph.specs.declared.node.NodeKind.TheVariants.{Entry, CopyIn, Call, Return, Goto, Stop}
 use Rattle.cmm_graph.specs.declared.number.NodeId.{NodeId}
 use Rattle.cmm_graph.specs.declared.operand.Operand.TheVariants as operand
-use Rattle.cmm_graph.specs.Counterpart.{AreExitsOf, HasSite, IsGraphOf}
+use Rattle.cmm_graph.specs.Counterpart.{AreExitsOf, HasSite, IsGraphOf, names_there}
 use Rattle.cmm_graph.specs.Liveness.{Here, Onward}
 use Rattle.cmm_live.specs.Sites.{IsLiveAt, IsLiveOnCut}
 use Rattle.cmm_flow.specs.Flow.{IsFlow, IsFlowOf, IsLandedAt}
@@ -35,6 +39,7 @@ use Rattle.cmm_flow.specs.Liveness.{IsFlowInRange, site_id, variable}
 use Rattle.cmm_flow.specs.Waiting.{WaitOnce, times, waiting_sites}
 use Rattle.cmm_flow.specs.Statements.{ListCode}
 use Rattle.cmm_flow.proofs.LivenessSets.{sites_keep_liveness}
+use Rattle.cmm_flow.proofs.Belongs.{holds_there, width_is_there}
 use Rattle.cmm_flow.proofs.RangesCovering.{flows_given}
 
 -- ---- the procedure
@@ -193,6 +198,20 @@ waits : waiting_sites graph.nodes ≡ body_numbers site_number f
 unfolding opened
 waits = refl
 
+-- the call names the first procedure of any program in which f is in range
+callee_there : (p : Program) → IsProcInRange p f → nat_lt 0 (length p.procs) ≡ true
+unfolding opened
+callee_there p range =
+    let statement = list_all_get (is_statement p f) (body_statements f) 0 (is 14 (form.Call 0 (code 0) [])) range.body refl in
+    let call = (and_parts (is_form p f (form.Call 0 (code 0) [])) (nat_le (own_tokens f (form.Call 0 (code 0) [])) 14) statement).0 in
+    let both = (and_parts (at_site p f 0 (is_call_site p f) && has_width p f W64 (code 0)) (are_passed p f []) call).0 in
+    let typed = (and_parts (at_site p f 0 (is_call_site p f)) (has_width p f W64 (code 0)) both).1 in
+    holds_there (nat_lt 0 (length p.procs)) W64 (width_is_there p f 0 W64 (code 0) typed)
+
+named : (p : Program) → nat_lt 0 (length p.procs) ≡ true → IsTrue (list_all (λ node. names_there p f node.kind) graph.nodes)
+unfolding opened
+named p less = rw less refl
+
 answer : IsFlow f graph
 answer = record {
   flow = flow;
@@ -201,6 +220,9 @@ answer = record {
   formals = refl;
   continuations = refl;
   waits = λ site. omega (arith, ap (times site) waits);
+  names = λ p range. named p (callee_there p range);
+  nodes = λ p range sites. refl;
+  bounded = λ p range. lit≤ tt;
 }
 
 program_in_range : IsInRange p

@@ -10,7 +10,7 @@ use Rattle.cmm_program.specs.Bodies.{Mark, AtContinuation, AtLabel}
 use Rattle.cmm_graph.specs.declared.node.Node.{Node}
 use Rattle.cmm_graph.specs.declared.number.NodeId.{NodeId}
 use Rattle.cmm_flow.specs.declared.builder.Builder.{Builder}
-use Rattle.cmm_flow.specs.inside.Laying.{Extends, IsReady, LaysMarked, LaysWithin, SetsMark}
+use Rattle.cmm_flow.specs.inside.Laying.{Extends, IsReady, LaysAt, LaysMarked, SetsMark}
 use Rattle.cmm_flow.proofs.Laying.{Stays, extends_more, get_before, on_later}
 
 -- where marks lead
@@ -27,14 +27,9 @@ ready_later {a = a} l r = record {
   stop = ap (λ nodes. slice_get nodes 0) l.extends.nodes ∙ get_before a.nodes l.extends.more 0 _ r.stop;
 }
 
-pub ready_behind : {T : ℕ → Type 0} {sites : List ℕ} {a b : Builder} {P : List Node → Type 0} {count : ℕ} → LaysWithin T sites a b P → IsReady count a → IsReady count b
-ready_behind {a = a} l r = record {
-  labels = ap length l.labels ∙ r.labels;
-  stop = ap (λ nodes. slice_get nodes 0) l.extends.nodes ∙ get_before a.nodes l.extends.more 0 _ r.stop;
-}
-
 -- nodes that leave all marks where they led
-pub lays_marked : {T : ℕ → Type 0} {sites : List ℕ} {a b : Builder} {P : List Node → Type 0} (M : Leads) → LaysWithin T sites a b P →
+pub lays_marked : {sites : List ℕ} {laid : List Node} {ahead normal : List NodeId} {a b : Builder} {P : List Node → Type 0} (M : Leads) →
+    LaysAt sites laid ahead normal a b P →
     ((nodes : List Node) (l : ℕ) (n : NodeId) → M nodes (AtLabel l) n n) → ((nodes : List Node) (k : ℕ) (n : NodeId) → M nodes (AtContinuation k) n n) →
     LaysMarked a b P M
 lays_marked {a = a} {b = b} M l labels continuations = record {

@@ -11,7 +11,7 @@ use Rattle.cmm_graph.specs.declared.operand.Operand.{Operand}
 use Rattle.cmm_graph.specs.declared.operand.Operand.TheVariants as operand
 use Rattle.cmm_graph.specs.GraphControl.{held_by}
 use Rattle.cmm_graph.specs.Values.{operand_value}
-use Rattle.cmm_flow.specs.Operands.{is_plain, node_step, nodes, operand_of, temporary}
+use Rattle.cmm_flow.specs.Operands.{extra_tokens, is_plain, node_step, nodes, operand_of, temporary}
 
 -- what an expression that is an operand itself gives
 pub plain_value : (temporaries : Temporary → ℕ) (base : ℕ) (r : Reads) (e : Expression) → is_plain e ≡ true →
@@ -59,7 +59,7 @@ value_kept base limit temporaries others r e less same = operand_kept base limit
 abbrev mutual
   -- the nodes of an expression's value but the last one
   pub inner : Expression → ℕ
-  inner (Load' width aligned _ address) = fold_operand node_step address
+  inner (Load' width aligned _ address) = fold_operand node_step address + extra_tokens width aligned
   inner (Unary' op width _ a) = fold_operand node_step a
   inner (Binary' op width _ a _ b) = fold_operand node_step a + fold_operand node_step b
   inner (SignExtend' from to _ a) = fold_operand node_step a
@@ -77,7 +77,7 @@ nodes_inner (Stackdata number) is = grind (arith, is)
 nodes_inner (Continuation number) is = grind (arith, is)
 nodes_inner (ZeroExtend' from to _ (more_of-Expression a rest)) is = nodes_inner a is
 nodes_inner (Register number width) is = refl
-nodes_inner (Load' width aligned _ (more_of-Expression a rest)) is = refl
+nodes_inner (Load' width aligned _ (more_of-Expression a rest)) is = omega arith
 nodes_inner (Unary' op width _ (more_of-Expression a rest)) is = refl
 nodes_inner (Binary' op width _ (more_of-Expression a rest) _ (more_of-Expression b more)) is = refl
 nodes_inner (SignExtend' from to _ (more_of-Expression a rest)) is = refl

@@ -1,5 +1,5 @@
 -- Code of statements that leave their procedure, or wait at a site: that it stays where more nodes are laid, and how it is made of its parts.
-use Rattle.std.proofs.Common.{◌≡◌, ℕ, suc, ◌+◌, Bool, true, false, List, [], ◌∷◌, ◌++◌, refl, map, length, slice_get, Option, Some, None, sym, ap, ◌∙◌, add-one}
+use Rattle.std.proofs.Common.{◌≡◌, ℕ, suc, ◌+◌, Bool, true, false, List, [], ◌∷◌, ◌++◌, refl, map, length, slice_get, Option, Some, None, sym, ap, ◌∙◌, subst, add-one}
 use Rattle.cmm_program.specs.declared.expression.Expression.{Expression}
 use Rattle.cmm_program.specs.declared.procedure.Proc.{Proc}
 use Rattle.cmm_program.specs.declared.procedure.Site.{Site}
@@ -14,9 +14,9 @@ use Rattle.cmm_graph.specs.declared.node.NodeKind.{NodeKind}
 use Rattle.cmm_graph.specs.declared.node.NodeKind.TheVariants.{Call, Yield, Jump, Cut, Return, CopyIn}
 use Rattle.cmm_flow.specs.Operands.{arguments_of, nodes, nodes_of_all, operand_of, operands_of}
 use Rattle.cmm_flow.specs.Code.{IsNode, OperandsCode}
-use Rattle.cmm_flow.specs.Statements.{CallCode, CutCode, JumpCode, ExitsCode, ReturnCode, YieldCode, normal_tokens, remaining}
+use Rattle.cmm_flow.specs.Statements.{CallCode, CutCode, JumpCode, ExitsCode, NormalExit, ReturnCode, YieldCode, normal_tokens, remaining}
 use Rattle.cmm_flow.specs.inside.Counts.{capped}
-use Rattle.cmm_flow.specs.inside.Passing.{PassingCode}
+use Rattle.cmm_flow.specs.inside.Passing.{ExitsLead, IsCopyIn, IsNormal, PassingCode}
 use Rattle.cmm_flow.proofs.ExpressionsStay.{node_stays}
 
 -- ---- it stays
@@ -43,6 +43,25 @@ normal_by nodes more site normal k false is = with_node nodes more normal _ _ is
 pub exits_stay : (nodes more : List Node) (site : Option Site) (exits : Exits) (k : NodeId) → ExitsCode nodes site exits k → ExitsCode (nodes ++ more) site exits k
 exits_stay nodes more None exits k is = is
 exits_stay nodes more (Some site) exits k is = (is.0, normal_by nodes more site exits.normal k site.never is.1)
+
+-- a normal exit leads to its CopyIn
+pub normal_stays : (nodes more : List Node) (normal : Option NodeId) → IsNormal nodes normal → IsNormal (nodes ++ more) normal
+normal_stays nodes more None is = is
+normal_stays nodes more (Some n) is = record { tokens = is.tokens; to = is.to; next = is.next; node = node_stays nodes more n _ _ is.node }
+
+pub lead_stays : (nodes more : List Node) (site : Option Site) (exits : Exits) (k : NodeId) → ExitsLead nodes site exits k → ExitsLead (nodes ++ more) site exits k
+lead_stays nodes more site exits k is = (exits_stay nodes more site exits k is.0, normal_stays nodes more exits.normal is.1)
+
+pub normal_there : (nodes : List Node) (site : Site) (normal : Option NodeId) (k : NodeId) → NormalExit nodes site normal k → IsNormal nodes normal
+normal_there nodes site normal k is = by site.never is
+  where
+    by : (b : Bool) →
+        elim b as (λ _. Type 0) [ true ↦ normal ≡ None | false ↦ (j : NodeId) × (normal ≡ Some j) × IsNode nodes j (suc (length site.results)) (CopyIn site.results k) ] →
+        IsNormal nodes normal
+    by true none = subst (IsNormal nodes) (sym none) tt
+    by false (j, at, node) =
+        let there : IsCopyIn nodes j = record { tokens = suc (length site.results); to = site.results; next = k; node = node } in
+        subst (IsNormal nodes) (sym at) there
 
 -- ---- the tokens of a normal exit
 

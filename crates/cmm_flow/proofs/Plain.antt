@@ -1,5 +1,5 @@
 -- Statements that are passed in silence: branches, blocks, labels and assignments.
-use Rattle.std.proofs.Common.{◌≡◌, ℕ, zero, suc, ◌+◌, max, Bool, true, false, Ok, Option, Some, None, List, ◌∷◌, ◌++◌, map, slice_get, refl, ap, sym, subst, arith}
+use Rattle.std.proofs.Common.{is_some, ◌≡◌, ℕ, zero, suc, ◌+◌, max, Bool, true, false, Ok, Option, Some, None, List, ◌∷◌, ◌++◌, map, slice_get, refl, ap, sym, subst, arith}
 use Rattle.cmm_laws.specs.Observed.{store_seen}
 use Rattle.cmm_program.specs.declared.expression.Condition.{Condition}
 use Rattle.cmm_program.specs.declared.expression.Expression.{Expression}
@@ -101,13 +101,17 @@ module _ {r : Run} (y : Youngest r) (q : Proc) (flow : IsFlowOf q y.graph) (stor
   switch_goes temporaries n tokens value to otherwise v node is =
       subst (Goes r (store_seen store) 1 (max 1 tokens) (at y store temporaries n)) (by (slice_get to (arm_way to v)))
       (passes_one y store store temporaries n tokens (Switch value to otherwise) (order.Choose (arm_way to v)) (arm_way to v) running node
-      (ap (λ t. and_then (and_then t (λ v. Ok (arm_way to v))) (λ way. Ok (order.Choose way))) is) refl running refl)
+      (ap (λ t. and_then (and_then t (λ v. Ok (arm_way to v))) (λ way. Ok (order.Choose way))) is) refl running refl (leads (slice_get to 0)))
     where
       by : (o : Option Arm) →
           record { store = store; controls = moved_to (elim o [ Some arm ↦ Some arm.to | None ↦ Some otherwise ]) (place y temporaries n) ∷ y.older }
           ≡ at y store temporaries (elim o [ Some arm ↦ arm.to | None ↦ otherwise ])
       by (Some arm) = refl
       by None = refl
+
+      leads : (o : Option Arm) → is_some (elim o as (λ _. Option NodeId) [ Some arm ↦ Some arm.to | None ↦ Some otherwise ]) ≡ true
+      leads (Some arm) = refl
+      leads None = refl
 
   pub switch_passes : {i : Count} (value : Expression) (arms : Row_of-Arm i) (rest : List Statement) (temporaries : Temporary → ℕ) (n j : NodeId) (to : List Arm)
       (otherwise k : NodeId) (tokens v way : ℕ) → value_of value (reads_of r.setting store) ≡ Ok v → arm_for (branches arms) v ≡ Some way →

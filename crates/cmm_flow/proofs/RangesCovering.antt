@@ -1,5 +1,5 @@
 -- A procedure in range has tokens for each of its parts, so what `flow` answers for a program in range are its flows.
-use Rattle.std.proofs.Common.{◌≡◌, ℕ, suc, ◌+◌, ◌<◌, ◌≤◌, ◌==◌, ◌&&◌, ◌||◌, nat_le, nat_lt, Bool, true, false, IsTrue, filter, flat_map, Option, Some, None, List, [], ◌∷◌, ◌++◌, get_or, length, slice_get, take, refl, ap, sym, ◌∙◌, subst, arith}
+use Rattle.std.proofs.Common.{◌≡◌, ℕ, ◌+◌, ◌<◌, ◌≤◌, ◌==◌, ◌&&◌, ◌||◌, nat_le, nat_lt, Bool, true, false, IsTrue, filter, flat_map, Option, Some, None, List, [], ◌∷◌, ◌++◌, get_or, length, slice_get, take, refl, ap, sym, ◌∙◌, subst, arith}
 use Rattle.std.proofs.lemmas.Bool.{and_parts, eqb-true}
 use Rattle.std.proofs.lemmas.List.{take_more}
 use Rattle.std.proofs.lemmas.List.Sums.{sum_by-cons}
@@ -30,20 +30,13 @@ use Rattle.cmm_words.specs.declared.width.Width.{Width}
 use Rattle.cmm_graph.specs.declared.graph.Graph.{Graph}
 use Rattle.cmm_flow.specs.Flow.{CoversParts, HasTokens, IsFlow, IsFlowOf}
 use Rattle.cmm_flow.specs.Laws.{AnswersAreFlows, AreFlows}
-use Rattle.cmm_flow.proofs.Covering.{at_most, test_at_most, test_less}
+use Rattle.cmm_flow.proofs.Covering.{at_most, each_passes, test_at_most, test_less}
 use Rattle.cmm_flow.proofs.Laying.{and_both}
 use Rattle.cmm_flow.proofs.LivenessMembers.{is_among-append, or_nothing}
 use Rattle.cmm_flow.proofs.LivenessWaiting.{counted_among, each_tested}
 use Rattle.cmm_flow.proofs.Ranges.{range_is_counted}
 
--- ---- tests of lists
-
-each_passes : {A : Type 0} (test : A → Bool) (xs : List A) → ((n : ℕ) (x : A) → slice_get xs n ≡ Some x → IsTrue (test x)) → IsTrue (list_all test xs)
-each_passes test [] passes = refl
-each_passes test (x ∷ xs) passes =
-    let first = passes 0 x refl in
-    let later = each_passes test xs (λ n y is. passes (suc n) y is) in
-    and_both (test x) (list_all test xs) first later
+-- ---- statements with numbers
 
 -- a number that statements have is that of one of them, which passes what all pass
 module _ (number : Form → List ℕ) (test : Statement → Bool) (n : ℕ) where
@@ -163,7 +156,7 @@ module _ (p : Program) (q : Proc) where
     pub range_covers : CoversParts q
     range_covers = record {
       sites = record {
-        positive = omega (arith, range.shortest);
+        accesses = omega (arith, range.shortest);
         results = each_passes (λ (site : Site). nat_lt (length site.results) q.tokens) q.sites (λ n site is.
             let found = paid_by site_number (length q.sites) n range.sites_numbered (slice_get_within q.sites n site is) in
             test_less (length site.results) q.tokens (omega (arith, site_paid found.0.form n site found.1 is found.2, found.3)));

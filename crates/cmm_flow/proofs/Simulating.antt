@@ -1,5 +1,5 @@
 -- Each step of the C-- machine is a path over the graphs.
-use Rattle.std.proofs.Common.{◌≡◌, ℕ, ◌≤◌, max, nat_le, Bool, true, false, Ok, Err, Option, Some, None, List, [], ◌∷◌, slice_get, refl, ap, sym, ◌∙◌, subst, arith}
+use Rattle.std.proofs.Common.{◌≡◌, ℕ, ◌+◌, ◌≤◌, max, nat_le, Bool, true, false, Ok, Err, Option, Some, None, List, [], ◌∷◌, slice_get, refl, ap, sym, ◌∙◌, subst, arith}
 use Rattle.std.proofs.lemmas.Bool.{and_parts}
 use Rattle.std.proofs.lemmas.Bool.Decides.{nat_tests}
 use Rattle.cmm_following.proofs.Paths.{joined, one_step, weaker}
@@ -40,7 +40,7 @@ use Rattle.cmm_flow.specs.Relation.{AreCounted, AreGoing, AreRelated, AreWaiting
 use Rattle.cmm_flow.proofs.Arriving.{counted_in, instead_related, kind_there, landed_by, stands_at, zipped_back}
 use Rattle.cmm_flow.proofs.Client.{answered_related}
 use Rattle.cmm_flow.proofs.Costs.{form_counted}
-use Rattle.cmm_flow.proofs.Counting.{longest_is, longest_positive, rest_counted}
+use Rattle.cmm_flow.proofs.Counting.{longest_is, rest_counted}
 use Rattle.cmm_flow.proofs.Done.{Asks, Finally, IsDone, Passes as PassesTo, Quietly}
 use Rattle.cmm_flow.proofs.Expressions.{bound}
 use Rattle.cmm_flow.proofs.Forms.{form_cost, form_done}
@@ -95,8 +95,8 @@ module _ (r : Run) (flows : AreFlows r.setting r.graphs) where
   -- ---- costs
 
   -- no node has more tokens than the longest procedure
-  dearest : (b : State Position) → r.cost b ≤ longest s.program
-  dearest b = let least = longest_positive s.program.procs in omega (arith, r.cheap b, by b.controls)
+  dearest : (b : State Position) → r.cost b ≤ longest s.program + r.more
+  dearest b = omega (arith, r.costs.resting b, by b.controls)
     where
       by_node : (g : Graph) (q : ℕ) → slice_get r.graphs q ≡ Some g → (n : NodeId) (o : Option Node) → node_of g n ≡ o →
           elim o as (λ _. ℕ) [ Some node ↦ node.tokens | None ↦ 0 ] ≤ longest s.program
@@ -175,7 +175,7 @@ module _ (r : Run) (flows : AreFlows r.setting r.graphs) where
     }
 
     abbrev StepLeads : State Position → Type 0
-    StepLeads b = Leads (machine r) r.cost (Passes A (machine r) first) (Rel (A.step first)) 1 (longest s.program) b
+    StepLeads b = Leads (machine r) r.cost (Passes A (machine r) first) (Rel (A.step first)) 1 (longest s.program + r.more) b
 
     -- through the whole statement in silence
     quietly_leads : (way : ℕ) (after : Store) → A.step first ≡ transferred (todo_control s.program) s (Stay way after) (todo ∷ ts) → Leaves store after →
@@ -229,9 +229,9 @@ module _ (r : Run) (flows : AreFlows r.setting r.graphs) where
         let events : A.asks first ≡ (machine r).asks last =
         ap (λ status. event_at s status store (next_act (todo_control s.program) (todo ∷ ts))) running ∙ ap (event_at s Running store) does ∙ sym asks.event
         ∙ ap (event_at s Running store) (sym next) ∙ ap (λ status. event_at s status store (next_act (graph_control r.graphs) (here ∷ cs))) (sym running) in
-        let end = same_step first last refl events both (max 1 asks.tokens) (cost_is young store asks.then_ asks.to asks.tokens asks.kind asks.node) in
+        let end = same_step first last refl events both (max 1 asks.tokens + r.more) (cost_is young store asks.then_ asks.to asks.tokens asks.kind running asks.node) in
         joined {Q = λ v. v ≡ last} {l = 0} {m = asks.before} (weaker asks.path quiet_passes (λ v is. is) (omega arith) (λ n within. within))
-        (λ v is. subst (λ v. Leads (machine r) r.cost (Passes A (machine r) first) (Rel (A.step first)) 1 (max 1 asks.tokens) v) (sym is) end) (omega arith)
+        (λ v is. subst (λ v. Leads (machine r) r.cost (Passes A (machine r) first) (Rel (A.step first)) 1 (max 1 asks.tokens + r.more) v) (sym is) end) (omega arith)
         (omega (arith, asks.within, counted_form))
 
     -- by what the statement comes to
@@ -273,12 +273,12 @@ module _ (r : Run) (flows : AreFlows r.setting r.graphs) where
 
   going_leads : (store : Store) → store.status ≡ Running → (as_ : List Activation) → store.activations ≡ as_ → (ts : List Todo) (cs : List Position) →
       AreGoing s.program r.graphs as_ ts cs → let a : State Todo = record { store = store; controls = ts } in A.wrong (A.step a) ≡ false →
-      Leads (machine r) r.cost (Passes A (machine r) a) (Rel (A.step a)) 1 (longest s.program) (record { store = store; controls = cs })
+      Leads (machine r) r.cost (Passes A (machine r) a) (Rel (A.step a)) 1 (longest s.program + r.more) (record { store = store; controls = cs })
   going_leads store running (a ∷ older) are (t ∷ ts) (c ∷ cs) goes right = by t.procedure t.rest goes.0 right
     where
       by : (n : ℕ) (rest : List Statement) → StandsFor s.program r.graphs a (record { procedure = n; rest = rest }) c →
           let a : State Todo = record { store = store; controls = record { procedure = n; rest = rest } ∷ ts } in A.wrong (A.step a) ≡ false →
-          Leads (machine r) r.cost (Passes A (machine r) a) (Rel (A.step a)) 1 (longest s.program) (record { store = store; controls = c ∷ cs })
+          Leads (machine r) r.cost (Passes A (machine r) a) (Rel (A.step a)) 1 (longest s.program + r.more) (record { store = store; controls = c ∷ cs })
       by n [] stands right = grind (arith, nothing_left store n ts running, right)
       by n (x ∷ rest) stands right = running_leads store running n x rest ts c cs a older are stands goes.1 right
   going_leads store running [] are ts cs goes right = elim goes [ ]
@@ -287,7 +287,7 @@ module _ (r : Run) (flows : AreFlows r.setting r.graphs) where
 
   waiting_leads : (values : List ℕ) (store : Store) → store.status ≡ Waiting values → (ts : List Todo) (cs : List Position) →
       AreWaiting s.program r.graphs store.activations ts cs → let a : State Todo = record { store = store; controls = ts } in
-      Leads (machine r) r.cost (Passes A (machine r) a) (Rel (A.step a)) 1 (longest s.program) (record { store = store; controls = cs })
+      Leads (machine r) r.cost (Passes A (machine r) a) (Rel (A.step a)) 1 (longest s.program + r.more) (record { store = store; controls = cs })
   waiting_leads values store is ts cs waiting =
       let a : State Todo = record { store = store; controls = ts } in
       let b : State Position = record { store = store; controls = cs } in
@@ -295,35 +295,35 @@ module _ (r : Run) (flows : AreFlows r.setting r.graphs) where
       let second : transferred (graph_control r.graphs) s (answered s values store) cs ≡ (machine r).step b = grind (arith, is) in
       let related = answered_related s r.graphs flows ts cs values store waiting in
       same_step a b refl (grind (arith, is)) (subst (λ st. Rel st ((machine r).step b)) first (subst (λ u. Rel (transferred (todo_control s.program) s (answered s values store) ts) u) second related))
-      (longest s.program) (dearest b)
+      (longest s.program + r.more) (dearest b)
 
   over_leads : (outcome : Outcome) (a : State Todo) (b : State Position) → a.store.status ≡ Ended outcome → Rel a b →
-      Leads (machine r) r.cost (Passes A (machine r) a) (Rel (A.step a)) 1 (longest s.program) b
+      Leads (machine r) r.cost (Passes A (machine r) a) (Rel (A.step a)) 1 (longest s.program + r.more) b
   over_leads outcome a b is related =
       let first : a ≡ A.step a = grind (arith, is) in
       let second : b ≡ (machine r).step b = grind (arith, is, related.store) in
       same_step a b related.store (grind (arith, is, related.store)) (subst (λ st. Rel st ((machine r).step b)) first (subst (λ u. Rel a u) second related))
-      (longest s.program) (dearest b)
+      (longest s.program + r.more) (dearest b)
 
   related_leads : (a : State Todo) (b : State Position) → Rel a b → A.wrong (A.step a) ≡ false →
-      Leads (machine r) r.cost (Passes A (machine r) a) (Rel (A.step a)) 1 (longest s.program) b
+      Leads (machine r) r.cost (Passes A (machine r) a) (Rel (A.step a)) 1 (longest s.program + r.more) b
   related_leads a b related right = by a.store.status refl related.controls
     where
       here : record { store = a.store; controls = b.controls } ≡ b
       here = ap (λ store. record { store = store; controls = b.controls }) related.store
 
       by : (status : Status) → a.store.status ≡ status → AreRelated s.program r.graphs status a.store.activations a.controls b.controls →
-          Leads (machine r) r.cost (Passes A (machine r) a) (Rel (A.step a)) 1 (longest s.program) b
+          Leads (machine r) r.cost (Passes A (machine r) a) (Rel (A.step a)) 1 (longest s.program + r.more) b
       by Running is controls =
-          subst (Leads (machine r) r.cost (Passes A (machine r) a) (Rel (A.step a)) 1 (longest s.program)) here
+          subst (Leads (machine r) r.cost (Passes A (machine r) a) (Rel (A.step a)) 1 (longest s.program + r.more)) here
           (going_leads a.store is a.store.activations refl a.controls b.controls controls right)
       by (Waiting values) is controls =
-          subst (Leads (machine r) r.cost (Passes A (machine r) a) (Rel (A.step a)) 1 (longest s.program)) here (waiting_leads values a.store is a.controls b.controls controls)
+          subst (Leads (machine r) r.cost (Passes A (machine r) a) (Rel (A.step a)) 1 (longest s.program + r.more)) here (waiting_leads values a.store is a.controls b.controls controls)
       by (Ended outcome) is controls = over_leads outcome a b is related
       by (Wrong error) is controls = grind (arith, is, right)
 
-  -- the law, at any costs that are at most the tokens of nodes
-  pub run_simulates : Simulates A (λ _. longest s.program) (machine r) r.cost Rel
+  -- the law, at any such costs
+  pub run_simulates : Simulates A (λ _. longest s.program + r.more) (machine r) r.cost Rel
   run_simulates = record { level = λ a b related. level_by a b a.store.status related.store refl; leads = related_leads }
 
   -- both start related

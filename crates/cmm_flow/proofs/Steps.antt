@@ -1,5 +1,5 @@
 -- Steps of the graph machine that are passed in silence: where one leads, and that it shows nothing.
-use Rattle.std.proofs.Common.{◌≡◌, ℕ, ◌+◌, ◌≤◌, max, List, ◌∷◌, false, slice_get, Ok, Some, None, refl, sym, ap, subst, arith}
+use Rattle.std.proofs.Common.{◌≡◌, ℕ, ◌+◌, ◌≤◌, max, List, ◌∷◌, true, false, is_some, slice_get, Ok, Some, None, refl, sym, ap, ◌∙◌, subst, arith}
 use Rattle.cmm_following.proofs.Paths.{one_step, joined, weaker}
 use Rattle.cmm_following.specs.Machine.{Machine}
 use Rattle.cmm_following.specs.Seen.{Seen}
@@ -19,15 +19,17 @@ use Rattle.cmm_graph.specs.declared.number.NodeId.{NodeId}
 use Rattle.cmm_graph.specs.declared.number.Temporary.{Temporary}
 use Rattle.cmm_graph.specs.Acting.{act_of, led}
 use Rattle.cmm_graph.specs.GraphControl.{Position, graph_control, keeping, kind_at, moved_to, temporaries_after}
-use Rattle.cmm_graph.specs.GraphMachine.{graph_step, tokens_at, tokens_of_youngest}
+use Rattle.cmm_graph.specs.GraphMachine.{graph_step, tokens_at}
 use Rattle.cmm_flow.specs.Code.{IsNode}
+use Rattle.cmm_flow.specs.Laws.{AreCosts}
 
--- a run over graphs: the costs of its steps are at most the tokens of nodes
+-- a run over graphs, and what its steps cost
 pub record Run : Type 0 where
   pub graphs : List Graph
   pub setting : Setting
   pub cost : State Position → ℕ
-  pub cheap : (u : State Position) → cost u ≤ max 1 (tokens_of_youngest graphs u)
+  pub more : ℕ
+  pub costs : AreCosts setting graphs cost more
 
 abbrev pub machine : Run → Machine (State Position) ℕ Call Ending
 machine r = machine_of (graph_control r.graphs) r.setting
@@ -65,10 +67,16 @@ module _ {r : Run} (y : Youngest r) where
       tokens_at r.graphs (place temporaries n) ≡ tokens
   tokens_are temporaries n tokens kind node = grind (arith, y.is_graph, node)
 
-  pub cost_is : (store : Store) (temporaries : Temporary → ℕ) (n : NodeId) (tokens : ℕ) (kind : NodeKind) → IsNode y.graph.nodes n tokens kind →
-      r.cost (at store temporaries n) ≤ max 1 tokens
-  cost_is store temporaries n tokens kind node =
-      subst (λ k. r.cost (at store temporaries n) ≤ max 1 k) (tokens_are temporaries n tokens kind node) (r.cheap (at store temporaries n))
+  pub cost_is : (store : Store) (temporaries : Temporary → ℕ) (n : NodeId) (tokens : ℕ) (kind : NodeKind) → store.status ≡ Running →
+      IsNode y.graph.nodes n tokens kind → r.cost (at store temporaries n) ≤ max 1 tokens + r.more
+  cost_is store temporaries n tokens kind running node =
+      subst (λ k. r.cost (at store temporaries n) ≤ max 1 k + r.more) (tokens_are temporaries n tokens kind node) (r.costs.running (at store temporaries n) running)
+
+  leading_cost : (store : Store) (temporaries : Temporary → ℕ) (n : NodeId) (tokens : ℕ) (kind : NodeKind) → store.status ≡ Running →
+      IsNode y.graph.nodes n tokens kind → is_some (led 0 kind) ≡ true → r.cost (at store temporaries n) ≤ max 1 tokens
+  leading_cost store temporaries n tokens kind running node leads =
+      subst (λ k. r.cost (at store temporaries n) ≤ max 1 k) (tokens_are temporaries n tokens kind node)
+      (r.costs.leading (at store temporaries n) running (ap (λ kind. is_some (led 0 kind)) (kind_is n tokens kind node) ∙ leads))
 
   -- where a node leads by a way
   abbrev pub led_to : Store → (Temporary → ℕ) → NodeId → NodeKind → ℕ → State Position
@@ -91,20 +99,20 @@ module _ {r : Run} (y : Youngest r) where
       store.status ≡ Running → IsNode y.graph.nodes n tokens kind →
       evaluated (reads_of r.setting store) (act_of (keeping (place temporaries n)) kind) ≡ Ok order →
       perform r.setting order store ≡ Ok (Stay way after) → after.status ≡ Running →
-      event_at r.setting Running store (act_of (keeping (place temporaries n)) kind) ≡ None →
+      event_at r.setting Running store (act_of (keeping (place temporaries n)) kind) ≡ None → is_some (led 0 kind) ≡ true →
       Goes r (store_seen after) 1 (max 1 tokens) (at store temporaries n) (led_to after temporaries n kind way)
-  passes_one store after temporaries n tokens kind order way running node is performs runs silent =
+  passes_one store after temporaries n tokens kind order way running node is performs runs silent leads =
       let steps = step_is store after temporaries n tokens kind order way running node is performs in
       one_step (record {
         shows = ap (λ u. (machine r).seen u) steps;
         asks = grind (arith, running, kind_is n tokens kind node, silent);
         right = grind (arith, steps, runs);
-      }) steps (cost_is store temporaries n tokens kind node)
+      }) steps (leading_cost store temporaries n tokens kind running node leads)
 
   -- a node that does nothing
   pub goto_goes : (store : Store) (temporaries : Temporary → ℕ) (n k : NodeId) → store.status ≡ Running → IsNode y.graph.nodes n 1 (Goto k) →
       Goes r (store_seen store) 1 1 (at store temporaries n) (at store temporaries k)
-  goto_goes store temporaries n k running node = passes_one store store temporaries n 1 (Goto k) order.Nothing 0 running node refl refl running refl
+  goto_goes store temporaries n k running node = passes_one store store temporaries n 1 (Goto k) order.Nothing 0 running node refl refl running refl refl
 
 -- one path and then another
 pub and_goes : {r : Run} {shown : Seen ℕ} {l m n o least most : ℕ} {t u v : State Position} → Goes r shown l m t u → Goes r shown n o u v →

@@ -12,24 +12,24 @@ use Rattle.cmm_graph.specs.declared.node.NodeKind.TheVariants.{Assign, Branch}
 use Rattle.cmm_flow.specs.Operands.{operand_of}
 use Rattle.cmm_graph.specs.declared.operand.Destination.{Destination}
 use Rattle.cmm_graph.specs.declared.operand.Rvalue.{Rvalue}
-use Rattle.cmm_flow.specs.Code.{IsNode, ValueCode, SameCode, OperandCode, OperandsCode, CompareCode}
+use Rattle.cmm_flow.specs.Code.{IsNode, ValueCode, SameCode, OperandCode, OperandsCode, CompareCode, right_tokens}
 use Rattle.cmm_flow.specs.inside.Parts.{TwoCode, PartsCode, PartsCodeIn, rvalue_of, rvalue_in}
 
 module _ (nodes : List Node) (base : ℕ) (to : Destination) (n m k : NodeId) where
   abbrev Computes : Rvalue → Type 0
-  Computes value = IsNode nodes m 1 (Assign to value k)
+  Computes value = IsNode nodes m (right_tokens value) (Assign to value k)
 
   -- where there are no operands, the first node is the last
-  alone : (value : Rvalue) → n ≡ m → Computes value → IsNode nodes n 1 (Assign to value k)
+  alone : (value : Rvalue) → n ≡ m → Computes value → IsNode nodes n (right_tokens value) (Assign to value k)
   alone value same is = ap (λ i. slice_get nodes i.number) same ∙ is
 
   mutual
     pub value_code : (e : Expression) → PartsCode nodes e base n m → Computes (rvalue_of base e) → ValueCode nodes e base to n k
-    value_code (Known value) parts is = alone _ parts is
-    value_code (Variable number width) parts is = alone _ parts is
-    value_code (Register number width) parts is = alone _ parts is
-    value_code (Stackdata number) parts is = alone _ parts is
-    value_code (Continuation number) parts is = alone _ parts is
+    value_code (Known value) parts is = alone (rvalue_of base (Known value)) parts is
+    value_code (Variable number width) parts is = alone (rvalue_of base (Variable number width)) parts is
+    value_code (Register number width) parts is = alone (rvalue_of base (Register number width)) parts is
+    value_code (Stackdata number) parts is = alone (rvalue_of base (Stackdata number)) parts is
+    value_code (Continuation number) parts is = alone (rvalue_of base (Continuation number)) parts is
     value_code (Load' width aligned _ a) parts is = (m, parts, is)
     value_code (Unary' op width _ a) parts is = (m, parts, is)
     value_code (Binary' op width _ a _ b) (j, first, second) is = (j, m, first, second, is)

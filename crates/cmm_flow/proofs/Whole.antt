@@ -1,17 +1,20 @@
 -- What is laid for a body, with the nodes of labels and continuations in front, is the flow of its procedure.
-use Rattle.std.proofs.Common.{◌≡◌, ap₂, ℕ, zero, suc, ◌+◌, ◌<◌, ◌≤◌, min, nat_lt, Bool, true, false, Some, None, List, [], ◌∷◌, ◌++◌, append-nil, get_or, length, map, replicate, slice_get, refl, sym, ap, ◌∙◌, subst, arith}
+use Rattle.std.proofs.Common.{◌≡◌, ap₂, ℕ, zero, suc, ◌+◌, ◌<◌, ◌≤◌, min, nat_lt, IsTrue, nat_le, Bool, true, false, Some, None, List, [], ◌∷◌, ◌++◌, append-nil, get_or, length, map, replicate, slice_get, refl, sym, ap, ◌∙◌, subst, arith}
+use Rattle.std.proofs.lemmas.Bool.{and_parts}
 use Rattle.std.proofs.lemmas.Bool.Decides.{nat_tests}
 use Rattle.std.proofs.lemmas.List.{get_or-map, get_or-replicate, length-append, length-map, length-replicate}
 use Rattle.std.proofs.lemmas.List.FromFn.{get_or-range_with_len, length-range_with_len}
-use Rattle.std.proofs.lemmas.Option.{slice_get-get_or, slice_get-map, slice_get_within}
+use Rattle.std.proofs.lemmas.Option.{get_or_from_slice_get, slice_get-get_or, slice_get-map, slice_get_within}
 use Rattle.std.proofs.lemmas.Slice.Zip.{length-zip}
-use Rattle.std.specs.List.{range_with_len, zip}
+use Rattle.std.specs.List.{list_all, range_with_len, zip}
 use Rattle.std.specs.Option.{option_map}
 use Rattle.cmm_program.specs.declared.procedure.Cont.{Cont}
 use Rattle.cmm_program.specs.declared.procedure.Proc.{Proc}
 use Rattle.cmm_program.specs.declared.statement.Form.TheVariants.{Span}
 use Rattle.cmm_program.specs.declared.statement.Statement.{Statement}
+use Rattle.cmm_program.specs.declared.program.Program.{Program}
 use Rattle.cmm_program.specs.Errors.{with_some}
+use Rattle.cmm_program.specs.InRange.{IsProcInRange}
 use Rattle.cmm_program.specs.Bodies.{Mark, AtContinuation, AtLabel, after_inside, follow}
 use Rattle.cmm_program.specs.Numbering.{body_numbers, site_number}
 use Rattle.cmm_graph.specs.declared.graph.Graph.{Graph}
@@ -19,22 +22,30 @@ use Rattle.cmm_graph.specs.declared.node.Node.{Node}
 use Rattle.cmm_graph.specs.declared.node.NodeKind.TheVariants.{Entry, Goto, Stop}
 use Rattle.cmm_graph.specs.declared.number.NodeId.{NodeId}
 use Rattle.cmm_graph.specs.declared.number.Variable.{Variable}
+use Rattle.cmm_graph.specs.Ranges.{is_step, leads_to}
 use Rattle.cmm_graph.specs.Counterpart.{formals_of, parameter_targets, taken_at, taken_by}
 use Rattle.cmm_flow.specs.declared.builder.Builder.{Builder}
 use Rattle.cmm_flow.specs.Code.{IsNode}
 use Rattle.cmm_flow.specs.Flow.{CoversParts, HasTokens, IsBehindLabel, IsFlow, IsFlowOf, IsLandedAt}
+use Rattle.cmm_flow.specs.Relation.{AreAll}
 use Rattle.cmm_flow.specs.Statements.{ListCode}
 use Rattle.cmm_flow.specs.Waiting.{WaitAtSites, times, waiting_sites}
 use Rattle.cmm_flow.specs.inside.Fronts.{IsFinished, IsNew, copy_in, copy_ins, goto_nodes}
-use Rattle.cmm_flow.specs.inside.Laying.{AreWithin, IsReady, LaysMarked, LaysWithin, label_of}
-use Rattle.cmm_flow.specs.inside.LayingBlocks.{LaysBlock, block_sites, is_within}
+use Rattle.cmm_flow.specs.inside.Laying.{AreAsked, AreSteps, Asked, IsReady, LaysMarked, LaysNode, StandIn, label_of, leads_on, passes}
+use Rattle.cmm_flow.specs.inside.LayingBlocks.{LaysBlock, block_sites, passes_own}
 use Rattle.cmm_flow.specs.inside.Marks.{FrontCode, LeadsBehind, LeadsBehindList, after_list}
+use Rattle.cmm_flow.specs.inside.Nodes.{goto, nowhere, unled}
+use Rattle.cmm_flow.proofs.Begins.{IsStep, list_begins, node_begins, one_step}
+use Rattle.cmm_flow.proofs.Belongs.{belongs}
 use Rattle.cmm_flow.proofs.Blocks.{after_span}
-use Rattle.cmm_flow.proofs.Covering.{copies_within, gotos_within, span_of}
+use Rattle.cmm_flow.proofs.Bounded.{room_of, statements_pass}
+use Rattle.cmm_flow.proofs.Covering.{AreAll_more, at_most, copies_asked, each_passes, gotos_asked, less_at_most, list_all_more, span_of, test_at_most}
 use Rattle.cmm_flow.proofs.FormsStay.{front_stays, leads_stay}
-use Rattle.cmm_flow.proofs.Laying.{both_within, get_before, get_behind, waiting_sites-append}
+use Rattle.cmm_flow.proofs.Laying.{and_both, both_pass, get_before, get_behind, stands_before, waiting_sites-append}
 use Rattle.cmm_flow.proofs.Marking.{lays_marked, ready_later, then_marked}
 use Rattle.cmm_flow.proofs.Marks.{follow_leads, front_list}
+use Rattle.cmm_flow.proofs.Ranged.{bounded, copies_belong, entry_belongs, names, nodes_ranged}
+use Rattle.cmm_flow.proofs.TokensWithin.{form_within}
 use Rattle.cmm_flow.proofs.WaitingSites.{copies_wait, gotos_wait, span_sites}
 
 -- ---- elements of lists
@@ -81,7 +92,7 @@ get_numbered ns first count k are less =
 
 module _ (q : Proc) (labels : ℕ) (a b c : Builder) (g : Graph) (formals : List Variable) (next begin : NodeId)
     (new : IsNew labels (length q.conts) a) (lacked : (l : ℕ) → labels ≤ l → after_list (AtLabel l) q.body ≡ None)
-    (laid : LaysBlock a b q q.body next a.stop) (entry : LaysWithin (λ most. q.tokens ≤ most) [] b c (λ nodes. IsNode nodes begin q.tokens (Entry formals next)))
+    (laid : LaysBlock a b q q.body next a.stop) (entry : LaysNode record { tokens = q.tokens; kind = Entry formals next } b c begin)
     (finished : IsFinished c q begin g) where
   ready : IsReady labels a
   ready = record { labels = ap length new.labels_lead ∙ length-replicate labels a.stop; stop = ap (λ nodes. slice_get nodes 0) new.nodes }
@@ -262,18 +273,77 @@ module _ (q : Proc) (labels : ℕ) (a b c : Builder) (g : Graph) (formals : List
     continuations = continuation;
   }
 
+  -- ---- what passes of all nodes
+
+  stands : StandIn c g
+  stands = record { front = front; later = []; many = front_many; nodes = finished.nodes ∙ sym (append-nil all) }
+
+  labels_step : (l : ℕ) → IsStep g (node_of_label l)
+  labels_step l = node_begins g (node_of_label l) 1 (Goto (label l).next) (label l).node refl
+
+  stop_step : IsStep g a.stop
+  stop_step = node_begins g a.stop 1 Stop (of_graph (λ nodes. IsNode nodes a.stop 1 Stop) stop_is) refl
+
+  list_step : (rest : List Statement) (n : NodeId) → Code rest n → IsStep g n
+  list_step rest n code = list_begins g q node_of_label rest n code labels_step
+
+  marks_step : (ns : List NodeId) → ((k : ℕ) → k < length ns → IsStep g (get_or ns k a.stop)) → AreSteps g ns
+  marks_step ns steps =
+      each_passes (leads_to g is_step) ns (λ k n is. subst (IsStep g) (get_or_from_slice_get ns k n a.stop is) (steps k (slice_get_within ns k n is)))
+
+  labels_lead : AreSteps g c.labels
+  unfolding has_label
+  labels_lead =
+      marks_step c.labels (λ l less. let within : l < labels = omega (arith, less, labels_many) in list_step (follow q (AtLabel l)) _ (has_label l within).code)
+
+  continuations_lead : AreSteps g c.continuations
+  unfolding continuation
+  continuations_lead =
+      marks_step c.continuations
+      (λ k less. let within : k < length q.conts = omega (arith, less, continuations_many) in list_step (follow q (AtContinuation k)) _ (continuation k within).code)
+
+  -- a test that the nodes of all statements pass, and those in front and at the ends
+  pub all_asked : (test : Node → Bool) → IsTrue (test goto) → IsTrue (test record { tokens = 1; kind = Stop }) → AreAll (passes_own q test) q.body →
+      IsTrue (test (unled record { tokens = q.tokens; kind = Entry formals next })) → IsTrue (list_all (λ k. test (unled (copy_in q k nowhere))) q.conts) →
+      AreAsked record { test = test; graph = g } g.nodes
+  all_asked test gotos_pass stop_passes body_passes entry_passes copies_pass =
+      let asked : Asked = record { test = test; graph = g } in
+      let in_b = stands_before g entry.extends stands in
+      let stop : IsTrue (passes asked record { tokens = 1; kind = Stop }) = and_both (test record { tokens = 1; kind = Stop }) true stop_passes refl in
+      let first : AreAsked asked a.nodes = subst (AreAsked asked) (sym new.nodes) (and_both (passes asked record { tokens = 1; kind = Stop }) true stop refl) in
+      let body = laid.keeps labels ready asked in_b (record { labels = labels_step; next = stop_step }, body_passes) first in
+      let behind =
+      entry.keeps asked stands record {
+        test = and_both (test (unled record { tokens = q.tokens; kind = Entry formals next })) true entry_passes refl;
+        steps = one_step g next (list_step q.body next (of_graph (λ nodes. ListCode q nodes node_of_label q.body next) body_code));
+        copy_ins = refl;
+      } body in
+      let stop_leads : AreSteps g (c.stop ∷ []) = subst (λ n. AreSteps g (n ∷ [])) (sym whole.extends.stop) (one_step g a.stop stop_step) in
+      let marks =
+      both_pass (passes asked) (goto_nodes c.labels) (goto_nodes (c.stop ∷ [])) (gotos_asked asked c.labels gotos_pass labels_lead)
+      (gotos_asked asked (c.stop ∷ []) gotos_pass stop_leads) in
+      let front = both_pass (passes asked) gotos (copy_ins q c.continuations) marks (copies_asked asked q q.conts c.continuations copies_pass continuations_lead) in
+      of_graph (AreAsked asked) (both_pass (passes asked) _ c.nodes front behind)
+
   -- ---- tokens
 
   gives_tokens : CoversParts q → HasTokens q g
   gives_tokens covers =
       let most = q.tokens in
-      let positive = covers.sites.positive in
-      let first : AreWithin most a.nodes = subst (AreWithin most) (sym new.nodes) (grind (arith, nat_tests, positive)) in
-      let body = laid.keeps most (covers.sites, span_of (is_within most) q.body covers.statements) first in
-      let behind = entry.keeps most (omega arith) body in
-      let marks = both_within most (goto_nodes c.labels) (goto_nodes (c.stop ∷ [])) (gotos_within most c.labels positive) (gotos_within most (c.stop ∷ []) positive) in
-      let front = both_within most gotos (copy_ins q c.continuations) marks (copies_within q most q.conts c.continuations covers.parameters) in
-      of_graph (AreWithin most) (both_within most _ c.nodes front behind)
+      let accesses = covers.sites.accesses in
+      let one = test_at_most 1 most (omega (arith, accesses)) in
+      let body = AreAll_more (λ (s : Statement). nat_le s.tokens most) (passes_own q (λ (node : Node). nat_le node.tokens most))
+      (λ s fit. form_within q most covers.sites s.tokens (at_most s.tokens most fit) s.form) q.body (span_of (λ (s : Statement). nat_le s.tokens most) q.body covers.statements) in
+      tested (λ (node : Node). nat_le node.tokens most) g.nodes
+      (all_asked (λ (node : Node). nat_le node.tokens most) one one body (test_at_most most most (omega arith))
+      (list_all_more (λ (k : Cont). nat_lt (length k.params) most) (λ (k : Cont). nat_le (suc (length k.params)) most) (λ k less. less_at_most (length k.params) most less) q.conts covers.parameters))
+    where
+      tested : (test : Node → Bool) (nodes : List Node) → AreAsked record { test = test; graph = g } nodes → IsTrue (list_all (λ node. test (unled node)) nodes)
+      tested test [] are = refl
+      tested test (node ∷ nodes) are =
+          let x : Asked = record { test = test; graph = g } in
+          let both = and_parts (passes x node) (list_all (passes x) nodes) are in
+          and_both (test (unled node)) (list_all (λ (n : Node). test (unled n)) nodes) (and_parts (test (unled node)) (leads_on g node.kind) both.0).0 (tested test nodes both.1)
 
   -- ---- sites
 
@@ -294,11 +364,23 @@ module _ (q : Proc) (labels : ℕ) (a b c : Builder) (g : Graph) (formals : List
       of_graph (λ nodes. times site (waiting_sites nodes) ≤ times site (body_numbers site_number q))
       (omega (arith, laid.waits site, entry.waits site, first, numbers, ap (times site) all_wait))
 
+  -- ---- what they name
+
+  nodes_belong : map (λ (v : Variable). v.number) formals ≡ range_with_len 0 q.formals → (p : Program) → IsProcInRange p q →
+      AreAsked record { test = belongs p q (room_of p q); graph = g } g.nodes
+  nodes_belong numbers p range =
+      let limit = room_of p q in
+      all_asked (belongs p q limit) refl refl (span_of (passes_own q (belongs p q limit)) q.body (statements_pass p q range))
+      (entry_belongs p q limit range formals numbers) (copies_belong p q limit range)
+
   pub is_answered : map (λ (v : Variable). v.number) formals ≡ range_with_len 0 q.formals → IsFlow q g
   is_answered numbers = record {
     flow = is_flow;
     tokens = gives_tokens;
     waits = gives_waits;
+    names = λ p range. names p q g range (nodes_belong numbers p range) finished.temporaries finished.variables landings_many;
+    nodes = λ p range sites. nodes_ranged p q g range (nodes_belong numbers p range) finished.temporaries finished.variables landings_many sites;
+    bounded = λ p range. bounded p q g range (nodes_belong numbers p range) finished.temporaries finished.variables landings_many;
     variables = finished.variables;
     formals = ap (λ o. with_some o (λ node. formals_of node.kind)) entry_there ∙ ap Some numbers;
     continuations =

@@ -1,17 +1,20 @@
 -- When a graph is the flow of a procedure: its nodes are the code of the body, and of what follows each label and each
 -- continuation.
 use Rattle.std.specs.Prelude.{◌≡◌, ℕ, ◌+◌, ◌*◌, ◌<◌, ◌≤◌, nat_le, nat_lt, IsTrue, List, length, map, Some}
-use Rattle.std.specs.List.{list_all, range_with_len}
+use Rattle.std.specs.List.{All, list_all, range_with_len}
 use Rattle.cmm_program.specs.declared.procedure.Proc.{Proc}
 use Rattle.cmm_program.specs.declared.procedure.Target.{Target}
 use Rattle.cmm_program.specs.Bodies.{AtLabel, AtContinuation, body_statements, follow}
+use Rattle.cmm_program.specs.declared.program.Program.{Program}
 use Rattle.cmm_program.specs.Errors.{with_some}
+use Rattle.cmm_program.specs.InRange.{IsProcInRange}
 use Rattle.cmm_graph.specs.declared.number.NodeId.{NodeId}
 use Rattle.cmm_graph.specs.declared.number.Variable.{Variable}
 use Rattle.cmm_graph.specs.declared.node.NodeKind.TheVariants.{Entry, CopyIn, Goto}
 use Rattle.cmm_graph.specs.declared.graph.Graph.{Graph}
-use Rattle.cmm_graph.specs.Counterpart.{formals_of, parameter_targets, taken_at}
+use Rattle.cmm_graph.specs.Counterpart.{HasSite, formals_of, names_there, parameter_targets, taken_at}
 use Rattle.cmm_graph.specs.Paths.{landing_of, node_of}
+use Rattle.cmm_graph.specs.Ranges.{is_node}
 use Rattle.cmm_flow.specs.Code.{IsNode}
 use Rattle.cmm_flow.specs.Statements.{ListCode}
 use Rattle.cmm_flow.specs.Waiting.{WaitAtSites}
@@ -50,9 +53,9 @@ pub record IsFlowOf (q : Proc) (g : Graph) : Type 0 where
 abbrev pub HasTokens : Proc → Graph → Type 0
 HasTokens q g = IsTrue (list_all (λ node. nat_le node.tokens q.tokens) g.nodes)
 
--- so many tokens are as many as those of the CopyIn of each site, which has one, and one for each result
+-- so many tokens are as many as those of any word in memory, and of the CopyIn of each site, which has one, and one for each result
 pub record CoversSites (q : Proc) (most : ℕ) : Type 0 where
-  pub positive : 1 ≤ most
+  pub accesses : 3 ≤ most
   pub results : IsTrue (list_all (λ site. nat_lt (length site.results) most) q.sites)
 
 -- A procedure has tokens for each of its parts: no statement has more, and no CopyIn of a site or of a continuation.
@@ -61,9 +64,14 @@ pub record CoversParts (q : Proc) : Type 0 where
   pub statements : IsTrue (list_all (λ s. nat_le s.tokens q.tokens) (body_statements q))
   pub parameters : IsTrue (list_all (λ c. nat_lt (length c.params) q.tokens) q.conts)
 
+-- variables, temporaries and continuations have at most 8 bytes of a frame for each token of the procedure: a pair for a continuation
+abbrev pub IsBounded : Proc → Graph → Type 0
+IsBounded q g = 8 * (g.variables + g.temporaries) + 16 * length g.continuations ≤ 8 * q.tokens
+
 -- What `flow` answers: the flow of the procedure, where no node has more tokens than the procedure if that has tokens for its
 -- parts. The graph has the variables of the procedure, its Entry takes the arguments to the formals, and the CopyIn of each
--- continuation takes the parameters. No more nodes wait at a site than statements have its number.
+-- continuation takes the parameters. No more nodes wait at a site than statements have its number. Of a procedure in range its nodes name what is
+-- there, and are in range where those that wait have the exits of their sites, and its frame is bounded.
 pub record IsFlow (q : Proc) (g : Graph) : Type 0 where
   pub flow : IsFlowOf q g
   pub tokens : CoversParts q → HasTokens q g
@@ -71,7 +79,6 @@ pub record IsFlow (q : Proc) (g : Graph) : Type 0 where
   pub formals : with_some (node_of g g.first) (λ node. formals_of node.kind) ≡ Some (range_with_len 0 q.formals)
   pub continuations : map (taken_at g) g.continuations ≡ map (λ c. Some (parameter_targets q c)) q.conts
   pub waits : WaitAtSites q g
-
--- variables, temporaries and continuations have at most 8 bytes of a frame for each token of the procedure: a pair for a continuation
-abbrev pub IsBounded : Proc → Graph → Type 0
-IsBounded q g = 8 * (g.variables + g.temporaries) + 16 * length g.continuations ≤ 8 * q.tokens
+  pub names : (p : Program) → IsProcInRange p q → IsTrue (list_all (λ node. names_there p q node.kind) g.nodes)
+  pub nodes : (p : Program) → IsProcInRange p q → All (λ node. HasSite q g node.kind) g.nodes → IsTrue (list_all (is_node g) g.nodes)
+  pub bounded : (p : Program) → IsProcInRange p q → IsBounded q g

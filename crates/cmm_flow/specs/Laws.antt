@@ -1,22 +1,24 @@
 -- The graphs of a program do what the C-- machine does, and no step of the machine costs more than the longest procedure.
-use Rattle.std.specs.Prelude.{ℕ, ◌<◌, IsTrue, List, length}
+use Rattle.std.specs.Prelude.{◌≡◌, ℕ, ◌+◌, ◌<◌, ◌≤◌, max, Bool, true, false, IsTrue, List, [], ◌∷◌, is_some, length}
 use Rattle.std.specs.List.{All, AllZip, list_all}
 use Rattle.cmm_program.specs.declared.procedure.Proc.{Proc}
 use Rattle.cmm_program.specs.declared.program.Program.{Program}
+use Rattle.cmm_program.specs.Control.{State}
 use Rattle.cmm_program.specs.InRange.{IsInRange, IsProcInRange}
 use Rattle.cmm_program.specs.Machine.{start}
-use Rattle.cmm_program.specs.State.{Setting}
+use Rattle.cmm_program.specs.State.{Setting, Running}
 use Rattle.cmm_program.specs.Todo.{todo_control}
 use Rattle.cmm_following.specs.Agreement.{Agrees}
 use Rattle.cmm_following.specs.Following.{Follows}
 use Rattle.cmm_following.specs.Simulation.{Simulates}
 use Rattle.cmm_laws.specs.Observed.{machine_of}
 use Rattle.cmm_graph.specs.declared.graph.Graph.{Graph}
-use Rattle.cmm_graph.specs.Counterpart.{HasSite}
-use Rattle.cmm_graph.specs.GraphControl.{graph_control}
+use Rattle.cmm_graph.specs.Acting.{led}
+use Rattle.cmm_graph.specs.Counterpart.{HasSite, IsGraphOf}
+use Rattle.cmm_graph.specs.GraphControl.{Position, graph_control, kind_here}
 use Rattle.cmm_graph.specs.GraphMachine.{graph_start, tokens_of_youngest}
 use Rattle.cmm_graph.specs.Ranges.{IsValid, is_node}
-use Rattle.cmm_flow.specs.Flow.{HasTokens, IsFlow, IsFlowOf}
+use Rattle.cmm_flow.specs.Flow.{HasTokens, IsBounded, IsFlow, IsFlowOf}
 use Rattle.cmm_flow.specs.Relation.{IsProgramCounted, Related, longest}
 use Rattle.cmm_flow.specs.Waiting.{IsWaitedAt, WaitOnce}
 
@@ -44,6 +46,29 @@ FlowAgrees = (s : Setting) (graphs : List Graph) (input : List ℕ) → AreFlows
     Agrees (machine_of (todo_control s.program) s) (machine_of (graph_control graphs) s) (longest s.program) (start s input)
     (graph_start graphs s input)
 
+-- the youngest activation stands at a node that leads on in it
+abbrev pub leads_on : List Graph → State Position → Bool
+leads_on graphs st = elim st.controls [ [] ↦ false | c ∷ _ ↦ is_some (led 0 (kind_here graphs c)) ]
+
+-- Costs of steps over graphs that are dearer than the tokens of nodes: where a node leads on its tokens, where control leaves the
+-- activation so much more, and where the run waits or is over the tokens of the longest procedure and so much more.
+pub record AreCosts (s : Setting) (graphs : List Graph) (cost : State Position → ℕ) (more : ℕ) : Type 0 where
+  pub leading : (st : State Position) → st.store.status ≡ Running → leads_on graphs st ≡ true → cost st ≤ max 1 (tokens_of_youngest graphs st)
+  pub running : (st : State Position) → st.store.status ≡ Running → cost st ≤ max 1 (tokens_of_youngest graphs st) + more
+  pub resting : (st : State Position) → cost st ≤ max (longest s.program) (tokens_of_youngest graphs st) + more
+
+-- Of the path of a step one node at most leaves its activation; so at such costs a step is dearer by as much.
+abbrev pub FlowSimulatesAt : Type 0
+FlowSimulatesAt = (s : Setting) (graphs : List Graph) (cost : State Position → ℕ) (more : ℕ) → AreFlows s graphs → AreCosts s graphs cost more →
+    Simulates (machine_of (todo_control s.program) s) (λ _. longest s.program + more) (machine_of (graph_control graphs) s) cost
+    (Related s.program graphs)
+
+abbrev pub FlowFollowsAt : Type 0
+FlowFollowsAt = (s : Setting) (graphs : List Graph) (input : List ℕ) (cost : State Position → ℕ) (more : ℕ) → AreFlows s graphs →
+    AreCosts s graphs cost more →
+    Follows (machine_of (todo_control s.program) s) (λ _. longest s.program + more) (machine_of (graph_control graphs) s) cost (start s input)
+    (graph_start graphs s input)
+
 -- the statements of a program in range are counted
 abbrev pub RangeIsCounted : Type 0
 RangeIsCounted = (p : Program) → IsInRange p → IsProgramCounted p
@@ -67,3 +92,11 @@ AnswersWaitAtEach = (p : Program) (q : Proc) (g : Graph) (site : ℕ) → IsProc
 -- It begins at an Entry, and lands at each continuation in a CopyIn; so it is in range where its nodes are.
 abbrev pub AnswersLand : Type 0
 AnswersLand = (q : Proc) (g : Graph) → IsFlow q g → IsTrue (list_all (is_node g) g.nodes) → IsValid g
+
+-- As its nodes are for a procedure in range, it is a graph of the procedure: in range, with the exits of its sites, and what it names is there.
+abbrev pub AnswersAreGraphs : Type 0
+AnswersAreGraphs = (p : Program) (q : Proc) (g : Graph) → IsProcInRange p q → IsFlow q g → IsGraphOf p q g
+
+-- And its locals and continuations have at most 8 bytes of a frame for each token of the procedure.
+abbrev pub AnswersAreBounded : Type 0
+AnswersAreBounded = (p : Program) (q : Proc) (g : Graph) → IsProcInRange p q → IsFlow q g → IsBounded q g

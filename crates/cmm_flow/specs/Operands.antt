@@ -1,6 +1,8 @@
 -- What stands for an expression once its nodes are done, and how many nodes those are. Temporaries are used as a stack: the
 -- nodes of an expression at a base write temporaries from that number on.
-use Rattle.std.specs.Prelude.{ℕ, suc, ◌+◌, Bool, true, false, List, [], ◌∷◌}
+use Rattle.std.specs.Prelude.{ℕ, suc, ◌+◌, nat_lt, Bool, true, false, List, [], ◌∷◌}
+use Rattle.cmm_words.specs.declared.width.Width.{Width}
+use Rattle.cmm_words.specs.Widths.{bytes}
 use Rattle.cmm_program.specs.declared.expression.Expression.{Expression, Expression-F}
 use Rattle.cmm_program.specs.declared.expression.Expression.TheOpen as e
 use Rattle.cmm_program.specs.declared.expression.Condition.{Condition, Condition-F}
@@ -52,12 +54,19 @@ plain_step _ = false
 abbrev pub is_plain : Expression → Bool
 is_plain e = fold_expression plain_step e
 
--- ---- counts of nodes
+-- ---- counts of tokens
 
--- a node for a register, a word in memory and each operator
+-- A word in memory that need not be aligned to its size is moved in parts, so that its node has two tokens more; its text has `aligned` and a number.
+abbrev pub extra_tokens : Width → ℕ → ℕ
+extra_tokens width aligned = elim (nat_lt aligned (bytes width)) [ true ↦ 2 | false ↦ 0 ]
+
+abbrev pub access_tokens : Width → ℕ → ℕ
+access_tokens width aligned = extra_tokens width aligned + 1
+
+-- of the nodes of an expression: one for a register and each operator, and those of each word in memory
 abbrev pub node_step : Expression-F ℕ → ℕ
 node_step (e.Register number width) = 1
-node_step (e.Load width aligned address) = address + 1
+node_step (e.Load width aligned address) = address + access_tokens width aligned
 node_step (e.Unary op width a) = a + 1
 node_step (e.Binary op width a b) = a + b + 1
 node_step (e.SignExtend from to a) = a + 1
@@ -72,7 +81,7 @@ abbrev pub nodes_of_all : List Expression → ℕ
 nodes_of_all [] = 0
 nodes_of_all (e ∷ es) = nodes e + nodes_of_all es
 
--- a node for each comparison, and those of its sides
+-- a token for each comparison, and those of its sides
 abbrev pub test_node_step : Condition-F ℕ → ℕ
 test_node_step (c.Compare cmp width a b) = nodes a + nodes b + 1
 test_node_step (c.Not a) = a

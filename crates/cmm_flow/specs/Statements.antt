@@ -32,12 +32,12 @@ use Rattle.cmm_graph.specs.declared.node.Node.{Node}
 use Rattle.cmm_graph.specs.declared.node.NodeKind.{NodeKind}
 use Rattle.cmm_graph.specs.declared.node.NodeKind.TheVariants as node
 use Rattle.cmm_graph.specs.Counterpart.{numbers_of}
-use Rattle.cmm_flow.specs.Operands.{temporary, operand_of, operands_of, arguments_of, nodes, nodes_of_all}
+use Rattle.cmm_flow.specs.Operands.{access_tokens, temporary, operand_of, operands_of, arguments_of, nodes, nodes_of_all}
 use Rattle.cmm_flow.specs.Code.{to_temporary, IsNode, OperandCode, OperandsCode, TestCode, ValueCode, ValuesCode}
 
 -- ---- counts of tokens
 
--- The last node of a statement has the tokens that its other nodes leave, and one at least; each of those has one.
+-- The last node of a statement has the tokens that its other nodes leave, and one at least.
 abbrev pub remaining : ℕ → ℕ → ℕ
 remaining tokens used = max 1 (tokens - used)
 
@@ -78,7 +78,7 @@ module _ (nodes_there : List Node) where
       (m : NodeId) × Is n 1 (node.Assign (destination.Target target) (rvalue.Copy (temporary value)) m)
       × StoresCode ls es (suc address) (suc value) m k
   StoresCode (lvalue.Memory width aligned _ ∷ ls) (e ∷ es) address value n k =
-      (m : NodeId) × Is n 1 (node.Store width aligned (temporary address) (temporary value) m) × StoresCode ls es (suc address) (suc value) m k
+      (m : NodeId) × Is n (access_tokens width aligned) (node.Store width aligned (temporary address) (temporary value) m) × StoresCode ls es (suc address) (suc value) m k
 
   -- several at once: all addresses and all values are there before the first of them is stored
   abbrev pub SeveralCode : List Lvalue → List Expression → NodeId → NodeId → Type 0
@@ -91,7 +91,7 @@ module _ (nodes_there : List Node) where
   AssignCode (lvalue.Target target ∷ []) (e ∷ []) n k = ValueCode nodes_there e 0 (destination.Target target) n k
   AssignCode (lvalue.Memory width aligned address ∷ []) (e ∷ []) n k =
       (m : NodeId) × (j : NodeId) × OperandCode nodes_there address 0 n m × OperandCode nodes_there e 1 m j
-      × Is j 1 (node.Store width aligned (operand_of 0 address) (operand_of 1 e) k)
+      × Is j (access_tokens width aligned) (node.Store width aligned (operand_of 0 address) (operand_of 1 e) k)
   AssignCode to (e ∷ es) n k = SeveralCode to (e ∷ es) n k
 
   -- the normal exit of a site, if it has one, takes the results and leads to a node

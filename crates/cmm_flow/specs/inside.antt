@@ -1,6 +1,8 @@
 pub mod Marks
-pub mod Laying
 pub mod Parts
+pub mod Nodes
+pub mod Temporaries
+pub mod Laying
 pub mod Counts
 pub mod Passing
 pub mod Blocks

@@ -7,9 +7,11 @@ ghost use Rattle.std.specs.Prelude.{◌≡◌, ◌∷◌, [], IfOk};
 ghost use Rattle.cmm_flow.specs.Code.{ValuesCode};
 ghost use Rattle.cmm_flow.specs.Statements.{AddressesCode, AssignCode, SeveralCode, StoresCode};
 ghost use Rattle.cmm_flow.specs.inside.Laying.{Lays};
-ghost use Rattle.cmm_flow.specs.inside.Parts.{AddressCode, store_node};
+ghost use Rattle.cmm_flow.specs.inside.Nodes.{nodes_of_address, nodes_of_addresses, nodes_of_assignment, nodes_of_several, nodes_of_stores, nodes_of_values};
+ghost use Rattle.cmm_flow.specs.inside.Parts.{AddressCode, store_node, store_tokens};
 
 use crate::builder::{Builder, as_number, following};
+use crate::counts::access_tokens;
 use crate::expression::{operand_of, temporary};
 use cmm_graph::{Destination, NodeId, NodeKind, Operand, Rvalue};
 use cmm_program::{Expression, Lvalue};
@@ -35,6 +37,16 @@ fn store_of(to: &Lvalue, address: Operand, value: Operand, next: NodeId) -> Node
     }
 }
 
+/// The tokens of that node.
+fn store_tokens(to: &Lvalue) -> u32
+    ensures { result ≡ store_tokens to.now }
+{
+    match to {
+        Lvalue::Target(_) => 1,
+        Lvalue::Memory { width, aligned, .. } => access_tokens(*width, *aligned),
+    }
+}
+
 impl Builder {
     /// Lays the assignment of one value.
     fn assign_one(
@@ -43,13 +55,13 @@ impl Builder {
         value: &Expression,
         next: NodeId,
     ) -> Result<NodeId, AllocError>
-        ensures { IfOk result (λ n. Lays self.old self.new (λ nodes. AssignCode nodes (to.now ∷ []) (value.now ∷ []) n next)) }
+        ensures { IfOk result (λ n. Lays (nodes_of_assignment (to.now ∷ []) (value.now ∷ [])) (next ∷ []) self.old self.new (λ nodes. AssignCode nodes (to.now ∷ []) (value.now ∷ []) n next)) }
     {
         match to {
             Lvalue::Target(target) => self.value(value, 0, Destination::Target(*target), next),
             Lvalue::Memory { address, .. } => {
                 let store = store_of(to, operand_of(address, 0), operand_of(value, 1), next);
-                let node = self.push(1, store)?;
+                let node = self.push(store_tokens(to), store)?;
                 self.two(address, value, node)
             }
         }
@@ -57,7 +69,7 @@ impl Builder {
 
     /// Lays the nodes by which a temporary takes an address, where there is one.
     fn address(&mut self, to: &Lvalue, base: u32, next: NodeId) -> Result<NodeId, AllocError>
-        ensures { IfOk result (λ n. Lays self.old self.new (λ nodes. AddressCode nodes to.now base n next)) }
+        ensures { IfOk result (λ n. Lays (nodes_of_address base to.now) (next ∷ []) self.old self.new (λ nodes. AddressCode nodes to.now base n next)) }
     {
         match to {
             Lvalue::Target(_) => Ok(next),
@@ -67,7 +79,7 @@ impl Builder {
 
     /// Lays the nodes by which temporaries take the addresses, each that of its place in the list.
     fn addresses(&mut self, to: &[Lvalue], base: u32, next: NodeId) -> Result<NodeId, AllocError>
-        ensures { IfOk result (λ n. Lays self.old self.new (λ nodes. AddressesCode nodes to.now base n next)) }
+        ensures { IfOk result (λ n. Lays (nodes_of_addresses base to.now) (next ∷ []) self.old self.new (λ nodes. AddressesCode nodes to.now base n next)) }
     {
         match to.split_first() {
             None => Ok(next),
@@ -85,7 +97,7 @@ impl Builder {
         base: u32,
         next: NodeId,
     ) -> Result<NodeId, AllocError>
-        ensures { IfOk result (λ n. Lays self.old self.new (λ nodes. ValuesCode nodes values.now base n next)) }
+        ensures { IfOk result (λ n. Lays (nodes_of_values base values.now) (next ∷ []) self.old self.new (λ nodes. ValuesCode nodes values.now base n next)) }
     {
         match values.split_first() {
             None => Ok(next),
@@ -105,7 +117,7 @@ impl Builder {
         value: u32,
         next: NodeId,
     ) -> Result<NodeId, AllocError>
-        ensures { IfOk result (λ n. Lays self.old self.new (λ nodes. StoresCode nodes to.now values.now address value n next)) }
+        ensures { IfOk result (λ n. Lays (nodes_of_stores to.now values.now address value) (next ∷ []) self.old self.new (λ nodes. StoresCode nodes to.now values.now address value n next)) }
     {
         let Some((first, rest)) = to.split_first() else {
             return Ok(next);
@@ -115,7 +127,7 @@ impl Builder {
         };
         let behind = self.stores(rest, more, following(address)?, following(value)?, next)?;
         self.push(
-            1,
+            store_tokens(first),
             store_of(first, temporary(address), temporary(value), behind),
         )
     }
@@ -127,7 +139,7 @@ impl Builder {
         values: &[Expression],
         next: NodeId,
     ) -> Result<NodeId, AllocError>
-        ensures { IfOk result (λ n. Lays self.old self.new (λ nodes. SeveralCode nodes to.now values.now n next)) }
+        ensures { IfOk result (λ n. Lays (nodes_of_several to.now values.now) (next ∷ []) self.old self.new (λ nodes. SeveralCode nodes to.now values.now n next)) }
     {
         let count = as_number(to.len())?;
         let stores = self.stores(to, values, 0, count, next)?;
@@ -142,7 +154,7 @@ impl Builder {
         values: &[Expression],
         next: NodeId,
     ) -> Result<NodeId, AllocError>
-        ensures { IfOk result (λ n. Lays self.old self.new (λ nodes. AssignCode nodes to.now values.now n next)) }
+        ensures { IfOk result (λ n. Lays (nodes_of_assignment to.now values.now) (next ∷ []) self.old self.new (λ nodes. AssignCode nodes to.now values.now n next)) }
     {
         let Some((value, more)) = values.split_first() else {
             return self.push(1, NodeKind::Goto { next });

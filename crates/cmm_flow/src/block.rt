@@ -3,13 +3,15 @@
 //! What follows a label or a continuation was laid before it, so where it leads is noted when its statement is reached. A
 //! `goto` goes to the node of its label, whose number is known from the beginning.
 
-ghost use Rattle.std.specs.Prelude.{◌≡◌, [], IfOk, OnOk, reverse};
+ghost use Rattle.std.specs.Prelude.{◌≡◌, ◌∷◌, ◌++◌, [], IfOk, OnOk, reverse};
 ghost use Rattle.cmm_graph.specs.declared.node.NodeKind.TheVariants.{Switch};
 ghost use Rattle.cmm_graph.specs.declared.number.NodeId.{NodeId as NodeNumber};
 ghost use Rattle.cmm_flow.specs.Code.{IsNode, OperandCode};
 ghost use Rattle.cmm_flow.specs.Operands.{nodes, operand_of as operand_at};
 ghost use Rattle.cmm_flow.specs.Statements.{remaining as remaining_of};
-ghost use Rattle.cmm_flow.specs.inside.Laying.{Covers, LaysWithin};
+ghost use Rattle.cmm_graph.specs.Paths.{arm_nodes};
+ghost use Rattle.cmm_flow.specs.inside.Laying.{Lays};
+ghost use Rattle.cmm_flow.specs.inside.Nodes.{nodes_of_switch};
 ghost use Rattle.cmm_flow.specs.inside.Marks.{PutsArm};
 ghost use Rattle.cmm_flow.specs.inside.LayingBlocks.{LaysArms, LaysBlock, LaysStatement};
 
@@ -134,7 +136,7 @@ impl Builder {
 
     /// Lays a switch in front of its arms.
     fn switch(&mut self, tokens: u32, value: &Expression, ways: Ways) -> Result<NodeId, AllocError>
-        ensures { IfOk result (λ n. LaysWithin (Covers tokens) [] self.old self.new (λ all. (j : NodeNumber) × OperandCode all value.now 0 n j × IsNode all j (remaining_of tokens (nodes value.now)) (Switch (operand_at 0 value.now) (reverse ways.backward) ways.otherwise))) }
+        ensures { IfOk result (λ n. Lays (nodes_of_switch tokens value.now) (arm_nodes (reverse ways.backward) ++ ways.otherwise ∷ []) self.old self.new (λ all. (j : NodeNumber) × OperandCode all value.now 0 n j × IsNode all j (remaining_of tokens (nodes value.now)) (Switch (operand_at 0 value.now) (reverse ways.backward) ways.otherwise))) }
     {
         let Ways {
             backward,

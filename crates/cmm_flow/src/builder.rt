@@ -4,14 +4,11 @@
 //! led to before it is known where they lead, those of labels and of continuations, have the first numbers and are
 //! made last.
 
-ghost use Rattle.std.specs.Prelude.{◌≡◌, suc, ◌+◌, ◌<◌, ◌≤◌, [], ◌∷◌, IfOk, OnOk, length, min};
-ghost use Rattle.cmm_graph.specs.declared.node.NodeKind.TheVariants.{Stop};
-ghost use Rattle.cmm_flow.specs.Code.{IsNode, to_temporary};
-ghost use Rattle.cmm_flow.specs.Waiting.{waiting_at};
-ghost use Rattle.cmm_flow.specs.inside.Laying.{Lays, LaysMarked, LaysWithin, SetsMark};
+ghost use Rattle.std.specs.Prelude.{◌≡◌, suc, ◌+◌, IfOk, length, min};
+ghost use Rattle.cmm_flow.specs.inside.Laying.{LaysMarked, LaysNode, SetsMark};
 ghost use Rattle.cmm_program.specs.declared.statement.Form.TheVariants.{Label, Continuation};
 
-use cmm_graph::{Destination, Node, NodeId, NodeKind, Temporary};
+use cmm_graph::{Node, NodeId, NodeKind};
 use cmm_items::Items;
 use std::alloc::{AllocError, Global};
 
@@ -28,8 +25,6 @@ pub struct Builder {
     pub stop: NodeId,
     /// The nodes from the Stop on.
     pub nodes: Items<Node>,
-    /// How many temporaries the nodes name.
-    pub temporaries: u32,
 }
 
 /// A count as a number of 32 bits. That so many things fit in memory and not in these does not happen.
@@ -65,20 +60,11 @@ fn sum(a: u32, b: u32) -> Result<u32, AllocError>
 impl Builder {
     /// Adds a node, and answers its number.
     pub fn push(&mut self, tokens: u32, kind: NodeKind) -> Result<NodeId, AllocError>
-        ensures { IfOk result (λ n. LaysWithin (λ most. tokens ≤ most) (waiting_at kind) self.old self.new (λ nodes. IsNode nodes n tokens kind)) }
+        ensures { IfOk result (λ n. LaysNode record { tokens = tokens; kind = kind } self.old self.new n) }
     {
         let number = sum(self.stop.number, as_number(self.nodes.len())?)?;
         self.nodes.push(Node { tokens, kind })?;
         Ok(NodeId { number })
-    }
-
-    /// A temporary to assign to.
-    pub fn temporary(&mut self, number: u32) -> Result<Destination, AllocError>
-        ensures { IfOk result (λ to. (to ≡ to_temporary number) × Lays self.old self.new (λ nodes. Unit {0})) }
-    {
-        let count = following(number)?;
-        self.temporaries = self.temporaries.max(count);
-        Ok(Destination::Temporary(Temporary { number }))
     }
 
     /// The node of a label, at which a `goto` begins.

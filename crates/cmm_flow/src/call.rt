@@ -2,7 +2,8 @@
 
 ghost use Rattle.std.specs.Prelude.{[], ◌∷◌, IfOk};
 ghost use Rattle.cmm_flow.specs.Statements.{CallCode, CutCode, JumpCode, ReturnCode, YieldCode};
-ghost use Rattle.cmm_flow.specs.inside.Laying.{Covers, CoversBoth, Lays, LaysWithin};
+ghost use Rattle.cmm_flow.specs.inside.Laying.{Lays, LaysAt};
+ghost use Rattle.cmm_flow.specs.inside.Nodes.{nodes_of_call, nodes_of_cut, nodes_of_jump, nodes_of_passing, nodes_of_return, nodes_of_yield};
 ghost use Rattle.cmm_flow.specs.inside.Passing.{PassingCode};
 
 use crate::builder::Builder;
@@ -21,7 +22,7 @@ impl Builder {
         actuals: &[Expression],
         next: NodeId,
     ) -> Result<NodeId, AllocError>
-        ensures { IfOk result (λ n. Lays self.old self.new (λ nodes. PassingCode nodes to.now actuals.now n next)) }
+        ensures { IfOk result (λ n. Lays (nodes_of_passing to.now actuals.now) (next ∷ []) self.old self.new (λ nodes. PassingCode nodes to.now actuals.now n next)) }
     {
         let behind = self.operands(actuals, 1, next)?;
         self.operand(to, 0, behind)
@@ -37,7 +38,7 @@ impl Builder {
         actuals: &[Expression],
         next: NodeId,
     ) -> Result<NodeId, AllocError>
-        ensures { IfOk result (λ n. LaysWithin (CoversBoth q.now tokens) (site ∷ []) self.old self.new (λ nodes. CallCode nodes q.now tokens site callee.now actuals.now n next)) }
+        ensures { IfOk result (λ n. LaysAt (site ∷ []) (nodes_of_call q.now tokens site callee.now actuals.now) (next ∷ []) [] self.old self.new (λ nodes. CallCode nodes q.now tokens site callee.now actuals.now n next)) }
     {
         let arguments = arguments_of(self.alloc, actuals, 1)?;
         let operands = sum(nodes_of(callee), nodes_of_all(actuals));
@@ -62,7 +63,7 @@ impl Builder {
         values: &[Expression],
         next: NodeId,
     ) -> Result<NodeId, AllocError>
-        ensures { IfOk result (λ n. LaysWithin (CoversBoth q.now tokens) (site ∷ []) self.old self.new (λ nodes. YieldCode nodes q.now tokens site values.now n next)) }
+        ensures { IfOk result (λ n. LaysAt (site ∷ []) (nodes_of_yield q.now tokens site values.now) (next ∷ []) [] self.old self.new (λ nodes. YieldCode nodes q.now tokens site values.now n next)) }
     {
         let passed = operands_of(self.alloc, values, 0)?;
         let used = sum(nodes_of_all(values), normal_tokens_at(q, site));
@@ -83,7 +84,7 @@ impl Builder {
         callee: &Expression,
         actuals: &[Expression],
     ) -> Result<NodeId, AllocError>
-        ensures { IfOk result (λ n. LaysWithin (Covers tokens) [] self.old self.new (λ nodes. JumpCode nodes tokens callee.now actuals.now n)) }
+        ensures { IfOk result (λ n. Lays (nodes_of_jump tokens callee.now actuals.now) [] self.old self.new (λ nodes. JumpCode nodes tokens callee.now actuals.now n)) }
     {
         let arguments = arguments_of(self.alloc, actuals, 1)?;
         let used = sum(nodes_of(callee), nodes_of_all(actuals));
@@ -103,7 +104,7 @@ impl Builder {
         values: &[Expression],
         own: &[u32],
     ) -> Result<NodeId, AllocError>
-        ensures { IfOk result (λ n. LaysWithin (Covers tokens) [] self.old self.new (λ nodes. CutCode nodes tokens to.now values.now own.now n)) }
+        ensures { IfOk result (λ n. Lays (nodes_of_cut tokens to.now values.now own.now) [] self.old self.new (λ nodes. CutCode nodes tokens to.now values.now own.now n)) }
     {
         let arguments = arguments_of(self.alloc, values, 1)?;
         let own = continuations(self.alloc, own)?;
@@ -125,7 +126,7 @@ impl Builder {
         alternates: u32,
         values: &[Expression],
     ) -> Result<NodeId, AllocError>
-        ensures { IfOk result (λ n. LaysWithin (Covers tokens) [] self.old self.new (λ nodes. ReturnCode nodes tokens exit alternates values.now n)) }
+        ensures { IfOk result (λ n. Lays (nodes_of_return tokens exit alternates values.now) [] self.old self.new (λ nodes. ReturnCode nodes tokens exit alternates values.now n)) }
     {
         let results = arguments_of(self.alloc, values, 0)?;
         let used = nodes_of_all(values);

@@ -9,7 +9,8 @@ ghost use Rattle.cmm_flow.specs.Code.{IsNode};
 ghost use Rattle.cmm_flow.specs.Operands.{nodes as nodes_in, operand_of as operand_at};
 ghost use Rattle.cmm_flow.specs.Statements.{CheckedCode, ZeroCode, first_result as first_of};
 ghost use Rattle.cmm_flow.specs.inside.Counts.{capped};
-ghost use Rattle.cmm_flow.specs.inside.Laying.{CoversBoth, Lays, LaysWithin};
+ghost use Rattle.cmm_flow.specs.inside.Laying.{Lays, LaysAt};
+ghost use Rattle.cmm_flow.specs.inside.Nodes.{division as division_of, nodes_of_checked, nodes_of_guard, nodes_of_guard_if, nodes_of_yield_one};
 ghost use Rattle.cmm_flow.specs.inside.Passing.{GuardCode, YieldOne};
 
 use crate::builder::Builder;
@@ -50,7 +51,7 @@ impl Builder {
         site: u32,
         next: NodeId,
     ) -> Result<NodeId, AllocError>
-        ensures { IfOk result (λ n. LaysWithin (CoversBoth q.now tokens) (site ∷ []) self.old self.new (λ nodes. YieldOne nodes q.now tokens site n next)) }
+        ensures { IfOk result (λ n. LaysAt (site ∷ []) (nodes_of_yield_one q.now tokens site) (next ∷ []) [] self.old self.new (λ nodes. YieldOne nodes q.now tokens site n next)) }
     {
         let values = one(self.alloc)?;
         let exits = self.exits_at(q, site, next)?;
@@ -73,7 +74,7 @@ impl Builder {
         right: &Expression,
         next: NodeId,
     ) -> Result<NodeId, AllocError>
-        ensures { IfOk result (λ n. Lays self.old self.new (λ nodes. IsNode nodes n 1 (Assign (first_of (site_results q.now site)) (Binary operator width (operand_at 0 left.now) (operand_at 1 right.now)) next))) }
+        ensures { IfOk result (λ n. Lays (division_of q.now site operator width left.now right.now ∷ []) (next ∷ []) self.old self.new (λ nodes. IsNode nodes n 1 (Assign (first_of (site_results q.now site)) (Binary operator width (operand_at 0 left.now) (operand_at 1 right.now)) next))) }
     {
         let value = Rvalue::Binary {
             operator,
@@ -97,7 +98,7 @@ impl Builder {
         division: NodeId,
         next: NodeId,
     ) -> Result<NodeId, AllocError>
-        ensures { IfOk result (λ n. LaysWithin (CoversBoth q.now tokens) (site ∷ []) self.old self.new (λ nodes. (count : ℕ) → used ≡ capped count → ZeroCode nodes q.now tokens count site width divisor.now n division next)) }
+        ensures { IfOk result (λ n. (count : ℕ) → used ≡ capped count → LaysAt (site ∷ []) (nodes_of_guard q.now tokens count site width divisor.now) (division ∷ next ∷ []) [] self.old self.new (λ nodes. ZeroCode nodes q.now tokens count site width divisor.now n division next)) }
     {
         let spent = sum(sum(used, 2), normal_tokens_at(q, site));
         let yields = self.yield_one(q, remaining(tokens, spent), site, next)?;
@@ -130,7 +131,7 @@ impl Builder {
         division: NodeId,
         next: NodeId,
     ) -> Result<NodeId, AllocError>
-        ensures { IfOk result (λ n. LaysWithin (CoversBoth q.now tokens) (site ∷ []) self.old self.new (λ nodes. GuardCode nodes q.now tokens (nodes_in left.now + nodes_in right.now) site operator width right.now n division next)) }
+        ensures { IfOk result (λ n. LaysAt (site ∷ []) (nodes_of_guard_if q.now tokens (nodes_in left.now + nodes_in right.now) site operator width right.now) (division ∷ next ∷ []) [] self.old self.new (λ nodes. GuardCode nodes q.now tokens (nodes_in left.now + nodes_in right.now) site operator width right.now n division next)) }
     {
         if is_division(operator) {
             let used = sum(nodes_of(left), nodes_of(right));
@@ -152,7 +153,7 @@ impl Builder {
         right: &Expression,
         next: NodeId,
     ) -> Result<NodeId, AllocError>
-        ensures { IfOk result (λ n. LaysWithin (CoversBoth q.now tokens) (site ∷ []) self.old self.new (λ nodes. CheckedCode nodes q.now tokens site operator width left.now right.now n next)) }
+        ensures { IfOk result (λ n. LaysAt (site ∷ []) (nodes_of_checked q.now tokens site operator width left.now right.now) (next ∷ []) [] self.old self.new (λ nodes. CheckedCode nodes q.now tokens site operator width left.now right.now n next)) }
     {
         let division = self.division(q, site, operator, width, left, right, next)?;
         let first = self.guard_if(

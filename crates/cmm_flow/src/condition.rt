@@ -1,8 +1,9 @@
 //! Conditions, as branches.
 
-ghost use Rattle.std.specs.Prelude.{IfOk};
+ghost use Rattle.std.specs.Prelude.{◌++◌, ◌∷◌, [], IfOk};
 ghost use Rattle.cmm_flow.specs.Code.{CompareCode, TestCode};
 ghost use Rattle.cmm_flow.specs.inside.Laying.{Lays};
+ghost use Rattle.cmm_flow.specs.inside.Nodes.{branch as branch_of, nodes_of_test, nodes_of_two};
 ghost use Rattle.cmm_flow.specs.inside.Parts.{TwoCode};
 
 use crate::builder::Builder;
@@ -20,7 +21,7 @@ impl Builder {
         right: &Expression,
         next: NodeId,
     ) -> Result<NodeId, AllocError>
-        ensures { IfOk result (λ n. Lays self.old self.new (λ nodes. TwoCode nodes left.now right.now n next)) }
+        ensures { IfOk result (λ n. Lays (nodes_of_two left.now right.now) (next ∷ []) self.old self.new (λ nodes. TwoCode nodes left.now right.now n next)) }
     {
         let behind = self.operand(right, 1, next)?;
         self.operand(left, 0, behind)
@@ -36,7 +37,7 @@ impl Builder {
         then: NodeId,
         otherwise: NodeId,
     ) -> Result<NodeId, AllocError>
-        ensures { IfOk result (λ n. Lays self.old self.new (λ nodes. CompareCode nodes operator width left.now right.now n then otherwise)) }
+        ensures { IfOk result (λ n. Lays (nodes_of_two left.now right.now ++ branch_of operator width left.now right.now ∷ []) (then ∷ otherwise ∷ []) self.old self.new (λ nodes. CompareCode nodes operator width left.now right.now n then otherwise)) }
     {
         let test = Comparison {
             operator,
@@ -63,7 +64,7 @@ impl Builder {
         then: NodeId,
         otherwise: NodeId,
     ) -> Result<NodeId, AllocError>
-        ensures { IfOk result (λ n. Lays self.old self.new (λ nodes. TestCode nodes c.now n then otherwise)) }
+        ensures { IfOk result (λ n. Lays (nodes_of_test c.now) (then ∷ otherwise ∷ []) self.old self.new (λ nodes. TestCode nodes c.now n then otherwise)) }
     {
         match c {
             Condition::Compare(operator, width, left, right) => self.compare(

@@ -1,13 +1,25 @@
-//! Counts of nodes and of tokens.
+//! Counts of tokens.
 
 ghost use Rattle.std.specs.Prelude.{◌≡◌, ◌+◌, ◌≤◌, ℕ, max, slice_get};
-ghost use Rattle.cmm_flow.specs.Operands.{nodes, nodes_of_all as nodes_of_list};
+ghost use Rattle.cmm_flow.specs.Operands.{access_tokens, nodes, nodes_of_all as nodes_of_list};
 ghost use Rattle.cmm_flow.specs.Statements.{normal_tokens as normal_tokens_of, remaining as remaining_of};
 ghost use Rattle.cmm_flow.specs.inside.Counts.{capped};
 
 use cmm_program::{Expression, Proc, Site};
+use cmm_words::Width;
 
-/// How many nodes an expression has.
+/// The tokens of a node that moves a word in memory: two more where that need not be aligned to its size, and is moved in parts.
+pub fn access_tokens(width: Width, aligned: u32) -> u32
+    ensures { result ≡ access_tokens width aligned }
+{
+    if (aligned as u64) < width.bytes() {
+        3
+    } else {
+        1
+    }
+}
+
+/// The tokens of the nodes of an expression.
 pub fn nodes_of(e: &Expression) -> u32
     ensures { result ≡ capped (nodes e.now) }
 {
@@ -17,7 +29,11 @@ pub fn nodes_of(e: &Expression) -> u32
         | Expression::Stackdata(_)
         | Expression::Continuation(_) => 0,
         Expression::Register(..) => 1,
-        Expression::Load { address, .. } => sum(nodes_of(address.get()), 1),
+        Expression::Load {
+            width,
+            aligned,
+            address,
+        } => sum(nodes_of(address.get()), access_tokens(*width, *aligned)),
         Expression::Unary(_, _, operand) => sum(nodes_of(operand.get()), 1),
         Expression::SignExtend(_, _, operand) => sum(nodes_of(operand.get()), 1),
         Expression::LowBits(_, _, operand) => sum(nodes_of(operand.get()), 1),
@@ -28,7 +44,7 @@ pub fn nodes_of(e: &Expression) -> u32
     }
 }
 
-/// How many nodes some expressions have.
+/// The same of some expressions.
 pub fn nodes_of_all(es: &[Expression]) -> u32
     ensures { result ≡ capped (nodes_of_list es.now) }
 {
@@ -47,8 +63,7 @@ pub fn sum(a: u32, b: u32) -> u32
 
 /// The tokens that the other nodes of a statement leave, and one at least.
 pub fn remaining(tokens: u32, used: u32) -> u32
-    ensures left { (n : ℕ) → used ≡ capped n → result ≡ remaining_of tokens n }
-    ensures within { result ≤ max 1 tokens }
+    ensures { (n : ℕ) → used ≡ capped n → result ≡ remaining_of tokens n }
 {
     tokens.saturating_sub(used).max(1)
 }

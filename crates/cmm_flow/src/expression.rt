@@ -3,14 +3,16 @@
 //! The value of an operator goes into a temporary. The operands of one that puts its value into the temporary `base` have
 //! theirs from `base` on, so temporaries are used as a stack.
 
-ghost use Rattle.std.specs.Prelude.{◌≡◌, IfOk, IsTrue};
+ghost use Rattle.std.specs.Prelude.{◌≡◌, ◌∷◌, [], IfOk};
 ghost use Rattle.cmm_program.specs.Values.{known_width as width_of_constant, width_of as width_of_expression};
-ghost use Rattle.cmm_flow.specs.Code.{OperandCode, OperandsCode, ValueCode, to_temporary};
+ghost use Rattle.cmm_flow.specs.Code.{OperandCode, OperandsCode, ValueCode, right_tokens, to_temporary};
 ghost use Rattle.cmm_flow.specs.Operands.{arguments_of as arguments_from, is_plain as is_operand, operand_of as operand_at, operands_of as operands_from, temporary as from_temporary};
 ghost use Rattle.cmm_flow.specs.inside.Laying.{Lays};
+ghost use Rattle.cmm_flow.specs.inside.Nodes.{nodes_of_operand, nodes_of_operands, nodes_of_parts, nodes_of_value};
 ghost use Rattle.cmm_flow.specs.inside.Parts.{PartsCode, rvalue_of as rvalue_at};
 
 use crate::builder::{Builder, following};
+use crate::counts::access_tokens;
 use cmm_graph::{
     Argument, ContinuationId, Destination, Local, NodeId, NodeKind, Operand, Register, Rvalue,
     StackLabel, Temporary, Variable,
@@ -83,6 +85,16 @@ pub fn rvalue_of(e: &Expression, base: u32) -> Result<Rvalue, AllocError>
         }),
         Expression::ZeroExtend(_, _, operand) => rvalue_of(operand.get(), base),
         _ => Ok(Rvalue::Copy(operand_of(e, base))),
+    }
+}
+
+/// The tokens of a node that assigns a right side.
+fn right_tokens(value: &Rvalue) -> u32
+    ensures { result ≡ right_tokens value.now }
+{
+    match value {
+        Rvalue::Load { width, aligned, .. } => access_tokens(*width, *aligned),
+        _ => 1,
     }
 }
 
@@ -168,7 +180,7 @@ impl Builder {
     /// Lays the nodes of an operand of an operator: behind them `operand_of` has the value of an expression.
     #[cycle(expression)]
     pub fn operand(&mut self, e: &Expression, base: u32, next: NodeId) -> Result<NodeId, AllocError>
-        ensures { IfOk result (λ n. Lays self.old self.new (λ nodes. OperandCode nodes e.now base n next)) }
+        ensures { IfOk result (λ n. Lays (nodes_of_operand base e.now) (next ∷ []) self.old self.new (λ nodes. OperandCode nodes e.now base n next)) }
     {
         if is_plain(e) {
             Ok(next)
@@ -185,9 +197,9 @@ impl Builder {
         base: u32,
         next: NodeId,
     ) -> Result<NodeId, AllocError>
-        ensures { IfOk result (λ n. Lays self.old self.new (λ nodes. ValueCode nodes e.now base (to_temporary base) n next)) }
+        ensures { IfOk result (λ n. Lays (nodes_of_value base (to_temporary base) e.now) (next ∷ []) self.old self.new (λ nodes. ValueCode nodes e.now base (to_temporary base) n next)) }
     {
-        let to = self.temporary(base)?;
+        let to = Destination::Temporary(Temporary { number: base });
         self.value(e, base, to, next)
     }
 
@@ -200,17 +212,17 @@ impl Builder {
         to: Destination,
         next: NodeId,
     ) -> Result<NodeId, AllocError>
-        ensures { IfOk result (λ n. Lays self.old self.new (λ nodes. ValueCode nodes e.now base to n next)) }
+        ensures { IfOk result (λ n. Lays (nodes_of_value base to e.now) (next ∷ []) self.old self.new (λ nodes. ValueCode nodes e.now base to n next)) }
     {
         let value = rvalue_of(e, base)?;
-        let node = self.push(1, NodeKind::Assign { to, value, next })?;
+        let node = self.push(right_tokens(&value), NodeKind::Assign { to, value, next })?;
         self.parts(e, base, node)
     }
 
     /// Lays the nodes of the operands of an expression's outermost operator.
     #[cycle(expression)]
     fn parts(&mut self, e: &Expression, base: u32, next: NodeId) -> Result<NodeId, AllocError>
-        ensures { IfOk result (λ n. Lays self.old self.new (λ nodes. PartsCode nodes e.now base n next)) }
+        ensures { IfOk result (λ n. Lays (nodes_of_parts base e.now) (next ∷ []) self.old self.new (λ nodes. PartsCode nodes e.now base n next)) }
     {
         match e {
             Expression::Load { address, .. } => self.operand(address.get(), base, next),
@@ -233,7 +245,7 @@ impl Builder {
         base: u32,
         next: NodeId,
     ) -> Result<NodeId, AllocError>
-        ensures { IfOk result (λ n. Lays self.old self.new (λ nodes. OperandsCode nodes es.now base n next)) }
+        ensures { IfOk result (λ n. Lays (nodes_of_operands base es.now) (next ∷ []) self.old self.new (λ nodes. OperandsCode nodes es.now base n next)) }
     {
         match es.split_first() {
             None => Ok(next),

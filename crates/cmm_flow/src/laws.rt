@@ -1,6 +1,6 @@
 //! The laws that join the C-- machine and the machine over graphs. Each is the contract of a function that does nothing.
 
-ghost use Rattle.cmm_flow.specs.Laws.{AnswersAreFlows, AnswersHaveSites, AnswersLand, AnswersWaitAtEach, AnswersWaitOnce, FlowAgrees, FlowFollows, FlowSimulates, RangeIsCounted};
+ghost use Rattle.cmm_flow.specs.Laws.{AnswersAreBounded, AnswersAreFlows, AnswersAreGraphs, AnswersHaveSites, AnswersLand, AnswersWaitAtEach, AnswersWaitOnce, FlowAgrees, FlowFollows, FlowFollowsAt, FlowSimulates, FlowSimulatesAt, RangeIsCounted};
 ghost use Rattle.cmm_flow.specs.Liveness.{AnswersAreInRange, CodeKeepsLiveness, SetsAreOfProcedure, SitesHaveNodes, SitesKeepLiveness};
 
 use cmm_program::laws::liveness_is_by_paths;
@@ -13,6 +13,14 @@ pub fn flows_do_what_programs_do()
     ensures simulates { FlowSimulates }
     ensures follows { FlowFollows }
     ensures agrees { FlowAgrees }
+{}
+
+/// They do so at dearer costs too, as a layer below has them for which control that leaves an activation is dearer: a step of the C-- machine is
+/// then dearer by as much.
+#[tactic(auto, using(crate::proofs::Flowing::flow_simulates_at, crate::proofs::Flowing::flow_follows_at))]
+pub fn flows_do_so_at_costs()
+    ensures simulates { FlowSimulatesAt }
+    ensures follows { FlowFollowsAt }
 {}
 
 /// What the law asks of the statements of a program holds of every program in range.
@@ -38,6 +46,14 @@ pub fn answers_wait_once()
 /// What `flow` answers begins at an Entry and lands at each continuation in a CopyIn, so that it is in range where its nodes are.
 pub fn answers_land()
     ensures { AnswersLand }
+{}
+
+/// What `flow` answers for a procedure in range is a graph of that procedure: in range, with the exits of its sites, and naming only what the procedure
+/// and its program have. Its locals, of 8 bytes each, and the pairs of its continuations, of 16, have at most 8 bytes for each token of the procedure.
+#[tactic(auto, using(crate::proofs::Graphs::answers_are_graphs, crate::proofs::Graphs::answers_are_bounded))]
+pub fn answers_are_graphs()
+    ensures graphs { AnswersAreGraphs }
+    ensures bounded { AnswersAreBounded }
 {}
 
 /// What `flow` answers for a procedure in range is all that the laws of liveness ask of a graph, with `answers_wait_once`.

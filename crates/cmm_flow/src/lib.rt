@@ -17,7 +17,8 @@
 //! - `simple`: all statements without blocks, labels and continuations.
 //! - `block`: blocks, with the statements that hold others, labels, `goto` and continuations.
 //! - `procedure`: `flow`, and the nodes in front.
-//! - `sites`, `counts`, `labels`: the exits of call sites; counts of nodes and of tokens; how many labels a body has.
+//! - `sites`, `counts`, `labels`, `temporaries`: the exits of call sites; counts of nodes and of tokens; how many labels a body has, and how
+//!   many temporaries its nodes name.
 //! - `laws`: what runs over the flows of a program's procedures do, at which sites their nodes wait, and that liveness is kept.
 #![tactic(auto)]
 
@@ -34,5 +35,6 @@ pub mod laws;
 mod procedure;
 mod simple;
 mod sites;
+mod temporaries;
 
 pub use procedure::{flow, flows};

@@ -10,12 +10,14 @@ ghost use Rattle.cmm_program.specs.Exits.{variable_width as width_of_variable};
 ghost use Rattle.cmm_program.specs.declared.procedure.Target.TheVariants.{Variable as OfVariable};
 ghost use Rattle.cmm_program.specs.InRange.{IsInRange};
 ghost use Rattle.cmm_program.specs.State.{Setting};
-ghost use Rattle.cmm_flow.specs.Flow.{IsFlow};
+ghost use Rattle.cmm_graph.specs.Counterpart.{AreGraphsOf};
+ghost use Rattle.cmm_flow.specs.Flow.{IsBounded, IsFlow};
 ghost use Rattle.cmm_flow.specs.Laws.{AreFlows};
 ghost use Rattle.cmm_flow.specs.inside.Fronts.{IsFinished, IsNew, copy_in, copy_ins, goto_nodes};
 
 use crate::builder::{Builder, as_number, following};
 use crate::labels::labels_in;
+use crate::temporaries::temporaries_of;
 use cmm_graph::{Graph, Node, NodeId, NodeKind, Variable};
 use cmm_items::Items;
 use cmm_program::{Cont, Proc, Program, Target};
@@ -141,7 +143,6 @@ impl Builder {
             continuations: repeated(alloc, stop, continuations)?,
             stop,
             nodes,
-            temporaries: 0,
         })
     }
 
@@ -155,7 +156,6 @@ impl Builder {
             continuations,
             stop,
             nodes: laid,
-            temporaries,
         } = self;
         let mut nodes = Items::new(alloc);
         add_gotos(labels.as_slice(), &mut nodes)?;
@@ -163,6 +163,7 @@ impl Builder {
         let landing = as_number(nodes.len())?;
         add_copy_ins(alloc, p, continuations.as_slice(), &mut nodes)?;
         nodes.append(laid)?;
+        let temporaries = temporaries_of(alloc, nodes.as_slice())?;
         Ok(Graph {
             variables: as_number(p.vars.len())?,
             temporaries,
@@ -189,6 +190,8 @@ pub fn flow(alloc: Global, p: &Proc) -> Result<Graph, AllocError>
 /// The graph of each procedure of a program, in their order. Its only error is want of memory.
 pub fn flows(alloc: Global, program: &Program) -> Result<Items<Graph>, AllocError>
     ensures each { IfOk result (λ graphs. AllZip IsFlow program.now.procs graphs) }
+    ensures are_graphs { IfOk result (λ graphs. IsInRange program.now → AreGraphsOf program.now graphs) }
+    ensures are_bounded { IfOk result (λ graphs. IsInRange program.now → AllZip IsBounded program.now.procs graphs) }
     ensures are_flows { IfOk result (λ graphs. (s : Setting) → s.program ≡ program.now → IsInRange program.now → AreFlows s graphs) }
 {
     let procs = program.procs.as_slice();

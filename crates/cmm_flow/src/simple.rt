@@ -1,12 +1,13 @@
 //! Statements without blocks, labels and continuations.
 
-ghost use Rattle.std.specs.Prelude.{◌≡◌, ℕ, true, IfOk};
+ghost use Rattle.std.specs.Prelude.{◌≡◌, ℕ, ◌∷◌, [], true, IfOk};
 ghost use Rattle.cmm_program.specs.Numbering.{site_number};
 ghost use Rattle.cmm_graph.specs.declared.node.HostCall.TheVariants.{PutByte, GetByte};
 ghost use Rattle.cmm_graph.specs.declared.number.NodeId.{NodeId as NodeNumber};
 ghost use Rattle.cmm_flow.specs.Statements.{FormCode};
 ghost use Rattle.cmm_flow.specs.inside.Blocks.{PutCode, is_simple};
-ghost use Rattle.cmm_flow.specs.inside.Laying.{CoversBoth, Lays, LaysWithin};
+ghost use Rattle.cmm_flow.specs.inside.Laying.{Lays, LaysAt};
+ghost use Rattle.cmm_flow.specs.inside.Nodes.{nodes_of_form, nodes_of_put};
 
 use crate::builder::Builder;
 use crate::expression::operand_of;
@@ -17,7 +18,7 @@ use std::alloc::AllocError;
 impl Builder {
     /// Lays the output of a byte.
     fn put_byte(&mut self, value: &Expression, next: NodeId) -> Result<NodeId, AllocError>
-        ensures { IfOk result (λ n. Lays self.old self.new (λ nodes. PutCode nodes value.now n next)) }
+        ensures { IfOk result (λ n. Lays (nodes_of_put value.now) (next ∷ []) self.old self.new (λ nodes. PutCode nodes value.now n next)) }
     {
         let call = HostCall::PutByte(operand_of(value, 0));
         let node = self.push(1, NodeKind::Host { call, next })?;
@@ -33,7 +34,7 @@ impl Builder {
         next: NodeId,
     ) -> Result<NodeId, AllocError>
         requires { is_simple form.now ≡ true }
-        ensures { IfOk result (λ n. LaysWithin (CoversBoth q.now tokens) (site_number form.now) self.old self.new (λ nodes. (label_node : ℕ → NodeNumber) → FormCode q.now nodes label_node tokens form.now n next)) }
+        ensures { IfOk result (λ n. LaysAt (site_number form.now) (nodes_of_form q.now tokens form.now) (next ∷ []) [] self.old self.new (λ nodes. (label_node : ℕ → NodeNumber) → FormCode q.now nodes label_node tokens form.now n next)) }
     {
         match form {
             Form::Assign { to, values } => self.assign(to.as_slice(), values.as_slice(), next),

@@ -1,10 +1,11 @@
 //! The exits of call sites.
 
-ghost use Rattle.std.specs.Prelude.{◌≡◌, ◌<◌, [], IfOk, length, map, slice_get};
+ghost use Rattle.std.specs.Prelude.{◌≡◌, ◌∷◌, [], IfOk, map, slice_get};
 ghost use Rattle.cmm_program.specs.Todo.{site_results};
-ghost use Rattle.cmm_flow.specs.Flow.{CoversSites};
 ghost use Rattle.cmm_flow.specs.Statements.{ExitsCode, NormalExit, first_result as first_of};
-ghost use Rattle.cmm_flow.specs.inside.Laying.{LaysWithin};
+ghost use Rattle.cmm_flow.specs.inside.Laying.{Lays};
+ghost use Rattle.cmm_flow.specs.inside.Nodes.{nodes_of_exits};
+ghost use Rattle.cmm_flow.specs.inside.Passing.{ExitsLead};
 
 use crate::builder::{Builder, as_number, following};
 use cmm_graph::{ContinuationId, Destination, Exits, NodeId, NodeKind, Temporary};
@@ -46,7 +47,7 @@ pub fn first_result(q: &Proc, site: u32) -> Destination
 impl Builder {
     /// Lays the CopyIn of a site's normal exit, unless it never returns.
     fn normal_exit(&mut self, site: &Site, next: NodeId) -> Result<Option<NodeId>, AllocError>
-        ensures { IfOk result (λ normal. LaysWithin (λ most. length site.now.results < most) [] self.old self.new (λ nodes. NormalExit nodes site.now normal next)) }
+        ensures { IfOk result (λ normal. Lays (nodes_of_exits (Some site.now)) (next ∷ []) self.old self.new (λ nodes. NormalExit nodes site.now normal next)) }
     {
         if site.never {
             return Ok(None);
@@ -59,7 +60,7 @@ impl Builder {
 
     /// The exits of a site. Lays the CopyIn of its normal exit.
     fn exits(&mut self, site: &Site, next: NodeId) -> Result<Exits, AllocError>
-        ensures { IfOk result (λ exits. LaysWithin (λ most. length site.now.results < most) [] self.old self.new (λ nodes. ExitsCode nodes (Some site.now) exits next)) }
+        ensures { IfOk result (λ exits. Lays (nodes_of_exits (Some site.now)) (next ∷ []) self.old self.new (λ nodes. ExitsCode nodes (Some site.now) exits next)) }
     {
         let returns = continuations(self.alloc, site.returns.as_slice())?;
         let unwinds = continuations(self.alloc, site.unwinds.as_slice())?;
@@ -75,7 +76,7 @@ impl Builder {
 
     /// The exits of a site by its number; none where the procedure lacks it.
     pub fn exits_at(&mut self, q: &Proc, site: u32, next: NodeId) -> Result<Exits, AllocError>
-        ensures { IfOk result (λ exits. LaysWithin (CoversSites q.now) [] self.old self.new (λ nodes. ExitsCode nodes (slice_get q.now.sites site) exits next)) }
+        ensures { IfOk result (λ exits. Lays (nodes_of_exits (slice_get q.now.sites site)) (next ∷ []) self.old self.new (λ nodes. ExitsLead nodes (slice_get q.now.sites site) exits next)) }
     {
         match q.sites.get(site as usize) {
             Some(site) => self.exits(site, next),

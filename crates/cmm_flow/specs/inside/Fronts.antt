@@ -9,6 +9,7 @@ use Rattle.cmm_graph.specs.declared.node.NodeKind.TheVariants.{CopyIn, Goto, Sto
 use Rattle.cmm_graph.specs.declared.number.NodeId.{NodeId}
 use Rattle.cmm_graph.specs.Counterpart.{parameter_targets}
 use Rattle.cmm_flow.specs.declared.builder.Builder.{Builder}
+use Rattle.cmm_flow.specs.inside.Temporaries.{IsLeast, names_below}
 
 -- a Goto to each of some nodes
 abbrev pub goto_nodes : List NodeId → List Node
@@ -27,12 +28,11 @@ pub record IsNew (labels continuations : ℕ) (b : Builder) : Type 0 where
   pub continuations_lead : b.continuations ≡ replicate continuations b.stop
   pub stop : b.stop.number ≡ labels + 1 + continuations
   pub nodes : b.nodes ≡ record { tokens = 1; kind = Stop } ∷ []
-  pub temporaries : b.temporaries ≡ 0
 
 -- a graph with the nodes of a builder, and those in front of them
 pub record IsFinished (b : Builder) (q : Proc) (begin : NodeId) (g : Graph) : Type 0 where
   pub nodes : g.nodes ≡ ((goto_nodes b.labels ++ goto_nodes (b.stop ∷ [])) ++ copy_ins q b.continuations) ++ b.nodes
   pub first : g.first ≡ begin
   pub variables : g.variables ≡ length q.vars
-  pub temporaries : g.temporaries ≡ b.temporaries
+  pub temporaries : IsLeast names_below g.nodes g.temporaries
   pub continuations : map (λ n. n.number) g.continuations ≡ range_with_len (length b.labels + 1) (length b.continuations)

@@ -1,5 +1,5 @@
 -- What a builder lays for statements with what they hold, in front of a node.
-use Rattle.std.specs.Prelude.{ℕ, ◌++◌, nat_le, Bool, IsTrue, List, [], ◌∷◌, flat_map}
+use Rattle.std.specs.Prelude.{ℕ, ◌++◌, Bool, IsTrue, List, [], ◌∷◌, flat_map}
 use Rattle.std.specs.List.{list_all}
 use Rattle.cmm_program.specs.declared.procedure.Proc.{Proc}
 use Rattle.cmm_program.specs.declared.statement.Arm.{Arm, out-Arm}
@@ -8,17 +8,19 @@ use Rattle.cmm_program.specs.declared.statement.Statement.{Statement}
 use Rattle.cmm_program.specs.Bodies.{within}
 use Rattle.cmm_program.specs.Numbering.{site_number}
 use Rattle.cmm_graph.specs.declared.node.Arm.{Arm as Way}
+use Rattle.cmm_graph.specs.declared.node.Node.{Node}
 use Rattle.cmm_graph.specs.declared.number.NodeId.{NodeId}
+use Rattle.cmm_graph.specs.Ranges.{is_step, leads_to}
 use Rattle.cmm_flow.specs.declared.builder.Builder.{Builder}
-use Rattle.cmm_flow.specs.Flow.{CoversSites}
 use Rattle.cmm_flow.specs.Relation.{AreAll}
 use Rattle.cmm_flow.specs.Statements.{FormCode}
-use Rattle.cmm_flow.specs.inside.Laying.{AddsSites, CoversBoth, IsReady, Keeps, LaysMarked, label_of}
+use Rattle.cmm_flow.specs.inside.Laying.{AddsSites, Asked, IsReady, Keeps, LaysMarked, label_of}
 use Rattle.cmm_flow.specs.inside.Marks.{FrontCode, LeadsBehindArms, LeadsBehindForm, LeadsBehindList, OtherwiseCode, WaysCode}
+use Rattle.cmm_flow.specs.inside.Nodes.{nodes_of_form}
 
--- a statement has at most so many tokens
-abbrev pub is_within : ℕ → Statement → Bool
-is_within most s = nat_le s.tokens most
+-- the nodes of a statement, without those of the blocks inside it, pass a test
+abbrev pub passes_own : Proc → (Node → Bool) → Statement → Bool
+passes_own q test s = list_all test (nodes_of_form q s.tokens s.form)
 
 -- a test holds of all statements of arms
 abbrev pub AreAllArms : (Statement → Bool) → List Arm → Type 0
@@ -37,11 +39,17 @@ block_sites statements = flat_map (λ s. form_sites s.form) statements
 abbrev pub arm_sites : List Arm → List ℕ
 arm_sites arms = flat_map (λ arm. block_sites (out-Arm arm).body) arms
 
+-- a run may stand at the node of each label, of which there are so many, and at a node where control goes on
+pub record GoesOn (count : ℕ) (k : NodeId) (x : Asked) : Type 0 where
+  pub labels : (l : ℕ) → IsTrue (leads_to x.graph is_step (label_of count l))
+  pub next : IsTrue (leads_to x.graph is_step k)
+
 -- one statement
 pub record LaysForm (a b : Builder) (q : Proc) (tokens : ℕ) (form : Form) (n k : NodeId) : Type 0 where
   pub lays : (count : ℕ) → IsReady count a →
       LaysMarked a b (λ nodes. FormCode q nodes (label_of count) tokens form n k) (λ nodes. LeadsBehindForm q nodes (label_of count) form k)
-  pub keeps : Keeps (λ most. CoversBoth q tokens most × IsTrue (list_all (is_within most) (within form))) a b
+  pub keeps : (count : ℕ) → IsReady count a →
+      Keeps (λ x. GoesOn count k x × IsTrue (list_all x.test (nodes_of_form q tokens form)) × IsTrue (list_all (passes_own q x.test) (within form))) a b
   pub waits : AddsSites (form_sites form) a b
 
 abbrev pub LaysStatement : Builder → Builder → Proc → Statement → NodeId → NodeId → Type 0
@@ -51,7 +59,7 @@ LaysStatement a b q s n k = LaysForm a b q s.tokens s.form n k
 pub record LaysBlock (a b : Builder) (q : Proc) (statements : List Statement) (n k : NodeId) : Type 0 where
   pub lays : (count : ℕ) → IsReady count a → LaysMarked a b (λ nodes. FrontCode q nodes (label_of count) statements n k)
       (λ nodes. LeadsBehindList q nodes (label_of count) statements k)
-  pub keeps : Keeps (λ most. CoversSites q most × AreAll (is_within most) statements) a b
+  pub keeps : (count : ℕ) → IsReady count a → Keeps (λ x. GoesOn count k x × AreAll (passes_own q x.test) statements) a b
   pub waits : AddsSites (block_sites statements) a b
 
 -- the arms of a switch
@@ -59,5 +67,5 @@ pub record LaysArms (a b : Builder) (q : Proc) (arms : List Arm) (to : List Way)
   pub lays : (count : ℕ) → IsReady count a →
       LaysMarked a b (λ nodes. WaysCode q nodes (label_of count) arms to k × OtherwiseCode q nodes (label_of count) arms otherwise k)
       (λ nodes. LeadsBehindArms q nodes (label_of count) arms k)
-  pub keeps : Keeps (λ most. CoversSites q most × AreAllArms (is_within most) arms) a b
+  pub keeps : (count : ℕ) → IsReady count a → Keeps (λ x. GoesOn count k x × AreAllArms (passes_own q x.test) arms) a b
   pub waits : AddsSites (arm_sites arms) a b

@@ -13,13 +13,18 @@ use Rattle.cmm_graph.specs.declared.operand.Operand.{Operand}
 use Rattle.cmm_graph.specs.declared.operand.Destination.TheVariants as destination
 use Rattle.cmm_graph.specs.declared.node.NodeKind.{NodeKind}
 use Rattle.cmm_graph.specs.declared.node.NodeKind.TheVariants.{Assign, Store}
-use Rattle.cmm_flow.specs.Operands.{operand_of}
+use Rattle.cmm_flow.specs.Operands.{access_tokens, operand_of}
 use Rattle.cmm_flow.specs.Code.{OperandCode, PartCode, ValueCode, operand_in, to_temporary}
 
 -- the node that stores a value
 abbrev pub store_node : Lvalue → Operand → Operand → NodeId → NodeKind
 store_node (lvalue.Target target) address value next = Assign (destination.Target target) (rvalue.Copy value) next
 store_node (lvalue.Memory width aligned _) address value next = Store width aligned address value next
+
+-- its tokens
+abbrev pub store_tokens : Lvalue → ℕ
+store_tokens (lvalue.Target target) = 1
+store_tokens (lvalue.Memory width aligned _) = access_tokens width aligned
 
 -- one value for one place
 abbrev pub is_single : List Lvalue → List Expression → Bool

@@ -1,12 +1,13 @@
 use Rattle.std.proofs.Common.{◌∙◌, ◌+◌, ap, refl, sym}
-use Rattle.cmm_flow.specs.Operands.{nodes}
+use Rattle.cmm_flow.specs.Operands.{access_tokens, nodes}
 use Rattle.cmm_flow.specs.inside.Counts.{capped}
-use Rattle.cmm_flow.proofs.ExpressionForms.{nodes_of_load, nodes_of_unary, nodes_of_binary, nodes_of_sign_extend, nodes_of_zero_extend, nodes_of_low_bits}
+use Rattle.cmm_flow.proofs.ExpressionForms.{access_capped, nodes_of_load, nodes_of_unary, nodes_of_binary, nodes_of_sign_extend, nodes_of_zero_extend, nodes_of_low_bits}
 use Rattle.cmm_flow.proofs.counts.+nodes_of.Goals as goal
 
 pub returns-in-Load : goal.returns-in-Load
 returns-in-Load t c =
-    c.sum.ensures (nodes c.in-Load.address) 1 (c.nodes_of.ensures ∙ ap (λ e. capped (nodes e)) c.get.ensures) refl
+    c.sum.ensures (nodes c.in-Load.address) (access_tokens c.in-Load.width c.in-Load.aligned) (c.nodes_of.ensures ∙ ap (λ e. capped (nodes e)) c.get.ensures)
+    (c.access_tokens.ensures ∙ access_capped c.in-Load.width c.in-Load.aligned)
     ∙ ap capped (sym (ap nodes c.in-Load.is ∙ nodes_of_load c.in-Load.width c.in-Load.aligned c.in-Load.address))
 
 pub returns-in-Unary : goal.returns-in-Unary

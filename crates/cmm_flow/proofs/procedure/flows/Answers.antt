@@ -2,6 +2,7 @@ use Rattle.std.proofs.Common.{◌+◌, ◌∙◌, sym, subst, take, arith}
 use Rattle.std.proofs.lemmas.List.{take_all}
 use Rattle.std.specs.List.{AllZip}
 use Rattle.cmm_flow.specs.Flow.{IsFlow}
+use Rattle.cmm_flow.proofs.Graphs.{bounded_given, graphs_given}
 use Rattle.cmm_flow.proofs.RangesCovering.{flows_given, zip_more}
 use Rattle.cmm_flow.proofs.procedure.flows.Goals as goal
 
@@ -17,4 +18,11 @@ returns c =
     let qs = c.as_slice-procs.result.now in
     let whole = take_all c.loop-q.q-index qs (omega (arith, c.loop-q-test.false)) in
     let are = subst (λ qs. AllZip IsFlow qs c.loop-q.graphs) (whole ∙ c.as_slice-procs.ensures) c.loop-q.invariant in
-    record { each = are; are_flows = λ s same range. flows_given c.args.program.now c.loop-q.graphs are s same range }
+    let p = c.args.program.now in
+    let graphs = c.loop-q.graphs in
+    record {
+      each = are;
+      are_graphs = λ range. graphs_given p graphs are range;
+      are_bounded = λ range. bounded_given p graphs are range;
+      are_flows = λ s same range. flows_given p graphs are s same range;
+    }

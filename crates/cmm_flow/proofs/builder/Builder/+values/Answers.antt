@@ -1,11 +1,15 @@
-use Rattle.cmm_flow.proofs.Laying.{lays_after}
 use Rattle.cmm_flow.proofs.Assignments.{values_cons}
+use Rattle.cmm_flow.proofs.Begins.{on_step, the_step, values_begin}
+use Rattle.cmm_flow.proofs.Laying.{lays_after}
 use Rattle.cmm_flow.proofs.ExpressionsStay.{values_stay}
+use Rattle.cmm_flow.proofs.NodeLists.{values_more}
 use Rattle.cmm_flow.proofs.builder.Builder.+values.Goals as goal
 
 pub returns-in_ok-behind-in-Some : goal.returns-in_ok-behind-in-Some
 returns-in_ok-behind-in-Some t c =
-    lays_after _ _ _ c.into_temporary.result c.in_ok-behind-in-Some.ensures
-    (λ nodes more. values_stay nodes more c.in-Some.rest.now c.in_ok-following-in-Some.field-0 c.in_ok-behind-in-Some.behind c.args.next) c.into_temporary.ensures
-    (λ n nodes more first. values_cons nodes c.args.values.now c.in-Some.rest.now c.in-Some.first.now c.args.base c.in_ok-following-in-Some.field-0
-    n c.in_ok-behind-in-Some.behind c.args.next c.in-Some.ensures.cases.0 c.in_ok-following-in-Some.ensures more first)
+    let rest = c.in-Some.rest.now in let next = c.in_ok-following-in-Some.field-0 in let behind = c.in_ok-behind-in-Some.behind in
+    lays_after _ _ _ _ _ _ _ _ c.into_temporary.result c.in_ok-behind-in-Some.ensures (λ nodes more. values_stay nodes more rest next behind c.args.next) c.into_temporary.ensures
+    (values_more c.in-Some.ensures.cases.0 c.in_ok-following-in-Some.ensures)
+    (λ g is steps normal. on_step g behind (values_begin g rest next behind c.args.next is (the_step g c.args.next steps)))
+    (λ n nodes more first. values_cons nodes c.args.values.now rest c.in-Some.first.now c.args.base next n behind c.args.next c.in-Some.ensures.cases.0
+    c.in_ok-following-in-Some.ensures more first)

@@ -1,4 +1,4 @@
-use Rattle.std.proofs.Common.{Some}
+use Rattle.std.proofs.Common.{Some, refl}
 use Rattle.cmm_graph.specs.declared.node.Exits.{Exits}
 use Rattle.cmm_flow.specs.Statements.{ExitsCode}
 use Rattle.cmm_flow.proofs.Laying.{lays_other}
@@ -10,7 +10,7 @@ returns c =
     let site = c.args.site.now in
     let exits : Exits =
     record { normal = c.in_ok-normal.normal; returns = c.in_ok-returns.returns; unwinds = c.in_ok-unwinds.unwinds; cuts = c.in_ok-cuts.cuts } in
-    lays_other (λ nodes. ExitsCode nodes (Some site) exits c.args.next) c.in_ok-normal.ensures (λ nodes is. (
+    lays_other (λ nodes. ExitsCode nodes (Some site) exits c.args.next) c.in_ok-normal.ensures refl (λ nodes is. (
       record {
         returns = numbers_back c.in_ok-returns.returns c.as_slice.result.now site.returns c.in_ok-returns.ensures c.as_slice.ensures;
         unwinds = numbers_back c.in_ok-unwinds.unwinds c.as_slice-2.result.now site.unwinds c.in_ok-unwinds.ensures c.as_slice-2.ensures;

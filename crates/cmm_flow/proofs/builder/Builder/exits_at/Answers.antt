@@ -1,8 +1,14 @@
-use Rattle.std.proofs.Common.{sym}
-use Rattle.cmm_flow.proofs.Covering.{exits_laid}
-use Rattle.cmm_flow.proofs.Laying.{if_ok}
+use Rattle.std.proofs.Common.{ap, subst, sym}
+use Rattle.cmm_flow.specs.Statements.{ExitsCode}
+use Rattle.cmm_flow.specs.inside.Nodes.{nodes_of_exits}
+use Rattle.cmm_flow.specs.inside.Passing.{ExitsLead}
+use Rattle.cmm_flow.proofs.Laying.{if_ok, lays_other}
+use Rattle.cmm_flow.proofs.Passing.{normal_there}
 use Rattle.cmm_flow.proofs.builder.Builder.exits_at.Goals as goal
 
 pub returns-in-Some : goal.returns-in-Some
 returns-in-Some c =
-    if_ok c.exits.result (λ exits laid. exits_laid c.args.q.now c.args.site c.in-Some.site.now exits c.args.next (sym c.in-Some.ensures.value) laid) c.exits.ensures
+    let is = sym c.in-Some.ensures.value in let next = c.args.next in
+    if_ok c.exits.result (λ exits laid.
+    lays_other (λ nodes. ExitsLead nodes _ exits next) laid (ap nodes_of_exits (sym is))
+    (λ nodes code. (subst (λ o. ExitsCode nodes o exits next) (sym is) code, normal_there nodes c.in-Some.site.now exits.normal next code.1))) c.exits.ensures
