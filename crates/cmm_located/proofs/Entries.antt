@@ -228,25 +228,29 @@ module _ (s : Setting) (c : Compiled) (live : Liveness) (frames : HasFrames s c)
       ∙ (fits_alike s.stack_base (place_row s q).frame h.point.at (sum_of_sizes s older) s.stack_size reach
       ∙ ap (λ n. nat_le n s.stack_size) (sym (sum_by-cons (frame_size s) New older)))
 
+  -- what is no formal begins as 0, variable or temporary
+  zero_value : (u : ℕ) → length values ≤ u → (b : Bool) → elim b as (λ _. ℕ) [ true ↦ slice_index_or New.variables u 0 | false ↦ 0 ] ≡ 0
+  zero_value u past true = behind_all values (drop (length values) p.vars) u past
+  zero_value u past false = refl
+
   passed_values : HasValues c.plan q passed (live q entry.next) (value_at c.graphs New Begins)
-  passed_values u is =
-      let known = entry.known u is in
-      let is_variable : nat_lt u (variable_count c.graphs q) ≡ true =
-      (let under : u < variable_count c.graphs q = omega (arith, known.0, entry.variables) in grind (arith, nat_tests)) in
-      by (nat_lt u p.formals) refl known.1
-      ∙ ap Number (sym (ap (λ b. elim b as (λ _. ℕ) [ true ↦ slice_index_or New.variables u 0 | false ↦ 0 ]) is_variable))
+  passed_values u is = by (nat_lt u p.formals) refl (entry.known u is)
     where
-      by : (b : Bool) → nat_lt u p.formals ≡ b → (u < p.formals) ⊎ Contains (c.zeroed q) u → held passed (c.plan.place q u) ≡ Number (slice_index_or New.variables u 0)
+      by : (b : Bool) → nat_lt u p.formals ≡ b → (u < p.formals) ⊎ Contains (c.zeroed q) u → held passed (c.plan.place q u) ≡ Number (value_at c.graphs New Begins u)
       by true less known =
-          let under : u < length values = (let formal : u < p.formals = grind (arith, nat_tests, less) in omega arith) in
+          let formal : u < p.formals = grind (arith, nat_tests, less) in
+          let under : u < length values = omega arith in
+          let is_variable : nat_lt u (variable_count c.graphs q) ≡ true =
+          (let within : u < variable_count c.graphs q = omega (arith, formal, entry.variables, entry.formals_are_variables) in grind (arith, nat_tests)) in
           passed_in c.plan q 0 values u u zeroed (omega arith) under (λ v below other. entry.apart u v is (omega arith) other)
-          ∙ ap Number (sym (among values (drop (length values) p.vars) u under))
+          ∙ (ap Number (sym (among values (drop (length values) p.vars) u under))
+          ∙ ap Number (sym (ap (λ b. elim b as (λ _. ℕ) [ true ↦ slice_index_or New.variables u 0 | false ↦ 0 ]) is_variable)))
       by false less (inl formal) = absurd (grind (arith, nat_tests, less, formal))
       by false less (inr listed) =
           let past : length values ≤ u = (let none : p.formals ≤ u = grind (arith, nat_tests, less) in omega arith) in
           passed_out c.plan q 0 values u zeroed (λ v le below. entry.apart u v is (omega arith) (omega arith))
           ∙ (zeros_hold c.plan q (c.zeroed q) u (running_.entered c.plan q h.point h.contents) listed.0 listed.1 listed.2
-          ∙ ap Number (sym (behind_all values (drop (length values) p.vars) u past)))
+          ∙ ap Number (sym (zero_value u past (nat_lt u (variable_count c.graphs q)))))
 
   passed_is_framed : fits_there ≡ true → IsFramed c.plan (stack_top s) q (suspensions c.graphs older ps) passed
   passed_is_framed fits =

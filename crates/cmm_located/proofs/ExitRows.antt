@@ -96,7 +96,7 @@ c_entry = record {
   is_entry = refl;
   numbered = refl;
   formals_are_variables = omega arith;
-  known = λ u is_live. (let first : u ≡ 0 = grind (arith, nat_tests, is_live) in (omega arith, inr (0, omega arith, sym first)));
+  known = λ u is_live. (let first : u ≡ 0 = grind (arith, nat_tests, is_live) in inr (0, omega arith, sym first));
   apart = λ u v is_live less other. absurd (omega arith);
 }
 
@@ -111,7 +111,7 @@ d_entry = record {
   is_entry = refl;
   numbered = refl;
   formals_are_variables = omega arith;
-  known = λ u is_live. (let few : u < 2 = grind (arith, nat_tests, is_live) in (omega arith, inl few));
+  known = λ u is_live. (let few : u < 2 = grind (arith, nat_tests, is_live) in inl few);
   apart = formals_apart;
 }
 

@@ -241,7 +241,7 @@ calling_entries (suc zero) p is =
       is_entry = refl;
       numbered = refl;
       formals_are_variables = omega arith;
-      known = λ u is_live. (let at : u ≡ 0 = first u is_live in (omega arith, inl (omega arith)));
+      known = λ u is_live. (let at : u ≡ 0 = first u is_live in inl (omega arith));
       apart = λ u v is_live less other. (let at : u ≡ 0 = first u is_live in absurd (omega arith));
     }
 calling_entries (suc (suc q)) p is = absurd (cc (is))

@@ -1,5 +1,5 @@
 -- the machine over places simulates the machine over graphs
-use Rattle.std.proofs.Common.{◌≡◌, ℕ, ◌+◌, ◌≤◌, Bool, true, false, List, arith, refl, sym, ap, ◌∙◌}
+use Rattle.std.proofs.Common.{◌≡◌, ℕ, ◌+◌, ◌≤◌, Bool, true, false, List, arith, refl, sym, ap, ◌∙◌, subst}
 use Rattle.cmm_following.proofs.Followings.{follows_of_simulates}
 use Rattle.cmm_program.specs.Control.{State}
 use Rattle.cmm_program.specs.Errors.{UncheckedError}
@@ -14,11 +14,12 @@ use Rattle.cmm_located.specs.LocatedMachine.{tokens_at}
 use Rattle.cmm_located.specs.Relation.{Liveness, Related}
 use Rattle.cmm_located.specs.RunningSteps.{IsCompiled}
 use Rattle.cmm_located.specs.Simulating.{PlacesFollow, PlacesSimulate, step_cost}
-use Rattle.cmm_located.specs.Steps.{IsFollowed}
+use Rattle.cmm_located.specs.Steps.{IsFollowed, kind_of_youngest, leads_on}
 use Rattle.cmm_located.proofs.Assembling.{costs_more, steps_are_followed}
 use Rattle.cmm_located.proofs.Clients.{clients_are_followed}
 use Rattle.cmm_located.proofs.Entries.{runs_begin_alike}
 use Rattle.cmm_located.proofs.Following.{wrong_in}
+use Rattle.cmm_located.proofs.LeadingOn.{nodes_are_followed}
 use Rattle.cmm_located.proofs.Levels.{related_are_level}
 use Rattle.cmm_located.proofs.Resting.{ends_are_followed}
 
@@ -43,13 +44,26 @@ module _ (by_reads : OrderIsByReads) (by_values : ValueIsByReads) (s : Setting) 
       differ : true ≡ false → ⊥
       differ is = absurd (cc)
 
+  abbrev running_cost : Bool → ℕ
+  running_cost leads = elim leads as (λ _. ℕ) [ true ↦ tokens_of_youngest c.graphs st | false ↦ tokens_of_youngest c.graphs st + most ]
+
+  cost_at : (status : Status) → st.store.status ≡ status → elim status as (λ _. ℕ) [ Running ↦ running_cost (leads_on (kind_of_youngest c st)) | _ ↦ most + most ]
+      ≡ step_cost c most st
+  cost_at status is = sym (ap (λ status. elim status as (λ _. ℕ) [ Running ↦ running_cost (leads_on (kind_of_youngest c st)) | _ ↦ most + most ]) is)
+
+  running_leads : st.store.status ≡ Running → (leads : Bool) → leads_on (kind_of_youngest c st) ≡ leads → IsFollowed s c live (running_cost leads) st at
+  running_leads is true leads = nodes_are_followed by_reads by_values s c live st at compiled.frames compiled.planned compiled.closed related is leads
+  running_leads is false leads = steps_are_followed by_reads by_values s c live most st at compiled related is
+
   step_leads : (status : Status) → st.store.status ≡ status → IsFollowed s c live (step_cost c most st) st at
-  step_leads Running is = costs_more s c live st at (tokens_of_youngest c.graphs st + most) (step_cost c most st) (omega arith)
-      (steps_are_followed by_reads by_values s c live most st at compiled related is)
+  step_leads Running is = subst (λ n. IsFollowed s c live n st at) (cost_at Running is) (running_leads is (leads_on (kind_of_youngest c st)) refl)
   step_leads (Waiting values) is = let within = in_most in
-      costs_more s c live st at (tokens_at s c at + most) (step_cost c most st) (omega arith) (clients_are_followed s c live most values st at compiled showable related is)
+      let cost = cost_at (Waiting values) is in
+      costs_more s c live st at (tokens_at s c at + most) (step_cost c most st) (omega (arith, cost))
+      (clients_are_followed s c live most values st at compiled showable related is)
   step_leads (Ended outcome) is = let within = in_most in
-      costs_more s c live st at (tokens_at s c at) (step_cost c most st) (omega arith)
+      let cost = cost_at (Ended outcome) is in
+      costs_more s c live st at (tokens_at s c at) (step_cost c most st) (omega (arith, cost))
       (ends_are_followed s c live st at outcome showable.variables showable.live related is)
   step_leads (Wrong error) is = λ right. absurd (goes_wrong error is right)
 

@@ -23,8 +23,8 @@ use Rattle.cmm_located.specs.Relation.{Liveness, AllWait, Related, suspensions, 
 use Rattle.cmm_located.specs.SameOrders.{HasFrames}
 use Rattle.cmm_located.specs.Steps.{IsClosed, IsFollowed, kind_of_youngest}
 
--- A procedure has its Entry. What is live behind that is a variable, which is a formal or is made 0; and a formal shares its place with
--- nothing else that is live there.
+-- A procedure has its Entry. What is live behind that is a formal or is made 0; and a formal shares its place with nothing else that is
+-- live there.
 pub record HasEntry (c : Compiled) (live : Liveness) (q : ℕ) (p : Proc) : Type 0 where
   pub exists : c.plan.is_procedure q ≡ true
   pub variables : variable_count c.graphs q ≡ length p.vars
@@ -35,7 +35,7 @@ pub record HasEntry (c : Compiled) (live : Liveness) (q : ℕ) (p : Proc) : Type
   pub is_entry : kind_at c.graphs q first ≡ Entry formals next
   pub numbered : map (λ v. v.number) formals ≡ range_with_len 0 p.formals
   pub formals_are_variables : p.formals ≤ length p.vars
-  pub known : (u : ℕ) → live q next u ≡ true → (u < length p.vars) × ((u < p.formals) ⊎ Contains (c.zeroed q) u)
+  pub known : (u : ℕ) → live q next u ≡ true → (u < p.formals) ⊎ Contains (c.zeroed q) u
   pub apart : (u v : ℕ) → live q next u ≡ true → v < p.formals → u ≢ v → c.plan.place q v ≢ c.plan.place q u
 
 -- Control is at the Entry of a procedure, with arguments and below a chain: the step there comes to what stands for the new activation,

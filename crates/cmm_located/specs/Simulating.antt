@@ -1,9 +1,9 @@
 -- Runs over places follow runs over graphs.
-use Rattle.std.specs.Prelude.{◌≡◌, ℕ, ◌+◌, List, Some}
+use Rattle.std.specs.Prelude.{◌≡◌, ℕ, ◌+◌, true, false, List, Some}
 use Rattle.cmm_program.specs.declared.procedure.Proc.{Proc}
 use Rattle.cmm_program.specs.Control.{State}
 use Rattle.cmm_program.specs.Frames.{procedure_at}
-use Rattle.cmm_program.specs.State.{Setting}
+use Rattle.cmm_program.specs.State.{Setting, Running}
 use Rattle.cmm_following.specs.Following.{Follows}
 use Rattle.cmm_following.specs.Simulation.{Simulates}
 use Rattle.cmm_laws.specs.Observed.{machine_of}
@@ -14,11 +14,18 @@ use Rattle.cmm_located.specs.Compiled.{Compiled}
 use Rattle.cmm_located.specs.LocatedMachine.{located_machine, located_start, located_step, tokens_at}
 use Rattle.cmm_located.specs.Relation.{Liveness, Related}
 use Rattle.cmm_located.specs.RunningSteps.{IsCompiled}
+use Rattle.cmm_located.specs.Steps.{kind_of_youngest, leads_on}
 
--- What a step over a graph costs over places, where no node has more than so many tokens: its node and a node where control lands, or
--- two nodes where the client answers.
+-- What a step over a graph costs over places, where no node has more than so many tokens: its node alone where that leads on, and a node
+-- where control lands beside it where control leaves the activation; where the client answers, or the run is over, two nodes at most.
 abbrev pub step_cost : Compiled → ℕ → State Position → ℕ
-step_cost c most st = tokens_of_youngest c.graphs st + (most + most)
+step_cost c most st = elim st.store.status [
+  | Running ↦ elim (leads_on (kind_of_youngest c st)) [
+    | true ↦ tokens_of_youngest c.graphs st
+    | false ↦ tokens_of_youngest c.graphs st + most
+  ]
+  | _ ↦ most + most
+]
 
 -- That one state stands for another is a simulation.
 abbrev pub PlacesSimulate : Type 0

@@ -1,0 +1,12 @@
+pub mod Slotted
+pub mod Members
+pub mod Touching
+pub mod Living
+pub mod Placing
+pub mod Exits
+pub mod Cutting
+pub mod Beginning
+pub mod Compiling
+pub mod Running
+pub mod Placed
+mod SmallRows

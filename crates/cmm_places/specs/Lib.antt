@@ -1,0 +1,5 @@
+pub mod Slots
+pub mod Places
+pub mod Compiling
+pub mod Placing
+pub mod Laws
