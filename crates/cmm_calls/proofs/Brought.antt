@@ -28,8 +28,7 @@ use Rattle.cmm_select.specs.declared.operand.Operand.TheVariants.{Held, Symbol}
 use Rattle.cmm_select.specs.declared.source.Source.{Source}
 use Rattle.cmm_select.specs.declared.source.Source.TheVariants.{Place, Number, Address}
 use Rattle.cmm_calls.proofs.Leaving.{left_further}
-use Rattle.cmm_calls.proofs.Putting.{plus_none}
-use Rattle.cmm_calls.proofs.Reached.{One}
+use Rattle.cmm_calls.proofs.Reached.{One, plus_none}
 use Rattle.cmm_calls.proofs.Standing.{both, frame_stays, place_reached}
 use Rattle.cmm_calls.proofs.Taken.{area_address, area_reached, passes_of, passes_then, value_in_area, value_in_register}
 use Rattle.cmm_calls.specs.Frames.{CanBeMade, CanReturn, HasFrame, Leaves, LetsWait, Returns, leave_cost, return_address}

@@ -9,7 +9,9 @@ mod Pairing
 mod Making
 mod Leaving
 mod Taken
+mod Copied
 mod Brought
 mod Beginning
 mod Going
 mod Rows
+pub mod Shared

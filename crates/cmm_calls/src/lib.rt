@@ -12,11 +12,13 @@
 //! - `entry`: a procedure is entered, and its frame is made.
 //! - `exit`: a frame is left, and control goes back.
 //! - `taking`: values that control brings come to places.
+//! - `copying`: values that control brings come to places and to global registers.
 //! - `giving`: values go out to where they travel.
 //! - `calling`: control goes to another procedure, or is cut to a continuation.
 #![tactic(auto)]
 
 mod calling;
+mod copying;
 mod entry;
 mod exit;
 mod giving;
@@ -27,6 +29,7 @@ mod taking;
 mod word;
 
 pub use calling::{call, call_by, cut, jump_by, lay_exits};
+pub use copying::copy_in;
 pub use entry::{begin, enter};
 pub use exit::{jump, leave, leave_by, return_values};
 pub use giving::give;

@@ -41,7 +41,7 @@ pub fn take(asm: &mut Asm, frame: &Frame, places: &[Location]) -> Result<(), All
 }
 
 /// Takes the value with this index to a place.
-fn take_value(asm: &mut Asm, index: u32, to: Location) -> Result<(), AllocError>
+pub(crate) fn take_value(asm: &mut Asm, index: u32, to: Location) -> Result<(), AllocError>
     requires few { index < 64 }
     requires place { IsPlace to }
     ensures takes { OnOk result (Adds 4 asm.old.parts asm.new.parts (Leads 4 (CanTake to) (λ s t. Puts to (value_in index s) s t))) }
@@ -57,7 +57,7 @@ fn take_value(asm: &mut Asm, index: u32, to: Location) -> Result<(), AllocError>
 }
 
 /// The instruction that loads a value from the argument area.
-fn load_value(index: u32) -> Instr
+pub(crate) fn load_value(index: u32) -> Instr
     requires area { 8 ≤ index }
     requires few { index < 64 }
     ensures is { result ≡ Ld 5 4 (pos (8 * (index - 8))) }

@@ -1,9 +1,10 @@
 -- Paths of moves: what keeps them as they grow, as a cycle is broken, and as their youngest move is done.
+use Rattle.std.specs.Prelude.{◌&&◌}
 use Rattle.std.proofs.Common.{◌≡◌, ℕ, ◌+◌, ◌*◌, ◌≤◌, ◌==◌, not, Bool, true, false, List, [], ◌∷◌, ◌++◌, length, refl, sym, ap, subst, ◌∙◌, append_assoc, append-nil, arith, length-append}
 use Rattle.std.specs.List.{list_any}
 use Rattle.std.proofs.lemmas.Bool.{or_from, or_parts, eqb-true, eq-eqb}
 use Rattle.cmm_moves.specs.declared.sequencing.Move.{Move}
-use Rattle.cmm_moves.specs.Moves.{in_order, at_once, is_target, is_source, are_apart}
+use Rattle.cmm_moves.specs.Moves.{in_order, at_once, is_outside, is_target, is_source, are_apart}
 use Rattle.cmm_moves.specs.inside.Pending.{IsChain, IsPath, is_spare, CanBeDone, IsTaken, IsFollowed, one_if, most_of, saved, redirected}
 use Rattle.cmm_moves.proofs.Places.{differ_both, none_of, none_in, none_between, none_with, apart_out, apart_in}
 use Rattle.cmm_moves.proofs.Moving.{in_order_after, stands_first, done_first, saved_first, idle}
@@ -49,6 +50,16 @@ most_push scratch (m ∷ ms) top r =
 most_pop : (scratch : ℕ) (p : List Move) (top : Move) → most_of scratch p + 1 ≤ most_of scratch (p ++ top ∷ [])
 most_pop scratch [] top = omega arith
 most_pop scratch (m ∷ ms) top = let more : length (ms ++ top ∷ []) ≡ length ms + 1 = length-append ms (top ∷ []) in omega arith
+
+-- ---- places inside a test
+
+both_pass : (a b : Bool) → not (a && b) ≡ false → (a ≡ true) × (b ≡ true)
+both_pass true true h = (refl, refl)
+both_pass true false h = absurd (cc)
+both_pass false b h = absurd (cc)
+
+passes : (a b : Bool) → a ≡ true → b ≡ true → not (a && b) ≡ false
+passes a b f g = rw (f, g) refl
 
 -- ---- a path grows by a move that waited
 
@@ -121,6 +132,9 @@ module _ (scratch : ℕ) (first : Move) (waited begun : List Move) where
         omega (arith, followed.fewer);
     few = let same : most_of scratch ((p ++ top ∷ []) ++ r ∷ []) + 2 * length (before ++ after) ≤ most_of scratch (p ++ top ∷ []) + 2 * length (before ++ r ∷ after) = few_pushed scratch p before after top r in
         omega (arith, followed.few);
+    inside = λ test spare pending old.
+        let stays = followed.inside test spare pending old in
+        (stays.0, none_moved (λ n. not (test n.to && test n.from)) (p ++ top ∷ []) before after r stays.1);
   }
 
   -- a move that reads what the youngest of a path writes is added to it
@@ -177,6 +191,15 @@ module _ (scratch : ℕ) (first : Move) (waited begun : List Move) (top : Move) 
       let none : one_if (not (scratch == scratch)) ≡ 0 = ap (λ t. one_if (not t)) (eq-eqb scratch scratch refl) in
       omega arith
 
+  inside_broken : (test : ℕ → Bool) (m : Move) (rest : List Move) → test scratch ≡ true → is_outside test done ≡ false → is_outside test (m ∷ rest) ≡ false →
+      (is_outside test (done ++ save m ∷ []) ≡ false) × (is_outside test (aside m ∷ rest) ≡ false)
+  inside_broken test m rest spare old stays =
+      let parts : (not (test m.to && test m.from) ≡ false) × (is_outside test rest ≡ false) = or_parts (not (test m.to && test m.from)) (is_outside test rest) stays in
+      let both : (test m.to ≡ true) × (test m.from ≡ true) = both_pass (test m.to) (test m.from) parts.0 in (
+        none_in (λ n. not (test n.to && test n.from)) done (save m ∷ []) old (or_from (not (test scratch && test m.from)) false (passes (test scratch) (test m.from) spare both.1) refl),
+        or_from (not (test m.to && test scratch)) (is_outside test rest) (passes (test m.to) (test scratch) both.0 spare) parts.1,
+      )
+
   cycle : (m : Move) (ms : List Move) → (m.from == top.to) ≡ true → Before (m ∷ ms) → Broken (aside m ∷ ms) (save m ∷ [])
   cycle m ms reads before = (
     record {
@@ -188,6 +211,9 @@ module _ (scratch : ℕ) (first : Move) (waited begun : List Move) (top : Move) 
       fewer = before.fewer;
       few = let same : length (done ++ save m ∷ []) + most_of scratch (aside m ∷ ms ++ top ∷ []) ≤ length done + most_of scratch (m ∷ ms ++ top ∷ []) = few_broken m ms reads before in
           omega (arith, before.few);
+      inside = λ test spare pending old.
+          let stays = before.inside test spare pending old in
+          inside_broken test m ((ms ++ top ∷ []) ++ waiting) spare stays.0 stays.1;
     },
     or_from (top.to == scratch) (is_source top.to ms) (differ_both scratch top.to (scratch_other (m ∷ ms) before)) (rest_unread m ms before),
   )
@@ -227,6 +253,11 @@ module _ (scratch : ℕ) (first : Move) (waited begun : List Move) (top : Move) 
     few = let more : length (done ++ top ∷ []) ≡ length done + 1 = length-append done (top ∷ []) in
         let less : most_of scratch p + 1 ≤ most_of scratch (p ++ top ∷ []) = most_pop scratch p top in
         omega (arith, followed.few);
+    inside = λ test spare pending old.
+        let stays = followed.inside test spare pending old in
+        let out : Move → Bool = λ n. not (test n.to && test n.from) in
+        let parts : (out top ≡ false) × (list_any out (p ++ waiting) ≡ false) = none_between out p waiting top (ap (list_any out) (sym (put_on p waiting top)) ∙ stays.1) in
+        (none_in out done (top ∷ []) stays.0 (or_from (out top) false parts.0 refl), parts.1);
   }
 
   -- the youngest move of a path is done where no move that waits reads what it writes
@@ -260,6 +291,7 @@ begun_with scratch first waiting done can = record {
   values = λ has x other. refl;
   fewer = omega arith;
   few = let most : one_if (not (first.from == scratch)) ≤ 1 = one_at_most (not (first.from == scratch)) in omega arith;
+  inside = λ test spare pending old. (old, pending);
 }
   where
     one_at_most : (test : Bool) → one_if test ≤ 1
@@ -292,3 +324,15 @@ pub skipped : (scratch : ℕ) (ms waiting : List Move) (first : Move) (has : ℕ
 skipped scratch ms waiting first has x ms_is can itself =
     let out : (is_target first.to (waiting ++ []) ≡ false) × (are_apart (waiting ++ []) ≡ true) = apart_out waiting [] first (ap are_apart (sym ms_is) ∙ can.apart) in
     sym (idle waiting first has x (ap (is_target first.to) (sym (append-nil waiting)) ∙ out.0) itself) ∙ ap (λ l. at_once l has x) (sym ms_is)
+
+-- the last of them, and the others, stay inside a test
+pub first_inside : (test : ℕ → Bool) (ms waiting : List Move) (first : Move) → ms ≡ waiting ++ first ∷ [] → is_outside test ms ≡ false → is_outside test (first ∷ waiting) ≡ false
+first_inside test ms waiting first ms_is inside =
+    let out : Move → Bool = λ n. not (test n.to && test n.from) in
+    let parts : (list_any out waiting ≡ false) × (list_any out (first ∷ []) ≡ false) = none_of out waiting (first ∷ []) (ap (list_any out) (sym ms_is) ∙ inside) in
+    or_from (out first) (list_any out waiting) (or_parts (out first) false parts.1).0 parts.0
+
+pub left_inside : (test : ℕ → Bool) (ms waiting : List Move) (first : Move) → ms ≡ waiting ++ first ∷ [] → is_outside test ms ≡ false → is_outside test waiting ≡ false
+left_inside test ms waiting first ms_is inside =
+    let out : Move → Bool = λ n. not (test n.to && test n.from) in
+    (none_of out waiting (first ∷ []) (ap (list_any out) (sym ms_is) ∙ inside)).0

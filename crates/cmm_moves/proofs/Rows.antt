@@ -1,7 +1,8 @@
 -- Small moves, worked out by hand. At first each place has ten times its number.
-use Rattle.std.proofs.Common.{◌≡◌, ℕ, ◌*◌, false, [], ◌∷◌, map, refl}
+use Rattle.std.proofs.Common.{◌≡◌, ℕ, ◌*◌, true, false, [], ◌∷◌, map, refl}
+use Rattle.std.specs.Prelude.{nat_le}
 use Rattle.cmm_moves.specs.declared.sequencing.Move.{Move}
-use Rattle.cmm_moves.specs.Moves.{in_order, at_once, are_apart}
+use Rattle.cmm_moves.specs.Moves.{in_order, at_once, are_apart, is_outside}
 
 move : ℕ → ℕ → Move
 move to from = record { to = to; from = from }
@@ -35,3 +36,8 @@ row_chain = refl
 row_one_target : are_apart (move 1 2 ∷ move 2 1 ∷ move 1 3 ∷ []) ≡ false
 unfolding opened
 row_one_target = refl
+
+-- places up to 3
+row_outside : (is_outside (λ place. nat_le place 3) (move 1 2 ∷ move 2 3 ∷ []) ≡ false) × (is_outside (λ place. nat_le place 3) (move 1 2 ∷ move 2 4 ∷ []) ≡ true)
+unfolding opened
+row_outside = (refl, refl)

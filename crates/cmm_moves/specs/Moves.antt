@@ -28,3 +28,7 @@ is_source place ms = list_any (λ m. place == m.from) ms
 abbrev pub are_apart : List Move → Bool
 are_apart [] = true
 are_apart (m ∷ ms) = not (is_target m.to ms) && are_apart ms
+
+-- a move mentions a place that does not pass a test
+abbrev pub is_outside : (ℕ → Bool) → List Move → Bool
+is_outside test ms = list_any (λ m. not (test m.to && test m.from)) ms

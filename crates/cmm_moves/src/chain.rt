@@ -1,7 +1,7 @@
 //! One chain of moves.
 
 ghost use Rattle.std.specs.Prelude.{◌≡◌, ◌≢◌, ◌≤◌, ◌+◌, ◌*◌, [], ◌∷◌, ◌++◌, length, OnOk};
-ghost use Rattle.cmm_moves.specs.inside.Pending.{CanBeDone, GoesOn, redirected, saved};
+ghost use Rattle.cmm_moves.specs.inside.Pending.{CanBeDone, GoesOn, StaysInside, redirected, saved};
 
 use crate::sequencing::Move;
 use crate::waiting::take_reader;
@@ -41,6 +41,7 @@ pub(crate) fn follow(
     requires { CanBeDone scratch (first ∷ []) waiting.old.items }
     ensures left { OnOk result (CanBeDone scratch [] waiting.new.items) }
     ensures values { OnOk result (GoesOn scratch done.old (first ∷ waiting.old.items) done.new waiting.new.items) }
+    ensures inside { OnOk result (StaysInside scratch done.old (first ∷ waiting.old.items) done.new waiting.new.items) }
     ensures fewer { OnOk result (length waiting.new.items ≤ length waiting.old.items) }
     ensures few { OnOk result (length done.new + 2 * length waiting.new.items ≤ length done.old + 2 * (length waiting.old.items + 1)) }
 {

@@ -1,7 +1,7 @@
 //! The call `sequence`.
 
-ghost use Rattle.std.specs.Prelude.{◌≡◌, ◌≢◌, ◌≤◌, ◌*◌, ℕ, true, false, length, IfOk};
-ghost use Rattle.cmm_moves.specs.Moves.{in_order, at_once, is_target, is_source, are_apart};
+ghost use Rattle.std.specs.Prelude.{◌≡◌, ◌≢◌, ◌≤◌, ◌*◌, ℕ, Bool, true, false, length, IfOk};
+ghost use Rattle.cmm_moves.specs.Moves.{in_order, at_once, is_outside, is_target, is_source, are_apart};
 
 use crate::chain::follow;
 use cmm_items::Items;
@@ -15,7 +15,7 @@ pub struct Move {
 }
 
 /// A sequence of moves that, done in order, gives each place what the given moves give it when they are done at once, but for the scratch
-/// place. There are at most twice as many. The targets of the given moves differ, and none of them mentions the scratch place. Time is
+/// place. There are at most twice as many, and they mention no place but the scratch place and those that the given moves mention. The targets of the given moves differ, and none of them mentions the scratch place. Time is
 /// quadratic in the moves, which are those of one node. Fails only for want of memory.
 pub fn sequence(alloc: Global, moves: &[Move], scratch: u32) -> Result<Items<Move>, AllocError>
     requires apart { are_apart moves.now ≡ true }
@@ -23,6 +23,7 @@ pub fn sequence(alloc: Global, moves: &[Move], scratch: u32) -> Result<Items<Mov
     requires unread { is_source scratch moves.now ≡ false }
     ensures values { IfOk result (λ done. (has : ℕ → ℕ) (x : ℕ) → x ≢ scratch → in_order done has x ≡ at_once moves.now has x) }
     ensures few { IfOk result (λ done. length done ≤ 2 * length moves.now) }
+    ensures inside { (test : ℕ → Bool) → test scratch ≡ true → is_outside test moves.now ≡ false → IfOk result (λ done. is_outside test done ≡ false) }
 {
     let mut waiting = Vec::new(alloc);
     waiting.extend_from_slice(moves)?;

@@ -43,6 +43,16 @@ moved u v n e f = omega arith
 more_sum : (u v n : ℕ) → n < 2 ^ 64 → u ≡ (n + 2048) / 4096 → v ≡ shifted_left u 12 → sum v (modulo 64 (signed 12 n)) ≡ n
 more_sum u v n h e f = join v (modulo 64 (signed 12 n)) ((n + 2048) / 4096 * 4096) n (moved u v n e f) (rest n h)
 
+-- ---- a number that an immediate has
+
+small_sum : (z n : ℕ) → z ≡ 0 → n < 2048 → sum z (modulo 64 (pos n)) ≡ n
+small_sum z n none small = omega arith
+
+pub sets_small : (x : Code) (rd n from to : ℕ) → rd ≢ 0 → n < 2048 → One (Addi rd 0 (pos n)) x from to → Leads 2 Always (λ s t. Sets rd n s t) x from to
+sets_small x rd n from to written small does =
+    leads_weaker (leads_set x (Addi rd 0 (pos n)) from to rd (λ g. sum (g 0) (modulo 64 (pos n))) written (λ g pc. refl) does) (omega arith)
+    (λ s sound p. tt) (λ s t sound p sets. set_as rd (sum (s.registers 0) (modulo 64 (pos n))) n s t (small_sum (s.registers 0) n sound.zero small) sets)
+
 -- ---- instructions
 
 module _ (x : Code) (rd n from to : ℕ) (written : rd ≢ 0) where

@@ -27,7 +27,8 @@ use Rattle.cmm_select.proofs.Places.{One, set_as}
 use Rattle.cmm_select.proofs.Sums.{loaded_whole, plus_near}
 use Rattle.cmm_select.specs.Cells.{IsCell, Loads}
 use Rattle.cmm_select.specs.Memory.{IsCellBy, access_of, access_of_half, access_of_word}
-use Rattle.cmm_select.specs.inside.Gathering.{CanAccess, Gathers, Joins, Scatters, load_part, shift_down, shift_up, store_part}
+use Rattle.cmm_select.specs.inside.Accesses.{load_part, store_part}
+use Rattle.cmm_select.specs.inside.Gathering.{CanAccess, Gathers, Joins, Scatters, shift_down, shift_up}
 
 -- ---- numbers of bytes that are put together
 

@@ -1,6 +1,5 @@
 mod Sums
 mod Places
-mod Numbers
 mod Constants
 mod Wide
 mod Widths
@@ -27,3 +26,4 @@ mod Ranging
 mod Short
 mod Gathering
 mod Rows
+pub mod Shared

@@ -33,7 +33,7 @@ same_set rd u v s t w first second = record {
 pub set_as : (rd u v : ℕ) (s t : State) → u ≡ v → Sets rd u s t → Sets rd v s t
 set_as rd u v s t is sets = record { given = sets.given ∙ is; others = sets.others; memory = sets.memory }
 
-not_same : (r rd : ℕ) → r ≢ rd → (r == rd) ≡ false
+pub not_same : (r rd : ℕ) → r ≢ rd → (r == rd) ≡ false
 not_same r rd h = grind (arith, nat_tests)
 
 -- another register is as it was

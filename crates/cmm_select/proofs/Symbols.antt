@@ -1,7 +1,6 @@
 -- What names a label: operands, and global registers.
 use Rattle.std.proofs.Common.{◌≡◌, ◌≢◌, ℕ, ◌+◌, ◌<◌, ◌^◌, refl, sym, ◌∙◌, ap, subst, arith, pos, true, false}
 use Rattle.std.specs.Prelude.{◌==◌, ◌||◌, Bool, IsTrue}
-use Rattle.std.proofs.lemmas.Bool.Decides.{nat_tests}
 use Rattle.rv_asm.specs.Appending.{Then}
 use Rattle.rv_asm.specs.Parts.{Code, Does}
 use Rattle.rv_asm.specs.declared.part.Label.{Label}
@@ -14,7 +13,7 @@ use Rattle.cmm_changes.proofs.Shared.{leads_address, leads_load, leads_set, lead
 use Rattle.cmm_changes.specs.Accesses.{CanReachGlobal, PutsGlobal, global_at}
 use Rattle.cmm_changes.specs.Changes.{Sets, Writes, is_scratch}
 use Rattle.cmm_changes.specs.Pieces.{Always, Leads}
-use Rattle.cmm_select.proofs.Places.{One, same_set, set_as}
+use Rattle.cmm_select.proofs.Places.{One, not_same, same_set, set_as}
 use Rattle.cmm_select.proofs.Sums.{loaded_whole}
 use Rattle.cmm_select.specs.Operands.{Brings}
 
@@ -29,9 +28,6 @@ first_false false b h = refl
 second_false : (a b : Bool) → (a || b) ≡ false → b ≡ false
 second_false false b h = h
 second_false true b h = absurd (cc)
-
-not_same : (r rd : ℕ) → r ≢ rd → (r == rd) ≡ false
-not_same r rd h = grind (arith, nat_tests)
 
 -- where a register is set, nothing but it and register 6 is changed
 pub brings_set : (rd n : ℕ) (s t : State) → Sets rd n s t → Brings rd n s t
@@ -137,13 +133,13 @@ module _ (x : Code) (from to : ℕ) (l : Label) where
           ∙ ap (λ (a : ℕ). loaded t.memory a 8) (there 5 s t can first)
           ∙ ap (λ (m : ℕ → ℕ). loaded m (s.registers 4 + x.at l.number) 8) first.memory) second)
 
-  pub stores_global : Then (Leads 3 Always (λ s t. Sets 6 (sum (x.at l.number) (s.registers 4)) s t)) (One (Sd 6 5 (pos 0))) x from to →
-      Leads 4 (CanReachGlobal (x.at l.number)) (λ s t. PutsGlobal (x.at l.number) (s.registers 5) s t) x from to
-  stores_global does =
+  pub stores_global : (k : ℕ) → k ≢ 6 → Then (Leads 3 Always (λ s t. Sets 6 (sum (x.at l.number) (s.registers 4)) s t)) (One (Sd 6 k (pos 0))) x from to →
+      Leads 4 (CanReachGlobal (x.at l.number)) (λ s t. PutsGlobal (x.at l.number) (s.registers k) s t) x from to
+  stores_global k other does =
       leads_weaker
       (leads_then
       (leads_weaker {R = CanReachGlobal (x.at l.number)} {S = λ s t. Sets 6 (sum (x.at l.number) (s.registers 4)) s t} {b = 3} does.1 (omega arith) (λ s sound can. tt) (λ s t sound can sets. sets))
-      (runs_of (leads_store x (Sd 6 5 (pos 0)) does.0 to 8 (λ g. sum (g 6) (modulo 64 (pos 0))) (λ g. g 5) (λ g pc. refl) does.2))
+      (runs_of (leads_store x (Sd 6 k (pos 0)) does.0 to 8 (λ g. sum (g 6) (modulo 64 (pos 0))) (λ g. g k) (λ g pc. refl) does.2))
       (λ s t sound also can sets. reached 6 s t can sets))
       (omega arith) (λ s sound can. can)
       (λ s w sound can both. stored_there s both.0 w can both.1 both.2)
@@ -152,12 +148,12 @@ module _ (x : Code) (from to : ℕ) (l : Label) where
       six r h e = let g : is_scratch 6 ≡ false = subst (λ (k : ℕ). is_scratch k ≡ false) e h in absurd (cc)
 
       stored_there : (s t w : State) → CanReachGlobal (x.at l.number) x.map s → Sets 6 (sum (x.at l.number) (s.registers 4)) s t →
-          Writes (sum (t.registers 6) (modulo 64 (pos 0))) 8 (t.registers 5) t w → Writes (s.registers 4 + x.at l.number) 8 (s.registers 5) s w
+          Writes (sum (t.registers 6) (modulo 64 (pos 0))) 8 (t.registers k) t w → Writes (s.registers 4 + x.at l.number) 8 (s.registers k) s w
       stored_there s t w can first second = record {
         registers = λ r h. second.registers r h ∙ first.others r (not_same r 6 (six r h));
         memory =
             second.memory
-            ∙ ap (λ (m : ℕ → ℕ). stored m (sum (t.registers 6) (modulo 64 (pos 0))) 8 (t.registers 5)) first.memory
-            ∙ ap (λ (a : ℕ). stored s.memory a 8 (t.registers 5)) (there 6 s t can first)
-            ∙ ap (stored s.memory (s.registers 4 + x.at l.number) 8) (first.others 5 refl);
+            ∙ ap (λ (m : ℕ → ℕ). stored m (sum (t.registers 6) (modulo 64 (pos 0))) 8 (t.registers k)) first.memory
+            ∙ ap (λ (a : ℕ). stored s.memory a 8 (t.registers k)) (there 6 s t can first)
+            ∙ ap (stored s.memory (s.registers 4 + x.at l.number) 8) (first.others k (not_same k 6 other));
       }

@@ -7,9 +7,9 @@ ghost use Rattle.cmm_changes.specs.Changes.{Writes};
 ghost use Rattle.cmm_changes.specs.Pieces.{Adds, Leads};
 ghost use Rattle.cmm_select.specs.Cells.{Loads};
 ghost use Rattle.cmm_select.specs.Memory.{IsCellBy, access_of as widest, access_of_half, access_of_word, accesses};
-ghost use Rattle.cmm_select.specs.inside.Gathering.{CanAccess, Gathers, Joins, Scatters, load_part as part_loaded, shift_down as shifted_down, shift_up as shifted_up, store_part as part_stored};
+ghost use Rattle.cmm_select.specs.inside.Gathering.{CanAccess, Gathers, Joins, Scatters, shift_down as shifted_down, shift_up as shifted_up};
 
-use crate::cell::load_cell;
+use crate::cell::{load_cell, load_part, store_part};
 use crate::place::{FIRST, HELP, SECOND};
 use cmm_words::Width;
 use rv_asm::Asm;
@@ -133,37 +133,6 @@ fn scatter(asm: &mut Asm, access: Width, offset: u32, count: u32) -> Result<(), 
     asm.emit(shift_down(access))?;
     scatter(asm, access, offset + access.bytes() as u32, count - 1)?;
     Ok(())
-}
-
-/// The instruction that loads a word of a width with zeros above it, at an offset from the address in register 5.
-fn load_part(width: Width, rd: u8, offset: u32) -> Instr
-    requires register { rd < 32 }
-    requires offset { offset < 2048 }
-    ensures is { result ≡ part_loaded width rd offset }
-    ensures valid { IsValid result }
-{
-    let (rs1, imm) = (FIRST, offset as i32);
-    match width {
-        Width::W8 => Instr::Lbu { rd, rs1, imm },
-        Width::W16 => Instr::Lhu { rd, rs1, imm },
-        Width::W32 => Instr::Lwu { rd, rs1, imm },
-        Width::W64 => Instr::Ld { rd, rs1, imm },
-    }
-}
-
-/// The instruction that stores the low bytes of register 7 there.
-fn store_part(width: Width, offset: u32) -> Instr
-    requires { offset < 2048 }
-    ensures is { result ≡ part_stored width offset }
-    ensures valid { IsValid result }
-{
-    let (rs1, rs2, imm) = (FIRST, SECOND, offset as i32);
-    match width {
-        Width::W8 => Instr::Sb { rs1, rs2, imm },
-        Width::W16 => Instr::Sh { rs1, rs2, imm },
-        Width::W32 => Instr::Sw { rs1, rs2, imm },
-        Width::W64 => Instr::Sd { rs1, rs2, imm },
-    }
 }
 
 /// The instruction that makes room in register 7 for a word of a width below what is there.

@@ -1,12 +1,12 @@
 //! Words of memory are loaded and stored.
 
-ghost use Rattle.std.specs.Prelude.{◌≡◌, OnOk};
+ghost use Rattle.std.specs.Prelude.{◌≡◌, ◌<◌, OnOk};
 ghost use Rattle.cmm_words.specs.Widths.{bytes};
 ghost use Rattle.rv_table.specs.Table.{IsValid};
 ghost use Rattle.cmm_changes.specs.Changes.{Writes};
 ghost use Rattle.cmm_changes.specs.Pieces.{Adds, Leads};
 ghost use Rattle.cmm_select.specs.Cells.{IsCell, Loads};
-ghost use Rattle.cmm_select.specs.inside.Accesses.{load_of, store_of};
+ghost use Rattle.cmm_select.specs.inside.Accesses.{load_part as part_loaded, store_part as part_stored};
 
 use crate::place::{FIRST, SECOND};
 use cmm_words::Width;
@@ -19,7 +19,7 @@ pub fn load_cell(asm: &mut Asm, width: Width) -> Result<(), AllocError>
     ensures loads { OnOk result (Adds 1 asm.old.parts asm.new.parts (Leads 1 (IsCell width) (Loads width))) }
     ensures labels { asm.new.labels ≡ asm.old.labels }
 {
-    asm.emit(load_instruction(width))?;
+    asm.emit(load_part(width, FIRST, 0))?;
     Ok(())
 }
 
@@ -29,16 +29,18 @@ pub fn store_cell(asm: &mut Asm, width: Width) -> Result<(), AllocError>
     ensures stores { OnOk result (Adds 1 asm.old.parts asm.new.parts (Leads 1 (IsCell width) (λ s t. Writes (s.registers 5) (bytes width) (s.registers 7) s t))) }
     ensures labels { asm.new.labels ≡ asm.old.labels }
 {
-    asm.emit(store_instruction(width))?;
+    asm.emit(store_part(width, 0))?;
     Ok(())
 }
 
-/// The instruction that loads a word of a width with zeros above it.
-fn load_instruction(width: Width) -> Instr
-    ensures is { result ≡ load_of width }
+/// The instruction that loads a word of a width with zeros above it, at an offset from the address in register 5.
+pub(crate) fn load_part(width: Width, rd: u8, offset: u32) -> Instr
+    requires register { rd < 32 }
+    requires offset { offset < 2048 }
+    ensures is { result ≡ part_loaded width rd offset }
     ensures valid { IsValid result }
 {
-    let (rd, rs1, imm) = (FIRST, FIRST, 0);
+    let (rs1, imm) = (FIRST, offset as i32);
     match width {
         Width::W8 => Instr::Lbu { rd, rs1, imm },
         Width::W16 => Instr::Lhu { rd, rs1, imm },
@@ -47,12 +49,13 @@ fn load_instruction(width: Width) -> Instr
     }
 }
 
-/// The instruction that stores a word of a width.
-fn store_instruction(width: Width) -> Instr
-    ensures is { result ≡ store_of width }
+/// The instruction that stores the low bytes of register 7 there.
+pub(crate) fn store_part(width: Width, offset: u32) -> Instr
+    requires { offset < 2048 }
+    ensures is { result ≡ part_stored width offset }
     ensures valid { IsValid result }
 {
-    let (rs1, rs2, imm) = (FIRST, SECOND, 0);
+    let (rs1, rs2, imm) = (FIRST, SECOND, offset as i32);
     match width {
         Width::W8 => Instr::Sb { rs1, rs2, imm },
         Width::W16 => Instr::Sh { rs1, rs2, imm },

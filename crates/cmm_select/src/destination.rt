@@ -3,7 +3,7 @@
 ghost use Rattle.std.specs.Prelude.{◌≡◌, ◌≢◌, ◌+◌, ◌<◌, ◌≤◌, OnOk};
 ghost use Rattle.rv_asm.specs.Assembly.{IsLabel};
 ghost use Rattle.rv_table.specs.Words.{sum};
-ghost use Rattle.cmm_changes.specs.Accesses.{CanReachGlobal, global_at};
+ghost use Rattle.cmm_changes.specs.Accesses.{CanReachGlobal, PutsGlobal, global_at};
 ghost use Rattle.cmm_changes.specs.Changes.{Sets};
 ghost use Rattle.cmm_changes.specs.Pieces.{Adds, Always, Leads};
 ghost use Rattle.cmm_select.specs.Destinations.{IsDestination, PutsFirst};
@@ -38,22 +38,25 @@ pub fn put(asm: &mut Asm, to: &Destination) -> Result<(), AllocError>
             Ok(())
         }
         Destination::Register(of) => {
-            store_global(asm, of)?;
+            put_global(asm, FIRST, of)?;
             Ok(())
         }
     }
 }
 
-/// Puts the number in register 5 into a global register.
-fn store_global(asm: &mut Asm, of: Label) -> Result<(), AllocError>
-    requires { IsLabel asm.old.labels of }
-    ensures puts { OnOk result (Adds 4 asm.old.parts asm.new.parts (PutsFirst (Destination.Register of))) }
+/// Puts what a register other than 6 has into a global register, whose offset in the region a label stands for. An error is want of memory, and then
+/// some of the instructions may be there.
+pub fn put_global(asm: &mut Asm, register: u8, of: Label) -> Result<(), AllocError>
+    requires label { IsLabel asm.old.labels of }
+    requires register { register < 32 }
+    requires other { register ≢ 6 }
+    ensures puts { OnOk result (Adds 4 asm.old.parts asm.new.parts (λ x. Leads 4 (CanReachGlobal (x.at of.number)) (λ s t. PutsGlobal (x.at of.number) (s.registers register) s t) x)) }
     ensures labels { asm.new.labels ≡ asm.old.labels }
 {
     find_global(asm, of, HELP)?;
     asm.emit(Instr::Sd {
         rs1: HELP,
-        rs2: FIRST,
+        rs2: register,
         imm: 0,
     })?;
     Ok(())

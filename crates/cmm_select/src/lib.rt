@@ -53,11 +53,11 @@ pub use assigning::{
 };
 pub use cell::{load_cell, store_cell};
 pub use comparing::{branch, compare};
-pub use destination::{Destination, put, read_global};
+pub use destination::{Destination, put, put_global, read_global};
 pub use going::{decide, go_on, go_to, stop};
 pub use host::{get_byte, put_byte};
 pub use memory::{assign_loaded, store};
-pub use number::{load_constant, load_number};
+pub use number::{load_constant, load_low};
 pub use operand::{Operand, bring_both, bring_operand};
 pub use operator::{extend, narrow, operate};
 pub use place::{read, write};

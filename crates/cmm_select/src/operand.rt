@@ -2,14 +2,12 @@
 
 ghost use Rattle.std.specs.Prelude.{◌≡◌, ◌≢◌, ◌+◌, ◌^◌, ◌<◌, ◌≤◌, OnOk};
 ghost use Rattle.rv_asm.specs.Assembly.{IsLabel};
-ghost use Rattle.cmm_changes.specs.Changes.{Sets};
-ghost use Rattle.cmm_changes.specs.Pieces.{Adds, Leads};
-ghost use Rattle.cmm_select.specs.Operands.{BringsBoth, BringsOperand, IsOperand, most_for, most_for_source};
-ghost use Rattle.cmm_select.specs.Sources.{CanBring, IsSource, brought};
+ghost use Rattle.cmm_changes.specs.Pieces.{Adds};
+ghost use Rattle.cmm_select.specs.Operands.{BringsBoth, BringsOperand, IsOperand, most_for};
 
 use crate::number::load_constant;
-use crate::place::{FIRST, HELP, SECOND, read};
-use crate::source::{Source, address};
+use crate::place::{FIRST, HELP, SECOND};
+use crate::source::{Source, bring};
 use rv_asm::{Asm, Label};
 use rv_table::Instr;
 use std::alloc::AllocError;
@@ -35,35 +33,11 @@ pub fn bring_operand(asm: &mut Asm, from: &Operand, rd: u8) -> Result<(), AllocE
 {
     match *from {
         Operand::Held(source) => {
-            bring_held(asm, source, rd)?;
+            bring(asm, source, rd)?;
             Ok(())
         }
         Operand::Symbol { of, plus } => {
             bring_symbol(asm, of, plus, rd)?;
-            Ok(())
-        }
-    }
-}
-
-/// Brings what the activation has, or a number.
-fn bring_held(asm: &mut Asm, from: Source, rd: u8) -> Result<(), AllocError>
-    requires source { IsSource from }
-    requires low { 5 ≤ rd }
-    requires high { rd ≤ 7 }
-    ensures brings { OnOk result (Adds (most_for_source from) asm.old.parts asm.new.parts (Leads (most_for_source from) (CanBring from) (λ s t. Sets rd (brought from s) s t))) }
-    ensures labels { asm.new.labels ≡ asm.old.labels }
-{
-    match from {
-        Source::Place(place) => {
-            read(asm, place, rd)?;
-            Ok(())
-        }
-        Source::Number(number) => {
-            load_constant(asm, number, rd)?;
-            Ok(())
-        }
-        Source::Address(offset) => {
-            address(asm, offset, rd)?;
             Ok(())
         }
     }

@@ -3,9 +3,10 @@
 ghost use Rattle.std.specs.Prelude.{◌≡◌, ◌+◌, ◌^◌, ◌<◌, ◌≤◌, OnOk};
 ghost use Rattle.cmm_changes.specs.Changes.{Sets};
 ghost use Rattle.cmm_changes.specs.Pieces.{Adds, Leads};
+ghost use Rattle.cmm_select.specs.Operands.{most_for_source};
 ghost use Rattle.cmm_select.specs.Sources.{CanBring, IsSource, brought};
 
-use crate::number::load_number;
+use crate::number::load_constant;
 use crate::place::{FRAME, NEAR, add_to, approach, read};
 use cmm_chain::Location;
 use rv_asm::Asm;
@@ -23,20 +24,20 @@ pub enum Source {
 }
 
 /// Brings an operand into register `rd`, one of 5 to 7. An error is want of memory, and then some of the instructions may be there.
-pub fn bring(asm: &mut Asm, from: &Source, rd: u8) -> Result<(), AllocError>
-    requires source { IsSource from.now }
+pub fn bring(asm: &mut Asm, from: Source, rd: u8) -> Result<(), AllocError>
+    requires source { IsSource from }
     requires low { 5 ≤ rd }
     requires high { rd ≤ 7 }
-    ensures brings { OnOk result (Adds 11 asm.old.parts asm.new.parts (Leads 11 (CanBring from.now) (λ s t. Sets rd (brought from.now s) s t))) }
+    ensures brings { OnOk result (Adds (most_for_source from) asm.old.parts asm.new.parts (Leads (most_for_source from) (CanBring from) (λ s t. Sets rd (brought from s) s t))) }
     ensures labels { asm.new.labels ≡ asm.old.labels }
 {
-    match *from {
+    match from {
         Source::Place(place) => {
             read(asm, place, rd)?;
             Ok(())
         }
         Source::Number(number) => {
-            load_number(asm, number, rd, 5)?;
+            load_constant(asm, number, rd)?;
             Ok(())
         }
         Source::Address(offset) => {

@@ -2,7 +2,7 @@
 -- can be done once the one after it is.
 use Rattle.std.specs.Prelude.{◌≡◌, ◌≢◌, ℕ, ◌+◌, ◌*◌, ◌≤◌, ◌==◌, not, Bool, true, false, List, [], ◌∷◌, ◌++◌, length, slice_index_or}
 use Rattle.cmm_moves.specs.declared.sequencing.Move.{Move}
-use Rattle.cmm_moves.specs.Moves.{in_order, at_once, is_target, is_source, are_apart}
+use Rattle.cmm_moves.specs.Moves.{in_order, at_once, is_outside, is_target, is_source, are_apart}
 
 -- each move reads what the one before it writes, the first of them a place
 abbrev pub IsChain : ℕ → List Move → Type 0
@@ -31,6 +31,11 @@ pub record CanBeDone (scratch : ℕ) (path waiting : List Move) : Type 0 where
 abbrev pub GoesOn : ℕ → List Move → List Move → List Move → List Move → Type 0
 GoesOn scratch done pending more left =
     (has : ℕ → ℕ) (x : ℕ) → x ≢ scratch → at_once left (in_order more has) x ≡ at_once pending (in_order done has) x
+
+-- where no move that is to be done, and none that is done, mentions a place outside a test that the scratch place passes, none does after
+abbrev pub StaysInside : ℕ → List Move → List Move → List Move → List Move → Type 0
+StaysInside scratch done pending more left =
+    (test : ℕ → Bool) → test scratch ≡ true → is_outside test pending ≡ false → is_outside test done ≡ false → (is_outside test more ≡ false) × (is_outside test left ≡ false)
 
 -- what the move at an index reads
 abbrev pub reads_at : List Move → ℕ → ℕ
@@ -69,3 +74,4 @@ pub record IsFollowed (scratch : ℕ) (first : Move) (waited : List Move) (begun
   pub values : GoesOn scratch begun (first ∷ waited) done (path ++ waiting)
   pub fewer : length waiting ≤ length waited
   pub few : length done + most_of scratch path + 2 * length waiting ≤ length begun + 2 * (length waited + 1)
+  pub inside : StaysInside scratch begun (first ∷ waited) done (path ++ waiting)

@@ -1,26 +1,13 @@
--- Words of memory in several accesses of a width, each at its offset from the address in register 5: RISC-V ISA Volume I, "Load and Store
--- Instructions".
+-- Words of memory in several accesses of a width, each at its offset from the address in register 5.
 use Rattle.std.specs.Prelude.{◌≡◌, ℕ, ◌+◌, ◌*◌, ◌<◌, ◌≤◌, ◌^◌, ◌==◌, ◌||◌, pos, IsTrue}
 use Rattle.cmm_words.specs.Widths.{bytes}
 use Rattle.cmm_words.specs.declared.width.Width.{Width}
 use Rattle.cmm_words.specs.declared.width.Width.TheVariants.{W8, W16, W32, W64}
 use Rattle.rv_table.specs.Machine.{MemoryMap, State, is_accessible, loaded}
 use Rattle.rv_table.specs.declared.instruction.Instr.{Instr}
-use Rattle.rv_table.specs.declared.instruction.Instr.TheVariants.{Lbu, Lhu, Lwu, Ld, Sb, Sh, Sw, Sd, Slli, Srli}
+use Rattle.rv_table.specs.declared.instruction.Instr.TheVariants.{Slli, Srli}
 use Rattle.rv_table.specs.Words.{shifted_left, sum}
 use Rattle.cmm_changes.specs.Changes.{Keeps, KeepsBut, Writes}
-
-abbrev pub load_part : Width → ℕ → ℕ → Instr
-load_part W8 rd o = Lbu rd 5 (pos o)
-load_part W16 rd o = Lhu rd 5 (pos o)
-load_part W32 rd o = Lwu rd 5 (pos o)
-load_part W64 rd o = Ld rd 5 (pos o)
-
-abbrev pub store_part : Width → ℕ → Instr
-store_part W8 o = Sb 5 7 (pos o)
-store_part W16 o = Sh 5 7 (pos o)
-store_part W32 o = Sw 5 7 (pos o)
-store_part W64 o = Sd 5 7 (pos o)
 
 -- register 7 is shifted by what an access has; by one of 64 bits nothing is
 abbrev pub shift_up : Width → Instr

@@ -1,13 +1,13 @@
 use Rattle.std.proofs.Common.{◌∙◌, length, refl}
 use Rattle.cmm_chain.specs.Plans.{is_place}
 use Rattle.cmm_chain.specs.declared.frame.Location.TheVariants.{Slot}
+use Rattle.cmm_calls.proofs.Copied.{copied_none, taken_all, taken_more}
 use Rattle.cmm_calls.proofs.Standing.{each, place_is}
-use Rattle.cmm_calls.proofs.Taken.{taken_more, taken_none}
 use Rattle.cmm_calls.proofs.taking.take.Goals as goal
 
 pub loop-index-init : goal.loop-index-init
 loop-index-init c = record {
-  takes = taken_none c.args.asm.now.parts c.args.frame.now.size (length c.args.places.now);
+  takes = copied_none (λ at. Unit {0}) c.args.asm.now.parts c.args.frame.now.size (length c.args.places.now);
   labels = refl;
 }
 
@@ -25,3 +25,8 @@ loop-index-preserved c =
           c.loop-index-test.true c.requires.few c.loop-index.invariant.takes c.in_ok-take_value.ensures.takes;
       labels = c.in_ok-take_value.ensures.labels ∙ c.loop-index.invariant.labels;
     }
+
+pub returns-clause-takes : goal.returns-clause-takes
+returns-clause-takes c =
+    taken_all c.args.asm.now.parts c.loop-index.asm.parts c.args.frame.now.size c.args.places.now c.loop-index.index c.loop-index.auto.index-end c.loop-index-test.false
+    c.loop-index.invariant.takes

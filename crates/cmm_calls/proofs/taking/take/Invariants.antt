@@ -1,12 +1,11 @@
 use Rattle.std.proofs.Common.{◌≡◌, ◌*◌, length, take}
 use Rattle.cmm_changes.specs.Pieces.{Adds}
-use Rattle.cmm_calls.proofs.Taken.{HasTaken}
-use Rattle.cmm_calls.specs.Values.{HasRegion, Passes}
+use Rattle.cmm_calls.proofs.Copied.{Taken}
 use Rattle.cmm_calls.proofs.taking.take.Given as goal
 
 -- the places so far have taken their values
 abbrev pub invariant-loop-index : goal.invariant-loop-index
 invariant-loop-index l = record {
-  takes : Adds (4 * l.index) l.fn.asm.parts l.asm.parts (Passes (4 * l.index) (HasRegion l.frame.size) (HasTaken (length l.places) (take l.index l.places)));
+  takes : Adds (4 * l.index) l.fn.asm.parts l.asm.parts (Taken (4 * l.index) l.frame.size (length l.places) (take l.index l.places));
   labels : l.asm.labels ≡ l.fn.asm.labels;
 }

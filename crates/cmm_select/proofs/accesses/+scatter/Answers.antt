@@ -4,7 +4,8 @@ use Rattle.cmm_changes.proofs.Shared.{adds_one, adds_then, adds_weaker}
 use Rattle.cmm_changes.specs.Pieces.{Adds}
 use Rattle.cmm_select.proofs.Gathering.{less_than_eight, scatters_as, scatters_more, scatters_one}
 use Rattle.cmm_select.proofs.Places.{One}
-use Rattle.cmm_select.specs.inside.Gathering.{shift_down, store_part}
+use Rattle.cmm_select.specs.inside.Accesses.{store_part}
+use Rattle.cmm_select.specs.inside.Gathering.{shift_down}
 use Rattle.cmm_select.proofs.accesses.+scatter.Goals as goal
 
 pub returns-then-count-eq1-clause-scatters : goal.returns-then-count-eq1-clause-scatters

@@ -3,7 +3,8 @@ use Rattle.rv_table.specs.declared.instruction.Instr.TheVariants.{Add}
 use Rattle.cmm_changes.proofs.Shared.{adds_one, adds_then, adds_weaker}
 use Rattle.cmm_select.proofs.Chains.{also}
 use Rattle.cmm_select.proofs.Gathering.{joins}
-use Rattle.cmm_select.specs.inside.Gathering.{load_part, shift_up}
+use Rattle.cmm_select.specs.inside.Accesses.{load_part}
+use Rattle.cmm_select.specs.inside.Gathering.{shift_up}
 use Rattle.cmm_select.proofs.accesses.join.Goals as goal
 
 pub returns-clause-joins : goal.returns-clause-joins

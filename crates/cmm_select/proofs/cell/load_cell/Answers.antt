@@ -6,5 +6,5 @@ use Rattle.cmm_select.proofs.cell.load_cell.Goals as goal
 
 pub returns-clause-loads : goal.returns-clause-loads
 returns-clause-loads c =
-    rw (c.in_ok-emit.ensures.parts, c.load_instruction.ensures.is)
+    rw (c.in_ok-emit.ensures.parts, c.load_part.ensures.is)
     (adds_weaker (adds_one c.args.asm.now.parts (load_of c.args.width)) (omega arith) (λ x from to does. loads_cell x from to c.args.width does))

@@ -6,5 +6,5 @@ use Rattle.cmm_select.proofs.cell.store_cell.Goals as goal
 
 pub returns-clause-stores : goal.returns-clause-stores
 returns-clause-stores c =
-    rw (c.in_ok-emit.ensures.parts, c.store_instruction.ensures.is)
+    rw (c.in_ok-emit.ensures.parts, c.store_part.ensures.is)
     (adds_weaker (adds_one c.args.asm.now.parts (store_of c.args.width)) (omega arith) (λ x from to does. stores_cell x from to c.args.width does))

@@ -2,9 +2,8 @@ use Rattle.std.proofs.Common.{◌∷◌, ◌++◌, [], ◌+◌, ◌/◌, arith, 
 use Rattle.rv_asm.specs.declared.part.Part.TheVariants.{Single}
 use Rattle.rv_table.specs.Words.{signed}
 use Rattle.rv_table.specs.declared.instruction.Instr.TheVariants.{Addi, Lui}
-use Rattle.cmm_changes.proofs.Shared.{adds_one, adds_then, adds_weaker, leads_weaker}
-use Rattle.cmm_select.proofs.Constants.{sets_low}
-use Rattle.cmm_select.proofs.Numbers.{sets_small}
+use Rattle.cmm_changes.proofs.Shared.{adds_one, adds_then, adds_weaker}
+use Rattle.cmm_select.proofs.Constants.{sets_low, sets_small}
 use Rattle.cmm_select.proofs.number.load_low.Goals as goal
 
 pub returns-then-number-from-clause-sets : goal.returns-then-number-from-clause-sets
@@ -13,7 +12,7 @@ returns-then-number-from-clause-sets c =
     let rd = c.args.rd in
     rw (c.in_ok-emit.ensures.parts, c.add_to.ensures.is)
     (adds_weaker (adds_one c.args.asm.now.parts (Addi rd 0 (pos n))) (omega arith)
-    (λ x from to does. leads_weaker (sets_small x rd n 0 from to (omega (arith, c.requires.low)) (omega arith) does) (omega arith) (λ s sound p. p) (λ s t sound p sets. sets)))
+    (λ x from to does. sets_small x rd n from to (omega (arith, c.requires.low)) (omega arith) does))
 
 pub returns-clause-sets : goal.returns-clause-sets
 returns-clause-sets c =

@@ -1,0 +1,307 @@
+#!/usr/bin/env python3
+"""Makes the input of crates/code_tests and what has to come of it, from formulas over Python's integers.
+
+    tools/code_rows.py              writes crates/code_tests/stdin and crates/code_tests/stdout
+    tools/code_rows.py --check      compares what it makes with these files
+    tools/code_rows.py --qemu PROGRAM
+                                    has the built program print the code of each operator, runs that in QEMU on the same operands, and compares the results with
+                                    the formulas'. `rt ci` leaves the program in crates/code_tests/out/code_tests.
+    tools/code_rows.py --table      prints the table of instructions a node of docs/PERFORMANCE.md
+
+The formulas of the operators are those of corner_rows.py. Where the assembler or the emulator is missing, --qemu says so and ends with status 0.
+"""
+import os
+import shutil
+import subprocess
+import sys
+import tempfile
+
+from corner_rows import WIDTHS, comparisons, division_values, operands, plain_values, signed
+from riscv_files import TOOLS, TOP, emulated
+
+BINARY = "Add Sub Mul And Or Xor Shl Shrl Shra Rotl Rotr Divu Modu Div Mod Quot Rem".split()
+COMPARISONS = "Eq Ne Lt Le Gt Ge Ltu Leu Gtu Geu".split()
+UNARY = "Com Neg".split()
+
+DATA, DATA_END = 0x40000000, 0x40000040
+REGION, STACK = 0x60000000, 0x60001000
+STACK_END = STACK + 8192
+
+
+# ---- operators
+
+def binary(width, a, b):
+    """What each operator gives, and None where it has no value."""
+    return dict(zip(BINARY, plain_values(width, a, b) + (division_values(width, a, b) or [None] * 6)))
+
+
+def unary(width, a):
+    return {"Com": (1 << width) - 1 - a, "Neg": -a % (1 << width)}
+
+
+def at_width(width, to, word):
+    """A word with its sign at another width, or its low bits."""
+    return (signed(width, word) if width <= to else word) % (1 << to)
+
+
+def hexes(numbers):
+    return " ".join("none" if n is None else f"{n:x}" for n in numbers)
+
+
+def operator_cases():
+    for width in WIDTHS:
+        for a, b in operands(width):
+            yield f"binary {width:x} {a:x} {b:x}", " ".join(f"{name} {hexes([v])}" for name, v in binary(width, a, b).items())
+        for a, b in operands(width):
+            told = zip(COMPARISONS, comparisons(width, a, b))
+            yield f"compare {width:x} {a:x} {b:x}", " ".join(f"{name} {int(holds)} {int(holds)}" for name, holds in told)
+        for a in sorted({a for pair in operands(width) for a in pair}):
+            widths = [f"W{to} {at_width(width, to, a):x}" for to in WIDTHS]
+            yield f"unary {width:x} {a:x}", " ".join([f"{name} {v:x}" for name, v in unary(width, a).items()] + widths)
+
+
+def number_cases():
+    """Numbers at the ends of what each form of code loads."""
+    ends = [0, 2**11, 2**12, 2**31 - 2**11, 2**31, 2**32, 2**40, 2**43, 2**52, 2**63, 2**64]
+    near = {n + d for n in ends for d in (-2049, -2048, -1, 0, 1, 2047, 2048)}
+    for number in sorted(n for n in near if 0 <= n < 2**64):
+        yield f"copy 40 {number:x}", f"{number:x}"
+
+
+# ---- memory
+
+def pattern(address):
+    """The byte at an address at the beginning."""
+    for first, end in ((DATA, DATA_END), (REGION, REGION + 16), (STACK_END - 16, STACK_END)):
+        if first <= address < end:
+            return (37 * address + 11) % 256
+    return 0
+
+
+def loaded(address, size):
+    return int.from_bytes(bytes(pattern(address + k) for k in range(size)), "little")
+
+
+def access_cases():
+    """Words at the first and the last places of data and of the region, at multiples of their size and of less."""
+    for width in WIDTHS:
+        size = width // 8
+        for aligned in (1, 2, 4, 8):
+            step = min(size, aligned)
+            places = [DATA, DATA + step, DATA_END - size, REGION, STACK_END - size, STACK_END - size - step]
+            for address in places:
+                if address % step:
+                    continue
+                yield f"load {width:x} {aligned:x} {address:x}", f"{loaded(address, size):x}"
+                word = 0x0123456789ABCDEF
+                put = dict(zip(range(address, address + size), word.to_bytes(8, "little")))
+                shown = [put.get(a, pattern(a)) for a in range(address - 4, address + 12)]
+                yield f"store {width:x} {aligned:x} {address:x} {word:x}", " ".join(f"{b:02x}" for b in shown)
+
+
+# ---- calls
+
+# How large a frame is, and where its words and its stackdata begin.
+LAYOUTS = [(112, 0, 112), (2096, 1984, 0), (65648, 0, 112), (65648, 65536, 0), (2097136, 2097024, 0)]
+CALLER = 144
+MARKS = {0: 2, 1: 1}
+
+
+def register(n):
+    """What a register has at the beginning."""
+    return n * 0x0101010101010101
+
+
+def call_cases():
+    for layout, (size, words, data) in enumerate(LAYOUTS):
+        for exit in (0, 1):
+            for spare in (-16, 0, 4096):
+                stack = CALLER + size + spare
+                top = STACK + stack
+                frame = top - CALLER
+                passed = [2**64 - 2, register(9), register(31), register(13), frame + 96, 5, 6, 7, 8, register(27), 10, 11]
+                back = [0, passed[3], 11, 10, passed[9], 8, 7, 6, 5, passed[4], passed[2], passed[1], passed[0], frame - size + data, frame]
+                enough = spare >= 0
+                kept = [register(9), register(27)]
+                found = [MARKS[exit] if enough else 3, CALLER] + kept + (back if enough else [0] * 15)
+                yield f"call {layout:x} {exit:x} {stack:x}", hexes(found)
+    # not even the caller has room
+    yield f"call 0 0 {CALLER - 16:x}", hexes([3, 0, register(9), register(27)] + [0] * 15)
+
+
+# ---- switches
+
+def arm_of(value, count):
+    """The arm with a number is for two values from three times the number on, and for two far behind."""
+    for k in range(count):
+        if value in (3 * k, 3 * k + 1) or 0 <= value - (2**31 + k * 2**40) <= 1:
+            return k
+    return count
+
+
+def switch_cases():
+    for count in (1, 2, 1000):
+        last = count - 1
+        values = [0, 1, 2, 3, 3 * last, 3 * last + 1, 3 * last + 2, 3 * count, 2**31 - 1, 2**31, 2**31 + 1, 2**31 + 2]
+        values += [2**31 + last * 2**40 + d for d in (-1, 0, 1, 2)] + [2**63, 2**64 - 1]
+        if count == 1000:
+            values += [3 * k + d for k in (1, 500, 511, 512, 682, 683) for d in (0, 1, 2)]
+        yield f"switch {count:x} {hexes(values)}", hexes(arm_of(v, count) for v in values)
+
+
+# ---- how many instructions
+
+# beside operands and destination, at 64 bits and at less
+OWN = {
+    **{name: (1, 3) for name in "Add Sub Mul And Or Xor Divu Modu Com Neg".split()},
+    **{name: (3, 5) for name in "Shl Shrl".split()},
+    "Shra": (4, 8),
+    **{name: (6, 8) for name in "Rotl Rotr".split()},
+    **{name: (1, 7) for name in "Quot Rem".split()},
+    **{name: (5, 11) for name in "Div Mod".split()},
+}
+TOLD = {"Eq": 2, "Ne": 3, "Lt": 1, "Gt": 1, "Le": 2, "Ge": 2, "Ltu": 1, "Gtu": 1, "Leu": 2, "Geu": 2}
+BRANCH = 3
+
+
+def accesses(width, aligned):
+    size = width // 8
+    return size // min(size, aligned)
+
+
+def counts(width, place):
+    """Each node with its instructions, where so many read the place of an operand or write that of the destination."""
+    narrow = width < 64
+    shifts = 4 if narrow else 0
+    yield "copy", 2 * place
+    for name in BINARY:
+        yield name, 3 * place + OWN[name][narrow]
+    for name in COMPARISONS:
+        signs = shifts if name in ("Lt", "Le", "Gt", "Ge") else 0
+        yield name, 3 * place + TOLD[name] + signs, 2 * place + BRANCH + signs
+    for name in UNARY:
+        yield name, 2 * place + OWN[name][narrow]
+    yield "extended", 2 * place + (2 if narrow else 0)
+    yield "low", 2 * place + (2 if narrow else 0)
+    yield "load", *(2 * place + 3 * accesses(width, aligned) - 2 for aligned in (8, 1))
+    yield "store", *(2 * place + 2 * accesses(width, aligned) - 1 for aligned in (8, 1))
+
+
+def count_cases():
+    for width in WIDTHS:
+        rows = [list(counts(width, place)) for place in (1, 1, 4)]
+        yield f"count {width:x}", " ".join(
+            " ".join([each[0][0]] + [str(row[k]) for k in range(1, len(each[0])) for row in each]) for each in zip(*rows)
+        )
+
+
+def cases():
+    for make in (operator_cases, number_cases, access_cases, call_cases, switch_cases, count_cases):
+        yield from make()
+
+
+# ---- the code in QEMU
+
+def codes(program, width):
+    """The words of the code of each operator at a width, with operands in registers 12 and 31 and the result in 15."""
+    told = subprocess.run([program], input=f"code {width:x}\n", check=True, stdout=subprocess.PIPE, text=True).stdout
+    found = {}
+    for part in told.split(":", 1)[1].split():
+        if part in BINARY + COMPARISONS + UNARY:
+            words = found[part] = []
+        else:
+            words.append(int(part, 16))
+    return found
+
+
+def tried_in_qemu(program):
+    """The code of each operator on each pair of operands, with the value that it has to give."""
+    for width in WIDTHS:
+        code = codes(program, width)
+        for a, b in operands(width):
+            told = dict(zip(COMPARISONS, map(int, comparisons(width, a, b))))
+            for name, value in {**binary(width, a, b), **told, **unary(width, a)}.items():
+                if value is not None:
+                    yield code[name], a, b, value, f"{name} {width} {a:x} {b:x}"
+
+
+def compare_with_qemu(program):
+    missing = [t for t in TOOLS if shutil.which(t) is None]
+    if missing:
+        print("skipped: no " + ", ".join(missing))
+        return 0
+    tried = list(tried_in_qemu(program))
+    body = ""
+    for words, *_ in tried:
+        body += "    ld x12, 0(x20)\n    ld x31, 8(x20)\n    .word " + ", ".join(map(hex, words)) + "\n"
+        body += "    sd x15, 0(x21)\n    addi x20, x20, 16\n    addi x21, x21, 8\n"
+    with tempfile.TemporaryDirectory() as folder:
+        found = emulated(folder, body, [n for _, a, b, *_ in tried for n in (a, b)], len(tried))
+    wrong = [f"{case}: {got:x}, not {value:x}" for (_, _, _, value, case), got in zip(tried, found) if got != value]
+    print("\n".join(wrong) if wrong else f"{len(tried)} results as made")
+    return 1 if wrong else 0
+
+
+# ---- the tables of docs/PERFORMANCE.md
+
+def table_rows(width):
+    """Each node with its instructions on registers and near slots, and on far slots."""
+    for name, *near in counts(width, 1):
+        far = next(row[1:] for row in counts(width, 4) if row[0] == name)
+        labels = {"load": ["load, aligned", "load, by bytes"], "store": ["store, aligned", "store, by bytes"]}
+        kinds = labels.get(name) or ([name] if len(near) == 1 else [f"{name} told", f"{name} branch"])
+        yield from zip(kinds, zip(near, far))
+
+
+def print_table():
+    rows = {}
+    for width in WIDTHS:
+        for name, count in table_rows(width):
+            rows.setdefault(name, []).append(count)
+    groups = {}
+    for name, found in rows.items():
+        groups.setdefault(tuple(found), []).append(name)
+    print("| node | " + " | ".join(f"{w} bits" for w in WIDTHS) + " |")
+    print("|---|" + "---|" * len(WIDTHS))
+    for found, names in groups.items():
+        print("| " + ", ".join(names) + " | " + " | ".join(f"{near}, {far}" for near, far in found) + " |")
+    return 0
+
+
+# ---- what is done with them
+
+def files():
+    made = list(cases())
+    folder = os.path.join(TOP, "crates", "code_tests")
+    yield os.path.join(folder, "stdin"), "".join(f"{case}\n" for case, _ in made)
+    yield os.path.join(folder, "stdout"), "".join(f"{case}: {found}\n" for case, found in made)
+
+
+def write():
+    for path, text in files():
+        with open(path, "w") as f:
+            f.write(text)
+    return 0
+
+
+def check():
+    differ = []
+    for path, text in files():
+        with open(path) as f:
+            differ += [os.path.relpath(path, TOP)] if f.read() != text else []
+    print("differs from what was made: " + ", ".join(differ) if differ else "as made")
+    return 1 if differ else 0
+
+
+def main(arguments):
+    if arguments == ["--check"]:
+        return check()
+    if arguments[:1] == ["--qemu"]:
+        return compare_with_qemu(arguments[1])
+    if arguments == ["--table"]:
+        return print_table()
+    return write()
+
+
+if __name__ == "__main__":
+    sys.exit(main(sys.argv[1:]))
