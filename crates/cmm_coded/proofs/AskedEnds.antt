@@ -1,5 +1,5 @@
 -- A number and an ECALL ask for the end of a run.
-use Rattle.std.proofs.Common.{◌≡◌, ◌≢◌, ℕ, ◌+◌, ◌%◌, ◌<◌, refl, sym, ◌∙◌, subst, arith, [], ◌∷◌, pos}
+use Rattle.std.proofs.Common.{◌≡◌, ℕ, ◌%◌, ◌<◌, refl, sym, ◌∙◌, subst, arith, [], ◌∷◌, pos}
 use Rattle.std.specs.Prelude.{◌==◌, find, Some}
 use Rattle.rv_asm.proofs.Shared.{reaches_weaker, single_does}
 use Rattle.rv_asm.specs.Parts.{Code, Does}

@@ -1,78 +1,83 @@
--- A local takes the value of a right side.
-use Rattle.std.proofs.Common.{◌≡◌, ℕ, zero, suc, ◌+◌, ◌*◌, ◌<◌, ◌≤◌, ◌^◌, refl, sym, ◌∙◌, ap, subst, arith, Bool, true, false, List, [], ◌∷◌, Option, Some, None, IsTrue, slice_get}
-use Rattle.std.specs.Prelude.{◌&&◌, Ok, Err, if◌then◌else◌}
+-- A local or a global register takes the value of a right side.
+use Rattle.std.proofs.Common.{◌≡◌, ℕ, ◌<◌, ◌^◌, refl, sym, ◌∙◌, ap, subst, arith, Bool, true, false, List, [], ◌∷◌, length, map, Option, Some, None, IsTrue, slice_get}
+use Rattle.std.specs.Prelude.{◌&&◌, Ok, Err, if◌then◌else◌, slice_index_or}
+use Rattle.std.specs.List.{list_all, range_with_len}
 use Rattle.std.proofs.lemmas.Bool.{and_parts}
-use Rattle.cmm_words.specs.Widths.{IsWord}
+use Rattle.std.proofs.lemmas.Bool.Decides.{nat_tests}
+use Rattle.cmm_words.specs.Widths.{IsWord, bytes}
 use Rattle.cmm_words.specs.Words.{holds, low_bits, sign_extended, value1, value2}
 use Rattle.cmm_words.specs.declared.operators.Cmp.{Cmp}
 use Rattle.cmm_words.specs.declared.operators.Op2.{Op2}
 use Rattle.cmm_words.specs.declared.width.Width.{Width}
-use Rattle.cmm_chain.specs.declared.frame.Location.{Location}
-use Rattle.cmm_chain.specs.Contents.{Number}
-use Rattle.cmm_chain.specs.Running.{put_in}
-use Rattle.rv_table.specs.Bounds.{IsSound}
-use Rattle.rv_table.specs.Machine.{State}
+use Rattle.rv_table.specs.Machine.{State, loaded}
+use Rattle.rv_asm.specs.declared.part.Label.{Label}
 use Rattle.rv_asm.proofs.Shared.{reaches_then, reaches_weaker}
 use Rattle.rv_asm.specs.Reaching.{Reaches}
-use Rattle.cmm_program.specs.Errors.{Tried, ZeroDivisor, and_then, given}
+use Rattle.cmm_program.specs.Errors.{Tried, BadAccess, ZeroDivisor, all_of, and_then, given, provided}
+use Rattle.cmm_program.specs.Memory.{cell_at, number_of}
 use Rattle.cmm_program.specs.Orders as order
-use Rattle.cmm_program.specs.State.{Setting}
+use Rattle.cmm_program.specs.State.{Setting, Store}
+use Rattle.cmm_program.specs.Typing.{is_alignment}
+use Rattle.cmm_program.specs.Values.{byte_of, loaded as loaded_word, may_access}
 use Rattle.cmm_program.specs.declared.procedure.Target.TheVariants as target
 use Rattle.cmm_graph.specs.declared.number.NodeId.{NodeId}
 use Rattle.cmm_graph.specs.declared.operand.Destination.{Destination}
 use Rattle.cmm_graph.specs.declared.operand.Destination.TheVariants as destination
-use Rattle.cmm_graph.specs.declared.operand.Local.{Local}
+use Rattle.cmm_graph.specs.declared.number.Register.{Register}
 use Rattle.cmm_graph.specs.declared.operand.Operand.{Operand}
 use Rattle.cmm_graph.specs.declared.operand.Rvalue.{Rvalue}
 use Rattle.cmm_graph.specs.declared.operand.Rvalue.TheVariants as rvalue
 use Rattle.cmm_graph.specs.declared.node.NodeKind.TheVariants.{Assign}
 use Rattle.cmm_graph.specs.declared.graph.Graph.{Graph}
-use Rattle.cmm_graph.specs.Ranges.{IsValid, is_destination, is_kind, is_rvalue, is_step, leads_to}
+use Rattle.cmm_graph.specs.Counterpart.{names_rvalue, targets_of_destination}
+use Rattle.cmm_graph.specs.Ranges.{IsValid, is_destination, is_kind, is_operand, is_rvalue, is_step, leads_to}
 use Rattle.cmm_graph.specs.Values.{operand_value, rvalue_value}
 use Rattle.cmm_changes.proofs.Shared.{reaches_more, reaches_sound}
-use Rattle.cmm_changes.specs.Changes.{CanReach, Puts}
+use Rattle.cmm_changes.specs.Accesses.{global_at}
+use Rattle.cmm_changes.specs.Pieces.{Leads}
 use Rattle.cmm_select.specs.declared.operand.Operand.{Operand as CodeOperand}
-use Rattle.cmm_select.specs.declared.destination.Destination.TheVariants as to
-use Rattle.cmm_select.specs.Assignments.{Assigns, AssignsBinary, AssignsComparison, AssignsOne}
+use Rattle.cmm_select.specs.declared.destination.Destination.{Destination as CodeDestination}
+use Rattle.cmm_select.specs.Assignments.{Assigns, AssignsBinary, AssignsComparison, AssignsOne, CanCopyGlobal}
+use Rattle.cmm_select.specs.Destinations.{CanPut, PutsTo}
+use Rattle.cmm_select.specs.Memory.{AssignsLoaded, IsCellBy, access_of}
 use Rattle.cmm_select.specs.Operands.{CanBringOperand, operand_at}
 use Rattle.cmm_execution.specs.Machine.{Launch, map_of}
-use Rattle.cmm_shown.proofs.Shared.{forget_values, place_is_reachable, put_shows}
+use Rattle.cmm_shown.proofs.Shared.{forget_values, loaded_is_spelled}
 use Rattle.cmm_shown.specs.Shown.{IsFor, IsPlaceOf, IsShown}
-use Rattle.cmm_located.specs.Compiled.{Compiled, Located, number_in, place_of}
-use Rattle.cmm_located.specs.Nodes.{done, keeping, local_of, put_local, ran_at, reads_at}
+use Rattle.cmm_located.specs.Compiled.{Compiled, Located}
+use Rattle.cmm_located.specs.Nodes.{done, keeping, ran_at, reads_at}
+use Rattle.cmm_coded.proofs.Accesses.{may_is_cell}
 use Rattle.cmm_coded.proofs.Doing.{IsDone, kept_shown, silently, stands_there, tokens_there}
 use Rattle.cmm_coded.proofs.Going.{place_is}
 use Rattle.cmm_coded.proofs.Operands.{ok_is, operand_is}
+use Rattle.cmm_coded.proofs.Targets.{can_put, count_with, global_is_read, global_reached, holdings_with, put_shown, registers_with}
 use Rattle.cmm_coded.specs.Finished.{Finished, code_of}
-use Rattle.cmm_coded.specs.NodeCode.{AssignCode, IsOperandOf, IsPutInto}
-use Rattle.cmm_coded.specs.ProgramCode.{HasWords, HasWordsIn, IsWordIn}
-use Rattle.cmm_coded.specs.Standing.{IsAlone, Stands}
+use Rattle.cmm_coded.specs.NodeCode.{AssignCode, IsOperandOf, IsPutInto, IsRegister}
+use Rattle.cmm_coded.specs.ProgramCode.{HasWords, HasWordsIn, IsWordIn, names_register, names_registers}
+use Rattle.cmm_coded.specs.Standing.{IsInBody, Stands}
 
 module _ (s : Setting) (c : Compiled) (l : Launch) (f : Finished) (input : List ℕ) (is_for : IsFor s (map_of l)) (at : Located) (t : State) (stands : Stands s c l f at t)
-    (alone : IsAlone at) (g : Graph) (is_graph : slice_get c.graphs at.procedure ≡ Some g) (valid : IsValid g)
-    (places : (v : ℕ) → IsPlaceOf s alone.activation (c.plan.place at.procedure v)) where
+    (body : IsInBody at) (g : Graph) (is_graph : slice_get c.graphs at.procedure ≡ Some g) (valid : IsValid g)
+    (places : (v : ℕ) → IsPlaceOf s body.activation (c.plan.place at.procedure v)) where
   abbrev value : Operand → Tried ℕ
   value o = operand_value (keeping s c at).held o (reads_at s c at)
 
   brought : (o : Operand) (a : CodeOperand) (x : ℕ) → IsOperandOf s c l f at.procedure o a → value o ≡ Ok x → (operand_at f.labels a t ≡ x) × CanBringOperand a (map_of l) t
-  brought o a x is is_x = operand_is s c l f is_for at t alone.activation [] alone.youngest places stands.shown o a x is is_x
+  brought o a x is is_x = operand_is s c l f is_for at t body.activation body.older body.youngest places stands.shown o a x is is_x
 
-  module _ (local : Local) (count on v : ℕ) where
-    abbrev place : Location
-    place = place_of c at.procedure local
+  shown_here : IsShown f.symbols s (map_of l) at.holdings at.store [] t
+  shown_here = forget_values f.symbols s (map_of l) at.holdings at.store at.carried t stands.shown
 
+  module _ (to : CodeDestination) (reached : CanPut f.labels to (map_of l) t) (count on v : ℕ) where
     abbrev ArePut : State → Type 0
-    ArePut u = (u.pc ≡ on) × Puts place v t u
-
-    reached : CanReach place (map_of l) t
-    reached = place_is_reachable f.symbols s (map_of l) is_for at.holdings at.store at.carried alone.activation [] t alone.youngest stands.shown place (places (number_in c.graphs at.procedure local))
+    ArePut u = (u.pc ≡ on) × PutsTo f.labels to v t u
 
     -- a number that is the value
-    put_as : (u : State) (n : ℕ) → n ≡ v → (u.pc ≡ on) × Puts place n t u → ArePut u
-    put_as u n is there = (there.0, subst (λ (k : ℕ). Puts place k t u) is there.1)
+    put_as : (u : State) (n : ℕ) → n ≡ v → (u.pc ≡ on) × PutsTo f.labels to n t u → ArePut u
+    put_as u n is there = (there.0, subst (λ (k : ℕ). PutsTo f.labels to k t u) is there.1)
 
     one_put : (o : Operand) (a : CodeOperand) (w : Width) (f' : ℕ → ℕ) → IsOperandOf s c l f at.procedure o a →
-        AssignsOne count w f' a (to.Place place) (code_of l f) (f.node_at at.procedure at.node) on → IsWordIn s c at w o →
+        AssignsOne count w f' a to (code_of l f) (f.node_at at.procedure at.node) on → IsWordIn s c at w o →
         (r : Tried ℕ) → value o ≡ r → and_then r (λ x. Ok (f' x)) ≡ Ok v → Reaches (map_of l) 1 count t ArePut
     one_put o a w f' is code word (Ok x) is_x e =
         let found = brought o a x is is_x in
@@ -82,7 +87,7 @@ module _ (s : Setting) (c : Compiled) (l : Launch) (f : Finished) (input : List 
 
     module _ (left right : Operand) (a b : CodeOperand) (w : Width) (is_a : IsOperandOf s c l f at.procedure left a) (is_b : IsOperandOf s c l f at.procedure right b)
         (words : IsWordIn s c at w left × IsWordIn s c at w right) where
-      two_put : (op : Op2) → AssignsBinary count op w a b (to.Place place) (code_of l f) (f.node_at at.procedure at.node) on →
+      two_put : (op : Op2) → AssignsBinary count op w a b to (code_of l f) (f.node_at at.procedure at.node) on →
           (r : Tried ℕ) → value left ≡ r → (q : Tried ℕ) → value right ≡ q →
           and_then r (λ x. and_then q (λ y. given (value2 op w x y) ZeroDivisor Ok)) ≡ Ok v → Reaches (map_of l) 1 count t ArePut
       two_put op code (Ok x) is_x (Ok y) is_y e =
@@ -96,13 +101,13 @@ module _ (s : Setting) (c : Compiled) (l : Launch) (f : Finished) (input : List 
           }))
         where
           by : (o : Option ℕ) → value2 op w (operand_at f.labels a t) (operand_at f.labels b t) ≡ o → given o ZeroDivisor (λ z. Ok z) ≡ Ok v →
-              Reaches (map_of l) 1 count t (λ u. (u.pc ≡ on) × Assigns f.labels op w a b (to.Place place) t u) → Reaches (map_of l) 1 count t ArePut
+              Reaches (map_of l) 1 count t (λ u. (u.pc ≡ on) × Assigns f.labels op w a b to t u) → Reaches (map_of l) 1 count t ArePut
           by (Some z) is e' reaches = reaches_more reaches (λ u there. put_as u there.1.number (there.1.given z is ∙ ok_is e') ((there.0, there.1.puts)))
           by None is e' reaches = absurd (cc)
       two_put op code (Ok x) is_x (Err error) is_y e = absurd (cc)
       two_put op code (Err error) is_x q is_y e = absurd (cc)
 
-      compared : (op : Cmp) → AssignsComparison count op w a b (to.Place place) (code_of l f) (f.node_at at.procedure at.node) on →
+      compared : (op : Cmp) → AssignsComparison count op w a b to (code_of l f) (f.node_at at.procedure at.node) on →
           (r : Tried ℕ) → value left ≡ r → (q : Tried ℕ) → value right ≡ q →
           and_then (and_then r (λ x. and_then q (λ y. Ok (holds op w x y)))) (λ h. Ok (elim h as (λ _. ℕ) [ true ↦ 1 | false ↦ 0 ])) ≡ Ok v → Reaches (map_of l) 1 count t ArePut
       compared op code (Ok x) is_x (Ok y) is_y e =
@@ -117,78 +122,144 @@ module _ (s : Setting) (c : Compiled) (l : Launch) (f : Finished) (input : List 
         where
           by : (h : Bool) → holds op w (operand_at f.labels a t) (operand_at f.labels b t) ≡ h →
               ◌≡◌ {A = Tried ℕ} (Ok (elim h as (λ _. ℕ) [ true ↦ 1 | false ↦ 0 ])) (Ok v) →
-              Reaches (map_of l) 1 count t (λ u. (u.pc ≡ on) × Puts place (if holds op w (operand_at f.labels a t) (operand_at f.labels b t) then 1 else 0) t u) →
+              Reaches (map_of l) 1 count t (λ u. (u.pc ≡ on) × PutsTo f.labels to (if holds op w (operand_at f.labels a t) (operand_at f.labels b t) then 1 else 0) t u) →
               Reaches (map_of l) 1 count t ArePut
           by true is e' reaches = reaches_more reaches (λ u there. put_as u _ (ap (λ (h : Bool). if h then 1 else 0) is ∙ ok_is e') there)
           by false is e' reaches = reaches_more reaches (λ u there. put_as u _ (ap (λ (h : Bool). if h then 1 else 0) is ∙ ok_is e') there)
       compared op code (Ok x) is_x (Err error) is_y e = absurd (cc)
       compared op code (Err error) is_x q is_y e = absurd (cc)
 
-    puts : (right : Rvalue) → IsPutInto s c l f at.procedure right place count (f.node_at at.procedure at.node) on → HasWordsIn s c at right →
-        rvalue_value (keeping s c at).held right (reads_at s c at) ≡ Ok v → Reaches (map_of l) 1 count t ArePut
-    puts (rvalue.Copy o) (a, is, code) words e =
+    -- a global register is read
+    read : (r : Register) (label : Label) → IsRegister s c l f r.number label → r.number < length at.store.registers →
+        Leads count (CanCopyGlobal f.labels (f.labels label.number) to) (λ u w. PutsTo f.labels to (global_at (f.labels label.number) u) u w) (code_of l f) (f.node_at at.procedure at.node) on →
+        slice_index_or at.store.registers r.number 0 ≡ v → Reaches (map_of l) 1 count t ArePut
+    read r label is within code e =
+        reaches_more (code.runs.go t stands.sound stands.pc (record {
+          reads = global_reached s c l f is_for at.procedure at.holdings at.store body.activation body.older body.youngest places t shown_here r.number label is within;
+          reaches = reached;
+        }))
+        (λ u there. put_as u (global_at (f.labels label.number) t)
+        (global_is_read s c l f is_for at.procedure at.holdings at.store body.activation body.older body.youngest places t shown_here r.number label is within ∙ e) there)
+
+    -- a word is loaded
+    load : (width : Width) (aligned : ℕ) (o : Operand) (a : CodeOperand) → IsOperandOf s c l f at.procedure o a → is_alignment aligned ≡ true →
+        AssignsLoaded count width aligned a to (code_of l f) (f.node_at at.procedure at.node) on →
+        (r : Tried ℕ) → value o ≡ r → and_then r (loaded_word (reads_at s c at) width aligned) ≡ Ok v → Reaches (map_of l) 1 count t ArePut
+    load width aligned o a is fine code (Ok n) is_n e = by (may_access (cell_at at.store.memory) (bytes width) aligned n) refl e
+      where
+        found : (operand_at f.labels a t ≡ n) × CanBringOperand a (map_of l) t
+        found = brought o a n is is_n
+
+        number : (r : Tried (List ℕ)) → all_of (map (λ k. byte_of (cell_at at.store.memory k)) (range_with_len n (bytes width))) ≡ r → and_then r (λ xs. Ok (number_of xs)) ≡ Ok v →
+            loaded t.memory n (bytes width) ≡ v
+        number (Ok xs) is_xs e' = loaded_is_spelled at.store.memory t.memory (bytes width) n xs stands.shown.cells is_xs ∙ ok_is e'
+        number (Err error) is_xs e' = absurd (cc)
+
+        by : (test : Bool) → may_access (cell_at at.store.memory) (bytes width) aligned n ≡ test →
+            provided test BadAccess (and_then (all_of (map (λ k. byte_of (cell_at at.store.memory k)) (range_with_len n (bytes width)))) (λ xs. Ok (number_of xs))) ≡ Ok v →
+            Reaches (map_of l) 1 count t ArePut
+        by true may e' =
+            reaches_more (code.runs.go t stands.sound stands.pc (record {
+              brings = found.1;
+              cell = subst (λ (k : ℕ). IsCellBy (access_of width aligned) width k (map_of l)) (sym found.0)
+                  (may_is_cell s (map_of l) is_for at.store stands.shown.stack n width aligned may fine);
+              reaches = reached;
+            }))
+            (λ u there. put_as u (loaded t.memory (operand_at f.labels a t) (bytes width))
+            (ap (λ (k : ℕ). loaded t.memory k (bytes width)) found.0 ∙ number (all_of (map (λ k. byte_of (cell_at at.store.memory k)) (range_with_len n (bytes width)))) refl e') there)
+        by false may e' = absurd (cc)
+    load width aligned o a is fine code (Err error) is_n e = absurd (cc)
+
+    puts : (right : Rvalue) → IsPutInto s c l f at.procedure right to count (f.node_at at.procedure at.node) on → HasWordsIn s c at right → IsTrue (is_rvalue g right) →
+        names_rvalue s.program right ≡ true → length at.store.registers ≡ length s.program.globals → rvalue_value (keeping s c at).held right (reads_at s c at) ≡ Ok v → Reaches (map_of l) 1 count t ArePut
+    puts (rvalue.Copy o) (a, is, code) words fine named kept e =
         let found = brought o a v is e in
         reaches_more (code.runs.go t stands.sound stands.pc (record { brings = found.1; reaches = reached })) (λ u there. put_as u (operand_at f.labels a t) found.0 there)
-    puts (rvalue.Unary operator width o) (a, is, code) words e = one_put o a width (value1 operator width) is code words (value o) refl e
-    puts (rvalue.SignExtend narrow width o) (a, is, code) words e = one_put o a narrow (sign_extended narrow width) is code words (value o) refl e
-    puts (rvalue.LowBits wide width o) (a, is, code) words e = one_put o a wide (low_bits width) is code words (value o) refl e
-    puts (rvalue.Binary operator width left right) (a, b, is_a, is_b, code) words e =
+    puts (rvalue.Unary operator width o) (a, is, code) words fine named kept e = one_put o a width (value1 operator width) is code words (value o) refl e
+    puts (rvalue.SignExtend narrow width o) (a, is, code) words fine named kept e = one_put o a narrow (sign_extended narrow width) is code words (value o) refl e
+    puts (rvalue.LowBits wide width o) (a, is, code) words fine named kept e = one_put o a wide (low_bits width) is code words (value o) refl e
+    puts (rvalue.Binary operator width left right) (a, b, is_a, is_b, code) words fine named kept e =
         two_put left right a b width is_a is_b words operator code (value left) refl (value right) refl e
-    puts (rvalue.Compare test) (a, b, is_a, is_b, code) words e =
+    puts (rvalue.Compare test) (a, b, is_a, is_b, code) words fine named kept e =
         compared test.left test.right a b test.width is_a is_b words test.operator code (value test.left) refl (value test.right) refl e
-    puts (rvalue.Register r) code words e = absurd code
-    puts (rvalue.Load width aligned address) code words e = absurd code
+    puts (rvalue.Register r) (label, is, code) words fine named kept e =
+        let less : r.number < length s.program.globals = grind (arith, nat_tests, named) in
+        read r label is (omega (arith, less, kept)) code (ok_is e)
+    puts (rvalue.Load width aligned o) (a, is, code) words fine named kept e =
+        load width aligned o a is (and_parts (is_alignment aligned) (is_operand g o) fine).0 code (value o) refl e
 
-  assigned : (local : Local) (right : Rvalue) (next : NodeId) (cost v : ℕ) (target : Option Local) → target ≡ Some local → (code : AssignCode s c l f at.procedure at.node target right next cost) →
-      HasWordsIn s c at right → v < 2 ^ 64 → IsTrue (leads_to g is_step next) → rvalue_value (keeping s c at).held right (reads_at s c at) ≡ Ok v →
-      IsDone s c l f input at cost t (record (put_local c (Some local) v at) { node = next })
-  assigned local right next cost v target is_local code words small leads e =
-      silently s c l f input at cost t (record (put_local c (Some local) v at) { node = next }) (tokens_there s c l f input (put_local c (Some local) v at) g is_graph valid next leads) refl
-      (reaches_more (reaches_sound {Q = λ u. (u.pc ≡ f.node_at at.procedure next) × IsShown f.symbols s (map_of l) (put_in (place_of c at.procedure local) (Number v) at.holdings) at.store at.carried u}
-      (reaches_weaker
-      (reaches_then (reaches_sound (puts local code.count code.on v right (subst (λ (z : Local). IsPutInto s c l f at.procedure right (place_of c at.procedure z) code.count (f.node_at at.procedure at.node) code.on) same code.puts) words e) stands.sound)
-      (λ u there. reaches_more (code.goes_on.go u there.1 there.0.0 tt)
-      (λ w last. (last.0, kept_shown f s l is_for (put_in (place_of c at.procedure local) (Number v) at.holdings) at.store at.carried u w last.1 (shown_put u there.0.1)))))
-      (omega arith) (omega (arith, code.few)) (λ w last. last))
-      stands.sound)
-      (λ w last. stands_there s c l f input (put_local c (Some local) v at) g is_graph valid next leads w stands.running
-      (record { activation = alone.activation; youngest = alone.youngest; same = alone.same; carried = alone.carried }) last.0.1 last.0.0 last.1))
-    where
-      same : code.takes ≡ local
-      same = let h : Some code.takes ≡ Some local = sym code.is_taken ∙ is_local in cc
+  -- ---- a destination takes the value
 
-      shown_put : (u : State) → Puts (place_of c at.procedure local) v t u → IsShown f.symbols s (map_of l) (put_in (place_of c at.procedure local) (Number v) at.holdings) at.store at.carried u
-      shown_put u there =
-          subst (λ (xs : List ℕ). IsShown f.symbols s (map_of l) (put_in (place_of c at.procedure local) (Number v) at.holdings) at.store xs u) (sym alone.carried)
-          (put_shows f.symbols s (map_of l) is_for at.holdings at.store alone.activation [] t u alone.youngest (place_of c at.procedure local) v
-          (places (number_in c.graphs at.procedure local)) small there (forget_values f.symbols s (map_of l) at.holdings at.store at.carried t stands.shown))
+  module _ (kept : length at.store.registers ≡ length s.program.globals) where
+    abbrev store_with : Destination → ℕ → Store
+    store_with d v = record at.store { registers = registers_with d v at.store.registers }
 
-  pub assign_done : (d : Destination) (right : Rvalue) (next : NodeId) (cost : ℕ) (after : Located) → AssignCode s c l f at.procedure at.node (local_of d) right next cost →
-      HasWords s c at (Assign d right next) → IsTrue (is_kind g (Assign d right next)) → ran_at s c (Assign d right next) at ≡ Ok after → IsDone s c l f input at cost t after
-  assign_done d right next cost after code words fine is =
-      by d code is
-    where
-      leads : IsTrue (leads_to g is_step next)
-      leads = (and_parts (is_destination g d && is_rvalue g right) (leads_to g is_step next) fine).1
+    abbrev taken : Destination → ℕ → Located
+    taken d v = record at {
+      store = store_with d v;
+      holdings = holdings_with c at.procedure d v at.holdings;
+    }
 
-      chosen : (local : Local) (code' : AssignCode s c l f at.procedure at.node (Some local) right next cost) (r : Tried ℕ) →
-          rvalue_value (keeping s c at).held right (reads_at s c at) ≡ r →
-          and_then r (λ v. Ok (record (put_local c (Some local) v at) { node = next })) ≡ Ok after → IsDone s c l f input at cost t after
-      chosen local code' (Ok v) is_v e =
-          subst (λ (z : Located). IsDone s c l f input at cost t z) (place_is e) (assigned local right next cost v (Some local) refl code' words.0 (words.1 v is_v) leads is_v)
-      chosen local code' (Err error) is_v e = absurd (cc)
+    assigned : (d : Destination) (right : Rvalue) (next : NodeId) (cost v : ℕ) (code : AssignCode s c l f at.procedure at.node d right next cost) →
+        HasWordsIn s c at right → v < 2 ^ 64 → IsTrue (is_rvalue g right) → IsTrue (leads_to g is_step next) → list_all (names_register s.program) (targets_of_destination d) ≡ true →
+        names_rvalue s.program right ≡ true → rvalue_value (keeping s c at).held right (reads_at s c at) ≡ Ok v → IsDone s c l f input at cost t (record (taken d v) { node = next })
+    assigned d right next cost v code words small fine leads named reads e =
+        silently s c l f input at cost t (record (taken d v) { node = next }) (tokens_there s c l f input (taken d v) g is_graph valid next leads) refl
+        (count_with d v at.store.registers) (λ b. b)
+        (reaches_more (reaches_sound {Q = λ u. (u.pc ≡ f.node_at at.procedure next) × IsShown f.symbols s (map_of l) (taken d v).holdings (store_with d v) at.carried u}
+        (reaches_weaker
+        (reaches_then (reaches_sound (puts code.into reached code.count code.on v right code.puts words fine reads kept e) stands.sound)
+        (λ u there. reaches_more (code.goes_on.go u there.1 there.0.0 tt)
+        (λ w last. (last.0, kept_shown f s l is_for (taken d v).holdings (store_with d v) at.carried u w last.1 (shown_put u there.0.1)))))
+        (omega arith) (omega (arith, code.few)) (λ w last. last))
+        stands.sound)
+        (λ w last. stands_there s c l f input (taken d v) g is_graph valid next leads w stands.running
+        (record { activation = body.activation; older = body.older; youngest = body.youngest; same = body.same; carried = body.carried }) last.0.1 last.0.0 last.1))
+      where
+        reached : CanPut f.labels code.into (map_of l) t
+        reached = can_put s c l f is_for at.procedure at.holdings at.store body.activation body.older body.youngest places t shown_here kept d code.into code.is_into named
 
-      by : (d' : Destination) → AssignCode s c l f at.procedure at.node (local_of d') right next cost → ran_at s c (Assign d' right next) at ≡ Ok after → IsDone s c l f input at cost t after
-      by (destination.Temporary m) code' e = chosen _ code' (rvalue_value (keeping s c at).held right (reads_at s c at)) refl (each (rvalue_value (keeping s c at).held right (reads_at s c at)) e)
-        where
-          each : (r : Tried ℕ) → and_then (and_then r (λ n. Ok (order.Choose n))) (λ o. done s c (Assign (destination.Temporary m) right next) o at) ≡ Ok after →
-              and_then r (λ v. Ok (record (put_local c (local_of (destination.Temporary m)) v at) { node = next })) ≡ Ok after
-          each (Ok v) e' = e'
-          each (Err error) e' = absurd (cc)
-      by (destination.Target (target.Variable number width)) code' e = chosen _ code' (rvalue_value (keeping s c at).held right (reads_at s c at)) refl (each (rvalue_value (keeping s c at).held right (reads_at s c at)) e)
-        where
-          each : (r : Tried ℕ) → and_then (and_then r (λ n. Ok (order.Choose n))) (λ o. done s c (Assign (destination.Target (target.Variable number width)) right next) o at) ≡ Ok after →
-              and_then r (λ v. Ok (record (put_local c (local_of (destination.Target (target.Variable number width))) v at) { node = next })) ≡ Ok after
-          each (Ok v) e' = e'
-          each (Err error) e' = absurd (cc)
-      by (destination.Target (target.Register number width)) code' e = let h : None ≡ Some code'.takes = code'.is_taken in absurd (cc)
+        shown_put : (u : State) → PutsTo f.labels code.into v t u → IsShown f.symbols s (map_of l) (taken d v).holdings (store_with d v) at.carried u
+        shown_put u there =
+            subst (λ (xs : List ℕ). IsShown f.symbols s (map_of l) (taken d v).holdings (store_with d v) xs u) (sym body.carried)
+            (put_shown s c l f is_for at.procedure at.holdings at.store body.activation body.older body.youngest places t shown_here kept v small u d code.into code.is_into named there)
+
+    pub assign_done : (d : Destination) (right : Rvalue) (next : NodeId) (cost : ℕ) (after : Located) → AssignCode s c l f at.procedure at.node d right next cost →
+        HasWords s c at (Assign d right next) → IsTrue (is_kind g (Assign d right next)) → names_registers s.program (Assign d right next) ≡ true →
+        ran_at s c (Assign d right next) at ≡ Ok after → IsDone s c l f input at cost t after
+    assign_done d right next cost after code words fine named is = chosen (rvalue_value (keeping s c at).held right (reads_at s c at)) refl (by d is)
+      where
+        both : IsTrue (is_destination g d && is_rvalue g right) × IsTrue (leads_to g is_step next)
+        both = and_parts (is_destination g d && is_rvalue g right) (leads_to g is_step next) fine
+
+        names : (list_all (names_register s.program) (targets_of_destination d) ≡ true) × (names_rvalue s.program right ≡ true)
+        names = and_parts (list_all (names_register s.program) (targets_of_destination d)) (names_rvalue s.program right) named
+
+        chosen : (r : Tried ℕ) → rvalue_value (keeping s c at).held right (reads_at s c at) ≡ r →
+            and_then r (λ v. Ok (record (taken d v) { node = next })) ≡ Ok after → IsDone s c l f input at cost t after
+        chosen (Ok v) is_v e =
+            subst (λ (z : Located). IsDone s c l f input at cost t z) (place_is e)
+            (assigned d right next cost v code words.0 (words.1 v is_v) (and_parts (is_destination g d) (is_rvalue g right) both.0).1 both.1 names.0 names.1 is_v)
+        chosen (Err error) is_v e = absurd (cc)
+
+        by : (d' : Destination) → ran_at s c (Assign d' right next) at ≡ Ok after →
+            and_then (rvalue_value (keeping s c at).held right (reads_at s c at)) (λ v. Ok (record (taken d' v) { node = next })) ≡ Ok after
+        by (destination.Temporary m) e = each (rvalue_value (keeping s c at).held right (reads_at s c at)) e
+          where
+            each : (r : Tried ℕ) → and_then (and_then r (λ n. Ok (order.Choose n))) (λ o. done s c (Assign (destination.Temporary m) right next) o at) ≡ Ok after →
+                and_then r (λ v. Ok (record (taken (destination.Temporary m) v) { node = next })) ≡ Ok after
+            each (Ok v) e' = e'
+            each (Err error) e' = absurd (cc)
+        by (destination.Target (target.Variable number width)) e = each (rvalue_value (keeping s c at).held right (reads_at s c at)) e
+          where
+            each : (r : Tried ℕ) → and_then (and_then r (λ n. Ok (order.Choose n))) (λ o. done s c (Assign (destination.Target (target.Variable number width)) right next) o at) ≡ Ok after →
+                and_then r (λ v. Ok (record (taken (destination.Target (target.Variable number width)) v) { node = next })) ≡ Ok after
+            each (Ok v) e' = e'
+            each (Err error) e' = absurd (cc)
+        by (destination.Target (target.Register number width)) e = each (rvalue_value (keeping s c at).held right (reads_at s c at)) e
+          where
+            each : (r : Tried ℕ) → and_then (and_then (all_of (r ∷ [])) (λ vs. Ok (order.Assign (order.writes (order.Held (target.Register number width) ∷ []) vs))))
+                (λ o. done s c (Assign (destination.Target (target.Register number width)) right next) o at) ≡ Ok after →
+                and_then r (λ v. Ok (record (taken (destination.Target (target.Register number width)) v) { node = next })) ≡ Ok after
+            each (Ok v) e' = e'
+            each (Err error) e' = absurd (cc)

@@ -1,5 +1,6 @@
 -- A step that code does.
-use Rattle.std.proofs.Common.{◌≡◌, ℕ, ◌+◌, ◌≤◌, refl, sym, ◌∙◌, ap, subst, arith, Bool, true, false, List, [], ◌∷◌, Option, Some, None, IsTrue, slice_get}
+use Rattle.std.proofs.Common.{◌≡◌, ℕ, ◌+◌, ◌≤◌, refl, sym, ◌∙◌, ap, subst, arith, List, length, Option, Some, None, IsTrue, slice_get}
+use Rattle.std.specs.List.{All}
 use Rattle.std.proofs.lemmas.Bool.Decides.{nat_tests}
 use Rattle.rv_table.specs.Bounds.{IsSound}
 use Rattle.rv_table.specs.Machine.{State}
@@ -12,17 +13,19 @@ use Rattle.cmm_graph.specs.declared.node.Node.{Node}
 use Rattle.cmm_graph.specs.declared.graph.Graph.{Graph}
 use Rattle.cmm_graph.specs.GraphControl.{in_graph}
 use Rattle.cmm_graph.specs.Paths.{node_of}
-use Rattle.cmm_graph.specs.Ranges.{IsValid, is_entry, is_step, leads_to}
-use Rattle.cmm_changes.specs.Changes.{Keeps, is_scratch}
+use Rattle.cmm_graph.specs.Ranges.{IsValid, is_step, leads_to}
+use Rattle.cmm_changes.specs.Changes.{Keeps}
 use Rattle.cmm_execution.specs.Machine.{Launch, map_of}
-use Rattle.cmm_served.specs.Serving.{IsDoneBy, Silently, Asking}
+use Rattle.cmm_laws.specs.Fitting.{IsByte}
+use Rattle.cmm_served.specs.Outside.{Outside}
+use Rattle.cmm_served.specs.Serving.{IsDoneBy, Silently}
 use Rattle.cmm_shown.proofs.Shared.{holdings_same, moved_shows}
 use Rattle.cmm_shown.specs.Shown.{IsFor, IsShown}
 use Rattle.cmm_located.specs.Compiled.{Compiled, Located}
 use Rattle.cmm_located.specs.LocatedMachine.{located_machine, located_step, tokens_at}
-use Rattle.cmm_coded.proofs.Nodes.{found_there, led_to, no_entry, node_holds}
+use Rattle.cmm_coded.proofs.Nodes.{found_there, is_inside, led_to, node_holds}
 use Rattle.cmm_coded.specs.Finished.{Finished}
-use Rattle.cmm_coded.specs.Standing.{IsAlone, IsInside, IsOfRun, Stands, outside_at}
+use Rattle.cmm_coded.specs.Standing.{AreBare, IsInBody, IsOfRun, Stands, outside_at}
 
 -- nothing is changed but scratch registers
 pub kept_shown : (f : Finished) (s : Setting) (l : Launch) → IsFor s (map_of l) → (h : Holdings) (store : Store) (carried : List ℕ) (t u : State) → Keeps t u →
@@ -36,12 +39,18 @@ module _ (s : Setting) (c : Compiled) (l : Launch) (f : Finished) (input : List 
   -- a step to a state is done, which stands at a node
   pub record IsDone (at : Located) (cost : ℕ) (t : State) (after : Located) : Type 0 where
     pub tokens : 1 ≤ tokens_at s c after
+    pub registers : length after.store.registers ≡ length at.store.registers
+    pub bytes : All IsByte at.store.input → All IsByte after.store.input
+    pub are_bare : AreBare at → AreBare after
     pub by_code : located_step s c at ≡ after → IsDoneBy (located_machine s c) l outside_at (Stands s c l f) (IsOfRun s c input) at cost t
 
   pub silently : (at : Located) (cost : ℕ) (t : State) (after : Located) → 1 ≤ tokens_at s c after → outside_at after ≡ outside_at at →
-      Reaches (map_of l) 1 cost t (Stands s c l f after) → IsDone at cost t after
-  silently at cost t after tokens same reaches = record {
+      length after.store.registers ≡ length at.store.registers → (AreBare at → AreBare after) → Reaches (map_of l) 1 cost t (Stands s c l f after) → IsDone at cost t after
+  silently at cost t after tokens same count are_bare reaches = record {
     tokens = tokens;
+    registers = count;
+    bytes = subst (All IsByte) (sym (ap (λ (o : Outside). o.input) same));
+    are_bare = are_bare;
     by_code = λ e. Silently (ap outside_at e ∙ same) (subst (λ (z : Located). Reaches (map_of l) 1 cost t (Stands s c l f z)) (sym e) reaches);
   }
 
@@ -60,14 +69,14 @@ module _ (s : Setting) (c : Compiled) (l : Launch) (f : Finished) (input : List 
         let some : 1 ≤ there.0.tokens = (node_holds g m there.0 valid there.1).0 in
         omega (arith, e, some)
 
-    pub stands_there : (u : State) → at.store.status ≡ p.Running → IsAlone at → IsShown f.symbols s (map_of l) at.holdings at.store at.carried u →
+    pub stands_there : (u : State) → at.store.status ≡ p.Running → IsInBody at → IsShown f.symbols s (map_of l) at.holdings at.store at.carried u →
         u.pc ≡ f.node_at at.procedure m → IsSound u → Stands s c l f (record at { node = m }) u
-    stands_there u running alone shown pc sound = record {
+    stands_there u running body shown pc sound = record {
       running = running;
       node = there.0;
       there = is_there;
-      inside = subst (λ (b : Bool). IsInside b (record at { node = m })) (sym (no_entry there.0.kind there.2))
-          (record { activation = alone.activation; youngest = alone.youngest; same = alone.same; carried = alone.carried });
+      inside = is_inside there.0.kind there.2 (record at { node = m })
+          (record { activation = body.activation; older = body.older; youngest = body.youngest; same = body.same; carried = body.carried });
       shown = shown;
       pc = pc;
       sound = sound;

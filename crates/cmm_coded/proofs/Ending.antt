@@ -1,5 +1,6 @@
 -- A run ends by the request that tells how.
-use Rattle.std.proofs.Common.{◌≡◌, ℕ, ◌+◌, ◌≤◌, refl, sym, ◌∙◌, ap, subst, arith, List, Option, Some, None}
+use Rattle.std.proofs.Common.{◌≡◌, ℕ, ◌+◌, ◌≤◌, sym, ◌∙◌, ap, subst, List, length, Option, Some}
+use Rattle.std.specs.List.{All}
 use Rattle.rv_table.specs.Machine.{State, Asks, instruction_step}
 use Rattle.rv_table.specs.declared.request.Request.{Request}
 use Rattle.rv_asm.specs.Reaching.{Reaches}
@@ -9,6 +10,7 @@ use Rattle.cmm_program.specs.State as p
 use Rattle.cmm_program.specs.State.{Outcome, Setting}
 use Rattle.cmm_graph.specs.Acting.{act_of}
 use Rattle.cmm_graph.specs.GraphControl.{kind_at}
+use Rattle.cmm_laws.specs.Fitting.{IsByte}
 use Rattle.cmm_laws.specs.Observed.{Call, Ending, ending_of, event_at, log_seen}
 use Rattle.cmm_laws.specs.Runs.{yielded}
 use Rattle.cmm_changes.proofs.Shared.{reaches_more}
@@ -18,14 +20,14 @@ use Rattle.cmm_execution.specs.Observed as run
 use Rattle.cmm_execution.specs.Walks.{chain_walk}
 use Rattle.cmm_program.specs.Walks.{walk_of}
 use Rattle.cmm_served.specs.Outside.{Outside, outside, run_with}
-use Rattle.cmm_served.specs.Serving.{Asking, IsAsked}
+use Rattle.cmm_served.specs.Serving.{Asking}
 use Rattle.cmm_located.specs.Answering.{shown}
 use Rattle.cmm_located.specs.Compiled.{Compiled, Located}
 use Rattle.cmm_located.specs.LocatedMachine.{located_machine, located_step, tokens_at}
 use Rattle.cmm_located.specs.Nodes.{keeping}
 use Rattle.cmm_coded.proofs.Doing.{IsDone}
 use Rattle.cmm_coded.specs.Finished.{Finished}
-use Rattle.cmm_coded.specs.Standing.{IsOfRun, Stands, outside_at, status_of}
+use Rattle.cmm_coded.specs.Standing.{AreBare, outside_at, status_of}
 
 -- The request leaves just the outcome, stands at no event, and the ending has no walk.
 pub record IsEnd (l : Launch) (request : Request) (outcome : Outcome) : Type 0 where
@@ -44,10 +46,13 @@ ended_outside at outcome running =
 
 module _ (s : Setting) (c : Compiled) (l : Launch) (f : Finished) (input : List ℕ) (at : Located) (t : State) where
   pub ends : (request : Request) (outcome : Outcome) → IsEnd l request outcome → (after : Located) → after.store.status ≡ p.Ended outcome →
-      outside_at after ≡ record (outside_at at) { status = Ended outcome } → 1 ≤ tokens_at s c after → (cost before : ℕ) → before + 1 + 0 ≤ cost →
+      outside_at after ≡ record (outside_at at) { status = Ended outcome } → 1 ≤ tokens_at s c after → length after.store.registers ≡ length at.store.registers → (AreBare at → AreBare after) → (cost before : ℕ) → before + 1 + 0 ≤ cost →
       Reaches (map_of l) 0 before t (λ u. instruction_step (map_of l) u ≡ Asks request) → IsDone s c l f input at cost t after
-  ends request outcome end after over left tokens cost before few reaches = record {
+  ends request outcome end after over left tokens count are_bare cost before few reaches = record {
     tokens = tokens;
+    registers = count;
+    bytes = subst (All IsByte) (sym (ap (λ (o : Outside). o.input) left));
+    are_bare = are_bare;
     by_code = λ e. Asking before 0 request few (reaches_more reaches (λ u asks. record {
       asks = asks;
       event = λ event is. absurd (end.silent u event is);

@@ -1,27 +1,22 @@
 -- Nodes that lead on and change nothing.
-use Rattle.std.proofs.Common.{◌≡◌, ℕ, zero, suc, ◌+◌, ◌*◌, ◌≤◌, refl, sym, ◌∙◌, ap, subst, arith, Bool, true, false, List, [], ◌∷◌, Option, Some, None, IsTrue, slice_get}
+use Rattle.std.proofs.Common.{◌≡◌, ℕ, refl, sym, ◌∙◌, ap, subst, arith, Bool, true, false, List, Option, Some, None, IsTrue, slice_get}
 use Rattle.std.specs.Prelude.{◌&&◌, Ok, Err}
 use Rattle.std.specs.List.{list_all}
 use Rattle.std.proofs.lemmas.Bool.{and_parts}
 use Rattle.cmm_program.proofs.Shared.{list_all_get}
 use Rattle.cmm_words.specs.Widths.{IsWord}
 use Rattle.cmm_words.specs.Words.{holds}
-use Rattle.cmm_words.specs.declared.width.Width.{Width}
-use Rattle.rv_table.specs.Bounds.{IsSound}
 use Rattle.rv_table.specs.Machine.{State}
 use Rattle.rv_asm.proofs.Shared.{reaches_then, reaches_weaker}
 use Rattle.rv_asm.specs.Parts.{way}
 use Rattle.rv_asm.specs.Reaching.{Reaches}
 use Rattle.cmm_program.specs.Errors.{Tried, and_then}
 use Rattle.cmm_program.specs.Orders as order
-use Rattle.cmm_program.specs.State as p
 use Rattle.cmm_program.specs.State.{Setting}
 use Rattle.cmm_graph.specs.declared.number.NodeId.{NodeId}
 use Rattle.cmm_graph.specs.declared.operand.Comparison.{Comparison}
 use Rattle.cmm_graph.specs.declared.operand.Operand.{Operand}
 use Rattle.cmm_graph.specs.declared.node.Arm.{Arm}
-use Rattle.cmm_graph.specs.declared.node.Node.{Node}
-use Rattle.cmm_graph.specs.declared.node.NodeKind.{NodeKind}
 use Rattle.cmm_graph.specs.declared.node.NodeKind.TheVariants.{Branch, Switch, Goto}
 use Rattle.cmm_graph.specs.declared.graph.Graph.{Graph}
 use Rattle.cmm_graph.specs.Acting.{arm_way}
@@ -33,7 +28,7 @@ use Rattle.cmm_select.specs.Laws.{SwitchesLead}
 use Rattle.cmm_select.specs.Operands.{CanBringOperand, operand_at}
 use Rattle.cmm_select.specs.Switches.{arm_address, label_of}
 use Rattle.cmm_execution.specs.Machine.{Launch, map_of}
-use Rattle.cmm_shown.specs.Shown.{IsFor, IsPlaceOf, IsShown}
+use Rattle.cmm_shown.specs.Shown.{IsFor, IsPlaceOf}
 use Rattle.cmm_located.specs.Compiled.{Compiled, Located}
 use Rattle.cmm_located.specs.Nodes.{done, keeping, ran_at, reads_at}
 use Rattle.cmm_coded.proofs.Doing.{IsDone, kept_shown, silently, stands_there, tokens_there}
@@ -41,21 +36,21 @@ use Rattle.cmm_coded.proofs.Operands.{operand_is}
 use Rattle.cmm_coded.specs.Finished.{Finished}
 use Rattle.cmm_coded.specs.NodeCode.{BranchCode, GotoCode, SwitchCode}
 use Rattle.cmm_coded.specs.ProgramCode.{HasWords}
-use Rattle.cmm_coded.specs.Standing.{IsAlone, Stands}
+use Rattle.cmm_coded.specs.Standing.{IsInBody, Stands}
 
 pub place_is : {at after : Located} → ◌≡◌ {A = Tried Located} (Ok at) (Ok after) → at ≡ after
 place_is is = cc
 
 module _ (s : Setting) (c : Compiled) (l : Launch) (f : Finished) (input : List ℕ) (is_for : IsFor s (map_of l)) (at : Located) (t : State) (stands : Stands s c l f at t)
-    (alone : IsAlone at) (g : Graph) (is_graph : slice_get c.graphs at.procedure ≡ Some g) (valid : IsValid g)
-    (places : (v : ℕ) → IsPlaceOf s alone.activation (c.plan.place at.procedure v)) where
+    (body : IsInBody at) (g : Graph) (is_graph : slice_get c.graphs at.procedure ≡ Some g) (valid : IsValid g)
+    (places : (v : ℕ) → IsPlaceOf s body.activation (c.plan.place at.procedure v)) where
   -- where nothing but scratch registers is changed, control stands at a node to which it goes
   pub goes_to : (cost : ℕ) (m : NodeId) → IsTrue (leads_to g is_step m) → Reaches (map_of l) 1 cost t (λ u. (u.pc ≡ f.node_at at.procedure m) × Keeps t u) →
       IsDone s c l f input at cost t (record at { node = m })
   goes_to cost m leads reaches =
-      silently s c l f input at cost t (record at { node = m }) (tokens_there s c l f input at g is_graph valid m leads) refl
+      silently s c l f input at cost t (record at { node = m }) (tokens_there s c l f input at g is_graph valid m leads) refl refl (λ b. b)
       (reaches_more (reaches_sound reaches stands.sound) (λ u there.
-      stands_there s c l f input at g is_graph valid m leads u stands.running alone
+      stands_there s c l f input at g is_graph valid m leads u stands.running body
       (kept_shown f s l is_for at.holdings at.store at.carried t u there.0.1 stands.shown) there.0.0 there.1))
 
   pub goto_done : (next : NodeId) (cost : ℕ) (after : Located) → GotoCode s c l f at.procedure at.node next cost → IsTrue (is_kind g (Goto next)) →
@@ -78,10 +73,10 @@ module _ (s : Setting) (c : Compiled) (l : Launch) (f : Finished) (input : List 
       }))
     where
       left : (operand_at f.labels code.left t ≡ x) × CanBringOperand code.left (map_of l) t
-      left = operand_is s c l f is_for at t alone.activation [] alone.youngest places stands.shown test.left code.left x code.is_left is_x
+      left = operand_is s c l f is_for at t body.activation body.older body.youngest places stands.shown test.left code.left x code.is_left is_x
 
       right : (operand_at f.labels code.right t ≡ y) × CanBringOperand code.right (map_of l) t
-      right = operand_is s c l f is_for at t alone.activation [] alone.youngest places stands.shown test.right code.right y code.is_right is_y
+      right = operand_is s c l f is_for at t body.activation body.older body.youngest places stands.shown test.right code.right y code.is_right is_y
 
       found : (b : Bool) → holds test.operator test.width x y ≡ b →
           way (holds test.operator test.width (operand_at f.labels code.left t) (operand_at f.labels code.right t)) (f.labels code.label.number) code.on ≡ way b (f.labels code.label.number) code.on
@@ -169,6 +164,6 @@ module _ (s : Setting) (c : Compiled) (l : Launch) (f : Finished) (input : List 
           and_then (and_then (and_then a (λ v. Ok (arm_way arms v))) (λ n. Ok (order.Choose n))) (λ o. done s c (Switch value arms otherwise) o at) ≡ Ok after →
           IsDone s c l f input at cost t after
       by (Ok x) is_x e =
-          let found = operand_is s c l f is_for at t alone.activation [] alone.youngest places stands.shown value code.operand x code.is_value is_x in
+          let found = operand_is s c l f is_for at t body.activation body.older body.youngest places stands.shown value code.operand x code.is_value is_x in
           by_arm x found.0 (code.switches.goes.go t stands.sound stands.pc found.1) (slice_get arms (arm_way arms x)) refl (place_is e)
       by (Err error) is_x e = absurd (cc)

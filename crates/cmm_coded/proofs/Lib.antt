@@ -1,14 +1,34 @@
 pub mod Nodes
 pub mod Operands
 pub mod Doing
+pub mod Framed
+pub mod Accesses
+pub mod Targets
+pub mod Taking
 pub mod Going
 pub mod Ending
+pub mod Bare
+pub mod Giving
+pub mod Landing
+pub mod GoingBack
 pub mod Returning
+pub mod Calling
+pub mod Cutting
 pub mod Entering
 pub mod Assigning
 pub mod Storing
 pub mod Putting
+pub mod Getting
+pub mod CopyingIn
 pub mod Simulating
+pub mod Beginning
 pub mod AskedEnds
+pub mod Started
+pub mod Placing
+pub mod Naming
+pub mod Shared
 pub mod ReturnedSeven
+pub mod CalledOnce
+pub mod LaidFrames
 mod SevenRows
+mod CallRows

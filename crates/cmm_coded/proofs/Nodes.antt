@@ -1,7 +1,6 @@
 -- Nodes of graphs in range, and what is quiet at them.
-use Rattle.std.proofs.Common.{◌≡◌, ℕ, zero, suc, ◌+◌, ◌*◌, ◌<◌, ◌≤◌, refl, sym, ◌∙◌, ap, subst, arith, Bool, true, false, List, [], ◌∷◌, Option, Some, None, IsTrue, slice_get}
-use Rattle.std.specs.Prelude.{◌&&◌, nat_lt}
-use Rattle.std.specs.List.{list_all}
+use Rattle.std.proofs.Common.{◌≡◌, ℕ, ◌≤◌, refl, ap, arith, Bool, true, false, List, Option, Some, None, IsTrue, slice_get}
+use Rattle.std.specs.Prelude.{nat_lt}
 use Rattle.std.proofs.lemmas.Bool.{and_parts}
 use Rattle.std.proofs.lemmas.Bool.Decides.{nat_tests}
 use Rattle.cmm_program.proofs.Shared.{list_all_get}
@@ -9,7 +8,6 @@ use Rattle.cmm_program.specs.Acts.{Act, GetByte}
 use Rattle.cmm_program.specs.Errors.{with_some}
 use Rattle.cmm_program.specs.State.{Setting, Store, Running}
 use Rattle.cmm_graph.specs.declared.number.NodeId.{NodeId}
-use Rattle.cmm_graph.specs.declared.node.Arm.{Arm}
 use Rattle.cmm_graph.specs.declared.node.HostCall.TheVariants as host
 use Rattle.cmm_graph.specs.declared.node.Node.{Node}
 use Rattle.cmm_graph.specs.declared.node.NodeKind.{NodeKind}
@@ -17,7 +15,7 @@ use Rattle.cmm_graph.specs.declared.node.NodeKind.TheVariants.{Entry, CopyIn, As
 use Rattle.cmm_graph.specs.declared.graph.Graph.{Graph}
 use Rattle.cmm_graph.specs.GraphControl.{in_graph}
 use Rattle.cmm_graph.specs.Paths.{node_of}
-use Rattle.cmm_graph.specs.Ranges.{IsValid, is_entry, is_kind, is_node, is_step, leads_to}
+use Rattle.cmm_graph.specs.Ranges.{IsValid, is_kind, is_node, is_step, leads_to}
 use Rattle.cmm_following.specs.Seen.{but_input}
 use Rattle.cmm_laws.specs.Observed.{event_at}
 use Rattle.rv_table.specs.Machine as rv
@@ -27,9 +25,10 @@ use Rattle.rv_table.specs.declared.request.Request.TheVariants as request
 use Rattle.cmm_changes.specs.Pieces.{BeginsQuietly}
 use Rattle.cmm_execution.specs.Machine.{Launch, map_of}
 use Rattle.cmm_execution.specs.Observed.{asked_at}
-use Rattle.cmm_located.specs.Compiled.{Compiled}
+use Rattle.cmm_located.specs.Compiled.{Compiled, Located}
 use Rattle.cmm_coded.specs.Finished.{Finished, code_of}
 use Rattle.cmm_coded.specs.NodeCode.{IsCodeOf}
+use Rattle.cmm_coded.specs.Standing.{IsInBody, IsInside}
 use Rattle.cmm_program.specs.State as c
 
 -- what is found in a graph is found in one that is there
@@ -52,10 +51,11 @@ led_to g test n leads = by (node_of g n) refl leads
     by (Some node) is holds = (node, is, holds)
     by None is holds = grind (arith, holds)
 
--- a run stands at no Entry
-pub no_entry : (kind : NodeKind) → IsTrue (is_step kind) → is_entry kind ≡ false
-no_entry (Entry formals next) is = grind (arith, is)
-no_entry kind is = refl
+-- at a step, control is inside of a body
+pub is_inside : (kind : NodeKind) → IsTrue (is_step kind) → (at : Located) → IsInBody at → IsInside kind at
+is_inside (Entry formals next) is at body = let e : true ≡ false = grind (arith, is) in absurd (cc)
+is_inside (CopyIn to next) is at body = let e : true ≡ false = grind (arith, is) in absurd (cc)
+is_inside kind is at body = body
 
 -- a node of a graph in range
 pub node_holds : (g : Graph) (n : NodeId) (node : Node) → IsValid g → node_of g n ≡ Some node → (1 ≤ node.tokens) × IsTrue (is_kind g node.kind)
@@ -90,12 +90,12 @@ code_is_quiet s c' l f q n (Switch value arms otherwise) most code = code.switch
 code_is_quiet s c' l f q n (Return exit alternates results) most code = code.returns.quiet
 code_is_quiet s c' l f q n (Goto next) most code = code.goes.quiet
 code_is_quiet s c' l f q n Stop most code = code
-code_is_quiet s c' l f q n (CopyIn to next) most code = absurd code
+code_is_quiet s c' l f q n (CopyIn to next) most code = code.turns.quiet
 code_is_quiet s c' l f q n (Assign to value next) most code = code.quiet
 code_is_quiet s c' l f q n (StoreWord width aligned address value next) most code = code.stores.quiet
-code_is_quiet s c' l f q n (Call site callee arguments exits) most code = absurd code
+code_is_quiet s c' l f q n (Call site callee arguments exits) most code = code.quiet
 code_is_quiet s c' l f q n (Yield site values exits) most code = absurd code
-code_is_quiet s c' l f q n (Jump callee arguments) most code = absurd code
-code_is_quiet s c' l f q n (Cut to arguments own) most code = absurd code
+code_is_quiet s c' l f q n (Jump callee arguments) most code = code.quiet
+code_is_quiet s c' l f q n (Cut to arguments own) most code = code.cuts.quiet
 code_is_quiet s c' l f q n (Host (host.PutByte value) next) most code = code.requests.quiet
-code_is_quiet s c' l f q n (Host (host.GetByte to) next) most code = absurd code
+code_is_quiet s c' l f q n (Host (host.GetByte to) next) most code = code.requests.quiet

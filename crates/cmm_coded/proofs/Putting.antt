@@ -1,16 +1,13 @@
 -- A byte is put.
-use Rattle.std.proofs.Common.{◌≡◌, ℕ, zero, suc, ◌+◌, ◌*◌, ◌%◌, ◌<◌, ◌≤◌, refl, sym, ◌∙◌, ap, subst, arith, Bool, true, false, List, [], ◌∷◌, ◌++◌, Option, Some, None, IsTrue, slice_get}
-use Rattle.std.specs.Prelude.{◌==◌, ◌||◌, ◌&&◌, Ok, Err}
+use Rattle.std.proofs.Common.{◌≡◌, ℕ, ◌+◌, ◌%◌, refl, sym, ◌∙◌, ap, subst, arith, true, false, List, [], ◌∷◌, ◌++◌, Some, IsTrue, slice_get}
+use Rattle.std.specs.Prelude.{Ok, Err}
 use Rattle.std.proofs.lemmas.Bool.{and_parts}
 use Rattle.std.proofs.lemmas.Bool.Decides.{nat_tests}
 use Rattle.rv_table.specs.Bounds.{IsSound}
-use Rattle.rv_table.specs.Machine.{State, Asks, instruction_step}
+use Rattle.rv_table.specs.Machine.{State, Asks}
 use Rattle.rv_table.specs.declared.request.Request.TheVariants as request
 use Rattle.rv_asm.proofs.Shared.{reaches_then, reaches_weaker}
 use Rattle.rv_asm.specs.Reaching.{Reaches}
-use Rattle.cmm_following.specs.Seen.{Event}
-use Rattle.cmm_laws.specs.Observed.{Call, Ending, log_seen}
-use Rattle.cmm_laws.specs.Runs.{yielded}
 use Rattle.cmm_program.specs.Errors.{Tried, and_then}
 use Rattle.cmm_program.specs.Orders as order
 use Rattle.cmm_program.specs.State as p
@@ -25,7 +22,6 @@ use Rattle.cmm_graph.specs.Values.{operand_value}
 use Rattle.cmm_chain.specs.Contents.{is_callee_saves, is_temporary}
 use Rattle.cmm_chain.specs.Running.{Holdings}
 use Rattle.cmm_changes.proofs.Shared.{reaches_more, reaches_sound, sound_behind}
-use Rattle.cmm_changes.specs.Changes.{Keeps}
 use Rattle.cmm_changes.specs.Requests.{KeepsAsking, is_of_request}
 use Rattle.cmm_select.specs.Operands.{CanBringOperand, operand_at}
 use Rattle.cmm_execution.specs.Changes.{at_pc}
@@ -34,19 +30,18 @@ use Rattle.cmm_served.specs.Serving.{Asking}
 use Rattle.cmm_shown.proofs.Shared.{no_values, shown_same}
 use Rattle.cmm_shown.specs.Shown.{IsFor, IsPlaceOf, IsShown}
 use Rattle.cmm_located.specs.Compiled.{Compiled, Located}
-use Rattle.cmm_located.specs.LocatedMachine.{located_step}
 use Rattle.cmm_located.specs.Nodes.{done, keeping, ran_at, reads_at}
 use Rattle.cmm_coded.proofs.Doing.{IsDone, kept_shown, stands_there, tokens_there}
 use Rattle.cmm_coded.proofs.Going.{place_is}
 use Rattle.cmm_coded.proofs.Operands.{operand_is}
 use Rattle.cmm_coded.specs.Finished.{Finished}
 use Rattle.cmm_coded.specs.NodeCode.{PutByteCode}
-use Rattle.cmm_coded.specs.Standing.{IsAlone, Stands, outside_at, status_of}
+use Rattle.cmm_coded.specs.Standing.{IsInBody, Stands, outside_at, status_of}
 
--- only registers of a request are changed, and something may be put
-asked_shown : (f : Finished) (s : Setting) (l : Launch) (h : Holdings) (store : Store) (carried output : List ℕ) (t u : State) → carried ≡ [] → KeepsAsking t u →
-    IsShown f.symbols s (map_of l) h store carried t → IsShown f.symbols s (map_of l) h (record store { output = output }) carried u
-asked_shown f s l h store carried output t u none keeps shown = subst (λ (xs : List ℕ). IsShown f.symbols s (map_of l) h (record store { output = output }) xs u) (sym none) (record {
+-- only registers of a request are changed, and something may be put or taken
+pub asked_shown : (f : Finished) (s : Setting) (l : Launch) (h : Holdings) (store : Store) (carried input taken output : List ℕ) (t u : State) → KeepsAsking t u →
+    IsShown f.symbols s (map_of l) h store carried t → IsShown f.symbols s (map_of l) h (record store { input = input; taken = taken; output = output }) [] u
+asked_shown f s l h store carried input taken output t u keeps shown = record {
   holdings = record {
     zero = keeps.registers 0 refl ∙ shown.holdings.zero;
     frame = keeps.registers 2 refl ∙ shown.holdings.frame;
@@ -61,7 +56,7 @@ asked_shown f s l h store carried output t u none keeps shown = subst (λ (xs : 
   values = no_values u.registers u.memory;
   stack = shown.stack;
   at = shown.at;
-})
+}
   where
     saved_apart : (r : ℕ) → is_callee_saves r ≡ true → is_of_request r ≡ false
     saved_apart r is = grind (arith, nat_tests)
@@ -69,9 +64,13 @@ asked_shown f s l h store carried output t u none keeps shown = subst (λ (xs : 
     temporary_apart : (r : ℕ) → is_temporary r ≡ true → is_of_request r ≡ false
     temporary_apart r is = grind (arith, nat_tests)
 
+-- a run that goes on is not over
+pub never_over : {z : p.Status} {outcome : Outcome} → z ≡ p.Running → status_of z ≡ Ended outcome → ⊥
+never_over running ended = let e : Running ≡ _ = sym (ap status_of running) ∙ ended in absurd (cc)
+
 module _ (s : Setting) (c : Compiled) (l : Launch) (f : Finished) (input : List ℕ) (is_for : IsFor s (map_of l)) (at : Located) (t : State) (stands : Stands s c l f at t)
-    (alone : IsAlone at) (g : Graph) (is_graph : slice_get c.graphs at.procedure ≡ Some g) (valid : IsValid g)
-    (places : (v : ℕ) → IsPlaceOf s alone.activation (c.plan.place at.procedure v)) (value : Operand) (next : NodeId) (cost : ℕ) (after : Located)
+    (body : IsInBody at) (g : Graph) (is_graph : slice_get c.graphs at.procedure ≡ Some g) (valid : IsValid g)
+    (places : (v : ℕ) → IsPlaceOf s body.activation (c.plan.place at.procedure v)) (value : Operand) (next : NodeId) (cost : ℕ) (after : Located)
     (code : PutByteCode s c l f at.procedure at.node value next cost) (fine : IsTrue (is_kind g (Host (host.PutByte value) next))) where
   leads : IsTrue (leads_to g is_step next)
   leads = (and_parts (is_host g (host.PutByte value)) (leads_to g is_step next) fine).1
@@ -89,19 +88,20 @@ module _ (s : Setting) (c : Compiled) (l : Launch) (f : Finished) (input : List 
       (reaches_then reaches
       (λ w there. reaches_more (reaches_sound (code.goes_on.go w (subst IsSound (sym there.1) (sound_behind u sound)) there.0 tt) (subst IsSound (sym there.1) (sound_behind u sound)))
       (λ x last. stands_there s c l f input (put v) g is_graph valid next leads x stands.running
-      (record { activation = alone.activation; youngest = alone.youngest; same = alone.same; carried = alone.carried })
+      (record { activation = body.activation; older = body.older; youngest = body.youngest; same = body.same; carried = body.carried })
       (kept_shown f s l is_for at.holdings (store_after v) at.carried w x last.0.1
       (subst (λ (z : State). IsShown f.symbols s (map_of l) at.holdings (store_after v) at.carried z) (sym there.1)
-      (asked_shown f s l at.holdings at.store at.carried (at.store.output ++ v % 256 ∷ []) t (at_pc (u.pc + 4) u) alone.carried
-      (record { registers = keeps.registers; memory = keeps.memory }) stands.shown))) last.0.0 last.1)))
+      (subst (λ (xs : List ℕ). IsShown f.symbols s (map_of l) at.holdings (store_after v) xs (at_pc (u.pc + 4) u)) (sym body.carried)
+      (asked_shown f s l at.holdings at.store at.carried at.store.input at.store.taken (at.store.output ++ v % 256 ∷ []) t (at_pc (u.pc + 4) u)
+      (record { registers = keeps.registers; memory = keeps.memory }) stands.shown)))) last.0.0 last.1)))
       (omega arith) (omega arith) (λ x last. last)
-
-  never_over : {z : p.Status} {outcome : Outcome} → z ≡ p.Running → status_of z ≡ Ended outcome → ⊥
-  never_over running ended = let e : Running ≡ _ = sym (ap status_of running) ∙ ended in absurd (cc)
 
   asked : (v : ℕ) → operand_at f.labels code.operand t ≡ v → CanBringOperand code.operand (map_of l) t → IsDone s c l f input at cost t (record (put v) { node = next })
   asked v is_v brings = record {
     tokens = tokens_there s c l f input (put v) g is_graph valid next leads;
+    registers = refl;
+    bytes = λ all. all;
+    are_bare = λ b. b;
     by_code = λ e. Asking code.count 2 (request.PutByte (v % 256)) (omega (arith, code.few))
         (reaches_weaker (reaches_sound (code.requests.go t stands.sound stands.pc brings) stands.sound) (omega arith) (omega arith) (λ u there. record {
           asks = there.0.1 ∙ ap (λ (n : ℕ). Asks (request.PutByte (n % 256))) is_v;
@@ -119,6 +119,6 @@ module _ (s : Setting) (c : Compiled) (l : Launch) (f : Finished) (input : List 
       by : (v : Tried ℕ) → operand_value (keeping s c at).held value (reads_at s c at) ≡ v →
           and_then (and_then v (λ n. Ok (order.PutByte n))) (λ o. done s c (Host (host.PutByte value) next) o at) ≡ Ok after → IsDone s c l f input at cost t after
       by (Ok v) is_v e =
-          let found = operand_is s c l f is_for at t alone.activation [] alone.youngest places stands.shown value code.operand v code.is_value is_v in
+          let found = operand_is s c l f is_for at t body.activation body.older body.youngest places stands.shown value code.operand v code.is_value is_v in
           subst (λ (z : Located). IsDone s c l f input at cost t z) (place_is e) (asked v found.0 found.1)
       by (Err error) is_v e = absurd (cc)

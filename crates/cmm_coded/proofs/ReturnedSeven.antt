@@ -1,5 +1,5 @@
 -- The code of the small program, by its pieces.
-use Rattle.std.proofs.Common.{◌≡◌, ◌≢◌, ℕ, ap, refl, sym, subst, [], ◌∷◌}
+use Rattle.std.proofs.Common.{◌≡◌, ℕ, subst, [], ◌∷◌}
 use Rattle.cmm_chain.specs.declared.frame.Frame.{Frame}
 use Rattle.rv_asm.specs.Appending.{Then}
 use Rattle.rv_asm.specs.Parts.{Code, Does}
@@ -7,29 +7,33 @@ use Rattle.rv_asm.specs.declared.part.Label.{Label}
 use Rattle.rv_asm.specs.declared.part.Part.TheVariants.{Place}
 use Rattle.rv_table.specs.Machine.{State}
 use Rattle.rv_table.specs.declared.request.Request.{Request}
-use Rattle.rv_table.specs.declared.request.Request.TheVariants.{StackLimit, End}
+use Rattle.rv_table.specs.declared.request.Request.TheVariants.{StackLimit}
 use Rattle.cmm_select.specs.declared.operand.Operand.TheVariants.{Held}
 use Rattle.cmm_select.specs.declared.source.Source.TheVariants.{Number}
 use Rattle.cmm_calls.specs.Values.{Begins, ReturnsValues}
 use Rattle.cmm_coded.specs.Examples.{ReturnsSeven}
 use Rattle.cmm_coded.specs.Finished.{AsksFor}
+use Rattle.cmm_coded.specs.Starting.{BeginsRun}
 
 -- what is asked for at a label is asked for where it is placed
-at_label : (x : Code) (l : Label) (from to : ℕ) (asked : State → Request) → Does x (Place l) from to → AsksFor 1 asked x to → AsksFor 1 asked x (x.at l.number)
+pub at_label : (x : Code) (l : Label) (from to : ℕ) (asked : State → Request) → Does x (Place l) from to → AsksFor 1 asked x to → AsksFor 1 asked x (x.at l.number)
 at_label x l from to asked place asks =
     let e : to ≡ from = place.0 in
     let g : x.at l.number ≡ from = place.1 in
     subst (AsksFor 1 asked x) (cc) asks
 
-pub returns_seven : (f : Frame) (limit end : Label) (x : Code) (from to : ℕ) →
-    Then (Begins f [] [] [] limit) (Then (λ x from to. ReturnsValues f (Held (Number 7) ∷ []) 0 x from)
-    (Then (λ x from to. Does x (Place limit) from to) (Then (λ x from to. AsksFor 1 (λ t. StackLimit) x from)
-    (Then (λ x from to. Does x (Place end) from to) (λ x from to. AsksFor 1 (λ t. End (t.registers 10)) x from))))) x from to →
-    ReturnsSeven f limit end x from to
-returns_seven f limit end x from to (mid, begins, (behind, returns, (a, limit_place, (b, limit_asks, (d, end_place, end_asks))))) = record {
+pub returns_seven : (f : Frame) (main limit : Label) (x : Code) (from to : ℕ) →
+    Then (λ x from to. BeginsRun main x from) (Then (λ x from to. Does x (Place main) from to)
+    (Then (Begins f [] [] [] limit) (Then (λ x from to. ReturnsValues f (Held (Number 7) ∷ []) 0 x from)
+    (Then (λ x from to. Does x (Place limit) from to) (λ x from to. AsksFor 1 (λ t. StackLimit) x from))))) x from to →
+    ReturnsSeven f main limit x from to
+returns_seven f main limit x from to (a, starts, (b, main_place, (mid, begins, (d, returns, (e, limit_place, limit_asks))))) = record {
+  starts = starts;
   mid = mid;
-  begins = begins;
+  begins =
+      let here : b ≡ a = main_place.0 in
+      let there : x.at main.number ≡ a = main_place.1 in
+      subst (λ (n : ℕ). Begins f [] [] [] limit x n mid) (cc) begins;
   returns = returns;
-  limits = at_label x limit behind a (λ t. StackLimit) limit_place limit_asks;
-  ends = at_label x end b d (λ t. End (t.registers 10)) end_place end_asks;
+  limits = at_label x limit d e (λ t. StackLimit) limit_place limit_asks;
 }

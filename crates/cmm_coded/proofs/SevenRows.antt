@@ -1,14 +1,19 @@
 -- A worked row: what is asked of code holds of a small program, so the simulation says something.
 --     main() { return (7); }
-use Rattle.std.proofs.Common.{◌≡◌, ◌⊎◌, inl, inr, ℕ, zero, suc, ◌+◌, ◌*◌, ◌%◌, ◌<◌, ◌≤◌, ◌^◌, refl, sym, ◌∙◌, ap, subst, arith, true, false, List, [], ◌∷◌, length, Some, slice_get}
-use Rattle.std.specs.List.{list_all}
-use Rattle.cmm_chain.specs.Plans.{fixed_offsets}
+use Rattle.std.specs.Prelude.{◌==◌, None, Option}
+use Rattle.std.proofs.lemmas.Bool.Decides.{nat_tests}
+use Rattle.cmm_program.specs.Frames.{place_row}
+use Rattle.cmm_program.specs.Performing.{procedure_from}
+use Rattle.std.proofs.Common.{◌≡◌, Bool, inr, ℕ, zero, suc, ◌*◌, ◌%◌, ◌<◌, ◌^◌, refl, sym, ◌∙◌, ap, subst, arith, true, false, List, [], ◌∷◌, length, Some, slice_get}
+use Rattle.std.specs.List.{All, list_all}
+use Rattle.cmm_laws.specs.Fitting.{IsByte}
 use Rattle.cmm_program.proofs.Shared as sample
 use Rattle.cmm_program.proofs.Shared.{frame, no_client, procedure, setting}
 use Rattle.cmm_program.specs.declared.procedure.Proc.{Proc}
-use Rattle.cmm_program.specs.State.{Activation, Setting}
+use Rattle.cmm_program.specs.State.{Setting}
 use Rattle.cmm_graph.proofs.Shared.{arg, graph, n, num}
 use Rattle.cmm_graph.specs.declared.number.NodeId.{NodeId}
+use Rattle.cmm_graph.specs.declared.node.Exits.{Exits}
 use Rattle.cmm_graph.specs.declared.node.Node.{Node}
 use Rattle.cmm_graph.specs.declared.node.NodeKind.TheVariants.{Entry, Return}
 use Rattle.cmm_graph.specs.declared.graph.Graph.{Graph}
@@ -22,16 +27,18 @@ use Rattle.cmm_changes.proofs.Shared.{goes_none, keeps_same}
 use Rattle.cmm_select.specs.declared.operand.Operand.TheVariants.{Held}
 use Rattle.cmm_select.specs.declared.source.Source.TheVariants.{Number}
 use Rattle.cmm_execution.specs.Machine.{Launch, map_of}
-use Rattle.cmm_shown.specs.Shown.{AreWordsAt, IsFor}
-use Rattle.cmm_shown.specs.Words.{Symbols}
-use Rattle.cmm_located.specs.Compiled.{Compiled, Located}
+use Rattle.cmm_located.specs.Compiled.{Compiled, Located, landing_in, site_exits}
 use Rattle.cmm_located.specs.LocatedMachine.{located_machine, located_start}
 use Rattle.cmm_following.specs.Machine.{after}
+use Rattle.cmm_coded.proofs.LaidFrames.{procedures_are_laid}
+use Rattle.cmm_coded.specs.Laying.{IsLaidOut}
 use Rattle.cmm_coded.proofs.Nodes.{found_in}
 use Rattle.cmm_coded.specs.Examples.{ReturnsSeven}
-use Rattle.cmm_coded.specs.Finished.{Finished, code_of}
+use Rattle.rv_asm.proofs.Shared.{reaches_weaker}
+use Rattle.cmm_coded.specs.Starting.{StartCode}
+use Rattle.cmm_coded.specs.Finished.{Finished}
 use Rattle.cmm_coded.specs.NodeCode.{IsCodeOf}
-use Rattle.cmm_coded.specs.ProgramCode.{HasWords, IsCode, IsLaidFor, is_coded}
+use Rattle.cmm_coded.specs.ProgramCode.{ArePromised, HasWords, IsCode, IsLaidFor, is_coded, names_registers}
 
 abbrev seven-main : Proc
 seven-main = procedure [] 99 0 0 [] []
@@ -61,43 +68,53 @@ only (suc q) g is = absurd (cc)
 coded : (q : ℕ) (g : Graph) → slice_get seven.graphs q ≡ Some g → list_all (λ node. is_coded node.kind) g.nodes ≡ true
 coded q g is = subst (λ (z : Graph). list_all (λ node. is_coded node.kind) z.nodes ≡ true) (only q g is).1 refl
 
+named : (q : ℕ) (g : Graph) → slice_get seven.graphs q ≡ Some g → list_all (λ node. names_registers seven-setting.program node.kind) g.nodes ≡ true
+named q g is = subst (λ (z : Graph). list_all (λ node. names_registers seven-setting.program node.kind) z.nodes ≡ true) (only q g is).1 refl
+
 valid : (q : ℕ) (g : Graph) → slice_get seven.graphs q ≡ Some g → IsValid g
 valid q g is = subst IsValid (only q g is).1 (record { first = refl; nodes = refl; continuations = refl })
 
-words_at : (q : ℕ) (variables : List ℕ) (a : Activation) → a.procedure ≡ q → q ≡ 0 → AreWordsAt seven-setting a (fixed_offsets seven-frame)
-words_at q variables a is none = by a.procedure (is ∙ none) a.variables
-  where
-    by : (p : ℕ) → p ≡ 0 → (vs : List ℕ) → AreWordsAt seven-setting (record { procedure = p; variables = vs; site = a.site }) (fixed_offsets seven-frame)
-    by p same vs = subst (λ (z : ℕ). AreWordsAt seven-setting (record { procedure = z; variables = vs; site = a.site }) (fixed_offsets seven-frame)) (sym same)
-        (record { aligned = refl; inside = omega arith; clear = λ at i less. inr (omega arith) }, tt)
-
-laid_at : (q : ℕ) → q ≡ 0 → IsLaidFor seven-setting seven q
-laid_at q none = subst (λ (z : ℕ). IsLaidFor seven-setting seven z) (sym none) (record {
+-- its frame is one that is laid for the places of its locals, of which there are none
+seven_is_laid_out : IsLaidOut seven-setting seven 0
+seven_is_laid_out = record {
   procedure = seven-main;
   is_procedure = refl;
+  fits = record { items = refl; stackdata = omega arith; tokens = omega arith };
+  places = [];
+  frame = record { placed = λ code is. rw is refl; laid = refl; locals = refl; registers = refl; clear = refl };
   size = refl;
-  can = record { laid = refl; small = omega arith; registers = refl };
-  words = λ a is. words_at 0 [] a is refl;
-  places = λ a v is. refl;
-})
+  stack = refl;
+  locals = λ v. inr refl;
+}
+
+laid_at : (q : ℕ) → q ≡ 0 → IsLaidFor seven-setting seven q
+laid_at q none = subst (λ (z : ℕ). IsLaidFor seven-setting seven z) (sym none) (procedures_are_laid seven-setting seven 0 seven_is_laid_out)
 
 laid : (q : ℕ) (g : Graph) → slice_get seven.graphs q ≡ Some g → IsLaidFor seven-setting seven q
 laid q g is = laid_at q (only q g is).0
 
+no_sites : (q site : ℕ) (exits : Exits) → site_exits seven.graphs q site ≡ Some exits → ⊥
+no_sites zero site exits is = cc
+no_sites (suc q) site exits is = cc
+
+no_landings : (q k : ℕ) (m : NodeId) → landing_in seven.graphs q k ≡ Some m → ⊥
+no_landings zero k m is = cc
+no_landings (suc q) k m is = cc
+
 has_words : (at : Located) (q number : ℕ) → HasWords seven-setting seven at (kind_at seven.graphs q (record { number = number }))
-has_words at zero zero = tt
+has_words at zero zero = omega arith
 has_words at zero (suc zero) = tt
 has_words at zero (suc (suc number)) = tt
 has_words at (suc q) number = tt
 
 -- ---- its code
 
-module _ (l : Launch) (at : ℕ → ℕ) (limit end : Label) (from to : ℕ) (pieces : ReturnsSeven seven-frame limit end (record { map = map_of l; at = at }) from to) where
+module _ (l : Launch) (at : ℕ → ℕ) (main limit : Label) (to : ℕ) (pieces : ReturnsSeven seven-frame main limit (record { map = map_of l; at = at }) l.image.start to) where
   abbrev finished : Finished
   finished = record {
     labels = at;
-    node_at = λ q m. elim m.number as (λ _. ℕ) [ zero ↦ from | suc _ ↦ pieces.mid ];
-    symbols = record { return_to = λ q site. 0; landing_of = λ q k. 0; last_return = at end.number };
+    node_at = λ q m. elim m.number as (λ _. ℕ) [ zero ↦ at main.number | suc _ ↦ pieces.mid ];
+    symbols = record { return_to = λ q site. 0; landing_of = λ q k. 0; last_return = pieces.starts.back };
   }
 
   code_at : (q number : ℕ) (node : Node) → q ≡ 0 → slice_get seven-graph.nodes number ≡ Some node →
@@ -110,6 +127,8 @@ module _ (l : Launch) (at : ℕ → ℕ) (limit end : Label) (from to : ℕ) (pi
         on = pieces.mid;
         ends = 1;
         begins = pieces.begins;
+        apart = refl;
+        few_formals = omega arith;
         pairs = refl;
         addresses = tt;
         limits = pieces.limits;
@@ -125,8 +144,9 @@ module _ (l : Launch) (at : ℕ → ℕ) (limit end : Label) (from to : ℕ) (pi
         are = (refl, tt);
         few_results = omega arith;
         returns = pieces.returns;
-        end_asked = pieces.ends;
+        end_asked = pieces.starts.ends;
         few = omega arith;
+        few_behind = omega arith;
       })
   code_at q (suc (suc number)) node none is = absurd (cc)
 
@@ -137,25 +157,63 @@ module _ (l : Launch) (at : ℕ → ℕ) (limit end : Label) (from to : ℕ) (pi
       let one = only q found.0 found.1 in
       code_at q m.number node one.0 (ap (λ (g : Graph). node_of g m) one.1 ∙ found.2)
 
-  seven_is_code : l.stack_size ≡ 4096 → length l.image.initial ≡ 0 → at end.number % 4 ≡ 0 → at end.number < 2 ^ 64 → (input : List ℕ) →
+  -- the placement has `main` where its label is
+  abbrev main_code : ℕ
+  main_code = (place_row seven-setting 0).code
+
+  entry_at : at main.number ≡ main_code → (address q : ℕ) (m : NodeId) → procedure_from 0 address seven-setting.placement.rows ≡ Some q →
+      in_graph seven.graphs q (λ g. Some g.first) ≡ Some m → (finished.node_at q m ≡ address) × (address % 4 ≡ 0)
+  entry_at main_is address q m from first = by (main_code == address) refl from
+    where
+      at_zero : (node : NodeId) → n 0 ≡ node → (elim node.number as (λ _. ℕ) [ zero ↦ at main.number | suc _ ↦ pieces.mid ]) ≡ at main.number
+      at_zero node same = ap (λ (z : NodeId). elim z.number as (λ _. ℕ) [ zero ↦ at main.number | suc _ ↦ pieces.mid ]) (sym same)
+
+      by : (test : Bool) → (main_code == address) ≡ test → elim test as (λ _. Option ℕ) [ true ↦ Some 0 | false ↦ None ] ≡ Some q → (finished.node_at q m ≡ address) × (address % 4 ≡ 0)
+      by true is e =
+          let same : main_code ≡ address = grind (arith, nat_tests, is) in
+          let none : q ≡ 0 = cc in
+          let found : in_graph seven.graphs 0 (λ g. Some g.first) ≡ Some m = subst (λ (z : ℕ). in_graph seven.graphs z (λ g. Some g.first) ≡ Some m) none first in
+          let node : n 0 ≡ m = cc in
+          (at_zero m node ∙ main_is ∙ same, subst (λ (z : ℕ). z % 4 ≡ 0) same refl)
+      by false is e = absurd (cc)
+
+  seven_is_code : l.stack_size ≡ 4096 → at main.number ≡ main_code → l.image.initial ≡ [] → pieces.starts.back % 4 ≡ 0 → pieces.starts.back < 2 ^ 64 → (input : List ℕ) → All IsByte input →
       IsCode seven-setting seven l finished input
-  seven_is_code stack none aligned fits input = record {
+  seven_is_code stack main_is none aligned fits input bytes = record {
     is_for = record {
       set = record { placed = record { rows = refl; ascending = refl }; aligned = refl };
       base = refl;
       size = sym stack;
       small = omega arith;
-      data_length = none;
-      region = omega (arith, none);
+      data_length = ap (λ (xs : List ℕ). length xs) none;
+      region = omega (arith, ap (λ (xs : List ℕ). length xs) none);
     };
     coded = coded;
     valid = valid;
+    named = named;
     laid = laid;
     nodes = nodes;
+    entries = entry_at main_is;
+    landings = λ q k m is. absurd (no_landings q k m is);
+    sites = λ q site exits is. absurd (no_sites q site exits is);
     first = record { tokens = 1; kind = Entry [] (n 1) };
     is_first = refl;
     back_aligned = aligned;
     back_fits = fits;
-    words = λ k running.
-        let here = after (located_machine seven-setting seven) k (located_start seven-setting seven input) in has_words here here.procedure here.node.number;
+    bytes = bytes;
+  }
+
+  seven_is_promised : (input : List ℕ) (m : ℕ) → ArePromised seven-setting seven input m
+  seven_is_promised input m k less running =
+      let here = after (located_machine seven-setting seven) k (located_start seven-setting seven input) in has_words here here.procedure here.node.number
+
+  seven_starts : l.image.initial ≡ [] → StartCode seven-setting seven l finished
+  seven_starts none = record {
+    first = n 0;
+    is_first = refl;
+    most = 2;
+    calls = record { go = λ t sound pc p. reaches_weaker (pieces.starts.calls.go t sound pc p) (omega arith) (omega arith) (λ u there. there) };
+    is_data = none;
+    bytes = λ k byte less. absurd (omega (arith, less, ap (λ (xs : List ℕ). length xs) none));
+    few_registers = omega arith;
   }

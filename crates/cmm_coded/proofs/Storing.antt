@@ -1,22 +1,18 @@
 -- A word is stored.
-use Rattle.std.proofs.Common.{◌≡◌, ℕ, zero, suc, ◌+◌, ◌*◌, ◌%◌, ◌-◌, ◌⊎◌, inl, inr, ◌<◌, ◌≤◌, ◌^◌, refl, sym, ◌∙◌, ap, subst, arith, Bool, true, false, List, [], ◌∷◌, map, Option, Some, None, IsTrue, slice_get}
-use Rattle.std.specs.Prelude.{◌==◌, ◌&&◌, Ok, Err}
-use Rattle.std.specs.List.{list_all, range_with_len}
+use Rattle.std.proofs.Common.{◌≡◌, ℕ, refl, sym, subst, arith, Bool, true, false, List, [], ◌∷◌, Some, IsTrue, slice_get}
+use Rattle.std.specs.Prelude.{◌&&◌, Ok, Err}
 use Rattle.std.proofs.lemmas.Bool.{and_parts}
-use Rattle.std.proofs.lemmas.Bool.Decides.{nat_tests}
 use Rattle.cmm_words.specs.Widths.{bytes}
 use Rattle.cmm_words.specs.declared.width.Width.{Width}
-use Rattle.cmm_words.specs.declared.width.Width.TheVariants.{W8, W16, W32, W64}
-use Rattle.rv_table.specs.Machine.{MemoryMap, State, data_base, is_accessible, stack_base}
+use Rattle.rv_table.specs.Machine.{State}
 use Rattle.rv_asm.proofs.Shared.{reaches_then, reaches_weaker}
-use Rattle.rv_asm.specs.Reaching.{Reaches}
 use Rattle.cmm_program.specs.Errors.{Tried, BadAccess, all_of, and_then, provided}
 use Rattle.cmm_program.specs.Layout.{bytes_of}
-use Rattle.cmm_program.specs.Memory.{Cell, cell_at, with_bytes}
+use Rattle.cmm_program.specs.Memory.{cell_at, with_bytes}
 use Rattle.cmm_program.specs.Orders as order
 use Rattle.cmm_program.specs.Performing.{Stay}
 use Rattle.cmm_program.specs.State.{Setting, Store as Stored}
-use Rattle.cmm_program.specs.Values.{is_there, may_access}
+use Rattle.cmm_program.specs.Values.{may_access}
 use Rattle.cmm_program.specs.Writes.{put_all}
 use Rattle.cmm_graph.specs.declared.number.NodeId.{NodeId}
 use Rattle.cmm_graph.specs.declared.operand.Operand.{Operand}
@@ -30,46 +26,29 @@ use Rattle.cmm_changes.specs.Changes.{Writes}
 use Rattle.cmm_select.specs.Memory.{IsCellBy, access_of}
 use Rattle.cmm_select.specs.Operands.{CanBringOperand, operand_at}
 use Rattle.cmm_execution.specs.Machine.{Launch, map_of}
-use Rattle.cmm_shown.proofs.Shared.{forget_values, store_shows, there_is_accessible, there_is_placed}
+use Rattle.cmm_shown.proofs.Shared.{forget_values, store_shows}
 use Rattle.cmm_shown.specs.Shown.{IsFor, IsPlaceOf, IsShown}
 use Rattle.cmm_located.specs.Compiled.{Compiled, Located}
 use Rattle.cmm_located.specs.Nodes.{done, keeping, ran_at, reads_at, transferred}
+use Rattle.cmm_coded.proofs.Accesses.{all_there, may_is_cell, some_bytes}
 use Rattle.cmm_coded.proofs.Doing.{IsDone, kept_shown, silently, stands_there, tokens_there}
 use Rattle.cmm_coded.proofs.Going.{place_is}
 use Rattle.cmm_coded.proofs.Operands.{operand_is}
 use Rattle.cmm_coded.specs.Finished.{Finished}
 use Rattle.cmm_coded.specs.NodeCode.{StoreCode}
-use Rattle.cmm_coded.specs.Standing.{IsAlone, Stands}
-
--- each of the bytes is there
-each_there : (cell : ℕ → Cell) (size address : ℕ) → list_all is_there (map cell (range_with_len address size)) ≡ true → (i : ℕ) → i < size → is_there (cell (address + i)) ≡ true
-each_there cell zero address all i less = absurd (omega arith)
-each_there cell (suc size) address all zero less =
-    let first = (and_parts (is_there (cell address)) (list_all is_there (map cell (range_with_len (address + 1) size))) all).0 in
-    subst (λ (n : ℕ). is_there (cell n) ≡ true) (omega arith) first
-each_there cell (suc size) address all (suc i) less =
-    let rest = (and_parts (is_there (cell address)) (list_all is_there (map cell (range_with_len (address + 1) size))) all).1 in
-    subst (λ (n : ℕ). is_there (cell n) ≡ true) (omega arith) (each_there cell size (address + 1) rest i (omega arith))
-
-some_bytes : (w : Width) → (1 ≤ bytes w) × (bytes w ≤ 8)
-some_bytes W8 = (omega arith, omega arith)
-some_bytes W16 = (omega arith, omega arith)
-some_bytes W32 = (omega arith, omega arith)
-some_bytes W64 = (omega arith, omega arith)
-
--- a word at a multiple of its bytes is one access
-one_access : (w : Width) (a : ℕ) (m : MemoryMap) → a + bytes w ≤ 2 ^ 64 → is_accessible m a (bytes w) ≡ true → IsCellBy (access_of w (bytes w)) w a m
-one_access W8 a m fits can = record { fits = fits; accessible = λ k less. let here : a ≡ a + k * 1 = omega arith in subst (λ (n : ℕ). IsTrue (is_accessible m n 1)) here can }
-one_access W16 a m fits can = record { fits = fits; accessible = λ k less. let here : a ≡ a + k * 2 = omega arith in subst (λ (n : ℕ). IsTrue (is_accessible m n 2)) here can }
-one_access W32 a m fits can = record { fits = fits; accessible = λ k less. let here : a ≡ a + k * 4 = omega arith in subst (λ (n : ℕ). IsTrue (is_accessible m n 4)) here can }
-one_access W64 a m fits can = record { fits = fits; accessible = λ k less. let here : a ≡ a + k * 8 = omega arith in subst (λ (n : ℕ). IsTrue (is_accessible m n 8)) here can }
+use Rattle.cmm_coded.specs.Standing.{IsInBody, Stands}
 
 module _ (s : Setting) (c : Compiled) (l : Launch) (f : Finished) (input : List ℕ) (is_for : IsFor s (map_of l)) (at : Located) (t : State) (stands : Stands s c l f at t)
-    (alone : IsAlone at) (g : Graph) (is_graph : slice_get c.graphs at.procedure ≡ Some g) (valid : IsValid g)
-    (places : (v : ℕ) → IsPlaceOf s alone.activation (c.plan.place at.procedure v)) (width : Width) (aligned : ℕ) (address value : Operand) (next : NodeId) (cost : ℕ) (after : Located)
-    (whole : aligned ≡ bytes width) (code : StoreCode s c l f at.procedure at.node width address value next cost) (fine : IsTrue (is_kind g (Store width aligned address value next))) where
+    (body : IsInBody at) (g : Graph) (is_graph : slice_get c.graphs at.procedure ≡ Some g) (valid : IsValid g)
+    (places : (v : ℕ) → IsPlaceOf s body.activation (c.plan.place at.procedure v)) (width : Width) (aligned : ℕ) (address value : Operand) (next : NodeId) (cost : ℕ) (after : Located)
+    (code : StoreCode s c l f at.procedure at.node width aligned address value next cost) (fine : IsTrue (is_kind g (Store width aligned address value next))) where
   leads : IsTrue (leads_to g is_step next)
   leads = (and_parts (is_alignment aligned && is_operand g address && is_operand g value) (leads_to g is_step next) fine).1
+
+  alignment : is_alignment aligned ≡ true
+  alignment =
+      let both = (and_parts (is_alignment aligned && is_operand g address && is_operand g value) (leads_to g is_step next) fine).0 in
+      (and_parts (is_alignment aligned) (is_operand g address) (and_parts (is_alignment aligned && is_operand g address) (is_operand g value) both).0).0
 
   abbrev store_after : ℕ → ℕ → Stored
   store_after a v = record at.store { memory = with_bytes at.store.memory a (bytes_of (bytes width) v) }
@@ -77,50 +56,33 @@ module _ (s : Setting) (c : Compiled) (l : Launch) (f : Finished) (input : List 
   stored : (a v : ℕ) → operand_value (keeping s c at).held address (reads_at s c at) ≡ Ok a → operand_value (keeping s c at).held value (reads_at s c at) ≡ Ok v →
       may_access (cell_at at.store.memory) (bytes width) aligned a ≡ true → IsDone s c l f input at cost t (record at { store = store_after a v; node = next })
   stored a v is_a is_v may =
-      silently s c l f input at cost t (record at { store = store_after a v; node = next }) (tokens_there s c l f input (record at { store = store_after a v }) g is_graph valid next leads) refl
+      silently s c l f input at cost t (record at { store = store_after a v; node = next }) (tokens_there s c l f input (record at { store = store_after a v }) g is_graph valid next leads) refl refl (λ b. b)
       (reaches_more (reaches_sound {Q = λ u. (u.pc ≡ f.node_at at.procedure next) × IsShown f.symbols s (map_of l) at.holdings (store_after a v) at.carried u}
       (reaches_weaker
       (reaches_then (reaches_sound (code.stores.runs.go t stands.sound stands.pc (record {
         brings = record { brings_left = first.1; brings_right = second.1 };
-        cell = subst (λ (n : ℕ). IsCellBy (access_of width (bytes width)) width n (map_of l)) (sym first.0) (one_access width a (map_of l) near accessible);
+        cell = subst (λ (n : ℕ). IsCellBy (access_of width aligned) width n (map_of l)) (sym first.0)
+            (may_is_cell s (map_of l) is_for at.store stands.shown.stack a width aligned may alignment);
       })) stands.sound)
       (λ u there. reaches_more (code.goes_on.go u there.1 there.0.0 tt)
       (λ w last. (last.0, kept_shown f s l is_for at.holdings (store_after a v) at.carried u w last.1 (written u there.0.1)))))
       (omega arith) (omega (arith, code.few)) (λ w last. last))
       stands.sound)
       (λ w last. stands_there s c l f input (record at { store = store_after a v }) g is_graph valid next leads w stands.running
-      (record { activation = alone.activation; youngest = alone.youngest; same = alone.same; carried = alone.carried }) last.0.1 last.0.0 last.1))
+      (record { activation = body.activation; older = body.older; youngest = body.youngest; same = body.same; carried = body.carried }) last.0.1 last.0.0 last.1))
     where
       first : (operand_at f.labels code.to t ≡ a) × CanBringOperand code.to (map_of l) t
-      first = operand_is s c l f is_for at t alone.activation [] alone.youngest places stands.shown address code.to a code.is_address is_a
+      first = operand_is s c l f is_for at t body.activation body.older body.youngest places stands.shown address code.to a code.is_address is_a
 
       second : (operand_at f.labels code.stored t ≡ v) × CanBringOperand code.stored (map_of l) t
-      second = operand_is s c l f is_for at t alone.activation [] alone.youngest places stands.shown value code.stored v code.is_value is_v
-
-      parts : ((a % aligned == 0) ≡ true) × (list_all is_there (map (cell_at at.store.memory) (range_with_len a (bytes width))) ≡ true)
-      parts = and_parts (a % aligned == 0) (list_all is_there (map (cell_at at.store.memory) (range_with_len a (bytes width)))) may
-
-      there : (i : ℕ) → i < bytes width → is_there (cell_at at.store.memory (a + i)) ≡ true
-      there = each_there (cell_at at.store.memory) (bytes width) a parts.1
-
-      accessible : is_accessible (map_of l) a (bytes width) ≡ true
-      accessible = there_is_accessible s (map_of l) is_for at.store a (bytes width) stands.shown.stack (some_bytes width).0 (some_bytes width).1
-          (subst (λ (n : ℕ). (a % n == 0) ≡ true) whole parts.0) there
-
-      -- its bytes have addresses of 64 bits
-      near : a + bytes width ≤ 2 ^ 64
-      near = by (there_is_placed s (map_of l) is_for at.store (a + (bytes width - 1)) stands.shown.stack (there (bytes width - 1) (omega (arith, (some_bytes width).0))))
-        where
-          by : ((data_base ≤ a + (bytes width - 1)) × (a + (bytes width - 1) < data_base + (map_of l).data_length))
-              ⊎ ((stack_base ≤ a + (bytes width - 1)) × (a + (bytes width - 1) < stack_base + (map_of l).stack_size)) → a + bytes width ≤ 2 ^ 64
-          by (inl place) = omega (arith, place.1, is_for.region, (some_bytes width).0)
-          by (inr place) = omega (arith, place.1, is_for.small, is_for.base, is_for.size, (some_bytes width).0)
+      second = operand_is s c l f is_for at t body.activation body.older body.youngest places stands.shown value code.stored v code.is_value is_v
 
       written : (u : State) → Writes (operand_at f.labels code.to t) (bytes width) (operand_at f.labels code.stored t) t u →
           IsShown f.symbols s (map_of l) at.holdings (store_after a v) at.carried u
       written u writes =
-          subst (λ (xs : List ℕ). IsShown f.symbols s (map_of l) at.holdings (store_after a v) xs u) (sym alone.carried)
-          (store_shows f.symbols s (map_of l) is_for at.holdings at.store t u a (bytes width) v (some_bytes width).0 there
+          subst (λ (xs : List ℕ). IsShown f.symbols s (map_of l) at.holdings (store_after a v) xs u) (sym body.carried)
+          (store_shows f.symbols s (map_of l) is_for at.holdings at.store t u a (bytes width) v (some_bytes width).0
+          (all_there s (map_of l) is_for at.store stands.shown.stack a width aligned may)
           (subst (λ (n : ℕ). Writes n (bytes width) v t u) first.0 (subst (λ (n : ℕ). Writes (operand_at f.labels code.to t) (bytes width) n t u) second.0 writes))
           (forget_values f.symbols s (map_of l) at.holdings at.store at.carried t stands.shown))
 

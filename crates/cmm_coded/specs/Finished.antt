@@ -1,5 +1,5 @@
 -- The finished code of a compiled program, by addresses.
-use Rattle.std.specs.Prelude.{◌≡◌, ℕ, ◌+◌}
+use Rattle.std.specs.Prelude.{◌≡◌, ℕ}
 use Rattle.cmm_graph.specs.declared.number.NodeId.{NodeId}
 use Rattle.rv_asm.specs.Parts.{Code}
 use Rattle.rv_asm.specs.Reaching.{Reaches}

@@ -1,6 +1,10 @@
 pub mod Finished
 pub mod NodeCode
 pub mod ProgramCode
+pub mod Laying
 pub mod Standing
+pub mod Starting
+pub mod Placing
+pub mod Naming
 pub mod Examples
 pub mod Laws

@@ -1,22 +1,28 @@
 -- What is asked of the finished code of a program.
-use Rattle.std.specs.Prelude.{◌≡◌, ℕ, ◌%◌, ◌*◌, ◌<◌, ◌^◌, ◌==◌, ◌&&◌, Bool, true, false, List, [], ◌∷◌, is_some, slice_get, Ok, Some}
-use Rattle.std.specs.List.{list_all}
-use Rattle.cmm_words.specs.Widths.{IsWord, bytes}
+use Rattle.std.specs.Prelude.{◌≡◌, ℕ, ◌%◌, ◌*◌, ◌<◌, ◌≤◌, ◌^◌, ◌&&◌, nat_lt, Bool, true, false, List, length, slice_get, Ok, Some}
+use Rattle.std.specs.List.{All, list_all}
+use Rattle.cmm_words.specs.Widths.{IsWord}
 use Rattle.cmm_words.specs.declared.width.Width.{Width}
 use Rattle.cmm_chain.specs.Plans.{fixed_offsets}
 use Rattle.cmm_program.specs.declared.procedure.Proc.{Proc}
+use Rattle.cmm_program.specs.declared.procedure.Target.{Target}
+use Rattle.cmm_program.specs.declared.procedure.Target.TheVariants as target
+use Rattle.cmm_program.specs.declared.program.Program.{Program}
 use Rattle.cmm_program.specs.Frames.{place_row, procedure_at}
+use Rattle.cmm_program.specs.Performing.{procedure_from}
 use Rattle.cmm_program.specs.State.{Activation, Setting, Running}
 use Rattle.cmm_following.specs.Machine.{after}
+use Rattle.cmm_laws.specs.Fitting.{IsByte}
 use Rattle.cmm_graph.specs.declared.number.NodeId.{NodeId}
 use Rattle.cmm_graph.specs.declared.operand.Operand.{Operand}
 use Rattle.cmm_graph.specs.declared.operand.Rvalue.{Rvalue}
 use Rattle.cmm_graph.specs.declared.operand.Rvalue.TheVariants as rvalue
-use Rattle.cmm_graph.specs.declared.node.HostCall.TheVariants.{PutByte}
+use Rattle.cmm_graph.specs.declared.node.Exits.{Exits}
 use Rattle.cmm_graph.specs.declared.node.Node.{Node}
 use Rattle.cmm_graph.specs.declared.node.NodeKind.{NodeKind}
-use Rattle.cmm_graph.specs.declared.node.NodeKind.TheVariants.{Entry, Assign, Store, Branch, Switch, Return, Host, Goto, Stop}
+use Rattle.cmm_graph.specs.declared.node.NodeKind.TheVariants.{Entry, CopyIn, Assign, Branch, Yield}
 use Rattle.cmm_graph.specs.declared.graph.Graph.{Graph}
+use Rattle.cmm_graph.specs.Counterpart.{reads_registers, targets}
 use Rattle.cmm_graph.specs.GraphControl.{in_graph, kind_at}
 use Rattle.cmm_graph.specs.Paths.{node_of}
 use Rattle.cmm_graph.specs.Ranges.{IsValid}
@@ -24,33 +30,29 @@ use Rattle.cmm_graph.specs.Values.{operand_value, rvalue_value}
 use Rattle.cmm_calls.specs.Frames.{CanBeMade}
 use Rattle.cmm_execution.specs.Machine.{Launch, map_of}
 use Rattle.cmm_shown.specs.Shown.{AreWordsAt, IsFor, IsPlaceOf}
-use Rattle.cmm_located.specs.Compiled.{Compiled, Located}
+use Rattle.cmm_located.specs.Compiled.{Compiled, Located, landing_in, site_exits}
 use Rattle.cmm_located.specs.LocatedMachine.{located_machine, located_start}
-use Rattle.cmm_located.specs.Nodes.{keeping, local_of, reads_at}
+use Rattle.cmm_located.specs.Nodes.{keeping, reads_at}
 use Rattle.cmm_coded.specs.Finished.{Finished}
-use Rattle.cmm_coded.specs.NodeCode.{IsCodeOf}
+use Rattle.cmm_coded.specs.NodeCode.{IsCodeOf, SiteCode}
 
 -- ---- for which programs
 
--- right sides that are done so far: those that read operands alone
-abbrev pub reads_operands : Rvalue → Bool
-reads_operands (rvalue.Register r) = false
-reads_operands (rvalue.Load width aligned address) = false
-reads_operands _ = true
-
--- The nodes that are done so far: no other activation comes, by a call, a tail call, a cut or a yield; no formal takes an argument; only
--- locals are assigned; nothing is loaded, and words are stored at multiples of their size alone; and no byte is taken.
+-- The nodes that are done so far: all but yields.
 abbrev pub is_coded : NodeKind → Bool
-is_coded (Entry [] next) = true
-is_coded (Assign to value next) = is_some (local_of to) && reads_operands value
-is_coded (Branch test then_ otherwise) = true
-is_coded (Switch value arms otherwise) = true
-is_coded (Return exit alternates results) = true
-is_coded (Store width aligned address value next) = aligned == bytes width
-is_coded (Host (PutByte value) next) = true
-is_coded (Goto next) = true
-is_coded Stop = true
-is_coded _ = false
+is_coded (Yield site values exits) = false
+is_coded _ = true
+
+-- ---- what is asked of names
+
+-- a global register that takes a value is there
+abbrev pub names_register : Program → Target → Bool
+names_register p (target.Variable number width) = true
+names_register p (target.Register number width) = nat_lt number (length p.globals)
+
+-- the global registers that a node names are there
+abbrev pub names_registers : Program → NodeKind → Bool
+names_registers p kind = list_all (names_register p) (targets kind) && reads_registers p kind
 
 -- ---- what the layers below promise of a procedure
 
@@ -79,12 +81,19 @@ module _ (s : Setting) (c : Compiled) where
   HasWordsIn at (rvalue.LowBits wide width o) = IsWordIn at wide o
   HasWordsIn at _ = Unit {0}
 
-  -- what a node compares are words of the width, and what it assigns has 64 bits
+  -- what a node compares are words of the width, what it assigns has 64 bits, and no fewer values come than it takes
   abbrev pub HasWords : Located → NodeKind → Type 0
   HasWords at (Assign to value next) =
       HasWordsIn at value × ((v : ℕ) → rvalue_value (keeping s c at).held value (reads_at s c at) ≡ Ok v → v < 2 ^ 64)
+  HasWords at (Entry formals next) = length formals ≤ length at.carried
+  HasWords at (CopyIn to next) = length to ≤ length at.carried
   HasWords at (Branch test then_ otherwise) = IsWordIn at test.width test.left × IsWordIn at test.width test.right
   HasWords at _ = Unit {0}
+
+-- what they promise of the first so many states of a run
+abbrev pub ArePromised : Setting → Compiled → List ℕ → ℕ → Type 0
+ArePromised s c input m = (n : ℕ) → n < m → let at = after (located_machine s c) n (located_start s c input) in
+    at.store.status ≡ Running → HasWords s c at (kind_at c.graphs at.procedure at.node)
 
 -- ---- the whole
 
@@ -92,12 +101,18 @@ pub record IsCode (s : Setting) (c : Compiled) (l : Launch) (f : Finished) (inpu
   pub is_for : IsFor s (map_of l)
   pub coded : (q : ℕ) (g : Graph) → slice_get c.graphs q ≡ Some g → list_all (λ node. is_coded node.kind) g.nodes ≡ true
   pub valid : (q : ℕ) (g : Graph) → slice_get c.graphs q ≡ Some g → IsValid g
+  pub named : (q : ℕ) (g : Graph) → slice_get c.graphs q ≡ Some g → list_all (λ node. names_registers s.program node.kind) g.nodes ≡ true
   pub laid : (q : ℕ) (g : Graph) → slice_get c.graphs q ≡ Some g → IsLaidFor s c q
   pub nodes : (q : ℕ) (n : NodeId) (node : Node) → in_graph c.graphs q (λ g. node_of g n) ≡ Some node → IsCodeOf s c l f q n node.kind (32 * node.tokens)
+  pub sites : (q site : ℕ) (exits : Exits) → site_exits c.graphs q site ≡ Some exits → SiteCode s c l f q site exits
+  -- where the placement has a procedure, its Entry begins
+  pub entries : (address q : ℕ) (n : NodeId) → procedure_from 0 address s.placement.rows ≡ Some q → in_graph c.graphs q (λ g. Some g.first) ≡ Some n →
+      (f.node_at q n ≡ address) × (address % 4 ≡ 0)
+  -- a continuation's code begins at its CopyIn
+  pub landings : (q k : ℕ) (n : NodeId) → landing_in c.graphs q k ≡ Some n → (f.node_at q n ≡ f.symbols.landing_of q k) × (f.symbols.landing_of q k % 4 ≡ 0)
   -- the run ends at the first node of the first procedure, in name
   pub first : Node
   pub is_first : in_graph c.graphs 0 (λ g. node_of g (record { number = 0 })) ≡ Some first
   pub back_aligned : f.symbols.last_return % 4 ≡ 0
   pub back_fits : f.symbols.last_return < 2 ^ 64
-  pub words : (n : ℕ) → let at = after (located_machine s c) n (located_start s c input) in
-      at.store.status ≡ Running → HasWords s c at (kind_at c.graphs at.procedure at.node)
+  pub bytes : All IsByte input

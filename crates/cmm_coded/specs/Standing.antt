@@ -1,20 +1,23 @@
 -- Which states of the machine show a state of the located machine, with where control is.
-use Rattle.std.specs.Prelude.{◌≡◌, ℕ, ◌≤◌, Bool, true, false, List, [], ◌∷◌, Some}
+use Rattle.std.specs.Prelude.{◌≡◌, ℕ, ◌≤◌, List, [], ◌∷◌, length, map, Some}
+use Rattle.std.specs.List.{All}
 use Rattle.rv_table.specs.Bounds.{IsSound}
 use Rattle.rv_table.specs.Machine.{State}
 use Rattle.rv_table.specs.declared.trap.TrapKind.TheVariants.{Breakpoint}
 use Rattle.cmm_following.specs.Machine.{after}
 use Rattle.cmm_program.specs.State as c
 use Rattle.cmm_program.specs.State.{Activation, Setting}
+use Rattle.cmm_laws.specs.Fitting.{IsByte}
 use Rattle.cmm_laws.specs.Observed.{store_seen}
 use Rattle.cmm_graph.specs.declared.node.Node.{Node}
 use Rattle.cmm_graph.specs.GraphControl.{in_graph}
 use Rattle.cmm_graph.specs.Paths.{node_of}
-use Rattle.cmm_graph.specs.Ranges.{is_entry}
+use Rattle.cmm_graph.specs.declared.node.NodeKind.{NodeKind}
+use Rattle.cmm_graph.specs.declared.node.NodeKind.TheVariants.{Entry, CopyIn}
 use Rattle.cmm_execution.specs.Machine.{Launch, Status, Running, Ended, Trapped, map_of}
 use Rattle.cmm_served.specs.Outside.{Outside}
 use Rattle.cmm_shown.specs.Shown.{IsShown}
-use Rattle.cmm_located.specs.Compiled.{Compiled, Located}
+use Rattle.cmm_located.specs.Compiled.{Compiled, Located, bare}
 use Rattle.cmm_located.specs.LocatedMachine.{located_machine, located_start, tokens_at}
 use Rattle.cmm_coded.specs.Finished.{Finished}
 
@@ -38,24 +41,37 @@ outside_at at = record {
 
 -- ---- where control is
 
--- the activation that runs is the only one
-pub record IsAlone (at : Located) : Type 0 where
+-- the activation that runs, above older ones
+pub record IsYoungest (at : Located) : Type 0 where
   pub activation : Activation
-  pub youngest : at.store.activations ≡ activation ∷ []
+  pub older : List Activation
+  pub youngest : at.store.activations ≡ activation ∷ older
+  pub same : activation.procedure ≡ at.procedure
+
+-- control is inside of its body, and brings nothing
+pub record IsInBody (at : Located) : Type 0 where
+  pub activation : Activation
+  pub older : List Activation
+  pub youngest : at.store.activations ≡ activation ∷ older
   pub same : activation.procedure ≡ at.procedure
   pub carried : at.carried ≡ []
 
--- at an Entry there is none yet
-abbrev pub IsInside : Bool → Located → Type 0
-IsInside true at = at.store.activations ≡ []
-IsInside false at = IsAlone at
+-- at an Entry its activation is still to come, and at a CopyIn control brings values
+abbrev pub IsInside : NodeKind → Located → Type 0
+IsInside (Entry formals next) at = Unit {0}
+IsInside (CopyIn to next) at = IsYoungest at
+IsInside _ at = IsInBody at
+
+-- the activations have no values
+abbrev pub AreBare : Located → Type 0
+AreBare at = map bare at.store.activations ≡ at.store.activations
 
 module _ (s : Setting) (c' : Compiled) (l : Launch) (f : Finished) where
   pub record Stands (at : Located) (t : State) : Type 0 where
     pub running : at.store.status ≡ c.Running
     pub node : Node
     pub there : in_graph c'.graphs at.procedure (λ g. node_of g at.node) ≡ Some node
-    pub inside : IsInside (is_entry node.kind) at
+    pub inside : IsInside node.kind at
     pub shown : IsShown f.symbols s (map_of l) at.holdings at.store at.carried t
     pub pc : t.pc ≡ f.node_at at.procedure at.node
     pub sound : IsSound t
@@ -67,3 +83,6 @@ pub record IsOfRun (s : Setting) (c' : Compiled) (input : List ℕ) (at : Locate
   pub steps : ℕ
   pub reached : at ≡ after (located_machine s c') steps (located_start s c' input)
   pub tokens : 1 ≤ tokens_at s c' at
+  pub registers : length at.store.registers ≡ length s.program.globals
+  pub bytes : All IsByte at.store.input
+  pub are_bare : AreBare at

@@ -1,5 +1,8 @@
-//! What holds of the finished code of a program, as a contract.
-ghost use Rattle.cmm_coded.specs.Laws.{CodeSimulates};
+//! What holds of the finished code of a program, as contracts.
+ghost use Rattle.cmm_coded.specs.Laws.{CodeFollows, CodeSimulates};
+ghost use Rattle.cmm_coded.specs.Laying.{FramesCanBeMade, ProceduresAreLaid};
+ghost use Rattle.cmm_coded.specs.Naming.{GraphsAreNamed};
+ghost use Rattle.cmm_coded.specs.Placing.{FinishedCodeStands};
 
 /// Where code is that of a program, the image simulates the machine over places.
 pub fn code_simulates()
@@ -7,3 +10,26 @@ pub fn code_simulates()
 {
     cmm_select::laws::switches_lead();
 }
+
+/// So a whole run of the image follows the run over places, from its first state on.
+pub fn code_follows()
+    ensures { CodeFollows }
+{
+    cmm_select::laws::switches_lead();
+}
+
+/// A frame that is laid for the places of locals can be made by code, and its words and places are those of the activations that have it.
+pub fn frames_are_laid()
+    ensures made { FramesCanBeMade }
+    ensures procedures { ProceduresAreLaid }
+{}
+
+/// Where an image has the bytes that are finished for parts, these parts stand in its code.
+pub fn finished_code_stands()
+    ensures { FinishedCodeStands }
+{}
+
+/// The graph of a procedure is in range, and names global registers that are there.
+pub fn graphs_are_named()
+    ensures { GraphsAreNamed }
+{}

@@ -1,9 +1,7 @@
 -- An image serves itself.
-use Rattle.std.proofs.Common.{◌≡◌, ℕ, ◌+◌, ◌≤◌, refl, sym, ◌∙◌, ap, subst, arith}
-use Rattle.std.specs.Prelude.{Bool, true, false, Option, Some, None}
-use Rattle.rv_table.specs.Machine as rv
+use Rattle.std.proofs.Common.{◌≡◌, refl, sym, ◌∙◌, ap, subst, arith}
+use Rattle.std.specs.Prelude.{true, false}
 use Rattle.rv_table.specs.Machine.{State, Outcome, Next, Asks, Traps, and_then, steps, instruction_step}
-use Rattle.cmm_following.specs.Machine.{Machine}
 use Rattle.cmm_following.specs.Seen.{but_input}
 use Rattle.cmm_program.specs.State as c
 use Rattle.cmm_execution.proofs.Shared.{over_stays}
@@ -11,7 +9,7 @@ use Rattle.cmm_execution.specs.Machine.{Launch, Run, Status, Running, Ended, Tra
 use Rattle.cmm_execution.specs.Observed.{asked_at, event_at, has_failed, image_machine}
 use Rattle.cmm_served.proofs.Simulating.{image_simulates}
 use Rattle.cmm_served.specs.Laws.{Always, ImagesSimulateThemselves, IsMachineOf, StepsAreDone}
-use Rattle.cmm_served.specs.Outside.{Outside, outside, run_with}
+use Rattle.cmm_served.specs.Outside.{outside}
 use Rattle.cmm_served.specs.Serving.{IsDoneBy, Silently, Asking}
 
 over_by : (run : Run) (z : Status) → run.status ≡ z → has_failed run.status ≡ false → (run.status ≡ Running → ⊥) →
@@ -67,13 +65,15 @@ done_by l run going right (Traps kind) is =
 
 pub steps_are_done : StepsAreDone
 steps_are_done l = record {
-  seen = λ run. refl;
-  over = λ run holds right never. let o = over_by run run.status refl right never in (o.0, o.1, over_stays l run never);
-  costs = λ run holds. omega arith;
+  served = record {
+    seen = λ run. refl;
+    over = λ run holds right never. let o = over_by run run.status refl right never in (o.0, o.1, over_stays l run never);
+    costs = λ run holds. omega arith;
+    level = λ run s holds going is.
+        ap (λ (z : Status). but_input (event_at l run.machine z)) going
+        ∙ ap (λ (z : State). but_input (asked_at l z (instruction_step (map_of l) z))) (sym is);
+  };
   keeps = λ run s holds going is right. tt;
-  level = λ run s holds going is.
-      ap (λ (z : Status). but_input (event_at l run.machine z)) going
-      ∙ ap (λ (z : State). but_input (asked_at l z (instruction_step (map_of l) z))) (sym is);
   done = λ run s holds going is right.
       subst (λ (z : State). IsDoneBy (image_machine l) l outside IsMachineOf Always run 1 z) (sym is)
       (done_by l run going right (instruction_step (map_of l) run.machine) refl);

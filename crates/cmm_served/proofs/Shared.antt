@@ -1,2 +1,2 @@
 -- The lemmas that proofs of other crates may cite.
-pub use Rattle.cmm_served.proofs.Simulating.{image_simulates}
+pub use Rattle.cmm_served.proofs.Simulating.{image_is_level, image_is_quiet, image_leads, image_simulates}

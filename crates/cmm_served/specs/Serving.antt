@@ -42,8 +42,8 @@ module _ {S : Type 0} (A : Machine S ℕ Call Ending) (l : Launch) (outside_of :
     Asking : (before later : ℕ) (request : Request) → before + 1 + later ≤ cost → Reaches (map_of l) 0 before s (IsAsked a later request) →
         IsDoneBy a cost s
 
-  -- what is asked of a machine and of the code of its steps
-  pub record AreDone (cost : S → ℕ) : Type 0 where
+  -- what is asked of a machine, but for the code of its steps
+  pub record IsServed (cost : S → ℕ) : Type 0 where
     pub seen : (a : S) → A.seen a ≡ seen_outside (outside_of a)
     -- a state that is not wrong goes on, or is over and stays
     pub over : (a : S) → Holds a → A.wrong a ≡ false → ((outside_of a).status ≡ Running → ⊥) →
@@ -52,5 +52,9 @@ module _ {S : Type 0} (A : Machine S ℕ Call Ending) (l : Launch) (outside_of :
     -- what the machine stands at, the first instruction asks for; an input may come later
     pub level : (a : S) (s : State) → Holds a → (outside_of a).status ≡ Running → Shown a s →
         but_input (A.asks a) ≡ but_input (asked_at l s (instruction_step (map_of l) s))
+
+  -- and with the code of its steps
+  pub record AreDone (cost : S → ℕ) : Type 0 where
+    pub served : IsServed cost
     pub keeps : (a : S) (s : State) → Holds a → (outside_of a).status ≡ Running → Shown a s → A.wrong (A.step a) ≡ false → Holds (A.step a)
     pub done : (a : S) (s : State) → Holds a → (outside_of a).status ≡ Running → Shown a s → A.wrong (A.step a) ≡ false → IsDoneBy a (cost a) s

@@ -1,22 +1,26 @@
 -- What is shown as values go out to where they travel, and come to places.
-use Rattle.std.proofs.Common.{◌≡◌, ◌⊎◌, inl, inr, ℕ, zero, suc, ◌+◌, ◌-◌, ◌*◌, ◌<◌, ◌≤◌, refl, ◌∙◌, subst, arith, Bool, true, false, List, [], ◌∷◌, length, Option, Some, None}
-use Rattle.std.specs.Prelude.{◌&&◌, nat_le, nat_lt, slice_get, slice_index_or}
+use Rattle.std.proofs.Common.{◌≡◌, ◌⊎◌, inl, inr, ℕ, zero, suc, ◌+◌, ◌-◌, ◌*◌, ◌<◌, ◌≤◌, refl, sym, ◌∙◌, ap, subst, arith, Bool, true, false, List, [], ◌∷◌, length, Option, Some, None}
+use Rattle.std.specs.Prelude.{◌==◌, ◌&&◌, ◌||◌, min, nat_le, nat_lt, slice_get, slice_index_or}
+use Rattle.std.specs.List.{list_all}
+use Rattle.std.proofs.lemmas.Bool.{and_parts}
 use Rattle.std.proofs.lemmas.Bool.Decides.{nat_tests}
 use Rattle.cmm_chain.specs.declared.frame.Location.{Location}
-use Rattle.cmm_chain.specs.Contents.{Number}
+use Rattle.cmm_chain.specs.declared.frame.Location.TheVariants.{Slot, Saved, Temp}
+use Rattle.cmm_chain.specs.Contents.{Number, is_callee_saves, is_temporary}
 use Rattle.cmm_chain.specs.Running.{Holdings, none_known, put_in}
 use Rattle.cmm_program.specs.Memory.{Outside, cell_at}
 use Rattle.cmm_program.specs.State.{Setting, Activation, Store}
-use Rattle.rv_table.specs.Machine.{MemoryMap, State, loaded, region_base}
-use Rattle.cmm_changes.specs.Changes.{is_scratch}
-use Rattle.cmm_calls.specs.Frames.{PutsEach}
-use Rattle.cmm_calls.specs.Values.{Gives}
+use Rattle.rv_table.proofs.Shared.{loaded-below}
+use Rattle.rv_table.specs.Machine.{MemoryMap, State, loaded, region_base, stack_base}
+use Rattle.cmm_changes.specs.Changes.{Puts, is_scratch}
+use Rattle.cmm_calls.specs.Frames.{PutsEach, zeros}
+use Rattle.cmm_calls.specs.Values.{Gives, is_taken_first, value_in}
 use Rattle.cmm_select.specs.declared.operand.Operand.{Operand}
-use Rattle.cmm_shown.specs.Words.{Symbols, register_address, value_at}
-use Rattle.cmm_shown.specs.Shown.{ArePlacesOf, IsFor, IsGiven, IsShown, put_each}
+use Rattle.cmm_shown.specs.Words.{Symbols, Sits, register_address, value_at}
+use Rattle.cmm_shown.specs.Shown.{ArePlacesOf, IsFor, IsGiven, IsPlaceOf, IsShown, put_each}
 use Rattle.cmm_shown.proofs.WrittenWords.{rooms_same, shown_same}
 use Rattle.cmm_shown.proofs.Frames.{region_free}
-use Rattle.cmm_shown.proofs.Showing.{no_values, put_shows, saved_no_scratch}
+use Rattle.cmm_shown.proofs.Showing.{no_values, own_word_sits, put_shows, saved_no_scratch}
 
 -- values that were brought are done with
 pub forget_values : (y : Symbols) (s : Setting) (m : MemoryMap) (h : Holdings) (store : Store) (carried : List ℕ) (t : State) → IsShown y s m h store carried t → IsShown y s m h store [] t
@@ -37,6 +41,45 @@ puts_show y s m is_for [] h store a older t t' youngest are puts shows = subst (
 puts_show y s m is_for ((place, n) ∷ rest) h store a older t t' youngest are puts shows =
     puts_show y s m is_for rest (put_in place (Number n) h) store a older puts.0 t' youngest are.1.1 puts.2
     (put_shows y s m is_for h store a older t puts.0 youngest place n are.0 are.1.0 puts.1 shows)
+
+-- ---- values stay where they came while places are put in which none of them is
+
+module _ (y : Symbols) (s : Setting) (m : MemoryMap) (is_for : IsFor s m) (store : Store) (a : Activation) (older : List Activation) (youngest : store.activations ≡ a ∷ older)
+    (count i : ℕ) (among : i < count) (few : i < 64) where
+  module _ (h : Holdings) (t t' : State) (shows : IsShown y s m h store [] t) where
+    value_same : (i < 8 → t'.registers (10 + i) ≡ t.registers (10 + i)) → ((b : ℕ) → b + 8 ≤ stack_base → loaded t'.memory b 8 ≡ loaded t.memory b 8) → value_in i t' ≡ value_in i t
+    value_same registers below = by (nat_lt i 8) refl
+      where
+        by : (test : Bool) → nat_lt i 8 ≡ test → value_in i t' ≡ value_in i t
+        by true is = rw (value_in, is) (registers (grind (arith, nat_tests, is)))
+        by false is = rw (value_in, is) (below (region_base + 8 * (i - 8)) (omega arith))
+
+    saved_apart : (r : ℕ) → is_callee_saves r ≡ true → i < 8 → ((10 + i == r) || is_scratch (10 + i)) ≡ false
+    saved_apart r is early = grind (arith, nat_tests, is, early)
+
+    temp_differs : (r : ℕ) → is_temporary r ≡ true → is_taken_first count 0 (Temp r) ≡ true → i < 8 → ((10 + i == r) || is_scratch (10 + i)) ≡ false
+    temp_differs r is apart early =
+        let far : nat_le (10 + min count 8) r ≡ true = grind (arith, nat_tests, is, apart) in
+        let near : 10 + i < 10 + min count 8 = grind (arith, nat_tests, among, early) in
+        grind (arith, nat_tests, far, near)
+
+    value_stays : (place : Location) (n : ℕ) → IsPlaceOf s a place → is_taken_first count 0 place ≡ true → Puts place n t t' → value_in i t' ≡ value_in i t
+    value_stays (Slot offset) n is apart puts =
+        let sits : Sits m store.memory (h.point.at + offset) = own_word_sits y s m is_for h store a older t t' youngest offset [] is shows in
+        let low : stack_base ≤ t.registers 2 + offset = omega (arith, sits.low, shows.holdings.frame) in
+        value_same (λ early. puts.registers (10 + i) (grind (arith, nat_tests)))
+        (λ b below. rw puts.memory (loaded-below t.memory (t.registers 2 + offset) 8 n b 8 (omega (arith, low, below))))
+    value_stays (Saved r) n is apart puts = value_same (λ early. puts.1 (10 + i) (saved_apart r is early)) (λ b below. rw puts.2 refl)
+    value_stays (Temp r) n is apart puts = value_same (λ early. puts.1 (10 + i) (temp_differs r is apart early)) (λ b below. rw puts.2 refl)
+
+  pub zeros_keep_values : (places : List Location) (h : Holdings) (t t' : State) → ArePlacesOf s a (zeros places) → list_all (is_taken_first count 0) places ≡ true →
+      PutsEach (zeros places) t t' → IsShown y s m h store [] t → value_in i t' ≡ value_in i t
+  zeros_keep_values [] h t t' are apart puts shows = ap (value_in i) (sym puts)
+  zeros_keep_values (place ∷ places) h t t' are apart puts shows =
+      let both = and_parts (is_taken_first count 0 place) (list_all (is_taken_first count 0) places) apart in
+      zeros_keep_values places (put_in place (Number 0) h) puts.0 t' are.1.1 both.1 puts.2
+      (put_shows y s m is_for h store a older t puts.0 youngest place 0 are.0 are.1.0 puts.1 shows)
+      ∙ value_stays h t puts.0 shows place 0 are.0 both.0 puts.1
 
 none_past : (operands : List Operand) (i : ℕ) → slice_get operands i ≡ None → i < length operands → ⊥
 none_past [] i is less = omega arith

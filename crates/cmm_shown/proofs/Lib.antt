@@ -4,6 +4,7 @@ pub mod Frames
 pub mod Showing
 pub mod Accessing
 pub mod Leaving
+pub mod Resiting
 pub mod Making
 pub mod Reading
 pub mod Carrying

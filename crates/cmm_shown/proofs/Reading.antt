@@ -7,7 +7,7 @@ use Rattle.cmm_chain.specs.declared.frame.Location.{Location}
 use Rattle.cmm_chain.specs.declared.frame.Location.TheVariants.{Slot, Saved, Temp}
 use Rattle.cmm_chain.specs.Contents.{Content, Number}
 use Rattle.cmm_chain.specs.Running.{Holdings, held}
-use Rattle.cmm_program.specs.Memory.{Outside, cell_at}
+use Rattle.cmm_program.specs.Memory.{Memory, Outside, cell_at}
 use Rattle.cmm_program.specs.State.{Setting, Activation, Store}
 use Rattle.rv_table.proofs.Shared.{loaded-above, loaded-below, loaded-same, stored-outside}
 use Rattle.rv_table.specs.Machine.{MemoryMap, State, is_accessible, loaded, stack_base, stored}
@@ -21,6 +21,14 @@ use Rattle.cmm_shown.proofs.Showing.{holdings_same, no_values, own_word_sits}
 shown_number : (y : Symbols) (c : Content) (n x : ℕ) → c ≡ Number n → Shows y c x → x ≡ n
 shown_number y c n x is shows = subst (λ (k : Content). Shows y k x) is shows
 
+-- instructions reach a word that sits
+pub sits_accessible : (m : MemoryMap) (memory : Memory) (b : ℕ) → Sits m memory b → IsTrue (is_accessible m b 8)
+sits_accessible m memory b sits =
+    let low : stack_base ≤ b = sits.low in
+    let high : b + 8 ≤ stack_base + m.stack_size = sits.high in
+    let aligned : b % 8 ≡ 0 = sits.aligned in
+    grind (arith, nat_tests, low, high, aligned)
+
 module _ (y : Symbols) (s : Setting) (m : MemoryMap) (is_for : IsFor s m) (h : Holdings) (store : Store) (carried : List ℕ) (a : Activation) (older : List Activation) (t : State)
     (youngest : store.activations ≡ a ∷ older) (shows : IsShown y s m h store carried t) where
   pub held_is_read : (place : Location) (n : ℕ) → IsPlaceOf s a place → held h place ≡ Number n → read_at place t ≡ n
@@ -30,18 +38,11 @@ module _ (y : Symbols) (s : Setting) (m : MemoryMap) (is_for : IsFor s m) (h : H
   held_is_read (Saved r) n is holds = shown_number y (h.point.kept r) n (t.registers r) holds (shows.holdings.kept r is)
   held_is_read (Temp r) n is holds = shown_number y (h.temps r) n (t.registers r) holds (shows.holdings.temps r is)
 
-  accessible : (b : ℕ) → Sits m store.memory b → IsTrue (is_accessible m b 8)
-  accessible b sits =
-      let low : stack_base ≤ b = sits.low in
-      let high : b + 8 ≤ stack_base + m.stack_size = sits.high in
-      let aligned : b % 8 ≡ 0 = sits.aligned in
-      grind (arith, nat_tests, low, high, aligned)
-
   pub place_is_reachable : (place : Location) → IsPlaceOf s a place → CanReach place m t
   place_is_reachable (Slot offset) is =
       let sits : Sits m store.memory (h.point.at + offset) = own_word_sits y s m is_for h store a older t t youngest offset carried is shows in
       subst (λ (at : ℕ). (at + offset < 2 ^ 64) × IsTrue (is_accessible m (at + offset) 8)) (sym shows.holdings.frame)
-      ((omega (arith, sits.high, is_for.small, is_for.base, is_for.size), accessible (h.point.at + offset) sits))
+      ((omega (arith, sits.high, is_for.small, is_for.base, is_for.size), sits_accessible m store.memory (h.point.at + offset) sits))
   place_is_reachable (Saved r) is = tt
   place_is_reachable (Temp r) is = tt
 
