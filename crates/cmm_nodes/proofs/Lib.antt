@@ -1,0 +1,6 @@
+mod Operands
+mod Bodies
+mod Assigning
+mod Labels
+mod Leading
+mod Placing

@@ -1,0 +1,4 @@
+pub mod Naming
+pub mod Costs
+pub mod Standing
+pub mod Laying

@@ -1,0 +1,98 @@
+-- What is known of the code of a node, wherever finished code of a program has it.
+use Rattle.std.specs.Prelude.{◌≡◌, ℕ, ◌<◌, ◌≤◌, ◌^◌, IsTrue, IfSome, List, length, map, slice_index_or, Option, Some, None, ◌+◌}
+use Rattle.std.specs.List.{All}
+use Rattle.cmm_words.specs.declared.constant.Constant.TheVariants as constant
+use Rattle.cmm_chain.specs.declared.frame.Location.TheVariants.{Slot}
+use Rattle.cmm_program.specs.Layout.{constant_value}
+use Rattle.cmm_program.specs.State.{Setting}
+use Rattle.cmm_graph.specs.declared.operand.Local.{Local}
+use Rattle.cmm_graph.specs.declared.operand.Rvalue.{Rvalue}
+use Rattle.cmm_graph.specs.declared.number.NodeId.{NodeId}
+use Rattle.cmm_graph.specs.declared.node.NodeKind.{NodeKind}
+use Rattle.cmm_graph.specs.declared.node.NodeKind.TheVariants.{Entry, CopyIn, Assign, Store, Branch, Switch, Host, Goto}
+use Rattle.rv_asm.specs.Assembly.{IsInner, IsLabel}
+use Rattle.rv_asm.specs.Parts.{Code}
+use Rattle.rv_asm.specs.declared.part.Meaning.{Meaning}
+use Rattle.rv_table.specs.Machine.{region_base}
+use Rattle.rv_table.specs.Words.{sum}
+use Rattle.rv_table.specs.declared.request.Request.TheVariants.{StackLimit, End}
+use Rattle.cmm_changes.specs.Changes.{IsPlace}
+use Rattle.cmm_changes.specs.Pieces.{BeginsQuietly}
+use Rattle.cmm_select.specs.declared.destination.Destination.{Destination as CodeDestination}
+use Rattle.cmm_select.specs.Switches.{label_of}
+use Rattle.cmm_calls.specs.Frames.{CanBeMade}
+use Rattle.cmm_execution.specs.Machine.{Launch}
+use Rattle.cmm_shown.specs.Shown.{AreLandings}
+use Rattle.cmm_shown.specs.Words.{register_address}
+use Rattle.cmm_located.specs.Compiled.{Compiled, number_in}
+use Rattle.cmm_coded.specs.Finished.{AsksFor, Finished, code_of}
+use Rattle.cmm_coded.specs.NodeCode.{GoesOn, IsCodeOf, IsPutInto}
+use Rattle.cmm_nodes.specs.declared.context.Context.{Context}
+use Rattle.cmm_nodes.specs.declared.context.Targets.{Targets}
+use Rattle.cmm_nodes.specs.Costs.{cost_of, rvalue_cost}
+use Rattle.cmm_nodes.specs.Naming.{has_local, label_at, local_number}
+
+-- ---- while code is assembled
+
+-- labels are made for all that nodes name, places can be read and written, and the frame can be made
+pub record IsReady (labels : List Meaning) (p : Context) (y : Targets) : Type 0 where
+  pub frame : CanBeMade p.frame
+  pub places : All IsPlace p.places
+  pub stack : All (λ offset. offset < 2 ^ 21) p.frame.stack
+  pub pairs : All (λ offset. offset < 2 ^ 21) p.frame.pairs
+  pub landings : All (IsLabel labels) p.landings
+  pub landed : length p.landings ≡ length p.frame.pairs
+  pub nodes : All (IsInner labels) p.nodes
+  pub procedures : All (IsInner labels) y.procedures
+  pub data_labels : All (IsLabel labels) y.data_labels
+  pub registers : All (IsLabel labels) y.registers
+  pub few_registers : length y.registers ≤ 256
+  pub limit : IsInner labels y.limit
+
+-- ---- once it is finished
+
+module _ (s : Setting) (c : Compiled) (l : Launch) (f : Finished) (q : ℕ) where
+  -- the context is that of a procedure of a compiled program, and labels stand for what they are made for
+  pub record IsContextOf (p : Context) (y : Targets) : Type 0 where
+    pub frame : c.plan.frame q ≡ p.frame
+    pub places : (u : ℕ) → u < length p.places → c.plan.place q u ≡ slice_index_or p.places u (Slot 0)
+    pub numbers : (v : Local) → IsTrue (has_local p v) → number_in c.graphs q v ≡ local_number p v
+    pub zeroed : map (c.plan.place q) (c.zeroed q) ≡ p.zeroed
+    pub nodes : (n : NodeId) → n.number < length p.nodes → f.labels (label_of p.nodes n).number ≡ f.node_at q n
+    pub procedures : (k plus : ℕ) → k < length y.procedures →
+        sum (f.labels (label_at y.procedures k).number) plus ≡ constant_value s.program s.placement (constant.Code k plus)
+    pub entries : (k : ℕ) → k < length y.procedures → f.labels (label_at y.procedures k).number ≡ constant_value s.program s.placement (constant.Code k 0)
+    pub data_labels : (k plus : ℕ) → k < length y.data_labels →
+        sum (f.labels (label_at y.data_labels k).number) plus ≡ constant_value s.program s.placement (constant.Address k plus)
+    pub registers : (r : ℕ) → r < length y.registers → region_base + f.labels (label_at y.registers r).number ≡ register_address r
+    pub landings : AreLandings f.symbols f.labels q 0 p.landings
+    pub limit : AsksFor 1 (λ t. StackLimit) (code_of l f) (f.labels y.limit.number)
+    pub end_asked : AsksFor 1 (λ t. End (t.registers 10)) (code_of l f) f.symbols.last_return
+
+  -- control goes on at a node from an address, if there is one
+  abbrev pub GoesOnTo : Option NodeId → ℕ → Type 0
+  GoesOnTo next from = IfSome next (λ n. GoesOn s c l f q n from)
+
+-- the node to which a node falls: the one that may follow it in code
+abbrev pub falls_to : NodeKind → Option NodeId
+falls_to (Entry formals next) = Some next
+falls_to (CopyIn to next) = Some next
+falls_to (Assign to value next) = Some next
+falls_to (Store width aligned address value next) = Some next
+falls_to (Branch test then_ otherwise) = Some otherwise
+falls_to (Switch value arms otherwise) = Some otherwise
+falls_to (Host call next) = Some next
+falls_to (Goto next) = Some next
+falls_to _ = None
+
+-- the value of a right side is put where a destination is, and control goes on
+abbrev pub PutsValue : Context → Targets → Rvalue → CodeDestination → Code → ℕ → ℕ → Type 0
+PutsValue p y value into x from to =
+    BeginsQuietly x from × ((s : Setting) (c : Compiled) (l : Launch) (f : Finished) (q : ℕ) → x ≡ code_of l f → IsContextOf s c l f q p y →
+    IsPutInto s c l f q value into (rvalue_cost p y value) from to)
+
+-- the code of a node up to where control goes on at the node to which it falls, wherever finished code has it
+abbrev pub CodesNode : Context → Targets → NodeKind → Code → ℕ → ℕ → Type 0
+CodesNode p y kind x from to =
+    (s : Setting) (c : Compiled) (l : Launch) (f : Finished) (q : ℕ) (n : NodeId) → x ≡ code_of l f → IsContextOf s c l f q p y →
+    f.node_at q n ≡ from → GoesOnTo s c l f q (falls_to kind) to → IsCodeOf s c l f q n kind (cost_of p y kind)
