@@ -1,1 +1,3 @@
 mod Digits
+pub mod Writing
+pub mod Shared

@@ -1,13 +1,14 @@
-//! The parts of a line of the log: numbers, addresses and kinds.
+//! The parts of a line of the log, numbers, addresses and kinds, and the line of a yield.
 //!
 //! Each call writes its text to a sink whole, or answers that a write failed. Then the sink has taken a front of the text, and its
 //! count of faults rose: no call fails of itself. `specs/Texts` says what the texts are.
 #![tactic(auto)]
 
-ghost use Rattle.std.specs.Prelude.{◌≡◌, false, decimal};
+ghost use Rattle.std.specs.Prelude.{◌≡◌, false, flat_map, decimal};
 ghost use Rattle.cmm_outside.specs.Output.{WritesAll};
-ghost use Rattle.cmm_report.specs.Texts.{address_text};
+ghost use Rattle.cmm_report.specs.Texts.{address_text, value_text};
 ghost use Rattle.cmm_script.specs.Kinds.{is_plain as is_plain_byte, kind_byte, kind_text};
+ghost use Rattle.cmm_script.specs.Lines.{yield_line};
 
 use cmm_outside::{Failed, Sink, write_all};
 use itoa::Buffer;
@@ -25,6 +26,33 @@ pub fn put_address<E: Sink>(to: &mut E, n: u64) -> Result<(), Failed>
     ensures { WritesAll E.taken E.faults to.old to.new (address_text n) result }
 {
     write_all(to, &address_digits(n))
+}
+
+/// Writes the line of a yield: its values after the word, each behind a space.
+pub fn put_yield<E: Sink>(to: &mut E, values: &[u64]) -> Result<(), Failed>
+    ensures { WritesAll E.taken E.faults to.old to.new (yield_line values.now) result }
+{
+    write_all(to, b"yield")?;
+    put_values(to, values)?;
+    write_all(to, b"\n")
+}
+
+/// Writes each value behind a space.
+fn put_values<E: Sink>(to: &mut E, values: &[u64]) -> Result<(), Failed>
+    ensures { WritesAll E.taken E.faults to.old to.new (flat_map value_text values.now) result }
+{
+    for value in values {
+        put_value(to, *value)?;
+    }
+    Ok(())
+}
+
+/// Writes a value behind a space.
+fn put_value<E: Sink>(to: &mut E, value: u64) -> Result<(), Failed>
+    ensures { WritesAll E.taken E.faults to.old to.new (value_text value) result }
+{
+    write_all(to, b" ")?;
+    put_number(to, value)
 }
 
 /// Writes the bytes of a kind as they stand between its quotes: bytes 32 to 126 but `"` and `\` as they are, any other as `\x` and

@@ -1,8 +1,8 @@
 //! The memory and its calls.
-ghost use Rattle.std.specs.Prelude.{◌≡◌, ◌≤◌, ◌+◌, length, IfOk, Ok, Err, IsTrue, IsFalse};
+ghost use Rattle.std.specs.Prelude.{◌≡◌, ◌≤◌, ◌+◌, ◌*◌, ◌/◌, length, IfOk, Ok, Err, IsTrue, IsFalse};
 ghost use Rattle.std.specs.Option.{ok_or};
 ghost use Rattle.rv_table.specs.Bounds.{is_size};
-ghost use Rattle.rv_table.specs.Memory.{data_base, fetched, is_accessible, loaded, stored, stack_base};
+ghost use Rattle.rv_table.specs.Memory.{code_base, data_base, fetched, is_accessible, loaded, stored, stack_base};
 ghost use Rattle.rv_memory.specs.Regions.{map_of, memory_of, started};
 
 use crate::numbers::{offset_in, read, read_word, write};
@@ -98,6 +98,14 @@ impl Memory {
             Some(at) => Ok(read_word(&self.code, at)),
             None => Err(TrapKind::BadTarget),
         }
+    }
+
+    /// How many whole words the code has.
+    pub fn code_words(&self) -> u64
+        ensures count { result ≡ length (map_of self.now).code / 4 }
+        ensures short { code_base + 4 * result ≤ data_base }
+    {
+        self.code.len() as u64 / 4
     }
 
     /// The stack's lowest address.

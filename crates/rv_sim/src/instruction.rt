@@ -1,12 +1,13 @@
 //! One step: an instruction is fetched, decoded and done.
-ghost use Rattle.std.specs.Prelude.{◌≡◌, ◌≢◌, ◌<◌, ◌+◌, ◌^◌, ℕ, Ok, IfOk, IsTrue, slice_index};
+ghost use Rattle.std.specs.Prelude.{◌≡◌, ◌≢◌, ◌<◌, ◌+◌, ◌^◌, ℕ, Some, Ok, IfOk, IsTrue, slice_index};
 ghost use Rattle.rv_memory.specs.Regions.{map_of};
 ghost use Rattle.rv_sim.specs.declared.event.Event.TheVariants.{Next};
 ghost use Rattle.rv_sim.specs.Stepping.{state_of, state_with, outcome_of, event_of, state_after};
-ghost use Rattle.rv_sim.specs.inside.Answering.{found_step, answer_of};
+ghost use Rattle.rv_sim.specs.Standing.{found_at};
+ghost use Rattle.rv_sim.specs.inside.Answering.{answer_of};
 ghost use Rattle.rv_table.specs.Bounds.{HasASize, WritesARegister, is_size};
-ghost use Rattle.rv_table.specs.Machine.{State, done, extended, goes_to, instruction_step, with_set};
-ghost use Rattle.rv_table.specs.Registers.{registers_of};
+ghost use Rattle.rv_table.specs.Machine.{done, extended, goes_to, with_set};
+ghost use Rattle.rv_table.specs.Stands.{standing};
 ghost use Rattle.rv_table.specs.Table.{IsValid};
 
 use crate::event::Event;
@@ -23,29 +24,41 @@ pub fn step(r: &mut Regs, m: &mut Memory) -> Event
     ensures registers_kept { result ≢ Next → r.new ≡ r.old }
     ensures memory_kept { result ≢ Next → m.new ≡ m.old }
 {
-    match attempt(r, m) {
-        Ok(event) => event,
-        Err(kind) => Event::Trap(Trap { kind, pc: r.pc }),
+    match instruction_at(r.pc, m) {
+        Ok(instruction) => execute(instruction, r, m),
+        Err(kind) => trap(kind, r),
     }
 }
 
-/// Does the instruction at pc. The error is the trap's kind.
-fn attempt(r: &mut Regs, m: &mut Memory) -> Result<Event, TrapKind>
-    ensures answer { result ≡ answer_of (outcome_of r.old m.old) }
+/// Does the instruction at pc, which is known already, and says what it ends in.
+pub fn execute(instruction: Instr, r: &mut Regs, m: &mut Memory) -> Event
+    requires stands { standing (map_of m.old).code r.old.pc ≡ Some instruction }
+    requires valid { IsValid instruction }
+    requires room { r.old.pc + 4 < 2 ^ 64 }
+    ensures event { result ≡ event_of r.old.pc (outcome_of r.old m.old) }
     ensures state { state_of r.new m.new ≡ state_after (state_of r.old m.old) (outcome_of r.old m.old) }
     ensures map { map_of m.new ≡ map_of m.old }
     ensures zero { slice_index r.new.x 0 ≡ slice_index r.old.x 0 }
-    ensures registers_kept { result ≢ Ok Next → r.new ≡ r.old }
-    ensures memory_kept { result ≢ Ok Next → m.new ≡ m.old }
+    ensures registers_kept { result ≢ Next → r.new ≡ r.old }
+    ensures memory_kept { result ≢ Next → m.new ≡ m.old }
 {
-    let instruction = instruction_at(r.pc, m)?;
     let effect = effect_of(instruction, r);
-    perform(effect, r, m)
+    match perform(effect, r, m) {
+        Ok(event) => event,
+        Err(kind) => trap(kind, r),
+    }
+}
+
+/// The event of a trap at pc.
+fn trap(kind: TrapKind, r: &Regs) -> Event
+    ensures { result ≡ Event.Trap (record { kind = kind; pc = r.now.pc }) }
+{
+    Event::Trap(Trap { kind, pc: r.pc })
 }
 
 /// The instruction at an address. The error is the trap's kind.
 fn instruction_at(pc: u64, m: &Memory) -> Result<Instr, TrapKind>
-    ensures found { (s : State) → s.pc ≡ pc → instruction_step (map_of m.now) s ≡ found_step (map_of m.now) s result }
+    ensures found { result ≡ found_at (map_of m.now).code pc }
     ensures valid { IfOk result IsValid }
     ensures room { IfOk result (λ _. pc + 4 < 2 ^ 64) }
 {

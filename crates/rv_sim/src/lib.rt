@@ -2,14 +2,18 @@
 //!
 //! The layer promises that `step` is the definition `rv_table.specs.Machine.instruction_step`: the word at pc is fetched and
 //! decoded, and what its row asks for is done, or the step ends in a request or in a trap and changes nothing. It takes no memory
-//! and makes no table.
+//! and makes no table. `Decoded` is such a table for runs of many steps: it has what `step` would fetch and decode at each address, and
+//! `execute` does an instruction that was found there.
 //!
 //! - `event`: what a step ends in.
-//! - `instruction`: `step` and its parts.
+//! - `instruction`: `step`, `execute` and their parts.
+//! - `decoded`: `Decoded`.
 #![tactic(auto)]
 
+mod decoded;
 mod event;
 mod instruction;
 
+pub use decoded::Decoded;
 pub use event::Event;
-pub use instruction::step;
+pub use instruction::{execute, step};

@@ -1,0 +1,54 @@
+-- The memory that a session loads is the one where a run begins.
+use Rattle.std.proofs.Common.{[], ◌≡◌, ℕ, ◌+◌, ◌-◌, ◌≤◌, List, replicate, length, inl, inr, refl, sym, ap, ◌∙◌, arith}
+use Rattle.std.proofs.Math.Path.{fun_ext}
+use Rattle.std.proofs.lemmas.Bool.{cases_lt}
+use Rattle.std.proofs.lemmas.Bool.Decides.{nat_tests}
+use Rattle.std.proofs.lemmas.List.{get_or_past, length-replicate}
+use Rattle.std.specs.Prelude.{nat_le, true, false}
+use Rattle.rv_table.specs.declared.memory_map.TheConstants.{BELOW_STACK, DATA_LENGTH_LIMIT}
+use Rattle.rv_table.specs.Machine.{data_base, region_base, stack_base}
+use Rattle.rv_table.specs.Registers.{registers_of, with_register}
+use Rattle.rv_memory.specs.Regions as regions
+use Rattle.rv_memory.specs.Regions.{Regions, memory_of, started}
+use Rattle.cmm_image.specs.declared.parts.ImageParts.{ImageParts}
+use Rattle.cmm_execution.specs.Machine.{Launch, map_of, first_memory}
+use Rattle.cmm_run.specs.declared.machine.Machine.{Machine}
+use Rattle.cmm_run.specs.inside.Loading.{IsReady}
+use Rattle.cmm_run.proofs.Zeros.{zero_at}
+
+-- byte by byte: code and what lies below the data is 0, and so is the region
+memory_at : (i : ImageParts) (stack address : ℕ) → length i.initial ≤ DATA_LENGTH_LIMIT → first_memory i address ≡ memory_of (started i.code i.initial stack) address
+memory_at i stack address short = elim (cases_lt address region_base) [
+  | inl below ↦
+      let a : nat_le region_base address ≡ false = grind (arith, nat_tests) in
+      rw (memory_of, first_memory, a) refl
+  | inr from ↦
+      let a : nat_le region_base address ≡ true = grind (arith, nat_tests) in
+      let b : nat_le data_base address ≡ true = grind (arith, nat_tests) in
+      rw (memory_of, first_memory, a, b)
+      (get_or_past i.initial (address - data_base) 0 (omega arith) ∙ sym (zero_at (BELOW_STACK + stack) (address - region_base)))
+]
+
+pub first_memory_is : (i : ImageParts) (stack : ℕ) → length i.initial ≤ DATA_LENGTH_LIMIT → first_memory i ≡ memory_of (started i.code i.initial stack)
+first_memory_is i stack short = fun_ext (λ address. memory_at i stack address short)
+
+-- what stays as it is in a run
+pub map_is : (l : Launch) (m : Regions) → m ≡ started l.image.code l.image.initial l.stack_size → regions.map_of m ≡ map_of l
+map_is l m is =
+    let zeros : List ℕ = replicate (BELOW_STACK + l.stack_size) 0 in
+    let count : length zeros - BELOW_STACK ≡ l.stack_size = omega (arith, length-replicate {A = ℕ} (BELOW_STACK + l.stack_size) 0) in
+    ap regions.map_of is ∙ ap (λ (n : ℕ). record { code = l.image.code; data_length = length l.image.initial; stack_size = n }) count
+
+-- a machine is ready with the first registers and the first memory
+pub is_ready : (l : Launch) (machine : Machine) → length l.image.initial ≤ DATA_LENGTH_LIMIT →
+    registers_of machine.regs ≡ with_register (with_register (λ _. 0) 2 (stack_base + l.stack_size)) 4 region_base → machine.regs.pc ≡ l.image.start →
+    machine.memory ≡ started l.image.code l.image.initial l.stack_size → machine.waiting ≡ [] → IsReady l machine
+is_ready l machine short registers pc memory none = record {
+  map = map_is l machine.memory memory;
+  first = λ i. record {
+    registers = sym registers i;
+    pc = sym pc i;
+    memory = (first_memory_is l.image l.stack_size short ∙ ap memory_of (sym memory)) i;
+  };
+  none_waits = none;
+}

@@ -1,0 +1,74 @@
+-- Worked rows: what small runs come to.
+use Rattle.std.proofs.Common.{◌≡◌, ℕ, List, [], ◌∷◌, ◌++◌, Some, inl, refl, subst, pos, lit<, lit≤}
+use Rattle.std.specs.Prelude.{codes}
+use Rattle.std.specs.Fmt as Fmt
+use Rattle.rv_table.specs.declared.instruction.Instr.TheVariants.{Addi, Ecall}
+use Rattle.rv_table.specs.declared.trap.TrapKind.TheVariants.{BadTarget}
+use Rattle.cmm_image.specs.declared.parts.ImageParts.{ImageParts}
+use Rattle.cmm_execution.specs.Machine.{Launch}
+use Rattle.cmm_execution.proofs.Shared.{bare, yielding}
+use Rattle.cmm_run.specs.declared.outcome.Outcome.{Outcome}
+use Rattle.cmm_run.specs.declared.outcome.Outcome.TheVariants.{Done, Stopped, StepLimit, Trap, InputFault, OutputFault, Torn}
+use Rattle.cmm_run.specs.Outside.{Outside}
+use Rattle.cmm_run.specs.Runs.{Comes, Fails, Runs}
+
+-- an image whose script has no block
+abbrev quiet : ImageParts → Launch
+quiet image = record { image = image; script = record { blocks = [] }; stack_size = 4096 }
+
+-- where no call has failed
+abbrev outside : List ℕ → List ℕ → List ℕ → Outside
+outside input output log = record { input = Some input; input_faults = 0; output = Some output; output_faults = 0; log = Some log; log_faults = 0 }
+
+-- the input that there is
+runs : (l : Launch) (steps : ℕ) (input : List ℕ) (before after : Outside) (outcome : Outcome) → before.input ≡ Some input → Fails before after outcome →
+    Comes l steps input before after outcome → Runs l steps before after outcome
+runs l steps input before after outcome is fails comes = record {
+  fails = fails;
+  comes = λ bytes told. let same : input ≡ bytes = cc in subst (λ (xs : List ℕ). Comes l steps xs before after outcome) same comes;
+}
+
+-- two activations; the youngest yields 20 and 7
+stops :
+    Runs (quiet yielding) 300 (outside (9 ∷ []) (1 ∷ []) []) (outside (9 ∷ []) (1 ∷ []) (codes "yield 20 7" ++ 10 ∷ [])) Stopped
+unfolding Fmt.digits
+stops = runs (quiet yielding) 300 (9 ∷ []) _ _ Stopped refl (record { input = refl; output = refl; log = refl })
+    (record { answer = refl; shows = record { input = refl; output = refl; log = refl } })
+
+-- it puts A, takes a byte, and ends with it
+abbrev taking : Launch
+taking = quiet (bare (Addi 5 0 (pos 1) ∷ Addi 10 0 (pos 65) ∷ Ecall ∷ Addi 5 0 (pos 2) ∷ Ecall ∷ Addi 5 0 (pos 5) ∷ Ecall ∷ []))
+
+ends : Runs taking 7 (outside (7 ∷ 8 ∷ []) [] []) (outside (8 ∷ []) (65 ∷ []) []) (Done 7)
+ends = runs taking 7 (7 ∷ 8 ∷ []) _ _ (Done 7) refl (record { input = refl; output = refl; log = refl })
+    (record { answer = refl; shows = record { input = refl; output = refl; log = refl } })
+
+-- with one instruction less it does not end
+is_limited : Runs taking 6 (outside (7 ∷ 8 ∷ []) [] []) (outside (8 ∷ []) (65 ∷ []) []) StepLimit
+is_limited = runs taking 6 (7 ∷ 8 ∷ []) _ _ StepLimit refl (record { input = refl; output = refl; log = refl })
+    (record { answer = refl; shows = record { input = refl; output = refl; log = refl } })
+
+-- at the end of the input the byte is all ones
+ends_at_the_end : Runs taking 7 (outside [] [] []) (outside [] (65 ∷ []) []) (Done 0xFFFFFFFFFFFFFFFF)
+ends_at_the_end = runs taking 7 [] _ _ (Done 0xFFFFFFFFFFFFFFFF) refl (record { input = refl; output = refl; log = refl })
+    (record { answer = refl; shows = record { input = refl; output = refl; log = refl } })
+
+-- the byte can't be taken, after the fourth instruction
+takes_none : Runs taking 7 (outside (7 ∷ []) [] []) record (outside (7 ∷ []) (65 ∷ []) []) { input_faults = 1 } InputFault
+takes_none = runs taking 7 (7 ∷ []) _ _ InputFault refl (record { input = inl (lit< tt); output = refl; log = refl })
+    (4, lit< tt, record { running = refl; asks = refl }, record { input = refl; output = refl; log = refl })
+
+-- A can't be put
+puts_none : Runs taking 7 (outside (7 ∷ []) [] []) record (outside [] [] []) { output_faults = 1 } OutputFault
+puts_none = runs taking 7 (7 ∷ []) _ _ OutputFault refl (record { input = refl; output = inl (inl (lit< tt), refl) })
+    (record { output = (0, lit≤ tt, refl); log = (0, lit≤ tt, refl) })
+
+-- behind its only instruction there is no code
+traps : Runs (quiet (bare (Addi 5 0 (pos 1) ∷ []))) 9 (outside [] [] []) (outside [] [] []) (Trap record { kind = BadTarget; pc = 0x10004 })
+traps = runs (quiet (bare (Addi 5 0 (pos 1) ∷ []))) 9 [] _ _ (Trap record { kind = BadTarget; pc = 0x10004 }) refl (record { input = refl; output = refl; log = refl })
+    (record { answer = refl; shows = record { input = refl; output = refl; log = refl } })
+
+-- it yields, and no site has the return address 0
+tears : Runs (quiet (bare (Addi 5 0 (pos 3) ∷ Ecall ∷ []))) 9 (outside [] [] []) (outside [] [] []) (Torn record { frame = 0x60002000; address = 0 })
+tears = runs (quiet (bare (Addi 5 0 (pos 3) ∷ Ecall ∷ []))) 9 [] _ _ (Torn record { frame = 0x60002000; address = 0 }) refl
+    (record { input = refl; output = refl; log = refl }) (record { answer = refl; shows = record { input = refl; output = refl; log = refl } })

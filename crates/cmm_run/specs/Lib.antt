@@ -1,0 +1,4 @@
+pub mod Outside
+pub mod Runs
+pub mod Sessions
+pub mod inside

@@ -1,0 +1,5 @@
+pub mod Turns
+pub mod Loading
+pub mod Yields
+pub mod Waits
+pub mod Takes

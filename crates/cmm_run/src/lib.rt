@@ -1,0 +1,28 @@
+//! Sessions that run images.
+//!
+//! A session is an image with its script and its limits, ready to run. This layer promises that `Session::run` does exactly what the definition of
+//! an image does (`cmm_execution.specs.Machine`), for every image, a hostile one too: what it writes, takes and answers is that of the
+//! state after as many instructions as the limit allows, or of the first one that has ended. `Session::load` takes all memory; a run takes none.
+//! For now a script has no block, so the first yield of a run stops it.
+//!
+//! - `session`: `Session`, and `Limits`.
+//! - `outcome`: `Outcome`, what a run comes to, and `Torn`.
+//! - `loaded`: what stays as it is in a run: the image with its code decoded, the script and the stack's size.
+//! - `machine`: what a run changes: registers, memory and the output that waits. `waiting`: that output.
+//! - `running`: the turns of a run. `requests`: what an ECALL asks for.
+//! - `yielding`: the youngest activation at a yield, and the values of the yield.
+//!
+//! `specs/Runs` says what a run comes to, and `specs/Sessions` what is seen of a session.
+#![tactic(auto)]
+
+mod loaded;
+mod machine;
+mod outcome;
+mod requests;
+mod running;
+mod session;
+mod waiting;
+mod yielding;
+
+pub use outcome::{Outcome, Torn};
+pub use session::{Limits, Session};

@@ -1,0 +1,74 @@
+//! What stays as it is in a run.
+ghost use Rattle.std.specs.Prelude.{◌≡◌, ◌≤◌, ◌+◌, [], IfOk};
+ghost use Rattle.rv_sim.specs.Standing.{found_at};
+ghost use Rattle.rv_table.specs.Memory.{data_base};
+ghost use Rattle.rv_table.specs.Table.{IsValid};
+ghost use Rattle.rv_table.specs.declared.memory_map.TheConstants.{STACK_SIZE_LIMIT};
+ghost use Rattle.cmm_run.specs.inside.Loading.{IsLoaded};
+
+use cmm_image::Image;
+use cmm_script::Script;
+use rv_sim::Decoded;
+use rv_table::{Instr, TrapKind};
+use std::marker::Model;
+
+/// An image with its code decoded, a script without a block, and the size of the stack in bytes.
+#[derive(Debug, Drop)]
+pub struct Loaded {
+    image: Image,
+    script: Script,
+    stack: u64,
+    table: Decoded,
+}
+
+impl Model for Loaded {
+    ghost use Rattle.cmm_execution.specs.Machine.{Launch};
+    ghost use Rattle.cmm_run.specs.inside.Loading.{IsLoaded};
+
+    ghost Value = { Launch };
+
+    ghost view = { λ l. record { image = l.image; script = l.script; stack_size = l.stack } };
+
+    ghost invariant = { λ l. IsLoaded (record { image = l.image; script = l.script; stack_size = l.stack }) l.table };
+}
+
+impl Loaded {
+    /// An image whose code is this table.
+    pub fn new(image: Image, script: Script, stack: u64, table: Decoded) -> Loaded
+        requires { IsLoaded (record { image = image; script = script; stack_size = stack }) table }
+        ensures { result ≡ record { image = image; script = script; stack_size = stack } }
+    {
+        Loaded {
+            image,
+            script,
+            stack,
+            table,
+        }
+    }
+
+    /// The instruction at an address. The error is the kind of the trap that is in its place.
+    pub fn at(&self, pc: u64) -> Result<Instr, TrapKind>
+        ensures found { result ≡ found_at self.now.image.code pc }
+        ensures valid { IfOk result IsValid }
+        ensures within { IfOk result (λ _. pc + 4 ≤ data_base) }
+    {
+        self.table.at(pc)
+    }
+
+    /// The image.
+    pub fn image(&self) -> &Image
+        ensures same { result.now ≡ self.now.image }
+        ensures no_block { self.now.script.blocks ≡ [] }
+        ensures stack { self.now.stack_size ≤ STACK_SIZE_LIMIT }
+    {
+        &self.image
+    }
+
+    /// The image, given away.
+    pub fn into_image(self) -> Image
+        ensures { result ≡ self.image }
+    {
+        let Loaded { image, .. } = self;
+        image
+    }
+}

@@ -1,0 +1,32 @@
+//! What a run comes to.
+use rv_table::Trap;
+
+/// Where the chain of frames of a stopped program breaks: no activation with this frame has this return address.
+#[derive(Clone, Copy, Debug, PartialEq, Eq)]
+pub struct Torn {
+    /// The address of the frame.
+    pub frame: u64,
+    /// The return address.
+    pub address: u64,
+}
+
+/// What a run comes to.
+#[derive(Clone, Copy, Debug, PartialEq, Eq)]
+pub enum Outcome {
+    /// The program has returned this value.
+    Done(u64),
+    /// The client stopped the program at a yield.
+    Stopped,
+    /// The stack would pass its limit.
+    StackLimit,
+    /// All instructions that the limit allows were executed, and the run had not ended.
+    StepLimit,
+    /// An instruction trapped.
+    Trap(Trap),
+    /// A call on the input failed.
+    InputFault,
+    /// A call on the output or the log failed.
+    OutputFault,
+    /// The chain of frames breaks where the client looked for an activation.
+    Torn(Torn),
+}

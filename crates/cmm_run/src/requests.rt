@@ -1,0 +1,115 @@
+//! What an ECALL asks for.
+ghost use Rattle.std.specs.Prelude.{◌≡◌, ◌+◌, ◌<◌, ◌^◌, ℕ, List, [], ◌∷◌, drop, Some, IfOk, OnErr, OnOk};
+ghost use Rattle.rv_memory.specs.Regions.{map_of as memory_map_of};
+ghost use Rattle.rv_sim.specs.Stepping.{state_of, state_with};
+ghost use Rattle.rv_table.specs.Machine.{Asks, instruction_step, with_set};
+ghost use Rattle.cmm_outside.specs.Faults.{Rose};
+ghost use Rattle.cmm_program.specs.Performing.{next_byte};
+ghost use Rattle.cmm_execution.specs.Changes.{at_pc};
+ghost use Rattle.cmm_execution.specs.Machine.{Run, map_of};
+ghost use Rattle.cmm_run.specs.Outside.{Outside, outside_of};
+ghost use Rattle.cmm_run.specs.inside.Takes.{TakeFails, Takes};
+ghost use Rattle.cmm_run.specs.inside.Turns.{IsAt, TurnFails, Turns};
+
+use crate::loaded::Loaded;
+use crate::machine::Machine;
+use crate::outcome::Outcome;
+use crate::yielding::yields;
+use cmm_outside::{Failed, Sink, Source};
+use rv_table::{Regs, Request};
+
+/// The register that a byte of the input goes to.
+const VALUE: u8 = 10;
+
+/// Does what the ECALL at pc asks for, and says what the run comes to if it is over.
+pub fn answer<I: Source, O: Sink, E: Sink>(
+    loaded: &Loaded,
+    request: Request,
+    machine: &mut Machine,
+    input: &mut I,
+    out: &mut O,
+    log: &mut E,
+) -> Option<Outcome>
+    requires map { memory_map_of machine.old.memory ≡ map_of loaded.now }
+    requires room { machine.old.regs.pc + 4 < 2 ^ 64 }
+    ensures map { memory_map_of machine.new.memory ≡ map_of loaded.now }
+    ensures fails { TurnFails (outside_of I.left I.faults O.taken O.faults E.taken E.faults input.old out.old log.old)
+        (outside_of I.left I.faults O.taken O.faults E.taken E.faults input.new out.new log.new) result }
+    ensures turns { (start : Outside) (run : Run) →
+        IsAt machine.old start (outside_of I.left I.faults O.taken O.faults E.taken E.faults input.old out.old log.old) run →
+        instruction_step (map_of loaded.now) run.machine ≡ Asks request →
+        Turns loaded.now start (outside_of I.left I.faults O.taken O.faults E.taken E.faults input.new out.new log.new) machine.new run result }
+{
+    match request {
+        Request::PutByte(byte) => match machine.waiting.put(byte, out) {
+            Ok(()) => {
+                go_on(&mut machine.regs);
+                None
+            }
+            Err(Failed) => Some(Outcome::OutputFault),
+        },
+        Request::GetByte => match machine.waiting.flush(out) {
+            Ok(()) => get_byte(machine, input),
+            Err(Failed) => Some(Outcome::OutputFault),
+        },
+        Request::Yield => match machine.waiting.flush(out) {
+            Ok(()) => {
+                go_on(&mut machine.regs);
+                Some(yields(loaded.image(), machine, log))
+            }
+            Err(Failed) => Some(Outcome::OutputFault),
+        },
+        Request::StackLimit => Some(machine.waiting.close(Outcome::StackLimit, out)),
+        Request::End(value) => Some(machine.waiting.close(Outcome::Done(value), out)),
+    }
+}
+
+/// Gives register 10 the next byte of the input.
+fn get_byte<I: Source>(machine: &mut Machine, input: &mut I) -> Option<Outcome>
+    requires { machine.old.regs.pc + 4 < 2 ^ 64 }
+    ensures memory { machine.new.memory ≡ machine.old.memory }
+    ensures waiting { machine.new.waiting ≡ machine.old.waiting }
+    ensures takes { (left : List ℕ) → I.left input.old ≡ Some left →
+        Takes (state_of machine.old.regs machine.old.memory) (state_of machine.new.regs machine.new.memory) left (I.left input.new) result }
+    ensures fails { TakeFails (I.faults input.old) (I.faults input.new) result }
+{
+    match next_byte(input) {
+        Ok(byte) => {
+            receive(&mut machine.regs, byte);
+            None
+        }
+        Err(Failed) => Some(Outcome::InputFault),
+    }
+}
+
+/// Moves pc on, past the ECALL.
+fn go_on(r: &mut Regs)
+    requires { r.old.pc + 4 < 2 ^ 64 }
+    ensures { (memory : ℕ → ℕ) → state_with r.new memory ≡ at_pc (r.old.pc + 4) (state_with r.old memory) }
+{
+    r.pc += 4;
+}
+
+/// Gives register 10 a value, and moves pc on.
+fn receive(r: &mut Regs, value: u64)
+    requires { r.old.pc + 4 < 2 ^ 64 }
+    ensures { (memory : ℕ → ℕ) → state_with r.new memory ≡ with_set (state_with r.old memory) 10 value }
+{
+    r.write(VALUE, value);
+    go_on(r);
+}
+
+/// Takes the next byte of the input, or gives all ones at its end.
+fn next_byte<I: Source>(input: &mut I) -> Result<u64, Failed>
+    ensures ok { (left : List ℕ) → I.left input.old ≡ Some left → IfOk result (λ byte. (byte ≡ next_byte left) × (I.left input.new ≡ Some (drop 1 left))) }
+    ensures err { OnErr result (I.left input.new ≡ I.left input.old) }
+    ensures no_fault { OnOk result (I.faults input.new ≡ I.faults input.old) }
+    ensures fault { OnErr result (Rose (I.faults input.old) (I.faults input.new)) }
+{
+    let mut byte = [0; 1];
+    if input.read(&mut byte)? == 0 {
+        Ok(u64::MAX)
+    } else {
+        Ok(u64::from(byte[0]))
+    }
+}

@@ -1,0 +1,68 @@
+//! The turns of a run.
+ghost use Rattle.std.specs.Prelude.{◌≡◌};
+ghost use Rattle.rv_memory.specs.Regions.{map_of as memory_map_of};
+ghost use Rattle.cmm_execution.specs.Machine.{Run, map_of};
+ghost use Rattle.cmm_run.specs.Outside.{Outside, outside_of};
+ghost use Rattle.cmm_run.specs.Runs.{Runs};
+ghost use Rattle.cmm_run.specs.inside.Loading.{IsReady};
+ghost use Rattle.cmm_run.specs.inside.Turns.{IsAt, TurnFails, Turns};
+
+use crate::loaded::Loaded;
+use crate::machine::Machine;
+use crate::outcome::Outcome;
+use crate::requests::answer;
+use cmm_outside::{Sink, Source};
+use rv_sim::{Event, execute};
+use rv_table::Trap;
+
+/// Runs an image from its start, for no more than so many instructions.
+pub fn run<I: Source, O: Sink, E: Sink>(
+    loaded: &Loaded,
+    steps: u64,
+    machine: &mut Machine,
+    input: &mut I,
+    out: &mut O,
+    log: &mut E,
+) -> Outcome
+    requires { IsReady loaded.now machine.old }
+    ensures { Runs loaded.now steps (outside_of I.left I.faults O.taken O.faults E.taken E.faults input.old out.old log.old)
+        (outside_of I.left I.faults O.taken O.faults E.taken E.faults input.new out.new log.new) result }
+{
+    for _ in 0..steps {
+        if let Some(outcome) = turn(loaded, machine, input, out, log) {
+            return outcome;
+        }
+    }
+    machine.waiting.close(Outcome::StepLimit, out)
+}
+
+/// Does the instruction at pc, and says what the run comes to if it is over.
+fn turn<I: Source, O: Sink, E: Sink>(
+    loaded: &Loaded,
+    machine: &mut Machine,
+    input: &mut I,
+    out: &mut O,
+    log: &mut E,
+) -> Option<Outcome>
+    requires { memory_map_of machine.old.memory ≡ map_of loaded.now }
+    ensures map { memory_map_of machine.new.memory ≡ map_of loaded.now }
+    ensures fails { TurnFails (outside_of I.left I.faults O.taken O.faults E.taken E.faults input.old out.old log.old)
+        (outside_of I.left I.faults O.taken O.faults E.taken E.faults input.new out.new log.new) result }
+    ensures turns { (start : Outside) (run : Run) →
+        IsAt machine.old start (outside_of I.left I.faults O.taken O.faults E.taken E.faults input.old out.old log.old) run →
+        Turns loaded.now start (outside_of I.left I.faults O.taken O.faults E.taken E.faults input.new out.new log.new) machine.new run result }
+{
+    let pc = machine.regs.pc;
+    let instruction = match loaded.at(pc) {
+        Ok(instruction) => instruction,
+        Err(kind) => {
+            let outcome = Outcome::Trap(Trap { kind, pc });
+            return Some(machine.waiting.close(outcome, out));
+        }
+    };
+    match execute(instruction, &mut machine.regs, &mut machine.memory) {
+        Event::Next => None,
+        Event::Asks(request) => answer(loaded, request, machine, input, out, log),
+        Event::Trap(trap) => Some(machine.waiting.close(Outcome::Trap(trap), out)),
+    }
+}

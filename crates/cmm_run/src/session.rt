@@ -1,0 +1,129 @@
+//! Sessions.
+ghost use Rattle.std.specs.Prelude.{◌≡◌, ◌≤◌, [], ℕ, None, Some, IfOk};
+ghost use Rattle.rv_memory.specs.Regions.{map_of as memory_map_of, started};
+ghost use Rattle.cmm_execution.specs.Machine.{map_of};
+ghost use Rattle.cmm_run.specs.Outside.{outside_of};
+ghost use Rattle.cmm_run.specs.Runs.{Runs};
+ghost use Rattle.cmm_run.specs.declared.outcome.Outcome.{Outcome as OutcomeOf};
+
+use crate::loaded::Loaded;
+use crate::machine::{Machine, first_registers};
+use crate::outcome::Outcome;
+use crate::running::run;
+use crate::waiting::Waiting;
+use cmm_image::Image;
+use cmm_outside::{Sink, Source};
+use cmm_script::Script;
+use rv_memory::{Memory, NoMemory};
+use rv_sim::Decoded;
+use rv_table::memory_map::STACK_SIZE_LIMIT;
+use std::alloc::Global;
+use std::marker::Model;
+
+/// The limits of a run.
+#[derive(Clone, Copy, Debug, PartialEq, Eq)]
+pub struct Limits {
+    /// The bytes of the stack.
+    pub stack: u64,
+    /// How many instructions may be executed.
+    pub steps: u64,
+}
+
+/// An image, its script and its limits, ready to run once.
+#[derive(Debug, Drop)]
+pub struct Session {
+    loaded: Loaded,
+    machine: Machine,
+    steps: u64,
+    answer: Option<Outcome>,
+}
+
+impl Model for Session {
+    ghost use Rattle.std.specs.Prelude.{◌≡◌, None};
+    ghost use Rattle.cmm_run.specs.Sessions.{SessionState};
+    ghost use Rattle.cmm_run.specs.inside.Loading.{IsReady};
+
+    ghost Value = { SessionState };
+
+    ghost view = { λ s. record { launch = s.loaded; steps = s.steps; answer = s.answer } };
+
+    // what has not run stands where a run begins
+    ghost invariant = { λ s. s.answer ≡ None → IsReady s.loaded s.machine };
+}
+
+impl Session {
+    /// A session that has not run. It takes all the memory of its run.
+    pub fn load(
+        alloc: Global,
+        image: Image,
+        script: Script,
+        limits: Limits,
+    ) -> Result<Session, NoMemory>
+        requires no_block { script.blocks ≡ [] }
+        requires stack { limits.stack ≤ STACK_SIZE_LIMIT }
+        ensures { IfOk result (λ s. s ≡ record {
+          launch = record { image = image; script = script; stack_size = limits.stack };
+          steps = limits.steps;
+          answer = None;
+        }) }
+    {
+        let memory = memory_for(alloc, &image, limits.stack)?;
+        let table = Decoded::new(alloc, &memory)?;
+        let waiting = Waiting::new(alloc)?;
+        let regs = first_registers(image.parts().start, memory.top());
+        Ok(Session {
+            loaded: Loaded::new(image, script, limits.stack, table),
+            machine: Machine {
+                regs,
+                memory,
+                waiting,
+            },
+            steps: limits.steps,
+            answer: None,
+        })
+    }
+
+    /// Runs the image. What it writes, takes and answers is the definition's. A second call gives the answer of the first one, and does nothing.
+    pub fn run<I: Source, O: Sink, E: Sink>(
+        &mut self,
+        input: &mut I,
+        out: &mut O,
+        log: &mut E,
+    ) -> Outcome
+        ensures first { self.old.answer ≡ None → Runs self.old.launch self.old.steps
+            (outside_of I.left I.faults O.taken O.faults E.taken E.faults input.old out.old log.old)
+            (outside_of I.left I.faults O.taken O.faults E.taken E.faults input.new out.new log.new) result }
+        ensures again { (outcome : OutcomeOf) → self.old.answer ≡ Some outcome →
+            (result ≡ outcome) × (input.new ≡ input.old) × (out.new ≡ out.old) × (log.new ≡ log.old) }
+        ensures kept { self.new ≡ record self.old { answer = Some result } }
+    {
+        if let Some(outcome) = self.answer {
+            return outcome;
+        }
+        let outcome = run(&self.loaded, self.steps, &mut self.machine, input, out, log);
+        self.answer = Some(outcome);
+        outcome
+    }
+
+    /// The image that was loaded, given back.
+    pub fn into_image(self) -> Image
+        ensures { result ≡ self.launch.image }
+    {
+        let Session { loaded, .. } = self;
+        loaded.into_image()
+    }
+}
+
+/// The memory where a run begins.
+fn memory_for(alloc: Global, image: &Image, stack: u64) -> Result<Memory, NoMemory>
+    requires { stack ≤ STACK_SIZE_LIMIT }
+    ensures { IfOk result (λ m. m ≡ started image.now.code image.now.initial stack) }
+{
+    let parts = image.parts();
+    Memory::new(
+        alloc,
+        parts.code.as_slice(),
+        parts.initial.as_slice(),
+        stack,
+    )
+}
