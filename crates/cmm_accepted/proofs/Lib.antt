@@ -6,3 +6,4 @@ mod StatementRows
 mod LimitRows
 pub mod Alike
 pub mod Composing
+pub mod Ascending

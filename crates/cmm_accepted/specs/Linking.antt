@@ -1,5 +1,8 @@
 -- What units export and import, and the registers that they share (C-- Language Specification 2.0, imports and exports, global registers).
 use Rattle.std.specs.Prelude.{ℕ, Bool, true, false, ◌&&◌, ◌||◌, not, List, [], ◌∷◌, ◌++◌, map, flat_map, position, unwrap_or, bytes_eq, codes, Option, Some, None}
+use Rattle.std.specs.Cmp.Lexicographic.{slice_cmp}
+use Rattle.std.specs.Ordering.{nat_cmp}
+use Rattle.std.specs.declared.cmp.Ordering.TheVariants.{Less, Equal, Greater}
 use Rattle.cmm_words.specs.declared.constant.Constant.{Constant}
 use Rattle.cmm_words.specs.declared.constant.Constant.TheVariants.{Code, Address}
 use Rattle.cmm_ast.specs.declared.expression.TypeName.{TypeName}
@@ -76,7 +79,7 @@ published_as link (p ∷ ps) = elim (bytes_eq link p.link) [ true ↦ p.address 
 abbrev pub imported : List ℕ → List Published → Sense
 imported link ps = elim (host_named link) [ Some h ↦ Host h | None ↦ Value (unwrap_or (published_as link ps) (Code 0 0)) ]
 
--- ---- registers: those of one name are one register
+-- ---- registers: those of one name are one register, and they are numbered by their names
 
 abbrev pub register_entry : Declared Entry → List (Declared TypeName)
 register_entry d = elim d.as_what [ Register t ↦ record { name = d.name; as_what = t } ∷ [] | _ ↦ [] ]
@@ -84,19 +87,25 @@ register_entry d = elim d.as_what [ Register t ↦ record { name = d.name; as_wh
 abbrev pub registers_of : NamedUnit → List (Declared TypeName)
 registers_of u = flat_map register_entry (firsts [] u.entries)
 
-abbrev pub distinct : List (List ℕ) → List (List ℕ) → List (List ℕ)
-distinct earlier [] = []
-distinct earlier (n ∷ ns) = elim (is_among n earlier) [ true ↦ distinct earlier ns | false ↦ n ∷ distinct (earlier ++ n ∷ []) ns ]
+-- a name put among names that ascend by bytes
+abbrev pub put_among : List ℕ → List (List ℕ) → List (List ℕ)
+put_among name [] = name ∷ []
+put_among name (n ∷ ns) = elim (slice_cmp nat_cmp name n) [ Less ↦ name ∷ n ∷ ns | Equal ↦ n ∷ ns | Greater ↦ n ∷ put_among name ns ]
+
+-- each name once, ascending by bytes
+abbrev pub in_order : List (List ℕ) → List (List ℕ)
+in_order [] = []
+in_order (name ∷ names) = put_among name (in_order names)
 
 -- ---- what units know of each other
 
 pub record Program : Type 0 where
   pub exports : List Published
-  -- the names of registers, each once
+  -- the names of registers, each once, ascending by bytes
   pub registers : List (List ℕ)
 
 abbrev pub register_names : List NamedUnit → List (List ℕ)
-register_names us = distinct [] (flat_map (λ u. map (λ d. d.name.name) (registers_of u)) us)
+register_names us = in_order (flat_map (λ u. map (λ d. d.name.name) (registers_of u)) us)
 
 abbrev pub program_of : List NamedUnit → Program
 program_of us = record { exports = flat_map published us; registers = register_names us }

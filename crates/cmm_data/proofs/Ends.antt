@@ -37,7 +37,7 @@ ends_grow place (d ∷ ds) all =
     let rest = ends_grow (aligned_up d.align place + d.length) ds (All-tail HasAlignment d ds all) in
     omega (arith, aligned_up-grows d.align place here, rest)
 
-ends_within : (place n : ℕ) (ds : List Datum) → All HasAlignment ds → end_of place (take n (map datum_piece ds)) ≤ end_of place (map datum_piece ds)
+pub ends_within : (place n : ℕ) (ds : List Datum) → All HasAlignment ds → end_of place (take n (map datum_piece ds)) ≤ end_of place (map datum_piece ds)
 ends_within place zero ds all = ends_grow place ds all
 ends_within place (suc n) [] all = omega arith
 ends_within place (suc n) (d ∷ ds) all = ends_within (aligned_up d.align place + d.length) n ds (All-tail HasAlignment d ds all)

@@ -1,4 +1,5 @@
 mod Ends
+mod Addresses
 mod Placing
 mod Sizes
 mod Words

@@ -1,10 +1,11 @@
 -- What holds of data that is laid out, and of fixes that are filled one after another.
 use Rattle.std.specs.Prelude.{◌≡◌, ℕ, ◌+◌, ◌≤◌, List, [], ◌∷◌, ◌++◌, length, slice_get, Some}
+use Rattle.std.specs.List.{All}
 use Rattle.rv_table.specs.Memory.{data_base}
 use Rattle.cmm_program.specs.declared.program.Program.{Program}
 use Rattle.cmm_program.specs.declared.placement.Placement.{Placement}
 use Rattle.cmm_program.specs.InRange.{IsInRange}
-use Rattle.cmm_program.specs.Layout.{data_bytes, end_before}
+use Rattle.cmm_program.specs.Layout.{data_bytes, end_before, label_addresses}
 use Rattle.cmm_data.specs.Conditions.{CanBeLaidOut}
 use Rattle.cmm_data.specs.Filling.{AreApart, filled, fix_value, with_value}
 use Rattle.cmm_data.specs.declared.fix.Fix.{Fix}
@@ -26,3 +27,12 @@ pub record FixesAreFilled : Type 0 where
   pub within : (from size i : ℕ) (fixes : List Fix) (f : Fix) → AreApart from fixes size → slice_get fixes i ≡ Some f → f.place + 8 ≤ size
   -- as many bytes are left
   pub kept : (value place : ℕ) (bytes : List ℕ) → place + 8 ≤ length bytes → length (with_value value place bytes) ≡ length bytes
+
+-- an address lies in the data of a program, or is its end
+pub record LiesInData (p : Program) (address : ℕ) : Type 0 where
+  pub from : data_base ≤ address
+  pub to : address ≤ end_before p (length p.datums)
+
+-- the address of each label does
+abbrev pub LabelsLieInData : Type 0
+LabelsLieInData = (p : Program) → CanBeLaidOut p → All (LiesInData p) (label_addresses p)

@@ -1,6 +1,7 @@
 mod Finishing
 mod Numbered
 mod Numbering
+mod OfBytes
 mod Placing
 mod Positions
 mod Quoting

@@ -5,4 +5,5 @@ pub mod Numbers
 pub mod Places
 pub mod Pieces
 pub mod Lexing
+pub mod Laws
 pub mod inside

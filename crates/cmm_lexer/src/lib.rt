@@ -10,11 +10,13 @@
 //! - `piece`: the piece at the front of a text.
 //! - `keyword`, `symbol`: the reserved words and the symbols, with their spellings and numbers.
 //! - `character`, `number`, `spelling`, `bytes`: what characters, numbers and names are made of.
+//! - `laws`: what holds of the tokens of any unit.
 #![tactic(auto)]
 
 mod bytes;
 mod character;
 mod keyword;
+pub mod laws;
 mod lexing;
 mod number;
 mod piece;

@@ -1,9 +1,18 @@
 -- What units export and the names of their registers, one after the other.
-use Rattle.std.proofs.Common.{◌≡◌, ℕ, ◌+◌, ◌<◌, Bool, true, false, ◌||◌, not, cond, length, map, take, get_or, refl, ap, sym, ◌∙◌, List, [], ◌∷◌, ◌++◌, Option, Some, None, option_map, append_assoc, append-nil}
-use Rattle.std.specs.Prelude.{bytes_eq, flat_map, is_some, unwrap_or, position, nat_lt}
-use Rattle.std.specs.List.{list_any, prefix_len}
+use Rattle.std.proofs.Common.{◌≡◌, ℕ, ◌+◌, ◌<◌, Bool, true, false, ◌||◌, not, cond, length, map, take, get_or, refl, ap, sym, ◌∙◌, subst, List, [], ◌∷◌, ◌++◌, Option, Some, None, option_map, append_assoc, append-nil, arith}
+use Rattle.std.specs.Prelude.{bytes_eq, flat_map, is_some, unwrap_or, position, nat_lt, IsPermutation}
+use Rattle.std.specs.Cmp.Lexicographic.{slice_cmp}
+use Rattle.std.specs.List.{AllByRecursion, IsDistinct, list_any, prefix_len}
+use Rattle.std.specs.List.Sorted.{IsSorted, IsStrictlySortedBy}
+use Rattle.std.specs.Ordering.{nat_cmp, is_eq, is_lt, ordering_reverse}
+use Rattle.std.specs.declared.cmp.Ordering.{Ordering}
+use Rattle.std.specs.declared.cmp.Ordering.TheVariants.{Less, Equal, Greater}
+use Rattle.std.proofs.lemmas.Cmp.{nat_list_cmp_total, on_total}
 use Rattle.std.proofs.lemmas.Grind.{flat_map-append}
 use Rattle.std.proofs.lemmas.List.{length-map, map-append}
+use Rattle.std.proofs.lemmas.List.Sorted.{list_any-IsPermutation}
+use Rattle.std.proofs.lemmas.Map.Keys.{apart_from_distinct, sorted_from_all_adjacent}
+use Rattle.std.proofs.lemmas.Map.Text.{is_eq-slice_cmp}
 use Rattle.std.proofs.lemmas.Simd.{map-map}
 use Rattle.std.proofs.lemmas.Slice.Eq.{bytes_eq-Decides}
 use denote.Ref.{Bor}
@@ -15,7 +24,8 @@ use Rattle.cmm_accepted.specs.declared.sense.Sense.{Sense}
 use Rattle.cmm_accepted.specs.declared.sense.Sense.TheVariants as senses
 use Rattle.cmm_accepted.specs.Senses.{is_there, host_named}
 use Rattle.cmm_accepted.specs.Declarations.{Declared, Entry as UnitEntry, NamedUnit}
-use Rattle.cmm_accepted.specs.Linking.{Program, Published, address_of, exports_of, export_links, imported, published, published_as, is_among, distinct, register_names, registers_of, program_of}
+use Rattle.cmm_accepted.specs.Linking.{Program, Published, address_of, exports_of, export_links, imported, published, published_as, is_among, in_order, register_names, registers_of, program_of}
+use Rattle.cmm_accepted.proofs.Shared.{among_append, among_in_order, is_in_order, same_order}
 use Rattle.cmm_names.specs.Indexed.{or_else}
 use Rattle.cmm_names.specs.Shown.{entry_shown}
 use Rattle.cmm_names.specs.declared.entry.Entry.{Entry}
@@ -25,7 +35,7 @@ use Rattle.cmm_linked.specs.declared.links.Links.{Links}
 use Rattle.cmm_linked.specs.declared.register.Register.{Register}
 use Rattle.cmm_linked.specs.Exports.{exported_links}
 use Rattle.cmm_linked.specs.Registers.{registers_in, register_shown}
-use Rattle.cmm_linked.specs.inside.Linkages.{under, exported_shown, publication, first_under, AreLinks}
+use Rattle.cmm_linked.specs.inside.Linkages.{under, exported_shown, publication, first_under, AreAdded, AreLinks}
 
 -- ---- what stands under a link name
 
@@ -124,40 +134,76 @@ among_any : (k : List ℕ) (ks : List (Bor (List ℕ))) → list_any (λ j. byte
 among_any k [] = refl
 among_any k (j ∷ ks) = ap (λ b. bytes_eq k j.now || b) (among_any k ks)
 
-one_more : (b : Bool) (ks : List (Bor (List ℕ))) (k : Bor (List ℕ)) →
-    map (λ j. j.now) (cond b ks (ks ++ k ∷ [])) ≡ map (λ j. j.now) ks ++ elim b as (λ _. List (List ℕ)) [ true ↦ [] | false ↦ k.now ∷ [] ]
-one_more true ks k = sym (append-nil (map (λ j. j.now) ks))
-one_more false ks k = last ks
-  where
-    last : (js : _) → map (λ (j : Bor (List ℕ)). j.now) (js ++ k ∷ []) ≡ map (λ (j : Bor (List ℕ)). j.now) js ++ k.now ∷ []
-    last [] = refl
-    last (j ∷ js) = ap (λ t. j.now ∷ t) (last js)
+or_known : (p q : Bool) → (q ≡ true → p ≡ true) → p ≡ (p || (q || false))
+or_known true q known = refl
+or_known false true known = known refl
+or_known false false known = refl
 
 -- the names after one more
 pub name_added : (ks : List (Bor (List ℕ))) (k : Bor (List ℕ)) →
-    map (λ j. j.now) (cond (list_any (λ j. bytes_eq k.now j.now) ks) ks (ks ++ k ∷ [])) ≡ map (λ j. j.now) ks ++ distinct (map (λ j. j.now) ks) (k.now ∷ [])
-name_added ks k =
-    one_more (list_any (λ j. bytes_eq k.now j.now) ks) ks k
-    ∙ ap (λ b. map (λ j. j.now) ks ++ elim b as (λ _. List (List ℕ)) [ true ↦ [] | false ↦ k.now ∷ [] ]) (among_any k.now ks)
-
-pub distinct_append : (e xs ys : List (List ℕ)) → distinct e (xs ++ ys) ≡ distinct e xs ++ distinct (e ++ distinct e xs) ys
-distinct_append e [] ys = ap (λ q. distinct q ys) (sym (append-nil e))
-distinct_append e (x ∷ xs) ys = by (is_among x e) (distinct_append e xs ys) (distinct_append (e ++ x ∷ []) xs ys)
+    AreAdded (k.now ∷ []) (map (λ j. j.now) ks) (map (λ j. j.now) (cond (list_any (λ j. bytes_eq k.now j.now) ks) ks (ks ++ k ∷ [])))
+name_added ks k x = by (list_any (λ j. bytes_eq k.now j.now) ks) (among_any k.now ks)
   where
-    by : (b : Bool) → distinct e (xs ++ ys) ≡ distinct e xs ++ distinct (e ++ distinct e xs) ys →
-        distinct (e ++ x ∷ []) (xs ++ ys) ≡ distinct (e ++ x ∷ []) xs ++ distinct ((e ++ x ∷ []) ++ distinct (e ++ x ∷ []) xs) ys →
-        elim b as (λ _. List (List ℕ)) [ true ↦ distinct e (xs ++ ys) | false ↦ x ∷ distinct (e ++ x ∷ []) (xs ++ ys) ]
-        ≡ elim b as (λ _. List (List ℕ)) [ true ↦ distinct e xs | false ↦ x ∷ distinct (e ++ x ∷ []) xs ]
-        ++ distinct (e ++ elim b as (λ _. List (List ℕ)) [ true ↦ distinct e xs | false ↦ x ∷ distinct (e ++ x ∷ []) xs ]) ys
-    by true there new = there
-    by false there new = ap (λ t. x ∷ t) (new ∙ ap (λ q. distinct (e ++ x ∷ []) xs ++ distinct q ys) (append_assoc e (x ∷ []) (distinct (e ++ x ∷ []) xs)))
+    by : (b : Bool) → b ≡ is_among k.now (map (λ j. j.now) ks) →
+        is_among x (map (λ (j : Bor (List ℕ)). j.now) (cond b ks (ks ++ k ∷ []))) ≡ (is_among x (map (λ j. j.now) ks) || (bytes_eq x k.now || false))
+    by true there = or_known (is_among x (map (λ j. j.now) ks)) (bytes_eq x k.now) (λ same. ap (λ n. is_among n (map (λ j. j.now) ks)) ((bytes_eq-Decides x k.now).0 same) ∙ sym there)
+    by false new = ap (is_among x) (map-append (λ j. j.now) ks (k ∷ [])) ∙ among_append x (map (λ j. j.now) ks) (k.now ∷ [])
 
--- a turn of the loop that adds them
-pub names_next : {A : Type 0} (h : A → List ℕ) (first now next : List (List ℕ)) (xs : List A) (i : ℕ) (x : A) → i < length xs → x ≡ get_or xs i x →
-    next ≡ now ++ distinct now (h x ∷ []) → now ≡ first ++ distinct first (map h (take i xs)) → next ≡ first ++ distinct first (map h (take (i + 1) xs))
-names_next h first now next xs i x within is added so_far =
-    added ∙ ap (λ q. q ++ distinct q (h x ∷ [])) so_far ∙ append_assoc first (distinct first (map h (take i xs))) (distinct (first ++ distinct first (map h (take i xs))) (h x ∷ []))
-    ∙ ap (λ t. first ++ t) (sym (ap (distinct first) (mapped_next h xs i x within is) ∙ distinct_append first (map h (take i xs)) (h x ∷ [])))
+or_false : (p : Bool) → p ≡ (p || false)
+or_false true = refl
+or_false false = refl
+
+or_grouped : (a b c : Bool) → ((a || b) || c) ≡ (a || (b || c))
+or_grouped true b c = refl
+or_grouped false b c = refl
+
+-- where none are added
+pub none_added : (names : List (List ℕ)) → AreAdded [] names names
+none_added names x = or_false (is_among x names)
+
+-- and where some are, and then more
+pub both_added : (some more first now next : List (List ℕ)) → AreAdded some first now → AreAdded more now next → AreAdded (some ++ more) first next
+both_added some more first now next before after x =
+    after x ∙ ap (λ b. b || is_among x more) (before x) ∙ or_grouped (is_among x first) (is_among x some) (is_among x more)
+    ∙ ap (λ b. is_among x first || b) (sym (among_append x some more))
+
+-- ---- their order
+
+abbrev by_bytes : Bor (List ℕ) → Bor (List ℕ) → Ordering
+by_bytes j k = slice_cmp nat_cmp j.now k.now
+
+-- of two neighbours that differ the first is below
+below : (j k : List ℕ) → is_lt (slice_cmp nat_cmp k j) ≡ false → bytes_eq j k ≡ false → slice_cmp nat_cmp j k ≡ Less
+below j k not_after differ = by (slice_cmp nat_cmp j k) refl
+  where
+    by : (o : Ordering) → slice_cmp nat_cmp j k ≡ o → o ≡ Less
+    by Less is = refl
+    by Equal is = let bad : true ≡ false = sym (ap is_eq is) ∙ is_eq-slice_cmp j k ∙ differ in absurd (cc)
+    by Greater is = let bad : true ≡ false = sym (ap is_lt (nat_list_cmp_total.antisymm k j ∙ ap (λ o. ordering_reverse o) is)) ∙ not_after in absurd (cc)
+
+keys_ascend : (ks : List (Bor (List ℕ))) → IsSorted by_bytes ks → IsDistinct (λ j k. bytes_eq j.now k.now) ks → IsStrictlySortedBy by_bytes ks
+unfolding IsStrictlySortedBy
+keys_ascend [] sorted distinct = tt
+keys_ascend (j ∷ ks) sorted distinct =
+    sorted_from_all_adjacent (on_total (λ (k : Bor (List ℕ)). k.now) nat_list_cmp_total) (j ∷ ks) j
+    (λ k inside. below (get_or (j ∷ ks) k j).now (get_or (j ∷ ks) (k + 1) j).now (sorted k j (omega arith) inside)
+    (apart_from_distinct (λ j k. bytes_eq j.now k.now) (j ∷ ks) k (k + 1) j distinct (omega arith) inside))
+
+all_names : (n : List ℕ) (ks : List (Bor (List ℕ))) → AllByRecursion (λ k. slice_cmp nat_cmp n k.now ≡ Less) ks → AllByRecursion (λ m. slice_cmp nat_cmp n m ≡ Less) (map (λ k. k.now) ks)
+all_names n [] all = tt
+all_names n (k ∷ ks) all = (all.0, all_names n ks all.1)
+
+names_ascend : (ks : List (Bor (List ℕ))) → IsStrictlySortedBy by_bytes ks → IsStrictlySortedBy (slice_cmp nat_cmp) (map (λ k. k.now) ks)
+unfolding IsStrictlySortedBy
+names_ascend [] up = tt
+names_ascend (k ∷ ks) up = (all_names k.now ks up.0, names_ascend ks up.1)
+
+-- keys that are sorted, each once, have their names in order
+pub names_sorted : (old new : List (Bor (List ℕ))) → IsPermutation old new → IsSorted by_bytes new → IsDistinct (λ j k. bytes_eq j.now k.now) new →
+    map (λ k. k.now) new ≡ in_order (map (λ k. k.now) old)
+names_sorted old new moved sorted distinct =
+    is_in_order (map (λ k. k.now) new) (map (λ k. k.now) old) (names_ascend new (keys_ascend new sorted distinct))
+    (λ x. sym (among_any x new) ∙ sym (list_any-IsPermutation (λ j. bytes_eq x j.now) old new moved) ∙ among_any x old)
 
 prefix_map : {A B : Type 0} (h : A → B) (p : B → Bool) (xs : List A) → prefix_len p (map h xs) ≡ prefix_len (λ x. p (h x)) xs
 prefix_map h p [] = refl
@@ -173,27 +219,31 @@ position_map h p xs =
 flat_last : {A B : Type 0} (f : A → List B) (xs : List A) (x : A) → flat_map f (xs ++ x ∷ []) ≡ flat_map f xs ++ f x
 flat_last f xs x = flat_map-append f xs (x ∷ []) ∙ ap (λ t. flat_map f xs ++ t) (append-nil (f x))
 
-program_next : (us : List NamedUnit) (u : NamedUnit) (exports : List Published) (registers : List (List ℕ)) → exports ≡ (program_of us).exports ++ published u →
-    registers ≡ (program_of us).registers ++ distinct (program_of us).registers (map (λ d. d.name.name) (registers_of u)) →
-    let p : Program = record { exports = exports; registers = registers } in p ≡ program_of (us ++ u ∷ [])
-program_next us u exports registers e r =
-    let own : NamedUnit → List (List ℕ) = λ v. map (λ d. d.name.name) (registers_of v) in
-    let same : registers ≡ register_names (us ++ u ∷ []) = r ∙ sym (ap (distinct []) (flat_last own us u) ∙ distinct_append [] (flat_map own us) (own u)) in
-    ap (λ (q : List Published). let p : Program = record { exports = q; registers = registers } in p) (e ∙ sym (flat_last published us u))
-    ∙ ap (λ (q : List (List ℕ)). let p : Program = record { exports = flat_map published (us ++ u ∷ []); registers = q } in p) same
+abbrev own_names : NamedUnit → List (List ℕ)
+own_names u = map (λ d. d.name.name) (registers_of u)
 
-pub program_grown : (us : List NamedUnit) (u : NamedUnit) (old : Program) (ds : List (Declared UnitEntry)) (es : List Export) (exports : List Published) (registers : List (List ℕ)) (rs : List Register) →
-    old ≡ program_of us → ds ≡ u.entries → es ≡ exports_of u → exports ≡ old.exports ++ map (publication ds) es → map register_shown rs ≡ registers_in ds →
-    registers ≡ old.registers ++ distinct old.registers (map (λ r. r.name.now.name) rs) →
-    let p : Program = record { exports = exports; registers = registers } in p ≡ program_of (us ++ u ∷ [])
-program_grown us u old ds es exports registers rs is declared exported e own r =
-    let names : map (λ q. q.name.now.name) rs ≡ map (λ d. d.name.name) (registers_of u) =
+program_next : (us : List NamedUnit) (u : NamedUnit) (exports : List Published) (registers : List (List ℕ)) → exports ≡ (program_of us).exports ++ published u →
+    registers ≡ register_names (us ++ u ∷ []) → let p : Program = record { exports = exports; registers = registers } in p ≡ program_of (us ++ u ∷ [])
+program_next us u exports registers e r = rw (r, e, flat_last published us u) refl
+
+-- names in order, where those of one more unit were added to some that had the names of units in order
+names_grown : (us : List NamedUnit) (u : NamedUnit) (old new : List (List ℕ)) → in_order old ≡ register_names us → AreAdded (own_names u) old new → in_order new ≡ register_names (us ++ u ∷ [])
+names_grown us u old new are added =
+    same_order new (flat_map own_names (us ++ u ∷ []))
+    (λ x. added x ∙ ap (λ b. b || is_among x (own_names u)) (sym (among_in_order x old) ∙ ap (is_among x) are ∙ among_in_order x (flat_map own_names us))
+    ∙ sym (ap (is_among x) (flat_last own_names us u) ∙ among_append x (flat_map own_names us) (own_names u)))
+
+pub program_grown : (us : List NamedUnit) (u : NamedUnit) (old : Program) (ds : List (Declared UnitEntry)) (es : List Export) (exports : List Published) (before after : List (List ℕ)) (rs : List Register) →
+    old ≡ program_of us → ds ≡ u.entries → es ≡ exports_of u → exports ≡ old.exports ++ map (publication ds) es → in_order before ≡ old.registers → map register_shown rs ≡ registers_in ds →
+    AreAdded (map (λ r. r.name.now.name) rs) before after →
+    let p : Program = record { exports = exports; registers = in_order after } in p ≡ program_of (us ++ u ∷ [])
+program_grown us u old ds es exports before after rs is declared exported e r own added =
+    let names : map (λ q. q.name.now.name) rs ≡ own_names u =
     sym (map-map (λ d. d.name.name) register_shown rs) ∙ ap (map (λ d. d.name.name)) (own ∙ ap registers_in declared) in
-    program_next us u exports registers
+    program_next us u exports (in_order after)
     (e ∙ ap (λ (p : Program). p.exports ++ map (publication ds) es) is ∙ ap (λ (q : List (Declared UnitEntry)). (program_of us).exports ++ map (publication q) es) declared
     ∙ ap (λ (q : List Export). (program_of us).exports ++ map (publication u.entries) q) exported)
-    (r ∙ ap (λ (p : Program). p.registers ++ distinct p.registers (map (λ q. q.name.now.name) rs)) is
-    ∙ ap (λ (q : List (List ℕ)). (program_of us).registers ++ distinct (program_of us).registers q) names)
+    (names_grown us u before after (r ∙ ap (λ (p : Program). p.registers) is) (subst (λ (q : List (List ℕ)). AreAdded q before after) names added))
 
 -- the link names of units are those under which each exports something
 pub links_of_all : (us : List NamedUnit) → exported_links (program_of us) ≡ flat_map export_links us

@@ -1,9 +1,10 @@
 //! What units know of each other: what stands under the link names that they import, and the numbers of the registers that they share.
 //!
-//! Contracts see a `Linkage` as the definition's record, `Linking.Program`, and it grows by a unit at a time. Link names and names of
-//! registers are found by their bytes, as these stand in the units, in expected constant time.
+//! Contracts see a `Linkage` as the definition's record, `Linking.Program`. It is `Gathered` first, which grows by a unit at a time; where all units
+//! are in, the names of registers are sorted, and each has its place as its number. Link names and names of registers are found by their
+//! bytes, as these stand in the units, in expected constant time.
 //!
-//! - `linked`: `Linked`, which tells what units know of each other. `linkage`: `Linkage`, which gathers it.
+//! - `linked`: `Linked`, which tells what units know of each other. `linkage`: `Gathered`, and `Linkage`, which is made of it.
 //! - `link`: the link names of imports and exports. `owned`: what the names of a unit are.
 //! - `register`: the registers of a unit. `links`, `register_names`: what link names and names of registers are found by.
 #![tactic(auto)]
@@ -17,7 +18,7 @@ mod register;
 mod register_names;
 
 pub use link::{export_link, import_link};
-pub use linkage::Linkage;
+pub use linkage::{Gathered, Linkage};
 pub use linked::Linked;
 pub use owned::entry_of;
 pub use register::{Register, registers_in};

@@ -1,4 +1,4 @@
-//! What units know of each other, gathered from them.
+//! What units know of each other: it is gathered from them a unit at a time, and then the registers get their numbers.
 
 ghost use Rattle.std.specs.Prelude.{◌≡◌, ◌<◌, ◌++◌, ◌^◌, [], ◌∷◌, List, map, length, option_map, unwrap_or, IfOk, OnOk};
 ghost use Rattle.cmm_accepted.specs.Declarations.{NamedUnit};
@@ -14,7 +14,7 @@ use crate::linked::Linked;
 use crate::links::Links;
 use crate::owned::entry_of;
 use crate::register::registers_in;
-use crate::register_names::{add_names, number_of};
+use crate::register_names::{add_names, number_of, put_in_order};
 use cmm_accepted::Sense;
 use cmm_ast::Export;
 use cmm_items::Items;
@@ -31,12 +31,34 @@ pub(crate) struct Exported<'a> {
     pub entry: Option<Entry<'a>>,
 }
 
+/// What is gathered of units. Registers have no numbers yet, since these go by the names of all units: `numbered` gives them.
+#[derive(Drop)]
+pub struct Gathered<'a> {
+    exports: Items<Exported<'a>>,
+    /// The first export under each link name.
+    links: Links<'a, Option<Entry<'a>>>,
+    /// The names of registers, as they came.
+    registers: IndexSet<&'a [u8]>,
+}
+
+impl<'a> Model for Gathered<'a> {
+    ghost use Rattle.std.specs.Prelude.{◌<◌, ◌^◌, length, map};
+    ghost use Rattle.cmm_accepted.specs.Linking.{Program, in_order};
+    ghost use Rattle.cmm_linked.specs.inside.Linkages.{AreLinks, exported_shown, names_shown};
+
+    ghost Value = { Program };
+
+    ghost view = { λ g. record { exports = map exported_shown g.exports; registers = in_order (names_shown g.registers) } };
+
+    ghost invariant = { λ g. AreLinks g.links g.exports × (length g.registers.keys < 2 ^ 32) };
+}
+
 /// What units know of each other: what they export, and the names of their registers.
 #[derive(Drop)]
 pub struct Linkage<'a> {
     exports: Items<Exported<'a>>,
-    /// The first export under each link name.
     links: Links<'a, Option<Entry<'a>>>,
+    /// The names of registers, by their numbers.
     registers: IndexSet<&'a [u8]>,
 }
 
@@ -110,18 +132,63 @@ fn address<'a>(entry: Option<Entry<'a>>) -> Constant
     }
 }
 
-impl<'a> Linkage<'a> {
+impl<'a> Gathered<'a> {
     /// That of no units.
-    pub fn none(alloc: Global) -> Linkage<'a>
+    pub fn none(alloc: Global) -> Gathered<'a>
         ensures { result ≡ program_of [] }
     {
-        Linkage {
+        Gathered {
             exports: Items::new(alloc),
             links: Links::new(alloc),
             registers: IndexSet::new(alloc),
         }
     }
 
+    /// That of one more unit, from what its names are declared as and what it exports. Want of memory is the answer, too, where registers
+    /// would be 2^32: there is none for so many names.
+    pub fn with_unit(
+        self,
+        alloc: Global,
+        table: &Table<'a, Entry<'a>>,
+        listed: &[&'a Export],
+    ) -> Result<Gathered<'a>, AllocError>
+        ensures { IfOk result (λ next. (us : List NamedUnit) (u : NamedUnit) → self.entry ≡ program_of us → map shown table.now.declared ≡ u.entries →
+            map (λ e. e.now) listed.now ≡ exports_of u → next ≡ program_of (us ++ u ∷ [])) }
+    {
+        let Gathered {
+            mut exports,
+            mut links,
+            mut registers,
+        } = self;
+        add_exports(table, listed, &mut exports, &mut links)?;
+        let own = registers_in(alloc, table.declared.as_slice())?;
+        add_names(own.as_slice(), &mut registers)?;
+        Ok(Gathered {
+            exports,
+            links,
+            registers,
+        })
+    }
+
+    /// What the units know of each other, where they are all: the registers are numbered by their names, in ascending order by bytes.
+    pub fn numbered(self) -> Result<Linkage<'a>, AllocError>
+        ensures { IfOk result (λ linkage. linkage ≡ self.entry) }
+    {
+        let Gathered {
+            exports,
+            links,
+            mut registers,
+        } = self;
+        put_in_order(&mut registers)?;
+        Ok(Linkage {
+            exports,
+            links,
+            registers,
+        })
+    }
+}
+
+impl<'a> Linkage<'a> {
     /// How many registers units share.
     pub fn register_count(&self) -> usize
         ensures { result ≡ length self.now.registers }
@@ -141,32 +208,6 @@ impl<'a> Linkage<'a> {
         ensures { map (λ n. n.now) result.now ≡ self.now.registers }
     {
         self.registers.as_slice()
-    }
-
-    /// That of one more unit, from what its names are declared as and what it exports. Want of memory is the answer, too, where registers
-    /// would be 2^32: there is none for so many names.
-    pub fn with_unit(
-        self,
-        alloc: Global,
-        table: &Table<'a, Entry<'a>>,
-        listed: &[&'a Export],
-    ) -> Result<Linkage<'a>, AllocError>
-        ensures { IfOk result (λ next. (us : List NamedUnit) (u : NamedUnit) → self.entry ≡ program_of us → map shown table.now.declared ≡ u.entries →
-            map (λ e. e.now) listed.now ≡ exports_of u → next ≡ program_of (us ++ u ∷ [])) }
-    {
-        let Linkage {
-            mut exports,
-            mut links,
-            mut registers,
-        } = self;
-        add_exports(table, listed, &mut exports, &mut links)?;
-        let own = registers_in(alloc, table.declared.as_slice())?;
-        add_names(own.as_slice(), &mut registers)?;
-        Ok(Linkage {
-            exports,
-            links,
-            registers,
-        })
     }
 }
 

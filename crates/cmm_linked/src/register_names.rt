@@ -1,8 +1,8 @@
 //! The names of registers that units share, each once.
 
-ghost use Rattle.std.specs.Prelude.{◌≡◌, ◌<◌, ◌++◌, ◌^◌, [], ◌∷◌, bytes_eq, length, map, position, unwrap_or, OnOk};
-ghost use Rattle.cmm_accepted.specs.Linking.{distinct};
-ghost use Rattle.cmm_linked.specs.inside.Linkages.{names_shown};
+ghost use Rattle.std.specs.Prelude.{◌≡◌, ◌<◌, ◌^◌, [], ◌∷◌, bytes_eq, length, map, position, unwrap_or, OnOk};
+ghost use Rattle.cmm_accepted.specs.Linking.{in_order};
+ghost use Rattle.cmm_linked.specs.inside.Linkages.{AreAdded, names_shown};
 
 use crate::register::Register;
 use indexmap::IndexSet;
@@ -10,7 +10,7 @@ use std::alloc::AllocError;
 
 /// Adds a name, if it is not there.
 fn add_name<'a>(name: &'a [u8], to: &mut IndexSet<&'a [u8]>) -> Result<(), AllocError>
-    ensures names { OnOk result (names_shown to.new ≡ names_shown to.old ++ distinct (names_shown to.old) (name.now ∷ [])) }
+    ensures names { OnOk result (AreAdded (name.now ∷ []) (names_shown to.old) (names_shown to.new)) }
     ensures fits { OnOk result (length to.new.keys < 2 ^ 32) }
 {
     if to.len() >= u32::MAX as usize {
@@ -26,7 +26,7 @@ pub(crate) fn add_names<'a>(
     to: &mut IndexSet<&'a [u8]>,
 ) -> Result<(), AllocError>
     requires { length to.old.keys < 2 ^ 32 }
-    ensures names { OnOk result (names_shown to.new ≡ names_shown to.old ++ distinct (names_shown to.old) (map (λ r. r.name.now.name) registers.now)) }
+    ensures names { OnOk result (AreAdded (map (λ r. r.name.now.name) registers.now) (names_shown to.old) (names_shown to.new)) }
     ensures fits { OnOk result (length to.new.keys < 2 ^ 32) }
 {
     for register in registers {
@@ -35,7 +35,16 @@ pub(crate) fn add_names<'a>(
     Ok(())
 }
 
-/// The number of a name, by when it came: 0 where it is not there.
+/// Puts names in ascending order by bytes.
+pub(crate) fn put_in_order<'a>(names: &mut IndexSet<&'a [u8]>) -> Result<(), AllocError>
+    ensures names { OnOk result (names_shown names.new ≡ in_order (names_shown names.old)) }
+    ensures count { length names.new.keys ≡ length names.old.keys }
+{
+    names.sort()?;
+    Ok(())
+}
+
+/// The number of a name, by where it stands: 0 where it is not there.
 pub(crate) fn number_of<'a>(names: &IndexSet<&'a [u8]>, name: &[u8]) -> u32
     requires { length names.now.keys < 2 ^ 32 }
     ensures { result ≡ unwrap_or (position (bytes_eq name.now) (names_shown names.now)) 0 }

@@ -1,14 +1,18 @@
 -- Worked rows: what laws ask of units, of small ones from their text: they break no rule, their texts are of bytes, and they derive their tokens.
-use Rattle.std.proofs.Common.{◌≡◌, suc, refl, List, [], ◌∷◌, length}
+use Rattle.std.proofs.Common.{◌≡◌, ℕ, suc, ◌<◌, refl, true, List, [], ◌∷◌, length}
 use Rattle.std.specs.Prelude.{codes, map, None}
-use Rattle.std.proofs.lemmas.List.Elements.{All-nil, All-cons}
+use Rattle.std.proofs.lemmas.List.Elements.{All-nil, All-cons, All-weaker}
+use Rattle.std.proofs.lemmas.List.Sums.{AllPass-from_list_all}
+use Rattle.std.proofs.lemmas.Bool.{ltb-true}
 use Rattle.cmm_lexer.specs.declared.piece.Lexeme.{Lexeme}
+use Rattle.cmm_lexer.specs.Laws.{AreBytes}
 use Rattle.cmm_lexer.specs.Lexing.{tokens_of}
 use Rattle.cmm_ast.specs.Derivation.{Derives}
 use Rattle.cmm_ast.specs.declared.unit.Unit.{Unit as UnitTree}
+use Rattle.cmm_program.specs.InRange.{below}
 use Rattle.cmm_accepted.specs.Faults.{AreAccepted}
 use Rattle.cmm_accepted.proofs.Shared.{unit_of}
-use Rattle.cmm_meaning.specs.Laws.{AreRead, TextsAreBytes}
+use Rattle.cmm_meaning.specs.Laws.{AreRead, IsReadFromBytes, TextsAreBytes}
 use Rattle.cmm_meaning.proofs.Texts.{opened}
 
 abbrev sample : List UnitTree
@@ -41,3 +45,23 @@ row_places = refl
 row_read : AreRead (small ∷ [])
 row_read = All-cons (λ u. (tokens : List Lexeme) × (Derives tokens u × (length u.places ≡ suc (length tokens)))) small [] (lexemes, (row_derives, row_places))
     (All-nil (λ u. (tokens : List Lexeme) × (Derives tokens u × (length u.places ≡ suc (length tokens)))))
+
+-- a unit that is read from bytes, with a text among its data
+abbrev source : List ℕ
+source = codes "export main; section \"data\" { d: bits8[] \"\\x68i\"; } main() { return; }"
+
+row_source : AreBytes source
+row_source = All-weaker (λ b. below 256 b ≡ true) (λ b. b < 256) (λ b. ltb-true b 256) source (AllPass-from_list_all (below 256) source refl)
+
+row_read_from_bytes : IsReadFromBytes (unit_of source)
+unfolding opened
+row_read_from_bytes = record {
+  bytes = source;
+  are_bytes = row_source;
+  derives = record { after = record { left = []; taken = 21; open_brackets = 0; operators = 0; over = None }; takes = refl; all = refl };
+  places = refl;
+}
+
+row_source_accepted : AreAccepted (unit_of source ∷ [])
+unfolding opened
+row_source_accepted = refl

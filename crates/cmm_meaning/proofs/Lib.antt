@@ -47,6 +47,7 @@ pub mod Derived
 pub mod AllForms
 pub mod Steady
 pub mod SteadyUnits
+pub mod Exporting
 pub mod Weighing
 pub mod BodyTokens
 pub mod Spent
@@ -58,4 +59,5 @@ pub mod SpentBodies
 pub mod SpentHeadings
 pub mod SpentProcedures
 pub mod Together
+pub mod OfBytes
 pub mod Shared

@@ -1,7 +1,10 @@
--- What accepted units declare has names of at most 255 bytes, so the registers of their program have.
-use Rattle.std.proofs.Common.{◌≡◌, ℕ, ◌+◌, refl, ap, ◌∙◌, Bool, true, false, List, [], ◌∷◌, ◌++◌}
+-- What accepted units declare has names of at most 255 bytes, so the registers of their program have. The registers of any units are in the order of their names.
+use Rattle.std.proofs.Common.{◌≡◌, ℕ, ◌+◌, refl, sym, ap, subst, ◌∙◌, Bool, true, false, List, [], ◌∷◌, ◌++◌}
 use Rattle.std.specs.Prelude.{map, flat_map, ◌||◌}
-use Rattle.std.specs.List.{list_all}
+use Rattle.std.specs.List.{AllByRecursion, list_all}
+use Rattle.std.specs.List.Sorted.{IsStrictlySortedBy}
+use Rattle.std.specs.Cmp.Lexicographic.{slice_cmp}
+use Rattle.std.specs.Ordering.{nat_cmp}
 use Rattle.std.proofs.lemmas.Bool.{and_parts}
 use Rattle.std.proofs.lemmas.List.{map-append}
 use Rattle.std.proofs.lemmas.List.Folds.{list_all-append}
@@ -20,9 +23,10 @@ use Rattle.cmm_accepted.specs.Items.{Within, items_of, parts_of}
 use Rattle.cmm_accepted.specs.Mentions.{listed, type_names}
 use Rattle.cmm_accepted.specs.LongNames.{of_text, of_expr, of_formal, of_part, of_item, names_in}
 use Rattle.cmm_accepted.specs.Declarations.{Declared, Entry, Typedef, Const, Register, Import, DataLabel, Procedure, NamedUnit, named_units, units_from, each_as, import_entry, decl_entries, datum_entries, found, firsts, item_entries, entries_from, procs_in, labels_in, sum_of}
-use Rattle.cmm_accepted.specs.Linking.{is_among, register_entry, registers_of, distinct, register_names}
+use Rattle.cmm_accepted.specs.Linking.{register_entry, registers_of, register_names}
+use Rattle.cmm_accepted.proofs.Shared.{all_in_order, in_order_ascends}
 use Rattle.cmm_meaning.specs.Meaning.{global_of}
-use Rattle.cmm_meaning.specs.Laws.{RegisterNamesAreShort}
+use Rattle.cmm_meaning.specs.Laws.{RegisterNamesAreShort, RegistersAscend}
 use Rattle.cmm_meaning.proofs.Nothing.{unbroken, names_kept}
 use Rattle.cmm_meaning.proofs.Keeping.{both_true}
 use Rattle.cmm_meaning.proofs.Entries.{EachUnit}
@@ -85,48 +89,50 @@ firsts_named earlier (d ∷ ds) h = let both = and_parts (is_name d.name.name) (
     (firsts_named earlier ds both.1) (firsts_named (earlier ++ d ∷ []) ds both.1)
 
 abbrev AllShort : List (List ℕ) → Type 0
-AllShort names = list_all is_name names ≡ true
+AllShort names = AllByRecursion (λ n. is_name n ≡ true) names
 
 both_short : (xs ys : List (List ℕ)) → AllShort xs → AllShort ys → AllShort (xs ++ ys)
-both_short xs ys h k = list_all-append is_name xs ys ∙ both_true (list_all is_name xs) (list_all is_name ys) h k
+both_short [] ys h k = k
+both_short (x ∷ xs) ys h k = (h.0, both_short xs ys h.1 k)
 
 entry_short : (i : Ident) (e : Entry) → is_name i.name ≡ true → AllShort (map (λ d. d.name.name) (register_entry record { name = i; as_what = e }))
-entry_short i (Register t) h = both_true (is_name i.name) true h refl
-entry_short i (Typedef t) h = refl
-entry_short i (Const t x) h = refl
-entry_short i (Import link) h = refl
-entry_short i (DataLabel n) h = refl
-entry_short i (Procedure n p) h = refl
+entry_short i (Register t) h = (h, tt)
+entry_short i (Typedef t) h = tt
+entry_short i (Const t x) h = tt
+entry_short i (Import link) h = tt
+entry_short i (DataLabel n) h = tt
+entry_short i (Procedure n p) h = tt
 
 registers_short : (ds : List (Declared Entry)) → NamedShort ds → AllShort (map (λ d. d.name.name) (flat_map register_entry ds))
-registers_short [] h = refl
+registers_short [] h = tt
 registers_short (d ∷ ds) h = let both = and_parts (is_name d.name.name) (list_all (λ x. is_name x.name.name) ds) h in
-    ap (list_all is_name) (map-append (λ x. x.name.name) (register_entry d) (flat_map register_entry ds))
-    ∙ both_short (map (λ x. x.name.name) (register_entry d)) (map (λ x. x.name.name) (flat_map register_entry ds)) (entry_short d.name d.as_what both.0) (registers_short ds both.1)
+    subst AllShort (sym (map-append (λ x. x.name.name) (register_entry d) (flat_map register_entry ds)))
+    (both_short (map (λ x. x.name.name) (register_entry d)) (map (λ x. x.name.name) (flat_map register_entry ds)) (entry_short d.name d.as_what both.0) (registers_short ds both.1))
 
 units_short : (procs labels : ℕ) (us : List UnitTree) → EachUnit (λ u. Short (names_in u.items)) (units_from procs labels us) →
     AllShort (flat_map (λ u. map (λ d. d.name.name) (registers_of u)) (units_from procs labels us))
-units_short procs labels [] each = refl
+units_short procs labels [] each = tt
 units_short procs labels (u ∷ us) each =
     let is = items_of u in let named : NamedUnit = record { tree = u; items = is; entries = entries_from procs labels is } in
     both_short (map (λ d. d.name.name) (registers_of named)) _ (registers_short (firsts [] named.entries) (firsts_named [] named.entries (entries_named procs labels is each.0)))
     (units_short (procs + sum_of procs_in is) (labels + sum_of labels_in is) us each.1)
 
-one_short : (known : Bool) (n : List ℕ) (skip next : List (List ℕ)) → is_name n ≡ true → AllShort skip → AllShort next →
-    AllShort (elim known as (λ b. List (List ℕ)) [ true ↦ skip | false ↦ n ∷ next ])
-one_short true n skip next h a b = a
-one_short false n skip next h a b = both_true (is_name n) _ h b
-
-distinct_short : (earlier ns : List (List ℕ)) → AllShort ns → AllShort (distinct earlier ns)
-distinct_short earlier [] h = refl
-distinct_short earlier (n ∷ ns) h = let both = and_parts (is_name n) (list_all is_name ns) h in
-    one_short (is_among n earlier) n (distinct earlier ns) (distinct (earlier ++ n ∷ []) ns) both.0 (distinct_short earlier ns both.1) (distinct_short (earlier ++ n ∷ []) ns both.1)
-
 globals_short : (us : List NamedUnit) (ns : List (List ℕ)) → AllShort ns → list_all (λ g. is_name g.name) (map (global_of us) ns) ≡ true
 globals_short us [] h = refl
-globals_short us (n ∷ ns) h = let both = and_parts (is_name n) (list_all is_name ns) h in both_true (is_name n) _ both.0 (globals_short us ns both.1)
+globals_short us (n ∷ ns) h = both_true (is_name n) _ h.0 (globals_short us ns h.1)
 
 pub register_names_are_short : RegisterNamesAreShort
 register_names_are_short us accepted = let ns = named_units us in
-    globals_short ns (register_names ns) (distinct_short [] (flat_map (λ u. map (λ d. d.name.name) (registers_of u)) ns)
+    globals_short ns (register_names ns) (all_in_order (λ n. is_name n ≡ true) (flat_map (λ u. map (λ d. d.name.name) (registers_of u)) ns)
     (units_short 0 0 us (each_short ns [] 0 ns (names_kept ns (unbroken us accepted).nowhere))))
+
+-- ---- their order
+
+names_of_globals : (us : List NamedUnit) (ns : List (List ℕ)) → map (λ g. g.name) (map (global_of us) ns) ≡ ns
+names_of_globals us [] = refl
+names_of_globals us (n ∷ ns) = ap (λ t. n ∷ t) (names_of_globals us ns)
+
+pub registers_ascend : RegistersAscend
+registers_ascend us = let ns = named_units us in
+    subst (IsStrictlySortedBy (slice_cmp nat_cmp)) (sym (names_of_globals ns (register_names ns)))
+    (in_order_ascends (flat_map (λ u. map (λ d. d.name.name) (registers_of u)) ns))

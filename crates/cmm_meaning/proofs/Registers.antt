@@ -2,22 +2,18 @@
 use Rattle.std.proofs.Common.{◌≡◌, ℕ, suc, ◌+◌, ◌<◌, refl, sym, ap, ◌∙◌, subst, Bool, true, false, cond, List, [], ◌∷◌, ◌++◌, Option, Some, None, arith, length}
 use Rattle.std.specs.Prelude.{map, flat_map, option_map, unwrap_or, not, bytes_eq, slice_get, position, ◌||◌}
 use Rattle.std.specs.List.{prefix_len}
-use Rattle.std.proofs.lemmas.Bool.{lt-ltb, or_left, or_right}
+use Rattle.std.proofs.lemmas.Bool.{lt-ltb}
 use Rattle.cmm_words.specs.declared.width.Width.{Width}
 use Rattle.cmm_ast.specs.declared.token.Ident.{Ident}
 use Rattle.cmm_ast.specs.declared.expression.TypeName.{TypeName}
 use Rattle.cmm_accepted.specs.Senses.{host_named, is_host, is_there}
 use Rattle.cmm_accepted.specs.Declarations.{Declared, Entry, Typedef, Const, Register, Import, DataLabel, Procedure, NamedUnit, found, firsts}
-use Rattle.cmm_accepted.specs.Linking.{is_among, register_entry, registers_of, distinct}
+use Rattle.cmm_accepted.specs.Linking.{is_among, register_entry, registers_of}
 use Rattle.cmm_accepted.specs.Scopes.{width_in}
 use Rattle.cmm_meaning.proofs.Cycles.{one_name}
 
 abbrev Name : Type 0
 Name = List ℕ
-
-or_assoc : (a b c : Bool) → (a || (b || c)) ≡ ((a || b) || c)
-or_assoc true b c = refl
-or_assoc false b c = refl
 
 -- ---- the number of a name among names
 
@@ -38,30 +34,6 @@ number_at name (x ∷ xs) among = number_by name x xs (bytes_eq name x) (prefix_
 pub name_at : (name : Name) (xs : List Name) → is_among name xs ≡ true → slice_get xs (unwrap_or (position (bytes_eq name) xs) 0) ≡ Some name
 name_at name xs among = let n = prefix_len (λ y. not (bytes_eq name y)) xs in let at_ = number_at name xs among in
     ap (λ b. slice_get xs (unwrap_or (cond b (Some n) None) 0)) (lt-ltb n (length xs) at_.inside) ∙ at_.there
-
--- ---- names once each
-
-pub among_append : (name : Name) (xs ys : List Name) → is_among name (xs ++ ys) ≡ (is_among name xs || is_among name ys)
-among_append name [] ys = refl
-among_append name (x ∷ xs) ys = ap (λ b. bytes_eq name x || b) (among_append name xs ys) ∙ or_assoc (bytes_eq name x) (is_among name xs) (is_among name ys)
-
-distinct_by : (name n : Name) (earlier ns more rest : List Name) (same known : Bool) → bytes_eq name n ≡ same → is_among n earlier ≡ known → (same || is_among name ns) ≡ true →
-    is_among name earlier ≡ false → (is_among name ns ≡ true → is_among name rest ≡ true) →
-    (is_among name ns ≡ true → is_among name (earlier ++ n ∷ []) ≡ false → is_among name more ≡ true) →
-    is_among name (elim known as (λ b. List Name) [ true ↦ rest | false ↦ n ∷ more ]) ≡ true
-distinct_by name n earlier ns more rest true true eq there among apart skip next =
-    let yes : is_among name earlier ≡ true = subst (λ m. is_among m earlier ≡ true) (sym (one_name name n eq)) there in let bad : false ≡ true = sym apart ∙ yes in cc
-distinct_by name n earlier ns more rest false true eq there among apart skip next = skip among
-distinct_by name n earlier ns more rest true false eq there among apart skip next = or_left (bytes_eq name n) (is_among name more) eq
-distinct_by name n earlier ns more rest false false eq there among apart skip next =
-    or_right (bytes_eq name n) (is_among name more)
-    (next among (among_append name earlier (n ∷ []) ∙ ap (λ b. b || (bytes_eq name n || false)) apart ∙ ap (λ b. b || false) eq))
-
-pub distinct_keeps : (name : Name) (earlier ns : List Name) → is_among name ns ≡ true → is_among name earlier ≡ false → is_among name (distinct earlier ns) ≡ true
-distinct_keeps name earlier [] among apart = among
-distinct_keeps name earlier (n ∷ ns) among apart =
-    distinct_by name n earlier ns (distinct (earlier ++ n ∷ []) ns) (distinct earlier ns) (bytes_eq name n) (is_among n earlier) refl refl among apart
-    (λ later. distinct_keeps name earlier ns later apart) (λ later free. distinct_keeps name (earlier ++ n ∷ []) ns later free)
 
 -- ---- what is found among some and more
 

@@ -1,6 +1,6 @@
 -- What proofs of other crates may cite: what holds of judgements, that an expression is judged by what the names in it mean, that constants are words,
 -- what stands inside a statement, how call sites are counted, that of broken places none is left, how many datums there are, what is declared once, and that
--- the program of accepted units is in range.
+-- the program of accepted units is in range, and what is read from bytes has texts of bytes.
 pub use Rattle.cmm_meaning.proofs.Judged.{Holds, holds_with, holds_both, SenseFits}
 pub use Rattle.cmm_meaning.proofs.Mentioned.{EachName, judged_same}
 pub use Rattle.cmm_meaning.proofs.Knowing.{IsKnownBy, untyped_is_word, typed_is_word}
@@ -10,6 +10,7 @@ pub use Rattle.cmm_meaning.proofs.SiteNumbers.{length_is, site_here}
 pub use Rattle.cmm_meaning.proofs.Nothing.{no_left, no_right, no_unless, unbroken, procedures_kept, first_unit, other_units}
 pub use Rattle.cmm_meaning.proofs.Labels.{all_datums, among_append, datums_length, items_length}
 pub use Rattle.cmm_meaning.proofs.Together.{programs_are_in_range}
+pub use Rattle.cmm_meaning.proofs.OfBytes.{texts_are_bytes, are_read, read_texts_are_bytes, read_programs_are_in_range}
 pub use Rattle.cmm_meaning.proofs.Naming.{same_name, again_head, again_rest}
 pub use Rattle.cmm_meaning.proofs.MarkNumbers.{declared_once}
 pub use Rattle.cmm_meaning.proofs.Keeping.{within}

@@ -25,7 +25,7 @@ use Rattle.cmm_meaning.specs.Meaning.{item_procedures, unit_procedures, procedur
 use Rattle.cmm_meaning.specs.Laws.{StartHasNoFormals}
 use Rattle.cmm_meaning.proofs.Nothing.{no_left, no_right, no_unless, first_unit, other_units, unbroken, names_kept}
 use Rattle.cmm_meaning.proofs.Cycles.{one_name, own_is}
-use Rattle.cmm_meaning.proofs.Registers.{among_append}
+use Rattle.cmm_accepted.proofs.Shared.{among_append}
 use Rattle.cmm_meaning.proofs.Entries.{EachEntry, EachUnit, entries_append, decl_holds, found_each}
 
 -- ---- how many formals each procedure has, in the order of the procedures

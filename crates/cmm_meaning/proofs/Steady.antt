@@ -1,6 +1,6 @@
 -- A spelling takes tokens from the front of those that are left: as many as it counts.
 use mathlib.Core.Former.{one_more}
-use Rattle.std.proofs.Common.{◌≡◌, ℕ, suc, ◌+◌, ◌≤◌, refl, sym, ap, ◌∙◌, subst, Bool, true, false, List, [], ◌∷◌, Option, Some, None, arith, length}
+use Rattle.std.proofs.Common.{◌≡◌, ℕ, suc, ◌+◌, ◌≤◌, refl, sym, ap, ◌∙◌, subst, Bool, true, false, List, [], ◌∷◌, ◌++◌, append_assoc, Option, Some, None, arith, length}
 use Rattle.std.specs.Prelude.{nat_le, nat_lt, ◌==◌}
 use Rattle.std.proofs.lemmas.Bool.{eqb-true}
 use Rattle.cmm_lexer.specs.declared.piece.Lexeme.{Lexeme}
@@ -27,19 +27,24 @@ use Rattle.cmm_ast.specs.Taking.{Reading, Takes, ◌⨾◌, token, is_name, is_t
 use Rattle.cmm_ast.specs.ExpressionGrammar.{width_word, infix_symbol, prefix_symbol, unary_level, left_level, right_level, ident, text, int, type_form, type_name, number_of, aligned_by, level_of, binds, expr_form, operand, operand_list, more_operands, prim_form, memory, expr, prim, whole, whole_prim, whole_memory}
 use Rattle.cmm_meaning.proofs.Derived.{middle}
 
--- from one reading to another, so many tokens were taken from the front
+-- from one reading to another, so many tokens were taken from the front, and what is left is the end of what was
 pub record Moves (r s : Reading) : Type 0 where
   pub grows : r.taken ≤ s.taken
   pub kept : s.taken + length s.left ≡ r.taken + length r.left
+  pub suffix : (front : List Lexeme) × (r.left ≡ front ++ s.left)
 
 abbrev pub IsSteady : Takes → Type 0
 IsSteady p = (r s : Reading) → p r ≡ Some s → Moves r s
 
 stays : (r s : Reading) → s.taken ≡ r.taken → s.left ≡ r.left → Moves r s
-stays r s t l = record { grows = omega arith; kept = ap (λ n. n + length s.left) t ∙ ap (λ xs. r.taken + length xs) l }
+stays r s t l = record { grows = omega arith; kept = ap (λ n. n + length s.left) t ∙ ap (λ xs. r.taken + length xs) l; suffix = ([], sym l) }
 
 pub after : (r m s : Reading) → Moves r m → Moves m s → Moves r s
-after r m s a b = record { grows = let h : r.taken ≤ m.taken = a.grows in let k : m.taken ≤ s.taken = b.grows in omega arith; kept = b.kept ∙ a.kept }
+after r m s a b = record {
+  grows = let h : r.taken ≤ m.taken = a.grows in let k : m.taken ≤ s.taken = b.grows in omega arith;
+  kept = b.kept ∙ a.kept;
+  suffix = (a.suffix.0 ++ b.suffix.0, a.suffix.1 ∙ ap (λ xs. a.suffix.0 ++ xs) b.suffix.1 ∙ sym (append_assoc a.suffix.0 b.suffix.0 s.left));
+}
 
 same_reading : (r s : Reading) → Some r ≡ Some s → r ≡ s
 same_reading r s is = cc
@@ -63,7 +68,7 @@ one_taken : (test : Lexeme → Bool) (left : List Lexeme) (r s : Reading) → r.
 one_taken test [] r s l is = let bad : None ≡ Some s = is in cc
 one_taken test (x ∷ xs) r s l is =
     chosen (test x) r record r { left = xs; taken = suc r.taken } s is
-    (record { grows = omega arith; kept = let e : length r.left ≡ suc (length xs) = ap length l in omega arith })
+    (record { grows = omega arith; kept = let e : length r.left ≡ suc (length xs) = ap length l in omega arith; suffix = (x ∷ [], l) })
 
 next_by : (test : Lexeme → Bool) (left : List Lexeme) (r s : Reading) →
     ◌≡◌ {A = Option Reading} (elim left [ [] ↦ None | x ∷ xs ↦ elim (test x) [ true ↦ Some record r { left = xs; taken = suc r.taken } | false ↦ None ] ]) (Some s) → s.taken ≡ suc r.taken
@@ -110,7 +115,7 @@ steady_operator p h r s is =
     changed p (λ m. record m { operators = suc m.operators; over = first_over m.over (nat_lt 500 (suc m.operators)) r.taken }) (λ m. stays m _ refl refl) r s h is
 
 pub steady_outermost : (p : Takes) → IsSteady p → IsSteady (outermost p)
-steady_outermost p h r s is = let m = h record r { operators = 0 } s is in record { grows = m.grows; kept = m.kept }
+steady_outermost p h r s is = let m = h record r { operators = 0 } s is in record { grows = m.grows; kept = m.kept; suffix = m.suffix }
 
 steady_brackets : (opens : Symbol) (p : Takes) (closes : Symbol) → IsSteady p → IsSteady (in_brackets opens p closes)
 steady_brackets opens p closes h =

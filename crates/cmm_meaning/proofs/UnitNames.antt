@@ -22,6 +22,7 @@ use Rattle.cmm_accepted.specs.Scopes.{width_in, unit_senses}
 use Rattle.cmm_accepted.specs.Expressions.{type_spots}
 use Rattle.cmm_accepted.specs.Units.{width_spots, register_spots, entry_spots}
 use Rattle.cmm_accepted.specs.Faults.{AreAccepted, each_unit, declaration_spots, register_widths}
+use Rattle.cmm_accepted.proofs.Shared.{among_append, among_in_order}
 use Rattle.cmm_meaning.specs.Meaning.{meaning_of, register_width, global_of}
 use Rattle.cmm_meaning.specs.Fitting.{NamesFit}
 use Rattle.cmm_meaning.specs.Laws.{NamesAreThere}
@@ -32,7 +33,7 @@ use Rattle.cmm_meaning.proofs.Widths.{own_width}
 use Rattle.cmm_meaning.proofs.Cycles.{found_at}
 use Rattle.cmm_meaning.proofs.Entries.{EachUnit, unit_each, UnitFits, units_fit, procedures_length, labels_length, counted_in, all_published, some_procedure}
 use Rattle.cmm_meaning.proofs.Declaring.{type_wide, unit_fits}
-use Rattle.cmm_meaning.proofs.Registers.{name_at, among_append, distinct_keeps, found_left, found_right, found_among, register_found, found_width}
+use Rattle.cmm_meaning.proofs.Registers.{name_at, found_left, found_right, found_among, register_found, found_width}
 
 or_true : (b : Bool) → (b || true) ≡ true
 or_true true = refl
@@ -224,7 +225,7 @@ module _ (us : List UnitTree) (accepted : AreAccepted us) where
       let names = flat_map (λ v. map (λ d. d.name.name) (registers_of v)) units in
       let in_ : is_among name names ≡ true =
       ap (λ vs. is_among name (flat_map (λ v. map (λ d. d.name.name) (registers_of v)) vs)) is ∙ among earlier later u name t w own wide none apart in
-      let there : slice_get program.registers (register_number program name) ≡ Some name = name_at name program.registers (distinct_keeps name [] names in_ refl) in
+      let there : slice_get program.registers (register_number program name) ≡ Some name = name_at name program.registers (among_in_order name names ∙ in_) in
       ap (λ o. elim o as (λ x. Bool) [ Some g ↦ same_width g.width w | None ↦ false ])
       (slice_get-map (global_of units) program.registers (register_number program name) ∙ ap (option_map (global_of units)) there)
       ∙ ap (λ vs. same_width (register_width (flat_map register_widths vs) name) w) is

@@ -36,15 +36,15 @@ row_data : meaning_of (unit_of (codes "export main, d as \"data\", d; section \"
 unfolding opened
 row_data = refl
 
--- registers of one name are one register; an import names what another unit exports
+-- registers of one name are one register, and stand by their names; an import names what another unit exports
 row_two_units : meaning_of (
-    unit_of (codes "register bits8 p, q; import \"ff\" as f; export main; main() { f(p, r); return (0); } register bits32 r;")
-    ∷ unit_of (codes "register bits64 s; register bits8 q; export f as \"ff\"; f(bits8 x, bits32 y) { s = 1; return; }") ∷ []) ≡ record (program (
+    unit_of (codes "register bits8 s, q; import \"ff\" as f; export main; main() { f(s, r); return (0); } register bits32 r;")
+    ∷ unit_of (codes "register bits64 p; register bits8 q; export f as \"ff\"; f(bits8 x, bits32 y) { p = 1; return; }") ∷ []) ≡ record (program (
     procedure (codes "main") 17 0 0 (call_site [] ∷ []) (
-    is 7 (f.Call 0 (code 1) (e.Register 0 W8 ∷ e.Register 2 W32 ∷ [])) ∷ is 5 (f.Return 0 0 (num 0 ∷ [])) ∷ [])
+    is 7 (f.Call 0 (code 1) (e.Register 3 W8 ∷ e.Register 2 W32 ∷ [])) ∷ is 5 (f.Return 0 0 (num 0 ∷ [])) ∷ [])
     ∷ record (procedure (codes "f") 16 2 0 [] (
-    is 4 (f.Assign (lvalue.Target (Register 3 W64) ∷ []) (num 1 ∷ [])) ∷ is 2 (f.Return 0 0 []) ∷ [])) { unit = 1; vars = plain W8 ∷ plain W32 ∷ [] } ∷ [])) {
-      globals = global (codes "p") W8 ∷ global (codes "q") W8 ∷ global (codes "r") W32 ∷ global (codes "s") W64 ∷ [];
+    is 4 (f.Assign (lvalue.Target (Register 0 W64) ∷ []) (num 1 ∷ [])) ∷ is 2 (f.Return 0 0 []) ∷ [])) { unit = 1; vars = plain W8 ∷ plain W32 ∷ [] } ∷ [])) {
+      globals = global (codes "p") W64 ∷ global (codes "q") W8 ∷ global (codes "r") W32 ∷ global (codes "s") W8 ∷ [];
     }
 unfolding opened
 row_two_units = refl

@@ -1,14 +1,18 @@
--- How many tokens what stands in a unit has at least: a datum one, and a procedure as many as it counts. So counts of procedures, data and labels come
--- to at most the tokens of units that derive as many as they have places for.
-use Rattle.std.proofs.Common.{◌≡◌, ℕ, suc, ◌+◌, ◌-◌, ◌<◌, ◌≤◌, refl, sym, ap, ◌∙◌, subst, List, [], ◌∷◌, ◌++◌, Option, Some, None, arith, length}
+-- How many tokens what stands in a unit has at least: a datum one, a procedure as many as it counts, and an export two. So counts of procedures, data,
+-- labels and exports come to at most the tokens of units that derive as many as they have places for.
+use Rattle.std.proofs.Common.{◌≡◌, ℕ, suc, ◌+◌, ◌*◌, ◌-◌, ◌<◌, ◌≤◌, refl, sym, ap, ◌∙◌, subst, List, [], ◌∷◌, ◌++◌, Option, Some, None, arith, length}
 use Rattle.std.specs.Prelude.{flat_map, sum_by}
 use Rattle.std.proofs.lemmas.Bool.{and_parts, leb-true}
 use Rattle.std.proofs.lemmas.List.Elements.{All-head, All-tail}
 use Rattle.cmm_lexer.specs.declared.piece.Lexeme.{Lexeme}
 use Rattle.cmm_lexer.specs.declared.keyword.Keyword.{Keyword}
-use Rattle.cmm_lexer.specs.declared.keyword.Keyword.TheVariants.{Align, Section as SectionWord, Span as SpanWord}
+use Rattle.cmm_lexer.specs.declared.keyword.Keyword.TheVariants.{Align, As, Export as ExportWord, Section as SectionWord, Span as SpanWord}
 use Rattle.cmm_lexer.specs.declared.symbol.Symbol.{Symbol}
 use Rattle.cmm_lexer.specs.declared.symbol.Symbol.TheVariants as sign
+use Rattle.cmm_ast.specs.declared.declaration.Decl.{Decl}
+use Rattle.cmm_ast.specs.declared.declaration.DeclForm.{DeclForm}
+use Rattle.cmm_ast.specs.declared.declaration.DeclForm.TheVariants as decls
+use Rattle.cmm_ast.specs.declared.declaration.Export.{Export}
 use Rattle.cmm_ast.specs.declared.procedure.Proc.{Proc as ProcTree}
 use Rattle.cmm_ast.specs.declared.unit.DatumForm.{DatumForm}
 use Rattle.cmm_ast.specs.declared.unit.DatumForm.TheVariants as data_forms
@@ -18,28 +22,32 @@ use Rattle.cmm_ast.specs.declared.unit.TopLevel.{TopLevel}
 use Rattle.cmm_ast.specs.declared.unit.TopLevel.TheVariants as tops
 use Rattle.cmm_ast.specs.declared.unit.Unit.{Unit as UnitTree}
 use Rattle.cmm_ast.specs.Derivation.{Derives, at_start}
-use Rattle.cmm_ast.specs.Taking.{Reading, Takes, ◌⨾◌, token, is_name, keyword, symbol, here, opening, round, braces, many, may_list}
+use Rattle.cmm_ast.specs.Taking.{Reading, Takes, ◌⨾◌, token, is_name, keyword, symbol, here, opening, round, braces, optional, many, commas, listed, may_comma, may_list}
 use Rattle.cmm_ast.specs.ExpressionGrammar.{ident, text, int, type_name, whole, whole_prim}
 use Rattle.cmm_ast.specs.StatementGrammar.{formal, block, proc}
-use Rattle.cmm_ast.specs.UnitGrammar.{count, initial, datum_form, item, item_row, top_level}
+use Rattle.cmm_ast.specs.UnitGrammar.{count, decl, decl_form, export_name, initial, datum_form, item, item_row, top_level}
+use Rattle.cmm_accepted.specs.Faults.{AreAccepted}
 use Rattle.cmm_accepted.specs.Items.{SpanTree, Within, item_within, items_within, top_items, items_of}
 use Rattle.cmm_accepted.specs.Declarations.{NamedUnit, named_units, units_from, procs_in, labels_in, sum_of}
-use Rattle.cmm_accepted.specs.Linking.{Program as Linked, program_of}
+use Rattle.cmm_accepted.specs.Linking.{Program as Linked, decl_exports, item_exports, program_of}
 use Rattle.cmm_accepted.specs.Limits.{over_units, over_procs, token_count}
 use Rattle.cmm_meaning.specs.Data.{datums_in, datums_among}
 use Rattle.cmm_meaning.specs.Meaning.{meaning_of}
 use Rattle.cmm_meaning.specs.Laws.{AreRead, CountsAreKept}
+use Rattle.cmm_meaning.specs.Room.{RoomIsKept}
 use Rattle.cmm_meaning.proofs.Nothing.{unbroken}
 use Rattle.cmm_meaning.proofs.Entries.{counted_in, sum_append, labels_length}
+use Rattle.cmm_meaning.proofs.Exporting.{export_count, links, links_few}
 use Rattle.cmm_meaning.proofs.Labels.{all_datums, datums_length}
 use Rattle.cmm_meaning.proofs.Sums.{units_sum}
 use Rattle.cmm_meaning.proofs.Derived.{middle}
-use Rattle.cmm_meaning.proofs.Steady.{IsSteady, here_is, next_token, steady_keyword, steady_symbol, steady_opening, steady_type, steady_ident, steady_int, steady_whole, steady_primary, steady_text, steady_then}
+use Rattle.cmm_meaning.proofs.Steady.{IsSteady, here_is, next_token, steady_keyword, steady_symbol, steady_opening, steady_type, steady_ident, steady_int, steady_whole, steady_primary, steady_text, steady_then, steady_optional, steady_comma}
 use Rattle.cmm_meaning.proofs.SteadyUnits.{steady_proc, steady_decl, steady_count, steady_initial, steady_unit}
 
 abbrev weight : Item → ℕ
 weight (items.Proc p) = p.past - p.name.token
 weight (items.Datum d) = 1
+weight (items.Decl d) = 2 * length (decl_exports d.form)
 weight _ = 0
 
 abbrev weights : List (Within Item) → ℕ
@@ -88,6 +96,48 @@ datum_strict (data_forms.Data width many_ first) r s is =
     let b : m.at_.taken ≤ n.at_.taken = (steady_count many_ m.at_ n.at_ n.first).grows in
     let c : suc n.at_.taken ≤ s.taken = ends_strict (initial first) sign.Semicolon (steady_initial first) n.at_ s n.next in omega arith
 
+-- an export has a name, and a comma or a semicolon behind it
+export_strict : (e : Export) (r s : Reading) → export_name e r ≡ Some s → suc r.taken ≤ s.taken
+export_strict e r s is =
+    let link = optional (λ t. keyword As ⨾ text t) e.link in
+    let m = middle (ident e.name r) link s is in
+    let h = middle (here e.name.token r) (token (is_name e.name.name)) m.at_ m.first in
+    let same : r.taken ≡ h.at_.taken = ap (λ x. x.taken) (here_is e.name.token r h.at_ h.first).1 in
+    let name : m.at_.taken ≡ suc h.at_.taken = next_token _ h.at_ m.at_ h.next in
+    let grows : m.at_.taken ≤ s.taken =
+    (steady_optional (λ t. keyword As ⨾ text t) (λ t. steady_then (keyword As) (text t) (steady_keyword As) (steady_text t)) e.link m.at_ s m.next).grows in
+    omega arith
+
+exports_weigh : (es : List Export) (r s : Reading) → commas export_name es r ≡ Some s → r.taken + 2 * length es ≤ suc s.taken
+exports_weigh [] r s is = let bad : None ≡ Some s = is in cc
+exports_weigh (e ∷ []) r s is = omega (arith, export_strict e r s is)
+exports_weigh (e ∷ f ∷ rest) r s is =
+    let m = middle (export_name e r) (symbol sign.Comma ⨾ commas export_name (f ∷ rest)) s is in
+    let n = middle (symbol sign.Comma m.at_) (commas export_name (f ∷ rest)) s m.next in
+    let a : suc r.taken ≤ m.at_.taken = export_strict e r m.at_ m.first in
+    let b : n.at_.taken ≡ suc m.at_.taken = next_token _ m.at_ n.at_ n.first in
+    let c : n.at_.taken + 2 * length (f ∷ rest) ≤ suc s.taken = exports_weigh (f ∷ rest) n.at_ s n.next in omega arith
+
+form_weighs : (form : DeclForm) (r s : Reading) → decl_form form r ≡ Some s → r.taken ≤ s.taken → r.taken + 2 * length (decl_exports form) ≤ s.taken
+form_weighs (decls.Export width exports) r s is grows =
+    let a = middle (keyword ExportWord r) (optional type_name width ⨾ listed export_name exports ⨾ symbol sign.Semicolon) s is in
+    let b = middle (optional type_name width a.at_) (listed export_name exports ⨾ symbol sign.Semicolon) s a.next in
+    let c = middle (listed export_name exports b.at_) (symbol sign.Semicolon) s b.next in
+    let d = middle (commas export_name exports b.at_) may_comma c.at_ c.first in
+    let one : a.at_.taken ≡ suc r.taken = next_token _ r a.at_ a.first in
+    let two : a.at_.taken ≤ b.at_.taken = (steady_optional type_name steady_type width a.at_ b.at_ b.first).grows in
+    let three : b.at_.taken + 2 * length exports ≤ suc d.at_.taken = exports_weigh exports b.at_ d.at_ d.first in
+    let four : d.at_.taken ≤ c.at_.taken = (steady_comma d.at_ c.at_ d.next).grows in
+    let five : s.taken ≡ suc c.at_.taken = next_token _ c.at_ s c.next in omega arith
+form_weighs form r s is grows = omega (arith, grows)
+
+decl_weighs : (d : Decl) (r s : Reading) → decl d r ≡ Some s → r.taken + 2 * length (decl_exports d.form) ≤ s.taken
+decl_weighs d r s is =
+    let m = middle (here d.token r) (decl_form d.form) s is in
+    let same : r.taken ≡ m.at_.taken = ap (λ x. x.taken) (here_is d.token r m.at_ m.first).1 in
+    let grows : r.taken ≤ s.taken = (steady_decl d r s is).grows in
+    omega (arith, form_weighs d.form m.at_ s m.next (omega arith))
+
 -- what stands between braces
 pub record Inside (p : Takes) (r s : Reading) : Type 0 where
   pub from : Reading
@@ -110,7 +160,7 @@ inside_of p r s is =
 
 mutual
   item_weighs : (spans : List SpanTree) (i : Item) (r s : Reading) → item i r ≡ Some s → r.taken + weights (item_within spans i) ≤ s.taken
-  item_weighs spans (items.Decl d) r s is = let h : r.taken ≤ s.taken = (steady_decl d r s is).grows in omega arith
+  item_weighs spans (items.Decl d) r s is = omega (arith, decl_weighs d r s is)
   item_weighs spans (items.Proc p) r s is = let h : r.taken + (p.past - p.name.token) ≤ s.taken = proc_weighs p r s is in omega arith
   item_weighs spans (items.Datum d) r s is =
       let m = middle (here d.token r) (datum_form d.form) s is in let same = (here_is d.token r m.at_ m.first).1 in
@@ -156,7 +206,7 @@ top_weighs (tops.Section x) r s is =
     let two : b.at_.taken ≤ c.at_.taken = (steady_text x.name b.at_ c.at_ c.first).grows in
     let low : c.at_.taken ≤ i.from.taken = i.low in let high : i.to.taken ≤ s.taken = i.high in
     let inside_ : i.from.taken + weights (flat_map (item_within []) x.items) ≤ i.to.taken = section_weighs x.items i.from i.to i.is in omega arith
-top_weighs (tops.Decl d) r s is = let h : r.taken ≤ s.taken = (steady_decl d r s is).grows in omega arith
+top_weighs (tops.Decl d) r s is = omega (arith, decl_weighs d r s is)
 top_weighs (tops.Proc p) r s is = let h : r.taken + (p.past - p.name.token) ≤ s.taken = proc_weighs p r s is in omega arith
 
 tops_weigh : (ts : List TopLevel) (r s : Reading) → many top_level ts r ≡ Some s → r.taken + weights (flat_map top_items ts) ≤ s.taken
@@ -248,13 +298,46 @@ procs_weigh program [] = omega arith
 procs_weigh program (u ∷ us) = let a : over_procs of_procs u.items ≤ weights u.items = procs_among u.items in
     let b : over_units program (λ names v. over_procs of_procs v.items) us ≤ all_weights us = procs_weigh program us in omega arith
 
-pub counts_are_kept : CountsAreKept
-counts_are_kept us accepted read =
+-- procedures, labels and exports together
+kinds_weigh : (i : Item) → (elim i as (λ x. ℕ) [ items.Proc p ↦ p.past - p.name.token | _ ↦ 0 ]) + 2 * export_count i + labels_in i ≤ weight i
+kinds_weigh (items.Decl d) = omega arith
+kinds_weigh (items.Proc p) = omega arith
+kinds_weigh (items.Datum d) = omega (arith, label_light d.form d.token)
+kinds_weigh (items.Span' first key value size inner) = omega arith
+
+kinds_among : (is : List (Within Item)) → over_procs of_procs is + 2 * sum_of export_count is + sum_of labels_in is ≤ weights is
+kinds_among [] = omega arith
+kinds_among (i ∷ is) = omega (arith, kinds_weigh i.what, kinds_among is)
+
+kinds_together : (program : Linked) (us : List NamedUnit) →
+    over_units program (λ names u. over_procs of_procs u.items) us + 2 * counted_in export_count us + counted_in labels_in us ≤ all_weights us
+kinds_together program [] = omega arith
+kinds_together program (u ∷ us) = omega (arith, kinds_among u.items, kinds_together program us)
+
+few_tokens : (us : List UnitTree) → AreAccepted us → AreRead us → all_weights (named_units us) ≤ 1000000
+few_tokens us accepted read =
     let ns = named_units us in let program = program_of ns in let sums = (unbroken us accepted).sums in
     let few : over_units program token_count ns ≤ 1000000 =
     leb-true (over_units program token_count ns) 1000000 (and_parts _ _ (and_parts _ _ (and_parts _ _ (and_parts _ _ (and_parts _ _ (and_parts _ _ sums).0).0).0).0).0).1 in
-    let all : all_weights ns ≤ over_units program token_count ns = read_weigh program 0 0 us read in
-    let total : all_weights ns ≤ 1000000 = omega arith in
+    let all : all_weights ns ≤ over_units program token_count ns = read_weigh program 0 0 us read in omega arith
+
+in_all : (tokens procs names exports labels many most : ℕ) → tokens ≡ procs → names ≤ exports → labels ≡ many → procs + 2 * exports + many ≤ most → most ≤ 1000000 →
+    tokens + 2 * names + labels ≤ 1000000
+in_all tokens procs names exports labels many most t n l together few = omega arith
+
+pub room_is_kept : RoomIsKept
+room_is_kept us accepted read =
+    let ns = named_units us in let program = program_of ns in
+    let tokens : sum_by (λ q. q.tokens) (meaning_of us).procs ≡ over_units program (λ names u. over_procs of_procs u.items) ns =
+    units_sum (λ q. q.tokens) (λ names around p. of_procs around p) (λ names unit around p. refl) program 0 ns in
+    let names : links (meaning_of us).labels ≤ counted_in export_count ns = links_few us accepted in
+    let labels : length (meaning_of us).labels ≡ counted_in labels_in ns = labels_length 0 0 0 us in
+    in_all _ _ _ _ _ _ _ tokens names labels (kinds_together program ns) (few_tokens us accepted read)
+
+pub counts_are_kept : CountsAreKept
+counts_are_kept us accepted read =
+    let ns = named_units us in let program = program_of ns in
+    let total : all_weights ns ≤ 1000000 = few_tokens us accepted read in
     let tokens : sum_by (λ q. q.tokens) (meaning_of us).procs ≡ over_units program (λ names u. over_procs of_procs u.items) ns =
     units_sum (λ q. q.tokens) (λ names around p. of_procs around p) (λ names unit around p. refl) program 0 ns in
     let own : over_units program (λ names u. over_procs of_procs u.items) ns ≤ all_weights ns = procs_weigh program ns in

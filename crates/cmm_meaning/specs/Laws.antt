@@ -1,8 +1,13 @@
 -- What holds of the program that units mean.
-use Rattle.std.specs.Prelude.{◌≡◌, ℕ, suc, ◌+◌, ◌^◌, ◌<◌, ◌≤◌, ◌&&◌, nat_le, Bool, true, false, IsTrue, All, List, [], length, sum_by, ◌*◌, slice_get, Option, Some, None}
+use Rattle.std.specs.Prelude.{◌≡◌, ℕ, suc, ◌+◌, ◌^◌, ◌<◌, ◌≤◌, ◌&&◌, nat_le, Bool, true, false, IsTrue, All, List, [], length, map, sum_by, ◌*◌, slice_get, Option, Some, None}
 use Rattle.std.specs.List.{list_all, range_with_len}
+use Rattle.std.specs.List.Sorted.{IsStrictlySortedBy}
+use Rattle.std.specs.Cmp.Lexicographic.{slice_cmp}
+use Rattle.std.specs.Ordering.{nat_cmp}
 use Rattle.std.specs.Option.{is_some}
 use Rattle.cmm_lexer.specs.declared.piece.Lexeme.{Lexeme}
+use Rattle.cmm_lexer.specs.Laws.{AreBytes, IsOfBytes}
+use Rattle.cmm_lexer.specs.Lexing.{tokens_of}
 use Rattle.cmm_ast.specs.Derivation.{Derives}
 use Rattle.cmm_ast.specs.declared.unit.Unit.{Unit as UnitTree}
 use Rattle.cmm_words.specs.declared.width.Width.{Width}
@@ -127,6 +132,10 @@ LabelsAreThere = (us : List UnitTree) → AreAccepted us → IsTrue (list_all (i
 abbrev pub RegisterNamesAreShort : Type 0
 RegisterNamesAreShort = (us : List UnitTree) → AreAccepted us → IsTrue (list_all (λ g. is_name g.name) (meaning_of us).globals)
 
+-- the registers of any units are in the order of their names, by bytes, each name once
+abbrev pub RegistersAscend : Type 0
+RegistersAscend = (us : List UnitTree) → IsStrictlySortedBy (slice_cmp nat_cmp) (map (λ g. g.name) (meaning_of us).globals)
+
 -- the data of all units ends at most 64 MiB behind where it begins, before the first datum
 abbrev pub DataFits : Type 0
 DataFits = (us : List UnitTree) → AreAccepted us → let p = meaning_of us in end_before p (length p.datums) ≤ end_before p 0 + 67108864
@@ -206,5 +215,22 @@ StatementsHaveShortest = (us : List UnitTree) → AreAccepted us → AreDerived 
 abbrev pub ProceduresHaveShortest : Type 0
 ProceduresHaveShortest = (us : List UnitTree) → AreAccepted us → AreDerived us → All (λ q. procedure_tokens q ≤ q.tokens) (meaning_of us).procs
 
+-- each unit derives some tokens that are of bytes
+abbrev pub AreOfBytes : List UnitTree → Type 0
+AreOfBytes us = All (λ u. (tokens : List Lexeme) × (Derives tokens u × All IsOfBytes tokens)) us
+
+abbrev pub TextsComeFromTokens : Type 0
+TextsComeFromTokens = (us : List UnitTree) → AreOfBytes us → TextsAreBytes us
+
 abbrev pub ProgramsAreInRange : Type 0
 ProgramsAreInRange = (us : List UnitTree) → AreAccepted us → AreRead us → TextsAreBytes us → IsInRange (meaning_of us)
+
+-- a unit is read from bytes: it derives the tokens that they make, and has a place for each of these and for its end
+pub record IsReadFromBytes (u : UnitTree) : Type 0 where
+  pub bytes : List ℕ
+  pub are_bytes : AreBytes bytes
+  pub derives : Derives (map (λ t. t.lexeme) (tokens_of bytes)) u
+  pub places : length u.places ≡ suc (length (tokens_of bytes))
+
+abbrev pub ReadProgramsAreInRange : Type 0
+ReadProgramsAreInRange = (us : List UnitTree) → AreAccepted us → All IsReadFromBytes us → IsInRange (meaning_of us)

@@ -6,3 +6,4 @@ pub mod Data
 pub mod Meaning
 pub mod Fitting
 pub mod Laws
+pub mod Room

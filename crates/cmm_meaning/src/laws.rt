@@ -1,6 +1,7 @@
 //! What holds of the program that units mean. Each law is the contract of a function that does nothing. Together they make a program in range.
 
-ghost use Rattle.cmm_meaning.specs.Laws.{BodiesAreCounted, CountsAreKept, DataFits, DatumsAreInRange, FormsAreInRange, LabelsAreThere, LimitsAreKept, MarksAreInOrder, NamesAreShort, NamesAreThere, NamesAreWhole, ProceduresHaveShortest, ProgramsAreInRange, RangesAreApart, RegisterNamesAreShort, ScopesFit, SitesAreInOrder, SitesAreThere, StackdataFits, StartHasNoFormals, StatementsHaveShortest, StatementsKeepRules, WaysAreThere, WidthsAreKept};
+ghost use Rattle.cmm_meaning.specs.Laws.{BodiesAreCounted, CountsAreKept, DataFits, DatumsAreInRange, FormsAreInRange, LabelsAreThere, LimitsAreKept, MarksAreInOrder, NamesAreShort, NamesAreThere, NamesAreWhole, ProceduresHaveShortest, ProgramsAreInRange, RangesAreApart, ReadProgramsAreInRange, RegisterNamesAreShort, RegistersAscend, ScopesFit, SitesAreInOrder, SitesAreThere, StackdataFits, StartHasNoFormals, StatementsHaveShortest, StatementsKeepRules, TextsComeFromTokens, WaysAreThere, WidthsAreKept};
+ghost use Rattle.cmm_meaning.specs.Room.{RoomIsKept};
 
 /// In the program of any units, the call sites of a procedure stand in its body once each, in textual order, from number 0 on.
 pub fn sites_are_in_order()
@@ -75,6 +76,11 @@ pub fn register_names_are_short()
     ensures { RegisterNamesAreShort }
 {}
 
+/// In the program of any units, registers are numbered by their names: these ascend by bytes, each once.
+pub fn registers_ascend()
+    ensures { RegistersAscend }
+{}
+
 /// The data of accepted units takes at most 64 MiB, with its padding.
 pub fn data_fits()
     ensures { DataFits }
@@ -109,6 +115,12 @@ pub fn forms_are_in_range()
     ensures { FormsAreInRange }
 {}
 
+/// In the program of accepted units that derive as many tokens as they have places for, the tokens of procedures come with two for each name under which
+/// a data label is exported, and one for each label, to at most 1,000,000.
+pub fn room_is_kept()
+    ensures { RoomIsKept }
+{}
+
 /// In the program of accepted units that derive as many tokens as they have places for, procedures have at most a million tokens together, and datums
 /// and labels are fewer than 2 to the 32.
 pub fn counts_are_kept()
@@ -131,7 +143,17 @@ pub fn procedures_have_shortest()
     ensures { ProceduresHaveShortest }
 {}
 
+/// In units that derive tokens of bytes, each text that data begins with is of bytes.
+pub fn texts_are_bytes()
+    ensures { TextsComeFromTokens }
+{}
+
 /// The program of accepted units is in range, where the units derive as many tokens as they have places for, and their texts are of bytes.
 pub fn programs_are_in_range()
     ensures { ProgramsAreInRange }
+{}
+
+/// The program of accepted units is in range, where each unit derives the tokens that some bytes make, and has a place for each of them and for its end.
+pub fn read_programs_are_in_range()
+    ensures { ReadProgramsAreInRange }
 {}

@@ -2,7 +2,7 @@
 //!
 //! It is a function of the units, `specs/Meaning.meaning_of`, which goes over their trees with the definitions of `cmm_accepted`: names are
 //! replaced by numbers, call sites, labels, continuations and variables are numbered in textual order, each statement has the count of its own
-//! tokens and each site the spans around it, data and labels of all units stand in one list, and registers of one name are one. It computes:
+//! tokens and each site the spans around it, data and labels of all units stand in one list, and registers of one name are one, numbered by the names. It computes:
 //! `proofs/*Rows.antt` has units as text with their programs. Where units break a rule it says something that nobody asks for.
 //!
 //! - `laws`: what holds of the program of accepted units.

@@ -25,7 +25,7 @@ use Rattle.cmm_static.proofs.PlacedOrder.{placed_order, first_broken_by_all}
 links_flat : (us : List NamedUnit) → flat_map export_links us ≡ links_before (map flat_unit us)
 links_flat us = sym (flat_map-map flat_links flat_unit us)
 
-widths_flat : (us : List NamedUnit) → flat_map register_widths us ≡ widths_before (map flat_unit us)
+pub widths_flat : (us : List NamedUnit) → flat_map register_widths us ≡ widths_before (map flat_unit us)
 widths_flat us = sym (flat_map-map flat_widths flat_unit us)
 
 names_flat : (us earlier : List NamedUnit) (u : NamedUnit) → name_spots us earlier u ≡ flat_name_spots (exported_links (program_of us)) (links_before (map flat_unit earlier)) (flat_unit u)

@@ -2,11 +2,12 @@
 use Rattle.std.proofs.Common.{◌≡◌, ℕ, zero, suc, ◌+◌, ◌<◌, length, map, take, drop, get_or, refl, ap, sym, ◌∙◌, List, [], ◌∷◌, ◌++◌, append_assoc, arith}
 use Rattle.std.specs.Prelude.{flat_map}
 use Rattle.std.proofs.Math.Seq.{drop-cons}
+use Rattle.std.proofs.lemmas.List.{length-map}
 use Rattle.std.proofs.lemmas.List.Folds.{flat_map-map}
 use Rattle.cmm_ast.specs.declared.declaration.Export.{Export}
 use Rattle.cmm_ast.specs.declared.unit.Unit.{Unit as UnitTree}
 use Rattle.cmm_accepted.specs.Items.{items_of}
-use Rattle.cmm_accepted.specs.Declarations.{Declared, Entry, procs_in, labels_in, entries_from, sum_of, units_from}
+use Rattle.cmm_accepted.specs.Declarations.{Declared, Entry, NamedUnit, procs_in, labels_in, entries_from, sum_of, units_from}
 use Rattle.cmm_accepted.specs.Linking.{item_exports}
 use Rattle.cmm_names.specs.Shown.{alone, thing_item, whats}
 use Rattle.cmm_names.specs.declared.thing.Thing.{Thing}
@@ -42,6 +43,10 @@ units_next before f whole p l p' l' ts us k u within is flat items procs labels 
 pub units_are_as_many : (p l : ℕ) (us : List UnitTree) → length (units_from p l us) ≡ length us
 units_are_as_many p l [] = refl
 units_are_as_many p l (u ∷ us) = ap (λ n. suc n) (units_are_as_many (p + sum_of procs_in (items_of u)) (l + sum_of labels_in (items_of u)) us)
+
+-- as many units as are laid flat
+pub as_many : {A : Type 0} (h : A → Flat) (xs : List A) (us : List NamedUnit) → map h xs ≡ map flat_unit us → length us ≡ length xs
+as_many h xs us same = sym (length-map us flat_unit) ∙ ap length (sym same) ∙ length-map xs h
 
 -- where two lists show the same, so do their items at one place
 pub same_at : {A B C : Type 0} (f : A → C) (g : B → C) (xs : List A) (ys : List B) (k : ℕ) (x : A) → map f xs ≡ map g ys → k < length xs → x ≡ get_or xs k x →

@@ -4,3 +4,4 @@ pub mod Cyclic
 pub mod Units
 pub mod Totals
 pub mod Found
+pub mod Following

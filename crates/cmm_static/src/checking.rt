@@ -1,25 +1,29 @@
-//! Which fault is named of units.
+//! Which fault is named of units, and what program they mean where none is.
 
-ghost use Rattle.std.specs.Prelude.{◌≡◌, ◌<◌, ◌^◌, List, map, length, IfOk, OnOk, IfErr};
+ghost use Rattle.std.specs.Prelude.{◌≡◌, ◌<◌, ◌^◌, List, map, length, IfOk, IfErr};
 ghost use Rattle.cmm_accepted.specs.Declarations.{NamedUnit, named_units};
 ghost use Rattle.cmm_accepted.specs.Linking.{program_of};
-ghost use Rattle.cmm_accepted.specs.Faults.{AreAccepted, fault_at, first_fault, place_of};
+ghost use Rattle.cmm_accepted.specs.Faults.{AreAccepted, fault_at, place_of};
+ghost use Rattle.cmm_meaning.specs.Laws.{AreRead, TextsAreBytes};
+ghost use Rattle.cmm_meaning.specs.Meaning.{meaning_of};
+ghost use Rattle.cmm_program.specs.InRange.{IsInRange};
 ghost use Rattle.cmm_static.specs.Faults.{IsFaultOf};
 ghost use Rattle.cmm_static.specs.inside.Flat.{flat_unit};
 ghost use Rattle.cmm_static.specs.inside.Found.{IsFound};
-ghost use Rattle.cmm_static.specs.inside.Units.{unit_flat, broken_placed};
+ghost use Rattle.cmm_static.specs.inside.Units.{AreEarlier, unit_flat, broken_placed};
 
 use crate::earlier::Earlier;
 use crate::fault::StaticFault;
-use crate::sums::Sums;
+use crate::program::program_of_all;
 use crate::together::fault_of_all;
 use crate::unit::{first_broken, names_of};
 use crate::unit_names::UnitNames;
 use cmm_accepted::{Fault, Spot};
 use cmm_ast::{Place, Unit};
 use cmm_items::Items;
-use cmm_linked::Linkage;
+use cmm_linked::{Gathered, Linkage};
 use cmm_names::Numbers;
+use cmm_program::Program;
 use std::alloc::{AllocError, Global};
 
 /// Where a rule is broken: in which unit, from 0, and where in it.
@@ -30,12 +34,12 @@ pub(crate) struct Broken {
 }
 
 /// What is found of units by the rules that are tested unit by unit.
-#[derive(Clone, Copy)]
-pub(crate) enum Found {
+#[derive(Drop)]
+pub(crate) enum Found<'a> {
     /// The first rule that they break.
     Broken(Broken),
-    /// They break none: what the limits over all units count of them.
-    Unbroken(Sums),
+    /// They break none: what is known of them.
+    Unbroken(Earlier<'a>),
 }
 
 /// All units, laid flat.
@@ -56,10 +60,11 @@ fn names_of_all<'a>(alloc: Global, units: &'a [Unit]) -> Result<Items<UnitNames<
 fn linkage_of_all<'a>(alloc: Global, units: &[UnitNames<'a>]) -> Result<Linkage<'a>, AllocError>
     ensures { IfOk result (λ linkage. (us : List NamedUnit) → map unit_flat units.now ≡ map flat_unit us → linkage ≡ program_of us) }
 {
-    let mut linkage = Linkage::none(alloc);
+    let mut gathered = Gathered::none(alloc);
     for unit in units {
-        linkage = linkage.with_unit(alloc, &unit.table, unit.exports.as_slice())?;
+        gathered = gathered.with_unit(alloc, &unit.table, unit.exports.as_slice())?;
     }
+    let linkage = gathered.numbered()?;
     Ok(linkage)
 }
 
@@ -68,7 +73,7 @@ fn first_of_all<'a>(
     alloc: Global,
     units: &[UnitNames<'a>],
     linkage: &Linkage<'a>,
-) -> Result<Found, AllocError>
+) -> Result<Found<'a>, AllocError>
     requires { length units.now < 2 ^ 32 }
     ensures { IfOk result (IsFound linkage.now (map unit_flat units.now)) }
 {
@@ -81,7 +86,7 @@ fn first_of_all<'a>(
             None => number += 1,
         }
     }
-    Ok(Found::Unbroken(earlier.sums))
+    Ok(Found::Unbroken(earlier))
 }
 
 /// Where a token of a unit stands.
@@ -110,30 +115,44 @@ fn fault_at(units: &[Unit], broken: Broken) -> Fault
     }
 }
 
-/// The fault that is named of units, if they break a rule.
-fn first_fault(alloc: Global, units: &[Unit]) -> Result<Option<Fault>, AllocError>
-    requires { length units.now < 2 ^ 32 }
-    ensures { IfOk result (λ fault. fault ≡ first_fault units.now) }
+/// What is known of units that break no rule. Else the fault that is named of them.
+fn unbroken<'a>(
+    alloc: Global,
+    units: &[Unit],
+    named: &[UnitNames<'a>],
+    linkage: &Linkage<'a>,
+) -> Result<Earlier<'a>, StaticFault>
+    requires size { length units.now < 2 ^ 32 }
+    requires named { map unit_flat named.now ≡ map flat_unit (named_units units.now) }
+    requires linkage { linkage.now ≡ program_of (named_units units.now) }
+    ensures accepted { IfOk result (λ _. AreAccepted units.now) }
+    ensures known { IfOk result (λ known. AreEarlier linkage.now known (map unit_flat named.now)) }
+    ensures err { IfErr result (IsFaultOf units.now) }
 {
-    let named = names_of_all(alloc, units)?;
-    let linkage = linkage_of_all(alloc, named.as_slice())?;
-    let found = first_of_all(alloc, named.as_slice(), &linkage)?;
+    let found = first_of_all(alloc, named, linkage)?;
     match found {
-        Found::Broken(broken) => Ok(Some(fault_at(units, broken))),
-        Found::Unbroken(sums) => Ok(fault_of_all(named.as_slice(), &linkage, &sums)),
+        Found::Broken(broken) => Err(StaticFault::of(fault_at(units, broken))),
+        Found::Unbroken(known) => match fault_of_all(named, linkage, &known.sums) {
+            Some(fault) => Err(StaticFault::of(fault)),
+            None => Ok(known),
+        },
     }
 }
 
-/// Whether units break no static rule, 20 to 40. Else the fault is the first by unit, place and rule; or, where none of the others is broken, that
-/// no unit exports `main`, rule 36, or that a limit over all units is passed, rule 40, at the beginning of the first unit. Units are those that
-/// `cmm_parser` gives, and fewer than 2^32.
-pub fn check(alloc: Global, units: &[Unit]) -> Result<(), StaticFault>
+/// The program that units mean, if they break no static rule, 20 to 40. Else the fault is the first by unit, place and rule; or, where none of the
+/// others is broken, that no unit exports `main`, rule 36, or that a limit over all units is passed, rule 40, at the beginning of the first unit. Units
+/// are those that `cmm_parser` gives, and fewer than 2^32: it is where they derive as many tokens as they have places for, and their texts are of bytes,
+/// that the program is the one that they mean, and in range.
+pub fn check(alloc: Global, units: &[Unit]) -> Result<Program, StaticFault>
     requires { length units.now < 2 ^ 32 }
-    ensures ok { OnOk result (AreAccepted units.now) }
+    ensures accepted { IfOk result (λ _. AreAccepted units.now) }
+    ensures program { IfOk result (λ program. AreRead units.now → TextsAreBytes units.now → program ≡ meaning_of units.now) }
+    ensures range { IfOk result (λ program. AreRead units.now → TextsAreBytes units.now → IsInRange program) }
     ensures err { IfErr result (IsFaultOf units.now) }
 {
-    match first_fault(alloc, units)? {
-        Some(fault) => Err(StaticFault::of(fault)),
-        None => Ok(()),
-    }
+    let named = names_of_all(alloc, units)?;
+    let linkage = linkage_of_all(alloc, named.as_slice())?;
+    let known = unbroken(alloc, units, named.as_slice(), &linkage)?;
+    let program = program_of_all(alloc, named.as_slice(), &linkage, &known)?;
+    Ok(program)
 }

@@ -5,29 +5,34 @@ ghost use Rattle.cmm_accepted.specs.Linking.{Program};
 ghost use Rattle.cmm_static.specs.inside.Units.{AreEarlier};
 
 use crate::sums::Sums;
+use cmm_constants::UnitSenses;
+use cmm_items::Items;
 use cmm_names::Index;
 use cmm_words::Width;
 use std::alloc::Global;
 
 /// What is known of the units before one.
 #[derive(Drop)]
-pub(crate) struct Earlier {
+pub(crate) struct Earlier<'a> {
     /// The names under which they export something.
     pub links: Index<()>,
     /// Their registers, with the width of the first of each name, if that is not broken.
     pub registers: Index<Option<Width>>,
+    /// What the names of each of them mean.
+    pub senses: Items<UnitSenses<'a>>,
     /// What the limits over all units count of them.
     pub sums: Sums,
 }
 
-impl Earlier {
+impl<'a> Earlier<'a> {
     /// No units.
-    pub(crate) fn none(alloc: Global) -> Earlier
+    pub(crate) fn none(alloc: Global) -> Earlier<'a>
         ensures { (program : Program) → AreEarlier program result [] }
     {
         Earlier {
             links: Index::new(alloc),
             registers: Index::new(alloc),
+            senses: Items::new(alloc),
             sums: Sums::none(),
         }
     }

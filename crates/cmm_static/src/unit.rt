@@ -105,7 +105,7 @@ pub(crate) fn first_broken<'a>(
     alloc: Global,
     unit: &UnitNames<'a>,
     linkage: &Linkage<'a>,
-    earlier: &mut Earlier,
+    earlier: &mut Earlier<'a>,
 ) -> Result<Option<Spot>, AllocError>
     ensures earlier { OnOk result ((before : List Flat) → AreEarlier linkage.now earlier.old before → AreEarlier linkage.now earlier.new (before ++ unit_flat unit.now ∷ [])) }
     ensures best { IfOk result (λ best. (before : List Flat) → AreEarlier linkage.now earlier.old before → best ≡ first_of None (flat_spots linkage.now before (unit_flat unit.now))) }
@@ -130,5 +130,6 @@ pub(crate) fn first_broken<'a>(
         &mut earlier.sums,
     )?;
     add_registers(alloc, &types, registers.as_slice(), &mut earlier.registers)?;
+    earlier.senses.push(senses)?;
     Ok(best)
 }

@@ -1,5 +1,5 @@
 -- What is kept of units' exports and registers, as the definition has it, and what stands under link names.
-use Rattle.std.specs.Prelude.{◌≡◌, ℕ, true, false, List, [], ◌∷◌, map, bytes_eq, option_map, Option, Some, None}
+use Rattle.std.specs.Prelude.{◌≡◌, ℕ, true, false, ◌||◌, List, [], ◌∷◌, map, bytes_eq, option_map, Option, Some, None}
 use Rattle.std.specs.declared.hash.FoldHasher.{FoldHasher}
 use Rattle.std.specs.declared.hash.BuildHasherDefault.{BuildHasherDefault}
 use Rattle.indexmap.specs.IndexMap.{get_by}
@@ -7,7 +7,7 @@ use Rattle.indexmap.specs.IndexSet.{IndexSet}
 use denote.Ref.{Bor}
 use Rattle.cmm_ast.specs.declared.declaration.Export.{Export}
 use Rattle.cmm_accepted.specs.Declarations.{Declared, Entry, entry_of}
-use Rattle.cmm_accepted.specs.Linking.{Published, address_of, export_link}
+use Rattle.cmm_accepted.specs.Linking.{Published, address_of, export_link, is_among}
 use Rattle.cmm_names.specs.Shown.{entry_shown}
 use Rattle.cmm_names.specs.declared.entry.Entry.{Entry as EntryTree}
 use Rattle.cmm_linked.specs.declared.links.Links.{Links}
@@ -34,3 +34,7 @@ AreLinks links es = (x : List ℕ) → under links x ≡ first_under x es
 
 abbrev pub names_shown : IndexSet (Bor (List ℕ)) (BuildHasherDefault FoldHasher) → List (List ℕ)
 names_shown names = map (λ k. k.now) names.keys
+
+-- the names that there are are those that there were, and some more
+abbrev pub AreAdded : List (List ℕ) → List (List ℕ) → List (List ℕ) → Type 0
+AreAdded more old new = (x : List ℕ) → is_among x new ≡ (is_among x old || is_among x more)

@@ -1,7 +1,12 @@
 -- The names of units, laid flat, as the rules see them.
-use Rattle.std.specs.Prelude.{List, map}
+use Rattle.std.specs.Prelude.{◌≡◌, List, map}
+use Rattle.std.specs.List.{All}
 use Rattle.cmm_accepted.specs.Faults.{Placed}
 use Rattle.cmm_accepted.specs.Linking.{Program}
+use Rattle.cmm_accepted.specs.Scopes.{unit_senses}
+use Rattle.cmm_accepted.specs.Senses.{Senses}
+use Rattle.cmm_constants.specs.Senses.{senses_of}
+use Rattle.cmm_typing.specs.Fitting.{AreWords}
 use Rattle.cmm_static.specs.inside.Flat.{Flat, flat_named, links_before, widths_before}
 use Rattle.cmm_static.specs.inside.Totals.{AreSums}
 use Rattle.cmm_static.specs.inside.Linked.{AreLinks, AreFound}
@@ -16,8 +21,13 @@ unit_flat u = record { tree = u.tree.now; entries = map shown u.table.declared; 
 abbrev pub broken_placed : Broken → Placed
 broken_placed b = record { unit = b.unit; spot = b.spot }
 
+abbrev pub flat_senses : Program → Flat → Senses
+flat_senses program f = unit_senses program f.entries
+
 -- what is known of the units before
 pub record AreEarlier (program : Program) (e : Earlier) (before : List Flat) : Type 0 where
   pub links : AreLinks e.links (links_before before)
   pub registers : AreFound e.registers (widths_before before)
+  pub senses : map senses_of e.senses ≡ map (flat_senses program) before
+  pub words : All (λ s. AreWords (senses_of s)) e.senses
   pub sums : AreSums program (map flat_named before) e.sums

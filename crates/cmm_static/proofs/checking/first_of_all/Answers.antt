@@ -2,8 +2,7 @@ use Rattle.std.proofs.Common.{◌+◌, List, None, Some, map, take, refl, sym, a
 use Rattle.std.proofs.lemmas.List.{drop_all, take_all}
 use Rattle.cmm_accepted.specs.Faults.{stands_before}
 use Rattle.cmm_accepted.specs.Spots.{first_by}
-use Rattle.cmm_static.specs.inside.Flat.{flat_named, flats_broken, placed}
-use Rattle.cmm_static.specs.inside.Totals.{AreSums}
+use Rattle.cmm_static.specs.inside.Flat.{flats_broken, placed}
 use Rattle.cmm_static.specs.inside.Units.{AreEarlier, unit_flat}
 use Rattle.cmm_static.specs.declared.unit_names.UnitNames.{UnitNames}
 use Rattle.cmm_names.proofs.Shared.{mapped_next}
@@ -43,5 +42,5 @@ returns c =
     let us = c.args.units.now in
     let program = c.args.linkage.now in (
       sym i.2 ∙ ap (λ (rest : List UnitNames). first_by stands_before None (flats_broken program (map unit_flat (take k us)) k (map unit_flat rest))) (drop_all k us c.loop-unit-test.false),
-      subst (λ (all : List UnitNames). AreSums program (map flat_named (map unit_flat all)) c.loop-unit.earlier.sums) (take_all k us c.loop-unit-test.false) i.1.sums,
+      subst (λ (all : List UnitNames). AreEarlier program c.loop-unit.earlier (map unit_flat all)) (take_all k us c.loop-unit-test.false) i.1,
     )

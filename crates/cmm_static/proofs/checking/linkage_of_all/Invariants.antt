@@ -6,4 +6,4 @@ use Rattle.cmm_static.specs.inside.Units.{unit_flat}
 use Rattle.cmm_static.proofs.checking.linkage_of_all.Given as goal
 
 abbrev pub invariant-loop-unit : goal.invariant-loop-unit
-invariant-loop-unit l = (us : List NamedUnit) → map unit_flat l.units ≡ map flat_unit us → l.linkage ≡ program_of (take l.unit-index us)
+invariant-loop-unit l = (us : List NamedUnit) → map unit_flat l.units ≡ map flat_unit us → l.gathered ≡ program_of (take l.unit-index us)

@@ -1,16 +1,13 @@
 use Rattle.std.proofs.Common.{◌≡◌, List, ap, length, map, sym, ◌∙◌}
-use Rattle.std.proofs.lemmas.List.{length-map}
 use Rattle.cmm_accepted.specs.Declarations.{NamedUnit}
 use Rattle.cmm_accepted.specs.Linking.{has_main}
 use Rattle.cmm_static.specs.declared.unit_names.UnitNames.{UnitNames}
 use Rattle.cmm_static.specs.inside.Flat.{flat_unit, some_starts}
 use Rattle.cmm_static.specs.inside.Units.{unit_flat}
 use Rattle.cmm_static.proofs.FlatUnits.{has_main_flat}
+use Rattle.cmm_static.proofs.Numbering.{as_many}
 use Rattle.cmm_static.proofs.Totals.{by_sums, no_main}
 use Rattle.cmm_static.proofs.together.fault_of_all.Goals as goal
-
-as_many : (us : List NamedUnit) (xs : List UnitNames) → map unit_flat xs ≡ map flat_unit us → length xs ≡ length us
-as_many us xs are = sym (length-map xs unit_flat) ∙ ap length are ∙ length-map us flat_unit
 
 starts : (us : List NamedUnit) (xs : List UnitNames) → map unit_flat xs ≡ map flat_unit us → has_main us ≡ some_starts (map unit_flat xs)
 starts us xs are = has_main_flat us ∙ ap some_starts (sym are)
@@ -23,9 +20,9 @@ pub returns-then-not-are_within : goal.returns-then-not-are_within
 returns-then-not-are_within c = λ us. λ are. λ knows. λ sums.
     c.at_beginning-then-not-are_within.ensures
     ∙ sym (by_sums us c.args.sums.now (length c.args.units.now) c.args.linkage.now _ (starts us c.args.units.now are ∙ sym c.some_starts.ensures ∙ c.if-not-some_starts.false)
-    (as_many us c.args.units.now are) knows sums (sym c.are_within.ensures ∙ c.if-not-are_within.true))
+    (sym (as_many unit_flat c.args.units.now us are)) knows sums (sym c.are_within.ensures ∙ c.if-not-are_within.true))
 
 pub returns : goal.returns
 returns c = λ us. λ are. λ knows. λ sums.
     sym (by_sums us c.args.sums.now (length c.args.units.now) c.args.linkage.now _ (starts us c.args.units.now are ∙ sym c.some_starts.ensures ∙ c.if-not-some_starts.false)
-    (as_many us c.args.units.now are) knows sums (sym c.are_within.ensures ∙ c.if-not-are_within.false))
+    (sym (as_many unit_flat c.args.units.now us are)) knows sums (sym c.are_within.ensures ∙ c.if-not-are_within.false))

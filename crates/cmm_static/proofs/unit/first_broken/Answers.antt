@@ -19,6 +19,7 @@ use Rattle.cmm_static.specs.inside.Totals.{AreSums}
 use Rattle.cmm_static.specs.inside.Units.{unit_flat}
 use Rattle.cmm_static.proofs.Links.{AreLinks-of, before_plus}
 use Rattle.cmm_static.proofs.Checked.{noted_unit}
+use Rattle.cmm_static.proofs.Following.{senses_next, words_next}
 use Rattle.cmm_static.proofs.unit.first_broken.Goals as goal
 
 pub returns-clause-best : goal.returns-clause-best
@@ -50,6 +51,9 @@ returns-clause-earlier c = λ before. λ earlier.
           ∙ ap (λ (v : TypeName → Option Width). widths_by v (registers_in f.entries)) same)
           ∙ sym (before_plus flat_widths before f))
           (c.in_ok-add_registers.ensures (widths_before before) earlier.registers);
+      senses = senses_next c.args.linkage.now before f c.args.earlier.now.senses c.push.new.self c.in_ok-senses.senses c.in_ok-push.ensures.ok
+          (fun_ext (rw c.as_slice-declared.ensures at c.in_ok-senses.ensures.senses)) earlier.senses;
+      words = words_next c.args.earlier.now.senses c.push.new.self c.in_ok-senses.senses c.in_ok-push.ensures.ok c.in_ok-senses.ensures.fits earlier.words;
       sums = subst (λ (us : List NamedUnit). AreSums c.args.linkage.now us c.note_and_count.new.sums) (sym (map-append flat_named before (f ∷ [])))
           (c.in_ok-note_and_count.ensures.sums c.args.linkage.now (map flat_named before) (flat_named f) refl refl (fun_ext (rw c.as_slice-declared.ensures at c.in_ok-senses.ensures.senses)) earlier.sums);
     }
