@@ -9,7 +9,8 @@ use Rattle.cmm_graph.specs.declared.operand.Operand.{Operand}
 use Rattle.cmm_graph.specs.declared.node.Node.{Node}
 use Rattle.cmm_graph.specs.declared.node.NodeKind.{NodeKind}
 use Rattle.cmm_graph.specs.declared.node.NodeKind.TheVariants.{Store}
-use Rattle.cmm_flow.specs.Operands.{temporary, operand_of, access_tokens}
+use Rattle.cmm_graph.specs.Covering.{access_tokens}
+use Rattle.cmm_flow.specs.Operands.{temporary, operand_of}
 use Rattle.cmm_flow.specs.Code.{IsNode, ValueCode, ValuesCode, to_temporary}
 use Rattle.cmm_flow.specs.Statements.{AddressesCode, AssignCode, SeveralCode, StoresCode}
 use Rattle.cmm_flow.specs.Waiting.{waiting_at}

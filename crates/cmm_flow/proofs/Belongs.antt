@@ -33,13 +33,15 @@ use Rattle.cmm_graph.specs.declared.operand.Operand.TheVariants as operand
 use Rattle.cmm_graph.specs.declared.operand.Rvalue.{Rvalue}
 use Rattle.cmm_graph.specs.declared.operand.Rvalue.TheVariants as rvalue
 use Rattle.cmm_graph.specs.Paths.{operands, operands_of_rvalue, values_of}
-use Rattle.cmm_flow.specs.Code.{operand_in, right_tokens, to_temporary}
-use Rattle.cmm_flow.specs.Operands.{arguments_of, is_plain, node_step, nodes, operand_of, operand_step, operands_of, plain_step, test_node_step, test_nodes}
+use Rattle.cmm_graph.specs.Covering.{least_for}
+use Rattle.cmm_flow.specs.Code.{to_temporary}
+use Rattle.cmm_flow.specs.Operands.{arguments_of, is_plain, nodes, nodes_in, operand_in, operand_of, operand_step, operands_of, plain_step, test_node_step, test_nodes}
 use Rattle.cmm_flow.specs.inside.Nodes.{assigned, branch, nodes_of_operand, nodes_of_operands, nodes_of_test, nodes_of_test_part, nodes_of_two, nodes_of_value}
 use Rattle.cmm_flow.specs.inside.Parts.{rvalue_in, rvalue_of}
 use Rattle.cmm_flow.proofs.Covering.{test_less}
 use Rattle.cmm_flow.proofs.Laying.{and_both, both_pass}
 use Rattle.cmm_flow.proofs.NodesPass.{FitAll, HoldsOfParts, In, operand_passes, operands_pass, value_passes}
+use Rattle.cmm_flow.proofs.Operands.{operator_some}
 
 -- ---- widths that are there
 
@@ -115,7 +117,7 @@ module _ (p : Program) (q : Proc) (limit : ℕ) where
     pub there : IsThere (typed p q e)
     pub room : base + nodes e ≤ limit
 
-  in_row : {i : _} (base : ℕ) (row : Row_of-Expression (one_more i)) → IsThere (fold_operand (width_step p q) row) → base + fold_operand node_step row ≤ limit →
+  in_row : {i : _} (base : ℕ) (row : Row_of-Expression (one_more i)) → IsThere (fold_operand (width_step p q) row) → base + nodes_in row ≤ limit →
       In Fits base row
   in_row base (more_of-Expression a rest) there room = record { there = there; room = room }
 
@@ -124,9 +126,9 @@ module _ (p : Program) (q : Proc) (limit : ℕ) where
     load = λ base width aligned i a fits.
         in_row base a (width_there (fold_operand (width_step p q) a) W64 width (given_there _ _ fits.there)) (let room = fits.room in omega (arith, room));
     unary = λ base op width i a fits. in_row base a (width_there (fold_operand (width_step p q) a) width width fits.there) (let room = fits.room in omega (arith, room));
-    binary = λ base op width i a j b fits. let room = fits.room in (
+    binary = λ base op width i a j b fits. let room = fits.room in let some = operator_some width (operand_in 0 a) (operand_in 1 b) in (
       in_row base a (width_there (fold_operand (width_step p q) a) width width (given_there _ _ fits.there)) (omega (arith, room)),
-      in_row (suc base) b (then_both (if_width (fold_operand (width_step p q) a) width width) (fold_operand (width_step p q) b) width fits.there) (omega (arith, room)),
+      in_row (suc base) b (then_both (if_width (fold_operand (width_step p q) a) width width) (fold_operand (width_step p q) b) width fits.there) (omega (arith, room, some)),
     );
     sign_extend = λ base from to i a fits.
         in_row base a (width_there (fold_operand (width_step p q) a) from to (given_there _ _ fits.there)) (let room = fits.room in omega (arith, room));
@@ -159,7 +161,8 @@ module _ (p : Program) (q : Proc) (limit : ℕ) where
     operand_fits base (Continuation number) fits = holds_there (nat_lt number (length q.conts)) W64 fits.there
     operand_fits base (Load' width aligned i a) fits = let room = fits.room in test_less base limit (omega (arith, room))
     operand_fits base (Unary' op width i a) fits = let room = fits.room in test_less base limit (omega (arith, room))
-    operand_fits base (Binary' op width i a j b) fits = let room = fits.room in test_less base limit (omega (arith, room))
+    operand_fits base (Binary' op width i a j b) fits =
+        let room = fits.room in test_less base limit (omega (arith, room, operator_some width (operand_in 0 a) (operand_in 1 b)))
     operand_fits base (SignExtend' from to i a) fits = let room = fits.room in test_less base limit (omega (arith, room))
     operand_fits base (ZeroExtend' from to i a) fits = same_fits base a (parts.zero_extend base from to i a fits)
     operand_fits base (LowBits' from to i a) fits = let room = fits.room in test_less base limit (omega (arith, room))
@@ -211,13 +214,13 @@ module _ (p : Program) (q : Proc) (limit : ℕ) where
 
   -- ---- their nodes
 
-  right_positive : (value : Rvalue) → 0 < right_tokens value
+  right_positive : (value : Rvalue) → 0 < least_for value
   right_positive (rvalue.Load width aligned address) = omega arith
   right_positive (rvalue.Copy o) = omega arith
   right_positive (rvalue.Register r) = omega arith
   right_positive (rvalue.Unary operator width o) = omega arith
-  right_positive (rvalue.Binary operator width left right) = omega arith
-  right_positive (rvalue.Compare c) = omega arith
+  right_positive (rvalue.Binary operator width left right) = operator_some width left right
+  right_positive (rvalue.Compare c) = operator_some c.width c.left c.right
   right_positive (rvalue.SignExtend from to o) = omega arith
   right_positive (rvalue.LowBits from to o) = omega arith
 
@@ -234,12 +237,12 @@ module _ (p : Program) (q : Proc) (limit : ℕ) where
     some_nodes (Continuation number) other = absurd (cc)
     some_nodes (Load' width aligned i a) other = omega arith
     some_nodes (Unary' op width i a) other = omega arith
-    some_nodes (Binary' op width i a j b) other = omega arith
+    some_nodes (Binary' op width i a j b) other = omega (arith, operator_some width (operand_in 0 a) (operand_in 1 b))
     some_nodes (SignExtend' from to i a) other = omega arith
     some_nodes (ZeroExtend' from to i a) other = some_in a other
     some_nodes (LowBits' from to i a) other = omega arith
 
-    some_in : {i : _} (row : Row_of-Expression (one_more i)) → fold_operand plain_step row ≡ false → 1 ≤ fold_operand node_step row
+    some_in : {i : _} (row : Row_of-Expression (one_more i)) → fold_operand plain_step row ≡ false → 1 ≤ nodes_in row
     some_in (more_of-Expression a rest) other = some_nodes a other
 
   into : (base : ℕ) (e : Expression) → Fits base e → is_plain e ≡ false → IsTrue (belongs (assigned (to_temporary base) (rvalue_of base e)))

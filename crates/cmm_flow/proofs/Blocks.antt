@@ -1,5 +1,5 @@
 -- Blocks and arms as lists: their code, and what follows marks in them.
-use Rattle.std.proofs.Common.{◌≡◌, ℕ, true, false, Option, Some, List, ◌∷◌, refl, sym, ap, ◌∙◌, subst}
+use Rattle.std.proofs.Common.{◌≡◌, ℕ, true, false, Option, Some, List, ◌∷◌, ◌++◌, refl, sym, ap, ◌∙◌, subst}
 use denote.Hole.Carrier as Carrier
 use mathlib.Core.Former.{Count}
 use Rattle.cmm_program.specs.declared.expression.Condition.{Condition}
@@ -12,7 +12,8 @@ use Rattle.cmm_program.specs.declared.statement.Form.{Row_of-Arm, end_of-Arm, mo
 use Rattle.cmm_program.specs.declared.statement.Form.TheBlock.{hidden-the_row-Statement-0, hidden-the_row-Arm-1, shown-the_row-Statement-0}
 use Rattle.cmm_program.specs.declared.statement.Form.TheVariants as form
 use Rattle.cmm_program.specs.declared.statement.Statement.{Statement}
-use Rattle.cmm_program.specs.Bodies.{Mark, AtContinuation, AtLabel, AtSite, after_in, after_in_arms, after_inside, first_of_two, is_mark, outward, statements}
+use Rattle.cmm_program.specs.Bodies.{Mark, AtContinuation, AtLabel, AtSite, after_in, after_in_arms, after_inside, branches, first_of_two, is_mark, outward, statements}
+use Rattle.cmm_program.specs.InRange.{all_ranges}
 use Rattle.cmm_graph.specs.declared.node.Arm.{Arm as Way}
 use Rattle.cmm_graph.specs.declared.node.Node.{Node}
 use Rattle.cmm_graph.specs.declared.node.NodeKind.TheVariants as node
@@ -21,6 +22,7 @@ use Rattle.cmm_flow.specs.Code.{IsNode, OperandCode, TestCode}
 use Rattle.cmm_flow.specs.Operands.{nodes, operand_of}
 use Rattle.cmm_flow.specs.Statements.{ArmsCode, DefaultCode, FormCode, RowCode, remaining}
 use Rattle.cmm_flow.specs.inside.Marks.{FrontCode, OtherwiseCode, PutsArm, WaysCode, after_arms, after_list}
+use Rattle.cmm_flow.specs.inside.Nodes.{ranges_of}
 use Rattle.cmm_flow.proofs.Counting.{row_items, row_statements}
 
 -- ---- what follows marks
@@ -111,6 +113,19 @@ module _ (q : Proc) (nodes_there : List Node) (label_node : ℕ → NodeId) wher
   ways_row i end_of-Arm to k code = code
   ways_row i (more_of-Arm (Arm' (In ranges) _ body) rest) to k (m, more, is, first, later) = (m, more, is, first, ways_row _ rest more k later)
   ways_row i (more_of-Arm (Arm' Default _ body) rest) to k code = ways_row _ rest to k code
+
+  ranges_row : (i : Count) (row : Row_of-Arm i) (to : List Way) (k : NodeId) → WaysCode q nodes_there label_node (items-the_row-Arm i row) to k →
+      ranges_of to ≡ all_ranges (branches row)
+  ranges_row i end_of-Arm to k code = ap ranges_of code
+  ranges_row i (more_of-Arm (Arm' (In ranges) _ body) rest) to k (m, more, is, first, later) =
+      ap ranges_of is ∙ ap (λ rs. ranges ++ rs) (ranges_row _ rest more k later)
+  ranges_row i (more_of-Arm (Arm' Default _ body) rest) to k code = ranges_row _ rest to k code
+
+  -- the ways of a switch have the ranges of its arms
+  pub ways_ranges : (arms : List Arm) (to : List Way) (k : NodeId) → WaysCode q nodes_there label_node arms to k →
+      ranges_of to ≡ all_ranges (branches (hidden-the_row-Arm-1 arms))
+  ways_ranges arms to k ways =
+      ranges_row _ (hidden-the_row-Arm-1 arms) to k (subst (λ as_. WaysCode q nodes_there label_node as_ to k) (sym (items_hidden-the_row-Arm-1 arms)) ways)
 
   otherwise_row : (i : Count) (row : Row_of-Arm i) (n k : NodeId) → OtherwiseCode q nodes_there label_node (items-the_row-Arm i row) n k →
       DefaultCode q nodes_there label_node row n k

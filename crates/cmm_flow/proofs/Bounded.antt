@@ -34,7 +34,7 @@ module _ (p : Program) (q : Proc) where
   locals_least (v ∷ []) = omega arith
   locals_least (v ∷ w ∷ rest) = omega (arith, locals_least (w ∷ rest))
 
-  variables_least : length q.vars ≤ heading_tokens q
+  pub variables_least : length q.vars + 5 ≤ heading_tokens q
   variables_least =
       omega (
         arith,

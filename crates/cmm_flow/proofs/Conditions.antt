@@ -1,12 +1,15 @@
 -- The code of a condition leads to one node where it holds and to another where it does not.
-use Rattle.std.proofs.Common.{◌≡◌, ℕ, ◌+◌, ◌&&◌, ◌||◌, not, Bool, true, false, Ok, refl, ap, ◌∙◌, subst, arith}
+use Rattle.std.proofs.Common.{◌≡◌, ℕ, ◌+◌, ◌&&◌, ◌||◌, not, Bool, true, false, IsTrue, Ok, refl, ap, ◌∙◌, subst, arith}
+use Rattle.std.proofs.lemmas.Bool.{and_parts}
 use Rattle.cmm_laws.specs.Observed.{store_seen}
 use Rattle.cmm_program.specs.declared.expression.Condition.{Condition, Row_of-Condition, more_of-Condition}
 use Rattle.cmm_program.specs.declared.expression.Condition.TheVariants.{Compare, Not', Both', Either'}
+use Rattle.cmm_program.specs.declared.procedure.Proc.{Proc}
 use Rattle.cmm_program.specs.Errors.{Tried, and_then}
 use Rattle.cmm_program.specs.Folds.{fold_part}
 use Rattle.cmm_program.specs.Orders as order
 use Rattle.cmm_program.specs.State.{Running, Store}
+use Rattle.cmm_program.specs.Typing.{has_width, is_condition}
 use Rattle.cmm_program.specs.Values.{test_of, test_step, value_of}
 use Rattle.cmm_program.specs.Writes.{reads_of}
 use Rattle.cmm_words.specs.Words.{holds}
@@ -16,10 +19,11 @@ use Rattle.cmm_graph.specs.declared.number.NodeId.{NodeId}
 use Rattle.cmm_graph.specs.declared.number.Temporary.{Temporary}
 use Rattle.cmm_graph.specs.declared.operand.Comparison.{Comparison}
 use Rattle.cmm_graph.specs.GraphControl.{held_by}
-use Rattle.cmm_graph.specs.Values.{operand_value, test_value}
+use Rattle.cmm_graph.specs.Values.{operand_word, test_value}
 use Rattle.cmm_flow.specs.Code.{IsNode, TestCode, TestPart}
 use Rattle.cmm_flow.specs.Operands.{operand_of, test_node_step, test_nodes}
-use Rattle.cmm_flow.proofs.Expressions.{bound, operand_brings}
+use Rattle.cmm_flow.proofs.Expressions.{bound, operand_brings, operand_is}
+use Rattle.cmm_flow.proofs.Fits.{IsFit, typed_with, word_given}
 use Rattle.cmm_flow.proofs.Operands.{value_kept}
 use Rattle.cmm_flow.proofs.Steps.{Goes, Run, Youngest, at, at_most, passes_one, then_goes}
 
@@ -75,41 +79,71 @@ module _ {r : Run} (y : Youngest r) (store : Store) (running : store.status ≡ 
   decides_either temporaries n m held failed true z found first second is decides next =
       decides_same (chosen found held failed) (grind (arith, is)) (record { after = decides.after; path = at_most decides.path (omega arith) (omega arith) })
 
-  mutual
-    pub test_decides : (c : Condition) (temporaries : Temporary → ℕ) (n held failed : NodeId) (found : Bool) →
-        test_of c (reads_of r.setting store) ≡ Ok found → TestCode y.graph.nodes c n held failed →
-        Decides temporaries n (chosen found held failed) (test_nodes c)
-    test_decides (Compare operator width a b) temporaries n held failed found is code =
-        let reads = reads_of r.setting store in
-        let x = bound (value_of a reads) (λ x. and_then (value_of b reads) (λ z. Ok (holds operator width x z))) found is in
-        let z = bound (value_of b reads) (λ z. Ok (holds operator width x.0 z)) found x.2 in
-        let first = operand_brings y store running a temporaries 0 n code.0 x.0 x.1 code.2 in
-        let second = operand_brings y store running b first.after 1 code.0 code.1 z.0 z.1 code.3 in
-        let left = value_kept 0 1 first.after second.after reads a (omega arith) second.below ∙ first.value in
-        let tested =
-        ap (λ t. and_then t (λ u. and_then (operand_value (held_by second.after) (operand_of 1 b) reads) (λ w. Ok (holds operator width u w)))) left
-        ∙ ap (λ t. and_then t (λ w. Ok (holds operator width x.0 w))) second.value ∙ z.2 in
-        record {
-          after = second.after;
-          path = at_most (then_goes (then_goes first.path second.path) (branch_goes second.after code.1 _ held failed found code.4 tested)) (omega arith) (omega arith);
-        }
-    test_decides (Not' _ a) temporaries n held failed found is code =
-        let x = bound (fold_part test_step a (reads_of r.setting store)) (λ x. Ok (not x)) found is in
-        decides_same (chosen found held failed) (negated x.0 found held failed x.2) (part_decides a temporaries n failed held x.0 x.1 code)
-    test_decides (Both' _ a _ b) temporaries n held failed found is code =
-        let reads = reads_of r.setting store in
-        let x = bound (fold_part test_step a reads) (λ x. and_then (fold_part test_step b reads) (λ z. Ok (x && z))) found is in
-        let z = bound (fold_part test_step b reads) (λ z. Ok (x.0 && z)) found x.2 in
-        decides_both temporaries n code.0 held failed x.0 z.0 found (fold_part test_node_step a) (fold_part test_node_step b) z.2
-        (part_decides a temporaries n code.0 failed x.0 x.1 code.1) (λ after. part_decides b after code.0 held failed z.0 z.1 code.2)
-    test_decides (Either' _ a _ b) temporaries n held failed found is code =
-        let reads = reads_of r.setting store in
-        let x = bound (fold_part test_step a reads) (λ x. and_then (fold_part test_step b reads) (λ z. Ok (x || z))) found is in
-        let z = bound (fold_part test_step b reads) (λ z. Ok (x.0 || z)) found x.2 in
-        decides_either temporaries n code.0 held failed x.0 z.0 found (fold_part test_node_step a) (fold_part test_node_step b) z.2
-        (part_decides a temporaries n held code.0 x.0 x.1 code.1) (λ after. part_decides b after code.0 held failed z.0 z.1 code.2)
+  module _ {q : Proc} (fit : IsFit r.setting q store) where
+    -- a condition that keeps the rules on widths, and one in a row
+    abbrev pub IsTested : Condition → Type 0
+    IsTested c = IsTrue (is_condition r.setting.program q c)
 
-    pub part_decides : {i : _} (a : Row_of-Condition (one_more i)) (temporaries : Temporary → ℕ) (n held failed : NodeId) (found : Bool) →
-        fold_part test_step a (reads_of r.setting store) ≡ Ok found → TestPart y.graph.nodes a n held failed →
-        Decides temporaries n (chosen found held failed) (fold_part test_node_step a)
-    part_decides (more_of-Condition a rest) temporaries n held failed found is code = test_decides a temporaries n held failed found is code
+    abbrev IsPart : {i : _} → Row_of-Condition (one_more i) → Type 0
+    IsPart (more_of-Condition a rest) = IsTested a
+
+    -- so do the parts of one
+    abbrev AreParts : Condition → Type 0
+    AreParts (Not' _ a) = IsPart a
+    AreParts (Both' _ a _ b) = IsPart a × IsPart b
+    AreParts (Either' _ a _ b) = IsPart a × IsPart b
+    AreParts _ = Unit {0}
+
+    are_parts : (c : Condition) → IsTested c → AreParts c
+    are_parts (Not' _ (more_of-Condition a _)) tested = tested
+    are_parts (Both' _ (more_of-Condition a _) _ (more_of-Condition b _)) tested =
+        and_parts (is_condition r.setting.program q a) (is_condition r.setting.program q b) tested
+    are_parts (Either' _ (more_of-Condition a _) _ (more_of-Condition b _)) tested =
+        and_parts (is_condition r.setting.program q a) (is_condition r.setting.program q b) tested
+    are_parts c tested = tt
+
+    mutual
+      pub test_decides : (c : Condition) (temporaries : Temporary → ℕ) (n held failed : NodeId) (found : Bool) → IsTested c →
+          test_of c (reads_of r.setting store) ≡ Ok found → TestCode y.graph.nodes c n held failed →
+          Decides temporaries n (chosen found held failed) (test_nodes c)
+      test_decides (Compare operator width a b) temporaries n held failed found tested is code =
+          let reads = reads_of r.setting store in
+          let x = bound (value_of a reads) (λ x. and_then (value_of b reads) (λ z. Ok (holds operator width x z))) found is in
+          let z = bound (value_of b reads) (λ z. Ok (holds operator width x.0 z)) found x.2 in
+          let p = r.setting.program in
+          let has = and_parts (has_width p q width a) (has_width p q width b) tested in
+          let first = operand_brings y store running fit a temporaries 0 n code.0 x.0 (typed_with p q width a has.0) x.1 code.2 in
+          let second = operand_brings y store running fit b first.after 1 code.0 code.1 z.0 (typed_with p q width b has.1) z.1 code.3 in
+          let left =
+          operand_is y store running second.after width (operand_of 0 a) x.0 (word_given fit width a x.0 has.0 x.1)
+          (value_kept 0 1 first.after second.after reads a (omega arith) second.below ∙ first.value) in
+          let right = operand_is y store running second.after width (operand_of 1 b) z.0 (word_given fit width b z.0 has.1 z.1) second.value in
+          let test =
+          ap (λ t. and_then t (λ u. and_then (operand_word (held_by second.after) width (operand_of 1 b) reads) (λ w. Ok (holds operator width u w)))) left
+          ∙ ap (λ t. and_then t (λ w. Ok (holds operator width x.0 w))) right ∙ z.2 in
+          record {
+            after = second.after;
+            path = at_most (then_goes (then_goes first.path second.path) (branch_goes second.after code.1 _ held failed found code.4 test)) (omega arith) (omega arith);
+          }
+      test_decides (Not' c a) temporaries n held failed found tested is code =
+          let x = bound (fold_part test_step a (reads_of r.setting store)) (λ x. Ok (not x)) found is in
+          decides_same (chosen found held failed) (negated x.0 found held failed x.2) (part_decides a temporaries n failed held x.0 (are_parts (Not' c a) tested) x.1 code)
+      test_decides (Both' c a d b) temporaries n held failed found tested is code =
+          let reads = reads_of r.setting store in
+          let x = bound (fold_part test_step a reads) (λ x. and_then (fold_part test_step b reads) (λ z. Ok (x && z))) found is in
+          let z = bound (fold_part test_step b reads) (λ z. Ok (x.0 && z)) found x.2 in
+          let are = are_parts (Both' c a d b) tested in
+          decides_both temporaries n code.0 held failed x.0 z.0 found (fold_part test_node_step a) (fold_part test_node_step b) z.2
+          (part_decides a temporaries n code.0 failed x.0 are.0 x.1 code.1) (λ after. part_decides b after code.0 held failed z.0 are.1 z.1 code.2)
+      test_decides (Either' c a d b) temporaries n held failed found tested is code =
+          let reads = reads_of r.setting store in
+          let x = bound (fold_part test_step a reads) (λ x. and_then (fold_part test_step b reads) (λ z. Ok (x || z))) found is in
+          let z = bound (fold_part test_step b reads) (λ z. Ok (x.0 || z)) found x.2 in
+          let are = are_parts (Either' c a d b) tested in
+          decides_either temporaries n code.0 held failed x.0 z.0 found (fold_part test_node_step a) (fold_part test_node_step b) z.2
+          (part_decides a temporaries n held code.0 x.0 are.0 x.1 code.1) (λ after. part_decides b after code.0 held failed z.0 are.1 z.1 code.2)
+
+      pub part_decides : {i : _} (a : Row_of-Condition (one_more i)) (temporaries : Temporary → ℕ) (n held failed : NodeId) (found : Bool) → IsPart a →
+          fold_part test_step a (reads_of r.setting store) ≡ Ok found → TestPart y.graph.nodes a n held failed →
+          Decides temporaries n (chosen found held failed) (fold_part test_node_step a)
+      part_decides (more_of-Condition a rest) temporaries n held failed found tested is code = test_decides a temporaries n held failed found tested is code

@@ -1,5 +1,5 @@
 -- A passage through the code of a statement costs no more than the statement has tokens.
-use Rattle.std.proofs.Common.{◌≡◌, ℕ, zero, suc, ◌+◌, ◌≤◌, min, nat_le, nat_lt, Bool, true, false, Option, Some, None, List, [], ◌∷◌, length, slice_get, refl, arith}
+use Rattle.std.proofs.Common.{ℕ, zero, suc, ◌+◌, ◌≤◌, min, nat_le, nat_lt, Bool, true, false, Option, Some, None, List, [], ◌∷◌, length, slice_get, arith}
 use Rattle.std.proofs.lemmas.List.Sums.{sum_by-cons}
 use Rattle.std.specs.Prelude.{sum_by}
 use Rattle.cmm_words.specs.declared.width.Width.{Width}
@@ -21,11 +21,12 @@ use Rattle.cmm_words.specs.declared.constant.Constant.TheVariants.{Number, Code,
 use Rattle.cmm_words.specs.declared.operators.Cmp.{Cmp}
 use Rattle.cmm_words.specs.declared.operators.Cmp.TheVariants.{Lt, Le, Gt, Ge}
 use mathlib.Core.Former.{one_more}
-use Rattle.cmm_flow.specs.Operands.{extra_tokens, is_plain, node_step, nodes, nodes_of_all, test_node_step, test_nodes}
-use Rattle.cmm_flow.specs.Statements.{normal_tokens, remaining}
+use Rattle.cmm_graph.specs.Covering.{extra_tokens}
+use Rattle.cmm_flow.specs.Operands.{nodes, nodes_in, nodes_of_all, operand_in, operand_of, test_node_step, test_nodes}
+use Rattle.cmm_flow.specs.Statements.{normal_tokens, operator_nodes, remaining}
 use Rattle.cmm_flow.proofs.Assigning.{addresses_cost, assign_cost, stores_cost, values_cost}
 use Rattle.cmm_flow.proofs.Forms.{form_cost}
-use Rattle.cmm_flow.proofs.Operands.{inner, inner_in, nodes_inner, plain_nodes}
+use Rattle.cmm_flow.proofs.Operands.{inner, inner_in, operand_nodes, operator_spare, spare}
 
 -- ---- expressions
 
@@ -55,13 +56,6 @@ extra_least width aligned = by (nat_lt aligned (bytes width)) where
   by true = omega arith
   by false = omega arith
 
--- the nodes of an operand are at most those of its value
-pub operand_nodes : (e : Expression) → nodes e ≤ inner e + 1
-operand_nodes e = by (is_plain e) refl where
-  by : (plain : Bool) → is_plain e ≡ plain → nodes e ≤ inner e + 1
-  by true plain = omega (arith, plain_nodes e plain)
-  by false plain = omega (arith, nodes_inner e plain)
-
 mutual
   -- the value of an expression has at most as many nodes as the expression tokens
   pub value_counted : (e : Expression) (asked : ℕ) → inner e + 1 ≤ expression_tokens asked e
@@ -70,24 +64,26 @@ mutual
   value_counted (Register number width) asked = omega arith
   value_counted (Stackdata number) asked = omega arith
   value_counted (Continuation number) asked = omega arith
-  value_counted (Load' width aligned _ address) asked = omega (arith, part_counted address alone, extra_least width aligned)
+  value_counted (Load' width aligned _ address) asked = omega (arith, part_counted 0 address alone, extra_least width aligned)
   value_counted (Unary' op width _ a) asked =
-      omega (arith, part_counted a 7, part_counted a alone, level_least 7 (min (1 + fold_operand token_step a 7) (3 + fold_operand token_step a alone)) asked)
+      omega (arith, part_counted 0 a 7, part_counted 0 a alone, level_least 7 (min (1 + fold_operand token_step a 7) (3 + fold_operand token_step a alone)) asked)
   value_counted (Binary' op width _ a _ b) asked =
-      binary_least (sign_level op) (fold_operand token_step a) (fold_operand token_step b) asked (fold_operand node_step a) (fold_operand node_step b)
-      (part_counted a) (part_counted b)
-  value_counted (SignExtend' from to _ a) asked = omega (arith, part_counted a alone, level_least 7 (3 + fold_operand token_step a alone) asked)
+      let extra = operator_spare width (operand_in 0 a) (operand_in 1 b) in
+      let least = binary_least (sign_level op) (fold_operand token_step a) (fold_operand token_step b) asked (nodes_in a + spare (operand_in 0 a))
+      (nodes_in b + spare (operand_in 1 b)) (part_counted 0 a) (part_counted 1 b) in
+      omega (arith, extra, least)
+  value_counted (SignExtend' from to _ a) asked = omega (arith, part_counted 0 a alone, level_least 7 (3 + fold_operand token_step a alone) asked)
   value_counted (ZeroExtend' from to _ a) asked = omega (arith, same_counted a alone, level_least 7 (3 + fold_operand token_step a alone) asked)
-  value_counted (LowBits' from to _ a) asked = omega (arith, part_counted a alone, level_least 7 (3 + fold_operand token_step a alone) asked)
+  value_counted (LowBits' from to _ a) asked = omega (arith, part_counted 0 a alone, level_least 7 (3 + fold_operand token_step a alone) asked)
 
-  part_counted : {n : _} (a : Row_of-Expression (one_more n)) (asked : ℕ) → fold_operand node_step a ≤ fold_operand token_step a asked
-  part_counted (more_of-Expression a rest) asked = omega (arith, value_counted a asked, operand_nodes a)
+  part_counted : {n : _} (base : ℕ) (a : Row_of-Expression (one_more n)) (asked : ℕ) → nodes_in a + spare (operand_in base a) ≤ fold_operand token_step a asked
+  part_counted base (more_of-Expression a rest) asked = omega (arith, value_counted a asked, operand_nodes base a)
 
   same_counted : {n : _} (a : Row_of-Expression (one_more n)) (asked : ℕ) → inner_in a + 1 ≤ fold_operand token_step a asked
   same_counted (more_of-Expression a rest) asked = value_counted a asked
 
 pub operand_counted : (e : Expression) (asked : ℕ) → nodes e ≤ expression_tokens asked e
-operand_counted e asked = omega (arith, value_counted e asked, operand_nodes e)
+operand_counted e asked = omega (arith, value_counted e asked, operand_nodes 0 e)
 
 -- ---- conditions
 
@@ -131,6 +127,24 @@ addresses_least (lvalue.Memory width aligned address ∷ ls) =
 pub brackets_least : (es : List Expression) → nodes_of_all es + 2 ≤ bracketed es
 brackets_least es = omega (arith, operands_least es, commas_least (expression_tokens alone) es)
 
+pub brackets_more : (es : List Expression) → nodes_of_all es + length es + 1 ≤ bracketed es
+brackets_more [] = omega arith
+brackets_more (e ∷ es) = omega (arith, operands_least (e ∷ es))
+
+-- an operator of two operands, which stand in brackets
+pub two_least : (width : Width) (a b : Expression) → operator_nodes width a b + 2 ≤ bracketed (a ∷ b ∷ [])
+two_least width a b =
+    omega (
+      arith,
+      operator_spare width (operand_of 0 a) (operand_of 1 b),
+      operand_nodes 0 a,
+      operand_nodes 1 b,
+      value_counted a alone,
+      value_counted b alone,
+      sum_by-cons (expression_tokens alone) a (b ∷ []),
+      sum_by-cons (expression_tokens alone) b [],
+    )
+
 -- ---- statements
 
 pub several_least : (to : List Lvalue) (es : List Expression) →
@@ -142,7 +156,7 @@ pub assign_least : (to : List Lvalue) (es : List Expression) → assign_cost to 
 assign_least to [] = omega arith
 assign_least (lvalue.Target target ∷ []) (e ∷ []) = omega (arith, several_least (lvalue.Target target ∷ []) (e ∷ []))
 assign_least (lvalue.Memory width aligned address ∷ []) (e ∷ []) =
-    omega (arith, several_least (lvalue.Memory width aligned address ∷ []) (e ∷ []), operand_nodes address, operand_nodes e)
+    omega (arith, several_least (lvalue.Memory width aligned address ∷ []) (e ∷ []), operand_nodes 0 address, operand_nodes 1 e)
 assign_least (l ∷ m ∷ ls) (e ∷ es) = several_least (l ∷ m ∷ ls) (e ∷ es)
 assign_least to (e ∷ es) = several_least to (e ∷ es)
 
@@ -163,9 +177,9 @@ form_counted q tokens (form.Call site callee actuals) own =
 form_counted q tokens (form.Yield site values) own =
     last_counted tokens (nodes_of_all values) (normal_tokens (slice_get q.sites site)) (omega (arith, brackets_least values))
 form_counted q tokens (form.Checked site op width left right) own =
-    let used = nodes left + nodes right in
-    let enough : used + 2 ≤ tokens = omega (arith, brackets_least (left ∷ right ∷ [])) in
-    omega (arith, last_counted tokens (used + 1) (1 + normal_tokens (slice_get q.sites site)))
+    let used = operator_nodes width left right in
+    let enough : used + 2 ≤ tokens = omega (arith, two_least width left right) in
+    omega (arith, last_counted tokens (used + 1) (normal_tokens (slice_get q.sites site)))
 form_counted q tokens (form.PutByte value) own = omega (arith, brackets_least (value ∷ []))
 form_counted q tokens (form.GetByte target) own = omega arith
 form_counted q tokens (form.Jump callee actuals) own =

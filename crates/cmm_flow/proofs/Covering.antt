@@ -1,5 +1,5 @@
 -- Bounds on the tokens of statements and sites, and of the nodes that are laid for them.
-use Rattle.std.proofs.Common.{◌≡◌, ℕ, suc, ◌<◌, ◌≤◌, nat_le, nat_lt, Bool, IsTrue, true, Some, List, [], ◌∷◌, length, map, slice_get, refl, sym, subst, arith}
+use Rattle.std.proofs.Common.{◌≡◌, ℕ, zero, suc, ◌<◌, ◌≤◌, nat_le, nat_lt, Bool, IsTrue, true, Some, List, [], ◌∷◌, get_or, length, map, slice_get, refl, sym, subst, arith}
 use Rattle.std.proofs.lemmas.Bool.{and_parts}
 use Rattle.std.proofs.lemmas.Bool.Decides.{nat_tests}
 use Rattle.std.specs.List.{list_all, zip}
@@ -22,7 +22,7 @@ use Rattle.cmm_graph.specs.declared.node.NodeKind.TheVariants.{Goto}
 use Rattle.cmm_graph.specs.declared.number.NodeId.{NodeId}
 use Rattle.cmm_graph.specs.Ranges.{is_step, leads_to}
 use Rattle.cmm_flow.specs.Flow.{CoversSites}
-use Rattle.cmm_flow.specs.Relation.{AreAll}
+use Rattle.cmm_flow.specs.Relation.{AreAll, IsAll}
 use Rattle.cmm_flow.specs.inside.Fronts.{copy_in, goto_nodes}
 use Rattle.cmm_flow.specs.inside.Laying.{AreAsked, AreSteps, Asked, leads_on, passes}
 use Rattle.cmm_flow.specs.inside.LayingBlocks.{AreAllArms}
@@ -70,6 +70,17 @@ pub AreAll_more : (test other : Statement → Bool) → ((s : Statement) → IsT
 AreAll_more test other more [] all = tt
 AreAll_more test other more (x ∷ xs) all =
     ((more x all.0.0, list_all_more test other more (within x.form) all.0.1), AreAll_more test other more xs all.1)
+
+-- a statement of a list, and an arm
+pub all_at : (test : Statement → Bool) (xs : List Statement) (i : ℕ) (d : Statement) → i < length xs → AreAll test xs → IsAll test (get_or xs i d)
+all_at test [] i d less all = absurd (omega (arith, less))
+all_at test (x ∷ xs) zero d less all = all.0
+all_at test (x ∷ xs) (suc i) d less all = all_at test xs i d (omega (arith, less)) all.1
+
+pub all_arms_at : (test : Statement → Bool) (arms : List Arm) (i : ℕ) (d : Arm) → i < length arms → AreAllArms test arms → AreAll test (out-Arm (get_or arms i d)).body
+all_arms_at test [] i d less all = absurd (omega (arith, less))
+all_arms_at test (arm ∷ arms) zero d less all = all.0
+all_arms_at test (arm ∷ arms) (suc i) d less all = all_arms_at test arms i d (omega (arith, less)) all.1
 
 -- ---- sites, and tests of counts
 

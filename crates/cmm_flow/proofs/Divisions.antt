@@ -14,9 +14,10 @@ use Rattle.cmm_graph.specs.declared.operand.Operand.TheVariants.{Constant}
 use Rattle.cmm_graph.specs.declared.operand.Rvalue.TheVariants.{Binary}
 use Rattle.cmm_graph.specs.declared.node.Node.{Node}
 use Rattle.cmm_graph.specs.declared.node.NodeKind.TheVariants.{Assign, Branch}
-use Rattle.cmm_flow.specs.Operands.{nodes, operand_of}
+use Rattle.cmm_graph.specs.Covering.{operator_tokens}
+use Rattle.cmm_flow.specs.Operands.{operand_of}
 use Rattle.cmm_flow.specs.Code.{IsNode}
-use Rattle.cmm_flow.specs.Statements.{CheckedCode, ZeroCode, first_result, normal_tokens, remaining}
+use Rattle.cmm_flow.specs.Statements.{CheckedCode, ZeroCode, first_result, normal_tokens, operator_nodes, remaining}
 use Rattle.cmm_flow.specs.declared.builder.Builder.{Builder}
 use Rattle.cmm_flow.specs.inside.Laying.{LaysAt, LaysNode}
 use Rattle.cmm_flow.specs.inside.Nodes.{nodes_of_guard, nodes_of_yield_one, nowhere}
@@ -49,7 +50,7 @@ module _ (nodes_there more : List Node) where
 
 module _ (nodes_there : List Node) where
   pub zero_code : (q : Proc) (tokens used site count : ℕ) (width : Width) (divisor : Expression) (left : Operand) (n y otherwise k : NodeId) →
-      left ≡ operand_of 1 divisor → count ≡ remaining tokens (used + 2 + normal_tokens (slice_get q.sites site)) → YieldOne nodes_there q count site y k →
+      left ≡ operand_of 1 divisor → count ≡ remaining tokens (used + 1 + normal_tokens (slice_get q.sites site)) → YieldOne nodes_there q count site y k →
       IsNode nodes_there n 1 (Branch record { operator = Eq; width = width; left = left; right = Constant (Number 0 width) } y otherwise) →
       ZeroCode nodes_there q tokens used site width divisor n otherwise k
   zero_code q tokens used site count width divisor left n y otherwise k lefts counts (exits, is, normal) test = (
@@ -76,8 +77,9 @@ module _ (nodes_there : List Node) where
   unguarded q tokens used site op width divisor division k is = guard_at q tokens used site width divisor division division k false (is_division op) (sym is) refl
 
   pub checked_code : (q : Proc) (tokens site : ℕ) (op : Op2) (width : Width) (left right : Expression) (n j d k : NodeId) →
-      IsNode nodes_there d 1 (Assign (first_result (site_results q site)) (Binary op width (operand_of 0 left) (operand_of 1 right)) k) →
-      GuardCode nodes_there q tokens (nodes left + nodes right) site op width right j d k → TwoCode nodes_there left right n j →
+      IsNode nodes_there d (operator_tokens width (operand_of 0 left) (operand_of 1 right))
+      (Assign (first_result (site_results q site)) (Binary op width (operand_of 0 left) (operand_of 1 right)) k) →
+      GuardCode nodes_there q tokens (operator_nodes width left right) site op width right j d k → TwoCode nodes_there left right n j →
       CheckedCode nodes_there q tokens site op width left right n k
   checked_code q tokens site op width left right n j d k division guard (m, first, second) = (m, j, d, first, second, division, guard)
 
@@ -85,7 +87,7 @@ module _ (nodes_there : List Node) where
 pub guard_laid : {a b c : Builder} (q : Proc) (tokens used site count : ℕ) (width : Width) (divisor : Expression) (n y division k : NodeId) →
     LaysAt (site ∷ []) (nodes_of_yield_one q count site) (k ∷ []) [] a b (λ nodes. YieldOne nodes q count site y k) →
     LaysNode record { tokens = 1; kind = Branch record { operator = Eq; width = width; left = operand_of 1 divisor; right = Constant (Number 0 width) } y division } b c n →
-    count ≡ remaining tokens (used + 2 + normal_tokens (slice_get q.sites site)) →
+    count ≡ remaining tokens (used + 1 + normal_tokens (slice_get q.sites site)) →
     LaysAt (site ∷ []) (nodes_of_guard q tokens used site width divisor) (division ∷ k ∷ []) [] a c (λ nodes. ZeroCode nodes q tokens used site width divisor n division k)
 guard_laid q tokens used site count width divisor n y division k first test counts =
     let Whole : List Node → Type 0 = λ nodes. ZeroCode nodes q tokens used site width divisor n division k in

@@ -1,5 +1,5 @@
 -- One law for each form of expression: what its code is in terms of its parts.
-use Rattle.std.proofs.Common.{◌≡◌, ℕ, suc, ◌+◌, nat_lt, Bool, true, false, List, refl}
+use Rattle.std.proofs.Common.{◌≡◌, ℕ, suc, ◌+◌, nat_lt, Bool, true, false, List, refl, arith}
 use denote.Hole.Carrier as Carrier
 use Rattle.cmm_words.specs.declared.operators.Op1.{Op1}
 use Rattle.cmm_words.specs.declared.operators.Op2.{Op2}
@@ -13,11 +13,14 @@ use Rattle.cmm_program.specs.declared.expression.Condition.TheBlock as Condition
 use Rattle.cmm_program.specs.declared.expression.Condition.TheVariants as c
 use Rattle.cmm_graph.specs.declared.number.NodeId.{NodeId}
 use Rattle.cmm_graph.specs.declared.node.Node.{Node}
+use Rattle.cmm_graph.specs.declared.operand.Operand.{Operand}
 use Rattle.cmm_graph.specs.declared.operand.Rvalue.TheVariants as rvalue
-use Rattle.cmm_flow.specs.Operands.{access_tokens, operand_of, is_plain, nodes}
+use Rattle.cmm_graph.specs.Covering.{access_tokens, operator_tokens}
+use Rattle.cmm_flow.specs.Operands.{operand_of, is_plain, nodes}
 use Rattle.cmm_flow.specs.Code.{OperandCode, TestCode}
 use Rattle.cmm_flow.specs.inside.Counts.{capped}
 use Rattle.cmm_flow.specs.inside.Parts.{PartsCode, rvalue_of}
+use Rattle.cmm_flow.proofs.Operands.{operator_most}
 
 -- ---- word extended by zeros: the same as its operand
 
@@ -112,7 +115,7 @@ pub nodes_of_unary : (op : Op1) (width : Width) (a : Expression) → nodes (e.Un
 unfolding Expressions.hidden-the_row-Expression-0 Carrier.hidden
 nodes_of_unary op width a = refl
 
-pub nodes_of_binary : (op : Op2) (width : Width) (a b : Expression) → nodes (e.Binary op width a b) ≡ nodes a + nodes b + 1
+pub nodes_of_binary : (op : Op2) (width : Width) (a b : Expression) → nodes (e.Binary op width a b) ≡ nodes a + nodes b + operator_tokens width (operand_of 0 a) (operand_of 1 b)
 unfolding Expressions.hidden-the_row-Expression-0 Carrier.hidden
 nodes_of_binary op width a b = refl
 
@@ -133,3 +136,6 @@ access_capped width aligned = by (nat_lt aligned (bytes width)) where
   by : (b : Bool) → elim b as (λ _. ℕ) [ true ↦ 2 | false ↦ 0 ] + 1 ≡ capped (elim b as (λ _. ℕ) [ true ↦ 2 | false ↦ 0 ] + 1)
   by true = refl
   by false = refl
+
+pub operator_capped : (width : Width) (a b : Operand) → operator_tokens width a b ≡ capped (operator_tokens width a b)
+operator_capped width a b = omega (arith, operator_most width a b)

@@ -1,5 +1,5 @@
--- A worked row: the graph of a small procedure, written by hand, is its flow, and the premise of the laws is built for its program.
-use Rattle.std.proofs.Common.{◌≡◌, ℕ, zero, suc, ◌<◌, IsTrue, List, [], ◌∷◌, refl, arith, lit≤}
+-- A worked row: the graph of a small procedure, written by hand, is its flow, and the premises of the laws are built for its program.
+use Rattle.std.proofs.Common.{◌≡◌, ℕ, zero, suc, ◌<◌, IsTrue, false, List, [], ◌∷◌, refl, ap, arith, lit<, lit≤}
 use Rattle.std.proofs.lemmas.Bool.Decides.{nat_tests}
 use Rattle.std.proofs.lemmas.List.Elements.{All-nil, All-cons}
 use Rattle.std.specs.List.{list_all}
@@ -13,7 +13,9 @@ use Rattle.cmm_program.specs.declared.procedure.Proc.{Proc}
 use Rattle.cmm_program.specs.declared.statement.Form.TheVariants as form
 use Rattle.cmm_program.specs.declared.procedure.Target.TheVariants as target
 use Rattle.cmm_program.specs.declared.statement.Statement.{Statement}
+use Rattle.cmm_program.specs.InRange.{IsInRange, IsProcInRange}
 use Rattle.cmm_program.specs.State.{Done, Ended, Setting}
+use Rattle.cmm_laws.specs.Fitting.{IsSetUp}
 use Rattle.cmm_program.specs.Bodies.{AtContinuation, AtLabel, body_statements, follow}
 use Rattle.cmm_graph.specs.declared.graph.Graph.{Graph}
 use Rattle.cmm_graph.specs.declared.node.Node.{Node}
@@ -25,8 +27,9 @@ use Rattle.cmm_graph.specs.declared.operand.Local.TheVariants as local
 use Rattle.cmm_graph.specs.declared.operand.Operand.{Operand}
 use Rattle.cmm_graph.specs.declared.operand.Operand.TheVariants as operand
 use Rattle.cmm_graph.specs.declared.operand.Rvalue.TheVariants as rvalue
+use Rattle.cmm_graph.specs.Covering.{covers as has_tokens}
 use Rattle.cmm_graph.specs.GraphMachine.{graph_state_after}
-use Rattle.cmm_flow.specs.Flow.{CoversParts, IsBehindLabel, IsFlowOf, IsLandedAt}
+use Rattle.cmm_flow.specs.Flow.{AreCovered, CoversParts, IsBehindLabel, IsFlowOf, IsLandedAt}
 use Rattle.cmm_flow.specs.Laws.{AreFlows}
 use Rattle.cmm_flow.specs.Operands.{temporary}
 use Rattle.cmm_flow.specs.Relation.{is_counted}
@@ -76,7 +79,7 @@ graph = record {
   temporaries = 1;
   nodes =
       node 43 (Entry [] (n 1))
-      ∷ node 1 (Assign (destination.Target (target.Variable 0 W64)) (rvalue.Binary Mul W64 (word 6) (word 7)) (n 2))
+      ∷ node 2 (Assign (destination.Target (target.Variable 0 W64)) (rvalue.Binary Mul W64 (word 6) (word 7)) (n 2))
       ∷ node 1 (Branch record { operator = Eq; width = W64; left = v; right = word 42 } (n 9) (n 3))
       ∷ node 1 (Goto (n 4))
       ∷ node 5 (Return 0 0 (record { width = W64; value = v } ∷ []))
@@ -139,7 +142,16 @@ covers : CoversParts main
 unfolding opened
 covers = record { sites = record { accesses = lit≤ tt; results = refl }; statements = refl; parameters = refl }
 
--- ---- the premise of the laws
+-- each node has tokens enough, and the product of two constants would not with one
+enough : AreCovered main graph
+unfolding opened
+enough = refl
+
+lacking : has_tokens main.tokens (node 1 (Assign (destination.Target (target.Variable 0 W64)) (rvalue.Binary Mul W64 (word 6) (word 7)) (n 2))) ≡ false
+unfolding opened
+lacking = refl
+
+-- ---- the premises of the laws
 
 abbrev small : Setting
 small = setting (alone main (frame_with 32 (16 ∷ []) [])) 4096 no_client
@@ -154,6 +166,48 @@ are_flows = record {
   flows = (main_flows, tt);
   tokens = (refl, tt);
 }
+
+-- the program is in range, at a valid placement
+main_in_range : IsProcInRange small.program main
+unfolding opened
+main_in_range = record {
+  name = refl;
+  unit = lit< tt;
+  formals = refl;
+  variables = lit≤ tt;
+  kinds = refl;
+  frames = record { items = refl; stackdata = lit≤ tt; tokens = lit≤ tt };
+  continuations = refl;
+  sites = refl;
+  body = refl;
+  labels_numbered = refl;
+  continuations_numbered = refl;
+  sites_numbered = refl;
+  shortest = lit≤ tt;
+  counts = lit≤ tt;
+}
+
+in_range : IsInRange small.program
+unfolding opened
+in_range = record {
+  procedures = All-cons (IsProcInRange small.program) main [] main_in_range (All-nil (IsProcInRange small.program));
+  procedure_count = lit≤ tt;
+  main = lit< tt;
+  main_formals = λ q is. let same : q ≡ main = cc in ap (λ (q : Proc). q.formals) same;
+  datums = refl;
+  datum_count = lit< tt;
+  data_size = lit≤ tt;
+  labels = refl;
+  label_count = lit< tt;
+  registers = lit≤ tt;
+  register_names = refl;
+  tokens = lit≤ tt;
+  site_variables = lit≤ tt;
+  site_spans = lit≤ tt;
+}
+
+is_set_up : IsSetUp small
+is_set_up = record { program = in_range; placement = record { rows = refl; ascending = refl }; top = lit< tt }
 
 -- and the run over it ends as the program does
 it_runs : (graph_state_after (graph ∷ []) small [] 4).store.status ≡ Ended (Done 42)

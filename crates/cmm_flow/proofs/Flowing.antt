@@ -4,6 +4,7 @@ use Rattle.cmm_following.proofs.Agreements.{agrees_of_follows}
 use Rattle.cmm_following.proofs.Followings.{follows_of_simulates}
 use Rattle.cmm_following.specs.Simulation.{Simulates}
 use Rattle.cmm_laws.proofs.Shared.{machine_lasts}
+use Rattle.cmm_laws.specs.Fitting.{ExpressionsFit, IsSetUp, StatesAreSound}
 use Rattle.cmm_laws.specs.Observed.{machine_of}
 use Rattle.cmm_program.specs.Control.{State}
 use Rattle.cmm_program.specs.State.{Setting}
@@ -12,7 +13,7 @@ use Rattle.cmm_graph.specs.declared.graph.Graph.{Graph}
 use Rattle.cmm_graph.specs.GraphControl.{Position, graph_control}
 use Rattle.cmm_graph.specs.GraphMachine.{tokens_of_youngest}
 use Rattle.cmm_flow.specs.Laws.{AreCosts, AreFlows, FlowAgrees, FlowFollows, FlowFollowsAt, FlowSimulates, FlowSimulatesAt}
-use Rattle.cmm_flow.specs.Relation.{Related, longest}
+use Rattle.cmm_flow.specs.Relation.{SoundlyRelated, longest}
 use Rattle.cmm_flow.proofs.Counting.{longest_positive}
 use Rattle.cmm_flow.proofs.Simulating.{run_simulates, starts_related}
 use Rattle.cmm_flow.proofs.Steps.{Run}
@@ -21,23 +22,24 @@ use Rattle.cmm_flow.proofs.Steps.{Run}
 at_costs : (s : Setting) (graphs : List Graph) (cost : State Position → ℕ) (more : ℕ) → AreCosts s graphs cost more → Run
 at_costs s graphs cost more costs = record { graphs = graphs; setting = s; cost = cost; more = more; costs = costs }
 
-pub flow_simulates_at : FlowSimulatesAt
+pub flow_simulates_at : StatesAreSound → ExpressionsFit → FlowSimulatesAt
 unfolding at_costs
-flow_simulates_at s graphs cost more flows costs = run_simulates (at_costs s graphs cost more costs) flows
+flow_simulates_at sound fit s graphs cost more set flows costs = run_simulates sound fit (at_costs s graphs cost more costs) set flows
 
-pub flow_follows_at : FlowFollowsAt
+pub flow_follows_at : StatesAreSound → ExpressionsFit → FlowFollowsAt
 unfolding at_costs
-flow_follows_at s graphs input cost more flows costs =
-    follows_of_simulates (machine_lasts (todo_control s.program) s) (flow_simulates_at s graphs cost more flows costs)
-    (starts_related (at_costs s graphs cost more costs) flows input)
+flow_follows_at sound fit s graphs input cost more set bytes flows costs =
+    follows_of_simulates (machine_lasts (todo_control s.program) s) (flow_simulates_at sound fit s graphs cost more set flows costs)
+    (starts_related sound fit (at_costs s graphs cost more costs) set flows input bytes)
 
 -- nothing is dearer
-abbrev simulates_for : (s : Setting) (graphs : List Graph) (cost : State Position → ℕ) → AreFlows s graphs → AreCosts s graphs cost 0 →
-    Simulates (machine_of (todo_control s.program) s) (λ _. longest s.program) (machine_of (graph_control graphs) s) cost (Related s.program graphs)
-simulates_for s graphs cost flows costs =
+abbrev simulates_for : StatesAreSound → ExpressionsFit → (s : Setting) (graphs : List Graph) (cost : State Position → ℕ) → IsSetUp s → AreFlows s graphs →
+    AreCosts s graphs cost 0 →
+    Simulates (machine_of (todo_control s.program) s) (λ _. longest s.program) (machine_of (graph_control graphs) s) cost (SoundlyRelated s graphs)
+simulates_for sound fit s graphs cost set flows costs =
     let same : longest s.program + 0 ≡ longest s.program = omega arith in
-    subst (λ n. Simulates (machine_of (todo_control s.program) s) (λ _. n) (machine_of (graph_control graphs) s) cost (Related s.program graphs)) same
-    (flow_simulates_at s graphs cost 0 flows costs)
+    subst (λ n. Simulates (machine_of (todo_control s.program) s) (λ _. n) (machine_of (graph_control graphs) s) cost (SoundlyRelated s graphs)) same
+    (flow_simulates_at sound fit s graphs cost 0 set flows costs)
 
 -- each node at the cost of its tokens, and every step at the same cost
 by_tokens : (s : Setting) (graphs : List Graph) → AreCosts s graphs (tokens_of_youngest graphs) 0
@@ -50,18 +52,18 @@ by_steps s graphs = record {
   resting = λ st. (let least = longest_positive s.program.procs in omega arith);
 }
 
-pub flow_simulates : FlowSimulates
-flow_simulates s graphs flows = simulates_for s graphs (tokens_of_youngest graphs) flows (by_tokens s graphs)
+pub flow_simulates : StatesAreSound → ExpressionsFit → FlowSimulates
+flow_simulates sound fit s graphs set flows = simulates_for sound fit s graphs (tokens_of_youngest graphs) set flows (by_tokens s graphs)
 
-pub flow_follows : FlowFollows
+pub flow_follows : StatesAreSound → ExpressionsFit → FlowFollows
 unfolding at_costs
-flow_follows s graphs input flows =
-    follows_of_simulates (machine_lasts (todo_control s.program) s) (flow_simulates s graphs flows)
-    (starts_related (at_costs s graphs (tokens_of_youngest graphs) 0 (by_tokens s graphs)) flows input)
+flow_follows sound fit s graphs input set bytes flows =
+    follows_of_simulates (machine_lasts (todo_control s.program) s) (flow_simulates sound fit s graphs set flows)
+    (starts_related sound fit (at_costs s graphs (tokens_of_youngest graphs) 0 (by_tokens s graphs)) set flows input bytes)
 
-pub flow_agrees : FlowAgrees
+pub flow_agrees : StatesAreSound → ExpressionsFit → FlowAgrees
 unfolding at_costs
-flow_agrees s graphs input flows =
+flow_agrees sound fit s graphs input set bytes flows =
     agrees_of_follows (machine_lasts (todo_control s.program) s) (machine_lasts (graph_control graphs) s) (longest_positive s.program.procs)
-    (follows_of_simulates (machine_lasts (todo_control s.program) s) (simulates_for s graphs (λ _. 1) flows (by_steps s graphs))
-    (starts_related (at_costs s graphs (λ _. 1) 0 (by_steps s graphs)) flows input))
+    (follows_of_simulates (machine_lasts (todo_control s.program) s) (simulates_for sound fit s graphs (λ _. 1) set flows (by_steps s graphs))
+    (starts_related sound fit (at_costs s graphs (λ _. 1) 0 (by_steps s graphs)) set flows input bytes))

@@ -20,7 +20,7 @@ use Rattle.cmm_program.specs.declared.statement.Lvalue.{Lvalue}
 use Rattle.cmm_program.specs.declared.statement.Lvalue.TheVariants as lvalue
 use Rattle.cmm_program.specs.Bodies.{Branch, branches}
 use Rattle.cmm_program.specs.ExpressionTokens.{alone}
-use Rattle.cmm_program.specs.InRange.{are_arms, are_assigned, are_passed, at_most_64, at_site, below, is_call_site, is_checked_site, is_form, is_lvalue, is_site, is_yield_site, lvalue_width}
+use Rattle.cmm_program.specs.InRange.{all_ranges, are_arms, are_assigned, are_passed, at_most_64, at_site, below, is_call_site, is_checked_site, is_form, is_lvalue, is_site, is_yield_site, lvalue_width}
 use Rattle.cmm_program.specs.Orders.{target_width}
 use Rattle.cmm_program.specs.Todo.{site_results}
 use Rattle.cmm_program.specs.Tokens.{bracketed, own_tokens}
@@ -34,15 +34,17 @@ use Rattle.cmm_graph.specs.declared.operand.Operand.TheVariants.{Constant}
 use Rattle.cmm_graph.specs.declared.operand.Rvalue.TheVariants as rvalue
 use Rattle.cmm_flow.specs.Code.{to_temporary}
 use Rattle.cmm_graph.specs.Paths.{values_of}
-use Rattle.cmm_flow.specs.Operands.{access_tokens, arguments_of, nodes, nodes_of_all, operand_of, temporary}
-use Rattle.cmm_flow.specs.Statements.{first_result, normal_tokens, remaining}
+use Rattle.cmm_graph.specs.Covering.{access_tokens}
+use Rattle.cmm_flow.specs.Operands.{arguments_of, nodes, nodes_of_all, operand_of, temporary}
+use Rattle.cmm_flow.specs.Statements.{first_result, normal_tokens, operator_nodes, remaining}
 use Rattle.cmm_flow.specs.inside.Nodes.{call_node, cut_node, division, goto, jump_node, nodes_of_addresses, nodes_of_assignment, nodes_of_exits, nodes_of_form, nodes_of_guard, nodes_of_guard_if, nodes_of_operand, nodes_of_operands, nodes_of_passing, nodes_of_stores, nodes_of_two, nodes_of_value, nodes_of_values, nodes_of_yield_one, normal_node, nowhere, put_node, return_node, stored, switch_node, yield_node, yield_one, zero_test}
 use Rattle.cmm_flow.proofs.Assigning.{addresses_cost, assign_cost, stores_cost, values_cost}
 use Rattle.cmm_flow.proofs.Belongs.{Belong, Fits, IsThere, arguments_fit, assigned_belongs, belongs, destination_belongs, first_belongs, into_belong, last_belongs, node_belongs, operand_belong, operand_belongs, operand_fits, operands_belong, operands_fit, test_belongs, two_belong, two_fit, value_belong, width_is_there}
-use Rattle.cmm_flow.proofs.Costs.{assign_least, operand_counted, operand_nodes, operands_least, test_counted}
+use Rattle.cmm_flow.proofs.Costs.{assign_least, brackets_more, operand_counted, test_counted}
 use Rattle.cmm_flow.proofs.Covering.{test_less}
 use Rattle.cmm_flow.proofs.Laying.{and_both, both_pass}
 use Rattle.cmm_flow.proofs.NodesPass.{FitAll}
+use Rattle.cmm_flow.proofs.Operands.{operand_nodes}
 
 module _ (p : Program) (q : Proc) (limit : ℕ) where
   abbrev Fit : ℕ → Expression → Type 0
@@ -65,10 +67,6 @@ module _ (p : Program) (q : Proc) (limit : ℕ) where
   all_fit base (e ∷ es) typed room =
       let both = and_parts (is_typed p q e) (list_all (is_typed p q) es) typed in
       (record { there = typed_is_there e both.0; room = omega (arith, room) }, all_fit (suc base) es both.1 (omega (arith, room)))
-
-  brackets_more : (es : List Expression) → nodes_of_all es + length es ≤ bracketed es
-  brackets_more [] = omega arith
-  brackets_more (e ∷ es) = omega (arith, operands_least (e ∷ es))
 
   passed : (es : List Expression) → IsTrue (are_passed p q es) → IsTrue (list_all (is_typed p q) es)
   passed es are = (and_parts (at_most_64 es) (list_all (is_typed p q) es) are).1
@@ -99,7 +97,7 @@ module _ (p : Program) (q : Proc) (limit : ℕ) where
       let l : Lvalue = lvalue.Memory width aligned address in
       let both = and_parts (is_lvalue p q l) (list_all (is_lvalue p q) ls) are in
       let wide = (and_parts (is_alignment aligned) (has_width p q W64 address) both.0).1 in
-      let fit : Fit base address = record { there = width_is_there p q limit W64 address wide; room = omega (arith, room, operand_nodes address) } in
+      let fit : Fit base address = record { there = width_is_there p q limit W64 address wide; room = omega (arith, room, operand_nodes base address) } in
       both_pass (belongs p q limit) (nodes_of_value base (to_temporary base) address) (nodes_of_addresses (suc base) ls)
       (into_belong p q limit base address fit (omega (arith, room))) (addresses_belong (suc base) ls both.1 (omega (arith, room)))
 
@@ -110,7 +108,7 @@ module _ (p : Program) (q : Proc) (limit : ℕ) where
   values_belong : (base : ℕ) (es : List Expression) → AreThere es → base + values_cost es ≤ limit → Pass (nodes_of_values base es)
   values_belong base [] there room = refl
   values_belong base (e ∷ es) there room =
-      let fit : Fit base e = record { there = there.0; room = omega (arith, room, operand_nodes e) } in
+      let fit : Fit base e = record { there = there.0; room = omega (arith, room, operand_nodes base e) } in
       both_pass (belongs p q limit) (nodes_of_value base (to_temporary base) e) (nodes_of_values (suc base) es)
       (into_belong p q limit base e fit (omega (arith, room))) (values_belong (suc base) es there.1 (omega (arith, room)))
 
@@ -180,7 +178,7 @@ module _ (p : Program) (q : Proc) (limit : ℕ) where
   assignment_belongs to [] are room = first_belongs p q limit goto [] goto_belongs refl
   assignment_belongs (lvalue.Target target ∷ []) (e ∷ []) are room =
       let is = assigns (lvalue.Target target ∷ []) (e ∷ []) are in
-      let fit : Fit 0 e = record { there = is.values.0; room = omega (arith, room, operand_nodes e) } in
+      let fit : Fit 0 e = record { there = is.values.0; room = omega (arith, room, operand_nodes 0 e) } in
       value_belong p q limit 0 (destination.Target target) e fit (and_parts (is_target p q target) true is.places).0
   assignment_belongs (lvalue.Memory width aligned address ∷ []) (e ∷ []) are room =
       let is = assigns (lvalue.Memory width aligned address ∷ []) (e ∷ []) are in
@@ -243,13 +241,13 @@ module _ (p : Program) (q : Proc) (limit : ℕ) where
           Pass (elim b as (λ _. List Node) [ true ↦ nodes_of_guard q tokens used site width divisor | false ↦ [] ])
       guard_by used site width divisor fit false = refl
       guard_by used site width divisor fit true =
-          let count = remaining tokens (used + 2 + normal_tokens (slice_get q.sites site)) in
+          let count = remaining tokens (used + 1 + normal_tokens (slice_get q.sites site)) in
           first_belongs p q limit (zero_test width divisor) (nodes_of_yield_one q count site)
           (node_belongs p q limit (zero_test width divisor) (omega arith)
           (both_pass (operand_belongs p q limit) (operand_of 1 divisor ∷ []) (Constant (Number 0 width) ∷ [])
           (and_both (operand_belongs p q limit (operand_of 1 divisor)) true (operand_fits p q limit 1 divisor fit) refl) (zero_belongs width)) refl)
           (first_belongs p q limit (yield_one count site) (nodes_of_exits (slice_get q.sites site))
-          (node_belongs p q limit (yield_one count site) (positive (used + 2 + normal_tokens (slice_get q.sites site))) refl refl) (exits_belong site))
+          (node_belongs p q limit (yield_one count site) (positive (used + 1 + normal_tokens (slice_get q.sites site))) refl refl) (exits_belong site))
 
       own_below : (own : List ℕ) → IsTrue (list_all (below (length q.conts)) own) →
           IsTrue (list_all (λ (k : ContinuationId). nat_lt k.number (length q.conts)) (map (λ k. record { number = k }) own))
@@ -268,8 +266,9 @@ module _ (p : Program) (q : Proc) (limit : ℕ) where
       form_belongs (If' condition _ then_ _ otherwise) is room = test_belongs p q limit condition is (omega (arith, room, test_counted condition))
       form_belongs (Switch' value _ arms) is room =
           let fit : Fit 0 value = record { there = arms_typed (typed p q value) (branches arms) is; room = omega (arith, room, operand_counted value alone) } in
-          last_belongs p q limit (nodes_of_operand 0 value) (switch_node tokens value) (operand_belong p q limit 0 value fit)
-          (node_belongs p q limit (switch_node tokens value) (positive (nodes value)) (and_both (operand_belongs p q limit (operand_of 0 value)) true (operand_fits p q limit 0 value fit) refl) refl)
+          let ranges = all_ranges (branches arms) in
+          last_belongs p q limit (nodes_of_operand 0 value) (switch_node tokens value ranges) (operand_belong p q limit 0 value fit)
+          (node_belongs p q limit (switch_node tokens value ranges) (positive (nodes value)) (and_both (operand_belongs p q limit (operand_of 0 value)) true (operand_fits p q limit 0 value fit) refl) refl)
       form_belongs (Span' _ body) is room = first_belongs p q limit goto [] goto_belongs refl
       form_belongs (form.Assign to es) is room =
           assignment_belongs to es (and_parts (nat_lt 0 (length to)) (are_assigned p q to es) is).1 (omega (arith, room, assign_least to es))
@@ -296,8 +295,8 @@ module _ (p : Program) (q : Proc) (limit : ℕ) where
           let first : Fit 0 left = record { there = width_is_there p q limit width left two.1; room = omega (arith, room, least) } in
           let second : Fit 1 right = record { there = width_is_there p q limit width right one.1; room = omega (arith, room, least) } in
           both_pass (belongs p q limit) (nodes_of_two left right) _ (two_belong p q limit left right first second)
-          (last_belongs p q limit (nodes_of_guard_if q tokens (nodes left + nodes right) site op width right) (division q site op width left right)
-          (guard_by (nodes left + nodes right) site width right second (is_division op))
+          (last_belongs p q limit (nodes_of_guard_if q tokens (operator_nodes width left right) site op width right) (division q site op width left right)
+          (guard_by (operator_nodes width left right) site width right second (is_division op))
           (assigned_belongs p q limit (first_result (site_results q site)) (rvalue.Binary op width (operand_of 0 left) (operand_of 1 right)) (first_belongs_to site width three.0)
           record { first = two_fit p q limit 0 1 left right first second; rest = refl }))
       form_belongs (PutByte value) is room =

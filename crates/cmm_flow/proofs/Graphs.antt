@@ -7,8 +7,8 @@ use Rattle.cmm_program.specs.declared.program.Program.{Program}
 use Rattle.cmm_program.specs.InRange.{IsInRange, IsProcInRange}
 use Rattle.cmm_graph.specs.declared.graph.Graph.{Graph}
 use Rattle.cmm_graph.specs.Counterpart.{AreGraphsOf, IsGraphOf}
-use Rattle.cmm_flow.specs.Flow.{IsBounded, IsFlow}
-use Rattle.cmm_flow.specs.Laws.{AnswersAreBounded, AnswersAreGraphs}
+use Rattle.cmm_flow.specs.Flow.{AreCovered, IsBounded, IsFlow}
+use Rattle.cmm_flow.specs.Laws.{AnswersAreBounded, AnswersAreCovered, AnswersAreGraphs, AnswersAreQuiet, AnswersAreShort}
 use Rattle.cmm_flow.proofs.Landings.{answers_land}
 use Rattle.cmm_flow.proofs.SitesOfNodes.{answers_have_sites}
 
@@ -26,6 +26,15 @@ answers_are_graphs p q g range is =
 
 pub answers_are_bounded : AnswersAreBounded
 answers_are_bounded p q g range is = is.bounded p range
+
+pub answers_are_short : AnswersAreShort
+answers_are_short p q g range is = is.short p range
+
+pub answers_are_covered : AnswersAreCovered
+answers_are_covered p q g range is = is.covered p range (answers_have_sites p q g range is)
+
+pub answers_are_quiet : AnswersAreQuiet
+answers_are_quiet p q g range is waits = is.quiet p range waits (answers_have_sites p q g range is)
 
 all_graphs : (p : Program) (qs : List Proc) (graphs : List Graph) → All (IsProcInRange p) qs → AllZip IsFlow qs graphs → AllZip (IsGraphOf p) qs graphs
 all_graphs p [] [] range are = are
@@ -48,3 +57,15 @@ graphs_given p graphs are range = all_graphs p p.procs graphs range.procedures a
 
 pub bounded_given : (p : Program) (graphs : List Graph) → AllZip IsFlow p.procs graphs → IsInRange p → AllZip IsBounded p.procs graphs
 bounded_given p graphs are range = all_bounded p p.procs graphs range.procedures are
+
+all_covered : (p : Program) (qs : List Proc) (graphs : List Graph) → All (IsProcInRange p) qs → AllZip IsFlow qs graphs → AllZip AreCovered qs graphs
+all_covered p [] [] range are = are
+all_covered p [] (g ∷ graphs) range are = are
+all_covered p (q ∷ qs) [] range are = are
+all_covered p (q ∷ qs) (g ∷ graphs) range are = (
+  answers_are_covered p q g (All-head (IsProcInRange p) q qs range) are.0,
+  all_covered p qs graphs (All-tail (IsProcInRange p) q qs range) are.1,
+)
+
+pub covered_given : (p : Program) (graphs : List Graph) → AllZip IsFlow p.procs graphs → IsInRange p → AllZip AreCovered p.procs graphs
+covered_given p graphs are range = all_covered p p.procs graphs range.procedures are

@@ -3,6 +3,7 @@ use Rattle.std.proofs.Common.{Result, Ok, Err, IfOk, IsTrue, ◌≡◌, ℕ, zer
 use Rattle.std.proofs.lemmas.Bool.{and_parts}
 use Rattle.std.proofs.lemmas.List.Concat.{flat_map-append}
 use Rattle.std.proofs.lemmas.List.Folds.{list_all-append}
+use Rattle.std.proofs.lemmas.List.Sums.{sum_by-append}
 use Rattle.std.proofs.lemmas.Option.{get_or_from_slice_get, slice_get_within, slice_get-get_or}
 use Rattle.std.proofs.lemmas.List.Elements.{filter-append}
 use Rattle.std.proofs.lemmas.List.{append-nil, get_or_append_left, length-append}
@@ -11,6 +12,7 @@ use Rattle.cmm_graph.specs.declared.graph.Graph.{Graph}
 use Rattle.cmm_graph.specs.declared.node.Node.{Node}
 use Rattle.cmm_graph.specs.declared.number.NodeId.{NodeId}
 use Rattle.cmm_flow.specs.declared.builder.Builder.{Builder}
+use Rattle.cmm_flow.specs.Flow.{all_tokens}
 use Rattle.cmm_flow.specs.Waiting.{times, waiting_at, waiting_sites}
 use Rattle.cmm_graph.specs.Ranges.{is_copy_in, is_step, leads_to}
 use Rattle.cmm_flow.specs.inside.Laying.{AddsSites, AreAsked, AreCopyIns, AreSteps, Extends, Holds, Keeps, LaysAt, LaysNode, OnFronts, StandIn, leads_on, normal_of, passes, steps_of}
@@ -64,6 +66,11 @@ then_adds_before a b c xs ys first second site = omega (arith, first site, secon
 pub adds_nothing : (a : Builder) (sites : List ℕ) → AddsSites sites a a
 adds_nothing a sites site = omega arith
 
+-- ---- tokens
+
+pub tokens-append : (xs ys : List Node) → all_tokens (xs ++ ys) ≡ all_tokens xs + all_tokens ys
+tokens-append xs ys = sum_by-append (λ (node : Node). node.tokens) xs ys
+
 -- ---- in a graph
 
 -- nodes stand in a graph where more stand
@@ -116,6 +123,7 @@ then_lays {xs = xs} {ys = ys} {ks = ks} {ns = ns} {ss = ss} {ts = ts} {a = a} {b
       second.keeps x stands record { test = tests.0; steps = on.0; copy_ins = on.1 }
       (first.keeps x before record { test = tests.1; steps = holds.steps; copy_ins = holds.copy_ins } are);
   waits = then_adds a b c ss ts first.waits second.waits;
+  adds = omega (arith, first.adds, second.adds, tokens-append ys xs);
 }
 
 -- nothing
@@ -128,6 +136,7 @@ lays_nothing {sites = sites} a P holds = record {
   code = λ front many. holds (front ++ a.nodes);
   keeps = λ x stands holds are. are;
   waits = adds_nothing a sites;
+  adds = omega arith;
 }
 
 pub lays_other : {sites : List ℕ} {xs ys : List Node} {ahead normal : List NodeId} {a b : Builder} {P : List Node → Type 0} (Q : List Node → Type 0) →
@@ -140,6 +149,7 @@ lays_other {b = b} Q l same other = record {
   keeps = λ x stands holds are.
       l.keeps x stands record { test = subst (λ laid. IsTrue (list_all x.test laid)) (sym same) holds.test; steps = holds.steps; copy_ins = holds.copy_ins } are;
   waits = l.waits;
+  adds = omega (arith, l.adds, ap all_tokens same);
 }
 
 -- one node behind the others
@@ -170,6 +180,7 @@ node_laid a nodes node n pushed number = record {
       ∙ get_behind a.nodes (node ∷ []) 0 (length a.nodes) (omega arith);
   keeps = push_keeps a (record a { nodes = nodes }) node pushed;
   waits = push_waits a (record a { nodes = nodes }) node pushed;
+  adds = omega (arith, ap all_tokens pushed, tokens-append a.nodes (node ∷ []));
 }
 
 -- ---- the same of answers
@@ -203,6 +214,7 @@ led_one others l leads = record {
   code = l.code;
   keeps = λ x stands holds are. l.keeps x stands record { test = holds.test; steps = leads x.graph holds.steps; copy_ins = holds.copy_ins } are;
   waits = l.waits;
+  adds = l.adds;
 }
 
 pub led_by : {A E : Type 0} (sites : List ℕ) (laid : List Node) (ahead normal others : List NodeId) (a c : Builder) (Q : A → List Node → Type 0)

@@ -1,14 +1,19 @@
 -- What is laid for statements with what they hold, from what is laid for their parts.
-use Rattle.std.proofs.Common.{◌≡◌, ℕ, true, false, None, List, [], ◌∷◌, ◌++◌, length, map, reverse, append-nil, refl, sym, ap, ◌∙◌, subst, arith}
+use Rattle.std.proofs.Common.{◌≡◌, ℕ, IsTrue, true, false, None, List, [], ◌∷◌, ◌++◌, length, map, reverse, append-nil, refl, sym, ap, ◌∙◌, subst, arith}
+use Rattle.std.specs.List.{list_all}
 use Rattle.std.proofs.lemmas.List.{map-append, reverse-append, reverse-reverse}
+use Rattle.std.proofs.lemmas.List.Sums.{sum_by-cons}
+use Rattle.std.specs.Prelude.{sum_by}
 use Rattle.cmm_program.specs.declared.expression.Condition.{Condition}
 use Rattle.cmm_program.specs.declared.expression.Expression.{Expression}
 use Rattle.cmm_program.specs.declared.procedure.Proc.{Proc}
 use Rattle.cmm_program.specs.declared.statement.Arm.{Arm, out-Arm}
 use Rattle.cmm_program.specs.declared.statement.Form.{Form}
+use Rattle.cmm_program.specs.declared.statement.Form.TheBlock.{hidden-the_row-Arm-1}
 use Rattle.cmm_program.specs.declared.statement.Form.TheVariants as form
 use Rattle.cmm_program.specs.declared.statement.Statement.{Statement}
-use Rattle.cmm_program.specs.Bodies.{AtContinuation, AtLabel, after_inside, is_mark}
+use Rattle.cmm_program.specs.Bodies.{AtContinuation, AtLabel, after_inside, branches, is_mark}
+use Rattle.cmm_program.specs.InRange.{all_ranges}
 use Rattle.cmm_graph.specs.declared.node.Arm.{Arm as Way}
 use Rattle.cmm_graph.specs.declared.node.Node.{Node}
 use Rattle.cmm_graph.specs.declared.node.NodeKind.TheVariants as node
@@ -17,19 +22,21 @@ use Rattle.cmm_graph.specs.Paths.{arm_nodes}
 use Rattle.cmm_graph.specs.Ranges.{is_step, leads_to}
 use Rattle.cmm_flow.specs.declared.builder.Builder.{Builder}
 use Rattle.cmm_flow.specs.Code.{IsNode, OperandCode, TestCode}
+use Rattle.cmm_flow.specs.Flow.{all_tokens}
 use Rattle.cmm_flow.specs.Operands.{nodes, operand_of}
 use Rattle.cmm_flow.specs.Statements.{FormCode, remaining}
 use Rattle.cmm_flow.specs.inside.Blocks.{is_simple}
 use Rattle.cmm_program.specs.Numbering.{site_number}
 use Rattle.cmm_flow.specs.Waiting.{times, waiting_sites}
 use Rattle.cmm_flow.specs.inside.Laying.{AddsSites, AreAsked, Lays, LaysAt, LaysMarked, SetsMark, label_of}
-use Rattle.cmm_flow.specs.inside.LayingBlocks.{LaysArms, LaysBlock, LaysForm, LaysStatement, arm_sites, block_sites, form_sites, passes_own}
+use Rattle.cmm_flow.specs.inside.LayingBlocks.{LaysArms, LaysBlock, LaysForm, LaysStatement, arm_sites, block_sites, block_tokens, form_sites, form_tokens, laid_tokens, passes_own}
 use Rattle.cmm_flow.specs.inside.Marks.{FrontCode, LeadsBehind, LeadsBehindArms, LeadsBehindForm, LeadsBehindList, OtherwiseCode, PutsArm, WaysCode}
-use Rattle.cmm_flow.specs.inside.Nodes.{goto, nodes_of_form, nodes_of_switch, nodes_of_test}
+use Rattle.cmm_flow.specs.inside.Nodes.{goto, nodes_of_form, nodes_of_switch, nodes_of_test, ranges_of}
 use Rattle.cmm_flow.proofs.Begins.{front_begins, one_step, otherwise_begins, two_steps, ways_begin}
-use Rattle.cmm_flow.proofs.Blocks.{after_arm, after_if, after_span, after_switch, arm_code, if_code, no_mark_if, no_mark_span, no_mark_switch, span_code, switch_code}
+use Rattle.cmm_flow.proofs.Blocks.{after_arm, after_if, after_span, after_switch, arm_code, if_code, no_mark_if, no_mark_span, no_mark_switch, span_code, switch_code, ways_ranges}
 use Rattle.cmm_flow.proofs.Covering.{if_of, span_of, switch_of}
 use Rattle.cmm_flow.proofs.FormsStay.{front_stays, leads_stay, otherwise_stays, ways_stay}
+use Rattle.cmm_flow.proofs.LaidTokens.{if_tokens, simple_within, span_tokens, switch_same, switch_tokens}
 use Rattle.cmm_flow.proofs.Laying.{adds_nothing, both_pass, get_behind, holds_in, lays_nothing, lays_other, stands_before, then_adds_before}
 use Rattle.cmm_flow.proofs.Marking.{lays_marked, ready_later, then_marked}
 use Rattle.cmm_flow.proofs.Marks.{first_leads, form_leads, list_leads}
@@ -54,6 +61,7 @@ module _ (q : Proc) where
         (λ nodes c n. refl);
     keeps = λ count ready asked stands when are. are;
     waits = adds_nothing a [];
+    adds = omega arith;
   }
 
   pub block_more : {a b c : Builder} (x : Statement) (xs : List Statement) (n m k : NodeId) → LaysBlock a b q xs m k → LaysStatement b c q x n m →
@@ -75,6 +83,7 @@ module _ (q : Proc) where
         second.keeps count behind asked stands (record { labels = when.0.labels; next = on }, when.1.0.0, when.1.0.1)
         (first.keeps count ready asked before (when.0, when.1.1) are);
     waits = then_adds_before a b c (block_sites xs) (form_sites x.form) first.waits second.waits;
+    adds = omega (arith, first.adds, second.adds, sum_by-cons (λ (s : Statement). form_tokens q s.tokens s.form) x xs);
   }
 
   -- ---- arms
@@ -89,10 +98,12 @@ module _ (q : Proc) where
           code = λ front many. (refl, get_behind front a.nodes 0 a.stop.number (omega (arith, many)) ∙ ready.stop);
           keeps = λ asked stands holds are. are;
           waits = adds_nothing a [];
+          adds = omega arith;
         } in
         lays_marked (λ nodes. LeadsBehindArms q nodes (label_of count) [] k) laid (λ nodes l n. refl) (λ nodes c n. refl);
     keeps = λ count ready asked stands when are. are;
     waits = adds_nothing a [];
+    adds = omega arith;
   }
 
   pub arms_more : {a b c : Builder} (arm : Arm) (arms : List Arm) (to to_after : List Way) (n otherwise otherwise_after k : NodeId) →
@@ -113,6 +124,7 @@ module _ (q : Proc) where
         let before = stands_before asked.graph (second.lays count behind).extends stands in
         second.keeps count behind asked stands (when.0, when.1.0) (first.keeps count ready asked before (when.0, when.1.1) are);
     waits = then_adds_before a b c (arm_sites arms) (block_sites (out-Arm arm).body) first.waits second.waits;
+    adds = omega (arith, first.adds, second.adds, sum_by-cons (λ (arm : Arm). block_tokens q (out-Arm arm).body) arm arms);
   }
 
   -- ---- forms
@@ -159,6 +171,7 @@ module _ (q : Proc) where
         let blocks = then_adds_before a b c (block_sites otherwise) (block_sites then_) first.waits second.waits in
         subst (λ ns. AddsSites ns a d) (sym (if_sites condition then_ otherwise))
         (then_adds_before a c d (block_sites then_ ++ block_sites otherwise) [] blocks third.waits);
+    adds = omega (arith, first.adds, second.adds, third.adds, if_tokens q condition then_ otherwise);
   }
 
   pub span_lays : {a b c : Builder} (tokens : ℕ) (body : List Statement) (n j k : NodeId) → LaysBlock a b q body j k →
@@ -181,11 +194,12 @@ module _ (q : Proc) where
         second.keeps asked stands record { test = when.1; steps = on; copy_ins = refl }
         (first.keeps count ready asked before (when.0, span_of (passes_own q asked.test) body when.2) are);
     waits = subst (λ ns. AddsSites ns a c) (sym (span_sites body)) (then_adds_before a b c (block_sites body) [] first.waits second.waits);
+    adds = omega (arith, first.adds, second.adds, span_tokens q body);
   }
 
   pub switch_lays : {a b c : Builder} (tokens : ℕ) (value : Expression) (arms : List Arm) (to : List Way) (n otherwise k : NodeId) →
       LaysArms a b q arms to otherwise k →
-      Lays (nodes_of_switch tokens value) (arm_nodes to ++ otherwise ∷ []) b c (λ all. (j : NodeId) × OperandCode all value 0 n j × IsNode all j (remaining tokens (nodes value)) (node.Switch (operand_of 0 value) to otherwise)) →
+      Lays (nodes_of_switch tokens value (ranges_of to)) (arm_nodes to ++ otherwise ∷ []) b c (λ all. (j : NodeId) × OperandCode all value 0 n j × IsNode all j (remaining tokens (nodes value)) (node.Switch (operand_of 0 value) to otherwise)) →
       LaysForm a c q tokens (form.Switch value arms) n k
   switch_lays {a = a} {b = b} {c = c} tokens value arms to n otherwise k first second = record {
     lays = λ count ready.
@@ -207,9 +221,11 @@ module _ (q : Proc) where
         let on =
         both_pass (leads_to g is_step) (arm_nodes to) (otherwise ∷ []) (ways_begin g q (label_of count) arms to k ways.0 when.0.labels when.0.next)
         (one_step g otherwise (otherwise_begins g q (label_of count) arms otherwise k ways.1 when.0.labels when.0.next)) in
-        second.keeps asked stands record { test = when.1; steps = on; copy_ins = refl }
+        let passed = subst (λ rs. IsTrue (list_all asked.test (nodes_of_switch tokens value rs))) (sym (ways_ranges q g.nodes (label_of count) arms to k ways.0)) when.1 in
+        second.keeps asked stands record { test = passed; steps = on; copy_ins = refl }
         (first.keeps count ready asked before (when.0, switch_of (passes_own q asked.test) value arms when.2) are);
     waits = subst (λ ns. AddsSites ns a c) (sym (switch_sites value arms)) (then_adds_before a b c (arm_sites arms) [] first.waits second.waits);
+    adds = omega (arith, first.adds, second.adds, switch_tokens q value arms, switch_same tokens value (ranges_of to) (all_ranges (branches (hidden-the_row-Arm-1 arms))));
   }
 
   -- a statement without blocks has no label and no continuation
@@ -253,6 +269,7 @@ module _ (q : Proc) where
         (λ nodes i m. let none = simple_continuation form i is in kept nodes (label_of count) (AtContinuation i) form k m none.0 none.1);
     keeps = λ count ready asked stands when are. l.keeps asked stands record { test = when.1; steps = one_step asked.graph k when.0.next; copy_ins = refl } are;
     waits = subst (λ ns. AddsSites ns a b) (sym (simple_sites form is)) l.waits;
+    adds = omega (arith, l.adds, ap (sum_by (laid_tokens q)) (simple_within form is));
   }
 
   pub empty_lays : {a b : Builder} (tokens : ℕ) (n k : NodeId) → Lays (goto ∷ []) (k ∷ []) a b (λ nodes. IsNode nodes n 1 (node.Goto k)) → LaysForm a b q tokens form.Empty n k
@@ -261,6 +278,7 @@ module _ (q : Proc) where
         lays_marked (λ nodes. LeadsBehindForm q nodes (label_of count) form.Empty k) l (λ nodes i m. refl) (λ nodes i m. refl);
     keeps = λ count ready asked stands when are. l.keeps asked stands record { test = when.1; steps = one_step asked.graph k when.0.next; copy_ins = refl } are;
     waits = l.waits;
+    adds = omega (arith, l.adds);
   }
 
   pub goto_lays : (a : Builder) (tokens l : ℕ) (n k : NodeId) → n ≡ label_of (length a.labels) l → LaysForm a a q tokens (form.Goto l) n k
@@ -270,6 +288,7 @@ module _ (q : Proc) where
         (lays_nothing {sites = []} {laid = []} {ahead = []} {normal = []} a (λ nodes. n ≡ label_of count l) (λ nodes. same ∙ ap (λ c. label_of c l) ready.labels)) (λ nodes i m. refl) (λ nodes i m. refl);
     keeps = λ count ready asked stands when are. are;
     waits = adds_nothing a [];
+    adds = omega arith;
   }
 
   pub label_lays : {a b c : Builder} (tokens l : ℕ) (n k : NodeId) → LaysMarked a b (λ nodes. Unit {0}) (λ nodes. SetsMark (form.Label l) k) →
@@ -282,6 +301,7 @@ module _ (q : Proc) where
     keeps = λ count ready asked stands when are.
         second.keeps asked stands record { test = when.1; steps = one_step asked.graph k when.0.next; copy_ins = refl } (subst (AreAsked asked) (sym same) are);
     waits = λ site. omega (arith, second.waits site, ap (λ nodes. times site (waiting_sites nodes)) same);
+    adds = omega (arith, second.adds, ap all_tokens same);
   }
 
   -- where control reaches a continuation from above it has come to the end of the run
@@ -299,4 +319,5 @@ module _ (q : Proc) where
         };
     keeps = λ count ready asked stands when are. subst (AreAsked asked) (sym same) are;
     waits = λ site. omega (arith, ap (λ nodes. times site (waiting_sites nodes)) same);
+    adds = omega (arith, ap all_tokens same);
   }

@@ -27,6 +27,7 @@ use Rattle.cmm_flow.specs.Operands.{arguments_of, nodes, nodes_of_all, operand_o
 use Rattle.cmm_flow.specs.Statements.{CallCode, CutCode, JumpCode, ReturnCode, YieldCode, normal_tokens, remaining}
 use Rattle.cmm_flow.proofs.Done.{Asks, CodeOf}
 use Rattle.cmm_flow.proofs.Expressions.{operand_brings}
+use Rattle.cmm_flow.proofs.Fits.{AreTyped, IsFit, IsTyped}
 use Rattle.cmm_flow.proofs.OperandLists.{operands_bring, same_values, same_words, values_there, words_there}
 use Rattle.cmm_flow.proofs.Operands.{value_kept}
 use Rattle.cmm_flow.proofs.Steps.{Goes, Run, Youngest, at, stays_there, then_goes}
@@ -36,19 +37,25 @@ same_numbers : (own : List ℕ) → map (λ c. c.number) (map {B = ContinuationI
 same_numbers [] = refl
 same_numbers (k ∷ ks) = ap (λ ns. k ∷ ns) (same_numbers ks)
 
-module _ {r : Run} (y : Youngest r) (q : Proc) (flow : IsFlowOf q y.graph) (store : Store) (running : store.status ≡ Running) where
+module _ {r : Run} (y : Youngest r) (q : Proc) (flow : IsFlowOf q y.graph) (store : Store) (running : store.status ≡ Running) (fit : IsFit r.setting q store) where
+  abbrev Typed : Expression → Type 0
+  Typed e = IsTyped r.setting.program q e
+
+  abbrev AllTyped : List Expression → Type 0
+  AllTyped es = AreTyped r.setting.program q es
+
   -- a statement that takes nothing from the input
   abbrev pub IsSilent : Form → Type 0
   IsSilent form = None ≡ event_at r.setting Running store (todo.act_of q form)
 
   -- ---- foreign calls
 
-  pub put_asks : (form : Form) (rest : List Statement) (temporaries : Temporary → ℕ) (n j k : NodeId) (value : Expression) (v : ℕ) → IsSilent form →
+  pub put_asks : (form : Form) (rest : List Statement) (temporaries : Temporary → ℕ) (n j k : NodeId) (value : Expression) (v : ℕ) → IsSilent form → Typed value →
       value_of value (reads_of r.setting store) ≡ Ok v → OperandCode y.graph.nodes value 0 n j →
       IsNode y.graph.nodes j 1 (kind.Host (host.PutByte (operand_of 0 value)) k) → CodeOf y q flow store rest k →
       Asks y q flow store temporaries n form rest (order.PutByte v) (nodes value + 1)
-  put_asks form rest temporaries n j k value v silent is operand node behind =
-      let first = operand_brings y store running value temporaries 0 n j v is operand in
+  put_asks form rest temporaries n j k value v silent typed is operand node behind =
+      let first = operand_brings y store running fit value temporaries 0 n j v typed is operand in
       record {
         then_ = first.after;
         to = j;
@@ -89,12 +96,12 @@ module _ {r : Run} (y : Youngest r) (q : Proc) (flow : IsFlowOf q y.graph) (stor
     value : operand_value (held_by after) (operand_of 0 e) (reads_of r.setting store) ≡ Ok v
     words : words_of (reads_of r.setting store) (passed (held_by after) (arguments_of 1 es)) ≡ words_of (reads_of r.setting store) (map todo.passed es)
 
-  both_bring : (e : Expression) (es : List Expression) (temporaries : Temporary → ℕ) (n m j : NodeId) (v : ℕ) (ws : List Word) →
+  both_bring : (e : Expression) (es : List Expression) (temporaries : Temporary → ℕ) (n m j : NodeId) (v : ℕ) (ws : List Word) → Typed e → AllTyped es →
       value_of e (reads_of r.setting store) ≡ Ok v → words_of (reads_of r.setting store) (map todo.passed es) ≡ Ok ws →
       OperandCode y.graph.nodes e 0 n m → OperandsCode y.graph.nodes es 1 m j → BringBoth temporaries n j e es v
-  both_bring e es temporaries n m j v ws is are operand operands =
-      let first = operand_brings y store running e temporaries 0 n m v is operand in
-      let others = operands_bring y store running es first.after 1 m j (words_there (reads_of r.setting store) es ws are) operands in
+  both_bring e es temporaries n m j v ws typed all is are operand operands =
+      let first = operand_brings y store running fit e temporaries 0 n m v typed is operand in
+      let others = operands_bring y store running fit es first.after 1 m j all (words_there (reads_of r.setting store) es ws are) operands in
       record {
         after = others.after;
         path = then_goes first.path others.path;
@@ -105,12 +112,12 @@ module _ {r : Run} (y : Youngest r) (q : Proc) (flow : IsFlowOf q y.graph) (stor
   -- ---- sites
 
   pub call_asks : (form : Form) (rest : List Statement) (temporaries : Temporary → ℕ) (tokens site : ℕ) (n k : NodeId) (callee : Expression)
-      (actuals : List Expression) (to : ℕ) (ws : List Word) → IsSilent form → value_of callee (reads_of r.setting store) ≡ Ok to →
-      words_of (reads_of r.setting store) (map todo.passed actuals) ≡ Ok ws → CallCode y.graph.nodes q tokens site callee actuals n k →
+      (actuals : List Expression) (to : ℕ) (ws : List Word) → IsSilent form → Typed callee → AllTyped actuals →
+      value_of callee (reads_of r.setting store) ≡ Ok to → words_of (reads_of r.setting store) (map todo.passed actuals) ≡ Ok ws → CallCode y.graph.nodes q tokens site callee actuals n k →
       CodeOf y q flow store rest k → Asks y q flow store temporaries n form rest (order.Call site to ws)
       (nodes callee + nodes_of_all actuals + remaining tokens (nodes callee + nodes_of_all actuals + normal_tokens (slice_get q.sites site)))
-  call_asks form rest temporaries tokens site n k callee actuals to ws silent is are code behind =
-      let both = both_bring callee actuals temporaries n code.0 code.1 to ws is are code.3 code.4 in
+  call_asks form rest temporaries tokens site n k callee actuals to ws silent typed all is are code behind =
+      let both = both_bring callee actuals temporaries n code.0 code.1 to ws typed all is are code.3 code.4 in
       let words = words_of (reads_of r.setting store) (passed (held_by both.after) (arguments_of 1 actuals)) in
       record {
         then_ = both.after;
@@ -129,13 +136,13 @@ module _ {r : Run} (y : Youngest r) (q : Proc) (flow : IsFlowOf q y.graph) (stor
       }
 
   pub yield_asks : (form : Form) (rest : List Statement) (temporaries : Temporary → ℕ) (tokens site : ℕ) (n k : NodeId) (values : List Expression)
-      (vs : List ℕ) → IsSilent form → values_of (reads_of r.setting store) (map value_of values) ≡ Ok vs →
+      (vs : List ℕ) → IsSilent form → AllTyped values → values_of (reads_of r.setting store) (map value_of values) ≡ Ok vs →
       YieldCode y.graph.nodes q tokens site values n k → CodeOf y q flow store rest k →
       Asks y q flow store temporaries n form rest (order.Yield site vs)
       (nodes_of_all values + remaining tokens (nodes_of_all values + normal_tokens (slice_get q.sites site)))
-  yield_asks form rest temporaries tokens site n k values vs silent are code behind =
+  yield_asks form rest temporaries tokens site n k values vs silent typed are code behind =
       let reads = reads_of r.setting store in
-      let all = operands_bring y store running values temporaries 0 n code.0 (values_there reads values vs are) code.2 in
+      let all = operands_bring y store running fit values temporaries 0 n code.0 typed (values_there reads values vs are) code.2 in
       record {
         then_ = all.after;
         to = code.0;
@@ -153,12 +160,12 @@ module _ {r : Run} (y : Youngest r) (q : Proc) (flow : IsFlowOf q y.graph) (stor
   -- ---- leaving the activation
 
   pub jump_asks : (form : Form) (rest : List Statement) (temporaries : Temporary → ℕ) (tokens : ℕ) (n : NodeId) (callee : Expression)
-      (actuals : List Expression) (to : ℕ) (ws : List Word) → IsSilent form → value_of callee (reads_of r.setting store) ≡ Ok to →
-      words_of (reads_of r.setting store) (map todo.passed actuals) ≡ Ok ws → JumpCode y.graph.nodes tokens callee actuals n →
+      (actuals : List Expression) (to : ℕ) (ws : List Word) → IsSilent form → Typed callee → AllTyped actuals →
+      value_of callee (reads_of r.setting store) ≡ Ok to → words_of (reads_of r.setting store) (map todo.passed actuals) ≡ Ok ws → JumpCode y.graph.nodes tokens callee actuals n →
       Asks y q flow store temporaries n form rest (order.Jump to ws)
       (nodes callee + nodes_of_all actuals + remaining tokens (nodes callee + nodes_of_all actuals))
-  jump_asks form rest temporaries tokens n callee actuals to ws silent is are code =
-      let both = both_bring callee actuals temporaries n code.0 code.1 to ws is are code.2 code.3 in
+  jump_asks form rest temporaries tokens n callee actuals to ws silent typed all is are code =
+      let both = both_bring callee actuals temporaries n code.0 code.1 to ws typed all is are code.2 code.3 in
       let words = words_of (reads_of r.setting store) (passed (held_by both.after) (arguments_of 1 actuals)) in
       record {
         then_ = both.after;
@@ -177,11 +184,11 @@ module _ {r : Run} (y : Youngest r) (q : Proc) (flow : IsFlowOf q y.graph) (stor
       }
 
   pub cut_asks : (form : Form) (rest : List Statement) (temporaries : Temporary → ℕ) (tokens : ℕ) (n : NodeId) (to : Expression)
-      (values : List Expression) (own : List ℕ) (v : ℕ) (ws : List Word) → IsSilent form → value_of to (reads_of r.setting store) ≡ Ok v →
+      (values : List Expression) (own : List ℕ) (v : ℕ) (ws : List Word) → IsSilent form → Typed to → AllTyped values → value_of to (reads_of r.setting store) ≡ Ok v →
       words_of (reads_of r.setting store) (map todo.passed values) ≡ Ok ws → CutCode y.graph.nodes tokens to values own n →
       Asks y q flow store temporaries n form rest (order.Cut v ws own) (nodes to + nodes_of_all values + remaining tokens (nodes to + nodes_of_all values))
-  cut_asks form rest temporaries tokens n to values own v ws silent is are code =
-      let both = both_bring to values temporaries n code.0 code.1 v ws is are code.2 code.3 in
+  cut_asks form rest temporaries tokens n to values own v ws silent typed all is are code =
+      let both = both_bring to values temporaries n code.0 code.1 v ws typed all is are code.2 code.3 in
       let words = words_of (reads_of r.setting store) (passed (held_by both.after) (arguments_of 1 values)) in
       let listed = map (λ c. c.number) (map {B = ContinuationId} (λ k. record { number = k }) own) in
       record {
@@ -201,12 +208,12 @@ module _ {r : Run} (y : Youngest r) (q : Proc) (flow : IsFlowOf q y.graph) (stor
       }
 
   pub return_asks : (form : Form) (rest : List Statement) (temporaries : Temporary → ℕ) (tokens exit alternates : ℕ) (n : NodeId) (values : List Expression)
-      (ws : List Word) → IsSilent form → words_of (reads_of r.setting store) (map todo.passed values) ≡ Ok ws →
+      (ws : List Word) → IsSilent form → AllTyped values → words_of (reads_of r.setting store) (map todo.passed values) ≡ Ok ws →
       ReturnCode y.graph.nodes tokens exit alternates values n →
       Asks y q flow store temporaries n form rest (order.Return exit alternates ws) (nodes_of_all values + remaining tokens (nodes_of_all values))
-  return_asks form rest temporaries tokens exit alternates n values ws silent are code =
+  return_asks form rest temporaries tokens exit alternates n values ws silent typed are code =
       let reads = reads_of r.setting store in
-      let all = operands_bring y store running values temporaries 0 n code.0 (words_there reads values ws are) code.1 in
+      let all = operands_bring y store running fit values temporaries 0 n code.0 typed (words_there reads values ws are) code.1 in
       record {
         then_ = all.after;
         to = code.0;

@@ -1,5 +1,6 @@
 pub mod Steps
 pub mod Operands
+pub mod Fits
 pub mod Expressions
 pub mod OperandLists
 pub mod Conditions
@@ -25,8 +26,12 @@ pub mod Laying
 pub mod Begins
 pub mod NodeLists
 pub mod NodesPass
+pub mod PartsPass
 pub mod Least
 pub mod TokensWithin
+pub mod Enough
+pub mod Covered
+pub mod Quiet
 pub mod Belongs
 pub mod FormsBelong
 pub mod Bounded
@@ -59,6 +64,7 @@ pub mod FormsStay
 pub mod Marking
 pub mod Blocks
 pub mod Covering
+pub mod LaidTokens
 pub mod LayingBlocks
 pub mod WaitingSites
 pub mod WaitingOnce
@@ -66,6 +72,8 @@ pub mod SitesOfNodes
 pub mod Landings
 pub mod Lacking
 pub mod Numbering
+pub mod TokensTogether
+pub mod Fronts
 pub mod Whole
 pub mod RangesCovering
 pub mod Shared

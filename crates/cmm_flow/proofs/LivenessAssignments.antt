@@ -13,7 +13,8 @@ use Rattle.cmm_graph.specs.declared.operand.Destination.TheVariants as destinati
 use Rattle.cmm_graph.specs.declared.operand.Rvalue.TheVariants as rvalue
 use Rattle.cmm_graph.specs.Paths as paths
 use Rattle.cmm_flow.specs.Code.{to_temporary}
-use Rattle.cmm_flow.specs.Operands.{access_tokens, operand_of, temporary}
+use Rattle.cmm_graph.specs.Covering.{access_tokens}
+use Rattle.cmm_flow.specs.Operands.{operand_of, temporary}
 use Rattle.cmm_flow.specs.Statements.{AddressesCode, AssignCode, SeveralCode, StoresCode}
 use Rattle.cmm_flow.proofs.LivenessExits.{target_writes}
 use Rattle.cmm_flow.proofs.LivenessExpressions.{into_temporary, operand_piece, some_values, value_piece}

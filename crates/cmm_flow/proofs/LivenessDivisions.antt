@@ -28,9 +28,9 @@ use Rattle.cmm_graph.specs.Counterpart.{AreExitsOf}
 use Rattle.cmm_graph.specs.Paths.{exit_nodes, written_to_destination}
 use Rattle.cmm_flow.specs.Code.{IsNode, OperandCode}
 use Rattle.cmm_flow.specs.Flow.{IsFlowOf}
-use Rattle.cmm_flow.specs.Operands.{nodes, operand_of}
+use Rattle.cmm_flow.specs.Operands.{operand_of}
 use Rattle.cmm_flow.specs.Liveness.{HasLandingsOf}
-use Rattle.cmm_flow.specs.Statements.{CheckedCode, ZeroCode, first_result, normal_tokens, remaining}
+use Rattle.cmm_flow.specs.Statements.{CheckedCode, ZeroCode, first_result, normal_tokens, operator_nodes, remaining}
 use Rattle.cmm_flow.proofs.LivenessExits.{AreExits, exits_by, exits_to, target_writes}
 use Rattle.cmm_flow.proofs.LivenessExpressions.{branch_piece, operand_piece}
 use Rattle.cmm_flow.proofs.LivenessMembers.{Among, is_among-append, or_nothing, or_turned}
@@ -67,19 +67,19 @@ module _ (p : Program) (q : Proc) (g : Graph) (range : IsProcInRange p q) (graph
   abbrev Left : Exits → Bool → NodeId → NodeId → Type 0
   Left ends written k m = Among (exit_nodes g ends) m ⊎ (IsFalse written × (k ≡ m))
 
-  checked_piece : (site : ℕ) (op : Op2) (width : Width) (left right : Expression) (n m j d y k : NodeId) (tokens : ℕ) (ends : Exits) →
+  checked_piece : (site : ℕ) (op : Op2) (width : Width) (left right : Expression) (n m j d y k : NodeId) (divides_at tokens : ℕ) (ends : Exits) →
       OperandCode g.nodes left 0 n m → OperandCode g.nodes right 1 m j →
-      IsNode g.nodes d 1 (kind.Assign (first_result (site_results q site)) (rvalue.Binary op width (operand_of 0 left) (operand_of 1 right)) k) →
+      IsNode g.nodes d divides_at (kind.Assign (first_result (site_results q site)) (rvalue.Binary op width (operand_of 0 left) (operand_of 1 right)) k) →
       IsNode g.nodes j 1 (kind.Branch record { operator = Eq; width = width; left = operand_of 1 right; right = Constant (Number 0 width) } y d) →
       IsNode g.nodes y tokens (kind.Yield record { number = site } (Constant (Number 1 W64) ∷ []) ends) →
       Piece g v 1 n (is_among v (read_by left ++ read_by right)) (Left ends (any_local v (written_to_destination (first_result (site_results q site)))) k)
-  checked_piece site op width left right n m j d y k tokens ends to_left to_right divides tests yields =
+  checked_piece site op width left right n m j d y k divides_at tokens ends to_left to_right divides tests yields =
       let written = any_local v (written_to_destination (first_result (site_results q site))) in
       let a = any_read v (operand_of 0 left) in
       let b = any_read v (operand_of 1 right) in
       let reads_left = is_among v (read_by left) in
       let reads_right = is_among v (read_by right) in
-      let last = one_node g v d k 1 (kind.Assign (first_result (site_results q site)) (rvalue.Binary op width (operand_of 0 left) (operand_of 1 right)) k) divides refl in
+      let last = one_node g v d k divides_at (kind.Assign (first_result (site_results q site)) (rvalue.Binary op width (operand_of 0 left) (operand_of 1 right)) k) divides refl in
       let waits = left_as g v (λ m. Among (exit_nodes g ends) m) (λ m is. is.1) (λ m is. (refl, is))
       (node_piece g v y tokens (kind.Yield record { number = site } (Constant (Number 1 W64) ∷ []) ends) yields) in
       let test = then_either g v (branch_piece g v j record { operator = Eq; width = width; left = operand_of 1 right; right = Constant (Number 0 width) } y d tests)
@@ -119,11 +119,11 @@ module _ (p : Program) (q : Proc) (g : Graph) (range : IsProcInRange p q) (graph
       StandsAt p q g range graph flow v n (is_among v (read_by left ++ read_by right)) (checked_ways q site rest)
   checked_stands tokens site op width left right n k rest code behind divides one =
       by (subst (λ b. elim b as (λ _. Type 0) [
-        | true ↦ ZeroCode g.nodes q tokens (nodes left + nodes right) site width right code.1 code.2 k
+        | true ↦ ZeroCode g.nodes q tokens (operator_nodes width left right) site width right code.1 code.2 k
         | false ↦ code.1 ≡ code.2
       ]) divides code.6)
     where
-      by : ZeroCode g.nodes q tokens (nodes left + nodes right) site width right code.1 code.2 k →
+      by : ZeroCode g.nodes q tokens (operator_nodes width left right) site width right code.1 code.2 k →
           StandsAt p q g range graph flow v n (is_among v (read_by left ++ read_by right)) (checked_ways q site rest)
       by zero =
           let wait = kind.Yield record { number = site } (Constant (Number 1 W64) ∷ []) zero.1 in
@@ -134,7 +134,7 @@ module _ (p : Program) (q : Proc) (g : Graph) (range : IsProcInRange p q) (graph
           let results : site_results q site ≡ of.site.results =
           ap (λ (o : Option Site). elim o as (λ _. List Target) [ Some site ↦ site.results | None ↦ [] ]) of.is_site in
           let written = ap (λ ts. any_local v (written_to_destination (first_result ts))) results ∙ result_written v width of.site.results (and_parts (is_yield_site p q 1 of.site) (is_one_result width of.site.results) checked).1 in
-          let piece = checked_piece site op width left right n code.0 code.1 code.2 zero.0 k (remaining tokens (nodes left + nodes right + 2 + normal_tokens (slice_get q.sites site))) zero.1 code.3 code.4 code.5 zero.2 zero.3 in
+          let piece = checked_piece site op width left right n code.0 code.1 code.2 zero.0 k _ (remaining tokens (operator_nodes width left right + 1 + normal_tokens (slice_get q.sites site))) zero.1 code.3 code.4 code.5 zero.2 zero.3 in
           subst (λ o. StandsAt p q g range graph flow v n (is_among v (read_by left ++ read_by right))
           (elim o as (λ _. List Way) [ Some site ↦ to_next site rest ∷ exits q site rest | None ↦ [] ])) (sym of.is_site)
           (checked_leads n k (is_among v (read_by left ++ read_by right)) _ zero.1 of.site rest are behind written piece)

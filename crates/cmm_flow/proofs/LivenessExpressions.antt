@@ -16,8 +16,9 @@ use Rattle.cmm_graph.specs.declared.operand.Destination.{Destination}
 use Rattle.cmm_graph.specs.declared.operand.Rvalue.{Rvalue}
 use Rattle.cmm_graph.specs.declared.operand.Rvalue.TheVariants as rvalue
 use Rattle.cmm_graph.specs.Paths.{operands_of_rvalue, values_of, written_to_destination}
-use Rattle.cmm_flow.specs.Code.{Assigns, IsNode, OperandCode, OperandsCode, PartCode, SameCode, TestCode, TestPart, ValueCode, ValuesCode, operand_in, to_temporary, right_tokens}
-use Rattle.cmm_flow.specs.Operands.{arguments_of, is_plain, operand_of, operands_of}
+use Rattle.cmm_graph.specs.Covering.{least_for}
+use Rattle.cmm_flow.specs.Code.{Assigns, IsNode, OperandCode, OperandsCode, PartCode, SameCode, TestCode, TestPart, ValueCode, ValuesCode, to_temporary}
+use Rattle.cmm_flow.specs.Operands.{arguments_of, is_plain, operand_in, operand_of, operands_of}
 use Rattle.cmm_flow.proofs.LivenessMembers.{is_among-append, or_among, or_nothing, or_turned}
 use Rattle.cmm_flow.proofs.LivenessPieces.{Piece, any_local, any_operand, any_read, fewer, left_as, node_piece, one_node, read_as, stay, then_either, then_piece}
 use Rattle.cmm_flow.proofs.Operands.{in_temporary}
@@ -34,7 +35,7 @@ module _ (g : Graph) (v : ℕ) where
 
   assigns_piece : (to : Destination) (value : Rvalue) (n k : NodeId) → Assigns g.nodes to value n k →
       Piece g v 1 n (any_operand v (operands_of_rvalue value)) (Written to k)
-  assigns_piece to value n k is = one_node g v n k (right_tokens value) (Assign to value k) is refl
+  assigns_piece to value n k is = one_node g v n k (least_for value) (Assign to value k) is refl
 
   pub into_temporary : (base : ℕ) (n k : NodeId) (r : Bool) → Piece g v 1 n r (Written (to_temporary base) k) → Piece g v 1 n r (λ m. k ≡ m)
   into_temporary base n k r piece = left_as g v (λ m. k ≡ m) (λ m is. is.1) (λ m same. (refl, same)) piece

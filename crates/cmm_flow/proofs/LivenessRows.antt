@@ -223,6 +223,9 @@ answer = record {
   names = λ p range. named p (callee_there p range);
   nodes = λ p range sites. refl;
   bounded = λ p range. lit≤ tt;
+  short = λ p range. lit≤ tt;
+  quiet = λ p range waits sites. refl;
+  covered = λ p range sites. refl;
 }
 
 program_in_range : IsInRange p

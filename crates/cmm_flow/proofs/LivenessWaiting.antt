@@ -30,8 +30,7 @@ use Rattle.cmm_graph.specs.Counterpart.{AreExitsOf, HasSite}
 use Rattle.cmm_graph.specs.Paths.{exit_nodes, landings, successors}
 use Rattle.cmm_live.specs.Sites.{cut_nodes, site_of}
 use Rattle.cmm_flow.specs.Code.{IsNode}
-use Rattle.cmm_flow.specs.Operands.{nodes}
-use Rattle.cmm_flow.specs.Statements.{ArmsCode, DefaultCode, FormCode, ListCode, ExitsCode, RowCode, ZeroCode}
+use Rattle.cmm_flow.specs.Statements.{ArmsCode, DefaultCode, FormCode, ListCode, ExitsCode, RowCode, ZeroCode, operator_nodes}
 use Rattle.cmm_flow.proofs.Counting.{row_statements}
 use Rattle.cmm_flow.proofs.LivenessArms.{few_defaults}
 use Rattle.cmm_flow.proofs.LivenessMembers.{is_among-append, or_nothing}
@@ -209,11 +208,11 @@ module _ (p : Program) (q : Proc) (g : Graph) (label_node : ℕ → NodeId) (sit
       }
   mark_waits tokens (Checked number op width left right) n k rest code behind good is =
       by (subst (λ b. elim b as (λ _. Type 0) [
-        | true ↦ ZeroCode g.nodes q tokens (nodes left + nodes right) number width right code.1 code.2 k
+        | true ↦ ZeroCode g.nodes q tokens (operator_nodes width left right) number width right code.1 code.2 k
         | false ↦ code.1 ≡ code.2
       ]) (and_parts _ _ (and_parts _ _ (and_parts _ _ good).0).0).1 code.6)
     where
-      by : ZeroCode g.nodes q tokens (nodes left + nodes right) number width right code.1 code.2 k → Waits rest
+      by : ZeroCode g.nodes q tokens (operator_nodes width left right) number width right code.1 code.2 k → Waits rest
       by test =
           let same = eqb-true site number is in
           record {

@@ -13,7 +13,6 @@ use Rattle.cmm_program.specs.declared.expression.Expression.TheBlock as Expressi
 use Rattle.cmm_program.specs.declared.expression.Expression.TheVariants as e
 use Rattle.cmm_program.specs.declared.procedure.Proc.{Proc}
 use Rattle.cmm_program.specs.declared.procedure.Site.{Site}
-use Rattle.cmm_program.specs.declared.statement.Arm.{Arm}
 use Rattle.cmm_program.specs.declared.statement.Form.TheVariants as form
 use Rattle.cmm_program.specs.declared.statement.Lvalue.{Lvalue}
 use Rattle.cmm_program.specs.declared.statement.Lvalue.TheVariants as lvalue
@@ -27,7 +26,7 @@ use Rattle.cmm_flow.specs.declared.builder.Builder.{Builder}
 use Rattle.cmm_flow.specs.Code.{IsNode, to_temporary}
 use Rattle.cmm_flow.specs.Operands.{operand_of, temporary}
 use Rattle.cmm_flow.specs.inside.Laying.{Lays, LaysNode}
-use Rattle.cmm_flow.specs.inside.Nodes.{goto, nodes_of_address, nodes_of_addresses, nodes_of_assignment, nodes_of_exits, nodes_of_form, nodes_of_guard, nodes_of_guard_if, nodes_of_operand, nodes_of_operands, nodes_of_parts, nodes_of_several, nodes_of_stores, nodes_of_switch, nodes_of_test, nodes_of_two, nodes_of_value, nodes_of_values, nowhere, stored}
+use Rattle.cmm_flow.specs.inside.Nodes.{goto, nodes_of_address, nodes_of_addresses, nodes_of_assignment, nodes_of_exits, nodes_of_form, nodes_of_guard, nodes_of_guard_if, nodes_of_operand, nodes_of_operands, nodes_of_parts, nodes_of_several, nodes_of_stores, nodes_of_test, nodes_of_two, nodes_of_value, nodes_of_values, nowhere, stored}
 use Rattle.cmm_flow.specs.inside.Parts.{store_node, store_tokens}
 
 pub same_node : {tokens count : ℕ} {kind other : NodeKind} → tokens ≡ count → kind ≡ other →
@@ -158,6 +157,3 @@ nodes_of_if q tokens condition then_ otherwise = refl
 
 pub nodes_of_span : (q : Proc) (tokens : ℕ) (body : List Statement) → nodes_of_form q tokens (form.Span body) ≡ goto ∷ []
 nodes_of_span q tokens body = refl
-
-pub nodes_of_arms : (q : Proc) (tokens : ℕ) (value : Expression) (arms : List Arm) → nodes_of_form q tokens (form.Switch value arms) ≡ nodes_of_switch tokens value
-nodes_of_arms q tokens value arms = refl

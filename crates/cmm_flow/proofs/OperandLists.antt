@@ -2,6 +2,7 @@
 use Rattle.std.proofs.Common.{◌≡◌, ℕ, suc, List, [], ◌∷◌, map, Ok, refl, ap, sym, ◌∙◌, subst, arith}
 use Rattle.cmm_laws.specs.Observed.{store_seen}
 use Rattle.cmm_program.specs.declared.expression.Expression.{Expression}
+use Rattle.cmm_program.specs.declared.procedure.Proc.{Proc}
 use Rattle.cmm_program.specs.Acts.{values_of, word_passed, words_of}
 use Rattle.cmm_program.specs.Errors.{and_then}
 use Rattle.cmm_program.specs.Orders.{Word}
@@ -16,6 +17,7 @@ use Rattle.cmm_graph.specs.Values.{operand_value, operand_values, passed}
 use Rattle.cmm_flow.specs.Code.{OperandsCode}
 use Rattle.cmm_flow.specs.Operands.{arguments_of, nodes_of_all, operand_of, operands_of}
 use Rattle.cmm_flow.proofs.Expressions.{bound, operand_brings}
+use Rattle.cmm_flow.proofs.Fits.{AreTyped, IsFit, first_typed, others_typed}
 use Rattle.cmm_flow.proofs.Operands.{AreSameBelow, value_kept}
 use Rattle.cmm_flow.proofs.Steps.{Goes, Run, Youngest, and_goes, at, stays_there}
 
@@ -63,7 +65,7 @@ module _ (r : Reads) where
       (λ a. and_then (words_of r (passed (held_by temporaries) (arguments_of (suc base) es))) (λ rest. Ok (a ∷ rest)))) given.0
       ∙ ap (λ t. and_then (word_passed r (todo.passed e)) (λ a. and_then t (λ rest. Ok (a ∷ rest)))) (same_words temporaries (suc base) es given.1)
 
-module _ {r : Run} (y : Youngest r) (store : Store) (running : store.status ≡ Running) where
+module _ {r : Run} (y : Youngest r) (store : Store) (running : store.status ≡ Running) {q : Proc} (fit : IsFit r.setting q store) where
   -- control comes from a node to another, where operands have their values
   pub record BringsAll (temporaries : Temporary → ℕ) (n k : NodeId) (base : ℕ) (es : List Expression) : Type 0 where
     pub after : Temporary → ℕ
@@ -71,17 +73,17 @@ module _ {r : Run} (y : Youngest r) (store : Store) (running : store.status ≡ 
     pub given : AreGiven (reads_of r.setting store) after base es
     pub below : AreSameBelow base temporaries after
 
-  pub operands_bring : (es : List Expression) (temporaries : Temporary → ℕ) (base : ℕ) (n k : NodeId) → AreThere (reads_of r.setting store) es →
+  pub operands_bring : (es : List Expression) (temporaries : Temporary → ℕ) (base : ℕ) (n k : NodeId) → AreTyped r.setting.program q es → AreThere (reads_of r.setting store) es →
       OperandsCode y.graph.nodes es base n k → BringsAll temporaries n k base es
-  operands_bring [] temporaries base n k there same = record {
+  operands_bring [] temporaries base n k typed there same = record {
     after = temporaries;
     path = subst (λ m. Goes r (store_seen store) 0 0 (at y store temporaries n) (at y store temporaries m)) same (stays_there 0 (at y store temporaries n));
     given = tt;
     below = λ u less. refl;
   }
-  operands_bring (e ∷ es) temporaries base n k there code =
-      let first = operand_brings y store running e temporaries base n code.0 there.0 there.1 code.1 in
-      let others = operands_bring es first.after (suc base) code.0 k there.2 code.2 in
+  operands_bring (e ∷ es) temporaries base n k typed there code =
+      let first = operand_brings y store running fit e temporaries base n code.0 there.0 (first_typed r.setting.program q e es typed) there.1 code.1 in
+      let others = operands_bring es first.after (suc base) code.0 k (others_typed r.setting.program q e es typed) there.2 code.2 in
       record {
         after = others.after;
         path = and_goes first.path others.path (omega arith) (omega arith);

@@ -1,5 +1,5 @@
 -- Statements that are passed in silence: branches, blocks, labels and assignments.
-use Rattle.std.proofs.Common.{is_some, ◌≡◌, ℕ, zero, suc, ◌+◌, max, Bool, true, false, Ok, Option, Some, None, List, ◌∷◌, ◌++◌, map, slice_get, refl, ap, sym, subst, arith}
+use Rattle.std.proofs.Common.{is_some, ◌≡◌, ℕ, zero, suc, ◌+◌, max, Bool, true, false, IsTrue, Ok, Option, Some, None, List, ◌∷◌, ◌++◌, map, slice_get, refl, ap, sym, subst, arith}
 use Rattle.cmm_laws.specs.Observed.{store_seen}
 use Rattle.cmm_program.specs.declared.expression.Condition.{Condition}
 use Rattle.cmm_program.specs.declared.expression.Expression.{Expression}
@@ -18,6 +18,7 @@ use Rattle.cmm_program.specs.Orders.{Order, Place, writes}
 use Rattle.cmm_program.specs.State.{Running, Store}
 use Rattle.cmm_program.specs.Todo as todo
 use Rattle.cmm_program.specs.Todo.{aim_of, if_way, rest_after, switch_way}
+use Rattle.cmm_program.specs.Typing.{is_condition}
 use Rattle.cmm_program.specs.Values.{test_of, value_of}
 use Rattle.cmm_program.specs.Writes.{put_all, reads_of}
 use mathlib.Core.Former.{Count}
@@ -33,9 +34,10 @@ use Rattle.cmm_flow.specs.Code.{IsNode, OperandCode, TestCode}
 use Rattle.cmm_flow.specs.Flow.{IsFlowOf}
 use Rattle.cmm_flow.specs.Operands.{nodes, operand_of, test_nodes}
 use Rattle.cmm_flow.specs.Statements.{ArmsCode, AssignCode, DefaultCode, FormCode, RowCode}
-use Rattle.cmm_flow.proofs.Assigning.{assign_cost, assign_done}
+use Rattle.cmm_flow.proofs.Assigning.{AreLvalues, assign_cost, assign_done}
 use Rattle.cmm_flow.proofs.Done.{CodeOf, IsDone, Passes, Quietly, asked, is_done_for}
 use Rattle.cmm_flow.proofs.Expressions.{operand_brings}
+use Rattle.cmm_flow.proofs.Fits.{AreTyped, IsFit, IsTyped}
 use Rattle.cmm_flow.proofs.Rows.{arm_node, row_leads, switch_leads}
 use Rattle.cmm_flow.proofs.Steps.{Goes, Run, Youngest, at, at_most, goto_goes, passes_one, place, then_goes}
 use Rattle.cmm_flow.proofs.Conditions.{chosen, test_decides}
@@ -82,11 +84,11 @@ module _ {r : Run} (y : Youngest r) (q : Proc) (flow : IsFlowOf q y.graph) (stor
 
   pub if_passes : {i j : Count} (condition : Condition) (then_ : Row_of-Statement i) (otherwise : Row_of-Statement j) (rest : List Statement)
       (temporaries : Temporary → ℕ) (n held failed k : NodeId) (found : Bool) (way : ℕ) → elim found as (λ _. ℕ) [ true ↦ 0 | false ↦ 1 ] ≡ way →
-      test_of condition (reads_of r.setting store) ≡ Ok found → TestCode y.graph.nodes condition n held failed → CodeOf y q flow store rest k →
+      IsFit r.setting q store → IsTrue (is_condition r.setting.program q condition) → test_of condition (reads_of r.setting store) ≡ Ok found → TestCode y.graph.nodes condition n held failed → CodeOf y q flow store rest k →
       RowCode q y.graph.nodes flow.label_node then_ held k → RowCode q y.graph.nodes flow.label_node otherwise failed k →
       Passes y q flow store temporaries n store (elim way [ zero ↦ statements then_ ++ rest | suc _ ↦ statements otherwise ++ rest ]) (test_nodes condition)
-  if_passes condition then_ otherwise rest temporaries n held failed k found way same is test code first second =
-      let decides = test_decides y store running condition temporaries n held failed found is test in
+  if_passes condition then_ otherwise rest temporaries n held failed k found way same fit tested is test code first second =
+      let decides = test_decides y store running fit condition temporaries n held failed found tested is test in
       record {
         then_ = decides.after;
         to = chosen found held failed;
@@ -114,12 +116,12 @@ module _ {r : Run} (y : Youngest r) (q : Proc) (flow : IsFlowOf q y.graph) (stor
       leads None = refl
 
   pub switch_passes : {i : Count} (value : Expression) (arms : Row_of-Arm i) (rest : List Statement) (temporaries : Temporary → ℕ) (n j : NodeId) (to : List Arm)
-      (otherwise k : NodeId) (tokens v way : ℕ) → value_of value (reads_of r.setting store) ≡ Ok v → arm_for (branches arms) v ≡ Some way →
+      (otherwise k : NodeId) (tokens v way : ℕ) → IsFit r.setting q store → IsTyped r.setting.program q value → value_of value (reads_of r.setting store) ≡ Ok v → arm_for (branches arms) v ≡ Some way →
       OperandCode y.graph.nodes value 0 n j → IsNode y.graph.nodes j tokens (Switch (operand_of 0 value) to otherwise) →
       ArmsCode q y.graph.nodes flow.label_node arms to k → DefaultCode q y.graph.nodes flow.label_node arms otherwise k → CodeOf y q flow store rest k →
       Passes y q flow store temporaries n store (branch_body (branches arms) way ++ rest) (nodes value + max 1 tokens)
-  switch_passes value arms rest temporaries n j to otherwise k tokens v way is found operand node arms_code default code =
-      let first = operand_brings y store running value temporaries 0 n j v is operand in
+  switch_passes value arms rest temporaries n j to otherwise k tokens v way fit typed is found operand node arms_code default code =
+      let first = operand_brings y store running fit value temporaries 0 n j v typed is operand in
       record {
         then_ = first.after;
         to = arm_node to otherwise v;
@@ -129,9 +131,9 @@ module _ {r : Run} (y : Youngest r) (q : Proc) (flow : IsFlowOf q y.graph) (stor
 
   -- an assignment
   pub assign_passes : (to : List Lvalue) (values : List Expression) (rest : List Statement) (temporaries : Temporary → ℕ) (n k : NodeId) (ps : List Place)
-      (vs : List ℕ) (after : Store) → places_of (reads_of r.setting store) (map aim_of to) ≡ Ok ps →
+      (vs : List ℕ) (after : Store) → IsFit r.setting q store → AreLvalues r.setting.program q to → AreTyped r.setting.program q values → places_of (reads_of r.setting store) (map aim_of to) ≡ Ok ps →
       values_of (reads_of r.setting store) (map value_of values) ≡ Ok vs → put_all (writes ps vs) store ≡ Ok after → AssignCode y.graph.nodes to values n k →
       CodeOf y q flow store rest k → Passes y q flow store temporaries n after rest (assign_cost to values)
-  assign_passes to values rest temporaries n k ps vs after places values_are puts code behind =
-      let done = assign_done y to values ps vs store after temporaries n k running places values_are puts code in
+  assign_passes to values rest temporaries n k ps vs after fit lvalues typed places values_are puts code behind =
+      let done = assign_done y to values ps vs store after temporaries n k running fit lvalues typed places values_are puts code in
       record { then_ = done.then_; to = k; path = done.path; code = behind }

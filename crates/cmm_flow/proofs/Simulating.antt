@@ -1,6 +1,7 @@
 -- Each step of the C-- machine is a path over the graphs.
-use Rattle.std.proofs.Common.{◌≡◌, ℕ, ◌+◌, ◌≤◌, max, nat_le, Bool, true, false, Ok, Err, Option, Some, None, List, [], ◌∷◌, slice_get, refl, ap, sym, ◌∙◌, subst, arith}
+use Rattle.std.proofs.Common.{◌≡◌, ℕ, ◌+◌, ◌≤◌, max, nat_le, Bool, true, false, IsTrue, All, Ok, Err, Option, Some, None, List, [], ◌∷◌, slice_get, refl, ap, sym, ◌∙◌, subst, arith}
 use Rattle.std.proofs.lemmas.Bool.{and_parts}
+use Rattle.std.proofs.lemmas.List.Elements.{All-head}
 use Rattle.std.proofs.lemmas.Bool.Decides.{nat_tests}
 use Rattle.cmm_following.proofs.Paths.{joined, one_step, weaker}
 use Rattle.cmm_following.proofs.Prefixes.{within_refl}
@@ -9,6 +10,8 @@ use Rattle.cmm_following.specs.Observing.{Level, Passes}
 use Rattle.cmm_following.specs.Seen.{IsWithin, but_input}
 use Rattle.cmm_following.specs.Simulation.{Leads, Simulates}
 use Rattle.cmm_laws.proofs.Shared.{machine_lasts}
+use Rattle.cmm_laws.specs.Fitting as Fitting
+use Rattle.cmm_laws.specs.Fitting.{AreActivations, ExpressionsFit, IsByte, IsSetUp, IsSound, IsStatementOf, StatesAreSound}
 use Rattle.cmm_laws.specs.Observed.{Call, Ending, event_at, machine_of, store_seen}
 use Rattle.cmm_program.proofs.Shared.{list_all_get}
 use Rattle.cmm_program.specs.declared.procedure.Proc.{Proc}
@@ -20,6 +23,7 @@ use Rattle.cmm_program.specs.Errors.{Tried, and_then, with_some}
 use Rattle.cmm_program.specs.Client.{answered}
 use Rattle.cmm_program.specs.Exits.{Instead}
 use Rattle.cmm_program.specs.Frames.{procedure_at}
+use Rattle.cmm_program.specs.InRange.{is_form}
 use Rattle.cmm_program.specs.Machine.{first_store, start_of, step_of}
 use Rattle.cmm_program.specs.Orders.{Order}
 use Rattle.cmm_program.specs.Performing.{Stay, Transfer, perform}
@@ -36,13 +40,14 @@ use Rattle.cmm_graph.specs.GraphMachine.{tokens_at}
 use Rattle.cmm_graph.specs.Paths.{node_of}
 use Rattle.cmm_flow.specs.Flow.{HasTokens}
 use Rattle.cmm_flow.specs.Laws.{AreFlows}
-use Rattle.cmm_flow.specs.Relation.{AreCounted, AreGoing, AreRelated, AreWaiting, HasFlow, Related, StandsFor, longest}
+use Rattle.cmm_flow.specs.Relation.{AreCounted, AreGoing, AreRelated, AreWaiting, HasFlow, Related, SoundlyRelated, StandsFor, longest}
 use Rattle.cmm_flow.proofs.Arriving.{counted_in, instead_related, kind_there, landed_by, stands_at, zipped_back}
 use Rattle.cmm_flow.proofs.Client.{answered_related}
 use Rattle.cmm_flow.proofs.Costs.{form_counted}
 use Rattle.cmm_flow.proofs.Counting.{longest_is, rest_counted}
 use Rattle.cmm_flow.proofs.Done.{Asks, Finally, IsDone, Passes as PassesTo, Quietly}
 use Rattle.cmm_flow.proofs.Expressions.{bound}
+use Rattle.cmm_flow.proofs.Fits.{IsFit}
 use Rattle.cmm_flow.proofs.Forms.{form_cost, form_done}
 use Rattle.cmm_flow.proofs.Orders.{Stand, going, going_below, order_related}
 use Rattle.cmm_flow.proofs.Steps.{Quiet, Run, Youngest, at, cost_is, machine, place}
@@ -65,7 +70,7 @@ step_running : {C : Type 0} (k : Control C) (s : Setting) (store : Store) (cs : 
     ]
 step_running k s store cs does running is = grind (arith, running, is)
 
-module _ (r : Run) (flows : AreFlows r.setting r.graphs) where
+module _ (are_sound : StatesAreSound) (fitting : ExpressionsFit) (r : Run) (set : IsSetUp r.setting) (flows : AreFlows r.setting r.graphs) where
   abbrev s : Setting
   s = r.setting
 
@@ -131,7 +136,8 @@ module _ (r : Run) (flows : AreFlows r.setting r.graphs) where
 
   module _ (store : Store) (running : store.status ≡ Running) (n : ℕ) (x : Statement) (rest : List Statement) (ts : List Todo) (c : Position) (cs : List Position)
       (a : Activation) (older : List Activation) (are : store.activations ≡ a ∷ older)
-      (stands : StandsFor s.program r.graphs a (record { procedure = n; rest = x ∷ rest }) c) (waiting : AreWaiting s.program r.graphs older ts cs) where
+      (stands : StandsFor s.program r.graphs a (record { procedure = n; rest = x ∷ rest }) c) (waiting : AreWaiting s.program r.graphs older ts cs)
+      (sound : IsSound s (record { store = store; controls = record { procedure = n; rest = x ∷ rest } ∷ ts })) where
     abbrev of : HasFlow s.program r.graphs n
     of = stands.one.of
 
@@ -140,6 +146,20 @@ module _ (r : Run) (flows : AreFlows r.setting r.graphs) where
 
     abbrev first : State Todo
     first = record { store = store; controls = todo ∷ ts }
+
+    -- what it computes with fits, and its statement is in range
+    is_youngest : procedure_at s a.procedure ≡ Some of.procedure
+    is_youngest = ap (procedure_at s) stands.one.activation ∙ of.is_procedure
+
+    fit : IsFit s of.procedure store
+    fit = record { values = λ e w v typed is. fitting s first a older of.procedure e w v set sound are is_youngest typed is }
+
+    in_range : IsTrue (is_form s.program of.procedure x.form)
+    in_range =
+        let activations = subst (λ as_. AreActivations s (Fitting.Youngest store.status) as_ (todo ∷ ts)) are sound.fits.activations in
+        let statements = (activations.1.procedure of.procedure is_youngest).statements in
+        let statement = All-head (IsStatementOf s.program of.procedure) x rest statements in
+        (and_parts (is_form s.program of.procedure x.form) (nat_le (own_tokens of.procedure x.form) x.tokens) statement.0).0
 
     -- what it does
     does : next_act (todo_control s.program) (todo ∷ ts) ≡ act_of of.procedure x.form
@@ -261,7 +281,7 @@ module _ (r : Run) (flows : AreFlows r.setting r.graphs) where
               | Err error ↦ record { store = over (Wrong error) store; controls = todo ∷ ts }
             ]) is in
             done_leads o.0 transfer o.2 step
-            (form_done young of.procedure of.flow store running x.tokens x.form rest c.temporaries c.node stands.code.0 o.0 stands.code.1 stands.code.2 o.1 (transfer, o.2))
+            (form_done young of.procedure of.flow store running fit x.tokens x.form rest c.temporaries c.node stands.code.0 o.0 in_range stands.code.1 stands.code.2 o.1 (transfer, o.2))
         by (Err error) is = grind (arith, steps, is, right)
 
   -- ---- any step
@@ -272,18 +292,18 @@ module _ (r : Run) (flows : AreFlows r.setting r.graphs) where
   nothing_left store n ts running = grind (arith, running)
 
   going_leads : (store : Store) → store.status ≡ Running → (as_ : List Activation) → store.activations ≡ as_ → (ts : List Todo) (cs : List Position) →
-      AreGoing s.program r.graphs as_ ts cs → let a : State Todo = record { store = store; controls = ts } in A.wrong (A.step a) ≡ false →
+      AreGoing s.program r.graphs as_ ts cs → let a : State Todo = record { store = store; controls = ts } in IsSound s a → A.wrong (A.step a) ≡ false →
       Leads (machine r) r.cost (Passes A (machine r) a) (Rel (A.step a)) 1 (longest s.program + r.more) (record { store = store; controls = cs })
-  going_leads store running (a ∷ older) are (t ∷ ts) (c ∷ cs) goes right = by t.procedure t.rest goes.0 right
+  going_leads store running (a ∷ older) are (t ∷ ts) (c ∷ cs) goes sound right = by t.procedure t.rest goes.0 sound right
     where
       by : (n : ℕ) (rest : List Statement) → StandsFor s.program r.graphs a (record { procedure = n; rest = rest }) c →
-          let a : State Todo = record { store = store; controls = record { procedure = n; rest = rest } ∷ ts } in A.wrong (A.step a) ≡ false →
+          let a : State Todo = record { store = store; controls = record { procedure = n; rest = rest } ∷ ts } in IsSound s a → A.wrong (A.step a) ≡ false →
           Leads (machine r) r.cost (Passes A (machine r) a) (Rel (A.step a)) 1 (longest s.program + r.more) (record { store = store; controls = c ∷ cs })
-      by n [] stands right = grind (arith, nothing_left store n ts running, right)
-      by n (x ∷ rest) stands right = running_leads store running n x rest ts c cs a older are stands goes.1 right
-  going_leads store running [] are ts cs goes right = elim goes [ ]
-  going_leads store running (a ∷ older) are [] cs goes right = elim goes [ ]
-  going_leads store running (a ∷ older) are (t ∷ ts) [] goes right = elim goes [ ]
+      by n [] stands sound right = grind (arith, nothing_left store n ts running, right)
+      by n (x ∷ rest) stands sound right = running_leads store running n x rest ts c cs a older are stands goes.1 sound right
+  going_leads store running [] are ts cs goes sound right = elim goes [ ]
+  going_leads store running (a ∷ older) are [] cs goes sound right = elim goes [ ]
+  going_leads store running (a ∷ older) are (t ∷ ts) [] goes sound right = elim goes [ ]
 
   waiting_leads : (values : List ℕ) (store : Store) → store.status ≡ Waiting values → (ts : List Todo) (cs : List Position) →
       AreWaiting s.program r.graphs store.activations ts cs → let a : State Todo = record { store = store; controls = ts } in
@@ -305,9 +325,9 @@ module _ (r : Run) (flows : AreFlows r.setting r.graphs) where
       same_step a b related.store (grind (arith, is, related.store)) (subst (λ st. Rel st ((machine r).step b)) first (subst (λ u. Rel a u) second related))
       (longest s.program + r.more) (dearest b)
 
-  related_leads : (a : State Todo) (b : State Position) → Rel a b → A.wrong (A.step a) ≡ false →
+  related_leads : (a : State Todo) (b : State Position) → Rel a b → IsSound s a → A.wrong (A.step a) ≡ false →
       Leads (machine r) r.cost (Passes A (machine r) a) (Rel (A.step a)) 1 (longest s.program + r.more) b
-  related_leads a b related right = by a.store.status refl related.controls
+  related_leads a b related sound right = by a.store.status refl related.controls
     where
       here : record { store = a.store; controls = b.controls } ≡ b
       here = ap (λ store. record { store = store; controls = b.controls }) related.store
@@ -316,20 +336,29 @@ module _ (r : Run) (flows : AreFlows r.setting r.graphs) where
           Leads (machine r) r.cost (Passes A (machine r) a) (Rel (A.step a)) 1 (longest s.program + r.more) b
       by Running is controls =
           subst (Leads (machine r) r.cost (Passes A (machine r) a) (Rel (A.step a)) 1 (longest s.program + r.more)) here
-          (going_leads a.store is a.store.activations refl a.controls b.controls controls right)
+          (going_leads a.store is a.store.activations refl a.controls b.controls controls sound right)
       by (Waiting values) is controls =
           subst (Leads (machine r) r.cost (Passes A (machine r) a) (Rel (A.step a)) 1 (longest s.program + r.more)) here (waiting_leads values a.store is a.controls b.controls controls)
       by (Ended outcome) is controls = over_leads outcome a b is related
       by (Wrong error) is controls = grind (arith, is, right)
 
   -- the law, at any such costs
-  pub run_simulates : Simulates A (λ _. longest s.program + r.more) (machine r) r.cost Rel
-  run_simulates = record { level = λ a b related. level_by a b a.store.status related.store refl; leads = related_leads }
+  pub run_simulates : Simulates A (λ _. longest s.program + r.more) (machine r) r.cost (SoundlyRelated s r.graphs)
+  run_simulates = record {
+    level = λ a b both. level_by a b a.store.status both.related.store refl;
+    leads = λ a b both right.
+        weaker (related_leads a b both.related both.sound right) (λ u passes. passes) (λ v related. record { related = related; sound = are_sound.next s set a both.sound })
+        (omega arith) (λ n within. within);
+  }
 
   -- both start related
-  pub starts_related : (input : List ℕ) → Rel (start_of (todo_control s.program) s input) (start_of (graph_control r.graphs) s input)
-  starts_related input = by (procedure_at s s.program.main) refl
+  begins_related : (input : List ℕ) → Rel (start_of (todo_control s.program) s input) (start_of (graph_control r.graphs) s input)
+  begins_related input = by (procedure_at s s.program.main) refl
     where
       by : (o : Option Proc) → procedure_at s s.program.main ≡ o → Rel (start_of (todo_control s.program) s input) (start_of (graph_control r.graphs) s input)
       by (Some q) is = instead_related s r.graphs flows s.program.main [] (first_store s input) q [] [] is tt
       by None is = landed_by s r.graphs flows (Instead s.program.main []) (first_store s input) [] [] (λ after lands. grind (arith, is, lands))
+
+  pub starts_related : (input : List ℕ) → All IsByte input →
+      SoundlyRelated s r.graphs (start_of (todo_control s.program) s input) (start_of (graph_control r.graphs) s input)
+  starts_related input bytes = record { related = begins_related input; sound = are_sound.first s set input bytes }

@@ -12,15 +12,16 @@ use Rattle.cmm_graph.specs.declared.node.NodeKind.TheVariants.{Assign, Branch}
 use Rattle.cmm_flow.specs.Operands.{operand_of}
 use Rattle.cmm_graph.specs.declared.operand.Destination.{Destination}
 use Rattle.cmm_graph.specs.declared.operand.Rvalue.{Rvalue}
-use Rattle.cmm_flow.specs.Code.{IsNode, ValueCode, SameCode, OperandCode, OperandsCode, CompareCode, right_tokens}
+use Rattle.cmm_flow.specs.Code.{IsNode, ValueCode, SameCode, OperandCode, OperandsCode, CompareCode}
+use Rattle.cmm_graph.specs.Covering.{least_for}
 use Rattle.cmm_flow.specs.inside.Parts.{TwoCode, PartsCode, PartsCodeIn, rvalue_of, rvalue_in}
 
 module _ (nodes : List Node) (base : ℕ) (to : Destination) (n m k : NodeId) where
   abbrev Computes : Rvalue → Type 0
-  Computes value = IsNode nodes m (right_tokens value) (Assign to value k)
+  Computes value = IsNode nodes m (least_for value) (Assign to value k)
 
   -- where there are no operands, the first node is the last
-  alone : (value : Rvalue) → n ≡ m → Computes value → IsNode nodes n (right_tokens value) (Assign to value k)
+  alone : (value : Rvalue) → n ≡ m → Computes value → IsNode nodes n (least_for value) (Assign to value k)
   alone value same is = ap (λ i. slice_get nodes i.number) same ∙ is
 
   mutual

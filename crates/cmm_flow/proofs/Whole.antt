@@ -1,5 +1,5 @@
 -- What is laid for a body, with the nodes of labels and continuations in front, is the flow of its procedure.
-use Rattle.std.proofs.Common.{◌≡◌, ap₂, ℕ, zero, suc, ◌+◌, ◌<◌, ◌≤◌, min, nat_lt, IsTrue, nat_le, Bool, true, false, Some, None, List, [], ◌∷◌, ◌++◌, append-nil, get_or, length, map, replicate, slice_get, refl, sym, ap, ◌∙◌, subst, arith}
+use Rattle.std.proofs.Common.{◌≡◌, ap₂, ℕ, zero, suc, ◌+◌, ◌*◌, ◌<◌, ◌≤◌, min, nat_lt, IsTrue, nat_le, Bool, true, false, Some, None, List, [], ◌∷◌, ◌++◌, append-nil, get_or, length, map, replicate, slice_get, refl, sym, ap, ◌∙◌, subst, arith}
 use Rattle.std.proofs.lemmas.Bool.{and_parts}
 use Rattle.std.proofs.lemmas.Bool.Decides.{nat_tests}
 use Rattle.std.proofs.lemmas.List.{get_or-map, get_or-replicate, length-append, length-map, length-replicate}
@@ -15,7 +15,7 @@ use Rattle.cmm_program.specs.declared.statement.Statement.{Statement}
 use Rattle.cmm_program.specs.declared.program.Program.{Program}
 use Rattle.cmm_program.specs.Errors.{with_some}
 use Rattle.cmm_program.specs.InRange.{IsProcInRange}
-use Rattle.cmm_program.specs.Bodies.{Mark, AtContinuation, AtLabel, after_inside, follow}
+use Rattle.cmm_program.specs.Bodies.{Mark, AtContinuation, AtLabel, after_inside, body_statements, follow}
 use Rattle.cmm_program.specs.Numbering.{body_numbers, site_number}
 use Rattle.cmm_graph.specs.declared.graph.Graph.{Graph}
 use Rattle.cmm_graph.specs.declared.node.Node.{Node}
@@ -26,25 +26,32 @@ use Rattle.cmm_graph.specs.Ranges.{is_step, leads_to}
 use Rattle.cmm_graph.specs.Counterpart.{formals_of, parameter_targets, taken_at, taken_by}
 use Rattle.cmm_flow.specs.declared.builder.Builder.{Builder}
 use Rattle.cmm_flow.specs.Code.{IsNode}
-use Rattle.cmm_flow.specs.Flow.{CoversParts, HasTokens, IsBehindLabel, IsFlow, IsFlowOf, IsLandedAt}
+use Rattle.cmm_flow.specs.Flow.{CoversParts, HasTokens, IsBehindLabel, IsFlow, IsFlowOf, IsLandedAt, IsShort, all_tokens}
 use Rattle.cmm_flow.specs.Relation.{AreAll}
 use Rattle.cmm_flow.specs.Statements.{ListCode}
 use Rattle.cmm_flow.specs.Waiting.{WaitAtSites, times, waiting_sites}
 use Rattle.cmm_flow.specs.inside.Fronts.{IsFinished, IsNew, copy_in, copy_ins, goto_nodes}
 use Rattle.cmm_flow.specs.inside.Laying.{AreAsked, AreSteps, Asked, IsReady, LaysMarked, LaysNode, StandIn, label_of, leads_on, passes}
-use Rattle.cmm_flow.specs.inside.LayingBlocks.{LaysBlock, block_sites, passes_own}
+use Rattle.cmm_flow.specs.inside.LayingBlocks.{LaysBlock, block_sites, has_labels_below, passes_own}
 use Rattle.cmm_flow.specs.inside.Marks.{FrontCode, LeadsBehind, LeadsBehindList, after_list}
 use Rattle.cmm_flow.specs.inside.Nodes.{goto, nowhere, unled}
 use Rattle.cmm_flow.proofs.Begins.{IsStep, list_begins, node_begins, one_step}
 use Rattle.cmm_flow.proofs.Belongs.{belongs}
 use Rattle.cmm_flow.proofs.Blocks.{after_span}
 use Rattle.cmm_flow.proofs.Bounded.{room_of, statements_pass}
+use Rattle.cmm_flow.proofs.Covered.{nodes_covered}
 use Rattle.cmm_flow.proofs.Covering.{AreAll_more, at_most, copies_asked, each_passes, gotos_asked, less_at_most, list_all_more, span_of, test_at_most}
+use Rattle.cmm_flow.proofs.Enough.{copies_enough, entry_enough, has_enough, statements_enough}
 use Rattle.cmm_flow.proofs.FormsStay.{front_stays, leads_stay}
-use Rattle.cmm_flow.proofs.Laying.{and_both, both_pass, get_before, get_behind, stands_before, waiting_sites-append}
+use Rattle.cmm_flow.proofs.Fronts.{fronts_sum, gotos_sum, label_count, labels_below}
+use Rattle.cmm_flow.proofs.LaidTokens.{span_tokens}
+use Rattle.cmm_flow.proofs.Laying.{and_both, both_pass, get_before, get_behind, stands_before, tokens-append, waiting_sites-append}
 use Rattle.cmm_flow.proofs.Marking.{lays_marked, ready_later, then_marked}
 use Rattle.cmm_flow.proofs.Marks.{follow_leads, front_list}
+use Rattle.cmm_flow.proofs.Quiet.{copies_quiet, entry_quiet, is_quiet_node, nodes_quiet, statements_quiet}
+use Rattle.cmm_flow.specs.Few.{proc_waits}
 use Rattle.cmm_flow.proofs.Ranged.{bounded, copies_belong, entry_belongs, names, nodes_ranged}
+use Rattle.cmm_flow.proofs.TokensTogether.{statements_sum}
 use Rattle.cmm_flow.proofs.TokensWithin.{form_within}
 use Rattle.cmm_flow.proofs.WaitingSites.{copies_wait, gotos_wait, span_sites}
 
@@ -92,6 +99,7 @@ get_numbered ns first count k are less =
 
 module _ (q : Proc) (labels : ℕ) (a b c : Builder) (g : Graph) (formals : List Variable) (next begin : NodeId)
     (new : IsNew labels (length q.conts) a) (lacked : (l : ℕ) → labels ≤ l → after_list (AtLabel l) q.body ≡ None)
+    (few : (limit : ℕ) → AreAll (has_labels_below limit) q.body → labels ≤ limit)
     (laid : LaysBlock a b q q.body next a.stop) (entry : LaysNode record { tokens = q.tokens; kind = Entry formals next } b c begin)
     (finished : IsFinished c q begin g) where
   ready : IsReady labels a
@@ -345,6 +353,28 @@ module _ (q : Proc) (labels : ℕ) (a b c : Builder) (g : Graph) (formals : List
           let both = and_parts (passes x node) (list_all (passes x) nodes) are in
           and_both (test (unled node)) (list_all (λ (n : Node). test (unled n)) nodes) (and_parts (test (unled node)) (leads_on g node.kind) both.0).0 (tested test nodes both.1)
 
+  gives_short : (p : Program) → IsProcInRange p q → IsShort q g
+  gives_short p range =
+      let counts = range.counts in
+      let many = few (label_count q) (span_of (has_labels_below (label_count q)) q.body (labels_below p q range)) in
+      of_graph (λ nodes. all_tokens nodes ≤ 2 * q.tokens + 2)
+      (omega (
+        arith,
+        tokens-append front c.nodes,
+        tokens-append gotos (copy_ins q c.continuations),
+        tokens-append (goto_nodes c.labels) (goto_nodes (c.stop ∷ [])),
+        gotos_sum c.labels,
+        labels_many,
+        many,
+        fronts_sum p q range c.continuations,
+        entry.adds,
+        laid.adds,
+        ap all_tokens new.nodes,
+        span_tokens q q.body,
+        statements_sum p q (body_statements q) range.body,
+        counts,
+      ))
+
   -- ---- sites
 
   front_waits : waiting_sites front ≡ []
@@ -373,6 +403,20 @@ module _ (q : Proc) (labels : ℕ) (a b c : Builder) (g : Graph) (formals : List
       all_asked (belongs p q limit) refl refl (span_of (passes_own q (belongs p q limit)) q.body (statements_pass p q range))
       (entry_belongs p q limit range formals numbers) (copies_belong p q limit range)
 
+  -- ---- what they cover
+
+  nodes_enough : map (λ (v : Variable). v.number) formals ≡ range_with_len 0 q.formals → (p : Program) → IsProcInRange p q →
+      AreAsked record { test = has_enough q; graph = g } g.nodes
+  nodes_enough numbers p range =
+      all_asked (has_enough q) refl refl (span_of (passes_own q (has_enough q)) q.body (statements_enough p q range)) (entry_enough p q range formals numbers)
+      (copies_enough p q q.conts)
+
+  nodes_asked_quiet : map (λ (v : Variable). v.number) formals ≡ range_with_len 0 q.formals → (p : Program) → IsProcInRange p q → proc_waits q ≡ false →
+      AreAsked record { test = is_quiet_node q; graph = g } g.nodes
+  nodes_asked_quiet numbers p range waits =
+      all_asked (is_quiet_node q) refl refl (span_of (passes_own q (is_quiet_node q)) q.body (statements_quiet p q range waits))
+      (entry_quiet p q range waits formals numbers) (copies_quiet p q range waits)
+
   pub is_answered : map (λ (v : Variable). v.number) formals ≡ range_with_len 0 q.formals → IsFlow q g
   is_answered numbers = record {
     flow = is_flow;
@@ -380,7 +424,10 @@ module _ (q : Proc) (labels : ℕ) (a b c : Builder) (g : Graph) (formals : List
     waits = gives_waits;
     names = λ p range. names p q g range (nodes_belong numbers p range) finished.temporaries finished.variables landings_many;
     nodes = λ p range sites. nodes_ranged p q g range (nodes_belong numbers p range) finished.temporaries finished.variables landings_many sites;
+    short = gives_short;
     bounded = λ p range. bounded p q g range (nodes_belong numbers p range) finished.temporaries finished.variables landings_many;
+    quiet = λ p range waits sites. nodes_quiet q g (nodes_asked_quiet numbers p range waits) sites;
+    covered = λ p range sites. nodes_covered q g (nodes_enough numbers p range) sites;
     variables = finished.variables;
     formals = ap (λ o. with_some o (λ node. formals_of node.kind)) entry_there ∙ ap Some numbers;
     continuations =

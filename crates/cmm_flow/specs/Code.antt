@@ -9,7 +9,6 @@ use Rattle.cmm_program.specs.declared.expression.Condition.{Condition, Row_of-Co
 use Rattle.cmm_program.specs.declared.expression.Condition.TheVariants.{Compare, Not', Both', Either'}
 use mathlib.Core.Former.{one_more}
 use Rattle.cmm_graph.specs.declared.number.NodeId.{NodeId}
-use Rattle.cmm_graph.specs.declared.operand.Operand.{Operand}
 use Rattle.cmm_graph.specs.declared.operand.Rvalue.{Rvalue}
 use Rattle.cmm_graph.specs.declared.operand.Rvalue.TheVariants as rvalue
 use Rattle.cmm_graph.specs.declared.operand.Destination.{Destination}
@@ -17,28 +16,21 @@ use Rattle.cmm_graph.specs.declared.operand.Destination.TheVariants.{Temporary}
 use Rattle.cmm_graph.specs.declared.node.Node.{Node}
 use Rattle.cmm_graph.specs.declared.node.NodeKind.{NodeKind}
 use Rattle.cmm_graph.specs.declared.node.NodeKind.TheVariants.{Assign, Branch}
-use Rattle.cmm_flow.specs.Operands.{access_tokens, operand_of, is_plain}
+use Rattle.cmm_graph.specs.Covering.{least_for}
+use Rattle.cmm_flow.specs.Operands.{is_plain, operand_in, operand_of}
 
 -- the temporary at a base, as what a node writes
 abbrev pub to_temporary : ℕ → Destination
 to_temporary base = Temporary record { number = base }
-
--- an operand stands behind a box, as the only element of a row
-abbrev pub operand_in : {n : _} → ℕ → Row_of-Expression (one_more n) → Operand
-operand_in base (more_of-Expression a rest) = operand_of base a
-
-abbrev pub right_tokens : Rvalue → ℕ
-right_tokens (rvalue.Load width aligned address) = access_tokens width aligned
-right_tokens _ = 1
 
 module _ (nodes : List Node) where
   -- a node of so many tokens
   abbrev pub IsNode : NodeId → ℕ → NodeKind → Type 0
   IsNode n tokens kind = slice_get nodes n.number ≡ Some record { tokens = tokens; kind = kind }
 
-  -- one node that writes the value of a right side, of a token or of those of a word in memory
+  -- one node that writes the value of a right side, of the least tokens for that
   abbrev pub Assigns : Destination → Rvalue → NodeId → NodeId → Type 0
-  Assigns to value n k = IsNode n (right_tokens value) (Assign to value k)
+  Assigns to value n k = IsNode n (least_for value) (Assign to value k)
 
   abbrev mutual
     -- The nodes from n on write the value of an expression, the last of them to a destination, and lead to k. The others write

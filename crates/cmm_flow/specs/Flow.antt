@@ -1,6 +1,6 @@
 -- When a graph is the flow of a procedure: its nodes are the code of the body, and of what follows each label and each
 -- continuation.
-use Rattle.std.specs.Prelude.{◌≡◌, ℕ, ◌+◌, ◌*◌, ◌<◌, ◌≤◌, nat_le, nat_lt, IsTrue, List, length, map, Some}
+use Rattle.std.specs.Prelude.{◌≡◌, ℕ, ◌+◌, ◌*◌, ◌<◌, ◌≤◌, nat_le, nat_lt, false, IsTrue, List, length, map, sum_by, Some}
 use Rattle.std.specs.List.{All, list_all, range_with_len}
 use Rattle.cmm_program.specs.declared.procedure.Proc.{Proc}
 use Rattle.cmm_program.specs.declared.procedure.Target.{Target}
@@ -10,12 +10,15 @@ use Rattle.cmm_program.specs.Errors.{with_some}
 use Rattle.cmm_program.specs.InRange.{IsProcInRange}
 use Rattle.cmm_graph.specs.declared.number.NodeId.{NodeId}
 use Rattle.cmm_graph.specs.declared.number.Variable.{Variable}
+use Rattle.cmm_graph.specs.declared.node.Node.{Node}
 use Rattle.cmm_graph.specs.declared.node.NodeKind.TheVariants.{Entry, CopyIn, Goto}
 use Rattle.cmm_graph.specs.declared.graph.Graph.{Graph}
+use Rattle.cmm_graph.specs.Covering.{covers}
 use Rattle.cmm_graph.specs.Counterpart.{HasSite, formals_of, names_there, parameter_targets, taken_at}
 use Rattle.cmm_graph.specs.Paths.{landing_of, node_of}
 use Rattle.cmm_graph.specs.Ranges.{is_node}
 use Rattle.cmm_flow.specs.Code.{IsNode}
+use Rattle.cmm_flow.specs.Few.{AreQuiet, proc_waits}
 use Rattle.cmm_flow.specs.Statements.{ListCode}
 use Rattle.cmm_flow.specs.Waiting.{WaitAtSites}
 
@@ -68,10 +71,24 @@ pub record CoversParts (q : Proc) : Type 0 where
 abbrev pub IsBounded : Proc → Graph → Type 0
 IsBounded q g = 8 * (g.variables + g.temporaries) + 16 * length g.continuations ≤ 8 * q.tokens
 
+-- the tokens of some nodes together
+abbrev pub all_tokens : List Node → ℕ
+all_tokens nodes = sum_by (λ node. node.tokens) nodes
+
+-- All nodes have at most twice the tokens of the procedure and two more: its Entry has as many, the Stop and the node of labels that the body lacks
+-- have one each, and all others have those of statements.
+abbrev pub IsShort : Proc → Graph → Type 0
+IsShort q g = all_tokens g.nodes ≤ 2 * q.tokens + 2
+
+-- each node has tokens enough for what it brings, moves and tests
+abbrev pub AreCovered : Proc → Graph → Type 0
+AreCovered q g = IsTrue (list_all (covers q.tokens) g.nodes)
+
 -- What `flow` answers: the flow of the procedure, where no node has more tokens than the procedure if that has tokens for its
 -- parts. The graph has the variables of the procedure, its Entry takes the arguments to the formals, and the CopyIn of each
 -- continuation takes the parameters. No more nodes wait at a site than statements have its number. Of a procedure in range its nodes name what is
--- there, and are in range where those that wait have the exits of their sites, and its frame is bounded.
+-- there, its frame is bounded, it is short, and where those nodes that wait have the exits of their sites all are in range, and have tokens enough for what they do; if the
+-- procedure does not wait for the client, they pass few values and none yields.
 pub record IsFlow (q : Proc) (g : Graph) : Type 0 where
   pub flow : IsFlowOf q g
   pub tokens : CoversParts q → HasTokens q g
@@ -82,3 +99,6 @@ pub record IsFlow (q : Proc) (g : Graph) : Type 0 where
   pub names : (p : Program) → IsProcInRange p q → IsTrue (list_all (λ node. names_there p q node.kind) g.nodes)
   pub nodes : (p : Program) → IsProcInRange p q → All (λ node. HasSite q g node.kind) g.nodes → IsTrue (list_all (is_node g) g.nodes)
   pub bounded : (p : Program) → IsProcInRange p q → IsBounded q g
+  pub short : (p : Program) → IsProcInRange p q → IsShort q g
+  pub quiet : (p : Program) → IsProcInRange p q → proc_waits q ≡ false → All (λ node. HasSite q g node.kind) g.nodes → AreQuiet g
+  pub covered : (p : Program) → IsProcInRange p q → All (λ node. HasSite q g node.kind) g.nodes → AreCovered q g

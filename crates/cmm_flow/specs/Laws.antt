@@ -11,6 +11,7 @@ use Rattle.cmm_program.specs.Todo.{todo_control}
 use Rattle.cmm_following.specs.Agreement.{Agrees}
 use Rattle.cmm_following.specs.Following.{Follows}
 use Rattle.cmm_following.specs.Simulation.{Simulates}
+use Rattle.cmm_laws.specs.Fitting.{IsByte, IsSetUp}
 use Rattle.cmm_laws.specs.Observed.{machine_of}
 use Rattle.cmm_graph.specs.declared.graph.Graph.{Graph}
 use Rattle.cmm_graph.specs.Acting.{led}
@@ -18,8 +19,9 @@ use Rattle.cmm_graph.specs.Counterpart.{HasSite, IsGraphOf}
 use Rattle.cmm_graph.specs.GraphControl.{Position, graph_control, kind_here}
 use Rattle.cmm_graph.specs.GraphMachine.{graph_start, tokens_of_youngest}
 use Rattle.cmm_graph.specs.Ranges.{IsValid, is_node}
-use Rattle.cmm_flow.specs.Flow.{HasTokens, IsBounded, IsFlow, IsFlowOf}
-use Rattle.cmm_flow.specs.Relation.{IsProgramCounted, Related, longest}
+use Rattle.cmm_flow.specs.Few.{AreQuiet, proc_waits}
+use Rattle.cmm_flow.specs.Flow.{AreCovered, HasTokens, IsBounded, IsFlow, IsFlowOf, IsShort}
+use Rattle.cmm_flow.specs.Relation.{IsProgramCounted, SoundlyRelated, longest}
 use Rattle.cmm_flow.specs.Waiting.{IsWaitedAt, WaitOnce}
 
 -- a program whose statements are counted, and the flow of each of its procedures, where no node has more tokens than the procedure
@@ -28,21 +30,24 @@ pub record AreFlows (s : Setting) (graphs : List Graph) : Type 0 where
   pub flows : AllZip IsFlowOf s.program.procs graphs
   pub tokens : AllZip HasTokens s.program.procs graphs
 
+-- Nodes are wrong where what they compute with are no words of their widths. So the laws ask what makes every value of a run fit: a program in range, a
+-- valid placement, a stack whose addresses are words, and an input of bytes.
+
 -- a step of the C-- machine is a path over the graphs
 abbrev pub FlowSimulates : Type 0
-FlowSimulates = (s : Setting) (graphs : List Graph) → AreFlows s graphs →
+FlowSimulates = (s : Setting) (graphs : List Graph) → IsSetUp s → AreFlows s graphs →
     Simulates (machine_of (todo_control s.program) s) (λ _. longest s.program) (machine_of (graph_control graphs) s)
-    (tokens_of_youngest graphs) (Related s.program graphs)
+    (tokens_of_youngest graphs) (SoundlyRelated s graphs)
 
 -- so on every input a run over the graphs follows one of the machine, each node at the cost of its tokens
 abbrev pub FlowFollows : Type 0
-FlowFollows = (s : Setting) (graphs : List Graph) (input : List ℕ) → AreFlows s graphs →
+FlowFollows = (s : Setting) (graphs : List Graph) (input : List ℕ) → IsSetUp s → All IsByte input → AreFlows s graphs →
     Follows (machine_of (todo_control s.program) s) (λ _. longest s.program) (machine_of (graph_control graphs) s)
     (tokens_of_youngest graphs) (start s input) (graph_start graphs s input)
 
 -- and agrees with it with the longest procedure as the factor
 abbrev pub FlowAgrees : Type 0
-FlowAgrees = (s : Setting) (graphs : List Graph) (input : List ℕ) → AreFlows s graphs →
+FlowAgrees = (s : Setting) (graphs : List Graph) (input : List ℕ) → IsSetUp s → All IsByte input → AreFlows s graphs →
     Agrees (machine_of (todo_control s.program) s) (machine_of (graph_control graphs) s) (longest s.program) (start s input)
     (graph_start graphs s input)
 
@@ -59,13 +64,13 @@ pub record AreCosts (s : Setting) (graphs : List Graph) (cost : State Position �
 
 -- Of the path of a step one node at most leaves its activation; so at such costs a step is dearer by as much.
 abbrev pub FlowSimulatesAt : Type 0
-FlowSimulatesAt = (s : Setting) (graphs : List Graph) (cost : State Position → ℕ) (more : ℕ) → AreFlows s graphs → AreCosts s graphs cost more →
+FlowSimulatesAt = (s : Setting) (graphs : List Graph) (cost : State Position → ℕ) (more : ℕ) → IsSetUp s → AreFlows s graphs → AreCosts s graphs cost more →
     Simulates (machine_of (todo_control s.program) s) (λ _. longest s.program + more) (machine_of (graph_control graphs) s) cost
-    (Related s.program graphs)
+    (SoundlyRelated s graphs)
 
 abbrev pub FlowFollowsAt : Type 0
-FlowFollowsAt = (s : Setting) (graphs : List Graph) (input : List ℕ) (cost : State Position → ℕ) (more : ℕ) → AreFlows s graphs →
-    AreCosts s graphs cost more →
+FlowFollowsAt = (s : Setting) (graphs : List Graph) (input : List ℕ) (cost : State Position → ℕ) (more : ℕ) → IsSetUp s → All IsByte input →
+    AreFlows s graphs → AreCosts s graphs cost more →
     Follows (machine_of (todo_control s.program) s) (λ _. longest s.program + more) (machine_of (graph_control graphs) s) cost (start s input)
     (graph_start graphs s input)
 
@@ -100,3 +105,15 @@ AnswersAreGraphs = (p : Program) (q : Proc) (g : Graph) → IsProcInRange p q �
 -- And its locals and continuations have at most 8 bytes of a frame for each token of the procedure.
 abbrev pub AnswersAreBounded : Type 0
 AnswersAreBounded = (p : Program) (q : Proc) (g : Graph) → IsProcInRange p q → IsFlow q g → IsBounded q g
+
+-- And all its nodes have at most twice the tokens of the procedure and two more.
+abbrev pub AnswersAreShort : Type 0
+AnswersAreShort = (p : Program) (q : Proc) (g : Graph) → IsProcInRange p q → IsFlow q g → IsShort q g
+
+-- And each of its nodes has tokens enough for what it does.
+abbrev pub AnswersAreCovered : Type 0
+AnswersAreCovered = (p : Program) (q : Proc) (g : Graph) → IsProcInRange p q → IsFlow q g → AreCovered q g
+
+-- And if the procedure does not wait for the client, they pass few values, and none yields.
+abbrev pub AnswersAreQuiet : Type 0
+AnswersAreQuiet = (p : Program) (q : Proc) (g : Graph) → IsProcInRange p q → IsFlow q g → proc_waits q ≡ false → AreQuiet g

@@ -2,6 +2,7 @@ pub mod Operands
 pub mod Code
 pub mod Statements
 pub mod Waiting
+pub mod Few
 pub mod Flow
 pub mod Relation
 pub mod Laws

@@ -1,10 +1,10 @@
 -- What stands for an expression once its nodes are done, and how many nodes those are. Temporaries are used as a stack: the
 -- nodes of an expression at a base write temporaries from that number on.
-use Rattle.std.specs.Prelude.{ℕ, suc, ◌+◌, nat_lt, Bool, true, false, List, [], ◌∷◌}
-use Rattle.cmm_words.specs.declared.width.Width.{Width}
-use Rattle.cmm_words.specs.Widths.{bytes}
-use Rattle.cmm_program.specs.declared.expression.Expression.{Expression, Expression-F}
+use Rattle.std.specs.Prelude.{ℕ, suc, ◌+◌, Bool, true, false, List, [], ◌∷◌}
+use mathlib.Core.Former.{one_more}
+use Rattle.cmm_program.specs.declared.expression.Expression.{Expression, Expression-F, Row_of-Expression, more_of-Expression}
 use Rattle.cmm_program.specs.declared.expression.Expression.TheOpen as e
+use Rattle.cmm_program.specs.declared.expression.Expression.TheVariants.{Register, Load', Unary', Binary', SignExtend', ZeroExtend', LowBits'}
 use Rattle.cmm_program.specs.declared.expression.Condition.{Condition, Condition-F}
 use Rattle.cmm_program.specs.declared.expression.Condition.TheOpen as c
 use Rattle.cmm_program.specs.Folds.{fold_expression, fold_condition}
@@ -13,6 +13,7 @@ use Rattle.cmm_graph.specs.declared.operand.Local.TheVariants as local
 use Rattle.cmm_graph.specs.declared.operand.Operand.{Operand}
 use Rattle.cmm_graph.specs.declared.operand.Operand.TheVariants as operand
 use Rattle.cmm_graph.specs.declared.operand.Argument.{Argument}
+use Rattle.cmm_graph.specs.Covering.{access_tokens, operator_tokens}
 
 -- ---- operands
 
@@ -31,6 +32,10 @@ operand_step base _ = temporary base
 
 abbrev pub operand_of : ℕ → Expression → Operand
 operand_of base e = fold_expression (operand_step base) e
+
+-- an operand stands behind a box, as the only element of a row
+abbrev pub operand_in : {n : _} → ℕ → Row_of-Expression (one_more n) → Operand
+operand_in base (more_of-Expression a rest) = operand_of base a
 
 -- of several expressions each has a base of its own
 abbrev pub operands_of : ℕ → List Expression → List Operand
@@ -56,26 +61,20 @@ is_plain e = fold_expression plain_step e
 
 -- ---- counts of tokens
 
--- A word in memory that need not be aligned to its size is moved in parts, so that its node has two tokens more; its text has `aligned` and a number.
-abbrev pub extra_tokens : Width → ℕ → ℕ
-extra_tokens width aligned = elim (nat_lt aligned (bytes width)) [ true ↦ 2 | false ↦ 0 ]
+abbrev mutual
+  -- Of the nodes of an expression: one for a register and each operator of one operand, and those of each word in memory and of each operator of two.
+  pub nodes : Expression → ℕ
+  nodes (Register number width) = 1
+  nodes (Load' width aligned _ address) = nodes_in address + access_tokens width aligned
+  nodes (Unary' op width _ a) = nodes_in a + 1
+  nodes (Binary' op width _ a _ b) = nodes_in a + nodes_in b + operator_tokens width (operand_in 0 a) (operand_in 1 b)
+  nodes (SignExtend' from to _ a) = nodes_in a + 1
+  nodes (ZeroExtend' from to _ a) = nodes_in a
+  nodes (LowBits' from to _ a) = nodes_in a + 1
+  nodes _ = 0
 
-abbrev pub access_tokens : Width → ℕ → ℕ
-access_tokens width aligned = extra_tokens width aligned + 1
-
--- of the nodes of an expression: one for a register and each operator, and those of each word in memory
-abbrev pub node_step : Expression-F ℕ → ℕ
-node_step (e.Register number width) = 1
-node_step (e.Load width aligned address) = address + access_tokens width aligned
-node_step (e.Unary op width a) = a + 1
-node_step (e.Binary op width a b) = a + b + 1
-node_step (e.SignExtend from to a) = a + 1
-node_step (e.ZeroExtend from to a) = a
-node_step (e.LowBits from to a) = a + 1
-node_step _ = 0
-
-abbrev pub nodes : Expression → ℕ
-nodes e = fold_expression node_step e
+  pub nodes_in : {n : _} → Row_of-Expression (one_more n) → ℕ
+  nodes_in (more_of-Expression a rest) = nodes a
 
 abbrev pub nodes_of_all : List Expression → ℕ
 nodes_of_all [] = 0

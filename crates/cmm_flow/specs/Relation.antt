@@ -7,9 +7,10 @@ use Rattle.cmm_program.specs.declared.program.Program.{Program}
 use Rattle.cmm_program.specs.declared.statement.Statement.{Statement}
 use Rattle.cmm_program.specs.Bodies.{body_statements, within}
 use Rattle.cmm_program.specs.Control.{State}
-use Rattle.cmm_program.specs.State.{Activation, Status, Running, Waiting, Ended, Wrong}
+use Rattle.cmm_program.specs.State.{Activation, Setting, Status, Running, Waiting, Ended, Wrong}
 use Rattle.cmm_program.specs.Todo.{Todo}
 use Rattle.cmm_program.specs.Tokens.{own_tokens}
+use Rattle.cmm_laws.specs.Fitting.{IsSound}
 use Rattle.cmm_graph.specs.declared.graph.Graph.{Graph}
 use Rattle.cmm_graph.specs.declared.node.Exits.{Exits}
 use Rattle.cmm_graph.specs.declared.number.NodeId.{NodeId}
@@ -106,3 +107,9 @@ module _ (p : Program) (graphs : List Graph) where
   pub record Related (a : State Todo) (b : State Position) : Type 0 where
     pub store : a.store ≡ b.store
     pub controls : AreRelated a.store.status a.store.activations a.controls b.controls
+
+-- They are related, and the state of the C-- machine is sound: what it has still to do is in range, and its values fit their widths. So what the
+-- nodes compute with are words.
+pub record SoundlyRelated (s : Setting) (graphs : List Graph) (a : State Todo) (b : State Position) : Type 0 where
+  pub related : Related s.program graphs a b
+  pub sound : IsSound s a

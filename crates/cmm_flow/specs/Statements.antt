@@ -32,7 +32,8 @@ use Rattle.cmm_graph.specs.declared.node.Node.{Node}
 use Rattle.cmm_graph.specs.declared.node.NodeKind.{NodeKind}
 use Rattle.cmm_graph.specs.declared.node.NodeKind.TheVariants as node
 use Rattle.cmm_graph.specs.Counterpart.{numbers_of}
-use Rattle.cmm_flow.specs.Operands.{access_tokens, temporary, operand_of, operands_of, arguments_of, nodes, nodes_of_all}
+use Rattle.cmm_graph.specs.Covering.{access_tokens, operator_tokens}
+use Rattle.cmm_flow.specs.Operands.{temporary, operand_of, operands_of, arguments_of, nodes, nodes_of_all}
 use Rattle.cmm_flow.specs.Code.{to_temporary, IsNode, OperandCode, OperandsCode, TestCode, ValueCode, ValuesCode}
 
 -- ---- counts of tokens
@@ -52,6 +53,10 @@ normal_tokens None = 0
 abbrev pub first_result : List Target → Destination
 first_result [] = to_temporary 0
 first_result (t ∷ ts) = destination.Target t
+
+-- the nodes of an operator and of its operands
+abbrev pub operator_nodes : Width → Expression → Expression → ℕ
+operator_nodes width left right = nodes left + nodes right + operator_tokens width (operand_of 0 left) (operand_of 1 right)
 
 -- the continuations to which exits lead are those of a site
 pub record HasContinuations (site : Site) (exits : Exits) : Type 0 where
@@ -111,7 +116,7 @@ module _ (nodes_there : List Node) where
   ZeroCode q tokens used site width divisor n otherwise k =
       (y : NodeId) × (exits : Exits)
       × Is n 1 (node.Branch record { operator = Eq; width = width; left = operand_of 1 divisor; right = Constant (Number 0 width) } y otherwise)
-      × Is y (remaining tokens (used + 2 + normal_tokens (slice_get q.sites site)))
+      × Is y (remaining tokens (used + 1 + normal_tokens (slice_get q.sites site)))
       (node.Yield record { number = site } (Constant (Number 1 W64) ∷ []) exits)
       × ExitsCode (slice_get q.sites site) exits k
 
@@ -119,8 +124,9 @@ module _ (nodes_there : List Node) where
   abbrev pub CheckedCode : Proc → ℕ → ℕ → Op2 → Width → Expression → Expression → NodeId → NodeId → Type 0
   CheckedCode q tokens site op width left right n k =
       (m : NodeId) × (j : NodeId) × (d : NodeId) × OperandCode nodes_there left 0 n m × OperandCode nodes_there right 1 m j
-      × Is d 1 (node.Assign (first_result (site_results q site)) (rvalue.Binary op width (operand_of 0 left) (operand_of 1 right)) k)
-      × elim (is_division op) [ true ↦ ZeroCode q tokens (nodes left + nodes right) site width right j d k | false ↦ j ≡ d ]
+      × Is d (operator_tokens width (operand_of 0 left) (operand_of 1 right))
+      (node.Assign (first_result (site_results q site)) (rvalue.Binary op width (operand_of 0 left) (operand_of 1 right)) k)
+      × elim (is_division op) [ true ↦ ZeroCode q tokens (operator_nodes width left right) site width right j d k | false ↦ j ≡ d ]
 
   abbrev pub CallCode : Proc → ℕ → ℕ → Expression → List Expression → NodeId → NodeId → Type 0
   CallCode q tokens site callee actuals n k =

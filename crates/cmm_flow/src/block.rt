@@ -11,7 +11,7 @@ ghost use Rattle.cmm_flow.specs.Operands.{nodes, operand_of as operand_at};
 ghost use Rattle.cmm_flow.specs.Statements.{remaining as remaining_of};
 ghost use Rattle.cmm_graph.specs.Paths.{arm_nodes};
 ghost use Rattle.cmm_flow.specs.inside.Laying.{Lays};
-ghost use Rattle.cmm_flow.specs.inside.Nodes.{nodes_of_switch};
+ghost use Rattle.cmm_flow.specs.inside.Nodes.{nodes_of_switch, ranges_of};
 ghost use Rattle.cmm_flow.specs.inside.Marks.{PutsArm};
 ghost use Rattle.cmm_flow.specs.inside.LayingBlocks.{LaysArms, LaysBlock, LaysStatement};
 
@@ -136,7 +136,7 @@ impl Builder {
 
     /// Lays a switch in front of its arms.
     fn switch(&mut self, tokens: u32, value: &Expression, ways: Ways) -> Result<NodeId, AllocError>
-        ensures { IfOk result (λ n. Lays (nodes_of_switch tokens value.now) (arm_nodes (reverse ways.backward) ++ ways.otherwise ∷ []) self.old self.new (λ all. (j : NodeNumber) × OperandCode all value.now 0 n j × IsNode all j (remaining_of tokens (nodes value.now)) (Switch (operand_at 0 value.now) (reverse ways.backward) ways.otherwise))) }
+        ensures { IfOk result (λ n. Lays (nodes_of_switch tokens value.now (ranges_of (reverse ways.backward))) (arm_nodes (reverse ways.backward) ++ ways.otherwise ∷ []) self.old self.new (λ all. (j : NodeNumber) × OperandCode all value.now 0 n j × IsNode all j (remaining_of tokens (nodes value.now)) (Switch (operand_at 0 value.now) (reverse ways.backward) ways.otherwise))) }
     {
         let Ways {
             backward,

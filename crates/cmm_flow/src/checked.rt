@@ -6,15 +6,16 @@ ghost use Rattle.cmm_words.specs.Words.{is_division as is_division_of};
 ghost use Rattle.cmm_graph.specs.declared.node.NodeKind.TheVariants.{Assign};
 ghost use Rattle.cmm_graph.specs.declared.operand.Rvalue.TheVariants.{Binary};
 ghost use Rattle.cmm_flow.specs.Code.{IsNode};
-ghost use Rattle.cmm_flow.specs.Operands.{nodes as nodes_in, operand_of as operand_at};
-ghost use Rattle.cmm_flow.specs.Statements.{CheckedCode, ZeroCode, first_result as first_of};
+ghost use Rattle.cmm_graph.specs.Covering.{operator_tokens as operator_tokens_of};
+ghost use Rattle.cmm_flow.specs.Operands.{operand_of as operand_at};
+ghost use Rattle.cmm_flow.specs.Statements.{CheckedCode, ZeroCode, first_result as first_of, operator_nodes as operator_nodes_of};
 ghost use Rattle.cmm_flow.specs.inside.Counts.{capped};
 ghost use Rattle.cmm_flow.specs.inside.Laying.{Lays, LaysAt};
 ghost use Rattle.cmm_flow.specs.inside.Nodes.{division as division_of, nodes_of_checked, nodes_of_guard, nodes_of_guard_if, nodes_of_yield_one};
 ghost use Rattle.cmm_flow.specs.inside.Passing.{GuardCode, YieldOne};
 
 use crate::builder::Builder;
-use crate::counts::{nodes_of, normal_tokens_at, remaining, sum};
+use crate::counts::{normal_tokens_at, operator_nodes, remaining, sum, tokens_of_operator};
 use crate::expression::operand_of;
 use crate::sites::first_result;
 use cmm_graph::{Comparison, NodeId, NodeKind, Operand, Rvalue, SiteId};
@@ -74,7 +75,7 @@ impl Builder {
         right: &Expression,
         next: NodeId,
     ) -> Result<NodeId, AllocError>
-        ensures { IfOk result (λ n. Lays (division_of q.now site operator width left.now right.now ∷ []) (next ∷ []) self.old self.new (λ nodes. IsNode nodes n 1 (Assign (first_of (site_results q.now site)) (Binary operator width (operand_at 0 left.now) (operand_at 1 right.now)) next))) }
+        ensures { IfOk result (λ n. Lays (division_of q.now site operator width left.now right.now ∷ []) (next ∷ []) self.old self.new (λ nodes. IsNode nodes n (operator_tokens_of width (operand_at 0 left.now) (operand_at 1 right.now)) (Assign (first_of (site_results q.now site)) (Binary operator width (operand_at 0 left.now) (operand_at 1 right.now)) next))) }
     {
         let value = Rvalue::Binary {
             operator,
@@ -83,7 +84,10 @@ impl Builder {
             right: operand_of(right, 1),
         };
         let to = first_result(q, site);
-        self.push(1, NodeKind::Assign { to, value, next })
+        self.push(
+            tokens_of_operator(width, left, right),
+            NodeKind::Assign { to, value, next },
+        )
     }
 
     /// Lays the test of a divisor, in front of a division.
@@ -100,7 +104,7 @@ impl Builder {
     ) -> Result<NodeId, AllocError>
         ensures { IfOk result (λ n. (count : ℕ) → used ≡ capped count → LaysAt (site ∷ []) (nodes_of_guard q.now tokens count site width divisor.now) (division ∷ next ∷ []) [] self.old self.new (λ nodes. ZeroCode nodes q.now tokens count site width divisor.now n division next)) }
     {
-        let spent = sum(sum(used, 2), normal_tokens_at(q, site));
+        let spent = sum(sum(used, 1), normal_tokens_at(q, site));
         let yields = self.yield_one(q, remaining(tokens, spent), site, next)?;
         let test = Comparison {
             operator: Cmp::Eq,
@@ -131,10 +135,10 @@ impl Builder {
         division: NodeId,
         next: NodeId,
     ) -> Result<NodeId, AllocError>
-        ensures { IfOk result (λ n. LaysAt (site ∷ []) (nodes_of_guard_if q.now tokens (nodes_in left.now + nodes_in right.now) site operator width right.now) (division ∷ next ∷ []) [] self.old self.new (λ nodes. GuardCode nodes q.now tokens (nodes_in left.now + nodes_in right.now) site operator width right.now n division next)) }
+        ensures { IfOk result (λ n. LaysAt (site ∷ []) (nodes_of_guard_if q.now tokens (operator_nodes_of width left.now right.now) site operator width right.now) (division ∷ next ∷ []) [] self.old self.new (λ nodes. GuardCode nodes q.now tokens (operator_nodes_of width left.now right.now) site operator width right.now n division next)) }
     {
         if is_division(operator) {
-            let used = sum(nodes_of(left), nodes_of(right));
+            let used = operator_nodes(width, left, right);
             self.guard(q, tokens, used, site, width, right, division, next)
         } else {
             Ok(division)

@@ -5,14 +5,15 @@
 
 ghost use Rattle.std.specs.Prelude.{◌≡◌, ◌∷◌, [], IfOk};
 ghost use Rattle.cmm_program.specs.Values.{known_width as width_of_constant, width_of as width_of_expression};
-ghost use Rattle.cmm_flow.specs.Code.{OperandCode, OperandsCode, ValueCode, right_tokens, to_temporary};
+ghost use Rattle.cmm_graph.specs.Covering.{least_for};
+ghost use Rattle.cmm_flow.specs.Code.{OperandCode, OperandsCode, ValueCode, to_temporary};
 ghost use Rattle.cmm_flow.specs.Operands.{arguments_of as arguments_from, is_plain as is_operand, operand_of as operand_at, operands_of as operands_from, temporary as from_temporary};
 ghost use Rattle.cmm_flow.specs.inside.Laying.{Lays};
 ghost use Rattle.cmm_flow.specs.inside.Nodes.{nodes_of_operand, nodes_of_operands, nodes_of_parts, nodes_of_value};
 ghost use Rattle.cmm_flow.specs.inside.Parts.{PartsCode, rvalue_of as rvalue_at};
 
 use crate::builder::{Builder, following};
-use crate::counts::access_tokens;
+use crate::counts::{access_tokens, operator_tokens};
 use cmm_graph::{
     Argument, ContinuationId, Destination, Local, NodeId, NodeKind, Operand, Register, Rvalue,
     StackLabel, Temporary, Variable,
@@ -90,10 +91,17 @@ pub fn rvalue_of(e: &Expression, base: u32) -> Result<Rvalue, AllocError>
 
 /// The tokens of a node that assigns a right side.
 fn right_tokens(value: &Rvalue) -> u32
-    ensures { result ≡ right_tokens value.now }
+    ensures { result ≡ least_for value.now }
 {
     match value {
         Rvalue::Load { width, aligned, .. } => access_tokens(*width, *aligned),
+        Rvalue::Binary {
+            width,
+            left,
+            right,
+            ..
+        } => operator_tokens(*width, left, right),
+        Rvalue::Compare(test) => operator_tokens(test.width, &test.left, &test.right),
         _ => 1,
     }
 }

@@ -1,19 +1,24 @@
 //! The laws that join the C-- machine and the machine over graphs. Each is the contract of a function that does nothing.
 
-ghost use Rattle.cmm_flow.specs.Laws.{AnswersAreBounded, AnswersAreFlows, AnswersAreGraphs, AnswersHaveSites, AnswersLand, AnswersWaitAtEach, AnswersWaitOnce, FlowAgrees, FlowFollows, FlowFollowsAt, FlowSimulates, FlowSimulatesAt, RangeIsCounted};
+ghost use Rattle.cmm_flow.specs.Laws.{AnswersAreBounded, AnswersAreCovered, AnswersAreFlows, AnswersAreGraphs, AnswersAreQuiet, AnswersAreShort, AnswersHaveSites, AnswersLand, AnswersWaitAtEach, AnswersWaitOnce, FlowAgrees, FlowFollows, FlowFollowsAt, FlowSimulates, FlowSimulatesAt, RangeIsCounted};
 ghost use Rattle.cmm_flow.specs.Liveness.{AnswersAreInRange, CodeKeepsLiveness, SetsAreOfProcedure, SitesHaveNodes, SitesKeepLiveness};
 
+use cmm_laws::values::{every_state_is_sound, expressions_fit};
 use cmm_program::laws::liveness_is_by_paths;
 
 /// The flows of a program's procedures do what the program does. A step of the C-- machine is a path over the graphs of at
-/// least one node, which has together at most as many tokens as the longest procedure; on every input both show the same
-/// and stand at the same events, and agree in counts of steps with that factor.
+/// least one node, which has together at most as many tokens as the longest procedure; on every input of bytes both show the
+/// same and stand at the same events, and agree in counts of steps with that factor. Every value of a run fits its width, so no
+/// node computes with what is no word.
 #[tactic(auto, using(crate::proofs::Flowing::flow_simulates, crate::proofs::Flowing::flow_follows, crate::proofs::Flowing::flow_agrees))]
 pub fn flows_do_what_programs_do()
     ensures simulates { FlowSimulates }
     ensures follows { FlowFollows }
     ensures agrees { FlowAgrees }
-{}
+{
+    every_state_is_sound();
+    expressions_fit();
+}
 
 /// They do so at dearer costs too, as a layer below has them for which control that leaves an activation is dearer: a step of the C-- machine is
 /// then dearer by as much.
@@ -21,7 +26,10 @@ pub fn flows_do_what_programs_do()
 pub fn flows_do_so_at_costs()
     ensures simulates { FlowSimulatesAt }
     ensures follows { FlowFollowsAt }
-{}
+{
+    every_state_is_sound();
+    expressions_fit();
+}
 
 /// What the law asks of the statements of a program holds of every program in range.
 #[tactic(auto, using(crate::proofs::Ranges::range_is_counted))]
@@ -54,6 +62,25 @@ pub fn answers_land()
 pub fn answers_are_graphs()
     ensures graphs { AnswersAreGraphs }
     ensures bounded { AnswersAreBounded }
+{}
+
+/// Each node of what `flow` answers for a procedure in range has tokens enough for what it brings, moves and tests, all of them from the procedure's
+/// text: one for each value that it passes, for each range that it tests and for each constant beside another.
+#[tactic(auto, using(crate::proofs::Graphs::answers_are_covered))]
+pub fn answers_are_covered()
+    ensures { AnswersAreCovered }
+{}
+
+/// All nodes of what `flow` answers for a procedure in range have at most twice the tokens of the procedure and two more.
+#[tactic(auto, using(crate::proofs::Graphs::answers_are_short))]
+pub fn answers_are_short()
+    ensures { AnswersAreShort }
+{}
+
+/// The nodes of what `flow` answers for a procedure in range that does not wait for the client pass few values, and none yields.
+#[tactic(auto, using(crate::proofs::Graphs::answers_are_quiet))]
+pub fn answers_are_quiet()
+    ensures { AnswersAreQuiet }
 {}
 
 /// What `flow` answers for a procedure in range is all that the laws of liveness ask of a graph, with `answers_wait_once`.

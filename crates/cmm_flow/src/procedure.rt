@@ -11,7 +11,7 @@ ghost use Rattle.cmm_program.specs.declared.procedure.Target.TheVariants.{Variab
 ghost use Rattle.cmm_program.specs.InRange.{IsInRange};
 ghost use Rattle.cmm_program.specs.State.{Setting};
 ghost use Rattle.cmm_graph.specs.Counterpart.{AreGraphsOf};
-ghost use Rattle.cmm_flow.specs.Flow.{IsBounded, IsFlow};
+ghost use Rattle.cmm_flow.specs.Flow.{AreCovered, IsBounded, IsFlow};
 ghost use Rattle.cmm_flow.specs.Laws.{AreFlows};
 ghost use Rattle.cmm_flow.specs.inside.Fronts.{IsFinished, IsNew, copy_in, copy_ins, goto_nodes};
 
@@ -192,6 +192,7 @@ pub fn flows(alloc: Global, program: &Program) -> Result<Items<Graph>, AllocErro
     ensures each { IfOk result (λ graphs. AllZip IsFlow program.now.procs graphs) }
     ensures are_graphs { IfOk result (λ graphs. IsInRange program.now → AreGraphsOf program.now graphs) }
     ensures are_bounded { IfOk result (λ graphs. IsInRange program.now → AllZip IsBounded program.now.procs graphs) }
+    ensures are_covered { IfOk result (λ graphs. IsInRange program.now → AllZip AreCovered program.now.procs graphs) }
     ensures are_flows { IfOk result (λ graphs. (s : Setting) → s.program ≡ program.now → IsInRange program.now → AreFlows s graphs) }
 {
     let procs = program.procs.as_slice();

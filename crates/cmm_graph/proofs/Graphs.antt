@@ -1,5 +1,6 @@
 -- Graphs of worked rows, each below the text of its program.
-use Rattle.std.proofs.Common.{List, [], ◌∷◌}
+use Rattle.std.proofs.Common.{ℕ, List, [], ◌∷◌}
+use Rattle.cmm_words.specs.declared.width.Width.TheVariants.{W8}
 use Rattle.cmm_words.specs.declared.operators.Op2.TheVariants.{Add, Mul}
 use Rattle.cmm_words.specs.declared.operators.Cmp.TheVariants.{Ltu, Eq}
 use Rattle.cmm_script.specs.declared.script.Command.TheVariants as command
@@ -7,7 +8,7 @@ use Rattle.cmm_script.specs.declared.script.Value.TheVariants.{Yielded}
 use Rattle.cmm_program.specs.declared.procedure.Proc.{Proc}
 use Rattle.cmm_program.specs.State.{Setting}
 use Rattle.cmm_graph.specs.declared.operand.Operand.TheVariants.{Continuation}
-use Rattle.cmm_graph.specs.declared.operand.Rvalue.TheVariants.{Copy}
+use Rattle.cmm_graph.specs.declared.operand.Rvalue.TheVariants.{Binary, Copy}
 use Rattle.cmm_graph.specs.declared.node.NodeKind.TheVariants.{Entry, CopyIn, Branch, Switch, Call, Yield, Cut, Return, Stop}
 use Rattle.cmm_graph.specs.declared.graph.Graph.{Graph}
 use Rattle.cmm_program.proofs.Shared.{variables_of, from_to, continuation, call_site, procedure, program, frame, frame_with, sample, alone, setting, no_client, client, other}
@@ -28,6 +29,18 @@ loop =
 
 abbrev pub loop-setting : Setting
 loop-setting = setting (alone (procedure [] 99 0 2 [] []) (frame 16)) 4096 no_client
+
+-- ---- the sum of a number and 1 at 8 bits, whatever the number
+abbrev pub at_8_bits : ℕ → List Graph
+at_8_bits number =
+    graph 1 1 (Entry [] (n 1)
+    ∷ set_temporary 0 (Binary Add W8 (num number) (num 1)) (n 2)
+    ∷ Return 0 0 (arg (t 0) ∷ [])
+    ∷ []) []
+    ∷ []
+
+abbrev pub at_8_bits-setting : Setting
+at_8_bits-setting = setting (alone (procedure [] 99 0 1 [] []) (frame 16)) 4096 no_client
 
 -- ---- a switch in a procedure that is called
 --     main() { bits64 a, b; a = f(11); b = f(12); return (a * 100 + b); }

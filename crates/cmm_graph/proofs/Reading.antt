@@ -55,7 +55,7 @@ module _ (held other : Local → Value) (r : Reads) (variables : ℕ → ℕ) wh
   test_alike c alike = grind (arith, one_alike c.left (c.right ∷ []) alike, two_alike c.left c.right [] alike)
 
   rvalue_alike : (value : Rvalue) → Alike (operands_of_rvalue value) → rvalue_value held value r ≡ rvalue_value other value t
-  rvalue_alike (Copy o) alike = one_alike o [] alike
+  rvalue_alike (Copy o) alike = grind (arith, one_alike o [] alike)
   rvalue_alike (Register n) alike = refl
   rvalue_alike (Load width aligned o) alike = grind (arith, one_alike o [] alike)
   rvalue_alike (Unary operator width o) alike = grind (arith, one_alike o [] alike)

@@ -7,3 +7,4 @@ pub mod GraphControl
 pub mod GraphMachine
 pub mod Counterpart
 pub mod Laws
+pub mod Covering

@@ -1,14 +1,15 @@
 -- a procedure is entered over places as over graphs
-use Rattle.std.proofs.Common.{◌≡◌, ◌≢◌, ◌⊎◌, inl, inr, ℕ, zero, suc, ◌+◌, ◌-◌, ◌<◌, ◌≤◌, nat_lt, Bool, true, false, Contains, List, [], ◌∷◌, ◌++◌, drop, map, length, nat_le, slice_index_or, Option, Some, None, arith, refl, sym, ap, ◌∙◌, subst}
+use Rattle.std.proofs.Common.{◌≡◌, ◌≢◌, ◌⊎◌, inl, inr, ℕ, zero, suc, ◌+◌, ◌-◌, ◌<◌, ◌≤◌, nat_lt, Bool, true, false, Contains, List, [], ◌∷◌, ◌++◌, drop, map, length, nat_le, slice_index_or, Ok, Option, Some, None, arith, refl, sym, ap, ◌∙◌, subst}
 use Rattle.std.specs.List.{range_with_len}
 use Rattle.std.proofs.lemmas.Bool.Decides.{nat_tests}
 use Rattle.std.proofs.lemmas.List.{length-append, length-map}
+use Rattle.std.proofs.lemmas.List.FromFn.{length-range_with_len}
 use Rattle.std.proofs.lemmas.List.Sums.{sum_by-cons}
 use Rattle.std.proofs.Math.ListN.{length-drop}
 use Rattle.cmm_program.specs.declared.procedure.Proc.{Proc}
 use Rattle.cmm_program.specs.declared.procedure.VarInfo.{VarInfo}
 use Rattle.cmm_program.specs.Control.{State, arrived, landed, over}
-use Rattle.cmm_program.specs.Errors.{with_some}
+use Rattle.cmm_program.specs.Errors.{WrongValues, provided, with_some}
 use Rattle.cmm_program.specs.Exits.{Instead, Landing, begun, land}
 use Rattle.cmm_program.specs.Frames.{fits_stack, frame_size, new_activation, place_row, procedure_at, room_of, sum_of_sizes}
 use Rattle.cmm_program.specs.Machine.{first_store}
@@ -194,11 +195,22 @@ module _ (s : Setting) (c : Compiled) (live : Liveness) (frames : HasFrames s c)
   abbrev fits_there : Bool
   fits_there = nat_le (s.stack_base + (c.plan.frame q).size) h.point.at
 
+  -- control brings a value for each formal
+  enough : nat_le (length entry.formals) (length values) ≡ true
+  enough =
+      let many : length entry.formals ≡ p.formals =
+      sym (length-map entry.formals (λ v. v.number)) ∙ (ap (λ (ns : List ℕ). length ns) entry.numbered ∙ length-range_with_len 0 p.formals) in
+      grind (arith, nat_tests, many, count)
+
+  abbrev entered_with : Option Proc → Bool → Located
+  entered_with o b = tried s c Enters (provided b WrongValues (Ok (there_with o (map (λ (v : Variable). v.number) entry.formals) fits_there)))
+
   step_there : located_step s c Enters ≡ there_with (Some p) formal_numbers fits_there
   step_there =
       ap (λ node. tried s c Enters (ran_at s c node Enters)) entry.is_entry
+      ∙ (ap (λ b. entered_with (procedure_at s q) b) enough
       ∙ (ap (λ o. there_with o (map (λ (v : Variable). v.number) entry.formals) fits_there) is_p
-      ∙ ap (λ ns. there_with (Some p) ns fits_there) numbers_are)
+      ∙ ap (λ ns. there_with (Some p) ns fits_there) numbers_are))
 
   -- ---- what it comes to
 

@@ -1,11 +1,11 @@
 -- an activation that waited goes on: a CopyIn takes what control brings
-use Rattle.std.proofs.Common.{◌≡◌, ◌≢◌, ◌⊎◌, inl, inr, ℕ, zero, suc, ◌-◌, ◌<◌, ◌≤◌, ◌==◌, nat_lt, Bool, true, false, Contains, List, [], ◌∷◌, flat_map, map, length, slice_get, slice_index_or, slice_set, Option, Some, None, arith, refl, sym, ap, ◌∙◌, subst}
+use Rattle.std.proofs.Common.{◌≡◌, ◌≢◌, ◌⊎◌, inl, inr, ℕ, zero, suc, ◌-◌, ◌<◌, ◌≤◌, ◌==◌, nat_le, nat_lt, Bool, true, false, Contains, List, [], ◌∷◌, flat_map, map, length, slice_get, slice_index_or, slice_set, Ok, Option, Some, None, arith, refl, sym, ap, ◌∙◌, subst}
 use Rattle.std.proofs.lemmas.Bool.Decides.{nat_tests}
 use Rattle.std.proofs.lemmas.List.{get_or-set_same, get_or-set_other, length-set}
 use Rattle.cmm_program.specs.declared.procedure.Target.{Target}
 use Rattle.cmm_program.specs.declared.procedure.Target.TheVariants as target
 use Rattle.cmm_program.specs.Control.{State, arrived, landed, over}
-use Rattle.cmm_program.specs.Errors.{with_some}
+use Rattle.cmm_program.specs.Errors.{WrongValues, provided, with_some}
 use Rattle.cmm_program.specs.Exits.{Landing, gone_on, land}
 use Rattle.cmm_program.specs.Frames.{with_site}
 use Rattle.cmm_program.specs.State.{Setting, Activation, Store, Running, Ended, StackLimit, stack_top}
@@ -140,7 +140,9 @@ module _ (s : Setting) (c : Compiled) (live : Liveness) (planned : IsPlanned c.p
   }
 
   pub step_copies : located_step s c Lands ≡ Copied
-  step_copies = ap (λ node. tried s c Lands (ran_at s c node Lands)) is_copy
+  step_copies =
+      let enough : nat_le (length to) (length values) ≡ true = grind (arith, nat_tests, count) in
+      ap (λ node. tried s c Lands (ran_at s c node Lands)) is_copy ∙ ap (λ b. tried s c Lands (provided b WrongValues (Ok Copied))) enough
 
   -- what a temporary of this number holds
   abbrev value_past : ℕ → ℕ

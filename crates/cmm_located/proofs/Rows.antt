@@ -9,6 +9,7 @@ use Rattle.cmm_script.specs.declared.script.Value.TheVariants.{Number}
 use Rattle.cmm_script.specs.Walk.{Activation}
 use Rattle.cmm_following.specs.Seen.{Event, End}
 use Rattle.cmm_program.specs.declared.statement.Form.TheVariants as form
+use Rattle.cmm_program.specs.Errors.{WrongValues}
 use Rattle.cmm_program.specs.Machine.{state_after}
 use Rattle.cmm_program.specs.Todo.{todo_control}
 use Rattle.cmm_program.specs.Walks.{walk_of}
@@ -17,7 +18,7 @@ use Rattle.cmm_laws.specs.Observed.{Ending, machine_of}
 use Rattle.cmm_graph.specs.GraphControl.{graph_control}
 use Rattle.cmm_graph.specs.GraphMachine.{graph_state_after}
 use Rattle.cmm_program.specs.declared.procedure.Proc.{Proc}
-use Rattle.cmm_program.specs.State.{Setting, Ended, Done, StackLimit, Stopped}
+use Rattle.cmm_program.specs.State.{Setting, Status, Running, Ended, Wrong, Done, StackLimit, Stopped}
 use Rattle.cmm_graph.specs.declared.operand.Operand.TheVariants.{Continuation}
 use Rattle.cmm_graph.specs.declared.operand.Rvalue.TheVariants.{Copy}
 use Rattle.cmm_graph.specs.declared.node.NodeKind.TheVariants.{Entry, CopyIn, Call, Yield, Jump, Cut, Return}
@@ -25,8 +26,8 @@ use Rattle.cmm_chain.specs.declared.frame.Location.TheVariants.{Slot, Saved, Tem
 use Rattle.cmm_program.proofs.Shared as sample
 use Rattle.cmm_program.proofs.Shared.{opened, variables_of, continuation, call_site, procedure, program, frame, frame_with, setting, yield_site, client, other, no_client}
 use Rattle.cmm_located.specs.Answering.{shown}
-use Rattle.cmm_located.specs.Compiled.{Compiled}
-use Rattle.cmm_located.specs.LocatedMachine.{located_machine}
+use Rattle.cmm_located.specs.Compiled.{Compiled, Located}
+use Rattle.cmm_located.specs.LocatedMachine.{located_machine, located_start, located_step}
 use Rattle.cmm_graph.proofs.Shared.{n, s, k, v, t, num, code, arg, variable, set_variable, set_temporary, exits, graph}
 use Rattle.cmm_located.proofs.Notation.{sum, added_to, laid, all_saved, compiled, located_after, located_status, graph_status}
 
@@ -79,6 +80,26 @@ saving_too_little = record cutting {
 
 saving_too_little_located : located_status cutting-setting saving_too_little 13 ≡ Ended (Done 8)
 saving_too_little_located = refl
+
+-- ---- control that brings too few values
+-- d takes one at its Entry, and c where d comes back.
+abbrev bringing : ℕ → ℕ → List ℕ → Located
+bringing q node values = record (located_start cutting-setting cutting []) { procedure = q; node = n node; carried = values }
+
+abbrev comes_to : Located → Status
+comes_to at = (located_step cutting-setting cutting at).store.status
+
+entered_with_one : comes_to (bringing 2 0 (1 ∷ [])) ≡ Running
+entered_with_one = refl
+
+entered_with_none : comes_to (bringing 2 0 []) ≡ Wrong WrongValues
+entered_with_none = refl
+
+back_with_one : comes_to (bringing 1 2 (1 ∷ [])) ≡ Running
+back_with_one = refl
+
+back_with_none : comes_to (bringing 1 2 []) ≡ Wrong WrongValues
+back_with_none = refl
 
 -- ---- a yield, at which the client changes what a younger frame saved, or unwinds past that frame
 --     main() { bits64 v, r; v = 40; r = g() also unwinds to k; return (v + r); continuation k(r): return (v + r); }

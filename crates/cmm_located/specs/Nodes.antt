@@ -205,8 +205,9 @@ module _ (s : Setting) (c : Compiled) where
       to_pair (at.holdings.contents value) (at.holdings.contents (value + 8)) found (numbers words) at)
   done kind order_ at = and_then (perform s order_ at.store) (λ transfer. Ok (transferred kind transfer at))
 
-  -- a node done
+  -- A node done. Control brings no fewer values than are taken.
   abbrev pub ran_at : NodeKind → Located → Tried Located
-  ran_at (Entry formals next) at = Ok (begins (map (λ v. v.number) formals) next at)
-  ran_at (CopyIn to next) at = Ok (copies to next at)
+  ran_at (Entry formals next) at =
+      provided (nat_le (length formals) (length at.carried)) WrongValues (Ok (begins (map (λ v. v.number) formals) next at))
+  ran_at (CopyIn to next) at = provided (nat_le (length to) (length at.carried)) WrongValues (Ok (copies to next at))
   ran_at kind at = and_then (evaluated (reads_at at) (act_of (keeping at) kind)) (λ order_. done kind order_ at)

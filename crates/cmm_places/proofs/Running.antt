@@ -103,11 +103,11 @@ main_there s less = by s.program.procs less
     by (p ∷ procs) less = (get_or (p ∷ procs) s.program.main p, slice_get-get_or (p ∷ procs) s.program.main p less)
 
 pub places_follow_programs : PlacesFollow → FlowFollowsAt → AnswersAreFlows → PlacesAreCompiled → PlacesAreShowable → PlacesFollowPrograms
-places_follow_programs places_follow flow_follows are_flows are_compiled are_showable s graphs found input runs =
+places_follow_programs places_follow flow_follows are_flows are_compiled are_showable s graphs found input set bytes runs =
     let c = compiled graphs found in
     let flows : AreFlows s graphs = are_flows s graphs runs.range runs.flows in
     let main = main_there s runs.range.main in
-    follows_trans (flow_follows s graphs input (step_cost c (longest s.program)) (longest s.program) flows (are_costs s c))
+    follows_trans (flow_follows s graphs input (step_cost c (longest s.program)) (longest s.program) set bytes flows (are_costs s c))
     (places_follow s c (live_before found) (longest s.program) main.0 input (are_compiled s graphs found runs) (are_showable s graphs found runs) main.1
     (runs.range.main_formals main.0 main.1))
 

@@ -4,6 +4,7 @@ use Rattle.std.proofs.Common.{◌≡◌, ◌↔◌, ℕ, zero, suc, ◌<◌, ◌
 use Rattle.std.proofs.lemmas.Bool.Decides.{nat_tests}
 use Rattle.std.proofs.lemmas.List.Elements.{All-cons, All-nil}
 use Rattle.cmm_following.specs.Machine.{after}
+use Rattle.cmm_laws.specs.Fitting.{IsSetUp}
 use Rattle.cmm_program.proofs.Shared.{opened}
 use Rattle.cmm_program.proofs.Shared.{frame, is, local as variable_of, no_client, procedure, program, sample, setting}
 use Rattle.cmm_program.specs.declared.procedure.Proc.{Proc}
@@ -96,6 +97,9 @@ answer = record {
   names = λ p range. refl;
   nodes = λ p range sites. refl;
   bounded = λ p range. lit≤ tt;
+  short = λ p range. lit≤ tt;
+  quiet = λ p range waits sites. refl;
+  covered = λ p range sites. refl;
 }
 
 -- ---- the program is in range
@@ -259,6 +263,9 @@ frames_are = record { size = sizes; pairs = pairs; stack = stacks }
 
 runs : RunsOverPlaces small (graph ∷ []) (places ∷ [])
 runs = record { range = range; flows = (answer, tt); places = (has_places, tt); frames = frames_are }
+
+is_set_up : IsSetUp small
+is_set_up = record { program = range; placement = record { rows = refl; ascending = refl }; top = lit< tt }
 
 -- the Entry makes the variable 0, which is then returned
 it_runs : (after (located_machine small (compiled (graph ∷ []) (places ∷ []))) 2 (located_start small (compiled (graph ∷ []) (places ∷ [])) [])).store.status ≡ Ended (Done 0)

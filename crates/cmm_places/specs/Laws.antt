@@ -1,7 +1,8 @@
 -- What a plan of slots is worth: it meets all that the laws of runs over places ask of a compiled program.
 use Rattle.std.specs.Prelude.{◌≡◌, ℕ, ◌+◌, ◌*◌, ◌≤◌, IsTrue, List, length}
-use Rattle.std.specs.List.{AllZip, list_all}
+use Rattle.std.specs.List.{All, AllZip, list_all}
 use Rattle.cmm_following.specs.Following.{Follows}
+use Rattle.cmm_laws.specs.Fitting.{IsByte, IsSetUp}
 use Rattle.cmm_laws.specs.Observed.{machine_of}
 use Rattle.cmm_program.specs.declared.procedure.Proc.{Proc}
 use Rattle.cmm_program.specs.declared.program.Program.{Program}
@@ -71,11 +72,12 @@ PlacesAreShowable = (s : Setting) (graphs : List Graph) (found : List ProcedureP
 
 -- ---- whole runs
 
--- So on every input a run over places follows the run of the C-- machine, from behind its first step on, which enters `main`. A step of the
--- machine costs at most twice the tokens of the longest procedure: those of the nodes of a statement, and those of the node where control
--- lands.
+-- So on every input, which has bytes, a run over places follows the run of the C-- machine, from behind its first step on, which enters `main`. A step
+-- of the machine costs at most twice the tokens of the longest procedure: those of the nodes of a statement, and those of the node where control
+-- lands. The placement is valid and the stack's addresses are words: so each value of the run fits its width, as nodes ask.
 abbrev pub PlacesFollowPrograms : Type 0
-PlacesFollowPrograms = (s : Setting) (graphs : List Graph) (found : List ProcedurePlaces) (input : List ℕ) → RunsOverPlaces s graphs found →
+PlacesFollowPrograms = (s : Setting) (graphs : List Graph) (found : List ProcedurePlaces) (input : List ℕ) → IsSetUp s → All IsByte input →
+    RunsOverPlaces s graphs found →
     let c = compiled graphs found in
     Follows (machine_of (todo_control s.program) s) (λ _. longest s.program + longest s.program) (located_machine s c) (tokens_at s c) (start s input)
     (located_step s c (located_start s c input))

@@ -12,6 +12,7 @@ use Rattle.cmm_graph.specs.declared.number.NodeId.{NodeId}
 use Rattle.cmm_graph.specs.Paths.{arm_nodes, if_there}
 use Rattle.cmm_graph.specs.Ranges.{is_copy_in, is_step, leads_to}
 use Rattle.cmm_flow.specs.declared.builder.Builder.{Builder}
+use Rattle.cmm_flow.specs.Flow.{all_tokens}
 use Rattle.cmm_flow.specs.Waiting.{times, waiting_at, waiting_sites}
 use Rattle.cmm_flow.specs.inside.Nodes.{unled}
 
@@ -90,8 +91,12 @@ pub record Holds (laid : List Node) (ahead normal : List NodeId) (x : Asked) : T
 abbrev pub AddsSites : List ℕ → Builder → Builder → Type 0
 AddsSites sites a b = (site : ℕ) → times site (waiting_sites b.nodes) ≤ times site (waiting_sites a.nodes) + times site sites
 
+-- and have so many tokens more at most
+abbrev pub AddsTokens : ℕ → Builder → Builder → Type 0
+AddsTokens most a b = all_tokens b.nodes ≤ all_tokens a.nodes + most
+
 -- Nodes like these, wherever they lead, of which something holds, with labels and continuations left as they were. They lead to each other, to these
--- nodes where a run may stand, and by normal exits to these CopyIns, and they wait at these sites at most.
+-- nodes where a run may stand, and by normal exits to these CopyIns, they wait at these sites at most, and have as many tokens at most.
 pub record LaysAt (sites : List ℕ) (laid : List Node) (ahead normal : List NodeId) (a b : Builder) (P : List Node → Type 0) : Type 0 where
   pub extends : Extends a b
   pub labels : b.labels ≡ a.labels
@@ -99,6 +104,7 @@ pub record LaysAt (sites : List ℕ) (laid : List Node) (ahead normal : List Nod
   pub code : OnFronts b P
   pub keeps : Keeps (Holds laid ahead normal) a b
   pub waits : AddsSites sites a b
+  pub adds : AddsTokens (all_tokens laid) a b
 
 -- nodes that wait at no site
 abbrev pub Lays : List Node → List NodeId → Builder → Builder → (List Node → Type 0) → Type 0

@@ -1,5 +1,5 @@
 -- The nodes that are laid for each construct, wherever they lead.
-use Rattle.std.specs.Prelude.{ℕ, suc, ◌+◌, true, false, List, [], ◌∷◌, ◌++◌, map, length, slice_get, Option, Some, None}
+use Rattle.std.specs.Prelude.{ℕ, suc, ◌+◌, true, false, List, [], ◌∷◌, ◌++◌, map, flat_map, length, slice_get, Option, Some, None}
 use mathlib.Core.Former.{one_more}
 use Rattle.cmm_words.specs.Words.{is_division}
 use Rattle.cmm_words.specs.declared.constant.Constant.TheVariants.{Number}
@@ -19,7 +19,11 @@ use Rattle.cmm_program.specs.declared.statement.Form.TheVariants as form
 use Rattle.cmm_program.specs.declared.statement.Form.TheVariants.{Empty, If', Switch', Span', Label, Continuation, Checked, GetByte, Cut, Assign, PutByte}
 use Rattle.cmm_program.specs.declared.statement.Lvalue.{Lvalue}
 use Rattle.cmm_program.specs.declared.statement.Lvalue.TheVariants as lvalue
+use Rattle.cmm_program.specs.declared.statement.Range.{Range}
+use Rattle.cmm_program.specs.Bodies.{branches}
+use Rattle.cmm_program.specs.InRange.{all_ranges}
 use Rattle.cmm_program.specs.Todo.{site_results}
+use Rattle.cmm_graph.specs.declared.node.Arm.{Arm}
 use Rattle.cmm_graph.specs.declared.node.Exits.{Exits}
 use Rattle.cmm_graph.specs.declared.node.HostCall.TheVariants as host
 use Rattle.cmm_graph.specs.declared.node.Node.{Node}
@@ -32,9 +36,10 @@ use Rattle.cmm_graph.specs.declared.operand.Operand.{Operand}
 use Rattle.cmm_graph.specs.declared.operand.Operand.TheVariants.{Constant}
 use Rattle.cmm_graph.specs.declared.operand.Rvalue.{Rvalue}
 use Rattle.cmm_graph.specs.declared.operand.Rvalue.TheVariants as rvalue
-use Rattle.cmm_flow.specs.Code.{right_tokens, to_temporary}
-use Rattle.cmm_flow.specs.Operands.{access_tokens, arguments_of, is_plain, nodes, nodes_of_all, operand_of, operands_of, temporary}
-use Rattle.cmm_flow.specs.Statements.{first_result, normal_tokens, remaining}
+use Rattle.cmm_graph.specs.Covering.{access_tokens, least_for}
+use Rattle.cmm_flow.specs.Code.{to_temporary}
+use Rattle.cmm_flow.specs.Operands.{arguments_of, is_plain, nodes, nodes_of_all, operand_of, operands_of, temporary}
+use Rattle.cmm_flow.specs.Statements.{operator_nodes, first_result, normal_tokens, remaining}
 use Rattle.cmm_flow.specs.inside.Parts.{rvalue_of, store_node, store_tokens}
 
 -- ---- a node without where it leads
@@ -45,13 +50,20 @@ nowhere = record { number = 0 }
 abbrev pub no_exits : Exits
 no_exits = record { normal = None; returns = []; unwinds = []; cuts = [] }
 
+-- the ranges of a switch, and all of them as those of one arm
+abbrev pub ranges_of : List Arm → List Range
+ranges_of arms = flat_map (λ arm. arm.ranges) arms
+
+abbrev pub one_arm : List Range → List Arm
+one_arm ranges = record { ranges = ranges; to = nowhere } ∷ []
+
 abbrev pub unled_kind : NodeKind → NodeKind
 unled_kind (node.Entry formals next) = node.Entry formals nowhere
 unled_kind (node.CopyIn to next) = node.CopyIn to nowhere
 unled_kind (node.Assign to value next) = node.Assign to value nowhere
 unled_kind (node.Store width aligned address value next) = node.Store width aligned address value nowhere
 unled_kind (node.Branch test then_ otherwise) = node.Branch test nowhere nowhere
-unled_kind (node.Switch value arms otherwise) = node.Switch value [] nowhere
+unled_kind (node.Switch value arms otherwise) = node.Switch value (one_arm (ranges_of arms)) nowhere
 unled_kind (node.Call site callee arguments exits) = node.Call site callee arguments no_exits
 unled_kind (node.Yield site values exits) = node.Yield site values no_exits
 unled_kind (node.Host call next) = node.Host call nowhere
@@ -65,7 +77,7 @@ abbrev pub goto : Node
 goto = record { tokens = 1; kind = node.Goto nowhere }
 
 abbrev pub assigned : Destination → Rvalue → Node
-assigned to value = record { tokens = right_tokens value; kind = node.Assign to value nowhere }
+assigned to value = record { tokens = least_for value; kind = node.Assign to value nowhere }
 
 abbrev pub branch : Cmp → Width → Expression → Expression → Node
 branch operator width a b =
@@ -184,7 +196,7 @@ zero_test width divisor = record {
 
 abbrev pub nodes_of_guard : Proc → ℕ → ℕ → ℕ → Width → Expression → List Node
 nodes_of_guard q tokens used site width divisor =
-    zero_test width divisor ∷ nodes_of_yield_one q (remaining tokens (used + 2 + normal_tokens (slice_get q.sites site))) site
+    zero_test width divisor ∷ nodes_of_yield_one q (remaining tokens (used + 1 + normal_tokens (slice_get q.sites site))) site
 
 abbrev pub nodes_of_guard_if : Proc → ℕ → ℕ → ℕ → Op2 → Width → Expression → List Node
 nodes_of_guard_if q tokens used site op width divisor =
@@ -196,7 +208,7 @@ division q site op width left right =
 
 abbrev pub nodes_of_checked : Proc → ℕ → ℕ → Op2 → Width → Expression → Expression → List Node
 nodes_of_checked q tokens site op width left right =
-    nodes_of_two left right ++ (nodes_of_guard_if q tokens (nodes left + nodes right) site op width right ++ division q site op width left right ∷ [])
+    nodes_of_two left right ++ (nodes_of_guard_if q tokens (operator_nodes width left right) site op width right ++ division q site op width left right ∷ [])
 
 abbrev pub call_node : Proc → ℕ → ℕ → Expression → List Expression → Node
 call_node q tokens site callee actuals = record {
@@ -248,18 +260,18 @@ put_node value = record { tokens = 1; kind = node.Host (host.PutByte (operand_of
 abbrev pub nodes_of_put : Expression → List Node
 nodes_of_put value = nodes_of_operand 0 value ++ put_node value ∷ []
 
-abbrev pub switch_node : ℕ → Expression → Node
-switch_node tokens value = record { tokens = remaining tokens (nodes value); kind = node.Switch (operand_of 0 value) [] nowhere }
+abbrev pub switch_node : ℕ → Expression → List Range → Node
+switch_node tokens value ranges = record { tokens = remaining tokens (nodes value); kind = node.Switch (operand_of 0 value) (one_arm ranges) nowhere }
 
-abbrev pub nodes_of_switch : ℕ → Expression → List Node
-nodes_of_switch tokens value =
-    nodes_of_operand 0 value ++ switch_node tokens value ∷ []
+abbrev pub nodes_of_switch : ℕ → Expression → List Range → List Node
+nodes_of_switch tokens value ranges =
+    nodes_of_operand 0 value ++ switch_node tokens value ranges ∷ []
 
 -- a statement of so many tokens, without the blocks inside it
 abbrev pub nodes_of_form : Proc → ℕ → Form → List Node
 nodes_of_form q tokens Empty = goto ∷ []
 nodes_of_form q tokens (If' condition _ then_ _ otherwise) = nodes_of_test condition
-nodes_of_form q tokens (Switch' value _ arms) = nodes_of_switch tokens value
+nodes_of_form q tokens (Switch' value _ arms) = nodes_of_switch tokens value (all_ranges (branches arms))
 nodes_of_form q tokens (Span' _ body) = goto ∷ []
 nodes_of_form q tokens (Assign to values) = nodes_of_assignment to values
 nodes_of_form q tokens (form.Call site callee actuals) = nodes_of_call q tokens site callee actuals

@@ -13,8 +13,9 @@ use Rattle.cmm_graph.specs.declared.operand.Operand.{Operand}
 use Rattle.cmm_graph.specs.declared.operand.Destination.TheVariants as destination
 use Rattle.cmm_graph.specs.declared.node.NodeKind.{NodeKind}
 use Rattle.cmm_graph.specs.declared.node.NodeKind.TheVariants.{Assign, Store}
-use Rattle.cmm_flow.specs.Operands.{access_tokens, operand_of}
-use Rattle.cmm_flow.specs.Code.{OperandCode, PartCode, ValueCode, operand_in, to_temporary}
+use Rattle.cmm_graph.specs.Covering.{access_tokens}
+use Rattle.cmm_flow.specs.Operands.{operand_in, operand_of}
+use Rattle.cmm_flow.specs.Code.{OperandCode, PartCode, ValueCode, to_temporary}
 
 -- the node that stores a value
 abbrev pub store_node : Lvalue → Operand → Operand → NodeId → NodeKind

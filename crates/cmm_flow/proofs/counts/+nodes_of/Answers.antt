@@ -1,7 +1,8 @@
 use Rattle.std.proofs.Common.{◌∙◌, ◌+◌, ap, refl, sym}
-use Rattle.cmm_flow.specs.Operands.{access_tokens, nodes}
+use Rattle.cmm_graph.specs.Covering.{access_tokens, operator_tokens}
+use Rattle.cmm_flow.specs.Operands.{nodes, operand_of}
 use Rattle.cmm_flow.specs.inside.Counts.{capped}
-use Rattle.cmm_flow.proofs.ExpressionForms.{access_capped, nodes_of_load, nodes_of_unary, nodes_of_binary, nodes_of_sign_extend, nodes_of_zero_extend, nodes_of_low_bits}
+use Rattle.cmm_flow.proofs.ExpressionForms.{access_capped, operator_capped, nodes_of_load, nodes_of_unary, nodes_of_binary, nodes_of_sign_extend, nodes_of_zero_extend, nodes_of_low_bits}
 use Rattle.cmm_flow.proofs.counts.+nodes_of.Goals as goal
 
 pub returns-in-Load : goal.returns-in-Load
@@ -32,7 +33,10 @@ returns-in-ZeroExtend t c =
 
 pub returns-in-Binary : goal.returns-in-Binary
 returns-in-Binary t c =
-    c.sum-in-Binary-2.ensures (nodes c.in-Binary.left + nodes c.in-Binary.right) 1
-    (c.sum-in-Binary.ensures (nodes c.in-Binary.left) (nodes c.in-Binary.right)
-    (c.nodes_of-in-Binary.ensures ∙ ap (λ e. capped (nodes e)) c.get-in-Binary.ensures) (c.nodes_of-in-Binary-2.ensures ∙ ap (λ e. capped (nodes e)) c.get-in-Binary-2.ensures)) refl
-    ∙ ap capped (sym (ap nodes c.in-Binary.is ∙ nodes_of_binary c.in-Binary.field-0 c.in-Binary.field-1 c.in-Binary.left c.in-Binary.right))
+    let width = c.in-Binary.width in let left = c.in-Binary.left in let right = c.in-Binary.right in
+    c.sum-in-Binary-2.ensures (nodes left + nodes right) (operator_tokens width (operand_of 0 left) (operand_of 1 right))
+    (c.sum-in-Binary.ensures (nodes left) (nodes right)
+    (c.nodes_of-in-Binary.ensures ∙ ap (λ e. capped (nodes e)) c.get-in-Binary.ensures) (c.nodes_of-in-Binary-2.ensures ∙ ap (λ e. capped (nodes e)) c.get-in-Binary-2.ensures))
+    (c.tokens_of_operator.ensures ∙ ap (λ e. operator_tokens width (operand_of 0 e) (operand_of 1 c.get-in-Binary-4.result.now)) c.get-in-Binary-3.ensures
+    ∙ ap (λ e. operator_tokens width (operand_of 0 left) (operand_of 1 e)) c.get-in-Binary-4.ensures ∙ operator_capped width (operand_of 0 left) (operand_of 1 right))
+    ∙ ap capped (sym (ap nodes c.in-Binary.is ∙ nodes_of_binary c.in-Binary.field-0 width left right))

@@ -2,7 +2,7 @@ use Rattle.std.proofs.Common.{◌+◌, ◌∙◌, sym, subst, take, arith}
 use Rattle.std.proofs.lemmas.List.{take_all}
 use Rattle.std.specs.List.{AllZip}
 use Rattle.cmm_flow.specs.Flow.{IsFlow}
-use Rattle.cmm_flow.proofs.Graphs.{bounded_given, graphs_given}
+use Rattle.cmm_flow.proofs.Graphs.{bounded_given, covered_given, graphs_given}
 use Rattle.cmm_flow.proofs.RangesCovering.{flows_given, zip_more}
 use Rattle.cmm_flow.proofs.procedure.flows.Goals as goal
 
@@ -24,5 +24,6 @@ returns c =
       each = are;
       are_graphs = λ range. graphs_given p graphs are range;
       are_bounded = λ range. bounded_given p graphs are range;
+      are_covered = λ range. covered_given p graphs are range;
       are_flows = λ s same range. flows_given p graphs are s same range;
     }

@@ -1,6 +1,7 @@
 use Rattle.std.proofs.Common.{◌≡◌, ◌++◌, refl, ap, ◌∙◌, subst, sym}
 use Rattle.cmm_graph.specs.declared.node.NodeKind.TheVariants.{Assign}
-use Rattle.cmm_flow.specs.Code.{OperandCode, right_tokens}
+use Rattle.cmm_graph.specs.Covering.{least_for}
+use Rattle.cmm_flow.specs.Code.{OperandCode}
 use Rattle.cmm_flow.specs.inside.Laying.{LaysNode}
 use Rattle.cmm_flow.specs.inside.Nodes.{nodes_of_operand, nodes_of_parts}
 use Rattle.cmm_flow.specs.inside.Parts.{PartsCode, rvalue_of}
@@ -17,7 +18,7 @@ pub value-returns : goal.value-returns
 value-returns t c =
     let value = rvalue_of c.args.base c.args.e.now in
     let is_value = c.in_ok-value.ensures in
-    let tokens : c.right_tokens.result ≡ right_tokens value = c.right_tokens.ensures ∙ ap right_tokens is_value in
+    let tokens : c.right_tokens.result ≡ least_for value = c.right_tokens.ensures ∙ ap least_for is_value in
     lays_after _ _ _ _ _ _ _ _ c.parts.result
     (subst (λ n. LaysNode n c.args.self.now c.push.new.self c.in_ok-node.node) (same_node tokens (ap (λ v. Assign c.args.to v c.args.next) is_value)) c.in_ok-node.ensures) (λ nodes more. node_stays nodes more c.in_ok-node.node _ _) c.parts.ensures
     refl

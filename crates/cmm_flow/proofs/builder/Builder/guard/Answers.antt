@@ -19,5 +19,5 @@ returns c =
     if_ok {P = λ n. LaysNode record { tokens = 1; kind = kind } c.yield_one.new.self c.push.new.self n} c.push.result
     (λ n test count is.
     guard_laid q c.args.tokens count c.args.site c.remaining.result width c.args.divisor.now n y c.args.division c.args.next c.in_ok-yields.ensures test
-    (c.remaining.ensures (count + 2 + normal_tokens there) (c.sum-spent.ensures (count + 2) (normal_tokens there) (c.sum.ensures count 2 is refl) c.normal_tokens_at.ensures)))
+    (c.remaining.ensures (count + 1 + normal_tokens there) (c.sum-spent.ensures (count + 1) (normal_tokens there) (c.sum.ensures count 1 is refl) c.normal_tokens_at.ensures)))
     (subst (λ node. IfOk c.push.result (λ n. LaysNode node c.yield_one.new.self c.push.new.self n)) (same_node refl kinds_are) c.push.ensures)
