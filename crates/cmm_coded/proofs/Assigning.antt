@@ -9,6 +9,7 @@ use Rattle.cmm_words.specs.Words.{holds, low_bits, sign_extended, value1, value2
 use Rattle.cmm_words.specs.declared.operators.Cmp.{Cmp}
 use Rattle.cmm_words.specs.declared.operators.Op2.{Op2}
 use Rattle.cmm_words.specs.declared.width.Width.{Width}
+use Rattle.cmm_words.specs.declared.width.Width.TheVariants.{W64}
 use Rattle.rv_table.specs.Machine.{State, loaded}
 use Rattle.rv_asm.specs.declared.part.Label.{Label}
 use Rattle.rv_asm.proofs.Shared.{reaches_then, reaches_weaker}
@@ -31,7 +32,7 @@ use Rattle.cmm_graph.specs.declared.node.NodeKind.TheVariants.{Assign}
 use Rattle.cmm_graph.specs.declared.graph.Graph.{Graph}
 use Rattle.cmm_graph.specs.Counterpart.{names_rvalue, targets_of_destination}
 use Rattle.cmm_graph.specs.Ranges.{IsValid, is_destination, is_kind, is_operand, is_rvalue, is_step, leads_to}
-use Rattle.cmm_graph.specs.Values.{operand_value, rvalue_value}
+use Rattle.cmm_graph.specs.Values.{found_value, operand_value, operand_word, rvalue_value}
 use Rattle.cmm_changes.proofs.Shared.{reaches_more, reaches_sound}
 use Rattle.cmm_changes.specs.Accesses.{global_at}
 use Rattle.cmm_changes.specs.Pieces.{Leads}
@@ -49,18 +50,21 @@ use Rattle.cmm_located.specs.Nodes.{done, keeping, ran_at, reads_at}
 use Rattle.cmm_coded.proofs.Accesses.{may_is_cell}
 use Rattle.cmm_coded.proofs.Doing.{IsDone, kept_shown, silently, stands_there, tokens_there}
 use Rattle.cmm_coded.proofs.Going.{place_is}
-use Rattle.cmm_coded.proofs.Operands.{ok_is, operand_is}
+use Rattle.cmm_coded.proofs.Operands.{ok_is, operand_is, word_is}
 use Rattle.cmm_coded.proofs.Targets.{can_put, count_with, global_is_read, global_reached, holdings_with, put_shown, registers_with}
 use Rattle.cmm_coded.specs.Finished.{Finished, code_of}
 use Rattle.cmm_coded.specs.NodeCode.{AssignCode, IsOperandOf, IsPutInto, IsRegister}
-use Rattle.cmm_coded.specs.ProgramCode.{HasWords, HasWordsIn, IsWordIn, names_register, names_registers}
+use Rattle.cmm_coded.specs.ProgramCode.{names_register, names_registers}
 use Rattle.cmm_coded.specs.Standing.{IsInBody, Stands}
 
-module _ (s : Setting) (c : Compiled) (l : Launch) (f : Finished) (input : List ℕ) (is_for : IsFor s (map_of l)) (at : Located) (t : State) (stands : Stands s c l f at t)
+module _ (s : Setting) (c : Compiled) (l : Launch) (f : Finished) (is_for : IsFor s (map_of l)) (at : Located) (t : State) (stands : Stands s c l f at t)
     (body : IsInBody at) (g : Graph) (is_graph : slice_get c.graphs at.procedure ≡ Some g) (valid : IsValid g)
     (places : (v : ℕ) → IsPlaceOf s body.activation (c.plan.place at.procedure v)) where
   abbrev value : Operand → Tried ℕ
   value o = operand_value (keeping s c at).held o (reads_at s c at)
+
+  abbrev word : Width → Operand → Tried ℕ
+  word w o = operand_word (keeping s c at).held w o (reads_at s c at)
 
   brought : (o : Operand) (a : CodeOperand) (x : ℕ) → IsOperandOf s c l f at.procedure o a → value o ≡ Ok x → (operand_at f.labels a t ≡ x) × CanBringOperand a (map_of l) t
   brought o a x is is_x = operand_is s c l f is_for at t body.activation body.older body.youngest places stands.shown o a x is is_x
@@ -77,26 +81,28 @@ module _ (s : Setting) (c : Compiled) (l : Launch) (f : Finished) (input : List 
     put_as u n is there = (there.0, subst (λ (k : ℕ). PutsTo f.labels to k t u) is there.1)
 
     one_put : (o : Operand) (a : CodeOperand) (w : Width) (f' : ℕ → ℕ) → IsOperandOf s c l f at.procedure o a →
-        AssignsOne count w f' a to (code_of l f) (f.node_at at.procedure at.node) on → IsWordIn s c at w o →
-        (r : Tried ℕ) → value o ≡ r → and_then r (λ x. Ok (f' x)) ≡ Ok v → Reaches (map_of l) 1 count t ArePut
-    one_put o a w f' is code word (Ok x) is_x e =
-        let found = brought o a x is is_x in
-        reaches_more (code.runs.go t stands.sound stands.pc (record { brings = found.1; word = subst (IsWord w) (sym found.0) (word x is_x); reaches = reached }))
+        AssignsOne count w f' a to (code_of l f) (f.node_at at.procedure at.node) on →
+        (r : Tried ℕ) → word w o ≡ r → and_then r (λ x. Ok (f' x)) ≡ Ok v → Reaches (map_of l) 1 count t ArePut
+    one_put o a w f' is code (Ok x) is_x e =
+        let known = word_is w (value o) x is_x in
+        let found = brought o a x is known.0 in
+        reaches_more (code.runs.go t stands.sound stands.pc (record { brings = found.1; word = subst (IsWord w) (sym found.0) known.1; reaches = reached }))
         (λ u there. put_as u (f' (operand_at f.labels a t)) (ap f' found.0 ∙ ok_is e) there)
-    one_put o a w f' is code word (Err error) is_x e = absurd (cc)
+    one_put o a w f' is code (Err error) is_x e = absurd (cc)
 
-    module _ (left right : Operand) (a b : CodeOperand) (w : Width) (is_a : IsOperandOf s c l f at.procedure left a) (is_b : IsOperandOf s c l f at.procedure right b)
-        (words : IsWordIn s c at w left × IsWordIn s c at w right) where
+    module _ (left right : Operand) (a b : CodeOperand) (w : Width) (is_a : IsOperandOf s c l f at.procedure left a) (is_b : IsOperandOf s c l f at.procedure right b) where
       two_put : (op : Op2) → AssignsBinary count op w a b to (code_of l f) (f.node_at at.procedure at.node) on →
-          (r : Tried ℕ) → value left ≡ r → (q : Tried ℕ) → value right ≡ q →
+          (r : Tried ℕ) → word w left ≡ r → (q : Tried ℕ) → word w right ≡ q →
           and_then r (λ x. and_then q (λ y. given (value2 op w x y) ZeroDivisor Ok)) ≡ Ok v → Reaches (map_of l) 1 count t ArePut
       two_put op code (Ok x) is_x (Ok y) is_y e =
-          let first = brought left a x is_a is_x in
-          let second = brought right b y is_b is_y in
+          let known = word_is w (value left) x is_x in
+          let also = word_is w (value right) y is_y in
+          let first = brought left a x is_a known.0 in
+          let second = brought right b y is_b also.0 in
           by (value2 op w x y) (ap (λ (k : ℕ). value2 op w k (operand_at f.labels b t)) first.0 ∙ ap (value2 op w x) second.0) e
           (code.runs.go t stands.sound stands.pc (record {
             brings = record { brings_left = first.1; brings_right = second.1 };
-            words = (subst (IsWord w) (sym first.0) (words.0 x is_x), subst (IsWord w) (sym second.0) (words.1 y is_y));
+            words = (subst (IsWord w) (sym first.0) known.1, subst (IsWord w) (sym second.0) also.1);
             reaches = reached;
           }))
         where
@@ -108,15 +114,17 @@ module _ (s : Setting) (c : Compiled) (l : Launch) (f : Finished) (input : List 
       two_put op code (Err error) is_x q is_y e = absurd (cc)
 
       compared : (op : Cmp) → AssignsComparison count op w a b to (code_of l f) (f.node_at at.procedure at.node) on →
-          (r : Tried ℕ) → value left ≡ r → (q : Tried ℕ) → value right ≡ q →
+          (r : Tried ℕ) → word w left ≡ r → (q : Tried ℕ) → word w right ≡ q →
           and_then (and_then r (λ x. and_then q (λ y. Ok (holds op w x y)))) (λ h. Ok (elim h as (λ _. ℕ) [ true ↦ 1 | false ↦ 0 ])) ≡ Ok v → Reaches (map_of l) 1 count t ArePut
       compared op code (Ok x) is_x (Ok y) is_y e =
-          let first = brought left a x is_a is_x in
-          let second = brought right b y is_b is_y in
+          let known = word_is w (value left) x is_x in
+          let also = word_is w (value right) y is_y in
+          let first = brought left a x is_a known.0 in
+          let second = brought right b y is_b also.0 in
           by (holds op w x y) (ap (λ (k : ℕ). holds op w k (operand_at f.labels b t)) first.0 ∙ ap (holds op w x) second.0) e
           (code.runs.go t stands.sound stands.pc (record {
             brings = record { brings_left = first.1; brings_right = second.1 };
-            words = (subst (IsWord w) (sym first.0) (words.0 x is_x), subst (IsWord w) (sym second.0) (words.1 y is_y));
+            words = (subst (IsWord w) (sym first.0) known.1, subst (IsWord w) (sym second.0) also.1);
             reaches = reached;
           }))
         where
@@ -170,22 +178,23 @@ module _ (s : Setting) (c : Compiled) (l : Launch) (f : Finished) (input : List 
         by false may e' = absurd (cc)
     load width aligned o a is fine code (Err error) is_n e = absurd (cc)
 
-    puts : (right : Rvalue) → IsPutInto s c l f at.procedure right to count (f.node_at at.procedure at.node) on → HasWordsIn s c at right → IsTrue (is_rvalue g right) →
-        names_rvalue s.program right ≡ true → length at.store.registers ≡ length s.program.globals → rvalue_value (keeping s c at).held right (reads_at s c at) ≡ Ok v → Reaches (map_of l) 1 count t ArePut
-    puts (rvalue.Copy o) (a, is, code) words fine named kept e =
+    puts : (right : Rvalue) → IsPutInto s c l f at.procedure right to count (f.node_at at.procedure at.node) on → IsTrue (is_rvalue g right) →
+        names_rvalue s.program right ≡ true → length at.store.registers ≡ length s.program.globals → found_value (keeping s c at).held right (reads_at s c at) ≡ Ok v →
+        Reaches (map_of l) 1 count t ArePut
+    puts (rvalue.Copy o) (a, is, code) fine named kept e =
         let found = brought o a v is e in
         reaches_more (code.runs.go t stands.sound stands.pc (record { brings = found.1; reaches = reached })) (λ u there. put_as u (operand_at f.labels a t) found.0 there)
-    puts (rvalue.Unary operator width o) (a, is, code) words fine named kept e = one_put o a width (value1 operator width) is code words (value o) refl e
-    puts (rvalue.SignExtend narrow width o) (a, is, code) words fine named kept e = one_put o a narrow (sign_extended narrow width) is code words (value o) refl e
-    puts (rvalue.LowBits wide width o) (a, is, code) words fine named kept e = one_put o a wide (low_bits width) is code words (value o) refl e
-    puts (rvalue.Binary operator width left right) (a, b, is_a, is_b, code) words fine named kept e =
-        two_put left right a b width is_a is_b words operator code (value left) refl (value right) refl e
-    puts (rvalue.Compare test) (a, b, is_a, is_b, code) words fine named kept e =
-        compared test.left test.right a b test.width is_a is_b words test.operator code (value test.left) refl (value test.right) refl e
-    puts (rvalue.Register r) (label, is, code) words fine named kept e =
+    puts (rvalue.Unary operator width o) (a, is, code) fine named kept e = one_put o a width (value1 operator width) is code (word width o) refl e
+    puts (rvalue.SignExtend narrow width o) (a, is, code) fine named kept e = one_put o a narrow (sign_extended narrow width) is code (word narrow o) refl e
+    puts (rvalue.LowBits wide width o) (a, is, code) fine named kept e = one_put o a wide (low_bits width) is code (word wide o) refl e
+    puts (rvalue.Binary operator width left right) (a, b, is_a, is_b, code) fine named kept e =
+        two_put left right a b width is_a is_b operator code (word width left) refl (word width right) refl e
+    puts (rvalue.Compare test) (a, b, is_a, is_b, code) fine named kept e =
+        compared test.left test.right a b test.width is_a is_b test.operator code (word test.width test.left) refl (word test.width test.right) refl e
+    puts (rvalue.Register r) (label, is, code) fine named kept e =
         let less : r.number < length s.program.globals = grind (arith, nat_tests, named) in
         read r label is (omega (arith, less, kept)) code (ok_is e)
-    puts (rvalue.Load width aligned o) (a, is, code) words fine named kept e =
+    puts (rvalue.Load width aligned o) (a, is, code) fine named kept e =
         load width aligned o a is (and_parts (is_alignment aligned) (is_operand g o) fine).0 code (value o) refl e
 
   -- ---- a destination takes the value
@@ -201,19 +210,19 @@ module _ (s : Setting) (c : Compiled) (l : Launch) (f : Finished) (input : List 
     }
 
     assigned : (d : Destination) (right : Rvalue) (next : NodeId) (cost v : ℕ) (code : AssignCode s c l f at.procedure at.node d right next cost) →
-        HasWordsIn s c at right → v < 2 ^ 64 → IsTrue (is_rvalue g right) → IsTrue (leads_to g is_step next) → list_all (names_register s.program) (targets_of_destination d) ≡ true →
-        names_rvalue s.program right ≡ true → rvalue_value (keeping s c at).held right (reads_at s c at) ≡ Ok v → IsDone s c l f input at cost t (record (taken d v) { node = next })
-    assigned d right next cost v code words small fine leads named reads e =
-        silently s c l f input at cost t (record (taken d v) { node = next }) (tokens_there s c l f input (taken d v) g is_graph valid next leads) refl
+        v < 2 ^ 64 → IsTrue (is_rvalue g right) → IsTrue (leads_to g is_step next) → list_all (names_register s.program) (targets_of_destination d) ≡ true →
+        names_rvalue s.program right ≡ true → found_value (keeping s c at).held right (reads_at s c at) ≡ Ok v → IsDone s c l f at cost t (record (taken d v) { node = next })
+    assigned d right next cost v code small fine leads named reads e =
+        silently s c l f at cost t (record (taken d v) { node = next }) (tokens_there s c l f (taken d v) g is_graph valid next leads) refl
         (count_with d v at.store.registers) (λ b. b)
         (reaches_more (reaches_sound {Q = λ u. (u.pc ≡ f.node_at at.procedure next) × IsShown f.symbols s (map_of l) (taken d v).holdings (store_with d v) at.carried u}
         (reaches_weaker
-        (reaches_then (reaches_sound (puts code.into reached code.count code.on v right code.puts words fine reads kept e) stands.sound)
+        (reaches_then (reaches_sound (puts code.into reached code.count code.on v right code.puts fine reads kept e) stands.sound)
         (λ u there. reaches_more (code.goes_on.go u there.1 there.0.0 tt)
         (λ w last. (last.0, kept_shown f s l is_for (taken d v).holdings (store_with d v) at.carried u w last.1 (shown_put u there.0.1)))))
         (omega arith) (omega (arith, code.few)) (λ w last. last))
         stands.sound)
-        (λ w last. stands_there s c l f input (taken d v) g is_graph valid next leads w stands.running
+        (λ w last. stands_there s c l f (taken d v) g is_graph valid next leads w stands.running
         (record { activation = body.activation; older = body.older; youngest = body.youngest; same = body.same; carried = body.carried }) last.0.1 last.0.0 last.1))
       where
         reached : CanPut f.labels code.into (map_of l) t
@@ -225,9 +234,9 @@ module _ (s : Setting) (c : Compiled) (l : Launch) (f : Finished) (input : List 
             (put_shown s c l f is_for at.procedure at.holdings at.store body.activation body.older body.youngest places t shown_here kept v small u d code.into code.is_into named there)
 
     pub assign_done : (d : Destination) (right : Rvalue) (next : NodeId) (cost : ℕ) (after : Located) → AssignCode s c l f at.procedure at.node d right next cost →
-        HasWords s c at (Assign d right next) → IsTrue (is_kind g (Assign d right next)) → names_registers s.program (Assign d right next) ≡ true →
-        ran_at s c (Assign d right next) at ≡ Ok after → IsDone s c l f input at cost t after
-    assign_done d right next cost after code words fine named is = chosen (rvalue_value (keeping s c at).held right (reads_at s c at)) refl (by d is)
+        IsTrue (is_kind g (Assign d right next)) → names_registers s.program (Assign d right next) ≡ true →
+        ran_at s c (Assign d right next) at ≡ Ok after → IsDone s c l f at cost t after
+    assign_done d right next cost after code fine named is = chosen (rvalue_value (keeping s c at).held right (reads_at s c at)) refl (by d is)
       where
         both : IsTrue (is_destination g d && is_rvalue g right) × IsTrue (leads_to g is_step next)
         both = and_parts (is_destination g d && is_rvalue g right) (leads_to g is_step next) fine
@@ -236,10 +245,11 @@ module _ (s : Setting) (c : Compiled) (l : Launch) (f : Finished) (input : List 
         names = and_parts (list_all (names_register s.program) (targets_of_destination d)) (names_rvalue s.program right) named
 
         chosen : (r : Tried ℕ) → rvalue_value (keeping s c at).held right (reads_at s c at) ≡ r →
-            and_then r (λ v. Ok (record (taken d v) { node = next })) ≡ Ok after → IsDone s c l f input at cost t after
+            and_then r (λ v. Ok (record (taken d v) { node = next })) ≡ Ok after → IsDone s c l f at cost t after
         chosen (Ok v) is_v e =
-            subst (λ (z : Located). IsDone s c l f input at cost t z) (place_is e)
-            (assigned d right next cost v code words.0 (words.1 v is_v) (and_parts (is_destination g d) (is_rvalue g right) both.0).1 both.1 names.0 names.1 is_v)
+            let known = word_is W64 (found_value (keeping s c at).held right (reads_at s c at)) v is_v in
+            subst (λ (z : Located). IsDone s c l f at cost t z) (place_is e)
+            (assigned d right next cost v code known.1 (and_parts (is_destination g d) (is_rvalue g right) both.0).1 both.1 names.0 names.1 known.0)
         chosen (Err error) is_v e = absurd (cc)
 
         by : (d' : Destination) → ran_at s c (Assign d' right next) at ≡ Ok after →

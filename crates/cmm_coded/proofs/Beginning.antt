@@ -1,6 +1,6 @@
 -- The image begins a run over places, and follows it.
 use Rattle.std.proofs.Common.{◌≡◌, ℕ, zero, suc, ◌+◌, ◌-◌, ◌<◌, ◌≤◌, ◌^◌, refl, sym, ◌∙◌, ap, subst, arith, Bool, true, false, List, [], ◌∷◌, length, Option, Some, None, IsTrue}
-use Rattle.std.specs.Prelude.{nat_le, slice_index_or}
+use Rattle.std.specs.Prelude.{◌==◌, nat_le, slice_index_or}
 use Rattle.std.specs.List.{All}
 use Rattle.std.proofs.lemmas.Bool.Decides.{nat_tests}
 use Rattle.std.proofs.lemmas.List.{length-map}
@@ -8,12 +8,14 @@ use Rattle.std.proofs.lemmas.List.Elements.{All-tail}
 use Rattle.rv_table.proofs.Shared.{sound_start}
 use Rattle.rv_table.specs.Bounds.{IsSound}
 use Rattle.rv_table.specs.Machine as rv
-use Rattle.rv_table.specs.Machine.{State, data_base, loaded, region_base, stack_base}
+use Rattle.rv_table.specs.Machine.{State, data_base, loaded}
 use Rattle.rv_asm.proofs.Shared.{leads_of}
-use Rattle.cmm_following.proofs.Paths.{joined, weaker}
-use Rattle.cmm_following.specs.Machine.{after, spent}
+use Rattle.cmm_following.proofs.Paths.{weaker}
+use Rattle.cmm_following.proofs.Simulations.{run_leads}
+use Rattle.cmm_following.specs.Following.{Follows}
+use Rattle.cmm_following.specs.Machine.{after}
 use Rattle.cmm_following.specs.Observing.{Passes}
-use Rattle.cmm_following.specs.Seen.{IsWithin}
+use Rattle.cmm_following.specs.Seen.{Seen, IsWithin}
 use Rattle.cmm_following.specs.Simulation.{Leads}
 use Rattle.cmm_program.specs.Layout.{data_bytes}
 use Rattle.cmm_program.specs.Machine.{first_store}
@@ -41,10 +43,10 @@ use Rattle.cmm_shown.specs.Words.{register_address}
 use Rattle.cmm_located.specs.Compiled.{Compiled, Located}
 use Rattle.cmm_located.specs.LocatedMachine.{located_machine, located_start, located_step, tokens_at}
 use Rattle.cmm_coded.proofs.Landing.{first_holds, has_tokens, inside_entry}
-use Rattle.cmm_coded.proofs.Simulating.{IsShownIn, shown_is_level, step_is, step_leads}
+use Rattle.cmm_coded.proofs.Simulating.{code_simulates, step_is}
 use Rattle.cmm_coded.specs.Finished.{Finished}
-use Rattle.cmm_coded.specs.Laws.{CodeFollows, FollowsPromised, most_for_step}
-use Rattle.cmm_coded.specs.ProgramCode.{ArePromised, IsCode}
+use Rattle.cmm_coded.specs.Laws.{CodeBegins, CodeFollows, IsShownIn, most_for_step}
+use Rattle.cmm_coded.specs.ProgramCode.{IsCode}
 use Rattle.cmm_coded.specs.Standing.{IsOfRun, Stands}
 use Rattle.cmm_coded.specs.Starting.{StartCode}
 
@@ -67,6 +69,15 @@ zeros_loaded memory a (suc n) zeros =
     let rest : loaded memory (a + 1) n ≡ 0 = zeros_loaded memory (a + 1) n (λ i less. ap memory (omega arith) ∙ zeros (suc i) (omega (arith, less))) in
     omega (arith, first, rest)
 
+-- ---- nothing is seen at first
+
+pub nothing_within : (seen : Seen ℕ) → IsWithin (record { output = []; log = []; taken = [] }) seen
+nothing_within seen = record {
+  output = record { rest = seen.output; whole = refl };
+  log = record { rest = seen.log; whole = refl };
+  taken = record { rest = seen.taken; whole = refl };
+}
+
 -- ---- a wrong run stays wrong
 
 right_before : (s : Setting) (c : Compiled) (at : Located) → (located_machine s c).wrong (located_step s c at) ≡ false → (located_machine s c).wrong at ≡ false
@@ -81,36 +92,33 @@ right_before s c at right = by at.store.status refl
     by (p.Ended outcome) is = status_tells (p.Ended outcome) is
     by (p.Wrong error) is = sym (ap (λ (z : Located). (located_machine s c).wrong z) (step_is s c at (p.Wrong error) is)) ∙ right
 
-module _ (lead : SwitchesLead) (s : Setting) (c : Compiled) (l : Launch) (f : Finished) (input : List ℕ) (code : IsCode s c l f input) where
+-- so one that is right after some steps was right before
+pub right_earlier : (s : Setting) (c : Compiled) (at : Located) (m n : ℕ) → m ≤ n → (located_machine s c).wrong (after (located_machine s c) n at) ≡ false →
+    (located_machine s c).wrong (after (located_machine s c) m at) ≡ false
+right_earlier s c at m zero less right =
+    let same : 0 ≡ m = omega (arith, less) in subst (λ (k : ℕ). (located_machine s c).wrong (after (located_machine s c) k at) ≡ false) same right
+right_earlier s c at m (suc n) less right =
+    by (m == suc n) refl (λ before. right_earlier s c at m n before (right_before s c (after (located_machine s c) n at) right))
+  where
+    by : (test : Bool) → (m == suc n) ≡ test → (m ≤ n → (located_machine s c).wrong (after (located_machine s c) m at) ≡ false) →
+        (located_machine s c).wrong (after (located_machine s c) m at) ≡ false
+    by true is rest =
+        let same : suc n ≡ m = grind (arith, nat_tests, is) in subst (λ (k : ℕ). (located_machine s c).wrong (after (located_machine s c) k at) ≡ false) same right
+    by false is rest = rest (grind (arith, nat_tests, is, less))
+
+-- what shows a state follows the run from there on
+pub shown_follows : (lead : SwitchesLead) (s : Setting) (c : Compiled) (l : Launch) (f : Finished) → IsCode s c l f → (at : Located) (u : Run) → IsShownIn s c l f at u →
+    Follows (located_machine s c) (most_for_step s c) (image_machine l) (λ run. 1) at u
+shown_follows lead s c l f code at u is_shown = record {
+  leads = λ m right.
+      weaker
+      (run_leads (code_simulates lead s c l f code) is_shown m (λ i less. (right_earlier s c at (suc i) m (omega arith) right, λ v passes. (i, less, passes))))
+      (λ v p. p) ((code_simulates lead s c l f code).level (after (located_machine s c) m at)) (omega arith) (λ n le. le);
+}
+
+module _ (s : Setting) (c : Compiled) (l : Launch) (f : Finished) (code : IsCode s c l f) (input : List ℕ) (is_bytes : All IsByte input) where
   abbrev start : Located
   start = located_start s c input
-
-  -- ---- as long as promises are kept
-
-  abbrev PassedBefore : ℕ → Run → Type 0
-  PassedBefore m u = (i : ℕ) × (i < m) × Passes (located_machine s c) (image_machine l) (after (located_machine s c) i start) u
-
-  steps_lead : (u : Run) → IsShownIn lead s c l f input code start u → (m : ℕ) → ArePromised s c input m →
-      (located_machine s c).wrong (after (located_machine s c) m start) ≡ false →
-      Leads (image_machine l) (λ run. 1) (PassedBefore m) (IsShownIn lead s c l f input code (after (located_machine s c) m start)) m
-      (spent (located_machine s c) (most_for_step s c) m start) u
-  steps_lead u is_shown zero promised right =
-      record { steps = 0; through = λ i less. absurd (omega (arith, less)); arrives = is_shown; enough = omega arith; within = omega arith }
-  steps_lead u is_shown (suc m) promised right =
-      joined {l = m} {m = spent (located_machine s c) (most_for_step s c) m start} {n = 1} {o = most_for_step s c (after (located_machine s c) m start)}
-      (weaker (steps_lead u is_shown m (λ n less. promised n (omega (arith, less))) (right_before s c (after (located_machine s c) m start) right))
-      (λ v passed. (passed.0, omega (arith, passed.1), passed.2)) (λ v r. r) (omega arith) (λ n le. le))
-      (λ v related.
-      weaker (step_leads lead s c l f input code (after (located_machine s c) m start) v (promised m (omega arith)) related right)
-      (λ w passes. (m, omega arith, passes)) (λ w r. r) (omega arith) (λ n le. le))
-      (omega arith) (omega arith)
-
-  follows : (u : Run) → IsShownIn lead s c l f input code start u → FollowsPromised s c l input u
-  follows u is_shown = record {
-    leads = λ m promised right.
-        weaker (steps_lead u is_shown m promised right) (λ v p. p) (λ v related. shown_is_level lead s c l f input code (after (located_machine s c) m start) v related)
-        (omega arith) (λ n le. le);
-  }
 
   -- ---- the start
 
@@ -155,7 +163,7 @@ module _ (lead : SwitchesLead) (s : Setting) (c : Compiled) (l : Launch) (f : Fi
 
     -- ---- at the Entry of `main`
 
-    abbrev start_at : NodeId → Located
+    abbrev pub start_at : NodeId → Located
     start_at n = record {
       store = first_store s input;
       holdings = record { point = record { at = stack_top s; back = LastReturn; kept = none_known }; temps = none_known; contents = none_known };
@@ -164,10 +172,10 @@ module _ (lead : SwitchesLead) (s : Setting) (c : Compiled) (l : Launch) (f : Fi
       carried = [];
     }
 
-    start_is : start ≡ start_at begins.first
+    pub start_is : start ≡ start_at begins.first
     start_is = ap (λ (o : Option NodeId). start_at (elim o as (λ _. NodeId) [ Some n ↦ n | None ↦ record { number = 0 } ])) begins.is_first
 
-    entry : (node : Node) × (in_graph c.graphs s.program.main (λ g. node_of g begins.first) ≡ Some node) × IsTrue (is_entry node.kind)
+    pub entry : (node : Node) × (in_graph c.graphs s.program.main (λ g. node_of g begins.first) ≡ Some node) × IsTrue (is_entry node.kind)
     entry = first_holds c.graphs s.program.main (code.valid s.program.main) begins.first begins.is_first
 
     stands_first : (u : State) → u.pc ≡ f.node_at s.program.main begins.first → PutsRegister 1 f.symbols.last_return begun u → IsSound u → Stands s c l f (start_at begins.first) u
@@ -181,16 +189,14 @@ module _ (lead : SwitchesLead) (s : Setting) (c : Compiled) (l : Launch) (f : Fi
       sound = sound;
     }
 
-    first_of_run : IsOfRun s c input start
+    first_of_run : IsOfRun s c start
     first_of_run = record {
-      steps = 0;
-      reached = refl;
       tokens =
           let e : tokens_at s c (start_at begins.first) ≡ entry.0.tokens = ap (λ (o : Option Node). elim o as (λ _. ℕ) [ Some node ↦ node.tokens | None ↦ 0 ]) entry.1 in
           let some : 1 ≤ entry.0.tokens = has_tokens c.graphs s.program.main (code.valid s.program.main) begins.first entry.0 entry.1 in
           subst (λ (z : Located). 1 ≤ tokens_at s c z) (sym start_is) (omega (arith, e, some));
       registers = length-map {B = ℕ} s.program.globals (λ g. 0);
-      bytes = code.bytes;
+      bytes = is_bytes;
       are_bare = refl;
     }
 
@@ -198,7 +204,7 @@ module _ (lead : SwitchesLead) (s : Setting) (c : Compiled) (l : Launch) (f : Fi
     first_outside = record { input = input; taken = []; output = []; log = []; status = Running }
 
     shown_first : (u : State) → (u.pc ≡ f.node_at s.program.main begins.first) × PutsRegister 1 f.symbols.last_return begun u → IsSound u →
-        IsShownIn lead s c l f input code start (run_with first_outside u)
+        IsShownIn s c l f start (run_with first_outside u)
     shown_first u there sound = record {
       outside = refl;
       right = refl;
@@ -207,19 +213,18 @@ module _ (lead : SwitchesLead) (s : Setting) (c : Compiled) (l : Launch) (f : Fi
       over = λ outcome ended. absurd (cc);
     }
 
-    nothing_within : IsWithin (seen_outside first_outside) ((located_machine s c).seen (located_step s c start))
-    nothing_within = record {
-      output = record { rest = ((located_machine s c).seen (located_step s c start)).output; whole = refl };
-      log = record { rest = ((located_machine s c).seen (located_step s c start)).log; whole = refl };
-      taken = record { rest = ((located_machine s c).seen (located_step s c start)).taken; whole = refl };
-    }
-
-    pub begins_and_follows : Leads (image_machine l) (λ run. 1) (Passes (located_machine s c) (image_machine l) start) (FollowsPromised s c l input) 0 begins.most (first_run l input)
-    begins_and_follows =
-        leads_of (located_machine s c) (image_machine l) (map_of l) (run_with first_outside) (seen_outside first_outside) (image_is_quiet l first_outside refl) start nothing_within
-        0 begins.most begun (λ u. ((u.pc ≡ f.node_at s.program.main begins.first) × PutsRegister 1 f.symbols.last_return begun u) × IsSound u) (FollowsPromised s c l input)
+    pub shown_at_start : Leads (image_machine l) (λ run. 1) (Passes (located_machine s c) (image_machine l) start) (IsShownIn s c l f start) 0 begins.most (first_run l input)
+    shown_at_start =
+        leads_of (located_machine s c) (image_machine l) (map_of l) (run_with first_outside) (seen_outside first_outside) (image_is_quiet l first_outside refl) start
+        (nothing_within ((located_machine s c).seen (located_step s c start)))
+        0 begins.most begun (λ u. ((u.pc ≡ f.node_at s.program.main begins.first) × PutsRegister 1 f.symbols.last_return begun u) × IsSound u) (IsShownIn s c l f start)
         (reaches_sound (begins.calls.go begun begun_sound refl tt) begun_sound)
-        (λ u there. follows (run_with first_outside u) (shown_first u there.0 there.1))
+        (λ u there. shown_first u there.0 there.1)
+
+pub code_begins : CodeBegins
+code_begins s c l f input code begins is_bytes = shown_at_start s c l f code input is_bytes begins
 
 pub code_follows : SwitchesLead → CodeFollows
-code_follows lead s c l f input code begins = begins_and_follows lead s c l f input code begins
+code_follows lead s c l f input code begins is_bytes =
+    weaker (code_begins s c l f input code begins is_bytes) (λ v passes. passes) (λ v is_shown. shown_follows lead s c l f code (located_start s c input) v is_shown)
+    (omega arith) (λ n le. le)

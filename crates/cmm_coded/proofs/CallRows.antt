@@ -3,7 +3,7 @@
 use Rattle.std.proofs.Common.{◌≡◌, inl, inr, ℕ, zero, suc, ◌*◌, ◌%◌, ◌<◌, ◌^◌, refl, sym, ◌∙◌, ap, subst, arith, Bool, true, false, List, [], ◌∷◌, length, Option, Some, None, slice_get}
 use Rattle.std.specs.Prelude.{◌==◌}
 use Rattle.std.proofs.Math.Bool.{cond}
-use Rattle.std.specs.List.{All, list_all}
+use Rattle.std.specs.List.{list_all}
 use Rattle.std.proofs.lemmas.Bool.Decides.{nat_tests}
 use Rattle.cmm_chain.specs.declared.frame.Frame.{Frame}
 use Rattle.cmm_chain.specs.declared.frame.Location.TheVariants.{Temp}
@@ -13,7 +13,6 @@ use Rattle.cmm_program.specs.declared.procedure.Proc.{Proc}
 use Rattle.cmm_program.specs.Errors.{with_some}
 use Rattle.cmm_program.specs.Performing.{procedure_from}
 use Rattle.cmm_program.specs.State.{Setting}
-use Rattle.cmm_laws.specs.Fitting.{IsByte}
 use Rattle.cmm_graph.proofs.Shared.{arg, code, exits, graph, n, num, s}
 use Rattle.cmm_graph.specs.declared.number.ContinuationId.{ContinuationId}
 use Rattle.cmm_graph.specs.declared.number.NodeId.{NodeId}
@@ -21,32 +20,24 @@ use Rattle.cmm_graph.specs.declared.node.Exits.{Exits}
 use Rattle.cmm_graph.specs.declared.node.Node.{Node}
 use Rattle.cmm_graph.specs.declared.node.NodeKind.TheVariants.{Call, CopyIn, Entry, Return}
 use Rattle.cmm_graph.specs.declared.graph.Graph.{Graph}
-use Rattle.cmm_graph.specs.GraphControl.{in_graph, kind_at}
+use Rattle.cmm_graph.specs.GraphControl.{in_graph}
 use Rattle.cmm_graph.specs.Paths.{node_of}
 use Rattle.cmm_graph.specs.Ranges.{IsValid}
 use Rattle.rv_asm.proofs.Shared.{reaches_weaker}
-use Rattle.rv_asm.specs.Parts.{Code}
 use Rattle.rv_asm.specs.declared.part.Label.{Label}
-use Rattle.rv_table.specs.declared.request.Request.TheVariants.{StackLimit}
 use Rattle.cmm_changes.proofs.Shared.{goes_none, keeps_same}
-use Rattle.cmm_changes.specs.Changes.{Keeps}
-use Rattle.cmm_changes.specs.Pieces.{Always}
-use Rattle.cmm_changes.specs.Ways.{Turns}
 use Rattle.cmm_select.specs.declared.operand.Operand.TheVariants.{Held}
 use Rattle.cmm_select.specs.declared.source.Source.TheVariants.{Number}
-use Rattle.cmm_calls.specs.Calls.{Calls, HasExits}
-use Rattle.cmm_calls.specs.Values.{Begins, ReturnsValues}
+use Rattle.cmm_calls.specs.Calls.{HasExits}
 use Rattle.cmm_execution.specs.Machine.{Launch, map_of}
-use Rattle.cmm_following.specs.Machine.{after}
-use Rattle.cmm_located.specs.LocatedMachine.{located_machine, located_start}
-use Rattle.cmm_located.specs.Compiled.{Compiled, Located, exits_of, landing_in, site_exits}
+use Rattle.cmm_located.specs.Compiled.{Compiled, exits_of, landing_in, site_exits}
 use Rattle.cmm_coded.proofs.LaidFrames.{procedures_are_laid}
 use Rattle.cmm_coded.specs.Examples.{CallsOnce}
-use Rattle.cmm_coded.specs.Finished.{AsksFor, Finished}
+use Rattle.cmm_coded.specs.Finished.{Finished}
 use Rattle.cmm_coded.specs.Laying.{IsLaidOut}
 use Rattle.cmm_coded.specs.NodeCode.{GoesOn, IsCodeOf, SiteCode}
-use Rattle.cmm_coded.specs.ProgramCode.{ArePromised, HasWords, IsCode, IsLaidFor, is_coded, names_registers}
-use Rattle.cmm_coded.specs.Starting.{BeginsRun, StartCode}
+use Rattle.cmm_coded.specs.ProgramCode.{IsCode, IsLaidFor, is_coded, names_registers}
+use Rattle.cmm_coded.specs.Starting.{StartCode}
 
 abbrev main-proc : Proc
 main-proc = procedure [] 99 0 0 (call_site [] ∷ []) []
@@ -121,17 +112,6 @@ laid : (q : ℕ) (g : Graph) → slice_get calls-once.graphs q ≡ Some g → Is
 laid zero g is = procedures_are_laid call-setting calls-once 0 main_laid
 laid (suc zero) g is = procedures_are_laid call-setting calls-once 1 callee_laid
 laid (suc (suc q)) g is = absurd (cc)
-
-has_words : (at : Located) (q number : ℕ) → HasWords call-setting calls-once at (kind_at calls-once.graphs q (record { number = number }))
-has_words at zero zero = omega arith
-has_words at zero (suc zero) = tt
-has_words at zero (suc (suc zero)) = omega arith
-has_words at zero (suc (suc (suc zero))) = tt
-has_words at zero (suc (suc (suc (suc number)))) = tt
-has_words at (suc zero) zero = omega arith
-has_words at (suc zero) (suc zero) = tt
-has_words at (suc zero) (suc (suc number)) = tt
-has_words at (suc (suc q)) number = tt
 
 no_landings : (q k : ℕ) (m : NodeId) → landing_in calls-once.graphs q k ≡ Some m → ⊥
 no_landings zero k m is = cc
@@ -321,9 +301,9 @@ module _ (l : Launch) (at : ℕ → ℕ) (main callee site behind limit : Label)
         by false is true also e = of_callee (grind (arith, nat_tests, also)) (cc)
         by false is false also e = absurd (cc)
 
-    call_is_code : l.stack_size ≡ 4096 → l.image.initial ≡ [] → pieces.starts.back % 4 ≡ 0 → pieces.starts.back < 2 ^ 64 → (input : List ℕ) → All IsByte input →
-        IsCode call-setting calls-once l finished input
-    call_is_code stack none aligned fits input bytes = record {
+    call_is_code : l.stack_size ≡ 4096 → l.image.initial ≡ [] → pieces.starts.back % 4 ≡ 0 → pieces.starts.back < 2 ^ 64 →
+        IsCode call-setting calls-once l finished
+    call_is_code stack none aligned fits = record {
       is_for = record {
         set = record { placed = record { rows = refl; ascending = refl }; aligned = refl };
         base = refl;
@@ -344,7 +324,6 @@ module _ (l : Launch) (at : ℕ → ℕ) (main callee site behind limit : Label)
       is_first = refl;
       back_aligned = aligned;
       back_fits = fits;
-      bytes = bytes;
     }
 
     call_starts : l.image.initial ≡ [] → StartCode call-setting calls-once l finished
@@ -357,7 +336,3 @@ module _ (l : Launch) (at : ℕ → ℕ) (main callee site behind limit : Label)
       bytes = λ k byte less. absurd (omega (arith, less, ap (λ (xs : List ℕ). length xs) none));
       few_registers = omega arith;
     }
-
-call_is_promised : (input : List ℕ) (m : ℕ) → ArePromised call-setting calls-once input m
-call_is_promised input m k less running =
-    let here = after (located_machine call-setting calls-once) k (located_start call-setting calls-once input) in has_words here here.procedure here.node.number

@@ -62,7 +62,7 @@ brings_keeps n t u brings = record { registers = λ r is. brings.others r (apart
     apart : (r : ℕ) → is_scratch r ≡ false → ((r == 7) || (r == 6)) ≡ false
     apart r is = grind (arith, nat_tests, is)
 
-module _ (s : Setting) (c : Compiled) (l : Launch) (f : Finished) (input : List ℕ) (is_for : IsFor s (map_of l)) (valid : (q : ℕ) (g : Graph) → slice_get c.graphs q ≡ Some g → IsValid g)
+module _ (s : Setting) (c : Compiled) (l : Launch) (f : Finished) (is_for : IsFor s (map_of l)) (valid : (q : ℕ) (g : Graph) → slice_get c.graphs q ≡ Some g → IsValid g)
     (entries : (address q : ℕ) (n : NodeId) → procedure_from 0 address s.placement.rows ≡ Some q → in_graph c.graphs q (λ g. Some g.first) ≡ Some n →
     (f.node_at q n ≡ address) × (address % 4 ≡ 0)) (at : Located) (t : State) (stands : Stands s c l f at t) (body : IsInBody at) (laid : IsLaidFor s c at.procedure) where
   framed : HasFrame (c.plan.frame at.procedure).size (map_of l) t
@@ -103,13 +103,13 @@ module _ (s : Setting) (c : Compiled) (l : Launch) (f : Finished) (input : List 
   -- where the machine over places goes to a procedure, and code does
   goes_by : (store : Store) (h : Holdings) (ws : List Word) (cost v : ℕ) →
       ((q : ℕ) → procedure_from 0 v s.placement.rows ≡ Some q → (n : NodeId) → (first : in_graph c.graphs q (λ g. Some g.first) ≡ Some n) →
-      IsDone s c l f input at cost t (entering store h ws q n first)) → (after : Located) → (o : Option ℕ) → procedure_from 0 v s.placement.rows ≡ o →
-      if_given o NotAProcedure (λ q. to_procedure s c q store h (numbers ws)) ≡ Ok after → IsDone s c l f input at cost t after
+      IsDone s c l f at cost t (entering store h ws q n first)) → (after : Located) → (o : Option ℕ) → procedure_from 0 v s.placement.rows ≡ o →
+      if_given o NotAProcedure (λ q. to_procedure s c q store h (numbers ws)) ≡ Ok after → IsDone s c l f at cost t after
   goes_by store h ws cost v goes after (Some q) from e = by (in_graph c.graphs q (λ g. Some g.first)) refl e
     where
       by : (o : Option NodeId) → in_graph c.graphs q (λ g. Some g.first) ≡ o →
-          if_given o NotAProcedure (λ n. Ok (record { store = store; holdings = h; procedure = q; node = n; carried = numbers ws })) ≡ Ok after → IsDone s c l f input at cost t after
-      by (Some n) first e' = subst (λ (z : Located). IsDone s c l f input at cost t z) (place_is e') (goes q from n first)
+          if_given o NotAProcedure (λ n. Ok (record { store = store; holdings = h; procedure = q; node = n; carried = numbers ws })) ≡ Ok after → IsDone s c l f at cost t after
+      by (Some n) first e' = subst (λ (z : Located). IsDone s c l f at cost t z) (place_is e') (goes q from n first)
       by None first e' = absurd (cc)
   goes_by store h ws cost v goes after None from e = absurd (cc)
 
@@ -170,21 +170,21 @@ module _ (s : Setting) (c : Compiled) (l : Launch) (f : Finished) (input : List 
     store_called = record at.store { activations = with_site (Some site) at.store.activations }
 
     entered_done : (v : ℕ) → value callee ≡ Ok v → (q : ℕ) → procedure_from 0 v s.placement.rows ≡ Some q → (n : NodeId) → (first : in_graph c.graphs q (λ g. Some g.first) ≡ Some n) →
-        IsDone s c l f input at cost t (entering store_called (called at.procedure site at.holdings) ws q n first)
+        IsDone s c l f at cost t (entering store_called (called at.procedure site at.holdings) ws q n first)
     entered_done v is_v q from n first =
         let there_is = entries v q n from first in
-        silently s c l f input at cost t (entering store_called (called at.procedure site at.holdings) ws q n first)
+        silently s c l f at cost t (entering store_called (called at.procedure site at.holdings) ws q n first)
         (entry_tokens store_called (called at.procedure site at.holdings) ws q n first) refl refl (resited_are_bare (Some site) at.store.activations)
         (reaches_more (reaches_sound (calls_to v is_v there_is.1) stands.sound)
         (λ u there. stands_entering store_called (called at.procedure site at.holdings) ws q n first u stands.running (there.0.0 ∙ sym there_is.0)
         (resited_shows f.symbols s (map_of l) (called at.procedure site at.holdings) at.store (numbers ws) u (Some site) at.store.status there.0.1) there.1))
 
   pub call_done : (site : SiteId) (callee : Operand) (arguments : List Argument) (exits : Exits) (cost : ℕ) (after : Located) → CallCode s c l f at.procedure at.node site.number callee arguments cost →
-      ran_at s c (Call site callee arguments exits) at ≡ Ok after → IsDone s c l f input at cost t after
+      ran_at s c (Call site callee arguments exits) at ≡ Ok after → IsDone s c l f at cost t after
   call_done site callee arguments exits cost after code is = by (value callee) refl (words arguments) refl is
     where
       by : (v : Tried ℕ) → value callee ≡ v → (found : Tried (List Word)) → words arguments ≡ found →
-          and_then (and_then v (λ to. and_then found (λ ws. Ok (order.Call site.number to ws)))) (λ o. done s c (Call site callee arguments exits) o at) ≡ Ok after → IsDone s c l f input at cost t after
+          and_then (and_then v (λ to. and_then found (λ ws. Ok (order.Call site.number to ws)))) (λ o. done s c (Call site callee arguments exits) o at) ≡ Ok after → IsDone s c l f at cost t after
       by (Ok v) is_v (Ok ws) is_ws e =
           goes_by (store_called site.number callee arguments cost code ws is_ws) (called at.procedure site.number at.holdings) ws cost v
           (λ q from n first. entered_done site.number callee arguments cost code ws is_ws v is_v q from n first) after (procedure_from 0 v s.placement.rows) refl e
@@ -220,20 +220,20 @@ module _ (s : Setting) (c : Compiled) (l : Launch) (f : Finished) (input : List 
             (λ u there. (there.0 ∙ same, gone there.1.0 u (brought_shown _ there.1.0 there.1.1) there.1.2))
 
     jumped_done : (v : ℕ) → value callee ≡ Ok v → (q : ℕ) → procedure_from 0 v s.placement.rows ≡ Some q → (n : NodeId) → (first : in_graph c.graphs q (λ g. Some g.first) ≡ Some n) →
-        IsDone s c l f input at cost t (entering (without 1 at.store) holdings_left ws q n first)
+        IsDone s c l f at cost t (entering (without 1 at.store) holdings_left ws q n first)
     jumped_done v is_v q from n first =
         let there_is = entries v q n from first in
-        silently s c l f input at cost t (entering (without 1 at.store) holdings_left ws q n first)
+        silently s c l f at cost t (entering (without 1 at.store) holdings_left ws q n first)
         (entry_tokens (without 1 at.store) holdings_left ws q n first) refl refl (dropped_are_bare 1 at.store.activations)
         (reaches_more (reaches_sound (jumps_to v is_v there_is.1) stands.sound)
         (λ u there. stands_entering (without 1 at.store) holdings_left ws q n first u stands.running (there.0.0 ∙ sym there_is.0) there.0.1 there.1))
 
   pub jump_done : (callee : Operand) (arguments : List Argument) (cost : ℕ) (after : Located) → JumpCode s c l f at.procedure at.node callee arguments cost →
-      ran_at s c (Jump callee arguments) at ≡ Ok after → IsDone s c l f input at cost t after
+      ran_at s c (Jump callee arguments) at ≡ Ok after → IsDone s c l f at cost t after
   jump_done callee arguments cost after code is = by (value callee) refl (words arguments) refl is
     where
       by : (v : Tried ℕ) → value callee ≡ v → (found : Tried (List Word)) → words arguments ≡ found →
-          and_then (and_then v (λ to. and_then found (λ ws. Ok (order.Jump to ws)))) (λ o. done s c (Jump callee arguments) o at) ≡ Ok after → IsDone s c l f input at cost t after
+          and_then (and_then v (λ to. and_then found (λ ws. Ok (order.Jump to ws)))) (λ o. done s c (Jump callee arguments) o at) ≡ Ok after → IsDone s c l f at cost t after
       by (Ok v) is_v (Ok ws) is_ws e =
           goes_by (without 1 at.store) (left c.plan at.procedure at.holdings) ws cost v (λ q from n first. jumped_done callee arguments cost code ws is_ws v is_v q from n first)
           after (procedure_from 0 v s.placement.rows) refl e

@@ -1,12 +1,14 @@
 -- What comes back is taken by variables and global registers.
-use Rattle.std.proofs.Common.{◌≡◌, ℕ, suc, ◌<◌, ◌≤◌, ◌^◌, refl, ◌∙◌, ap, subst, arith, Bool, true, List, [], ◌∷◌, length, length-set, Option, Some, None, IsTrue, slice_get}
-use Rattle.std.specs.Prelude.{◌&&◌, Ok, nat_lt, slice_index_or, slice_set}
+use Rattle.std.proofs.Common.{◌≡◌, ℕ, suc, ◌<◌, ◌≤◌, ◌^◌, refl, ◌∙◌, ap, subst, arith, Bool, true, false, List, [], ◌∷◌, length, length-set, Option, Some, None, IsTrue, slice_get}
+use Rattle.std.specs.Prelude.{◌&&◌, Ok, nat_le, nat_lt, slice_index_or, slice_set}
 use Rattle.std.specs.List.{list_all}
 use Rattle.std.proofs.lemmas.Bool.{and_parts}
+use Rattle.std.proofs.lemmas.Bool.Decides.{nat_tests}
 use Rattle.rv_table.specs.Machine.{State}
 use Rattle.cmm_chain.specs.declared.frame.Location.{Location}
 use Rattle.cmm_chain.specs.Contents.{Number}
 use Rattle.cmm_chain.specs.Running.{Holdings, put_in}
+use Rattle.cmm_program.specs.Errors.{WrongValues, provided}
 use Rattle.cmm_program.specs.declared.procedure.Target.{Target}
 use Rattle.cmm_program.specs.declared.procedure.Target.TheVariants as target
 use Rattle.cmm_program.specs.State.{Activation, Setting, Store}
@@ -82,11 +84,11 @@ module _ (s : Setting) (c : Compiled) (l : Launch) (f : Finished) (is_for : IsFo
 
 -- ---- the node
 
-module _ (s : Setting) (c : Compiled) (l : Launch) (f : Finished) (input : List ℕ) (is_for : IsFor s (map_of l)) (at : Located) (t : State) (stands : Stands s c l f at t)
+module _ (s : Setting) (c : Compiled) (l : Launch) (f : Finished) (is_for : IsFor s (map_of l)) (at : Located) (t : State) (stands : Stands s c l f at t)
     (only : IsYoungest at) (g : Graph) (is_graph : slice_get c.graphs at.procedure ≡ Some g) (valid : IsValid g)
     (places : (v : ℕ) → IsPlaceOf s only.activation (c.plan.place at.procedure v)) (framed : HasFrame (c.plan.frame at.procedure).size (map_of l) t)
     (to : List Target) (next : NodeId) (cost : ℕ) (after : Located) (code : CopyInCode s c l f at.procedure at.node to next cost)
-    (named : names_registers s.program (CopyIn to next) ≡ true) (kept : length at.store.registers ≡ length s.program.globals) (enough : length to ≤ length at.carried)
+    (named : names_registers s.program (CopyIn to next) ≡ true) (kept : length at.store.registers ≡ length s.program.globals)
     (fine : IsTrue (is_kind g (CopyIn to next))) where
   leads : IsTrue (leads_to g is_step next)
   leads = (and_parts (list_all (is_target g) to) (leads_to g is_step next) fine).1
@@ -97,8 +99,8 @@ module _ (s : Setting) (c : Compiled) (l : Launch) (f : Finished) (input : List 
   abbrev copied : Located
   copied = record { store = store_copied; holdings = taken c.plan at.procedure to at.carried at.holdings; procedure = at.procedure; node = next; carried = [] }
 
-  copied_shown : (u : State) → PutsEachTo f.labels (values_to 0 code.destinations t) t u → IsShown f.symbols s (map_of l) copied.holdings store_copied [] u
-  copied_shown u puts =
+  copied_shown : length to ≤ length at.carried → (u : State) → PutsEachTo f.labels (values_to 0 code.destinations t) t u → IsShown f.symbols s (map_of l) copied.holdings store_copied [] u
+  copied_shown enough u puts =
       let count : length code.destinations ≡ length to =
       length_targets s c l f is_for at.procedure g is_graph only.activation only.older places to code.destinations code.are in
       let same : values_to 0 code.destinations t ≡ pairs code.destinations at.carried =
@@ -108,19 +110,22 @@ module _ (s : Setting) (c : Compiled) (l : Launch) (f : Finished) (input : List 
       (subst (λ (list : List (CodeDestination × ℕ)). PutsEachTo f.labels list t u) same puts)
       (forget_values f.symbols s (map_of l) at.holdings at.store at.carried t stands.shown)
 
-  copied_done : IsDone s c l f input at cost t copied
-  copied_done =
-      silently s c l f input at cost t copied (tokens_there s c l f input copied g is_graph valid next leads) refl
+  copied_done : length to ≤ length at.carried → IsDone s c l f at cost t copied
+  copied_done enough =
+      silently s c l f at cost t copied (tokens_there s c l f copied g is_graph valid next leads) refl
       (count_after s c l f is_for at.procedure g is_graph only.activation only.older places to at.carried at.store.registers) (λ b. b)
       (reaches_more (reaches_sound (code.turns.goes.go t stands.sound stands.pc (record { stack = framed; region = stands.shown.holdings.region })) stands.sound)
-      (λ w there. stands_there s c l f input copied g is_graph valid next leads w stands.running
+      (λ w there. stands_there s c l f copied g is_graph valid next leads w stands.running
       (record { activation = only.activation; older = only.older; youngest = only.youngest; same = only.same; carried = refl }) (settled w there.0.1) there.0.0 there.1))
     where
       settled : (w : State) → (u : State) × PutsEachTo f.labels (values_to 0 code.destinations t) t u × Keeps u w → IsShown f.symbols s (map_of l) copied.holdings store_copied [] w
-      settled w (u, puts, keeps) = kept_shown f s l is_for copied.holdings store_copied [] u w keeps (copied_shown u puts)
+      settled w (u, puts, keeps) = kept_shown f s l is_for copied.holdings store_copied [] u w keeps (copied_shown enough u puts)
 
-  pub copy_done : ran_at s c (CopyIn to next) at ≡ Ok after → IsDone s c l f input at cost t after
-  copy_done is = subst (λ (z : Located). IsDone s c l f input at cost t z) (place_is_after is) copied_done
+  pub copy_done : ran_at s c (CopyIn to next) at ≡ Ok after → IsDone s c l f at cost t after
+  copy_done is = by (nat_le (length to) (length at.carried)) refl is
     where
-      place_is_after : ran_at s c (CopyIn to next) at ≡ Ok after → copied ≡ after
-      place_is_after e = cc
+      by : (test : Bool) → nat_le (length to) (length at.carried) ≡ test → provided test WrongValues (Ok copied) ≡ Ok after → IsDone s c l f at cost t after
+      by true many e =
+          let same : copied ≡ after = cc in
+          subst (λ (z : Located). IsDone s c l f at cost t z) same (copied_done (grind (arith, nat_tests, many)))
+      by false few e = absurd (cc)

@@ -35,14 +35,14 @@ kept_shown f s l is_for h store carried t u keeps shown =
     (holdings_same f.symbols h t.registers u.registers keeps.registers shown.holdings)
     (λ i less. keeps.registers (10 + i) (grind (arith, nat_tests, less))) shown.at
 
-module _ (s : Setting) (c : Compiled) (l : Launch) (f : Finished) (input : List ℕ) where
+module _ (s : Setting) (c : Compiled) (l : Launch) (f : Finished) where
   -- a step to a state is done, which stands at a node
   pub record IsDone (at : Located) (cost : ℕ) (t : State) (after : Located) : Type 0 where
     pub tokens : 1 ≤ tokens_at s c after
     pub registers : length after.store.registers ≡ length at.store.registers
     pub bytes : All IsByte at.store.input → All IsByte after.store.input
     pub are_bare : AreBare at → AreBare after
-    pub by_code : located_step s c at ≡ after → IsDoneBy (located_machine s c) l outside_at (Stands s c l f) (IsOfRun s c input) at cost t
+    pub by_code : located_step s c at ≡ after → IsDoneBy (located_machine s c) l outside_at (Stands s c l f) (IsOfRun s c) at cost t
 
   pub silently : (at : Located) (cost : ℕ) (t : State) (after : Located) → 1 ≤ tokens_at s c after → outside_at after ≡ outside_at at →
       length after.store.registers ≡ length at.store.registers → (AreBare at → AreBare after) → Reaches (map_of l) 1 cost t (Stands s c l f after) → IsDone at cost t after

@@ -9,6 +9,7 @@ use Rattle.rv_table.specs.declared.request.Request.TheVariants as request
 use Rattle.rv_asm.proofs.Shared.{reaches_then, reaches_weaker}
 use Rattle.cmm_chain.specs.declared.frame.Location.{Location}
 use Rattle.cmm_chain.specs.Running.{Holdings, entered}
+use Rattle.cmm_program.specs.Errors.{WrongValues, provided}
 use Rattle.cmm_program.specs.declared.procedure.Proc.{Proc}
 use Rattle.cmm_program.specs.declared.placement.PlaceRow.{PlaceRow}
 use Rattle.cmm_program.specs.Control.{over}
@@ -33,7 +34,7 @@ use Rattle.cmm_shown.proofs.Shared.{forget_values, made_shows, puts_show, zeros_
 use Rattle.cmm_shown.specs.Shown.{ArePlacesOf, IsFor, IsMade, IsPlaceOf, IsShown, put_each}
 use Rattle.cmm_located.specs.Compiled.{Compiled, Located, bare}
 use Rattle.cmm_located.specs.LocatedMachine.{tokens_at}
-use Rattle.cmm_located.specs.Nodes.{passed_to, ran_at, zeros_in}
+use Rattle.cmm_located.specs.Nodes.{begins, passed_to, ran_at, zeros_in}
 use Rattle.cmm_coded.proofs.Doing.{IsDone, kept_shown, silently, stands_there, tokens_there}
 use Rattle.cmm_coded.proofs.Ending.{ended_outside, ends}
 use Rattle.cmm_coded.proofs.Going.{place_is}
@@ -63,14 +64,14 @@ zeros_are_places : (s : Setting) (a : Activation) (place : ℕ → Location) (vs
 zeros_are_places s a place [] are = tt
 zeros_are_places s a place (v ∷ vs) are = (are v, (omega arith, zeros_are_places s a place vs are))
 
-module _ (s : Setting) (c : Compiled) (l : Launch) (f : Finished) (input : List ℕ) (is_for : IsFor s (map_of l)) (at : Located) (t : State) (stands : Stands s c l f at t)
+module _ (s : Setting) (c : Compiled) (l : Launch) (f : Finished) (is_for : IsFor s (map_of l)) (at : Located) (t : State) (stands : Stands s c l f at t)
     (are_bare : AreBare at) (laid : IsLaidFor s c at.procedure) where
   -- ---- without room
 
   pub limit_done : (cost : ℕ) (formals : List Variable) (next : NodeId) → EntryCode s c l f at.procedure at.node formals next cost → 1 ≤ tokens_at s c at →
-      nat_le (s.stack_base + (c.plan.frame at.procedure).size) at.holdings.point.at ≡ false → IsDone s c l f input at cost t (record at { store = over (p.Ended p.StackLimit) at.store })
+      nat_le (s.stack_base + (c.plan.frame at.procedure).size) at.holdings.point.at ≡ false → IsDone s c l f at cost t (record at { store = over (p.Ended p.StackLimit) at.store })
   limit_done cost formals next code tokens lacks =
-      ends s c l f input at t request.StackLimit p.StackLimit (record { leaves = λ o u. refl; silent = λ u event is. absurd (cc); plain = λ walk other. refl }) _ refl
+      ends s c l f at t request.StackLimit p.StackLimit (record { leaves = λ o u. refl; silent = λ u event is. absurd (cc); plain = λ walk other. refl }) _ refl
       (ended_outside at p.StackLimit stands.running) tokens refl (λ b. b) cost (7 + code.ends) (omega (arith, code.few_at_limit))
       (reaches_weaker
       (reaches_then
@@ -187,9 +188,9 @@ module _ (s : Setting) (c : Compiled) (l : Launch) (f : Finished) (input : List 
           (subst (λ (list : List (Location × ℕ)). PutsEach list u v) same takes) zeroed_shown)
 
     made_done : (cost : ℕ) (next : NodeId) (code : EntryCode s c l f at.procedure at.node formals next cost) (g : Graph) → slice_get c.graphs at.procedure ≡ Some g → IsValid g →
-        IsTrue (leads_to g is_step next) → IsDone s c l f input at cost t (record (made formals) { node = next })
+        IsTrue (leads_to g is_step next) → IsDone s c l f at cost t (record (made formals) { node = next })
     made_done cost next code g is_graph valid leads =
-        silently s c l f input at cost t (record (made formals) { node = next }) (tokens_there s c l f input (made formals) g is_graph valid next leads) refl refl (λ b. ap (λ (xs : List Activation). new ∷ xs) b)
+        silently s c l f at cost t (record (made formals) { node = next }) (tokens_there s c l f (made formals) g is_graph valid next leads) refl refl (λ b. ap (λ (xs : List Activation). new ∷ xs) b)
         (reaches_more (reaches_sound {Q = λ v. (v.pc ≡ f.node_at at.procedure next) × IsShown f.symbols s (map_of l) (holdings_entered formals) store_made [] v}
         (reaches_weaker
         (reaches_then (reaches_sound (code.begins.made.runs.go t stands.sound stands.pc has_room) stands.sound)
@@ -197,7 +198,7 @@ module _ (s : Setting) (c : Compiled) (l : Launch) (f : Finished) (input : List 
         (λ v last. (last.0, kept_shown f s l is_for (holdings_entered formals) store_made [] u v last.1 (taken u there.0.1)))))
         (omega arith) (omega (arith, code.few, length-map {B = Location} formals (λ k. c.plan.place at.procedure k.number))) (λ v last. last))
         stands.sound)
-        (λ v last. stands_there s c l f input (made formals) g is_graph valid next leads v stands.running
+        (λ v last. stands_there s c l f (made formals) g is_graph valid next leads v stands.running
         (record { activation = new; older = at.store.activations; youngest = refl; same = refl; carried = refl }) last.0.1 last.0.0 last.1))
       where
         taken : (v : State) →
@@ -217,12 +218,11 @@ module _ (s : Setting) (c : Compiled) (l : Launch) (f : Finished) (input : List 
       ]) is ∙ ap (λ (xs : List Activation). record store_made { activations = new ∷ xs }) are_bare
 
   pub entry_done : (formals : List Variable) (next : NodeId) (cost : ℕ) (after : Located) (code : EntryCode s c l f at.procedure at.node formals next cost) (g : Graph) → slice_get c.graphs at.procedure ≡ Some g → IsValid g →
-      IsTrue (leads_to g is_step next) → 1 ≤ tokens_at s c at → length formals ≤ length at.carried →
-      ran_at s c (Entry formals next) at ≡ Ok after → IsDone s c l f input at cost t after
-  entry_done formals next cost after code g is_graph valid leads tokens enough is =
-      by (nat_le (s.stack_base + (c.plan.frame at.procedure).size) at.holdings.point.at) refl (place_is is)
+      IsTrue (leads_to g is_step next) → 1 ≤ tokens_at s c at →
+      ran_at s c (Entry formals next) at ≡ Ok after → IsDone s c l f at cost t after
+  entry_done formals next cost after code g is_graph valid leads tokens is = by_count (nat_le (length formals) (length at.carried)) refl is
     where
-      by : (test : Bool) → nat_le (s.stack_base + (c.plan.frame at.procedure).size) at.holdings.point.at ≡ test →
+      by : length formals ≤ length at.carried → (test : Bool) → nat_le (s.stack_base + (c.plan.frame at.procedure).size) at.holdings.point.at ≡ test →
           elim test as (λ _. Located) [
             | true ↦ record {
               store = elim (procedure_at s at.procedure) as (λ _. Store) [
@@ -235,8 +235,14 @@ module _ (s : Setting) (c : Compiled) (l : Launch) (f : Finished) (input : List 
               carried = [];
             }
             | false ↦ record at { store = over (p.Ended p.StackLimit) at.store }
-          ] ≡ after → IsDone s c l f input at cost t after
-      by true fits e =
+          ] ≡ after → IsDone s c l f at cost t after
+      by enough true fits e =
           let same : record (made formals) { node = next } ≡ after = ap (λ (z : Store). record (made formals) { store = z; node = next }) (sym (store_is (procedure_at s at.procedure) laid.is_procedure)) ∙ e in
-          subst (λ (z : Located). IsDone s c l f input at cost t z) same (made_done formals enough fits cost next code g is_graph valid leads)
-      by false lacks e = subst (λ (z : Located). IsDone s c l f input at cost t z) e (limit_done cost formals next code tokens lacks)
+          subst (λ (z : Located). IsDone s c l f at cost t z) same (made_done formals enough fits cost next code g is_graph valid leads)
+      by enough false lacks e = subst (λ (z : Located). IsDone s c l f at cost t z) e (limit_done cost formals next code tokens lacks)
+
+      by_count : (test : Bool) → nat_le (length formals) (length at.carried) ≡ test →
+          provided test WrongValues (Ok (begins s c (map (λ k. k.number) formals) next at)) ≡ Ok after → IsDone s c l f at cost t after
+      by_count true many e =
+          by (grind (arith, nat_tests, many)) (nat_le (s.stack_base + (c.plan.frame at.procedure).size) at.holdings.point.at) refl (place_is e)
+      by_count false few e = absurd (cc)

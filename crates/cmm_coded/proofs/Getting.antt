@@ -91,7 +91,7 @@ set_keeps_asking t u n keeps = record {
     other : (r : ℕ) → is_of_request r ≡ false → r ≡ 10 → ⊥
     other r is same = let e : is_of_request 10 ≡ false = subst (λ (k : ℕ). is_of_request k ≡ false) same is in absurd (cc)
 
-module _ (s : Setting) (c : Compiled) (l : Launch) (f : Finished) (input : List ℕ) (is_for : IsFor s (map_of l)) (at : Located) (t : State) (stands : Stands s c l f at t)
+module _ (s : Setting) (c : Compiled) (l : Launch) (f : Finished) (is_for : IsFor s (map_of l)) (at : Located) (t : State) (stands : Stands s c l f at t)
     (body : IsInBody at) (g : Graph) (is_graph : slice_get c.graphs at.procedure ≡ Some g) (valid : IsValid g)
     (places : (v : ℕ) → IsPlaceOf s body.activation (c.plan.place at.procedure v)) (takes : Target) (next : NodeId) (cost : ℕ) (after : Located)
     (code : GetByteCode s c l f at.procedure at.node takes next cost) (fine : IsTrue (is_kind g (Host (host.GetByte takes) next)))
@@ -143,7 +143,7 @@ module _ (s : Setting) (c : Compiled) (l : Launch) (f : Finished) (input : List 
         reaches_weaker
         (reaches_then (reaches_sound reaches sound_there)
         (λ v there. reaches_more (reaches_sound (code.goes_on.go v there.1 there.0.0 tt) there.1)
-        (λ x last. stands_there s c l f input got g is_graph valid next leads x stands.running
+        (λ x last. stands_there s c l f got g is_graph valid next leads x stands.running
         (record { activation = body.activation; older = body.older; youngest = body.youngest; same = body.same; carried = body.carried })
         (kept_shown f s l is_for got.holdings got.store at.carried v x last.0.1 (shown_put v there.0.1)) last.0.0 last.1)))
         (omega arith) (omega arith) (λ x last. last)
@@ -157,9 +157,9 @@ module _ (s : Setting) (c : Compiled) (l : Launch) (f : Finished) (input : List 
       ap (λ (z : p.Status). event_at s z (shown s c at) (act_of (keeping s c at) (kind_at c.graphs at.procedure at.node))) stands.running
       ∙ ap (λ (kind : NodeKind). event_at s p.Running (shown s c at) (act_of (keeping s c at) kind)) kind_is
 
-  taken : IsDone s c l f input at cost t (record got { node = next })
+  taken : IsDone s c l f at cost t (record got { node = next })
   taken = record {
-    tokens = tokens_there s c l f input got g is_graph valid next leads;
+    tokens = tokens_there s c l f got g is_graph valid next leads;
     registers = count_with (destination.Target takes) value at.store.registers;
     bytes = rest_fits at.store.input;
     are_bare = λ b. b;
@@ -179,8 +179,8 @@ module _ (s : Setting) (c : Compiled) (l : Launch) (f : Finished) (input : List 
   got_with (target.Variable number width) store = record at { store = store; holdings = holdings_with c at.procedure (destination.Target (target.Variable number width)) value at.holdings; node = next }
   got_with (target.Register number width) store = record at { store = record store { registers = slice_set store.registers number value }; node = next }
 
-  pub byte_taken : ran_at s c (Host (host.GetByte takes) next) at ≡ Ok after → IsDone s c l f input at cost t after
-  byte_taken is = subst (λ (z : Located). IsDone s c l f input at cost t z) (sym (found takes) ∙ ran takes is) taken
+  pub byte_taken : ran_at s c (Host (host.GetByte takes) next) at ≡ Ok after → IsDone s c l f at cost t after
+  byte_taken is = subst (λ (z : Located). IsDone s c l f at cost t z) (sym (found takes) ∙ ran takes is) taken
     where
       ran : (to : Target) → ran_at s c (Host (host.GetByte to) next) at ≡ Ok after → got_with to (one_taken at.store) ≡ after
       ran (target.Variable number width) e = place_is e

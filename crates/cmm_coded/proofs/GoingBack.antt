@@ -81,7 +81,7 @@ outside_with at status = record {
   status = status_of status;
 }
 
-module _ (s : Setting) (c : Compiled) (l : Launch) (f : Finished) (input : List ℕ) (is_for : IsFor s (map_of l)) (at : Located) (t : State) (stands : Stands s c l f at t)
+module _ (s : Setting) (c : Compiled) (l : Launch) (f : Finished) (is_for : IsFor s (map_of l)) (at : Located) (t : State) (stands : Stands s c l f at t)
     (body : IsInBody at) (laid : IsLaidFor s c at.procedure) (results : List Argument) (exit alternates cost : ℕ)
     (code : ReturnCode s c l f at.procedure at.node exit results cost) (ws : List Word)
     (are_out : AreValues s c l f is_for at t body.activation body.older body.youngest body.same laid stands.shown code.operands ws)
@@ -158,9 +158,9 @@ module _ (s : Setting) (c : Compiled) (l : Launch) (f : Finished) (input : List 
       sound = sound;
     }
 
-    went_back : IsDone s c l f input at cost t back_at
+    went_back : IsDone s c l f at cost t back_at
     went_back =
-        silently s c l f input at cost t back_at some_tokens (ap (outside_with at) (sym stands.running)) refl
+        silently s c l f at cost t back_at some_tokens (ap (outside_with at) (sym stands.running)) refl
         (λ are. resited_are_bare None (drop 1 at.store.activations) (dropped_are_bare 1 at.store.activations are))
         (reaches_weaker
         (reaches_then
@@ -179,29 +179,29 @@ module _ (s : Setting) (c : Compiled) (l : Launch) (f : Finished) (input : List 
   -- ---- where the machine over places goes back
 
   pub back_done : (after : Located) → to_return s c (ReturnTo q site) exit alternates (numbers ws) (without 1 at.store) (left c.plan at.procedure at.holdings) ≡ Ok after →
-      IsDone s c l f input at cost t after
+      IsDone s c l f at cost t after
   back_done after is = by_site (is_at s c (drop 1 at.store.activations) q site) refl is
     where
       by_node : (waits : is_at s c (drop 1 at.store.activations) q site ≡ true) (exits : Exits) (is_exits : site_exits c.graphs q site ≡ Some exits) (within : exit ≤ length exits.returns) →
           (o : Option NodeId) → exit_node s c q exits exit ≡ o →
-          to_landing s c NeverReturns o q (without 1 at.store) (left c.plan at.procedure at.holdings) (numbers ws) ≡ Ok after → IsDone s c l f input at cost t after
-      by_node waits exits is_exits within (Some n) is_node e = subst (λ (z : Located). IsDone s c l f input at cost t z) (place_is e) (went_back waits exits is_exits within n is_node)
+          to_landing s c NeverReturns o q (without 1 at.store) (left c.plan at.procedure at.holdings) (numbers ws) ≡ Ok after → IsDone s c l f at cost t after
+      by_node waits exits is_exits within (Some n) is_node e = subst (λ (z : Located). IsDone s c l f at cost t z) (place_is e) (went_back waits exits is_exits within n is_node)
       by_node waits exits is_exits within None is_node e = absurd (cc)
 
       by_count : (waits : is_at s c (drop 1 at.store.activations) q site ≡ true) (exits : Exits) → site_exits c.graphs q site ≡ Some exits → (test : Bool) → nat_le exit (length exits.returns) ≡ test →
           provided test WrongAlternates (to_landing s c NeverReturns (exit_node s c q exits exit) q (without 1 at.store) (left c.plan at.procedure at.holdings) (numbers ws)) ≡ Ok after →
-          IsDone s c l f input at cost t after
+          IsDone s c l f at cost t after
       by_count waits exits is_exits true count e = by_node waits exits is_exits (grind (arith, nat_tests, count)) (exit_node s c q exits exit) refl e
       by_count waits exits is_exits false count e = absurd (cc)
 
       by_exits : (waits : is_at s c (drop 1 at.store.activations) q site ≡ true) (o : Option Exits) → site_exits c.graphs q site ≡ o →
           if_given o WrongAlternates (λ exits. provided (nat_le exit (length exits.returns)) WrongAlternates
-          (to_landing s c NeverReturns (exit_node s c q exits exit) q (without 1 at.store) (left c.plan at.procedure at.holdings) (numbers ws))) ≡ Ok after → IsDone s c l f input at cost t after
+          (to_landing s c NeverReturns (exit_node s c q exits exit) q (without 1 at.store) (left c.plan at.procedure at.holdings) (numbers ws))) ≡ Ok after → IsDone s c l f at cost t after
       by_exits waits (Some exits) is_exits e = by_count waits exits is_exits (nat_le exit (length exits.returns)) refl e
       by_exits waits None is_exits e = absurd (cc)
 
       by_site : (test : Bool) → is_at s c (drop 1 at.store.activations) q site ≡ test →
           provided test WrongAlternates (if_given (site_exits c.graphs q site) WrongAlternates (λ exits. provided (nat_le exit (length exits.returns)) WrongAlternates
-          (to_landing s c NeverReturns (exit_node s c q exits exit) q (without 1 at.store) (left c.plan at.procedure at.holdings) (numbers ws)))) ≡ Ok after → IsDone s c l f input at cost t after
+          (to_landing s c NeverReturns (exit_node s c q exits exit) q (without 1 at.store) (left c.plan at.procedure at.holdings) (numbers ws)))) ≡ Ok after → IsDone s c l f at cost t after
       by_site true waits e = by_exits waits (site_exits c.graphs q site) refl e
       by_site false waits e = absurd (cc)

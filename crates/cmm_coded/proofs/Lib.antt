@@ -22,6 +22,8 @@ pub mod Getting
 pub mod CopyingIn
 pub mod Simulating
 pub mod Beginning
+pub mod OnceBegun
+pub mod Agreeing
 pub mod AskedEnds
 pub mod Started
 pub mod Placing

@@ -1,10 +1,13 @@
 -- An operand of code has the number that the operand of its node has over places.
-use Rattle.std.proofs.Common.{◌≡◌, ℕ, ◌+◌, ◌<◌, ◌≤◌, ◌^◌, sym, ◌∙◌, ap, subst, arith, List, ◌∷◌}
-use Rattle.std.specs.Prelude.{Ok, slice_index_or}
+use Rattle.std.proofs.Common.{◌≡◌, ℕ, ◌+◌, ◌<◌, ◌≤◌, ◌^◌, refl, sym, ◌∙◌, ap, subst, arith, Bool, true, false, List, ◌∷◌}
+use Rattle.std.specs.Prelude.{nat_lt, Ok, Err, slice_index_or}
+use Rattle.std.proofs.lemmas.Bool.Decides.{nat_tests}
 use Rattle.cmm_words.specs.declared.constant.Constant.{Constant}
+use Rattle.cmm_words.specs.declared.width.Width.{Width}
+use Rattle.cmm_words.specs.Widths.{IsWord, bits}
 use Rattle.cmm_chain.specs.Contents.{Content, Unknown, Number, ReturnTo, LandingOf, LastReturn}
 use Rattle.cmm_chain.specs.Running.{held}
-use Rattle.cmm_program.specs.Errors.{Tried}
+use Rattle.cmm_program.specs.Errors.{Tried, WrongValues, and_then, provided}
 use Rattle.cmm_program.specs.Layout.{constant_value}
 use Rattle.cmm_program.specs.State.{Activation, Setting, stack_top}
 use Rattle.cmm_graph.specs.declared.operand.Operand.{Operand}
@@ -25,6 +28,16 @@ use Rattle.cmm_coded.specs.NodeCode.{IsAddress, IsConstant, IsOperandOf}
 
 pub ok_is : {a b : ℕ} → ◌≡◌ {A = Tried ℕ} (Ok a) (Ok b) → a ≡ b
 ok_is is = cc
+
+-- a value that had to be a word of a width is one
+pub word_is : (width : Width) (r : Tried ℕ) (v : ℕ) → and_then r (λ n. provided (nat_lt n (2 ^ bits width)) WrongValues (Ok n)) ≡ Ok v →
+    (r ≡ Ok v) × IsWord width v
+word_is width (Ok n) v is = by (nat_lt n (2 ^ bits width)) refl is
+  where
+    by : (test : Bool) → nat_lt n (2 ^ bits width) ≡ test → provided test WrongValues (Ok n) ≡ Ok v → (◌≡◌ {A = Tried ℕ} (Ok n) (Ok v)) × IsWord width v
+    by true less e = let small : IsWord width n = grind (arith, nat_tests, less) in (e, subst (IsWord width) (ok_is e) small)
+    by false less e = absurd (cc)
+word_is width (Err error) v is = absurd (cc)
 
 number_is : (content : Content) (v : ℕ) → number_of content ≡ Ok v → content ≡ Number v
 number_is (Number n) v is = ap Number (ok_is is)

@@ -68,7 +68,7 @@ asked_shown f s l h store carried input taken output t u keeps shown = record {
 pub never_over : {z : p.Status} {outcome : Outcome} → z ≡ p.Running → status_of z ≡ Ended outcome → ⊥
 never_over running ended = let e : Running ≡ _ = sym (ap status_of running) ∙ ended in absurd (cc)
 
-module _ (s : Setting) (c : Compiled) (l : Launch) (f : Finished) (input : List ℕ) (is_for : IsFor s (map_of l)) (at : Located) (t : State) (stands : Stands s c l f at t)
+module _ (s : Setting) (c : Compiled) (l : Launch) (f : Finished) (is_for : IsFor s (map_of l)) (at : Located) (t : State) (stands : Stands s c l f at t)
     (body : IsInBody at) (g : Graph) (is_graph : slice_get c.graphs at.procedure ≡ Some g) (valid : IsValid g)
     (places : (v : ℕ) → IsPlaceOf s body.activation (c.plan.place at.procedure v)) (value : Operand) (next : NodeId) (cost : ℕ) (after : Located)
     (code : PutByteCode s c l f at.procedure at.node value next cost) (fine : IsTrue (is_kind g (Host (host.PutByte value) next))) where
@@ -87,7 +87,7 @@ module _ (s : Setting) (c : Compiled) (l : Launch) (f : Finished) (input : List 
       reaches_weaker
       (reaches_then reaches
       (λ w there. reaches_more (reaches_sound (code.goes_on.go w (subst IsSound (sym there.1) (sound_behind u sound)) there.0 tt) (subst IsSound (sym there.1) (sound_behind u sound)))
-      (λ x last. stands_there s c l f input (put v) g is_graph valid next leads x stands.running
+      (λ x last. stands_there s c l f (put v) g is_graph valid next leads x stands.running
       (record { activation = body.activation; older = body.older; youngest = body.youngest; same = body.same; carried = body.carried })
       (kept_shown f s l is_for at.holdings (store_after v) at.carried w x last.0.1
       (subst (λ (z : State). IsShown f.symbols s (map_of l) at.holdings (store_after v) at.carried z) (sym there.1)
@@ -96,9 +96,9 @@ module _ (s : Setting) (c : Compiled) (l : Launch) (f : Finished) (input : List 
       (record { registers = keeps.registers; memory = keeps.memory }) stands.shown)))) last.0.0 last.1)))
       (omega arith) (omega arith) (λ x last. last)
 
-  asked : (v : ℕ) → operand_at f.labels code.operand t ≡ v → CanBringOperand code.operand (map_of l) t → IsDone s c l f input at cost t (record (put v) { node = next })
+  asked : (v : ℕ) → operand_at f.labels code.operand t ≡ v → CanBringOperand code.operand (map_of l) t → IsDone s c l f at cost t (record (put v) { node = next })
   asked v is_v brings = record {
-    tokens = tokens_there s c l f input (put v) g is_graph valid next leads;
+    tokens = tokens_there s c l f (put v) g is_graph valid next leads;
     registers = refl;
     bytes = λ all. all;
     are_bare = λ b. b;
@@ -113,12 +113,12 @@ module _ (s : Setting) (c : Compiled) (l : Launch) (f : Finished) (input : List 
         }));
   }
 
-  pub byte_put : ran_at s c (Host (host.PutByte value) next) at ≡ Ok after → IsDone s c l f input at cost t after
+  pub byte_put : ran_at s c (Host (host.PutByte value) next) at ≡ Ok after → IsDone s c l f at cost t after
   byte_put is = by (operand_value (keeping s c at).held value (reads_at s c at)) refl is
     where
       by : (v : Tried ℕ) → operand_value (keeping s c at).held value (reads_at s c at) ≡ v →
-          and_then (and_then v (λ n. Ok (order.PutByte n))) (λ o. done s c (Host (host.PutByte value) next) o at) ≡ Ok after → IsDone s c l f input at cost t after
+          and_then (and_then v (λ n. Ok (order.PutByte n))) (λ o. done s c (Host (host.PutByte value) next) o at) ≡ Ok after → IsDone s c l f at cost t after
       by (Ok v) is_v e =
           let found = operand_is s c l f is_for at t body.activation body.older body.youngest places stands.shown value code.operand v code.is_value is_v in
-          subst (λ (z : Located). IsDone s c l f input at cost t z) (place_is e) (asked v found.0 found.1)
+          subst (λ (z : Located). IsDone s c l f at cost t z) (place_is e) (asked v found.0 found.1)
       by (Err error) is_v e = absurd (cc)

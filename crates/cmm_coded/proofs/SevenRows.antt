@@ -5,8 +5,7 @@ use Rattle.std.proofs.lemmas.Bool.Decides.{nat_tests}
 use Rattle.cmm_program.specs.Frames.{place_row}
 use Rattle.cmm_program.specs.Performing.{procedure_from}
 use Rattle.std.proofs.Common.{◌≡◌, Bool, inr, ℕ, zero, suc, ◌*◌, ◌%◌, ◌<◌, ◌^◌, refl, sym, ◌∙◌, ap, subst, arith, true, false, List, [], ◌∷◌, length, Some, slice_get}
-use Rattle.std.specs.List.{All, list_all}
-use Rattle.cmm_laws.specs.Fitting.{IsByte}
+use Rattle.std.specs.List.{list_all}
 use Rattle.cmm_program.proofs.Shared as sample
 use Rattle.cmm_program.proofs.Shared.{frame, no_client, procedure, setting}
 use Rattle.cmm_program.specs.declared.procedure.Proc.{Proc}
@@ -17,7 +16,7 @@ use Rattle.cmm_graph.specs.declared.node.Exits.{Exits}
 use Rattle.cmm_graph.specs.declared.node.Node.{Node}
 use Rattle.cmm_graph.specs.declared.node.NodeKind.TheVariants.{Entry, Return}
 use Rattle.cmm_graph.specs.declared.graph.Graph.{Graph}
-use Rattle.cmm_graph.specs.GraphControl.{in_graph, kind_at}
+use Rattle.cmm_graph.specs.GraphControl.{in_graph}
 use Rattle.cmm_graph.specs.Paths.{node_of}
 use Rattle.cmm_graph.specs.Ranges.{IsValid}
 use Rattle.cmm_chain.specs.declared.frame.Frame.{Frame}
@@ -27,9 +26,7 @@ use Rattle.cmm_changes.proofs.Shared.{goes_none, keeps_same}
 use Rattle.cmm_select.specs.declared.operand.Operand.TheVariants.{Held}
 use Rattle.cmm_select.specs.declared.source.Source.TheVariants.{Number}
 use Rattle.cmm_execution.specs.Machine.{Launch, map_of}
-use Rattle.cmm_located.specs.Compiled.{Compiled, Located, landing_in, site_exits}
-use Rattle.cmm_located.specs.LocatedMachine.{located_machine, located_start}
-use Rattle.cmm_following.specs.Machine.{after}
+use Rattle.cmm_located.specs.Compiled.{Compiled, landing_in, site_exits}
 use Rattle.cmm_coded.proofs.LaidFrames.{procedures_are_laid}
 use Rattle.cmm_coded.specs.Laying.{IsLaidOut}
 use Rattle.cmm_coded.proofs.Nodes.{found_in}
@@ -38,7 +35,7 @@ use Rattle.rv_asm.proofs.Shared.{reaches_weaker}
 use Rattle.cmm_coded.specs.Starting.{StartCode}
 use Rattle.cmm_coded.specs.Finished.{Finished}
 use Rattle.cmm_coded.specs.NodeCode.{IsCodeOf}
-use Rattle.cmm_coded.specs.ProgramCode.{ArePromised, HasWords, IsCode, IsLaidFor, is_coded, names_registers}
+use Rattle.cmm_coded.specs.ProgramCode.{IsCode, IsLaidFor, is_coded, names_registers}
 
 abbrev seven-main : Proc
 seven-main = procedure [] 99 0 0 [] []
@@ -100,12 +97,6 @@ no_sites (suc q) site exits is = cc
 no_landings : (q k : ℕ) (m : NodeId) → landing_in seven.graphs q k ≡ Some m → ⊥
 no_landings zero k m is = cc
 no_landings (suc q) k m is = cc
-
-has_words : (at : Located) (q number : ℕ) → HasWords seven-setting seven at (kind_at seven.graphs q (record { number = number }))
-has_words at zero zero = omega arith
-has_words at zero (suc zero) = tt
-has_words at zero (suc (suc number)) = tt
-has_words at (suc q) number = tt
 
 -- ---- its code
 
@@ -177,9 +168,9 @@ module _ (l : Launch) (at : ℕ → ℕ) (main limit : Label) (to : ℕ) (pieces
           (at_zero m node ∙ main_is ∙ same, subst (λ (z : ℕ). z % 4 ≡ 0) same refl)
       by false is e = absurd (cc)
 
-  seven_is_code : l.stack_size ≡ 4096 → at main.number ≡ main_code → l.image.initial ≡ [] → pieces.starts.back % 4 ≡ 0 → pieces.starts.back < 2 ^ 64 → (input : List ℕ) → All IsByte input →
-      IsCode seven-setting seven l finished input
-  seven_is_code stack main_is none aligned fits input bytes = record {
+  seven_is_code : l.stack_size ≡ 4096 → at main.number ≡ main_code → l.image.initial ≡ [] → pieces.starts.back % 4 ≡ 0 → pieces.starts.back < 2 ^ 64 →
+      IsCode seven-setting seven l finished
+  seven_is_code stack main_is none aligned fits = record {
     is_for = record {
       set = record { placed = record { rows = refl; ascending = refl }; aligned = refl };
       base = refl;
@@ -200,12 +191,7 @@ module _ (l : Launch) (at : ℕ → ℕ) (main limit : Label) (to : ℕ) (pieces
     is_first = refl;
     back_aligned = aligned;
     back_fits = fits;
-    bytes = bytes;
   }
-
-  seven_is_promised : (input : List ℕ) (m : ℕ) → ArePromised seven-setting seven input m
-  seven_is_promised input m k less running =
-      let here = after (located_machine seven-setting seven) k (located_start seven-setting seven input) in has_words here here.procedure here.node.number
 
   seven_starts : l.image.initial ≡ [] → StartCode seven-setting seven l finished
   seven_starts none = record {

@@ -1,11 +1,10 @@
 -- The image simulates the machine over places.
-use Rattle.std.proofs.Common.{◌≡◌, ℕ, suc, ◌*◌, ◌≤◌, refl, sym, ◌∙◌, ap, subst, arith, Bool, true, false, List, length, Option, Some, None, IsTrue, slice_get}
+use Rattle.std.proofs.Common.{◌≡◌, ℕ, ◌*◌, ◌≤◌, refl, sym, ◌∙◌, ap, subst, arith, Bool, true, false, length, Option, Some, None, IsTrue, slice_get}
 use Rattle.std.specs.Prelude.{Ok, Err}
 use Rattle.std.specs.List.{All, list_all}
 use Rattle.std.proofs.lemmas.Bool.{and_parts}
 use Rattle.rv_table.specs.Machine.{State, instruction_step}
-use Rattle.cmm_following.specs.Machine.{after}
-use Rattle.cmm_following.specs.Observing.{Level, Passes}
+use Rattle.cmm_following.specs.Observing.{Passes}
 use Rattle.cmm_following.specs.Seen.{but_input}
 use Rattle.cmm_following.specs.Simulation.{Leads}
 use Rattle.cmm_program.proofs.Shared.{list_all_get}
@@ -27,7 +26,7 @@ use Rattle.cmm_select.specs.Laws.{SwitchesLead}
 use Rattle.cmm_execution.specs.Machine.{Launch, Run, Status, Running, Ended, map_of}
 use Rattle.cmm_execution.specs.Observed.{asked_at, image_machine}
 use Rattle.cmm_served.proofs.Shared.{image_is_level, image_leads}
-use Rattle.cmm_served.specs.Serving.{IsDoneBy, IsServed, IsShownBy}
+use Rattle.cmm_served.specs.Serving.{IsDoneBy, IsServed}
 use Rattle.cmm_located.specs.Answering.{shown}
 use Rattle.cmm_located.specs.Compiled.{Compiled, Located}
 use Rattle.cmm_located.specs.LocatedMachine.{located_machine, located_step, tokens_at, tried}
@@ -47,9 +46,9 @@ use Rattle.cmm_coded.proofs.Putting.{byte_put}
 use Rattle.cmm_coded.proofs.Returning.{return_done}
 use Rattle.cmm_coded.proofs.Storing.{store_done}
 use Rattle.cmm_coded.specs.Finished.{Finished}
-use Rattle.cmm_coded.specs.Laws.{CodeSimulates, most_for_step}
+use Rattle.cmm_coded.specs.Laws.{CodeSimulates, IsShownIn, most_for_step}
 use Rattle.cmm_coded.specs.NodeCode.{IsCodeOf}
-use Rattle.cmm_coded.specs.ProgramCode.{HasWords, IsCode, is_coded, names_registers}
+use Rattle.cmm_coded.specs.ProgramCode.{IsCode, is_coded, names_registers}
 use Rattle.cmm_coded.specs.Standing.{AreBare, IsInside, IsOfRun, Stands, outside_at, status_of}
 
 -- a running state steps by its node
@@ -69,7 +68,7 @@ step_is s c at z is = ap (λ (q : p.Status). elim q as (λ _. Located) [
 never_ended : {z : Status} {outcome : Outcome} → z ≡ Ended outcome → z ≡ Running → ⊥
 never_ended is going = absurd (cc)
 
-module _ (lead : SwitchesLead) (s : Setting) (c : Compiled) (l : Launch) (f : Finished) (input : List ℕ) (code : IsCode s c l f input) where
+module _ (lead : SwitchesLead) (s : Setting) (c : Compiled) (l : Launch) (f : Finished) (code : IsCode s c l f) where
   pub first_tokens : (at : Located) → 1 ≤ tokens_at s c (record at { procedure = 0; node = record { number = 0 } })
   first_tokens at =
       let found = found_in c.graphs 0 (λ g. node_of g (record { number = 0 })) code.first code.is_first in
@@ -78,8 +77,7 @@ module _ (lead : SwitchesLead) (s : Setting) (c : Compiled) (l : Launch) (f : Fi
       let some : 1 ≤ code.first.tokens = (node_holds found.0 (record { number = 0 }) code.first (code.valid 0 found.0 found.1) found.2).0 in
       omega (arith, e, some)
 
-  module _ (at : Located) (t : State) (stands : Stands s c l f at t) (run : IsOfRun s c input at)
-      (promised : at.store.status ≡ p.Running → HasWords s c at (kind_at c.graphs at.procedure at.node)) where
+  module _ (at : Located) (t : State) (stands : Stands s c l f at t) (run : IsOfRun s c at) where
     found : (g : Graph) × (slice_get c.graphs at.procedure ≡ Some g) × (node_of g at.node ≡ Some stands.node)
     found = found_in c.graphs at.procedure (λ g. node_of g at.node) stands.node stands.there
 
@@ -92,75 +90,70 @@ module _ (lead : SwitchesLead) (s : Setting) (c : Compiled) (l : Launch) (f : Fi
     valid_here : IsValid found.0
     valid_here = code.valid at.procedure found.0 found.1
 
-    words_here : HasWords s c at stands.node.kind
-    words_here = subst (HasWords s c at) kind_is (promised stands.running)
-
     node_done : (kind : NodeKind) → kind_at c.graphs at.procedure at.node ≡ kind → is_coded kind ≡ true → names_registers s.program kind ≡ true → IsInside kind at → IsTrue (is_kind found.0 kind) →
-        IsCodeOf s c l f at.procedure at.node kind (32 * stands.node.tokens) → HasWords s c at kind → (next : Located) → ran_at s c kind at ≡ Ok next →
-        IsDone s c l f input at (32 * stands.node.tokens) t next
-    node_done (Entry formals to) here is named inside fine piece words next ran =
-        entry_done s c l f input code.is_for at t stands run.are_bare (code.laid at.procedure found.0 found.1) formals to (32 * stands.node.tokens) next piece found.0 found.1 valid_here
-        (and_parts (list_all (is_variable found.0) formals) (leads_to found.0 is_step to) fine).1 run.tokens words ran
-    node_done (Branch test then_ otherwise) here is named inside fine piece words next ran =
-        branch_done s c l f input code.is_for at t stands inside found.0 found.1 valid_here (λ v. (code.laid at.procedure found.0 found.1).places inside.activation v inside.same)
-        test then_ otherwise (32 * stands.node.tokens) next piece words fine ran
-    node_done (Switch value arms otherwise) here is named inside fine piece words next ran =
-        switch_done s c l f input code.is_for at t stands inside found.0 found.1 valid_here (λ v. (code.laid at.procedure found.0 found.1).places inside.activation v inside.same)
+        IsCodeOf s c l f at.procedure at.node kind (32 * stands.node.tokens) → (next : Located) → ran_at s c kind at ≡ Ok next →
+        IsDone s c l f at (32 * stands.node.tokens) t next
+    node_done (Entry formals to) here is named inside fine piece next ran =
+        entry_done s c l f code.is_for at t stands run.are_bare (code.laid at.procedure found.0 found.1) formals to (32 * stands.node.tokens) next piece found.0 found.1 valid_here
+        (and_parts (list_all (is_variable found.0) formals) (leads_to found.0 is_step to) fine).1 run.tokens ran
+    node_done (Branch test then_ otherwise) here is named inside fine piece next ran =
+        branch_done s c l f code.is_for at t stands inside found.0 found.1 valid_here (λ v. (code.laid at.procedure found.0 found.1).places inside.activation v inside.same)
+        test then_ otherwise (32 * stands.node.tokens) next piece fine ran
+    node_done (Switch value arms otherwise) here is named inside fine piece next ran =
+        switch_done s c l f code.is_for at t stands inside found.0 found.1 valid_here (λ v. (code.laid at.procedure found.0 found.1).places inside.activation v inside.same)
         lead value arms otherwise (32 * stands.node.tokens) next piece fine ran
-    node_done (Return exit alternates results) here is named inside fine piece words next ran =
-        return_done s c l f input code.is_for at t stands inside (code.laid at.procedure found.0 found.1) exit alternates results (32 * stands.node.tokens) piece
+    node_done (Return exit alternates results) here is named inside fine piece next ran =
+        return_done s c l f code.is_for at t stands inside (code.laid at.procedure found.0 found.1) exit alternates results (32 * stands.node.tokens) piece
         code.back_aligned code.back_fits (first_tokens at) code.valid code.sites next ran
-    node_done (Goto to) here is named inside fine piece words next ran =
-        goto_done s c l f input code.is_for at t stands inside found.0 found.1 valid_here (λ v. (code.laid at.procedure found.0 found.1).places inside.activation v inside.same)
+    node_done (Goto to) here is named inside fine piece next ran =
+        goto_done s c l f code.is_for at t stands inside found.0 found.1 valid_here (λ v. (code.laid at.procedure found.0 found.1).places inside.activation v inside.same)
         to (32 * stands.node.tokens) next piece fine ran
-    node_done Stop here is named inside fine piece words next ran = absurd (cc)
-    node_done (CopyIn to after) here is named inside fine piece words next ran =
+    node_done Stop here is named inside fine piece next ran = absurd (cc)
+    node_done (CopyIn to after) here is named inside fine piece next ran =
         let laid = code.laid at.procedure found.0 found.1 in
-        copy_done s c l f input code.is_for at t stands inside found.0 found.1 valid_here (λ v. laid.places inside.activation v inside.same)
+        copy_done s c l f code.is_for at t stands inside found.0 found.1 valid_here (λ v. laid.places inside.activation v inside.same)
         (framed_here s c l f code.is_for at.procedure at.holdings at.store at.carried inside.activation inside.older t laid inside.youngest inside.same stands.shown)
-        to after (32 * stands.node.tokens) next piece named run.registers words fine ran
-    node_done (Assign to value after) here is named inside fine piece words next ran =
-        assign_done s c l f input code.is_for at t stands inside found.0 found.1 valid_here (λ v. (code.laid at.procedure found.0 found.1).places inside.activation v inside.same)
-        run.registers to value after (32 * stands.node.tokens) next piece words fine named ran
-    node_done (Store width aligned address value after) here is named inside fine piece words next ran =
-        store_done s c l f input code.is_for at t stands inside found.0 found.1 valid_here (λ v. (code.laid at.procedure found.0 found.1).places inside.activation v inside.same)
+        to after (32 * stands.node.tokens) next piece named run.registers fine ran
+    node_done (Assign to value after) here is named inside fine piece next ran =
+        assign_done s c l f code.is_for at t stands inside found.0 found.1 valid_here (λ v. (code.laid at.procedure found.0 found.1).places inside.activation v inside.same)
+        run.registers to value after (32 * stands.node.tokens) next piece fine named ran
+    node_done (Store width aligned address value after) here is named inside fine piece next ran =
+        store_done s c l f code.is_for at t stands inside found.0 found.1 valid_here (λ v. (code.laid at.procedure found.0 found.1).places inside.activation v inside.same)
         width aligned address value after (32 * stands.node.tokens) next piece fine ran
-    node_done (Call site callee arguments exits) here is named inside fine piece words next ran =
-        call_done s c l f input code.is_for code.valid code.entries at t stands inside (code.laid at.procedure found.0 found.1)
+    node_done (Call site callee arguments exits) here is named inside fine piece next ran =
+        call_done s c l f code.is_for code.valid code.entries at t stands inside (code.laid at.procedure found.0 found.1)
         site callee arguments exits (32 * stands.node.tokens) next piece ran
-    node_done (Yield site values exits) here is named inside fine piece words next ran = absurd (cc)
-    node_done (Jump callee arguments) here is named inside fine piece words next ran =
-        jump_done s c l f input code.is_for code.valid code.entries at t stands inside (code.laid at.procedure found.0 found.1)
+    node_done (Yield site values exits) here is named inside fine piece next ran = absurd (cc)
+    node_done (Jump callee arguments) here is named inside fine piece next ran =
+        jump_done s c l f code.is_for code.valid code.entries at t stands inside (code.laid at.procedure found.0 found.1)
         callee arguments (32 * stands.node.tokens) next piece ran
-    node_done (Cut to arguments own) here is named inside fine piece words next ran =
-        cut_done s c l f input code.is_for code.valid code.landings at t stands inside (code.laid at.procedure found.0 found.1)
+    node_done (Cut to arguments own) here is named inside fine piece next ran =
+        cut_done s c l f code.is_for code.valid code.landings at t stands inside (code.laid at.procedure found.0 found.1)
         to arguments own (32 * stands.node.tokens) next piece ran
-    node_done (Host (host.PutByte value) after) here is named inside fine piece words next ran =
-        byte_put s c l f input code.is_for at t stands inside found.0 found.1 valid_here (λ v. (code.laid at.procedure found.0 found.1).places inside.activation v inside.same)
+    node_done (Host (host.PutByte value) after) here is named inside fine piece next ran =
+        byte_put s c l f code.is_for at t stands inside found.0 found.1 valid_here (λ v. (code.laid at.procedure found.0 found.1).places inside.activation v inside.same)
         value after (32 * stands.node.tokens) next piece fine ran
-    node_done (Host (host.GetByte to) after) here is named inside fine piece words next ran =
-        byte_taken s c l f input code.is_for at t stands inside found.0 found.1 valid_here (λ v. (code.laid at.procedure found.0 found.1).places inside.activation v inside.same)
+    node_done (Host (host.GetByte to) after) here is named inside fine piece next ran =
+        byte_taken s c l f code.is_for at t stands inside found.0 found.1 valid_here (λ v. (code.laid at.procedure found.0 found.1).places inside.activation v inside.same)
         to after (32 * stands.node.tokens) next piece fine named run.registers run.bytes here ran
 
     -- a step that is not wrong
     step_done : (r : Tried Located) → ran_at s c stands.node.kind at ≡ r → (located_machine s c).wrong (tried s c at r) ≡ false →
-        IsDone s c l f input at (32 * stands.node.tokens) t (tried s c at r)
+        IsDone s c l f at (32 * stands.node.tokens) t (tried s c at r)
     step_done (Ok next) is right =
         node_done stands.node.kind kind_is (list_all_get (λ node. is_coded node.kind) found.0.nodes at.node.number stands.node (code.coded at.procedure found.0 found.1) found.2)
         (list_all_get (λ node. names_registers s.program node.kind) found.0.nodes at.node.number stands.node (code.named at.procedure found.0 found.1) found.2)
-        stands.inside (node_holds found.0 at.node stands.node valid_here found.2).1 (code.nodes at.procedure at.node stands.node stands.there) words_here next is
+        stands.inside (node_holds found.0 at.node stands.node valid_here found.2).1 (code.nodes at.procedure at.node stands.node stands.there) next is
     step_done (Err error) is right = absurd (cc)
 
     steps_to : located_step s c at ≡ tried s c at (ran_at s c stands.node.kind at)
     steps_to = step_is s c at p.Running stands.running ∙ ap (λ (kind : NodeKind). tried s c at (ran_at s c kind at)) kind_is
 
-    done_here : (located_machine s c).wrong (located_step s c at) ≡ false → IsDone s c l f input at (32 * stands.node.tokens) t (tried s c at (ran_at s c stands.node.kind at))
+    done_here : (located_machine s c).wrong (located_step s c at) ≡ false → IsDone s c l f at (32 * stands.node.tokens) t (tried s c at (ran_at s c stands.node.kind at))
     done_here right = step_done (ran_at s c stands.node.kind at) refl (sym (ap (λ (z : Located). (located_machine s c).wrong z) steps_to) ∙ right)
 
-    keeps : (located_machine s c).wrong (located_step s c at) ≡ false → IsOfRun s c input (located_step s c at)
+    keeps : (located_machine s c).wrong (located_step s c at) ≡ false → IsOfRun s c (located_step s c at)
     keeps right = record {
-      steps = suc run.steps;
-      reached = ap (located_step s c) run.reached;
       tokens = subst (λ (z : Located). 1 ≤ tokens_at s c z) (sym steps_to) (done_here right).tokens;
       registers = ap (λ (z : Located). length z.store.registers) steps_to ∙ (done_here right).registers ∙ run.registers;
       bytes = subst (λ (z : Located). All IsByte z.store.input) (sym steps_to) ((done_here right).bytes run.bytes);
@@ -168,9 +161,9 @@ module _ (lead : SwitchesLead) (s : Setting) (c : Compiled) (l : Launch) (f : Fi
     }
 
     code_does : (located_machine s c).wrong (located_step s c at) ≡ false →
-        IsDoneBy (located_machine s c) l outside_at (Stands s c l f) (IsOfRun s c input) at (32 * tokens_at s c at) t
+        IsDoneBy (located_machine s c) l outside_at (Stands s c l f) (IsOfRun s c) at (32 * tokens_at s c at) t
     code_does right =
-        subst (λ (n : ℕ). IsDoneBy (located_machine s c) l outside_at (Stands s c l f) (IsOfRun s c input) at (32 * n) t) (sym tokens_are) ((done_here right).by_code steps_to)
+        subst (λ (n : ℕ). IsDoneBy (located_machine s c) l outside_at (Stands s c l f) (IsOfRun s c) at (32 * n) t) (sym tokens_are) ((done_here right).by_code steps_to)
 
   -- the first instruction of a node asks for nothing but input
   level : (at : Located) (t : State) → Stands s c l f at t → but_input ((located_machine s c).asks at) ≡ but_input (asked_at l t (instruction_step (map_of l) t))
@@ -188,10 +181,7 @@ module _ (lead : SwitchesLead) (s : Setting) (c : Compiled) (l : Launch) (f : Fi
   over_by at (p.Wrong error) is right never =
       let e : (located_machine s c).wrong at ≡ true = ap (λ (z : p.Status). elim z as (λ _. Bool) [ p.Wrong error ↦ true | _ ↦ false ]) is in absurd (cc)
 
-  abbrev pub IsShownIn : Located → Run → Type 0
-  IsShownIn = IsShownBy (located_machine s c) l outside_at (Stands s c l f) (IsOfRun s c input)
-
-  pub is_served : IsServed (located_machine s c) l outside_at (Stands s c l f) (IsOfRun s c input) (most_for_step s c)
+  pub is_served : IsServed (located_machine s c) l outside_at (Stands s c l f) (IsOfRun s c) (most_for_step s c)
   is_served = record {
     seen = λ at. refl;
     over = λ at run right never. over_by at at.store.status refl right never;
@@ -199,25 +189,16 @@ module _ (lead : SwitchesLead) (s : Setting) (c : Compiled) (l : Launch) (f : Fi
     level = λ at t run going stands. level at t stands;
   }
 
-  -- a step of which what is promised is kept
-  pub step_leads : (at : Located) (u : Run) → (at.store.status ≡ p.Running → HasWords s c at (kind_at c.graphs at.procedure at.node)) → IsShownIn at u →
-      (located_machine s c).wrong (located_step s c at) ≡ false →
-      Leads (image_machine l) (λ run. 1) (Passes (located_machine s c) (image_machine l) at) (IsShownIn (located_step s c at)) 1 (most_for_step s c at) u
-  step_leads at u promised is_shown right =
-      image_leads (located_machine s c) l outside_at (Stands s c l f) (IsOfRun s c input) (most_for_step s c) is_served at u is_shown right
-      (λ going. keeps at u.machine (is_shown.running going) is_shown.holds promised right)
-      (λ going. code_does at u.machine (is_shown.running going) is_shown.holds promised right)
-
-  pub shown_is_level : (at : Located) (u : Run) → IsShownIn at u → Level (located_machine s c) (image_machine l) at u
-  shown_is_level at u is_shown = image_is_level (located_machine s c) l outside_at (Stands s c l f) (IsOfRun s c input) (most_for_step s c) is_served at u is_shown
+  pub step_leads : (at : Located) (u : Run) → IsShownIn s c l f at u → (located_machine s c).wrong (located_step s c at) ≡ false →
+      Leads (image_machine l) (λ run. 1) (Passes (located_machine s c) (image_machine l) at) (IsShownIn s c l f (located_step s c at)) 1 (most_for_step s c at) u
+  step_leads at u is_shown right =
+      image_leads (located_machine s c) l outside_at (Stands s c l f) (IsOfRun s c) (most_for_step s c) is_served at u is_shown right
+      (λ going. keeps at u.machine (is_shown.running going) is_shown.holds right)
+      (λ going. code_does at u.machine (is_shown.running going) is_shown.holds right)
 
 pub code_simulates : SwitchesLead → CodeSimulates
-code_simulates lead s c l f input code promised = record {
-  level = λ at u is_shown. shown_is_level lead s c l f input code at u is_shown;
-  leads = λ at u is_shown right. step_leads lead s c l f input code at u (of_run at is_shown.holds) is_shown right;
+code_simulates lead s c l f code = record {
+  level = λ at u is_shown.
+      image_is_level (located_machine s c) l outside_at (Stands s c l f) (IsOfRun s c) (most_for_step s c) (is_served lead s c l f code) at u is_shown;
+  leads = λ at u is_shown right. step_leads lead s c l f code at u is_shown right;
 }
-  where
-    of_run : (at : Located) → IsOfRun s c input at → at.store.status ≡ p.Running → HasWords s c at (kind_at c.graphs at.procedure at.node)
-    of_run at run =
-        subst (λ (z : Located). z.store.status ≡ p.Running → HasWords s c z (kind_at c.graphs z.procedure z.node)) (sym run.reached)
-        (promised (suc run.steps) run.steps (omega arith))

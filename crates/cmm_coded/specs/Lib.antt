@@ -8,3 +8,4 @@ pub mod Placing
 pub mod Naming
 pub mod Examples
 pub mod Laws
+pub mod Agreeing

@@ -1,8 +1,6 @@
 -- What is asked of the finished code of a program.
-use Rattle.std.specs.Prelude.{◌≡◌, ℕ, ◌%◌, ◌*◌, ◌<◌, ◌≤◌, ◌^◌, ◌&&◌, nat_lt, Bool, true, false, List, length, slice_get, Ok, Some}
-use Rattle.std.specs.List.{All, list_all}
-use Rattle.cmm_words.specs.Widths.{IsWord}
-use Rattle.cmm_words.specs.declared.width.Width.{Width}
+use Rattle.std.specs.Prelude.{◌≡◌, ℕ, ◌%◌, ◌*◌, ◌<◌, ◌^◌, ◌&&◌, nat_lt, Bool, true, false, length, slice_get, Some}
+use Rattle.std.specs.List.{list_all}
 use Rattle.cmm_chain.specs.Plans.{fixed_offsets}
 use Rattle.cmm_program.specs.declared.procedure.Proc.{Proc}
 use Rattle.cmm_program.specs.declared.procedure.Target.{Target}
@@ -10,29 +8,21 @@ use Rattle.cmm_program.specs.declared.procedure.Target.TheVariants as target
 use Rattle.cmm_program.specs.declared.program.Program.{Program}
 use Rattle.cmm_program.specs.Frames.{place_row, procedure_at}
 use Rattle.cmm_program.specs.Performing.{procedure_from}
-use Rattle.cmm_program.specs.State.{Activation, Setting, Running}
-use Rattle.cmm_following.specs.Machine.{after}
-use Rattle.cmm_laws.specs.Fitting.{IsByte}
+use Rattle.cmm_program.specs.State.{Activation, Setting}
 use Rattle.cmm_graph.specs.declared.number.NodeId.{NodeId}
-use Rattle.cmm_graph.specs.declared.operand.Operand.{Operand}
-use Rattle.cmm_graph.specs.declared.operand.Rvalue.{Rvalue}
-use Rattle.cmm_graph.specs.declared.operand.Rvalue.TheVariants as rvalue
 use Rattle.cmm_graph.specs.declared.node.Exits.{Exits}
 use Rattle.cmm_graph.specs.declared.node.Node.{Node}
 use Rattle.cmm_graph.specs.declared.node.NodeKind.{NodeKind}
-use Rattle.cmm_graph.specs.declared.node.NodeKind.TheVariants.{Entry, CopyIn, Assign, Branch, Yield}
+use Rattle.cmm_graph.specs.declared.node.NodeKind.TheVariants.{Yield}
 use Rattle.cmm_graph.specs.declared.graph.Graph.{Graph}
 use Rattle.cmm_graph.specs.Counterpart.{reads_registers, targets}
-use Rattle.cmm_graph.specs.GraphControl.{in_graph, kind_at}
+use Rattle.cmm_graph.specs.GraphControl.{in_graph}
 use Rattle.cmm_graph.specs.Paths.{node_of}
 use Rattle.cmm_graph.specs.Ranges.{IsValid}
-use Rattle.cmm_graph.specs.Values.{operand_value, rvalue_value}
 use Rattle.cmm_calls.specs.Frames.{CanBeMade}
 use Rattle.cmm_execution.specs.Machine.{Launch, map_of}
 use Rattle.cmm_shown.specs.Shown.{AreWordsAt, IsFor, IsPlaceOf}
-use Rattle.cmm_located.specs.Compiled.{Compiled, Located, landing_in, site_exits}
-use Rattle.cmm_located.specs.LocatedMachine.{located_machine, located_start}
-use Rattle.cmm_located.specs.Nodes.{keeping, reads_at}
+use Rattle.cmm_located.specs.Compiled.{Compiled, landing_in, site_exits}
 use Rattle.cmm_coded.specs.Finished.{Finished}
 use Rattle.cmm_coded.specs.NodeCode.{IsCodeOf, SiteCode}
 
@@ -65,39 +55,9 @@ pub record IsLaidFor (s : Setting) (c : Compiled) (q : ℕ) : Type 0 where
   pub words : (a : Activation) → a.procedure ≡ q → AreWordsAt s a (fixed_offsets (c.plan.frame q))
   pub places : (a : Activation) (v : ℕ) → a.procedure ≡ q → IsPlaceOf s a (c.plan.place q v)
 
--- ---- what the layers above promise of a run
-
-module _ (s : Setting) (c : Compiled) where
-  -- if an operand has a value, it is a word of a width
-  abbrev pub IsWordIn : Located → Width → Operand → Type 0
-  IsWordIn at w o = (v : ℕ) → operand_value (keeping s c at).held o (reads_at s c at) ≡ Ok v → IsWord w v
-
-  -- so are what an operator is applied to
-  abbrev pub HasWordsIn : Located → Rvalue → Type 0
-  HasWordsIn at (rvalue.Unary operator width o) = IsWordIn at width o
-  HasWordsIn at (rvalue.Binary operator width left right) = IsWordIn at width left × IsWordIn at width right
-  HasWordsIn at (rvalue.Compare test) = IsWordIn at test.width test.left × IsWordIn at test.width test.right
-  HasWordsIn at (rvalue.SignExtend narrow width o) = IsWordIn at narrow o
-  HasWordsIn at (rvalue.LowBits wide width o) = IsWordIn at wide o
-  HasWordsIn at _ = Unit {0}
-
-  -- what a node compares are words of the width, what it assigns has 64 bits, and no fewer values come than it takes
-  abbrev pub HasWords : Located → NodeKind → Type 0
-  HasWords at (Assign to value next) =
-      HasWordsIn at value × ((v : ℕ) → rvalue_value (keeping s c at).held value (reads_at s c at) ≡ Ok v → v < 2 ^ 64)
-  HasWords at (Entry formals next) = length formals ≤ length at.carried
-  HasWords at (CopyIn to next) = length to ≤ length at.carried
-  HasWords at (Branch test then_ otherwise) = IsWordIn at test.width test.left × IsWordIn at test.width test.right
-  HasWords at _ = Unit {0}
-
--- what they promise of the first so many states of a run
-abbrev pub ArePromised : Setting → Compiled → List ℕ → ℕ → Type 0
-ArePromised s c input m = (n : ℕ) → n < m → let at = after (located_machine s c) n (located_start s c input) in
-    at.store.status ≡ Running → HasWords s c at (kind_at c.graphs at.procedure at.node)
-
 -- ---- the whole
 
-pub record IsCode (s : Setting) (c : Compiled) (l : Launch) (f : Finished) (input : List ℕ) : Type 0 where
+pub record IsCode (s : Setting) (c : Compiled) (l : Launch) (f : Finished) : Type 0 where
   pub is_for : IsFor s (map_of l)
   pub coded : (q : ℕ) (g : Graph) → slice_get c.graphs q ≡ Some g → list_all (λ node. is_coded node.kind) g.nodes ≡ true
   pub valid : (q : ℕ) (g : Graph) → slice_get c.graphs q ≡ Some g → IsValid g
@@ -115,4 +75,3 @@ pub record IsCode (s : Setting) (c : Compiled) (l : Launch) (f : Finished) (inpu
   pub is_first : in_graph c.graphs 0 (λ g. node_of g (record { number = 0 })) ≡ Some first
   pub back_aligned : f.symbols.last_return % 4 ≡ 0
   pub back_fits : f.symbols.last_return < 2 ^ 64
-  pub bytes : All IsByte input

@@ -1,10 +1,9 @@
 -- Which states of the machine show a state of the located machine, with where control is.
-use Rattle.std.specs.Prelude.{◌≡◌, ℕ, ◌≤◌, List, [], ◌∷◌, length, map, Some}
+use Rattle.std.specs.Prelude.{◌≡◌, ◌≤◌, List, [], ◌∷◌, length, map, Some}
 use Rattle.std.specs.List.{All}
 use Rattle.rv_table.specs.Bounds.{IsSound}
 use Rattle.rv_table.specs.Machine.{State}
 use Rattle.rv_table.specs.declared.trap.TrapKind.TheVariants.{Breakpoint}
-use Rattle.cmm_following.specs.Machine.{after}
 use Rattle.cmm_program.specs.State as c
 use Rattle.cmm_program.specs.State.{Activation, Setting}
 use Rattle.cmm_laws.specs.Fitting.{IsByte}
@@ -18,7 +17,7 @@ use Rattle.cmm_execution.specs.Machine.{Launch, Status, Running, Ended, Trapped,
 use Rattle.cmm_served.specs.Outside.{Outside}
 use Rattle.cmm_shown.specs.Shown.{IsShown}
 use Rattle.cmm_located.specs.Compiled.{Compiled, Located, bare}
-use Rattle.cmm_located.specs.LocatedMachine.{located_machine, located_start, tokens_at}
+use Rattle.cmm_located.specs.LocatedMachine.{tokens_at}
 use Rattle.cmm_coded.specs.Finished.{Finished}
 
 -- ---- what is outside of registers and memory
@@ -78,10 +77,8 @@ module _ (s : Setting) (c' : Compiled) (l : Launch) (f : Finished) where
 
 -- ---- the run
 
--- a state of the run on an input, at a node
-pub record IsOfRun (s : Setting) (c' : Compiled) (input : List ℕ) (at : Located) : Type 0 where
-  pub steps : ℕ
-  pub reached : at ≡ after (located_machine s c') steps (located_start s c' input)
+-- what every state of a run has, at a node
+pub record IsOfRun (s : Setting) (c' : Compiled) (at : Located) : Type 0 where
   pub tokens : 1 ≤ tokens_at s c' at
   pub registers : length at.store.registers ≡ length s.program.globals
   pub bytes : All IsByte at.store.input

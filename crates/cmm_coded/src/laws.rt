@@ -1,5 +1,5 @@
 //! What holds of the finished code of a program, as contracts.
-ghost use Rattle.cmm_coded.specs.Laws.{CodeFollows, CodeSimulates};
+ghost use Rattle.cmm_coded.specs.Laws.{CodeBegins, CodeFollows, CodeSimulates};
 ghost use Rattle.cmm_coded.specs.Laying.{FramesCanBeMade, ProceduresAreLaid};
 ghost use Rattle.cmm_coded.specs.Naming.{GraphsAreNamed};
 ghost use Rattle.cmm_coded.specs.Placing.{FinishedCodeStands};
@@ -11,9 +11,11 @@ pub fn code_simulates()
     cmm_select::laws::switches_lead();
 }
 
-/// So a whole run of the image follows the run over places, from its first state on.
+/// A run of the image comes, by the code with which it begins, to what shows the first state over places, and follows the run over places from
+/// there on.
 pub fn code_follows()
-    ensures { CodeFollows }
+    ensures begins { CodeBegins }
+    ensures follows { CodeFollows }
 {
     cmm_select::laws::switches_lead();
 }

@@ -54,7 +54,7 @@ use Rattle.cmm_nodes.specs.Naming.{IsNamed, argument_operand, argument_operands,
 use Rattle.cmm_nodes.specs.Standing.{CodesNode, IsReady, PutsValue}
 
 -- code is that of an image, and an address is that of a node
-moved : {x z : Code} {from at : ℕ} (P : Code → ℕ → Type 0) → x ≡ z → at ≡ from → P x from → P z at
+pub moved : {x z : Code} {from at : ℕ} (P : Code → ℕ → Type 0) → x ≡ z → at ≡ from → P x from → P z at
 moved {z = z} {from = from} P is-x is-at holds = subst (λ a. P z a) (sym is-at) (subst (λ w. P w from) is-x holds)
 
 -- values come to what takes them, by no instruction or more, and then control goes somewhere

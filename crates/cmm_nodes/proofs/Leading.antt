@@ -1,5 +1,5 @@
 -- A node's code, and what leads on behind it.
-use Rattle.std.proofs.Common.{◌≡◌, ℕ, ◌+◌, ◌-◌, ◌≤◌, sym, subst, IsTrue, Some, None, arith}
+use Rattle.std.proofs.Common.{◌≡◌, ℕ, ◌+◌, ◌-◌, ◌≤◌, sym, subst, IsTrue, Option, Some, None, true, arith}
 use Rattle.std.proofs.lemmas.Bool.Decides.{nat_tests}
 use Rattle.rv_asm.specs.Parts.{Code, Does}
 use Rattle.rv_asm.specs.declared.part.Label.{Label}
@@ -17,7 +17,7 @@ use Rattle.cmm_nodes.specs.declared.context.Targets.{Targets}
 use Rattle.cmm_nodes.specs.Costs.{cost_of, jump_cost, jump_of}
 use Rattle.cmm_nodes.specs.Laying.{CodesAlone}
 use Rattle.cmm_nodes.specs.Naming.{has_kind, has_node, label_at}
-use Rattle.cmm_nodes.specs.Standing.{CodesNode, GoesOnTo, falls_to}
+use Rattle.cmm_nodes.specs.Standing.{CodesWhole, GoesOnTo, falls_to}
 use Rattle.std.specs.Prelude.{◌<◌, length}
 
 -- where a label is placed, control is there already
@@ -26,9 +26,9 @@ goes_here x from to l placed = goes_none (sym placed.1) (λ s. keeps_same s)
 
 module _ (p : Context) (y : Targets) (kind : NodeKind) (x : Code) (from mid to : ℕ) where
   -- a node that falls to another, and what leads on to that
-  pub leads_on : (n : NodeId) → falls_to kind ≡ Some n → n.number < length p.nodes → CodesNode p y kind x from mid →
+  pub leads_on : (n : NodeId) → falls_to kind ≡ Some n → n.number < length p.nodes → CodesWhole p y kind x from mid →
       Goes 0 jump_cost Always (λ t. x.at (label_at p.nodes n.number).number) Keeps x mid → CodesAlone p y kind x from to
-  leads_on n falls within codes goes s c l f q m is-x of at = codes s c l f q m is-x of at (rw falls on)
+  leads_on n falls within codes goes s c l f q m is-x of at = record { node = codes.0 s c l f q m is-x of at (rw falls on); site = codes.1 s c l f q is-x of (rw falls on) }
     where
       on : GoesOnTo s c l f q (Some n) mid
       on =
@@ -38,8 +38,8 @@ module _ (p : Context) (y : Targets) (kind : NodeKind) (x : Code) (from mid to :
           subst (λ (a : ℕ). Goes 0 jump_cost Always (λ t. a) Keeps (code_of l f) mid) (of.nodes n within) here
 
   -- one that falls to none
-  pub leads_nowhere : falls_to kind ≡ None → CodesNode p y kind x from to → CodesAlone p y kind x from to
-  leads_nowhere falls codes s c l f q m is-x of at = codes s c l f q m is-x of at (rw falls tt)
+  pub leads_nowhere : falls_to kind ≡ None → CodesWhole p y kind x from to → CodesAlone p y kind x from to
+  leads_nowhere falls codes s c l f q m is-x of at = record { node = codes.0 s c l f q m is-x of at (rw falls tt); site = codes.1 s c l f q is-x of (rw falls tt) }
 
 -- a jump fits in the cost of a node that falls to another
 pub jump_fits : (p : Context) (y : Targets) (kind : NodeKind) (n : NodeId) → IsTrue (has_kind p y kind) → falls_to kind ≡ Some n →
@@ -50,7 +50,7 @@ jump_fits p y (Assign to value next) n has falls = omega arith
 jump_fits p y (Store width aligned address value next) n has falls = omega arith
 jump_fits p y (Branch test then_ otherwise) n has falls = omega arith
 jump_fits p y (Switch value arms otherwise) n has falls = omega arith
-jump_fits p y (Call site callee arguments exits) n has falls = absurd (cc)
+jump_fits p y (Call site callee arguments exits) n has falls = omega arith
 jump_fits p y (Yield site values exits) n has falls = absurd (cc)
 jump_fits p y (Jump callee arguments) n has falls = absurd (cc)
 jump_fits p y (Cut to arguments own) n has falls = absurd (cc)
@@ -62,6 +62,10 @@ jump_fits p y Stop n has falls = absurd (cc)
 named : (p : Context) (m n : NodeId) → IsTrue (has_node p m) → m ≡ n → n.number < length p.nodes
 named p m n has same = subst (λ (z : NodeId). z.number < length p.nodes) same (grind (arith, nat_tests, has))
 
+of_normal : (p : Context) (o : Option NodeId) (n : NodeId) → IsTrue (elim o [ Some n ↦ has_node p n | None ↦ true ]) → o ≡ Some n → n.number < length p.nodes
+of_normal p (Some m) n has same = named p m n has (cc)
+of_normal p None n has same = absurd (cc)
+
 -- the node to which a node falls is there
 pub falls_within : (p : Context) (y : Targets) (kind : NodeKind) (n : NodeId) → IsTrue (has_kind p y kind) → falls_to kind ≡ Some n → n.number < length p.nodes
 falls_within p y (Entry formals next) n has falls = named p next n (grind (arith, has)) (cc)
@@ -70,7 +74,7 @@ falls_within p y (Assign to value next) n has falls = named p next n (grind (ari
 falls_within p y (Store width aligned address value next) n has falls = named p next n (grind (arith, has)) (cc)
 falls_within p y (Branch test then_ otherwise) n has falls = named p otherwise n (grind (arith, has)) (cc)
 falls_within p y (Switch value arms otherwise) n has falls = named p otherwise n (grind (arith, has)) (cc)
-falls_within p y (Call site callee arguments exits) n has falls = absurd (cc)
+falls_within p y (Call site callee arguments exits) n has falls = of_normal p exits.normal n (grind (arith, has)) falls
 falls_within p y (Yield site values exits) n has falls = absurd (cc)
 falls_within p y (Jump callee arguments) n has falls = absurd (cc)
 falls_within p y (Cut to arguments own) n has falls = absurd (cc)

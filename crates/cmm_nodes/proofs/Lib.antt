@@ -4,3 +4,8 @@ mod Assigning
 mod Labels
 mod Leading
 mod Placing
+mod Calls
+mod Waiting
+mod Summing
+mod Covering
+mod Own

@@ -10,13 +10,12 @@ use Rattle.cmm_bitset.specs.Sets.{has, member_count}
 use Rattle.cmm_graph.specs.declared.graph.Graph.{Graph}
 use Rattle.cmm_graph.specs.declared.node.Node.{Node}
 use Rattle.cmm_graph.specs.declared.number.NodeId.{NodeId}
-use Rattle.cmm_coded.specs.NodeCode.{IsCodeOf}
 use Rattle.cmm_nodes.specs.declared.context.Context.{Context}
 use Rattle.cmm_nodes.specs.declared.context.Targets.{Targets}
 use Rattle.cmm_nodes.specs.Costs.{cost_of}
-use Rattle.cmm_nodes.specs.Laying.{AreLaid, CodesAlone, EndsAt, HaveCode, IsPending, StandsHere}
+use Rattle.cmm_nodes.specs.Laying.{AreLaid, CodesAlone, EndsAt, HaveCode, IsPending, SitesWait, StandsHere}
 use Rattle.cmm_nodes.specs.Naming.{label_at}
-use Rattle.cmm_nodes.specs.Standing.{IsReady}
+use Rattle.cmm_nodes.specs.Standing.{HasCode, IsReady}
 
 -- a new member is one more
 pub one_member_more : (set_ : List Bool) (n : ℕ) → n < length set_ → has set_ n ≡ false → member_count (set set_ n true) ≡ suc (member_count set_)
@@ -46,7 +45,7 @@ module _ (p : Context) (y : Targets) (g : Graph) where
   pub node_stands : (k : ℕ) (node : Node) → slice_get g.nodes k ≡ Some node → (x : Code) (from to : ℕ) → CodesAlone p y node.kind x from to → StandsHere p y g k x from to
   node_stands k node is x from to codes other same s c l f q is-x of at =
       let e : node ≡ other = cc in
-      subst (λ (z : Node). IsCodeOf s c l f q (record { number = k }) z.kind (cost_of p y z.kind)) e (codes s c l f q (record { number = k }) is-x of at)
+      subst (λ (z : Node). HasCode s c l f q (record { number = k }) z.kind (cost_of p y z.kind)) e (codes s c l f q (record { number = k }) is-x of at)
 
   -- the node that may still come gets its code
   pub code_comes : (labels : List Meaning) (placed : List Bool) (n : NodeId) (old new : List Part) → IsPending p y g labels placed n old →
@@ -59,10 +58,11 @@ module _ (p : Context) (y : Targets) (g : Graph) where
 
   -- and then another has its place at the end
   pub place_comes : (labels : List Meaning) (old new : List Bool) (n : NodeId) (parts : List Part) → EndsAt p n old new parts → IsReady labels p y → AreLaid labels p new →
-      length old ≡ length p.nodes → HaveCode p y g old None parts → IsPending p y g labels new n parts
-  place_comes labels old new n parts ends ready laid size have = record {
+      SitesWait p g labels new (Some n) → length old ≡ length p.nodes → HaveCode p y g old None parts → IsPending p y g labels new n parts
+  place_comes labels old new n parts ends ready laid waits size have = record {
     ready = ready;
     laid = laid;
+    waits = waits;
     within = ends.within;
     member = rw ends.placed (has-set_same old n.number true (omega (arith, size, ends.within)));
     front = ends.front;

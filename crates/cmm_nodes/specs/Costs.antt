@@ -1,5 +1,5 @@
 -- How many instructions the code of nodes has at most. A jump may follow it.
-use Rattle.std.specs.Prelude.{ℕ, ◌+◌, ◌-◌, ◌*◌, List, length}
+use Rattle.std.specs.Prelude.{ℕ, ◌+◌, ◌-◌, ◌*◌, List, length, sum_by}
 use Rattle.cmm_words.specs.declared.width.Width.{Width}
 use Rattle.cmm_program.specs.declared.procedure.Target.{Target}
 use Rattle.cmm_graph.specs.declared.number.Variable.{Variable}
@@ -9,10 +9,12 @@ use Rattle.cmm_graph.specs.declared.operand.Operand.{Operand}
 use Rattle.cmm_graph.specs.declared.operand.Rvalue.{Rvalue}
 use Rattle.cmm_graph.specs.declared.operand.Rvalue.TheVariants as rvalue
 use Rattle.cmm_graph.specs.declared.node.Arm.{Arm}
+use Rattle.cmm_graph.specs.declared.node.Exits.{Exits}
 use Rattle.cmm_graph.specs.declared.node.HostCall.{HostCall}
 use Rattle.cmm_graph.specs.declared.node.HostCall.TheVariants as host
+use Rattle.cmm_graph.specs.declared.node.Node.{Node}
 use Rattle.cmm_graph.specs.declared.node.NodeKind.{NodeKind}
-use Rattle.cmm_graph.specs.declared.node.NodeKind.TheVariants.{Entry, CopyIn, Assign, Store, Branch, Switch, Jump, Cut, Return, Host, Goto, Stop}
+use Rattle.cmm_graph.specs.declared.node.NodeKind.TheVariants.{Entry, CopyIn, Assign, Store, Branch, Switch, Call, Jump, Cut, Return, Host, Goto, Stop}
 use Rattle.cmm_select.specs.Memory.{accesses}
 use Rattle.cmm_select.specs.Operands.{most_for}
 use Rattle.cmm_select.specs.Operators.{shifts_of}
@@ -81,6 +83,10 @@ module _ (p : Context) (y : Targets) where
   abbrev pub jump_to_cost : List Argument → ℕ
   jump_to_cost arguments = parting_cost p.frame (argument_operands p y arguments) + callee_cost
 
+  -- with the jumps of the exits, which stand behind the call, and what leads on behind them
+  abbrev pub call_cost : List Argument → Exits → ℕ
+  call_cost arguments exits = 12 * length arguments + callee_cost + (3 * length exits.returns + 2)
+
   abbrev pub cut_cost : Operand → List Argument → ℕ
   cut_cost to arguments = operand_cost to + (12 * length arguments + 3)
 
@@ -92,9 +98,14 @@ module _ (p : Context) (y : Targets) where
   cost_of (Store width aligned address value next) = store_cost width aligned address value + jump_cost
   cost_of (Branch test then_ otherwise) = branch_cost test + jump_cost
   cost_of (Switch value arms otherwise) = switch_cost value arms + jump_cost
+  cost_of (Call site callee arguments exits) = call_cost arguments exits + jump_cost
   cost_of (Jump callee arguments) = jump_to_cost arguments
   cost_of (Cut to arguments own) = cut_cost to arguments
   cost_of (Return exit alternates results) = return_cost results + 3
   cost_of (Host call next) = host_cost call + jump_cost
   cost_of (Goto next) = 1 + jump_cost
   cost_of _ = 1
+
+  -- of several nodes together
+  abbrev pub total_cost : List Node → ℕ
+  total_cost nodes = sum_by (λ node. cost_of node.kind) nodes

@@ -2,3 +2,4 @@ pub mod Naming
 pub mod Costs
 pub mod Standing
 pub mod Laying
+pub mod Laws

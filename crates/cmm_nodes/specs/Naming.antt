@@ -1,5 +1,5 @@
 -- What code has for what nodes name: places of the activation, offsets of its frame, and labels.
-use Rattle.std.specs.Prelude.{◌≡◌, ℕ, ◌+◌, ◌<◌, ◌^◌, ◌&&◌, nat_le, nat_lt, Bool, true, false, List, length, map, slice_index_or}
+use Rattle.std.specs.Prelude.{◌≡◌, ℕ, ◌+◌, ◌<◌, ◌^◌, ◌&&◌, nat_le, nat_lt, Bool, true, false, List, length, map, slice_index_or, Some, None}
 use Rattle.std.specs.List.{list_all}
 use Rattle.cmm_words.specs.declared.constant.Constant.{Constant}
 use Rattle.cmm_words.specs.declared.constant.Constant.TheVariants as constant
@@ -8,7 +8,9 @@ use Rattle.cmm_chain.specs.declared.frame.Location.TheVariants.{Slot}
 use Rattle.cmm_chain.specs.Plans.{is_place}
 use Rattle.cmm_program.specs.declared.procedure.Target.{Target}
 use Rattle.cmm_program.specs.declared.procedure.Target.TheVariants as target
+use Rattle.cmm_graph.specs.declared.number.ContinuationId.{ContinuationId}
 use Rattle.cmm_graph.specs.declared.number.NodeId.{NodeId}
+use Rattle.cmm_graph.specs.declared.number.SiteId.{SiteId}
 use Rattle.cmm_graph.specs.declared.number.Variable.{Variable}
 use Rattle.cmm_graph.specs.declared.operand.Argument.{Argument}
 use Rattle.cmm_graph.specs.declared.operand.Comparison.{Comparison}
@@ -21,10 +23,12 @@ use Rattle.cmm_graph.specs.declared.operand.Operand.TheVariants as operand
 use Rattle.cmm_graph.specs.declared.operand.Rvalue.{Rvalue}
 use Rattle.cmm_graph.specs.declared.operand.Rvalue.TheVariants as rvalue
 use Rattle.cmm_graph.specs.declared.node.Arm.{Arm}
+use Rattle.cmm_graph.specs.declared.node.Exits.{Exits}
 use Rattle.cmm_graph.specs.declared.node.HostCall.{HostCall}
 use Rattle.cmm_graph.specs.declared.node.HostCall.TheVariants as host
 use Rattle.cmm_graph.specs.declared.node.NodeKind.{NodeKind}
-use Rattle.cmm_graph.specs.declared.node.NodeKind.TheVariants.{Entry, CopyIn, Assign, Store, Branch, Switch, Jump, Cut, Return, Host, Goto, Stop}
+use Rattle.cmm_graph.specs.declared.node.NodeKind.TheVariants.{Entry, CopyIn, Assign, Store, Branch, Switch, Call, Jump, Cut, Return, Host, Goto, Stop}
+use Rattle.rv_asm.specs.Assembly.{table_limit}
 use Rattle.rv_asm.specs.declared.part.Label.{Label}
 use Rattle.cmm_select.specs.declared.destination.Destination.{Destination as CodeDestination}
 use Rattle.cmm_select.specs.declared.destination.Destination.TheVariants as into
@@ -54,6 +58,26 @@ module _ (p : Context) where
 
   abbrev pub has_node : NodeId → Bool
   has_node n = nat_lt n.number (length p.nodes)
+
+  -- the label of a site
+  abbrev pub site_label : SiteId → Label
+  site_label site = label_at p.sites site.number
+
+  abbrev pub has_site : SiteId → Bool
+  has_site site = nat_lt site.number (length p.sites)
+
+  -- the landings of continuations
+  abbrev pub landing_labels : List ContinuationId → List Label
+  landing_labels ks = map (λ k. label_at p.landings k.number) ks
+
+  abbrev pub has_landing : ContinuationId → Bool
+  has_landing k = nat_lt k.number (length p.landings)
+
+  -- control comes back by few exits, each to what is there
+  abbrev pub can_come_back : Exits → Bool
+  can_come_back exits =
+      list_all has_landing exits.returns && nat_le (length exits.returns) table_limit
+      && elim exits.normal [ Some n ↦ has_node n | None ↦ true ]
 
   -- values come to places of the frame, none of them to one in which a later one comes
   abbrev pub can_take : List Location → Bool
@@ -157,7 +181,7 @@ module _ (p : Context) (y : Targets) where
   has_call (host.PutByte value) = has_operand value
   has_call (host.GetByte to) = has_target to
 
-  -- ---- nodes, of the kinds that are done so far: those at which no activation waits, and to which none comes back
+  -- ---- nodes, of the kinds that are done so far: all but yields
 
   abbrev pub argument_operands : List Argument → List CodeOperand
   argument_operands arguments = map argument_operand arguments
@@ -171,6 +195,10 @@ module _ (p : Context) (y : Targets) where
   can_go_to to arguments =
       has_operand to && is_operand p.frame (code_operand to) && list_all has_argument arguments && can_give (argument_operands arguments)
 
+  -- a procedure is called, and its activation comes back to a site
+  abbrev pub can_call : SiteId → Operand → List Argument → Exits → Bool
+  can_call site callee arguments exits = has_site p site && can_go_to callee arguments && can_come_back p exits
+
   abbrev pub can_return : ℕ → List Argument → Bool
   can_return exit results = list_all has_argument results && can_give (argument_operands results) && nat_lt exit 512
 
@@ -181,6 +209,7 @@ module _ (p : Context) (y : Targets) where
   has_kind (Store width aligned address value next) = has_operand address && has_operand value && has_node p next
   has_kind (Branch test then_ otherwise) = has_both test && has_node p then_ && has_node p otherwise
   has_kind (Switch value arms otherwise) = has_operand value && list_all has_arm arms && has_node p otherwise
+  has_kind (Call site callee arguments exits) = can_call site callee arguments exits
   has_kind (Jump callee arguments) = can_go_to callee arguments
   has_kind (Cut to arguments own) = can_go_to to arguments
   has_kind (Return exit alternates results) = can_return exit results

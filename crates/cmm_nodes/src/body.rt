@@ -9,9 +9,10 @@ ghost use Rattle.cmm_graph.specs.declared.node.HostCall.TheVariants as host;
 ghost use Rattle.cmm_changes.specs.Pieces.{Adds};
 ghost use Rattle.cmm_nodes.specs.Naming.{has_arm, has_both, has_call, has_kind, has_node, has_operand, has_target};
 ghost use Rattle.cmm_nodes.specs.Costs.{branch_cost, cost_of, host_cost, jump_of, store_cost, switch_cost};
-ghost use Rattle.cmm_nodes.specs.Standing.{CodesNode, IsReady};
+ghost use Rattle.cmm_nodes.specs.Standing.{CanWait, CodesNode, CodesWhole, IsReady, labels_with};
 
 use crate::assign::assign_body;
+use crate::calling::call_body;
 use crate::context::{Context, Targets};
 use crate::operand::{code_operand, target_destination};
 use crate::transfer::{copy_in_body, cut_body, entry_body, jump_body, return_body};
@@ -170,8 +171,9 @@ pub(crate) fn body(
 ) -> Result<(), AllocError>
     requires ready { IsReady asm.old.labels context.now targets.now }
     requires kind { IsTrue (has_kind context.now targets.now kind.now) }
-    ensures code { OnOk result (Adds (cost_of context.now targets.now kind.now - jump_of kind.now) asm.old.parts asm.new.parts (CodesNode context.now targets.now kind.now)) }
-    ensures labels { asm.new.labels ≡ asm.old.labels }
+    requires waits { CanWait context.now kind.now asm.old.labels }
+    ensures code { OnOk result (Adds (cost_of context.now targets.now kind.now - jump_of kind.now) asm.old.parts asm.new.parts (CodesWhole context.now targets.now kind.now)) }
+    ensures labels { OnOk result (asm.new.labels ≡ labels_with context.now kind.now asm.old.labels) }
 {
     match kind {
         NodeKind::Entry { formals, .. } => {
@@ -202,6 +204,24 @@ pub(crate) fn body(
         }
         NodeKind::Switch { value, arms, .. } => {
             switch_body(asm, context, targets, *value, arms.as_slice())?;
+            Ok(())
+        }
+        NodeKind::Call {
+            site,
+            callee,
+            arguments,
+            exits,
+        } => {
+            call_body(
+                asm,
+                alloc,
+                context,
+                targets,
+                *site,
+                *callee,
+                arguments.as_slice(),
+                exits,
+            )?;
             Ok(())
         }
         NodeKind::Jump { callee, arguments } => {

@@ -18,6 +18,8 @@ pub struct Context {
     pub landings: Items<Label>,
     /// The label of each node.
     pub nodes: Items<Label>,
+    /// The label of each site, where control comes back to a node that waits there.
+    pub sites: Items<Label>,
 }
 
 /// The labels of a program, for what its nodes name outside of their procedure.

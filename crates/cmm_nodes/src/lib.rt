@@ -7,13 +7,16 @@
 //! - `context`: what the code of a procedure's nodes is made over, and the labels of the program.
 //! - `operand`: the operands of code for those of nodes.
 //! - `body`: the code of each kind of node, but for how control comes to the node that it falls to. `assign`: that of assignments. `transfer`: that by
-//!   which a procedure begins and is left.
+//!   which a procedure begins and is left. `calling`: that of calls, with the exits by which they come back.
 //! - `laying`: the order in which nodes stand in code.
+//! - `laws`: what holds of it.
 #![tactic(auto)]
 
 mod assign;
 mod body;
+mod calling;
 mod context;
+pub mod laws;
 mod laying;
 mod operand;
 mod transfer;

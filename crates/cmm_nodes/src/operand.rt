@@ -3,15 +3,16 @@
 ghost use Rattle.std.specs.Prelude.{◌≡◌, IsTrue, IfOk};
 ghost use Rattle.std.specs.List.{list_all};
 ghost use Rattle.cmm_graph.specs.declared.operand.Local.TheVariants as local;
-ghost use Rattle.cmm_nodes.specs.Naming.{argument_operands, code_destination, code_operand, constant_operand, has_argument, has_constant, has_destination, has_local, has_operand, has_target, place, target_destination, target_destinations, variable_places};
+ghost use Rattle.cmm_nodes.specs.Naming.{argument_operands, code_destination, code_operand, constant_operand, has_argument, has_constant, has_destination, has_landing, has_local, has_operand, has_target, landing_labels, place, target_destination, target_destinations, variable_places};
 
 use crate::context::{Context, Targets};
 use cmm_chain::Location;
-use cmm_graph::{Argument, Destination, Local, Operand, Variable};
+use cmm_graph::{Argument, ContinuationId, Destination, Local, Operand, Variable};
 use cmm_items::Items;
 use cmm_program::Target;
 use cmm_select::{Destination as CodeDestination, Operand as CodeOperand, Source};
 use cmm_words::Constant;
+use rv_asm::Label;
 use std::alloc::{AllocError, Global};
 
 /// The place of a local.
@@ -145,4 +146,20 @@ pub(crate) fn target_destinations(
         destinations.push(target_destination(context, targets, *target))?;
     }
     Ok(destinations)
+}
+
+/// The labels of the landings of continuations.
+pub(crate) fn landing_labels(
+    alloc: Global,
+    context: &Context,
+    continuations: &[ContinuationId],
+) -> Result<Items<Label>, AllocError>
+    requires { IsTrue (list_all (has_landing context.now) continuations.now) }
+    ensures { IfOk result (λ labels. labels ≡ landing_labels context.now continuations.now) }
+{
+    let mut labels = Items::new(alloc);
+    for continuation in continuations {
+        labels.push(context.landings.as_slice()[continuation.number as usize])?;
+    }
+    Ok(labels)
 }

@@ -84,7 +84,7 @@ pub(crate) fn return_body(
 }
 
 /// The label of the procedure that an operand names.
-fn named_label(context: &Context, targets: &Targets, callee: Operand) -> Option<Label>
+pub(crate) fn named_label(context: &Context, targets: &Targets, callee: Operand) -> Option<Label>
     requires { IsTrue (has_operand context.now targets.now callee) }
     ensures { IfSome result (IsNamed targets.now callee) }
 {

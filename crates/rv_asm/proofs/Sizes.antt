@@ -1,8 +1,9 @@
 -- The bytes of parts, added up, and the instructions of the parts before an index.
-use Rattle.std.proofs.Common.{◌≡◌, ℕ, zero, suc, ◌+◌, ◌*◌, ◌%◌, ◌≤◌, refl, arith, List, [], ◌∷◌, ◌++◌, length, length-append, take, append_assoc, append-nil, Some}
+use Rattle.std.proofs.Common.{◌≡◌, ℕ, zero, suc, ◌+◌, ◌*◌, ◌%◌, ◌≤◌, ◌^◌, refl, arith, List, [], ◌∷◌, ◌++◌, length, length-append, take, append_assoc, append-nil, Some}
 use Rattle.std.specs.Prelude.{slice_get}
 use Rattle.std.proofs.Math.Seq.{take-suc}
 use Rattle.std.proofs.lemmas.Option.{slice_get_within, get_or_from_slice_get}
+use Rattle.rv_asm.specs.Assembly.{Fits}
 use Rattle.rv_asm.specs.Sizes.{all_longest, longest}
 use Rattle.rv_asm.specs.inside.Forms.{all_instructions, entries, far_jumps, fix_of, fixes_of, instructions}
 use Rattle.rv_asm.specs.declared.part.Label.{Label}
@@ -32,6 +33,16 @@ longest_more ps i p is = rw (next_part ps i p is, longest-append (take i ps) (p 
 
 pub longest_within : (ps : List Part) (i : ℕ) (p : Part) → slice_get ps i ≡ Some p → all_longest (take i ps) + longest p ≤ all_longest ps
 longest_within ps i p is = omega (arith, longest_more ps i p is, longest-take ps (i + 1))
+
+-- a part that fits is short
+pub longest_short : (labels : List Meaning) (p : Part) → Fits labels p → longest p ≤ 2 ^ 10
+longest_short labels (Single i) fits = omega arith
+longest_short labels (Place l) fits = omega arith
+longest_short labels (Branch c a b l) fits = omega arith
+longest_short labels (Jump l) fits = omega arith
+longest_short labels (Call l) fits = omega arith
+longest_short labels (Address rd l) fits = omega arith
+longest_short labels (Table ls) fits = omega (arith, fits.1)
 
 pub longest_aligned : (p : Part) → longest p % 4 ≡ 0
 longest_aligned (Single i) = refl

@@ -1,14 +1,14 @@
 //! A list of parts that grows at its end.
 
-ghost use Rattle.std.specs.Prelude.{◌≡◌, ◌≢◌, ◌%◌, ◌+◌, ◌<◌, ◌≤◌, ◌^◌, ◌++◌, ◌∷◌, [], length, Some, IsTrue, true, false, slice_get, slice_set, IfOk, OnOk, OnErr};
+ghost use Rattle.std.specs.Prelude.{◌≡◌, ◌≢◌, ◌%◌, ◌+◌, ◌<◌, ◌≤◌, ◌^◌, ◌↔◌, ◌++◌, ◌∷◌, [], length, Some, IsTrue, true, false, slice_get, slice_set, IfOk, OnOk, OnErr};
 ghost use Rattle.std.specs.List.{All};
 ghost use Rattle.rv_table.specs.Table.{IsValid};
 ghost use Rattle.rv_asm.specs.Filling.{AreApart};
 ghost use Rattle.rv_asm.specs.Finishing.{HavePlaces, RunAsParts, fix_symbols, symbols_of};
 ghost use Rattle.rv_asm.specs.Sizes.{all_longest};
-ghost use Rattle.rv_asm.specs.Assembly.{Fits, IsInner, IsLabel, IsTarget, has_branch, table_limit};
+ghost use Rattle.rv_asm.specs.Assembly.{ArePlaced, Fits, IsInner, IsLabel, IsTarget, has_branch, table_limit};
 
-use crate::finishing::{Placed, finish};
+use crate::finishing::{Placed, finish, fits};
 use crate::part::{Label, Meaning, Part};
 use cmm_items::Items;
 use cmm_words::Cmp;
@@ -50,6 +50,28 @@ impl Asm {
             used: 0,
             labels: Vec::new(alloc),
         }
+    }
+
+    /// How many labels were made.
+    pub fn label_count(&self) -> usize
+        ensures { result ≡ length self.now.labels }
+    {
+        self.labels.len()
+    }
+
+    /// Whether the parts have room below 2^30 from an address on, each in its longest form: what `finish` asks.
+    pub fn fits(&self, base: u64) -> bool
+        requires { base ≤ 2 ^ 30 }
+        ensures { IsTrue result ↔ (base + all_longest self.now.parts ≤ 2 ^ 30) }
+    {
+        fits(&self.room[..self.used], &self.labels, base)
+    }
+
+    /// Tells that each label with a place among the parts is known to have one.
+    pub fn placed_labels(&self)
+        ensures { ArePlaced self.now.labels self.now.parts }
+    {
+        let _ = &self.labels;
     }
 
     /// Makes a label for a place in the code. An error is want of memory, and nothing is changed.
@@ -176,6 +198,8 @@ impl Asm {
         ensures places { IfOk result (λ p. HavePlaces self.labels self.parts base (length p.bytes) p.places) }
         ensures symbols { IfOk result (λ p. fix_symbols p.fixes ≡ symbols_of self.labels self.parts) }
         ensures apart { IfOk result (λ p. AreApart 0 p.fixes (length p.bytes)) }
+        ensures whole { IfOk result (λ p. length p.bytes % 4 ≡ 0) }
+        ensures fit { IfOk result (λ p. All (Fits self.labels) self.parts) }
     {
         finish(self.alloc, &self.room[..self.used], &self.labels, base)
     }

@@ -1,6 +1,6 @@
 //! From parts to bytes.
 
-ghost use Rattle.std.specs.Prelude.{◌≡◌, ℕ, ◌+◌, ◌%◌, ◌^◌, ◌≤◌, ◌++◌, length, IfOk, OnOk};
+ghost use Rattle.std.specs.Prelude.{◌≡◌, ℕ, ◌+◌, ◌%◌, ◌^◌, ◌≤◌, ◌↔◌, ◌++◌, length, IfOk, OnOk, IsTrue};
 ghost use Rattle.std.specs.List.{All};
 ghost use Rattle.rv_table.specs.Stands.{code_of};
 ghost use Rattle.rv_asm.specs.Assembly.{Fits};
@@ -15,6 +15,9 @@ use crate::form::{add_part, size};
 use crate::part::{Label, Meaning, Part};
 use cmm_items::Items;
 use std::alloc::{AllocError, Global};
+
+/// Where code ends at the latest.
+const LIMIT: u64 = 1 << 30;
 
 /// Finished code.
 #[derive(Debug, Drop)]
@@ -42,6 +45,7 @@ pub fn finish(
     ensures places { IfOk result (λ p. HavePlaces labels.now parts.now base (length p.bytes) p.places) }
     ensures symbols { IfOk result (λ p. fix_symbols p.fixes ≡ symbols_of labels.now parts.now) }
     ensures apart { IfOk result (λ p. AreApart 0 p.fixes (length p.bytes)) }
+    ensures whole { IfOk result (λ p. length p.bytes % 4 ≡ 0) }
 {
     let places = places_of(alloc, parts, labels, base)?;
     let bytes = bytes_of(alloc, parts, labels, &places, base)?;
@@ -51,6 +55,22 @@ pub fn finish(
         places: Items::from_vec(places),
         fixes: Items::from_vec(fixes),
     })
+}
+
+/// Whether the parts, each in its longest form, end at 2^30 or before, if they begin at an address.
+pub fn fits(parts: &[Part], labels: &[Meaning], base: u64) -> bool
+    requires fit { All (Fits labels.now) parts.now }
+    requires base { base ≤ 2 ^ 30 }
+    ensures { IsTrue result ↔ (base + all_longest parts.now ≤ 2 ^ 30) }
+{
+    let mut end = base;
+    for part in parts {
+        end += size(part);
+        if end > LIMIT {
+            return false;
+        }
+    }
+    true
 }
 
 /// The address of each label that is placed, and 0 for every other one.

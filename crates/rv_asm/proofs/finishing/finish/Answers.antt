@@ -3,6 +3,7 @@ use Rattle.rv_table.specs.Stands.{code_of}
 use Rattle.rv_asm.proofs.Finished.{code_size, run_as_parts}
 use Rattle.rv_asm.proofs.Fixes.{fixes_apart, symbols_are}
 use Rattle.rv_asm.proofs.Places.{have_places}
+use Rattle.rv_asm.proofs.Sizes.{all_aligned}
 use Rattle.rv_asm.specs.inside.Forms.{code_by, fixes_of, unfilled}
 use Rattle.rv_asm.proofs.finishing.finish.Goals as goal
 
@@ -50,3 +51,9 @@ returns-clause-places c =
     rw (c.from_vec-2.ensures, c.from_vec.ensures, c.in_ok-bytes.ensures)
     (have_places labels parts c.args.base places (length bytes) c.requires.aligned (code_size labels c.deref.result.now unfilled c.args.base parts)
     c.in_ok-places.ensures)
+
+pub returns-clause-whole : goal.returns-clause-whole
+returns-clause-whole c =
+    let labels = c.args.labels.now in
+    let parts = c.args.parts.now in
+    rw (c.from_vec.ensures, c.in_ok-bytes.ensures, code_size labels c.deref.result.now unfilled c.args.base parts) (all_aligned parts)

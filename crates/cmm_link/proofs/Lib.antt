@@ -1,0 +1,13 @@
+mod Tokens
+mod Frames
+mod SavedRows
+mod ProcedureRows
+mod ProcedureTable
+mod Placements
+mod Short
+mod Codes
+mod KeptLabels
+mod Exports
+mod Sizes
+mod Images
+mod SmallRows

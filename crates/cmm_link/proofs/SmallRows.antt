@@ -1,0 +1,175 @@
+-- A worked row: what is asked of a program, its frames, its data and its code is met by a small one, and these are the rows of its image.
+--     export t as "u"; register bits32 g; section "data" { t: bits64 { main }; }
+--     main() { bits64 x; return (x); continuation k(x): return (x); }
+use Rattle.std.proofs.Common.{◌≡◌, ℕ, false, IsTrue, List, [], ◌∷◌, None, Some, refl, ap, lit<, lit≤}
+use Rattle.std.proofs.lemmas.List.Elements.{All-cons, All-nil}
+use Rattle.cmm_words.specs.declared.constant.Constant.TheVariants.{Code}
+use Rattle.cmm_words.specs.declared.width.Width.TheVariants.{W32, W64}
+use Rattle.cmm_program.proofs.Shared.{opened}
+use Rattle.cmm_program.proofs.Shared.{datum, global, is, local, procedure, program}
+use Rattle.cmm_program.specs.declared.procedure.Proc.{Proc}
+use Rattle.cmm_program.specs.declared.program.Label.{Label}
+use Rattle.cmm_program.specs.declared.program.Program.{Program}
+use Rattle.cmm_program.specs.declared.statement.Form.TheVariants as form
+use Rattle.cmm_program.specs.declared.statement.Statement.{Statement}
+use Rattle.cmm_program.specs.InRange.{IsInRange, IsProcInRange}
+use Rattle.cmm_chain.specs.declared.frame.Frame.{Frame}
+use Rattle.cmm_chain.specs.declared.frame.Location.TheVariants.{Slot}
+use Rattle.cmm_located.specs.Layouts.{IsFrameOf}
+use Rattle.cmm_data.specs.declared.layout.DataImage.{DataImage}
+use Rattle.cmm_image.specs.declared.rows.LabelRow.{LabelRow}
+use Rattle.cmm_image.specs.declared.rows.ProcRow.{ProcRow}
+use Rattle.cmm_places.specs.declared.procedure.ProcedurePlaces.{ProcedurePlaces}
+use Rattle.cmm_places.specs.Placing.{placement_rows}
+use Rattle.cmm_link.specs.declared.text.Text.{Text}
+use Rattle.cmm_link.specs.Labels.{exports, names_ascend}
+use Rattle.cmm_link.specs.Linked.{IsDataOf}
+use Rattle.cmm_link.specs.Placements.{place_row_of}
+use Rattle.cmm_link.specs.Rooms.{HasRoom}
+use Rattle.cmm_link.specs.Rows.{procedure_rows}
+use Rattle.cmm_link.specs.Texts.{IsText}
+use Rattle.cmm_link.specs.inside.Kept.{kept_after}
+use Rattle.cmm_link.proofs.Images.{AreGiven}
+
+-- ---- the program
+
+abbrev body : List Statement
+body = is 5 (form.Return 0 0 (local 0 ∷ [])) ∷ is 6 (form.Continuation 0) ∷ is 5 (form.Return 0 0 (local 0 ∷ [])) ∷ []
+
+abbrev main : Proc
+main = record (procedure (109 ∷ []) 30 0 1 [] body) { conts = record { params = 0 ∷ [] } ∷ [] }
+
+abbrev table : Label
+table = record { name = 116 ∷ []; links = (117 ∷ []) ∷ []; datum = 0; at_end = false }
+
+abbrev p : Program
+p = record (program (main ∷ [])) { datums = datum 8 8 W64 (Code 0 0 ∷ []) ∷ []; globals = global (103 ∷ []) W32 ∷ []; labels = table ∷ [] }
+
+in_range : IsProcInRange p main
+unfolding opened
+in_range = record {
+  name = refl;
+  unit = lit< tt;
+  formals = refl;
+  variables = lit≤ tt;
+  kinds = refl;
+  frames = record { items = refl; stackdata = lit≤ tt; tokens = lit≤ tt };
+  continuations = refl;
+  sites = refl;
+  body = refl;
+  labels_numbered = refl;
+  continuations_numbered = refl;
+  sites_numbered = refl;
+  shortest = lit≤ tt;
+  counts = lit≤ tt;
+}
+
+range : IsInRange p
+unfolding opened
+range = record {
+  procedures = All-cons (IsProcInRange p) main [] in_range (All-nil (IsProcInRange p));
+  procedure_count = lit≤ tt;
+  main = lit< tt;
+  main_formals = λ q is. let same : q ≡ main = cc in ap (λ (q : Proc). q.formals) same;
+  datums = refl;
+  datum_count = lit< tt;
+  data_size = lit≤ tt;
+  labels = refl;
+  label_count = lit< tt;
+  registers = lit≤ tt;
+  register_names = refl;
+  tokens = lit≤ tt;
+  site_variables = lit≤ tt;
+  site_spans = lit≤ tt;
+}
+
+-- ---- its frame, its data and its code
+
+abbrev frame : Frame
+frame = record { size = 32; return_at = 8; saved = []; pairs = 16 ∷ []; stack = [] }
+
+abbrev places : List ProcedurePlaces
+places = record { locals = Slot 0 ∷ []; frame = frame; live = record { before = []; sites = []; cuts = [] }; zeroed = [] } ∷ []
+
+is_frame : IsFrameOf main (Slot 0 ∷ []) frame
+unfolding opened
+is_frame = record {
+  placed = λ code is. rw is refl;
+  laid = refl;
+  locals = refl;
+  registers = refl;
+  clear = refl;
+}
+
+abbrev laid : DataImage
+laid = record { bytes = 0 ∷ 0 ∷ 0 ∷ 0 ∷ 0 ∷ 0 ∷ 0 ∷ 0 ∷ []; addresses = 0x40000000 ∷ []; fixes = record { place = 0; procedure = 0; plus = 0 } ∷ [] }
+
+is_data : IsDataOf p laid
+unfolding opened
+is_data = record { addresses = refl; bytes = λ placement. refl; size = refl; apart = (lit≤ tt, lit≤ tt) }
+
+-- two instructions that do nothing; a cut to the continuation lands at the second
+abbrev text : Text
+text = record { code = 19 ∷ 0 ∷ 0 ∷ 0 ∷ 19 ∷ 0 ∷ 0 ∷ 0 ∷ []; start = 65536; last = 65540; procedures = 65536 ∷ []; landings = (65540 ∷ []) ∷ [] }
+
+is_text : IsText p text
+unfolding opened
+is_text = record {
+  size = refl;
+  start = refl;
+  last = refl;
+  count = refl;
+  procedures = refl;
+  ascending = refl;
+  counts = (refl, tt);
+  landings = refl;
+}
+
+room : HasRoom p text
+unfolding opened
+room = record { code = lit≤ tt; tokens = lit≤ tt }
+
+given : AreGiven p places laid text
+unfolding opened
+given = record { range = range; frames = (is_frame, tt); laid = is_data; text = is_text; room = room; globals = refl }
+
+-- ---- the rows of its image
+
+abbrev row : ProcRow
+row = record {
+  code = 65536;
+  name = 109 ∷ [];
+  frame = 32;
+  return_at = Some 8;
+  saved = [];
+  variables = record { width = W64; invariant = false; kind = [] } ∷ [];
+  stack_labels = [];
+  continuations = record { pair = 16; code = 65540; parameters = record { 0 = 0 } ∷ [] } ∷ [];
+}
+
+the_rows : procedure_rows p.procs places text.procedures text.landings ≡ row ∷ []
+unfolding opened
+the_rows = refl
+
+the_exports : exports p ≡ record { name = 117 ∷ []; address = 0x40000000 } ∷ []
+unfolding opened
+the_exports = refl
+
+the_placement : placement_rows places text.procedures ≡ place_row_of row ∷ []
+unfolding opened
+the_placement = refl
+
+-- ---- names in order
+
+abbrev named : ℕ → ℕ → LabelRow
+named letter address = record { name = letter ∷ []; address = address }
+
+-- of two rows with one name the first is kept
+once : kept_after None (named 97 1 ∷ named 97 2 ∷ named 98 3 ∷ []) ≡ named 97 1 ∷ named 98 3 ∷ []
+once = refl
+
+ascend : IsTrue (names_ascend ((97 ∷ []) ∷ (97 ∷ 0 ∷ []) ∷ (98 ∷ []) ∷ []))
+ascend = refl
+
+twice : names_ascend ((97 ∷ []) ∷ (97 ∷ []) ∷ []) ≡ false
+twice = refl

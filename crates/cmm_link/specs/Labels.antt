@@ -1,0 +1,35 @@
+-- The data labels that a program exports, and their rows in an image.
+use Rattle.std.specs.Prelude.{ℕ, ◌&&◌, Bool, true, IsTrue, List, [], ◌∷◌, map, flat_map, Option, Some, None}
+use Rattle.std.specs.List.{All, Contains, zip}
+use Rattle.cmm_program.specs.declared.program.Label.{Label}
+use Rattle.cmm_program.specs.declared.program.Program.{Program}
+use Rattle.cmm_program.specs.Layout.{label_addresses}
+use Rattle.cmm_image.specs.declared.rows.LabelRow.{LabelRow}
+use Rattle.cmm_image.specs.ImageFormat.{is_after}
+
+-- each name under which a label is exported, with the label's address
+abbrev pub label_exports : Label × ℕ → List LabelRow
+label_exports of = map (λ name. record { name = name; address = of.1 }) of.0.links
+
+abbrev pub exports_at : List Label → List ℕ → List LabelRow
+exports_at labels addresses = flat_map label_exports (zip labels addresses)
+
+abbrev pub exports : Program → List LabelRow
+exports p = exports_at p.labels (label_addresses p)
+
+abbrev pub label_names : List LabelRow → List (List ℕ)
+label_names rows = map (λ row. row.name) rows
+
+-- each name is after the one before, by bytes
+abbrev pub ascend_after : Option (List ℕ) → List (List ℕ) → Bool
+ascend_after before [] = true
+ascend_after before (name ∷ names) = is_after before name && ascend_after (Some name) names
+
+abbrev pub names_ascend : List (List ℕ) → Bool
+names_ascend names = ascend_after None names
+
+-- The rows have just the exported names, in ascending order, each with the address of a label that is exported under it.
+pub record AreLabelsOf (exported rows : List LabelRow) : Type 0 where
+  pub each : All (Contains exported) rows
+  pub every : All (λ export. Contains (label_names rows) export.name) exported
+  pub ascending : IsTrue (names_ascend (label_names rows))

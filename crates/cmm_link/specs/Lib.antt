@@ -1,0 +1,8 @@
+pub mod Texts
+pub mod Rows
+pub mod Labels
+pub mod Placements
+pub mod Rooms
+pub mod Linked
+pub mod Laws
+pub mod inside

@@ -1,0 +1,63 @@
+-- The rows that the tables of an image have for procedures and global registers of a program.
+use Rattle.std.specs.Prelude.{ℕ, List, map, Some}
+use Rattle.std.specs.List.{zip}
+use Rattle.cmm_program.specs.declared.procedure.Cont.{Cont}
+use Rattle.cmm_program.specs.declared.procedure.Proc.{Proc}
+use Rattle.cmm_program.specs.declared.procedure.VarInfo.{VarInfo}
+use Rattle.cmm_program.specs.declared.program.Global.{Global}
+use Rattle.cmm_chain.specs.declared.frame.Frame.{Frame}
+use Rattle.cmm_image.specs.declared.rows.ContinuationRow.{ContinuationRow}
+use Rattle.cmm_image.specs.declared.rows.GlobalRow.{GlobalRow}
+use Rattle.cmm_image.specs.declared.rows.ProcRow.{ProcRow}
+use Rattle.cmm_image.specs.declared.rows.SavedRegister.{SavedRegister}
+use Rattle.cmm_image.specs.declared.rows.StackLabelRow.{StackLabelRow}
+use Rattle.cmm_image.specs.declared.rows.VariableNumber.{VariableNumber}
+use Rattle.cmm_image.specs.declared.rows.VariableRow.{VariableRow}
+use Rattle.cmm_places.specs.declared.procedure.ProcedurePlaces.{ProcedurePlaces}
+
+-- ---- parts of procedures
+
+abbrev pub saved_row : ℕ × ℕ → SavedRegister
+saved_row saved = record { register = saved.0; offset = saved.1 }
+
+abbrev pub variable_row : VarInfo → VariableRow
+variable_row v = record { width = v.width; invariant = v.invariant; kind = v.kind }
+
+abbrev pub stack_label_row : ℕ → StackLabelRow
+stack_label_row offset = record { offset = offset }
+
+abbrev pub parameter : ℕ → VariableNumber
+parameter v = record { 0 = v }
+
+-- a continuation, the offset of its pair, and the address at which a cut to it lands
+abbrev pub continuation_row : Cont × (ℕ × ℕ) → ContinuationRow
+continuation_row of = record { pair = of.1.0; code = of.1.1; parameters = map parameter of.0.params }
+
+abbrev pub continuation_rows : List Cont → List ℕ → List ℕ → List ContinuationRow
+continuation_rows conts pairs landings = map continuation_row (zip conts (zip pairs landings))
+
+-- ---- procedures
+
+-- a procedure with its frame, the address of its code, and those of the landings of its continuations
+abbrev pub procedure_row : Proc → Frame → ℕ → List ℕ → ProcRow
+procedure_row q f code landings = record {
+  code = code;
+  name = q.name;
+  frame = f.size;
+  return_at = Some f.return_at;
+  saved = map saved_row f.saved;
+  variables = map variable_row q.vars;
+  stack_labels = map stack_label_row f.stack;
+  continuations = continuation_rows q.conts f.pairs landings;
+}
+
+abbrev pub placed_procedure : Proc × (ProcedurePlaces × (ℕ × List ℕ)) → ProcRow
+placed_procedure of = procedure_row of.0 of.1.0.frame of.1.1.0 of.1.1.1
+
+abbrev pub procedure_rows : List Proc → List ProcedurePlaces → List ℕ → List (List ℕ) → List ProcRow
+procedure_rows procs places codes landings = map placed_procedure (zip procs (zip places (zip codes landings)))
+
+-- ---- global registers
+
+abbrev pub global_row : Global → GlobalRow
+global_row g = record { width = g.width; name = g.name }

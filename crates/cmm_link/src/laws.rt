@@ -1,0 +1,13 @@
+//! What holds of frames and of images of programs. Each law is the contract of a function that does nothing.
+
+ghost use Rattle.cmm_link.specs.Laws.{ImagesShowPlacements, PlacesHaveFrames};
+
+/// Procedures that have places for their graphs have frames.
+pub fn places_have_frames()
+    ensures { PlacesHaveFrames }
+{}
+
+/// The image of a program shows the placement of its code and its frames.
+pub fn images_show_placements()
+    ensures { ImagesShowPlacements }
+{}

@@ -1,0 +1,85 @@
+//! The image of a program.
+
+ghost use Rattle.std.specs.Prelude.{◌≡◌, IsTrue, IfOk, map};
+ghost use Rattle.cmm_program.specs.InRange.{IsInRange};
+ghost use Rattle.cmm_places.specs.Placing.{placement_rows};
+ghost use Rattle.cmm_link.specs.Labels.{names_ascend};
+ghost use Rattle.cmm_link.specs.Linked.{HaveFrames, IsDataOf, IsImageOf};
+ghost use Rattle.cmm_link.specs.Placements.{placement_of};
+ghost use Rattle.cmm_link.specs.Rooms.{HasRoom};
+ghost use Rattle.cmm_link.specs.Texts.{IsText};
+ghost use Rattle.cmm_link.specs.inside.Made.{AreMade};
+
+use crate::filling::filled_data;
+use crate::globals::global_rows;
+use crate::labels::label_rows;
+use crate::names::know_bytes;
+use crate::procedures::procedure_rows;
+use crate::text::Text;
+use cmm_data::DataImage;
+use cmm_image::{Image, ImageParts};
+use cmm_items::Items;
+use cmm_places::ProcedurePlaces;
+use cmm_program::Program;
+use std::alloc::{AllocError, Global};
+
+/// The parts of the image of a program, each made of what it is given.
+fn parts(
+    alloc: Global,
+    program: &Program,
+    places: &[ProcedurePlaces],
+    laid: DataImage,
+    text: Text,
+) -> Result<ImageParts, AllocError>
+    requires range { IsInRange program.now }
+    requires laid { IsDataOf program.now laid }
+    ensures { IfOk result (λ parts. AreMade program.now places.now laid text parts) }
+{
+    let labels = label_rows(alloc, program.labels.as_slice(), laid.addresses.as_slice())?;
+    let procs = procedure_rows(
+        alloc,
+        program.procs.as_slice(),
+        places,
+        text.procedures.as_slice(),
+        text.landings.as_slice(),
+    )?;
+    let globals = global_rows(alloc, program.globals.as_slice())?;
+    let initial = filled_data(laid, text.procedures.as_slice());
+    know_bytes(text.code.as_slice());
+    Ok(ImageParts {
+        code: text.code,
+        initial,
+        start: text.start,
+        last: text.last,
+        main: program.main,
+        procs,
+        sites: Items::new(alloc),
+        labels,
+        globals,
+    })
+}
+
+/// The image of a program in range, whose procedures have these places, whose data is laid out so, and whose code is this. It has no sites: they are
+/// read where a program yields, and code of this form never does. An error is want of memory.
+pub fn link(
+    alloc: Global,
+    program: &Program,
+    places: &[ProcedurePlaces],
+    laid: DataImage,
+    text: Text,
+) -> Result<Image, AllocError>
+    requires range { IsInRange program.now }
+    requires frames { HaveFrames program.now.procs places.now }
+    requires laid { IsDataOf program.now laid }
+    requires text { IsText program.now text }
+    requires room { HasRoom program.now text }
+    // The names of global registers ascend, as a program's numbers for them do.
+    requires globals { IsTrue (names_ascend (map (λ g. g.name) program.now.globals)) }
+    ensures image { IfOk result (λ image. IsImageOf program.now places.now text image) }
+    ensures placement { IfOk result (λ image. (placement_of image).rows ≡ placement_rows places.now text.procedures) }
+{
+    cmm_data::laws::programs_in_range();
+    cmm_data::laws::labels_in_data();
+    let parts = parts(alloc, program, places, laid, text)?;
+    Ok(Image::new(parts))
+}

@@ -1,0 +1,12 @@
+use Rattle.std.proofs.Common.{◌≡◌, length, take}
+use Rattle.rv_table.specs.Memory.{code_base}
+use Rattle.rv_asm.specs.Filling.{filled}
+use Rattle.cmm_text.specs.Finishing.{symbol_value}
+use Rattle.cmm_text.proofs.finishing.fill_all.Given as goal
+
+-- the fixes so far are filled
+abbrev pub invariant-loop-fix : goal.invariant-loop-fix
+invariant-loop-fix l = record {
+  filled : l.code.items ≡ filled (symbol_value l.registers l.addresses) code_base (take l.fix-index l.fixes) l.initial.code.items;
+  size : length l.code.items ≡ length l.initial.code.items;
+}

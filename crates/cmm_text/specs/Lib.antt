@@ -1,0 +1,9 @@
+pub mod Labels
+pub mod Contexts
+pub mod Outlines
+pub mod Starts
+pub mod Orders
+pub mod Finishing
+pub mod Laying
+pub mod Premises
+pub mod Texts
