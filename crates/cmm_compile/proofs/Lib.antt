@@ -1,0 +1,5 @@
+pub mod Ascending
+pub mod Coding
+pub mod Covering
+pub mod Agreeing
+mod FormRows

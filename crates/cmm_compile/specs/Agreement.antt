@@ -1,0 +1,55 @@
+-- What it is that an image agrees with units: it does what the C-- machine does on the program that they mean, and nothing else, unless the machine commits an unchecked
+-- error first (C-- Language Specification 2.0; Ramsey and Peyton Jones, PLDI 2000, the abstract machine; the RISC-V Unprivileged ISA).
+use Rattle.std.specs.Prelude.{◌≡◌, ℕ, ◌%◌, ◌≤◌, List}
+use Rattle.std.specs.List.{All}
+use Rattle.rv_table.specs.declared.memory_map.TheConstants.{STACK_SIZE_LIMIT}
+use Rattle.rv_table.specs.Machine.{stack_base}
+use Rattle.cmm_script.specs.declared.script.Script.{Script}
+use Rattle.cmm_program.specs.declared.program.Program.{Program}
+use Rattle.cmm_program.specs.Bounds.{step_factor}
+use Rattle.cmm_program.specs.Layout.{data_bytes}
+use Rattle.cmm_program.specs.Machine.{start}
+use Rattle.cmm_program.specs.Placed.{IsPlaced}
+use Rattle.cmm_program.specs.State.{Setting}
+use Rattle.cmm_program.specs.Todo.{todo_control}
+use Rattle.cmm_laws.specs.Fitting.{IsByte}
+use Rattle.cmm_laws.specs.Observed.{machine_of}
+use Rattle.cmm_image.specs.declared.parts.ImageParts.{ImageParts}
+use Rattle.cmm_execution.specs.Machine.{Launch, first_run}
+use Rattle.cmm_execution.specs.Observed.{image_machine}
+use Rattle.cmm_coded.specs.Agreeing.{AgreesOnceBegun}
+use Rattle.cmm_link.specs.Placements.{placement_of}
+use Rattle.cmm_front.specs.Programs.{IsProgramOf}
+
+-- the machine runs with the placement that the image shows, and a stack of so many bytes
+abbrev pub setting_of : Program → ImageParts → Script → ℕ → Setting
+setting_of p i script stack = record { program = p; placement = placement_of i; stack_base = stack_base; stack_size = stack; script = script }
+
+-- and so does the image
+abbrev pub launch_of : ImageParts → Script → ℕ → Launch
+launch_of i script stack = record { image = i; script = script; stack_size = stack }
+
+-- how large stacks are
+abbrev pub IsStackSize : ℕ → Type 0
+IsStackSize n = (n % 16 ≡ 0) × (n ≤ STACK_SIZE_LIMIT)
+
+-- For every script, stack and input the image does in K * (m + 1) instructions what the machine does in m steps, and the machine does in K * (n + 1) steps what the image does in
+-- n instructions, where K is the step factor of the program: what is written, what is asked for and how it ends. The code from which `main` is called counts among
+-- the first instructions.
+abbrev pub RunsAgree : Program → ImageParts → Type 0
+RunsAgree p i = (script : Script) (stack : ℕ) (input : List ℕ) → IsStackSize stack → All IsByte input →
+    let s = setting_of p i script stack in let l = launch_of i script stack in
+    AgreesOnceBegun (machine_of (todo_control p) s) (image_machine l) (step_factor p) (start s input) (first_run l input)
+
+pub record AgreesWith (p : Program) (i : ImageParts) : Type 0 where
+  -- frames and code lie where a valid placement has them
+  pub placed : IsPlaced p (placement_of i)
+  -- data begins as the program says
+  pub initial : i.initial ≡ data_bytes p (placement_of i)
+  pub runs : RunsAgree p i
+
+-- units mean a program, with which the image agrees
+pub record Agree (units : List (List ℕ)) (i : ImageParts) : Type 0 where
+  pub program : Program
+  pub means : IsProgramOf units program
+  pub agrees : AgreesWith program i

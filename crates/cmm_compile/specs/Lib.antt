@@ -1,0 +1,4 @@
+pub mod Agreement
+pub mod Forms
+pub mod Refusing
+pub mod inside

@@ -1,0 +1,54 @@
+-- What the passes below are worth together.
+use Rattle.std.specs.Prelude.{◌≡◌, false, List}
+use Rattle.std.specs.List.{AllZip}
+use Rattle.cmm_program.specs.declared.program.Program.{Program}
+use Rattle.cmm_program.specs.InRange.{IsInRange}
+use Rattle.cmm_program.specs.State.{Setting}
+use Rattle.cmm_graph.specs.declared.graph.Graph.{Graph}
+use Rattle.cmm_flow.specs.Flow.{IsFlow}
+use Rattle.cmm_located.specs.SameOrders.{HasFrames}
+use Rattle.cmm_places.specs.declared.procedure.ProcedurePlaces.{ProcedurePlaces}
+use Rattle.cmm_places.specs.Compiling.{compiled}
+use Rattle.cmm_places.specs.Laws.{RunsOverPlaces}
+use Rattle.cmm_places.specs.Places.{HavePlaces}
+use Rattle.cmm_places.specs.Placing.{placement_rows}
+use Rattle.cmm_image.specs.declared.parts.ImageParts.{ImageParts}
+use Rattle.cmm_image.specs.Images.{IsImage}
+use Rattle.cmm_link.specs.declared.text.Text.{Text}
+use Rattle.cmm_link.specs.Linked.{IsImageOf}
+use Rattle.cmm_link.specs.Placements.{placement_of}
+use Rattle.cmm_link.specs.Texts.{IsText}
+use Rattle.cmm_text.specs.Premises.{AreCovered, AreShort, CanBeCoded}
+use Rattle.cmm_text.specs.Texts.{IsCodeOfProgram}
+use Rattle.cmm_compile.specs.Agreement.{AgreesWith}
+use Rattle.cmm_compile.specs.Forms.{waits}
+
+-- code is laid of the nodes of a program in range that does not wait for a client
+abbrev pub ProgramsAreCoded : Type 0
+ProgramsAreCoded = (p : Program) (graphs : List Graph) → IsInRange p → AllZip IsFlow p.procs graphs → waits p ≡ false → CanBeCoded graphs
+
+-- the nodes of a program in range have tokens enough for their code
+abbrev pub ProgramsAreCovered : Type 0
+ProgramsAreCovered = (p : Program) (graphs : List Graph) (found : List ProcedurePlaces) → IsInRange p → AllZip IsFlow p.procs graphs →
+    HavePlaces p.procs graphs found → AreCovered graphs found
+
+-- and the code of a procedure, with one instruction behind it, at most 64 for each token of the procedure
+abbrev pub ProgramsAreShort : Type 0
+ProgramsAreShort = (p : Program) (graphs : List Graph) (found : List ProcedurePlaces) → IsInRange p → AllZip IsFlow p.procs graphs →
+    HavePlaces p.procs graphs found → AreShort p.procs graphs found
+
+-- What the passes make of a program: its graphs, their places, code for these, and an image with that code.
+pub record IsMade (p : Program) (graphs : List Graph) (found : List ProcedurePlaces) (t : Text) (i : ImageParts) : Type 0 where
+  pub range : IsInRange p
+  pub flows : AllZip IsFlow p.procs graphs
+  pub places : HavePlaces p.procs graphs found
+  pub runs : (s : Setting) → s.program ≡ p → HasFrames s (compiled graphs found) → RunsOverPlaces s graphs found
+  pub text : IsText p t
+  pub code : IsCodeOfProgram p graphs found t
+  pub is_image : IsImage i
+  pub image : IsImageOf p found t i
+  pub rows : (placement_of i).rows ≡ placement_rows found t.procedures
+
+-- so the image agrees with the program
+abbrev pub ImagesAgree : Type 0
+ImagesAgree = (p : Program) (graphs : List Graph) (found : List ProcedurePlaces) (t : Text) (i : ImageParts) → IsMade p graphs found t i → AgreesWith p i

@@ -1,0 +1,42 @@
+//! Why units have no image.
+
+ghost use Rattle.std.specs.Prelude.{◌≡◌};
+
+use cmm_accepted::Fault;
+use cmm_front::FrontFault;
+use std::alloc::{AllocError, AllocFailed};
+use thiserror::Error;
+
+/// Why units have no image.
+#[derive(Debug, Drop, Error)]
+pub enum BuildFault {
+    /// They break a rule: the first by phase, then by unit, place and number. Rule 90 is broken, at the beginning of the first unit, where they break no other and
+    /// their program waits for a client.
+    #[error("rule {} in unit {}", .0.rule, .0.unit)]
+    At(Fault),
+    #[error("out of memory")]
+    Memory,
+}
+
+impl From<AllocError> for BuildFault {
+    ghost use Rattle.cmm_compile.specs.declared.fault.BuildFault.{BuildFault};
+
+    ghost from_gives = { λ _ fault. fault ≡ BuildFault.Memory };
+
+    fn from(_: AllocError) -> BuildFault {
+        BuildFault::Memory
+    }
+}
+
+impl From<FrontFault> for BuildFault {
+    ghost use Rattle.cmm_compile.specs.Refusing.{of_front};
+
+    ghost from_gives = { λ front fault. fault ≡ of_front front };
+
+    fn from(fault: FrontFault) -> BuildFault {
+        match fault {
+            FrontFault::At(fault) => BuildFault::At(fault),
+            FrontFault::Memory => BuildFault::Memory,
+        }
+    }
+}

@@ -1,0 +1,50 @@
+//! What the passes below are worth together. Each law is the contract of a function that does nothing.
+
+ghost use Rattle.cmm_compile.specs.inside.Laws.{ImagesAgree, ProgramsAreCoded, ProgramsAreCovered, ProgramsAreShort};
+
+/// The nodes of a program that does not wait for a client are such that code is laid of them.
+#[tactic(auto, using(crate::proofs::Coding::programs_are_coded))]
+pub(crate) fn programs_are_coded()
+    ensures { ProgramsAreCoded }
+{
+    cmm_flow::laws::answers_are_quiet();
+}
+
+/// The code of the nodes of a program over places has at most 32 instructions for each of their tokens.
+#[tactic(auto, using(crate::proofs::Covering::programs_are_covered))]
+pub(crate) fn programs_are_covered()
+    ensures { ProgramsAreCovered }
+{
+    cmm_flow::laws::answers_are_graphs();
+    cmm_flow::laws::answers_are_covered();
+    cmm_places::laws::flows_can_be_placed();
+    cmm_places::laws::entries_are_short();
+    cmm_nodes::laws::nodes_are_short();
+}
+
+/// The code of the nodes of each procedure of a program over places, with one instruction behind it, is at most 64 instructions for each token of the
+/// procedure.
+#[tactic(auto, using(crate::proofs::Covering::programs_are_short))]
+pub(crate) fn programs_are_short()
+    ensures { ProgramsAreShort }
+{
+    cmm_flow::laws::answers_are_graphs();
+    cmm_flow::laws::answers_are_covered();
+    cmm_flow::laws::answers_are_short();
+    cmm_places::laws::flows_can_be_placed();
+    cmm_places::laws::entries_are_short();
+    cmm_nodes::laws::graphs_are_short();
+}
+
+/// An image that is made of a program agrees with it.
+pub(crate) fn images_agree()
+    ensures { ImagesAgree }
+{
+    cmm_data::laws::programs_in_range();
+    cmm_data::laws::data_reaches_its_end();
+    cmm_laws::runs::what_is_seen_lasts();
+    cmm_places::laws::rows_are_placed();
+    cmm_places::laws::places_do_what_programs_do();
+    cmm_select::laws::switches_lead();
+    cmm_execution::laws::images_last();
+}

@@ -1,0 +1,4 @@
+pub mod Read
+pub mod First
+pub mod Named
+pub mod Meant

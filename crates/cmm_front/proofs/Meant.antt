@@ -1,0 +1,29 @@
+-- The program that units mean that were read from bytes.
+use Rattle.std.proofs.Common.{◌≡◌, ℕ, suc, ◌+◌, arith, List, [], ◌∷◌, length, map, ap, refl, sym, ◌∙◌}
+use Rattle.std.specs.List.{All, AllZip}
+use Rattle.std.proofs.lemmas.List.{length-append, length-map}
+use Rattle.std.proofs.lemmas.List.Elements.{All-cons, All-head, All-nil, All-tail}
+use Rattle.cmm_ast.specs.declared.unit.Unit.{Unit as UnitTree}
+use Rattle.cmm_lexer.specs.Laws.{AreBytes}
+use Rattle.cmm_lexer.specs.Lexing.{tokens_of}
+use Rattle.cmm_lexer.specs.Places.{line_at, column_at}
+use Rattle.cmm_meaning.specs.Laws.{IsReadFromBytes}
+use Rattle.cmm_front.specs.Sources.{IsTreeOf, places_in}
+
+places_count : (unit : List ℕ) → length (places_in unit) ≡ suc (length (tokens_of unit))
+places_count unit =
+    length-append (map (λ t. record { line = t.line; column = t.column }) (tokens_of unit)) (record { line = line_at unit (length unit); column = column_at unit (length unit) } ∷ [])
+    ∙ one_more (length-map (tokens_of unit) (λ t. record { line = t.line; column = t.column }))
+  where
+    one_more : {m n : ℕ} → m ≡ n → m + 1 ≡ suc n
+    one_more same = omega arith
+
+read_from : (unit : List ℕ) (tree : UnitTree) → AreBytes unit → IsTreeOf unit tree → IsReadFromBytes tree
+read_from unit tree bytes is = record { bytes = unit; are_bytes = bytes; derives = is.derives.derives; places = ap length is.places ∙ places_count unit }
+
+pub read_all : (units : List (List ℕ)) (trees : List UnitTree) → All AreBytes units → AllZip IsTreeOf units trees → All IsReadFromBytes trees
+read_all [] [] bytes are = All-nil IsReadFromBytes
+read_all [] (t ∷ ts) bytes are = absurd are
+read_all (u ∷ us) [] bytes are = absurd are
+read_all (u ∷ us) (t ∷ ts) bytes are =
+    All-cons IsReadFromBytes t ts (read_from u t (All-head AreBytes u us bytes) are.0) (read_all us ts (All-tail AreBytes u us bytes) are.1)
