@@ -1,8 +1,10 @@
-//! The tests of `cmm_items`, `cmm_rules`, `cmm_words`, `cmm_bitset`, `cmm_peeling`, `cmm_moves`: of what no clause says.
+//! The tests of `cmm_items`, `cmm_rules`, `cmm_words`, `cmm_bitset`, `cmm_peeling`, `cmm_moves`, `cmm_generated`: of what no clause says.
 #![tactic(auto)]
 
 #[cfg(test)]
 mod bitset;
+#[cfg(test)]
+mod generated;
 #[cfg(test)]
 mod items;
 mod moves;

@@ -1,5 +1,6 @@
 pub mod FailingCalls
 pub mod Faults
+pub mod FixedRoom
 pub mod Input
 pub mod MemoryFiles
 pub mod MemorySink

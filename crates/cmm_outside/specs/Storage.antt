@@ -1,6 +1,7 @@
 -- What files hold, and what calls do to that.
-use Rattle.std.specs.Prelude.{◌≡◌, ◌≢◌, ℕ, ◌<◌, ◌≤◌, List, [], length, take, drop, Option, Some, IfSome, unwrap_or, Result, Ok, Err}
+use Rattle.std.specs.Prelude.{◌≡◌, ◌≢◌, ◌⊎◌, ℕ, ◌<◌, ◌≤◌, List, [], length, take, drop, Option, Some, IfSome, unwrap_or, Result, Ok, Err}
 use Rattle.cmm_outside.specs.declared.storage.CallKind.{CallKind}
+use Rattle.cmm_outside.specs.declared.storage.CallKind.TheVariants.{Create, Append}
 use Rattle.cmm_outside.specs.declared.storage.FileError.{FileError}
 use Rattle.cmm_outside.specs.declared.storage.FileError.TheVariants.{Failed, TooLong, Memory}
 
@@ -34,6 +35,17 @@ pub record Sets (before : Contents) (after : Option Contents) (name bytes : List
 -- where the files tell what they hold, one of them holds these bytes now, and the others what they held
 abbrev pub Writes : Option Contents → Option Contents → List ℕ → (Option (List ℕ) → List ℕ) → Type 0
 Writes before after name bytes = IfSome before (λ files. Sets files after name (bytes (files name)))
+
+-- the same with a front of these bytes that is not all of them
+abbrev pub WritesFront : Option Contents → Option Contents → List ℕ → List ℕ → Type 0
+WritesFront before after name bytes = (n : ℕ) × (n < length bytes) × Writes before after name (λ _. take n bytes)
+
+-- Writing a file of these bytes has stopped at a call that failed: at `create`, where nothing has changed, or at `append`,
+-- where the file holds a front of the bytes.
+abbrev pub StopsWriting : Option Contents → Option Contents → Option FailedCall → List ℕ → List ℕ → Type 0
+StopsWriting before after failed name bytes =
+    ((failed ≡ Some (record { kind = Create; name = name })) × (after ≡ before))
+    ⊎ ((failed ≡ Some (record { kind = Append; name = name })) × WritesFront before after name bytes)
 
 -- the bytes of a file that may not be there
 abbrev pub bytes_of : Option (List ℕ) → List ℕ

@@ -6,14 +6,16 @@
 //! answer a fault that the object did not have.
 //!
 //! - `input`, `output`, `storage`: the traits `Source`, `Sink` and `Files`, with the loops over them,
-//!   `write_all` and `read_file`.
+//!   `write_all`, `read_file` and `write_file`.
 //! - `memory_source`, `memory_sink`, `memory_files`: the same over memory, for tests. Their clauses say
 //!   exactly which calls fail: those that are listed, and those for which there is no room or no file.
+//! - `fixed_sink`: a sink over lent bytes, for callers that have no memory to spare.
 //! - `standard`: the same over standard input, a standard output and the file system.
 #![tactic(auto)]
 
 mod failing_calls;
 mod fault_count;
+pub mod fixed_sink;
 pub mod input;
 pub mod memory_files;
 pub mod memory_sink;
@@ -24,13 +26,14 @@ mod place;
 pub mod standard;
 pub mod storage;
 
+pub use fixed_sink::FixedSink;
 pub use input::Source;
 pub use memory_files::MemFiles;
 pub use memory_sink::MemSink;
 pub use memory_source::{MemSource, SureSource};
 pub use output::{Sink, write_all};
 pub use standard::{StdFiles, StdSink, StdSource};
-pub use storage::{CallKind, FileError, Files, read_file};
+pub use storage::{CallKind, FileError, Files, read_file, write_file};
 
 /// A call on something outside has failed. What failed is the object's to know.
 #[derive(Clone, Copy, Debug, PartialEq, Eq)]

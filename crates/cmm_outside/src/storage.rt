@@ -1,8 +1,8 @@
-//! Files by name.
+//! Files by name, with the loops that read and write a whole file.
 
 ghost use Rattle.std.specs.Prelude.{◌≡◌, ℕ, ◌+◌, ◌<◌, ◌≤◌, ◌++◌, [], Option, Some, Ok, length, take, max, IfOk, OnOk, OnErr, IsErrOf};
 ghost use Rattle.cmm_outside.specs.Faults.{Rose};
-ghost use Rattle.cmm_outside.specs.Storage.{Contents, FailedCall, HasFile, MatchFailed, ReadsAt, Writes, bytes_of};
+ghost use Rattle.cmm_outside.specs.Storage.{Contents, FailedCall, HasFile, MatchFailed, ReadsAt, StopsWriting, Writes, bytes_of};
 
 use crate::Failed;
 use std::alloc::{AllocError, Global};
@@ -163,4 +163,25 @@ pub fn read_file<F: Files>(
         }
         bytes.extend_from_slice(&piece[..count])?;
     }
+}
+
+/// Makes a file of just these bytes, also where there was one. It fails only where a call fails, at the
+/// first that does: nothing has changed then, or the file holds a front of the bytes.
+pub fn write_file<F: Files>(files: &mut F, name: &str, bytes: &[u8]) -> Result<(), Failed>
+    requires { length name.now ≤ NAME_LIMIT }
+    ensures ok { OnOk result (Writes (F.contents files.old) (F.contents files.new) name.now (λ _. bytes.now)) }
+    ensures err { OnErr result (StopsWriting (F.contents files.old) (F.contents files.new) (F.last_failed files.new) name.now bytes.now) }
+    ensures same_asked { F.asked files.new ≡ F.asked files.old }
+
+    // It fails only where the count of faults rises, and that rises only where it fails.
+    ensures no_fault { OnOk result (F.faults files.new ≡ F.faults files.old) }
+    ensures no_failed_call { OnOk result (F.last_failed files.new ≡ F.last_failed files.old) }
+    ensures fault { OnErr result (Rose (F.faults files.old) (F.faults files.new)) }
+{
+    files.create(name)?;
+    let mut written = 0;
+    while written < bytes.len() {
+        written += files.append(name, &bytes[written..])?;
+    }
+    Ok(())
 }

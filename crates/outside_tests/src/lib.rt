@@ -7,3 +7,5 @@ mod outside;
 mod system;
 #[cfg(test)]
 mod troubled_files;
+#[cfg(test)]
+mod written;
