@@ -1,4 +1,5 @@
 pub mod Steps
+pub mod Ended
 pub mod Loops
 pub mod ExpressionSteps
 pub mod DeclarationSteps

@@ -7,6 +7,7 @@ ghost use Rattle.cmm_readers.specs.ExpressionReading.{whole};
 ghost use Rattle.cmm_readers.specs.Reading as readers;
 ghost use Rattle.cmm_readers.specs.PartReading as parts;
 ghost use Rattle.cmm_readers.specs.CallReading as calls;
+ghost use Rattle.cmm_parser.specs.inside.Ended.{ended};
 ghost use Rattle.cmm_parser.specs.inside.Parsing.{Takes, MayTake, point_of};
 
 use crate::fault::Stop;
@@ -130,8 +131,7 @@ impl Parser<'_> {
         ensures { Takes (λ fuel. calls.call fuel results convention callee) (point_of self.old) result (point_of self.new) }
     {
         let actuals = self.arguments()?;
-        let flows = self.annotations()?;
-        self.expect(Symbol::Semicolon)?;
+        let flows = self.last_annotations()?;
         Ok(StmtForm::Call {
             results,
             convention,
@@ -212,6 +212,15 @@ impl Parser<'_> {
         ensures { MayTake (λ fuel. parts.annotations fuel) (point_of self.old) result (point_of self.new) }
     {
         self.many()
+    }
+
+    /// The annotations at the end of a statement, and its semicolon.
+    pub(crate) fn last_annotations(&mut self) -> Result<Items<Flow>, Stop>
+        ensures { Takes (λ fuel. ended (parts.annotations fuel)) (point_of self.old) result (point_of self.new) }
+    {
+        let flows = self.annotations()?;
+        self.expect(Symbol::Semicolon)?;
+        Ok(flows)
     }
 
     /// The exit of a return.

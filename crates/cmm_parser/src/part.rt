@@ -321,8 +321,7 @@ impl Parser<'_> {
         self.expect_word(Keyword::To)?;
         let callee = self.callee()?;
         let actuals = self.arguments()?;
-        let flows = self.annotations()?;
-        self.expect(Symbol::Semicolon)?;
+        let flows = self.last_annotations()?;
         Ok(StmtForm::Cut {
             callee,
             actuals,

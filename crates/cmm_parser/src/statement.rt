@@ -4,7 +4,7 @@ ghost use Rattle.std.specs.Prelude.{◌≡◌, ◌+◌, ◌-◌, ◌<◌, ◌≤
 ghost use Rattle.cmm_lexer.specs.declared.symbol.Symbol.TheVariants.{OpenSquare};
 ghost use Rattle.cmm_lexer.specs.Spellings.{symbol_number};
 ghost use Rattle.cmm_ast.specs.Taking.{is_sign};
-ghost use Rattle.cmm_readers.specs.Reading.{optional, many};
+ghost use Rattle.cmm_readers.specs.Reading.{braces, optional, many};
 ghost use Rattle.cmm_readers.specs.StatementReading as readers;
 ghost use Rattle.cmm_readers.specs.StatementReading.{is_within};
 ghost use Rattle.cmm_parser.specs.inside.Parsing.{Takes, MayTake, TakesBlocks, MayTakeBlocks, TakesChain, MayTakeChain, point_of};
@@ -127,9 +127,7 @@ impl Parser<'_> {
     {
         let range = self.optional_span()?;
         let value = self.whole()?;
-        let outside = self.enter(Symbol::OpenBrace)?;
-        let arms = self.arms()?;
-        self.leave(Symbol::CloseBrace, outside)?;
+        let arms = self.braced_arms()?;
         Ok(StmtForm::Switch { range, value, arms })
     }
 
@@ -142,6 +140,17 @@ impl Parser<'_> {
         } else {
             Ok(None)
         }
+    }
+
+    /// The arms of a switch, in braces.
+    #[cycle(statement)]
+    fn braced_arms(&mut self) -> Result<Items<Arm>, Stop>
+        ensures { TakesBlocks (λ fuel blocks. braces (many fuel is_within (readers.arm fuel blocks) [])) (point_of self.old) result (point_of self.new) }
+    {
+        let outside = self.enter(Symbol::OpenBrace)?;
+        let arms = self.arms()?;
+        self.leave(Symbol::CloseBrace, outside)?;
+        Ok(arms)
     }
 
     /// The arms of a switch, up to its closing brace.

@@ -296,8 +296,7 @@ impl Parser<'_> {
     {
         let operator = self.checked_operator()?;
         let (left, right) = self.checked_operands()?;
-        let flows = self.annotations()?;
-        self.expect(Symbol::Semicolon)?;
+        let flows = self.last_annotations()?;
         Ok(StmtForm::Checked {
             result: name,
             operator,

@@ -318,42 +318,43 @@ pub switch_form-returns-in_err-value : goal.switch_form-returns-in_err-value
 switch_form-returns-in_err-value t c =
     by_depth (λ depth less. steps _ c.in_ok-range.ensures (stops _ c.in_err-value.ensures (handed c.from_residual-in_err-value.ensures.1)))
 
-pub switch_form-returns-in_err-outside : goal.switch_form-returns-in_err-outside
-switch_form-returns-in_err-outside t c =
-    by_depth (λ depth less.
-    steps _ c.in_ok-range.ensures
-    (steps _ c.in_ok-value.ensures (stops _ (stops_opening (arms_of depth) OpenBrace CloseBrace c.in_err-outside.ensures) (handed c.from_residual-in_err-outside.ensures.1))))
-
 pub switch_form-returns-in_err-arms : goal.switch_form-returns-in_err-arms
 switch_form-returns-in_err-arms t c =
     by_depth (λ depth less.
     let range = c.in_ok-range.ensures.taken in
     let taken = c.in_ok-value.ensures.taken in
-    let bracket = c.in_ok-outside.ensures.answers.taken in
     steps _ c.in_ok-range.ensures
-    (steps _ c.in_ok-value.ensures
-    (stops _ (stops_inside OpenBrace CloseBrace c.in_ok-outside.ensures (c.in_err-arms.ensures.answers depth (omega arith))) (handed c.from_residual-in_err-arms.ensures.1))))
-
-pub switch_form-returns-in_err-leave : goal.switch_form-returns-in_err-leave
-switch_form-returns-in_err-leave t c =
-    by_depth (λ depth less.
-    let range = c.in_ok-range.ensures.taken in
-    let taken = c.in_ok-value.ensures.taken in
-    let bracket = c.in_ok-outside.ensures.answers.taken in
-    steps _ c.in_ok-range.ensures
-    (steps _ c.in_ok-value.ensures
-    (stops _
-    (stops_closing OpenBrace CloseBrace c.in_ok-outside.ensures (c.in_ok-arms.ensures.answers depth (omega arith)) c.in_err-leave.ensures)
-    (handed c.from_residual-in_err-leave.ensures.1))))
+    (steps _ c.in_ok-value.ensures (stops _ (c.in_err-arms.ensures.answers depth (omega arith)) (handed c.from_residual-in_err-arms.ensures.1))))
 
 pub switch_form-returns : goal.switch_form-returns
 switch_form-returns t c =
     by_depth (λ depth less.
     let range = c.in_ok-range.ensures.taken in
     let taken = c.in_ok-value.ensures.taken in
+    steps _ c.in_ok-range.ensures (steps _ c.in_ok-value.ensures (steps _ (c.in_ok-arms.ensures.answers depth (omega arith)) gives)))
+
+pub braced_arms-returns-in_err-outside : goal.braced_arms-returns-in_err-outside
+braced_arms-returns-in_err-outside t c =
+    by_depth (λ depth less. stopped (stops_opening (arms_of depth) OpenBrace CloseBrace c.in_err-outside.ensures) (handed c.from_residual.ensures.1))
+
+pub braced_arms-returns-in_err-arms : goal.braced_arms-returns-in_err-arms
+braced_arms-returns-in_err-arms t c =
+    by_depth (λ depth less.
     let bracket = c.in_ok-outside.ensures.answers.taken in
-    steps _ c.in_ok-range.ensures
-    (steps _ c.in_ok-value.ensures
-    (steps _
-    (brackets OpenBrace CloseBrace c.in_ok-outside.ensures (c.in_ok-arms.ensures.answers depth (omega arith)) c.in_ok-leave.ensures)
-    gives)))
+    stopped
+    (stops_inside OpenBrace CloseBrace c.in_ok-outside.ensures (c.in_err-arms.ensures.answers depth (omega arith)))
+    (handed c.from_residual-in_err-arms.ensures.1))
+
+pub braced_arms-returns-in_err-leave : goal.braced_arms-returns-in_err-leave
+braced_arms-returns-in_err-leave t c =
+    by_depth (λ depth less.
+    let bracket = c.in_ok-outside.ensures.answers.taken in
+    stopped
+    (stops_closing OpenBrace CloseBrace c.in_ok-outside.ensures (c.in_ok-arms.ensures.answers depth (omega arith)) c.in_err-leave.ensures)
+    (handed c.from_residual-in_err-leave.ensures.1))
+
+pub braced_arms-returns : goal.braced_arms-returns
+braced_arms-returns t c =
+    by_depth (λ depth less.
+    let bracket = c.in_ok-outside.ensures.answers.taken in
+    brackets OpenBrace CloseBrace c.in_ok-outside.ensures (c.in_ok-arms.ensures.answers depth (omega arith)) c.in_ok-leave.ensures)

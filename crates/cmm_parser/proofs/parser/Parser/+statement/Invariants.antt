@@ -18,6 +18,9 @@ decreases-block l = 4 * length (point_of l.self.now).left
 abbrev pub decreases-body : goal.decreases-body
 decreases-body l = 4 * length (point_of l.self.now).left + 3
 
+abbrev pub decreases-braced_arms : goal.decreases-braced_arms
+decreases-braced_arms l = 4 * length (point_of l.self.now).left
+
 abbrev pub decreases-chained : goal.decreases-chained
 decreases-chained l = 4 * length (point_of l.self.now).left
 

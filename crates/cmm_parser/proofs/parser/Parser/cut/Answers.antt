@@ -1,4 +1,6 @@
-use Rattle.cmm_parser.proofs.Steps.{handed, steps, stops, gives}
+use Rattle.cmm_readers.specs.PartReading.{annotations}
+use Rattle.cmm_parser.proofs.Ended.{ends, stops_ending}
+use Rattle.cmm_parser.proofs.Steps.{handed, steps, stopped, stops}
 use Rattle.cmm_parser.proofs.parser.Parser.cut.Goals as goal
 
 pub returns-in_err-expect_word : goal.returns-in_err-expect_word
@@ -11,10 +13,7 @@ pub returns-in_err-actuals : goal.returns-in_err-actuals
 returns-in_err-actuals c = steps _ c.in_ok-expect_word.ensures (steps _ c.in_ok-callee.ensures (stops _ c.in_err-actuals.ensures (handed c.from_residual-in_err-actuals.ensures.1)))
 
 pub returns-in_err-flows : goal.returns-in_err-flows
-returns-in_err-flows c = steps _ c.in_ok-expect_word.ensures (steps _ c.in_ok-callee.ensures (steps _ c.in_ok-actuals.ensures (stops _ c.in_err-flows.ensures (handed c.from_residual-in_err-flows.ensures.1))))
-
-pub returns-in_err-expect : goal.returns-in_err-expect
-returns-in_err-expect c = steps _ c.in_ok-expect_word.ensures (steps _ c.in_ok-callee.ensures (steps _ c.in_ok-actuals.ensures (steps _ c.in_ok-flows.ensures (stops _ c.in_err-expect.ensures (handed c.from_residual-in_err-expect.ensures.1)))))
+returns-in_err-flows c = steps _ c.in_ok-expect_word.ensures (steps _ c.in_ok-callee.ensures (steps _ c.in_ok-actuals.ensures (stopped (stops_ending annotations _ c.in_err-flows.ensures) (handed c.from_residual-in_err-flows.ensures.1))))
 
 pub returns : goal.returns
-returns c = steps _ c.in_ok-expect_word.ensures (steps _ c.in_ok-callee.ensures (steps _ c.in_ok-actuals.ensures (steps _ c.in_ok-flows.ensures (steps _ c.in_ok-expect.ensures (gives)))))
+returns c = steps _ c.in_ok-expect_word.ensures (steps _ c.in_ok-callee.ensures (steps _ c.in_ok-actuals.ensures (ends annotations _ c.in_ok-flows.ensures)))
