@@ -3,9 +3,10 @@
 
 ghost use Rattle.std.specs.Prelude.{◌≡◌, ◌<◌, ◌≤◌, ◌^◌, length, IfOk, OnErr};
 ghost use Rattle.cmm_top.specs.declared.status.Status.TheVariants.{Usage, Memory};
+ghost use Rattle.cmm_run.specs.Outside.{outside_of};
 ghost use Rattle.cmm_top.specs.Answers.{EndsWith};
-ghost use Rattle.cmm_top.specs.Call.{Call};
-ghost use Rattle.cmm_top.specs.Command.{texts};
+ghost use Rattle.cmm_top.specs.Call.{standing};
+ghost use Rattle.cmm_top.specs.Words.{texts};
 ghost use Rattle.cmm_top.specs.Status.{number_of};
 
 use cmm_outside::{Files, Sink, Source, StdFiles, StdSink, StdSource};
@@ -41,26 +42,13 @@ fn run<F: Files, I: Source, O: Sink, E: Sink>(
 ) -> u8
     ensures none { OnErr words (result ≡ number_of Memory) }
     ensures many { IfOk words (λ given. 2 ^ 32 ≤ length given.items → result ≡ number_of Usage) }
-    ensures answers { IfOk words (λ given. length given.items < 2 ^ 32 → EndsWith (λ status. record {
+    ensures answers { IfOk words (λ given. length given.items < 2 ^ 32 → EndsWith (λ status image. record {
       words = texts given.items;
-      before = record {
-        files = F.contents files.old;
-        file_faults = F.faults files.old;
-        last_failed = F.last_failed files.old;
-        log = E.taken log.old;
-        log_faults = E.faults log.old;
-      };
-      after = record {
-        files = F.contents files.new;
-        file_faults = F.faults files.new;
-        last_failed = F.last_failed files.new;
-        log = E.taken log.new;
-        log_faults = E.faults log.new;
-      };
+      before = standing F.contents F.faults F.last_failed files.old (outside_of I.left I.faults O.taken O.faults E.taken E.faults input.old out.old log.old);
+      after = standing F.contents F.faults F.last_failed files.new (outside_of I.left I.faults O.taken O.faults E.taken E.faults input.new out.new log.new);
       status = status;
+      image = image;
     }) result) }
-    ensures input { input.new ≡ input.old }
-    ensures out { out.new ≡ out.old }
 {
     let Ok(words) = words else {
         return Status::Memory.number();

@@ -5,8 +5,17 @@ use cmm_outside::{MemFiles, MemSink, SureSource};
 use std::test::Fail;
 
 /// Words, the exit status, and the log.
-const CALLS: [(&[&str], u8, &str); 4] = [
+const CALLS: [(&[&str], u8, &str); 9] = [
     (&["exec", "a.cmm"], 0, "result 5\n"),
+    (&["run", "a.cmm"], 4, "bad image 50 at 0\n"),
+    (&["run", "b"], 9, "file fault b\n"),
+    (&["build", "a.cmm", "-o", "b"], 9, "file fault b\n"),
+    (&["exec", "a.cmm", "--steps", "0"], 7, "step limit\n"),
+    (
+        &["exec", "a.cmm", "a.cmm"],
+        3,
+        "a.cmm:1:8: 35 exported twice\n",
+    ),
     (&["exec", "b.cmm"], 9, "file fault b.cmm\n"),
     (&["exec"], 2, "usage\n"),
     (&[], 2, "usage\n"),

@@ -1,21 +1,49 @@
--- The lines of the log, each with the byte 10 at its end.
-use Rattle.std.specs.Prelude.{ℕ, List, ◌++◌, codes, decimal}
+-- The line that closes the log, and those of the counts of a program. Each has the byte 10 at its end.
+use Rattle.std.specs.Prelude.{ℕ, List, [], ◌++◌, codes, decimal, length, sum_by}
+use Rattle.cmm_accepted.specs.declared.fault.Fault.{Fault}
+use Rattle.cmm_program.specs.declared.program.Program.{Program}
+use Rattle.cmm_report.specs.Texts.{address_text}
+use Rattle.cmm_rules.specs.declared.rule.Rule.{Rule}
 use Rattle.cmm_rules.specs.Rules.{rule_number, rule_text}
-use Rattle.cmm_top.specs.declared.first.Fault.{Fault}
+use Rattle.cmm_run.specs.declared.outcome.Outcome.{Outcome}
+use Rattle.cmm_run.specs.declared.outcome.Outcome.TheVariants.{Done, Stopped, StackLimit, StepLimit, Trap, InputFault, OutputFault, Torn}
+use Rattle.rv_table.specs.Traps.{trap_number}
 
 abbrev pub usage_line : List ℕ
 usage_line = codes "usage\n"
 
--- a unit that breaks a rule, and where
+-- a unit that breaks a rule, by the name of its file, and where
 abbrev pub refused_line : List ℕ → Fault → List ℕ
 refused_line name fault =
     name ++ (codes ":" ++ (decimal fault.line ++ (codes ":" ++ (decimal fault.column ++ (codes ": " ++ (decimal (rule_number fault.rule) ++ (codes " " ++ (rule_text fault.rule ++ codes "\n"))))))))
 
-abbrev pub result_line : ℕ → List ℕ
-result_line value = codes "result " ++ (decimal value ++ codes "\n")
+-- a file that holds no image, by the rule that its bytes break first, and where
+abbrev pub bad_image_line : Rule → ℕ → List ℕ
+bad_image_line rule offset = codes "bad image " ++ (decimal (rule_number rule) ++ (codes " at " ++ (decimal offset ++ codes "\n")))
 
 abbrev pub file_fault_line : List ℕ → List ℕ
 file_fault_line name = codes "file fault " ++ (name ++ codes "\n")
 
 abbrev pub memory_line : List ℕ
 memory_line = codes "out of memory\n"
+
+-- that of a run; one that ends for a fault of output or log has none
+abbrev pub outcome_line : Outcome → List ℕ
+outcome_line (Done value) = codes "result " ++ (decimal value ++ codes "\n")
+outcome_line Stopped = codes "stopped\n"
+outcome_line StackLimit = codes "stack limit\n"
+outcome_line StepLimit = codes "step limit\n"
+outcome_line (Trap trap) = codes "trap " ++ (decimal (trap_number trap.kind) ++ (codes " at " ++ (address_text trap.pc ++ codes "\n")))
+outcome_line InputFault = codes "input fault\n"
+outcome_line OutputFault = []
+outcome_line (Torn torn) = codes "torn " ++ (address_text torn.frame ++ (codes " " ++ (address_text torn.address ++ codes "\n")))
+
+-- ---- counts
+
+-- how many call sites a program has
+abbrev pub site_count : Program → ℕ
+site_count p = sum_by (λ q. length q.sites) p.procs
+
+-- the lines of the counts of a program
+abbrev pub counts_lines : Program → List ℕ
+counts_lines p = codes "procedures " ++ (decimal (length p.procs) ++ (codes "\nsites " ++ (decimal (site_count p) ++ codes "\n")))

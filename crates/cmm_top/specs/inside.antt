@@ -1,5 +1,4 @@
-pub mod Code
-pub mod Terms
 pub mod Parts
 pub mod Ending
-pub mod Refusal
+pub mod Reading
+pub mod Tasks

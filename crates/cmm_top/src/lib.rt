@@ -1,27 +1,31 @@
-//! The call that the program makes, and what stands in it until the whole language is built.
+//! The call that the program makes.
 //!
-//! `cmm_main` promises, for all words, files and sinks, that a unit of the first form is run and its result told, and that each other
-//! answer has its cause; `specs/Answers` is that promise, over a `Call` of `specs/Call`. `compile_first` promises that the code of a unit of the form,
-//! run by the RISC-V machine, comes to the value of its expression, within 64 instructions for each token of `main`.
+//! `cmm_main` does what the words of the command line ask for, over any files and streams. It promises that units are built and their image runs or is written, that this image agrees with the
+//! units, that what is written and the status are exactly those of the image's run, and that each other answer has its cause. `specs/Answers` is that promise, over a `Call` of `specs/Call`.
+//! What a command does, all but the line that closes the log, is a `Work` of `specs/Work`, and each command has a page that says what its work is: `specs/Executing`, `specs/Running`,
+//! `specs/Building` and `specs/Generating`.
 //!
 //! - `top`: `cmm_main`.
-//! - `command`, `ending`, `line`, `status`: what the words ask for, what a file comes to, the line that says so in the log, exit statuses.
-//! - `first`: `compile_first`, from the bytes of a unit to its code.
-//! - `form`, `term`, `code`: from a tree to the sum that it returns, from that to signed numbers, and from these to the assembler's parts.
-//! - `run`: runs that code.
+//! - `task`: what words ask for.
+//! - `executing`, `running`, `building`, `generating`: `exec`, `run`, `build` and `gen`.
+//! - `units`: units read from their files and built. `sources`: their bytes. `session`: an image that runs.
+//! - `ending`, `line`: what a call comes to, and the line that closes the log. `parts`: texts that are made of parts.
+//! - `status`: exit statuses, and `Finish`.
 #![tactic(auto)]
 
-mod code;
-mod command;
+mod building;
 mod ending;
-mod first;
-mod form;
+mod executing;
+mod generating;
 mod line;
-mod run;
+mod parts;
+mod running;
+mod session;
+mod sources;
 mod status;
-mod term;
+mod task;
 mod top;
+mod units;
 
-pub use first::{Fault, FirstFault, compile_first};
 pub use status::{Finish, Status};
 pub use top::cmm_main;

@@ -1,56 +1,52 @@
-//! The line that says what a call came to.
+//! The line that closes the log.
 
 ghost use Rattle.std.specs.Prelude.{◌≡◌};
-ghost use Rattle.std.specs.List.{flat_map};
 ghost use Rattle.cmm_outside.specs.Output.{WritesAll};
-ghost use Rattle.cmm_top.specs.inside.Ending.{Closes, line_of, status_of as status_of_ending};
-ghost use Rattle.cmm_top.specs.inside.Parts.{part_text};
-ghost use Rattle.cmm_top.specs.Lines.{refused_line};
+ghost use Rattle.cmm_top.specs.inside.Ending.{Closes, line_of, status_at};
+ghost use Rattle.cmm_top.specs.Lines.{bad_image_line, outcome_line, refused_line};
 
 use crate::ending::Ending;
-use crate::first::Fault;
+use crate::parts::{Part, write_parts};
 use crate::status::Status;
+use cmm_accepted::Fault;
 use cmm_outside::{Failed, Sink, write_all};
-use cmm_report::put_number;
+use cmm_rules::Rule;
+use cmm_run::Outcome;
 
 /// Writes the line of an ending, and answers the call's status.
-pub fn close<E: Sink>(ending: Ending, name: &str, log: &mut E) -> Status
-    ensures { Closes name.now ending (E.taken log.old) (E.taken log.new) (E.faults log.old) (E.faults log.new) result }
+pub(crate) fn close<E: Sink>(ending: &Ending, log: &mut E) -> Status
+    ensures { Closes ending.now (E.taken log.old) (E.taken log.new) (E.faults log.old) (E.faults log.new) result }
 {
-    match write_line(ending, name, log) {
+    match write_line(ending, log) {
         Ok(()) => status_of(ending),
         Err(Failed) => Status::OutputFault,
     }
 }
 
-fn status_of(ending: Ending) -> Status
-    ensures { result ≡ status_of_ending ending }
+fn status_of(ending: &Ending) -> Status
+    ensures { result ≡ status_at ending.now }
 {
     match ending {
         Ending::Usage => Status::Usage,
-        Ending::Refused(_) => Status::Refused,
-        Ending::Result(_) => Status::Done,
-        Ending::FileFault => Status::FileFault,
+        Ending::Refused(..) => Status::Refused,
+        Ending::BadImage { .. } => Status::BadImage,
+        Ending::FileFault(_) => Status::FileFault,
+        Ending::OutputFault => Status::OutputFault,
         Ending::OutOfMemory => Status::Memory,
+        Ending::Built => Status::Done,
+        Ending::Ran(outcome) => Status::of(outcome),
     }
 }
 
-/// Writes the line of an ending.
-fn write_line<E: Sink>(ending: Ending, name: &str, log: &mut E) -> Result<(), Failed>
-    ensures { WritesAll E.taken E.faults log.old log.new (line_of name.now ending) result }
+/// Writes the line of an ending. An image that was written has none, and neither has a fault of the log.
+fn write_line<E: Sink>(ending: &Ending, log: &mut E) -> Result<(), Failed>
+    ensures { WritesAll E.taken E.faults log.old log.new (line_of ending.now) result }
 {
-    match ending {
+    match *ending {
         Ending::Usage => write_all(log, b"usage\n"),
-        Ending::Refused(fault) => write_fault(fault, name, log),
-        Ending::Result(value) => write_parts(
-            log,
-            &[
-                Part::Text(b"result "),
-                Part::Number(value),
-                Part::Text(b"\n"),
-            ],
-        ),
-        Ending::FileFault => write_parts(
+        Ending::Refused(name, fault) => write_fault(fault, name, log),
+        Ending::BadImage { rule, offset } => write_image_fault(rule, offset, log),
+        Ending::FileFault(name) => write_parts(
             log,
             &[
                 Part::Text(b"file fault "),
@@ -58,7 +54,9 @@ fn write_line<E: Sink>(ending: Ending, name: &str, log: &mut E) -> Result<(), Fa
                 Part::Text(b"\n"),
             ],
         ),
+        Ending::OutputFault | Ending::Built => Ok(()),
         Ending::OutOfMemory => write_all(log, b"out of memory\n"),
+        Ending::Ran(outcome) => write_outcome(outcome, log),
     }
 }
 
@@ -83,28 +81,59 @@ fn write_fault<E: Sink>(fault: Fault, name: &str, log: &mut E) -> Result<(), Fai
     )
 }
 
-/// A part of a line.
-#[derive(Clone, Copy, Debug)]
-enum Part<'a> {
-    Text(&'a [u8]),
-    Number(u64),
+/// Writes the line of bytes that are no image.
+fn write_image_fault<E: Sink>(rule: Rule, offset: u64, log: &mut E) -> Result<(), Failed>
+    ensures { WritesAll E.taken E.faults log.old log.new (bad_image_line rule offset) result }
+{
+    write_parts(
+        log,
+        &[
+            Part::Text(b"bad image "),
+            Part::Number(u64::from(rule.number())),
+            Part::Text(b" at "),
+            Part::Number(offset),
+            Part::Text(b"\n"),
+        ],
+    )
 }
 
-/// Writes the parts, one after another.
-fn write_parts<E: Sink>(log: &mut E, parts: &[Part]) -> Result<(), Failed>
-    ensures { WritesAll E.taken E.faults log.old log.new (flat_map part_text parts.now) result }
+/// Writes the line of a run. A run that ends for a fault of output or log has none.
+fn write_outcome<E: Sink>(outcome: Outcome, log: &mut E) -> Result<(), Failed>
+    ensures { WritesAll E.taken E.faults log.old log.new (outcome_line outcome) result }
 {
-    for part in parts {
-        write_part(log, part)?;
-    }
-    Ok(())
-}
-
-fn write_part<E: Sink>(log: &mut E, part: &Part) -> Result<(), Failed>
-    ensures { WritesAll E.taken E.faults log.old log.new (part_text part.now) result }
-{
-    match *part {
-        Part::Text(bytes) => write_all(log, bytes),
-        Part::Number(number) => put_number(log, number),
+    match outcome {
+        Outcome::Done(value) => write_parts(
+            log,
+            &[
+                Part::Text(b"result "),
+                Part::Number(value),
+                Part::Text(b"\n"),
+            ],
+        ),
+        Outcome::Stopped => write_all(log, b"stopped\n"),
+        Outcome::StackLimit => write_all(log, b"stack limit\n"),
+        Outcome::StepLimit => write_all(log, b"step limit\n"),
+        Outcome::Trap(trap) => write_parts(
+            log,
+            &[
+                Part::Text(b"trap "),
+                Part::Number(u64::from(trap.kind.number())),
+                Part::Text(b" at "),
+                Part::Address(trap.pc),
+                Part::Text(b"\n"),
+            ],
+        ),
+        Outcome::InputFault => write_all(log, b"input fault\n"),
+        Outcome::OutputFault => Ok(()),
+        Outcome::Torn(torn) => write_parts(
+            log,
+            &[
+                Part::Text(b"torn "),
+                Part::Address(torn.frame),
+                Part::Text(b" "),
+                Part::Address(torn.address),
+                Part::Text(b"\n"),
+            ],
+        ),
     }
 }

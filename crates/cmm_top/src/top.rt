@@ -1,19 +1,89 @@
 //! `cmm_main`: the call that the program makes.
 
-ghost use Rattle.std.specs.Prelude.{◌≡◌, ◌<◌, ◌^◌, length};
-ghost use Rattle.cmm_top.specs.Answers.{Answers};
-ghost use Rattle.cmm_top.specs.Call.{Call};
-ghost use Rattle.cmm_top.specs.Command.{texts};
+ghost use Rattle.std.specs.Prelude.{◌<◌, ◌^◌, length};
+ghost use Rattle.cmm_run.specs.Outside.{outside_of};
+ghost use Rattle.cmm_top.specs.Answers.{Answers, ComesTo, Does};
+ghost use Rattle.cmm_top.specs.Call.{standing};
+ghost use Rattle.cmm_top.specs.Words.{texts};
+ghost use Rattle.cmm_top.specs.inside.Ending.{work_of};
+ghost use Rattle.cmm_top.specs.inside.Tasks.{CanBeDone, plain_task};
 
-use crate::command::file_in;
-use crate::ending::{Ending, exec};
+use crate::building::build;
+use crate::ending::Ending;
+use crate::executing::exec;
+use crate::generating::generate;
 use crate::line::close;
+use crate::running::run;
 use crate::status::Finish;
+use crate::task::{Task, task_in};
+use cmm_command::laws::commands_are_in_range;
+use cmm_command::{CommandFault, command_of};
+use cmm_image::Image;
 use cmm_outside::{Files, Sink, Source};
 use std::alloc::Global;
 
-/// Does what the words of the command line ask for. `exec FILE` builds the unit in a file, runs its code, and writes the result to
-/// the log. The words are those after the program's name.
+/// What a task comes to, before the line that says so. With it the image that was loaded to be run, if `exec` or `gen` did.
+fn done<'a, F: Files, I: Source, O: Sink, E: Sink>(
+    alloc: Global,
+    task: &Task<'a>,
+    files: &mut F,
+    input: &mut I,
+    out: &mut O,
+    log: &mut E,
+) -> (Ending<'a>, Option<Image>)
+    requires { CanBeDone (plain_task task.now) }
+    ensures { Does (plain_task task.now) (work_of result.0 result.1
+        (standing F.contents F.faults F.last_failed files.old (outside_of I.left I.faults O.taken O.faults E.taken E.faults input.old out.old log.old))
+        (standing F.contents F.faults F.last_failed files.new (outside_of I.left I.faults O.taken O.faults E.taken E.faults input.new out.new log.new))) }
+{
+    match task {
+        Task::Execute { units, limits } => {
+            exec(alloc, units.as_slice(), *limits, files, input, out, log)
+        }
+        Task::Run { image, limits } => {
+            let ending = run(alloc, *image, *limits, files, input, out, log);
+            (ending, None)
+        }
+        Task::Build { units, image } => {
+            let ending = build(alloc, units.as_slice(), *image, files);
+            (ending, None)
+        }
+        Task::Generate { number } => generate(alloc, *number, input, out, log),
+    }
+}
+
+/// What the words come to, before the line that says so.
+fn ended<'a, F: Files, I: Source, O: Sink, E: Sink>(
+    alloc: Global,
+    words: &'a [String],
+    files: &mut F,
+    input: &mut I,
+    out: &mut O,
+    log: &mut E,
+) -> (Ending<'a>, Option<Image>)
+    ensures { ComesTo (texts words.now) (work_of result.0 result.1
+        (standing F.contents F.faults F.last_failed files.old (outside_of I.left I.faults O.taken O.faults E.taken E.faults input.old out.old log.old))
+        (standing F.contents F.faults F.last_failed files.new (outside_of I.left I.faults O.taken O.faults E.taken E.faults input.new out.new log.new))) }
+{
+    commands_are_in_range();
+    match command_of(alloc, words) {
+        Ok(command) => match task_in(command) {
+            Some(task) => done(alloc, &task, files, input, out, log),
+            None => (Ending::Usage, None),
+        },
+        Err(fault) => match fault {
+            CommandFault::Usage => (Ending::Usage, None),
+            CommandFault::Memory => (Ending::OutOfMemory, None),
+        },
+    }
+}
+
+/// Does what the words of the command line ask for. The words are those after the program's name.
+///
+/// - `build UNIT .. -o IMAGE` builds the units in files and writes their image to a file.
+/// - `run IMAGE` runs the image in a file.
+/// - `exec UNIT ..` builds the units in files and runs their image.
+/// - `gen NUMBER` builds the unit of a number, tells the counts of its program and runs its image.
 pub fn cmm_main<F: Files, I: Source, O: Sink, E: Sink>(
     alloc: Global,
     words: &[String],
@@ -23,37 +93,17 @@ pub fn cmm_main<F: Files, I: Source, O: Sink, E: Sink>(
     log: &mut E,
 ) -> Finish
     requires { length words.now < 2 ^ 32 }
-
-    ensures answers { Answers (record {
+    ensures { Answers (record {
       words = texts words.now;
-      before = record {
-        files = F.contents files.old;
-        file_faults = F.faults files.old;
-        last_failed = F.last_failed files.old;
-        log = E.taken log.old;
-        log_faults = E.faults log.old;
-      };
-      after = record {
-        files = F.contents files.new;
-        file_faults = F.faults files.new;
-        last_failed = F.last_failed files.new;
-        log = E.taken log.new;
-        log_faults = E.faults log.new;
-      };
+      before = standing F.contents F.faults F.last_failed files.old (outside_of I.left I.faults O.taken O.faults E.taken E.faults input.old out.old log.old);
+      after = standing F.contents F.faults F.last_failed files.new (outside_of I.left I.faults O.taken O.faults E.taken E.faults input.new out.new log.new);
       status = result.status;
+      image = result.image;
     }) }
-
-    // The input is not read, and nothing is written to the output.
-    ensures input { input.new ≡ input.old }
-    ensures out { out.new ≡ out.old }
 {
-    let Some(name) = file_in(words) else {
-        return Finish {
-            status: close(Ending::Usage, "", log),
-        };
-    };
-    let ending = exec(alloc, name, files);
+    let (ending, image) = ended(alloc, words, files, input, out, log);
     Finish {
-        status: close(ending, name, log),
+        status: close(&ending, log),
+        image,
     }
 }

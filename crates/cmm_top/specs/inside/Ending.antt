@@ -1,41 +1,58 @@
 -- What the private parts of the top call come to, before a line is written and after.
-use Rattle.std.specs.Prelude.{◌≡◌, ℕ, ◌⊎◌, List, Option, Some}
-use Rattle.cmm_outside.specs.declared.storage.CallKind.TheVariants.{Read}
+use Rattle.std.specs.Prelude.{◌≡◌, ◌⊎◌, ℕ, List, [], slice_get, Option, Some}
+use Rattle.cmm_compile.specs.declared.fault.BuildFault.{BuildFault}
+use Rattle.cmm_compile.specs.declared.fault.BuildFault.TheVariants as build_fault
+use Rattle.cmm_image.specs.declared.fault.ImageFault.{ImageFault}
+use Rattle.cmm_image.specs.declared.fault.ImageFault.TheVariants as image_fault
+use Rattle.cmm_image.specs.declared.parts.ImageParts.{ImageParts}
 use Rattle.cmm_outside.specs.Faults.{Rose}
 use Rattle.cmm_outside.specs.Output.{Appends, AppendsFront}
-use Rattle.cmm_outside.specs.Storage.{Contents, FailedCall, HasFile}
 use Rattle.cmm_top.specs.declared.ending.Ending.{Ending}
-use Rattle.cmm_top.specs.declared.ending.Ending.TheVariants.{Usage, Refused, Result, FileFault, OutOfMemory}
+use Rattle.cmm_top.specs.declared.ending.Ending.TheVariants.{Usage, Refused, BadImage, FileFault, OutputFault, OutOfMemory, Built, Ran}
 use Rattle.cmm_top.specs.declared.status.Status.{Status}
 use Rattle.cmm_top.specs.declared.status.Status.TheVariants as status
-use Rattle.cmm_top.specs.Causes.{HasValue, IsNotBuilt, IsFault}
-use Rattle.cmm_top.specs.Lines.{usage_line, refused_line, result_line, file_fault_line, memory_line}
+use Rattle.cmm_top.specs.Call.{Outside}
+use Rattle.cmm_top.specs.Lines.{bad_image_line, file_fault_line, memory_line, outcome_line, refused_line, usage_line}
+use Rattle.cmm_top.specs.Status.{status_of}
+use Rattle.cmm_top.specs.Work.{Work}
 
--- why the file that the words name comes to an ending
-abbrev pub IsCaused : List ℕ → Option Contents → ℕ → ℕ → Option FailedCall → Ending → Type 0
-IsCaused name contents before after last_failed Usage = ⊥
-IsCaused name contents before after last_failed (Refused fault) = HasFile contents name (λ unit. IsNotBuilt unit × IsFault fault unit)
-IsCaused name contents before after last_failed (Result result) = HasFile contents name (HasValue result)
-IsCaused name contents before after last_failed FileFault = Rose before after × (last_failed ≡ Some (record { kind = Read; name = name }))
-IsCaused name contents before after last_failed OutOfMemory = Unit {0}
+abbrev pub line_of : Ending → List ℕ
+line_of Usage = usage_line
+line_of (Refused name fault) = refused_line name.now fault
+line_of (BadImage rule offset) = bad_image_line rule offset
+line_of (FileFault name) = file_fault_line name.now
+line_of OutputFault = []
+line_of OutOfMemory = memory_line
+line_of Built = []
+line_of (Ran outcome) = outcome_line outcome
 
--- the line of an ending, for the file of this name
-abbrev pub line_of : List ℕ → Ending → List ℕ
-line_of name Usage = usage_line
-line_of name (Refused fault) = refused_line name fault
-line_of name (Result result) = result_line result
-line_of name FileFault = file_fault_line name
-line_of name OutOfMemory = memory_line
+abbrev pub status_at : Ending → Status
+status_at Usage = status.Usage
+status_at (Refused name fault) = status.Refused
+status_at (BadImage rule offset) = status.BadImage
+status_at (FileFault name) = status.FileFault
+status_at OutputFault = status.OutputFault
+status_at OutOfMemory = status.Memory
+status_at Built = status.Done
+status_at (Ran outcome) = status_of outcome
 
-abbrev pub status_of : Ending → Status
-status_of Usage = status.Usage
-status_of (Refused fault) = status.Refused
-status_of (Result result) = status.Done
-status_of FileFault = status.FileFault
-status_of OutOfMemory = status.Memory
+-- the work that ends so, between these
+abbrev pub work_of : Ending → Option ImageParts → Outside → Outside → Work
+work_of ending image before after = record { before = before; after = after; image = image; line = line_of ending; status = status_at ending }
+
+-- why there is no image of units that have these names
+abbrev pub Refuses : List (List ℕ) → BuildFault → Ending → Type 0
+Refuses names (build_fault.At fault) (Refused name f) = (f ≡ fault) × (slice_get names f.unit ≡ Some name.now)
+Refuses names build_fault.Memory OutOfMemory = Unit {0}
+Refuses names _ _ = ⊥
+
+-- why there is no image in bytes
+abbrev pub IsNotRead : ImageFault → Ending → Type 0
+IsNotRead (image_fault.At rule offset) ending = ending ≡ BadImage rule offset
+IsNotRead image_fault.Memory ending = ending ≡ OutOfMemory
 
 -- The line was written, and the status is the ending's; or the log failed, a front of the line was written, and the status says that.
-abbrev pub Closes : List ℕ → Ending → Option (List ℕ) → Option (List ℕ) → ℕ → ℕ → Status → Type 0
-Closes name ending before after faults_before faults_after answer =
-    ((answer ≡ status_of ending) × Appends before after (line_of name ending) × (faults_after ≡ faults_before))
-    ⊎ ((answer ≡ status.OutputFault) × AppendsFront before after (line_of name ending) × Rose faults_before faults_after)
+abbrev pub Closes : Ending → Option (List ℕ) → Option (List ℕ) → ℕ → ℕ → Status → Type 0
+Closes ending before after faults_before faults_after answer =
+    ((answer ≡ status_at ending) × Appends before after (line_of ending) × (faults_after ≡ faults_before))
+    ⊎ ((answer ≡ status.OutputFault) × AppendsFront before after (line_of ending) × Rose faults_before faults_after)

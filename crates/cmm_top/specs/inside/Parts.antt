@@ -1,8 +1,10 @@
--- The texts of a line's parts.
+-- The texts of parts.
 use Rattle.std.specs.Prelude.{ℕ, List, decimal}
-use Rattle.cmm_top.specs.declared.line.Part.{Part}
-use Rattle.cmm_top.specs.declared.line.Part.TheVariants.{Text, Number}
+use Rattle.cmm_report.specs.Texts.{address_text}
+use Rattle.cmm_top.specs.declared.parts.Part.{Part}
+use Rattle.cmm_top.specs.declared.parts.Part.TheVariants.{Text, Number, Address}
 
 abbrev pub part_text : Part → List ℕ
 part_text (Text bytes) = bytes.now
 part_text (Number number) = decimal number
+part_text (Address address) = address_text address

@@ -1,0 +1,7 @@
+mod Giving
+mod Continuing
+mod Adding
+mod Simple
+mod Sorting
+mod MeaningRows
+pub mod InRange

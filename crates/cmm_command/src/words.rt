@@ -1,0 +1,113 @@
+//! Commands from words.
+
+ghost use Rattle.std.specs.Prelude.{◌≡◌, map, string_bytes};
+ghost use Rattle.cmm_command.specs.declared.first_word.FirstWord.TheVariants as first;
+ghost use Rattle.cmm_command.specs.FirstWords.{first_word_in};
+ghost use Rattle.cmm_command.specs.Meaning.{meaning_by, meaning_of, plain};
+ghost use Rattle.cmm_command.specs.Reading.{Gives};
+
+use crate::command::Command;
+use crate::fault::CommandFault;
+use crate::first_word::FirstWord;
+use crate::options::{self, CLIENT, IMAGE, SAVE, SNAPSHOT, UNIT};
+use crate::sorted;
+use std::alloc::Global;
+
+/// What words ask for. They are those that a user typed after the program's name.
+#[tactic(auto, unfolding(crate::specs::Meaning::meaning_of))]
+pub fn command_of<'a>(alloc: Global, words: &'a [String]) -> Result<Command<'a>, CommandFault>
+    ensures { Gives plain (meaning_of (map string_bytes words.entry.now)) result }
+{
+    match first_word(words) {
+        Some(first) => asked(alloc, first, words),
+        None => Err(CommandFault::Usage),
+    }
+}
+
+/// What the first of the words says.
+fn first_word(words: &[String]) -> Option<FirstWord>
+    ensures { result ≡ first_word_in (map string_bytes words.now) }
+{
+    match words.first() {
+        Some(word) => FirstWord::of(word.as_str()),
+        None => None,
+    }
+}
+
+/// What words ask for whose first is known.
+fn asked<'a>(
+    alloc: Global,
+    first: FirstWord,
+    words: &'a [String],
+) -> Result<Command<'a>, CommandFault>
+    ensures { Gives plain (meaning_by first (map string_bytes words.entry.now)) result }
+{
+    match first {
+        FirstWord::Build => build(alloc, words),
+        FirstWord::Run => run(alloc, words),
+        FirstWord::Exec => exec(alloc, words),
+        FirstWord::Walk => walk(alloc, words),
+        FirstWord::Generate => generate(alloc, words),
+    }
+}
+
+/// What words that begin with `build` ask for.
+fn build<'a>(alloc: Global, words: &'a [String]) -> Result<Command<'a>, CommandFault>
+    ensures { Gives plain (meaning_by first.Build (map string_bytes words.entry.now)) result }
+{
+    let matches = sorted::sorted(options::build(alloc)?, words)?;
+    let units = sorted::files(alloc, &matches, UNIT)?;
+    let image = sorted::file(&matches, IMAGE)?;
+    Ok(Command::Build { units, image })
+}
+
+/// What words that begin with `run` ask for.
+fn run<'a>(alloc: Global, words: &'a [String]) -> Result<Command<'a>, CommandFault>
+    ensures { Gives plain (meaning_by first.Run (map string_bytes words.entry.now)) result }
+{
+    let matches = sorted::sorted(options::run(alloc)?, words)?;
+    let image = sorted::file(&matches, IMAGE)?;
+    let client = sorted::file_if_given(&matches, CLIENT)?;
+    let limits = sorted::limits(&matches)?;
+    let save = sorted::file_if_given(&matches, SAVE)?;
+    Ok(Command::Run {
+        image,
+        client,
+        limits,
+        save,
+    })
+}
+
+/// What words that begin with `exec` ask for.
+fn exec<'a>(alloc: Global, words: &'a [String]) -> Result<Command<'a>, CommandFault>
+    ensures { Gives plain (meaning_by first.Exec (map string_bytes words.entry.now)) result }
+{
+    let matches = sorted::sorted(options::exec(alloc)?, words)?;
+    let units = sorted::files(alloc, &matches, UNIT)?;
+    let client = sorted::file_if_given(&matches, CLIENT)?;
+    let limits = sorted::limits(&matches)?;
+    Ok(Command::Exec {
+        units,
+        client,
+        limits,
+    })
+}
+
+/// What words that begin with `walk` ask for.
+fn walk<'a>(alloc: Global, words: &'a [String]) -> Result<Command<'a>, CommandFault>
+    ensures { Gives plain (meaning_by first.Walk (map string_bytes words.entry.now)) result }
+{
+    let matches = sorted::sorted(options::walk(alloc)?, words)?;
+    let image = sorted::file(&matches, IMAGE)?;
+    let snapshot = sorted::file(&matches, SNAPSHOT)?;
+    Ok(Command::Walk { image, snapshot })
+}
+
+/// What words that begin with `gen` ask for.
+fn generate<'a>(alloc: Global, words: &'a [String]) -> Result<Command<'a>, CommandFault>
+    ensures { Gives plain (meaning_by first.Generate (map string_bytes words.entry.now)) result }
+{
+    let matches = sorted::sorted(options::generate(alloc)?, words)?;
+    let number = sorted::program_number(&matches)?;
+    Ok(Command::Generate { number })
+}

@@ -1,0 +1,68 @@
+-- What is said of a fault that a layer below names.
+use Rattle.std.proofs.Common.{◌≡◌, List, ℕ, Option, None, inl, inr, refl, subst, sym}
+use Rattle.std.specs.Prelude.{◌⊎◌}
+use Rattle.cmm_accepted.specs.declared.fault.Fault.{Fault}
+use Rattle.cmm_compile.specs.declared.fault.BuildFault.{BuildFault}
+use Rattle.cmm_compile.specs.declared.fault.BuildFault.TheVariants as build
+use Rattle.cmm_compile.specs.Refusing.{IsFaultOf, IsRefused as IsRefusedBy, of_front}
+use Rattle.cmm_front.specs.declared.fault.FrontFault.{FrontFault}
+use Rattle.cmm_front.specs.declared.fault.FrontFault.TheVariants.{At, Memory}
+use Rattle.cmm_front.specs.Refusing.{BreaksLexis, IsRefused as IsRefusedAtFront}
+use Rattle.cmm_outside.specs.Storage.{Contents}
+use Rattle.cmm_top.specs.Call.{Outside}
+use Rattle.cmm_top.specs.Units.{HasUnits, HaveNoImage, IsRefused}
+use Rattle.cmm_top.specs.Work.{RanOutOfMemory}
+use Rattle.cmm_top.specs.declared.ending.Ending.{Ending}
+use Rattle.cmm_top.specs.declared.ending.Ending.TheVariants as ending
+use Rattle.cmm_top.specs.inside.Ending.{Refuses, work_of}
+
+pub lexis_is : (units : List (List ℕ)) (e : FrontFault) → IsRefusedAtFront (BreaksLexis units) e → IsRefusedBy (IsFaultOf units) (of_front e)
+lexis_is units (At f) broken = inl (inl broken)
+lexis_is units Memory broken = tt
+
+-- memory ran out, and nothing was done
+pub ran_out : (before after : Outside) → after ≡ before → RanOutOfMemory (work_of ending.OutOfMemory None before after)
+ran_out before after same = record { nothing = record { same = same; no_image = refl }; ends = record { line = refl; status = refl } }
+
+-- units that are refused come to that
+pub is_refused : (names : List (List ℕ)) (HasFault : Fault → Type 0) (before after : Outside) (fault : BuildFault) (end : Ending) → after ≡ before → Refuses names fault end →
+    IsRefusedBy HasFault fault → IsRefused names HasFault (work_of end None before after) ⊎ RanOutOfMemory (work_of end None before after)
+is_refused names HasFault before after (build.At f) (ending.Refused name g) same refuses has =
+    inl record {
+      fault = g;
+      name = name.now;
+      named = refuses.1;
+      cause = subst HasFault (sym refuses.0) has;
+      nothing = record { same = same; no_image = refl };
+      ends = record { line = refl; status = refl };
+    }
+is_refused names HasFault before after (build.At f) ending.Usage same refuses has = absurd refuses
+is_refused names HasFault before after (build.At f) (ending.BadImage rule offset) same refuses has = absurd refuses
+is_refused names HasFault before after (build.At f) (ending.FileFault name) same refuses has = absurd refuses
+is_refused names HasFault before after (build.At f) ending.OutputFault same refuses has = absurd refuses
+is_refused names HasFault before after (build.At f) ending.OutOfMemory same refuses has = absurd refuses
+is_refused names HasFault before after (build.At f) ending.Built same refuses has = absurd refuses
+is_refused names HasFault before after (build.At f) (ending.Ran outcome) same refuses has = absurd refuses
+is_refused names HasFault before after build.Memory ending.OutOfMemory same refuses has = inr (ran_out before after same)
+is_refused names HasFault before after build.Memory ending.Usage same refuses has = absurd refuses
+is_refused names HasFault before after build.Memory (ending.Refused name g) same refuses has = absurd refuses
+is_refused names HasFault before after build.Memory (ending.BadImage rule offset) same refuses has = absurd refuses
+is_refused names HasFault before after build.Memory (ending.FileFault name) same refuses has = absurd refuses
+is_refused names HasFault before after build.Memory ending.OutputFault same refuses has = absurd refuses
+is_refused names HasFault before after build.Memory ending.Built same refuses has = absurd refuses
+is_refused names HasFault before after build.Memory (ending.Ran outcome) same refuses has = absurd refuses
+
+-- a fault that the units have in the files
+fault_in : (contents : Option Contents) (names : List (List ℕ)) (fault : BuildFault) → HasUnits contents names (λ units. IsRefusedBy (IsFaultOf units) fault) →
+    IsRefusedBy (λ f. HasUnits contents names (λ units. IsFaultOf units f)) fault
+fault_in contents names (build.At f) has = has
+fault_in contents names build.Memory has = tt
+
+-- units in files that are refused have no image
+pub have_no_image : (names : List (List ℕ)) (before after : Outside) (fault : BuildFault) (end : Ending) → after ≡ before → Refuses names fault end →
+    HasUnits before.files names (λ units. IsRefusedBy (IsFaultOf units) fault) → HaveNoImage names (work_of end None before after)
+have_no_image names before after fault end same refuses has =
+    elim (is_refused names (λ f. HasUnits before.files names (λ units. IsFaultOf units f)) before after fault end same refuses (fault_in before.files names fault has)) [
+      | inl refused ↦ inl refused
+      | inr memory ↦ inr (inr memory)
+    ]

@@ -1,0 +1,38 @@
+use Rattle.std.proofs.Common.{List, ℕ, Option, ◌∙◌, inl, inr, refl, subst}
+use Rattle.cmm_outside.specs.Faults.{Rose}
+use Rattle.cmm_outside.specs.Storage.{Contents, StopsWriting, Writes}
+use Rattle.cmm_top.proofs.building.build.Goals as goal
+
+pub returns-in-Ok-write_file : goal.returns-in-Ok-write_file
+returns-in-Ok-write_file g c = λ streams.
+    let after = g.F.Files.contents c.write_file.new.files in
+    let read = c.in-Ok.ensures in
+    let wrote = c.in-Ok-write_file.ensures in
+    inl record {
+      bytes = c.in-Ok-write_image.bytes.items;
+      built = record { image = c.in-Ok.image; agrees = read.ok; spelled = c.in-Ok-write_image.ensures };
+      written = subst (λ (before : Option Contents). Writes before after c.args.name.now (λ _. c.in-Ok-write_image.bytes.items)) read.same
+          (subst (λ (bytes : List ℕ). Writes (g.F.Files.contents c.image_in.new.files) after c.args.name.now (λ _. bytes)) c.deref.ensures.value wrote.ok);
+      file_faults = wrote.no_fault ∙ read.no_fault;
+      last_failed = wrote.no_failed_call ∙ read.no_failed_call;
+      streams = refl;
+      no_image = refl;
+      ends = record { line = refl; status = refl };
+    }
+
+pub returns : goal.returns
+returns g c = λ streams.
+    let after = g.F.Files.contents c.write_file.new.files in
+    let failed = g.F.Files.last_failed c.write_file.new.files in
+    let read = c.in-Ok.ensures in
+    let stopped = c.in-Err-write_file.ensures in
+    inr (inl record {
+      bytes = c.in-Ok-write_image.bytes.items;
+      built = record { image = c.in-Ok.image; agrees = read.ok; spelled = c.in-Ok-write_image.ensures };
+      stops = subst (λ (before : Option Contents). StopsWriting before after failed c.args.name.now c.in-Ok-write_image.bytes.items) read.same
+          (subst (λ (bytes : List ℕ). StopsWriting (g.F.Files.contents c.image_in.new.files) after failed c.args.name.now bytes) c.deref.ensures.value stopped.err);
+      rose = subst (λ (before : ℕ). Rose before (g.F.Files.faults c.write_file.new.files)) read.no_fault stopped.fault;
+      streams = refl;
+      no_image = refl;
+      ends = record { line = refl; status = refl };
+    })

@@ -1,0 +1,32 @@
+-- What the words of the command line ask for, so far: a task without a client, which saves nothing.
+use Rattle.std.specs.Prelude.{ℕ, List, [], ◌∷◌, map, Option, Some, None, String, string_bytes}
+use Rattle.std.specs.Global.{Global}
+use Rattle.cmm_command.specs.Meaning.{Meaning, meaning_of}
+use Rattle.cmm_command.specs.Meaning as meaning
+use Rattle.cmm_command.specs.declared.command.RunLimits.{RunLimits}
+
+-- the words' bytes
+abbrev pub texts : List (String Global) → List (List ℕ)
+texts words = map string_bytes words
+
+-- Units are in files of these names, one at least, and an image is in the file of one.
+pub data Task : Type 0 where
+  execute : List (List ℕ) → RunLimits → Task
+  run : List ℕ → RunLimits → Task
+  build : List (List ℕ) → List ℕ → Task
+  generate : ℕ → Task
+
+abbrev pub task_in : Meaning → Option Task
+task_in (meaning.exec [] client limits) = None
+task_in (meaning.exec (name ∷ names) None limits) = Some (execute (name ∷ names) limits)
+task_in (meaning.exec (name ∷ names) (Some client) limits) = None
+task_in (meaning.run image None limits None) = Some (run image limits)
+task_in (meaning.run image None limits (Some save)) = None
+task_in (meaning.run image (Some client) limits save) = None
+task_in (meaning.build [] image) = None
+task_in (meaning.build (name ∷ names) image) = Some (build (name ∷ names) image)
+task_in (meaning.walk image snapshot) = None
+task_in (meaning.generate number) = Some (generate number)
+
+abbrev pub task_of : List (List ℕ) → Option Task
+task_of words = elim (meaning_of words) [ Some meant ↦ task_in meant | None ↦ None ]

@@ -1,0 +1,45 @@
+-- What a call does, all but the line that it ends with.
+use Rattle.std.specs.Prelude.{◌≡◌, ℕ, List, Option, None}
+use Rattle.cmm_command.specs.declared.command.RunLimits.{RunLimits}
+use Rattle.cmm_compile.specs.Agreement.{launch_of}
+use Rattle.cmm_image.specs.declared.parts.ImageParts.{ImageParts}
+use Rattle.cmm_run.specs.declared.outcome.Outcome.{Outcome}
+use Rattle.cmm_run.specs.Outside.{Outside as Streams}
+use Rattle.cmm_run.specs.Runs.{Runs}
+use Rattle.cmm_top.specs.Script.{no_script}
+use Rattle.cmm_top.specs.declared.status.Status.{Status}
+use Rattle.cmm_top.specs.declared.status.Status.TheVariants.{Memory}
+use Rattle.cmm_top.specs.Call.{Outside, SameFiles}
+use Rattle.cmm_top.specs.Lines.{memory_line, outcome_line}
+use Rattle.cmm_top.specs.Status.{status_of}
+
+pub record Work : Type 0 where
+  pub before : Outside
+  pub after : Outside
+  -- the image that was made and loaded to be run, if one was
+  pub image : Option ImageParts
+  -- the line that is to be written, and the status where that succeeds
+  pub line : List ℕ
+  pub status : Status
+
+-- it ends with this line and this status
+pub record Ends (w : Work) (text : List ℕ) (number : Status) : Type 0 where
+  pub line : w.line ≡ text
+  pub status : w.status ≡ number
+
+-- nothing was done, and there is no image
+pub record DoesNothing (w : Work) : Type 0 where
+  pub same : w.after ≡ w.before
+  pub no_image : w.image ≡ None
+
+-- memory ran out before anything was done: no cause is asked
+pub record RanOutOfMemory (w : Work) : Type 0 where
+  pub nothing : DoesNothing w
+  pub ends : Ends w memory_line Memory
+
+-- An image has run, from where the streams stood so, as the definition of an image says, with no script: what was written and taken, and what it came to.
+pub record Ran (w : Work) (start : Streams) (image : ImageParts) (limits : RunLimits) : Type 0 where
+  pub files : SameFiles w.before w.after
+  pub outcome : Outcome
+  pub runs : Runs (launch_of image no_script limits.stack) limits.steps start w.after.streams outcome
+  pub ends : Ends w (outcome_line outcome) (status_of outcome)

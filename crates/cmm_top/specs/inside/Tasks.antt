@@ -1,0 +1,27 @@
+-- Tasks as the code has them.
+use Rattle.std.specs.Prelude.{◌≡◌, ◌≤◌, ◌<◌, ℕ, List, length, map, Option, Some, None}
+use Rattle.std.specs.List.{All}
+use Rattle.cmm_command.specs.Laws.{IsName}
+use Rattle.rv_table.specs.declared.memory_map.TheConstants.{STACK_SIZE_LIMIT}
+use Rattle.cmm_top.specs.declared.task.Task.{Task as TaskAsked}
+use Rattle.cmm_top.specs.declared.task.Task.TheVariants as asked
+use Rattle.cmm_top.specs.Words.{Task, execute, run, build, generate}
+
+abbrev pub plain_task : TaskAsked → Task
+plain_task (asked.Execute units limits) = execute (map (λ name. name.now) units) limits
+plain_task (asked.Run image limits) = run image.now limits
+plain_task (asked.Build units image) = build (map (λ name. name.now) units) image.now
+plain_task (asked.Generate number) = generate number
+
+-- what is asked for is so
+abbrev pub IsAsked : Option Task → Option TaskAsked → Type 0
+IsAsked None None = Unit {0}
+IsAsked (Some task) (Some is) = task ≡ plain_task is
+IsAsked _ _ = ⊥
+
+-- names are short enough, and so is the stack
+abbrev pub CanBeDone : Task → Type 0
+CanBeDone (execute names limits) = All IsName names × (0 < length names) × (limits.stack ≤ STACK_SIZE_LIMIT)
+CanBeDone (run name limits) = IsName name × (limits.stack ≤ STACK_SIZE_LIMIT)
+CanBeDone (build names name) = All IsName names × (0 < length names) × IsName name
+CanBeDone (generate number) = Unit {0}

@@ -1,0 +1,43 @@
+//! `build`: units are built, and their image is written.
+
+ghost use Rattle.std.specs.Prelude.{◌≡◌, ◌≤◌, ◌<◌, length, map, None};
+ghost use Rattle.std.specs.List.{All};
+ghost use Rattle.cmm_outside.specs.declared.storage.TheConstants.{NAME_LIMIT};
+ghost use Rattle.cmm_run.specs.Outside.{Outside as Streams};
+ghost use Rattle.cmm_top.specs.Building.{Builds};
+ghost use Rattle.cmm_top.specs.Call.{standing};
+ghost use Rattle.cmm_top.specs.inside.Ending.{work_of};
+
+use crate::ending::Ending;
+use crate::units::image_in;
+use cmm_image::write_image;
+use cmm_outside::{Failed, Files, write_file};
+use std::alloc::{AllocError, Global};
+
+/// What the units in files of these names come to: they are read and built, and their image is written to the file of another name.
+pub(crate) fn build<'a, F: Files>(
+    alloc: Global,
+    names: &[&'a str],
+    name: &'a str,
+    files: &mut F,
+) -> Ending<'a>
+    requires short { All (λ name. length name.now ≤ NAME_LIMIT) names.now }
+    requires some { 0 < length names.now }
+    requires name { length name.now ≤ NAME_LIMIT }
+    ensures { (streams : Streams) → Builds (map (λ name. name.now) names.now) name.now (work_of result None
+        (standing F.contents F.faults F.last_failed files.old streams)
+        (standing F.contents F.faults F.last_failed files.new streams)) }
+{
+    let image = match image_in(alloc, files, names) {
+        Ok(image) => image,
+        Err(ending) => return ending,
+    };
+    let bytes = match write_image(alloc, &image) {
+        Ok(bytes) => bytes,
+        Err(AllocError) => return Ending::OutOfMemory,
+    };
+    match write_file(files, name, &bytes) {
+        Ok(()) => Ending::Built,
+        Err(Failed) => Ending::FileFault(name),
+    }
+}

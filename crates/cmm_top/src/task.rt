@@ -1,0 +1,70 @@
+//! What words ask for.
+
+ghost use Rattle.std.specs.Prelude.{◌≡◌};
+ghost use Rattle.cmm_command.specs.Meaning.{plain};
+ghost use Rattle.cmm_top.specs.Words.{task_in as task_meant};
+ghost use Rattle.cmm_top.specs.inside.Tasks.{IsAsked};
+
+use cmm_command::{Command, RunLimits};
+use cmm_items::Items;
+
+/// What words ask for. Files are named by at most 4,095 bytes.
+#[derive(Debug, Drop)]
+pub(crate) enum Task<'a> {
+    /// To build the units in files of these names, one at least, and to run their image.
+    Execute {
+        units: Items<&'a str>,
+        limits: RunLimits,
+    },
+    /// To run the image in a file.
+    Run {
+        image: &'a str,
+        limits: RunLimits,
+    },
+    /// To build the units in files of these names, one at least, and to write their image to a file.
+    Build {
+        units: Items<&'a str>,
+        image: &'a str,
+    },
+    /// To build the unit of a number, and to run its image.
+    Generate {
+        number: u64,
+    },
+}
+
+/// What a command asks for, so far: a task without a client, which saves nothing.
+pub(crate) fn task_in<'a>(command: Command<'a>) -> Option<Task<'a>>
+    ensures { IsAsked (task_meant (plain command.entry)) result }
+{
+    match command {
+        Command::Exec {
+            units,
+            client,
+            limits,
+        } => {
+            if client.is_some() || units.is_empty() {
+                return None;
+            }
+            Some(Task::Execute { units, limits })
+        }
+        Command::Run {
+            image,
+            client,
+            limits,
+            save,
+        } => {
+            if client.is_some() || save.is_some() {
+                return None;
+            }
+            Some(Task::Run { image, limits })
+        }
+        Command::Build { units, image } => {
+            if units.is_empty() {
+                return None;
+            }
+            Some(Task::Build { units, image })
+        }
+        Command::Generate { number } => Some(Task::Generate { number }),
+        Command::Walk { .. } => None,
+    }
+}
