@@ -1,12 +1,14 @@
-//! Prints which fault is named of the units of each line of its input, or that they break no rule that is tested.
+//! Prints which fault is named of the units of each line of its input, or that they break no rule, and how many tokens their program has.
 //!
 //! It is the test of `cmm_static` on texts, as data: `stdin` has a case a line, its units divided by tabs, and `stdout` the faults that are named
-//! of them by docs/LANGUAGE.md, worked out by hand: the number of the unit, from 0, line, column, and the rule.
+//! of them by docs/LANGUAGE.md, worked out by hand: the number of the unit, from 0, line, column, and the rule. Of units that break none it has how
+//! many tokens they have, and then of each procedure how many its statements have of its own, as `tools/token_counts.py` counts them in the texts.
 #![tactic(auto)]
 
 use cmm_ast::Unit;
 use cmm_lexer::{LexFault, lex};
 use cmm_parser::{SyntaxFault, parse};
+use cmm_program::{Arm, Form, Program, Statement};
 use cmm_static::{StaticFault, check};
 use std::alloc::{AllocError, AllocFailed, Global};
 use std::io;
@@ -29,7 +31,7 @@ fn print_fault(rt: &(impl AllocGlobal + Print), line: &str) -> io::Result<()> {
         Err(NoUnit) => return println!(rt; "no unit"),
     };
     match check(rt.alloc(), &units) {
-        Ok(()) => println!(rt; "accepted"),
+        Ok(program) => print_counts(rt, &units, &program),
         Err(
             StaticFault::At {
                 rule,
@@ -40,6 +42,67 @@ fn print_fault(rt: &(impl AllocGlobal + Print), line: &str) -> io::Result<()> {
         ) => println!(rt; "{unit}:{line}:{column}: {rule}"),
         Err(StaticFault::Memory) => println!(rt; "out of memory"),
     }
+}
+
+/// Prints how many tokens units have, and of each procedure of their program how many its statements have of its own.
+fn print_counts(rt: &impl Print, units: &[Unit], program: &Program) -> io::Result<()> {
+    print!(rt; "accepted, {} tokens", token_count(units))?;
+    for proc in program.procs.as_slice() {
+        let inside = tokens_in(proc.body.as_slice());
+        print!(rt; "; {:?} {} of {}", proc.name, inside, proc.tokens)?;
+    }
+    println!(rt; "")
+}
+
+/// How many tokens some units have. The last place of each is its end.
+fn token_count(units: &[Unit]) -> usize {
+    let mut count: usize = 0;
+    for unit in units {
+        count = count.saturating_add(unit.places.len().saturating_sub(1));
+    }
+    count
+}
+
+/// How many tokens some statements have, with those in the blocks inside them.
+#[cycle(statements)]
+fn tokens_in(statements: &[Statement]) -> u32 {
+    let mut count: u32 = 0;
+    for statement in statements {
+        let inside = tokens_inside(&statement.form);
+        count = count
+            .saturating_add(statement.tokens)
+            .saturating_add(inside);
+    }
+    count
+}
+
+/// How many stand in the blocks of a statement.
+#[cycle(statements)]
+fn tokens_inside(form: &Form) -> u32 {
+    match form {
+        Form::If {
+            then,
+            otherwise,
+            ..
+        } => {
+            let first = tokens_in(then.as_slice());
+            let second = tokens_in(otherwise.as_slice());
+            first.saturating_add(second)
+        }
+        Form::Switch { arms, .. } => tokens_in_arms(arms.as_slice()),
+        Form::Span(body) => tokens_in(body.as_slice()),
+        _ => 0,
+    }
+}
+
+/// How many stand in the arms of a switch.
+#[cycle(statements)]
+fn tokens_in_arms(arms: &[Arm]) -> u32 {
+    let mut count: u32 = 0;
+    for arm in arms {
+        count = count.saturating_add(tokens_in(arm.body.as_slice()));
+    }
+    count
 }
 
 /// A text of a case is no unit, or memory is out.

@@ -1,2 +1,3 @@
 -- The lemmas that proofs of other crates may cite.
 pub use Rattle.cmm_image.proofs.SiteLaws.{sites_keep_frames}
+pub use Rattle.cmm_image.proofs.FieldLaws.{length-number_bytes}
