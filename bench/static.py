@@ -15,7 +15,8 @@ import tempfile
 import time
 
 SIZE = 1_048_000
-MAIN = "export main; main() { return (1); }\n"
+# (a call of `yield`: so a unit that keeps all rules is refused behind them, and nothing is compiled)
+MAIN = "export main; main() { yield(1); return (1); }\n"
 # tokens of a procedure are limited
 STATEMENTS = 21_000
 

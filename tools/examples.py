@@ -4,7 +4,7 @@
 An example is an indented line `$ COMMAND` of these pages with the lines below it, up to the next such line or the end of its block: what the command
 must print on both streams together. A command that is `./cmm ..; echo $?` so shows its exit status; any other must end with 0. Each .cmm file of
 examples/ must stand in an example. PROGRAM is run in place of ./cmm, which would prove and build the program first where its sources have changed:
-`rt ci` leaves the one that it proved in crates/cmm/out/cmm. The last line is `N passed, M failed`.
+`rt ci` leaves the one that it proved in crates/cmm/out/cmm. Images are written into out/. The last line is `N passed, M failed`.
 """
 import os
 import re
@@ -42,6 +42,7 @@ def fault_of(command, wanted, program):
 
 
 def main(program="./cmm"):
+    os.makedirs(f"{TOP}/out", exist_ok=True)
     found = []
     for name in ("README.md", "examples/README.md"):
         with open(f"{TOP}/{name}", encoding="utf-8") as page:

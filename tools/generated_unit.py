@@ -1,0 +1,44 @@
+#!/usr/bin/env python3
+"""The unit that `gen` makes, made a second time: `generated_unit.py NUMBER` prints its text,
+`generated_unit.py --sums NUMBER..` a row for each number: the text's length and its sum,
+which is (31 * sum + byte) modulo 2^32 over its bytes. The tests keep these rows."""
+import sys
+
+BODIES = [
+    "bits64 r; r = p{j}(x + bits64[t + {a}]); return (r);",
+    "jump p{j}(x + bits64[t + {a}]);",
+    "bits64 r; r = p{j}(x + bits64[t + {a}]) also returns to k; return (r); "
+    "continuation k(r): return (r);",
+    "bits64 r; r = w(x + bits64[t + {a}], k) also cuts to k; return <1/1> (r); "
+    "continuation k(r): r = p{j}(r); return <0/1> (r);",
+]
+
+
+def unit(number):
+    cells = ", ".join(str((number + i) % 1000) for i in range(2000))
+    lines = [
+        "export main;",
+        f'section "data" {{ t: bits64 {{ {cells} }}; }}',
+        f"main() {{ bits64 r; r = p0({number}); return (r); }}",
+        "w(bits64 x, bits64 k) { cut to k(x); }",
+    ]
+    for i in range(2000):
+        body = BODIES[i % 4].format(j=i + 1, a=8 * i)
+        lines.append(f"p{i}(bits64 x) {{ {body} }}")
+    lines.append("p2000(bits64 x) { return (x); }")
+    return "".join(line + "\n" for line in lines).encode()
+
+
+def total(text):
+    result = 0
+    for byte in text:
+        result = (31 * result + byte) % 2**32
+    return result
+
+
+if sys.argv[1] == "--sums":
+    for word in sys.argv[2:]:
+        text = unit(int(word))
+        print(f"({word}, {len(text)}, {total(text)}),")
+else:
+    sys.stdout.buffer.write(unit(int(sys.argv[1])))
