@@ -66,32 +66,32 @@ module _ (s : Setting) (c : Compiled) (l : Launch) (f : Finished) (is_for : IsFo
   abbrev word : Width → Operand → Tried ℕ
   word w o = operand_word (keeping s c at).held w o (reads_at s c at)
 
-  brought : (o : Operand) (a : CodeOperand) (x : ℕ) → IsOperandOf s c l f at.procedure o a → value o ≡ Ok x → (operand_at f.labels a t ≡ x) × CanBringOperand a (map_of l) t
+  brought : (o : Operand) (a : CodeOperand) (x : ℕ) → IsOperandOf s c l f at.procedure o a → value o ≡ Ok x → (operand_at (f.labels at.procedure) a t ≡ x) × CanBringOperand a (map_of l) t
   brought o a x is is_x = operand_is s c l f is_for at t body.activation body.older body.youngest places stands.shown o a x is is_x
 
   shown_here : IsShown f.symbols s (map_of l) at.holdings at.store [] t
   shown_here = forget_values f.symbols s (map_of l) at.holdings at.store at.carried t stands.shown
 
-  module _ (to : CodeDestination) (reached : CanPut f.labels to (map_of l) t) (count on v : ℕ) where
+  module _ (to : CodeDestination) (reached : CanPut (f.labels at.procedure) to (map_of l) t) (count on v : ℕ) where
     abbrev ArePut : State → Type 0
-    ArePut u = (u.pc ≡ on) × PutsTo f.labels to v t u
+    ArePut u = (u.pc ≡ on) × PutsTo (f.labels at.procedure) to v t u
 
     -- a number that is the value
-    put_as : (u : State) (n : ℕ) → n ≡ v → (u.pc ≡ on) × PutsTo f.labels to n t u → ArePut u
-    put_as u n is there = (there.0, subst (λ (k : ℕ). PutsTo f.labels to k t u) is there.1)
+    put_as : (u : State) (n : ℕ) → n ≡ v → (u.pc ≡ on) × PutsTo (f.labels at.procedure) to n t u → ArePut u
+    put_as u n is there = (there.0, subst (λ (k : ℕ). PutsTo (f.labels at.procedure) to k t u) is there.1)
 
     one_put : (o : Operand) (a : CodeOperand) (w : Width) (f' : ℕ → ℕ) → IsOperandOf s c l f at.procedure o a →
-        AssignsOne count w f' a to (code_of l f) (f.node_at at.procedure at.node) on →
+        AssignsOne count w f' a to (code_of l f at.procedure) (f.node_at at.procedure at.node) on →
         (r : Tried ℕ) → word w o ≡ r → and_then r (λ x. Ok (f' x)) ≡ Ok v → Reaches (map_of l) 1 count t ArePut
     one_put o a w f' is code (Ok x) is_x e =
         let known = word_is w (value o) x is_x in
         let found = brought o a x is known.0 in
         reaches_more (code.runs.go t stands.sound stands.pc (record { brings = found.1; word = subst (IsWord w) (sym found.0) known.1; reaches = reached }))
-        (λ u there. put_as u (f' (operand_at f.labels a t)) (ap f' found.0 ∙ ok_is e) there)
+        (λ u there. put_as u (f' (operand_at (f.labels at.procedure) a t)) (ap f' found.0 ∙ ok_is e) there)
     one_put o a w f' is code (Err error) is_x e = absurd (cc)
 
     module _ (left right : Operand) (a b : CodeOperand) (w : Width) (is_a : IsOperandOf s c l f at.procedure left a) (is_b : IsOperandOf s c l f at.procedure right b) where
-      two_put : (op : Op2) → AssignsBinary count op w a b to (code_of l f) (f.node_at at.procedure at.node) on →
+      two_put : (op : Op2) → AssignsBinary count op w a b to (code_of l f at.procedure) (f.node_at at.procedure at.node) on →
           (r : Tried ℕ) → word w left ≡ r → (q : Tried ℕ) → word w right ≡ q →
           and_then r (λ x. and_then q (λ y. given (value2 op w x y) ZeroDivisor Ok)) ≡ Ok v → Reaches (map_of l) 1 count t ArePut
       two_put op code (Ok x) is_x (Ok y) is_y e =
@@ -99,21 +99,21 @@ module _ (s : Setting) (c : Compiled) (l : Launch) (f : Finished) (is_for : IsFo
           let also = word_is w (value right) y is_y in
           let first = brought left a x is_a known.0 in
           let second = brought right b y is_b also.0 in
-          by (value2 op w x y) (ap (λ (k : ℕ). value2 op w k (operand_at f.labels b t)) first.0 ∙ ap (value2 op w x) second.0) e
+          by (value2 op w x y) (ap (λ (k : ℕ). value2 op w k (operand_at (f.labels at.procedure) b t)) first.0 ∙ ap (value2 op w x) second.0) e
           (code.runs.go t stands.sound stands.pc (record {
             brings = record { brings_left = first.1; brings_right = second.1 };
             words = (subst (IsWord w) (sym first.0) known.1, subst (IsWord w) (sym second.0) also.1);
             reaches = reached;
           }))
         where
-          by : (o : Option ℕ) → value2 op w (operand_at f.labels a t) (operand_at f.labels b t) ≡ o → given o ZeroDivisor (λ z. Ok z) ≡ Ok v →
-              Reaches (map_of l) 1 count t (λ u. (u.pc ≡ on) × Assigns f.labels op w a b to t u) → Reaches (map_of l) 1 count t ArePut
+          by : (o : Option ℕ) → value2 op w (operand_at (f.labels at.procedure) a t) (operand_at (f.labels at.procedure) b t) ≡ o → given o ZeroDivisor (λ z. Ok z) ≡ Ok v →
+              Reaches (map_of l) 1 count t (λ u. (u.pc ≡ on) × Assigns (f.labels at.procedure) op w a b to t u) → Reaches (map_of l) 1 count t ArePut
           by (Some z) is e' reaches = reaches_more reaches (λ u there. put_as u there.1.number (there.1.given z is ∙ ok_is e') ((there.0, there.1.puts)))
           by None is e' reaches = absurd (cc)
       two_put op code (Ok x) is_x (Err error) is_y e = absurd (cc)
       two_put op code (Err error) is_x q is_y e = absurd (cc)
 
-      compared : (op : Cmp) → AssignsComparison count op w a b to (code_of l f) (f.node_at at.procedure at.node) on →
+      compared : (op : Cmp) → AssignsComparison count op w a b to (code_of l f at.procedure) (f.node_at at.procedure at.node) on →
           (r : Tried ℕ) → word w left ≡ r → (q : Tried ℕ) → word w right ≡ q →
           and_then (and_then r (λ x. and_then q (λ y. Ok (holds op w x y)))) (λ h. Ok (elim h as (λ _. ℕ) [ true ↦ 1 | false ↦ 0 ])) ≡ Ok v → Reaches (map_of l) 1 count t ArePut
       compared op code (Ok x) is_x (Ok y) is_y e =
@@ -121,16 +121,16 @@ module _ (s : Setting) (c : Compiled) (l : Launch) (f : Finished) (is_for : IsFo
           let also = word_is w (value right) y is_y in
           let first = brought left a x is_a known.0 in
           let second = brought right b y is_b also.0 in
-          by (holds op w x y) (ap (λ (k : ℕ). holds op w k (operand_at f.labels b t)) first.0 ∙ ap (holds op w x) second.0) e
+          by (holds op w x y) (ap (λ (k : ℕ). holds op w k (operand_at (f.labels at.procedure) b t)) first.0 ∙ ap (holds op w x) second.0) e
           (code.runs.go t stands.sound stands.pc (record {
             brings = record { brings_left = first.1; brings_right = second.1 };
             words = (subst (IsWord w) (sym first.0) known.1, subst (IsWord w) (sym second.0) also.1);
             reaches = reached;
           }))
         where
-          by : (h : Bool) → holds op w (operand_at f.labels a t) (operand_at f.labels b t) ≡ h →
+          by : (h : Bool) → holds op w (operand_at (f.labels at.procedure) a t) (operand_at (f.labels at.procedure) b t) ≡ h →
               ◌≡◌ {A = Tried ℕ} (Ok (elim h as (λ _. ℕ) [ true ↦ 1 | false ↦ 0 ])) (Ok v) →
-              Reaches (map_of l) 1 count t (λ u. (u.pc ≡ on) × PutsTo f.labels to (if holds op w (operand_at f.labels a t) (operand_at f.labels b t) then 1 else 0) t u) →
+              Reaches (map_of l) 1 count t (λ u. (u.pc ≡ on) × PutsTo (f.labels at.procedure) to (if holds op w (operand_at (f.labels at.procedure) a t) (operand_at (f.labels at.procedure) b t) then 1 else 0) t u) →
               Reaches (map_of l) 1 count t ArePut
           by true is e' reaches = reaches_more reaches (λ u there. put_as u _ (ap (λ (h : Bool). if h then 1 else 0) is ∙ ok_is e') there)
           by false is e' reaches = reaches_more reaches (λ u there. put_as u _ (ap (λ (h : Bool). if h then 1 else 0) is ∙ ok_is e') there)
@@ -138,24 +138,24 @@ module _ (s : Setting) (c : Compiled) (l : Launch) (f : Finished) (is_for : IsFo
       compared op code (Err error) is_x q is_y e = absurd (cc)
 
     -- a global register is read
-    read : (r : Register) (label : Label) → IsRegister s c l f r.number label → r.number < length at.store.registers →
-        Leads count (CanCopyGlobal f.labels (f.labels label.number) to) (λ u w. PutsTo f.labels to (global_at (f.labels label.number) u) u w) (code_of l f) (f.node_at at.procedure at.node) on →
+    read : (r : Register) (label : Label) → IsRegister s c l f at.procedure r.number label → r.number < length at.store.registers →
+        Leads count (CanCopyGlobal (f.labels at.procedure) (f.labels at.procedure label.number) to) (λ u w. PutsTo (f.labels at.procedure) to (global_at (f.labels at.procedure label.number) u) u w) (code_of l f at.procedure) (f.node_at at.procedure at.node) on →
         slice_index_or at.store.registers r.number 0 ≡ v → Reaches (map_of l) 1 count t ArePut
     read r label is within code e =
         reaches_more (code.runs.go t stands.sound stands.pc (record {
           reads = global_reached s c l f is_for at.procedure at.holdings at.store body.activation body.older body.youngest places t shown_here r.number label is within;
           reaches = reached;
         }))
-        (λ u there. put_as u (global_at (f.labels label.number) t)
+        (λ u there. put_as u (global_at (f.labels at.procedure label.number) t)
         (global_is_read s c l f is_for at.procedure at.holdings at.store body.activation body.older body.youngest places t shown_here r.number label is within ∙ e) there)
 
     -- a word is loaded
     load : (width : Width) (aligned : ℕ) (o : Operand) (a : CodeOperand) → IsOperandOf s c l f at.procedure o a → is_alignment aligned ≡ true →
-        AssignsLoaded count width aligned a to (code_of l f) (f.node_at at.procedure at.node) on →
+        AssignsLoaded count width aligned a to (code_of l f at.procedure) (f.node_at at.procedure at.node) on →
         (r : Tried ℕ) → value o ≡ r → and_then r (loaded_word (reads_at s c at) width aligned) ≡ Ok v → Reaches (map_of l) 1 count t ArePut
     load width aligned o a is fine code (Ok n) is_n e = by (may_access (cell_at at.store.memory) (bytes width) aligned n) refl e
       where
-        found : (operand_at f.labels a t ≡ n) × CanBringOperand a (map_of l) t
+        found : (operand_at (f.labels at.procedure) a t ≡ n) × CanBringOperand a (map_of l) t
         found = brought o a n is is_n
 
         number : (r : Tried (List ℕ)) → all_of (map (λ k. byte_of (cell_at at.store.memory k)) (range_with_len n (bytes width))) ≡ r → and_then r (λ xs. Ok (number_of xs)) ≡ Ok v →
@@ -173,7 +173,7 @@ module _ (s : Setting) (c : Compiled) (l : Launch) (f : Finished) (is_for : IsFo
                   (may_is_cell s (map_of l) is_for at.store stands.shown.stack n width aligned may fine);
               reaches = reached;
             }))
-            (λ u there. put_as u (loaded t.memory (operand_at f.labels a t) (bytes width))
+            (λ u there. put_as u (loaded t.memory (operand_at (f.labels at.procedure) a t) (bytes width))
             (ap (λ (k : ℕ). loaded t.memory k (bytes width)) found.0 ∙ number (all_of (map (λ k. byte_of (cell_at at.store.memory k)) (range_with_len n (bytes width)))) refl e') there)
         by false may e' = absurd (cc)
     load width aligned o a is fine code (Err error) is_n e = absurd (cc)
@@ -183,7 +183,7 @@ module _ (s : Setting) (c : Compiled) (l : Launch) (f : Finished) (is_for : IsFo
         Reaches (map_of l) 1 count t ArePut
     puts (rvalue.Copy o) (a, is, code) fine named kept e =
         let found = brought o a v is e in
-        reaches_more (code.runs.go t stands.sound stands.pc (record { brings = found.1; reaches = reached })) (λ u there. put_as u (operand_at f.labels a t) found.0 there)
+        reaches_more (code.runs.go t stands.sound stands.pc (record { brings = found.1; reaches = reached })) (λ u there. put_as u (operand_at (f.labels at.procedure) a t) found.0 there)
     puts (rvalue.Unary operator width o) (a, is, code) fine named kept e = one_put o a width (value1 operator width) is code (word width o) refl e
     puts (rvalue.SignExtend narrow width o) (a, is, code) fine named kept e = one_put o a narrow (sign_extended narrow width) is code (word narrow o) refl e
     puts (rvalue.LowBits wide width o) (a, is, code) fine named kept e = one_put o a wide (low_bits width) is code (word wide o) refl e
@@ -225,10 +225,10 @@ module _ (s : Setting) (c : Compiled) (l : Launch) (f : Finished) (is_for : IsFo
         (λ w last. stands_there s c l f (taken d v) g is_graph valid next leads w stands.running
         (record { activation = body.activation; older = body.older; youngest = body.youngest; same = body.same; carried = body.carried }) last.0.1 last.0.0 last.1))
       where
-        reached : CanPut f.labels code.into (map_of l) t
+        reached : CanPut (f.labels at.procedure) code.into (map_of l) t
         reached = can_put s c l f is_for at.procedure at.holdings at.store body.activation body.older body.youngest places t shown_here kept d code.into code.is_into named
 
-        shown_put : (u : State) → PutsTo f.labels code.into v t u → IsShown f.symbols s (map_of l) (taken d v).holdings (store_with d v) at.carried u
+        shown_put : (u : State) → PutsTo (f.labels at.procedure) code.into v t u → IsShown f.symbols s (map_of l) (taken d v).holdings (store_with d v) at.carried u
         shown_put u there =
             subst (λ (xs : List ℕ). IsShown f.symbols s (map_of l) (taken d v).holdings (store_with d v) xs u) (sym body.carried)
             (put_shown s c l f is_for at.procedure at.holdings at.store body.activation body.older body.youngest places t shown_here kept v small u d code.into code.is_into named there)

@@ -150,7 +150,7 @@ module _ (l : Launch) (at : ℕ → ℕ) (main callee site behind limit : Label)
 
   abbrev finished : Finished
   finished = record {
-    labels = at;
+    labels = λ q. at;
     node_at = node_in;
     symbols = record { return_to = λ q k. at site.number; landing_of = λ q k. 0; last_return = pieces.starts.back };
   }

@@ -114,13 +114,13 @@ module _ (s : Setting) (c : Compiled) (l : Launch) (f : Finished) (is_for : IsFo
   goes_by store h ws cost v goes after None from e = absurd (cc)
 
   -- a label that stands for the callee's address
-  label_is : (callee : Operand) (to : Label) (v : ℕ) → IsLabelOf s c l f callee to → value callee ≡ Ok v → f.labels to.number ≡ v
+  label_is : (callee : Operand) (to : Label) (v : ℕ) → IsLabelOf s c l f at.procedure callee to → value callee ≡ Ok v → f.labels at.procedure to.number ≡ v
   label_is (operand.Constant k) to v is e = is ∙ ok_is e
   label_is (operand.Local v') to v is e = absurd is
   label_is (operand.Stackdata label) to v is e = absurd is
   label_is (operand.Continuation k) to v is e = absurd is
 
-  callee_is : (callee : Operand) (to : CodeOperand) (v : ℕ) → IsOperandOf s c l f at.procedure callee to → value callee ≡ Ok v → operand_at f.labels to t ≡ v
+  callee_is : (callee : Operand) (to : CodeOperand) (v : ℕ) → IsOperandOf s c l f at.procedure callee to → value callee ≡ Ok v → operand_at (f.labels at.procedure) to t ≡ v
   callee_is callee to v is e =
       (operand_is s c l f is_for at t body.activation body.older body.youngest (λ k. laid.places body.activation k body.same) stands.shown callee to v is e).0
 
@@ -136,7 +136,7 @@ module _ (s : Setting) (c : Compiled) (l : Launch) (f : Finished) (is_for : IsFo
     CalledAt v u = (u.pc ≡ v) × IsShown f.symbols s (map_of l) (called at.procedure site at.holdings) at.store (numbers ws) u
 
     -- values have gone out, and the return address is set
-    linked : (r w u : State) (link : ℕ) → IsShown f.symbols s (map_of l) at.holdings at.store at.carried r → Gives f.labels code.operands r w → Sets 1 link w u →
+    linked : (r w u : State) (link : ℕ) → IsShown f.symbols s (map_of l) at.holdings at.store at.carried r → Gives (f.labels at.procedure) code.operands r w → Sets 1 link w u →
         link ≡ f.symbols.return_to at.procedure site → IsShown f.symbols s (map_of l) (called at.procedure site at.holdings) at.store (numbers ws) u
     linked r w u link shown gives sets is_link =
         called_shows f.symbols s (map_of l) is_for _ at.store (numbers ws) w u at.procedure site (sets.given ∙ is_link) sets.memory (λ k is. sets.others k (apart k is))
@@ -149,12 +149,12 @@ module _ (s : Setting) (c : Compiled) (l : Launch) (f : Finished) (is_for : IsFo
     calls_to : (v : ℕ) → value callee ≡ Ok v → v % 4 ≡ 0 → Reaches (map_of l) 1 cost t (CalledAt v)
     calls_to v is_v aligned = by code.calls
       where
-        by : ((to : Label) × IsLabelOf s c l f callee to × ((on : ℕ) × Calls (c.plan.frame at.procedure) code.operands to code.back (code_of l f) (f.node_at at.procedure at.node) on))
-            ⊎ ((to : CodeOperand) × IsOperandOf s c l f at.procedure callee to × ((on : ℕ) × (most_for to ≤ 11) × CallsBy (c.plan.frame at.procedure) to code.operands code.back (code_of l f) (f.node_at at.procedure at.node) on)) →
+        by : ((to : Label) × IsLabelOf s c l f at.procedure callee to × ((on : ℕ) × Calls (c.plan.frame at.procedure) code.operands to code.back (code_of l f at.procedure) (f.node_at at.procedure at.node) on))
+            ⊎ ((to : CodeOperand) × IsOperandOf s c l f at.procedure callee to × ((on : ℕ) × (most_for to ≤ 11) × CallsBy (c.plan.frame at.procedure) to code.operands code.back (code_of l f at.procedure) (f.node_at at.procedure at.node) on)) →
             Reaches (map_of l) 1 cost t (CalledAt v)
         by (inl (to, is, (on, calls))) =
             reaches_weaker (calls.turns.goes.go t stands.sound stands.pc (record { stack = framed; region = stands.shown.holdings.region })) (omega arith) (omega (arith, code.few))
-            (λ u there. (there.0 ∙ label_is callee to v is is_v, linked t there.1.0 u (f.labels code.back.number) stands.shown there.1.1 there.1.2 code.is_back))
+            (λ u there. (there.0 ∙ label_is callee to v is is_v, linked t there.1.0 u (f.labels at.procedure code.back.number) stands.shown there.1.1 there.1.2 code.is_back))
         by (inr (to, is, (on, small, calls))) =
             let same = callee_is callee to v is is_v in
             reaches_weaker
@@ -162,7 +162,7 @@ module _ (s : Setting) (c : Compiled) (l : Launch) (f : Finished) (is_for : IsFo
             (omega arith) (omega (arith, code.few, small))
             (λ u there. (
               there.0 ∙ same,
-              linked there.1.0 there.1.2.0 u (f.labels code.back.number % 2 ^ 64) (brought_shown _ there.1.0 there.1.1) there.1.2.1 there.1.2.2
+              linked there.1.0 there.1.2.0 u (f.labels at.procedure code.back.number % 2 ^ 64) (brought_shown _ there.1.0 there.1.1) there.1.2.1 there.1.2.2
                   (omega (arith, code.fits, code.is_back)),
             ))
 
@@ -197,7 +197,7 @@ module _ (s : Setting) (c : Compiled) (l : Launch) (f : Finished) (is_for : IsFo
     abbrev holdings_left : Holdings
     holdings_left = left c.plan at.procedure at.holdings
 
-    gone : (r u : State) → IsShown f.symbols s (map_of l) at.holdings at.store at.carried r → GivesAndLeaves f.labels (c.plan.frame at.procedure) code.operands r u →
+    gone : (r u : State) → IsShown f.symbols s (map_of l) at.holdings at.store at.carried r → GivesAndLeaves (f.labels at.procedure) (c.plan.frame at.procedure) code.operands r u →
         IsShown f.symbols s (map_of l) holdings_left (without 1 at.store) (numbers ws) u
     gone r u shown parts =
         parted s c l f is_for at r body.activation body.older body.youngest body.same laid shown code.operands ws u code.few_values
@@ -206,8 +206,8 @@ module _ (s : Setting) (c : Compiled) (l : Launch) (f : Finished) (is_for : IsFo
     jumps_to : (v : ℕ) → value callee ≡ Ok v → v % 4 ≡ 0 → Reaches (map_of l) 1 cost t (λ u. (u.pc ≡ v) × IsShown f.symbols s (map_of l) holdings_left (without 1 at.store) (numbers ws) u)
     jumps_to v is_v aligned = by code.jumps
       where
-        by : ((to : Label) × IsLabelOf s c l f callee to × JumpsTo (c.plan.frame at.procedure) code.operands to (code_of l f) (f.node_at at.procedure at.node))
-            ⊎ ((to : CodeOperand) × IsOperandOf s c l f at.procedure callee to × ((most_for to ≤ 11) × JumpsBy (c.plan.frame at.procedure) to code.operands (code_of l f) (f.node_at at.procedure at.node))) →
+        by : ((to : Label) × IsLabelOf s c l f at.procedure callee to × JumpsTo (c.plan.frame at.procedure) code.operands to (code_of l f at.procedure) (f.node_at at.procedure at.node))
+            ⊎ ((to : CodeOperand) × IsOperandOf s c l f at.procedure callee to × ((most_for to ≤ 11) × JumpsBy (c.plan.frame at.procedure) to code.operands (code_of l f at.procedure) (f.node_at at.procedure at.node))) →
             Reaches (map_of l) 1 cost t (λ u. (u.pc ≡ v) × IsShown f.symbols s (map_of l) holdings_left (without 1 at.store) (numbers ws) u)
         by (inl (to, is, jumps)) =
             reaches_weaker (jumps.goes.go t stands.sound stands.pc (record { stack = framed; region = stands.shown.holdings.region })) (omega arith) (omega (arith, code.few))

@@ -63,7 +63,7 @@ module _ (s : Setting) (c : Compiled) (l : Launch) (f : Finished) (is_for : IsFo
 
   targets_show : (to : List Target) (ds : List CodeDestination) (values : List ℕ) (h : Holdings) (store : Store) (t u : State) → store.activations ≡ a ∷ older →
       length store.registers ≡ length s.program.globals → AreTargetsOf s c l f q to ds → list_all (names_register s.program) to ≡ true →
-      ((i : ℕ) → i < length values → slice_index_or values i 0 < 2 ^ 64) → PutsEachTo f.labels (pairs ds values) t u → IsShown f.symbols s (map_of l) h store [] t →
+      ((i : ℕ) → i < length values → slice_index_or values i 0 < 2 ^ 64) → PutsEachTo (f.labels q) (pairs ds values) t u → IsShown f.symbols s (map_of l) h store [] t →
       IsShown f.symbols s (map_of l) (taken c.plan q to values h) (record store { registers = registers_after to values store.registers }) [] u
   targets_show [] [] values h store t u youngest count are named fit puts shown = subst (λ (z : State). IsShown f.symbols s (map_of l) h store [] z) puts shown
   targets_show [] (d ∷ ds) values h store t u youngest count are named fit puts shown = absurd are
@@ -99,7 +99,7 @@ module _ (s : Setting) (c : Compiled) (l : Launch) (f : Finished) (is_for : IsFo
   abbrev copied : Located
   copied = record { store = store_copied; holdings = taken c.plan at.procedure to at.carried at.holdings; procedure = at.procedure; node = next; carried = [] }
 
-  copied_shown : length to ≤ length at.carried → (u : State) → PutsEachTo f.labels (values_to 0 code.destinations t) t u → IsShown f.symbols s (map_of l) copied.holdings store_copied [] u
+  copied_shown : length to ≤ length at.carried → (u : State) → PutsEachTo (f.labels at.procedure) (values_to 0 code.destinations t) t u → IsShown f.symbols s (map_of l) copied.holdings store_copied [] u
   copied_shown enough u puts =
       let count : length code.destinations ≡ length to =
       length_targets s c l f is_for at.procedure g is_graph only.activation only.older places to code.destinations code.are in
@@ -107,7 +107,7 @@ module _ (s : Setting) (c : Compiled) (l : Launch) (f : Finished) (is_for : IsFo
       come_to_destinations code.destinations at.carried t (omega (arith, count, enough)) (λ i less. stands.shown.values.1 i (omega (arith, less, count, enough))) in
       targets_show s c l f is_for at.procedure g is_graph only.activation only.older places to code.destinations at.carried at.holdings at.store t u only.youngest kept code.are
       (and_parts (list_all (names_register s.program) to) true named).0 (values_fit at.carried t stands.sound stands.shown.values)
-      (subst (λ (list : List (CodeDestination × ℕ)). PutsEachTo f.labels list t u) same puts)
+      (subst (λ (list : List (CodeDestination × ℕ)). PutsEachTo (f.labels at.procedure) list t u) same puts)
       (forget_values f.symbols s (map_of l) at.holdings at.store at.carried t stands.shown)
 
   copied_done : length to ≤ length at.carried → IsDone s c l f at cost t copied
@@ -118,7 +118,7 @@ module _ (s : Setting) (c : Compiled) (l : Launch) (f : Finished) (is_for : IsFo
       (λ w there. stands_there s c l f copied g is_graph valid next leads w stands.running
       (record { activation = only.activation; older = only.older; youngest = only.youngest; same = only.same; carried = refl }) (settled w there.0.1) there.0.0 there.1))
     where
-      settled : (w : State) → (u : State) × PutsEachTo f.labels (values_to 0 code.destinations t) t u × Keeps u w → IsShown f.symbols s (map_of l) copied.holdings store_copied [] w
+      settled : (w : State) → (u : State) × PutsEachTo (f.labels at.procedure) (values_to 0 code.destinations t) t u × Keeps u w → IsShown f.symbols s (map_of l) copied.holdings store_copied [] w
       settled w (u, puts, keeps) = kept_shown f s l is_for copied.holdings store_copied [] u w keeps (copied_shown enough u puts)
 
   pub copy_done : ran_at s c (CopyIn to next) at ≡ Ok after → IsDone s c l f at cost t after

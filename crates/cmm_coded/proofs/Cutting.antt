@@ -91,7 +91,7 @@ module _ (s : Setting) (c : Compiled) (l : Launch) (f : Finished) (is_for : IsFo
       (is_words : words arguments ≡ Ok ws) (found : Found) (own : List ℕ) (is_found : cut_among s 0 own v at.store.activations ≡ Some found) (q k frame : ℕ)
       (first : at.holdings.contents v ≡ LandingOf q k) (second : at.holdings.contents (v + 8) ≡ Number frame)
       (pair : is_pair_of s c found at.store.activations q k frame ≡ true) (n : NodeId) (lands : landing_in c.graphs q k ≡ Some n) where
-    pair_is : operand_at f.labels code.pair t ≡ v
+    pair_is : operand_at (f.labels at.procedure) code.pair t ≡ v
     pair_is = (operand_is s c l f is_for at t body.activation body.older body.youngest (λ i. laid.places body.activation i body.same) stands.shown to code.pair v code.is_pair is_v).0
 
     -- ---- the pair
@@ -150,7 +150,7 @@ module _ (s : Setting) (c : Compiled) (l : Launch) (f : Finished) (is_for : IsFo
 
     -- ---- what is shown
 
-    moved : (u : State) → GivesAndMoves f.labels code.pair code.operands t u → IsShown f.symbols s (map_of l) (cut_at frame at.holdings) (without found.younger at.store) (numbers ws) u
+    moved : (u : State) → GivesAndMoves (f.labels at.procedure) code.pair code.operands t u → IsShown f.symbols s (map_of l) (cut_at frame at.holdings) (without found.younger at.store) (numbers ws) u
     moved u (r, brings, (w, gives, moves)) =
         let shown_r : IsShown f.symbols s (map_of l) at.holdings at.store at.carried r = kept_shown f s l is_for at.holdings at.store at.carried t r (brings_keeps _ t r brings) stands.shown in
         let shown_w : IsShown f.symbols s (map_of l) (record at.holdings { temps = none_known }) at.store (numbers ws) w =
@@ -163,7 +163,7 @@ module _ (s : Setting) (c : Compiled) (l : Launch) (f : Finished) (is_for : IsFo
         fewer : (i : ℕ) → ((i == 1) || ((i == 2) || is_scratch i)) ≡ false → ((i == 2) || is_scratch i) ≡ false
         fewer i is = grind (arith, nat_tests, is)
 
-    stands_cut : (u : State) → u.pc ≡ f.node_at q n → GivesAndMoves f.labels code.pair code.operands t u → IsSound u → Stands s c l f cut_there u
+    stands_cut : (u : State) → u.pc ≡ f.node_at q n → GivesAndMoves (f.labels at.procedure) code.pair code.operands t u → IsSound u → Stands s c l f cut_there u
     stands_cut u pc gone sound = record {
       running = refl;
       node = landing.0;

@@ -134,7 +134,7 @@ module _ (s : Setting) (c : Compiled) (l : Launch) (f : Finished) (is_for : IsFo
         ]) laid.is_procedure)
 
     is_made : (next : NodeId) (cost : ℕ) (code : EntryCode s c l f at.procedure at.node formals next cost) →
-        IsMade f.symbols s c.plan at.procedure new room f.labels code.landings at.holdings
+        IsMade f.symbols s c.plan at.procedure new room (f.labels at.procedure) code.landings at.holdings
     is_made next cost code =
         let cells = room_unwritten (frame_address s (new_activation at.procedure laid.procedure [] ∷ at.store.activations)) laid.procedure (place_row s at.procedure) in
         record {
@@ -150,11 +150,11 @@ module _ (s : Setting) (c : Compiled) (l : Launch) (f : Finished) (is_for : IsFo
         }
 
     module _ (next : NodeId) (cost : ℕ) (code : EntryCode s c l f at.procedure at.node formals next cost) (w u v : State)
-        (makes : Makes (c.plan.frame at.procedure).size (fixed_numbers f.labels (c.plan.frame at.procedure) code.landings t.registers (w.registers 2)) t w)
+        (makes : Makes (c.plan.frame at.procedure).size (fixed_numbers (f.labels at.procedure) (c.plan.frame at.procedure) code.landings t.registers (w.registers 2)) t w)
         (puts : PutsEach (zeros (map (c.plan.place at.procedure) (c.zeroed at.procedure))) w u) (takes : Takes (places_of s c l f at.procedure formals) u v) where
       first_shown : IsShown f.symbols s (map_of l) (entered c.plan at.procedure at.holdings.point at.holdings.contents) store_made at.carried w
       first_shown =
-          made_shows f.symbols s (map_of l) is_for c.plan at.procedure at.holdings at.store at.carried new room f.labels code.landings t w (is_made next cost code)
+          made_shows f.symbols s (map_of l) is_for c.plan at.procedure at.holdings at.store at.carried new room (f.labels at.procedure) code.landings t w (is_made next cost code)
           stands.sound.registers makes stands.shown
 
       first_bare : IsShown f.symbols s (map_of l) (entered c.plan at.procedure at.holdings.point at.holdings.contents) store_made [] w
@@ -202,7 +202,7 @@ module _ (s : Setting) (c : Compiled) (l : Launch) (f : Finished) (is_for : IsFo
         (record { activation = new; older = at.store.activations; youngest = refl; same = refl; carried = refl }) last.0.1 last.0.0 last.1))
       where
         taken : (v : State) →
-            (u : State) × IsEntered (code_of l f) (c.plan.frame at.procedure) code.landings (map (c.plan.place at.procedure) (c.zeroed at.procedure)) t u
+            (u : State) × IsEntered (code_of l f at.procedure) (c.plan.frame at.procedure) code.landings (map (c.plan.place at.procedure) (c.zeroed at.procedure)) t u
             × Takes (places_of s c l f at.procedure formals) u v →
             IsShown f.symbols s (map_of l) (holdings_entered formals) store_made [] v
         taken v (u, (w, makes, puts), takes) = entered_shown next cost code w u v makes puts takes

@@ -130,14 +130,14 @@ module _ (s : Setting) (c : Compiled) (l : Launch) (f : Finished) (is_for : IsFo
         asked_shown f s l at.holdings at.store at.carried (rest_of at.store.input) (taken_with at.store.input at.store.taken) at.store.output t w
         (set_keeps_asking t u value keeps) stands.shown
 
-    shown_put : (v : State) → PutsTo f.labels code.into (w.registers 10) w v → IsShown f.symbols s (map_of l) got.holdings got.store at.carried v
+    shown_put : (v : State) → PutsTo (f.labels at.procedure) code.into (w.registers 10) w v → IsShown f.symbols s (map_of l) got.holdings got.store at.carried v
     shown_put v puts =
         subst (λ (xs : List ℕ). IsShown f.symbols s (map_of l) got.holdings got.store xs v) (sym body.carried)
         (put_shown s c l f is_for at.procedure at.holdings store_taking body.activation body.older body.youngest places w shown_there kept value (next_fits at.store.input bytes) v
         (destination.Target takes) code.into code.is_into named_there
-        (subst (λ (n : ℕ). PutsTo f.labels code.into n w v) (with_register-same u.registers 10 value (omega arith)) puts))
+        (subst (λ (n : ℕ). PutsTo (f.labels at.procedure) code.into n w v) (with_register-same u.registers 10 value (omega arith)) puts))
 
-    behind : Reaches (map_of l) 0 code.later w (λ v. (v.pc ≡ code.on) × PutsTo f.labels code.into (w.registers 10) w v) →
+    behind : Reaches (map_of l) 0 code.later w (λ v. (v.pc ≡ code.on) × PutsTo (f.labels at.procedure) code.into (w.registers 10) w v) →
         Reaches (map_of l) 0 (code.later + 2) w (Stands s c l f (record got { node = next }))
     behind reaches =
         reaches_weaker
@@ -148,7 +148,7 @@ module _ (s : Setting) (c : Compiled) (l : Launch) (f : Finished) (is_for : IsFo
         (kept_shown f s l is_for got.holdings got.store at.carried v x last.0.1 (shown_put v there.0.1)) last.0.0 last.1)))
         (omega arith) (omega arith) (λ x last. last)
 
-  reached : CanPut f.labels code.into (map_of l) t
+  reached : CanPut (f.labels at.procedure) code.into (map_of l) t
   reached = can_put s c l f is_for at.procedure at.holdings at.store body.activation body.older body.youngest places t
       (forget_values f.symbols s (map_of l) at.holdings at.store at.carried t stands.shown) kept (destination.Target takes) code.into code.is_into named_there
 

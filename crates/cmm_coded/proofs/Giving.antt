@@ -30,7 +30,7 @@ module _ (s : Setting) (c : Compiled) (l : Launch) (f : Finished) (is_for : IsFo
     (shown : IsShown f.symbols s (map_of l) at.holdings at.store at.carried t) where
   pub record AreValues (operands : List CodeOperand) (ws : List Word) : Type 0 where
     pub count : length operands ≡ length (numbers ws)
-    pub have : (k : ℕ) (operand : CodeOperand) → slice_get operands k ≡ Some operand → operand_at f.labels operand t ≡ slice_index_or (numbers ws) k 0
+    pub have : (k : ℕ) (operand : CodeOperand) → slice_get operands k ≡ Some operand → operand_at (f.labels at.procedure) operand t ≡ slice_index_or (numbers ws) k 0
 
   no_values : AreValues [] []
   no_values = record { count = refl; have = λ k operand is. absurd (none k operand is) }
@@ -38,12 +38,12 @@ module _ (s : Setting) (c : Compiled) (l : Launch) (f : Finished) (is_for : IsFo
       none : (k : ℕ) (operand : CodeOperand) → slice_get {X = CodeOperand} [] k ≡ Some operand → ⊥
       none k operand is = cc
 
-  one_more : (operand : CodeOperand) (operands : List CodeOperand) (w : Word) (ws : List Word) → operand_at f.labels operand t ≡ w.value → AreValues operands ws →
+  one_more : (operand : CodeOperand) (operands : List CodeOperand) (w : Word) (ws : List Word) → operand_at (f.labels at.procedure) operand t ≡ w.value → AreValues operands ws →
       AreValues (operand ∷ operands) (w ∷ ws)
   one_more operand operands w ws is rest = record { count = omega (arith, rest.count); have = have_each }
     where
-      have_each : (k : ℕ) (o : CodeOperand) → slice_get (operand ∷ operands) k ≡ Some o → operand_at f.labels o t ≡ slice_index_or (numbers (w ∷ ws)) k 0
-      have_each zero o found = let e : operand ≡ o = cc in ap (λ (z : CodeOperand). operand_at f.labels z t) (sym e) ∙ is
+      have_each : (k : ℕ) (o : CodeOperand) → slice_get (operand ∷ operands) k ≡ Some o → operand_at (f.labels at.procedure) o t ≡ slice_index_or (numbers (w ∷ ws)) k 0
+      have_each zero o found = let e : operand ≡ o = cc in ap (λ (z : CodeOperand). operand_at (f.labels at.procedure) z t) (sym e) ∙ is
       have_each (suc k) o found = rest.have k o found
 
   pub values_are : (results : List Argument) (operands : List CodeOperand) (ws : List Word) → AreOperandsOf s c l f at.procedure results operands →
@@ -67,15 +67,15 @@ module _ (s : Setting) (c : Compiled) (l : Launch) (f : Finished) (is_for : IsFo
       by again (Err error) is_n others is_rest e = absurd (cc)
 
   -- so they are shown where they travel
-  pub given : (operands : List CodeOperand) (ws : List Word) (u : State) → length operands ≤ 64 → AreValues operands ws → Gives f.labels operands t u →
+  pub given : (operands : List CodeOperand) (ws : List Word) (u : State) → length operands ≤ 64 → AreValues operands ws → Gives (f.labels at.procedure) operands t u →
       IsShown f.symbols s (map_of l) (record at.holdings { temps = none_known }) at.store (numbers ws) u
   given operands ws u few are gives =
-      given_shows f.symbols s (map_of l) is_for at.holdings at.store (numbers ws) f.labels operands t u gives
+      given_shows f.symbols s (map_of l) is_for at.holdings at.store (numbers ws) (f.labels at.procedure) operands t u gives
       (record { few = omega (arith, few, are.count); count = are.count; have = are.have })
       (forget_values f.symbols s (map_of l) at.holdings at.store at.carried t shown)
 
   -- and so once the frame is left as well
-  pub parted : (operands : List CodeOperand) (ws : List Word) (u : State) → length operands ≤ 64 → AreValues operands ws → GivesAndLeaves f.labels (c.plan.frame at.procedure) operands t u →
+  pub parted : (operands : List CodeOperand) (ws : List Word) (u : State) → length operands ≤ 64 → AreValues operands ws → GivesAndLeaves (f.labels at.procedure) (c.plan.frame at.procedure) operands t u →
       IsShown f.symbols s (map_of l) (left c.plan at.procedure at.holdings) (without 1 at.store) (numbers ws) u
   parted operands ws u few are (w, gives, leaves) =
       left_shows f.symbols s (map_of l) is_for c.plan at.procedure (record at.holdings { temps = none_known }) at.store (numbers ws) a older w u youngest

@@ -80,20 +80,20 @@ module _ (s : Setting) (c : Compiled) (l : Launch) (f : Finished) (is_for : IsFo
       also : (operand_value (keeping s c at).held test.right (reads_at s c at) ≡ Ok y) × IsWord test.width y
       also = word_is test.width (operand_value (keeping s c at).held test.right (reads_at s c at)) y is_y
 
-      left : (operand_at f.labels code.left t ≡ x) × CanBringOperand code.left (map_of l) t
+      left : (operand_at (f.labels at.procedure) code.left t ≡ x) × CanBringOperand code.left (map_of l) t
       left = operand_is s c l f is_for at t body.activation body.older body.youngest places stands.shown test.left code.left x code.is_left known.0
 
-      right : (operand_at f.labels code.right t ≡ y) × CanBringOperand code.right (map_of l) t
+      right : (operand_at (f.labels at.procedure) code.right t ≡ y) × CanBringOperand code.right (map_of l) t
       right = operand_is s c l f is_for at t body.activation body.older body.youngest places stands.shown test.right code.right y code.is_right also.0
 
       found : (b : Bool) → holds test.operator test.width x y ≡ b →
-          way (holds test.operator test.width (operand_at f.labels code.left t) (operand_at f.labels code.right t)) (f.labels code.label.number) code.on ≡ way b (f.labels code.label.number) code.on
-      found b is = ap (λ (n : ℕ). way (holds test.operator test.width n (operand_at f.labels code.right t)) (f.labels code.label.number) code.on) left.0
-          ∙ ap (λ (n : ℕ). way (holds test.operator test.width x n) (f.labels code.label.number) code.on) right.0
-          ∙ ap (λ (z : Bool). way z (f.labels code.label.number) code.on) is
+          way (holds test.operator test.width (operand_at (f.labels at.procedure) code.left t) (operand_at (f.labels at.procedure) code.right t)) (f.labels at.procedure code.label.number) code.on ≡ way b (f.labels at.procedure code.label.number) code.on
+      found b is = ap (λ (n : ℕ). way (holds test.operator test.width n (operand_at (f.labels at.procedure) code.right t)) (f.labels at.procedure code.label.number) code.on) left.0
+          ∙ ap (λ (n : ℕ). way (holds test.operator test.width x n) (f.labels at.procedure code.label.number) code.on) right.0
+          ∙ ap (λ (z : Bool). way z (f.labels at.procedure code.label.number) code.on) is
 
       by : (b : Bool) → holds test.operator test.width x y ≡ b →
-          Reaches (map_of l) 1 code.count t (λ u. (u.pc ≡ way (holds test.operator test.width (operand_at f.labels code.left t) (operand_at f.labels code.right t)) (f.labels code.label.number) code.on) × Keeps t u) →
+          Reaches (map_of l) 1 code.count t (λ u. (u.pc ≡ way (holds test.operator test.width (operand_at (f.labels at.procedure) code.left t) (operand_at (f.labels at.procedure) code.right t)) (f.labels at.procedure code.label.number) code.on) × Keeps t u) →
           Reaches (map_of l) 1 cost t (λ u. (u.pc ≡ f.node_at at.procedure (elim b [ true ↦ then_ | false ↦ otherwise ])) × Keeps t u)
       by true is reaches = reaches_weaker reaches (omega arith) (omega (arith, code.few)) (λ u there. (there.0 ∙ found true is ∙ code.there, there.1))
       by false is reaches =
@@ -141,16 +141,16 @@ module _ (s : Setting) (c : Compiled) (l : Launch) (f : Finished) (is_for : IsFo
       all : IsTrue (list_all (is_arm g) arms)
       all = (and_parts (is_operand g value) (list_all (is_arm g) arms) both.0).1
 
-      by_arm : (x : ℕ) → operand_at f.labels code.operand t ≡ x → Reaches (map_of l) 1 code.count t
-          (λ u. (u.pc ≡ arm_address f.labels code.labels arms (operand_at f.labels code.operand t) code.on) × Keeps t u) →
+      by_arm : (x : ℕ) → operand_at (f.labels at.procedure) code.operand t ≡ x → Reaches (map_of l) 1 code.count t
+          (λ u. (u.pc ≡ arm_address (f.labels at.procedure) code.labels arms (operand_at (f.labels at.procedure) code.operand t) code.on) × Keeps t u) →
           (o : Option Arm) → slice_get arms (arm_way arms x) ≡ o →
           elim (elim o as (λ z. Option NodeId) [ Some arm ↦ Some arm.to | None ↦ Some otherwise ]) as (λ z. Located) [ Some n ↦ record at { node = n } | None ↦ at ] ≡ after → IsDone s c l f at cost t after
       by_arm x is_x reaches (Some arm) is_arm_there e =
           subst (λ (z : Located). IsDone s c l f at cost t z) e
           (goes_to cost arm.to (list_all_get (is_arm g) arms (arm_way arms x) arm all is_arm_there)
           (reaches_weaker reaches (omega arith) (omega (arith, code.few)) (λ u there. (
-            there.0 ∙ ap (λ (n : ℕ). arm_address f.labels code.labels arms n code.on) is_x ∙ lead f.labels code.labels arms x code.on
-                ∙ ap (λ (o : Option Arm). elim o [ Some arm ↦ f.labels (label_of code.labels arm.to).number | None ↦ code.on ]) is_arm_there
+            there.0 ∙ ap (λ (n : ℕ). arm_address (f.labels at.procedure) code.labels arms n code.on) is_x ∙ lead (f.labels at.procedure) code.labels arms x code.on
+                ∙ ap (λ (o : Option Arm). elim o [ Some arm ↦ f.labels at.procedure (label_of code.labels arm.to).number | None ↦ code.on ]) is_arm_there
                 ∙ code.there (arm_way arms x) arm is_arm_there,
             there.1,
           ))))
@@ -160,8 +160,8 @@ module _ (s : Setting) (c : Compiled) (l : Launch) (f : Finished) (is_for : IsFo
           (reaches_weaker
           (reaches_then (reaches_sound reaches stands.sound)
           (λ u there. reaches_more (code.goes_on.go u there.1 (
-          there.0.0 ∙ ap (λ (n : ℕ). arm_address f.labels code.labels arms n code.on) is_x ∙ lead f.labels code.labels arms x code.on
-          ∙ ap (λ (o : Option Arm). elim o [ Some arm ↦ f.labels (label_of code.labels arm.to).number | None ↦ code.on ]) is_none
+          there.0.0 ∙ ap (λ (n : ℕ). arm_address (f.labels at.procedure) code.labels arms n code.on) is_x ∙ lead (f.labels at.procedure) code.labels arms x code.on
+          ∙ ap (λ (o : Option Arm). elim o [ Some arm ↦ f.labels at.procedure (label_of code.labels arm.to).number | None ↦ code.on ]) is_none
           ) tt) (λ v last. (last.0, keeps_then t u v there.0.1 last.1))))
           (omega arith) (omega (arith, code.few)) (λ v last. last)))
 

@@ -145,7 +145,7 @@ module _ (s : Setting) (c : Compiled) (l : Launch) (f : Finished) (is_for : IsFo
         let some : 1 ≤ landing.0.tokens = has_tokens c.graphs q valid n landing.0 landing.1 in
         omega (arith, e, some)
 
-    stands_back : (u v : State) → GivesAndLeaves f.labels (c.plan.frame at.procedure) code.operands t u → v.pc ≡ f.node_at q n → Keeps u v → IsSound v → Stands s c l f back_at v
+    stands_back : (u v : State) → GivesAndLeaves (f.labels at.procedure) (c.plan.frame at.procedure) code.operands t u → v.pc ≡ f.node_at q n → Keeps u v → IsSound v → Stands s c l f back_at v
     stands_back u v parts pc keeps sound = record {
       running = refl;
       node = landing.0;

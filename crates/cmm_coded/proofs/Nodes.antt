@@ -70,9 +70,9 @@ pub running_asks : (s : Setting) (store : Store) (act : Act) → but_input (even
 running_asks s store (GetByte target) = refl
 running_asks s store act = refl
 
-pub quiet_asks : (l : Launch) (f : Finished) (from : ℕ) (t : State) → BeginsQuietly (code_of l f) from → t.pc ≡ from →
+pub quiet_asks : (l : Launch) (f : Finished) (q from : ℕ) (t : State) → BeginsQuietly (code_of l f q) from → t.pc ≡ from →
     but_input (asked_at l t (instruction_step (map_of l) t)) ≡ None
-quiet_asks l f from t quiet at = by (instruction_step (map_of l) t) refl
+quiet_asks l f q from t quiet at = by (instruction_step (map_of l) t) refl
   where
     no_other : (r : Request) → r ≡ request.GetByte → but_input (asked_at l t (rv.Asks r)) ≡ None
     no_other r is = ap (λ (z : Request). but_input (asked_at l t (rv.Asks z))) is
@@ -83,7 +83,7 @@ quiet_asks l f from t quiet at = by (instruction_step (map_of l) t) refl
     by (rv.Traps kind) is = refl
 
 pub code_is_quiet : (s : Setting) (c' : Compiled) (l : Launch) (f : Finished) (q : ℕ) (n : NodeId) (kind : NodeKind) (most : ℕ) → IsCodeOf s c' l f q n kind most →
-    BeginsQuietly (code_of l f) (f.node_at q n)
+    BeginsQuietly (code_of l f q) (f.node_at q n)
 code_is_quiet s c' l f q n (Entry formals next) most code = code.begins.made.quiet
 code_is_quiet s c' l f q n (Branch test then_ otherwise) most code = code.decides.quiet
 code_is_quiet s c' l f q n (Switch value arms otherwise) most code = code.switches.quiet

@@ -49,29 +49,29 @@ number_is LastReturn v is = absurd (cc)
 module _ (s : Setting) (c : Compiled) (l : Launch) (f : Finished) (is_for : IsFor s (map_of l)) (at : Located) (t : State) (a : Activation) (older : List Activation)
     (youngest : at.store.activations ≡ a ∷ older) (places : (v : ℕ) → IsPlaceOf s a (c.plan.place at.procedure v))
     (shown : IsShown f.symbols s (map_of l) at.holdings at.store at.carried t) where
-  constant_is : (k : Constant) (x : CodeOperand) (v : ℕ) → IsConstant s c l f k x → constant_value s.program s.placement k ≡ v →
-      (operand_at f.labels x t ≡ v) × CanBringOperand x (map_of l) t
+  constant_is : (k : Constant) (x : CodeOperand) (v : ℕ) → IsConstant s c l f at.procedure k x → constant_value s.program s.placement k ≡ v →
+      (operand_at (f.labels at.procedure) x t ≡ v) × CanBringOperand x (map_of l) t
   constant_is k (code.Held (source.Number n)) v is e = (is ∙ e, tt)
   constant_is k (code.Symbol label plus) v is e = (is ∙ e, tt)
   constant_is k (code.Held (source.Place p)) v is e = absurd is
   constant_is k (code.Held (source.Address o)) v is e = absurd is
 
   address_is : (offset : ℕ) (x : CodeOperand) (v : ℕ) → IsAddress s c l f offset x → at.holdings.point.at + offset ≡ v →
-      (operand_at f.labels x t ≡ v) × CanBringOperand x (map_of l) t
+      (operand_at (f.labels at.procedure) x t ≡ v) × CanBringOperand x (map_of l) t
   address_is offset x v is e =
       let low : at.holdings.point.at ≤ stack_top s = omega (arith, shown.at) in
       let there : t.registers 2 + offset ≡ v = ap (λ (n : ℕ). n + offset) shown.holdings.frame ∙ e in
       let fits : t.registers 2 + offset < 2 ^ 64 = omega (arith, low, shown.holdings.frame, is_for.small, is.1) in
-      subst (λ (z : CodeOperand). (operand_at f.labels z t ≡ v) × CanBringOperand z (map_of l) t) (sym is.0) ((there, fits))
+      subst (λ (z : CodeOperand). (operand_at (f.labels at.procedure) z t ≡ v) × CanBringOperand z (map_of l) t) (sym is.0) ((there, fits))
 
   pub operand_is : (o : Operand) (x : CodeOperand) (v : ℕ) → IsOperandOf s c l f at.procedure o x → operand_value (keeping s c at).held o (reads_at s c at) ≡ Ok v →
-      (operand_at f.labels x t ≡ v) × CanBringOperand x (map_of l) t
+      (operand_at (f.labels at.procedure) x t ≡ v) × CanBringOperand x (map_of l) t
   operand_is (operand.Constant k) x v is e = constant_is k x v is (ok_is e)
   operand_is (operand.Local local) x v is e =
       let place = place_of c at.procedure local in
       let holds : held at.holdings place ≡ Number v = number_is (held at.holdings place) v e in
       let fine = places (number_in c.graphs at.procedure local) in
-      subst (λ (z : CodeOperand). (operand_at f.labels z t ≡ v) × CanBringOperand z (map_of l) t) (sym is)
+      subst (λ (z : CodeOperand). (operand_at (f.labels at.procedure) z t ≡ v) × CanBringOperand z (map_of l) t) (sym is)
       ((
         held_is_read f.symbols s (map_of l) is_for at.holdings at.store at.carried a older t youngest shown place v fine holds,
         place_is_reachable f.symbols s (map_of l) is_for at.holdings at.store at.carried a older t youngest shown place fine,

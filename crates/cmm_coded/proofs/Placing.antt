@@ -14,7 +14,7 @@ use Rattle.cmm_coded.specs.Finished.{Finished}
 use Rattle.cmm_coded.specs.Placing.{FinishedCodeStands, IsPlacedIn}
 
 pub finished_code_stands : FinishedCodeStands
-finished_code_stands l f labels parts base up bytes places fixes value runs placed =
+finished_code_stands l f q labels parts base up bytes places fixes value runs placed =
     subst (λ (at : ℕ → ℕ). Stand (record { map = map_of l; at = at }) parts (base + up) (base + up + length bytes)) (sym placed.is_labels)
     (runs (map_of l) up value placed.aligned placed.near placed.reached placed.targets placed.contains)
 
@@ -25,9 +25,9 @@ appended_does old new So piece x from to stand =
     (both.0, piece.so x both.0 to both.2)
 
 -- an image whose code is these bytes, which wait for no symbol, has them at the code's base
-pub placed_alone : (l : Launch) (f : Finished) (labels : List Meaning) (parts : List Part) (bytes places : List ℕ) (value : ℕ → ℕ) → l.image.code ≡ bytes →
-    f.labels ≡ address_of labels places 0 value → All (GoesToCode labels value) parts → IsPlacedIn l f labels parts code_base 0 bytes places [] value
-placed_alone l f labels parts bytes places value is labels_are targets = record {
+pub placed_alone : (l : Launch) (f : Finished) (q : ℕ) (labels : List Meaning) (parts : List Part) (bytes places : List ℕ) (value : ℕ → ℕ) → l.image.code ≡ bytes →
+    f.labels q ≡ address_of labels places 0 value → All (GoesToCode labels value) parts → IsPlacedIn l f q labels parts code_base 0 bytes places [] value
+placed_alone l f q labels parts bytes places value is labels_are targets = record {
   aligned = refl;
   near = omega arith;
   reached = λ k fix less. absurd (omega (arith, less));

@@ -96,7 +96,7 @@ module _ (s : Setting) (c : Compiled) (l : Launch) (f : Finished) (is_for : IsFo
       (record { registers = keeps.registers; memory = keeps.memory }) stands.shown)))) last.0.0 last.1)))
       (omega arith) (omega arith) (λ x last. last)
 
-  asked : (v : ℕ) → operand_at f.labels code.operand t ≡ v → CanBringOperand code.operand (map_of l) t → IsDone s c l f at cost t (record (put v) { node = next })
+  asked : (v : ℕ) → operand_at (f.labels at.procedure) code.operand t ≡ v → CanBringOperand code.operand (map_of l) t → IsDone s c l f at cost t (record (put v) { node = next })
   asked v is_v brings = record {
     tokens = tokens_there s c l f (put v) g is_graph valid next leads;
     registers = refl;

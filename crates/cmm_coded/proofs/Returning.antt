@@ -69,7 +69,7 @@ module _ (s : Setting) (c : Compiled) (l : Launch) (f : Finished) (is_for : IsFo
 
   -- the first value is in register 10 once the frame is left
   value_is : (operands : List CodeOperand) (ws : List Word) (value : ℕ) (values : List ℕ) (u : State) → length operands ≤ 64 → AreOut operands ws → numbers ws ≡ value ∷ values →
-      GivesAndLeaves f.labels (c.plan.frame at.procedure) operands t u → u.registers 10 ≡ value
+      GivesAndLeaves (f.labels at.procedure) (c.plan.frame at.procedure) operands t u → u.registers 10 ≡ value
   value_is operands ws value values u few are is parts =
       let gone = parted s c l f is_for at t body.activation body.older body.youngest body.same laid stands.shown operands ws u few are parts in
       let some : 0 < length (numbers ws) = grind (arith, is) in

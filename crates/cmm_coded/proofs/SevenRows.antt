@@ -103,7 +103,7 @@ no_landings (suc q) k m is = cc
 module _ (l : Launch) (at : ℕ → ℕ) (main limit : Label) (to : ℕ) (pieces : ReturnsSeven seven-frame main limit (record { map = map_of l; at = at }) l.image.start to) where
   abbrev finished : Finished
   finished = record {
-    labels = at;
+    labels = λ q. at;
     node_at = λ q m. elim m.number as (λ _. ℕ) [ zero ↦ at main.number | suc _ ↦ pieces.mid ];
     symbols = record { return_to = λ q site. 0; landing_of = λ q k. 0; last_return = pieces.starts.back };
   }

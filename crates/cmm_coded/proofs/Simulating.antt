@@ -170,7 +170,7 @@ module _ (lead : SwitchesLead) (s : Setting) (c : Compiled) (l : Launch) (f : Fi
   level at t stands =
       ap (λ (z : p.Status). but_input (event_at s z (shown s c at) (act_of (keeping s c at) (kind_at c.graphs at.procedure at.node)))) stands.running
       ∙ running_asks s (shown s c at) (act_of (keeping s c at) (kind_at c.graphs at.procedure at.node))
-      ∙ sym (quiet_asks l f (f.node_at at.procedure at.node) t
+      ∙ sym (quiet_asks l f at.procedure (f.node_at at.procedure at.node) t
       (code_is_quiet s c l f at.procedure at.node stands.node.kind (32 * stands.node.tokens) (code.nodes at.procedure at.node stands.node stands.there)) stands.pc)
 
   over_by : (at : Located) (z : p.Status) → at.store.status ≡ z → (located_machine s c).wrong at ≡ false → (status_of at.store.status ≡ Running → ⊥) →

@@ -71,19 +71,19 @@ module _ (s : Setting) (c : Compiled) (l : Launch) (f : Finished) (is_for : IsFo
       (λ w last. stands_there s c l f (record at { store = store_after a v }) g is_graph valid next leads w stands.running
       (record { activation = body.activation; older = body.older; youngest = body.youngest; same = body.same; carried = body.carried }) last.0.1 last.0.0 last.1))
     where
-      first : (operand_at f.labels code.to t ≡ a) × CanBringOperand code.to (map_of l) t
+      first : (operand_at (f.labels at.procedure) code.to t ≡ a) × CanBringOperand code.to (map_of l) t
       first = operand_is s c l f is_for at t body.activation body.older body.youngest places stands.shown address code.to a code.is_address is_a
 
-      second : (operand_at f.labels code.stored t ≡ v) × CanBringOperand code.stored (map_of l) t
+      second : (operand_at (f.labels at.procedure) code.stored t ≡ v) × CanBringOperand code.stored (map_of l) t
       second = operand_is s c l f is_for at t body.activation body.older body.youngest places stands.shown value code.stored v code.is_value is_v
 
-      written : (u : State) → Writes (operand_at f.labels code.to t) (bytes width) (operand_at f.labels code.stored t) t u →
+      written : (u : State) → Writes (operand_at (f.labels at.procedure) code.to t) (bytes width) (operand_at (f.labels at.procedure) code.stored t) t u →
           IsShown f.symbols s (map_of l) at.holdings (store_after a v) at.carried u
       written u writes =
           subst (λ (xs : List ℕ). IsShown f.symbols s (map_of l) at.holdings (store_after a v) xs u) (sym body.carried)
           (store_shows f.symbols s (map_of l) is_for at.holdings at.store t u a (bytes width) v (some_bytes width).0
           (all_there s (map_of l) is_for at.store stands.shown.stack a width aligned may)
-          (subst (λ (n : ℕ). Writes n (bytes width) v t u) first.0 (subst (λ (n : ℕ). Writes (operand_at f.labels code.to t) (bytes width) n t u) second.0 writes))
+          (subst (λ (n : ℕ). Writes n (bytes width) v t u) first.0 (subst (λ (n : ℕ). Writes (operand_at (f.labels at.procedure) code.to t) (bytes width) n t u) second.0 writes))
           (forget_values f.symbols s (map_of l) at.holdings at.store at.carried t stands.shown))
 
   by_access : (a v : ℕ) → operand_value (keeping s c at).held address (reads_at s c at) ≡ Ok a → operand_value (keeping s c at).held value (reads_at s c at) ≡ Ok v →

@@ -53,19 +53,19 @@ module _ (s : Setting) (c : Compiled) (l : Launch) (f : Finished) (is_for : IsFo
     (youngest : store.activations ≡ a ∷ older) (places : (v : ℕ) → IsPlaceOf s a (c.plan.place q v)) (t : State) (shown : IsShown f.symbols s (map_of l) h store [] t) where
   -- ---- global registers
 
-  module _ (r : ℕ) (label : Label) (is : IsRegister s c l f r label) (within : r < length store.registers) where
-    address_is : t.registers 4 + f.labels label.number ≡ register_address r
-    address_is = ap (λ (n : ℕ). n + f.labels label.number) shown.holdings.region ∙ is
+  module _ (r : ℕ) (label : Label) (is : IsRegister s c l f q r label) (within : r < length store.registers) where
+    address_is : t.registers 4 + f.labels q label.number ≡ register_address r
+    address_is = ap (λ (n : ℕ). n + f.labels q label.number) shown.holdings.region ∙ is
 
-    pub global_reached : CanReachGlobal (f.labels label.number) (map_of l) t
+    pub global_reached : CanReachGlobal (f.labels q label.number) (map_of l) t
     global_reached =
         let few : r < 256 = omega (arith, within, shown.registers.0) in
         subst (λ (n : ℕ). (n < 2 ^ 64) × IsTrue (is_accessible (map_of l) n 8)) (sym address_is) ((omega (arith, few), register_accessible (map_of l) r few))
 
-    pub global_is_read : global_at (f.labels label.number) t ≡ slice_index_or store.registers r 0
+    pub global_is_read : global_at (f.labels q label.number) t ≡ slice_index_or store.registers r 0
     global_is_read = ap (λ (n : ℕ). loaded t.memory n 8) address_is ∙ register_is_read f.symbols s (map_of l) is_for h store r within t [] shown
 
-    global_put : (v : ℕ) → v < 2 ^ 64 → (u : State) → PutsGlobal (f.labels label.number) v t u →
+    global_put : (v : ℕ) → v < 2 ^ 64 → (u : State) → PutsGlobal (f.labels q label.number) v t u →
         IsShown f.symbols s (map_of l) h (record store { registers = slice_set store.registers r v }) [] u
     global_put v small u puts = register_shows f.symbols s (map_of l) is_for h store r within t v small u (subst (λ (n : ℕ). Writes n 8 v t u) address_is puts) shown
 
@@ -75,27 +75,27 @@ module _ (s : Setting) (c : Compiled) (l : Launch) (f : Finished) (is_for : IsFo
     within_store : (number : ℕ) → (nat_lt number (length s.program.globals) && true) ≡ true → number < length store.registers
     within_store number named = let less : number < length s.program.globals = grind (arith, nat_tests, named) in omega (arith, less, count)
 
-    local_reached : (v : Local) (x : CodeDestination) → x ≡ into.Place (place_of c q v) → CanPut f.labels x (map_of l) t
+    local_reached : (v : Local) (x : CodeDestination) → x ≡ into.Place (place_of c q v) → CanPut (f.labels q) x (map_of l) t
     local_reached v x is =
-        subst (λ (d : CodeDestination). CanPut f.labels d (map_of l) t) (sym is)
+        subst (λ (d : CodeDestination). CanPut (f.labels q) d (map_of l) t) (sym is)
         (place_is_reachable f.symbols s (map_of l) is_for h store [] a older t youngest shown (place_of c q v) (places (number_in c.graphs q v)))
 
     pub can_put : (d : Destination) (x : CodeDestination) → IsDestinationOf s c l f q d x → list_all (names_register s.program) (targets_of_destination d) ≡ true →
-        CanPut f.labels x (map_of l) t
+        CanPut (f.labels q) x (map_of l) t
     can_put (destination.Target (target.Variable number width)) x is named = local_reached (local.Variable (record { number = number })) x is
     can_put (destination.Target (target.Register number width)) (into.Register label) is named = global_reached number label is (within_store number named)
     can_put (destination.Target (target.Register number width)) (into.Place place) is named = absurd is
     can_put (destination.Temporary m) x is named = local_reached (local.Temporary m) x is
 
     module _ (v : ℕ) (small : v < 2 ^ 64) (u : State) where
-      local_put : (w : Local) (x : CodeDestination) → x ≡ into.Place (place_of c q w) → PutsTo f.labels x v t u →
+      local_put : (w : Local) (x : CodeDestination) → x ≡ into.Place (place_of c q w) → PutsTo (f.labels q) x v t u →
           IsShown f.symbols s (map_of l) (put_in (place_of c q w) (Number v) h) store [] u
       local_put w x is puts =
           put_shows f.symbols s (map_of l) is_for h store a older t u youngest (place_of c q w) v (places (number_in c.graphs q w)) small
-          (subst (λ (d : CodeDestination). PutsTo f.labels d v t u) is puts) shown
+          (subst (λ (d : CodeDestination). PutsTo (f.labels q) d v t u) is puts) shown
 
       pub put_shown : (d : Destination) (x : CodeDestination) → IsDestinationOf s c l f q d x → list_all (names_register s.program) (targets_of_destination d) ≡ true →
-          PutsTo f.labels x v t u → IsShown f.symbols s (map_of l) (holdings_with c q d v h) (record store { registers = registers_with d v store.registers }) [] u
+          PutsTo (f.labels q) x v t u → IsShown f.symbols s (map_of l) (holdings_with c q d v h) (record store { registers = registers_with d v store.registers }) [] u
       put_shown (destination.Target (target.Variable number width)) x is named puts = local_put (local.Variable (record { number = number })) x is puts
       put_shown (destination.Target (target.Register number width)) (into.Register label) is named puts = global_put number label is (within_store number named) v small u puts
       put_shown (destination.Target (target.Register number width)) (into.Place place) is named puts = absurd is

@@ -10,15 +10,15 @@ use Rattle.cmm_execution.specs.Machine.{Launch, map_of}
 use Rattle.cmm_shown.specs.Words.{Symbols}
 
 pub record Finished : Type 0 where
-  -- what the labels stand for, by their numbers
-  pub labels : ℕ → ℕ
+  -- what the labels stand for in the code of a procedure, by its number and theirs
+  pub labels : ℕ → ℕ → ℕ
   -- where the code of a node begins, by the number of its procedure
   pub node_at : ℕ → NodeId → ℕ
   pub symbols : Symbols
 
--- the code of an image in which the labels stand for these numbers
-abbrev pub code_of : Launch → Finished → Code
-code_of l f = record { map = map_of l; at = f.labels }
+-- the code of an image, as the labels of a procedure stand in it
+abbrev pub code_of : Launch → Finished → ℕ → Code
+code_of l f q = record { map = map_of l; at = f.labels q }
 
 -- from every sound state at an address, so many instructions at most lead to an ECALL that asks for what the state tells
 pub record AsksFor (most : ℕ) (asked : State → Request) (x : Code) (from : ℕ) : Type 0 where

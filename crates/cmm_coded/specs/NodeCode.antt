@@ -59,11 +59,11 @@ use Rattle.cmm_coded.specs.Finished.{AsksFor, Finished, code_of}
 module _ (s : Setting) (c : Compiled) (l : Launch) (f : Finished) where
   -- ---- operands
 
-  -- the number of a constant, or a label that stands for it
-  abbrev pub IsConstant : Constant → CodeOperand → Type 0
-  IsConstant k (code.Held (source.Number n)) = n ≡ constant_value s.program s.placement k
-  IsConstant k (code.Symbol label plus) = sum (f.labels label.number) plus ≡ constant_value s.program s.placement k
-  IsConstant k _ = ⊥
+  -- the number of a constant, or a label that stands for it in the code of a procedure
+  abbrev pub IsConstant : ℕ → Constant → CodeOperand → Type 0
+  IsConstant q k (code.Held (source.Number n)) = n ≡ constant_value s.program s.placement k
+  IsConstant q k (code.Symbol label plus) = sum (f.labels q label.number) plus ≡ constant_value s.program s.placement k
+  IsConstant q k _ = ⊥
 
   -- an address at an offset of the frame
   abbrev pub IsAddress : ℕ → CodeOperand → Type 0
@@ -71,7 +71,7 @@ module _ (s : Setting) (c : Compiled) (l : Launch) (f : Finished) where
 
   -- an operand of a node of a procedure, as code has it
   abbrev pub IsOperandOf : ℕ → Operand → CodeOperand → Type 0
-  IsOperandOf q (operand.Constant k) a = IsConstant k a
+  IsOperandOf q (operand.Constant k) a = IsConstant q k a
   IsOperandOf q (operand.Local v) a = a ≡ code.Held (source.Place (place_of c q v))
   IsOperandOf q (operand.Stackdata label) a = IsAddress (slice_index_or (c.plan.frame q).stack label.number 0) a
   IsOperandOf q (operand.Continuation k) a = IsAddress (slice_index_or (c.plan.frame q).pairs k.number 0) a
@@ -83,14 +83,14 @@ module _ (s : Setting) (c : Compiled) (l : Launch) (f : Finished) where
 
   -- ---- what takes a number
 
-  -- a label stands for the offset of a global register in the region
-  abbrev pub IsRegister : ℕ → Label → Type 0
-  IsRegister r label = region_base + f.labels label.number ≡ register_address r
+  -- a label stands for the offset of a global register in the region, in the code of a procedure
+  abbrev pub IsRegister : ℕ → ℕ → Label → Type 0
+  IsRegister q r label = region_base + f.labels q label.number ≡ register_address r
 
   -- what takes a value in a procedure, as code has it
   abbrev pub IsTargetOf : ℕ → Target → CodeDestination → Type 0
   IsTargetOf q (target.Variable number width) d = d ≡ into.Place (place_of c q (local.Variable (record { number = number })))
-  IsTargetOf q (target.Register number width) (into.Register label) = IsRegister number label
+  IsTargetOf q (target.Register number width) (into.Register label) = IsRegister q number label
   IsTargetOf q (target.Register number width) (into.Place place) = ⊥
 
   abbrev pub AreTargetsOf : ℕ → List Target → List CodeDestination → Type 0
@@ -106,12 +106,12 @@ module _ (s : Setting) (c : Compiled) (l : Launch) (f : Finished) where
 
   -- at a node, if control is not there yet
   abbrev pub GoesOn : ℕ → NodeId → ℕ → Type 0
-  GoesOn q n from = Goes 0 2 Always (λ t. f.node_at q n) Keeps (code_of l f) from
+  GoesOn q n from = Goes 0 2 Always (λ t. f.node_at q n) Keeps (code_of l f q) from
 
   -- ---- each node
 
   pub record GotoCode (q : ℕ) (n next : NodeId) (most : ℕ) : Type 0 where
-    pub goes : Turns most Always (λ t. f.node_at q next) Keeps (code_of l f) (f.node_at q n)
+    pub goes : Turns most Always (λ t. f.node_at q next) Keeps (code_of l f q) (f.node_at q n)
 
   -- where the comparison holds control is led to one node, and else it goes on to the other
   pub record BranchCode (q : ℕ) (n : NodeId) (test : Comparison) (then_ otherwise : NodeId) (most : ℕ) : Type 0 where
@@ -122,8 +122,8 @@ module _ (s : Setting) (c : Compiled) (l : Launch) (f : Finished) where
     pub count : ℕ
     pub is_left : IsOperandOf q test.left left
     pub is_right : IsOperandOf q test.right right
-    pub there : f.labels label.number ≡ f.node_at q then_
-    pub decides : Decides count test.operator test.width left right label (code_of l f) (f.node_at q n) on
+    pub there : f.labels q label.number ≡ f.node_at q then_
+    pub decides : Decides count test.operator test.width left right label (code_of l f q) (f.node_at q n) on
     pub goes_on : GoesOn q otherwise on
     pub few : count + 2 ≤ most
 
@@ -134,31 +134,31 @@ module _ (s : Setting) (c : Compiled) (l : Launch) (f : Finished) where
     pub on : ℕ
     pub count : ℕ
     pub is_value : IsOperandOf q value operand
-    pub there : (k : ℕ) (arm : Arm) → slice_get arms k ≡ Some arm → f.labels (label_of labels arm.to).number ≡ f.node_at q arm.to
-    pub switches : Switches count operand labels arms (code_of l f) (f.node_at q n) on
+    pub there : (k : ℕ) (arm : Arm) → slice_get arms k ≡ Some arm → f.labels q (label_of labels arm.to).number ≡ f.node_at q arm.to
+    pub switches : Switches count operand labels arms (code_of l f q) (f.node_at q n) on
     pub goes_on : GoesOn q otherwise on
     pub few : count + 2 ≤ most
 
   -- a right side is put where a destination is
   abbrev pub IsPutInto : ℕ → Rvalue → CodeDestination → ℕ → ℕ → ℕ → Type 0
   IsPutInto q (rvalue.Copy o) d count from on =
-      (a : CodeOperand) × IsOperandOf q o a × Copies count a d (code_of l f) from on
+      (a : CodeOperand) × IsOperandOf q o a × Copies count a d (code_of l f q) from on
   IsPutInto q (rvalue.Register r) d count from on =
-      (label : Label) × IsRegister r.number label
-      × Leads count (CanCopyGlobal f.labels (f.labels label.number) d) (λ u v. PutsTo f.labels d (global_at (f.labels label.number) u) u v) (code_of l f) from on
+      (label : Label) × IsRegister q r.number label
+      × Leads count (CanCopyGlobal (f.labels q) (f.labels q label.number) d) (λ u v. PutsTo (f.labels q) d (global_at (f.labels q label.number) u) u v) (code_of l f q) from on
   IsPutInto q (rvalue.Load width aligned o) d count from on =
-      (a : CodeOperand) × IsOperandOf q o a × AssignsLoaded count width aligned a d (code_of l f) from on
+      (a : CodeOperand) × IsOperandOf q o a × AssignsLoaded count width aligned a d (code_of l f q) from on
   IsPutInto q (rvalue.Unary operator width o) d count from on =
-      (a : CodeOperand) × IsOperandOf q o a × AssignsOne count width (value1 operator width) a d (code_of l f) from on
+      (a : CodeOperand) × IsOperandOf q o a × AssignsOne count width (value1 operator width) a d (code_of l f q) from on
   IsPutInto q (rvalue.Binary operator width left right) d count from on =
-      (a : CodeOperand) × (b : CodeOperand) × IsOperandOf q left a × IsOperandOf q right b × AssignsBinary count operator width a b d (code_of l f) from on
+      (a : CodeOperand) × (b : CodeOperand) × IsOperandOf q left a × IsOperandOf q right b × AssignsBinary count operator width a b d (code_of l f q) from on
   IsPutInto q (rvalue.Compare test) d count from on =
       (a : CodeOperand) × (b : CodeOperand) × IsOperandOf q test.left a × IsOperandOf q test.right b
-      × AssignsComparison count test.operator test.width a b d (code_of l f) from on
+      × AssignsComparison count test.operator test.width a b d (code_of l f q) from on
   IsPutInto q (rvalue.SignExtend narrow width o) d count from on =
-      (a : CodeOperand) × IsOperandOf q o a × AssignsOne count narrow (sign_extended narrow width) a d (code_of l f) from on
+      (a : CodeOperand) × IsOperandOf q o a × AssignsOne count narrow (sign_extended narrow width) a d (code_of l f q) from on
   IsPutInto q (rvalue.LowBits wide width o) d count from on =
-      (a : CodeOperand) × IsOperandOf q o a × AssignsOne count wide (low_bits width) a d (code_of l f) from on
+      (a : CodeOperand) × IsOperandOf q o a × AssignsOne count wide (low_bits width) a d (code_of l f q) from on
 
   -- a local or a global register takes the value of a right side
   pub record AssignCode (q : ℕ) (n : NodeId) (takes : Destination) (value : Rvalue) (next : NodeId) (most : ℕ) : Type 0 where
@@ -166,7 +166,7 @@ module _ (s : Setting) (c : Compiled) (l : Launch) (f : Finished) where
     pub is_into : IsDestinationOf q takes into
     pub on : ℕ
     pub count : ℕ
-    pub quiet : BeginsQuietly (code_of l f) (f.node_at q n)
+    pub quiet : BeginsQuietly (code_of l f q) (f.node_at q n)
     pub puts : IsPutInto q value into count (f.node_at q n) on
     pub goes_on : GoesOn q next on
     pub few : count + 2 ≤ most
@@ -179,7 +179,7 @@ module _ (s : Setting) (c : Compiled) (l : Launch) (f : Finished) where
     pub count : ℕ
     pub is_address : IsOperandOf q address to
     pub is_value : IsOperandOf q value stored
-    pub stores : StoresWord count width aligned to stored (code_of l f) (f.node_at q n) on
+    pub stores : StoresWord count width aligned to stored (code_of l f q) (f.node_at q n) on
     pub goes_on : GoesOn q next on
     pub few : count + 2 ≤ most
 
@@ -189,7 +189,7 @@ module _ (s : Setting) (c : Compiled) (l : Launch) (f : Finished) where
     pub on : ℕ
     pub count : ℕ
     pub is_value : IsOperandOf q value operand
-    pub requests : Requests count 0 (CanBringOperand operand) (λ t. PutByte (operand_at f.labels operand t % 256)) (λ u v. v ≡ u) (code_of l f) (f.node_at q n) on
+    pub requests : Requests count 0 (CanBringOperand operand) (λ t. PutByte (operand_at (f.labels q) operand t % 256)) (λ u v. v ≡ u) (code_of l f q) (f.node_at q n) on
     pub goes_on : GoesOn q next on
     pub few : count + 1 + 2 ≤ most
 
@@ -200,7 +200,7 @@ module _ (s : Setting) (c : Compiled) (l : Launch) (f : Finished) where
     pub on : ℕ
     pub count : ℕ
     pub later : ℕ
-    pub requests : Requests count later (CanPut f.labels into) (λ t. GetByte) (λ u v. PutsTo f.labels into (u.registers 10) u v) (code_of l f) (f.node_at q n) on
+    pub requests : Requests count later (CanPut (f.labels q) into) (λ t. GetByte) (λ u v. PutsTo (f.labels q) into (u.registers 10) u v) (code_of l f q) (f.node_at q n) on
     pub goes_on : GoesOn q next on
     pub few : count + 1 + (later + 2) ≤ most
 
@@ -212,7 +212,7 @@ module _ (s : Setting) (c : Compiled) (l : Launch) (f : Finished) where
     pub destinations : List CodeDestination
     pub are : AreTargetsOf q to destinations
     pub turns : Turns most (HasRegion (c.plan.frame q).size) (λ u. f.node_at q next)
-        (λ u w. (v : State) × PutsEachTo f.labels (values_to 0 destinations u) u v × Keeps v w) (code_of l f) (f.node_at q n)
+        (λ u w. (v : State) × PutsEachTo (f.labels q) (values_to 0 destinations u) u v × Keeps v w) (code_of l f q) (f.node_at q n)
     pub few_values : length to ≤ 64
 
   -- The frame is made with the landings of the continuations, locals are made 0, none of which is where an argument comes, and the formals
@@ -222,26 +222,26 @@ module _ (s : Setting) (c : Compiled) (l : Launch) (f : Finished) where
     pub limit : Label
     pub on : ℕ
     pub ends : ℕ
-    pub begins : Begins (c.plan.frame q) landings (map (c.plan.place q) (c.zeroed q)) (places_of q formals) limit (code_of l f) (f.node_at q n) on
+    pub begins : Begins (c.plan.frame q) landings (map (c.plan.place q) (c.zeroed q)) (places_of q formals) limit (code_of l f q) (f.node_at q n) on
     pub apart : list_all (is_taken_first (length formals) 0) (map (c.plan.place q) (c.zeroed q)) ≡ true
     pub few_formals : length formals ≤ 64
     pub pairs : length landings ≡ length (c.plan.frame q).pairs
-    pub addresses : AreLandings f.symbols f.labels q 0 landings
-    pub limits : AsksFor ends (λ t. StackLimit) (code_of l f) (f.labels limit.number)
+    pub addresses : AreLandings f.symbols (f.labels q) q 0 landings
+    pub limits : AsksFor ends (λ t. StackLimit) (code_of l f q) (f.labels q limit.number)
     pub goes_on : GoesOn q next on
     pub few : entry_cost (c.plan.frame q) (map (c.plan.place q) (c.zeroed q)) + 4 * length formals + 2 ≤ most
     pub few_at_limit : 7 + 1 + ends ≤ most
 
   -- ---- control goes to a procedure
 
-  -- the address of a procedure, which a label stands for
-  abbrev pub IsLabelOf : Operand → Label → Type 0
-  IsLabelOf (operand.Constant k) to = f.labels to.number ≡ constant_value s.program s.placement k
-  IsLabelOf _ to = ⊥
+  -- the address of a callee, for which a label stands in the code of a procedure
+  abbrev pub IsLabelOf : ℕ → Operand → Label → Type 0
+  IsLabelOf q (operand.Constant k) to = f.labels q to.number ≡ constant_value s.program s.placement k
+  IsLabelOf q _ to = ⊥
 
   -- code goes to the address that the callee gives: that of a label, or from an operand
   abbrev pub GoesToCallee : ℕ → Operand → (Label → Type 0) → (CodeOperand → Type 0) → Type 0
-  GoesToCallee q callee ToLabel By = ((to : Label) × IsLabelOf callee to × ToLabel to) ⊎ ((to : CodeOperand) × IsOperandOf q callee to × By to)
+  GoesToCallee q callee ToLabel By = ((to : Label) × IsLabelOf q callee to × ToLabel to) ⊎ ((to : CodeOperand) × IsOperandOf q callee to × By to)
 
   -- the most instructions that bring a callee's address and go there, beside those for the values
   abbrev pub most_for_callee : ℕ
@@ -252,12 +252,12 @@ module _ (s : Setting) (c : Compiled) (l : Launch) (f : Finished) where
     pub operands : List CodeOperand
     pub are : AreOperandsOf q arguments operands
     pub few_values : length operands ≤ 64
-    pub quiet : BeginsQuietly (code_of l f) (f.node_at q n)
+    pub quiet : BeginsQuietly (code_of l f q) (f.node_at q n)
     pub back : Label
-    pub is_back : f.labels back.number ≡ f.symbols.return_to q site
-    pub fits : f.labels back.number < 2 ^ 64
-    pub calls : GoesToCallee q callee (λ to. (on : ℕ) × Calls (c.plan.frame q) operands to back (code_of l f) (f.node_at q n) on)
-        (λ to. (on : ℕ) × (most_for to ≤ 11) × CallsBy (c.plan.frame q) to operands back (code_of l f) (f.node_at q n) on)
+    pub is_back : f.labels q back.number ≡ f.symbols.return_to q site
+    pub fits : f.labels q back.number < 2 ^ 64
+    pub calls : GoesToCallee q callee (λ to. (on : ℕ) × Calls (c.plan.frame q) operands to back (code_of l f q) (f.node_at q n) on)
+        (λ to. (on : ℕ) × (most_for to ≤ 11) × CallsBy (c.plan.frame q) to operands back (code_of l f q) (f.node_at q n) on)
     pub few : 12 * length operands + most_for_callee ≤ most
 
   -- The arguments go out, and the frame is left.
@@ -265,9 +265,9 @@ module _ (s : Setting) (c : Compiled) (l : Launch) (f : Finished) where
     pub operands : List CodeOperand
     pub are : AreOperandsOf q arguments operands
     pub few_values : length operands ≤ 64
-    pub quiet : BeginsQuietly (code_of l f) (f.node_at q n)
-    pub jumps : GoesToCallee q callee (λ to. JumpsTo (c.plan.frame q) operands to (code_of l f) (f.node_at q n))
-        (λ to. (most_for to ≤ 11) × JumpsBy (c.plan.frame q) to operands (code_of l f) (f.node_at q n))
+    pub quiet : BeginsQuietly (code_of l f q) (f.node_at q n)
+    pub jumps : GoesToCallee q callee (λ to. JumpsTo (c.plan.frame q) operands to (code_of l f q) (f.node_at q n))
+        (λ to. (most_for to ≤ 11) × JumpsBy (c.plan.frame q) to operands (code_of l f q) (f.node_at q n))
     pub few : parting_cost (c.plan.frame q) operands + most_for_callee ≤ most
 
   -- The values go out, and control goes to the continuation whose pair has this address.
@@ -277,7 +277,7 @@ module _ (s : Setting) (c : Compiled) (l : Launch) (f : Finished) where
     pub operands : List CodeOperand
     pub are : AreOperandsOf q arguments operands
     pub few_values : length operands ≤ 64
-    pub cuts : CutsTo (c.plan.frame q) pair operands (code_of l f) (f.node_at q n)
+    pub cuts : CutsTo (c.plan.frame q) pair operands (code_of l f q) (f.node_at q n)
     pub few : most_for pair + (12 * length operands + 3) ≤ most
 
   -- The results go out, the frame is left, and control goes back; behind the return of the oldest activation the end is asked for.
@@ -286,8 +286,8 @@ module _ (s : Setting) (c : Compiled) (l : Launch) (f : Finished) where
     pub ends : ℕ
     pub are : AreOperandsOf q results operands
     pub few_results : length operands ≤ 64
-    pub returns : ReturnsValues (c.plan.frame q) operands exit (code_of l f) (f.node_at q n)
-    pub end_asked : AsksFor ends (λ t. End (t.registers 10)) (code_of l f) f.symbols.last_return
+    pub returns : ReturnsValues (c.plan.frame q) operands exit (code_of l f q) (f.node_at q n)
+    pub end_asked : AsksFor ends (λ t. End (t.registers 10)) (code_of l f q) f.symbols.last_return
     pub few : parting_cost (c.plan.frame q) operands + 1 + 1 + ends ≤ most
     pub few_behind : parting_cost (c.plan.frame q) operands + 1 + 3 ≤ most
 
@@ -295,10 +295,10 @@ module _ (s : Setting) (c : Compiled) (l : Launch) (f : Finished) where
   pub record SiteCode (q site : ℕ) (exits : Exits) : Type 0 where
     pub labels : List Label
     pub on : ℕ
-    pub table : HasExits labels (code_of l f) (f.symbols.return_to q site) on
+    pub table : HasExits labels (code_of l f q) (f.symbols.return_to q site) on
     pub count : length labels ≡ length exits.returns
     pub alternates : (i : ℕ) (k : ContinuationId) (n : NodeId) (label : Label) → slice_get exits.returns i ≡ Some k → landing_in c.graphs q k.number ≡ Some n →
-        slice_get labels i ≡ Some label → f.labels label.number ≡ f.node_at q n
+        slice_get labels i ≡ Some label → f.labels q label.number ≡ f.node_at q n
     pub normal : (n : NodeId) → exits.normal ≡ Some n → GoesOn q n on
     pub aligned : f.symbols.return_to q site % 4 ≡ 0
     pub fits : f.symbols.return_to q site + 4 * length labels < 2 ^ 64
@@ -318,5 +318,5 @@ module _ (s : Setting) (c : Compiled) (l : Launch) (f : Finished) where
   IsCodeOf q n (Host (host.PutByte value) next) most = PutByteCode q n value next most
   IsCodeOf q n (Host (host.GetByte to) next) most = GetByteCode q n to next most
   IsCodeOf q n (Goto next) most = GotoCode q n next most
-  IsCodeOf q n Stop most = BeginsQuietly (code_of l f) (f.node_at q n)
+  IsCodeOf q n Stop most = BeginsQuietly (code_of l f q) (f.node_at q n)
   IsCodeOf q n _ most = ⊥

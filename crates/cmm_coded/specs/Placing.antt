@@ -11,17 +11,17 @@ use Rattle.cmm_execution.specs.Machine.{Launch, map_of}
 use Rattle.cmm_coded.specs.Finished.{Finished, code_of}
 
 -- Bytes that were finished for parts stand in the code of an image, so many bytes above the address for which they were made. Each place that waits
--- for a symbol is filled by its value, which it reaches; and these are the numbers for which labels stand in finished code.
-pub record IsPlacedIn (l : Launch) (f : Finished) (labels : List Meaning) (parts : List Part) (base up : ℕ) (bytes places : List ℕ) (fixes : List CodeFix) (value : ℕ → ℕ) : Type 0 where
+-- for a symbol is filled by its value, which it reaches; and these are the numbers for which the labels of a procedure stand in finished code.
+pub record IsPlacedIn (l : Launch) (f : Finished) (q : ℕ) (labels : List Meaning) (parts : List Part) (base up : ℕ) (bytes places : List ℕ) (fixes : List CodeFix) (value : ℕ → ℕ) : Type 0 where
   pub aligned : up % 4 ≡ 0
   pub near : up < 2 ^ 63
   pub reached : All (IsReached value (base + up)) fixes
   pub targets : All (GoesToCode labels value) parts
   pub contains : Contains (map_of l) (base + up) (filled value (base + up) fixes bytes)
-  pub is_labels : f.labels ≡ address_of labels places up value
+  pub is_labels : f.labels q ≡ address_of labels places up value
 
 -- What `finish` answers for parts (`RunAsParts`) is code in which these parts stand, so pieces that were appended do there what their contracts say.
 abbrev pub FinishedCodeStands : Type 0
-FinishedCodeStands = (l : Launch) (f : Finished) (labels : List Meaning) (parts : List Part) (base up : ℕ) (bytes places : List ℕ) (fixes : List CodeFix) (value : ℕ → ℕ) →
-    RunAsParts labels parts base bytes places fixes → IsPlacedIn l f labels parts base up bytes places fixes value →
-    Stand (code_of l f) parts (base + up) (base + up + length bytes)
+FinishedCodeStands = (l : Launch) (f : Finished) (q : ℕ) (labels : List Meaning) (parts : List Part) (base up : ℕ) (bytes places : List ℕ) (fixes : List CodeFix) (value : ℕ → ℕ) →
+    RunAsParts labels parts base bytes places fixes → IsPlacedIn l f q labels parts base up bytes places fixes value →
+    Stand (code_of l f q) parts (base + up) (base + up + length bytes)

@@ -24,12 +24,13 @@ pub record BeginsRun (main : Label) (x : Code) (from : ℕ) : Type 0 where
   pub ends : AsksFor 1 (λ t. End (t.registers 10)) x back
 
 -- From the start of the image `main` is called, with the return address of the oldest activation in register 1, and nothing else is changed but
--- scratch registers. The data of the image are those of the program.
+-- scratch registers. This code belongs to no procedure, and no label is named here, so it is taken as that of `main`. The data of the image are
+-- those of the program.
 pub record StartCode (s : Setting) (c : Compiled) (l : Launch) (f : Finished) : Type 0 where
   pub first : NodeId
   pub is_first : in_graph c.graphs s.program.main (λ g. Some g.first) ≡ Some first
   pub most : ℕ
-  pub calls : Goes 0 most Always (λ t. f.node_at s.program.main first) (PutsRegister 1 f.symbols.last_return) (code_of l f) l.image.start
+  pub calls : Goes 0 most Always (λ t. f.node_at s.program.main first) (PutsRegister 1 f.symbols.last_return) (code_of l f s.program.main) l.image.start
   pub is_data : l.image.initial ≡ data_bytes s.program s.placement
   pub bytes : All IsByte l.image.initial
   pub few_registers : length s.program.globals ≤ 256

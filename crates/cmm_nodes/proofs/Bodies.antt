@@ -164,7 +164,7 @@ module _ (labels : List Meaning) (p : Context) (y : Targets) (ready : IsReady la
     limit = y.limit;
     on = to;
     ends = 1;
-    begins = at_frame (λ fr zs vs. Begins fr p.landings zs vs y.limit (code_of l f) (f.node_at q n) to)
+    begins = at_frame (λ fr zs vs. Begins fr p.landings zs vs y.limit (code_of l f q) (f.node_at q n) to)
         (moved (λ z a. Begins p.frame p.landings p.zeroed (variable_places p formals) y.limit z a to) is-x at begins);
     apart = subst (λ zs. list_all (is_taken_first (length formals) 0) zs ≡ true) (sym of.zeroed) (grind (arith, can));
     few_formals = grind (arith, nat_tests, can, length-map);
@@ -199,17 +199,17 @@ module _ (labels : List Meaning) (p : Context) (y : Targets) (ready : IsReady la
     destinations = target_destinations p y targets;
     are = targets_are_of labels p y ready s c l f q of targets (grind (arith, can));
     turns = subst (λ (fr : Frame). Turns (copy_cost p y targets + 2) (HasRegion fr.size) (λ u. f.node_at q next)
-        (λ u w. (v : State) × PutsEachTo f.labels (values_to 0 (target_destinations p y targets) u) u v × Keeps v w) (code_of l f) (f.node_at q n)) (sym of.frame)
+        (λ u w. (v : State) × PutsEachTo (f.labels q) (values_to 0 (target_destinations p y targets) u) u v × Keeps v w) (code_of l f q) (f.node_at q n)) (sym of.frame)
         (copied (moved (λ z a. CopiesIn (5 * length (target_destinations p y targets)) p.frame (target_destinations p y targets) z a mid) is-x at copies
         (targets_are_global labels p y ready s c l f q of targets (grind (arith, can)))) (subst (λ z. Leads 1 Always Keeps z mid to) is-x leads) goes);
     few_values = (let same : length (target_destinations p y targets) ≡ length targets = length-map targets (target_destination p y) in grind (arith, nat_tests, can, same));
   }
     where
       copied : Passes (5 * length (target_destinations p y targets)) (HasRegion p.frame.size)
-          (λ u v. PutsEachTo f.labels (values_to 0 (target_destinations p y targets) u) u v) (code_of l f) (f.node_at q n) mid →
-          Leads 1 Always Keeps (code_of l f) mid to → GoesOn s c l f q next to →
+          (λ u v. PutsEachTo (f.labels q) (values_to 0 (target_destinations p y targets) u) u v) (code_of l f q) (f.node_at q n) mid →
+          Leads 1 Always Keeps (code_of l f q) mid to → GoesOn s c l f q next to →
           Turns (copy_cost p y targets + 2) (HasRegion p.frame.size) (λ u. f.node_at q next)
-          (λ u w. (v : State) × PutsEachTo f.labels (values_to 0 (target_destinations p y targets) u) u v × Keeps v w) (code_of l f) (f.node_at q n)
+          (λ u w. (v : State) × PutsEachTo (f.labels q) (values_to 0 (target_destinations p y targets) u) u v × Keeps v w) (code_of l f q) (f.node_at q n)
       copied passes here on =
           let same : length (target_destinations p y targets) ≡ length targets = length-map targets (target_destination p y) in
           let last = leads_turns here on (λ u v sound sound_after can_be kept. tt) (λ u. f.node_at q next) (λ u v can_be kept. refl) in
@@ -223,7 +223,7 @@ module _ (labels : List Meaning) (p : Context) (y : Targets) (ready : IsReady la
     ends = 1;
     are = operands_are_of labels p y ready s c l f q of results (grind (arith, can));
     few_results = grind (arith, nat_tests, can);
-    returns = subst (λ (fr : Frame). ReturnsValues fr (argument_operands p y results) exit (code_of l f) (f.node_at q n)) (sym of.frame)
+    returns = subst (λ (fr : Frame). ReturnsValues fr (argument_operands p y results) exit (code_of l f q) (f.node_at q n)) (sym of.frame)
         (moved (λ z a. ReturnsValues p.frame (argument_operands p y results) exit z a) is-x at returns);
     end_asked = of.end_asked;
     few = subst (λ (fr : Frame). parting_cost fr (argument_operands p y results) + 1 + 1 + 1 ≤ parting_cost p.frame (argument_operands p y results) + 1 + 3) (sym of.frame) (omega arith);
@@ -239,8 +239,8 @@ module _ (labels : List Meaning) (p : Context) (y : Targets) (ready : IsReady la
     quiet = moved (λ z a. BeginsQuietly z a) is-x at jumps.quiet;
     jumps = inl ((
       to_label,
-      subst (λ o. IsLabelOf s c l f o to_label) (sym named.is) (ap (λ (k : Label). f.labels k.number) named.is_label ∙ of.entries named.procedure named.there),
-      subst (λ (fr : Frame). JumpsTo fr (argument_operands p y arguments) to_label (code_of l f) (f.node_at q n)) (sym of.frame)
+      subst (λ o. IsLabelOf s c l f q o to_label) (sym named.is) (ap (λ (k : Label). f.labels q k.number) named.is_label ∙ of.entries named.procedure named.there),
+      subst (λ (fr : Frame). JumpsTo fr (argument_operands p y arguments) to_label (code_of l f q) (f.node_at q n)) (sym of.frame)
           (moved (λ z a. JumpsTo p.frame (argument_operands p y arguments) to_label z a) is-x at jumps),
     ));
     few = subst (λ (fr : Frame). parting_cost fr (argument_operands p y arguments) + 12 ≤ parting_cost p.frame (argument_operands p y arguments) + 12) (sym of.frame) (omega arith);
@@ -258,7 +258,7 @@ module _ (labels : List Meaning) (p : Context) (y : Targets) (ready : IsReady la
       operand_is_of labels p y ready s c l f q of callee (grind (arith, can)),
       (
         few_for (code_operand p y callee),
-        subst (λ (fr : Frame). JumpsBy fr (code_operand p y callee) (argument_operands p y arguments) (code_of l f) (f.node_at q n)) (sym of.frame)
+        subst (λ (fr : Frame). JumpsBy fr (code_operand p y callee) (argument_operands p y arguments) (code_of l f q) (f.node_at q n)) (sym of.frame)
             (moved (λ z a. JumpsBy p.frame (code_operand p y callee) (argument_operands p y arguments) z a) is-x at jumps),
       ),
     ));
@@ -273,7 +273,7 @@ module _ (labels : List Meaning) (p : Context) (y : Targets) (ready : IsReady la
     operands = argument_operands p y arguments;
     are = operands_are_of labels p y ready s c l f q of arguments (grind (arith, can));
     few_values = grind (arith, nat_tests, can);
-    cuts = subst (λ (fr : Frame). CutsTo fr (code_operand p y pair) (argument_operands p y arguments) (code_of l f) (f.node_at q n)) (sym of.frame)
+    cuts = subst (λ (fr : Frame). CutsTo fr (code_operand p y pair) (argument_operands p y arguments) (code_of l f q) (f.node_at q n)) (sym of.frame)
         (moved (λ z a. CutsTo p.frame (code_operand p y pair) (argument_operands p y arguments) z a) is-x at cuts);
     few = (let same : length (argument_operands p y arguments) ≡ length arguments = length-map arguments (argument_operand p y) in omega (arith, same));
   }
@@ -303,5 +303,5 @@ module _ (p : Context) (y : Targets) (x : Code) (from to : ℕ) where
   pub stop_codes : ((s : State) → s.pc ≡ from → instruction_step x.map s ≡ Traps Breakpoint) → CodesNode p y Stop x from to
   stop_codes traps s c l f q n is-x of at goes t r there asks =
       let e : instruction_step x.map t ≡ Traps Breakpoint = traps t (there ∙ at) in
-      let g : instruction_step (code_of l f).map t ≡ Traps Breakpoint = subst (λ (z : Code). instruction_step z.map t ≡ Traps Breakpoint) is-x e in
+      let g : instruction_step (code_of l f q).map t ≡ Traps Breakpoint = subst (λ (z : Code). instruction_step z.map t ≡ Traps Breakpoint) is-x e in
       absurd (cc)

@@ -49,10 +49,10 @@ module _ (labels : List Meaning) (p : Context) (y : Targets) (ready : IsReady la
       fits = omega (arith, (of.sites site.number within).fits);
       calls = inl ((
         to_label,
-        subst (λ o. IsLabelOf s c l f o to_label) (sym named.is) (ap (λ (k : Label). f.labels k.number) named.is_label ∙ of.entries named.procedure named.there),
+        subst (λ o. IsLabelOf s c l f q o to_label) (sym named.is) (ap (λ (k : Label). f.labels q k.number) named.is_label ∙ of.entries named.procedure named.there),
         (
           to,
-          subst (λ (fr : Frame). Calls fr (argument_operands p y arguments) to_label (site_label p site) (code_of l f) (f.node_at q n) to) (sym of.frame)
+          subst (λ (fr : Frame). Calls fr (argument_operands p y arguments) to_label (site_label p site) (code_of l f q) (f.node_at q n) to) (sym of.frame)
               (moved (λ z a. Calls p.frame (argument_operands p y arguments) to_label (site_label p site) z a to) is-x at calls),
         ),
       ));
@@ -78,7 +78,7 @@ module _ (labels : List Meaning) (p : Context) (y : Targets) (ready : IsReady la
         (
           to,
           few_for (code_operand p y callee),
-          subst (λ (fr : Frame). CallsBy fr (code_operand p y callee) (argument_operands p y arguments) (site_label p site) (code_of l f) (f.node_at q n) to) (sym of.frame)
+          subst (λ (fr : Frame). CallsBy fr (code_operand p y callee) (argument_operands p y arguments) (site_label p site) (code_of l f q) (f.node_at q n) to) (sym of.frame)
               (moved (λ z a. CallsBy p.frame (code_operand p y callee) (argument_operands p y arguments) (site_label p site) z a to) is-x at calls),
         ),
       ));
@@ -113,12 +113,12 @@ module _ (p : Context) (y : Targets) (x : Code) (mid to : ℕ) (site : SiteId) (
   site_codes callee arguments exits can placed back s c l f q is-x of goes = record {
     labels = landing_labels p exits.returns;
     on = back.0;
-    table = subst (λ a. HasExits (landing_labels p exits.returns) (code_of l f) a back.0) stands
+    table = subst (λ a. HasExits (landing_labels p exits.returns) (code_of l f q) a back.0) stands
         (subst (λ (z : Code). HasExits (landing_labels p exits.returns) z mid back.0) is-x back.1);
     count = count;
     alternates = λ i k n label is lands got.
         let less : k.number < length p.landings = grind (arith, nat_tests, list_all_get (has_landing p) exits.returns i k (grind (arith, can)) is) in
-        ap (λ (z : Label). f.labels z.number) (landing_is p exits.returns i k label is got) ∙ of.landed k.number n less lands;
+        ap (λ (z : Label). f.labels q z.number) (landing_is p exits.returns i k label is got) ∙ of.landed k.number n less lands;
     normal = λ n is. subst (λ a. GoesOn s c l f q n a) (sym (back.2 n is)) (goes_at n is);
     aligned = subst (λ a. a % 4 ≡ 0) its.stands its.aligned;
     fits = subst (λ a. a + 4 * length (landing_labels p exits.returns) < 2 ^ 64) its.stands (omega (arith, its.fits, few, count));

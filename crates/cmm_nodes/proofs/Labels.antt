@@ -4,11 +4,11 @@ use Rattle.std.proofs.lemmas.Bool.Decides.{nat_tests}
 use Rattle.std.proofs.lemmas.List.{get_or-set_other, get_or-set_same}
 use Rattle.std.proofs.lemmas.Option.{get_or_from_slice_get, slice_get-get_or, slice_get_within}
 use Rattle.rv_asm.proofs.Shared.{AreKept, fits_kept, kept_placed}
-use Rattle.rv_asm.specs.Assembly.{IsInner, IsLabel}
+use Rattle.rv_asm.specs.Assembly.{IsInner, IsLabel, IsTarget}
 use Rattle.rv_asm.specs.declared.part.Label.{Label}
 use Rattle.rv_asm.specs.declared.part.Meaning.{Meaning}
 use Rattle.rv_asm.specs.declared.part.Meaning.TheVariants.{Inner}
-use Rattle.rv_asm.specs.declared.part.Part.TheVariants.{Place}
+use Rattle.rv_asm.specs.declared.part.Part.TheVariants.{Jump as JumpPart, Place}
 use Rattle.cmm_bitset.proofs.Shared.{has-set_other, has-set_same}
 use Rattle.cmm_bitset.specs.Sets.{has}
 use Rattle.cmm_nodes.specs.declared.context.Context.{Context}
@@ -30,6 +30,9 @@ module _ {old new : List Meaning} (kept : AreKept old new) where
   inner_kept : (l : Label) → IsInner old l → IsInner new l
   inner_kept l is = fits_kept kept (Place l) is
 
+  target_kept : (l : Label) → IsTarget old l → IsTarget new l
+  target_kept l is = fits_kept kept (JumpPart l) is
+
   pub ready_kept : (p : Context) (y : Targets) → IsReady old p y → IsReady new p y
   ready_kept p y ready = record {
     frame = ready.frame;
@@ -39,7 +42,7 @@ module _ {old new : List Meaning} (kept : AreKept old new) where
     landings = λ i d h. inner_kept (get_or p.landings i d) (ready.landings i d h);
     landed = ready.landed;
     nodes = λ i d h. inner_kept (get_or p.nodes i d) (ready.nodes i d h);
-    procedures = λ i d h. inner_kept (get_or y.procedures i d) (ready.procedures i d h);
+    procedures = λ i d h. target_kept (get_or y.procedures i d) (ready.procedures i d h);
     data_labels = λ i d h. label_kept (get_or y.data_labels i d) (ready.data_labels i d h);
     registers = λ i d h. label_kept (get_or y.registers i d) (ready.registers i d h);
     few_registers = ready.few_registers;

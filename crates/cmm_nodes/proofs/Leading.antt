@@ -32,10 +32,10 @@ module _ (p : Context) (y : Targets) (kind : NodeKind) (x : Code) (from mid to :
     where
       on : GoesOnTo s c l f q (Some n) mid
       on =
-          let here : Goes 0 jump_cost Always (λ t. f.labels (label_at p.nodes n.number).number) Keeps (code_of l f) mid =
+          let here : Goes 0 jump_cost Always (λ t. f.labels q (label_at p.nodes n.number).number) Keeps (code_of l f q) mid =
           subst (λ (z : Code). Goes 0 jump_cost Always (λ t. z.at (label_at p.nodes n.number).number) Keeps z mid) is-x goes
           in
-          subst (λ (a : ℕ). Goes 0 jump_cost Always (λ t. a) Keeps (code_of l f) mid) (of.nodes n within) here
+          subst (λ (a : ℕ). Goes 0 jump_cost Always (λ t. a) Keeps (code_of l f q) mid) (of.nodes n within) here
 
   -- one that falls to none
   pub leads_nowhere : falls_to kind ≡ None → CodesWhole p y kind x from to → CodesAlone p y kind x from to

@@ -16,10 +16,9 @@ use Rattle.cmm_graph.specs.declared.operand.Local.{Local}
 use Rattle.cmm_graph.specs.declared.operand.Local.TheVariants as local
 use Rattle.cmm_graph.specs.declared.operand.Operand.{Operand}
 use Rattle.cmm_graph.specs.declared.operand.Operand.TheVariants as operand
-use Rattle.rv_asm.specs.Assembly.{IsInner, IsLabel, IsTarget, is_inner, is_target, meaning}
+use Rattle.rv_asm.specs.Assembly.{IsLabel, IsTarget}
 use Rattle.rv_asm.specs.declared.part.Label.{Label}
 use Rattle.rv_asm.specs.declared.part.Meaning.{Meaning}
-use Rattle.rv_asm.specs.declared.part.Meaning.TheVariants.{Inner, Outer}
 use Rattle.cmm_changes.specs.Changes.{IsPlace}
 use Rattle.cmm_select.specs.Destinations.{IsDestination}
 use Rattle.cmm_select.specs.Operands.{IsOperand}
@@ -42,10 +41,13 @@ module _ (labels : List Meaning) (p : Context) (y : Targets) (ready : IsReady la
   pub place_is_ready : (v : Local) → IsTrue (has_local p v) → IsPlace (place p v)
   place_is_ready v there = All-get_or IsPlace p.places (local_number p v) (Slot 0) (grind (arith, nat_tests, there)) ready.places
 
+  -- control can go to the label of a procedure
+  procedure_is_target : (k : ℕ) → k < length y.procedures → IsTarget labels (label_at y.procedures k)
+  procedure_is_target k there = All-get_or (IsTarget labels) y.procedures k (record { number = 0 }) there ready.procedures
+
   pub operand_is_ready : (o : Operand) → IsTrue (has_operand p y o) → IsOperand labels (code_operand p y o)
   operand_is_ready (operand.Constant (constant.Number n width)) there = tt
-  operand_is_ready (operand.Constant (constant.Code k plus)) there =
-      (All-get_or (IsInner labels) y.procedures k (record { number = 0 }) (grind (arith, nat_tests, there)) ready.procedures).0
+  operand_is_ready (operand.Constant (constant.Code k plus)) there = (procedure_is_target k (grind (arith, nat_tests, there))).0
   operand_is_ready (operand.Constant (constant.Address k plus)) there =
       All-get_or (IsLabel labels) y.data_labels k (record { number = 0 }) (grind (arith, nat_tests, there)) ready.data_labels
   operand_is_ready (operand.Local v) there = place_is_ready v there
@@ -69,15 +71,8 @@ module _ (labels : List Meaning) (p : Context) (y : Targets) (ready : IsReady la
   destination_is_ready (destination.Target t) there = target_is_ready t there
   destination_is_ready (destination.Temporary t) there = place_is_ready (local.Temporary t) there
 
-  -- control can go to a procedure
-  inner_is_target : (m : Meaning) → IsTrue (is_inner m) → IsTrue (is_target m)
-  inner_is_target (Inner placed) is = refl
-  inner_is_target (Outer symbol relative) is = absurd (cc)
-
   pub named_is_target : (callee : Operand) (to : Label) → IsNamed y callee to → IsTarget labels to
-  named_is_target callee to named =
-      let inner = All-get_or (IsInner labels) y.procedures named.procedure (record { number = 0 }) named.there ready.procedures in
-      subst (IsTarget labels) (sym named.is_label) ((inner.0, inner_is_target (meaning labels (label_at y.procedures named.procedure)) inner.1))
+  named_is_target callee to named = subst (IsTarget labels) (sym named.is_label) (procedure_is_target named.procedure named.there)
 
   pub targets_are_ready : (ts : List Target) → IsTrue (list_all (has_target p y) ts) → All (IsDestination labels) (target_destinations p y ts)
   targets_are_ready [] all = All-nil (IsDestination labels)
@@ -130,19 +125,19 @@ module _ (labels : List Meaning) (p : Context) (y : Targets) (ready : IsReady la
   targets_are_of (t ∷ ts) all = (target_is_of t (grind (arith, all)), targets_are_of ts (grind (arith, all)))
 
   -- where a target is a global register, its label stands for an offset of one
-  target_is_global : (t : Target) → IsTrue (has_target p y t) → IsGlobalBy f.labels (target_destination p y t)
+  target_is_global : (t : Target) → IsTrue (has_target p y t) → IsGlobalBy (f.labels q) (target_destination p y t)
   target_is_global (target.Variable number width) there = tt
   target_is_global (target.Register number width) there =
       let less : number < length y.registers = grind (arith, nat_tests, there) in
-      let offset : f.labels (label_at y.registers number).number ≡ 448 + 8 * number = omega (arith, is.registers number less) in
+      let offset : f.labels q (label_at y.registers number).number ≡ 448 + 8 * number = omega (arith, is.registers number less) in
       subst IsGlobal (sym offset) (record {
         aligned = mod_eight number;
         behind = omega arith;
         below = omega (arith, less, ready.few_registers);
       })
 
-  pub targets_are_global : (ts : List Target) → IsTrue (list_all (has_target p y) ts) → All (IsGlobalBy f.labels) (target_destinations p y ts)
-  targets_are_global [] all = All-nil (IsGlobalBy f.labels)
+  pub targets_are_global : (ts : List Target) → IsTrue (list_all (has_target p y) ts) → All (IsGlobalBy (f.labels q)) (target_destinations p y ts)
+  targets_are_global [] all = All-nil (IsGlobalBy (f.labels q))
   targets_are_global (t ∷ ts) all =
-      All-cons (IsGlobalBy f.labels) (target_destination p y t) (target_destinations p y ts) (target_is_global t (grind (arith, all)))
+      All-cons (IsGlobalBy (f.labels q)) (target_destination p y t) (target_destinations p y ts) (target_is_global t (grind (arith, all)))
       (targets_are_global ts (grind (arith, all)))

@@ -69,13 +69,13 @@ pub record EndsAt (p : Context) (n : NodeId) (old new : List Bool) (parts : List
 -- a node's code with what leads on behind it, wherever finished code has it
 abbrev pub CodesAlone : Context → Targets → NodeKind → Code → ℕ → ℕ → Type 0
 CodesAlone p y kind x from to =
-    (s : Setting) (c : Compiled) (l : Launch) (f : Finished) (q : ℕ) (n : NodeId) → x ≡ code_of l f → IsContextOf s c l f q p y →
+    (s : Setting) (c : Compiled) (l : Launch) (f : Finished) (q : ℕ) (n : NodeId) → x ≡ code_of l f q → IsContextOf s c l f q p y →
     f.node_at q n ≡ from → HasCode s c l f q n kind (cost_of p y kind)
 
 -- of the node with a number
 abbrev pub CodesNumbered : Context → Targets → ℕ → NodeKind → Code → ℕ → ℕ → Type 0
 CodesNumbered p y k kind x from to =
-    (s : Setting) (c : Compiled) (l : Launch) (f : Finished) (q : ℕ) → x ≡ code_of l f → IsContextOf s c l f q p y →
+    (s : Setting) (c : Compiled) (l : Launch) (f : Finished) (q : ℕ) → x ≡ code_of l f q → IsContextOf s c l f q p y →
     f.node_at q (record { number = k }) ≡ from → HasCode s c l f q (record { number = k }) kind (cost_of p y kind)
 
 -- a node's code is still to come: the node has no place yet, or is the one that is next

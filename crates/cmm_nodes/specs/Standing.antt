@@ -15,7 +15,7 @@ use Rattle.cmm_graph.specs.declared.node.Exits.{Exits}
 use Rattle.cmm_graph.specs.declared.node.NodeKind.{NodeKind}
 use Rattle.cmm_graph.specs.declared.node.NodeKind.TheVariants.{Entry, CopyIn, Assign, Store, Branch, Switch, Call, Host, Goto}
 use Rattle.cmm_live.specs.Sites.{site_of}
-use Rattle.rv_asm.specs.Assembly.{IsInner, IsLabel, table_limit}
+use Rattle.rv_asm.specs.Assembly.{IsInner, IsLabel, IsTarget, table_limit}
 use Rattle.rv_asm.specs.Parts.{Code}
 use Rattle.rv_asm.specs.declared.part.Label.{Label}
 use Rattle.rv_asm.specs.declared.part.Meaning.{Meaning}
@@ -42,7 +42,8 @@ use Rattle.cmm_nodes.specs.Naming.{has_local, label_at, landing_labels, local_nu
 
 -- ---- while code is assembled
 
--- labels are made for all that nodes name, places can be read and written, and the frame can be made
+-- labels are made for all that nodes name, places can be read and written, and the frame can be made. A procedure's label may stand for a place in
+-- the code, or for a symbol that is reached from where the code stands, as that of a procedure elsewhere.
 pub record IsReady (labels : List Meaning) (p : Context) (y : Targets) : Type 0 where
   pub frame : CanBeMade p.frame
   pub places : All IsPlace p.places
@@ -51,7 +52,7 @@ pub record IsReady (labels : List Meaning) (p : Context) (y : Targets) : Type 0 
   pub landings : All (IsInner labels) p.landings
   pub landed : length p.landings ≡ length p.frame.pairs
   pub nodes : All (IsInner labels) p.nodes
-  pub procedures : All (IsInner labels) y.procedures
+  pub procedures : All (IsTarget labels) y.procedures
   pub data_labels : All (IsLabel labels) y.data_labels
   pub registers : All (IsLabel labels) y.registers
   pub few_registers : length y.registers ≤ 256
@@ -70,9 +71,9 @@ labels_with p kind labels = elim (site_of kind) [ Some site ↦ slice_set labels
 module _ (s : Setting) (c : Compiled) (l : Launch) (f : Finished) (q : ℕ) where
   -- a label stands where control comes back to a site, and the jumps of the exits fit behind it
   pub record IsSiteOf (site : ℕ) (label : Label) : Type 0 where
-    pub stands : f.labels label.number ≡ f.symbols.return_to q site
-    pub aligned : f.labels label.number % 4 ≡ 0
-    pub fits : f.labels label.number + 4 * table_limit < 2 ^ 64
+    pub stands : f.labels q label.number ≡ f.symbols.return_to q site
+    pub aligned : f.labels q label.number % 4 ≡ 0
+    pub fits : f.labels q label.number + 4 * table_limit < 2 ^ 64
 
   -- the context is that of a procedure of a compiled program, and labels stand for what they are made for
   pub record IsContextOf (p : Context) (y : Targets) : Type 0 where
@@ -80,18 +81,18 @@ module _ (s : Setting) (c : Compiled) (l : Launch) (f : Finished) (q : ℕ) wher
     pub places : (u : ℕ) → u < length p.places → c.plan.place q u ≡ slice_index_or p.places u (Slot 0)
     pub numbers : (v : Local) → IsTrue (has_local p v) → number_in c.graphs q v ≡ local_number p v
     pub zeroed : map (c.plan.place q) (c.zeroed q) ≡ p.zeroed
-    pub nodes : (n : NodeId) → n.number < length p.nodes → f.labels (label_of p.nodes n).number ≡ f.node_at q n
+    pub nodes : (n : NodeId) → n.number < length p.nodes → f.labels q (label_of p.nodes n).number ≡ f.node_at q n
     pub procedures : (k plus : ℕ) → k < length y.procedures →
-        sum (f.labels (label_at y.procedures k).number) plus ≡ constant_value s.program s.placement (constant.Code k plus)
-    pub entries : (k : ℕ) → k < length y.procedures → f.labels (label_at y.procedures k).number ≡ constant_value s.program s.placement (constant.Code k 0)
+        sum (f.labels q (label_at y.procedures k).number) plus ≡ constant_value s.program s.placement (constant.Code k plus)
+    pub entries : (k : ℕ) → k < length y.procedures → f.labels q (label_at y.procedures k).number ≡ constant_value s.program s.placement (constant.Code k 0)
     pub data_labels : (k plus : ℕ) → k < length y.data_labels →
-        sum (f.labels (label_at y.data_labels k).number) plus ≡ constant_value s.program s.placement (constant.Address k plus)
-    pub registers : (r : ℕ) → r < length y.registers → region_base + f.labels (label_at y.registers r).number ≡ register_address r
-    pub landings : AreLandings f.symbols f.labels q 0 p.landings
-    pub landed : (k : ℕ) (n : NodeId) → k < length p.landings → landing_in c.graphs q k ≡ Some n → f.labels (label_at p.landings k).number ≡ f.node_at q n
+        sum (f.labels q (label_at y.data_labels k).number) plus ≡ constant_value s.program s.placement (constant.Address k plus)
+    pub registers : (r : ℕ) → r < length y.registers → region_base + f.labels q (label_at y.registers r).number ≡ register_address r
+    pub landings : AreLandings f.symbols (f.labels q) q 0 p.landings
+    pub landed : (k : ℕ) (n : NodeId) → k < length p.landings → landing_in c.graphs q k ≡ Some n → f.labels q (label_at p.landings k).number ≡ f.node_at q n
     pub sites : (k : ℕ) → k < length p.sites → IsSiteOf k (label_at p.sites k)
-    pub limit : AsksFor 1 (λ t. StackLimit) (code_of l f) (f.labels y.limit.number)
-    pub end_asked : AsksFor 1 (λ t. End (t.registers 10)) (code_of l f) f.symbols.last_return
+    pub limit : AsksFor 1 (λ t. StackLimit) (code_of l f q) (f.labels q y.limit.number)
+    pub end_asked : AsksFor 1 (λ t. End (t.registers 10)) (code_of l f q) f.symbols.last_return
 
   -- control goes on at a node from an address, if there is one
   abbrev pub GoesOnTo : Option NodeId → ℕ → Type 0
@@ -123,20 +124,20 @@ falls_to _ = None
 -- the value of a right side is put where a destination is, and control goes on
 abbrev pub PutsValue : Context → Targets → Rvalue → CodeDestination → Code → ℕ → ℕ → Type 0
 PutsValue p y value into x from to =
-    BeginsQuietly x from × ((s : Setting) (c : Compiled) (l : Launch) (f : Finished) (q : ℕ) → x ≡ code_of l f → IsContextOf s c l f q p y →
+    BeginsQuietly x from × ((s : Setting) (c : Compiled) (l : Launch) (f : Finished) (q : ℕ) → x ≡ code_of l f q → IsContextOf s c l f q p y →
     IsPutInto s c l f q value into (rvalue_cost p y value) from to)
 
 -- the code of a node up to where control goes on at the node to which it falls, wherever finished code has it
 abbrev pub CodesNode : Context → Targets → NodeKind → Code → ℕ → ℕ → Type 0
 CodesNode p y kind x from to =
-    (s : Setting) (c : Compiled) (l : Launch) (f : Finished) (q : ℕ) (n : NodeId) → x ≡ code_of l f → IsContextOf s c l f q p y →
+    (s : Setting) (c : Compiled) (l : Launch) (f : Finished) (q : ℕ) (n : NodeId) → x ≡ code_of l f q → IsContextOf s c l f q p y →
     f.node_at q n ≡ from → GoesOnTo s c l f q (falls_to kind) to → IsCodeOf s c l f q n kind (cost_of p y kind)
 
 -- the code of a call up to its site, to which control comes back
 abbrev pub CodesCall : Context → Targets → SiteId → Operand → List Argument → Code → ℕ → ℕ → Type 0
 CodesCall p y site callee arguments x from to =
     (x.at (site_label p site).number ≡ to)
-    × ((s : Setting) (c : Compiled) (l : Launch) (f : Finished) (q : ℕ) (n : NodeId) (most : ℕ) → x ≡ code_of l f → IsContextOf s c l f q p y →
+    × ((s : Setting) (c : Compiled) (l : Launch) (f : Finished) (q : ℕ) (n : NodeId) (most : ℕ) → x ≡ code_of l f q → IsContextOf s c l f q p y →
     f.node_at q n ≡ from → 12 * length arguments + callee_cost ≤ most → CallCode s c l f q n site.number callee arguments most)
 
 -- behind it each alternate exit leads to its landing, and the normal one, if there is one, goes on
@@ -147,7 +148,7 @@ LeadsBack p exits x from to =
 -- the code behind a node's site, up to where control goes on by the normal exit
 abbrev pub CodesSite : Context → Targets → NodeKind → Code → ℕ → ℕ → Type 0
 CodesSite p y kind x from to =
-    (s : Setting) (c : Compiled) (l : Launch) (f : Finished) (q : ℕ) → x ≡ code_of l f → IsContextOf s c l f q p y →
+    (s : Setting) (c : Compiled) (l : Launch) (f : Finished) (q : ℕ) → x ≡ code_of l f q → IsContextOf s c l f q p y →
     GoesOnTo s c l f q (falls_to kind) to → IsSiteCodeOf s c l f q kind
 
 -- both
