@@ -2,3 +2,5 @@ pub mod Read
 pub mod First
 pub mod Named
 pub mod Meant
+pub mod Counted
+mod CountRows

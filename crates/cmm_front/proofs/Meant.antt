@@ -1,5 +1,5 @@
 -- The program that units mean that were read from bytes.
-use Rattle.std.proofs.Common.{◌≡◌, ℕ, suc, ◌+◌, arith, List, [], ◌∷◌, length, map, ap, refl, sym, ◌∙◌}
+use Rattle.std.proofs.Common.{◌≡◌, ℕ, suc, ◌+◌, arith, List, [], ◌∷◌, length, map, ap, ◌∙◌}
 use Rattle.std.specs.List.{All, AllZip}
 use Rattle.std.proofs.lemmas.List.{length-append, length-map}
 use Rattle.std.proofs.lemmas.List.Elements.{All-cons, All-head, All-nil, All-tail}
@@ -7,7 +7,8 @@ use Rattle.cmm_ast.specs.declared.unit.Unit.{Unit as UnitTree}
 use Rattle.cmm_lexer.specs.Laws.{AreBytes}
 use Rattle.cmm_lexer.specs.Lexing.{tokens_of}
 use Rattle.cmm_lexer.specs.Places.{line_at, column_at}
-use Rattle.cmm_meaning.specs.Laws.{IsReadFromBytes}
+use Rattle.cmm_meaning.specs.Laws.{AreRead, IsReadFromBytes, TextsAreBytes}
+use Rattle.cmm_meaning.proofs.Shared.{are_read, read_texts_are_bytes}
 use Rattle.cmm_front.specs.Sources.{IsTreeOf, places_in}
 
 places_count : (unit : List ℕ) → length (places_in unit) ≡ suc (length (tokens_of unit))
@@ -21,9 +22,13 @@ places_count unit =
 read_from : (unit : List ℕ) (tree : UnitTree) → AreBytes unit → IsTreeOf unit tree → IsReadFromBytes tree
 read_from unit tree bytes is = record { bytes = unit; are_bytes = bytes; derives = is.derives.derives; places = ap length is.places ∙ places_count unit }
 
-pub read_all : (units : List (List ℕ)) (trees : List UnitTree) → All AreBytes units → AllZip IsTreeOf units trees → All IsReadFromBytes trees
+read_all : (units : List (List ℕ)) (trees : List UnitTree) → All AreBytes units → AllZip IsTreeOf units trees → All IsReadFromBytes trees
 read_all [] [] bytes are = All-nil IsReadFromBytes
 read_all [] (t ∷ ts) bytes are = absurd are
 read_all (u ∷ us) [] bytes are = absurd are
 read_all (u ∷ us) (t ∷ ts) bytes are =
     All-cons IsReadFromBytes t ts (read_from u t (All-head AreBytes u us bytes) are.0) (read_all us ts (All-tail AreBytes u us bytes) are.1)
+
+-- what holds of trees that are read from bytes
+pub when_read : {A : Type 0} (units : List (List ℕ)) (trees : List UnitTree) → All AreBytes units → AllZip IsTreeOf units trees → (AreRead trees → TextsAreBytes trees → A) → A
+when_read units trees bytes are so = let read = read_all units trees bytes are in so (are_read trees read) (read_texts_are_bytes trees read)

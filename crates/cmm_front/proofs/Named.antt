@@ -1,7 +1,7 @@
 -- The unit of a fault that is named is one of the units.
-use Rattle.std.proofs.Common.{◌≡◌, ℕ, zero, suc, ◌+◌, ◌<◌, List, [], ◌∷◌, ◌++◌, map, length, inl, inr, Bool, true, false, Option, Some, None, Result, Ok, Err, refl, ap, subst, sym, ◌∙◌, ◌⊎◌, arith}
+use Rattle.std.proofs.Common.{◌≡◌, ℕ, suc, ◌+◌, ◌<◌, List, [], ◌∷◌, ◌++◌, map, length, inl, inr, Bool, true, false, Option, Some, None, Result, Ok, Err, refl, ap, subst, sym, ◌∙◌, ◌⊎◌, arith}
 use Rattle.std.specs.Prelude.{IfErr, IfSome}
-use Rattle.std.specs.List.{All, AllZip}
+use Rattle.std.specs.List.{All}
 use Rattle.std.proofs.lemmas.Option.{none-some}
 use Rattle.std.proofs.lemmas.List.Elements.{All-append, All-cons, All-head, All-nil, All-tail}
 use Rattle.cmm_ast.specs.declared.unit.Unit.{Unit as UnitTree}
@@ -56,7 +56,7 @@ first_keeps : (P : Placed → Type 0) (best : Option Placed) (ps : List Placed) 
 first_keeps P best [] kept all = kept
 first_keeps P best (p ∷ ps) kept all = first_keeps P (sooner_by stands_before best (Some p)) ps (sooner_keeps P best p kept (All-head P p ps all)) (All-tail P p ps all)
 
-count_from : (procs labels : ℕ) (us : List UnitTree) → length (units_from procs labels us) ≡ length us
+pub count_from : (procs labels : ℕ) (us : List UnitTree) → length (units_from procs labels us) ≡ length us
 count_from procs labels [] = refl
 count_from procs labels (u ∷ us) = ap suc (count_from (procs + sum_of procs_in (items_of u)) (labels + sum_of labels_in (items_of u)) us)
 

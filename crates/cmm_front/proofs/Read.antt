@@ -20,7 +20,7 @@ use Rattle.cmm_lexer.specs.Lexing.{IsFirstFault, Lexes, faults_of, Spelled, lexe
 use Rattle.cmm_lexer.specs.Places.{line_at, column_at}
 use Rattle.cmm_parser.specs.declared.fault.SyntaxFault.TheVariants as syntax
 use Rattle.cmm_parser.specs.Faults.{IsFaultOf, lexemes_of, place_of, places_of}
-use Rattle.cmm_front.specs.Sources.{HasTokens, IsLexicalFault, IsSyntaxFault, IsTreeOf, lexemes_in, places_in}
+use Rattle.cmm_front.specs.Sources.{IsLexicalFault, IsSyntaxFault, IsTreeOf, lexemes_in, places_in}
 
 not_above : (n : ℕ) → nat_lt UNIT_LIMIT n ≡ false → n ≤ UNIT_LIMIT
 not_above n is = grind (arith, nat_tests)

@@ -1,7 +1,6 @@
 use Rattle.std.proofs.Common.{ℕ, List, [], ap, subst, sym, take, arith, ◌∙◌, ◌+◌, ◌≡◌}
 use Rattle.std.specs.List.{AllZip}
 use Rattle.std.proofs.lemmas.List.Elements.{All-more}
-use Rattle.cmm_accepted.specs.declared.fault.Fault.{Fault}
 use Rattle.cmm_lexer.specs.Laws.{AreBytes}
 use Rattle.cmm_lexer.specs.Lexing.{Lexes}
 use Rattle.cmm_front.specs.Refusing.{BreaksLexis, IsRefused}

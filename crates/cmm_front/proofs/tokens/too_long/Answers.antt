@@ -1,4 +1,4 @@
-use Rattle.std.proofs.Common.{List, ℕ, ◌≡◌, ◌+◌, ◌<◌, ◌≤◌, length, subst, arith, ◌∷◌, ◌++◌}
+use Rattle.std.proofs.Common.{◌≡◌, ◌+◌, ◌<◌, ◌≤◌, length, subst, arith, ◌∷◌, ◌++◌}
 use Rattle.cmm_accepted.specs.declared.fault.Fault.{Fault}
 use Rattle.cmm_rules.specs.declared.rule.Rule.TheVariants.{UnitTooLong}
 use Rattle.cmm_front.specs.Refusing.{BreaksLexis}

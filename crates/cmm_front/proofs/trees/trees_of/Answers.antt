@@ -1,7 +1,6 @@
-use Rattle.std.proofs.Common.{ℕ, List, [], ap, subst, sym, take, arith, ◌+◌, ◌≡◌, ◌<◌, length}
+use Rattle.std.proofs.Common.{ℕ, [], ap, subst, sym, take, arith, ◌+◌, ◌≡◌, ◌<◌, length}
 use Rattle.std.specs.Prelude.{slice_index_or}
 use Rattle.std.specs.List.{AllZip}
-use Rattle.cmm_lexer.specs.declared.tokens.Tokens.{Tokens}
 use Rattle.cmm_lexer.specs.Lexing.{Lexes}
 use Rattle.cmm_front.specs.Refusing.{IsOfFirst, IsRefused}
 use Rattle.cmm_front.specs.Sources.{HasTree, IsSyntaxFault, IsTreeOf}
