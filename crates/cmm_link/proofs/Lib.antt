@@ -10,4 +10,6 @@ mod KeptLabels
 mod Exports
 mod Sizes
 mod Images
+mod Joined
+mod JoinedRows
 mod SmallRows

@@ -1,4 +1,5 @@
 pub mod Texts
+pub mod Joined
 pub mod Rows
 pub mod Labels
 pub mod Placements

@@ -1,9 +1,10 @@
 //! Images from their parts.
 //!
-//! `link` makes the image of a program: its code as text, its data with the addresses of procedures filled in, and the rows of its tables. The
-//! placement that the image shows is the one of that code and of the frames of its procedures, so the data is the definition's for it.
+//! `link` makes the image of a program: the code of its units is joined to one text, in which each symbol has its number; its data has the addresses of procedures filled in; and its
+//! tables have their rows. The placement that the image shows is the one of that code and of the frames of its procedures, so the data is the definition's for it.
 //!
 //! - `text`: the code of a program, as it stands in an image.
+//! - `unit_code`: the code of a unit, and of a program before it is joined. `joining`: the text of a program from the codes of its units.
 //! - `filling`: the bytes of data, once each address of a procedure is in them.
 //! - `procedures`, `labels`, `globals`: the rows of the tables.
 //! - `linking`: `link`. `shown`: the placement that an image shows.
@@ -13,6 +14,7 @@
 
 mod filling;
 mod globals;
+mod joining;
 mod labels;
 pub mod laws;
 mod linking;
@@ -20,7 +22,9 @@ mod names;
 mod procedures;
 mod shown;
 mod text;
+mod unit_code;
 
 pub use linking::link;
 pub use shown::placement;
 pub use text::Text;
+pub use unit_code::{ProgramCode, UnitCode};

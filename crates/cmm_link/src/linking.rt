@@ -3,19 +3,23 @@
 ghost use Rattle.std.specs.Prelude.{◌≡◌, IsTrue, IfOk, map};
 ghost use Rattle.cmm_program.specs.InRange.{IsInRange};
 ghost use Rattle.cmm_places.specs.Placing.{placement_rows};
+ghost use Rattle.cmm_link.specs.Joined.{CanBeJoined, IsTextOf};
 ghost use Rattle.cmm_link.specs.Labels.{names_ascend};
 ghost use Rattle.cmm_link.specs.Linked.{HaveFrames, IsDataOf, IsImageOf};
 ghost use Rattle.cmm_link.specs.Placements.{placement_of};
 ghost use Rattle.cmm_link.specs.Rooms.{HasRoom};
 ghost use Rattle.cmm_link.specs.Texts.{IsText};
+ghost use Rattle.cmm_link.specs.declared.text.Text.{Text as JoinedText};
 ghost use Rattle.cmm_link.specs.inside.Made.{AreMade};
 
 use crate::filling::filled_data;
 use crate::globals::global_rows;
+use crate::joining::join;
 use crate::labels::label_rows;
 use crate::names::know_bytes;
 use crate::procedures::procedure_rows;
 use crate::text::Text;
+use crate::unit_code::ProgramCode;
 use cmm_data::DataImage;
 use cmm_image::{Image, ImageParts};
 use cmm_items::Items;
@@ -59,9 +63,8 @@ fn parts(
     })
 }
 
-/// The image of a program in range, whose procedures have these places, whose data is laid out so, and whose code is this. It has no sites: they are
-/// read where a program yields, and code of this form never does. An error is want of memory.
-pub fn link(
+/// The image of a program in range, whose procedures have these places, whose data is laid out so, and whose code is this text. An error is want of memory.
+fn image_of(
     alloc: Global,
     program: &Program,
     places: &[ProcedurePlaces],
@@ -73,7 +76,6 @@ pub fn link(
     requires laid { IsDataOf program.now laid }
     requires text { IsText program.now text }
     requires room { HasRoom program.now text }
-    // The names of global registers ascend, as a program's numbers for them do.
     requires globals { IsTrue (names_ascend (map (λ g. g.name) program.now.globals)) }
     ensures image { IfOk result (λ image. IsImageOf program.now places.now text image) }
     ensures placement { IfOk result (λ image. (placement_of image).rows ≡ placement_rows places.now text.procedures) }
@@ -82,4 +84,36 @@ pub fn link(
     cmm_data::laws::labels_in_data();
     let parts = parts(alloc, program, places, laid, text)?;
     Ok(Image::new(parts))
+}
+
+/// The image of a program in range, whose procedures have these places, whose data is laid out so, and whose units have this code: they are joined to one text, in which each symbol has its
+/// number. The image has no sites: they are read where a program yields, and code of this form never does. An error is want of memory.
+pub fn link(
+    alloc: Global,
+    program: &Program,
+    places: &[ProcedurePlaces],
+    laid: DataImage,
+    code: ProgramCode,
+) -> Result<Image, AllocError>
+    requires range { IsInRange program.now }
+    requires frames { HaveFrames program.now.procs places.now }
+    requires laid { IsDataOf program.now laid }
+    requires code { CanBeJoined code }
+    requires text { (t : JoinedText) → IsTextOf program.now code t → IsText program.now t }
+    requires room { (t : JoinedText) → IsTextOf program.now code t → HasRoom program.now t }
+    // The names of global registers ascend, as a program's numbers for them do.
+    requires globals { IsTrue (names_ascend (map (λ g. g.name) program.now.globals)) }
+    ensures { IfOk result (λ image. (t : JoinedText) × IsTextOf program.now code t × IsImageOf program.now places.now t image
+        × ((placement_of image).rows ≡ placement_rows places.now t.procedures)) }
+{
+    let ProgramCode { units, last } = code;
+    let text = join(
+        alloc,
+        units,
+        program.globals.len(),
+        laid.addresses.as_slice(),
+        last,
+    )?;
+    let image = image_of(alloc, program, places, laid, text)?;
+    Ok(image)
 }

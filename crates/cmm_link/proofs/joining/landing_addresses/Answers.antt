@@ -1,0 +1,24 @@
+use Rattle.std.proofs.Common.{ℕ, ◌+◌, ◌≤◌, ◌^◌, ◌++◌, ◌∙◌, All, List, ap, map, subst, sym}
+use Rattle.cmm_link.proofs.Joined.{landings_more, landings_within, size_more}
+use Rattle.cmm_link.proofs.joining.landing_addresses.Goals as goal
+
+pub add_landings-requires : goal.add_landings-requires
+add_landings-requires c =
+    let P : List (List ℕ) → Type 0 = λ landings. All (All (λ offset. c.loop-unit.at + offset ≤ 2 ^ 30)) landings in
+    subst P (sym c.as_slice.ensures)
+    (landings_within c.args.units.now c.loop-unit.unit-index c.loop-unit.at c.unit-item.result c.requires.whole c.requires.room c.loop-unit-test.true c.unit-item.is
+    c.loop-unit.invariant.at)
+
+pub loop-unit-preserved : goal.loop-unit-preserved
+loop-unit-preserved c =
+    let units = c.args.units.now in
+    let i = c.loop-unit.unit-index in
+    let at = c.loop-unit.at in
+    let found = c.loop-unit.found in
+    let unit = c.unit-item.result in
+    let so_far = c.loop-unit.invariant.at in
+    record {
+      found = landings_more units i at unit found c.add_landings.new.found c.loop-unit-test.true c.unit-item.is so_far c.loop-unit.invariant.found
+          (c.in_ok-add_landings.ensures ∙ ap (λ landings. found ++ map (λ offsets. map (λ offset. at + offset) offsets) landings) c.as_slice.ensures);
+      at = ap (λ n. at + n) c.len.ensures ∙ size_more units i at unit c.loop-unit-test.true c.unit-item.is so_far;
+    }

@@ -1,0 +1,26 @@
+//! The code of units.
+
+use cmm_items::Items;
+use rv_asm::CodeFix;
+
+/// The code of a unit, which may stand anywhere: places in it are counted in bytes from its beginning.
+#[derive(Debug, Drop)]
+pub struct UnitCode {
+    /// Its bytes, in which the numbers of symbols are 0.
+    pub code: Items<u8>,
+    /// Where the numbers of symbols are to be filled in.
+    pub fixes: Items<CodeFix>,
+    /// Where the code of each of its procedures begins.
+    pub procedures: Items<u64>,
+    /// Of each of its procedures, where a cut to each of its continuations lands.
+    pub landings: Items<Items<u64>>,
+}
+
+/// The code of a program before it is joined.
+#[derive(Debug, Drop)]
+pub struct ProgramCode {
+    /// That with which a run begins, and then that of each unit.
+    pub units: Items<UnitCode>,
+    /// Where the call of `main` comes back, in bytes from the beginning.
+    pub last: u64,
+}
