@@ -1,6 +1,6 @@
 //! The passes, one after another.
 
-ghost use Rattle.std.specs.Prelude.{◌≡◌, ◌<◌, ◌^◌, false, length, map, IfOk, IfErr};
+ghost use Rattle.std.specs.Prelude.{◌≡◌, ◌<◌, ◌≤◌, ◌^◌, false, length, map, sum_by, IfOk, IfErr};
 ghost use Rattle.std.specs.Cmp.Lexicographic.{slice_cmp};
 ghost use Rattle.std.specs.List.Sorted.{IsStrictlySortedBy};
 ghost use Rattle.std.specs.Ordering.{nat_cmp};
@@ -16,14 +16,14 @@ use crate::fault::BuildFault;
 use crate::form::waits;
 use cmm_accepted::Fault;
 use cmm_data::lay_out;
-use cmm_front::program_of;
+use cmm_front::{Merged, program_of};
 use cmm_image::Image;
 use cmm_items::Items;
 use cmm_link::link;
 use cmm_places::place_program;
 use cmm_program::Program;
 use cmm_rules::Rule;
-use cmm_text::lay_text;
+use cmm_text::lay_program;
 use std::alloc::{AllocError, Global};
 
 /// The fault of units that break no other rule, and of whose program no image is made yet.
@@ -42,12 +42,14 @@ fn know_rules(image: &Image)
 }
 
 /// The image of a program that does not wait for a client, and whose global registers are numbered by their names: its data, the graphs and the places of its
-/// procedures, their code, and the tables. An error is want of memory.
-fn image_of(alloc: Global, program: &Program) -> Result<Image, AllocError>
+/// procedures, their code, and the tables. Of its procedures each unit has as many as `counts` says. An error is want of memory.
+fn image_of(alloc: Global, program: &Program, counts: &[u32]) -> Result<Image, AllocError>
     requires range { IsInRange program.now }
     requires room { KeepsRoom program.now }
     requires form { waits_in program.now ≡ false }
     requires registers { IsStrictlySortedBy (slice_cmp nat_cmp) (map (λ g. g.name) program.now.globals) }
+    requires counted { sum_by (λ n. n) counts.now ≡ length program.now.procs }
+    requires few { length counts.now ≤ 256 }
     ensures { IfOk result (AgreesWith program.now) }
 {
     cmm_data::laws::programs_in_range();
@@ -58,8 +60,8 @@ fn image_of(alloc: Global, program: &Program) -> Result<Image, AllocError>
     crate::laws::images_agree();
     let data = lay_out(alloc, program)?;
     let placed = place_program(alloc, program)?;
-    let text = lay_text(alloc, program, &placed, data.addresses.as_slice())?;
-    let image = link(alloc, program, placed.places.as_slice(), data, text)?;
+    let code = lay_program(alloc, program, &placed, counts)?;
+    let image = link(alloc, program, placed.places.as_slice(), data, code)?;
     know_rules(&image);
     Ok(image)
 }
@@ -80,11 +82,11 @@ pub fn compile_program(alloc: Global, units: &[Items<u8>]) -> Result<Compiled, B
     ensures err { IfErr result (IsRefused (IsFaultOf units.now)) }
     ensures named { 0 < length units.now → IfErr result (IsRefused (λ f. f.unit < length units.now)) }
 {
-    let program = program_of(alloc, units)?;
+    let Merged { program, counts } = program_of(alloc, units)?;
     if waits(&program) {
         return Err(BuildFault::At(NOT_BUILT));
     }
-    let image = image_of(alloc, &program)?;
+    let image = image_of(alloc, &program, counts.as_slice())?;
     Ok(Compiled { program, image })
 }
 

@@ -1,8 +1,7 @@
--- The addresses of labels in finished code: in it, apart, and in the order of their places.
-use Rattle.std.proofs.Common.{◌≡◌, ◌≢◌, ◌⊎◌, inl, inr, ℕ, zero, suc, ◌+◌, ◌%◌, ◌<◌, ◌≤◌, ◌^◌, refl, sym, ◌∙◌, ap, subst, arith, Bool, true, false, List, [], ◌∷◌, ◌++◌, length, append_assoc, length-append, map, drop, take, Some, slice_get}
+-- The places of labels in finished code: in it, apart, and in their order.
+use Rattle.std.proofs.Common.{◌≡◌, ◌≢◌, ◌⊎◌, inl, inr, ℕ, zero, suc, ◌+◌, ◌%◌, ◌<◌, ◌≤◌, refl, sym, ◌∙◌, ap, subst, arith, Bool, true, List, [], ◌∷◌, ◌++◌, length, append_assoc, length-append, map, drop, take, Some, slice_get}
 use Rattle.std.specs.Prelude.{◌&&◌, nat_lt, slice_index}
 use Rattle.std.proofs.lemmas.Bool.Decides.{nat_tests}
-use Rattle.rv_table.specs.Memory.{code_base}
 use Rattle.rv_asm.specs.Appending.{Codes}
 use Rattle.rv_asm.specs.Finishing.{HavePlaces}
 use Rattle.rv_asm.specs.Parts.{Code}
@@ -13,8 +12,8 @@ use Rattle.rv_asm.specs.declared.part.Part.{Part}
 use Rattle.rv_asm.specs.declared.part.Part.TheVariants.{Single, Place, Branch, Jump, Call, Address, Table}
 use Rattle.rv_table.specs.declared.instruction.Instr.{Instr}
 use Rattle.cmm_link.specs.Texts.{ascend_above}
-use Rattle.cmm_text.proofs.Ordering.{at_front, between, get_front, shortest-append}
-use Rattle.cmm_text.specs.Finishing.{addresses_at}
+use Rattle.cmm_text.proofs.Ordering.{at_front, between, get_front}
+use Rattle.cmm_text.specs.Finishing.{places_at}
 use Rattle.cmm_text.specs.Orders.{AreInOrder, IsClosed}
 
 -- a label has a place among parts
@@ -64,35 +63,22 @@ placed_or_not (Call l ∷ parts) n = after (Call l) parts n (λ l is same. cc) (
 placed_or_not (Address rd l ∷ parts) n = after (Address rd l) parts n (λ l is same. cc) (placed_or_not parts n)
 placed_or_not (Table ls ∷ parts) n = after (Table ls) parts n (λ l is same. cc) (placed_or_not parts n)
 
--- so every place is a multiple of 4 in the lower 2 ^ 30
-pub place_fine : (labels : List Meaning) (parts : List Part) (size : ℕ) (places : List ℕ) → HavePlaces labels parts code_base size places →
-    code_base + size ≤ 2 ^ 30 → (n : ℕ) → (slice_index places n % 4 ≡ 0) × (slice_index places n ≤ 2 ^ 30)
-place_fine labels parts size places have room n = by (placed_or_not parts n)
+-- so every place is a multiple of 4 in the code
+pub place_fine : (labels : List Meaning) (parts : List Part) (size : ℕ) (places : List ℕ) → HavePlaces labels parts 0 size places → (n : ℕ) →
+    (slice_index places n % 4 ≡ 0) × (slice_index places n ≤ size)
+place_fine labels parts size places have n = by (placed_or_not parts n)
   where
-    by : HasPlace (record { number = n }) parts ⊎ NotPlaced n parts → (slice_index places n % 4 ≡ 0) × (slice_index places n ≤ 2 ^ 30)
+    by : HasPlace (record { number = n }) parts ⊎ NotPlaced n parts → (slice_index places n % 4 ≡ 0) × (slice_index places n ≤ size)
     by (inl there) =
         let at = have.within there.index (record { number = n }) there.is in
-        (have.aligned there.index (record { number = n }) there.is, omega (arith, at.1, room))
+        (have.aligned there.index (record { number = n }) there.is, (let most = at.1 in omega (arith, most)))
     by (inr nowhere) =
         let none = have.others n nowhere in
         (subst (λ (z : ℕ). z % 4 ≡ 0) (sym none) refl, omega (arith, none))
 
 -- ---- in their order
 
-module _ (labels : List Meaning) (parts : List Part) (size : ℕ) (places : List ℕ) (have : HavePlaces labels parts code_base size places) where
-  -- an address of code, at which an instruction may begin
-  pub record IsAddress (l : Label) : Type 0 where
-    pub low : code_base ≤ slice_index places l.number
-    pub high : slice_index places l.number ≤ code_base + size
-    pub aligned : slice_index places l.number % 4 ≡ 0
-
-  pub is_address : (l : Label) → HasPlace l parts → IsAddress l
-  is_address l there = record {
-    low = (have.within there.index l there.is).0;
-    high = (have.within there.index l there.is).1;
-    aligned = have.aligned there.index l there.is;
-  }
-
+module _ (labels : List Meaning) (parts : List Part) (size : ℕ) (places : List ℕ) (have : HavePlaces labels parts 0 size places) where
   -- a label before a closed front of the code stands a word before one behind it
   pub word_before : (l limit : Label) (front back : List Part) → parts ≡ front ++ Place limit ∷ back → IsClosed front → HasPlace l front →
       slice_index places l.number + 4 ≤ slice_index places limit.number
@@ -122,12 +108,12 @@ module _ (labels : List Meaning) (parts : List Part) (size : ℕ) (places : List
       last_word (p ∷ ps) i more zero less = let rest = last_word ps i more zero (omega arith) in omega (arith, rest)
       last_word (p ∷ ps) i more (suc k) less = last_word ps i more k (omega (arith, less))
 
-  -- labels that have their places in order have ascending addresses
-  pub ascending : (ls : List Label) (before rest : List Part) (a : ℕ) → parts ≡ before ++ rest → AreInOrder ls rest →
-      ((k : ℕ) (l : Label) → length before ≤ k → slice_get parts k ≡ Some (Place l) → a < slice_index places l.number) →
-      ascend_above a (addresses_at places ls) ≡ true
-  ascending [] before rest a is order above = refl
-  ascending (l ∷ ls) before rest a is order above =
+  -- labels that have their places in order have ascending addresses, where the code stands at an address
+  pub ascending : (at : ℕ) (ls : List Label) (before rest : List Part) (a : ℕ) → parts ≡ before ++ rest → AreInOrder ls rest →
+      ((k : ℕ) (l : Label) → length before ≤ k → slice_get parts k ≡ Some (Place l) → a < at + slice_index places l.number) →
+      ascend_above a (map (λ offset. at + offset) (places_at places ls)) ≡ true
+  ascending at [] before rest a is order above = refl
+  ascending at (l ∷ ls) before rest a is order above =
       let first = order.1 in
       let front = before ++ first.front in
       let piece = Place l ∷ first.piece in
@@ -135,14 +121,15 @@ module _ (labels : List Meaning) (parts : List Part) (size : ℕ) (places : List
       let here : slice_get parts (length front) ≡ Some (Place l) =
       subst (λ (ps : List Part). slice_get ps (length front) ≡ Some (Place l)) (sym whole) (at_front front (Place l) (first.piece ++ order.0)) in
       let reach : length before ≤ length front = omega (arith, length-append before first.front) in
+      let address = at + slice_index places l.number in
       let less = above (length front) l reach here in
-      let test : nat_lt a (slice_index places l.number) ≡ true = grind (arith, nat_tests, less) in
-      let next = ascending ls (front ++ piece) order.0 (slice_index places l.number) (whole ∙ sym (append_assoc front piece order.0)) order.2
-      (λ k other far at.
+      let test : nat_lt a address ≡ true = grind (arith, nat_tests, less) in
+      let next = ascending at ls (front ++ piece) order.0 address (whole ∙ sym (append_assoc front piece order.0)) order.2
+      (λ k other far there.
       let count = length-append front piece in
       let later : length front ≤ k = omega (arith, count, far) in
-      let apart = have.apart (length front) k l other later here at in
+      let apart = have.apart (length front) k l other later here there in
       let gap = subst (λ (ps : List Part). all_shortest piece ≤ all_shortest (drop (length front) (take k ps))) (sym whole) (between front piece order.0 k (omega (arith, count, far))) in
       let word = first.word in
       omega (arith, apart, gap, word)) in
-      ap (λ (b : Bool). b && ascend_above (slice_index places l.number) (addresses_at places ls)) test ∙ next
+      ap (λ (b : Bool). b && ascend_above address (map (λ offset. at + offset) (places_at places ls))) test ∙ next

@@ -1,7 +1,7 @@
 -- One more procedure is laid.
-use Rattle.std.proofs.Common.{◌≡◌, ◌≢◌, ◌⊎◌, inl, inr, ℕ, zero, suc, ◌+◌, ◌*◌, ◌<◌, ◌≤◌, ◌^◌, refl, sym, ◌∙◌, ap, subst, arith, Bool, true, false, List, [], ◌∷◌, ◌++◌, append_assoc, append-nil, length, map, get_or, take, Option, Some, None, slice_get}
-use Rattle.std.specs.Prelude.{IsTrue, nat_lt, replicate, sum_by}
-use Rattle.std.specs.List.{All, list_all}
+use Rattle.std.proofs.Common.{◌≡◌, ◌⊎◌, inl, inr, ℕ, zero, suc, ◌+◌, ◌-◌, ◌*◌, ◌<◌, ◌≤◌, ◌^◌, refl, sym, ◌∙◌, ap, subst, arith, Bool, true, false, List, [], ◌∷◌, ◌++◌, append_assoc, length, get_or, take, Option, Some, slice_get}
+use Rattle.std.specs.Prelude.{IsTrue, nat_le, replicate, sum_by}
+use Rattle.std.specs.List.{All}
 use Rattle.std.proofs.lemmas.Bool.Decides.{nat_tests}
 use Rattle.std.proofs.lemmas.List.{get_or-map, get_or_default, length-map, length-replicate, take_more}
 use Rattle.std.proofs.lemmas.List.Sums.{sum_by_push}
@@ -10,7 +10,7 @@ use Rattle.std.proofs.Math.Seq.{take-suc}
 use Rattle.rv_asm.proofs.Shared.{appends_weaker, codes_more, longest-append}
 use Rattle.rv_asm.specs.Appending.{Appends, Codes}
 use Rattle.rv_asm.specs.Assembly.{ArePlaced}
-use Rattle.rv_asm.specs.Assembly.{IsInner, IsLabel, is_inner}
+use Rattle.rv_asm.specs.Assembly.{IsInner, IsLabel, IsTarget, is_inner, is_target, meaning}
 use Rattle.rv_asm.specs.Parts.{Code}
 use Rattle.rv_asm.specs.Sizes.{all_longest, all_shortest}
 use Rattle.rv_asm.specs.declared.part.Label.{Label}
@@ -27,19 +27,19 @@ use Rattle.cmm_graph.specs.declared.graph.Graph.{Graph}
 use Rattle.cmm_graph.specs.declared.number.NodeId.{NodeId}
 use Rattle.cmm_places.specs.declared.procedure.ProcedurePlaces.{ProcedurePlaces}
 use Rattle.cmm_nodes.specs.declared.context.Context.{Context}
-use Rattle.cmm_nodes.specs.declared.context.Targets.{Targets}
 use Rattle.cmm_nodes.specs.Costs.{total_cost}
 use Rattle.cmm_nodes.specs.Laying.{AreLaid, AreUnplaced, HaveSites, IsOwn, PlacesOwn, StandsHere}
 use Rattle.cmm_nodes.specs.Naming.{label_at}
 use Rattle.cmm_nodes.specs.Standing.{IsReady}
-use Rattle.cmm_text.proofs.Coding.{IsOne, there_at, entry_label, first_label_grows, length-entry_labels, one_of}
+use Rattle.cmm_text.proofs.Belonging.{IsOne, there_at, entry_label, first_label_grows, length-entry_labels, one_of}
 use Rattle.cmm_text.proofs.Numbering.{label_from, length-labels_from}
-use Rattle.cmm_text.proofs.Ordering.{Split, order_more, shortest-append, split}
-use Rattle.cmm_text.specs.Contexts.{IsMadeFor, entry_labels, first_label, label_count}
+use Rattle.cmm_text.proofs.Owning.{length-with_own, own_before, own_behind, own_within}
+use Rattle.cmm_text.proofs.Ordering.{order_more, shortest-append, split}
+use Rattle.cmm_text.specs.Contexts.{first_label}
 use Rattle.cmm_text.specs.Labels.{labels_from}
-use Rattle.cmm_text.specs.Laying.{BeginsBy, CanAllBeLaid, CanBeLaid, HaveCodes, HaveLabels, tokens_of_first}
-use Rattle.cmm_text.specs.Orders.{AreInOrder, IsClosed}
-use Rattle.cmm_text.specs.Outlines.{IsOutline, symbol_count}
+use Rattle.cmm_text.specs.Laying.{CanAllBeLaid, HaveCodes, HaveLabels, tokens_of_first}
+use Rattle.cmm_text.specs.Orders.{AreInOrder}
+use Rattle.cmm_text.specs.Outlines.{IsOutline, number_symbols, symbol_count, symbol_meaning, with_own}
 use Rattle.cmm_text.specs.declared.outline.Outline.{Outline}
 
 -- ---- numbers of labels
@@ -94,16 +94,16 @@ has_none (suc count) (suc k) = has_none count k
 
 -- ---- before a procedure is laid
 
-module _ (p : Program) (graphs : List Graph) (found : List ProcedurePlaces) (o : Outline) (outline : IsOutline p graphs found o) (can : CanAllBeLaid p graphs found o)
-    (n : ℕ) (g : Graph) (one : IsOne p graphs found o n g) (labels : List Meaning) (have : HaveLabels p graphs n labels) where
+module _ (p : Program) (procs : List Proc) (graphs : List Graph) (found : List ProcedurePlaces) (o : Outline) (outline : IsOutline p procs graphs found o) (can : CanAllBeLaid p procs graphs found o)
+    (n : ℕ) (g : Graph) (one : IsOne p procs graphs found o n g) (labels : List Meaning) (have : HaveLabels p procs graphs n labels) where
   abbrev c : Context
   c = one.context
 
   abbrev base : ℕ
-  base = symbol_count p + 2
+  base = symbol_count p + 1
 
   abbrev first : ℕ
-  first = first_label base p.procs graphs n
+  first = first_label base procs graphs n
 
   abbrev node_count : ℕ
   node_count = length g.nodes
@@ -111,18 +111,18 @@ module _ (p : Program) (graphs : List Graph) (found : List ProcedurePlaces) (o :
   abbrev site_count : ℕ
   site_count = length one.procedure.sites
 
-  less_count : n < length p.procs
-  less_count = slice_get_within p.procs n one.procedure one.is_procedure
+  less_count : n < length procs
+  less_count = slice_get_within procs n one.procedure one.is_procedure
 
   far : base ≤ first
-  far = first_label_grows base p.procs graphs n
+  far = first_label_grows base procs graphs n
 
-  pub next : first_label base p.procs graphs (n + 1) ≡ first + (node_count + site_count)
-  next = first_label_next base p.procs graphs n one.procedure g one.is_procedure one.is_graph
+  pub next : first_label base procs graphs (n + 1) ≡ first + (node_count + site_count)
+  next = first_label_next base procs graphs n one.procedure g one.is_procedure one.is_graph
 
   within : first + (node_count + site_count) ≤ length labels
   within =
-      let later = first_label_later base p.procs graphs (n + 1) (length p.procs) (omega (arith, less_count)) in
+      let later = first_label_later base procs graphs (n + 1) (length procs) (omega (arith, less_count)) in
       let count = have.count in
       omega (arith, later, count, next)
 
@@ -202,32 +202,83 @@ module _ (p : Program) (graphs : List Graph) (found : List ProcedurePlaces) (o :
       subst (IsInner labels) (sym (get_or-map made g.continuations i (record { number = 0 }) d less))
       (node_inner node.number (one.can.landings i (record { number = 0 }) less)))
 
-  pub entry_inner : (k : ℕ) (l : Label) → slice_get o.targets.procedures k ≡ Some l → IsInner labels l
-  entry_inner k l is =
-      let count = length-entry_labels o.contexts graphs (let a = can.graph_count in let b = outline.contexts.count in omega (arith, a, b)) in
-      let same_count = ap (λ (ls : List Label). length ls) outline.procedures in
-      let less = slice_get_within o.targets.procedures k l is in
-      let procs = outline.contexts.count in
+  entries_counted : length o.entries ≡ length procs
+  entries_counted =
       let gs = can.graph_count in
-      let there = there_at graphs k (omega (arith, less, same_count, count, procs, gs)) in
-      let other = one_of p graphs found o outline can k there.0 there.1 in
-      let same : label_at o.targets.procedures k ≡ label_at other.context.nodes (there.0).first.number =
-      ap (λ (ls : List Label). label_at ls k) outline.procedures ∙ entry_label o.contexts graphs k other.context there.0 other.is_context there.1 in
-      let label : l ≡ label_at other.context.nodes (there.0).first.number = sym (get_or_from_slice_get o.targets.procedures k l (record { number = 0 }) is) ∙ same in
-      let base_ = first_label_grows base p.procs graphs k in
-      let number : (label_at other.context.nodes (there.0).first.number).number ≡ first_label base p.procs graphs k + (there.0).first.number =
-      ap (λ (z : Label). z.number) (ap (λ (ls : List Label). label_at ls (there.0).first.number) other.made.nodes
-      ∙ label_from (first_label base p.procs graphs k) (length (there.0).nodes) (there.0).first.number (record { number = 0 }) other.can.first) in
-      let follow = first_label_next base p.procs graphs k other.procedure there.0 other.is_procedure other.is_graph in
-      let inside = slice_get_within p.procs k other.procedure other.is_procedure in
-      let later = first_label_later base p.procs graphs (k + 1) (length p.procs) (omega (arith, inside)) in
+      let cs = outline.contexts.count in
+      let count = length-entry_labels o.contexts graphs (omega (arith, gs, cs)) in
+      let same = ap (λ (ls : List Label). length ls) outline.entries in
+      omega (arith, same, count, cs)
+
+  -- where the unit's own procedures begin
+  entry_inner : (k : ℕ) → k < length o.entries → IsInner labels (label_at o.entries k)
+  entry_inner k less =
+      let gs = can.graph_count in
+      let there = there_at graphs k (omega (arith, less, entries_counted, gs)) in
+      let other = one_of p procs graphs found o outline can k there.0 there.1 in
+      let first_node = (there.0).first.number in
+      let same : label_at o.entries k ≡ label_at other.context.nodes first_node =
+      ap (λ (ls : List Label). label_at ls k) outline.entries ∙ entry_label o.contexts graphs k other.context there.0 other.is_context there.1 in
+      let base_ = first_label_grows base procs graphs k in
+      let number : (label_at other.context.nodes first_node).number ≡ first_label base procs graphs k + first_node =
+      ap (λ (z : Label). z.number) (ap (λ (ls : List Label). label_at ls first_node) other.made.nodes
+      ∙ label_from (first_label base procs graphs k) (length (there.0).nodes) first_node (record { number = 0 }) other.can.first) in
+      let follow = first_label_next base procs graphs k other.procedure there.0 other.is_procedure other.is_graph in
+      let inside = slice_get_within procs k other.procedure other.is_procedure in
+      let later = first_label_later base procs graphs (k + 1) (length procs) (omega (arith, inside)) in
       let total = have.count in
       let first_in = other.can.first in
-      subst (IsInner labels) (sym label)
-      (inner_number (label_at other.context.nodes (there.0).first.number) (omega (arith, number, base_)) (omega (arith, number, follow, later, total, first_in)))
+      subst (IsInner labels) (sym same)
+      (inner_number (label_at other.context.nodes first_node) (omega (arith, number, base_)) (omega (arith, number, follow, later, total, first_in)))
 
-  all_gets : {A : Type 0} (P : A → Type 0) (xs : List A) → ((k : ℕ) (x : A) → slice_get xs k ≡ Some x → P x) → All P xs
-  all_gets P xs each i d h = each i (get_or xs i d) (slice_get-get_or xs i d h)
+  inner_target : (l : Label) → IsInner labels l → IsTarget labels l
+  inner_target l is = (is.0, by (meaning labels l) is.1)
+    where
+      by : (m : Meaning) → is_inner m ≡ true → is_target m ≡ true
+      by (Inner placed) e = refl
+      by (Outer symbol relative) e = absurd (cc)
+
+  -- the symbols of all procedures
+  abbrev others : List Label
+  others = labels_from (number_symbols p) (length p.procs)
+
+  fits : o.first + length o.entries ≤ length others
+  fits =
+      let inside = outline.within in
+      omega (arith, inside, entries_counted, length-labels_from (number_symbols p) (length p.procs))
+
+  symbol_target : (k : ℕ) → k < length others → IsTarget labels (label_at others k)
+  symbol_target k less =
+      let inside : k < length p.procs = omega (arith, less, length-labels_from (number_symbols p) (length p.procs)) in
+      let m = (label_at others k).number in
+      let number : m ≡ number_symbols p + k = ap (λ (z : Label). z.number) (label_from (number_symbols p) (length p.procs) k (record { number = 0 }) inside) in
+      let known = have.symbols m (omega (arith, number, inside)) in
+      let behind : nat_le (number_symbols p) m ≡ true = let least : number_symbols p ≤ m = omega (arith, number) in grind (arith, nat_tests, least) in
+      (slice_get_within labels m (symbol_meaning p m) known, ap is_target (get_or_from_slice_get labels m (symbol_meaning p m) (Inner false) known) ∙ behind)
+
+  procedure_target : (k : ℕ) → k < length o.targets.procedures → IsTarget labels (label_at o.targets.procedures k)
+  procedure_target k less = subst (λ (ls : List Label). IsTarget labels (label_at ls k)) (sym outline.procedures) (by (grind arith))
+    where
+      within_others : k < length others
+      within_others =
+          let same = ap (λ (ls : List Label). length ls) outline.procedures in
+          omega (arith, less, same, length-with_own o.first o.entries others fits)
+
+      own : o.first ≤ k → k < o.first + length o.entries → IsTarget labels (label_at (with_own o.first o.entries others) k)
+      own least inside =
+          let rest : ℕ = k - o.first in
+          let is : o.first + rest ≡ k = omega (arith, least) in
+          let in_own : rest < length o.entries = omega (arith, least, inside) in
+          subst (λ (m : ℕ). IsTarget labels (label_at (with_own o.first o.entries others) m)) is
+          (subst (IsTarget labels) (sym (own_within o.first o.entries others fits rest in_own)) (inner_target (label_at o.entries rest) (entry_inner rest in_own)))
+
+      then : o.first ≤ k → (k < o.first + length o.entries) ⊎ (o.first + length o.entries ≤ k) → IsTarget labels (label_at (with_own o.first o.entries others) k)
+      then least (inl inside) = own least inside
+      then least (inr far) = subst (IsTarget labels) (sym (own_behind o.first o.entries others fits k far)) (symbol_target k within_others)
+
+      by : (k < o.first) ⊎ (o.first ≤ k) → IsTarget labels (label_at (with_own o.first o.entries others) k)
+      by (inl before) = subst (IsTarget labels) (sym (own_before o.first o.entries others fits k before)) (symbol_target k within_others)
+      by (inr least) = then least (grind arith)
 
   symbols_labels : (ls : List Label) (from count : ℕ) → ls ≡ labels_from from count → from + count ≤ symbol_count p → All (IsLabel labels) ls
   symbols_labels ls from count is few = subst (All (IsLabel labels)) (sym is) (λ i d h.
@@ -244,7 +295,7 @@ module _ (p : Program) (graphs : List Graph) (found : List ProcedurePlaces) (o :
     landings = landings_inner;
     landed = one.can.landed;
     nodes = nodes_inner;
-    procedures = all_gets (IsInner labels) o.targets.procedures entry_inner;
+    procedures = λ i d h. subst (IsTarget labels) (get_or_default o.targets.procedures i (record { number = 0 }) d h) (procedure_target i h);
     data_labels = symbols_labels o.targets.data_labels (length p.globals) (length p.labels) outline.data_labels (omega arith);
     registers = symbols_labels o.targets.registers 0 (length p.globals) outline.registers (omega arith);
     few_registers =
@@ -258,13 +309,13 @@ module _ (p : Program) (graphs : List Graph) (found : List ProcedurePlaces) (o :
 
   -- ---- once it is laid
 
-  own_within : (m : ℕ) → IsOwn c m → (first ≤ m) × (m < first + (node_count + site_count))
-  own_within m (inl own) =
+  is_own_within : (m : ℕ) → IsOwn c m → (first ≤ m) × (m < first + (node_count + site_count))
+  is_own_within m (inl own) =
       let inside : own.0 < node_count = omega (arith, own.1, nodes_counted) in
       let number = node_number own.0 inside in
       let same = own.2 in
       ((omega (arith, number, same)), omega (arith, number, same, inside))
-  own_within m (inr own) =
+  is_own_within m (inr own) =
       let inside : own.0 < site_count = omega (arith, own.1, sites_counted) in
       let number = site_number own.0 inside in
       let same = own.2 in
@@ -276,7 +327,7 @@ module _ (p : Program) (graphs : List Graph) (found : List ProcedurePlaces) (o :
       where
         by : (slice_get new m ≡ slice_get labels m) ⊎ (IsOwn c m × (slice_get new m ≡ Some (Inner true))) → slice_get new m ≡ slice_get labels m
         by (inl same) = same
-        by (inr own) = absurd (other (own_within m own.0))
+        by (inr own) = absurd (other (is_own_within m own.0))
 
     still_inner : (m : ℕ) → symbol_count p ≤ m → m < length new → IsTrue (is_inner (get_or new m (Inner false)))
     still_inner m least less = by (places.each m)
@@ -289,7 +340,7 @@ module _ (p : Program) (graphs : List Graph) (found : List ProcedurePlaces) (o :
             ap is_inner (get_or_from_slice_get new m (get_or labels m (Inner false)) (Inner false) (same ∙ there)) ∙ have.inner m least inside
         by (inr own) = ap is_inner (get_or_from_slice_get new m (Inner true) (Inner false) own.1)
 
-    pub labels_next : HaveLabels p graphs (n + 1) new
+    pub labels_next : HaveLabels p procs graphs (n + 1) new
     labels_next = record {
       count = places.count ∙ have.count;
       symbols = λ k less. stays k (λ own. omega (arith, own.0, less, far)) ∙ have.symbols k less;
@@ -301,7 +352,7 @@ module _ (p : Program) (graphs : List Graph) (found : List ProcedurePlaces) (o :
 
   -- ---- its code
 
-  module _ (old mid new : List Part) (codes : HaveCodes p graphs o n old) (placed : ArePlaced labels old) (added : Appends old mid (λ x from to. Unit {0}))
+  module _ (old mid new : List Part) (codes : HaveCodes procs graphs o n old) (placed : ArePlaced labels old) (added : Appends old mid (λ x from to. Unit {0}))
       (code : (k : ℕ) → k < length g.nodes → Codes mid (label_at c.nodes k) (StandsHere c o.targets g k)) (closed : new ≡ mid ++ Single Ebreak ∷ [])
       (few : all_longest mid ≤ all_longest old + 4 * total_cost c o.targets g.nodes) where
     close : Appends mid new (λ x from to. Unit {0})
@@ -312,14 +363,6 @@ module _ (p : Program) (graphs : List Graph) (found : List ProcedurePlaces) (o :
 
     whole : new ≡ old ++ (added.parts ++ Single Ebreak ∷ [])
     whole = closed ∙ (ap (λ (ps : List Part). ps ++ Single Ebreak ∷ []) added.added ∙ append_assoc old added.parts (Single Ebreak ∷ []))
-
-    begins_still : BeginsBy (label_at o.targets.procedures p.main) o.last new
-    begins_still = record {
-      piece = codes.begins.piece;
-      rest = codes.begins.rest ++ (added.parts ++ Single Ebreak ∷ []);
-      is = whole ∙ (ap (λ (ps : List Part). ps ++ (added.parts ++ Single Ebreak ∷ [])) codes.begins.is ∙ append_assoc codes.begins.piece codes.begins.rest (added.parts ++ Single Ebreak ∷ []));
-      calls = codes.begins.calls;
-    }
 
     nodes_then : (q : ℕ) (d : Context) (h : Graph) (k : ℕ) → q < n + 1 → slice_get o.contexts q ≡ Some d → slice_get graphs q ≡ Some h → k < length h.nodes →
         Codes new (label_at d.nodes k) (StandsHere d o.targets h k)
@@ -346,7 +389,7 @@ module _ (p : Program) (graphs : List Graph) (found : List ProcedurePlaces) (o :
         inner_false : ◌≡◌ {A = Option Meaning} (Some (Inner false)) (Some (Inner true)) → ⊥
         inner_false e = cc
 
-    order_next : AreInOrder (take (n + 1) o.targets.procedures) new
+    order_next : AreInOrder (take (n + 1) o.entries) new
     order_next =
         let at = code g.first.number one.can.first in
         let same : old ++ added.parts ≡ at.front ++ Place entry ∷ (at.parts ++ at.back) = sym added.added ∙ at.is in
@@ -354,37 +397,32 @@ module _ (p : Program) (graphs : List Graph) (found : List ProcedurePlaces) (o :
         let behind : added.parts ++ Single Ebreak ∷ [] ≡ parts_.middle ++ Place entry ∷ ((at.parts ++ at.back) ++ Single Ebreak ∷ []) =
         ap (λ (ps : List Part). ps ++ Single Ebreak ∷ []) parts_.is_more ∙ append_assoc parts_.middle (Place entry ∷ (at.parts ++ at.back)) (Single Ebreak ∷ []) in
         let word : 4 ≤ all_shortest ((at.parts ++ at.back) ++ Single Ebreak ∷ []) = omega (arith, shortest-append (at.parts ++ at.back) (Single Ebreak ∷ [])) in
-        let count = length-entry_labels o.contexts graphs (let a = can.graph_count in let b = outline.contexts.count in omega (arith, a, b)) in
-        let same_count = ap (λ (ls : List Label). length ls) outline.procedures in
-        let contexts = outline.contexts.count in
-        let inside : n < length o.targets.procedures = omega (arith, less_count, same_count, count, contexts) in
-        let label : label_at o.targets.procedures n ≡ entry = ap (λ (ls : List Label). label_at ls n) outline.procedures ∙ entry_label o.contexts graphs n c g one.is_context one.is_graph in
+        let inside : n < length o.entries = omega (arith, less_count, entries_counted) in
+        let label : label_at o.entries n ≡ entry = ap (λ (ls : List Label). label_at ls n) outline.entries ∙ entry_label o.contexts graphs n c g one.is_context one.is_graph in
         let next_number : n + 1 ≡ suc n = omega arith in
-        let taken : take (n + 1) o.targets.procedures ≡ take n o.targets.procedures ++ entry ∷ [] =
-        ap (λ (z : ℕ). take z o.targets.procedures) next_number ∙ (take-suc o.targets.procedures n (record { number = 0 }) inside ∙ ap (λ (l : Label). take n o.targets.procedures ++ l ∷ []) label) in
-        subst (λ (ps : List Part). AreInOrder (take (n + 1) o.targets.procedures) ps) (sym whole)
+        let taken : take (n + 1) o.entries ≡ take n o.entries ++ entry ∷ [] =
+        ap (λ (z : ℕ). take z o.entries) next_number ∙ (take-suc o.entries n (record { number = 0 }) inside ∙ ap (λ (l : Label). take n o.entries ++ l ∷ []) label) in
+        subst (λ (ps : List Part). AreInOrder (take (n + 1) o.entries) ps) (sym whole)
         (subst (λ (ls : List Label). AreInOrder ls (old ++ (added.parts ++ Single Ebreak ∷ []))) (sym taken)
-        (order_more (take n o.targets.procedures) old (added.parts ++ Single Ebreak ∷ []) entry parts_.middle ((at.parts ++ at.back) ++ Single Ebreak ∷ []) codes.order behind word))
+        (order_more (take n o.entries) old (added.parts ++ Single Ebreak ∷ []) entry parts_.middle ((at.parts ++ at.back) ++ Single Ebreak ∷ []) codes.order behind word))
 
-    tokens_next : tokens_of_first (n + 1) p ≡ tokens_of_first n p + one.procedure.tokens
+    tokens_next : tokens_of_first (n + 1) procs ≡ tokens_of_first n procs + one.procedure.tokens
     tokens_next =
         let q = one.procedure in
-        let is : get_or p.procs n q ≡ q = get_or_from_slice_get p.procs n q q one.is_procedure in
-        ap (λ (qs : List Proc). sum_by (λ q. q.tokens) qs) (take_more p.procs n q less_count ∙ ap (λ (z : Proc). take n p.procs ++ z ∷ []) is)
-        ∙ sum_by_push (λ (q : Proc). q.tokens) (take n p.procs) q
+        let is : get_or procs n q ≡ q = get_or_from_slice_get procs n q q one.is_procedure in
+        ap (λ (qs : List Proc). sum_by (λ q. q.tokens) qs) (take_more procs n q less_count ∙ ap (λ (z : Proc). take n procs ++ z ∷ []) is)
+        ∙ sum_by_push (λ (q : Proc). q.tokens) (take n procs) q
 
-    size_next : all_longest new ≤ 256 * tokens_of_first (n + 1) p + 20
+    size_next : all_longest new ≤ 256 * tokens_of_first (n + 1) procs
     size_next =
         let short = can.short n one.procedure c g one.is_procedure one.is_context one.is_graph in
         let before = codes.size in
         omega (arith, before, few, short, tokens_next, ap all_longest closed, longest-append mid (Single Ebreak ∷ []))
 
-    pub codes_next : HaveCodes p graphs o (n + 1) new
+    pub codes_next : HaveCodes procs graphs o (n + 1) new
     codes_next = record {
-      begins = begins_still;
-      ends = more o.last codes.ends;
       nodes = nodes_then;
       order = order_next;
-      closed = record { front = mid; last = Ebreak; is = closed };
+      closed = inr (record { front = mid; last = Ebreak; is = closed });
       size = size_next;
     }

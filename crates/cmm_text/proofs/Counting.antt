@@ -13,7 +13,6 @@ use Rattle.cmm_program.specs.InRange.{IsProcInRange}
 use Rattle.cmm_program.specs.Numbering.{body_numbers, site_number}
 use Rattle.cmm_program.specs.Tokens.{own_tokens}
 use Rattle.cmm_graph.specs.declared.graph.Graph.{Graph}
-use Rattle.cmm_graph.specs.declared.node.HostCall.TheVariants as host
 use Rattle.cmm_graph.specs.declared.node.Node.{Node}
 use Rattle.cmm_graph.specs.declared.node.NodeKind.{NodeKind}
 use Rattle.cmm_graph.specs.declared.node.NodeKind.TheVariants.{Assign, Branch, Call, CopyIn, Cut, Entry, Goto, Host, Jump, Return, Stop, Store, Switch, Yield}

@@ -1,29 +1,25 @@
 -- The procedures of a program can be laid, over contexts that are made for them.
 use Rattle.std.proofs.Common.{◌≡◌, ◌⊎◌, inl, inr, ℕ, zero, suc, ◌+◌, ◌-◌, ◌%◌, ◌<◌, ◌≤◌, ◌^◌, refl, sym, ◌∙◌, ap, subst, arith, Bool, true, false, List, [], ◌∷◌, length, map, get_or, Option, Some, None, slice_get}
-use Rattle.std.specs.Prelude.{◌&&◌, ◌==◌, Contains, IsTrue, nat_le, nat_lt}
-use Rattle.std.specs.List.{All, AllZip, list_all, zip}
+use Rattle.std.specs.Prelude.{◌&&◌, ◌==◌, nat_le}
+use Rattle.std.specs.List.{All, list_all}
 use Rattle.std.specs.Str.{bytes_eq}
-use Rattle.std.proofs.lemmas.Bool.{and_parts, eqb-true}
+use Rattle.std.proofs.lemmas.Bool.{and_parts}
 use Rattle.std.proofs.lemmas.Bool.Decides.{nat_tests}
 use Rattle.std.proofs.lemmas.List.{get_or_default, length-map}
 use Rattle.std.proofs.lemmas.Slice.Eq.{bytes_eq-Decides}
-use Rattle.std.proofs.lemmas.Option.{slice_get_within}
 use Rattle.rv_table.specs.Memory.{code_base}
-use Rattle.cmm_bitset.proofs.Shared.{members_had}
-use Rattle.cmm_bitset.specs.Sets.{has, members}
-use Rattle.cmm_chain.specs.Plans.{are_distinct, fixed_offsets, is_fresh, is_laid, is_place, is_word_in, pair_offsets, saved_offsets}
+use Rattle.cmm_chain.specs.Plans.{is_place}
 use Rattle.cmm_chain.specs.declared.frame.Frame.{Frame}
 use Rattle.cmm_chain.specs.declared.frame.Location.{Location}
-use Rattle.cmm_program.proofs.Shared.{all_get, end_of-grows, list_all_get}
+use Rattle.cmm_program.proofs.Shared.{end_of-grows}
 use Rattle.cmm_program.specs.declared.placement.PlaceRow.{PlaceRow}
 use Rattle.cmm_program.specs.declared.procedure.Proc.{Proc}
 use Rattle.cmm_program.specs.declared.procedure.StackItem.{StackItem}
-use Rattle.cmm_program.specs.declared.program.Program.{Program}
 use Rattle.cmm_program.specs.Frames.{stackdata_offset}
-use Rattle.cmm_program.specs.InRange.{FitsFrames, IsInRange, IsProcInRange, is_item}
+use Rattle.cmm_program.specs.InRange.{FitsFrames, is_item}
 use Rattle.cmm_program.specs.Errors.{with_some}
 use Rattle.cmm_program.specs.Layout.{aligned_up, end_of, item_piece, stackdata_labels, stackdata_labels_from, stackdata_size}
-use Rattle.cmm_program.specs.Placed.{apart, are_labels, are_pairs, is_code_address, is_frame_size, is_pair_in, is_row_placed, is_stackdata, is_stackdata_at, pairs_apart}
+use Rattle.cmm_program.specs.Placed.{apart, are_labels, are_pairs, is_code_address, is_frame_size, is_pair_in, is_stackdata, is_stackdata_at}
 use Rattle.cmm_changes.specs.Changes.{IsPlace}
 use Rattle.cmm_calls.proofs.Shared.{each, place_is}
 use Rattle.cmm_calls.specs.Frames.{CanBeMade}

@@ -1,3 +1,5 @@
+mod Belonging
+mod Owning
 mod Numbering
 mod Starting
 mod Ordering
@@ -6,15 +8,19 @@ mod Waiting
 mod Fitting
 mod Procedures
 mod Addresses
+mod Standing
 mod Symbols
 mod Coding
 mod Weakening
 mod Whole
+mod Inside
 mod Ranged
 mod Advancing
 mod Counting
+mod Counts
+mod Layable
 mod Joining
 mod Making
+mod Meant
 mod SmallRows
 mod Closing
-mod Finished

@@ -1,5 +1,5 @@
 -- Contexts that are made one after another.
-use Rattle.std.proofs.Common.{◌≡◌, ◌⊎◌, inl, inr, ℕ, zero, suc, ◌+◌, ◌<◌, ◌≤◌, ◌^◌, refl, sym, ◌∙◌, ap, subst, arith, false, List, [], ◌∷◌, ◌++◌, append_assoc, get_or, length, length-append, take, Some, slice_get}
+use Rattle.std.proofs.Common.{◌≡◌, ◌⊎◌, inl, inr, ℕ, zero, suc, ◌+◌, ◌<◌, refl, sym, ◌∙◌, ap, subst, arith, false, List, [], ◌∷◌, ◌++◌, append_assoc, Bool, true, get_or, length, length-append, take, Some, slice_get}
 use Rattle.std.specs.Prelude.{replicate}
 use Rattle.std.proofs.lemmas.Option.{slice_get-get_or}
 use Rattle.rv_asm.specs.declared.part.Label.{Label}
@@ -80,51 +80,67 @@ first_none first [] gs = refl
 first_none first (q ∷ qs) [] = refl
 first_none first (q ∷ qs) (g ∷ gs) = refl
 
--- ---- the labels of a program, in the order in which they are made
+-- where they begin later, all come as much later
+pub first_label_shift : (a b : ℕ) (qs : List Proc) (gs : List Graph) (n : ℕ) → first_label (a + b) qs gs n ≡ a + first_label b qs gs n
+first_label_shift a b [] gs n = refl
+first_label_shift a b (q ∷ qs) [] n = refl
+first_label_shift a b (q ∷ qs) (g ∷ gs) zero = refl
+first_label_shift a b (q ∷ qs) (g ∷ gs) (suc n) =
+    let e : a + b + (length g.nodes + length q.sites) ≡ a + (b + (length g.nodes + length q.sites)) = omega arith in
+    rw e (first_label_shift a (b + (length g.nodes + length q.sites)) qs gs n)
 
-pub symbols_both : (first a b : ℕ) → symbol_labels first a ++ symbol_labels (first + a) b ≡ symbol_labels first (a + b)
-symbols_both first zero b =
+-- ---- the labels of a unit, in the order in which they are made
+
+pub symbols_both : (relative : Bool) (first a b : ℕ) → symbol_labels relative first a ++ symbol_labels relative (first + a) b ≡ symbol_labels relative first (a + b)
+symbols_both relative first zero b =
     let e : first + 0 ≡ first = omega arith in
     let n : 0 + b ≡ b = omega arith in
     rw (e, n) refl
-symbols_both first (suc a) b =
+symbols_both relative first (suc a) b =
     let e : first + suc a ≡ suc first + a = omega arith in
     let n : suc a + b ≡ suc (a + b) = omega arith in
-    rw (e, n) (ap (λ (ms : List Meaning). Outer first false ∷ ms) (symbols_both (suc first) a b))
+    rw (e, n) (ap (λ (ms : List Meaning). Outer first relative ∷ ms) (symbols_both relative (suc first) a b))
 
-pub symbols_more_counted : (old new : List Meaning) (count : ℕ) → new ≡ old ++ symbol_labels (length old) count → length new ≡ length old + count
-symbols_more_counted old new count is =
-    ap (λ (ms : List Meaning). length ms) is ∙ (length-append old (symbol_labels (length old) count) ∙ ap (λ (n : ℕ). length old + n) (length-symbol_labels (length old) count))
+pub symbols_more_counted : (relative : Bool) (old new : List Meaning) (count : ℕ) → new ≡ old ++ symbol_labels relative (length old) count → length new ≡ length old + count
+symbols_more_counted relative old new count is =
+    ap (λ (ms : List Meaning). length ms) is
+    ∙ (length-append old (symbol_labels relative (length old) count) ∙ ap (λ (n : ℕ). length old + n) (length-symbol_labels relative (length old) count))
 
 pub one_more_counted : (old new : List Meaning) → new ≡ old ++ Inner false ∷ [] → length new ≡ length old + 1
 one_more_counted old new is = ap (λ (ms : List Meaning). length ms) is ∙ length-append old (Inner false ∷ [])
 
-module _ (g d t : ℕ) (l0 l1 l2 l3 l4 l5 : List Meaning) (e0 : l0 ≡ []) (e1 : l1 ≡ l0 ++ symbol_labels (length l0) g) (e2 : l2 ≡ l1 ++ symbol_labels (length l1) d)
-    (e3 : l3 ≡ l2 ++ Inner false ∷ []) (e4 : l4 ≡ l3 ++ Inner false ∷ []) (e5 : l5 ≡ l4 ++ replicate t (Inner false)) where
-  first_is : l1 ≡ symbol_labels 0 g
-  first_is = e1 ∙ ap (λ (ms : List Meaning). ms ++ symbol_labels (length ms) g) e0
+module _ (g d m t : ℕ) (l0 l1 l2 l3 l4 l5 : List Meaning) (e0 : l0 ≡ []) (e1 : l1 ≡ l0 ++ symbol_labels false (length l0) g)
+    (e2 : l2 ≡ l1 ++ symbol_labels false (length l1) d) (e3 : l3 ≡ l2 ++ symbol_labels true (length l2) m)
+    (e4 : l4 ≡ l3 ++ Inner false ∷ []) (e5 : l5 ≡ l4 ++ replicate t (Inner false)) where
+  first_is : l1 ≡ symbol_labels false 0 g
+  first_is = e1 ∙ ap (λ (ms : List Meaning). ms ++ symbol_labels false (length ms) g) e0
 
   pub first_counted : length l1 ≡ g
-  first_counted = ap (λ (ms : List Meaning). length ms) first_is ∙ length-symbol_labels 0 g
+  first_counted = ap (λ (ms : List Meaning). length ms) first_is ∙ length-symbol_labels false 0 g
 
-  second_is : l2 ≡ symbol_labels 0 (g + d)
+  second_is : l2 ≡ symbol_labels false 0 (g + d)
   second_is =
       let from : 0 + g ≡ g = omega arith in
-      e2 ∙ (ap (λ (n : ℕ). l1 ++ symbol_labels n d) first_counted ∙ (ap (λ (ms : List Meaning). ms ++ symbol_labels g d) first_is
-      ∙ (ap (λ (n : ℕ). symbol_labels 0 g ++ symbol_labels n d) (sym from) ∙ symbols_both 0 g d)))
+      e2 ∙ (ap (λ (n : ℕ). l1 ++ symbol_labels false n d) first_counted ∙ (ap (λ (ms : List Meaning). ms ++ symbol_labels false g d) first_is
+      ∙ (ap (λ (n : ℕ). symbol_labels false 0 g ++ symbol_labels false n d) (sym from) ∙ symbols_both false 0 g d)))
 
   pub second_counted : length l2 ≡ g + d
-  second_counted = ap (λ (ms : List Meaning). length ms) second_is ∙ length-symbol_labels 0 (g + d)
+  second_counted = ap (λ (ms : List Meaning). length ms) second_is ∙ length-symbol_labels false 0 (g + d)
 
-  pub third_counted : length l3 ≡ g + d + 1
-  third_counted = ap (λ (ms : List Meaning). length ms) e3 ∙ (length-append l2 (Inner false ∷ []) ∙ ap (λ (n : ℕ). n + 1) second_counted)
+  third_is : l3 ≡ symbol_labels false 0 (g + d) ++ symbol_labels true (g + d) m
+  third_is = e3 ∙ (ap (λ (n : ℕ). l2 ++ symbol_labels true n m) second_counted ∙ ap (λ (ms : List Meaning). ms ++ symbol_labels true (g + d) m) second_is)
 
-  pub fourth_counted : length l4 ≡ g + d + 2
-  fourth_counted = ap (λ (ms : List Meaning). length ms) e4 ∙ (length-append l3 (Inner false ∷ []) ∙ (ap (λ (n : ℕ). n + 1) third_counted ∙ omega arith))
+  pub third_counted : length l3 ≡ g + d + m
+  third_counted = symbols_more_counted true l2 l3 m e3 ∙ ap (λ (n : ℕ). n + m) second_counted
 
-  pub outline_labels : l5 ≡ symbol_labels 0 (g + d) ++ replicate (2 + t) (Inner false)
+  pub fourth_counted : length l4 ≡ g + d + m + 1
+  fourth_counted = ap (λ (ms : List Meaning). length ms) e4 ∙ (length-append l3 (Inner false ∷ []) ∙ ap (λ (n : ℕ). n + 1) third_counted)
+
+  pub outline_labels : l5 ≡ symbol_labels false 0 (g + d) ++ (symbol_labels true (g + d) m ++ replicate (1 + t) (Inner false))
   outline_labels =
-      let two : replicate (2 + t) (Inner false) ≡ Inner false ∷ (Inner false ∷ replicate t (Inner false)) = let n : 2 + t ≡ suc (suc t) = omega arith in rw n refl in
-      e5 ∙ (ap (λ (ms : List Meaning). ms ++ replicate t (Inner false)) (e4 ∙ (ap (λ (ms : List Meaning). ms ++ Inner false ∷ []) (e3 ∙ ap (λ (ms : List Meaning). ms ++ Inner false ∷ []) second_is)))
-      ∙ (append_assoc (symbol_labels 0 (g + d) ++ Inner false ∷ []) (Inner false ∷ []) (replicate t (Inner false))
-      ∙ (append_assoc (symbol_labels 0 (g + d)) (Inner false ∷ []) (Inner false ∷ replicate t (Inner false)) ∙ ap (λ (ms : List Meaning). symbol_labels 0 (g + d) ++ ms) (sym two))))
+      let inner = replicate t (Inner false) in
+      let one : replicate (1 + t) (Inner false) ≡ Inner false ∷ inner = let n : 1 + t ≡ suc t = omega arith in rw n refl in
+      e5 ∙ (ap (λ (ms : List Meaning). ms ++ inner) (e4 ∙ ap (λ (ms : List Meaning). ms ++ Inner false ∷ []) third_is)
+      ∙ (append_assoc (symbol_labels false 0 (g + d) ++ symbol_labels true (g + d) m) (Inner false ∷ []) inner
+      ∙ (append_assoc (symbol_labels false 0 (g + d)) (symbol_labels true (g + d) m) (Inner false ∷ inner)
+      ∙ ap (λ (ms : List Meaning). symbol_labels false 0 (g + d) ++ (symbol_labels true (g + d) m ++ ms)) (sym one))))

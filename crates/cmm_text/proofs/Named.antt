@@ -1,5 +1,5 @@
 -- What nodes name is there.
-use Rattle.std.proofs.Common.{◌≡◌, ℕ, zero, suc, ◌+◌, ◌<◌, ◌≤◌, ◌^◌, refl, sym, ◌∙◌, ap, subst, arith, Bool, true, false, List, [], ◌∷◌, length, map, get_or, Option, Some, None, slice_get}
+use Rattle.std.proofs.Common.{◌≡◌, ℕ, zero, suc, ◌+◌, ◌<◌, ◌≤◌, ◌^◌, refl, sym, ◌∙◌, ap, subst, arith, Bool, true, false, List, [], ◌∷◌, length, map, get_or, Option, Some, None}
 use Rattle.std.specs.Prelude.{◌&&◌, nat_le, nat_lt, is_some}
 use Rattle.std.specs.List.{list_all, range_with_len}
 use Rattle.std.proofs.lemmas.List.{length-map}
@@ -17,7 +17,6 @@ use Rattle.cmm_chain.specs.declared.frame.Frame.{Frame}
 use Rattle.cmm_chain.specs.declared.frame.Location.{Location}
 use Rattle.cmm_chain.specs.declared.frame.Location.TheVariants.{Slot, Saved, Temp}
 use Rattle.cmm_program.specs.declared.procedure.Proc.{Proc}
-use Rattle.cmm_program.specs.declared.procedure.Site.{Site}
 use Rattle.cmm_program.specs.declared.procedure.Target.{Target}
 use Rattle.cmm_program.specs.declared.procedure.Target.TheVariants as target
 use Rattle.cmm_program.specs.declared.program.Program.{Program}
@@ -26,12 +25,10 @@ use Rattle.cmm_program.specs.Typing.{constant_width, if_holds, is_alignment}
 use Rattle.cmm_graph.specs.declared.graph.Graph.{Graph}
 use Rattle.cmm_graph.specs.declared.node.Arm.{Arm}
 use Rattle.cmm_graph.specs.declared.node.Exits.{Exits}
-use Rattle.cmm_graph.specs.declared.node.HostCall.{HostCall}
 use Rattle.cmm_graph.specs.declared.node.HostCall.TheVariants as host
 use Rattle.cmm_graph.specs.declared.node.Node.{Node}
 use Rattle.cmm_graph.specs.declared.node.NodeKind.{NodeKind}
 use Rattle.cmm_graph.specs.declared.node.NodeKind.TheVariants.{Entry, CopyIn, Assign, Store, Branch, Switch, Call, Yield, Jump, Cut, Return, Host, Goto, Stop}
-use Rattle.cmm_graph.specs.declared.number.ContinuationId.{ContinuationId}
 use Rattle.cmm_graph.specs.declared.number.NodeId.{NodeId}
 use Rattle.cmm_graph.specs.declared.number.Variable.{Variable}
 use Rattle.cmm_graph.specs.declared.operand.Argument.{Argument}
@@ -44,8 +41,8 @@ use Rattle.cmm_graph.specs.declared.operand.Operand.TheVariants as operand
 use Rattle.cmm_graph.specs.declared.operand.Rvalue.{Rvalue}
 use Rattle.cmm_graph.specs.declared.operand.Rvalue.TheVariants as rvalue
 use Rattle.cmm_graph.specs.Counterpart.{HasSite, names_operand, names_rvalue, reads_registers, targets, targets_of_destination}
-use Rattle.cmm_graph.specs.Paths.{node_of, operands, operands_of_host, operands_of_rvalue, values_of}
-use Rattle.cmm_graph.specs.Ranges.{are_exits, is_argument, is_arm, is_constant, is_continuation, is_copy_in, is_destination, is_host, is_kind, is_local, is_normal, is_operand, is_rvalue, is_step, is_target, is_test, is_variable, leads_to}
+use Rattle.cmm_graph.specs.Paths.{node_of, operands, operands_of_rvalue, values_of}
+use Rattle.cmm_graph.specs.Ranges.{are_exits, is_argument, is_arm, is_constant, is_continuation, is_copy_in, is_destination, is_kind, is_local, is_normal, is_operand, is_rvalue, is_step, is_target, is_test, is_variable, leads_to}
 use Rattle.cmm_live.specs.Locals.{local_count, local_number as number_of_local}
 use Rattle.cmm_select.specs.declared.operand.Operand.TheVariants.{Held}
 use Rattle.cmm_select.specs.declared.source.Source.TheVariants.{Place}
@@ -55,7 +52,7 @@ use Rattle.cmm_coded.specs.ProgramCode.{is_coded, names_register}
 use Rattle.cmm_places.specs.Slots.{slot_of, slots}
 use Rattle.cmm_nodes.specs.declared.context.Context.{Context}
 use Rattle.cmm_nodes.specs.declared.context.Targets.{Targets}
-use Rattle.cmm_nodes.specs.Naming.{argument_operand, argument_operands, can_begin, can_come_back, can_copy, can_give, can_go_to, can_land, can_take, code_operand, constant_operand, has_argument, has_arm, has_both, has_call, has_constant, has_destination, has_kind, has_landing, has_local, has_node, has_operand, has_rvalue, has_site, has_target, local_number, place, target_destination, target_destinations, variable_places}
+use Rattle.cmm_nodes.specs.Naming.{argument_operand, argument_operands, can_begin, can_come_back, can_copy, can_give, can_go_to, can_land, can_take, code_operand, constant_operand, has_argument, has_arm, has_both, has_constant, has_destination, has_kind, has_landing, has_local, has_node, has_operand, has_rvalue, has_site, has_target, local_number, place, target_destination, target_destinations, variable_places}
 use Rattle.cmm_flow.specs.Few.{passes_few}
 
 -- ---- tests

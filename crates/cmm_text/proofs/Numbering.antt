@@ -1,5 +1,5 @@
 -- Labels whose numbers follow each other.
-use Rattle.std.proofs.Common.{◌≡◌, ℕ, zero, suc, ◌+◌, ◌<◌, refl, sym, ◌∙◌, ap, arith, false, List, [], ◌∷◌, ◌++◌, length, Some, slice_get, get_or}
+use Rattle.std.proofs.Common.{◌≡◌, ℕ, zero, suc, ◌+◌, ◌<◌, refl, ap, arith, Bool, false, List, [], ◌∷◌, ◌++◌, length, Some, slice_get, get_or}
 use Rattle.std.specs.Prelude.{replicate}
 use Rattle.rv_asm.specs.declared.part.Label.{Label}
 use Rattle.rv_asm.specs.declared.part.Meaning.{Meaning}
@@ -10,9 +10,9 @@ pub length-labels_from : (first count : ℕ) → length (labels_from first count
 length-labels_from first zero = refl
 length-labels_from first (suc count) = ap suc (length-labels_from (suc first) count)
 
-pub length-symbol_labels : (first count : ℕ) → length (symbol_labels first count) ≡ count
-length-symbol_labels first zero = refl
-length-symbol_labels first (suc count) = ap suc (length-symbol_labels (suc first) count)
+pub length-symbol_labels : (relative : Bool) (first count : ℕ) → length (symbol_labels relative first count) ≡ count
+length-symbol_labels relative first zero = refl
+length-symbol_labels relative first (suc count) = ap suc (length-symbol_labels relative (suc first) count)
 
 pub labels_more : (first count : ℕ) → labels_from first count ++ record { number = first + count } ∷ [] ≡ labels_from first (count + 1)
 labels_more first zero = let e : first + 0 ≡ first = omega arith in rw e refl
@@ -21,12 +21,13 @@ labels_more first (suc count) =
     let n : suc count + 1 ≡ suc (count + 1) = omega arith in
     rw (e, n) (ap (λ (ls : List Label). record { number = first } ∷ ls) (labels_more (suc first) count))
 
-pub symbols_more : (first count : ℕ) → symbol_labels first count ++ symbol_labels (first + count) 1 ≡ symbol_labels first (count + 1)
-symbols_more first zero = let e : first + 0 ≡ first = omega arith in rw e refl
-symbols_more first (suc count) =
+pub symbols_more : (relative : Bool) (first count : ℕ) →
+    symbol_labels relative first count ++ symbol_labels relative (first + count) 1 ≡ symbol_labels relative first (count + 1)
+symbols_more relative first zero = let e : first + 0 ≡ first = omega arith in rw e refl
+symbols_more relative first (suc count) =
     let e : first + suc count ≡ suc first + count = omega arith in
     let n : suc count + 1 ≡ suc (count + 1) = omega arith in
-    rw (e, n) (ap (λ (ms : List Meaning). Outer first false ∷ ms) (symbols_more (suc first) count))
+    rw (e, n) (ap (λ (ms : List Meaning). Outer first relative ∷ ms) (symbols_more relative (suc first) count))
 
 pub replicate_more : (count : ℕ) → replicate count (Inner false) ++ Inner false ∷ [] ≡ replicate (count + 1) (Inner false)
 replicate_more zero = refl
@@ -39,12 +40,12 @@ label_from first (suc count) (suc k) d less =
     let e : first + suc k ≡ suc first + k = omega arith in
     rw e (label_from (suc first) count k d (omega (arith, less)))
 
-pub symbol_at : (first count k : ℕ) → k < count → slice_get (symbol_labels first count) k ≡ Some (Outer (first + k) false)
-symbol_at first zero k less = absurd (omega arith)
-symbol_at first (suc count) zero less = let e : first + 0 ≡ first = omega arith in rw e refl
-symbol_at first (suc count) (suc k) less =
+pub symbol_at : (relative : Bool) (first count k : ℕ) → k < count → slice_get (symbol_labels relative first count) k ≡ Some (Outer (first + k) relative)
+symbol_at relative first zero k less = absurd (omega arith)
+symbol_at relative first (suc count) zero less = let e : first + 0 ≡ first = omega arith in rw e refl
+symbol_at relative first (suc count) (suc k) less =
     let e : first + suc k ≡ suc first + k = omega arith in
-    rw e (symbol_at (suc first) count k (omega (arith, less)))
+    rw e (symbol_at relative (suc first) count k (omega (arith, less)))
 
 pub inner_at : (count k : ℕ) → k < count → slice_get (replicate count (Inner false)) k ≡ Some (Inner false)
 inner_at zero k less = absurd (omega arith)

@@ -1,11 +1,10 @@
 -- Labels that have their places one after the other.
-use Rattle.std.proofs.Common.{◌≡◌, ℕ, zero, suc, ◌+◌, ◌-◌, ◌<◌, ◌≤◌, refl, sym, ◌∙◌, ap, subst, arith, List, [], ◌∷◌, ◌++◌, length, append_assoc, append-nil, take, drop, length-append, Some, slice_get}
-use Rattle.rv_asm.specs.Sizes.{all_shortest, shortest}
+use Rattle.std.proofs.Common.{◌≡◌, ℕ, zero, suc, ◌+◌, ◌≤◌, refl, ◌∙◌, ap, arith, List, [], ◌∷◌, ◌++◌, length, append_assoc, append-nil, take, drop, Some, slice_get}
+use Rattle.rv_asm.specs.Sizes.{all_shortest}
 use Rattle.rv_asm.specs.declared.part.Label.{Label}
 use Rattle.rv_asm.specs.declared.part.Part.{Part}
-use Rattle.rv_asm.specs.declared.part.Part.TheVariants.{Place, Single}
-use Rattle.rv_table.specs.declared.instruction.Instr.{Instr}
-use Rattle.cmm_text.specs.Orders.{AreInOrder, IsBefore}
+use Rattle.rv_asm.specs.declared.part.Part.TheVariants.{Place}
+use Rattle.cmm_text.specs.Orders.{AreInOrder}
 
 -- ---- sizes
 

@@ -1,14 +1,14 @@
 -- Each procedure of a program can be laid, over the context that is made for it.
 use Rattle.std.proofs.Common.{◌≡◌, ℕ, zero, suc, ◌+◌, ◌<◌, ◌≤◌, ◌^◌, refl, sym, ◌∙◌, ap, subst, arith, Bool, true, false, List, [], ◌∷◌, length, map, get_or, Option, Some, None, slice_get}
-use Rattle.std.specs.Prelude.{◌&&◌, ◌==◌, Contains, IsTrue, nat_le, nat_lt}
-use Rattle.std.specs.List.{All, AllZip, list_all, range_with_len, zip}
+use Rattle.std.specs.Prelude.{◌&&◌, ◌==◌, Contains, nat_le, nat_lt}
+use Rattle.std.specs.List.{All, list_all, range_with_len}
 use Rattle.std.proofs.lemmas.Bool.{and_parts, eqb-true}
 use Rattle.std.proofs.lemmas.Bool.Decides.{nat_tests}
 use Rattle.std.proofs.lemmas.List.{get_or_default, get_or_past, length-map}
-use Rattle.std.proofs.lemmas.Option.{get_or_from_slice_get, slice_get-get_or, slice_get_within}
+use Rattle.std.proofs.lemmas.Option.{slice_get-get_or, slice_get_within}
 use Rattle.rv_asm.specs.declared.part.Label.{Label}
 use Rattle.cmm_bitset.proofs.Shared.{members_had}
-use Rattle.cmm_bitset.specs.Sets.{has, members}
+use Rattle.cmm_bitset.specs.Sets.{has}
 use Rattle.cmm_chain.specs.Plans.{is_place}
 use Rattle.cmm_chain.specs.declared.frame.Frame.{Frame}
 use Rattle.cmm_chain.specs.declared.frame.Location.{Location}
@@ -17,27 +17,24 @@ use Rattle.cmm_program.specs.declared.procedure.Cont.{Cont}
 use Rattle.cmm_program.specs.declared.procedure.Proc.{Proc}
 use Rattle.cmm_program.specs.declared.procedure.Target.{Target}
 use Rattle.cmm_program.specs.declared.program.Program.{Program}
-use Rattle.cmm_program.specs.InRange.{IsInRange, IsProcInRange}
-use Rattle.cmm_program.specs.Placed.{are_pairs, is_pair_in, pairs_apart}
+use Rattle.cmm_program.specs.InRange.{IsProcInRange}
+use Rattle.cmm_program.specs.Placed.{is_pair_in, pairs_apart}
 use Rattle.cmm_graph.specs.declared.graph.Graph.{Graph}
 use Rattle.cmm_graph.specs.declared.node.Node.{Node}
 use Rattle.cmm_graph.specs.declared.node.NodeKind.{NodeKind}
 use Rattle.cmm_graph.specs.declared.number.NodeId.{NodeId}
 use Rattle.cmm_graph.specs.Counterpart.{HasSite, IsGraphOf, names_operand, names_there, parameter_targets, reads_registers, taken_at, targets}
 use Rattle.cmm_graph.specs.Paths.{node_of, operands}
-use Rattle.cmm_graph.specs.Ranges.{IsValid, is_copy_in, is_entry, is_kind, is_node, leads_to}
+use Rattle.cmm_graph.specs.Ranges.{is_copy_in, is_entry, is_kind, is_node, leads_to}
 use Rattle.cmm_live.specs.declared.live_sets.LiveSets.{LiveSets}
 use Rattle.cmm_live.specs.Exact.{AreLiveSets, set_at}
 use Rattle.cmm_live.specs.Locals.{local_count}
 use Rattle.cmm_calls.specs.Values.{is_taken_first}
 use Rattle.cmm_coded.specs.Laying.{FramesCanBeMade}
-use Rattle.cmm_coded.specs.Naming.{GraphsAreNamed}
 use Rattle.cmm_coded.specs.ProgramCode.{is_coded, names_register, names_registers}
-use Rattle.cmm_flow.specs.Flow.{IsFlow}
-use Rattle.cmm_flow.specs.Laws.{AnswersAreGraphs, AnswersWaitOnce}
 use Rattle.cmm_places.specs.declared.procedure.ProcedurePlaces.{ProcedurePlaces}
 use Rattle.cmm_places.specs.Compiling.{no_place}
-use Rattle.cmm_places.specs.Places.{HasPlaces, HavePlaces}
+use Rattle.cmm_places.specs.Places.{HasPlaces}
 use Rattle.cmm_places.specs.Slots.{slot_of, slots}
 use Rattle.cmm_located.specs.Layouts.{row_with}
 use Rattle.rv_table.specs.Memory.{code_base}
@@ -51,14 +48,12 @@ use Rattle.cmm_nodes.specs.declared.context.Context.{Context}
 use Rattle.cmm_nodes.specs.declared.context.Targets.{Targets}
 use Rattle.cmm_text.proofs.Fitting.{IsRow, all_below, pairs_inside, places_are, row_parts, stack_counted, stack_inside}
 use Rattle.cmm_text.proofs.Numbering.{length-labels_from}
-use Rattle.cmm_text.proofs.Named.{Has, IsFine, join, kind_there, all_at, is_slot, slot_taken, slots_are_slots}
+use Rattle.cmm_text.proofs.Named.{Has, join, kind_there, all_at, is_slot, slot_taken, slots_are_slots}
 use Rattle.cmm_text.proofs.Waiting.{waits_apart}
-use Rattle.cmm_text.specs.Contexts.{AreMade, IsMadeFor, entry_labels, place_in}
-use Rattle.cmm_text.specs.Laying.{CanAllBeLaid, CanBeLaid}
-use Rattle.cmm_text.specs.Outlines.{IsOutline}
+use Rattle.cmm_text.specs.Contexts.{IsMadeFor, place_in}
+use Rattle.cmm_text.specs.Laying.{CanBeLaid}
 use Rattle.cmm_flow.specs.Few.{passes_few}
-use Rattle.cmm_text.specs.Premises.{CanBeCoded, can_be_coded}
-use Rattle.cmm_text.specs.declared.outline.Outline.{Outline}
+use Rattle.cmm_text.specs.Premises.{can_be_coded}
 
 -- ---- what is made 0 has slots
 

@@ -1,10 +1,9 @@
 -- A worked row: what is asked beside the answers of `place_program` holds of a program with a call, and its labels are these.
 --     main() { f(); return (7); }    f() { return (); }
-use Rattle.std.proofs.Common.{◌≡◌, ℕ, zero, suc, ◌*◌, ◌≤◌, refl, sym, subst, arith, true, List, [], ◌∷◌, Some, slice_get}
+use Rattle.std.proofs.Common.{◌≡◌, ℕ, zero, suc, refl, sym, subst, arith, [], ◌∷◌, Some, slice_get}
 use Rattle.std.specs.Prelude.{IsTrue}
-use Rattle.std.specs.List.{All, list_all}
+use Rattle.std.specs.List.{list_all}
 use Rattle.std.proofs.lemmas.List.Elements.{All-cons, All-nil}
-use Rattle.cmm_chain.specs.declared.frame.Frame.{Frame}
 use Rattle.cmm_graph.proofs.Shared.{arg, code, exits, graph, n, num, s}
 use Rattle.cmm_graph.specs.declared.graph.Graph.{Graph}
 use Rattle.cmm_graph.specs.declared.node.Node.{Node}

@@ -1,6 +1,5 @@
 -- The code of a node within so many instructions is its code within more.
 use Rattle.std.proofs.Common.{ℕ, ◌≤◌, arith}
-use Rattle.rv_table.specs.Machine.{MemoryMap, State}
 use Rattle.cmm_program.specs.State.{Setting}
 use Rattle.cmm_graph.specs.declared.node.HostCall.TheVariants as host
 use Rattle.cmm_graph.specs.declared.node.NodeKind.{NodeKind}

@@ -1,5 +1,5 @@
 -- What the code of each procedure is made over, and which labels it has.
-use Rattle.std.specs.Prelude.{◌≡◌, ℕ, zero, suc, ◌+◌, ◌≤◌, ◌^◌, List, [], ◌∷◌, length, map, slice_get, slice_index_or, Some}
+use Rattle.std.specs.Prelude.{◌≡◌, ℕ, suc, ◌+◌, ◌≤◌, ◌^◌, List, [], ◌∷◌, length, map, slice_get, slice_index_or, Some}
 use Rattle.rv_asm.specs.declared.part.Label.{Label}
 use Rattle.cmm_chain.specs.declared.frame.Location.{Location}
 use Rattle.cmm_program.specs.declared.procedure.Proc.{Proc}

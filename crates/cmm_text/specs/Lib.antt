@@ -5,5 +5,6 @@ pub mod Starts
 pub mod Orders
 pub mod Finishing
 pub mod Laying
+pub mod Units
 pub mod Premises
 pub mod Texts

@@ -1,5 +1,5 @@
 -- Of which programs over places the code is laid.
-use Rattle.std.specs.Prelude.{◌≡◌, ℕ, ◌+◌, ◌*◌, ◌≤◌, ◌&&◌, nat_le, Bool, true, IsTrue, List, length, map, slice_get, Some}
+use Rattle.std.specs.Prelude.{◌≡◌, ℕ, ◌+◌, ◌*◌, ◌≤◌, ◌&&◌, Bool, IsTrue, List, map, slice_get, Some}
 use Rattle.std.specs.List.{All, list_all}
 use Rattle.cmm_program.specs.declared.procedure.Proc.{Proc}
 use Rattle.cmm_graph.specs.declared.graph.Graph.{Graph}

@@ -1,5 +1,5 @@
 -- What the code of a program is worth: in an image it is all that is asked of the code of the program.
-use Rattle.std.specs.Prelude.{◌≡◌, ℕ, ◌≤◌, List}
+use Rattle.std.specs.Prelude.{◌≡◌, ◌≤◌, List}
 use Rattle.std.specs.List.{All}
 use Rattle.cmm_program.specs.declared.program.Program.{Program}
 use Rattle.cmm_program.specs.Layout.{data_bytes}

@@ -1,6 +1,6 @@
 //! What the code of each procedure is made over.
 
-ghost use Rattle.std.specs.Prelude.{◌≡◌, ◌+◌, ◌≤◌, ◌^◌, ◌++◌, false, length, map, replicate, slice_index_or, IfOk, OnOk};
+ghost use Rattle.std.specs.Prelude.{◌≡◌, ◌+◌, ◌≤◌, ◌^◌, ◌++◌, false, length, map, replicate, IfOk, OnOk};
 ghost use Rattle.rv_asm.specs.declared.part.Meaning.TheVariants.{Inner};
 ghost use Rattle.cmm_nodes.specs.Naming.{label_at};
 ghost use Rattle.cmm_text.specs.Contexts.{AreMade, IsMadeFor, entry_labels, first_label, label_count, place_in};
@@ -131,8 +131,8 @@ pub fn contexts(
     Ok(made)
 }
 
-/// The label of each procedure: that of its graph's first node. An error is want of memory.
-pub fn procedure_labels(
+/// Where the code of each procedure begins: the label of its graph's first node. An error is want of memory.
+pub fn entry_labels(
     alloc: Global,
     contexts: &[Context],
     graphs: &[Graph],

@@ -1,12 +1,12 @@
-//! The labels of a program, and what its code is made over.
+//! The labels of a unit, and what its code is made over.
 
-ghost use Rattle.std.specs.Prelude.{◌≡◌, ◌+◌, ◌≤◌, ◌^◌, ◌++◌, [], false, length, replicate, IfOk, OnOk};
+ghost use Rattle.std.specs.Prelude.{◌≡◌, ◌+◌, ◌≤◌, ◌^◌, ◌++◌, [], false, true, length, replicate, IfOk, OnOk};
 ghost use Rattle.rv_asm.specs.declared.part.Meaning.TheVariants.{Inner};
 ghost use Rattle.cmm_text.specs.Contexts.{first_label};
 ghost use Rattle.cmm_text.specs.Labels.{symbol_labels};
-ghost use Rattle.cmm_text.specs.Outlines.{IsOutline, symbol_count};
+ghost use Rattle.cmm_text.specs.Outlines.{IsOutlineIn, number_symbols, share, symbol_count, with_own};
 
-use crate::contexts::{contexts, procedure_labels};
+use crate::contexts::{contexts, entry_labels};
 use crate::labels::{label, symbols};
 use cmm_items::Items;
 use cmm_nodes::{Context, Targets};
@@ -15,46 +15,72 @@ use cmm_program::Program;
 use rv_asm::{Asm, Label};
 use std::alloc::{AllocError, Global};
 
-/// What the code of a program is made over.
+/// What the code of a unit is made over.
 #[derive(Debug, Drop)]
 pub struct Outline {
-    /// For each procedure.
+    /// The number of its first procedure in the program. The others follow.
+    pub first: usize,
+    /// For each of its procedures.
     pub contexts: Items<Context>,
+    /// Where the code of each of them begins.
+    pub entries: Items<Label>,
     pub targets: Targets,
-    /// Where the call of `main` comes back.
-    pub last: Label,
 }
 
-/// Makes the labels of a program: first those of its global registers and of its data, as symbols; then those of the stack's limit and of the end of a
-/// run, and those of each procedure. An error is want of memory.
+/// The labels of all procedures: those of a unit, from one on, are in its code. An error is want of memory.
+fn with_own(
+    alloc: Global,
+    first: usize,
+    entries: &[Label],
+    others: &[Label],
+) -> Result<Items<Label>, AllocError>
+    requires { first + length entries.now ≤ length others.now }
+    ensures { IfOk result (λ labels. labels ≡ with_own first entries.now others.now) }
+{
+    let mut labels = Items::from_slice(alloc, &others[..first])?;
+    labels.append(Items::from_slice(alloc, entries)?)?;
+    labels.append(Items::from_slice(alloc, &others[first + entries.len()..])?)?;
+    Ok(labels)
+}
+
+/// Makes the labels of a unit that has so many procedures of a program, from one on: first those of global registers, of data and of all procedures, as symbols; then that of
+/// the stack's limit, and those of each of its own procedures. An error is want of memory.
 pub fn make_outline(
     asm: &mut Asm,
     alloc: Global,
     program: &Program,
     placed: &PlacedProgram,
+    first: usize,
+    count: usize,
 ) -> Result<Outline, AllocError>
     requires empty { asm.old.labels ≡ [] }
     requires graphs { length placed.now.graphs ≡ length program.now.procs }
     requires places { length placed.now.places ≡ length program.now.procs }
-    requires few { first_label (symbol_count program.now + 2) program.now.procs placed.now.graphs (length program.now.procs) ≤ 2 ^ 32 }
-    ensures made { IfOk result (λ o. IsOutline program.now placed.now.graphs placed.now.places o) }
-    ensures labels { OnOk result (asm.new.labels ≡ symbol_labels 0 (symbol_count program.now)
-        ++ replicate (first_label 2 program.now.procs placed.now.graphs (length program.now.procs)) (Inner false)) }
+    requires within { first + count ≤ length program.now.procs }
+    requires few { first_label (symbol_count program.now + 1) (share first count program.now.procs) (share first count placed.now.graphs) count ≤ 2 ^ 32 }
+    ensures made { IfOk result (λ o. IsOutlineIn program.now placed.now.graphs placed.now.places o) }
+    ensures first { IfOk result (λ o. o.first ≡ first) }
+    ensures count { IfOk result (λ o. length o.contexts ≡ count) }
+    ensures labels { OnOk result (asm.new.labels ≡ symbol_labels false 0 (number_symbols program.now)
+        ++ (symbol_labels true (number_symbols program.now) (length program.now.procs)
+        ++ replicate (first_label 1 (share first count program.now.procs) (share first count placed.now.graphs) count) (Inner false))) }
     ensures parts { asm.new.parts ≡ asm.old.parts }
 {
-    let registers = symbols(asm, alloc, program.globals.len())?;
-    let data_labels = symbols(asm, alloc, program.labels.len())?;
+    let registers = symbols(asm, alloc, program.globals.len(), false)?;
+    let data_labels = symbols(asm, alloc, program.labels.len(), false)?;
+    let others = symbols(asm, alloc, program.procs.len(), true)?;
     let limit = label(asm)?;
-    let last = label(asm)?;
-    let graphs = placed.graphs.as_slice();
+    let end = first + count;
+    let graphs = &placed.graphs.as_slice()[first..end];
     let contexts = contexts(
         asm,
         alloc,
-        program.procs.as_slice(),
+        &program.procs.as_slice()[first..end],
         graphs,
-        placed.places.as_slice(),
+        &placed.places.as_slice()[first..end],
     )?;
-    let procedures = procedure_labels(alloc, contexts.as_slice(), graphs)?;
+    let entries = entry_labels(alloc, contexts.as_slice(), graphs)?;
+    let procedures = with_own(alloc, first, entries.as_slice(), others.as_slice())?;
     let targets = Targets {
         procedures,
         data_labels,
@@ -62,8 +88,9 @@ pub fn make_outline(
         limit,
     };
     Ok(Outline {
+        first,
         contexts,
+        entries,
         targets,
-        last,
     })
 }

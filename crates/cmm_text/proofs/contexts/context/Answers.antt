@@ -1,4 +1,4 @@
-use Rattle.std.proofs.Common.{◌≡◌, ℕ, ◌+◌, ◌∙◌, ap, arith, false, List, ◌++◌, append_assoc, length, length-append}
+use Rattle.std.proofs.Common.{ℕ, ◌∙◌, ap, arith, false, List, ◌++◌, append_assoc, length, length-append}
 use Rattle.std.proofs.lemmas.List.{length-replicate}
 use Rattle.std.specs.Prelude.{replicate}
 use Rattle.rv_asm.specs.declared.part.Meaning.{Meaning}

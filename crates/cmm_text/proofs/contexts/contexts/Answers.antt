@@ -1,15 +1,13 @@
-use Rattle.std.proofs.Common.{◌≡◌, ◌⊎◌, inl, inr, ℕ, ◌+◌, ◌<◌, ◌≤◌, ◌^◌, refl, sym, ◌∙◌, ap, subst, arith, false, List, [], ◌∷◌, ◌++◌, append_assoc, append-nil, add-zero, length, length-append, Some, slice_get}
+use Rattle.std.proofs.Common.{◌≡◌, ℕ, ◌+◌, ◌<◌, refl, sym, ◌∙◌, ap, subst, arith, false, List, [], ◌∷◌, ◌++◌, append_assoc, append-nil, add-zero, length, length-append, Some, slice_get}
 use Rattle.std.specs.Prelude.{replicate}
 use Rattle.std.proofs.lemmas.List.{length-replicate}
 use Rattle.std.proofs.lemmas.Option.{slice_get_within}
 use Rattle.rv_asm.specs.declared.part.Meaning.{Meaning}
 use Rattle.rv_asm.specs.declared.part.Meaning.TheVariants.{Inner}
-use Rattle.cmm_graph.specs.declared.graph.Graph.{Graph}
 use Rattle.cmm_nodes.specs.declared.context.Context.{Context}
 use Rattle.cmm_text.specs.Contexts.{IsMadeFor, first_label}
 use Rattle.cmm_text.proofs.Advancing.{few_nodes, first_label_later, first_label_next}
-use Rattle.cmm_text.proofs.Joining.{first_label_shift}
-use Rattle.cmm_text.proofs.Making.{first_none, made_more, replicate_both, there_is}
+use Rattle.cmm_text.proofs.Making.{first_label_shift, first_none, made_more, replicate_both, there_is}
 use Rattle.cmm_text.proofs.contexts.contexts.Goals as goal
 
 pub loop-number-init : goal.loop-number-init

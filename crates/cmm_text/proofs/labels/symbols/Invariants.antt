@@ -6,6 +6,6 @@ use Rattle.cmm_text.proofs.labels.symbols.Given as goal
 abbrev pub invariant-loop : goal.invariant-loop
 invariant-loop l = record {
   made : l.made ≡ labels_from (length l.initial.asm.labels) l.counter;
-  labels : l.asm.labels ≡ l.initial.asm.labels ++ symbol_labels (length l.initial.asm.labels) l.counter;
+  labels : l.asm.labels ≡ l.initial.asm.labels ++ symbol_labels l.relative (length l.initial.asm.labels) l.counter;
   parts : l.asm.parts ≡ l.initial.asm.parts;
 }

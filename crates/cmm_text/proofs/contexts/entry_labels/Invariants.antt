@@ -1,6 +1,6 @@
 use Rattle.std.proofs.Common.{◌≡◌, take}
 use Rattle.cmm_text.specs.Contexts.{entry_labels}
-use Rattle.cmm_text.proofs.contexts.procedure_labels.Given as goal
+use Rattle.cmm_text.proofs.contexts.entry_labels.Given as goal
 
 -- those of the procedures so far
 abbrev pub invariant-loop-number : goal.invariant-loop-number

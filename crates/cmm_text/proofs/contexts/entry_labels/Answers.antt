@@ -1,4 +1,4 @@
-use Rattle.std.proofs.Common.{◌≡◌, ◌+◌, ◌<◌, sym, ◌∙◌, ap, arith, List, [], ◌∷◌, ◌++◌, get_or, length, Some, take}
+use Rattle.std.proofs.Common.{◌≡◌, ◌<◌, sym, ◌∙◌, ap, arith, List, [], ◌∷◌, ◌++◌, get_or, length, take}
 use Rattle.cmm_text.proofs.Making.{there_is}
 use Rattle.rv_asm.specs.declared.part.Label.{Label}
 use Rattle.cmm_graph.specs.declared.graph.Graph.{Graph}
@@ -6,7 +6,7 @@ use Rattle.cmm_nodes.specs.declared.context.Context.{Context}
 use Rattle.cmm_nodes.specs.Naming.{label_at}
 use Rattle.cmm_text.proofs.Making.{entries_more}
 use Rattle.cmm_text.specs.Contexts.{entry_labels}
-use Rattle.cmm_text.proofs.contexts.procedure_labels.Goals as goal
+use Rattle.cmm_text.proofs.contexts.entry_labels.Goals as goal
 
 pub loop-number-preserved : goal.loop-number-preserved
 loop-number-preserved c =
