@@ -3,6 +3,7 @@
 use crate::calls::exec;
 use cmm_top::Status;
 use std::alloc::{AllocError, Global};
+use std::process::Abort;
 use std::test::Fail;
 
 /// Units, each with its line.
@@ -195,18 +196,21 @@ const UNITS: [(&str, &str); 60] = [
     ),
 ];
 
+/// A unit is answered with this line, and with the image and the status that the line goes with.
+fn has_line(rt: &(impl AllocGlobal + Abort), unit: &str, line: &str) -> Result<(), Fail> {
+    let answer = exec(rt.alloc(), unit)?;
+    let done = line.as_bytes().starts_with(b"result");
+    let status = if done { Status::Done } else { Status::Refused };
+    assert_eq!(rt; answer.log.as_slice(), line.as_bytes(), "{unit}");
+    assert_eq!(rt; answer.status, status, "{unit}");
+    assert_eq!(rt; answer.image.is_some(), done, "{unit}");
+    Ok(())
+}
+
 #[test]
 fn units_have_their_lines(rt: HostRuntime) -> Result<(), Fail> {
-    for (unit, line) in UNITS {
-        let answer = exec(rt.alloc(), unit)?;
-        let done = line.as_bytes().starts_with(b"result");
-        assert_eq!(rt; answer.log.as_slice(), line.as_bytes(), "{unit}");
-        assert_eq!(rt;
-            answer.status,
-            if done { Status::Done } else { Status::Refused },
-            "{unit}"
-        );
-        assert_eq!(rt; answer.image.is_some(), done, "{unit}");
+    for (unit, line) in &UNITS {
+        has_line(&rt, unit, line)?;
     }
     Ok(())
 }
