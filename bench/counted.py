@@ -11,11 +11,15 @@ FLAGS = "-march=rv64im -mabi=lp64 -mno-relax -static -nostdlib -ffreestanding -f
 COMPILER = "riscv64-linux-gnu-gcc"
 EMULATOR = "qemu-riscv64"
 
-# Calls `run`, writes its result, eight bytes, and ends.
+# Calls `run` so often, writes its last result, eight bytes, and ends.
 START = """
 .globl _start
 _start:
+    li s1, {times}
+again:
     call run
+    addi s1, s1, -1
+    bnez s1, again
     addi sp, sp, -16
     sd a0, 0(sp)
     li a7, 64
@@ -83,14 +87,20 @@ def instructions(program, path, *words):
     return most, int(line.split()[1])
 
 
+def compiled(folder, source, level, times=1):
+    """The path of a program that calls the function `run` of a C source so often."""
+    built = os.path.join(folder, "built")
+    files = [written(folder, "start.s", START.format(times=times)), written(folder, "run.c", source)]
+    subprocess.run([COMPILER, level, *FLAGS, "-o", built, *files], check=True)
+    return built
+
+
 def executed(folder, source, level):
     """How many instructions a C program takes that QEMU runs, and its result."""
     plugin = os.path.join(folder, "count.so")
     if not os.path.exists(plugin):
         subprocess.run(["cc", "-shared", "-fPIC", "-o", plugin, written(folder, "count.c", PLUGIN)], check=True)
-    built = os.path.join(folder, "built")
-    files = [written(folder, "start.s", START), written(folder, "run.c", source)]
-    subprocess.run([COMPILER, level, *FLAGS, "-o", built, *files], check=True)
+    built = compiled(folder, source, level)
     ran = subprocess.run([EMULATOR, "-plugin", plugin, built], stdout=subprocess.PIPE, stderr=subprocess.PIPE, check=True)
     return int(ran.stderr), int.from_bytes(ran.stdout, "little")
 
@@ -100,6 +110,14 @@ def instructions_in_c(folder, source, level):
     empty, _ = executed(folder, "__attribute__((naked)) unsigned long run(void) { __asm__(\"ret\"); }", level)
     count, result = executed(folder, source, level)
     return count - empty, result
+
+
+def executed_per_second(folder, source, level, times=500):
+    """How many instructions of the function `run` of a C source QEMU executes in a second, where it is called so often."""
+    count, _ = instructions_in_c(folder, source, level)
+    once, _ = seconds([EMULATOR, compiled(folder, source, level)])
+    often, _ = seconds([EMULATOR, compiled(folder, source, level, times)])
+    return count * (times - 1) / (often - once)
 
 
 def seconds(command, runs=5):
