@@ -107,7 +107,11 @@ fn room_of_depth(alloc: Global) -> Result<u64, Fail> {
     let placement = placement(alloc, &image)?;
     let main = placement.rows.get(0).ok_or("no frame of main")?.frame;
     let g = placement.rows.get(1).ok_or("no frame of g")?.frame;
-    Ok(u64::from(g).saturating_mul(10).saturating_add(u64::from(main)))
+    Ok(
+        u64::from(g)
+            .saturating_mul(10)
+            .saturating_add(u64::from(main)),
+    )
 }
 
 #[test]
