@@ -5,7 +5,7 @@ use Rattle.cmm_image.specs.declared.parts.ImageParts.{ImageParts}
 use Rattle.cmm_image.specs.declared.rows.SiteRow.{SiteRow}
 use Rattle.cmm_image.specs.ImageFormat.{procedure_at}
 use Rattle.cmm_image.specs.InFrames.{KeepsFrame}
-use Rattle.cmm_execution.specs.Asking.{Chain}
+use Rattle.cmm_program.specs.Asking.{Chain}
 use Rattle.cmm_execution.specs.Regions.{Region, bottom, top}
 use Rattle.cmm_execution.specs.Frames.{Element, Point, Found, Activation, Nothing, Broken, is_end, is_frame, site_at, break_at, activation_at, found_at, point_after, behind, along, chain_within, points_from, chain_from}
 use Rattle.cmm_execution.specs.Laws.{KeepFrames, ChainGoesOn}

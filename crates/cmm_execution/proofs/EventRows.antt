@@ -1,6 +1,6 @@
 -- Worked rows: what is seen of an image in the theory of following, and chains apart from runs.
 use Rattle.std.proofs.Common.{◌≡◌, ℕ, List, [], ◌∷◌, Option, Some, None, refl, pos}
-use Rattle.std.specs.Prelude.{codes, true}
+use Rattle.std.specs.Prelude.{codes, true, false}
 use Rattle.cmm_script.specs.declared.script.Command.TheVariants.{Set, Next, Return}
 use Rattle.cmm_script.specs.declared.script.Value.TheVariants.{Number}
 use Rattle.cmm_script.specs.Walk.{Activation}
@@ -24,14 +24,14 @@ both =
       procedure = codes "leaf";
       site = 0;
       spans = [];
-      variables = record { width = 64; kind = []; value = Some 7 } ∷ record { width = 8; kind = []; value = Some 151 } ∷ [];
+      variables = record { width = 64; kind = []; invariant = false; value = Some 7 } ∷ record { width = 8; kind = []; invariant = false; value = Some 151 } ∷ [];
     }
     ∷ record {
       procedure = codes "main";
       site = 0;
       spans = record { token = 1; value = 10 } ∷ record { token = 2; value = 20 } ∷ [];
-      variables = record { width = 64; kind = []; value = Some 5 } ∷ record { width = 64; kind = []; value = None }
-          ∷ record { width = 64; kind = codes "count"; value = Some 300 } ∷ [];
+      variables = record { width = 64; kind = []; invariant = false; value = Some 5 } ∷ record { width = 64; kind = []; invariant = false; value = None }
+          ∷ record { width = 64; kind = codes "count"; invariant = true; value = Some 300 } ∷ [];
     }
     ∷ []
 

@@ -10,9 +10,9 @@ use Rattle.cmm_following.specs.Machine.{after}
 use Rattle.cmm_following.proofs.Runs.{one_end}
 use Rattle.cmm_laws.specs.Observed.{Ending}
 use Rattle.cmm_following.proofs.Prefixes.{prefix_refl, prefix_more, within_refl, within_trans}
-use Rattle.cmm_execution.specs.Asking.{Break}
-use Rattle.cmm_execution.specs.Commands.{Left}
-use Rattle.cmm_execution.specs.Commands as client
+use Rattle.cmm_program.specs.Asking.{Break}
+use Rattle.cmm_program.specs.Commands.{Left}
+use Rattle.cmm_program.specs.Commands as client
 use Rattle.cmm_execution.specs.Frames.{Element, chain_of}
 use Rattle.cmm_execution.specs.Machine.{Launch, Run, Status, Running, Ended, Trapped, Torn, map_of, region_of, answered, left, yields, yielded_at, yielded, one_taken, goes_on, requested, after_instruction, step, steps_of, first_run, image_after}
 use Rattle.cmm_execution.specs.Observed.{asked_at, event_at, has_failed, seen_of, image_machine}
@@ -54,15 +54,15 @@ logs_more run text more = record {
   input = refl;
 }
 
-yields_grow : (l : Launch) (values : List ℕ) (elements : List Element) (run : Run) → Grows run (yields l values elements run)
-yields_grow l values elements run = let answer = answered l values elements run.machine in
+yields_grow : (l : Launch) (values : List ℕ) (run : Run) → Grows run (yields l values run)
+yields_grow l values run = let answer = answered l values run.machine in
     left_grows answer.left run (record run { log = run.log ++ yield_line values ++ answer.text }) (logs_more run (yield_line values) answer.text)
 
 yielded_grows : (l : Launch) (elements : List Element) (b : Option Break) (run : Run) →
     Grows run (yielded l (record { activations = elements; broken = b }) run)
-yielded_grows l [] None run = yields_grow l [] [] run
+yielded_grows l [] None run = yields_grow l [] run
 yielded_grows l [] (Some b) run = record { seen = within_refl (seen_of run); input = refl }
-yielded_grows l (e ∷ older) b run = yields_grow l (yielded_at (region_of l) run.machine (e ∷ older)) (e ∷ older) run
+yielded_grows l (e ∷ older) b run = yields_grow l (yielded_at (region_of l) run.machine (e ∷ older)) run
 
 taken_grows : (m after : State) (input taken output log : List ℕ) (status : Status) →
     let run : Run = record { machine = m; input = input; taken = taken; output = output; log = log; status = status } in

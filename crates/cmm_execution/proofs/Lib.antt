@@ -5,6 +5,4 @@ mod Finding
 mod Samples
 mod RunRows
 mod EventRows
-mod OneClient
-mod StoreRows
 pub mod Shared

@@ -14,7 +14,7 @@ use Rattle.cmm_image.specs.InFrames.{KeepsFrame}
 use Rattle.cmm_image.specs.Places.{is_saved_register, IsPlace, leaves}
 use Rattle.cmm_image.proofs.Shared.{sites_keep_frames}
 use Rattle.std.proofs.lemmas.Bool.Decides.{nat_tests}
-use Rattle.cmm_execution.specs.Asking.{Break, Chain}
+use Rattle.cmm_program.specs.Asking.{Break, Chain}
 use Rattle.cmm_execution.specs.Regions.{Region, bottom, top, Place, InRegister, InMemory, word_at}
 use Rattle.cmm_execution.specs.Frames as frames
 use Rattle.cmm_execution.specs.Frames.{Element, Point, Found, Nothing, Broken, first_point, site_at, found_at, return_offset, places_before, point_after, behind, along, chain_within, points_from, chain_from, chain_of}

@@ -5,6 +5,7 @@ use Rattle.cmm_words.specs.declared.width.Width.TheVariants.{W64}
 use Rattle.rv_table.specs.Machine.{State, data_base, stored}
 use Rattle.rv_table.specs.Registers.{with_register}
 use Rattle.cmm_program.specs.Errors.{with_some}
+use Rattle.cmm_program.specs.Memory.{number_of}
 use Rattle.cmm_image.specs.declared.parts.ImageParts.{ImageParts}
 use Rattle.cmm_image.specs.declared.rows.ContinuationNumber.{ContinuationNumber}
 use Rattle.cmm_image.specs.declared.rows.ContinuationRow.{ContinuationRow}
@@ -12,15 +13,12 @@ use Rattle.cmm_image.specs.declared.rows.LabelRow.{LabelRow}
 use Rattle.cmm_image.specs.declared.rows.ProcRow.{ProcRow}
 use Rattle.cmm_image.specs.declared.rows.VariableNumber.{VariableNumber}
 use Rattle.cmm_image.specs.Places.{is_saved_register}
-use Rattle.cmm_execution.specs.Asking.{Exit}
+use Rattle.cmm_program.specs.Asking.{Exit}
 use Rattle.cmm_execution.specs.Regions.{Region, with_word, word_at, with_values}
 use Rattle.cmm_execution.specs.Frames.{Element}
 use Rattle.cmm_execution.specs.Walks.{place_in}
 
 -- ---- a variable, and data
-
-abbrev pub is_invariant : Element → ℕ → Bool
-is_invariant e n = elim (slice_get e.procedure.variables n) [ Some v ↦ v.invariant | None ↦ false ]
 
 -- once a variable of an activation has a value; a dead one has no place for it
 abbrev pub with_variable : State → Element → ℕ → ℕ → State
@@ -29,13 +27,16 @@ with_variable s e n value = elim (with_some (slice_get e.site.variables n) (plac
 abbrev pub label_named : ImageParts → List ℕ → Option LabelRow
 label_named i name = find (λ l. bytes_eq name l.name) i.labels
 
--- 8 bytes may be written at an address where it is a multiple of 8 and all of them lie in the data
-abbrev pub may_poke : ImageParts → ℕ → Bool
-may_poke i address = (address % 8 == 0) && nat_le data_base address && nat_le (address + 8) (data_base + length i.initial)
+-- bytes may be written from an address on where it is a multiple of 8 and all of them lie in data of this length
+abbrev pub may_poke : ℕ → ℕ → ℕ → Bool
+may_poke data_length address count = (address % 8 == 0) && nat_le data_base address && nat_le (address + count) (data_base + data_length)
 
-abbrev pub with_data : ImageParts → State → List ℕ → ℕ → ℕ → Option State
-with_data i s name offset value = with_some (label_named i name) (λ l.
-    elim (may_poke i (l.address + offset)) [ true ↦ Some record s { memory = stored s.memory (l.address + offset) 8 value } | false ↦ None ])
+abbrev pub with_data : ImageParts → State → List ℕ → ℕ → List ℕ → Option State
+with_data i s name offset bytes = with_some (label_named i name) (λ l.
+    elim (may_poke (length i.initial) (l.address + offset) (length bytes)) [
+      | true ↦ Some record s { memory = stored s.memory (l.address + offset) (length bytes) (number_of bytes) }
+      | false ↦ None
+    ])
 
 -- ---- exits
 

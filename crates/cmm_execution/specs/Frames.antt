@@ -6,7 +6,7 @@ use Rattle.cmm_image.specs.declared.parts.ImageParts.{ImageParts}
 use Rattle.cmm_image.specs.declared.rows.ProcRow.{ProcRow}
 use Rattle.cmm_image.specs.declared.rows.SiteRow.{SiteRow}
 use Rattle.cmm_image.specs.ImageFormat.{procedure_at}
-use Rattle.cmm_execution.specs.Asking.{Break, Chain}
+use Rattle.cmm_program.specs.Asking.{Break, Chain}
 use Rattle.cmm_execution.specs.Regions.{Region, bottom, top, Place, InRegister, InMemory}
 
 -- An activation as its frame shows it: the rows of its site and of its procedure, the address of its frame, and where the value is

@@ -1,5 +1,3 @@
-pub mod Asking
-pub mod Commands
 pub mod Regions
 pub mod Frames
 pub mod Walks
@@ -7,4 +5,3 @@ pub mod Changes
 pub mod Machine
 pub mod Observed
 pub mod Laws
-pub mod Clients

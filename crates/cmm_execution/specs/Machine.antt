@@ -1,5 +1,5 @@
 -- What an image does: the state after so many instructions.
-use Rattle.std.specs.Prelude.{ℕ, zero, suc, ◌+◌, ◌-◌, nat_le, true, false, List, [], ◌∷◌, ◌++◌, length, slice_index_or, Option, Some, None}
+use Rattle.std.specs.Prelude.{ℕ, zero, suc, ◌+◌, ◌-◌, nat_le, true, false, List, [], ◌∷◌, ◌++◌, length, slice_index_or, Some, None}
 use Rattle.rv_table.specs.declared.request.Request.{Request}
 use Rattle.rv_table.specs.declared.request.Request.TheVariants.{PutByte, GetByte, Yield, StackLimit, End}
 use Rattle.rv_table.specs.declared.trap.TrapKind.{TrapKind}
@@ -7,18 +7,17 @@ use Rattle.rv_table.specs.Machine as rv
 use Rattle.rv_table.specs.Machine.{State, MemoryMap, data_base, region_base, with_set, instruction_step}
 use Rattle.cmm_script.specs.declared.script.Script.{Script}
 use Rattle.cmm_script.specs.Lines.{yield_line}
-use Rattle.cmm_program.specs.Client.{commands_for}
 use Rattle.cmm_program.specs.Performing.{next_byte}
 use Rattle.cmm_program.specs.State as c
 use Rattle.cmm_program.specs.State.{Outcome}
 use Rattle.cmm_image.specs.declared.parts.ImageParts.{ImageParts}
-use Rattle.cmm_execution.specs.Asking.{Askable, Break, Chain}
-use Rattle.cmm_execution.specs.Commands.{Answer, Left, answer_of}
-use Rattle.cmm_execution.specs.Commands as client
+use Rattle.cmm_program.specs.Asking.{Askable, Break, Chain}
+use Rattle.cmm_program.specs.Commands.{Answer, Left, answer_to}
+use Rattle.cmm_program.specs.Commands as client
 use Rattle.cmm_execution.specs.Regions.{Region, values_in}
 use Rattle.cmm_execution.specs.Frames.{Element, chain_of, older_than}
 use Rattle.cmm_execution.specs.Walks.{element_shown}
-use Rattle.cmm_execution.specs.Changes.{is_invariant, with_variable, with_data, return_exit, unwind_exit, cut_exit, at_pc}
+use Rattle.cmm_execution.specs.Changes.{with_variable, with_data, return_exit, unwind_exit, cut_exit, at_pc}
 
 -- what a run depends on, beside its input
 pub record Launch : Type 0 where
@@ -62,9 +61,9 @@ first_memory i address = elim (nat_le data_base address) [ true ↦ slice_index_
 abbrev pub askable : ImageParts → Region → Askable Element State State
 askable i r = record {
   chain = chain_of i r;
+  running = chain_of i r;
   older = older_than i r;
   shown = element_shown;
-  is_invariant = is_invariant;
   with_variable = with_variable;
   with_data = with_data i;
   return_exit = return_exit r;
@@ -77,13 +76,9 @@ abbrev pub yielded_at : Region → State → List Element → List ℕ
 yielded_at r s [] = []
 yielded_at r s (e ∷ older) = elim e.site.yield_values [ Some count ↦ values_in r s count | None ↦ [] ]
 
-abbrev pub youngest : List Element → Option Element
-youngest [] = None
-youngest (e ∷ older) = Some e
-
 -- the client's answer to a yield of these values
-abbrev pub answered : Launch → List ℕ → List Element → State → Answer State State
-answered l values elements s = answer_of (askable l.image (region_of l)) values [] (youngest elements) s (commands_for values l.script)
+abbrev pub answered : Launch → List ℕ → State → Answer State State
+answered l values s = answer_to (askable l.image (region_of l)) l.script values s
 
 abbrev pub left : Left State State → Run → Run
 left (client.Running s) run = record run { machine = s }
@@ -91,13 +86,13 @@ left (client.Stopped s) run = record run { machine = s; status = Ended c.Stopped
 left (client.Torn b s) run = record run { machine = s; status = Torn b }
 
 -- the line of a yield, and the client's answer
-abbrev pub yields : Launch → List ℕ → List Element → Run → Run
-yields l values elements run = let answer = answered l values elements run.machine in
+abbrev pub yields : Launch → List ℕ → Run → Run
+yields l values run = let answer = answered l values run.machine in
     left answer.left record run { log = run.log ++ yield_line values ++ answer.text }
 
 -- where the chain breaks at its first point, there is no yield
 abbrev pub yielded : Launch → Chain Element → Run → Run
-yielded l chain run = let yields = yields l (yielded_at (region_of l) run.machine chain.activations) chain.activations run in elim chain.activations [
+yielded l chain run = let yields = yields l (yielded_at (region_of l) run.machine chain.activations) run in elim chain.activations [
   | [] ↦ elim chain.broken [ Some b ↦ record run { status = Torn b } | None ↦ yields ]
   | e ∷ older ↦ yields
 ]

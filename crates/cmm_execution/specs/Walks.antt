@@ -9,7 +9,7 @@ use Rattle.cmm_image.specs.declared.rows.VariableRow.{VariableRow}
 use Rattle.cmm_image.specs.declared.rows.VariablePlace.{VariablePlace}
 use Rattle.cmm_image.specs.declared.rows.VariablePlace.TheVariants.{Dead, Slot, Register}
 use Rattle.cmm_image.specs.declared.parts.ImageParts.{ImageParts}
-use Rattle.cmm_execution.specs.Asking.{Chain}
+use Rattle.cmm_program.specs.Asking.{Chain}
 use Rattle.cmm_execution.specs.Regions.{Region, Place, InMemory, word_at}
 use Rattle.cmm_execution.specs.Frames.{Element, chain_of}
 
@@ -27,7 +27,7 @@ value_at s width (Some place) = Some (low_bits width (word_at s place))
 -- each variable, with its place
 abbrev pub variables_shown : State → Element → List VariableRow → List VariablePlace → List Shown
 variables_shown s e (v ∷ vs) (p ∷ ps) =
-    record { width = bits v.width; kind = v.kind; value = value_at s v.width (place_in e p) } ∷ variables_shown s e vs ps
+    record { width = bits v.width; kind = v.kind; invariant = v.invariant; value = value_at s v.width (place_in e p) } ∷ variables_shown s e vs ps
 variables_shown s e _ _ = []
 
 abbrev pub element_shown : State → Element → Activation

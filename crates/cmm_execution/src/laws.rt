@@ -1,5 +1,4 @@
-//! Laws of runs, of chains and of clients: each is the contract of a function that does nothing.
-ghost use Rattle.cmm_execution.specs.Clients.{AnswersAreAlike, CommandsAreAlike, RunsAreAlike};
+//! Laws of runs and of chains: each is the contract of a function that does nothing.
 ghost use Rattle.cmm_execution.specs.Laws.{ChainGoesOn, ElementsFit, EndsOnce, ImagesKeepFrames, ImagesLast, InputIsKept, OverStays, RunGrows, RunsAreTheMachine, SitesAreFound, StepGrows, WalkReadsTheStack};
 
 /// A run that is over stays as it is.
@@ -47,11 +46,4 @@ pub fn activations_fit()
 /// The walk of a state depends on its stack, and on the registers that lead there, alone.
 pub fn walks_read_the_stack()
     ensures { WalkReadsTheStack }
-{}
-
-/// The client of the C-- machine is the client of the machine's store as a program that can be asked.
-pub fn clients_are_one()
-    ensures commands { CommandsAreAlike }
-    ensures runs { RunsAreAlike }
-    ensures answers { AnswersAreAlike }
 {}

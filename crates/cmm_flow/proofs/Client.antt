@@ -1,24 +1,19 @@
 -- The client's answer leaves both machines related, wherever it resumes them.
-use Rattle.std.proofs.Common.{◌≡◌, ℕ, zero, suc, Some, List, [], ◌∷◌, drop, refl, arith}
-use Rattle.cmm_laws.proofs.Shared.{Comes, KeptBy, keeping, kept_err, kept_ok}
-use Rattle.cmm_program.specs.Client.{Reply, Resumes, Then, answered, asked, at_cursor, commands_for, commands_run, logged, reply, set_done, sought, with_value}
+use Rattle.std.proofs.Common.{◌≡◌, ℕ, zero, suc, Some, List, [], ◌∷◌, ◌++◌, drop, refl}
+use Rattle.cmm_laws.proofs.Shared.{IsExitOf, OfReturn, OfUnwind, OfCut, answered_kept}
+use Rattle.cmm_program.specs.Client.{answered, located, with_log, with_value}
 use Rattle.cmm_program.specs.Control.{transferred}
-use Rattle.cmm_program.specs.Exits.{Exit, return_exit, unwind_exit}
-use Rattle.cmm_program.specs.Frames.{Suspended, site_cuts, without}
-use Rattle.cmm_program.specs.Layout.{bytes_of}
-use Rattle.cmm_program.specs.Memory.{with_bytes}
-use Rattle.cmm_program.specs.Performing.{Away, Found, Over, Transfer, cut_among, found_exit}
-use Rattle.cmm_program.specs.State.{Activation, Ended, Setting, Stopped, Store}
+use Rattle.cmm_program.specs.Exits.{Exit}
+use Rattle.cmm_program.specs.Frames.{Suspended, suspended_at, without}
+use Rattle.cmm_program.specs.Performing.{Transfer}
+use Rattle.cmm_program.specs.State.{Activation, Setting, Store}
 use Rattle.cmm_program.specs.Todo.{Todo, todo_control}
 use Rattle.cmm_graph.specs.declared.graph.Graph.{Graph}
 use Rattle.cmm_graph.specs.GraphControl.{Position, graph_control}
-use Rattle.cmm_script.specs.Lines.{ok_line, resume_line}
-use Rattle.cmm_script.specs.declared.script.Command.{Command}
-use Rattle.cmm_script.specs.declared.script.Command.TheVariants.{Stop}
 use Rattle.cmm_flow.specs.Laws.{AreFlows}
 use Rattle.cmm_flow.specs.Relation.{AreWaiting, Related}
 use Rattle.cmm_flow.proofs.Arriving.{exit_related, waiting_drop}
-use Rattle.cmm_flow.proofs.Landing.{IsExit, ToContinuation, found_is, return_is, unwind_is}
+use Rattle.cmm_flow.proofs.Landing.{IsExit, ToContinuation, cut_is, return_is, unwind_is}
 
 module _ (s : Setting) (graphs : List Graph) (flows : AreFlows s graphs) (ts : List Todo) (cs : List Position) where
   -- a value of a variable leaves which activations wait
@@ -50,54 +45,18 @@ module _ (s : Setting) (graphs : List Graph) (flows : AreFlows s graphs) (ts : L
   abbrev EndsRelated : Transfer → Type 0
   EndsRelated transfer = Related s.program graphs (transferred (todo_control s.program) s transfer ts) (transferred (graph_control graphs) s transfer cs)
 
-  stopped : (store : Store) → EndsRelated (Over 0 record store { status = Ended Stopped })
-  stopped store = record { store = refl; controls = tt }
-
-  module _ (yielded : List ℕ) (store : Store) (waiting : AllWait store) where
-    abbrev T : Reply → Type 0
-    T = Comes AllWait EndsRelated
-
-    goes : (gone : ℕ) (e : Exit) (values : List ℕ) → IsExit s (drop gone store.activations) e →
-        T (Resumes (Away gone (without gone (logged resume_line store)) (e.landing values)))
-    goes gone e values exit =
-        exit_related s graphs flows e values (without gone (logged resume_line store)) (drop gone ts) (drop gone cs) exit (waiting_drop s graphs flows gone store.activations ts cs waiting)
-
-    back : (k : ℕ) (a : Suspended) → at_cursor s k store ≡ Some a → (n : ℕ) (e : Exit) → return_exit a.procedure a.site n ≡ Some e → IsExit s (drop k store.activations) e
-    back k a at n e is = return_is s (drop k store.activations) a n e at is
-
-    unwound : (k : ℕ) (a : Suspended) → at_cursor s k store ≡ Some a → (n : ℕ) (e : Exit) → unwind_exit a.procedure a.site n ≡ Some e → IsExit s (drop k store.activations) e
-    unwound k a at n e is = unwind_is s (drop k store.activations) a n e at is
-
-    cut : (value : ℕ) (found : Found) (e : Exit) → cut_among s 0 (site_cuts s store.activations) value store.activations ≡ Some found → found_exit s found ≡ Some e →
-        IsExit s (drop found.younger store.activations) e
-    cut value found e is is_exit = ToContinuation (found_is s (site_cuts s store.activations) value store.activations found e is is_exit)
-
-    logs : (cursor : ℕ) (text : List ℕ) → T (Then cursor (logged text store))
-    logs cursor text = waiting
-
-    sets : (cursor n value : ℕ) → T (set_done cursor n value store)
-    sets cursor n value = waiting_with_value cursor n value store.activations ts cs waiting
-
-    pokes : (cursor address value : ℕ) → T (Then cursor (logged ok_line record store { memory = with_bytes store.memory address (bytes_of 8 value) }))
-    pokes cursor address value = waiting
-
-    sought_kept : (token value cursor : ℕ) (activations : List Activation) → KeptBy T (sought s token value cursor activations store)
-    sought_kept token value cursor [] = kept_err
-    sought_kept token value cursor (f ∷ fs) = grind (arith, logs cursor, sought_kept token value (suc cursor) fs)
-
-    -- each command that is not refused, and any
-    asked_kept : (cursor : ℕ) (command : Command) → KeptBy T (asked s yielded cursor command store)
-    asked_kept cursor Stop = kept_ok (stopped store)
-    asked_kept cursor command = search (keeping, logs, sets, pokes, goes, sought_kept, back, unwound, cut) depth 12
-
-    reply_kept : (cursor : ℕ) (command : Command) → T (reply s yielded cursor command store)
-    reply_kept cursor command = grind (arith, asked_kept cursor command, logs cursor)
-
-  -- commands one after the other, and the answer to a yield
-  commands_kept : (yielded : List ℕ) (cursor : ℕ) (commands : List Command) (store : Store) → AllWait store → EndsRelated (commands_run s yielded cursor commands store)
-  commands_kept yielded cursor [] store waiting = stopped store
-  commands_kept yielded cursor (c ∷ more) store waiting =
-      grind (arith, reply_kept yielded store waiting cursor c, λ (at : ℕ). commands_kept yielded at more)
+  -- an exit of a site leads on alike
+  exit_is : (activations : List Activation) (gone : ℕ) (a : Suspended) (e : Exit) → suspended_at s activations ≡ Some a → IsExitOf (located gone a) e → IsExit s activations e
+  exit_is activations gone a e at (OfReturn n is) = return_is s activations a n e at is
+  exit_is activations gone a e at (OfUnwind n is) = unwind_is s activations a n e at is
+  exit_is activations gone a e at (OfCut k is) = ToContinuation (cut_is s activations a k e at is)
 
   pub answered_related : (yielded : List ℕ) (store : Store) → AllWait store → EndsRelated (answered s yielded store)
-  answered_related yielded store waiting = commands_kept yielded 0 (commands_for yielded s.script) store waiting
+  answered_related yielded start waiting = answered_kept s yielded AllWait EndsRelated start (record {
+    sets = λ store waiting cursor n value a info at is less. waiting_with_value cursor n value store.activations ts cs waiting;
+    pokes = λ store waiting address value may. waiting;
+    goes = λ store waiting more gone a e values at exit count fit.
+        exit_related s graphs flows e values (with_log (start.log ++ more) (without gone store)) (drop gone ts) (drop gone cs)
+        (exit_is (drop gone store.activations) gone a e at exit) (waiting_drop s graphs flows gone store.activations ts cs waiting);
+    stops = λ store waiting more. record { store = refl; controls = tt };
+  }) waiting

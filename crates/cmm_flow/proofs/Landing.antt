@@ -102,6 +102,12 @@ module _ (s : Setting) where
       among (Some k) is = ToContinuation (continuation_is a older f.procedure k e (suspended_is a older f at) is)
       among None is = grind (arith, is)
 
+  -- and what a client cuts to
+  pub cut_is : (activations : List Activation) (f : Suspended) (k : ℕ) (e : Exit) → suspended_at s activations ≡ Some f → continuation_exit f.procedure k ≡ Some e →
+      IsToContinuation s activations e
+  cut_is [] f k e at is = grind (arith, at)
+  cut_is (a ∷ older) f k e at is = continuation_is a older f.procedure k e (suspended_is a older f at) is
+
   -- what a cut finds
   pub found_is : (own : List ℕ) (value : ℕ) (activations : List Activation) (found : Found) (e : Exit) → cut_among s 0 own value activations ≡ Some found →
       found_exit s found ≡ Some e → IsToContinuation s (drop found.younger activations) e

@@ -1,9 +1,9 @@
 -- Every state of the C-- machine is sound: the first one is, and each step keeps it.
 use Rattle.cmm_laws.specs.Runs as runs
 use Rattle.cmm_program.specs.Memory as cells
-use Rattle.cmm_laws.proofs.Doing.{answered_kept}
+use Rattle.cmm_laws.proofs.Doing.{answered_kept, exit_fits}
 use Rattle.cmm_laws.proofs.FittingActs.{OrderFits, order_fits, PlaceFits, WordFits, WriteFits}
-use Rattle.cmm_laws.proofs.FittingExits.{LandingFits, Left, FormalsFit, found_fits, suspended_fits, words_zip}
+use Rattle.cmm_laws.proofs.FittingExits.{LandingFits, Left, FormalsFit, fitting_zip, found_fits, suspended_fits, words_zip}
 use Rattle.cmm_laws.proofs.FittingExpressions.{ReadsFit, width_gives}
 use Rattle.cmm_laws.proofs.FittingLandings.{land_fits, dropped_keeps, any_site, moved_keeps, proc_in_range}
 use Rattle.cmm_laws.proofs.FittingStart.{data_cells, parts_inside}
@@ -19,7 +19,7 @@ use Rattle.cmm_laws.specs.Runs.{Adds, Traffic, traffic}
 use Rattle.cmm_program.specs.Acts.{evaluated}
 use Rattle.cmm_program.specs.Orders as order
 use Rattle.cmm_program.specs.Orders.{Memory, Order, Held, Place, Word, Write}
-use Rattle.cmm_program.specs.Client.{answered, logged, with_value, fits, variable_info}
+use Rattle.cmm_program.specs.Client.{answered, with_log, with_value}
 use Rattle.cmm_program.specs.Control.{Control, State, transferred, next_act, over}
 use Rattle.cmm_program.specs.Exits.{Exit, Instead, Landing, have_widths, numbers}
 use Rattle.cmm_program.specs.Frames.{Suspended, procedure_at, suspended_at, without}
@@ -27,16 +27,15 @@ use Rattle.cmm_program.specs.Layout.{bytes_of}
 use Rattle.cmm_program.specs.Machine.{first_store, start, step}
 use Rattle.cmm_program.specs.Memory.{with_bytes}
 use Rattle.cmm_program.specs.Performing.{Transfer, Away, Over, Stay, perform}
-use Rattle.cmm_program.specs.State.{Ended, Activation, Outcome, Running, Setting, Store, Waiting, StackLimit}
+use Rattle.cmm_program.specs.State.{Ended, Activation, Outcome, Running, Setting, Store, Waiting, StackLimit, Stopped}
 use Rattle.cmm_program.specs.Todo.{Todo, todo_control}
 use Rattle.cmm_program.specs.Values.{Reads}
 use Rattle.cmm_program.specs.Writes.{reads_of, put, put_all}
 use Rattle.cmm_program.specs.declared.procedure.Proc.{Proc}
 use Rattle.cmm_program.specs.declared.procedure.VarInfo.{VarInfo}
 use Rattle.cmm_program.specs.declared.statement.Statement.{Statement}
-use Rattle.cmm_script.specs.Lines.{resume_line}
 use Rattle.cmm_words.specs.Widths.{bits, bytes}
-use Rattle.std.proofs.Common.{ltb-true, lit<, zero, suc, IsTrue, All, List, Some, [], arith, drop, map, refl, subst, sym, take, ℕ, ◌∷◌, ◌≡◌, true}
+use Rattle.std.proofs.Common.{lit<, zero, suc, All, List, Some, [], arith, drop, map, refl, subst, sym, take, slice_get, ℕ, ◌++◌, ◌<◌, ◌^◌, ◌∷◌, ◌≡◌, true}
 use Rattle.std.proofs.lemmas.Bool.Decides.{nat_tests}
 use Rattle.std.proofs.lemmas.List.Elements.{All-drop, All-head, All-nil, All-push, All-tail}
 use Rattle.std.proofs.lemmas.Nat.{mod_below, pow_pos}
@@ -44,12 +43,11 @@ use Rattle.std.specs.Prelude.{⊤}
 
 -- ---- what orders and commands change
 
-module _ (s : Setting) (n value : ℕ) (a : Suspended) (v : VarInfo) (is : variable_info a n ≡ Some v) (fit : IsTrue (fits v.width value)) where
-  -- a variable of the activation at the cursor with a value of its width
+module _ (s : Setting) (n value : ℕ) (a : Suspended) (v : VarInfo) (is : slice_get a.procedure.vars n ≡ Some v) (word : value < 2 ^ bits v.width) where
+  -- a variable of an activation with a value of its width
   set_keeps : (P : Demand) (cursor : ℕ) (fs : List Activation) (ts : List Todo) → AreActivations s P fs ts → suspended_at s (drop cursor fs) ≡ Some a →
       AreActivations s P (with_value cursor n value fs) ts
   set_keeps P zero (f ∷ fs) (t ∷ ts) are at =
-      let word = ltb-true _ _ fit in
       ((variable_fits s a.procedure P (f ∷ fs) (t ∷ ts) n v.width are (grind arith) (grind (arith, nat_tests))).1 value word).0
   set_keeps P (suc cursor) (f ∷ fs) (t ∷ ts) are at = (are.0, are.1, set_keeps IsSuspended cursor fs ts are.2 at)
   set_keeps P cursor fs ts are at = grind arith
@@ -91,8 +89,13 @@ module _ (s : Setting) (set : IsSetUp s) (ts : List Todo) where
 
   -- the client's answer
   answered_fits : (P : Demand) (values : List ℕ) (store : Store) → Leaves s P ts store → TransferFits (answered s values store)
-  answered_fits P values = answered_kept s values (Leaves s P ts) TransferFits
-      (λ store old. search (set_keeps s, stored store.memory, goes P (logged resume_line store) old, ends P store old 0) depth 10)
+  answered_fits P values start = answered_kept s values (Leaves s P ts) TransferFits start (record {
+    sets = λ store old cursor n value a info at is less. search (set_keeps s n value a info is less P cursor store.activations ts old.1 at, old);
+    pokes = λ store old address value may. search (stored store.memory address 8 value old.0.1, old);
+    goes = λ store old more gone a e vs at exit count fit.
+        goes P (with_log (start.log ++ more) store) old gone (e.landing vs) (exit_fits s (drop gone store.activations) a gone e at exit vs (fitting_zip e.widths vs count fit) gone);
+    stops = λ store old more. ends P (with_log (start.log ++ more) store) old 0 Stopped;
+  })
 
   -- ---- orders
 

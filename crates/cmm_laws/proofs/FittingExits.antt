@@ -6,7 +6,7 @@ use Rattle.std.proofs.lemmas.Bool.Decides.{nat_tests}
 use Rattle.cmm_laws.proofs.FittingActs.{WordFits}
 use Rattle.cmm_laws.specs.Fitting.{Demand, IsSuspended}
 use Rattle.cmm_program.specs.Orders.{Word, target_width}
-use Rattle.cmm_program.specs.Client.{all_fit}
+use Rattle.cmm_program.specs.Commands.{all_fit}
 use Rattle.cmm_program.specs.Exits.{Back, Called, Exit, Instead, Landing, Resumed, continuation_exit, have_widths, numbers, parameters_of, results_of, return_exit, unwind_exit, variable_width}
 use Rattle.cmm_program.specs.Frames.{Suspended, procedure_at, suspended_at, site_cuts}
 use Rattle.cmm_program.specs.Performing.{Found, cut_among, found_exit}
@@ -71,6 +71,11 @@ module _ (s : Setting) (f : Activation) (fs : List Activation) (q : Proc) (is : 
 pub suspended_fits : (s : Setting) (activations : List Activation) (a : Suspended) → suspended_at s activations ≡ Some a → (n : ℕ) (e : Exit) →
     (return_exit a.procedure a.site n ≡ Some e → ExitFits s activations e) × (unwind_exit a.procedure a.site n ≡ Some e → ExitFits s activations e)
 suspended_fits s activations a at n e = grind (arith, continuation_fits s, return_fits s)
+
+-- and to any of its continuations
+pub cuts_fit : (s : Setting) (activations : List Activation) (a : Suspended) → suspended_at s activations ≡ Some a → (k : ℕ) (e : Exit) →
+    continuation_exit a.procedure k ≡ Some e → ExitFits s activations e
+cuts_fit s activations a at k e is = grind (arith, continuation_fits s)
 
 -- and the exit that a cut finds among these frames, which are what is left of all without the younger ones
 pub found_fits : (s : Setting) (all : List Activation) (value younger : ℕ) (own : List ℕ) (fs : List Activation) → drop younger all ≡ fs →

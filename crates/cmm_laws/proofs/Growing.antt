@@ -3,7 +3,7 @@ use Rattle.std.proofs.lemmas.List.{take_at, take-append-drop}
 use Rattle.cmm_following.proofs.Prefixes.{prefix_more, prefix_refl, within_refl, within_trans}
 use Rattle.cmm_following.specs.Seen.{IsPrefix, IsWithin}
 use Rattle.cmm_laws.specs.Observed.{LineUnseen, log_seen, store_seen}
-use Rattle.std.proofs.Common.{Option, refl, length-append, drop, arith, take, ◌+◌, List, Some, [], ap, append-nil, append_assoc, suc, suc-add, sym, zero, zero-add, ℕ, ◌++◌, ◌∙◌, ◌∷◌, ◌≡◌, ◌⊎◌}
+use Rattle.std.proofs.Common.{Option, refl, length-append, drop, arith, take, ◌+◌, List, Some, [], ap, append_assoc, suc, suc-add, sym, zero, zero-add, ℕ, ◌++◌, ◌∙◌, ◌∷◌, ◌≡◌, ◌⊎◌}
 use Rattle.cmm_laws.specs.Runs as runs
 use Rattle.cmm_laws.proofs.Doing.{answered_kept}
 use Rattle.cmm_laws.proofs.Kept.{KeptBy, keeping, kept_after, kept_and_then, kept_ok}
@@ -16,13 +16,14 @@ use Rattle.std.specs.Prelude.{⊤}
 use Rattle.cmm_program.specs.Acts.{Act, PutByte, GetByte, Checked, checked_order, evaluated}
 use Rattle.cmm_program.specs.Orders as order
 use Rattle.cmm_program.specs.Orders.{Order, Word}
-use Rattle.cmm_program.specs.Client.{answered, logged}
+use Rattle.cmm_program.specs.Client.{answered, with_log}
 use Rattle.cmm_program.specs.Control.{Control, State, transferred}
 use Rattle.cmm_program.specs.Layout.{bytes_of}
+use Rattle.cmm_program.specs.Frames.{without}
 use Rattle.cmm_program.specs.Machine.{start_of, step_of, steps_of}
 use Rattle.cmm_program.specs.Performing.{Transfer, returned, Stay, perform}
 use Rattle.cmm_program.specs.State.{Activation, Running, Setting, Store, Waiting}
-use Rattle.cmm_script.specs.Lines.{yield_line, ok_line, resume_line}
+use Rattle.cmm_script.specs.Lines.{yield_line}
 
 -- the line of a yield is not seen while the client is waited for
 pub line_unseen : LineUnseen
@@ -79,25 +80,22 @@ module _ {C : Type 0} (k : Control C) (s : Setting) (st : State C) where
   performed (order.Return exit alternates words) next = grind (arith, returned_leads exit alternates words)
   performed order next = search (keeping, stays, start, lands k s, without_after) depth 10
 
-  -- what the client's answer adds, which any more text may follow
+  -- what the client's answer adds, whatever its lines are
   abbrev Answers : Traffic → Type 0
-  Answers t = (more : List ℕ) → Adds k s st (record t { log = t.log ++ more })
+  Answers t = (text : List ℕ) → Adds k s st (record t { log = st.store.log ++ text })
 
-  logged_after : (text : List ℕ) (store : Store) → After s st.store Answers store → After s st.store Answers (logged text store)
-  logged_after text store here = grind (arith, append_assoc, λ (more : List ℕ). here.passed (text ++ more))
+  logged_after : (text : List ℕ) (store : Store) → After s st.store Answers store → After s st.store (Adds k s st) (with_log (st.store.log ++ text) store)
+  logged_after text store here = record { passed = here.passed text; status = here.status; stack = here.stack }
 
   -- the client's answer
   answer_leads : (values : List ℕ) → st.store.status ≡ Waiting values → TransferLeads (answered s values st.store)
-  answer_leads values waiting =
-      let leads = answered_kept s values (After s st.store Answers)
-      (λ transfer. Leads s st.store Answers (transferred k s transfer st.controls).store) (λ store here. record {
-        logs = λ cursor text. logged_after text store here;
-        sets = λ cursor n value a info at is fit. logged_after ok_line _ (grind (arith, stack_with_value s cursor n value store.activations));
-        pokes = λ cursor address value may. logged_after ok_line _ (bytes_after address (bytes_of 8 value) store here);
-        goes = λ gone e vs leads fit. lands k s (e.landing vs) _ _ (without_after gone _ (logged_after resume_line store here));
-        stops = (here.passed, here.stack);
-      }) st.store (nothing_after s st.store (λ more. runs.Lines values more waiting)) in
-      (simp append-nil at (leads.0 []), leads.1)
+  answer_leads values waiting = answered_kept s values (After s st.store Answers)
+      (λ transfer. Leads s st.store (Adds k s st) (transferred k s transfer st.controls).store) st.store (record {
+        sets = λ store here cursor n value a info at is less. grind (arith, stack_with_value s cursor n value store.activations);
+        pokes = λ store here address value may. bytes_after address (bytes_of 8 value) store here;
+        goes = λ store here more gone a e vs at exit count fit. lands k s (e.landing vs) (with_log (st.store.log ++ more) (without gone store)) _ (logged_after more (without gone store) (without_after gone store here));
+        stops = λ store here more. (here.passed more, here.stack);
+      }) (nothing_after s st.store (λ text. runs.Lines values text waiting))
 
   -- each step
   pub step_leads : Leads s st.store (Adds k s st) (step_of k s st).store

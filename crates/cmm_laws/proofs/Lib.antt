@@ -2,6 +2,7 @@ pub mod Kept
 pub mod Arriving
 pub mod Transfers
 pub mod Doing
+pub mod Alike
 pub mod StackKept
 pub mod Commands
 pub mod Steps

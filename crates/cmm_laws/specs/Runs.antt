@@ -3,7 +3,7 @@
 use Rattle.std.specs.Prelude.{◌≡◌, ◌⊎◌, ℕ, ◌+◌, ◌%◌, true, List, [], ◌∷◌, ◌++◌, map, Ok, Err, Option, Some, None}
 use Rattle.cmm_script.specs.declared.script.Command.{Command}
 use Rattle.cmm_rules.specs.declared.rule.Rule.{Rule}
-use Rattle.cmm_script.specs.Lines.{yield_line, ok_line, refused_line}
+use Rattle.cmm_script.specs.Lines.{yield_line, refused_line}
 use Rattle.cmm_following.specs.Seen.{Seen, IsWithin}
 use Rattle.cmm_program.specs.declared.procedure.Target.{Target}
 use Rattle.cmm_program.specs.Errors.{UncheckedError}
@@ -17,7 +17,9 @@ use Rattle.cmm_program.specs.Values.{Value}
 use Rattle.cmm_program.specs.Writes.{reads_of}
 use Rattle.cmm_program.specs.Control.{Control, State, next_act}
 use Rattle.cmm_program.specs.Todo.{Todo, todo_control}
-use Rattle.cmm_program.specs.Client.{Then, logged, with_value, may_poke, asked, reply}
+use Rattle.cmm_program.specs.Asking.{Cursor}
+use Rattle.cmm_program.specs.Commands.{Goes, asked, reply}
+use Rattle.cmm_program.specs.Client.{Located, may_poke, store_askable, with_variable}
 use Rattle.cmm_program.specs.Machine.{step, state_after}
 
 -- ---- states that stay
@@ -106,23 +108,24 @@ InputIsKept = (s : Setting) (input : List ℕ) (m : ℕ) → let store = (state_
 
 -- a command that is refused only writes a line of the log
 abbrev pub RefusedOnlyLogs : Type 0
-RefusedOnlyLogs = (s : Setting) (yielded : List ℕ) (cursor : ℕ) (command : Command) (store : Store) (why : Rule) →
-    asked s yielded cursor command store ≡ Err why → reply s yielded cursor command store ≡ Then cursor (logged (refused_line why) store)
+RefusedOnlyLogs = (s : Setting) (yielded : List ℕ) (cursor : Cursor Located) (command : Command) (store : Store) (why : Rule) →
+    asked (store_askable s) yielded cursor store command ≡ Err why →
+    reply (store_askable s) yielded cursor store command ≡ record { text = refused_line why; after = Goes cursor store }
 
 -- What a command makes of a store that does not resume. What is not named stays: other variables, each activation's procedure
 -- and site, registers, stackdata, input, output and status.
-pub data Changes (cursor : ℕ) (before : Store) : Store → Type 0 where
-  Log : (text : List ℕ) → Changes cursor before (logged text before)
+pub data Changes (cursor : Cursor Located) (before : Store) : Store → Type 0 where
+  Same : Changes cursor before before
   -- a variable of the activation at the cursor
-  Variable : (n value : ℕ) → Changes cursor before (logged ok_line record before { activations = with_value cursor n value before.activations })
+  Variable : (a : Located) (n value : ℕ) → cursor.activation ≡ Some a → Changes cursor before (with_variable before a n value)
   -- eight bytes of data
-  Data : (address value : ℕ) → may_poke before.memory.data_room address ≡ true →
-      Changes cursor before (logged ok_line record before { memory = with_bytes before.memory address (bytes_of 8 value) })
+  Data : (address value : ℕ) → may_poke before.memory.data_room address 8 ≡ true →
+      Changes cursor before (record before { memory = with_bytes before.memory address (bytes_of 8 value) })
 
--- a command that does not resume changes a variable or data, if anything, and writes to the log
+-- a command that does not resume changes a variable or data, if anything
 abbrev pub CommandChanges : Type 0
-CommandChanges = (s : Setting) (yielded : List ℕ) (cursor cursor' : ℕ) (command : Command) (store after : Store) →
-    reply s yielded cursor command store ≡ Then cursor' after → Changes cursor' store after
+CommandChanges = (s : Setting) (yielded : List ℕ) (cursor cursor' : Cursor Located) (command : Command) (store after : Store) →
+    (reply (store_askable s) yielded cursor store command).after ≡ Goes cursor' after → Changes cursor' store after
 
 -- the procedures and the sites of activations
 abbrev pub places : List Activation → List (ℕ × Option ℕ)
@@ -130,6 +133,6 @@ places activations = map (λ a. (a.procedure, a.site)) activations
 
 -- and leaves everything else
 abbrev pub CommandSpares : Type 0
-CommandSpares = (s : Setting) (yielded : List ℕ) (cursor cursor' : ℕ) (command : Command) (store after : Store) →
-    reply s yielded cursor command store ≡ Then cursor' after →
-    (after ≡ record store { activations = after.activations; memory = after.memory; log = after.log }) × (places after.activations ≡ places store.activations)
+CommandSpares = (s : Setting) (yielded : List ℕ) (cursor cursor' : Cursor Located) (command : Command) (store after : Store) →
+    (reply (store_askable s) yielded cursor store command).after ≡ Goes cursor' after →
+    (after ≡ record store { activations = after.activations; memory = after.memory }) × (places after.activations ≡ places store.activations)

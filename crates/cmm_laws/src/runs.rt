@@ -27,7 +27,7 @@ pub fn input_is_taken_by_calls()
 
 /// A refused command of the client changes nothing but the log, and one that does not resume at most a variable of the
 /// activation at the cursor or bytes of data.
-#[tactic(auto, using(crate::proofs::Commands::command_changes, crate::proofs::Commands::command_spares))]
+#[tactic(auto, using(crate::proofs::Commands::command_changes))]
 pub fn commands_change_little()
     ensures refused { RefusedOnlyLogs }
     ensures changes { CommandChanges }

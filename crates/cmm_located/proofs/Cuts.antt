@@ -22,6 +22,7 @@ use Rattle.cmm_program.specs.State.{Setting, Activation, Store, Running, stack_t
 use Rattle.cmm_program.specs.Writes.{reads_of}
 use Rattle.cmm_laws.specs.Transfers.{Cuts, CutsNot, CutsTo, IsListed}
 use Rattle.cmm_laws.proofs.Shared.{cut_cuts, resuming_lands, search_finds}
+use Rattle.cmm_program.proofs.Shared.{some_by}
 use Rattle.cmm_graph.specs.declared.number.ContinuationId.{ContinuationId}
 use Rattle.cmm_graph.specs.declared.number.NodeId.{NodeId}
 use Rattle.cmm_graph.specs.declared.operand.Argument.{Argument}
@@ -58,7 +59,7 @@ use Rattle.cmm_located.proofs.Following.{Moves, asks_alike, in_two, wrong_in}
 use Rattle.cmm_located.proofs.GoingOn.{Lands, gone_state, landing_goes, lands_moves, moves_behind}
 use Rattle.cmm_located.proofs.Ordering.{frame_is_there, same_orders, same_sizes}
 use Rattle.cmm_located.proofs.Parts.{by_parts, located_of, position_of, running, state_of}
-use Rattle.cmm_located.proofs.Returns.{suspended_parts, with_some_is}
+use Rattle.cmm_located.proofs.Returns.{suspended_parts}
 use Rattle.cmm_located.proofs.Staying.{after_transfer, places_do, places_step_is, step_is}
 
 -- ---- the search finds the same among activations without their values
@@ -288,8 +289,8 @@ module _ (s : Setting) (c : Compiled) (live : Liveness) (frames : HasFrames s c)
   by_target q n k value words found e is is_e have moves =
       subst (λ (x : Found). found_exit s x ≡ Some e → Moves s c live most First (cut_state x.younger (e.landing (numbers words))) (paired x value words)) (sym is)
       (λ exit_is.
-      let one = with_some_is (procedure_at s q) (λ p. continuation_exit p k) e exit_is in
-      let two = with_some_is (slice_get one.0.conts k) (λ (x : Cont). Some (record { widths = map (variable_width one.0) x.params; landing = Resumed k })) e one.2 in
+      let one = some_by (procedure_at s q) (λ p. continuation_exit p k) e exit_is in
+      let two = some_by (slice_get one.0.conts k) (λ (x : Cont). Some (record { widths = map (variable_width one.0) x.params; landing = Resumed k })) e one.2 in
       let made : Exit = record { widths = map (variable_width one.0) two.0.params; landing = Resumed k } in
       let same : made ≡ e = by_some made e two.2 in
       subst (λ (x : Exit). have_widths x.widths words ≡ true →

@@ -1,16 +1,13 @@
 -- the client resumes a run: control goes on in an activation that waits
-use Rattle.std.proofs.Common.{◌≡◌, ◌⊎◌, ℕ, true, List, [], ◌∷◌, ◌++◌, map, drop, length, slice_get, Option, Some, None, refl, sym, ap, ◌∙◌, subst}
-use Rattle.cmm_script.specs.Lines.{resume_line}
-use Rattle.cmm_script.specs.declared.script.Command.{Command}
+use Rattle.std.proofs.Common.{◌≡◌, ◌⊎◌, ℕ, true, List, [], ◌∷◌, map, drop, length, slice_get, Option, Some, None, refl, sym, ap, ◌∙◌, subst}
 use Rattle.cmm_program.specs.declared.procedure.Cont.{Cont}
 use Rattle.cmm_program.specs.declared.procedure.Proc.{Proc}
 use Rattle.cmm_program.specs.declared.procedure.Target.{Target}
-use Rattle.cmm_program.specs.Client.{logged}
+use Rattle.cmm_program.specs.Client.{with_log}
 use Rattle.cmm_program.specs.Control.{State, arrived, landed}
 use Rattle.cmm_program.specs.Errors.{with_some}
 use Rattle.cmm_program.specs.Exits.{Landing, Resumed, gone_on, land}
 use Rattle.cmm_program.specs.Frames.{procedure_at, with_site, without}
-use Rattle.cmm_program.specs.Performing.{Away}
 use Rattle.cmm_program.specs.State.{Setting, Activation, Store, Running, stack_top}
 use Rattle.cmm_laws.proofs.Shared.{resuming_lands}
 use Rattle.cmm_graph.specs.declared.number.NodeId.{NodeId}
@@ -26,7 +23,7 @@ use Rattle.cmm_chain.specs.Plans.{IsPlanned}
 use Rattle.cmm_chain.specs.Running.{Holdings, IsFramed, held}
 use Rattle.cmm_chain.specs.Walks.{Element}
 use Rattle.cmm_chain.proofs.Shared.{goes_on_framed, goes_on_with_values}
-use Rattle.cmm_located.specs.Answering.{come_back, come_to, landing_node, listed, no_landing, resumed_by, values_brought}
+use Rattle.cmm_located.specs.Answering.{come_back, landing_node, listed, logged_as, no_landing, resumed_by, values_brought}
 use Rattle.cmm_located.specs.Compiled.{Compiled, Located, bare, landing_in}
 use Rattle.cmm_located.specs.Entering.{IsWithinMost}
 use Rattle.cmm_located.specs.Relation.{Liveness, AllWait, site_number, suspension_of, suspensions, value_at}
@@ -40,23 +37,19 @@ use Rattle.cmm_located.proofs.Parts.{running}
 use Rattle.cmm_located.proofs.Standing.{waiting_of}
 
 module _ (s : Setting) (c : Compiled) (live : Liveness) (planned : IsPlanned c.plan) (closed : IsClosed c live) (most : ℕ) (is_most : IsWithinMost c most) (ps : List Position)
-    (x : Store) (h : Holdings) (q : ℕ) (n : NodeId) (carried : List ℕ) (shown : List Activation) where
+    (x : Store) (h : Holdings) (q : ℕ) (n : NodeId) (carried : List ℕ) (log : List ℕ) where
   abbrev At : Located
   At = waiting_of x h q n carried
 
-  -- the store as the client saw it
-  abbrev Seen : Store
-  Seen = record x { activations = shown }
-
   module _ (gone : ℕ) (f : Activation) (fs : List Activation) (is_a : drop gone x.activations ≡ f ∷ fs) (g : Position) (gs : List Position) (is_p : drop gone ps ≡ g ∷ gs)
-      (there : AllWait c.graphs (f ∷ fs) (g ∷ gs)) (command : Command) (e : Element) (is_e : slice_get (listed s c At) gone ≡ Some e) (is_q : e.procedure ≡ f.procedure)
+      (there : AllWait c.graphs (f ∷ fs) (g ∷ gs)) (come : Element → Holdings → Holdings) (e : Element) (is_e : slice_get (listed s c At) gone ≡ Some e) (is_q : e.procedure ≡ f.procedure)
       (is_site : e.site ≡ there.0.site) (point : Point) (chain : IsChain c.plan (stack_top s) h.contents (suspensions c.graphs (f ∷ fs) (g ∷ gs)) point)
-      (back : IsBackAt c.plan h.contents (suspension_of c.graphs f g) point (come_to s c command e h)) where
+      (back : IsBackAt c.plan h.contents (suspension_of c.graphs f g) point (come e h)) where
     abbrev Base : Store
-    Base = without gone (logged resume_line x)
+    Base = with_log log (without gone x)
 
     abbrev Again : Holdings
-    Again = come_to s c command e h
+    Again = come e h
 
     abbrev Before : State Position
     Before = record { store = running Base fs; controls = [] }
@@ -83,9 +76,9 @@ module _ (s : Setting) (c : Compiled) (live : Liveness) (planned : IsPlanned c.p
       Landed = Lands s c live planned Base f fs g gs Again to node lands.next lands.is_copy reads.of reads.is_graph keeps values count chain.0.exists there.0.variables holds framed there.1
 
       -- over places
-      abbrev come : List Activation → ℕ → List ℕ → Located
-      come activations r brought = record {
-        store = record (without gone At.store) { log = x.log ++ resume_line; activations = with_site None activations; status = Running };
+      abbrev comes : List Activation → ℕ → List ℕ → Located
+      comes activations r brought = record {
+        store = record (without gone At.store) { log = log; activations = with_site None activations; status = Running };
         holdings = Again;
         procedure = r;
         node = node;
@@ -93,25 +86,22 @@ module _ (s : Setting) (c : Compiled) (live : Liveness) (planned : IsPlanned c.p
       }
 
       goes : (landing : Landing) → landing_node s c e.procedure e.site landing ≡ Some node → values_brought landing ≡ values →
-          resumed_by s c command (Away gone (without gone (logged resume_line Seen)) landing) At ≡ Landed
+          logged_as log (resumed_by s c come gone landing At) ≡ Landed
       goes landing is_node brought =
-          ap (λ o. elim o as (λ _. Located) [
-            | Some y ↦ come_back s c command gone (without gone (logged resume_line Seen)) landing y At
-            | None ↦ no_landing s c At
-          ]) is_e
-          ∙ (ap (λ (o : Option NodeId). elim o as (λ _. Located) [
+          ap (λ o. logged_as log (elim o as (λ _. Located) [ Some y ↦ come_back s c come gone landing y At | None ↦ no_landing s c At ])) is_e
+          ∙ (ap (λ (o : Option NodeId). logged_as log (elim o as (λ _. Located) [
             | Some m ↦ record {
-              store = record (without gone At.store) { log = x.log ++ resume_line; activations = with_site None (without gone At.store).activations; status = Running };
+              store = record (without gone At.store) { activations = with_site None (without gone At.store).activations; status = Running };
               holdings = Again;
               procedure = e.procedure;
               node = m;
               carried = values_brought landing;
             }
             | None ↦ no_landing s c At
-          ]) is_node
-          ∙ (ap (λ r. come (without gone At.store).activations r (values_brought landing)) is_q
-          ∙ (ap (λ v. come (without gone At.store).activations f.procedure v) brought
-          ∙ ap (λ l. come l f.procedure values) (drop_bare gone x.activations ∙ ap (λ l. map bare l) is_a))))
+          ])) is_node
+          ∙ (ap (λ r. comes (without gone At.store).activations r (values_brought landing)) is_q
+          ∙ (ap (λ v. comes (without gone At.store).activations f.procedure v) brought
+          ∙ ap (λ l. comes l f.procedure values) (drop_bare gone x.activations ∙ ap (λ l. map bare l) is_a))))
 
       -- by a landing and its move of the position
       pub comes_to : (landing : Landing) (move : Position → Position) (o : Option NodeId) → land s landing (record Base { activations = f ∷ fs }) ≡ Some (gone_on to values (record Base { activations = f ∷ fs })) →
@@ -119,10 +109,10 @@ module _ (s : Setting) (c : Compiled) (live : Liveness) (planned : IsPlanned c.p
           move g ≡ moved_to (with_some o (λ m. Some (behind_node (kind_at c.graphs g.procedure m) m))) g → o ≡ Some node →
           landing_node s c e.procedure e.site landing ≡ Some node → values_brought landing ≡ values →
           Moves s c live most Before (landed (graph_control c.graphs) s landing Base (drop gone ps))
-          (resumed_by s c command (Away gone (without gone (logged resume_line Seen)) landing) At)
+          (logged_as log (resumed_by s c come gone landing At))
       comes_to landing move o lands_ arrives moves is_node is_there brought =
           lands_moves s c live planned Base f fs g gs Again to node lands.next lands.is_copy reads.of reads.is_graph keeps values count chain.0.exists there.0.variables holds framed there.1
-          most is_most Before _ (resumed_by s c command (Away gone (without gone (logged resume_line Seen)) landing) At) refl
+          most is_most Before _ (logged_as log (resumed_by s c come gone landing At)) refl
           (ap (λ l. landed (graph_control c.graphs) s landing (record Base { activations = l }) (drop gone ps)) is_a
           ∙ (ap (λ l. landed (graph_control c.graphs) s landing (record Base { activations = f ∷ fs }) l) is_p
           ∙ landing_goes s c live planned Base f fs g gs Again to node lands.next lands.is_copy reads.of reads.is_graph keeps values count chain.0.exists there.0.variables holds framed
@@ -138,7 +128,7 @@ module _ (s : Setting) (c : Compiled) (live : Liveness) (planned : IsPlanned c.p
         ((offset : ℕ) × (c.plan.place f.procedure u ≡ Slot offset)) ⊎ ((r : ℕ) → is_callee_saves r ≡ true → Again.point.kept r ≡ point.kept r)) →
         (values : List ℕ) → length (parameter_targets p cont) ≡ length values →
         Moves s c live most Before (landed (graph_control c.graphs) s (Resumed k values) Base (drop gone ps))
-        (resumed_by s c command (Away gone (without gone (logged resume_line Seen)) (Resumed k values)) At)
+        (logged_as log (resumed_by s c come gone (Resumed k values) At))
     continues p k cont node is_p is_cont is_node lands keeps_registers values count =
         comes_to (parameter_targets p cont) node lands keeps_registers values count (Resumed k values) ((graph_control c.graphs).resume k)
         (in_graph c.graphs g.procedure (λ y. landing_of y (record { number = k }))) (resuming_lands s (record Base { activations = f ∷ fs }) f fs p k cont values refl is_p is_cont) refl refl

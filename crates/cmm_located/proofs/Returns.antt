@@ -23,6 +23,7 @@ use Rattle.cmm_program.specs.State.{Setting, Activation, Store, Ended, Done, sta
 use Rattle.cmm_program.specs.Writes.{reads_of}
 use Rattle.cmm_laws.specs.Transfers.{Leaves, LeavesTo, Ends, LeavesNot}
 use Rattle.cmm_laws.proofs.Shared.{resuming_lands, return_leaves, returning_lands}
+use Rattle.cmm_program.proofs.Shared.{some_by}
 use Rattle.cmm_graph.specs.declared.number.ContinuationId.{ContinuationId}
 use Rattle.cmm_graph.specs.declared.number.NodeId.{NodeId}
 use Rattle.cmm_graph.specs.declared.operand.Argument.{Argument}
@@ -60,10 +61,6 @@ use Rattle.cmm_located.proofs.Parts.{by_parts, located_of, position_of, running,
 use Rattle.cmm_located.proofs.Staying.{after_transfer, places_do, places_step_is, step_is}
 
 -- ---- small facts
-
-pub with_some_is : {A B : Type 0} (o : Option A) (f : A → Option B) (b : B) → with_some o f ≡ Some b → (x : A) × (o ≡ Some x) × (f x ≡ Some b)
-with_some_is (Some x) f b is = (x, refl, is)
-with_some_is None f b is = absurd (cc)
 
 map_get : {A : Type 0} (f : A → ℕ) (xs : List A) (i k : ℕ) → slice_get (map f xs) i ≡ Some k → (x : A) × (slice_get xs i ≡ Some x) × (f x ≡ k)
 map_get f [] i k is = absurd (cc)
@@ -110,8 +107,8 @@ by_exit p site exit e is = by (nat_lt exit (length site.returns)) is
       | false ↦ elim ((exit == length site.returns) && not site.never) as (λ _. Option Exit) [ true ↦ Some (normal_exit site) | false ↦ None ]
     ] ≡ Some e → ByAlternate p site exit e ⊎ ByNormal site exit e
     by true is =
-        let found = with_some_is (slice_get site.returns exit) (continuation_exit p) e is in
-        let cont = with_some_is (slice_get p.conts found.0) (λ (c : Cont). Some (record { widths = map (variable_width p) c.params; landing = Resumed found.0 })) e found.2 in
+        let found = some_by (slice_get site.returns exit) (continuation_exit p) e is in
+        let cont = some_by (slice_get p.conts found.0) (λ (c : Cont). Some (record { widths = map (variable_width p) c.params; landing = Resumed found.0 })) e found.2 in
         inl record { k = found.0; cont = cont.0; listed = found.1; is_cont = cont.1; is_exit = grind (arith, cont.2) }
     by false is = inr (normal (exit == length site.returns) site.never refl refl is)
 
@@ -119,11 +116,11 @@ by_exit p site exit e is = by (nat_lt exit (length site.returns)) is
 pub suspended_parts : (s : Setting) (f : Activation) (older : List Activation) (n : ℕ) (sa : Suspended) → f.site ≡ Some n → suspended_at s (f ∷ older) ≡ Some sa →
     (procedure_at s f.procedure ≡ Some sa.procedure) × (slice_get sa.procedure.sites n ≡ Some sa.site)
 suspended_parts s f older n sa is_site is =
-    let one = with_some_is f.site (λ m. with_some (procedure_at s f.procedure) (λ p. with_some (slice_get p.sites m) (λ site.
+    let one = some_by f.site (λ m. with_some (procedure_at s f.procedure) (λ p. with_some (slice_get p.sites m) (λ site.
     Some (record { activation = f; procedure = p; number = m; site = site })))) sa is in
-    let two = with_some_is (procedure_at s f.procedure) (λ p. with_some (slice_get p.sites one.0) (λ site.
+    let two = some_by (procedure_at s f.procedure) (λ p. with_some (slice_get p.sites one.0) (λ site.
     Some (record { activation = f; procedure = p; number = one.0; site = site }))) sa one.2 in
-    let three = with_some_is (slice_get two.0.sites one.0) (λ site. Some (record { activation = f; procedure = two.0; number = one.0; site = site })) sa two.2 in
+    let three = some_by (slice_get two.0.sites one.0) (λ site. Some (record { activation = f; procedure = two.0; number = one.0; site = site })) sa two.2 in
     let number : n ≡ one.0 = cc (is_site, one.1) in
     let found : Suspended = record { activation = f; procedure = two.0; number = one.0; site = three.0 } in
     let same : found ≡ sa = cc (three.2) in

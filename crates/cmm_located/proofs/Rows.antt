@@ -178,7 +178,7 @@ waits_with value = record {
   procedure = [];
   site = 0;
   spans = [];
-  variables = record { width = 64; kind = []; value = Some value } ∷ record { width = 64; kind = []; value = None } ∷ [];
+  variables = record { width = 64; kind = []; invariant = false; value = Some value } ∷ record { width = 64; kind = []; invariant = false; value = None } ∷ [];
 }
 
 abbrev stopped : Option (Event observed.Call Ending)

@@ -36,15 +36,15 @@ same_value p site n vs ws same = by (is_live_at p site n) refl
     by true is = ap (λ b. valued b vs n) is ∙ (ap (λ x. Some x) (same is) ∙ sym (ap (λ b. valued b ws n) is))
     by false is = ap (λ b. valued b vs n) is ∙ sym (ap (λ b. valued b ws n) is)
 
-same_variables : (p : Proc) (site : ℕ) (vs ws : List ℕ) (k : ℕ) (infos : List VarInfo) →
+pub same_variables : (p : Proc) (site : ℕ) (vs ws : List ℕ) (k : ℕ) (infos : List VarInfo) →
     ((v : ℕ) → v < k + length infos → is_live_at p site v ≡ true → slice_index_or vs v 0 ≡ slice_index_or ws v 0) →
     variables_shown p site vs k infos ≡ variables_shown p site ws k infos
 same_variables p site vs ws k [] same = refl
 same_variables p site vs ws k (info ∷ infos) same =
     let value = same_value p site k vs ws (same k (omega arith)) in
     let rest = same_variables p site vs ws (suc k) infos (λ v less live. same v (omega arith) live) in
-    ap (λ (o : Option ℕ). record { width = bits info.width; kind = info.kind; value = o } ∷ variables_shown p site vs (suc k) infos) value
-    ∙ ap (λ (l : List Shown). record { width = bits info.width; kind = info.kind; value = live_value p site ws k } ∷ l) rest
+    ap (λ (o : Option ℕ). record { width = bits info.width; kind = info.kind; invariant = info.invariant; value = o } ∷ variables_shown p site vs (suc k) infos) value
+    ∙ ap (λ (l : List Shown). record { width = bits info.width; kind = info.kind; invariant = info.invariant; value = live_value p site ws k } ∷ l) rest
 
 -- ---- activations
 
@@ -52,11 +52,11 @@ module _ (s : Setting) where
   -- an activation at a site, with what is shown of the older ones
   abbrev at_site : Option Site → Proc → ℕ → Activation → List walk.Activation → List walk.Activation
   at_site (Some site) p n a rest = activation_shown s (record { activation = a; procedure = p; number = n; site = site }) ∷ rest
-  at_site None p n a rest = rest
+  at_site None p n a rest = []
 
   abbrev of_procedure : Option Proc → ℕ → Activation → List walk.Activation → List walk.Activation
   of_procedure (Some p) n a rest = at_site (slice_get p.sites n) p n a rest
-  of_procedure None n a rest = rest
+  of_procedure None n a rest = []
 
   abbrev found_at : Option Site → Proc → ℕ → Activation → Option Suspended
   found_at o p n a = with_some o (λ site. Some record { activation = a; procedure = p; number = n; site = site })
@@ -65,7 +65,7 @@ module _ (s : Setting) where
   found_in o n a = with_some o (λ p. found_at (slice_get p.sites n) p n a)
 
   abbrev before : Option Suspended → List walk.Activation → List walk.Activation
-  before o rest = elim o [ Some here ↦ activation_shown s here ∷ rest | None ↦ rest ]
+  before o rest = elim o [ Some here ↦ activation_shown s here ∷ rest | None ↦ [] ]
 
   abbrev shown_by : Option ℕ → Activation → List walk.Activation → List walk.Activation
   shown_by site a rest = before (with_some site (λ n. found_in (procedure_at s a.procedure) n a)) rest
@@ -84,7 +84,7 @@ module _ (s : Setting) where
   same_at_site : (o : Option Site) (p : Proc) (n : ℕ) (x y : Activation) (rest others : List walk.Activation) → rest ≡ others →
       ((v : ℕ) → v < length p.vars → is_live_at p n v ≡ true → slice_index_or x.variables v 0 ≡ slice_index_or y.variables v 0) →
       at_site o p n x rest ≡ at_site o p n y others
-  same_at_site None p n x y rest others is same = is
+  same_at_site None p n x y rest others is same = refl
   same_at_site (Some site) p n x y rest others is same =
       let variables = same_variables p n x.variables y.variables 0 p.vars (λ v less live. same v (omega arith) live) in
       ap (λ (l : List Shown). record { procedure = p.name; site = n; spans = spans_shown s site; variables = l } ∷ rest) variables
@@ -93,7 +93,7 @@ module _ (s : Setting) where
   same_of : (o : Option Proc) (n : ℕ) (x y : Activation) (rest others : List walk.Activation) → rest ≡ others →
       ((p : Proc) → o ≡ Some p → (v : ℕ) → v < length p.vars → is_live_at p n v ≡ true → slice_index_or x.variables v 0 ≡ slice_index_or y.variables v 0) →
       of_procedure o n x rest ≡ of_procedure o n y others
-  same_of None n x y rest others is same = is
+  same_of None n x y rest others is same = refl
   same_of (Some p) n x y rest others is same = same_at_site (slice_get p.sites n) p n x y rest others is (same p refl)
 
 -- ---- the whole walk

@@ -1,16 +1,17 @@
--- The client over places. It is asked as in the C-- machine, of activations that the walk of the stack shows; what it changes and
--- where it resumes is done to places (C-- Language Specification 2.0, the run-time interface).
-use Rattle.std.specs.Prelude.{ℕ, List, [], ◌∷◌, map, length, slice_get, Ok, Err, Option, Some, None}
+-- The client over places. It is asked of activations that the walk of the stack shows, as that of the C-- machine is of its store; what it
+-- changes and where it resumes is done to places (C-- Language Specification 2.0, the run-time interface).
+use Rattle.std.specs.Prelude.{ℕ, suc, List, [], ◌++◌, map, length, slice_get, Option, Some, None}
 use Rattle.std.specs.List.{range_with_len}
-use Rattle.cmm_script.specs.declared.script.Command.{Command}
-use Rattle.cmm_script.specs.declared.script.Command.TheVariants.{Set, Unwind, Cut}
-use Rattle.cmm_script.specs.Lines.{refused_line}
-use Rattle.cmm_program.specs.Client.{Then, Resumes, asked, commands_for, logged, number_given}
+use Rattle.cmm_program.specs.Asking.{Askable, Exit}
+use Rattle.cmm_program.specs.Client as client
+use Rattle.cmm_program.specs.Client.{chain_behind, cut_number, located_shown, with_data, with_log}
+use Rattle.cmm_program.specs.Commands as command
+use Rattle.cmm_program.specs.Commands.{Answer, answer_to}
 use Rattle.cmm_program.specs.Control.{over}
 use Rattle.cmm_program.specs.Errors.{WrongAlternates, with_some}
+use Rattle.cmm_program.specs.Exits as exits
 use Rattle.cmm_program.specs.Exits.{Landing, Called, Instead, Back, Resumed}
 use Rattle.cmm_program.specs.Frames.{procedure_at, with_site, without}
-use Rattle.cmm_program.specs.Performing.{Transfer, Stay, Wait, Away, Over}
 use Rattle.cmm_program.specs.State.{Setting, Activation, Store, Running, Ended, Stopped, Wrong}
 use Rattle.cmm_graph.specs.declared.number.NodeId.{NodeId}
 use Rattle.cmm_chain.specs.Contents.{Content, Number}
@@ -28,6 +29,24 @@ values_brought (Called site q values) = values
 values_brought (Instead q values) = values
 values_brought (Back values) = values
 values_brought (Resumed k values) = values
+
+-- ---- what the locals of an activation are held in once the run goes on there
+
+-- A return is to the youngest, an unwinding gives the registers back as the activation had them, and a cut restores none.
+abbrev pub returned_to : Element → Holdings → Holdings
+returned_to e h = h
+
+abbrev pub unwound_to : Element → Holdings → Holdings
+unwound_to e h = unwound e.mark h
+
+abbrev pub cut_to : Element → Holdings → Holdings
+cut_to e h = cut_at e.mark.at h
+
+abbrev pub logged_as : List ℕ → Located → Located
+logged_as log at = record at { store = with_log log at.store }
+
+abbrev pub stopped : Located → Located
+stopped at = record at { store = over (Ended Stopped) at.store }
 
 module _ (s : Setting) (c : Compiled) where
   -- ---- what the walk shows
@@ -52,10 +71,7 @@ module _ (s : Setting) (c : Compiled) where
 
   -- ---- what a command changes
 
-  -- the log and the memory of another store
-  abbrev pub changed_as : Store → Located → Located
-  changed_as store at = record at { store = record at.store { log = store.log; memory = store.memory } }
-
+  -- where a variable is set, its place is
   abbrev pub set_number : ℕ → ℕ → ℕ → Located → Located
   set_number cursor n value at =
       elim (with_some (slice_get (listed at) cursor) (λ e. spot_of e.mark (c.plan.place e.procedure n))) [
@@ -63,18 +79,10 @@ module _ (s : Setting) (c : Compiled) where
         | None ↦ at
       ]
 
-  -- where a variable is set, its place is
-  abbrev pub set_by : List ℕ → ℕ → Command → Located → Located
-  set_by yielded cursor (Set n value) at = elim (number_given yielded value) [ Ok number ↦ set_number cursor n number at | Err refusal ↦ at ]
-  set_by yielded cursor command at = at
+  abbrev pub with_bytes : Located → List ℕ → ℕ → List ℕ → Option Located
+  with_bytes at name offset bytes = with_some (with_data s at.store name offset bytes) (λ store. Some record at { store = store })
 
   -- ---- how the run goes on
-
-  -- An unwinding gives the registers back as the activation had them, a cut restores none, and a return is to the youngest.
-  abbrev pub come_to : Command → Element → Holdings → Holdings
-  come_to (Unwind exit values) e h = unwound e.mark h
-  come_to (Cut to values) e h = cut_at e.mark.at h
-  come_to command e h = h
 
   abbrev pub landing_node : ℕ → ℕ → Landing → Option NodeId
   landing_node q site (Back values) = with_some (site_exits c.graphs q site) (λ exits. exits.normal)
@@ -84,15 +92,11 @@ module _ (s : Setting) (c : Compiled) where
   abbrev pub no_landing : Located → Located
   no_landing at = record at { store = over (Wrong WrongAlternates) at.store }
 
-  abbrev pub come_back : Command → ℕ → Store → Landing → Element → Located → Located
-  come_back command gone store landing e at = elim (landing_node e.procedure e.site landing) [
+  abbrev pub come_back : (Element → Holdings → Holdings) → ℕ → Landing → Element → Located → Located
+  come_back come gone landing e at = elim (landing_node e.procedure e.site landing) [
     | Some n ↦ record {
-      store = record (without gone at.store) {
-        log = store.log;
-        activations = with_site None (without gone at.store).activations;
-        status = Running;
-      };
-      holdings = come_to command e at.holdings;
+      store = record (without gone at.store) { activations = with_site None (without gone at.store).activations; status = Running };
+      holdings = come e at.holdings;
       procedure = e.procedure;
       node = n;
       carried = values_brought landing;
@@ -100,26 +104,38 @@ module _ (s : Setting) (c : Compiled) where
     | None ↦ no_landing at
   ]
 
-  abbrev pub resumed_by : Command → Transfer → Located → Located
-  resumed_by command (Stay way store) at = no_landing at
-  resumed_by command (Wait store) at = no_landing at
-  resumed_by command (Away gone store landing) at = elim (slice_get (listed at) gone) [
-    | Some e ↦ come_back command gone store landing e at
-    | None ↦ no_landing at
-  ]
-  resumed_by command (Over gone store) at = record at { store = over store.status at.store }
+  -- once so many of the youngest activations are gone
+  abbrev pub resumed_by : (Element → Holdings → Holdings) → ℕ → Landing → Located → Located
+  resumed_by come gone landing at = elim (slice_get (listed at) gone) [ Some e ↦ come_back come gone landing e at | None ↦ no_landing at ]
 
-  -- one command after the other, until one resumes or stops; at their end the run is stopped
-  abbrev pub commands_done : List ℕ → ℕ → List Command → Located → Located
-  commands_done yielded cursor [] at = record at { store = over (Ended Stopped) at.store }
-  commands_done yielded cursor (k ∷ ks) at = elim (asked s yielded cursor k (shown at)) [
-    | Ok reply ↦ elim reply [
-      | Then next store ↦ commands_done yielded next ks (set_by yielded cursor k (changed_as store at))
-      | Resumes transfer ↦ resumed_by k transfer at
-    ]
-    | Err refusal ↦ commands_done yielded cursor ks (changed_as (logged (refused_line refusal) at.store) at)
-  ]
+  abbrev pub exit_over : (Element → Holdings → Holdings) → Located → client.Located → Option exits.Exit → Option (Exit Located)
+  exit_over come at a exit = with_some exit (λ e.
+      Some record { widths = e.widths; resumed = λ values. resumed_by come a.younger (e.landing values) at })
+
+  -- ---- the client's answer
+
+  -- the program over places as one that can be asked
+  abbrev pub places_askable : Askable client.Located Located Located
+  places_askable = record {
+    chain = λ at. chain_behind s 0 (shown at);
+    running = λ at. chain_behind s 0 (shown at);
+    older = λ at a. chain_behind s (suc a.younger) (shown at);
+    shown = λ at. located_shown s (shown at);
+    with_variable = λ at a n value. set_number a.younger n value at;
+    with_data = with_bytes;
+    return_exit = λ at a n. exit_over returned_to at a (exits.return_exit a.procedure a.site n);
+    unwind_exit = λ at a n. exit_over unwound_to at a (exits.unwind_exit a.procedure a.site n);
+    cut_exit = λ at a value. with_some (cut_number s (shown at).activations a value) (λ k. exit_over cut_to at a (exits.continuation_exit a.procedure k));
+  }
+
+  -- how the run goes on, with this log before the answer's lines; the chain that the walk lists never breaks
+  abbrev pub left_at : List ℕ → Answer Located Located → Located
+  left_at log answer = logged_as (log ++ answer.text) (elim answer.left [
+    | command.Running after ↦ after
+    | command.Stopped at ↦ stopped at
+    | command.Torn b at ↦ stopped at
+  ])
 
   -- the client's answer to a yield of these values
   abbrev pub answered_at : List ℕ → Located → Located
-  answered_at yielded at = commands_done yielded 0 (commands_for yielded s.script) at
+  answered_at yielded at = left_at at.store.log (answer_to places_askable s.script yielded at)

@@ -2,6 +2,7 @@ pub mod Lists
 pub mod Keeping
 pub mod Places
 pub mod Samples
+pub mod AskedStores
 pub mod Shared
 pub mod Settling
 pub mod Positions
@@ -14,6 +15,7 @@ mod Commanding
 mod CallRows
 mod ErrorRows
 mod ClientRows
+mod AnswerRows
 mod LayoutRows
 mod RangeRows
 mod TokenRows

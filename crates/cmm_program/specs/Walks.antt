@@ -18,25 +18,29 @@ live_value p site values n = elim (is_live_at p site n) [ true ↦ Some (slice_i
 abbrev pub variables_shown : Proc → ℕ → List ℕ → ℕ → List VarInfo → List Shown
 variables_shown p site values n [] = []
 variables_shown p site values n (v ∷ vs) =
-    record { width = bits v.width; kind = v.kind; value = live_value p site values n } ∷ variables_shown p site values (suc n) vs
+    record { width = bits v.width; kind = v.kind; invariant = v.invariant; value = live_value p site values n } ∷ variables_shown p site values (suc n) vs
 
 abbrev pub spans_shown : Setting → Site → List Spanned
 spans_shown s site = map (λ span. record { token = span.0; value = constant_value s.program s.placement span.1 }) site.spans
 
-abbrev pub activation_shown : Setting → Suspended → ShownActivation
-activation_shown s a = record {
-  procedure = a.procedure.name;
-  site = a.number;
-  spans = spans_shown s a.site;
-  variables = variables_shown a.procedure a.number a.activation.variables 0 a.procedure.vars;
+-- an activation of a procedure at one of its sites, with these values of its variables
+abbrev pub site_shown : Setting → Proc → ℕ → Site → List ℕ → ShownActivation
+site_shown s p number site values = record {
+  procedure = p.name;
+  site = number;
+  spans = spans_shown s site;
+  variables = variables_shown p number values 0 p.vars;
 }
 
--- those of these activations that are suspended
+abbrev pub activation_shown : Setting → Suspended → ShownActivation
+activation_shown s a = site_shown s a.procedure a.number a.site a.activation.variables
+
+-- these activations, as far as they are suspended
 abbrev pub activations_shown : Setting → List Activation → List ShownActivation
 activations_shown s [] = []
 activations_shown s (a ∷ older) = elim (suspended_at s (a ∷ older)) [
   | Some here ↦ activation_shown s here ∷ activations_shown s older
-  | None ↦ activations_shown s older
+  | None ↦ []
 ]
 
 abbrev pub walk_of : Setting → Store → List ShownActivation

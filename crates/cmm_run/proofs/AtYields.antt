@@ -9,15 +9,15 @@ use Rattle.cmm_report.proofs.Shared.{appends_then, appends_then_front}
 use Rattle.cmm_script.specs.declared.script.Command.{Command}
 use Rattle.cmm_script.specs.declared.script.Script.{Script}
 use Rattle.cmm_script.specs.Lines.{yield_line}
-use Rattle.cmm_program.specs.Client.{commands_for}
+use Rattle.cmm_program.specs.Commands.{commands_for}
 use Rattle.cmm_program.specs.State as c
-use Rattle.cmm_execution.specs.Asking.{Break, Chain}
+use Rattle.cmm_program.specs.Asking.{Break, Chain, at_youngest}
 use Rattle.cmm_execution.specs.Changes.{at_pc}
-use Rattle.cmm_execution.specs.Commands.{answer_of}
+use Rattle.cmm_program.specs.Commands.{answer_of}
 use Rattle.cmm_execution.specs.Frames.{Element, Point, Found, Activation, Nothing, Broken, along, chain_from, chain_of, first_point, point_after}
 use Rattle.cmm_execution.specs.Laws.{KeepFrames}
 use Rattle.cmm_execution.specs.Machine as image
-use Rattle.cmm_execution.specs.Machine.{Launch, Run, Running, Ended, map_of, region_of, askable, yielded_at, youngest, left, yields, yielded, goes_on, step}
+use Rattle.cmm_execution.specs.Machine.{Launch, Run, Running, Ended, map_of, region_of, askable, yielded_at, left, yields, yielded, goes_on, step}
 use Rattle.cmm_execution.specs.Regions.{Region, values_in}
 use Rattle.cmm_execution.proofs.Shared.{chain_goes_on}
 use Rattle.cmm_run.specs.declared.machine.Machine.{Machine}
@@ -39,9 +39,10 @@ no_commands values script none = rw none refl
 abbrev stopped : List ℕ → Run → Run
 stopped values run = record run { log = run.log ++ yield_line values ++ []; status = Ended c.Stopped }
 
-yields_stop : (l : Launch) (values : List ℕ) (elements : List Element) (run : Run) → l.script.blocks ≡ [] → yields l values elements run ≡ stopped values run
-yields_stop l values elements run none =
-    ap (λ (commands : List Command). let a = answer_of (askable l.image (region_of l)) values [] (youngest elements) run.machine commands in
+yields_stop : (l : Launch) (values : List ℕ) (run : Run) → l.script.blocks ≡ [] → yields l values run ≡ stopped values run
+yields_stop l values run none =
+    let k = askable l.image (region_of l) in
+    ap (λ (commands : List Command). let a = answer_of k values [] (at_youngest (k.running run.machine)) run.machine commands in
     left a.left record run { log = run.log ++ yield_line values ++ a.text }) (no_commands values l.script none)
 
 yielded_by : (r : Region) (s : State) (e : Element) (older : List Element) (o : Option ℕ) → e.site.yield_values ≡ o →
@@ -55,11 +56,11 @@ stops_by : (l : Launch) (run : Run) (on : Point → Chain Element) (values : Lis
 stops_by l run on values (Activation e) none is =
     let older = (on (point_after run.machine.memory e)).activations in
     let same : values_in (region_of l) run.machine (count_of e.site.yield_values) ≡ values = cc is in
-    yields_stop l (yielded_at (region_of l) run.machine (e ∷ older)) (e ∷ older) run none
+    yields_stop l (yielded_at (region_of l) run.machine (e ∷ older)) run none
     ∙ ap (λ (vs : List ℕ). stopped vs run) (yielded_by (region_of l) run.machine e older e.site.yield_values refl ∙ same)
 stops_by l run on values Nothing none is =
     let same : ◌≡◌ {A = List ℕ} [] values = cc is in
-    yields_stop l [] [] run none ∙ ap (λ (vs : List ℕ). stopped vs run) same
+    yields_stop l [] run none ∙ ap (λ (vs : List ℕ). stopped vs run) same
 stops_by l run on values (Broken b) none is = absurd (cc is)
 
 tears_by : (l : Launch) (run : Run) (on : Point → Chain Element) (b : Break) (f : Found) →

@@ -4,7 +4,7 @@ use Rattle.rv_table.specs.Machine.{State}
 use Rattle.cmm_outside.specs.Faults.{Rose}
 use Rattle.cmm_outside.specs.Output.{Appends, AppendsFront}
 use Rattle.cmm_script.specs.Lines.{yield_line}
-use Rattle.cmm_execution.specs.Asking.{Break}
+use Rattle.cmm_program.specs.Asking.{Break}
 use Rattle.cmm_execution.specs.Frames.{Found, Activation, Nothing, Broken, found_at, first_point}
 use Rattle.cmm_execution.specs.Machine.{Launch, region_of}
 use Rattle.cmm_execution.specs.Regions.{Region, values_in}

@@ -11,10 +11,10 @@ use Rattle.cmm_program.specs.declared.statement.Form.TheVariants as f
 use Rattle.cmm_program.specs.declared.procedure.Proc.{Proc}
 use Rattle.cmm_program.specs.State.{Setting, Activation, Store, Waiting}
 use Rattle.cmm_program.specs.Exits.{Back, Resumed}
-use Rattle.cmm_program.proofs.Shared.{num, local, code, op, is, continuation, call_site, yield_site, procedure, program, frame, frame_with, sample, setting, no_client, opened}
-use Rattle.cmm_execution.specs.Commands as client
-use Rattle.cmm_execution.specs.Commands.{Answer, answer_of}
-use Rattle.cmm_execution.specs.Clients.{Landed, store_askable, at_number, AreSuspended}
+use Rattle.cmm_program.proofs.Samples.{num, local, code, op, is, continuation, call_site, yield_site, procedure, program, frame, frame_with, sample, setting, no_client, opened}
+use Rattle.cmm_program.specs.Commands as client
+use Rattle.cmm_program.specs.Commands.{Answer, answer_of}
+use Rattle.cmm_program.specs.Client.{Landed, store_askable, at_number}
 
 -- main() { bits64 r; r = f(k) also cuts to k; return (r); continuation k(r): return (r + 1); }
 abbrev told-main : Proc
@@ -50,15 +50,8 @@ yielding = record {
   status = Waiting (1 ∷ []);
 }
 
--- both are suspended, as the law wants it
-both_suspended : AreSuspended told yielding.activations
-both_suspended = (
-  record { here = record { activation = youngest; procedure = told-f; number = 0; site = yield_site [] 1 }; is = refl; cuts = refl },
-  (record { here = record { activation = oldest; procedure = told-main; number = 0; site = record (call_site (0 ∷ [])) { cuts = 0 ∷ [] } }; is = refl; cuts = refl }, tt),
-)
-
 abbrev answer : List Command → Answer Store Landed
-answer commands = answer_of (store_askable told) (1 ∷ []) [] (at_number told 0 yielding) yielding commands
+answer commands = answer_of (store_askable told) (1 ∷ []) [] record { activation = at_number told 0 yielding } yielding commands
 
 abbrev says : List (List ℕ) → List ℕ
 says lines = flat_map line lines
