@@ -5,7 +5,7 @@ use Rattle.std.proofs.lemmas.Bool.{cases_lt}
 use Rattle.std.proofs.lemmas.Bool.Decides.{nat_tests}
 use Rattle.std.proofs.lemmas.List.{length-take-le, take_more}
 use Rattle.std.proofs.lemmas.Option.{slice_get_within}
-use Rattle.cmm_chain.specs.Contents.{is_callee_saves, is_temporary}
+use Rattle.cmm_abi.specs.Registers.{is_callee_saves, is_temporary, is_scratch}
 use Rattle.cmm_chain.specs.declared.frame.Frame.{Frame}
 use Rattle.cmm_chain.specs.declared.frame.Location.TheVariants.{Slot, Saved, Temp}
 use Rattle.rv_asm.proofs.Shared.{reaches_then, reaches_weaker, single_does}
@@ -18,7 +18,7 @@ use Rattle.rv_table.specs.Machine.{MemoryMap, State, is_accessible, loaded, regi
 use Rattle.rv_table.specs.Words.{modulo, sum}
 use Rattle.rv_table.specs.declared.instruction.Instr.TheVariants.{Addi, Sd}
 use Rattle.cmm_changes.proofs.Shared.{adds_none, adds_then, adds_weaker, leads_set, leads_sound, leads_store, leads_then, leads_turns, leads_weaker, reaches_more, reaches_sound, runs_none, runs_of, turns_weaker}
-use Rattle.cmm_changes.specs.Changes.{Keeps, Sets, Writes, is_scratch}
+use Rattle.cmm_changes.specs.Changes.{Keeps, Sets, Writes}
 use Rattle.cmm_changes.specs.Pieces.{Adds, Always, BeginsQuietly, Leads}
 use Rattle.cmm_changes.specs.Ways.{Turns}
 use Rattle.cmm_select.specs.Operands.{Brings, BringsOperand, CanBringOperand, most_for, operand_at}

@@ -13,16 +13,12 @@ ghost use Rattle.cmm_calls.specs.inside.Pairs.{GoesToPair};
 
 use crate::exit::leave;
 use crate::giving::give;
-use crate::place::ZERO;
-use crate::word::{FRAME, HELP, RETURN};
+use cmm_abi::registers::{FRAME, HELPER, RETURN_ADDRESS, SECOND_SCRATCH, ZERO};
 use cmm_chain::Frame;
 use cmm_select::{Operand, bring_operand};
 use rv_asm::{Asm, Label};
 use rv_table::Instr;
 use std::alloc::AllocError;
-
-/// Where an address waits while values move.
-const WAITING: u8 = 7;
 
 /// Calls: values go out, and control goes to a label. The site, a label that has no place yet, is placed at the return address. No operand
 /// may be a register to which an earlier value goes. An error is want of memory, and then some of the instructions may be there.
@@ -70,11 +66,11 @@ pub fn call_by(
     ensures calls { OnOk result (Adds (most_for to.now + (12 * length values.now + 1)) asm.old.parts asm.new.parts (CallsBy frame.now to.now values.now site)) }
     ensures placed { OnOk result (asm.new.labels ≡ slice_set asm.old.labels site.number (Inner true)) }
 {
-    bring_operand(asm, to, WAITING)?;
+    bring_operand(asm, to, SECOND_SCRATCH)?;
     give(asm, frame, values)?;
     asm.emit(Instr::Jalr {
-        rd: RETURN,
-        rs1: WAITING,
+        rd: RETURN_ADDRESS,
+        rs1: SECOND_SCRATCH,
         imm: 0,
     })?;
     asm.place(site);
@@ -100,12 +96,12 @@ pub fn jump_by(
     ensures jumps { OnOk result (Adds (most_for to.now + (parting_cost frame.now values.now + 1)) asm.old.parts asm.new.parts (λ x from on. JumpsBy frame.now to.now values.now x from)) }
     ensures labels { asm.new.labels ≡ asm.old.labels }
 {
-    bring_operand(asm, to, WAITING)?;
+    bring_operand(asm, to, SECOND_SCRATCH)?;
     give(asm, frame, values)?;
     leave(asm, frame)?;
     asm.emit(Instr::Jalr {
         rd: ZERO,
-        rs1: WAITING,
+        rs1: SECOND_SCRATCH,
         imm: 0,
     })?;
     Ok(())
@@ -137,7 +133,7 @@ pub fn cut(asm: &mut Asm, frame: &Frame, to: &Operand, values: &[Operand]) -> Re
     ensures cuts { OnOk result (Adds (most_for to.now + (12 * length values.now + 3)) asm.old.parts asm.new.parts (λ x from on. CutsTo frame.now to.now values.now x from)) }
     ensures labels { asm.new.labels ≡ asm.old.labels }
 {
-    bring_operand(asm, to, WAITING)?;
+    bring_operand(asm, to, SECOND_SCRATCH)?;
     give(asm, frame, values)?;
     go_to_pair(asm)?;
     Ok(())
@@ -149,18 +145,18 @@ fn go_to_pair(asm: &mut Asm) -> Result<(), AllocError>
     ensures labels { asm.new.labels ≡ asm.old.labels }
 {
     asm.emit(Instr::Ld {
-        rd: HELP,
-        rs1: WAITING,
+        rd: HELPER,
+        rs1: SECOND_SCRATCH,
         imm: 0,
     })?;
     asm.emit(Instr::Ld {
         rd: FRAME,
-        rs1: WAITING,
+        rs1: SECOND_SCRATCH,
         imm: 8,
     })?;
     asm.emit(Instr::Jalr {
         rd: ZERO,
-        rs1: HELP,
+        rs1: HELPER,
         imm: 0,
     })?;
     Ok(())

@@ -10,8 +10,9 @@ ghost use Rattle.cmm_calls.specs.Frames.{CanBeMade};
 ghost use Rattle.cmm_calls.specs.Values.{value_in};
 ghost use Rattle.cmm_calls.specs.inside.Taking.{CanCopyIn};
 
-use crate::room::NUMBER;
-use crate::taking::{FIRST_VALUE, IN_REGISTERS, load_value, take_value};
+use crate::taking::{load_value, take_value};
+use cmm_abi::registers::{FIRST_SCRATCH, FIRST_VALUE};
+use cmm_abi::values::IN_REGISTERS;
 use cmm_chain::Frame;
 use cmm_select::{Destination, put_global};
 use rv_asm::{Asm, Label};
@@ -65,6 +66,6 @@ fn copy_to_global(asm: &mut Asm, index: u32, of: Label) -> Result<(), AllocError
         return Ok(());
     }
     asm.emit(load_value(index))?;
-    put_global(asm, NUMBER, of)?;
+    put_global(asm, FIRST_SCRATCH, of)?;
     Ok(())
 }

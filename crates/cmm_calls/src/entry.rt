@@ -10,10 +10,11 @@ ghost use Rattle.cmm_calls.specs.Values.{Begins, are_taken_first};
 ghost use Rattle.cmm_calls.specs.inside.Pairs.{CanReachPair};
 
 use crate::place::zero_all;
-use crate::room::{NUMBER, check_room, move_down};
+use crate::room::{check_room, move_down};
 use crate::saved::save_all;
 use crate::taking::take;
-use crate::word::{FRAME, RETURN, save};
+use crate::word::save;
+use cmm_abi::registers::{FIRST_SCRATCH, FRAME, RETURN_ADDRESS};
 use cmm_chain::{Frame, Location};
 use rv_asm::{Asm, Label};
 use std::alloc::AllocError;
@@ -77,7 +78,7 @@ fn make_frame(asm: &mut Asm, frame: &Frame, landings: &[Label]) -> Result<(), Al
     ensures labels { asm.new.labels ≡ asm.old.labels }
 {
     move_down(asm, frame.size)?;
-    save(asm, RETURN, frame.return_at)?;
+    save(asm, RETURN_ADDRESS, frame.return_at)?;
     save_all(asm, frame)?;
     write_pairs(asm, frame, landings)?;
     Ok(())
@@ -105,8 +106,8 @@ fn write_pair(asm: &mut Asm, offset: u32, landing: Label) -> Result<(), AllocErr
     ensures writes { OnOk result (Adds 8 asm.old.parts asm.new.parts (λ x from to. Runs 0 8 (CanReachPair offset) (λ s t. Stores ((offset, x.at landing.number) ∷ (offset + 8, s.registers 2) ∷ []) s t) x from to)) }
     ensures labels { asm.new.labels ≡ asm.old.labels }
 {
-    asm.address(NUMBER, landing)?;
-    save(asm, NUMBER, offset)?;
+    asm.address(FIRST_SCRATCH, landing)?;
+    save(asm, FIRST_SCRATCH, offset)?;
     save(asm, FRAME, offset + 8)?;
     Ok(())
 }

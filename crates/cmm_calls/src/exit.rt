@@ -13,7 +13,8 @@ ghost use Rattle.cmm_calls.specs.Values.{JumpsTo, ReturnsValues, are_given_first
 use crate::giving::give;
 use crate::room::move_up;
 use crate::saved::restore_all;
-use crate::word::{RETURN, restore};
+use crate::word::restore;
+use cmm_abi::registers::{RETURN_ADDRESS, ZERO};
 use cmm_chain::Frame;
 use cmm_select::{Operand, go_to};
 use rv_asm::{Asm, Label};
@@ -27,7 +28,7 @@ pub fn leave(asm: &mut Asm, frame: &Frame) -> Result<(), AllocError>
     ensures leaves { OnOk result (Adds (leave_cost frame.now) asm.old.parts asm.new.parts (Leads (leave_cost frame.now) (HasFrame frame.now.size) (λ s t. Leaves frame.now s t × LetsWait s t))) }
     ensures labels { asm.new.labels ≡ asm.old.labels }
 {
-    restore(asm, RETURN, frame.return_at)?;
+    restore(asm, RETURN_ADDRESS, frame.return_at)?;
     restore_all(asm, frame)?;
     move_up(asm, frame.size)?;
     Ok(())
@@ -93,8 +94,8 @@ fn jump_back(exit: u32) -> Instr
     ensures valid { IsValid result }
 {
     Instr::Jalr {
-        rd: 0,
-        rs1: RETURN,
+        rd: ZERO,
+        rs1: RETURN_ADDRESS,
         imm: (4 * exit) as i32,
     }
 }

@@ -10,8 +10,8 @@ ghost use Rattle.cmm_calls.specs.Frames.{CanBeMade};
 ghost use Rattle.cmm_calls.specs.Values.{Gives, HasRegion, Passes, are_given_first, is_operand};
 ghost use Rattle.cmm_calls.specs.inside.Giving.{CanGive, GivesValue};
 
-use crate::room::{NUMBER, REGION};
-use crate::taking::{FIRST_VALUE, IN_REGISTERS};
+use cmm_abi::registers::{FIRST_SCRATCH, FIRST_VALUE, REGION};
+use cmm_abi::values::IN_REGISTERS;
 use cmm_chain::Frame;
 use cmm_select::laws::code_is_short;
 use cmm_select::{Operand, bring_operand};
@@ -44,7 +44,7 @@ fn give_value(asm: &mut Asm, index: u32, value: &Operand) -> Result<(), AllocErr
     ensures labels { asm.new.labels ≡ asm.old.labels }
 {
     code_is_short();
-    bring_operand(asm, value, NUMBER)?;
+    bring_operand(asm, value, FIRST_SCRATCH)?;
     if index < IN_REGISTERS {
         asm.emit(to_register(index))?;
         return Ok(());
@@ -61,7 +61,7 @@ fn to_register(index: u32) -> Instr
 {
     Instr::Addi {
         rd: FIRST_VALUE + index as u8,
-        rs1: NUMBER,
+        rs1: FIRST_SCRATCH,
         imm: 0,
     }
 }
@@ -75,7 +75,7 @@ fn to_area(index: u32) -> Instr
 {
     Instr::Sd {
         rs1: REGION,
-        rs2: NUMBER,
+        rs2: FIRST_SCRATCH,
         imm: (8 * (index - IN_REGISTERS)) as i32,
     }
 }

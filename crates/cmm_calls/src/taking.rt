@@ -12,17 +12,12 @@ ghost use Rattle.cmm_calls.specs.Values.{HasRegion, Passes, Takes, are_taken_fir
 ghost use Rattle.cmm_calls.specs.inside.Taking.{CanTake};
 
 use crate::place::put;
-use crate::room::{NUMBER, REGION};
+use cmm_abi::registers::{FIRST_SCRATCH, FIRST_VALUE, REGION};
+use cmm_abi::values::IN_REGISTERS;
 use cmm_chain::{Frame, Location};
 use rv_asm::Asm;
 use rv_table::Instr;
 use std::alloc::AllocError;
-
-/// How many values travel in registers.
-pub(crate) const IN_REGISTERS: u32 = 8;
-
-/// The register of the first value.
-pub(crate) const FIRST_VALUE: u8 = 10;
 
 /// Takes the values that control brings, each to its place, the first one first. No place may be a register in which a later value
 /// comes. An error is want of memory, and then some of the instructions may be there.
@@ -52,7 +47,7 @@ pub(crate) fn take_value(asm: &mut Asm, index: u32, to: Location) -> Result<(), 
         return Ok(());
     }
     asm.emit(load_value(index))?;
-    put(asm, NUMBER, to)?;
+    put(asm, FIRST_SCRATCH, to)?;
     Ok(())
 }
 
@@ -64,7 +59,7 @@ pub(crate) fn load_value(index: u32) -> Instr
     ensures valid { IsValid result }
 {
     Instr::Ld {
-        rd: NUMBER,
+        rd: FIRST_SCRATCH,
         rs1: REGION,
         imm: (8 * (index - IN_REGISTERS)) as i32,
     }

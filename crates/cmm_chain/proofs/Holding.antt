@@ -2,7 +2,8 @@
 use Rattle.std.proofs.Common.{◌≡◌, ℕ, ◌<◌, List, Some, arith, refl, ap}
 use Rattle.std.proofs.lemmas.Bool.Decides.{nat_tests}
 use Rattle.cmm_chain.specs.declared.frame.Location.TheVariants.{Slot, Saved, Temp}
-use Rattle.cmm_chain.specs.Contents.{Content, Number, is_callee_saves}
+use Rattle.cmm_abi.specs.Registers.{is_callee_saves}
+use Rattle.cmm_chain.specs.Contents.{Content, Number}
 use Rattle.cmm_chain.specs.Plans.{Plan, saved_at, saved_offsets, fixed_offsets, is_fresh, is_word_in}
 use Rattle.cmm_chain.specs.Chain.{Suspension, behind}
 use Rattle.cmm_chain.specs.Running.{Holdings, put_in, IsFramed}

@@ -2,7 +2,8 @@
 use Rattle.std.proofs.Common.{◌≡◌, ◌⊎◌, inl, inr, ℕ, Bool, true, false, Option, Some, None, arith, refl, ◌∙◌}
 use Rattle.cmm_chain.specs.declared.frame.Location.{Location}
 use Rattle.cmm_chain.specs.declared.frame.Location.TheVariants.{Slot, Saved, Temp}
-use Rattle.cmm_chain.specs.Contents.{Number, Contents, is_callee_saves}
+use Rattle.cmm_abi.specs.Registers.{is_callee_saves}
+use Rattle.cmm_chain.specs.Contents.{Number, Contents}
 use Rattle.cmm_chain.specs.Plans.{Plan, saved_at}
 use Rattle.cmm_chain.specs.Chain.{Point, Suspension, behind, found, restored}
 use Rattle.cmm_chain.specs.Running.{Holdings, held, called, lasts}

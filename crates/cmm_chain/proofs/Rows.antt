@@ -6,7 +6,8 @@ use Rattle.std.proofs.lemmas.Bool.Decides.{nat_tests}
 use Rattle.cmm_chain.specs.declared.frame.Frame.{Frame}
 use Rattle.cmm_chain.specs.declared.frame.Location.{Location}
 use Rattle.cmm_chain.specs.declared.frame.Location.TheVariants.{Slot, Saved, Temp}
-use Rattle.cmm_chain.specs.Contents.{Content, Unknown, Number, ReturnTo, LastReturn, Contents, is_callee_saves}
+use Rattle.cmm_abi.specs.Registers.{is_callee_saves}
+use Rattle.cmm_chain.specs.Contents.{Content, Unknown, Number, ReturnTo, LastReturn, Contents}
 use Rattle.cmm_chain.specs.Plans.{Plan, IsPlanned, is_laid, is_place, saved_at}
 use Rattle.cmm_chain.specs.Chain.{Point, Suspension, IsChain, IsSuspended, behind}
 use Rattle.cmm_chain.specs.Running.{Holdings, IsFramed, held, put_in, entered, called, left, cut_at, none_known}

@@ -5,7 +5,8 @@ use Rattle.std.proofs.lemmas.Bool.Decides.{nat_tests}
 use Rattle.cmm_chain.specs.declared.frame.Frame.{Frame}
 use Rattle.cmm_chain.specs.declared.frame.Location.{Location}
 use Rattle.cmm_chain.specs.declared.frame.Location.TheVariants.{Slot, Saved, Temp}
-use Rattle.cmm_chain.specs.Contents.{Content, Number, Contents, with_content, is_callee_saves}
+use Rattle.cmm_abi.specs.Registers.{is_callee_saves}
+use Rattle.cmm_chain.specs.Contents.{Content, Number, Contents, with_content}
 use Rattle.cmm_chain.specs.Plans.{Plan, IsPlanned, saved_at, saved_offsets, pair_offsets, fixed_offsets, is_fresh, is_word_in, is_place}
 use Rattle.cmm_chain.specs.Chain.{Point, Suspension, IsChain, IsSuspended, behind, found}
 use Rattle.cmm_chain.specs.Running.{Holdings, IsFramed, none_known}

@@ -4,7 +4,8 @@ use Rattle.std.specs.Prelude.{slice_get}
 use Rattle.std.specs.List.{AllZip}
 use Rattle.cmm_chain.specs.declared.frame.Location.{Location}
 use Rattle.cmm_chain.specs.declared.frame.Location.TheVariants.{Slot, Saved, Temp}
-use Rattle.cmm_chain.specs.Contents.{ReturnTo, LastReturn, Contents, is_callee_saves}
+use Rattle.cmm_abi.specs.Registers.{is_callee_saves}
+use Rattle.cmm_chain.specs.Contents.{ReturnTo, LastReturn, Contents}
 use Rattle.cmm_chain.specs.Plans.{Plan, saved_at}
 use Rattle.cmm_chain.specs.Chain.{Point, Suspension, IsChain, behind, found, restored}
 use Rattle.cmm_chain.specs.Running.{Holdings}

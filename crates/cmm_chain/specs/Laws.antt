@@ -3,7 +3,8 @@ use Rattle.std.specs.Prelude.{◌≡◌, ◌≢◌, ◌⊎◌, ℕ, ◌+◌, ◌
 use Rattle.std.specs.List.{AllZip}
 use Rattle.cmm_chain.specs.declared.frame.Location.{Location}
 use Rattle.cmm_chain.specs.declared.frame.Location.TheVariants.{Slot}
-use Rattle.cmm_chain.specs.Contents.{Content, Number, Contents, is_callee_saves}
+use Rattle.cmm_abi.specs.Registers.{is_callee_saves}
+use Rattle.cmm_chain.specs.Contents.{Content, Number, Contents}
 use Rattle.cmm_chain.specs.Plans.{Plan, IsPlanned, is_laid, is_place, saved_at}
 use Rattle.cmm_chain.specs.Chain.{Point, Suspension, IsChain, chain_size}
 use Rattle.cmm_chain.specs.Running.{Holdings, IsFramed, HasValues, held, put_in, entered, called, left, with_number, lasts}

@@ -4,7 +4,7 @@ use Rattle.std.specs.List.{list_all}
 use Rattle.cmm_chain.specs.declared.frame.Frame.{Frame}
 use Rattle.cmm_chain.specs.declared.frame.Location.{Location}
 use Rattle.cmm_chain.specs.declared.frame.Location.TheVariants.{Slot, Saved, Temp}
-use Rattle.cmm_chain.specs.Contents.{is_callee_saves, is_temporary}
+use Rattle.cmm_abi.specs.Registers.{is_callee_saves, is_temporary}
 
 pub record Plan : Type 0 where
   -- which numbers are those of procedures

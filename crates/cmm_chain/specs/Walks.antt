@@ -2,7 +2,8 @@
 use Rattle.std.specs.Prelude.{◌≡◌, ℕ, zero, suc, ◌+◌, true, false, List, [], ◌∷◌, Option, Some, None}
 use Rattle.cmm_chain.specs.declared.frame.Location.{Location}
 use Rattle.cmm_chain.specs.declared.frame.Location.TheVariants.{Slot, Saved, Temp}
-use Rattle.cmm_chain.specs.Contents.{Content, Unknown, Number, ReturnTo, Contents, with_content, is_callee_saves}
+use Rattle.cmm_abi.specs.Registers.{is_callee_saves}
+use Rattle.cmm_chain.specs.Contents.{Content, Unknown, Number, ReturnTo, Contents, with_content}
 use Rattle.cmm_chain.specs.Plans.{Plan, saved_at}
 use Rattle.cmm_chain.specs.Chain.{Point, Suspension}
 use Rattle.cmm_chain.specs.Running.{Holdings, with_number}

@@ -10,7 +10,8 @@ use Rattle.rv_table.specs.Bounds.{IsSound}
 use Rattle.rv_table.specs.Machine.{MemoryMap, State, Asks, instruction_step, steps}
 use Rattle.rv_table.specs.declared.request.Request.{Request}
 use Rattle.cmm_changes.proofs.Following.{gives_sets, reaches_more, reaches_sound}
-use Rattle.cmm_changes.specs.Changes.{Keeps, Sets, is_scratch}
+use Rattle.cmm_abi.specs.Registers.{is_scratch}
+use Rattle.cmm_changes.specs.Changes.{Keeps, Sets}
 use Rattle.cmm_changes.specs.Pieces.{Always, BeginsQuietly, Leads}
 use Rattle.cmm_changes.specs.Ways.{Turns}
 

@@ -2,12 +2,12 @@
 use Rattle.std.proofs.Common.{◌≡◌, ◌≢◌, ℕ, ◌+◌, ◌*◌, ◌%◌, ◌<◌, ◌^◌, refl, sym, ◌∙◌, ap, subst, arith}
 use Rattle.std.specs.Prelude.{◌==◌, Bool, true, false, IsTrue}
 use Rattle.std.proofs.lemmas.Bool.Decides.{nat_tests}
-use Rattle.cmm_chain.specs.Contents.{is_callee_saves, is_temporary}
+use Rattle.cmm_abi.specs.Registers.{is_callee_saves, is_temporary, is_scratch}
 use Rattle.cmm_chain.specs.declared.frame.Location.{Location}
 use Rattle.cmm_chain.specs.declared.frame.Location.TheVariants.{Slot, Saved, Temp}
 use Rattle.rv_table.proofs.Shared.{loaded-same}
 use Rattle.rv_table.specs.Machine.{MemoryMap, State, is_accessible, loaded}
-use Rattle.cmm_changes.specs.Changes.{CanReach, IsPlace, Keeps, Puts, Sets, is_scratch, read_at}
+use Rattle.cmm_changes.specs.Changes.{CanReach, IsPlace, Keeps, Puts, Sets, read_at}
 use Rattle.cmm_changes.specs.Laws.{KeptIsReachable, KeptIsRead, PutIsRead}
 
 pub put_is_read : PutIsRead

@@ -6,7 +6,8 @@ use Rattle.rv_table.specs.declared.request.Request.TheVariants.{GetByte}
 use Rattle.cmm_changes.specs.Accesses.{CanReachGlobal, PutsGlobal, global_at}
 use Rattle.cmm_changes.specs.Requests.{IsAnswered, is_of_request}
 use Rattle.rv_table.specs.Registers.{with_register}
-use Rattle.cmm_changes.specs.Changes.{CanReach, Puts, is_scratch, read_at}
+use Rattle.cmm_abi.specs.Registers.{is_scratch}
+use Rattle.cmm_changes.specs.Changes.{CanReach, Puts, read_at}
 
 abbrev map : MemoryMap
 map = record { code = []; data_length = 16; stack_size = 64 }

@@ -1,13 +1,10 @@
 -- What pieces of code change, said of the states of the machine before and after: RISC-V ISA Volume I, registers and memory.
 use Rattle.std.specs.Prelude.{◌≡◌, ℕ, ◌+◌, ◌<◌, ◌^◌, ◌==◌, ◌&&◌, ◌||◌, nat_le, Bool, true, false, IsTrue}
-use Rattle.cmm_chain.specs.Contents.{is_callee_saves, is_temporary}
+use Rattle.cmm_abi.specs.declared.registers.TheConstants.{FRAME}
+use Rattle.cmm_abi.specs.Registers.{is_callee_saves, is_scratch, is_temporary}
 use Rattle.cmm_chain.specs.declared.frame.Location.{Location}
 use Rattle.cmm_chain.specs.declared.frame.Location.TheVariants.{Slot, Saved, Temp}
 use Rattle.rv_table.specs.Machine.{MemoryMap, State, is_accessible, loaded, stored}
-
--- registers 5 to 7, which code uses between two nodes and nothing keeps
-abbrev pub is_scratch : ℕ → Bool
-is_scratch r = nat_le 5 r && nat_le r 7
 
 -- all registers but these are as they were
 abbrev pub KeepsBut : (ℕ → Bool) → State → State → Type 0
@@ -39,13 +36,13 @@ IsPlace (Temp r) = IsTrue (is_temporary r)
 
 -- what a place has
 abbrev pub read_at : Location → State → ℕ
-read_at (Slot o) s = loaded s.memory (s.registers 2 + o) 8
+read_at (Slot o) s = loaded s.memory (s.registers FRAME + o) 8
 read_at (Saved r) s = s.registers r
 read_at (Temp r) s = s.registers r
 
 -- instructions reach a place: the eight bytes of a slot may be loaded and stored
 abbrev pub CanReach : Location → MemoryMap → State → Type 0
-CanReach (Slot o) m s = (s.registers 2 + o < 2 ^ 64) × IsTrue (is_accessible m (s.registers 2 + o) 8)
+CanReach (Slot o) m s = (s.registers FRAME + o < 2 ^ 64) × IsTrue (is_accessible m (s.registers FRAME + o) 8)
 CanReach (Saved r) m s = Unit {0}
 CanReach (Temp r) m s = Unit {0}
 
@@ -54,6 +51,6 @@ abbrev pub PutsRegister : ℕ → ℕ → State → State → Type 0
 PutsRegister r n s t = (t.registers r ≡ n) × KeepsBut (λ k. (k == r) || is_scratch k) s t × (t.memory ≡ s.memory)
 
 abbrev pub Puts : Location → ℕ → State → State → Type 0
-Puts (Slot o) n s t = Writes (s.registers 2 + o) 8 n s t
+Puts (Slot o) n s t = Writes (s.registers FRAME + o) 8 n s t
 Puts (Saved r) n s t = PutsRegister r n s t
 Puts (Temp r) n s t = PutsRegister r n s t

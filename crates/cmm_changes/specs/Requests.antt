@@ -1,23 +1,25 @@
 -- Pieces of code that ask once: a byte is put, or the input's next one is taken.
 use Rattle.std.specs.Prelude.{◌≡◌, ℕ, ◌+◌, ◌<◌, ◌^◌, ◌==◌, ◌||◌, Bool}
+use Rattle.cmm_abi.specs.declared.registers.TheConstants.{REQUEST_VALUE}
 use Rattle.rv_asm.specs.Parts.{Code}
 use Rattle.rv_asm.specs.Reaching.{Reaches}
 use Rattle.rv_table.specs.Bounds.{IsSound}
 use Rattle.rv_table.specs.Machine.{MemoryMap, State, Asks, instruction_step, with_set}
 use Rattle.rv_table.specs.declared.request.Request.{Request}
 use Rattle.rv_table.specs.declared.request.Request.TheVariants.{PutByte, GetByte}
-use Rattle.cmm_changes.specs.Changes.{KeepsBut, is_scratch}
+use Rattle.cmm_abi.specs.Registers.{is_scratch}
+use Rattle.cmm_changes.specs.Changes.{KeepsBut}
 use Rattle.cmm_changes.specs.Pieces.{BeginsQuietly}
 
 -- the registers that a request uses: register 10 besides the scratch registers
 abbrev pub is_of_request : ℕ → Bool
-is_of_request r = (r == 10) || is_scratch r
+is_of_request r = (r == REQUEST_VALUE) || is_scratch r
 
 -- the state behind a request that is answered: control goes on behind it, and a byte that is taken is in register 10, where all ones stand for
 -- the end of the input; the others are not answered in this way
 abbrev pub IsAnswered : Request → State → State → Type 0
 IsAnswered (PutByte byte) s t = t ≡ record s { pc = s.pc + 4 }
-IsAnswered GetByte s t = (n : ℕ) × (n < 2 ^ 64) × (t ≡ with_set s 10 n)
+IsAnswered GetByte s t = (n : ℕ) × (n < 2 ^ 64) × (t ≡ with_set s REQUEST_VALUE n)
 IsAnswered _ s t = Unit {0}
 
 -- nothing is changed but the registers of a request

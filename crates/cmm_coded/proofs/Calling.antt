@@ -31,7 +31,8 @@ use Rattle.cmm_graph.specs.Paths.{node_of}
 use Rattle.cmm_graph.specs.Ranges.{IsValid, is_entry}
 use Rattle.cmm_graph.specs.Values.{operand_value, passed}
 use Rattle.cmm_changes.proofs.Shared.{reaches_more, reaches_sound}
-use Rattle.cmm_changes.specs.Changes.{Keeps, Sets, is_scratch}
+use Rattle.cmm_abi.specs.Registers.{is_scratch}
+use Rattle.cmm_changes.specs.Changes.{Keeps, Sets}
 use Rattle.cmm_select.specs.declared.operand.Operand.{Operand as CodeOperand}
 use Rattle.cmm_select.specs.Operands.{Brings, most_for, operand_at}
 use Rattle.cmm_calls.specs.Calls.{Calls, CallsBy, JumpsBy}

@@ -29,7 +29,7 @@ use Rattle.cmm_graph.specs.Paths.{node_of}
 use Rattle.cmm_graph.specs.Ranges.{IsValid, is_copy_in}
 use Rattle.cmm_graph.specs.Values.{operand_value, passed}
 use Rattle.cmm_changes.proofs.Shared.{reaches_more, reaches_sound}
-use Rattle.cmm_changes.specs.Changes.{is_scratch}
+use Rattle.cmm_abi.specs.Registers.{is_scratch}
 use Rattle.cmm_select.specs.Operands.{operand_at}
 use Rattle.cmm_calls.specs.Calls.{GivesAndMoves, HasPair}
 use Rattle.cmm_calls.specs.Frames.{HasFrame}

@@ -3,7 +3,7 @@ use Rattle.std.proofs.Common.{◌≡◌, ℕ, ◌+◌, ◌%◌, ◌≤◌, refl,
 use Rattle.std.specs.Prelude.{◌==◌}
 use Rattle.std.specs.List.{list_all}
 use Rattle.std.proofs.lemmas.Bool.Decides.{nat_tests}
-use Rattle.cmm_chain.specs.Contents.{is_callee_saves}
+use Rattle.cmm_abi.specs.Registers.{is_callee_saves}
 use Rattle.cmm_chain.specs.Plans.{saved_in}
 use Rattle.rv_table.specs.Machine.{State}
 use Rattle.cmm_chain.specs.Running.{Holdings}

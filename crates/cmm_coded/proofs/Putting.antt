@@ -19,7 +19,7 @@ use Rattle.cmm_graph.specs.declared.node.NodeKind.TheVariants.{Host}
 use Rattle.cmm_graph.specs.declared.graph.Graph.{Graph}
 use Rattle.cmm_graph.specs.Ranges.{IsValid, is_host, is_kind, is_step, leads_to}
 use Rattle.cmm_graph.specs.Values.{operand_value}
-use Rattle.cmm_chain.specs.Contents.{is_callee_saves, is_temporary}
+use Rattle.cmm_abi.specs.Registers.{is_callee_saves, is_temporary}
 use Rattle.cmm_chain.specs.Running.{Holdings}
 use Rattle.cmm_changes.proofs.Shared.{reaches_more, reaches_sound, sound_behind}
 use Rattle.cmm_changes.specs.Requests.{KeepsAsking, is_of_request}

@@ -7,7 +7,7 @@ use Rattle.rv_asm.specs.declared.part.Label.{Label}
 use Rattle.rv_asm.specs.declared.part.Part.TheVariants.{Call}
 use Rattle.rv_table.specs.declared.request.Request.TheVariants.{End}
 use Rattle.cmm_changes.proofs.Shared.{reaches_more}
-use Rattle.cmm_changes.specs.Changes.{is_scratch}
+use Rattle.cmm_abi.specs.Registers.{is_scratch}
 use Rattle.cmm_coded.specs.Finished.{AsksFor}
 use Rattle.cmm_coded.specs.Starting.{BeginsRun}
 

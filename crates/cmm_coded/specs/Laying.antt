@@ -3,7 +3,7 @@ use Rattle.std.specs.Prelude.{◌≡◌, ◌⊎◌, ℕ, Bool, true, false, Cont
 use Rattle.cmm_chain.specs.declared.frame.Frame.{Frame}
 use Rattle.cmm_chain.specs.declared.frame.Location.{Location}
 use Rattle.cmm_chain.specs.declared.frame.Location.TheVariants.{Slot, Saved, Temp}
-use Rattle.cmm_chain.specs.Contents.{is_callee_saves, is_temporary}
+use Rattle.cmm_abi.specs.Registers.{is_callee_saves, is_temporary}
 use Rattle.cmm_program.specs.declared.procedure.Proc.{Proc}
 use Rattle.cmm_program.specs.Frames.{place_row, procedure_at}
 use Rattle.cmm_program.specs.InRange.{FitsFrames}

@@ -1,6 +1,7 @@
 -- What is asked of the code of each node: pieces that do what the node does, with its locals in their places, and that go on where it leads.
 use Rattle.std.specs.Prelude.{◌≡◌, ◌⊎◌, ℕ, ◌+◌, ◌*◌, ◌%◌, ◌<◌, ◌≤◌, ◌^◌, true, List, [], ◌∷◌, length, map, slice_get, slice_index_or, Some}
 use Rattle.std.specs.List.{list_all}
+use Rattle.cmm_abi.specs.declared.registers.TheConstants.{REQUEST_VALUE}
 use Rattle.cmm_words.specs.Words.{low_bits, sign_extended, value1}
 use Rattle.cmm_words.specs.declared.width.Width.{Width}
 use Rattle.cmm_words.specs.declared.constant.Constant.{Constant}
@@ -200,7 +201,7 @@ module _ (s : Setting) (c : Compiled) (l : Launch) (f : Finished) where
     pub on : ℕ
     pub count : ℕ
     pub later : ℕ
-    pub requests : Requests count later (CanPut (f.labels q) into) (λ t. GetByte) (λ u v. PutsTo (f.labels q) into (u.registers 10) u v) (code_of l f q) (f.node_at q n) on
+    pub requests : Requests count later (CanPut (f.labels q) into) (λ t. GetByte) (λ u v. PutsTo (f.labels q) into (u.registers REQUEST_VALUE) u v) (code_of l f q) (f.node_at q n) on
     pub goes_on : GoesOn q next on
     pub few : count + 1 + (later + 2) ≤ most
 
@@ -287,7 +288,7 @@ module _ (s : Setting) (c : Compiled) (l : Launch) (f : Finished) where
     pub are : AreOperandsOf q results operands
     pub few_results : length operands ≤ 64
     pub returns : ReturnsValues (c.plan.frame q) operands exit (code_of l f q) (f.node_at q n)
-    pub end_asked : AsksFor ends (λ t. End (t.registers 10)) (code_of l f q) f.symbols.last_return
+    pub end_asked : AsksFor ends (λ t. End (t.registers REQUEST_VALUE)) (code_of l f q) f.symbols.last_return
     pub few : parting_cost (c.plan.frame q) operands + 1 + 1 + ends ≤ most
     pub few_behind : parting_cost (c.plan.frame q) operands + 1 + 3 ≤ most
 

@@ -1,6 +1,7 @@
 -- What is asked of the code that begins a run, and of the data of the image.
 use Rattle.std.specs.Prelude.{◌≡◌, ℕ, ◌≤◌, length, Some}
 use Rattle.std.specs.List.{All}
+use Rattle.cmm_abi.specs.declared.registers.TheConstants.{REQUEST_VALUE}
 use Rattle.rv_asm.specs.Parts.{Code}
 use Rattle.rv_asm.specs.declared.part.Label.{Label}
 use Rattle.rv_table.specs.declared.request.Request.TheVariants.{End}
@@ -21,7 +22,7 @@ use Rattle.cmm_coded.specs.Finished.{AsksFor, Finished, code_of}
 pub record BeginsRun (main : Label) (x : Code) (from : ℕ) : Type 0 where
   pub back : ℕ
   pub calls : Goes 1 2 Always (λ t. x.at main.number) (PutsRegister 1 back) x from
-  pub ends : AsksFor 1 (λ t. End (t.registers 10)) x back
+  pub ends : AsksFor 1 (λ t. End (t.registers REQUEST_VALUE)) x back
 
 -- From the start of the image `main` is called, with the return address of the oldest activation in register 1, and nothing else is changed but
 -- scratch registers. This code belongs to no procedure, and no label is named here, so it is taken as that of `main`. The data of the image are

@@ -4,6 +4,7 @@ use Rattle.std.proofs.lemmas.List.{length-map}
 use Rattle.std.proofs.lemmas.List.Elements.{All-head, All-tail}
 use Rattle.std.specs.Prelude.{All, slice_get}
 use Rattle.std.specs.List.{AllZip}
+use Rattle.cmm_abi.specs.Registers.{callee_saves}
 use Rattle.cmm_program.specs.declared.procedure.Proc.{Proc}
 use Rattle.cmm_program.specs.declared.program.Program.{Program}
 use Rattle.cmm_program.specs.InRange.{IsProcInRange}
@@ -50,7 +51,7 @@ procedure_of p (x ∷ procs) (y ∷ graphs) (z ∷ found) range flows can places
 
 small_for : (x : Proc) (k : ProcedurePlaces) (c : Context) → EntryIsShort x k → c.frame ≡ k.frame → c.zeroed ≡ map (place_in k) k.zeroed → IsSmallFor c x.tokens
 small_for x k c short frame zeroed = record {
-  saved = subst (λ f. length f.saved ≤ 11) (sym frame) short.saved;
+  saved = subst (λ f. length f.saved ≤ length callee_saves) (sym frame) short.saved;
   words =
       let count : length c.zeroed ≡ length k.zeroed = ap (λ l. length l) zeroed ∙ length-map k.zeroed (place_in k) in
       let pairs : length c.frame.pairs ≡ length k.frame.pairs = ap (λ f. length f.pairs) frame in

@@ -11,7 +11,8 @@ use Rattle.cmm_image.specs.declared.rows.VariablePlace.{VariablePlace}
 use Rattle.cmm_image.specs.declared.rows.VariablePlace.TheVariants.{Dead, Slot, Register}
 use Rattle.cmm_image.specs.ImageFormat.{procedure_at}
 use Rattle.cmm_image.specs.InFrames.{KeepsFrame}
-use Rattle.cmm_image.specs.Places.{is_saved_register, IsPlace, leaves}
+use Rattle.cmm_abi.specs.Registers.{is_callee_saves}
+use Rattle.cmm_image.specs.Places.{IsPlace, leaves}
 use Rattle.cmm_image.proofs.Shared.{sites_keep_frames}
 use Rattle.std.proofs.lemmas.Bool.Decides.{nat_tests}
 use Rattle.cmm_program.specs.Asking.{Break, Chain}
@@ -51,7 +52,7 @@ loaded_alike m n low high address (suc count) same above inside =
 
 -- the values of callee-saves registers are where a walk may read
 abbrev MayReadAll : Region → (ℕ → Place) → Type 0
-MayReadAll r places = (n : ℕ) → IsTrue (is_saved_register n) → IsInStack r (places n)
+MayReadAll r places = (n : ℕ) → IsTrue (is_callee_saves n) → IsInStack r (places n)
 
 -- ---- what lies in the frame of an activation
 

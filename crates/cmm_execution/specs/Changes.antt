@@ -1,5 +1,6 @@
 -- What the client's commands do to registers and memory.
 use Rattle.std.specs.Prelude.{ℕ, ◌+◌, ◌*◌, ◌%◌, ◌==◌, ◌&&◌, not, nat_lt, nat_le, bytes_eq, Bool, true, false, List, map, length, find, slice_get, Option, Some, None}
+use Rattle.cmm_abi.specs.declared.registers.TheConstants.{FRAME, RETURN_ADDRESS}
 use Rattle.cmm_words.specs.declared.width.Width.{Width}
 use Rattle.cmm_words.specs.declared.width.Width.TheVariants.{W64}
 use Rattle.rv_table.specs.Machine.{State, data_base, stored}
@@ -12,7 +13,7 @@ use Rattle.cmm_image.specs.declared.rows.ContinuationRow.{ContinuationRow}
 use Rattle.cmm_image.specs.declared.rows.LabelRow.{LabelRow}
 use Rattle.cmm_image.specs.declared.rows.ProcRow.{ProcRow}
 use Rattle.cmm_image.specs.declared.rows.VariableNumber.{VariableNumber}
-use Rattle.cmm_image.specs.Places.{is_saved_register}
+use Rattle.cmm_abi.specs.Registers.{is_callee_saves}
 use Rattle.cmm_program.specs.Asking.{Exit}
 use Rattle.cmm_execution.specs.Regions.{Region, with_word, word_at, with_values}
 use Rattle.cmm_execution.specs.Frames.{Element}
@@ -62,11 +63,11 @@ return_widths e n = elim (nat_lt n (length e.site.returns)) [
 -- behind the call of the youngest activation's site stands a jump of four bytes for each alternate exit, and then the normal return
 abbrev pub return_exit : Region → State → Element → ℕ → Option (Exit State)
 return_exit r s e n = with_some (return_widths e n) (λ widths.
-    Some record { widths = widths; resumed = λ values. at_pc (s.registers 1 + 4 * n) (with_values r values s) })
+    Some record { widths = widths; resumed = λ values. at_pc (s.registers RETURN_ADDRESS + 4 * n) (with_values r values s) })
 
 -- the callee-saves registers with the values that they had in the activation, and its frame in register 2
 abbrev pub unwound : Element → State → ℕ → ℕ
-unwound e s = with_register (λ n. elim (is_saved_register n) [ true ↦ word_at s (e.places n) | false ↦ s.registers n ]) 2 e.frame
+unwound e s = with_register (λ n. elim (is_callee_saves n) [ true ↦ word_at s (e.places n) | false ↦ s.registers n ]) FRAME e.frame
 
 abbrev pub unwind_exit : Region → State → Element → ℕ → Option (Exit State)
 unwind_exit r s e n = with_some (slice_get e.site.unwinds n) (λ u. with_some (continuation_row e.procedure u.continuation) (λ c.
@@ -84,5 +85,5 @@ abbrev pub cut_exit : Region → State → Element → ℕ → Option (Exit Stat
 cut_exit r s e value = with_some (find (has_value e value) e.site.cuts) (λ k. with_some (continuation_row e.procedure k) (λ c.
     Some record {
       widths = parameter_widths e.procedure c;
-      resumed = λ values. at_pc c.code (with_values r values record s { registers = with_register s.registers 2 e.frame });
+      resumed = λ values. at_pc c.code (with_values r values record s { registers = with_register s.registers FRAME e.frame });
     }))

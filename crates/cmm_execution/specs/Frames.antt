@@ -1,6 +1,7 @@
 -- The chain of the frames of a stopped program, by the tables of its image: from each activation to the next older one (Ramsey and
 -- Peyton Jones, PLDI 2000, run-time tables).
 use Rattle.std.specs.Prelude.{ℕ, zero, suc, ◌+◌, ◌-◌, ◌/◌, ◌%◌, ◌==◌, ◌&&◌, nat_le, Bool, true, false, [], ◌∷◌, find, Option, Some, None}
+use Rattle.cmm_abi.specs.declared.registers.TheConstants.{FRAME, RETURN_ADDRESS}
 use Rattle.rv_table.specs.Machine.{State, loaded}
 use Rattle.cmm_image.specs.declared.parts.ImageParts.{ImageParts}
 use Rattle.cmm_image.specs.declared.rows.ProcRow.{ProcRow}
@@ -26,7 +27,7 @@ pub record Point : Type 0 where
 
 -- at the start: the address in register 1, the frame in register 2, and every value in its register
 abbrev pub first_point : State → Point
-first_point s = record { address = s.registers 1; frame = s.registers 2; places = InRegister }
+first_point s = record { address = s.registers RETURN_ADDRESS; frame = s.registers FRAME; places = InRegister }
 
 -- ---- one step of the chain
 

@@ -2,6 +2,7 @@
 use Rattle.std.specs.Prelude.{◌≡◌, ◌≢◌, true, ℕ, ◌+◌, ◌<◌, ◌≤◌, IsTrue, List, ◌++◌, slice_get, Some}
 use Rattle.std.specs.List.{All}
 use Rattle.std.specs.Option.{option_and_then}
+use Rattle.cmm_abi.specs.declared.registers.TheConstants.{FRAME, RETURN_ADDRESS}
 use Rattle.rv_table.specs.Machine.{State}
 use Rattle.cmm_following.specs.Seen.{IsWithin, End}
 use Rattle.cmm_following.specs.Machine.{Lasts, after}
@@ -12,7 +13,7 @@ use Rattle.cmm_image.specs.ImageFormat.{procedure_at}
 use Rattle.cmm_image.specs.Images.{IsImage}
 use Rattle.cmm_image.specs.InFrames.{KeepsFrame}
 use Rattle.cmm_image.specs.Sites.{site_place}
-use Rattle.cmm_image.specs.Places.{is_saved_register}
+use Rattle.cmm_abi.specs.Registers.{is_callee_saves}
 use Rattle.cmm_execution.specs.Regions.{Region, bottom, top, Place, InRegister, InMemory}
 use Rattle.cmm_execution.specs.Frames.{Element, Point, is_frame, site_at, found_at, along, chain_from, chain_of, older_than}
 use Rattle.cmm_execution.specs.Walks.{chain_walk}
@@ -74,7 +75,7 @@ ChainGoesOn = (i : ImageParts) (r : Region) (memory : ℕ → ℕ) (p : Point) �
 
 -- 8 bytes that are a callee-saves register or lie in the stack
 abbrev pub IsInStack : Region → Place → Type 0
-IsInStack r (InRegister n) = IsTrue (is_saved_register n)
+IsInStack r (InRegister n) = IsTrue (is_callee_saves n)
 IsInStack r (InMemory address) = (bottom r ≤ address) × (address + 8 ≤ top r)
 
 -- An activation fits: its frame begins at a multiple of 16 and lies in the stack, its tables keep inside the frame, and so do its values of
@@ -82,7 +83,7 @@ IsInStack r (InMemory address) = (bottom r ≤ address) × (address + 8 ≤ top 
 pub record FitsStack (r : Region) (e : Element) : Type 0 where
   pub frame : is_frame r e.frame e.procedure.frame ≡ true
   pub keeps : KeepsFrame e.procedure e.site
-  pub places : (n : ℕ) → IsTrue (is_saved_register n) → IsInStack r (e.places n)
+  pub places : (n : ℕ) → IsTrue (is_callee_saves n) → IsInStack r (e.places n)
 
 -- the activations of a chain fit, and so do those that are older than one which fits
 pub record ElementsFit : Type 0 where
@@ -91,9 +92,9 @@ pub record ElementsFit : Type 0 where
 
 -- two states have the same return address and frame in registers 1 and 2, the same callee-saves registers, and the same bytes in the stack
 pub record SameStack (r : Region) (s t : State) : Type 0 where
-  pub address : s.registers 1 ≡ t.registers 1
-  pub frame : s.registers 2 ≡ t.registers 2
-  pub saved : (n : ℕ) → IsTrue (is_saved_register n) → s.registers n ≡ t.registers n
+  pub address : s.registers RETURN_ADDRESS ≡ t.registers RETURN_ADDRESS
+  pub frame : s.registers FRAME ≡ t.registers FRAME
+  pub saved : (n : ℕ) → IsTrue (is_callee_saves n) → s.registers n ≡ t.registers n
   pub bytes : (at : ℕ) → bottom r ≤ at → at < top r → s.memory at ≡ t.memory at
 
 -- the walk of a state depends on nothing else

@@ -1,5 +1,6 @@
 -- What an image does: the state after so many instructions.
 use Rattle.std.specs.Prelude.{ℕ, zero, suc, ◌+◌, ◌-◌, nat_le, true, false, List, [], ◌∷◌, ◌++◌, length, slice_index_or, Some, None}
+use Rattle.cmm_abi.specs.declared.registers.TheConstants.{REQUEST_VALUE}
 use Rattle.rv_table.specs.declared.request.Request.{Request}
 use Rattle.rv_table.specs.declared.request.Request.TheVariants.{PutByte, GetByte, Yield, StackLimit, End}
 use Rattle.rv_table.specs.declared.trap.TrapKind.{TrapKind}
@@ -109,7 +110,7 @@ goes_on run = record run { machine = at_pc (run.machine.pc + 4) run.machine }
 -- what an ECALL asks for is done
 abbrev pub requested : Launch → Run → Request → Run
 requested l run (PutByte byte) = goes_on record run { output = run.output ++ byte ∷ [] }
-requested l run GetByte = record (one_taken run) { machine = with_set run.machine 10 (next_byte run.input) }
+requested l run GetByte = record (one_taken run) { machine = with_set run.machine REQUEST_VALUE (next_byte run.input) }
 requested l run Yield = let after = goes_on run in yielded l (chain_of l.image (region_of l) after.machine) after
 requested l run StackLimit = record run { status = Ended c.StackLimit }
 requested l run (End value) = record run { status = Ended (c.Done value) }

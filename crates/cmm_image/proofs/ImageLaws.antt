@@ -22,7 +22,8 @@ use Rattle.cmm_image.specs.declared.rows.SpanRow.{SpanRow}
 use Rattle.cmm_image.specs.declared.rows.SiteRow.{SiteRow}
 use Rattle.cmm_image.specs.declared.rows.LabelRow.{LabelRow}
 use Rattle.cmm_image.specs.declared.rows.GlobalRow.{GlobalRow}
-use Rattle.cmm_image.specs.Places.{is_saved_register, leaves}
+use Rattle.cmm_abi.specs.Registers.{is_callee_saves}
+use Rattle.cmm_image.specs.Places.{leaves}
 use Rattle.cmm_image.specs.ImageFormat.{formed, within, in_code, is_in_data, above, after, is_width, width_of, width, one_if, magic, is_code_length, is_procedure_count, HeaderFields, header_of, header_fields, counts, header, saved_register, variable, stack_label, variable_number, is_pair, continuation, no_return, is_return_offset, procedure_of, procedure_fields, procedure, has_sites, continuation_number, unwind, span, flags_of, flags_number, flags, exits_in_code, site_lists, procedure_at, site_of_fields, site_fields, site, label, global, image_of, image_fields, image}
 use Rattle.cmm_image.proofs.FieldLaws.{IsExact, number-exact, block-exact, text-exact, when-exact, optional-exact}
 use Rattle.cmm_image.proofs.TableLaws.{then-exact, as-exact, rows-exact, counted-exact}
@@ -79,7 +80,7 @@ flags-exact = as-exact flags_of flags_number (when-exact (formed (λ n. nat_lt n
 
 saved_register-exact : (frame : ℕ) (previous : Option SavedRegister) → IsExact (saved_register frame previous)
 saved_register-exact frame previous = as-exact (λ x. record { register = x.0; offset = x.1 }) (λ s. (s.register, s.offset))
-    (then-exact (when-exact (formed is_saved_register ∷ above (option_map (λ s. s.register) previous) ∷ []) (number-exact 1)) λ (register : ℕ).
+    (then-exact (when-exact (formed is_callee_saves ∷ above (option_map (λ s. s.register) previous) ∷ []) (number-exact 1)) λ (register : ℕ).
     when-exact (within (leaves 8 frame) ∷ []) (number-exact 4))
     (λ b holds. refl) (λ a holds. refl)
 

@@ -6,7 +6,8 @@ use Rattle.cmm_image.specs.declared.rows.VariablePlace.{VariablePlace}
 use Rattle.cmm_image.specs.declared.rows.VariablePlace.TheVariants.{Dead, Slot, Register}
 use Rattle.cmm_rules.specs.declared.rule.Rule.TheVariants.{ImageIsCut, BadImageField, ImageOutOfRange}
 use Rattle.cmm_image.specs.Formats.{Front, AreBytes, breaks, number_bytes, number_at}
-use Rattle.cmm_image.specs.Places.{is_saved_register, leaves, place_bytes, IsPlace, slot_at, register_at, place_at, variable_place}
+use Rattle.cmm_abi.specs.Registers.{is_callee_saves}
+use Rattle.cmm_image.specs.Places.{leaves, place_bytes, IsPlace, slot_at, register_at, place_at, variable_place}
 use Rattle.cmm_image.proofs.FieldLaws.{IsExact, ok_is, passed, not_cut, number-exact, AreBytes-tail, chosen_true, chosen_false}
 
 abbrev Placed : ℕ → List ℕ → VariablePlace × List ℕ → Type 0
@@ -27,7 +28,7 @@ register-taken : (frame : ℕ) (bytes rest : List ℕ) (x : VariablePlace × Lis
 unfolding number_bytes
 register-taken frame bytes [] x fits is e = absurd cc
 register-taken frame bytes (n ∷ rest) x fits is e =
-    let g = passed (is_saved_register n) (breaks BadImageField bytes) (Ok (Register n, rest)) x e in
+    let g = passed (is_callee_saves n) (breaks BadImageField bytes) (Ok (Register n, rest)) x e in
     let made : VariablePlace × List ℕ = (Register n, rest) in
     let low : n < 256 = fits 0 in
     let byte : n % 256 ≡ n = omega arith in
@@ -52,7 +53,7 @@ long bytes n rest e =
     let same = ok_is (little_number 4 bytes, drop 4 bytes) (n, rest) g.1 in
     (g.0, ap (λ (x : ℕ × List ℕ). x.0) same, ap (λ (x : ℕ × List ℕ). x.1) same)
 
-saved_register-fits : (n : ℕ) → IsTrue (is_saved_register n) → n < 256
+saved_register-fits : (n : ℕ) → IsTrue (is_callee_saves n) → n < 256
 saved_register-fits n h = grind (arith, nat_tests)
 
 slot-again : (frame offset : ℕ) (r rest : List ℕ) → number_at 4 r ≡ Ok (offset, rest) → IsTrue (leaves 8 frame offset) → slot_at frame (1 ∷ r) r ≡ Ok (Slot offset, rest)
@@ -64,12 +65,12 @@ slot-again frame offset r rest e holds =
     chosen_false {A = Front VariablePlace} (nat_lt (length r) 4) (Err (breaks ImageIsCut (1 ∷ r))) read l.0
     ∙ chosen_true {A = Front VariablePlace} (leaves 8 frame (little_number 4 r)) (Ok (Slot (little_number 4 r), drop 4 r)) (Err (breaks ImageOutOfRange (1 ∷ r))) inside ∙ parts
 
-register-again : (frame n : ℕ) (rest : List ℕ) → IsTrue (is_saved_register n) → place_at frame (place_bytes (Register n) ++ rest) ≡ Ok (Register n, rest)
+register-again : (frame n : ℕ) (rest : List ℕ) → IsTrue (is_callee_saves n) → place_at frame (place_bytes (Register n) ++ rest) ≡ Ok (Register n, rest)
 unfolding place_at number_bytes
 register-again frame n rest holds =
     let low : n < 256 = saved_register-fits n holds in
     let byte : n % 256 ≡ n = omega arith in
-    rw byte (chosen_true {A = Front VariablePlace} (is_saved_register n) (Ok (Register n, rest)) (Err (breaks BadImageField (2 ∷ (n ∷ rest)))) holds)
+    rw byte (chosen_true {A = Front VariablePlace} (is_callee_saves n) (Ok (Register n, rest)) (Err (breaks BadImageField (2 ∷ (n ∷ rest)))) holds)
 
 place-again : (frame : ℕ) (p : VariablePlace) (rest : List ℕ) → IsPlace frame p → place_at frame (place_bytes p ++ rest) ≡ Ok (p, rest)
 unfolding place_at

@@ -24,7 +24,8 @@ use Rattle.cmm_image.specs.declared.rows.SiteRow.{SiteRow}
 use Rattle.cmm_image.specs.declared.rows.LabelRow.{LabelRow}
 use Rattle.cmm_image.specs.declared.rows.GlobalRow.{GlobalRow}
 use Rattle.cmm_image.specs.Formats.{Format, Condition, number, block, text, ◌when◌, ◌▸◌, as_, optional, rows, counted}
-use Rattle.cmm_image.specs.Places.{variable_place, is_saved_register, leaves}
+use Rattle.cmm_abi.specs.Registers.{is_callee_saves}
+use Rattle.cmm_image.specs.Places.{variable_place, leaves}
 
 -- ---- numbers
 
@@ -149,7 +150,7 @@ header = as_ header_of header_fields (
 -- a register that is saved: its number, ascending, and where in the frame it is
 abbrev pub saved_register : ℕ → Option SavedRegister → Format SavedRegister
 saved_register frame previous = as_ (λ x. record { register = x.0; offset = x.1 }) (λ s. (s.register, s.offset)) (
-    u8 when (formed is_saved_register ∷ above (option_map (λ s. s.register) previous) ∷ [])
+    u8 when (formed is_callee_saves ∷ above (option_map (λ s. s.register) previous) ∷ [])
     ▸ λ register. u32 when (within (leaves 8 frame) ∷ [])
     )
 

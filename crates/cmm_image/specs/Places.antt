@@ -1,14 +1,11 @@
 -- Places of variables while their activation is suspended: one field, its number with what follows it.
-use Rattle.std.specs.Prelude.{ℕ, zero, suc, ◌+◌, ◌<◌, ◌^◌, ◌==◌, ◌&&◌, ◌||◌, nat_lt, nat_le, Bool, true, false, IsTrue, List, [], ◌∷◌, length, drop, Option, Ok, Err}
+use Rattle.std.specs.Prelude.{ℕ, zero, suc, ◌+◌, ◌<◌, ◌^◌, nat_lt, nat_le, Bool, true, false, IsTrue, List, [], ◌∷◌, length, drop, Option, Ok, Err}
 use Rattle.byteorder.specs.Endian.{little_number}
+use Rattle.cmm_abi.specs.Registers.{is_callee_saves}
 use Rattle.cmm_rules.specs.declared.rule.Rule.TheVariants.{ImageIsCut, BadImageField, ImageOutOfRange}
 use Rattle.cmm_image.specs.declared.rows.VariablePlace.{VariablePlace}
 use Rattle.cmm_image.specs.declared.rows.VariablePlace.TheVariants.{Dead, Slot, Register}
 use Rattle.cmm_image.specs.Formats.{Format, Front, breaks, number_bytes}
-
--- a callee-saves register that may be saved: 9, or 18 to 27
-abbrev pub is_saved_register : ℕ → Bool
-is_saved_register n = (n == 9) || (nat_le 18 n && nat_le n 27)
 
 -- so many bytes from an offset on lie in the frame
 abbrev pub leaves : ℕ → ℕ → ℕ → Bool
@@ -23,7 +20,7 @@ place_bytes (Register register) = 2 ∷ number_bytes 1 register
 abbrev pub IsPlace : ℕ → VariablePlace → Type 0
 IsPlace frame Dead = Unit {0}
 IsPlace frame (Slot offset) = (offset < 2 ^ 32) × IsTrue (leaves 8 frame offset)
-IsPlace frame (Register register) = IsTrue (is_saved_register register)
+IsPlace frame (Register register) = IsTrue (is_callee_saves register)
 
 abbrev pub slot_at : ℕ → List ℕ → List ℕ → Front VariablePlace
 slot_at frame bytes rest = elim (nat_lt (length rest) 4) [
@@ -36,7 +33,7 @@ slot_at frame bytes rest = elim (nat_lt (length rest) 4) [
 
 abbrev pub register_at : List ℕ → List ℕ → Front VariablePlace
 register_at bytes [] = Err (breaks ImageIsCut bytes)
-register_at bytes (n ∷ rest) = elim (is_saved_register n) [ true ↦ Ok (Register n, rest) | false ↦ Err (breaks BadImageField bytes) ]
+register_at bytes (n ∷ rest) = elim (is_callee_saves n) [ true ↦ Ok (Register n, rest) | false ↦ Err (breaks BadImageField bytes) ]
 
 unfoldable pub place_at : ℕ → List ℕ → Front VariablePlace
 place_at frame [] = Err (breaks ImageIsCut [])

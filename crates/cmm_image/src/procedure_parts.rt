@@ -4,7 +4,7 @@ ghost use Rattle.std.specs.Prelude.{◌≡◌, ◌==◌, ◌∷◌, [], nat_le, 
 ghost use Rattle.std.specs.Option.{option_map};
 ghost use Rattle.cmm_image.specs.Formats.{counted_at, ◌when◌};
 ghost use Rattle.cmm_image.specs.ImageFormat.{saved_register, variable, stack_label, continuation, variable_number, is_pair as is_pair_offset, is_above, u8, formed};
-ghost use Rattle.cmm_image.specs.Places.{is_saved_register as is_saved_number, leaves as leaves_in};
+ghost use Rattle.cmm_image.specs.Places.{leaves as leaves_in};
 ghost use Rattle.cmm_image.specs.inside.Reading.{Reads};
 
 use crate::bounds::Bounds;
@@ -12,6 +12,7 @@ use crate::fault::Unread;
 use crate::reader::{Reader, require};
 use crate::record::{Read, read_rows};
 use crate::rows::{ContinuationRow, SavedRegister, StackLabelRow, VariableNumber, VariableRow};
+use cmm_abi::registers::is_callee_saves;
 use cmm_items::Items;
 use cmm_rules::Rule;
 
@@ -28,7 +29,7 @@ impl Read<Bounds> for SavedRegister {
     ) -> Result<SavedRegister, Unread> {
         let field = reader.left();
         let register = reader.u8()?;
-        require(is_saved_register(register), Rule::BadImageField, field)?;
+        require(is_callee_saves(register), Rule::BadImageField, field)?;
         require(
             is_register_above(previous, register),
             Rule::BadImageField,
@@ -43,13 +44,6 @@ impl Read<Bounds> for SavedRegister {
         )?;
         Ok(SavedRegister { register, offset })
     }
-}
-
-/// Whether a register is one that may be saved: 9, or 18 to 27.
-pub(crate) fn is_saved_register(register: u8) -> bool
-    ensures { result ≡ is_saved_number register }
-{
-    register == 9 || (18 <= register && register <= 27)
 }
 
 /// Whether so many bytes from an offset on lie in the frame.

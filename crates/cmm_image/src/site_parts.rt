@@ -8,11 +8,12 @@ ghost use Rattle.cmm_image.specs.inside.Reading.{Reads, Places};
 
 use crate::bounds::Bounds;
 use crate::fault::Unread;
-use crate::procedure_parts::{is_saved_register, leaves};
+use crate::procedure_parts::leaves;
 use crate::reader::{Reader, broken, require};
 use crate::record::Read;
 use crate::rows::{ContinuationNumber, SpanRow, UnwindRow, VariablePlace};
 use byteorder::{ByteOrder, LittleEndian};
+use cmm_abi::registers::is_callee_saves;
 use cmm_rules::Rule;
 use cmm_words::Width;
 
@@ -142,7 +143,7 @@ fn register_of(rest: &[u8], field: usize) -> Result<(VariablePlace, &[u8]), Unre
     match rest {
         [] => Err(broken(Rule::ImageIsCut, field)),
         [register, rest @ ..] => {
-            require(is_saved_register(*register), Rule::BadImageField, field)?;
+            require(is_callee_saves(*register), Rule::BadImageField, field)?;
             Ok((VariablePlace::Register(*register), rest))
         }
     }

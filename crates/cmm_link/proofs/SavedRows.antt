@@ -6,17 +6,17 @@ use Rattle.std.proofs.lemmas.List.{length-map}
 use Rattle.std.specs.List.{list_all}
 use Rattle.std.specs.Option.{option_map}
 use Rattle.cmm_chain.specs.Plans.{is_word_in, saved_offsets}
-use Rattle.cmm_located.specs.Layouts.{callee_saves}
+use Rattle.cmm_abi.specs.Registers.{callee_saves, is_callee_saves}
 use Rattle.cmm_image.specs.declared.rows.SavedRegister.{SavedRegister}
 use Rattle.cmm_image.specs.Formats.{AreRows}
 use Rattle.cmm_image.specs.ImageFormat.{is_above, saved_register}
-use Rattle.cmm_image.specs.Places.{is_saved_register, leaves}
+use Rattle.cmm_image.specs.Places.{leaves}
 use Rattle.cmm_link.specs.Rows.{saved_row}
 
 -- registers that may be saved, each above the one before
 abbrev AreSaves : Option ℕ → List ℕ → Type 0
 AreSaves previous [] = Unit {0}
-AreSaves previous (r ∷ rs) = (is_saved_register r ≡ true) × (is_above previous r ≡ true) × AreSaves (Some r) rs
+AreSaves previous (r ∷ rs) = (is_callee_saves r ≡ true) × (is_above previous r ≡ true) × AreSaves (Some r) rs
 
 above_lower : (previous : Option ℕ) (r s : ℕ) → is_above previous r ≡ true → is_above (Some r) s ≡ true → is_above previous s ≡ true
 above_lower None r s first then_ = refl
@@ -39,7 +39,7 @@ filtered test previous (r ∷ rs) are =
 all_saves : AreSaves None callee_saves
 all_saves = (refl, refl, (refl, refl, (refl, refl, (refl, refl, (refl, refl, (refl, refl, (refl, refl, (refl, refl, (refl, refl, (refl, refl, (refl, refl, tt)))))))))))
 
-register_small : (r : ℕ) → is_saved_register r ≡ true → r < 256
+register_small : (r : ℕ) → is_callee_saves r ≡ true → r < 256
 register_small r is = grind (arith, nat_tests, is)
 
 leaves_word : (size offset : ℕ) → is_word_in size offset ≡ true → IsTrue (leaves 8 size offset)
@@ -71,7 +71,7 @@ pub saved_rows_hold : (size : ℕ) (saved : List (ℕ × ℕ)) (test : ℕ → B
 saved_rows_hold size saved test small are words =
     rows_hold size None saved small (subst (AreSaves None) (sym are) (filtered test None callee_saves all_saves)) words
 
-pub saved_few : (saved : List (ℕ × ℕ)) (test : ℕ → Bool) → map (λ s. s.0) saved ≡ filter test callee_saves → length (map saved_row saved) ≤ 11
+pub saved_few : (saved : List (ℕ × ℕ)) (test : ℕ → Bool) → map (λ s. s.0) saved ≡ filter test callee_saves → length (map saved_row saved) ≤ length callee_saves
 saved_few saved test are =
     let registers = ap (λ (l : List ℕ). length l) are in
     omega (arith, length-map saved (λ (s : ℕ × ℕ). s.0), length-map saved saved_row, registers, filter_short test callee_saves)

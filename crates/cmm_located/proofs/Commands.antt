@@ -32,7 +32,8 @@ use Rattle.cmm_graph.specs.GraphControl.{Position, graph_control, kind_at, norma
 use Rattle.cmm_live.specs.Sites.{site_of}
 use Rattle.cmm_chain.specs.declared.frame.Location.TheVariants.{Slot}
 use Rattle.cmm_chain.specs.Chain.{IsChain, Point}
-use Rattle.cmm_chain.specs.Contents.{Number, is_callee_saves}
+use Rattle.cmm_abi.specs.Registers.{is_callee_saves}
+use Rattle.cmm_chain.specs.Contents.{Number}
 use Rattle.cmm_chain.specs.Laws.{IsBackAt}
 use Rattle.cmm_chain.specs.Running.{Holdings}
 use Rattle.cmm_chain.specs.Walks as chain

@@ -17,7 +17,7 @@ use Rattle.cmm_graph.specs.GraphControl.{kind_at}
 use Rattle.cmm_graph.specs.GraphMachine.{tokens_at}
 use Rattle.cmm_graph.proofs.Shared.{n, s, variable, exits}
 use Rattle.cmm_live.specs.Sites.{site_of}
-use Rattle.cmm_chain.specs.Contents.{is_callee_saves}
+use Rattle.cmm_abi.specs.Registers.{is_callee_saves}
 use Rattle.cmm_chain.specs.Plans.{is_laid, is_place, saved_at}
 use Rattle.cmm_chain.specs.Running.{lasts}
 use Rattle.cmm_located.specs.Compiled.{exits_of, landing_in}

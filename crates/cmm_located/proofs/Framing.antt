@@ -6,6 +6,7 @@ use Rattle.std.specs.Str.{bytes_eq}
 use Rattle.std.proofs.lemmas.Bool.{and_from, and_parts}
 use Rattle.std.proofs.lemmas.Bool.Decides.{nat_tests}
 use Rattle.std.proofs.lemmas.Slice.Eq.{bytes_eq-Decides}
+use Rattle.cmm_abi.proofs.Shared.{callee_saves_are_listed}
 use Rattle.cmm_program.specs.declared.procedure.Proc.{Proc}
 use Rattle.cmm_program.specs.Bounds.{frame_bound}
 use Rattle.cmm_program.specs.Errors.{with_some}
@@ -14,9 +15,9 @@ use Rattle.cmm_program.specs.Placed.{is_code_address, is_frame_size, are_pairs, 
 use Rattle.cmm_chain.specs.declared.frame.Frame.{Frame}
 use Rattle.cmm_chain.specs.declared.frame.Location.{Location}
 use Rattle.cmm_chain.specs.declared.frame.Location.TheVariants.{Slot, Saved, Temp}
-use Rattle.cmm_chain.specs.Contents.{is_callee_saves}
+use Rattle.cmm_abi.specs.Registers.{is_callee_saves, callee_saves}
 use Rattle.cmm_chain.specs.Plans.{saved_in, pair_offsets, fixed_offsets, is_fresh, are_distinct, is_word_in, is_laid, is_place}
-use Rattle.cmm_located.specs.Layouts.{IsFrameOf, are_clear, callee_saves, has_cut_exit, is_clear, is_kept_in, is_location, keeps_local, row_with, saved_registers, slot_offsets, slots_end}
+use Rattle.cmm_located.specs.Layouts.{IsFrameOf, are_clear, has_cut_exit, is_clear, is_kept_in, is_location, keeps_local, row_with, saved_registers, slot_offsets, slots_end}
 use Rattle.cmm_located.specs.inside.Laying.{pairs_from, words_from}
 use Rattle.cmm_located.proofs.Offsets.{all_append, rounded, consecutive, double, double_is, saved_consecutive, pairs_consecutive, joined, words_inside, before_words, words_distinct, below_is_clear, words_clear, pairs_count, pairs_inside, pairs_below, pairs_are_apart, registers_are, words_count, filter_count, is_saved}
 
@@ -109,7 +110,7 @@ module _ (p : Proc) (places : List Location) (are : list_all is_location places 
   abbrev words : ℕ
   words = length registers + double count
 
-  few : length registers ≤ 11
+  few : length registers ≤ length callee_saves
   few = filter_count (λ r. has_cut_exit p || keeps_local r places) callee_saves
 
   fixed_are : fixed_offsets frame ≡ consecutive slots (suc words)
@@ -145,7 +146,7 @@ module _ (p : Proc) (places : List Location) (are : list_all is_location places 
       (subst (λ l. are_distinct l ≡ true) (sym fixed_are) (words_distinct slots (suc words))))
 
   is_listed : (r : ℕ) → is_callee_saves r ≡ true → list_any (λ x. r == x) callee_saves ≡ true
-  is_listed r is = grind (arith, nat_tests, is)
+  is_listed r is = sym (callee_saves_are_listed r) ∙ is
 
   uses : (r : ℕ) → keeps_local r places ≡ true → (has_cut_exit p || keeps_local r places) ≡ true
   uses r is = by (has_cut_exit p) (keeps_local r places) is

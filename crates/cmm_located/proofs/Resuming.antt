@@ -17,7 +17,8 @@ use Rattle.cmm_graph.specs.GraphControl.{Position, behind as behind_node, graph_
 use Rattle.cmm_graph.specs.Paths.{landing_of}
 use Rattle.cmm_chain.specs.declared.frame.Location.TheVariants.{Slot}
 use Rattle.cmm_chain.specs.Chain.{IsChain, Point}
-use Rattle.cmm_chain.specs.Contents.{Number, is_callee_saves}
+use Rattle.cmm_abi.specs.Registers.{is_callee_saves}
+use Rattle.cmm_chain.specs.Contents.{Number}
 use Rattle.cmm_chain.specs.Laws.{IsBackAt}
 use Rattle.cmm_chain.specs.Plans.{IsPlanned}
 use Rattle.cmm_chain.specs.Running.{Holdings, IsFramed, held}

@@ -14,7 +14,7 @@ use Rattle.cmm_graph.specs.Counterpart.{numbers_of, parameter_targets}
 use Rattle.cmm_graph.specs.GraphControl.{Position, kind_at}
 use Rattle.cmm_graph.specs.GraphMachine.{tokens_of_youngest}
 use Rattle.cmm_chain.specs.declared.frame.Location.TheVariants.{Slot}
-use Rattle.cmm_chain.specs.Contents.{is_callee_saves}
+use Rattle.cmm_abi.specs.Registers.{is_callee_saves}
 use Rattle.cmm_chain.specs.Plans.{IsPlanned, saved_at}
 use Rattle.cmm_chain.specs.Running.{lasts}
 use Rattle.cmm_located.specs.Compiled.{Compiled, Located, landing_in}

@@ -9,7 +9,7 @@ use Rattle.cmm_program.specs.Placed.{is_code_address, is_row_placed}
 use Rattle.cmm_chain.specs.declared.frame.Frame.{Frame}
 use Rattle.cmm_chain.specs.declared.frame.Location.{Location}
 use Rattle.cmm_chain.specs.declared.frame.Location.TheVariants.{Slot, Saved, Temp}
-use Rattle.cmm_chain.specs.Contents.{is_callee_saves, is_temporary}
+use Rattle.cmm_abi.specs.Registers.{callee_saves, is_callee_saves, is_temporary}
 use Rattle.cmm_chain.specs.Plans.{is_laid, is_place, fixed_offsets}
 
 -- ---- places that a layout takes
@@ -39,9 +39,6 @@ slot_offsets [] = []
 slot_offsets (l ∷ ls) = slot_offset l ++ slot_offsets ls
 
 -- ---- the registers that are saved
-
-abbrev pub callee_saves : List ℕ
-callee_saves = 9 ∷ 18 ∷ 19 ∷ 20 ∷ 21 ∷ 22 ∷ 23 ∷ 24 ∷ 25 ∷ 26 ∷ 27 ∷ []
 
 abbrev pub has_cuts : List ℕ → Bool
 has_cuts [] = false

@@ -5,16 +5,15 @@ ghost use Rattle.std.specs.Prelude.{◌≡◌, ◌+◌, ◌*◌, ◌<◌, ◌≤
 ghost use Rattle.std.specs.List.{list_all, list_any};
 ghost use Rattle.cmm_program.specs.InRange.{FitsFrames, is_item};
 ghost use Rattle.cmm_program.specs.Layout.{aligned_up, stackdata_labels, stackdata_size};
-ghost use Rattle.cmm_located.specs.Layouts.{IsFrameOf, callee_saves, has_cut_exit, has_cuts, is_kept_in, is_location, keeps_local, saved_registers, slot_end, slots_end, to_save};
+ghost use Rattle.cmm_abi.specs.Registers.{callee_saves};
+ghost use Rattle.cmm_located.specs.Layouts.{IsFrameOf, has_cut_exit, has_cuts, is_kept_in, is_location, keeps_local, saved_registers, slot_end, slots_end, to_save};
 ghost use Rattle.cmm_located.specs.inside.Laying.{pairs_from, words_from};
 
+use cmm_abi::registers::CALLEE_SAVES;
 use cmm_chain::{Frame, Location};
 use cmm_items::Items;
 use cmm_program::{Proc, Site, StackItem};
 use std::alloc::{AllocError, Global};
-
-/// The callee-saves registers, s1 to s11.
-const CALLEE_SAVES: [u8; 11] = [9, 18, 19, 20, 21, 22, 23, 24, 25, 26, 27];
 
 /// Where the slots end, which stand first in a frame.
 fn end_of_slots(places: &[Location]) -> u32

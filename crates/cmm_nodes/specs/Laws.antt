@@ -1,6 +1,7 @@
 -- How many instructions the code of a node has for its tokens.
 use Rattle.std.specs.Prelude.{◌≡◌, ℕ, ◌+◌, ◌*◌, ◌≤◌, IsTrue, List, length, slice_get, sum_by, Some}
 use Rattle.std.specs.List.{list_all}
+use Rattle.cmm_abi.specs.Registers.{callee_saves}
 use Rattle.cmm_graph.specs.Covering.{covers}
 use Rattle.cmm_graph.specs.Ranges.{is_node}
 use Rattle.cmm_graph.specs.declared.graph.Graph.{Graph}
@@ -12,10 +13,10 @@ use Rattle.cmm_nodes.specs.declared.context.Context.{Context}
 use Rattle.cmm_nodes.specs.declared.context.Targets.{Targets}
 use Rattle.cmm_nodes.specs.Costs.{cost_of, total_cost}
 
--- The frame of a procedure with so many tokens is small: at most eleven registers are saved, and what is made 0 and the two words of each
+-- The frame of a procedure with so many tokens is small: at most the callee-saves registers are saved, and what is made 0 and the two words of each
 -- continuation's pair come to at most one for each token.
 pub record IsSmallFor (p : Context) (whole : ℕ) : Type 0 where
-  pub saved : length p.frame.saved ≤ 11
+  pub saved : length p.frame.saved ≤ length callee_saves
   pub words : length p.zeroed + 2 * length p.frame.pairs ≤ whole
 
 -- the code of a node that has tokens enough, and what leads on behind it, are at most 32 instructions a token

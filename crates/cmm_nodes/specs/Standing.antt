@@ -1,6 +1,7 @@
 -- What is known of the code of a node, wherever finished code of a program has it.
 use Rattle.std.specs.Prelude.{◌≡◌, ℕ, ◌+◌, ◌*◌, ◌%◌, ◌<◌, ◌≤◌, ◌^◌, IsTrue, IfSome, List, length, map, slice_get, slice_index_or, slice_set, Option, Some, None, true, false}
 use Rattle.std.specs.List.{All}
+use Rattle.cmm_abi.specs.declared.registers.TheConstants.{REQUEST_VALUE}
 use Rattle.cmm_words.specs.declared.constant.Constant.TheVariants as constant
 use Rattle.cmm_chain.specs.declared.frame.Location.TheVariants.{Slot}
 use Rattle.cmm_program.specs.Layout.{constant_value}
@@ -92,7 +93,7 @@ module _ (s : Setting) (c : Compiled) (l : Launch) (f : Finished) (q : ℕ) wher
     pub landed : (k : ℕ) (n : NodeId) → k < length p.landings → landing_in c.graphs q k ≡ Some n → f.labels q (label_at p.landings k).number ≡ f.node_at q n
     pub sites : (k : ℕ) → k < length p.sites → IsSiteOf k (label_at p.sites k)
     pub limit : AsksFor 1 (λ t. StackLimit) (code_of l f q) (f.labels q y.limit.number)
-    pub end_asked : AsksFor 1 (λ t. End (t.registers 10)) (code_of l f q) f.symbols.last_return
+    pub end_asked : AsksFor 1 (λ t. End (t.registers REQUEST_VALUE)) (code_of l f q) f.symbols.last_return
 
   -- control goes on at a node from an address, if there is one
   abbrev pub GoesOnTo : Option NodeId → ℕ → Type 0

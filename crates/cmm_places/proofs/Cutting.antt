@@ -3,6 +3,7 @@ use Rattle.std.proofs.Common.{◌≡◌, ℕ, zero, suc, ◌*◌, ◌==◌, ◌|
 use Rattle.std.proofs.lemmas.Bool.{or_left}
 use Rattle.std.proofs.lemmas.Bool.Decides.{nat_tests}
 use Rattle.std.specs.List.{list_any}
+use Rattle.cmm_abi.proofs.Shared.{callee_saves_are_listed}
 use Rattle.cmm_program.specs.declared.procedure.Cont.{Cont}
 use Rattle.cmm_program.specs.declared.procedure.Proc.{Proc}
 use Rattle.cmm_program.specs.declared.procedure.Site.{Site}
@@ -19,11 +20,11 @@ use Rattle.cmm_live.specs.Laws.{SetsAreClosed}
 use Rattle.cmm_live.specs.Locals.{local_number}
 use Rattle.cmm_chain.specs.declared.frame.Frame.{Frame}
 use Rattle.cmm_chain.specs.declared.frame.Location.TheVariants.{Slot}
-use Rattle.cmm_chain.specs.Contents.{is_callee_saves}
+use Rattle.cmm_abi.specs.Registers.{is_callee_saves, callee_saves}
 use Rattle.cmm_chain.specs.Plans.{saved_at, saved_in}
 use Rattle.cmm_chain.specs.Running.{lasts}
 use Rattle.cmm_located.specs.Cutting.{LandInside, LandsByCut}
-use Rattle.cmm_located.specs.Layouts.{callee_saves, has_cut_exit, has_cuts, keeps_local}
+use Rattle.cmm_located.specs.Layouts.{has_cut_exit, has_cuts, keeps_local}
 use Rattle.cmm_places.specs.declared.procedure.ProcedurePlaces.{ProcedurePlaces}
 use Rattle.cmm_places.specs.Compiling.{compiled, live_before, no_frame}
 use Rattle.cmm_places.proofs.Exits.{SiteNode, by_cut, copy_of, lands_at, lands_in}
@@ -50,7 +51,7 @@ has_word ((register, offset) ∷ rest) r is = by (has_word rest r) (r == registe
         ap (λ b. is_some (elim b as (λ _. Option ℕ) [ true ↦ Some offset | false ↦ saved_in rest r ])) same ∙ later listed
 
 is_listed : (r : ℕ) → is_callee_saves r ≡ true → list_any (λ x. r == x) callee_saves ≡ true
-is_listed r is = grind (arith, nat_tests, is)
+is_listed r is = sym (callee_saves_are_listed r) ∙ is
 
 -- a site with a cut exit lets its procedure save all
 some_cut : (ks : List ℕ) (k : ℕ) → Contains ks k → has_cuts ks ≡ true

@@ -15,7 +15,8 @@ use Rattle.cmm_live.specs.declared.live_sets.LiveSets.{LiveSets}
 use Rattle.cmm_live.specs.Exact.{AreLiveSets, set_at}
 use Rattle.cmm_live.specs.Locals.{local_count}
 use Rattle.cmm_chain.specs.declared.frame.Frame.{Frame}
-use Rattle.cmm_located.specs.Layouts.{callee_saves, has_cut_exit, keeps_local, row_with}
+use Rattle.cmm_abi.specs.Registers.{callee_saves}
+use Rattle.cmm_located.specs.Layouts.{has_cut_exit, keeps_local, row_with}
 use Rattle.cmm_places.specs.declared.procedure.ProcedurePlaces.{ProcedurePlaces}
 use Rattle.cmm_places.specs.Compiling.{no_frame}
 use Rattle.cmm_places.specs.Laws.{EntriesAreShort, RowsArePlaced, RowsHaveFrames}

@@ -1,6 +1,7 @@
 -- What a plan of slots is worth: it meets all that the laws of runs over places ask of a compiled program.
 use Rattle.std.specs.Prelude.{◌≡◌, ℕ, ◌+◌, ◌*◌, ◌≤◌, IsTrue, List, length}
 use Rattle.std.specs.List.{All, AllZip, list_all}
+use Rattle.cmm_abi.specs.Registers.{callee_saves}
 use Rattle.cmm_following.specs.Following.{Follows}
 use Rattle.cmm_laws.specs.Fitting.{IsByte, IsSetUp}
 use Rattle.cmm_laws.specs.Observed.{machine_of}
@@ -28,10 +29,10 @@ use Rattle.cmm_places.specs.Placing.{placement_rows}
 abbrev pub FlowsCanBePlaced : Type 0
 FlowsCanBePlaced = (p : Program) (graphs : List Graph) → IsInRange p → AllZip IsFlow p.procs graphs → AllZip CanBePlaced p.procs graphs
 
--- The code of an Entry writes few words: at most eleven registers are saved, and what is made 0 and the two words of each continuation's pair
+-- The code of an Entry writes few words: at most the callee-saves registers are saved, and what is made 0 and the two words of each continuation's pair
 -- come to at most one for each token of the procedure.
 pub record EntryIsShort (p : Proc) (k : ProcedurePlaces) : Type 0 where
-  pub saved : length k.frame.saved ≤ 11
+  pub saved : length k.frame.saved ≤ length callee_saves
   pub words : length k.zeroed + 2 * length k.frame.pairs ≤ p.tokens
 
 abbrev pub EntriesAreShort : Type 0

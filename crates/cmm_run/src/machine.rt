@@ -4,6 +4,7 @@ ghost use Rattle.rv_table.specs.Machine.{code_base, region_base};
 ghost use Rattle.rv_table.specs.Registers.{registers_of, with_register};
 
 use crate::waiting::Waiting;
+use cmm_abi::registers::{FRAME, REGION};
 use rv_memory::Memory;
 use rv_table::Regs;
 use rv_table::memory_map::REGION_BASE;
@@ -25,7 +26,7 @@ pub fn first_registers(start: u64, top: u64) -> Regs
         x: [0; 32],
         pc: start,
     };
-    regs.write(2, top);
-    regs.write(4, REGION_BASE);
+    regs.write(FRAME, top);
+    regs.write(REGION, REGION_BASE);
     regs
 }

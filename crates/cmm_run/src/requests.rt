@@ -15,11 +15,9 @@ use crate::loaded::Loaded;
 use crate::machine::Machine;
 use crate::outcome::Outcome;
 use crate::yielding::yields;
+use cmm_abi::registers::REQUEST_VALUE;
 use cmm_outside::{Failed, Sink, Source};
 use rv_table::{Regs, Request};
-
-/// The register that a byte of the input goes to.
-const VALUE: u8 = 10;
 
 /// Does what the ECALL at pc asks for, and says what the run comes to if it is over.
 pub fn answer<I: Source, O: Sink, E: Sink>(
@@ -95,7 +93,7 @@ fn receive(r: &mut Regs, value: u64)
     requires { r.old.pc + 4 < 2 ^ 64 }
     ensures { (memory : ℕ → ℕ) → state_with r.new memory ≡ with_set (state_with r.old memory) 10 value }
 {
-    r.write(VALUE, value);
+    r.write(REQUEST_VALUE, value);
     go_on(r);
 }
 

@@ -12,17 +12,13 @@ ghost use Rattle.cmm_run.specs.inside.Yields.{Counts, StopsWith, YieldsTo, count
 
 use crate::machine::Machine;
 use crate::outcome::{Outcome, Torn};
+use cmm_abi::registers::{FIRST_VALUE, FRAME, RETURN_ADDRESS};
+use cmm_abi::values::IN_REGISTERS;
 use cmm_image::{Image, SiteRow};
 use cmm_outside::{Failed, Sink};
 use cmm_report::put_yield;
 use rv_memory::Memory;
 use rv_table::memory_map::{REGION_BASE, STACK_BASE};
-
-/// How many values travel in registers; the others are in the argument area.
-const REGISTER_VALUES: usize = 8;
-
-/// The register of the first value.
-const FIRST_VALUE: u8 = 10;
 
 /// Writes the line of a yield, which stops the run, since no block of the script answers it. Where the chain of frames breaks at its
 /// first point, nothing is written.
@@ -57,8 +53,8 @@ fn yield_count(image: &Image, machine: &Machine) -> Result<usize, Torn>
     ensures few { IfOk result (λ count. count ≤ 64) }
     ensures kept { IsImage image.now }
 {
-    let address = machine.regs.read(1);
-    let frame = machine.regs.read(2);
+    let address = machine.regs.read(RETURN_ADDRESS);
+    let frame = machine.regs.read(FRAME);
     let top = machine.memory.top();
     if is_end(address, image.parts().last, frame, top) {
         return Ok(0);
@@ -135,10 +131,11 @@ fn value_at(machine: &Machine, k: usize) -> u64
     requires { k < 64 }
     ensures { (r : Region) → r.address ≡ region_base → result ≡ word_at (state_of machine.now.regs machine.now.memory) (value_place r k) }
 {
-    if k < REGISTER_VALUES {
+    let in_registers = IN_REGISTERS as usize;
+    if k < in_registers {
         machine.regs.read(FIRST_VALUE + k as u8)
     } else {
-        argument(&machine.memory, (k - REGISTER_VALUES) as u64)
+        argument(&machine.memory, (k - in_registers) as u64)
     }
 }
 

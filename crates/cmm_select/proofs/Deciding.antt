@@ -19,7 +19,8 @@ use Rattle.rv_table.specs.Bounds.{IsSound}
 use Rattle.rv_table.specs.Machine.{State}
 use Rattle.rv_table.specs.Words.{is_less, signed}
 use Rattle.cmm_changes.proofs.Shared.{keeps_same, keeps_then, reaches_more, reaches_sound, runs_none, runs_weaker}
-use Rattle.cmm_changes.specs.Changes.{Keeps, is_scratch}
+use Rattle.cmm_abi.specs.Registers.{is_scratch}
+use Rattle.cmm_changes.specs.Changes.{Keeps}
 use Rattle.cmm_changes.specs.Pieces.{Runs}
 use Rattle.cmm_select.proofs.Operating.{Signs}
 use Rattle.cmm_select.proofs.Wide.{signed_same}

@@ -2,7 +2,7 @@
 use Rattle.std.proofs.Common.{◌≡◌, ◌≢◌, ℕ, ◌+◌, ◌*◌, ◌/◌, ◌%◌, ◌<◌, ◌^◌, refl, sym, ◌∙◌, ap, subst, arith, pos, true, false}
 use Rattle.std.specs.Prelude.{◌==◌, ◌||◌, Bool, IsTrue}
 use Rattle.std.proofs.lemmas.Bool.Decides.{nat_tests}
-use Rattle.cmm_chain.specs.Contents.{is_callee_saves, is_temporary}
+use Rattle.cmm_abi.specs.Registers.{is_callee_saves, is_temporary, is_scratch}
 use Rattle.cmm_chain.specs.declared.frame.Location.TheVariants.{Slot}
 use Rattle.rv_asm.specs.Appending.{Then}
 use Rattle.rv_asm.specs.Parts.{Code, Does}
@@ -13,7 +13,7 @@ use Rattle.rv_table.specs.Words.{modulo, shifted_left, sum}
 use Rattle.rv_table.specs.declared.instruction.Instr.{Instr}
 use Rattle.rv_table.specs.declared.instruction.Instr.TheVariants.{Add, Addi, Ld, Sd, Slli}
 use Rattle.cmm_changes.proofs.Shared.{leads_load, leads_set, leads_store, leads_then, leads_weaker, runs_of}
-use Rattle.cmm_changes.specs.Changes.{CanReach, Puts, PutsRegister, Sets, Writes, is_scratch, read_at}
+use Rattle.cmm_changes.specs.Changes.{CanReach, Puts, PutsRegister, Sets, Writes, read_at}
 use Rattle.cmm_changes.specs.Pieces.{Always, Leads}
 use Rattle.cmm_select.proofs.Sums.{loaded_whole, moved_up, plus_far, plus_near, plus_none}
 

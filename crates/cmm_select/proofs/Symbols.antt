@@ -11,7 +11,8 @@ use Rattle.rv_table.specs.Words.{modulo, sum}
 use Rattle.rv_table.specs.declared.instruction.Instr.TheVariants.{Add, Ld, Sd}
 use Rattle.cmm_changes.proofs.Shared.{leads_address, leads_load, leads_set, leads_sound, leads_store, leads_then, leads_weaker, runs_of}
 use Rattle.cmm_changes.specs.Accesses.{CanReachGlobal, PutsGlobal, global_at}
-use Rattle.cmm_changes.specs.Changes.{Sets, Writes, is_scratch}
+use Rattle.cmm_abi.specs.Registers.{is_scratch}
+use Rattle.cmm_changes.specs.Changes.{Sets, Writes}
 use Rattle.cmm_changes.specs.Pieces.{Always, Leads}
 use Rattle.cmm_select.proofs.Places.{One, not_same, same_set, set_as}
 use Rattle.cmm_select.proofs.Sums.{loaded_whole}

@@ -10,7 +10,7 @@ ghost use Rattle.cmm_select.specs.Memory.{IsCellBy, access_of as widest, access_
 ghost use Rattle.cmm_select.specs.inside.Gathering.{CanAccess, Gathers, Joins, Scatters, shift_down as shifted_down, shift_up as shifted_up};
 
 use crate::cell::{load_cell, load_part, store_part};
-use crate::place::{FIRST, HELP, SECOND};
+use cmm_abi::registers::{FIRST_SCRATCH, HELPER, SECOND_SCRATCH};
 use cmm_words::Width;
 use rv_asm::Asm;
 use rv_table::Instr;
@@ -69,7 +69,7 @@ pub fn load_word(asm: &mut Asm, width: Width, aligned: u32) -> Result<(), AllocE
         return Ok(());
     }
     gather(asm, access, access.bytes() as u32, count - 1)?;
-    join(asm, access, 0, FIRST)?;
+    join(asm, access, 0, FIRST_SCRATCH)?;
     Ok(())
 }
 
@@ -92,11 +92,11 @@ fn gather(asm: &mut Asm, access: Width, offset: u32, count: u32) -> Result<(), A
     ensures labels { asm.new.labels ≡ asm.old.labels }
 {
     if count == 1 {
-        asm.emit(load_part(access, SECOND, offset))?;
+        asm.emit(load_part(access, SECOND_SCRATCH, offset))?;
         return Ok(());
     }
     gather(asm, access, offset + access.bytes() as u32, count - 1)?;
-    join(asm, access, offset, SECOND)?;
+    join(asm, access, offset, SECOND_SCRATCH)?;
     Ok(())
 }
 
@@ -110,11 +110,11 @@ fn join(asm: &mut Asm, access: Width, offset: u32, rd: u8) -> Result<(), AllocEr
     ensures labels { asm.new.labels ≡ asm.old.labels }
 {
     asm.emit(shift_up(access))?;
-    asm.emit(load_part(access, HELP, offset))?;
+    asm.emit(load_part(access, HELPER, offset))?;
     asm.emit(Instr::Add {
         rd,
-        rs1: SECOND,
-        rs2: HELP,
+        rs1: SECOND_SCRATCH,
+        rs2: HELPER,
     })?;
     Ok(())
 }
@@ -140,7 +140,7 @@ fn shift_up(width: Width) -> Instr
     ensures is { result ≡ shifted_up width }
     ensures valid { IsValid result }
 {
-    let (rd, rs1) = (SECOND, SECOND);
+    let (rd, rs1) = (SECOND_SCRATCH, SECOND_SCRATCH);
     match width {
         Width::W8 => Instr::Slli { rd, rs1, imm: 8 },
         Width::W16 => Instr::Slli { rd, rs1, imm: 16 },
@@ -154,7 +154,7 @@ fn shift_down(width: Width) -> Instr
     ensures is { result ≡ shifted_down width }
     ensures valid { IsValid result }
 {
-    let (rd, rs1) = (SECOND, SECOND);
+    let (rd, rs1) = (SECOND_SCRATCH, SECOND_SCRATCH);
     match width {
         Width::W8 => Instr::Srli { rd, rs1, imm: 8 },
         Width::W16 => Instr::Srli { rd, rs1, imm: 16 },

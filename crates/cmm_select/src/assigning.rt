@@ -14,8 +14,8 @@ use crate::comparing::compare;
 use crate::destination::{Destination, put, read_global};
 use crate::operand::{Operand, bring_both, bring_operand};
 use crate::operator::{narrow, operate};
-use crate::place::FIRST;
 use crate::unary::{convert, operate_on_one};
+use cmm_abi::registers::FIRST_SCRATCH;
 use cmm_words::{Cmp, Op1, Op2, Width};
 use rv_asm::{Asm, Label};
 use std::alloc::AllocError;
@@ -27,7 +27,7 @@ pub fn assign_copy(asm: &mut Asm, from: &Operand, to: &Destination) -> Result<()
     ensures copies { OnOk result (Adds (most_for from.now + 4) asm.old.parts asm.new.parts (Copies (most_for from.now + 4) from.now to.now)) }
     ensures labels { asm.new.labels ≡ asm.old.labels }
 {
-    bring_operand(asm, from, FIRST)?;
+    bring_operand(asm, from, FIRST_SCRATCH)?;
     put(asm, to)?;
     Ok(())
 }
@@ -57,7 +57,7 @@ pub fn assign_unary(
     ensures assigns { OnOk result (Adds (most_for operand.now + shifts_of width + 5) asm.old.parts asm.new.parts (AssignsOne (most_for operand.now + shifts_of width + 5) width (value1 operator width) operand.now to.now)) }
     ensures labels { asm.new.labels ≡ asm.old.labels }
 {
-    bring_operand(asm, operand, FIRST)?;
+    bring_operand(asm, operand, FIRST_SCRATCH)?;
     operate_on_one(asm, operator, width)?;
     put(asm, to)?;
     Ok(())
@@ -76,7 +76,7 @@ pub fn assign_extended(
     ensures assigns { OnOk result (Adds (most_for operand.now + shifts_of from + shifts_of width + 4) asm.old.parts asm.new.parts (AssignsOne (most_for operand.now + shifts_of from + shifts_of width + 4) from (sign_extended from width) operand.now to.now)) }
     ensures labels { asm.new.labels ≡ asm.old.labels }
 {
-    bring_operand(asm, operand, FIRST)?;
+    bring_operand(asm, operand, FIRST_SCRATCH)?;
     convert(asm, from, width)?;
     put(asm, to)?;
     Ok(())
@@ -95,7 +95,7 @@ pub fn assign_low(
     ensures assigns { OnOk result (Adds (most_for operand.now + shifts_of width + 4) asm.old.parts asm.new.parts (AssignsOne (most_for operand.now + shifts_of width + 4) from (low_bits width) operand.now to.now)) }
     ensures labels { asm.new.labels ≡ asm.old.labels }
 {
-    bring_operand(asm, operand, FIRST)?;
+    bring_operand(asm, operand, FIRST_SCRATCH)?;
     narrow(asm, width)?;
     put(asm, to)?;
     Ok(())

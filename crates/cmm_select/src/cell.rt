@@ -8,7 +8,7 @@ ghost use Rattle.cmm_changes.specs.Pieces.{Adds, Leads};
 ghost use Rattle.cmm_select.specs.Cells.{IsCell, Loads};
 ghost use Rattle.cmm_select.specs.inside.Accesses.{load_part as part_loaded, store_part as part_stored};
 
-use crate::place::{FIRST, SECOND};
+use cmm_abi::registers::{FIRST_SCRATCH, SECOND_SCRATCH};
 use cmm_words::Width;
 use rv_asm::Asm;
 use rv_table::Instr;
@@ -19,7 +19,7 @@ pub fn load_cell(asm: &mut Asm, width: Width) -> Result<(), AllocError>
     ensures loads { OnOk result (Adds 1 asm.old.parts asm.new.parts (Leads 1 (IsCell width) (Loads width))) }
     ensures labels { asm.new.labels ≡ asm.old.labels }
 {
-    asm.emit(load_part(width, FIRST, 0))?;
+    asm.emit(load_part(width, FIRST_SCRATCH, 0))?;
     Ok(())
 }
 
@@ -40,7 +40,7 @@ pub(crate) fn load_part(width: Width, rd: u8, offset: u32) -> Instr
     ensures is { result ≡ part_loaded width rd offset }
     ensures valid { IsValid result }
 {
-    let (rs1, imm) = (FIRST, offset as i32);
+    let (rs1, imm) = (FIRST_SCRATCH, offset as i32);
     match width {
         Width::W8 => Instr::Lbu { rd, rs1, imm },
         Width::W16 => Instr::Lhu { rd, rs1, imm },
@@ -55,7 +55,7 @@ pub(crate) fn store_part(width: Width, offset: u32) -> Instr
     ensures is { result ≡ part_stored width offset }
     ensures valid { IsValid result }
 {
-    let (rs1, rs2, imm) = (FIRST, SECOND, offset as i32);
+    let (rs1, rs2, imm) = (FIRST_SCRATCH, SECOND_SCRATCH, offset as i32);
     match width {
         Width::W8 => Instr::Sb { rs1, rs2, imm },
         Width::W16 => Instr::Sh { rs1, rs2, imm },

@@ -10,7 +10,7 @@ ghost use Rattle.cmm_select.specs.Operators.{HaveWords, shifts_of};
 ghost use Rattle.cmm_select.specs.inside.Comparing.{Readies, compares_integers, contrary_of, less_of, turned_of};
 
 use crate::operator::extend;
-use crate::place::{FIRST, SECOND};
+use cmm_abi::registers::{FIRST_SCRATCH, SECOND_SCRATCH};
 use cmm_words::laws::wide_comparisons;
 use cmm_words::{Cmp, Width};
 use rv_asm::{Asm, Label};
@@ -38,8 +38,8 @@ fn give_signs(asm: &mut Asm, comparison: Cmp, width: Width) -> Result<(), AllocE
     if !is_signed(comparison) {
         return Ok(());
     }
-    extend(asm, width, FIRST)?;
-    extend(asm, width, SECOND)?;
+    extend(asm, width, FIRST_SCRATCH)?;
+    extend(asm, width, SECOND_SCRATCH)?;
     Ok(())
 }
 
@@ -58,11 +58,11 @@ fn branch_wide(asm: &mut Asm, comparison: Cmp, to: Label) -> Result<(), AllocErr
 {
     match turned(comparison) {
         Some(other) => {
-            asm.branch(other, SECOND, FIRST, to)?;
+            asm.branch(other, SECOND_SCRATCH, FIRST_SCRATCH, to)?;
             Ok(())
         }
         None => {
-            asm.branch(comparison, FIRST, SECOND, to)?;
+            asm.branch(comparison, FIRST_SCRATCH, SECOND_SCRATCH, to)?;
             Ok(())
         }
     }
@@ -101,8 +101,8 @@ fn compare_wide(asm: &mut Asm, comparison: Cmp) -> Result<(), AllocError>
         Some(other) => {
             compare_directly(asm, other)?;
             asm.emit(Instr::Xori {
-                rd: FIRST,
-                rs1: FIRST,
+                rd: FIRST_SCRATCH,
+                rs1: FIRST_SCRATCH,
                 imm: 1,
             })?;
             Ok(())
@@ -152,13 +152,13 @@ fn equal(asm: &mut Asm) -> Result<(), AllocError>
     ensures labels { asm.new.labels ≡ asm.old.labels }
 {
     asm.emit(Instr::Sub {
-        rd: FIRST,
-        rs1: FIRST,
-        rs2: SECOND,
+        rd: FIRST_SCRATCH,
+        rs1: FIRST_SCRATCH,
+        rs2: SECOND_SCRATCH,
     })?;
     asm.emit(Instr::Sltiu {
-        rd: FIRST,
-        rs1: FIRST,
+        rd: FIRST_SCRATCH,
+        rs1: FIRST_SCRATCH,
         imm: 1,
     })?;
     Ok(())
@@ -169,27 +169,27 @@ fn less(comparison: Cmp) -> Instr
     ensures is { result ≡ less_of comparison }
     ensures valid { IsValid result }
 {
-    let rd = FIRST;
+    let rd = FIRST_SCRATCH;
     match comparison {
         Cmp::Lt => Instr::Slt {
             rd,
-            rs1: FIRST,
-            rs2: SECOND,
+            rs1: FIRST_SCRATCH,
+            rs2: SECOND_SCRATCH,
         },
         Cmp::Gt => Instr::Slt {
             rd,
-            rs1: SECOND,
-            rs2: FIRST,
+            rs1: SECOND_SCRATCH,
+            rs2: FIRST_SCRATCH,
         },
         Cmp::Gtu => Instr::Sltu {
             rd,
-            rs1: SECOND,
-            rs2: FIRST,
+            rs1: SECOND_SCRATCH,
+            rs2: FIRST_SCRATCH,
         },
         _ => Instr::Sltu {
             rd,
-            rs1: FIRST,
-            rs2: SECOND,
+            rs1: FIRST_SCRATCH,
+            rs2: SECOND_SCRATCH,
         },
     }
 }

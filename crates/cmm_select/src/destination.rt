@@ -8,14 +8,12 @@ ghost use Rattle.cmm_changes.specs.Changes.{Sets};
 ghost use Rattle.cmm_changes.specs.Pieces.{Adds, Always, Leads};
 ghost use Rattle.cmm_select.specs.Destinations.{IsDestination, PutsFirst};
 
-use crate::place::{FIRST, HELP, write};
+use crate::place::write;
+use cmm_abi::registers::{FIRST_SCRATCH, HELPER, REGION};
 use cmm_chain::Location;
 use rv_asm::{Asm, Label};
 use rv_table::Instr;
 use std::alloc::AllocError;
-
-/// The address of the region, in which the global registers are.
-const REGION: u8 = 4;
 
 /// Where a number is put.
 #[derive(Clone, Copy, Debug, PartialEq, Eq)]
@@ -38,7 +36,7 @@ pub fn put(asm: &mut Asm, to: &Destination) -> Result<(), AllocError>
             Ok(())
         }
         Destination::Register(of) => {
-            put_global(asm, FIRST, of)?;
+            put_global(asm, FIRST_SCRATCH, of)?;
             Ok(())
         }
     }
@@ -53,9 +51,9 @@ pub fn put_global(asm: &mut Asm, register: u8, of: Label) -> Result<(), AllocErr
     ensures puts { OnOk result (Adds 4 asm.old.parts asm.new.parts (λ x. Leads 4 (CanReachGlobal (x.at of.number)) (λ s t. PutsGlobal (x.at of.number) (s.registers register) s t) x)) }
     ensures labels { asm.new.labels ≡ asm.old.labels }
 {
-    find_global(asm, of, HELP)?;
+    find_global(asm, of, HELPER)?;
     asm.emit(Instr::Sd {
-        rs1: HELP,
+        rs1: HELPER,
         rs2: register,
         imm: 0,
     })?;
@@ -68,10 +66,10 @@ pub fn read_global(asm: &mut Asm, of: Label) -> Result<(), AllocError>
     ensures reads { OnOk result (Adds 4 asm.old.parts asm.new.parts (λ x. Leads 4 (CanReachGlobal (x.at of.number)) (λ s t. Sets 5 (global_at (x.at of.number) s) s t) x)) }
     ensures labels { asm.new.labels ≡ asm.old.labels }
 {
-    find_global(asm, of, FIRST)?;
+    find_global(asm, of, FIRST_SCRATCH)?;
     asm.emit(Instr::Ld {
-        rd: FIRST,
-        rs1: FIRST,
+        rd: FIRST_SCRATCH,
+        rs1: FIRST_SCRATCH,
         imm: 0,
     })?;
     Ok(())

@@ -13,7 +13,8 @@ ghost use Rattle.cmm_select.specs.Operators.{shifts_of};
 
 use crate::comparing::branch;
 use crate::operand::{Operand, bring_both};
-use crate::place::{FIRST, ZERO, add_to};
+use crate::place::add_to;
+use cmm_abi::registers::{FIRST_SCRATCH, ZERO};
 use cmm_words::{Cmp, Width};
 use rv_asm::{Asm, Label};
 use rv_table::Instr;
@@ -55,7 +56,7 @@ pub fn go_on(asm: &mut Asm) -> Result<(), AllocError>
     ensures keeps { OnOk result (Adds 1 asm.old.parts asm.new.parts (Leads 1 Always Keeps)) }
     ensures labels { asm.new.labels ≡ asm.old.labels }
 {
-    asm.emit(add_to(FIRST, ZERO, 0))?;
+    asm.emit(add_to(FIRST_SCRATCH, ZERO, 0))?;
     Ok(())
 }
 

@@ -24,7 +24,7 @@
 //! - `memory`: a destination gets a word of memory; an operand is stored.
 //! - `going`: control goes by a comparison of operands, to a label, on, or to its end.
 //! - `switching`: control goes by the arms of a switch.
-//! - `host`: bytes are put and taken.
+//! - `host`: a request is chosen, and bytes are put and taken.
 //!
 //! - `laws`: how short the code of two operands is, and where switches lead.
 #![tactic(auto)]
@@ -55,7 +55,7 @@ pub use cell::{load_cell, store_cell};
 pub use comparing::{branch, compare};
 pub use destination::{Destination, put, put_global, read_global};
 pub use going::{decide, go_on, go_to, stop};
-pub use host::{get_byte, put_byte};
+pub use host::{choose, get_byte, put_byte};
 pub use memory::{assign_loaded, store};
 pub use number::{load_constant, load_low};
 pub use operand::{Operand, bring_both, bring_operand};

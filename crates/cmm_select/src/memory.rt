@@ -9,7 +9,7 @@ ghost use Rattle.cmm_select.specs.Operands.{IsOperand, most_for};
 use crate::accesses::{load_word, store_word};
 use crate::destination::{Destination, put};
 use crate::operand::{Operand, bring_both, bring_operand};
-use crate::place::FIRST;
+use cmm_abi::registers::FIRST_SCRATCH;
 use cmm_words::Width;
 use rv_asm::Asm;
 use std::alloc::AllocError;
@@ -28,7 +28,7 @@ pub fn assign_loaded(
     ensures assigns { OnOk result (Adds (most_for address.now + (3 * accesses width aligned - 2) + 4) asm.old.parts asm.new.parts (AssignsLoaded (most_for address.now + (3 * accesses width aligned - 2) + 4) width aligned address.now to.now)) }
     ensures labels { asm.new.labels ≡ asm.old.labels }
 {
-    bring_operand(asm, address, FIRST)?;
+    bring_operand(asm, address, FIRST_SCRATCH)?;
     load_word(asm, width, aligned)?;
     put(asm, to)?;
     Ok(())

@@ -8,7 +8,8 @@ ghost use Rattle.cmm_changes.specs.Changes.{Sets};
 ghost use Rattle.cmm_changes.specs.Pieces.{Adds, Always, Leads};
 ghost use Rattle.cmm_select.specs.Operands.{most_for_number};
 
-use crate::place::{NEAR, ZERO, add_to};
+use crate::place::{NEAR, add_to};
+use cmm_abi::registers::ZERO;
 use rv_asm::Asm;
 use rv_table::Instr;
 use std::alloc::AllocError;

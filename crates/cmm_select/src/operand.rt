@@ -6,8 +6,8 @@ ghost use Rattle.cmm_changes.specs.Pieces.{Adds};
 ghost use Rattle.cmm_select.specs.Operands.{BringsBoth, BringsOperand, IsOperand, most_for};
 
 use crate::number::load_constant;
-use crate::place::{FIRST, HELP, SECOND};
 use crate::source::{Source, bring};
+use cmm_abi::registers::{FIRST_SCRATCH, HELPER, SECOND_SCRATCH};
 use rv_asm::{Asm, Label};
 use rv_table::Instr;
 use std::alloc::AllocError;
@@ -56,12 +56,12 @@ fn bring_symbol(asm: &mut Asm, of: Label, plus: u64, rd: u8) -> Result<(), Alloc
         asm.address(rd, of)?;
         return Ok(());
     }
-    load_constant(asm, plus, HELP)?;
+    load_constant(asm, plus, HELPER)?;
     asm.address(rd, of)?;
     asm.emit(Instr::Add {
         rd,
         rs1: rd,
-        rs2: HELP,
+        rs2: HELPER,
     })?;
     Ok(())
 }
@@ -74,7 +74,7 @@ pub fn bring_both(asm: &mut Asm, left: &Operand, right: &Operand) -> Result<(), 
     ensures brings { OnOk result (Adds (most_for left.now + most_for right.now) asm.old.parts asm.new.parts (BringsBoth left.now right.now)) }
     ensures labels { asm.new.labels ≡ asm.old.labels }
 {
-    bring_operand(asm, left, FIRST)?;
-    bring_operand(asm, right, SECOND)?;
+    bring_operand(asm, left, FIRST_SCRATCH)?;
+    bring_operand(asm, right, SECOND_SCRATCH)?;
     Ok(())
 }

@@ -11,7 +11,7 @@ ghost use Rattle.cmm_changes.specs.Pieces.{Adds, Always, Leads, Runs};
 ghost use Rattle.cmm_select.specs.Operators.{Extends, HasWord, HaveWords, Narrows, Operates, shifts_of};
 ghost use Rattle.cmm_select.specs.inside.Wide.{direct, is_plain, is_shift, is_signed, method_of};
 
-use crate::place::{FIRST, HELP, SECOND, ZERO};
+use cmm_abi::registers::{FIRST_SCRATCH, HELPER, SECOND_SCRATCH, ZERO};
 use cmm_words::laws::{divisions_by_each_other, wide_operators};
 use cmm_words::{Op2, Width};
 use rv_asm::Asm;
@@ -72,8 +72,8 @@ fn shift_out(asm: &mut Asm, amount: u8) -> Result<(), AllocError>
     ensures shifts { OnOk result (Adds 2 asm.old.parts asm.new.parts (Runs 0 2 Always (λ s t. Sets 5 (shifted_right (shifted_left (s.registers 5) amount) amount) s t))) }
     ensures labels { asm.new.labels ≡ asm.old.labels }
 {
-    asm.emit(shift_left(FIRST, amount))?;
-    asm.emit(shift_right(FIRST, amount))?;
+    asm.emit(shift_left(FIRST_SCRATCH, amount))?;
+    asm.emit(shift_right(FIRST_SCRATCH, amount))?;
     Ok(())
 }
 
@@ -228,15 +228,15 @@ fn shift(asm: &mut Asm, operator: Op2, width: Width) -> Result<(), AllocError>
 {
     wide_operators();
     asm.emit(Instr::Sltiu {
-        rd: HELP,
-        rs1: SECOND,
+        rd: HELPER,
+        rs1: SECOND_SCRATCH,
         imm: 64,
     })?;
     asm.emit(instruction(operator))?;
     asm.emit(Instr::Mul {
-        rd: FIRST,
-        rs1: FIRST,
-        rs2: HELP,
+        rd: FIRST_SCRATCH,
+        rs1: FIRST_SCRATCH,
+        rs2: HELPER,
     })?;
     narrow(asm, width)?;
     Ok(())
@@ -249,8 +249,8 @@ fn signed(asm: &mut Asm, operator: Op2, width: Width) -> Result<(), AllocError>
     ensures labels { asm.new.labels ≡ asm.old.labels }
 {
     wide_operators();
-    extend(asm, width, FIRST)?;
-    extend(asm, width, SECOND)?;
+    extend(asm, width, FIRST_SCRATCH)?;
+    extend(asm, width, SECOND_SCRATCH)?;
     asm.emit(instruction(operator))?;
     narrow(asm, width)?;
     Ok(())
@@ -261,7 +261,7 @@ fn instruction(operator: Op2) -> Instr
     ensures is { result ≡ direct operator }
     ensures valid { IsValid result }
 {
-    let (rd, rs1, rs2) = (FIRST, FIRST, SECOND);
+    let (rd, rs1, rs2) = (FIRST_SCRATCH, FIRST_SCRATCH, SECOND_SCRATCH);
     match operator {
         Op2::Sub => Instr::Sub { rd, rs1, rs2 },
         Op2::Mul => Instr::Mul { rd, rs1, rs2 },
@@ -284,7 +284,7 @@ fn shift_signed(asm: &mut Asm, width: Width) -> Result<(), AllocError>
     ensures labels { asm.new.labels ≡ asm.old.labels }
 {
     wide_operators();
-    extend(asm, width, FIRST)?;
+    extend(asm, width, FIRST_SCRATCH)?;
     shift_copies(asm)?;
     narrow(asm, width)?;
     Ok(())
@@ -296,24 +296,24 @@ fn shift_copies(asm: &mut Asm) -> Result<(), AllocError>
     ensures labels { asm.new.labels ≡ asm.old.labels }
 {
     asm.emit(Instr::Sltiu {
-        rd: HELP,
-        rs1: SECOND,
+        rd: HELPER,
+        rs1: SECOND_SCRATCH,
         imm: 64,
     })?;
     asm.emit(Instr::Addi {
-        rd: HELP,
-        rs1: HELP,
+        rd: HELPER,
+        rs1: HELPER,
         imm: -1,
     })?;
     asm.emit(Instr::Sra {
-        rd: FIRST,
-        rs1: FIRST,
-        rs2: HELP,
+        rd: FIRST_SCRATCH,
+        rs1: FIRST_SCRATCH,
+        rs2: HELPER,
     })?;
     asm.emit(Instr::Sra {
-        rd: FIRST,
-        rs1: FIRST,
-        rs2: SECOND,
+        rd: FIRST_SCRATCH,
+        rs1: FIRST_SCRATCH,
+        rs2: SECOND_SCRATCH,
     })?;
     Ok(())
 }
@@ -324,8 +324,8 @@ fn divide_down(asm: &mut Asm, width: Width) -> Result<(), AllocError>
     ensures labels { asm.new.labels ≡ asm.old.labels }
 {
     wide_operators();
-    extend(asm, width, FIRST)?;
-    extend(asm, width, SECOND)?;
+    extend(asm, width, FIRST_SCRATCH)?;
+    extend(asm, width, SECOND_SCRATCH)?;
     quotient_down(asm)?;
     narrow(asm, width)?;
     Ok(())
@@ -338,29 +338,29 @@ fn quotient_down(asm: &mut Asm) -> Result<(), AllocError>
 {
     divisions_by_each_other();
     asm.emit(Instr::Rem {
-        rd: HELP,
-        rs1: FIRST,
-        rs2: SECOND,
+        rd: HELPER,
+        rs1: FIRST_SCRATCH,
+        rs2: SECOND_SCRATCH,
     })?;
     asm.emit(Instr::Div {
-        rd: FIRST,
-        rs1: FIRST,
-        rs2: SECOND,
+        rd: FIRST_SCRATCH,
+        rs1: FIRST_SCRATCH,
+        rs2: SECOND_SCRATCH,
     })?;
     asm.emit(Instr::Mulh {
-        rd: HELP,
-        rs1: HELP,
-        rs2: SECOND,
+        rd: HELPER,
+        rs1: HELPER,
+        rs2: SECOND_SCRATCH,
     })?;
     asm.emit(Instr::Srli {
-        rd: HELP,
-        rs1: HELP,
+        rd: HELPER,
+        rs1: HELPER,
         imm: 63,
     })?;
     asm.emit(Instr::Sub {
-        rd: FIRST,
-        rs1: FIRST,
-        rs2: HELP,
+        rd: FIRST_SCRATCH,
+        rs1: FIRST_SCRATCH,
+        rs2: HELPER,
     })?;
     Ok(())
 }
@@ -371,8 +371,8 @@ fn modulo_down(asm: &mut Asm, width: Width) -> Result<(), AllocError>
     ensures labels { asm.new.labels ≡ asm.old.labels }
 {
     wide_operators();
-    extend(asm, width, FIRST)?;
-    extend(asm, width, SECOND)?;
+    extend(asm, width, FIRST_SCRATCH)?;
+    extend(asm, width, SECOND_SCRATCH)?;
     remainder_down(asm)?;
     narrow(asm, width)?;
     Ok(())
@@ -385,29 +385,29 @@ fn remainder_down(asm: &mut Asm) -> Result<(), AllocError>
 {
     divisions_by_each_other();
     asm.emit(Instr::Rem {
-        rd: FIRST,
-        rs1: FIRST,
-        rs2: SECOND,
+        rd: FIRST_SCRATCH,
+        rs1: FIRST_SCRATCH,
+        rs2: SECOND_SCRATCH,
     })?;
     asm.emit(Instr::Mulh {
-        rd: HELP,
-        rs1: FIRST,
-        rs2: SECOND,
+        rd: HELPER,
+        rs1: FIRST_SCRATCH,
+        rs2: SECOND_SCRATCH,
     })?;
     asm.emit(Instr::Srli {
-        rd: HELP,
-        rs1: HELP,
+        rd: HELPER,
+        rs1: HELPER,
         imm: 63,
     })?;
     asm.emit(Instr::Mul {
-        rd: HELP,
-        rs1: HELP,
-        rs2: SECOND,
+        rd: HELPER,
+        rs1: HELPER,
+        rs2: SECOND_SCRATCH,
     })?;
     asm.emit(Instr::Add {
-        rd: FIRST,
-        rs1: FIRST,
-        rs2: HELP,
+        rd: FIRST_SCRATCH,
+        rs1: FIRST_SCRATCH,
+        rs2: HELPER,
     })?;
     Ok(())
 }
@@ -420,25 +420,25 @@ fn rotate_left(asm: &mut Asm, width: Width) -> Result<(), AllocError>
     wide_operators();
     asm.emit(count_of(width))?;
     asm.emit(Instr::Sll {
-        rd: HELP,
-        rs1: FIRST,
-        rs2: SECOND,
+        rd: HELPER,
+        rs1: FIRST_SCRATCH,
+        rs2: SECOND_SCRATCH,
     })?;
     asm.emit(without_width(width))?;
     asm.emit(Instr::Sub {
-        rd: SECOND,
+        rd: SECOND_SCRATCH,
         rs1: ZERO,
-        rs2: SECOND,
+        rs2: SECOND_SCRATCH,
     })?;
     asm.emit(Instr::Srl {
-        rd: FIRST,
-        rs1: FIRST,
-        rs2: SECOND,
+        rd: FIRST_SCRATCH,
+        rs1: FIRST_SCRATCH,
+        rs2: SECOND_SCRATCH,
     })?;
     asm.emit(Instr::Or {
-        rd: FIRST,
-        rs1: HELP,
-        rs2: FIRST,
+        rd: FIRST_SCRATCH,
+        rs1: HELPER,
+        rs2: FIRST_SCRATCH,
     })?;
     narrow(asm, width)?;
     Ok(())
@@ -452,25 +452,25 @@ fn rotate_right(asm: &mut Asm, width: Width) -> Result<(), AllocError>
     wide_operators();
     asm.emit(count_of(width))?;
     asm.emit(Instr::Srl {
-        rd: HELP,
-        rs1: FIRST,
-        rs2: SECOND,
+        rd: HELPER,
+        rs1: FIRST_SCRATCH,
+        rs2: SECOND_SCRATCH,
     })?;
     asm.emit(without_width(width))?;
     asm.emit(Instr::Sub {
-        rd: SECOND,
+        rd: SECOND_SCRATCH,
         rs1: ZERO,
-        rs2: SECOND,
+        rs2: SECOND_SCRATCH,
     })?;
     asm.emit(Instr::Sll {
-        rd: FIRST,
-        rs1: FIRST,
-        rs2: SECOND,
+        rd: FIRST_SCRATCH,
+        rs1: FIRST_SCRATCH,
+        rs2: SECOND_SCRATCH,
     })?;
     asm.emit(Instr::Or {
-        rd: FIRST,
-        rs1: FIRST,
-        rs2: HELP,
+        rd: FIRST_SCRATCH,
+        rs1: FIRST_SCRATCH,
+        rs2: HELPER,
     })?;
     narrow(asm, width)?;
     Ok(())
@@ -483,23 +483,23 @@ fn count_of(width: Width) -> Instr
 {
     match width {
         Width::W8 => Instr::Andi {
-            rd: SECOND,
-            rs1: SECOND,
+            rd: SECOND_SCRATCH,
+            rs1: SECOND_SCRATCH,
             imm: 7,
         },
         Width::W16 => Instr::Andi {
-            rd: SECOND,
-            rs1: SECOND,
+            rd: SECOND_SCRATCH,
+            rs1: SECOND_SCRATCH,
             imm: 15,
         },
         Width::W32 => Instr::Andi {
-            rd: SECOND,
-            rs1: SECOND,
+            rd: SECOND_SCRATCH,
+            rs1: SECOND_SCRATCH,
             imm: 31,
         },
         Width::W64 => Instr::Andi {
-            rd: SECOND,
-            rs1: SECOND,
+            rd: SECOND_SCRATCH,
+            rs1: SECOND_SCRATCH,
             imm: 63,
         },
     }
@@ -512,23 +512,23 @@ fn without_width(width: Width) -> Instr
 {
     match width {
         Width::W8 => Instr::Addi {
-            rd: SECOND,
-            rs1: SECOND,
+            rd: SECOND_SCRATCH,
+            rs1: SECOND_SCRATCH,
             imm: -8,
         },
         Width::W16 => Instr::Addi {
-            rd: SECOND,
-            rs1: SECOND,
+            rd: SECOND_SCRATCH,
+            rs1: SECOND_SCRATCH,
             imm: -16,
         },
         Width::W32 => Instr::Addi {
-            rd: SECOND,
-            rs1: SECOND,
+            rd: SECOND_SCRATCH,
+            rs1: SECOND_SCRATCH,
             imm: -32,
         },
         Width::W64 => Instr::Addi {
-            rd: SECOND,
-            rs1: SECOND,
+            rd: SECOND_SCRATCH,
+            rs1: SECOND_SCRATCH,
             imm: -64,
         },
     }

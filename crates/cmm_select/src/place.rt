@@ -7,25 +7,11 @@ ghost use Rattle.rv_table.specs.Words.{sum};
 ghost use Rattle.cmm_changes.specs.Changes.{CanReach, IsPlace, Puts, Sets, read_at};
 ghost use Rattle.cmm_changes.specs.Pieces.{Adds, Always, Leads};
 
+use cmm_abi::registers::{FIRST_SCRATCH, FRAME, HELPER, ZERO};
 use cmm_chain::Location;
 use rv_asm::Asm;
 use rv_table::Instr;
 use std::alloc::AllocError;
-
-/// Always 0.
-pub(crate) const ZERO: u8 = 0;
-
-/// The address of the frame.
-pub(crate) const FRAME: u8 = 2;
-
-/// The first operand, and the result.
-pub(crate) const FIRST: u8 = 5;
-
-/// The second operand.
-pub(crate) const SECOND: u8 = 7;
-
-/// Helps within a piece.
-pub(crate) const HELP: u8 = 6;
 
 /// Offsets below this fit an immediate.
 pub(crate) const NEAR: u32 = 2048;
@@ -66,11 +52,11 @@ pub fn write(asm: &mut Asm, to: Location) -> Result<(), AllocError>
             Ok(())
         }
         Location::Saved(register) => {
-            asm.emit(copy(register, FIRST))?;
+            asm.emit(copy(register, FIRST_SCRATCH))?;
             Ok(())
         }
         Location::Temp(register) => {
-            asm.emit(copy(register, FIRST))?;
+            asm.emit(copy(register, FIRST_SCRATCH))?;
             Ok(())
         }
     }
@@ -103,8 +89,8 @@ fn store(asm: &mut Asm, offset: u32) -> Result<(), AllocError>
         asm.emit(store_to(FRAME, offset))?;
         return Ok(());
     }
-    approach(asm, offset, HELP)?;
-    asm.emit(store_to(HELP, offset % NEAR))?;
+    approach(asm, offset, HELPER)?;
+    asm.emit(store_to(HELPER, offset % NEAR))?;
     Ok(())
 }
 
@@ -179,7 +165,7 @@ fn store_to(base: u8, offset: u32) -> Instr
 {
     Instr::Sd {
         rs1: base,
-        rs2: FIRST,
+        rs2: FIRST_SCRATCH,
         imm: offset as i32,
     }
 }

@@ -7,7 +7,8 @@ ghost use Rattle.cmm_select.specs.Operands.{most_for_source};
 ghost use Rattle.cmm_select.specs.Sources.{CanBring, IsSource, brought};
 
 use crate::number::load_constant;
-use crate::place::{FRAME, NEAR, add_to, approach, read};
+use crate::place::{NEAR, add_to, approach, read};
+use cmm_abi::registers::FRAME;
 use cmm_chain::Location;
 use rv_asm::Asm;
 use std::alloc::AllocError;

@@ -9,7 +9,7 @@ ghost use Rattle.cmm_select.specs.Switches.{GoesInArms, GoesInRanges, Switches, 
 
 use crate::number::load_constant;
 use crate::operand::{Operand, bring_operand};
-use crate::place::{FIRST, HELP, SECOND};
+use cmm_abi::registers::{FIRST_SCRATCH, HELPER, SECOND_SCRATCH};
 use cmm_graph::Arm;
 use cmm_program::Range;
 use cmm_words::Cmp;
@@ -31,7 +31,7 @@ pub fn switch(
     ensures switches { OnOk result (Adds (most_for value.now + 20 * ranges_in arms.now) asm.old.parts asm.new.parts (Switches (most_for value.now + 20 * ranges_in arms.now) value.now labels.now arms.now)) }
     ensures labels { asm.new.labels ≡ asm.old.labels }
 {
-    bring_operand(asm, value, FIRST)?;
+    bring_operand(asm, value, FIRST_SCRATCH)?;
     branch_in_arms(asm, arms, labels)?;
     Ok(())
 }
@@ -70,13 +70,13 @@ fn branch_between(asm: &mut Asm, first: u64, last: u64, to: Label) -> Result<(),
     if last < first {
         return Ok(());
     }
-    load_constant(asm, first, SECOND)?;
+    load_constant(asm, first, SECOND_SCRATCH)?;
     asm.emit(Instr::Sub {
-        rd: SECOND,
-        rs1: FIRST,
-        rs2: SECOND,
+        rd: SECOND_SCRATCH,
+        rs1: FIRST_SCRATCH,
+        rs2: SECOND_SCRATCH,
     })?;
-    load_constant(asm, last - first, HELP)?;
-    asm.branch(Cmp::Geu, HELP, SECOND, to)?;
+    load_constant(asm, last - first, HELPER)?;
+    asm.branch(Cmp::Geu, HELPER, SECOND_SCRATCH, to)?;
     Ok(())
 }

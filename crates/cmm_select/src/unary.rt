@@ -8,7 +8,7 @@ ghost use Rattle.cmm_select.specs.Unary.{Converts, OperatesOnOne};
 ghost use Rattle.cmm_select.specs.inside.Complements.{direct_of_one};
 
 use crate::operator::{extend, narrow};
-use crate::place::{FIRST, ZERO};
+use cmm_abi::registers::{FIRST_SCRATCH, ZERO};
 use cmm_words::laws::wide_operators;
 use cmm_words::{Op1, Width};
 use rv_asm::Asm;
@@ -34,14 +34,14 @@ fn instruction(operator: Op1) -> Instr
 {
     match operator {
         Op1::Com => Instr::Xori {
-            rd: FIRST,
-            rs1: FIRST,
+            rd: FIRST_SCRATCH,
+            rs1: FIRST_SCRATCH,
             imm: -1,
         },
         Op1::Neg => Instr::Sub {
-            rd: FIRST,
+            rd: FIRST_SCRATCH,
             rs1: ZERO,
-            rs2: FIRST,
+            rs2: FIRST_SCRATCH,
         },
     }
 }
@@ -52,7 +52,7 @@ pub fn convert(asm: &mut Asm, from: Width, to: Width) -> Result<(), AllocError>
     ensures converts { OnOk result (Adds (shifts_of from + shifts_of to) asm.old.parts asm.new.parts (Runs 0 (shifts_of from + shifts_of to) (HasWord from 5) (Converts from to))) }
     ensures labels { asm.new.labels ≡ asm.old.labels }
 {
-    extend(asm, from, FIRST)?;
+    extend(asm, from, FIRST_SCRATCH)?;
     narrow(asm, to)?;
     Ok(())
 }

@@ -6,13 +6,14 @@ use Rattle.std.proofs.lemmas.Bool.{and_parts}
 use Rattle.std.proofs.lemmas.Bool.Decides.{nat_tests}
 use Rattle.cmm_chain.specs.declared.frame.Location.{Location}
 use Rattle.cmm_chain.specs.declared.frame.Location.TheVariants.{Slot, Saved, Temp}
-use Rattle.cmm_chain.specs.Contents.{Number, is_callee_saves, is_temporary}
+use Rattle.cmm_abi.specs.Registers.{is_callee_saves, is_temporary, is_scratch}
+use Rattle.cmm_chain.specs.Contents.{Number}
 use Rattle.cmm_chain.specs.Running.{Holdings, none_known, put_in}
 use Rattle.cmm_program.specs.Memory.{Outside, cell_at}
 use Rattle.cmm_program.specs.State.{Setting, Activation, Store}
 use Rattle.rv_table.proofs.Shared.{loaded-below}
 use Rattle.rv_table.specs.Machine.{MemoryMap, State, loaded, region_base, stack_base}
-use Rattle.cmm_changes.specs.Changes.{Puts, is_scratch}
+use Rattle.cmm_changes.specs.Changes.{Puts}
 use Rattle.cmm_calls.specs.Frames.{PutsEach, zeros}
 use Rattle.cmm_calls.specs.Values.{Gives, is_taken_first, value_in}
 use Rattle.cmm_select.specs.declared.operand.Operand.{Operand}

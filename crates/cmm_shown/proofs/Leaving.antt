@@ -4,14 +4,15 @@ use Rattle.std.specs.Prelude.{◌==◌, ◌||◌, is_some}
 use Rattle.std.proofs.lemmas.Bool.Decides.{nat_tests}
 use Rattle.std.proofs.lemmas.Bool.{or_from}
 use Rattle.cmm_chain.specs.Chain.{behind}
-use Rattle.cmm_chain.specs.Contents.{Unknown, ReturnTo, is_callee_saves}
+use Rattle.cmm_abi.specs.Registers.{is_callee_saves, is_scratch}
+use Rattle.cmm_chain.specs.Contents.{Unknown, ReturnTo}
 use Rattle.cmm_chain.specs.Plans.{Plan, saved_at}
 use Rattle.cmm_chain.specs.Running.{Holdings, none_known}
 use Rattle.cmm_program.specs.Frames.{frame_address, frame_size, without}
 use Rattle.cmm_program.specs.State.{Setting, Activation, Store}
 use Rattle.cmm_laws.proofs.Shared.{without_keeps}
 use Rattle.rv_table.specs.Machine.{MemoryMap, State, loaded}
-use Rattle.cmm_changes.specs.Changes.{KeepsBut, is_scratch}
+use Rattle.cmm_changes.specs.Changes.{KeepsBut}
 use Rattle.cmm_calls.specs.Frames.{Leaves}
 use Rattle.cmm_shown.specs.Words.{Symbols, Shows}
 use Rattle.cmm_shown.specs.Shown.{IsFor, IsShown, ShowsHoldings}

@@ -7,7 +7,8 @@ use Rattle.std.proofs.lemmas.Bool.{or_from, and_parts}
 use Rattle.std.proofs.lemmas.List.{get_or-replicate, length-replicate}
 use Rattle.std.proofs.lemmas.List.Sums.{sum_by-cons}
 use Rattle.cmm_chain.specs.declared.frame.Frame.{Frame}
-use Rattle.cmm_chain.specs.Contents.{Content, Contents, is_callee_saves, with_content}
+use Rattle.cmm_abi.specs.Registers.{is_callee_saves, is_scratch}
+use Rattle.cmm_chain.specs.Contents.{Content, Contents, with_content}
 use Rattle.cmm_chain.specs.Plans.{Plan, pair_offsets, saved_offsets}
 use Rattle.cmm_chain.specs.Running.{Holdings, blank, entered, fixed_words, pair_words, saved_words, with_words}
 use Rattle.cmm_program.specs.Frames.{frame_address, frame_size}
@@ -16,7 +17,6 @@ use Rattle.cmm_program.specs.State.{Setting, Activation, Store}
 use Rattle.cmm_laws.specs.Stacks.{IsStack, extent, stack_of, stackdata_of}
 use Rattle.rv_asm.specs.declared.part.Label.{Label}
 use Rattle.rv_table.specs.Machine.{MemoryMap, State, loaded, stack_base, stored}
-use Rattle.cmm_changes.specs.Changes.{is_scratch}
 use Rattle.cmm_calls.specs.Frames.{Makes, fixed_numbers, pair_numbers, saved_numbers, stored_words}
 use Rattle.cmm_shown.specs.Words.{Symbols, Shows, ShowsCells, ShowsRoom, ShowsWords, Sits}
 use Rattle.cmm_shown.specs.Shown.{AreLandings, AreWordsAt, AreWritten, IsFor, IsMade, IsShown, IsWordAt}

@@ -5,7 +5,8 @@ use Rattle.std.proofs.lemmas.Bool.Decides.{nat_tests}
 use Rattle.std.proofs.lemmas.Bool.{or_from}
 use Rattle.cmm_chain.specs.declared.frame.Location.{Location}
 use Rattle.cmm_chain.specs.declared.frame.Location.TheVariants.{Slot, Saved, Temp}
-use Rattle.cmm_chain.specs.Contents.{Content, Number, Contents, is_callee_saves, is_temporary, with_content}
+use Rattle.cmm_abi.specs.Registers.{is_callee_saves, is_temporary, is_scratch}
+use Rattle.cmm_chain.specs.Contents.{Content, Number, Contents, with_content}
 use Rattle.cmm_chain.specs.Running.{Holdings, put_in}
 use Rattle.cmm_program.specs.Layout.{bytes_of}
 use Rattle.cmm_program.specs.Memory.{Room, cell_at, with_byte, with_byte_in, with_bytes}
@@ -13,7 +14,7 @@ use Rattle.cmm_program.specs.State.{Setting, Activation, Store}
 use Rattle.cmm_program.specs.Values.{is_there}
 use Rattle.cmm_laws.specs.Stacks.{IsStack, extent, stack_of}
 use Rattle.rv_table.specs.Machine.{MemoryMap, State, region_base, stack_base, loaded, stored}
-use Rattle.cmm_changes.specs.Changes.{Puts, PutsRegister, Writes, is_scratch}
+use Rattle.cmm_changes.specs.Changes.{Puts, PutsRegister, Writes}
 use Rattle.cmm_shown.specs.Words.{Symbols, Shows, ShowsRegisters, ShowsValues, Sits, register_address, value_at}
 use Rattle.cmm_shown.specs.Shown.{IsFor, IsPlaceOf, IsShown, IsWordAt, ShowsHoldings}
 use Rattle.cmm_shown.proofs.WrittenWords.{shown_same, word_written, cells_stay, below_stays}

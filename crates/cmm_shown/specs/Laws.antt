@@ -2,9 +2,11 @@
 -- store's.
 use Rattle.std.specs.Prelude.{◌≡◌, ℕ, ◌+◌, ◌%◌, ◌<◌, ◌≤◌, ◌^◌, ◌==◌, ◌||◌, true, List, [], ◌∷◌, drop, length, map, slice_index_or, slice_set, Some, Ok}
 use Rattle.std.specs.List.{range_with_len}
+use Rattle.cmm_abi.specs.declared.registers.TheConstants.{FRAME, REGION, RETURN_ADDRESS}
 use Rattle.cmm_chain.specs.declared.frame.Location.{Location}
 use Rattle.cmm_chain.specs.Chain.{behind}
-use Rattle.cmm_chain.specs.Contents.{Unknown, Number, ReturnTo, LastReturn, is_callee_saves}
+use Rattle.cmm_abi.specs.Registers.{is_callee_saves, is_scratch}
+use Rattle.cmm_chain.specs.Contents.{Unknown, Number, ReturnTo, LastReturn}
 use Rattle.cmm_chain.specs.Plans.{Plan, saved_at}
 use Rattle.cmm_chain.specs.Running.{Holdings, entered, held, none_known}
 use Rattle.cmm_program.specs.Errors.{all_of}
@@ -17,7 +19,7 @@ use Rattle.cmm_program.specs.Values.{byte_of, is_there}
 use Rattle.rv_asm.specs.declared.part.Label.{Label}
 use Rattle.rv_table.specs.Bounds.{IsSound}
 use Rattle.rv_table.specs.Machine.{MemoryMap, State, data_base, is_accessible, loaded, region_base}
-use Rattle.cmm_changes.specs.Changes.{CanReach, KeepsBut, Writes, is_scratch, read_at}
+use Rattle.cmm_changes.specs.Changes.{CanReach, KeepsBut, Writes, read_at}
 use Rattle.cmm_calls.specs.Frames.{Leaves, Makes, PutsEach, fixed_numbers}
 use Rattle.cmm_calls.specs.Values.{Gives}
 use Rattle.cmm_select.specs.declared.operand.Operand.{Operand}
@@ -77,7 +79,7 @@ StoresAreShown = (y : Symbols) (s : Setting) (m : MemoryMap) → IsFor s m → (
 abbrev pub FramesComeShown : Type 0
 FramesComeShown = (y : Symbols) (s : Setting) (m : MemoryMap) (plan : Plan) (q : ℕ) (h : Holdings) (store : Store) (carried : List ℕ) (a : Activation) (room : Room)
     (address_of : ℕ → ℕ) (landings : List Label) (t t' : State) → IsFor s m → IsMade y s plan q a room address_of landings h → IsSound t →
-    Makes (plan.frame q).size (fixed_numbers address_of (plan.frame q) landings t.registers (t'.registers 2)) t t' → IsShown y s m h store carried t →
+    Makes (plan.frame q).size (fixed_numbers address_of (plan.frame q) landings t.registers (t'.registers FRAME)) t t' → IsShown y s m h store carried t →
     IsShown y s m (entered plan q h.point h.contents)
     (record store { activations = a ∷ store.activations; memory = record store.memory { rooms = room ∷ store.memory.rooms } }) carried t'
 
@@ -98,13 +100,13 @@ ValuesAreGiven = (y : Symbols) (s : Setting) (m : MemoryMap) (h : Holdings) (sto
 -- a call: register 1 gets the return address of the site
 abbrev pub CallsAreShown : Type 0
 CallsAreShown = (y : Symbols) (s : Setting) (m : MemoryMap) → IsFor s m → (h : Holdings) (store : Store) (values : List ℕ) (t t' : State) (q site : ℕ) →
-    t'.registers 1 ≡ y.return_to q site → t'.memory ≡ t.memory → KeepsBut (λ r. (r == 1) || is_scratch r) t t' → IsShown y s m h store values t →
+    t'.registers RETURN_ADDRESS ≡ y.return_to q site → t'.memory ≡ t.memory → KeepsBut (λ r. (r == RETURN_ADDRESS) || is_scratch r) t t' → IsShown y s m h store values t →
     IsShown y s m (record { point = record h.point { back = ReturnTo q site }; temps = none_known; contents = h.contents }) store values t'
 
 -- a cut: register 2 gets the address of an older frame, and no register is restored
 abbrev pub CutsAreShown : Type 0
 CutsAreShown = (y : Symbols) (s : Setting) (m : MemoryMap) → IsFor s m → (h : Holdings) (store : Store) (values : List ℕ) (t t' : State) (at younger : ℕ) →
-    t'.registers 2 ≡ at → t'.memory ≡ t.memory → KeepsBut (λ r. (r == 1) || ((r == 2) || is_scratch r)) t t' → at ≡ frame_address s (drop younger store.activations) →
+    t'.registers FRAME ≡ at → t'.memory ≡ t.memory → KeepsBut (λ r. (r == RETURN_ADDRESS) || ((r == FRAME) || is_scratch r)) t t' → at ≡ frame_address s (drop younger store.activations) →
     IsShown y s m h store values t →
     IsShown y s m (record { point = record { at = at; back = Unknown; kept = h.point.kept }; temps = none_known; contents = h.contents }) (without younger store) values t'
 
@@ -113,9 +115,9 @@ CutsAreShown = (y : Symbols) (s : Setting) (m : MemoryMap) → IsFor s m → (h 
 -- A run begins with the data of the program, registers that are 0, and an empty stack, from which `main` returns for the last time.
 pub record Begins (y : Symbols) (s : Setting) (t : State) : Type 0 where
   pub zero : t.registers 0 ≡ 0
-  pub back : t.registers 1 ≡ y.last_return
-  pub frame : t.registers 2 ≡ stack_top s
-  pub region : t.registers 4 ≡ region_base
+  pub back : t.registers RETURN_ADDRESS ≡ y.last_return
+  pub frame : t.registers FRAME ≡ stack_top s
+  pub region : t.registers REGION ≡ region_base
   pub few : length s.program.globals ≤ 256
   pub globals : (r : ℕ) → r < length s.program.globals → loaded t.memory (register_address r) 8 ≡ 0
   pub data_bytes : (i : ℕ) → i < length (data_bytes s.program s.placement) → t.memory (data_base + i) ≡ slice_index_or (data_bytes s.program s.placement) i 0

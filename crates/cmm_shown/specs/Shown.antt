@@ -1,7 +1,9 @@
 -- Which states of the machine show a state over places, but for where control is.
 use Rattle.std.specs.Prelude.{◌≡◌, ◌⊎◌, ℕ, suc, ◌+◌, ◌-◌, replicate, slice_get, slice_index_or, Some, None, ◌%◌, ◌^◌, ◌<◌, ◌≤◌, true, List, [], ◌∷◌, length}
 use Rattle.std.specs.List.{list_all}
-use Rattle.cmm_chain.specs.Contents.{Content, Number, is_callee_saves, is_temporary}
+use Rattle.cmm_abi.specs.declared.registers.TheConstants.{FRAME, REGION, RETURN_ADDRESS, ZERO}
+use Rattle.cmm_abi.specs.Registers.{is_callee_saves, is_temporary}
+use Rattle.cmm_chain.specs.Contents.{Content, Number}
 use Rattle.cmm_chain.specs.Plans.{Plan, fixed_offsets}
 use Rattle.cmm_chain.specs.Running.{Holdings, put_in}
 use Rattle.cmm_program.specs.Memory.{Room}
@@ -29,10 +31,10 @@ pub record IsFor (s : Setting) (m : MemoryMap) : Type 0 where
 -- Register 2 has the address of the youngest frame, register 4 that of the region below the stack, and register 1 the return address
 -- where it is known.
 pub record ShowsHoldings (y : Symbols) (h : Holdings) (registers : ℕ → ℕ) : Type 0 where
-  pub zero : registers 0 ≡ 0
-  pub frame : registers 2 ≡ h.point.at
-  pub region : registers 4 ≡ region_base
-  pub back : Shows y h.point.back (registers 1)
+  pub zero : registers ZERO ≡ 0
+  pub frame : registers FRAME ≡ h.point.at
+  pub region : registers REGION ≡ region_base
+  pub back : Shows y h.point.back (registers RETURN_ADDRESS)
   pub kept : (r : ℕ) → is_callee_saves r ≡ true → Shows y (h.point.kept r) (registers r)
   pub temps : (r : ℕ) → is_temporary r ≡ true → Shows y (h.temps r) (registers r)
 

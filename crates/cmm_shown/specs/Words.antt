@@ -3,6 +3,7 @@ use Rattle.std.specs.Prelude.{◌≡◌, ℕ, ◌+◌, ◌-◌, ◌*◌, ◌%◌
 use Rattle.cmm_chain.specs.Contents.{Content, Unknown, Number, ReturnTo, LandingOf, LastReturn, Contents}
 use Rattle.cmm_program.specs.Memory.{Cell, Outside, Byte, Room, Memory, is_in, cell_of, cell_at}
 use Rattle.rv_table.specs.Machine.{MemoryMap, region_base, stack_base, loaded}
+use Rattle.rv_table.specs.declared.memory_map.TheConstants.{GLOBALS_OFFSET}
 
 -- ---- words
 
@@ -61,7 +62,7 @@ abbrev pub IsRegionFree : Memory → Type 0
 IsRegionFree memory = (a : ℕ) → region_base ≤ a → a < stack_base → cell_at memory a ≡ Outside
 
 abbrev pub register_address : ℕ → ℕ
-register_address r = region_base + 448 + 8 * r
+register_address r = region_base + GLOBALS_OFFSET + 8 * r
 
 abbrev pub ShowsRegisters : List ℕ → (ℕ → ℕ) → Type 0
 ShowsRegisters registers bytes =

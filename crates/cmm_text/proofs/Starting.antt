@@ -11,7 +11,7 @@ use Rattle.rv_asm.specs.declared.part.Part.TheVariants.{Call, Place, Single}
 use Rattle.rv_asm.proofs.Shared.{appends_one}
 use Rattle.rv_table.specs.declared.instruction.Instr.TheVariants.{Ebreak}
 use Rattle.cmm_changes.proofs.Shared.{reaches_more}
-use Rattle.cmm_changes.specs.Changes.{is_scratch}
+use Rattle.cmm_abi.specs.Registers.{is_scratch}
 use Rattle.cmm_program.specs.declared.program.Program.{Program}
 use Rattle.cmm_text.specs.Outlines.{number_symbols}
 use Rattle.cmm_text.specs.Starts.{BeginsBy, CallsMain, last_label, main_label, start_labels}

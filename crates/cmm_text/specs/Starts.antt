@@ -1,5 +1,6 @@
 -- The code with which a run begins.
 use Rattle.std.specs.Prelude.{◌≡◌, ℕ, ◌+◌, ◌≤◌, true, List, [], ◌∷◌, ◌++◌, slice_index}
+use Rattle.cmm_abi.specs.declared.registers.TheConstants.{REQUEST_VALUE}
 use Rattle.rv_asm.specs.Appending.{Codes}
 use Rattle.rv_asm.specs.Parts.{Code, Stand}
 use Rattle.rv_asm.specs.Sizes.{all_longest}
@@ -45,7 +46,7 @@ pub record IsStart (p : Program) (s : Start) : Type 0 where
   pub places : List ℕ
   pub done : AreFinished (start_labels p) parts places s.code
   pub begins : BeginsBy main_label last_label parts
-  pub ends : Codes parts last_label (λ x from to. AsksFor 1 (λ t. End (t.registers 10)) x from)
+  pub ends : Codes parts last_label (λ x from to. AsksFor 1 (λ t. End (t.registers REQUEST_VALUE)) x from)
   pub closed : IsClosed parts
   pub size : all_longest parts ≤ 20
   pub last : s.last ≡ slice_index places 1

@@ -4,7 +4,8 @@ ghost use Rattle.std.specs.Prelude.{◌≡◌, ◌≤◌, ◌<◌, ◌+◌, ◌*
 ghost use Rattle.rv_asm.specs.Sizes.{all_longest};
 ghost use Rattle.code_tests.specs.Layouts.{called, callee_frame, caller_frame, formals_of, fresh, passed_values, returned_of, size_of, stackdata_at, words_at};
 
-use crate::machine::{FRAME, Machine};
+use crate::machine::Machine;
+use cmm_abi::registers::FRAME;
 use cmm_calls::{begin, call, enter, lay_exits, return_values, take};
 use cmm_chain::{Frame, Location};
 use cmm_items::Items;

@@ -3,6 +3,7 @@
 ghost use Rattle.std.specs.Prelude.{◌≡◌, ◌≤◌, ◌^◌, length};
 ghost use Rattle.rv_asm.specs.Sizes.{all_longest};
 
+use cmm_abi::registers::{FRAME, REGION};
 use cmm_chain::Location;
 use rv_asm::{Asm, CodeFix, fill};
 use rv_memory::Memory;
@@ -13,12 +14,6 @@ use std::alloc::{AllocError, Global};
 
 /// More steps than what is tried makes.
 const STEPS: u32 = 100_000;
-
-/// The frame's address.
-pub const FRAME: u8 = 2;
-
-/// The region's address.
-const REGION: u8 = 4;
 
 /// Registers and memory, and how many bytes of code there are.
 #[derive(Debug, Drop)]

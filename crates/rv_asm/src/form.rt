@@ -9,19 +9,11 @@ ghost use Rattle.rv_asm.specs.Sizes.{longest};
 ghost use Rattle.rv_asm.specs.inside.Forms.{begins, entries, far, far_jumps, high, instructions, low, number_of, past_unless, unfilled};
 
 use crate::part::{Label, Meaning, Part};
+use cmm_abi::registers::{HELPER as SCRATCH, RETURN_ADDRESS as LINK, ZERO};
 use cmm_words::Cmp;
 use rv_code::encode;
 use rv_table::Instr;
 use std::alloc::AllocError;
-
-/// Always 0.
-const ZERO: u8 = 0;
-
-/// The register that a far jump goes through.
-const SCRATCH: u8 = 6;
-
-/// The register of return addresses.
-const LINK: u8 = 1;
 
 /// The bytes of a part.
 pub fn size(part: &Part) -> u64

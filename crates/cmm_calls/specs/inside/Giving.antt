@@ -1,5 +1,6 @@
 -- A value goes to where it travels.
 use Rattle.std.specs.Prelude.{◌≡◌, ℕ, ◌+◌, ◌-◌, ◌*◌, ◌<◌, ◌^◌, nat_lt, Bool, true, false}
+use Rattle.cmm_abi.specs.declared.registers.TheConstants.{REGION}
 use Rattle.rv_table.specs.Machine.{MemoryMap, State, region_base}
 use Rattle.cmm_changes.specs.Changes.{PutsRegister, Writes}
 use Rattle.cmm_select.specs.Operands.{CanBringOperand}
@@ -9,7 +10,7 @@ use Rattle.cmm_calls.specs.Frames.{LetsWait}
 -- the value is brought, and the argument area is reached by register 4
 pub record CanGive (a : Operand) (m : MemoryMap) (s : State) : Type 0 where
   pub brings : CanBringOperand a m s
-  pub region : s.registers 4 ≡ region_base
+  pub region : s.registers REGION ≡ region_base
 
 -- a number goes to register 10 + k, or to its word of the argument area, and nothing else is changed but scratch registers
 abbrev pub GivesBy : Bool → ℕ → ℕ → State → State → Type 0

@@ -14,7 +14,7 @@ returns-clause-requests c =
     let two = also one Ecall in
     let mid = c.emit-3.new.self.parts in
     let third : Adds 1 two mid (One (Addi 5 10 (pos 0))) =
-    rw (c.in_ok-emit-3.ensures.parts, c.in_ok-emit-2.ensures.parts, c.in_ok-emit.ensures.parts, c.copy.ensures.is, c.add_to.ensures.is) (adds_one two (Addi 5 10 (pos 0)))
+    rw (c.in_ok-emit-3.ensures.parts, c.in_ok-emit-2.ensures.parts, c.in_ok-emit.ensures.parts, c.copy.ensures.is, c.choose.ensures.is) (adds_one two (Addi 5 10 (pos 0)))
     in
     adds_weaker
     (adds_then (adds_one old (Addi 5 0 (pos 2))) (adds_then (adds_one one Ecall) (adds_then third c.in_ok-put.ensures.puts))) (omega arith)

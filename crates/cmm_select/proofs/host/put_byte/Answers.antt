@@ -9,7 +9,7 @@ pub returns-clause-requests : goal.returns-clause-requests
 returns-clause-requests c =
     let mid = c.bring_operand.new.asm.parts in
     let one = also mid (Addi 10 5 (pos 0)) in
-    rw (c.in_ok-emit-3.ensures.parts, c.in_ok-emit-2.ensures.parts, c.in_ok-emit.ensures.parts, c.copy.ensures.is, c.add_to.ensures.is)
+    rw (c.in_ok-emit-3.ensures.parts, c.in_ok-emit-2.ensures.parts, c.in_ok-emit.ensures.parts, c.copy.ensures.is, c.choose.ensures.is)
     (adds_weaker
     (adds_then c.in_ok-bring_operand.ensures.brings
     (adds_then (adds_one mid (Addi 10 5 (pos 0))) (adds_then (adds_one one (Addi 5 0 (pos 1))) (adds_one (also one (Addi 5 0 (pos 1))) Ecall)))) (omega arith)

@@ -1,0 +1,2 @@
+-- What proofs of other crates may cite.
+pub use Rattle.cmm_abi.proofs.Roles.{callee_saves_are_listed, scratch_is_apart}
