@@ -3,7 +3,7 @@ use Rattle.std.proofs.Common.{◌+◌, ◌≡◌, ℕ, suc, ◌==◌, ◌&&◌, 
 use Rattle.std.proofs.lemmas.Bool.Decides.{nat_tests}
 use Rattle.std.proofs.lemmas.Grind.{common_steps, get_or_head, get_or_tail}
 use Rattle.std.proofs.lemmas.List.{get_or-replicate, length-replicate, drop-map}
-use Rattle.cmm_program.specs.Memory.{Byte, Room, cell_in, with_byte_in, with_byte}
+use Rattle.cmm_program.specs.Memory.{Byte, Room, cell_in, with_byte_in, with_byte, rooms_of}
 use Rattle.cmm_program.specs.Values.{is_there}
 use Rattle.cmm_laws.specs.Cells.{ReadAfterWrite, LackEach, OutsideStays, YoungerFirst, ComesUnwritten, WrittenThenGone}
 
@@ -18,7 +18,7 @@ pub read_after_write : ReadAfterWrite
 read_after_write m address [] at = grind (arith, nat_tests)
 read_after_write m address (byte ∷ bytes) at =
     let rest = read_after_write (with_byte m address byte) (address + 1) bytes at in
-    grind (arith, nat_tests, get_or_head, get_or_tail, rest, written_in (m.data_room ∷ m.rooms) address byte at)
+    grind (arith, nat_tests, get_or_head, get_or_tail, rest, written_in (rooms_of m) address byte at)
 
 -- rooms that lack an address stay when a byte is written there
 pub outside_stays : OutsideStays

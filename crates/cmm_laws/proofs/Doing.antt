@@ -46,10 +46,7 @@ pub record Asks (s : Setting) (log : List ℕ) (P : Store → Type 0) (R : Trans
       length e.widths ≡ length values → IsTrue (all_fit e.widths values) → R (Away gone (with_log (log ++ more) (without gone store)) (e.landing values))
   pub stops : (store : Store) → P store → (more : List ℕ) → R (stopped (with_log (log ++ more) store))
 
-less_than : (a b : ℕ) → nat_lt a b ≡ true → a < b
-less_than a b is = grind (arith, nat_tests)
-
--- so it is of what a cursor looks at
+-- what a cursor looks at is one of which this holds
 abbrev pub IsAt : (Located → Type 0) → Cursor Located → Type 0
 IsAt Is cursor = (a : Located) → cursor.activation ≡ Some a → Is a
 
@@ -57,6 +54,9 @@ at_this : (Is : Located → Type 0) (a : Located) → Is a → IsAt Is record { 
 at_this Is a is b same = subst Is (same_Some a b same) is
 
 -- ---- one command
+
+less_than : (a b : ℕ) → nat_lt a b ≡ true → a < b
+less_than a b is = grind (arith, nat_tests)
 
 module _ (s : Setting) (store : Store) (Is : Located → Type 0) (T : After Located Store Landed → Type 0) where
   -- what makes T of whatever a command leads to, for activations of which Is holds

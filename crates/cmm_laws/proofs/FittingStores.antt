@@ -14,7 +14,7 @@ use Rattle.cmm_laws.proofs.Lists.{any_place}
 use Rattle.cmm_laws.specs.Fitting.{AreActivations, CellFits, Demand, IsByte, MemoryFits, RoomFits}
 use Rattle.cmm_program.specs.Orders.{Held, target_width}
 use Rattle.cmm_program.specs.Frames.{frame_size, place_row, procedure_at, sum_of_sizes}
-use Rattle.cmm_program.specs.Memory.{is_in, Room, cell_in, cell_of, with_byte, with_byte_in, with_bytes}
+use Rattle.cmm_program.specs.Memory.{is_in, Room, cell_in, cell_of, with_byte, with_byte_in, with_bytes, rooms_of}
 use Rattle.std.specs.List.{list_all}
 use Rattle.cmm_program.specs.State.{stack_top, Activation, Setting, Status, Store}
 use Rattle.cmm_program.specs.Todo.{Todo}
@@ -101,7 +101,7 @@ reads_fit s top inside q P status ts store stack works = record {
   register = λ n w has. (in_step (λ g. g.width) s.program.globals store.registers n w works.0.0.0 has).0;
   stackdata = λ n. grind (arith, λ (f : Activation). (inside f.procedure).stack n, sum_by-cons (frame_size s));
   continuation = λ n. grind (arith, λ (f : Activation). (inside f.procedure).pairs n, sum_by-cons (frame_size s));
-  byte = λ address. grind (arith, cell_in_fits (store.memory.data_room ∷ store.memory.rooms) address, All-cons RoomFits);
+  byte = λ address. grind (arith, cell_in_fits (rooms_of store.memory) address, All-cons RoomFits);
 }
 
 -- the youngest activation suspended at one of its sites, or going on

@@ -7,7 +7,7 @@ pub use Rattle.cmm_laws.proofs.Growing.{step_leads, step_grows, step_shows, step
 pub use Rattle.cmm_laws.proofs.StackKept.{After, Leads, land_after, nothing_after, stackdata_drop, without_keeps}
 pub use Rattle.cmm_laws.proofs.Stacking.{length_stackdata, steps_stack}
 pub use Rattle.cmm_laws.proofs.Addresses.{row_at, pairs_inside, older_are_stack, frames_reach_top, frames_adjoin, frames_aligned, parts_in_frame, parts_apart, parts_in_stack, none_below, own_alone}
-pub use Rattle.cmm_laws.proofs.Doing.{Asks, Comes, IsExitOf, OfReturn, OfUnwind, OfCut, answered_kept, reply_kept}
+pub use Rattle.cmm_laws.proofs.Doing.{Asks, IsExitOf, OfReturn, OfUnwind, OfCut, answered_kept}
 pub use Rattle.cmm_laws.proofs.Lasting.{machine_lasts}
 pub use Rattle.cmm_laws.proofs.Cells.{read_after_write, outside_stays, younger_first, lack_each, comes_unwritten, written_then_gone}
 pub use Rattle.cmm_laws.proofs.StoredWords.{bytes_of_number, number_of_bytes, bytes_of_spelled, access_stays, stored_is_loaded, words_elsewhere_stay}

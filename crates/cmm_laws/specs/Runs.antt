@@ -115,6 +115,7 @@ RefusedOnlyLogs = (s : Setting) (yielded : List ℕ) (cursor : Cursor Located) (
 -- What a command makes of a store that does not resume. What is not named stays: other variables, each activation's procedure
 -- and site, registers, stackdata, input, output and status.
 pub data Changes (cursor : Cursor Located) (before : Store) : Store → Type 0 where
+  -- nothing
   Same : Changes cursor before before
   -- a variable of the activation at the cursor
   Variable : (a : Located) (n value : ℕ) → cursor.activation ≡ Some a → Changes cursor before (with_variable before a n value)

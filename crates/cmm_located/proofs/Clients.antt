@@ -9,7 +9,7 @@ use Rattle.cmm_program.specs.Control.{next_act, transferred}
 use Rattle.cmm_program.specs.Errors.{UncheckedError}
 use Rattle.cmm_program.specs.State.{Setting, Status, Store, Running, Waiting, Ended, Wrong}
 use Rattle.cmm_program.proofs.Shared.{youngest_is}
-use Rattle.cmm_laws.specs.Alike.{AreAlike, ChainsAlike, ChangesAlike, ExitsAlike, LeftAlike, StayAlike}
+use Rattle.cmm_laws.specs.Alike.{AreAlike, LeftAlike}
 use Rattle.cmm_laws.specs.Observed.{event_at, store_seen}
 use Rattle.cmm_laws.proofs.Shared.{answers_are_alike}
 use Rattle.cmm_graph.specs.Acting.{act_of}
@@ -23,7 +23,7 @@ use Rattle.cmm_located.specs.Nodes.{keeping}
 use Rattle.cmm_located.specs.Relation.{Liveness, IsStanding, IsSuspendedAll}
 use Rattle.cmm_located.specs.RunningSteps.{IsCompiled}
 use Rattle.cmm_located.specs.Steps.{IsFollowed}
-use Rattle.cmm_located.proofs.Commands.{Comes, GoesOn, IsThere, chains_alike, cuts_alike, poke_alike, returns_alike, set_alike, shown_alike, unwinds}
+use Rattle.cmm_located.proofs.Commands.{Chains, Changed, Comes, Exits, GoesOn, IsThere, Stay, chains_alike, cuts_alike, poke_alike, returns_alike, set_alike, shown_alike, unwinds}
 use Rattle.cmm_located.proofs.Following.{in_one, in_two_from}
 use Rattle.cmm_located.proofs.Levels.{same_event}
 use Rattle.cmm_located.proofs.Standing.{Stands, waiting_of}
@@ -37,17 +37,14 @@ module _ (s : Setting) (c : Compiled) (live : Liveness) (most : ℕ) (compiled :
   by_parts x Q at stands holds = subst Q (sym (parted x at stands)) holds
 
   module _ (x : Store) (at : Located) (stands : Stands s c ps x at) where
-    abbrev There : Located
-    There = waiting_of x at.holdings at.procedure at.node at.carried
-
-    chains : (m : ℕ) → ChainsAlike (Stands s c ps) (IsThere s c live most ps) (GoesOn s c live most ps) x at (chain_behind s m x) (chain_behind s m (shown s c at))
-    chains m = by_parts x (λ y. ChainsAlike (Stands s c ps) (IsThere s c live most ps) (GoesOn s c live most ps) x y (chain_behind s m x) (chain_behind s m (shown s c y))) at stands
+    chains : (m : ℕ) → Chains s c live most ps x at (chain_behind s m x) (chain_behind s m (shown s c at))
+    chains m = by_parts x (λ y. Chains s c live most ps x y (chain_behind s m x) (chain_behind s m (shown s c y))) at stands
         (chains_alike s c live most compiled showable ps x at.holdings at.procedure at.node at.carried stands.waits stands.chain m)
 
     older : (a b : client.Located) → a ≡ b →
-        ChainsAlike (Stands s c ps) (IsThere s c live most ps) (GoesOn s c live most ps) x at ((store_askable s).older x a) ((places_askable s c).older at b)
+        Chains s c live most ps x at ((store_askable s).older x a) ((places_askable s c).older at b)
     older a b is =
-        subst (λ (d : client.Located). ChainsAlike (Stands s c ps) (IsThere s c live most ps) (GoesOn s c live most ps) x at ((store_askable s).older x a) ((places_askable s c).older at d))
+        subst (λ (d : client.Located). Chains s c live most ps x at ((store_askable s).older x a) ((places_askable s c).older at d))
         is (chains (suc a.younger))
 
     shows : (a b : client.Located) → IsThere s c live most ps x at a b → located_shown s x a ≡ located_shown s (shown s c at) b
@@ -56,37 +53,37 @@ module _ (s : Setting) (c : Compiled) (live : Liveness) (most : ℕ) (compiled :
         ∙ ap (located_shown s (shown s c at)) is.0
 
     sets : (a b : client.Located) (n value : ℕ) (v : Shown) (old : ℕ) → IsThere s c live most ps x at a b → slice_get (located_shown s x a).variables n ≡ Some v →
-        v.value ≡ Some old → StayAlike (Stands s c ps) (IsThere s c live most ps) (GoesOn s c live most ps) x at (with_variable x a n value) (set_number s c b.younger n value at)
+        v.value ≡ Some old → Stay s c live most ps x at (with_variable x a n value) (set_number s c b.younger n value at)
     sets a b n value v old is there live_ =
-        subst (λ (d : client.Located). StayAlike (Stands s c ps) (IsThere s c live most ps) (GoesOn s c live most ps) x at (with_variable x a n value) (set_number s c d.younger n value at)) is.0
-        (by_parts x (λ y. StayAlike (Stands s c ps) (IsThere s c live most ps) (GoesOn s c live most ps) x y (with_variable x a n value) (set_number s c a.younger n value y)) at stands
+        subst (λ (d : client.Located). Stay s c live most ps x at (with_variable x a n value) (set_number s c d.younger n value at)) is.0
+        (by_parts x (λ y. Stay s c live most ps x y (with_variable x a n value) (set_number s c a.younger n value y)) at stands
         (set_alike s c live most compiled showable ps x at.holdings at.procedure at.node at.carried stands.waits stands.chain a n value v old is.1 there live_))
 
     pokes : (name : List ℕ) (offset : ℕ) (bytes : List ℕ) →
-        ChangesAlike (Stands s c ps) (IsThere s c live most ps) (GoesOn s c live most ps) x at (with_data s x name offset bytes) (with_bytes s c at name offset bytes)
-    pokes name offset bytes = by_parts x (λ y. ChangesAlike (Stands s c ps) (IsThere s c live most ps) (GoesOn s c live most ps) x y (with_data s x name offset bytes)
+        Changed s c live most ps x at (with_data s x name offset bytes) (with_bytes s c at name offset bytes)
+    pokes name offset bytes = by_parts x (λ y. Changed s c live most ps x y (with_data s x name offset bytes)
         (with_bytes s c y name offset bytes)) at stands
         (poke_alike s c live most compiled showable ps x at.holdings at.procedure at.node at.carried stands.waits stands.chain name offset bytes)
 
     returns : (a b : client.Located) (n : ℕ) → a.younger ≡ 0 → IsThere s c live most ps x at a b →
-        ExitsAlike (Stands s c ps) (IsThere s c live most ps) (GoesOn s c live most ps) ((store_askable s).return_exit x a n) ((places_askable s c).return_exit at b n)
+        Exits s c live most ps ((store_askable s).return_exit x a n) ((places_askable s c).return_exit at b n)
     returns a b n first is =
-        subst (λ (d : client.Located). ExitsAlike (Stands s c ps) (IsThere s c live most ps) (GoesOn s c live most ps) ((store_askable s).return_exit x a n) ((places_askable s c).return_exit at d n)) is.0
-        (by_parts x (λ y. ExitsAlike (Stands s c ps) (IsThere s c live most ps) (GoesOn s c live most ps) ((store_askable s).return_exit x a n) ((places_askable s c).return_exit y a n)) at stands
+        subst (λ (d : client.Located). Exits s c live most ps ((store_askable s).return_exit x a n) ((places_askable s c).return_exit at d n)) is.0
+        (by_parts x (λ y. Exits s c live most ps ((store_askable s).return_exit x a n) ((places_askable s c).return_exit y a n)) at stands
         (returns_alike s c live most compiled showable ps x at.holdings at.procedure at.node at.carried stands.waits stands.chain a n first is.1))
 
     unwound : (a b : client.Located) (n : ℕ) → IsThere s c live most ps x at a b →
-        ExitsAlike (Stands s c ps) (IsThere s c live most ps) (GoesOn s c live most ps) ((store_askable s).unwind_exit x a n) ((places_askable s c).unwind_exit at b n)
+        Exits s c live most ps ((store_askable s).unwind_exit x a n) ((places_askable s c).unwind_exit at b n)
     unwound a b n is =
-        subst (λ (d : client.Located). ExitsAlike (Stands s c ps) (IsThere s c live most ps) (GoesOn s c live most ps) ((store_askable s).unwind_exit x a n) ((places_askable s c).unwind_exit at d n)) is.0
-        (by_parts x (λ y. ExitsAlike (Stands s c ps) (IsThere s c live most ps) (GoesOn s c live most ps) ((store_askable s).unwind_exit x a n) ((places_askable s c).unwind_exit y a n)) at stands
+        subst (λ (d : client.Located). Exits s c live most ps ((store_askable s).unwind_exit x a n) ((places_askable s c).unwind_exit at d n)) is.0
+        (by_parts x (λ y. Exits s c live most ps ((store_askable s).unwind_exit x a n) ((places_askable s c).unwind_exit y a n)) at stands
         (unwinds s c live most compiled showable ps x at.holdings at.procedure at.node at.carried stands.waits stands.chain a n is.1))
 
     cut : (a b : client.Located) (value : ℕ) → IsThere s c live most ps x at a b →
-        ExitsAlike (Stands s c ps) (IsThere s c live most ps) (GoesOn s c live most ps) ((store_askable s).cut_exit x a value) ((places_askable s c).cut_exit at b value)
+        Exits s c live most ps ((store_askable s).cut_exit x a value) ((places_askable s c).cut_exit at b value)
     cut a b value is =
-        subst (λ (d : client.Located). ExitsAlike (Stands s c ps) (IsThere s c live most ps) (GoesOn s c live most ps) ((store_askable s).cut_exit x a value) ((places_askable s c).cut_exit at d value)) is.0
-        (by_parts x (λ y. ExitsAlike (Stands s c ps) (IsThere s c live most ps) (GoesOn s c live most ps) ((store_askable s).cut_exit x a value) ((places_askable s c).cut_exit y a value)) at stands
+        subst (λ (d : client.Located). Exits s c live most ps ((store_askable s).cut_exit x a value) ((places_askable s c).cut_exit at d value)) is.0
+        (by_parts x (λ y. Exits s c live most ps ((store_askable s).cut_exit x a value) ((places_askable s c).cut_exit y a value)) at stands
         (cuts_alike s c live most compiled showable ps x at.holdings at.procedure at.node at.carried stands.waits stands.chain a value is.1))
 
   -- so both are asked alike

@@ -10,6 +10,8 @@ use Rattle.cmm_program.specs.declared.procedure.Proc.{Proc}
 use Rattle.cmm_program.specs.declared.procedure.Site.{Site}
 use Rattle.cmm_program.specs.declared.procedure.Target.TheVariants as target
 use Rattle.cmm_program.specs.declared.program.Label.{Label}
+use Rattle.cmm_program.specs.Asking as asking
+use Rattle.cmm_program.specs.Asking.{Chain}
 use Rattle.cmm_program.specs.Client as client
 use Rattle.cmm_program.specs.Client.{Landed, all_located, chain_behind, cut_number, exit_by, linked_label, located, located_shown, may_poke, poked, store_askable, values_at, with_data, with_log, with_value, with_variable}
 use Rattle.cmm_program.specs.Control.{State, transferred}
@@ -68,6 +70,19 @@ module _ (s : Setting) (c : Compiled) (live : Liveness) (most : ℕ) (ps : List 
   abbrev pub GoesOn : Landed → Located → Type 0
   GoesOn r here = (log : List ℕ) → Comes (transferred (graph_control c.graphs) s (Away r.gone (with_log log r.store) r.landing) ps) (logged_as log here)
 
+  -- what is asked of both
+  abbrev pub Chains : Store → Located → Chain client.Located → Chain client.Located → Type 0
+  Chains = ChainsAlike (Stands s c ps) IsThere GoesOn
+
+  abbrev pub Changed : Store → Located → Option Store → Option Located → Type 0
+  Changed = ChangesAlike (Stands s c ps) IsThere GoesOn
+
+  abbrev pub Stay : Store → Located → Store → Located → Type 0
+  Stay = StayAlike (Stands s c ps) IsThere GoesOn
+
+  abbrev pub Exits : Option (asking.Exit Landed) → Option (asking.Exit Located) → Type 0
+  Exits = ExitsAlike (Stands s c ps) IsThere GoesOn
+
 module _ (s : Setting) (c : Compiled) (live : Liveness) (most : ℕ) (compiled : IsCompiled s c live most) (showable : IsShowable s c) (ps : List Position)
     (x : Store) (h : Holdings) (q : ℕ) (node_here : NodeId) (carried : List ℕ) (all_wait : AllWait c.graphs x.activations ps)
     (is_chain : IsChain c.plan (stack_top s) h.contents (suspensions c.graphs x.activations ps) h.point) where
@@ -87,7 +102,7 @@ module _ (s : Setting) (c : Compiled) (live : Liveness) (most : ℕ) (compiled :
   zip_there (a ∷ xs) all = ((refl, all.0), zip_there xs all.1)
 
   -- behind so many activations
-  pub chains_alike : (m : ℕ) → ChainsAlike (Stands s c ps) (IsThere s c live most ps) (GoesOn s c live most ps) x At (chain_behind s m x) (chain_behind s m (shown s c At))
+  pub chains_alike : (m : ℕ) → Chains s c live most ps x At (chain_behind s m x) (chain_behind s m (shown s c At))
   chains_alike m =
       let here = all_located s m (drop m x.activations) in
       let alike : here ≡ all_located s m (drop m shown_there) = same_all s m (drop m x.activations) (drop m shown_there) (drop_same s m x.activations shown_there same) in
@@ -103,14 +118,14 @@ module _ (s : Setting) (c : Compiled) (live : Liveness) (most : ℕ) (compiled :
   -- ---- memory
 
   poke_at : (m : memory.Memory) (test : Bool) →
-      ChangesAlike (Stands s c ps) (IsThere s c live most ps) (GoesOn s c live most ps) x At
+      Changed s c live most ps x At
       (elim test as (λ _. Option Store) [ true ↦ Some record x { memory = m } | false ↦ None ])
       (with_some (elim test as (λ _. Option Store) [ true ↦ Some record At.store { memory = m } | false ↦ None ]) (λ store. Some record At { store = store }))
   poke_at m true = record { same = record { store = refl; waits = all_wait; chain = is_chain }; each = λ a b is. is }
   poke_at m false = tt
 
   poke_by : (offset : ℕ) (bytes : List ℕ) (o : Option Label) →
-      ChangesAlike (Stands s c ps) (IsThere s c live most ps) (GoesOn s c live most ps) x At
+      Changed s c live most ps x At
       (with_some o (λ l. poked x (label_address s.program l + offset) bytes))
       (with_some (with_some o (λ l. poked At.store (label_address s.program l + offset) bytes)) (λ store. Some record At { store = store }))
   poke_by offset bytes (Some l) =
@@ -119,7 +134,7 @@ module _ (s : Setting) (c : Compiled) (live : Liveness) (most : ℕ) (compiled :
   poke_by offset bytes None = tt
 
   pub poke_alike : (name : List ℕ) (offset : ℕ) (bytes : List ℕ) →
-      ChangesAlike (Stands s c ps) (IsThere s c live most ps) (GoesOn s c live most ps) x At (with_data s x name offset bytes) (with_bytes s c At name offset bytes)
+      Changed s c live most ps x At (with_data s x name offset bytes) (with_bytes s c At name offset bytes)
   poke_alike name offset bytes = poke_by offset bytes (linked_label name s.program.labels)
 
   -- ---- an activation that waits
@@ -165,7 +180,7 @@ module _ (s : Setting) (c : Compiled) (live : Liveness) (most : ℕ) (compiled :
   -- an exit of an activation is taken alike
   resumed_alike : (come : Element → Holdings → Holdings) (a : client.Located) (exit : Option Exit) →
       ((e : Exit) (values : List ℕ) → exit ≡ Some e → length e.widths ≡ length values → Goes come a.younger (e.landing values)) →
-      ExitsAlike (Stands s c ps) (IsThere s c live most ps) (GoesOn s c live most ps) (exit_by x a exit) (exit_over s c come At a exit)
+      Exits s c live most ps (exit_by x a exit) (exit_over s c come At a exit)
   resumed_alike come a (Some e) each = (refl, λ values count fit. each e values refl count)
   resumed_alike come a None each = tt
 
@@ -198,7 +213,7 @@ module _ (s : Setting) (c : Compiled) (live : Liveness) (most : ℕ) (compiled :
   -- ---- unwindings
 
   pub unwinds : (a : client.Located) (exit : ℕ) → IsFound s x a →
-      ExitsAlike (Stands s c ps) (IsThere s c live most ps) (GoesOn s c live most ps) ((store_askable s).unwind_exit x a exit) ((places_askable s c).unwind_exit At a exit)
+      Exits s c live most ps ((store_askable s).unwind_exit x a exit) ((places_askable s c).unwind_exit At a exit)
   unwinds a exit found = resumed_alike unwound_to a (unwind_exit a.procedure a.site exit) (λ e values is count.
       let here = found_at s x a found in
       by here.0 (stands_at s (drop a.younger x.activations) here.0 here.1) e values (ap (λ (b : client.Located). unwind_exit b.procedure b.site exit) here.2 ∙ is) count)
@@ -264,7 +279,7 @@ module _ (s : Setting) (c : Compiled) (live : Liveness) (most : ℕ) (compiled :
       )) count
 
   pub returns_alike : (a : client.Located) (exit : ℕ) → a.younger ≡ 0 → IsFound s x a →
-      ExitsAlike (Stands s c ps) (IsThere s c live most ps) (GoesOn s c live most ps) ((store_askable s).return_exit x a exit) ((places_askable s c).return_exit At a exit)
+      Exits s c live most ps ((store_askable s).return_exit x a exit) ((places_askable s c).return_exit At a exit)
   returns_alike a exit first found = resumed_alike returned_to a (return_exit a.procedure a.site exit) (λ e values is count.
       let here = found_at s x a found in
       let there = subst (λ n. suspended_at s (drop n x.activations) ≡ Some here.0) first here.1 in
@@ -297,7 +312,7 @@ module _ (s : Setting) (c : Compiled) (live : Liveness) (most : ℕ) (compiled :
       ))
 
   cut_by : (a : client.Located) (o : Option ℕ) → IsFound s x a → ((k : ℕ) → o ≡ Some k → Contains a.site.cuts k) →
-      ExitsAlike (Stands s c ps) (IsThere s c live most ps) (GoesOn s c live most ps) (with_some o (λ k. exit_by x a (continuation_exit a.procedure k)))
+      Exits s c live most ps (with_some o (λ k. exit_by x a (continuation_exit a.procedure k)))
       (with_some o (λ k. exit_over s c cut_to At a (continuation_exit a.procedure k)))
   cut_by a (Some k) found among = resumed_alike cut_to a (continuation_exit a.procedure k) (λ e values is count.
       let here = found_at s x a found in
@@ -306,9 +321,9 @@ module _ (s : Setting) (c : Compiled) (live : Liveness) (most : ℕ) (compiled :
   cut_by a None found among = tt
 
   pub cuts_alike : (a : client.Located) (value : ℕ) → IsFound s x a →
-      ExitsAlike (Stands s c ps) (IsThere s c live most ps) (GoesOn s c live most ps) ((store_askable s).cut_exit x a value) ((places_askable s c).cut_exit At a value)
+      Exits s c live most ps ((store_askable s).cut_exit x a value) ((places_askable s c).cut_exit At a value)
   cuts_alike a value found =
-      subst (λ (o : Option ℕ). ExitsAlike (Stands s c ps) (IsThere s c live most ps) (GoesOn s c live most ps) ((store_askable s).cut_exit x a value)
+      subst (λ (o : Option ℕ). Exits s c live most ps ((store_askable s).cut_exit x a value)
       (with_some o (λ k. exit_over s c cut_to At a (continuation_exit a.procedure k))))
       (same_number s value a.site.cuts (drop a.younger x.activations) (drop a.younger shown_there) (drop_same s a.younger x.activations shown_there same))
       (cut_by a (cut_number s x.activations a value) found (λ k is. find_contains _ a.site.cuts k is))
@@ -362,7 +377,7 @@ module _ (s : Setting) (c : Compiled) (live : Liveness) (most : ℕ) (compiled :
 
   -- a live variable of an activation takes a value
   pub set_alike : (a : client.Located) (n v : ℕ) (variable : Shown) (old : ℕ) → IsFound s x a → slice_get (located_shown s x a).variables n ≡ Some variable →
-      variable.value ≡ Some old → StayAlike (Stands s c ps) (IsThere s c live most ps) (GoesOn s c live most ps) x At (with_variable x a n v) (set_number s c a.younger n v At)
+      variable.value ≡ Some old → Stay s c live most ps x At (with_variable x a n v) (set_number s c a.younger n v At)
   set_alike a n v variable old found there live_ =
       let here = found_at s x a found in
       let at = stands_at s (drop a.younger x.activations) here.0 here.1 in

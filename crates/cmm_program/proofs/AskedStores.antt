@@ -4,7 +4,7 @@ use Rattle.std.specs.Prelude.{slice_set}
 use Rattle.std.specs.List.{AllByRecursion}
 use Rattle.std.proofs.lemmas.Option.{same_Some}
 use Rattle.cmm_words.specs.Widths.{bits}
-use Rattle.cmm_script.specs.Walk.{Shown}
+use Rattle.cmm_script.specs.Walk.{Shown, walk_text}
 use Rattle.cmm_script.specs.Walk as walk
 use Rattle.cmm_program.specs.declared.procedure.Proc.{Proc}
 use Rattle.cmm_program.specs.declared.procedure.Site.{Site}
@@ -13,6 +13,8 @@ use Rattle.cmm_program.specs.Errors.{with_some}
 use Rattle.cmm_program.specs.State.{Setting, Activation, Store}
 use Rattle.cmm_program.specs.Frames.{Suspended, procedure_at, suspended_at}
 use Rattle.cmm_program.specs.Walks.{live_value, variables_shown, activations_shown, walk_of, activation_shown}
+use Rattle.cmm_program.specs.Commands.{Goes}
+use Rattle.cmm_program.specs.Laws.{ListingIsTheWalk}
 use Rattle.cmm_program.specs.Client.{Located, located, first_located, all_located, at_number, located_shown, values_at, with_value, with_variable}
 
 -- ---- lists and options
@@ -182,3 +184,7 @@ module _ (s : Setting) (store : Store) where
 
   pub walk_is_listed : map (located_shown s store) (all_located s 0 store.activations) ≡ walk_of s store
   walk_is_listed = walk_behind store.activations 0 refl
+
+pub listing_is_the_walk : ListingIsTheWalk
+listing_is_the_walk s yielded cursor store =
+    ap (λ (w : List walk.Activation). record { text = walk_text w; after = Goes cursor store }) (walk_is_listed s store)

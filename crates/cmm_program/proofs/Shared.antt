@@ -5,4 +5,4 @@ pub use Rattle.cmm_program.proofs.Samples.{num, local, code, address, op, added,
 pub use Rattle.cmm_program.proofs.Places.{aligned_up-grows, end_of-grows}
 pub use Rattle.cmm_program.proofs.Keeping.{IsKept, on_landing, in_runs}
 pub use Rattle.cmm_program.proofs.Lists.{list_all_get, all_get}
-pub use Rattle.cmm_program.proofs.AskedStores.{some_by, drop_more, StandsAt, stands_at, located_same, value_located, IsFound, found_at, set_found, all_found, youngest_is, values_here, shown_here, variable_shown, shown_of, walk_is_listed}
+pub use Rattle.cmm_program.proofs.AskedStores.{some_by, StandsAt, stands_at, located_same, IsFound, found_at, set_found, all_found, youngest_is, variable_shown, shown_of, walk_is_listed}

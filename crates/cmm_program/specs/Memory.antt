@@ -19,6 +19,10 @@ pub record Memory : Type 0 where
   pub data_room : Room
   pub rooms : List Room
 
+-- all rooms
+abbrev pub rooms_of : Memory → List Room
+rooms_of memory = memory.data_room ∷ memory.rooms
+
 abbrev pub is_in : Room → ℕ → Bool
 is_in room address = nat_le room.address address && nat_lt address (room.address + length room.cells)
 
@@ -35,7 +39,7 @@ cell_in (room ∷ rooms) address = elim (is_in room address) [
 ]
 
 abbrev pub cell_at : Memory → ℕ → Cell
-cell_at memory address = cell_in (memory.data_room ∷ memory.rooms) address
+cell_at memory address = cell_in (rooms_of memory) address
 
 abbrev pub with_byte_in : Room → ℕ → ℕ → Room
 with_byte_in room address byte = elim (is_in room address) [
@@ -45,7 +49,7 @@ with_byte_in room address byte = elim (is_in room address) [
 
 -- memory with a byte at an address; the same where nothing stands there
 abbrev pub with_byte : Memory → ℕ → ℕ → Memory
-with_byte memory address byte = record {
+with_byte memory address byte = record memory {
   data_room = with_byte_in memory.data_room address byte;
   rooms = map (λ room. with_byte_in room address byte) memory.rooms;
 }

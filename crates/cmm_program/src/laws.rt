@@ -1,6 +1,6 @@
-//! Laws of the definitions of liveness. Each is the contract of a function that does nothing.
+//! Laws of the definitions of liveness, and of the client. Each is the contract of a function that does nothing.
 
-ghost use Rattle.cmm_program.specs.Laws.{ExitsAreComplete, LivenessIsByPaths};
+ghost use Rattle.cmm_program.specs.Laws.{ExitsAreComplete, ListingIsTheWalk, LivenessIsByPaths};
 
 /// The exits of a call site are the normal one, unless it never returns, and one to each continuation that it also
 /// returns, unwinds or cuts to.
@@ -12,4 +12,9 @@ pub fn exits_are_complete()
 /// exits, of any length, reaches a statement that reads it, and nothing writes it before on that path.
 pub fn liveness_is_by_paths()
     ensures { LivenessIsByPaths }
+{}
+
+/// What a client's `list` writes is the walk of the store, and nothing is changed by it.
+pub fn listing_is_the_walk()
+    ensures { ListingIsTheWalk }
 {}

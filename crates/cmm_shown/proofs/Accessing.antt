@@ -5,7 +5,7 @@ use Rattle.std.specs.List.{range_with_len}
 use Rattle.std.proofs.lemmas.Bool.Decides.{nat_tests}
 use Rattle.cmm_program.specs.Errors.{Tried, and_then, all_of}
 use Rattle.cmm_program.specs.Layout.{data_bytes}
-use Rattle.cmm_program.specs.Memory.{Cell, Outside, Unwritten, Byte, Room, Memory, cell_of, cell_in, cell_at, is_in, number_of}
+use Rattle.cmm_program.specs.Memory.{Cell, Outside, Unwritten, Byte, Room, Memory, cell_of, cell_in, cell_at, is_in, number_of, rooms_of}
 use Rattle.cmm_program.specs.State.{Setting, Activation, Store, stack_top}
 use Rattle.cmm_program.specs.Values.{byte_of, is_there}
 use Rattle.cmm_laws.specs.Stacks.{Extent, extent, IsStack, LiesIn, Stackdata, stack_of}
@@ -25,7 +25,7 @@ cell_shown_in (room ∷ rooms) bytes a byte shows is = by (cell_shown_in rooms b
     by again false inside e = again e
 
 pub cell_shown : (memory : Memory) (bytes : ℕ → ℕ) (a byte : ℕ) → ShowsCells memory bytes → cell_at memory a ≡ Byte byte → bytes a ≡ byte
-cell_shown memory bytes a byte shows is = cell_shown_in (memory.data_room ∷ memory.rooms) bytes a byte shows is
+cell_shown memory bytes a byte shows is = cell_shown_in (rooms_of memory) bytes a byte shows is
 
 byte_found : (c : Cell) (byte : ℕ) → byte_of c ≡ Ok byte → c ≡ Byte byte
 byte_found (Byte b) byte is = ap Byte (cc)

@@ -9,7 +9,7 @@ use Rattle.cmm_chain.specs.declared.frame.Location.TheVariants.{Slot, Saved, Tem
 use Rattle.cmm_abi.specs.Registers.{is_callee_saves, is_temporary, is_scratch}
 use Rattle.cmm_chain.specs.Contents.{Number}
 use Rattle.cmm_chain.specs.Running.{Holdings, none_known, put_in}
-use Rattle.cmm_program.specs.Memory.{Outside, cell_at}
+use Rattle.cmm_program.specs.Memory.{Outside, cell_at, rooms_of}
 use Rattle.cmm_program.specs.State.{Setting, Activation, Store}
 use Rattle.rv_table.proofs.Shared.{loaded-below}
 use Rattle.rv_table.specs.Machine.{MemoryMap, State, loaded, region_base, stack_base}
@@ -125,7 +125,7 @@ module _ (y : Symbols) (s : Setting) (m : MemoryMap) (is_for : IsFor s m) (h : H
       shown = λ b. shown_same y (h.contents b) (loaded t.memory b 8) (loaded t'.memory b 8)
           (λ known. loaded_same t.memory t'.memory b 8 (λ i less. gives.memory (b + i) (inr (far (b + i) (omega (arith, (shows.words.sits b known).low)))))) (shows.words.shown b);
     };
-    cells = rooms_same (store.memory.data_room ∷ store.memory.rooms) t.memory t'.memory (λ k. free k (nat_lt k region_base) refl (nat_lt k (region_base + 448)) refl) shows.cells;
+    cells = rooms_same (rooms_of store.memory) t.memory t'.memory (λ k. free k (nat_lt k region_base) refl (nat_lt k (region_base + 448)) refl) shows.cells;
     registers = (
       shows.registers.0,
       λ r less. loaded_same t.memory t'.memory (register_address r) 8 (λ i under. gives.memory (register_address r + i) (inr (far (register_address r + i) (omega arith))))

@@ -98,7 +98,7 @@ module _ (s : Setting) (m : MemoryMap) (is_for : IsFor s m) where
     to = frame_address s older
 
     abbrev before : Memory
-    before = record { data_room = store.memory.data_room; rooms = rooms }
+    before = record store.memory { rooms = rooms }
 
     room_inside : (at ≤ room.address) × (room.address + length room.cells ≤ to)
     room_inside =
@@ -148,14 +148,16 @@ show_fewer rooms zero bytes shows = shows
 show_fewer [] (suc n) bytes shows = tt
 show_fewer (room ∷ rooms) (suc n) bytes shows = show_fewer rooms n bytes shows.1
 
-pub rooms_go : (y : Symbols) (m : MemoryMap) (data_room : Room) (rooms : List Room) (n : ℕ) (contents : Contents) (bytes : ℕ → ℕ) →
-    ShowsWords y m (record { data_room = data_room; rooms = rooms }) contents bytes → ShowsWords y m (record { data_room = data_room; rooms = drop n rooms }) contents bytes
-rooms_go y m data_room rooms n contents bytes before = record {
+pub rooms_go : (y : Symbols) (m : MemoryMap) (memory : Memory) (n : ℕ) (contents : Contents) (bytes : ℕ → ℕ) →
+    ShowsWords y m memory contents bytes → ShowsWords y m (record memory { rooms = drop n memory.rooms }) contents bytes
+rooms_go y m memory n contents bytes before = record {
   sits = λ b known. let sits = before.sits b known in record {
     aligned = sits.aligned;
     low = sits.low;
     high = sits.high;
-    apart = λ i less. let old = not_in data_room rooms (b + i) (sits.apart i less) in in_none data_room (drop n rooms) (b + i) old.0 (lack_fewer rooms n (b + i) old.1);
+    apart = λ i less.
+        let old = not_in memory.data_room memory.rooms (b + i) (sits.apart i less) in
+        in_none memory.data_room (drop n memory.rooms) (b + i) old.0 (lack_fewer memory.rooms n (b + i) old.1);
   };
   shown = before.shown;
 }

@@ -27,7 +27,7 @@ module _ (y : Symbols) (s : Setting) (m : MemoryMap) (is_for : IsFor s m) where
       h'.point.at ≡ frame_address s (drop younger store.activations) → IsShown y s m h' (without younger store) carried t'
   moved_shows h h' store carried younger t t' shows same contents holdings values at = record {
     holdings = holdings;
-    words = rw (same, contents) (rooms_go y m store.memory.data_room store.memory.rooms younger h.contents t.memory shows.words);
+    words = rw (same, contents) (rooms_go y m store.memory younger h.contents t.memory shows.words);
     cells = rw same ((shows.cells.0, show_fewer store.memory.rooms younger t.memory shows.cells.1));
     registers = rw same shows.registers;
     values = values_same carried t.registers t'.registers t.memory t'.memory values (λ b less low. rw same refl) shows.values;

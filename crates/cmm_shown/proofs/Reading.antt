@@ -7,7 +7,7 @@ use Rattle.cmm_chain.specs.declared.frame.Location.{Location}
 use Rattle.cmm_chain.specs.declared.frame.Location.TheVariants.{Slot, Saved, Temp}
 use Rattle.cmm_chain.specs.Contents.{Content, Number}
 use Rattle.cmm_chain.specs.Running.{Holdings, held}
-use Rattle.cmm_program.specs.Memory.{Memory, Outside, cell_at}
+use Rattle.cmm_program.specs.Memory.{Memory, Outside, cell_at, rooms_of}
 use Rattle.cmm_program.specs.State.{Setting, Activation, Store}
 use Rattle.rv_table.proofs.Shared.{loaded-above, loaded-below, loaded-same, stored-outside}
 use Rattle.rv_table.specs.Machine.{MemoryMap, State, is_accessible, loaded, stack_base, stored}
@@ -86,7 +86,7 @@ module _ (y : Symbols) (s : Setting) (m : MemoryMap) (is_for : IsFor s m) (h : H
         shown = λ b. shown_same y (h.contents b) (loaded t.memory b 8) (loaded (stored t.memory (register_address r) 8 n) b 8)
             (λ known. loaded-above t.memory (register_address r) 8 n b 8 (omega (arith, (shows.words.sits b known).low, within, shows.registers.0))) (shows.words.shown b);
       });
-      cells = rw writes.memory (rooms_same (store.memory.data_room ∷ store.memory.rooms) t.memory (stored t.memory (register_address r) 8 n)
+      cells = rw writes.memory (rooms_same (rooms_of store.memory) t.memory (stored t.memory (register_address r) 8 n)
           (λ k. free k (nat_lt k (register_address r)) refl (nat_lt k (register_address r + 8)) refl) shows.cells);
       registers = rw writes.memory ((
         rw (length-set store.registers r n) (shows.registers.0),

@@ -7,7 +7,7 @@ use Rattle.std.proofs.lemmas.Nat.{pow-add}
 use Rattle.std.proofs.lemmas.Grind.{common_steps}
 use Rattle.cmm_chain.specs.Contents.{Contents}
 use Rattle.cmm_program.specs.Layout.{bytes_of}
-use Rattle.cmm_program.specs.Memory.{Cell, Outside, Room, Memory, cell_at, with_byte_in, with_byte, with_bytes}
+use Rattle.cmm_program.specs.Memory.{Cell, Outside, Room, Memory, cell_at, with_byte_in, with_byte, with_bytes, rooms_of}
 use Rattle.cmm_program.specs.Values.{is_there}
 use Rattle.cmm_laws.proofs.Shared.{read_after_write}
 use Rattle.rv_table.proofs.Shared.{loaded-above, loaded-below, stored-outside}
@@ -40,7 +40,7 @@ with_each a (x ∷ xs) bytes = with_each (a + 1) xs (with_one a x bytes)
 all_written : (memory : Memory) (a : ℕ) (xs : List ℕ) (bytes : ℕ → ℕ) → ShowsCells memory bytes → ShowsCells (with_bytes memory a xs) (with_each a xs bytes)
 all_written memory a [] bytes shows = shows
 all_written memory a (x ∷ xs) bytes shows =
-    all_written (with_byte memory a x) (a + 1) xs (with_one a x bytes) (rooms_written (memory.data_room ∷ memory.rooms) bytes a x shows)
+    all_written (with_byte memory a x) (a + 1) xs (with_one a x bytes) (rooms_written (rooms_of memory) bytes a x shows)
 
 -- ---- they are what one store leaves
 
@@ -85,7 +85,7 @@ pub cells_written : (memory : Memory) (a size v : ℕ) (bytes : ℕ → ℕ) →
     ShowsCells (with_bytes memory a (bytes_of size v)) (stored bytes a size v)
 cells_written memory a size v bytes shows =
     let after = with_bytes memory a (bytes_of size v) in
-    rooms_alike (after.data_room ∷ after.rooms) (with_each a (bytes_of size v) bytes) (stored bytes a size v) (λ k. sym (all_is_stored size a v bytes k))
+    rooms_alike (rooms_of after) (with_each a (bytes_of size v) bytes) (stored bytes a size v) (λ k. sym (all_is_stored size a v bytes k))
     (all_written memory a (bytes_of size v) bytes shows)
 
 -- ---- what stays

@@ -3,7 +3,7 @@ use Rattle.std.proofs.Common.{◌≡◌, ◌≢◌, ◌⊎◌, inl, inr, ℕ, �
 use Rattle.std.specs.Prelude.{◌==◌, nat_le, nat_lt, slice_index_or}
 use Rattle.std.proofs.lemmas.Bool.Decides.{nat_tests}
 use Rattle.cmm_chain.specs.Contents.{Content, Unknown, Number, ReturnTo, LandingOf, LastReturn, Contents, with_content}
-use Rattle.cmm_program.specs.Memory.{Cell, Outside, Room, Memory, is_in, cell_of, cell_in, cell_at}
+use Rattle.cmm_program.specs.Memory.{Cell, Outside, Room, Memory, is_in, cell_of, cell_in, cell_at, rooms_of}
 use Rattle.rv_table.proofs.Shared.{loaded-above, loaded-below, loaded-same, stored-outside}
 use Rattle.rv_table.specs.Machine.{MemoryMap, stack_base, loaded, stored}
 use Rattle.cmm_shown.specs.Words.{Symbols, Shows, is_known, Sits, ShowsWords, ShowsCell, ShowsRooms, ShowsCells}
@@ -81,10 +81,10 @@ module _ (y : Symbols) (m : MemoryMap) (memory : Memory) (a n : ℕ) (sits : Sit
 
   -- cells
   pub cells_stay : (bytes : ℕ → ℕ) → ShowsCells memory bytes → ShowsCells memory (stored bytes a 8 n)
-  cells_stay bytes shows = rooms_same (memory.data_room ∷ memory.rooms) bytes (stored bytes a 8 n) (λ k. at k (nat_le a k) refl (nat_lt k (a + 8)) refl) shows
+  cells_stay bytes shows = rooms_same (rooms_of memory) bytes (stored bytes a 8 n) (λ k. at k (nat_le a k) refl (nat_lt k (a + 8)) refl) shows
     where
       at : (k : ℕ) (low : Bool) → nat_le a k ≡ low → (top : Bool) → nat_lt k (a + 8) ≡ top →
-          (stored bytes a 8 n k ≡ bytes k) ⊎ (cell_in (memory.data_room ∷ memory.rooms) k ≡ Outside)
+          (stored bytes a 8 n k ≡ bytes k) ⊎ (cell_in (rooms_of memory) k ≡ Outside)
       at k false low top also = inl (stored-outside bytes a 8 n k (inl (grind (arith, nat_tests))))
       at k true low false also = inl (stored-outside bytes a 8 n k (inr (grind (arith, nat_tests))))
       at k true low true also =

@@ -1,7 +1,7 @@
 -- How the bytes and registers of the machine show what words, cells and values hold.
 use Rattle.std.specs.Prelude.{◌≡◌, ℕ, ◌+◌, ◌-◌, ◌*◌, ◌%◌, ◌<◌, ◌≤◌, nat_lt, Bool, true, false, List, [], ◌∷◌, length, slice_index_or, None}
 use Rattle.cmm_chain.specs.Contents.{Content, Unknown, Number, ReturnTo, LandingOf, LastReturn, Contents}
-use Rattle.cmm_program.specs.Memory.{Cell, Outside, Byte, Room, Memory, is_in, cell_of, cell_at}
+use Rattle.cmm_program.specs.Memory.{Cell, Outside, Byte, Room, Memory, is_in, cell_of, cell_at, rooms_of}
 use Rattle.rv_table.specs.Machine.{MemoryMap, region_base, stack_base, loaded}
 use Rattle.rv_table.specs.declared.memory_map.TheConstants.{GLOBALS_OFFSET}
 
@@ -53,7 +53,7 @@ ShowsRooms [] bytes = Unit {0}
 ShowsRooms (room ∷ rooms) bytes = ShowsRoom room bytes × ShowsRooms rooms bytes
 
 abbrev pub ShowsCells : Memory → (ℕ → ℕ) → Type 0
-ShowsCells memory bytes = ShowsRooms (memory.data_room ∷ memory.rooms) bytes
+ShowsCells memory bytes = ShowsRooms (rooms_of memory) bytes
 
 -- ---- the region below the stack: the argument area, and a word for each global register
 
