@@ -5,12 +5,13 @@ use Rattle.std.proofs.lemmas.Bool.{eqb-true, eq-eqb, or_cases}
 use Rattle.cmm_peeling.specs.Graphs.{is_among, mentions}
 use Rattle.cmm_peeling.proofs.Shared.{any_at, any_from, among_first, among_later}
 use Rattle.cmm_cycles.specs.Reaching.{reaches}
+use Rattle.cmm_cycles.specs.inside.Searched.{Leads}
 
-or_second : (b c : Bool) → c ≡ true → (b || c) ≡ true
+pub or_second : (b c : Bool) → c ≡ true → (b || c) ≡ true
 or_second true c h = refl
 or_second false c h = h
 
-or_first : (b c : Bool) → b ≡ true → (b || c) ≡ true
+pub or_first : (b c : Bool) → b ≡ true → (b || c) ≡ true
 or_first true c h = refl
 or_first false c h = cc
 
@@ -66,3 +67,40 @@ module _ (graph : List (List ℕ)) where
   never inside closed node out zero from all = refl
   never inside closed node out (suc count) from all = any_none (step count node) from (λ n among.
       rw (other n node inside (all n among) out, never inside closed node out count (mentions graph n) (λ m h. closed n m (all n among) h)) refl)
+
+  -- ---- a node leads to itself, and on through what it leads to
+
+  pub leads_self : (a : ℕ) → Leads graph a a
+  leads_self a = (1, leads_first 0 a (a ∷ []) (among_first a []))
+
+  pub leads_on : (a b m : ℕ) → Leads graph a b → is_among m (mentions graph b) ≡ true → Leads graph a m
+  leads_on a b m leads among = (suc leads.0, leads_next leads.0 b m (a ∷ []) leads.1 among)
+
+  follow : (a count c : ℕ) (from : List ℕ) → reaches graph count c from ≡ true → ((n : ℕ) → is_among n from ≡ true → Leads graph a n) → Leads graph a c
+  follow a zero c from h all = cc
+  follow a (suc count) c from h all =
+      let at : (n : ℕ) × (is_among n from ≡ true) × (step count c n ≡ true) = any_at (step count c) from h in
+      elim (or_cases (at.0 == c) (reaches graph count c (mentions graph at.0)) at.2) [
+        | inl same ↦ subst (λ (n : ℕ). Leads graph a n) (eqb-true at.0 c same) (all at.0 at.1)
+        | inr later ↦ follow a count c (mentions graph at.0) later (λ n among. leads_on a at.0 n (all at.0 at.1) among)
+      ]
+
+  pub leads_through : (a b c : ℕ) → Leads graph a b → Leads graph b c → Leads graph a c
+  leads_through a b c first second = follow a second.0 c (b ∷ []) second.1 (λ n among. subst (λ (m : ℕ). Leads graph a m) (one n among) first)
+    where
+      one : (n : ℕ) → is_among n (b ∷ []) ≡ true → b ≡ n
+      one n among = elim (or_cases (b == n) false among) [
+        | inl same ↦ eqb-true b n same
+        | inr none ↦ cc
+      ]
+
+  -- a node that mentions one that leads to it
+  pub leads_round : (v m : ℕ) → is_among m (mentions graph v) ≡ true → Leads graph m v → (count : ℕ) × (reaches graph count v (mentions graph v) ≡ true)
+  leads_round v m among leads = (leads.0, by leads.0 leads.1)
+    where
+      by : (count : ℕ) → reaches graph count v (m ∷ []) ≡ true → reaches graph count v (mentions graph v) ≡ true
+      by zero h = cc
+      by (suc count) h = any_from (step count v) (mentions graph v) m among (elim (or_cases (step count v m) false h) [
+        | inl here ↦ here
+        | inr none ↦ cc
+      ])

@@ -1,5 +1,10 @@
-pub mod Growing
 pub mod Leading
-pub mod Searched
-pub mod Suspected
-pub mod Rows
+pub mod Shortening
+pub mod Due
+pub mod Starting
+pub mod Working
+pub mod Entering
+pub mod Leaving
+pub mod Beginning
+pub mod Joining
+mod CycleRows

@@ -1,14 +1,13 @@
-//! Nodes of a graph that lead back to themselves.
+//! Nodes of a graph that are on cycles.
 //!
-//! `suspects` tells which nodes are on cycles or lead to some, in time linear in the graph; `comes_back` searches from a node whether it leads
-//! back to itself, in time linear in what it leads to. Of no other node than a suspect this has to be asked. `specs/Reaching` says what that is.
+//! `on_cycles` tells of each node whether it leads back to itself, as `specs/Reaching` says. One search answers for all of them, in time and memory
+//! linear in the nodes and their mentions, whatever the graph looks like. It keeps a stack of its own, so a graph may be as deep as it likes.
 //!
-//! - `suspecting`: the call `suspects`. `searching`: the call `comes_back`. `marking`: nodes that are found, each once.
+//! - `cycles`: the call `on_cycles`. `search`: the search, depth first. `components`: nodes that lead to one another.
 #![tactic(auto)]
 
-mod marking;
-mod searching;
-mod suspecting;
+mod components;
+mod cycles;
+mod search;
 
-pub use searching::comes_back;
-pub use suspecting::suspects;
+pub use cycles::on_cycles;

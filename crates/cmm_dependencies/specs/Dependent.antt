@@ -1,4 +1,4 @@
--- Dependencies of the declarations of a unit: the graph, and which of them may depend on themselves.
+-- Dependencies of the declarations of a unit: the graph, and which of them are on cycles.
 use Rattle.std.specs.Prelude.{◌≡◌, ℕ, ◌<◌, false, List, length, get_or}
 use Rattle.cmm_accepted.specs.Declarations.{Declared, Entry}
 use Rattle.cmm_cycles.specs.Reaching.{comes_back}
@@ -7,5 +7,5 @@ use Rattle.cmm_dependencies.specs.declared.dependencies.Dependencies.{Dependenci
 
 pub record AreDependencies (ds : List (Declared Entry)) (dependencies : Dependencies) : Type 0 where
   pub graph : dependencies.graph ≡ graph_of ds
-  pub size : length dependencies.suspects.items ≡ length ds
-  pub others : (node : ℕ) → node < length ds → get_or dependencies.suspects.items node false ≡ false → comes_back (graph_of ds) node ≡ false
+  pub size : length dependencies.cyclic.items ≡ length ds
+  pub cyclic : (node : ℕ) → node < length ds → get_or dependencies.cyclic.items node false ≡ comes_back (graph_of ds) node

@@ -9,7 +9,7 @@ ghost use Rattle.cmm_dependencies.specs.Depending.{graph_of};
 ghost use Rattle.cmm_dependencies.specs.Dependent.{AreDependencies};
 
 use crate::graph::graph_of;
-use cmm_cycles::{comes_back, suspects};
+use cmm_cycles::on_cycles;
 use cmm_items::Items;
 use cmm_names::{Entry, Named, Table};
 use cmm_typedefs::numbered;
@@ -19,7 +19,7 @@ use std::alloc::{AllocError, Global};
 #[derive(Drop)]
 pub struct Dependencies {
     pub(crate) graph: Items<Items<usize>>,
-    pub(crate) suspects: Vec<bool>,
+    pub(crate) cyclic: Vec<bool>,
 }
 
 impl Dependencies {
@@ -31,17 +31,12 @@ impl Dependencies {
     }
 
     /// Whether the declaration with a number, the first of its name, depends on itself.
-    pub fn on_itself(&self, alloc: Global, number: usize) -> Result<bool, AllocError>
+    pub fn on_itself(&self, number: usize) -> bool
         requires { (ds : List (Declared UnitEntry)) × AreDependencies ds self.now × (number < length ds) }
-        ensures { IfOk result (λ depends. (ds : List (Declared UnitEntry)) (d : Declared UnitEntry) → AreDependencies ds self.now → number_in (numbering ds) d.name.name ≡ Some number →
-            entry_at ds number ≡ Some d.as_what → depends ≡ depends_on_itself ds d) }
+        ensures { (ds : List (Declared UnitEntry)) (d : Declared UnitEntry) → AreDependencies ds self.now → number_in (numbering ds) d.name.name ≡ Some number →
+            entry_at ds number ≡ Some d.as_what → result ≡ depends_on_itself ds d }
     {
-        if self.suspects[number] {
-            let comes = comes_back(alloc, self.graph.as_slice(), number)?;
-            Ok(comes)
-        } else {
-            Ok(false)
-        }
+        self.cyclic[number]
     }
 }
 
@@ -55,6 +50,6 @@ pub fn dependencies_of<'a>(
     let mut repeated = None;
     let numbers = Table::of(alloc, numbered(alloc, declared)?, &mut repeated)?;
     let graph = graph_of(alloc, &numbers, declared)?;
-    let suspects = suspects(alloc, graph.as_slice())?;
-    Ok(Dependencies { graph, suspects })
+    let cyclic = on_cycles(alloc, graph.as_slice())?;
+    Ok(Dependencies { graph, cyclic })
 }

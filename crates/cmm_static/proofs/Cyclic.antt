@@ -189,10 +189,6 @@ unless_past : (token : ℕ) (best : Option Spot) (b : Bool) → IsNoted token be
 unless_past token best true h = refl
 unless_past token best false h = h
 
--- nothing, where its spot is not named first
-pub not_sooner : (ds : List (Declared Entry)) (d : Declared Entry) (best : Option Spot) → IsNoted d.name.token best → best ≡ first_of best (cycle_spots ds d)
-not_sooner ds d best h = sym (unless_past d.name.token best (not (depends_on_itself ds d)) h)
-
 pub noted_here : (ds : List (Declared Entry)) (number : ℕ) (d : Declared Entry) (depends : Bool) (best new : Option Spot) → CountsOrIsNoted ds number d.name best →
     (number_in (numbering ds) d.name.name ≡ Some number → depends ≡ depends_on_itself ds d) → new ≡ first_of best (unless (not depends) Cycle d.name.token) → new ≡ first_of best (cycle_spots ds d)
 noted_here ds number d depends best new (inl counts) tells is = is ∙ ap (λ b. first_of best (unless (not b) Cycle d.name.token)) (tells counts)

@@ -15,59 +15,39 @@ use cmm_names::{Entry, Named, unless};
 use cmm_rules::Rule;
 use std::alloc::{AllocError, Global};
 
-/// Whether a spot is named before the first one, or there is none.
-fn is_sooner(spot: Spot, best: &Option<Spot>) -> bool
-    ensures { result ≡ false → first_of best.now (spot ∷ []) ≡ best.now }
-{
-    match best {
-        Some(first) => spot.comes_before(*first),
-        None => true,
-    }
-}
-
 /// Notes a declaration, by its number, if it depends on itself. Of one that doesn't count, rule 20 is named at its place.
 fn note_dependent<'a>(
-    alloc: Global,
     dependencies: &Dependencies,
     number: usize,
     named: &Named<'a, Entry<'a>>,
     best: &mut Option<Spot>,
-) -> Result<(), AllocError>
+)
     requires { (ds : List (Declared UnitEntry)) × AreDependencies ds dependencies.now × (number < length ds) }
-    ensures { OnOk result ((ds : List (Declared UnitEntry)) → AreDependencies ds dependencies.now → entry_at ds number ≡ Some (entry_shown named.now.what) →
-        CountsOrIsNoted ds number named.now.name.now best.old → best.new ≡ first_of best.old (cycle_spots ds (shown named.now))) }
+    ensures { (ds : List (Declared UnitEntry)) → AreDependencies ds dependencies.now → entry_at ds number ≡ Some (entry_shown named.now.what) →
+        CountsOrIsNoted ds number named.now.name.now best.old → best.new ≡ first_of best.old (cycle_spots ds (shown named.now)) }
 {
-    let spot = Spot {
-        token: named.name.token,
-        rule: Rule::Cycle,
-    };
-    if !is_sooner(spot, best) {
-        return Ok(());
-    }
-    let depends = dependencies.on_itself(alloc, number)?;
+    let depends = dependencies.on_itself(number);
     unless(best, !depends, Rule::Cycle, named.name.token);
-    Ok(())
 }
 
 /// Notes a typedef or constant, if it depends on itself.
 fn note_cycle<'a>(
-    alloc: Global,
     dependencies: &Dependencies,
     number: usize,
     named: &Named<'a, Entry<'a>>,
     best: &mut Option<Spot>,
-) -> Result<(), AllocError>
+)
     requires { (ds : List (Declared UnitEntry)) × AreDependencies ds dependencies.now × (number < length ds) }
-    ensures { OnOk result ((ds : List (Declared UnitEntry)) → AreDependencies ds dependencies.now → entry_at ds number ≡ Some (entry_shown named.now.what) →
-        (is_dependent (entry_shown named.now.what) ≡ true → CountsOrIsNoted ds number named.now.name.now best.old) → best.new ≡ first_of best.old (entry_cycle_spots ds (shown named.now))) }
+    ensures { (ds : List (Declared UnitEntry)) → AreDependencies ds dependencies.now → entry_at ds number ≡ Some (entry_shown named.now.what) →
+        (is_dependent (entry_shown named.now.what) ≡ true → CountsOrIsNoted ds number named.now.name.now best.old) → best.new ≡ first_of best.old (entry_cycle_spots ds (shown named.now)) }
 {
     match named.what {
-        Entry::Typedef(_) => note_dependent(alloc, dependencies, number, named, best),
-        Entry::Const(_, _) => note_dependent(alloc, dependencies, number, named, best),
-        Entry::Register(_) => Ok(()),
-        Entry::Import(_) => Ok(()),
-        Entry::DataLabel(_) => Ok(()),
-        Entry::Procedure(_, _) => Ok(()),
+        Entry::Typedef(_) => note_dependent(dependencies, number, named, best),
+        Entry::Const(_, _) => note_dependent(dependencies, number, named, best),
+        Entry::Register(_) => (),
+        Entry::Import(_) => (),
+        Entry::DataLabel(_) => (),
+        Entry::Procedure(_, _) => (),
     }
 }
 
@@ -82,7 +62,7 @@ pub(crate) fn note_cycles<'a>(
     ensures { OnOk result (AreNoted best.old (map shown declared.now) → best.new ≡ first_of best.old (flat_map (entry_cycle_spots (map shown declared.now)) (map shown declared.now))) }
 {
     for (number, named) in declared.iter().enumerate() {
-        note_cycle(alloc, dependencies, number, named, best)?;
+        note_cycle(dependencies, number, named, best);
     }
     Ok(())
 }

@@ -7,8 +7,8 @@ use Rattle.cmm_dependencies.specs.Depending.{graph_by, graph_of}
 use Rattle.cmm_dependencies.proofs.Depended.{graph_is, graph_size}
 use Rattle.cmm_dependencies.proofs.dependencies.dependencies_of.Goals as goal
 
-pub suspects-requires : goal.suspects-requires
-suspects-requires c =
+pub on_cycles-requires : goal.on_cycles-requires
+on_cycles-requires c =
     let ds = map shown c.args.declared.now in
     ap (λ (g : List (List ℕ)). is_graph g)
     (c.as_slice.ensures ∙ c.in_ok-graph.ensures ∙ ap (λ (ns : List (Declared ℕ)). graph_by ns ds) (ap (map named) c.in_ok-numbers.ensures.declared ∙ c.in_ok-numbered.ensures))
@@ -21,8 +21,8 @@ returns c =
     c.in_ok-graph.ensures ∙ ap (λ (ns : List (Declared ℕ)). graph_by ns ds) (ap (map named) c.in_ok-numbers.ensures.declared ∙ c.in_ok-numbered.ensures) in
     let seen : c.as_slice.result.now ≡ graph_of ds = c.as_slice.ensures ∙ own in record {
       graph = own;
-      size = c.in_ok-suspects.ensures.size ∙ ap (λ (g : List (List ℕ)). length g) seen ∙ graph_size ds;
-      others = λ node. λ within. λ no.
-          ap (λ (g : List (List ℕ)). comes_back g node) (sym seen)
-          ∙ c.in_ok-suspects.ensures.others node (subst (λ (n : ℕ). node < n) (sym (ap (λ (g : List (List ℕ)). length g) seen ∙ graph_size ds)) within) no;
+      size = c.in_ok-cyclic.ensures.size ∙ ap (λ (g : List (List ℕ)). length g) seen ∙ graph_size ds;
+      cyclic = λ node. λ within.
+          c.in_ok-cyclic.ensures.cyclic node (subst (λ (n : ℕ). node < n) (sym (ap (λ (g : List (List ℕ)). length g) seen ∙ graph_size ds)) within)
+          ∙ ap (λ (g : List (List ℕ)). comes_back g node) seen;
     }

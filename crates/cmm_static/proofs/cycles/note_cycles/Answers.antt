@@ -21,7 +21,7 @@ loop-number-preserved c = λ noted.
     let k = c.loop-number.number in
     let d = c.index-declared-number.result in
     let before = flat_map (entry_cycle_spots (map shown ds)) (map shown (take k ds)) in
-    c.in_ok-note_cycle.ensures (map shown ds) c.requires (entry_listed ds k d c.loop-number-test.true c.index-declared-number.is)
+    c.note_cycle.ensures (map shown ds) c.requires (entry_listed ds k d c.loop-number-test.true c.index-declared-number.is)
     (counted_now c.args.best.now c.loop-number.best before ds k d noted (c.loop-number.invariant noted) c.loop-number-test.true c.index-declared-number.is)
     ∙ ap (λ b. first_of b (entry_cycle_spots (map shown ds) (shown d))) (c.loop-number.invariant noted)
     ∙ noted_next_of shown (entry_cycle_spots (map shown ds)) c.args.best.now ds k d c.loop-number-test.true c.index-declared-number.is

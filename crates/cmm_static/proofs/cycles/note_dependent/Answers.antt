@@ -4,5 +4,5 @@ use Rattle.cmm_static.proofs.cycles.note_dependent.Goals as goal
 
 pub returns : goal.returns
 returns c = λ ds. λ are. λ at. λ counts.
-    noted_here ds c.args.number (shown c.args.named.now) c.in_ok-depends.depends c.args.best.now c.unless.new.best counts
-    (λ number. c.in_ok-depends.ensures ds (shown c.args.named.now) are number at) c.unless.ensures
+    noted_here ds c.args.number (shown c.args.named.now) c.on_itself-depends.result c.args.best.now c.unless.new.best counts
+    (λ number. c.on_itself-depends.ensures ds (shown c.args.named.now) are number at) c.unless.ensures
