@@ -13,5 +13,6 @@ mod Copied
 mod Brought
 mod Beginning
 mod Going
+mod AskedEnds
 mod Rows
 pub mod Shared

@@ -1,4 +1,4 @@
--- Pieces of code that ask once: a byte is put, or the input's next one is taken.
+-- Pieces of code that ask once: a byte is put, the input's next one is taken, or the end of the run is asked for.
 use Rattle.std.specs.Prelude.{◌≡◌, ℕ, ◌+◌, ◌<◌, ◌^◌, ◌==◌, ◌||◌, Bool}
 use Rattle.cmm_abi.specs.declared.registers.TheConstants.{REQUEST_VALUE}
 use Rattle.rv_asm.specs.Parts.{Code}
@@ -35,3 +35,7 @@ pub record Requests (before after : ℕ) (P : MemoryMap → State → Type 0) (a
       Reaches x.map 1 before s
       (λ t. KeepsAsking s t × (instruction_step x.map t ≡ Asks (asked s))
       × ((u : State) → IsAnswered (asked s) t u → Reaches x.map 0 after u (λ v. (v.pc ≡ to) × Q u v)))
+
+-- from every sound state at an address, so many instructions at most lead to an ECALL that asks for what the state tells
+pub record AsksFor (most : ℕ) (asked : State → Request) (x : Code) (from : ℕ) : Type 0 where
+  pub go : (s : State) → IsSound s → s.pc ≡ from → Reaches x.map 0 most s (λ t. instruction_step x.map t ≡ Asks (asked s))

@@ -13,7 +13,7 @@ use Rattle.cmm_calls.specs.Calls.{Calls, HasExits}
 use Rattle.cmm_calls.specs.Values.{Begins, ReturnsValues}
 use Rattle.cmm_coded.proofs.ReturnedSeven.{at_label}
 use Rattle.cmm_coded.specs.Examples.{CallsOnce}
-use Rattle.cmm_coded.specs.Finished.{AsksFor}
+use Rattle.cmm_changes.specs.Requests.{AsksFor}
 use Rattle.cmm_coded.specs.Starting.{BeginsRun}
 
 -- where a label is placed, control goes on

@@ -24,7 +24,6 @@ pub mod Simulating
 pub mod Beginning
 pub mod OnceBegun
 pub mod Agreeing
-pub mod AskedEnds
 pub mod Started
 pub mod Placing
 pub mod Naming

@@ -12,7 +12,7 @@ use Rattle.cmm_select.specs.declared.operand.Operand.TheVariants.{Held}
 use Rattle.cmm_select.specs.declared.source.Source.TheVariants.{Number}
 use Rattle.cmm_calls.specs.Values.{Begins, ReturnsValues}
 use Rattle.cmm_coded.specs.Examples.{ReturnsSeven}
-use Rattle.cmm_coded.specs.Finished.{AsksFor}
+use Rattle.cmm_changes.specs.Requests.{AsksFor}
 use Rattle.cmm_coded.specs.Starting.{BeginsRun}
 
 -- what is asked for at a label is asked for where it is placed

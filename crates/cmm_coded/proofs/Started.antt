@@ -8,7 +8,7 @@ use Rattle.rv_asm.specs.declared.part.Part.TheVariants.{Call}
 use Rattle.rv_table.specs.declared.request.Request.TheVariants.{End}
 use Rattle.cmm_changes.proofs.Shared.{reaches_more}
 use Rattle.cmm_abi.specs.Registers.{is_scratch}
-use Rattle.cmm_coded.specs.Finished.{AsksFor}
+use Rattle.cmm_changes.specs.Requests.{AsksFor}
 use Rattle.cmm_coded.specs.Starting.{BeginsRun}
 
 other_than : (r : ℕ) → ((r == 1) || is_scratch r) ≡ false → r ≡ 1 → ⊥

@@ -11,7 +11,7 @@ use Rattle.cmm_changes.specs.Pieces.{Always}
 use Rattle.cmm_changes.specs.Ways.{Turns}
 use Rattle.cmm_calls.specs.Calls.{Calls, HasExits}
 use Rattle.cmm_calls.specs.Values.{Begins, ReturnsValues}
-use Rattle.cmm_coded.specs.Finished.{AsksFor}
+use Rattle.cmm_changes.specs.Requests.{AsksFor}
 use Rattle.cmm_coded.specs.Starting.{BeginsRun}
 
 -- The run begins, and `main` is called, whose frame is made and which returns 7. At a label, the stack's limit is asked for.

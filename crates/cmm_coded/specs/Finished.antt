@@ -1,11 +1,7 @@
 -- The finished code of a compiled program, by addresses.
-use Rattle.std.specs.Prelude.{◌≡◌, ℕ}
+use Rattle.std.specs.Prelude.{ℕ}
 use Rattle.cmm_graph.specs.declared.number.NodeId.{NodeId}
 use Rattle.rv_asm.specs.Parts.{Code}
-use Rattle.rv_asm.specs.Reaching.{Reaches}
-use Rattle.rv_table.specs.Bounds.{IsSound}
-use Rattle.rv_table.specs.Machine.{State, Asks, instruction_step}
-use Rattle.rv_table.specs.declared.request.Request.{Request}
 use Rattle.cmm_execution.specs.Machine.{Launch, map_of}
 use Rattle.cmm_shown.specs.Words.{Symbols}
 
@@ -19,7 +15,3 @@ pub record Finished : Type 0 where
 -- the code of an image, as the labels of a procedure stand in it
 abbrev pub code_of : Launch → Finished → ℕ → Code
 code_of l f q = record { map = map_of l; at = f.labels q }
-
--- from every sound state at an address, so many instructions at most lead to an ECALL that asks for what the state tells
-pub record AsksFor (most : ℕ) (asked : State → Request) (x : Code) (from : ℕ) : Type 0 where
-  pub go : (s : State) → IsSound s → s.pc ≡ from → Reaches x.map 0 most s (λ t. instruction_step x.map t ≡ Asks (asked s))

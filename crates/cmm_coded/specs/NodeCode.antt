@@ -55,7 +55,8 @@ use Rattle.cmm_execution.specs.Machine.{Launch}
 use Rattle.cmm_shown.specs.Shown.{AreLandings}
 use Rattle.cmm_shown.specs.Words.{register_address}
 use Rattle.cmm_located.specs.Compiled.{Compiled, landing_in, place_of}
-use Rattle.cmm_coded.specs.Finished.{AsksFor, Finished, code_of}
+use Rattle.cmm_changes.specs.Requests.{AsksFor}
+use Rattle.cmm_coded.specs.Finished.{Finished, code_of}
 
 module _ (s : Setting) (c : Compiled) (l : Launch) (f : Finished) where
   -- ---- operands

@@ -15,7 +15,8 @@ use Rattle.cmm_changes.specs.Pieces.{Always}
 use Rattle.cmm_changes.specs.Ways.{Goes}
 use Rattle.cmm_execution.specs.Machine.{Launch}
 use Rattle.cmm_located.specs.Compiled.{Compiled}
-use Rattle.cmm_coded.specs.Finished.{AsksFor, Finished, code_of}
+use Rattle.cmm_changes.specs.Requests.{AsksFor}
+use Rattle.cmm_coded.specs.Finished.{Finished, code_of}
 
 -- A label is called, with the address behind the call in register 1, and nothing else is changed but scratch registers; there the end of the
 -- run is asked for, with the value in register 10.

@@ -6,9 +6,8 @@ ghost use Rattle.rv_asm.specs.declared.part.Meaning.TheVariants.{Inner};
 ghost use Rattle.cmm_calls.specs.Frames.{CanBeMade};
 ghost use Rattle.cmm_coded.specs.Examples.{CallsOnce};
 
-use crate::asking::ask_limit;
 use crate::starting::start_run;
-use cmm_calls::{begin, call, lay_exits, return_values};
+use cmm_calls::{ask_limit, begin, call, lay_exits, return_values};
 use cmm_chain::Frame;
 use cmm_select::{Operand, Source};
 use rv_asm::{Asm, Label};

@@ -10,16 +10,13 @@
 //! - `specs/Standing`: which machine states show a state over places.
 //! - `specs/Starting`: the code with which a run begins.
 //! - `specs/Laying`, `Placing`, `Naming`: what the layout of frames, finished bytes and graphs give of what is asked.
-//! - `asking`, `starting`: the code that ends a run, and with which one begins. `examples`, `call_example`: the code of small programs, with which what is
-//!   asked of code is met.
+//! - `starting`: the code with which a run begins. `examples`, `call_example`: the code of small programs, with which what is asked of code is met.
 //! - `laws`: that the image simulates the machine over places, and follows it from its first state on.
 #![tactic(auto)]
 
-mod asking;
 pub mod call_example;
 pub mod examples;
 pub mod laws;
 mod starting;
 
-pub use asking::{ask_end, ask_limit};
 pub use starting::start_run;

@@ -5,7 +5,7 @@ ghost use Rattle.rv_asm.specs.Assembly.{IsTarget};
 ghost use Rattle.cmm_changes.specs.Pieces.{Adds};
 ghost use Rattle.cmm_coded.specs.Starting.{BeginsRun};
 
-use crate::asking::ask_end;
+use cmm_calls::ask_end;
 use rv_asm::{Asm, Label};
 use std::alloc::AllocError;
 

@@ -39,9 +39,9 @@ use Rattle.cmm_places.specs.Places.{HasPlaces}
 use Rattle.cmm_places.specs.Placing.{placement_rows}
 use Rattle.cmm_coded.proofs.Shared.{image_agrees}
 use Rattle.cmm_coded.specs.Agreeing.{AgreesOnceBegun}
-use Rattle.cmm_link.specs.declared.text.Text.{Text}
+use Rattle.cmm_unit_code.specs.declared.text.Text.{Text}
 use Rattle.cmm_link.specs.Placements.{placement_of}
-use Rattle.cmm_link.specs.Texts.{ascend_above}
+use Rattle.cmm_unit_code.specs.Texts.{ascend_above}
 use Rattle.cmm_text.specs.Texts.{RunsProgram}
 use Rattle.cmm_compile.specs.Agreement.{IsStackSize, launch_of, setting_of}
 use Rattle.cmm_compile.specs.inside.Laws.{ImagesAgree, IsMade}

@@ -1,10 +1,13 @@
 //! What the passes below are worth together. Each law is the contract of a function that does nothing.
 
+ghost use Rattle.cmm_meaning.specs.Laws.{ProceduresAscend};
+ghost use Rattle.cmm_data.specs.Laws.{InRangeCanBeLaidOut};
+ghost use Rattle.cmm_link.specs.Laws.{PlacesHaveFrames};
 ghost use Rattle.cmm_compile.specs.inside.Laws.{ImagesAgree, ProgramsAreCoded, ProgramsAreCovered, ProgramsAreShort};
 
 /// The nodes of a program that does not wait for a client are such that code is laid of them.
 #[tactic(auto, using(crate::proofs::Coding::programs_are_coded))]
-pub(crate) fn programs_are_coded()
+fn programs_are_coded()
     ensures { ProgramsAreCoded }
 {
     cmm_flow::laws::answers_are_quiet();
@@ -12,7 +15,7 @@ pub(crate) fn programs_are_coded()
 
 /// The code of the nodes of a program over places has at most 32 instructions for each of their tokens.
 #[tactic(auto, using(crate::proofs::Covering::programs_are_covered))]
-pub(crate) fn programs_are_covered()
+fn programs_are_covered()
     ensures { ProgramsAreCovered }
 {
     cmm_flow::laws::answers_are_graphs();
@@ -25,7 +28,7 @@ pub(crate) fn programs_are_covered()
 /// The code of the nodes of each procedure of a program over places, with one instruction behind it, is at most 64 instructions for each token of the
 /// procedure.
 #[tactic(auto, using(crate::proofs::Covering::programs_are_short))]
-pub(crate) fn programs_are_short()
+fn programs_are_short()
     ensures { ProgramsAreShort }
 {
     cmm_flow::laws::answers_are_graphs();
@@ -37,7 +40,7 @@ pub(crate) fn programs_are_short()
 }
 
 /// An image that is made of a program agrees with it.
-pub(crate) fn images_agree()
+fn images_agree()
     ensures { ImagesAgree }
 {
     cmm_data::laws::programs_in_range();
@@ -47,4 +50,23 @@ pub(crate) fn images_agree()
     cmm_places::laws::places_do_what_programs_do();
     cmm_select::laws::switches_lead();
     cmm_execution::laws::images_last();
+}
+
+/// Each pass answers what the passes behind it ask for, and the image of the last agrees with the program of the first.
+pub(crate) fn passes_fit()
+    ensures ascend { ProceduresAscend }
+    ensures data { InRangeCanBeLaidOut }
+    ensures frames { PlacesHaveFrames }
+    ensures coded { ProgramsAreCoded }
+    ensures covered { ProgramsAreCovered }
+    ensures short { ProgramsAreShort }
+    ensures agree { ImagesAgree }
+{
+    cmm_meaning::laws::procedures_ascend();
+    cmm_data::laws::programs_in_range();
+    cmm_link::laws::places_have_frames();
+    programs_are_coded();
+    programs_are_covered();
+    programs_are_short();
+    images_agree();
 }

@@ -2,5 +2,3 @@ pub mod Read
 pub mod First
 pub mod Named
 pub mod Meant
-pub mod Counted
-mod CountRows

@@ -56,7 +56,7 @@ first_keeps : (P : Placed → Type 0) (best : Option Placed) (ps : List Placed) 
 first_keeps P best [] kept all = kept
 first_keeps P best (p ∷ ps) kept all = first_keeps P (sooner_by stands_before best (Some p)) ps (sooner_keeps P best p kept (All-head P p ps all)) (All-tail P p ps all)
 
-pub count_from : (procs labels : ℕ) (us : List UnitTree) → length (units_from procs labels us) ≡ length us
+count_from : (procs labels : ℕ) (us : List UnitTree) → length (units_from procs labels us) ≡ length us
 count_from procs labels [] = refl
 count_from procs labels (u ∷ us) = ap suc (count_from (procs + sum_of procs_in (items_of u)) (labels + sum_of labels_in (items_of u)) us)
 

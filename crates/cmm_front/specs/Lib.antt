@@ -1,4 +1,3 @@
 pub mod Sources
 pub mod Refusing
 pub mod Programs
-pub mod Counts

@@ -19,12 +19,12 @@ use Rattle.cmm_image.specs.Formats.{AreBytes, AreRows}
 use Rattle.cmm_image.specs.ImageFormat.{global, header, image, image_header, is_code_length, label, procedure}
 use Rattle.cmm_image.specs.Images.{IsImage}
 use Rattle.cmm_places.specs.declared.procedure.ProcedurePlaces.{ProcedurePlaces}
-use Rattle.cmm_link.specs.declared.text.Text.{Text}
+use Rattle.cmm_unit_code.specs.declared.text.Text.{Text}
 use Rattle.cmm_link.specs.Labels.{AreLabelsOf, exports, names_ascend}
 use Rattle.cmm_link.specs.Linked.{HaveFrames, IsDataOf, IsImageOf}
 use Rattle.cmm_link.specs.Rooms.{HasRoom}
 use Rattle.cmm_link.specs.Rows.{global_row, procedure_rows}
-use Rattle.cmm_link.specs.Texts.{IsText}
+use Rattle.cmm_unit_code.specs.Texts.{IsText}
 use Rattle.cmm_link.specs.inside.Made.{AreMade}
 use Rattle.cmm_link.specs.inside.Named.{IsNamed, IsNamedGlobal, IsNamedLabel}
 use Rattle.cmm_link.proofs.Codes.{filled_by_placement, places_counted}

@@ -8,8 +8,8 @@ use Rattle.std.proofs.lemmas.Option.{get_or_from_slice_get, slice_get_within}
 use Rattle.rv_table.specs.Memory.{code_base}
 use Rattle.rv_asm.specs.Filling.{filled}
 use Rattle.rv_asm.specs.declared.filling.CodeFix.{CodeFix}
-use Rattle.cmm_link.specs.Joined.{IsWhole, joined_code, landing_addresses, procedure_addresses}
-use Rattle.cmm_link.specs.declared.unit_code.UnitCode.{UnitCode}
+use Rattle.cmm_unit_code.specs.Joined.{IsWhole, joined_code, landing_addresses, procedure_addresses}
+use Rattle.cmm_unit_code.specs.declared.unit_code.UnitCode.{UnitCode}
 
 -- the fixes before the next index
 pub next_fix : (fixes : List CodeFix) (i : ℕ) (f : CodeFix) → slice_get fixes i ≡ Some f → take (i + 1) fixes ≡ take i fixes ++ f ∷ []

@@ -7,9 +7,9 @@ use Rattle.std.specs.Prelude.{true, false}
 use Rattle.std.specs.Int.{w32, to_le_bytes}
 use Rattle.std.specs.List.{All, flat_map}
 use Rattle.std.proofs.lemmas.List.Elements.{All-cons, All-nil}
-use Rattle.cmm_link.specs.Joined.{IsJoined, IsWhole, symbol_value}
-use Rattle.cmm_link.specs.declared.text.Text.{Text}
-use Rattle.cmm_link.specs.declared.unit_code.UnitCode.{UnitCode}
+use Rattle.cmm_unit_code.specs.Joined.{IsJoined, IsWhole, symbol_value}
+use Rattle.cmm_unit_code.specs.declared.text.Text.{Text}
+use Rattle.cmm_unit_code.specs.declared.unit_code.UnitCode.{UnitCode}
 
 abbrev words : List ℕ → List ℕ
 words ws = flat_map (to_le_bytes w32) ws

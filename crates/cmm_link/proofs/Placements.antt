@@ -13,7 +13,7 @@ use Rattle.cmm_link.specs.Laws.{ImagesShowPlacements, PlacesHaveFrames}
 use Rattle.cmm_link.specs.Linked.{HaveFrames}
 use Rattle.cmm_link.specs.Placements.{place_row_of}
 use Rattle.cmm_link.specs.Rows.{continuation_rows, procedure_row, procedure_rows, stack_label_row}
-use Rattle.cmm_link.specs.Texts.{HasLandings}
+use Rattle.cmm_unit_code.specs.Texts.{HasLandings}
 use Rattle.cmm_link.proofs.Frames.{pairs_counted}
 
 pairs_shown : (conts : List Cont) (pairs landings : List ℕ) → length pairs ≡ length conts → length landings ≡ length conts →

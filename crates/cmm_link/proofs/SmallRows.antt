@@ -21,13 +21,13 @@ use Rattle.cmm_image.specs.declared.rows.LabelRow.{LabelRow}
 use Rattle.cmm_image.specs.declared.rows.ProcRow.{ProcRow}
 use Rattle.cmm_places.specs.declared.procedure.ProcedurePlaces.{ProcedurePlaces}
 use Rattle.cmm_places.specs.Placing.{placement_rows}
-use Rattle.cmm_link.specs.declared.text.Text.{Text}
+use Rattle.cmm_unit_code.specs.declared.text.Text.{Text}
 use Rattle.cmm_link.specs.Labels.{exports, names_ascend}
 use Rattle.cmm_link.specs.Linked.{IsDataOf}
 use Rattle.cmm_link.specs.Placements.{place_row_of}
 use Rattle.cmm_link.specs.Rooms.{HasRoom}
 use Rattle.cmm_link.specs.Rows.{procedure_rows}
-use Rattle.cmm_link.specs.Texts.{IsText}
+use Rattle.cmm_unit_code.specs.Texts.{IsText}
 use Rattle.cmm_link.specs.inside.Kept.{kept_after}
 use Rattle.cmm_link.proofs.Images.{AreGiven}
 

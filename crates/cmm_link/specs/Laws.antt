@@ -7,10 +7,10 @@ use Rattle.cmm_places.specs.declared.procedure.ProcedurePlaces.{ProcedurePlaces}
 use Rattle.cmm_places.specs.Places.{HavePlaces}
 use Rattle.cmm_places.specs.Placing.{placement_rows}
 use Rattle.cmm_image.specs.declared.parts.ImageParts.{ImageParts}
-use Rattle.cmm_link.specs.declared.text.Text.{Text}
+use Rattle.cmm_unit_code.specs.declared.text.Text.{Text}
 use Rattle.cmm_link.specs.Linked.{HaveFrames, IsImageOf}
 use Rattle.cmm_link.specs.Placements.{placement_of}
-use Rattle.cmm_link.specs.Texts.{IsText}
+use Rattle.cmm_unit_code.specs.Texts.{IsText}
 
 -- procedures whose places are those of their graphs have frames
 abbrev pub PlacesHaveFrames : Type 0

@@ -1,5 +1,3 @@
-pub mod Texts
-pub mod Joined
 pub mod Rows
 pub mod Labels
 pub mod Placements

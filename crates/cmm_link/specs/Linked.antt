@@ -12,7 +12,7 @@ use Rattle.cmm_places.specs.Placing.{placement_rows}
 use Rattle.cmm_data.specs.declared.layout.DataImage.{DataImage}
 use Rattle.cmm_data.specs.Filling.{AreApart, code_in, filled}
 use Rattle.cmm_image.specs.declared.parts.ImageParts.{ImageParts}
-use Rattle.cmm_link.specs.declared.text.Text.{Text}
+use Rattle.cmm_unit_code.specs.declared.text.Text.{Text}
 use Rattle.cmm_link.specs.Labels.{AreLabelsOf, exports}
 use Rattle.cmm_link.specs.Rows.{global_row, procedure_rows}
 

@@ -4,11 +4,10 @@ ghost use Rattle.std.specs.Prelude.{◌≡◌, ◌+◌, ◌<◌, ◌≤◌, ◌^
 ghost use Rattle.std.specs.List.{All};
 ghost use Rattle.rv_table.specs.Memory.{code_base};
 ghost use Rattle.rv_asm.specs.Filling.{AreApart, filled};
-ghost use Rattle.cmm_link.specs.Joined.{IsJoined, IsWhole, joined_code, landing_addresses, procedure_addresses, symbol_value};
+ghost use Rattle.cmm_unit_code.specs.Joined.{IsJoined, IsWhole, joined_code, landing_addresses, procedure_addresses, symbol_value};
 
-use crate::text::Text;
-use crate::unit_code::UnitCode;
 use cmm_items::Items;
+use cmm_unit_code::{Text, UnitCode};
 use rv_asm::{CodeFix, fill};
 use rv_table::memory_map::{CODE_BASE, GLOBALS_OFFSET};
 use std::alloc::{AllocError, Global};

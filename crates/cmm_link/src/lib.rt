@@ -3,8 +3,7 @@
 //! `link` makes the image of a program: the code of its units is joined to one text, in which each symbol has its number; its data has the addresses of procedures filled in; and its
 //! tables have their rows. The placement that the image shows is the one of that code and of the frames of its procedures, so the data is the definition's for it.
 //!
-//! - `text`: the code of a program, as it stands in an image.
-//! - `unit_code`: the code of a unit, and of a program before it is joined. `joining`: the text of a program from the codes of its units.
+//! - `joining`: the text of a program from the codes of its units.
 //! - `filling`: the bytes of data, once each address of a procedure is in them.
 //! - `procedures`, `labels`, `globals`: the rows of the tables.
 //! - `linking`: `link`. `shown`: the placement that an image shows.
@@ -21,10 +20,6 @@ mod linking;
 mod names;
 mod procedures;
 mod shown;
-mod text;
-mod unit_code;
 
 pub use linking::link;
 pub use shown::placement;
-pub use text::Text;
-pub use unit_code::{ProgramCode, UnitCode};

@@ -3,13 +3,13 @@
 ghost use Rattle.std.specs.Prelude.{◌≡◌, IsTrue, IfOk, map};
 ghost use Rattle.cmm_program.specs.InRange.{IsInRange};
 ghost use Rattle.cmm_places.specs.Placing.{placement_rows};
-ghost use Rattle.cmm_link.specs.Joined.{CanBeJoined, IsTextOf};
+ghost use Rattle.cmm_unit_code.specs.Joined.{CanBeJoined, IsTextOf};
 ghost use Rattle.cmm_link.specs.Labels.{names_ascend};
 ghost use Rattle.cmm_link.specs.Linked.{HaveFrames, IsDataOf, IsImageOf};
 ghost use Rattle.cmm_link.specs.Placements.{placement_of};
 ghost use Rattle.cmm_link.specs.Rooms.{HasRoom};
-ghost use Rattle.cmm_link.specs.Texts.{IsText};
-ghost use Rattle.cmm_link.specs.declared.text.Text.{Text as JoinedText};
+ghost use Rattle.cmm_unit_code.specs.Texts.{IsText};
+ghost use Rattle.cmm_unit_code.specs.declared.text.Text.{Text as JoinedText};
 ghost use Rattle.cmm_link.specs.inside.Made.{AreMade};
 
 use crate::filling::filled_data;
@@ -18,13 +18,12 @@ use crate::joining::join;
 use crate::labels::label_rows;
 use crate::names::know_bytes;
 use crate::procedures::procedure_rows;
-use crate::text::Text;
-use crate::unit_code::ProgramCode;
 use cmm_data::DataImage;
 use cmm_image::{Image, ImageParts};
 use cmm_items::Items;
 use cmm_places::ProcedurePlaces;
 use cmm_program::Program;
+use cmm_unit_code::{ProgramCode, Text};
 use std::alloc::{AllocError, Global};
 
 /// The parts of the image of a program, each made of what it is given.

@@ -2,13 +2,13 @@
 //!
 //! A local is live before a node of a graph where some path from there reads it before anything writes it (`specs/Liveness` of
 //! `cmm_graph`). `liveness` gives the set of the live locals before each node, at each call site and on the cut exits of each: just those,
-//! in both directions (`specs/Exact`). Contracts see a set as a list of truth values; a local has the number `number_of`.
+//! in both directions (`specs/Exact`). `liveness_of_all` does so for all graphs of a program. Contracts see a set as a list of truth values; a local has the number `number_of`.
 //!
 //! Each node has an equation: before it is live what it reads, and what is live before a successor and not written. The sets start empty
 //! and grow to the least that solve all equations. A worklist holds each node whose equation may not hold yet; it ends since a set can
 //! grow only as often as it has numbers.
 //!
-//! - `live_sets`: the sets, and `liveness`.
+//! - `live_sets`: the sets, `liveness` and `liveness_of_all`.
 //! - `locals`: the numbers of locals, and marks for many at once.
 //! - `equation`: the right side of a node's equation.
 //! - `predecessors`: which nodes lead to a node.
@@ -27,5 +27,5 @@ mod predecessors;
 mod sites;
 mod worklist;
 
-pub use live_sets::{LiveSets, liveness};
+pub use live_sets::{LiveSets, liveness, liveness_of_all};
 pub use locals::number_of;

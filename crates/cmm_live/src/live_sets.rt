@@ -1,6 +1,7 @@
 //! The sets, and the call that finds them.
 
 ghost use Rattle.std.specs.Prelude.{◌<◌, ◌^◌, IfOk};
+ghost use Rattle.std.specs.List.{All, AllZip};
 ghost use Rattle.cmm_live.specs.Exact.{AreLiveSets};
 ghost use Rattle.cmm_live.specs.Locals.{local_count};
 
@@ -38,4 +39,16 @@ pub fn liveness(alloc: Global, g: &Graph) -> Result<LiveSets, AllocError>
         sites: Items::from_vec(sites),
         cuts: Items::from_vec(cuts),
     })
+}
+
+/// The sets of each of some graphs, in their order. An error is want of memory.
+pub fn liveness_of_all(alloc: Global, graphs: &[Graph]) -> Result<Items<LiveSets>, AllocError>
+    requires { All (λ g. local_count g < 2 ^ 32) graphs.now }
+    ensures { IfOk result (λ found. AllZip AreLiveSets graphs.now found) }
+{
+    let mut found = Items::new(alloc);
+    for graph in graphs {
+        found.push(liveness(alloc, graph)?)?;
+    }
+    Ok(found)
 }

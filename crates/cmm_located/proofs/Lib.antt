@@ -1,5 +1,3 @@
-pub mod Offsets
-pub mod Framing
 pub mod ShowingWalks
 pub mod Levels
 pub mod Ordering

@@ -14,6 +14,5 @@ pub mod Returning
 pub mod Cutting
 pub mod RunningSteps
 pub mod Resting
-pub mod inside
 pub mod Clients
 pub mod Simulating

@@ -31,6 +31,7 @@ pub mod Short
 pub mod Starting
 pub mod Labels
 pub mod RegisterNames
+pub mod UnitOrder
 pub mod DataSize
 pub mod Mentioned
 pub mod Whole

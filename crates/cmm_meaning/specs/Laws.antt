@@ -1,7 +1,7 @@
 -- What holds of the program that units mean.
 use Rattle.std.specs.Prelude.{◌≡◌, ℕ, suc, ◌+◌, ◌^◌, ◌<◌, ◌≤◌, ◌&&◌, nat_le, Bool, true, false, IsTrue, All, List, [], length, map, sum_by, ◌*◌, slice_get, Option, Some, None}
 use Rattle.std.specs.List.{list_all, range_with_len}
-use Rattle.std.specs.List.Sorted.{IsStrictlySortedBy}
+use Rattle.std.specs.List.Sorted.{IsNonDecreasingBy, IsStrictlySortedBy}
 use Rattle.std.specs.Cmp.Lexicographic.{slice_cmp}
 use Rattle.std.specs.Ordering.{nat_cmp}
 use Rattle.std.specs.Option.{is_some}
@@ -131,6 +131,10 @@ LabelsAreThere = (us : List UnitTree) → AreAccepted us → IsTrue (list_all (i
 
 abbrev pub RegisterNamesAreShort : Type 0
 RegisterNamesAreShort = (us : List UnitTree) → AreAccepted us → IsTrue (list_all (λ g. is_name g.name) (meaning_of us).globals)
+
+-- the procedures of any units stand unit by unit, in the order of the units
+abbrev pub ProceduresAscend : Type 0
+ProceduresAscend = (us : List UnitTree) → IsNonDecreasingBy (λ q. q.unit) (meaning_of us).procs
 
 -- the registers of any units are in the order of their names, by bytes, each name once
 abbrev pub RegistersAscend : Type 0

@@ -1,6 +1,6 @@
 //! What holds of the program that units mean. Each law is the contract of a function that does nothing. Together they make a program in range.
 
-ghost use Rattle.cmm_meaning.specs.Laws.{BodiesAreCounted, CountsAreKept, DataFits, DatumsAreInRange, FormsAreInRange, LabelsAreThere, LimitsAreKept, MarksAreInOrder, NamesAreShort, NamesAreThere, NamesAreWhole, ProceduresHaveShortest, ProgramsAreInRange, RangesAreApart, ReadProgramsAreInRange, RegisterNamesAreShort, RegistersAscend, ScopesFit, SitesAreInOrder, SitesAreThere, StackdataFits, StartHasNoFormals, StatementsHaveShortest, StatementsKeepRules, TextsComeFromTokens, WaysAreThere, WidthsAreKept};
+ghost use Rattle.cmm_meaning.specs.Laws.{BodiesAreCounted, CountsAreKept, DataFits, DatumsAreInRange, FormsAreInRange, LabelsAreThere, LimitsAreKept, MarksAreInOrder, NamesAreShort, NamesAreThere, NamesAreWhole, ProceduresAscend, ProceduresHaveShortest, ProgramsAreInRange, RangesAreApart, ReadProgramsAreInRange, RegisterNamesAreShort, RegistersAscend, ScopesFit, SitesAreInOrder, SitesAreThere, StackdataFits, StartHasNoFormals, StatementsHaveShortest, StatementsKeepRules, TextsComeFromTokens, WaysAreThere, WidthsAreKept};
 ghost use Rattle.cmm_meaning.specs.Room.{RoomIsKept};
 
 /// In the program of any units, the call sites of a procedure stand in its body once each, in textual order, from number 0 on.
@@ -74,6 +74,11 @@ pub fn labels_are_there()
 /// In the program of accepted units, the names of registers have at most 255 bytes.
 pub fn register_names_are_short()
     ensures { RegisterNamesAreShort }
+{}
+
+/// In the program of any units, procedures stand unit by unit: their numbers of units ascend.
+pub fn procedures_ascend()
+    ensures { ProceduresAscend }
 {}
 
 /// In the program of any units, registers are numbered by their names: these ascend by bytes, each once.

@@ -34,7 +34,8 @@ use Rattle.cmm_execution.specs.Machine.{Launch}
 use Rattle.cmm_shown.specs.Shown.{AreLandings}
 use Rattle.cmm_shown.specs.Words.{register_address}
 use Rattle.cmm_located.specs.Compiled.{Compiled, landing_in, number_in}
-use Rattle.cmm_coded.specs.Finished.{AsksFor, Finished, code_of}
+use Rattle.cmm_changes.specs.Requests.{AsksFor}
+use Rattle.cmm_coded.specs.Finished.{Finished, code_of}
 use Rattle.cmm_coded.specs.NodeCode.{CallCode, GoesOn, IsCodeOf, IsPutInto, SiteCode}
 use Rattle.cmm_nodes.specs.declared.context.Context.{Context}
 use Rattle.cmm_nodes.specs.declared.context.Targets.{Targets}

@@ -1,3 +1,5 @@
+pub mod Offsets
+pub mod Framing
 pub mod Slotted
 pub mod Members
 pub mod Touching
@@ -9,4 +11,5 @@ pub mod Beginning
 pub mod Compiling
 pub mod Running
 pub mod Placed
+pub mod Together
 mod SmallRows

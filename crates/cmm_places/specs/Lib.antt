@@ -3,3 +3,4 @@ pub mod Places
 pub mod Compiling
 pub mod Placing
 pub mod Laws
+pub mod inside

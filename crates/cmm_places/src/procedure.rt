@@ -2,15 +2,16 @@
 
 ghost use Rattle.std.specs.Prelude.{◌≡◌, ◌*◌, ◌<◌, ◌^◌, IfOk};
 ghost use Rattle.cmm_bitset.specs.Sets.{members};
-ghost use Rattle.cmm_live.specs.Exact.{set_at};
+ghost use Rattle.cmm_live.specs.Exact.{AreLiveSets, set_at};
 ghost use Rattle.cmm_places.specs.Places.{CanBePlaced, HasPlaces};
 ghost use Rattle.cmm_places.specs.Slots.{slots};
 
+use crate::layout::lay_frame;
 use cmm_bitset::BitSet;
+use cmm_chain::{Frame, Location};
 use cmm_graph::{Graph, NodeId};
 use cmm_items::Items;
-use cmm_live::{LiveSets, liveness};
-use cmm_located::{Frame, Location, lay_frame};
+use cmm_live::LiveSets;
 use cmm_program::Proc;
 use std::alloc::{AllocError, Global};
 
@@ -55,15 +56,20 @@ fn live_at(alloc: Global, live: &LiveSets, node: NodeId) -> Result<Items<u32>, A
     }
 }
 
-/// The places of a procedure with this graph: a slot for each local, the frame that is laid for them, and what is live. A local that is
-/// live before the Entry, and so no formal, is made 0. An error is want of memory.
-pub fn places(alloc: Global, p: &Proc, g: &Graph) -> Result<ProcedurePlaces, AllocError>
-    requires { CanBePlaced p.now g.now }
+/// The places of a procedure with this graph, of which just these locals are live: a slot for each local, and the frame that is laid for
+/// them. A local that is live before the Entry, and so no formal, is made 0. An error is want of memory.
+pub(crate) fn places(
+    alloc: Global,
+    p: &Proc,
+    g: &Graph,
+    live: LiveSets,
+) -> Result<ProcedurePlaces, AllocError>
+    requires can { CanBePlaced p.now g.now }
+    requires live { AreLiveSets g.now live }
     ensures { IfOk result (λ k. HasPlaces p.now g.now k) }
 {
     let locals = slots(alloc, g.variables + g.temporaries)?;
     let frame = lay_frame(alloc, p, locals.as_slice())?;
-    let live = liveness(alloc, g)?;
     let zeroed = live_at(alloc, &live, g.first)?;
     Ok(ProcedurePlaces {
         locals,

@@ -11,7 +11,7 @@ use Rattle.rv_asm.specs.declared.part.Meaning.{Meaning}
 use Rattle.rv_asm.specs.declared.part.Part.{Part}
 use Rattle.rv_asm.specs.declared.part.Part.TheVariants.{Single, Place, Branch, Jump, Call, Address, Table}
 use Rattle.rv_table.specs.declared.instruction.Instr.{Instr}
-use Rattle.cmm_link.specs.Texts.{ascend_above}
+use Rattle.cmm_unit_code.specs.Texts.{ascend_above}
 use Rattle.cmm_text.proofs.Ordering.{at_front, between, get_front}
 use Rattle.cmm_text.specs.Finishing.{places_at}
 use Rattle.cmm_text.specs.Orders.{AreInOrder, IsClosed}

@@ -16,7 +16,7 @@ use Rattle.cmm_program.specs.declared.procedure.Proc.{Proc}
 use Rattle.cmm_program.specs.declared.program.Program.{Program}
 use Rattle.cmm_graph.specs.declared.graph.Graph.{Graph}
 use Rattle.cmm_places.specs.declared.procedure.ProcedurePlaces.{ProcedurePlaces}
-use Rattle.cmm_coded.specs.Finished.{AsksFor}
+use Rattle.cmm_changes.specs.Requests.{AsksFor}
 use Rattle.cmm_nodes.specs.declared.context.Context.{Context}
 use Rattle.cmm_text.proofs.Belonging.{IsOne, one_with, share_at, there_at}
 use Rattle.cmm_text.specs.Laying.{CanAllBeLaidIn, HaveCodes, HaveLabels, IsWhole, tokens_of_first}

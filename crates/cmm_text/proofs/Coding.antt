@@ -37,11 +37,12 @@ use Rattle.cmm_live.specs.Locals.{local_number as number_of_local}
 use Rattle.cmm_shown.specs.Shown.{AreLandings}
 use Rattle.cmm_shown.specs.Words.{Symbols, register_address}
 use Rattle.cmm_execution.specs.Machine.{Launch, map_of}
-use Rattle.cmm_coded.specs.Finished.{AsksFor, Finished, code_of}
+use Rattle.cmm_changes.specs.Requests.{AsksFor}
+use Rattle.cmm_coded.specs.Finished.{Finished, code_of}
 use Rattle.cmm_coded.specs.Placing.{FinishedCodeStands}
-use Rattle.cmm_link.specs.Joined.{symbol_value}
-use Rattle.cmm_link.specs.declared.text.Text.{Text}
-use Rattle.cmm_link.specs.declared.unit_code.UnitCode.{UnitCode}
+use Rattle.cmm_unit_code.specs.Joined.{symbol_value}
+use Rattle.cmm_unit_code.specs.declared.text.Text.{Text}
+use Rattle.cmm_unit_code.specs.declared.unit_code.UnitCode.{UnitCode}
 use Rattle.cmm_places.specs.declared.procedure.ProcedurePlaces.{ProcedurePlaces}
 use Rattle.cmm_places.specs.Compiling.{compiled, no_frame, no_place}
 use Rattle.cmm_places.specs.Placing.{placement_rows}

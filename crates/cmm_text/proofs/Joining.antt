@@ -1,10 +1,9 @@
 -- From the codes of units to what the joined text is worth.
-use Rattle.std.proofs.Common.{◌≡◌, ℕ, zero, suc, ◌+◌, ◌-◌, ◌%◌, ◌<◌, ◌≤◌, ◌^◌, refl, sym, ◌∙◌, ap, subst, arith, Bool, true, false, List, [], ◌∷◌, ◌++◌, append_assoc, length, length-append, map, get_or, Some, slice_get}
+use Rattle.std.proofs.Common.{◌≡◌, ℕ, ◌+◌, ◌-◌, ◌%◌, ◌<◌, ◌≤◌, ◌^◌, refl, sym, ◌∙◌, ap, subst, arith, Bool, true, false, List, [], ◌∷◌, ◌++◌, append_assoc, length, length-append, map, get_or, Some, slice_get}
 use Rattle.std.specs.Prelude.{nat_lt, slice_index, sum_by}
 use Rattle.std.specs.List.{All, AllZip}
 use Rattle.std.proofs.lemmas.Bool.Decides.{nat_tests}
 use Rattle.std.proofs.lemmas.List.{get_or-append-add, get_or-map, get_or_append_left, length-map}
-use Rattle.std.proofs.lemmas.List.Sums.{sum_by-cons}
 use Rattle.rv_table.specs.Memory.{code_base}
 use Rattle.rv_asm.specs.Filling.{filled}
 use Rattle.rv_asm.specs.declared.part.Label.{Label}
@@ -20,11 +19,11 @@ use Rattle.cmm_coded.specs.Naming.{GraphsAreNamed}
 use Rattle.cmm_data.specs.Laws.{InRangeCanBeLaidOut, LabelsLieInData, LiesInData}
 use Rattle.cmm_flow.specs.Flow.{IsFlow}
 use Rattle.cmm_flow.specs.Laws.{AnswersAreGraphs, AnswersWaitOnce}
-use Rattle.cmm_link.specs.Joined.{CanBeJoined, IsJoined, IsTextOf, IsWhole, joined_code, procedure_addresses}
-use Rattle.cmm_link.specs.Texts.{IsText}
-use Rattle.cmm_link.specs.declared.text.Text.{Text}
-use Rattle.cmm_link.specs.declared.unit_code.ProgramCode.{ProgramCode}
-use Rattle.cmm_link.specs.declared.unit_code.UnitCode.{UnitCode}
+use Rattle.cmm_unit_code.specs.Joined.{CanBeJoined, IsJoined, IsTextOf, IsWhole, joined_code, procedure_addresses}
+use Rattle.cmm_unit_code.specs.Texts.{IsText}
+use Rattle.cmm_unit_code.specs.declared.text.Text.{Text}
+use Rattle.cmm_unit_code.specs.declared.unit_code.ProgramCode.{ProgramCode}
+use Rattle.cmm_unit_code.specs.declared.unit_code.UnitCode.{UnitCode}
 use Rattle.cmm_places.specs.declared.procedure.ProcedurePlaces.{ProcedurePlaces}
 use Rattle.cmm_places.specs.Laws.{RowsHaveFrames}
 use Rattle.cmm_places.specs.Places.{HavePlaces}
@@ -54,12 +53,9 @@ module _ (p : Program) (graphs : List Graph) (found : List ProcedurePlaces)
   made first count at u is = record { at = at; outline = is.outline; labels = is.labels; parts = is.parts; places = is.finished.places; code = u }
 
   -- the units that stand one behind another from an address on
-  abbrev pub laid_from : (first at : ℕ) (counts : List ℕ) (us : List UnitCode) → AreUnits p graphs found first counts us → List Laid
-  laid_from first at [] [] are = []
-  laid_from first at [] (u ∷ us) are = elim are [ ]
-  laid_from first at (zero ∷ counts) us are = laid_from first at counts us are
-  laid_from first at (suc count ∷ counts) [] are = elim are [ ]
-  laid_from first at (suc count ∷ counts) (u ∷ us) are = made first (suc count) at u are.0 ∷ laid_from (first + suc count) (at + length u.code) counts us are.1
+  abbrev pub laid_from : (first end at : ℕ) (us : List UnitCode) → AreUnits p graphs found first end us → List Laid
+  laid_from first end at [] are = []
+  laid_from first end at (u ∷ us) are = made first are.0 at u are.1 ∷ laid_from (first + are.0) end (at + length u.code) us are.2
 
   -- what is so far of the text, before the units from an address on
   pub record IsBehind (first at : ℕ) (us : List UnitCode) : Type 0 where
@@ -142,35 +138,29 @@ module _ (p : Program) (graphs : List Graph) (found : List ProcedurePlaces)
     }
 
   -- the unit of each procedure
-  pub unit_there : (first at : ℕ) (counts : List ℕ) (us : List UnitCode) (are : AreUnits p graphs found first counts us) → IsBehind first at us → (q : ℕ) → first ≤ q →
-      q < first + sum_by (λ n. n) counts →
-      IsLaid p graphs found addresses t (unit_of (laid_from first at counts us are) q) × HasProcedure (unit_of (laid_from first at counts us are) q) q
-  unit_there first at [] [] are behind q least less = absurd (omega (arith, least, less))
-  unit_there first at [] (u ∷ us) are behind q least less = elim are [ ]
-  unit_there first at (zero ∷ counts) us are behind q least less =
-      unit_there first at counts us are behind q least (omega (arith, less, sum_by-cons (λ (n : ℕ). n) 0 counts))
-  unit_there first at (suc count ∷ counts) [] are behind q least less = elim are [ ]
-  unit_there first at (suc count ∷ counts) (u ∷ us) are behind q least less =
-      by (nat_lt q (are.0.outline.first + length are.0.outline.contexts)) refl
-      (λ out. unit_there (first + suc count) (at + length u.code) counts us are.1 (next_behind first (suc count) at u us are.0 behind) q out
-      (omega (arith, less, sum_by-cons (λ (n : ℕ). n) (suc count) counts)))
+  pub unit_there : (first end at : ℕ) (us : List UnitCode) (are : AreUnits p graphs found first end us) → IsBehind first at us → (q : ℕ) → first ≤ q → q < end →
+      IsLaid p graphs found addresses t (unit_of (laid_from first end at us are) q) × HasProcedure (unit_of (laid_from first end at us are) q) q
+  unit_there first end at [] are behind q least less = absurd (omega (arith, least, less, are))
+  unit_there first end at (u ∷ us) are behind q least less =
+      by (nat_lt q (are.1.outline.first + length are.1.outline.contexts)) refl
+      (λ out. unit_there (first + are.0) end (at + length u.code) us are.2 (next_behind first are.0 at u us are.1 behind) q out less)
     where
       Found : Laid → Type 0
       Found z = IsLaid p graphs found addresses t z × HasProcedure z q
 
-      by : (b : Bool) → nat_lt q (are.0.outline.first + length are.0.outline.contexts) ≡ b →
-          (first + suc count ≤ q → Found (unit_of (laid_from (first + suc count) (at + length u.code) counts us are.1) q)) →
-          Found (elim b as (λ _. Laid) [ true ↦ made first (suc count) at u are.0 | false ↦ unit_of (laid_from (first + suc count) (at + length u.code) counts us are.1) q ])
+      by : (b : Bool) → nat_lt q (are.1.outline.first + length are.1.outline.contexts) ≡ b →
+          (first + are.0 ≤ q → Found (unit_of (laid_from (first + are.0) end (at + length u.code) us are.2) q)) →
+          Found (elim b as (λ _. Laid) [ true ↦ made first are.0 at u are.1 | false ↦ unit_of (laid_from (first + are.0) end (at + length u.code) us are.2) q ])
       by true test later =
-          let inside : q < are.0.outline.first + length are.0.outline.contexts = grind (arith, nat_tests, test) in
-          let first_ = are.0.first_is in (
-            unit_laid first (suc count) at u us are.0 behind,
+          let inside : q < are.1.outline.first + length are.1.outline.contexts = grind (arith, nat_tests, test) in
+          let first_ = are.1.first_is in (
+            unit_laid first are.0 at u us are.1 behind,
             record { number = q - first; is = omega (arith, least, first_); inside = omega (arith, least, first_, inside) },
           )
       by false test later =
-          let out : are.0.outline.first + length are.0.outline.contexts ≤ q = grind (arith, nat_tests, test) in
-          let first_ = are.0.first_is in
-          let count_ = are.0.count_is in
+          let out : are.1.outline.first + length are.1.outline.contexts ≤ q = grind (arith, nat_tests, test) in
+          let first_ = are.1.first_is in
+          let count_ = are.1.count_is in
           later (omega (arith, out, first_, count_))
 
   -- ---- behind the code with which a run begins
@@ -211,7 +201,7 @@ module _ (p : Program) (graphs : List Graph) (found : List ProcedurePlaces)
           );
     }
 
-    module _ (counts : List ℕ) (are : AreUnits p graphs found 0 counts us) (counted : sum_by (λ n. n) counts ≡ length p.procs) (range : IsInRange p)
+    module _ (are : AreUnits p graphs found 0 (length p.procs) us) (range : IsInRange p)
         (graph_count : length graphs ≡ length p.procs) (found_count : length found ≡ length p.procs) (is_addresses : addresses ≡ label_addresses p) (lie : All (LiesInData p) addresses)
         (continuations : (q : ℕ) (procedure : Proc) (g : Graph) → slice_get p.procs q ≡ Some procedure → slice_get graphs q ≡ Some g → length g.continuations ≡ length procedure.conts)
         (procedure_count : length t.procedures ≡ length p.procs) (procedures_aligned : (q : ℕ) → get_or t.procedures q 0 % 4 ≡ 0)
@@ -224,8 +214,8 @@ module _ (p : Program) (graphs : List Graph) (found : List ProcedurePlaces)
         is_addresses = is_addresses;
         lie = lie;
         continuations = continuations;
-        laid = laid_from 0 (code_base + length start.code.code) counts us are;
-        units = λ q less. unit_there 0 (code_base + length start.code.code) counts us are start_behind q (omega arith) (omega (arith, less, counted));
+        laid = laid_from 0 (length p.procs) (code_base + length start.code.code) us are;
+        units = λ q less. unit_there 0 (length p.procs) (code_base + length start.code.code) us are start_behind q (omega arith) less;
         start = start;
         is_start = is_start;
         begins = start_stands;
@@ -250,12 +240,12 @@ module _ (p : Program) (graphs : List Graph) (found : List ProcedurePlaces)
             few = begins.1;
           }
 
--- ---- a program over places, whose units have so many procedures
+-- ---- a program over places, with the codes of its units
 
 module _ (p : Program) (graphs : List Graph) (found : List ProcedurePlaces) (range : IsInRange p) (flows : AllZip IsFlow p.procs graphs)
     (places : HavePlaces p.procs graphs found) (coded : CanBeCoded graphs) (answers : AnswersAreGraphs) (named : GraphsAreNamed) (made : FramesCanBeMade) (waits : AnswersWaitOnce)
-    (short : AreShort p.procs graphs found) (counts : List ℕ) (counted : sum_by (λ n. n) counts ≡ length p.procs) (few : length counts ≤ 256) (start : Start) (is_start : IsStart p start)
-    (codes : List UnitCode) (units : (us : List UnitCode) × (codes ≡ start.code ∷ us) × AreUnits p graphs found 0 counts us) where
+    (short : AreShort p.procs graphs found) (start : Start) (is_start : IsStart p start)
+    (codes : List UnitCode) (units : (us : List UnitCode) × (codes ≡ start.code ∷ us) × (length us ≤ 256) × AreUnits p graphs found 0 (length p.procs) us) where
   abbrev pub code : ProgramCode
   code = record { units = codes; last = start.last }
 
@@ -271,14 +261,17 @@ module _ (p : Program) (graphs : List Graph) (found : List ProcedurePlaces) (ran
   abbrev us : List UnitCode
   us = units.0
 
-  abbrev are : AreUnits p graphs found 0 counts us
-  are = units.2
+  few : length us ≤ 256
+  few = units.2
+
+  abbrev are : AreUnits p graphs found 0 (length p.procs) us
+  are = units.3
 
   pub can_be_joined : CanBeJoined code
   can_be_joined = record {
-    whole = subst (All IsWhole) (sym units.1) (all_whole p graphs found range graph_count continuations can counts counted few us are start is_start);
+    whole = subst (All IsWhole) (sym units.1) (all_whole p graphs found range graph_count continuations can us few are start is_start);
     room =
-        let fits = size_fits p graphs found range graph_count continuations can counts counted few us are start is_start in
+        let fits = size_fits p graphs found range graph_count continuations can us few are start is_start in
         subst (λ (cs : List UnitCode). code_base + sum_by (λ u. length u.code) cs ≤ 2 ^ 30) (sym units.1) (omega (arith, fits));
     last = last_low p start is_start;
   }
@@ -288,10 +281,10 @@ module _ (p : Program) (graphs : List Graph) (found : List ProcedurePlaces) (ran
     joined = subst (λ (cs : List UnitCode). IsJoined (length p.globals) (label_addresses p) cs start.last t) units.1 is
 
     pub text_is : IsText p t
-    text_is = is_text p graphs found range graph_count continuations can counts counted few us are start is_start (label_addresses p) t joined
+    text_is = is_text p graphs found range graph_count continuations can us few are start is_start (label_addresses p) t joined
 
     pub text_bounded : length t.code ≤ code_bound (sum_by (λ q. q.tokens) p.procs)
-    text_bounded = code_bounded p graphs found range graph_count continuations can counts counted few us are start is_start (label_addresses p) t joined
+    text_bounded = code_bounded p graphs found range graph_count continuations can us few are start is_start (label_addresses p) t joined
 
     graphs_known : AreCovered graphs found → AreGraphs p graphs found
     graphs_known covered = record {
@@ -308,10 +301,10 @@ module _ (p : Program) (graphs : List Graph) (found : List ProcedurePlaces) (ran
 
     pub code_of_program : AreCovered graphs found → LabelsLieInData → InRangeCanBeLaidOut → FinishedCodeStands → ProceduresAreLaid → RowsHaveFrames → IsCodeOfProgram p graphs found t
     code_of_program covered lie layable stands laid_by frames =
-        code_is p graphs found can (label_addresses p) t start is_start us joined counts are counted range graph_count
+        code_is p graphs found can (label_addresses p) t start is_start us joined are range graph_count
         (found_counted p graphs found range flows places coded answers named) refl (lie p (layable p range)) continuations
-        (procedure_count p graphs found range graph_count continuations can counts counted few us are start is_start (label_addresses p) t joined)
-        (procedures_aligned p graphs found range graph_count continuations can counts counted few us are start is_start (label_addresses p) t joined)
-        (procedures_low p graphs found range graph_count continuations can counts counted few us are start is_start (label_addresses p) t joined)
-        (code_fits p graphs found range graph_count continuations can counts counted few us are start is_start (label_addresses p) t joined)
+        (procedure_count p graphs found range graph_count continuations can us few are start is_start (label_addresses p) t joined)
+        (procedures_aligned p graphs found range graph_count continuations can us few are start is_start (label_addresses p) t joined)
+        (procedures_low p graphs found range graph_count continuations can us few are start is_start (label_addresses p) t joined)
+        (code_fits p graphs found range graph_count continuations can us few are start is_start (label_addresses p) t joined)
         (graphs_known covered) stands laid_by frames

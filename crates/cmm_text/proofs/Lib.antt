@@ -17,7 +17,7 @@ mod Inside
 mod Ranged
 mod Advancing
 mod Counting
-mod Counts
+mod Grouping
 mod Layable
 mod Joining
 mod Making

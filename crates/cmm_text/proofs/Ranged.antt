@@ -20,10 +20,10 @@ use Rattle.cmm_program.specs.declared.procedure.Proc.{Proc}
 use Rattle.cmm_program.specs.declared.program.Program.{Program}
 use Rattle.cmm_graph.specs.declared.graph.Graph.{Graph}
 use Rattle.cmm_image.specs.ImageFormat.{is_code_length, is_in_code}
-use Rattle.cmm_link.specs.Joined.{IsJoined, IsWhole, joined_code, landing_addresses, procedure_addresses}
-use Rattle.cmm_link.specs.Texts.{HasLandings, IsText, ascend_above}
-use Rattle.cmm_link.specs.declared.text.Text.{Text}
-use Rattle.cmm_link.specs.declared.unit_code.UnitCode.{UnitCode}
+use Rattle.cmm_unit_code.specs.Joined.{IsJoined, IsWhole, joined_code, landing_addresses, procedure_addresses}
+use Rattle.cmm_unit_code.specs.Texts.{HasLandings, IsText, ascend_above}
+use Rattle.cmm_unit_code.specs.declared.text.Text.{Text}
+use Rattle.cmm_unit_code.specs.declared.unit_code.UnitCode.{UnitCode}
 use Rattle.cmm_places.specs.declared.procedure.ProcedurePlaces.{ProcedurePlaces}
 use Rattle.cmm_text.proofs.Addresses.{place_fine}
 use Rattle.cmm_text.proofs.Inside.{IsInside, IsRanged, unit_ranged}
@@ -238,33 +238,18 @@ joined_counted value at (u ∷ us) whole =
 
 -- ---- all units
 
-units_counted : (p : Program) (graphs : List Graph) (found : List ProcedurePlaces) (first : ℕ) (counts : List ℕ) (us : List UnitCode) → AreUnits p graphs found first counts us →
-    length us ≤ length counts
-units_counted p graphs found first [] [] are = omega arith
-units_counted p graphs found first [] (u ∷ us) are = elim are [ ]
-units_counted p graphs found first (zero ∷ counts) us are = let rest = units_counted p graphs found first counts us are in omega (arith, rest)
-units_counted p graphs found first (suc count ∷ counts) [] are = elim are [ ]
-units_counted p graphs found first (suc count ∷ counts) (u ∷ us) are =
-    let rest = units_counted p graphs found (first + suc count) counts us are.1 in omega (arith, rest)
-
 module _ (p : Program) (graphs : List Graph) (found : List ProcedurePlaces) (range : IsInRange p) (graph_count : length graphs ≡ length p.procs)
     (continuations : (q : ℕ) (procedure : Proc) (g : Graph) → slice_get p.procs q ≡ Some procedure → slice_get graphs q ≡ Some g →
     length g.continuations ≡ length procedure.conts)
     (can_of : (first count : ℕ) (u : UnitCode) (is : IsUnit p graphs found first count u) → CanAllBeLaidIn p graphs found is.outline) where
-  are_ranged : (first : ℕ) (counts : List ℕ) (us : List UnitCode) → first + sum_by (λ n. n) counts ≡ length p.procs → AreUnits p graphs found first counts us →
-      AreRanged p first us
-  are_ranged first [] [] all are = none_ranged p first (omega (arith, all))
-  are_ranged first [] (u ∷ us) all are = elim are [ ]
-  are_ranged first (zero ∷ counts) us all are = are_ranged first counts us (omega (arith, all, sum_by-cons (λ (n : ℕ). n) zero counts)) are
-  are_ranged first (suc count ∷ counts) [] all are = elim are [ ]
-  are_ranged first (suc count ∷ counts) (u ∷ us) all are =
-      one_more p first (suc count) u us (unit_ranged p graphs found first (suc count) u are.0 (can_of first (suc count) u are.0) graph_count continuations)
-      (are_ranged (first + suc count) counts us (omega (arith, all, sum_by-cons (λ (n : ℕ). n) (suc count) counts)) are.1)
+  are_ranged : (first : ℕ) (us : List UnitCode) → AreUnits p graphs found first (length p.procs) us → AreRanged p first us
+  are_ranged first [] are = none_ranged p first are
+  are_ranged first (u ∷ us) are =
+      one_more p first are.0 u us (unit_ranged p graphs found first are.0 u are.1 (can_of first are.0 u are.1) graph_count continuations) (are_ranged (first + are.0) us are.2)
 
-  module _ (counts : List ℕ) (counted : sum_by (λ n. n) counts ≡ length p.procs) (few : length counts ≤ 256) (units : List UnitCode)
-      (are : AreUnits p graphs found 0 counts units) (start : Start) (is_start : IsStart p start) where
+  module _ (units : List UnitCode) (few : length units ≤ 256) (are : AreUnits p graphs found 0 (length p.procs) units) (start : Start) (is_start : IsStart p start) where
     ranged : AreRanged p 0 units
-    ranged = are_ranged 0 counts units (omega (arith, counted)) are
+    ranged = are_ranged 0 units are
 
     abbrev whole_size : ℕ
     whole_size = size (start.code ∷ units)
@@ -278,7 +263,7 @@ module _ (p : Program) (graphs : List Graph) (found : List ProcedurePlaces) (ran
     pub size_bounded : sum_by (λ u. length u.code) (start.code ∷ units) ≤ code_bound (sum_by (λ q. q.tokens) p.procs)
     size_bounded =
         let most = ranged.few in
-        omega (arith, together, most, start_few p start is_start, units_counted p graphs found 0 counts units are, few)
+        omega (arith, together, most, start_few p start is_start, few)
 
     pub size_fits : sum_by (λ u. length u.code) (start.code ∷ units) + 65536 ≤ 2 ^ 30
     size_fits = let tokens_few = range.tokens in omega (arith, size_bounded, tokens_few)

@@ -12,9 +12,9 @@ use Rattle.cmm_program.specs.InRange.{IsInRange}
 use Rattle.cmm_program.specs.Layout.{label_addresses}
 use Rattle.cmm_graph.specs.declared.graph.Graph.{Graph}
 use Rattle.cmm_data.specs.Laws.{LiesInData}
-use Rattle.cmm_link.specs.Joined.{symbol_value}
-use Rattle.cmm_link.specs.declared.text.Text.{Text}
-use Rattle.cmm_link.specs.declared.unit_code.UnitCode.{UnitCode}
+use Rattle.cmm_unit_code.specs.Joined.{symbol_value}
+use Rattle.cmm_unit_code.specs.declared.text.Text.{Text}
+use Rattle.cmm_unit_code.specs.declared.unit_code.UnitCode.{UnitCode}
 use Rattle.cmm_places.specs.declared.procedure.ProcedurePlaces.{ProcedurePlaces}
 use Rattle.cmm_nodes.specs.Naming.{label_at}
 use Rattle.cmm_text.specs.Finishing.{AreFinished}

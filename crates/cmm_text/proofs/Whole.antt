@@ -38,7 +38,8 @@ use Rattle.cmm_graph.specs.Ranges.{IsValid}
 use Rattle.cmm_changes.proofs.Shared.{goes_weaker}
 use Rattle.cmm_execution.specs.Machine.{Launch, map_of}
 use Rattle.cmm_located.specs.Compiled.{Compiled, exits_of, landing_in, site_exits, waits_at}
-use Rattle.cmm_coded.specs.Finished.{AsksFor, Finished, code_of}
+use Rattle.cmm_changes.specs.Requests.{AsksFor}
+use Rattle.cmm_coded.specs.Finished.{Finished, code_of}
 use Rattle.cmm_coded.specs.Laying.{IsLaidOut, ProceduresAreLaid, is_register}
 use Rattle.cmm_changes.specs.Changes.{PutsRegister}
 use Rattle.cmm_changes.specs.Pieces.{Always}
@@ -47,7 +48,7 @@ use Rattle.cmm_coded.specs.NodeCode.{IsCodeOf, SiteCode}
 use Rattle.cmm_coded.specs.Placing.{FinishedCodeStands}
 use Rattle.cmm_coded.specs.ProgramCode.{IsCode, is_coded, names_registers}
 use Rattle.cmm_coded.specs.Starting.{StartCode}
-use Rattle.cmm_link.specs.declared.text.Text.{Text}
+use Rattle.cmm_unit_code.specs.declared.text.Text.{Text}
 use Rattle.cmm_places.specs.declared.procedure.ProcedurePlaces.{ProcedurePlaces}
 use Rattle.cmm_places.specs.Compiling.{compiled, no_frame, no_place}
 use Rattle.cmm_places.specs.Laws.{RowsHaveFrames}

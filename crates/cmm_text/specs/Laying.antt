@@ -15,7 +15,7 @@ use Rattle.cmm_graph.specs.declared.graph.Graph.{Graph}
 use Rattle.cmm_changes.specs.Changes.{IsPlace}
 use Rattle.cmm_calls.specs.Frames.{CanBeMade}
 use Rattle.cmm_places.specs.declared.procedure.ProcedurePlaces.{ProcedurePlaces}
-use Rattle.cmm_coded.specs.Finished.{AsksFor}
+use Rattle.cmm_changes.specs.Requests.{AsksFor}
 use Rattle.cmm_nodes.specs.declared.context.Context.{Context}
 use Rattle.cmm_nodes.specs.declared.context.Targets.{Targets}
 use Rattle.cmm_nodes.specs.Costs.{total_cost}
@@ -23,7 +23,7 @@ use Rattle.cmm_nodes.specs.Laying.{StandsHere, WaitApart}
 use Rattle.cmm_nodes.specs.Naming.{has_kind, label_at}
 use Rattle.cmm_text.specs.Contexts.{first_label}
 use Rattle.cmm_text.specs.Orders.{AreInOrder, IsClosed}
-use Rattle.cmm_text.specs.Outlines.{own, symbol_count, symbol_meaning}
+use Rattle.cmm_text.specs.Outlines.{IsOutlineIn, own, symbol_count, symbol_meaning}
 use Rattle.cmm_text.specs.declared.outline.Outline.{Outline}
 
 -- ---- before
@@ -51,6 +51,12 @@ pub record CanAllBeLaid (p : Program) (procs : List Proc) (graphs : List Graph) 
 
 abbrev pub CanAllBeLaidIn : Program → List Graph → List ProcedurePlaces → Outline → Type 0
 CanAllBeLaidIn p graphs found o = CanAllBeLaid p (own o p.procs) (own o graphs) (own o found) o
+
+-- a unit has this outline over the places of its procedures, and its code can be laid
+pub record HasOutline (p : Program) (graphs : List Graph) (o : Outline) : Type 0 where
+  pub found : List ProcedurePlaces
+  pub is_outline : IsOutlineIn p graphs found o
+  pub can : CanAllBeLaidIn p graphs found o
 
 -- ---- while so many procedures are laid
 

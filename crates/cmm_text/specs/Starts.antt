@@ -13,7 +13,7 @@ use Rattle.cmm_changes.specs.Changes.{PutsRegister}
 use Rattle.cmm_changes.specs.Pieces.{Always}
 use Rattle.cmm_changes.specs.Ways.{Goes}
 use Rattle.cmm_program.specs.declared.program.Program.{Program}
-use Rattle.cmm_coded.specs.Finished.{AsksFor}
+use Rattle.cmm_changes.specs.Requests.{AsksFor}
 use Rattle.cmm_text.specs.Finishing.{AreFinished}
 use Rattle.cmm_text.specs.Orders.{IsClosed}
 use Rattle.cmm_text.specs.Outlines.{number_symbols}

@@ -11,7 +11,7 @@ use Rattle.cmm_shown.specs.Shown.{IsFor}
 use Rattle.cmm_coded.specs.Finished.{Finished}
 use Rattle.cmm_coded.specs.ProgramCode.{IsCode}
 use Rattle.cmm_coded.specs.Starting.{StartCode}
-use Rattle.cmm_link.specs.declared.text.Text.{Text}
+use Rattle.cmm_unit_code.specs.declared.text.Text.{Text}
 use Rattle.cmm_places.specs.Compiling.{compiled}
 use Rattle.cmm_places.specs.Placing.{placement_rows}
 use Rattle.cmm_places.specs.declared.procedure.ProcedurePlaces.{ProcedurePlaces}

@@ -6,8 +6,8 @@ ghost use Rattle.cmm_text.specs.Finishing.{IsFinished, places_at};
 
 use crate::outline::Outline;
 use cmm_items::Items;
-use cmm_link::UnitCode;
 use cmm_nodes::Context;
+use cmm_unit_code::UnitCode;
 use rv_asm::{Asm, Label};
 use std::alloc::{AllocError, Global};
 

@@ -1,13 +1,12 @@
 //! The code of a unit's procedures, and behind it that with which a run ends for want of room in the stack.
 
 ghost use Rattle.std.specs.Prelude.{◌≡◌, ◌+◌, ◌<◌, [], length, OnOk};
-ghost use Rattle.cmm_text.specs.Laying.{CanAllBeLaidIn, HaveCodesIn, HaveLabelsIn, IsWholeIn};
-ghost use Rattle.cmm_text.specs.Outlines.{IsOutlineIn};
+ghost use Rattle.cmm_text.specs.Laying.{HasOutline, HaveCodesIn, HaveLabelsIn, IsWholeIn};
 
 use crate::outline::Outline;
 use crate::start::{close, lay_limit};
+use cmm_graph::Graph;
 use cmm_nodes::lay_nodes;
-use cmm_places::PlacedProgram;
 use cmm_program::Program;
 use rv_asm::Asm;
 use std::alloc::{AllocError, Global};
@@ -18,21 +17,20 @@ fn lay_procedure(
     asm: &mut Asm,
     alloc: Global,
     program: &Program,
-    placed: &PlacedProgram,
+    graphs: &[Graph],
     outline: &Outline,
     number: usize,
 ) -> Result<(), AllocError>
-    requires outline { IsOutlineIn program.now placed.now.graphs placed.now.places outline.now }
-    requires can { CanAllBeLaidIn program.now placed.now.graphs placed.now.places outline.now }
+    requires outline { HasOutline program.now graphs.now outline.now }
     requires number { number < length outline.now.contexts }
-    requires labels { HaveLabelsIn program.now placed.now.graphs outline.now number asm.old.labels }
-    requires codes { HaveCodesIn program.now placed.now.graphs outline.now number asm.old.parts }
-    ensures labels { OnOk result (HaveLabelsIn program.now placed.now.graphs outline.now (number + 1) asm.new.labels) }
-    ensures codes { OnOk result (HaveCodesIn program.now placed.now.graphs outline.now (number + 1) asm.new.parts) }
+    requires labels { HaveLabelsIn program.now graphs.now outline.now number asm.old.labels }
+    requires codes { HaveCodesIn program.now graphs.now outline.now number asm.old.parts }
+    ensures labels { OnOk result (HaveLabelsIn program.now graphs.now outline.now (number + 1) asm.new.labels) }
+    ensures codes { OnOk result (HaveCodesIn program.now graphs.now outline.now (number + 1) asm.new.parts) }
 {
     asm.placed_labels();
     let context = &outline.contexts.as_slice()[number];
-    let graph = &placed.graphs.as_slice()[outline.first + number];
+    let graph = &graphs[outline.first + number];
     lay_nodes(asm, alloc, context, &outline.targets, graph)?;
     close(asm)?;
     Ok(())
@@ -43,18 +41,17 @@ fn lay_procedures(
     asm: &mut Asm,
     alloc: Global,
     program: &Program,
-    placed: &PlacedProgram,
+    graphs: &[Graph],
     outline: &Outline,
 ) -> Result<(), AllocError>
-    requires outline { IsOutlineIn program.now placed.now.graphs placed.now.places outline.now }
-    requires can { CanAllBeLaidIn program.now placed.now.graphs placed.now.places outline.now }
-    requires labels { HaveLabelsIn program.now placed.now.graphs outline.now 0 asm.old.labels }
-    requires codes { HaveCodesIn program.now placed.now.graphs outline.now 0 asm.old.parts }
-    ensures labels { OnOk result (HaveLabelsIn program.now placed.now.graphs outline.now (length outline.now.contexts) asm.new.labels) }
-    ensures codes { OnOk result (HaveCodesIn program.now placed.now.graphs outline.now (length outline.now.contexts) asm.new.parts) }
+    requires outline { HasOutline program.now graphs.now outline.now }
+    requires labels { HaveLabelsIn program.now graphs.now outline.now 0 asm.old.labels }
+    requires codes { HaveCodesIn program.now graphs.now outline.now 0 asm.old.parts }
+    ensures labels { OnOk result (HaveLabelsIn program.now graphs.now outline.now (length outline.now.contexts) asm.new.labels) }
+    ensures codes { OnOk result (HaveCodesIn program.now graphs.now outline.now (length outline.now.contexts) asm.new.parts) }
 {
     for number in 0..outline.contexts.len() {
-        lay_procedure(asm, alloc, program, placed, outline, number)?;
+        lay_procedure(asm, alloc, program, graphs, outline, number)?;
     }
     Ok(())
 }
@@ -64,16 +61,15 @@ pub fn lay_code(
     asm: &mut Asm,
     alloc: Global,
     program: &Program,
-    placed: &PlacedProgram,
+    graphs: &[Graph],
     outline: &Outline,
 ) -> Result<(), AllocError>
-    requires outline { IsOutlineIn program.now placed.now.graphs placed.now.places outline.now }
-    requires can { CanAllBeLaidIn program.now placed.now.graphs placed.now.places outline.now }
+    requires outline { HasOutline program.now graphs.now outline.now }
     requires empty { asm.old.parts ≡ [] }
-    requires labels { HaveLabelsIn program.now placed.now.graphs outline.now 0 asm.old.labels }
-    ensures whole { OnOk result (IsWholeIn program.now placed.now.graphs outline.now asm.new.labels asm.new.parts) }
+    requires labels { HaveLabelsIn program.now graphs.now outline.now 0 asm.old.labels }
+    ensures whole { OnOk result (IsWholeIn program.now graphs.now outline.now asm.new.labels asm.new.parts) }
 {
-    lay_procedures(asm, alloc, program, placed, outline)?;
+    lay_procedures(asm, alloc, program, graphs, outline)?;
     lay_limit(asm, outline.targets.limit)?;
     Ok(())
 }

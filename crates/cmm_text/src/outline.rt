@@ -8,9 +8,10 @@ ghost use Rattle.cmm_text.specs.Outlines.{IsOutlineIn, number_symbols, share, sy
 
 use crate::contexts::{contexts, entry_labels};
 use crate::labels::{label, symbols};
+use cmm_graph::Graph;
 use cmm_items::Items;
 use cmm_nodes::{Context, Targets};
-use cmm_places::PlacedProgram;
+use cmm_places::ProcedurePlaces;
 use cmm_program::Program;
 use rv_asm::{Asm, Label};
 use std::alloc::{AllocError, Global};
@@ -49,21 +50,22 @@ pub fn make_outline(
     asm: &mut Asm,
     alloc: Global,
     program: &Program,
-    placed: &PlacedProgram,
+    graphs: &[Graph],
+    places: &[ProcedurePlaces],
     first: usize,
     count: usize,
 ) -> Result<Outline, AllocError>
     requires empty { asm.old.labels ≡ [] }
-    requires graphs { length placed.now.graphs ≡ length program.now.procs }
-    requires places { length placed.now.places ≡ length program.now.procs }
+    requires graphs { length graphs.now ≡ length program.now.procs }
+    requires places { length places.now ≡ length program.now.procs }
     requires within { first + count ≤ length program.now.procs }
-    requires few { first_label (symbol_count program.now + 1) (share first count program.now.procs) (share first count placed.now.graphs) count ≤ 2 ^ 32 }
-    ensures made { IfOk result (λ o. IsOutlineIn program.now placed.now.graphs placed.now.places o) }
+    requires few { first_label (symbol_count program.now + 1) (share first count program.now.procs) (share first count graphs.now) count ≤ 2 ^ 32 }
+    ensures made { IfOk result (λ o. IsOutlineIn program.now graphs.now places.now o) }
     ensures first { IfOk result (λ o. o.first ≡ first) }
     ensures count { IfOk result (λ o. length o.contexts ≡ count) }
     ensures labels { OnOk result (asm.new.labels ≡ symbol_labels false 0 (number_symbols program.now)
         ++ (symbol_labels true (number_symbols program.now) (length program.now.procs)
-        ++ replicate (first_label 1 (share first count program.now.procs) (share first count placed.now.graphs) count) (Inner false))) }
+        ++ replicate (first_label 1 (share first count program.now.procs) (share first count graphs.now) count) (Inner false))) }
     ensures parts { asm.new.parts ≡ asm.old.parts }
 {
     let registers = symbols(asm, alloc, program.globals.len(), false)?;
@@ -71,15 +73,15 @@ pub fn make_outline(
     let others = symbols(asm, alloc, program.procs.len(), true)?;
     let limit = label(asm)?;
     let end = first + count;
-    let graphs = &placed.graphs.as_slice()[first..end];
+    let own_graphs = &graphs[first..end];
     let contexts = contexts(
         asm,
         alloc,
         &program.procs.as_slice()[first..end],
-        graphs,
-        &placed.places.as_slice()[first..end],
+        own_graphs,
+        &places[first..end],
     )?;
-    let entries = entry_labels(alloc, contexts.as_slice(), graphs)?;
+    let entries = entry_labels(alloc, contexts.as_slice(), own_graphs)?;
     let procedures = with_own(alloc, first, entries.as_slice(), others.as_slice())?;
     let targets = Targets {
         procedures,

@@ -14,10 +14,10 @@ use Rattle.cmm_places.specs.Places.{HavePlaces}
 use Rattle.cmm_places.specs.Placing.{placement_rows}
 use Rattle.cmm_image.specs.declared.parts.ImageParts.{ImageParts}
 use Rattle.cmm_image.specs.Images.{IsImage}
-use Rattle.cmm_link.specs.declared.text.Text.{Text}
+use Rattle.cmm_unit_code.specs.declared.text.Text.{Text}
 use Rattle.cmm_link.specs.Linked.{IsImageOf}
 use Rattle.cmm_link.specs.Placements.{placement_of}
-use Rattle.cmm_link.specs.Texts.{IsText}
+use Rattle.cmm_unit_code.specs.Texts.{IsText}
 use Rattle.cmm_text.specs.Premises.{AreCovered, AreShort, CanBeCoded}
 use Rattle.cmm_text.specs.Texts.{IsCodeOfProgram}
 use Rattle.cmm_compile.specs.Agreement.{AgreesWith}

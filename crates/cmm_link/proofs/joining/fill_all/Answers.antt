@@ -3,7 +3,7 @@ use Rattle.std.proofs.lemmas.Option.{slice_get-get_or}
 use Rattle.rv_asm.proofs.Shared.{fixes_are_filled}
 use Rattle.rv_asm.specs.Filling.{filled, fix_number, number_at, with_number}
 use Rattle.rv_asm.specs.declared.filling.CodeFix.{CodeFix}
-use Rattle.cmm_link.specs.Joined.{symbol_value}
+use Rattle.cmm_unit_code.specs.Joined.{symbol_value}
 use Rattle.cmm_link.proofs.Joined.{next_fix}
 use Rattle.cmm_link.proofs.joining.fill_all.Goals as goal
 

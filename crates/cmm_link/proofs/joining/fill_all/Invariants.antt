@@ -1,6 +1,6 @@
 use Rattle.std.proofs.Common.{◌≡◌, length, take}
 use Rattle.rv_asm.specs.Filling.{filled}
-use Rattle.cmm_link.specs.Joined.{symbol_value}
+use Rattle.cmm_unit_code.specs.Joined.{symbol_value}
 use Rattle.cmm_link.proofs.joining.fill_all.Given as goal
 
 -- the fixes so far are filled

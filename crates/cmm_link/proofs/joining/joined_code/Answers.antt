@@ -4,7 +4,7 @@ use Rattle.std.proofs.lemmas.List.Sums.{sum_by_push}
 use Rattle.rv_table.specs.Memory.{code_base}
 use Rattle.rv_asm.specs.Filling.{filled}
 use Rattle.rv_asm.specs.declared.filling.CodeFix.{CodeFix}
-use Rattle.cmm_link.specs.Joined.{joined_code, symbol_value}
+use Rattle.cmm_unit_code.specs.Joined.{joined_code, symbol_value}
 use Rattle.cmm_link.proofs.Joined.{code_pushed, size}
 use Rattle.cmm_link.proofs.joining.joined_code.Goals as goal
 

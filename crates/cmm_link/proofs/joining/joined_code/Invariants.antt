@@ -1,6 +1,6 @@
 use Rattle.std.proofs.Common.{◌≡◌, length}
 use Rattle.rv_table.specs.Memory.{code_base}
-use Rattle.cmm_link.specs.Joined.{joined_code, symbol_value}
+use Rattle.cmm_unit_code.specs.Joined.{joined_code, symbol_value}
 use Rattle.cmm_link.proofs.Joined.{size}
 use Rattle.cmm_link.proofs.joining.joined_code.Given as goal
 

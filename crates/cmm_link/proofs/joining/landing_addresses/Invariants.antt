@@ -1,6 +1,6 @@
 use Rattle.std.proofs.Common.{◌≡◌, ◌+◌, take}
 use Rattle.rv_table.specs.Memory.{code_base}
-use Rattle.cmm_link.specs.Joined.{landing_addresses}
+use Rattle.cmm_unit_code.specs.Joined.{landing_addresses}
 use Rattle.cmm_link.proofs.Joined.{size}
 use Rattle.cmm_link.proofs.joining.landing_addresses.Given as goal
 

@@ -1,9 +1,9 @@
 use Rattle.std.proofs.Common.{◌≡◌, ◌∙◌, subst, arith, length, ℕ, List}
 use Rattle.cmm_program.specs.declared.program.Program.{Program}
 use Rattle.cmm_program.specs.Layout.{label_addresses}
-use Rattle.cmm_link.specs.Joined.{IsJoined, IsTextOf}
-use Rattle.cmm_link.specs.declared.text.Text.{Text}
-use Rattle.cmm_link.specs.declared.unit_code.ProgramCode.{ProgramCode}
+use Rattle.cmm_unit_code.specs.Joined.{IsJoined, IsTextOf}
+use Rattle.cmm_unit_code.specs.declared.text.Text.{Text}
+use Rattle.cmm_unit_code.specs.declared.unit_code.ProgramCode.{ProgramCode}
 use Rattle.cmm_link.proofs.linking.link.Goals as goal
 
 pub join-requires-clause-registers : goal.join-requires-clause-registers

@@ -12,4 +12,4 @@ lay_frame-requires-clause-places c =
 pub lay_frame-requires-clause-room : goal.lay_frame-requires-clause-room
 lay_frame-requires-clause-room c =
     let same = ap slots_end (c.as_slice.ensures ∙ c.in_ok-locals.ensures) in
-    omega (arith, same, slots_end_within (local_count c.args.g.now), c.requires.bounded, c.requires.continuations)
+    omega (arith, same, slots_end_within (local_count c.args.g.now), c.requires.can.bounded, c.requires.can.continuations)

@@ -6,7 +6,7 @@ pub lay_procedures-requires-clause-codes : goal.lay_procedures-requires-clause-c
 lay_procedures-requires-clause-codes c =
     let p = c.args.program.now in
     let o = c.args.outline.now in
-    none_laid p (own o p.procs) (own o c.args.placed.now.graphs) o c.args.asm.now.parts c.requires.empty
+    none_laid p (own o p.procs) (own o c.args.graphs.now) o c.args.asm.now.parts c.requires.empty
 
 pub returns : goal.returns
 returns c =
@@ -16,6 +16,6 @@ returns c =
     let ends = c.in_ok-lay_limit.ensures in
     record {
       whole =
-          is_whole p (own o p.procs) (own o c.args.placed.now.graphs) o (own o c.args.placed.now.places) c.requires.outline c.lay_procedures.new.asm.labels c.lay_limit.new.asm.labels
+          is_whole p (own o p.procs) (own o c.args.graphs.now) o (own o c.requires.outline.found) c.requires.outline.is_outline c.lay_procedures.new.asm.labels c.lay_limit.new.asm.labels
           c.lay_procedures.new.asm.parts c.lay_limit.new.asm.parts laid.labels laid.codes ends.labels ends.placed ends.ends ends.size;
     }

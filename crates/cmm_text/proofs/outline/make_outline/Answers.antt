@@ -3,9 +3,7 @@ use Rattle.std.specs.Prelude.{replicate}
 use Rattle.rv_asm.specs.declared.part.Label.{Label}
 use Rattle.rv_asm.specs.declared.part.Meaning.{Meaning}
 use Rattle.rv_asm.specs.declared.part.Meaning.TheVariants.{Inner}
-use Rattle.cmm_graph.specs.declared.graph.Graph.{Graph}
 use Rattle.cmm_program.specs.declared.procedure.Proc.{Proc}
-use Rattle.cmm_places.specs.declared.procedure.ProcedurePlaces.{ProcedurePlaces}
 use Rattle.cmm_nodes.specs.declared.context.Context.{Context}
 use Rattle.cmm_text.specs.Contexts.{AreMade, entry_labels, first_label}
 use Rattle.cmm_text.specs.Labels.{labels_from, symbol_labels}
@@ -30,12 +28,12 @@ returns-clause-made c =
     let l3 = c.symbols-3.new.asm.labels in
     let l4 = c.label.new.asm.labels in
     let l5 = c.contexts.new.asm.labels in
-    let graphs = c.as_slice.result.now in
-    let procs = c.as_slice-2.result.now in
-    let found = c.as_slice-3.result.now in
+    let graphs = c.args.graphs.now in
+    let procs = c.as_slice.result.now in
+    let found = c.args.places.now in
     let qs = share first count p.procs in
-    let gs = share first count c.args.placed.now.graphs in
-    let ks = share first count c.args.placed.now.places in
+    let gs = share first count c.args.graphs.now in
+    let ks = share first count c.args.places.now in
     let size : first + count - first ≡ count = omega arith in
     let t = first_label 0 (share first (first + count - first) procs) (share first (first + count - first) graphs) (length (share first (first + count - first) procs)) in
     let e1 : l1 ≡ l0 ++ symbol_labels false (length l0) g = c.in_ok-registers.ensures.labels ∙ ap (λ (n : ℕ). l0 ++ symbol_labels false (length l0) n) c.len.ensures in
@@ -46,10 +44,8 @@ returns-clause-made c =
     let contexts = c.in_ok-contexts.contexts in
     let made : AreMade (symbol_count p + 1) qs gs ks contexts =
     subst (λ (n : ℕ). AreMade n qs gs ks contexts) (fourth_counted g d m t l0 l1 l2 l3 l4 l5 c.requires.empty e1 e2 e3 e4 e5)
-    (subst (λ (xs : List ProcedurePlaces). AreMade (length l4) qs gs (share first count xs) contexts) c.as_slice-3.ensures
-    (subst (λ (xs : List Graph). AreMade (length l4) qs (share first count xs) (share first count found) contexts) c.as_slice.ensures
-    (subst (λ (xs : List Proc). AreMade (length l4) (share first count xs) (share first count graphs) (share first count found) contexts) c.as_slice-2.ensures
-    (subst (λ (n : ℕ). AreMade (length l4) (share first n procs) (share first n graphs) (share first n found) contexts) size c.in_ok-contexts.ensures.made))))
+    (subst (λ (xs : List Proc). AreMade (length l4) (share first count xs) gs ks contexts) c.as_slice.ensures
+    (subst (λ (n : ℕ). AreMade (length l4) (share first n procs) (share first n graphs) (share first n found) contexts) size c.in_ok-contexts.ensures.made))
     in
     let counted : length contexts ≡ count = made.count ∙ share_counted first count p.procs c.requires.within in
     let o : Outline = record {
@@ -58,7 +54,7 @@ returns-clause-made c =
       entries = c.in_ok-entries.entries;
       targets = record { procedures = c.in_ok-procedures.procedures; data_labels = c.in_ok-data_labels.data_labels; registers = c.in_ok-registers.registers; limit = c.in_ok-limit.limit };
     } in
-    subst (λ (n : ℕ). IsOutline p (share first n p.procs) (share first n c.args.placed.now.graphs) (share first n c.args.placed.now.places) o) (sym counted)
+    subst (λ (n : ℕ). IsOutline p (share first n p.procs) (share first n c.args.graphs.now) (share first n c.args.places.now) o) (sym counted)
     (record {
       within = omega (arith, share_counted first count p.procs c.requires.within, c.requires.within);
       registers = c.in_ok-registers.ensures.made ∙ (ap (λ (n : ℕ). labels_from (length l0) n) c.len.ensures ∙ ap (λ (ms : List Meaning). labels_from (length ms) g) c.requires.empty);
@@ -67,11 +63,11 @@ returns-clause-made c =
       limit = c.in_ok-limit.ensures.number ∙ ap (λ (n : ℕ). record { number = n }) (third_counted g d m t l0 l1 l2 l3 l4 l5 c.requires.empty e1 e2 e3 e4 e5);
       contexts = made;
       entries = c.in_ok-entries.ensures
-          ∙ (ap (λ (ps : List Context). entry_labels ps (share first (first + count - first) graphs)) c.as_slice-4.ensures
-          ∙ (ap (λ (n : ℕ). entry_labels contexts (share first n graphs)) size ∙ ap (λ (xs : List Graph). entry_labels contexts (share first count xs)) c.as_slice.ensures));
+          ∙ (ap (λ (ps : List Context). entry_labels ps (share first (first + count - first) graphs)) c.as_slice-2.ensures
+          ∙ ap (λ (n : ℕ). entry_labels contexts (share first n graphs)) size);
       procedures = c.in_ok-procedures.ensures
-          ∙ (ap (λ (ls : List Label). with_own first ls c.as_slice-6.result.now) c.as_slice-5.ensures
-          ∙ (ap (λ (ls : List Label). with_own first c.in_ok-entries.entries ls) (c.as_slice-6.ensures ∙ c.in_ok-others.ensures.made)
+          ∙ (ap (λ (ls : List Label). with_own first ls c.as_slice-4.result.now) c.as_slice-3.ensures
+          ∙ (ap (λ (ls : List Label). with_own first c.in_ok-entries.entries ls) (c.as_slice-4.ensures ∙ c.in_ok-others.ensures.made)
           ∙ (ap (λ (n : ℕ). with_own first c.in_ok-entries.entries (labels_from (length l2) n)) c.len-3.ensures
           ∙ ap (λ (n : ℕ). with_own first c.in_ok-entries.entries (labels_from n m)) (second_counted g d m t l0 l1 l2 l3 l4 l5 c.requires.empty e1 e2 e3 e4 e5))));
     })
@@ -90,10 +86,10 @@ returns-clause-labels c =
     let l3 = c.symbols-3.new.asm.labels in
     let l4 = c.label.new.asm.labels in
     let l5 = c.contexts.new.asm.labels in
-    let graphs = c.as_slice.result.now in
-    let procs = c.as_slice-2.result.now in
+    let graphs = c.args.graphs.now in
+    let procs = c.as_slice.result.now in
     let qs = share first count p.procs in
-    let gs = share first count c.args.placed.now.graphs in
+    let gs = share first count c.args.graphs.now in
     let size : first + count - first ≡ count = omega arith in
     let t = first_label 0 (share first (first + count - first) procs) (share first (first + count - first) graphs) (length (share first (first + count - first) procs)) in
     let e1 : l1 ≡ l0 ++ symbol_labels false (length l0) g = c.in_ok-registers.ensures.labels ∙ ap (λ (n : ℕ). l0 ++ symbol_labels false (length l0) n) c.len.ensures in
@@ -103,9 +99,8 @@ returns-clause-labels c =
     let e5 = c.in_ok-contexts.ensures.labels in
     let total : t ≡ first_label 0 qs gs count =
     ap (λ (n : ℕ). first_label 0 (share first n procs) (share first n graphs) (length (share first n procs))) size
-    ∙ (ap (λ (xs : List Proc). first_label 0 (share first count xs) (share first count graphs) (length (share first count xs))) c.as_slice-2.ensures
-    ∙ (ap (λ (xs : List Graph). first_label 0 qs (share first count xs) (length qs)) c.as_slice.ensures
-    ∙ ap (λ (n : ℕ). first_label 0 qs gs n) (share_counted first count p.procs c.requires.within)))
+    ∙ (ap (λ (xs : List Proc). first_label 0 (share first count xs) (share first count graphs) (length (share first count xs))) c.as_slice.ensures
+    ∙ ap (λ (n : ℕ). first_label 0 qs gs n) (share_counted first count p.procs c.requires.within))
     in
     outline_labels g d m t l0 l1 l2 l3 l4 l5 c.requires.empty e1 e2 e3 e4 e5
     ∙ ap (λ (n : ℕ). symbol_labels false 0 (g + d) ++ (symbol_labels true (g + d) m ++ replicate n (Inner false)))
@@ -114,20 +109,20 @@ returns-clause-labels c =
 pub symbols-requires : goal.symbols-requires
 symbols-requires c =
     let p = c.args.program.now in
-    let grows = first_label_grows (symbol_count p + 1) (share c.args.first c.args.count p.procs) (share c.args.first c.args.count c.args.placed.now.graphs) c.args.count in
+    let grows = first_label_grows (symbol_count p + 1) (share c.args.first c.args.count p.procs) (share c.args.first c.args.count c.args.graphs.now) c.args.count in
     omega (arith, ap (λ (ms : List Meaning). length ms) c.requires.empty, c.len.ensures, grows, c.requires.few)
 
 pub symbols-requires-2 : goal.symbols-requires-2
 symbols-requires-2 c =
     let p = c.args.program.now in
-    let grows = first_label_grows (symbol_count p + 1) (share c.args.first c.args.count p.procs) (share c.args.first c.args.count c.args.placed.now.graphs) c.args.count in
+    let grows = first_label_grows (symbol_count p + 1) (share c.args.first c.args.count p.procs) (share c.args.first c.args.count c.args.graphs.now) c.args.count in
     let l1 = symbols_more_counted false c.args.asm.now.labels c.symbols.new.asm.labels c.len.result c.in_ok-registers.ensures.labels in
     omega (arith, ap (λ (ms : List Meaning). length ms) c.requires.empty, c.len.ensures, c.len-2.ensures, l1, grows, c.requires.few)
 
 pub symbols-requires-3 : goal.symbols-requires-3
 symbols-requires-3 c =
     let p = c.args.program.now in
-    let grows = first_label_grows (symbol_count p + 1) (share c.args.first c.args.count p.procs) (share c.args.first c.args.count c.args.placed.now.graphs) c.args.count in
+    let grows = first_label_grows (symbol_count p + 1) (share c.args.first c.args.count p.procs) (share c.args.first c.args.count c.args.graphs.now) c.args.count in
     let l1 = symbols_more_counted false c.args.asm.now.labels c.symbols.new.asm.labels c.len.result c.in_ok-registers.ensures.labels in
     let l2 = symbols_more_counted false c.symbols.new.asm.labels c.symbols-2.new.asm.labels c.len-2.result c.in_ok-data_labels.ensures.labels in
     omega (arith, ap (λ (ms : List Meaning). length ms) c.requires.empty, c.len.ensures, c.len-2.ensures, c.len-3.ensures, l1, l2, grows, c.requires.few)
@@ -135,7 +130,7 @@ symbols-requires-3 c =
 pub label-requires : goal.label-requires
 label-requires c =
     let p = c.args.program.now in
-    let grows = first_label_grows (symbol_count p + 1) (share c.args.first c.args.count p.procs) (share c.args.first c.args.count c.args.placed.now.graphs) c.args.count in
+    let grows = first_label_grows (symbol_count p + 1) (share c.args.first c.args.count p.procs) (share c.args.first c.args.count c.args.graphs.now) c.args.count in
     let l1 = symbols_more_counted false c.args.asm.now.labels c.symbols.new.asm.labels c.len.result c.in_ok-registers.ensures.labels in
     let l2 = symbols_more_counted false c.symbols.new.asm.labels c.symbols-2.new.asm.labels c.len-2.result c.in_ok-data_labels.ensures.labels in
     let l3 = symbols_more_counted true c.symbols-2.new.asm.labels c.symbols-3.new.asm.labels c.len-3.result c.in_ok-others.ensures.labels in
@@ -146,10 +141,10 @@ contexts-requires-clause-few c =
     let p = c.args.program.now in
     let first = c.args.first in
     let count = c.args.count in
-    let graphs = c.as_slice.result.now in
-    let procs = c.as_slice-2.result.now in
+    let graphs = c.args.graphs.now in
+    let procs = c.as_slice.result.now in
     let qs = share first count p.procs in
-    let gs = share first count c.args.placed.now.graphs in
+    let gs = share first count c.args.graphs.now in
     let base = symbol_count p + 1 in
     let size : first + count - first ≡ count = omega arith in
     let l1 = symbols_more_counted false c.args.asm.now.labels c.symbols.new.asm.labels c.len.result c.in_ok-registers.ensures.labels in
@@ -162,9 +157,8 @@ contexts-requires-clause-few c =
     ≡ first_label base qs gs count =
     ap (λ (n : ℕ). first_label n (share first (first + count - first) procs) (share first (first + count - first) graphs) (length (share first (first + count - first) procs))) begin
     ∙ (ap (λ (n : ℕ). first_label base (share first n procs) (share first n graphs) (length (share first n procs))) size
-    ∙ (ap (λ (xs : List Proc). first_label base (share first count xs) (share first count graphs) (length (share first count xs))) c.as_slice-2.ensures
-    ∙ (ap (λ (xs : List Graph). first_label base qs (share first count xs) (length qs)) c.as_slice.ensures
-    ∙ ap (λ (n : ℕ). first_label base qs gs n) (share_counted first count p.procs c.requires.within))))
+    ∙ (ap (λ (xs : List Proc). first_label base (share first count xs) (share first count graphs) (length (share first count xs))) c.as_slice.ensures
+    ∙ ap (λ (n : ℕ). first_label base qs gs n) (share_counted first count p.procs c.requires.within)))
     in
     omega (arith, same, c.requires.few)
 
@@ -172,20 +166,19 @@ pub with_own-requires : goal.with_own-requires
 with_own-requires c =
     let first = c.args.first in
     let count = c.args.count in
-    let graphs = c.as_slice.result.now in
-    let procs = c.as_slice-2.result.now in
+    let graphs = c.args.graphs.now in
+    let procs = c.as_slice.result.now in
     let contexts = c.in_ok-contexts.contexts in
     let gs = share first (first + count - first) graphs in
     let size : first + count - first ≡ count = omega arith in
-    let many : length procs ≡ length c.args.program.now.procs = ap (λ (xs : List Proc). length xs) c.as_slice-2.ensures in
-    let also : length graphs ≡ length c.args.placed.now.graphs = ap (λ (xs : List Graph). length xs) c.as_slice.ensures in
+    let many : length procs ≡ length c.args.program.now.procs = ap (λ (xs : List Proc). length xs) c.as_slice.ensures in
     let made : length contexts ≡ count =
     c.in_ok-contexts.ensures.made.count
     ∙ (ap (λ (n : ℕ). length (share first n procs)) size ∙ share_counted first count procs (omega (arith, many, c.requires.within))) in
-    let beside : length gs ≡ count = ap (λ (n : ℕ). length (share first n graphs)) size ∙ share_counted first count graphs (omega (arith, also, c.requires.graphs, c.requires.within)) in
-    let entries : length c.as_slice-5.result.now ≡ count =
-    ap (λ (ls : List Label). length ls) (c.as_slice-5.ensures ∙ (c.in_ok-entries.ensures ∙ ap (λ (ps : List Context). entry_labels ps gs) c.as_slice-4.ensures))
+    let beside : length gs ≡ count = ap (λ (n : ℕ). length (share first n graphs)) size ∙ share_counted first count graphs (omega (arith, c.requires.graphs, c.requires.within)) in
+    let entries : length c.as_slice-3.result.now ≡ count =
+    ap (λ (ls : List Label). length ls) (c.as_slice-3.ensures ∙ (c.in_ok-entries.ensures ∙ ap (λ (ps : List Context). entry_labels ps gs) c.as_slice-2.ensures))
     ∙ (length-entry_labels contexts gs (beside ∙ sym made) ∙ made) in
-    let others : length c.as_slice-6.result.now ≡ length c.args.program.now.procs =
-    ap (λ (ls : List Label). length ls) (c.as_slice-6.ensures ∙ c.in_ok-others.ensures.made) ∙ (length-labels_from (length c.symbols-2.new.asm.labels) c.len-3.result ∙ c.len-3.ensures) in
+    let others : length c.as_slice-4.result.now ≡ length c.args.program.now.procs =
+    ap (λ (ls : List Label). length ls) (c.as_slice-4.ensures ∙ c.in_ok-others.ensures.made) ∙ (length-labels_from (length c.symbols-2.new.asm.labels) c.len-3.result ∙ c.len-3.ensures) in
     omega (arith, entries, others, c.requires.within)

@@ -5,7 +5,7 @@ use Rattle.rv_asm.specs.Sizes.{all_longest}
 use Rattle.rv_asm.specs.declared.part.Label.{Label}
 use Rattle.rv_asm.specs.declared.part.Meaning.{Meaning}
 use Rattle.rv_table.specs.declared.request.Request.TheVariants.{End}
-use Rattle.cmm_coded.specs.Finished.{AsksFor}
+use Rattle.cmm_changes.specs.Requests.{AsksFor}
 use Rattle.cmm_text.proofs.Starting.{begins, labels_are, last_is, main_is}
 use Rattle.cmm_text.specs.Finishing.{AreFinished}
 use Rattle.cmm_text.specs.Outlines.{number_symbols}

@@ -1,11 +1,16 @@
-use Rattle.std.proofs.Common.{◌≡◌, ◌∷◌, List, take, sum_by}
-use Rattle.cmm_link.specs.declared.unit_code.UnitCode.{UnitCode as CodeOfUnit}
+use Rattle.std.proofs.Common.{◌≡◌, ◌≤◌, ◌-◌, ◌∷◌, List, length}
+use Rattle.cmm_unit_code.specs.declared.unit_code.UnitCode.{UnitCode as CodeOfUnit}
+use Rattle.cmm_text.proofs.Grouping.{AreBefore}
 use Rattle.cmm_text.specs.Units.{AreUnits}
 use Rattle.cmm_text.proofs.units.unit_codes.Given as goal
 
--- the units of the counts so far
-abbrev pub invariant-loop-count : goal.invariant-loop-count
-invariant-loop-count l = record {
-  first : l.first ≡ sum_by (λ n. n) (take l.count-index l.counts);
-  codes : (units : List CodeOfUnit) × (l.codes ≡ l.fn.start ∷ units) × AreUnits l.program l.placed.graphs l.placed.places 0 (take l.count-index l.counts) units;
+-- the units of the procedures so far, which are as many as have a lower number than that of the next
+abbrev pub invariant-loop-first : goal.invariant-loop-first
+invariant-loop-first l = record {
+  within : l.first ≤ length l.program.procs;
+  codes : (units : List CodeOfUnit) × (l.codes ≡ l.fn.start ∷ units) × AreUnits l.program l.graphs l.places 0 l.first units × (length units ≤ 256)
+      × AreBefore l.program.procs l.first (length units);
 }
+
+abbrev pub decreases-loop-first : goal.decreases-loop-first
+decreases-loop-first l = length l.program.procs - l.first

@@ -1,0 +1,31 @@
+//! The end of a run is asked for.
+
+ghost use Rattle.std.specs.Prelude.{◌≡◌, OnOk};
+ghost use Rattle.rv_table.specs.declared.request.Request.TheVariants as request;
+ghost use Rattle.cmm_changes.specs.Pieces.{Adds};
+ghost use Rattle.cmm_changes.specs.Requests.{AsksFor};
+
+use cmm_select::choose;
+use rv_asm::Asm;
+use rv_table::{Instr, Request};
+use std::alloc::AllocError;
+
+/// Ends a run at the limit of the stack. An error is want of memory, and then one of the instructions may be there.
+pub fn ask_limit(asm: &mut Asm) -> Result<(), AllocError>
+    ensures asks { OnOk result (Adds 2 asm.old.parts asm.new.parts (λ x from to. AsksFor 1 (λ t. request.StackLimit) x from)) }
+    ensures labels { asm.new.labels ≡ asm.old.labels }
+{
+    asm.emit(choose(Request::StackLimit))?;
+    asm.emit(Instr::Ecall)?;
+    Ok(())
+}
+
+/// Ends a run with the value in register 10. An error is want of memory, and then one of the instructions may be there.
+pub fn ask_end(asm: &mut Asm) -> Result<(), AllocError>
+    ensures asks { OnOk result (Adds 2 asm.old.parts asm.new.parts (λ x from to. AsksFor 1 (λ t. request.End (t.registers 10)) x from)) }
+    ensures labels { asm.new.labels ≡ asm.old.labels }
+{
+    asm.emit(choose(Request::End(0)))?;
+    asm.emit(Instr::Ecall)?;
+    Ok(())
+}

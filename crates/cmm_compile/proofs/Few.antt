@@ -1,0 +1,23 @@
+-- The graphs of procedures in range have few locals.
+use Rattle.std.proofs.Common.{◌<◌, ◌^◌, List, [], ◌∷◌, arith}
+use Rattle.std.specs.List.{All, AllZip}
+use Rattle.std.proofs.lemmas.List.Elements.{All-cons, All-head, All-nil, All-tail}
+use Rattle.cmm_program.specs.InRange.{IsProcInRange}
+use Rattle.cmm_program.specs.declared.procedure.Proc.{Proc}
+use Rattle.cmm_program.specs.declared.program.Program.{Program}
+use Rattle.cmm_graph.specs.declared.graph.Graph.{Graph}
+use Rattle.cmm_flow.specs.Flow.{IsBounded}
+use Rattle.cmm_live.specs.Locals.{local_count}
+
+abbrev HasFewLocals : Graph → Type 0
+HasFewLocals g = local_count g < 2 ^ 32
+
+pub few_locals : (p : Program) (procs : List Proc) (graphs : List Graph) → All (IsProcInRange p) procs → AllZip IsBounded procs graphs → All (λ g. local_count g < 2 ^ 32) graphs
+few_locals p [] [] range bounded = All-nil HasFewLocals
+few_locals p [] (g ∷ graphs) range bounded = absurd bounded
+few_locals p (q ∷ procs) [] range bounded = absurd bounded
+few_locals p (q ∷ procs) (g ∷ graphs) range bounded =
+    let tokens = (All-head (IsProcInRange p) q procs range).frames.tokens in
+    let most = bounded.0 in
+    let here : local_count g < 2 ^ 32 = omega (arith, tokens, most) in
+    All-cons HasFewLocals g graphs here (few_locals p procs graphs (All-tail (IsProcInRange p) q procs range) bounded.1)
