@@ -5,6 +5,7 @@
 //! many tokens they have, and then of each procedure how many its statements have of its own, as `tools/token_counts.py` counts them in the texts.
 #![tactic(auto)]
 
+use cmm_accepted::Fault;
 use cmm_ast::Unit;
 use cmm_lexer::{LexFault, lex};
 use cmm_parser::{SyntaxFault, parse};
@@ -32,16 +33,20 @@ fn print_fault(rt: &(impl AllocGlobal + Print), line: &str) -> io::Result<()> {
     };
     match check(rt.alloc(), &units) {
         Ok(program) => print_counts(rt, &units, &program),
-        Err(
-            StaticFault::At {
-                rule,
-                unit,
-                line,
-                column,
-            },
-        ) => println!(rt; "{unit}:{line}:{column}: {rule}"),
+        Err(StaticFault::At(fault)) => print_rule(rt, fault),
         Err(StaticFault::Memory) => println!(rt; "out of memory"),
     }
+}
+
+/// Prints where a rule is broken, and which.
+fn print_rule(rt: &impl Print, fault: Fault) -> io::Result<()> {
+    let Fault {
+        rule,
+        unit,
+        line,
+        column,
+    } = fault;
+    println!(rt; "{unit}:{line}:{column}: {rule}")
 }
 
 /// Prints how many tokens units have, and of each procedure of their program how many its statements have of its own.

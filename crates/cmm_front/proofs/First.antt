@@ -1,16 +1,20 @@
 -- The first of units that is not whole.
-use Rattle.std.proofs.Common.{◌≡◌, ℕ, zero, suc, ◌+◌, ◌<◌, ◌≤◌, List, [], ◌∷◌, ◌++◌, take, length, inl, inr, Result, Ok, Err, ap, subst, sym, refl, arith}
+use Rattle.std.proofs.Common.{◌≡◌, ℕ, zero, suc, ◌+◌, ◌<◌, ◌≤◌, List, [], ◌∷◌, ◌++◌, take, length, inl, inr, Some, Result, Ok, Err, ap, subst, sym, refl, arith}
 use Rattle.std.specs.Prelude.{IfErr, IsErrAnd, slice_index_or}
 use Rattle.std.specs.List.{All, AllZip}
 use Rattle.std.proofs.lemmas.List.{take_all}
 use Rattle.std.proofs.lemmas.List.Elements.{All-cons, All-head, All-nil, All-tail}
 use Rattle.cmm_accepted.specs.declared.fault.Fault.{Fault}
+use Rattle.cmm_accepted.specs.Faults.{first_fault}
+use Rattle.cmm_static.specs.Faults.{IsFaultOf as IsStaticFault}
+use Rattle.cmm_static.specs.declared.fault.StaticFault.{StaticFault}
+use Rattle.cmm_static.specs.declared.fault.StaticFault.TheVariants as static_fault
 use Rattle.cmm_ast.specs.declared.unit.Unit.{Unit as UnitTree}
 use Rattle.cmm_lexer.specs.declared.tokens.Tokens.{Tokens}
 use Rattle.cmm_lexer.specs.Lexing.{Lexes}
 use Rattle.cmm_front.specs.declared.fault.FrontFault.{FrontFault}
 use Rattle.cmm_front.specs.declared.fault.FrontFault.TheVariants.{At, Memory}
-use Rattle.cmm_front.specs.Refusing.{IsOfFirst, IsRefused}
+use Rattle.cmm_front.specs.Refusing.{IsOfFirst, IsRefused, of_static}
 use Rattle.cmm_front.specs.Sources.{HasTokens, HasTree, IsTreeOf}
 
 -- a fault that is handed on
@@ -22,6 +26,11 @@ handed P e (Err f) is holds = subst P (sym is) holds
 pub refused_for : (P Q : Fault → Type 0) → ((f : Fault) → P f → Q f) → (e : FrontFault) → IsRefused P e → IsRefused Q e
 refused_for P Q so (At f) holds = so f holds
 refused_for P Q so Memory holds = tt
+
+-- a static fault, as it is handed on
+pub refused_static : (trees : List UnitTree) (e : StaticFault) → IsStaticFault trees e → IsRefused (λ f. first_fault trees ≡ Some f) (of_static e)
+refused_static trees (static_fault.At f) is = is
+refused_static trees static_fault.Memory is = tt
 
 -- one more of each
 pub zip_more : {X Y : Type 0} (R : X → Y → Type 0) (xs : List X) (ys : List Y) (i : ℕ) (x : X) (y : Y) → i < length xs → x ≡ slice_index_or xs i x → AllZip R (take i xs) ys → R x y →

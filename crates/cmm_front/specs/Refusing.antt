@@ -6,6 +6,8 @@ use Rattle.cmm_accepted.specs.Faults.{first_fault}
 use Rattle.cmm_ast.specs.declared.unit.Unit.{Unit as UnitTree}
 use Rattle.cmm_front.specs.declared.fault.FrontFault.{FrontFault}
 use Rattle.cmm_front.specs.declared.fault.FrontFault.TheVariants.{At, Memory}
+use Rattle.cmm_static.specs.declared.fault.StaticFault.{StaticFault}
+use Rattle.cmm_static.specs.declared.fault.StaticFault.TheVariants as static_fault
 use Rattle.cmm_front.specs.Sources.{HasTokens, HasTree, IsLexicalFault, IsSyntaxFault, IsTreeOf}
 
 -- the fault is that of the first unit, counted from a number, that is not whole
@@ -34,3 +36,8 @@ IsFaultOf units f = BreaksLexis units f ⊎ (BreaksSyntax units f ⊎ BreaksStat
 abbrev pub IsRefused : (Fault → Type 0) → FrontFault → Type 0
 IsRefused P (At f) = P f
 IsRefused P Memory = Unit {0}
+
+-- the same fault
+abbrev pub of_static : StaticFault → FrontFault
+of_static (static_fault.At f) = At f
+of_static static_fault.Memory = Memory

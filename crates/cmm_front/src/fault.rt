@@ -1,10 +1,6 @@
 //! Why units have no program.
 
-ghost use Rattle.std.specs.Prelude.{◌≡◌, List, Some};
-ghost use Rattle.cmm_accepted.specs.Faults.{first_fault};
-ghost use Rattle.cmm_ast.specs.declared.unit.Unit.{Unit as UnitTree};
-ghost use Rattle.cmm_static.specs.Faults.{IsFaultOf as IsStaticFault};
-ghost use Rattle.cmm_front.specs.Refusing.{IsRefused};
+ghost use Rattle.std.specs.Prelude.{◌≡◌};
 
 use cmm_accepted::Fault;
 use cmm_static::StaticFault;
@@ -41,23 +37,14 @@ impl<T: Drop> From<AllocFailed<T>> for FrontFault {
     }
 }
 
-impl FrontFault {
-    /// A static rule that units break, or want of memory.
-    pub(crate) fn of_static(fault: StaticFault) -> FrontFault
-        ensures { (trees : List UnitTree) → IsStaticFault trees fault → IsRefused (λ f. first_fault trees ≡ Some f) result }
-    {
+impl From<StaticFault> for FrontFault {
+    ghost use Rattle.cmm_front.specs.Refusing.{of_static};
+
+    ghost from_gives = { λ static_fault fault. fault ≡ of_static static_fault };
+
+    fn from(fault: StaticFault) -> FrontFault {
         match fault {
-            StaticFault::At {
-                rule,
-                unit,
-                line,
-                column,
-            } => FrontFault::At(Fault {
-                rule,
-                unit,
-                line,
-                column,
-            }),
+            StaticFault::At(fault) => FrontFault::At(fault),
             StaticFault::Memory => FrontFault::Memory,
         }
     }

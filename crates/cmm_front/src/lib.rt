@@ -3,7 +3,7 @@
 //! `program_of` answers the program of units exactly where they break no rule, and else the first rule that they break: by phase (lexical form, syntax, static
 //! rules), then by unit, place and number. So whoever makes code of a program knows no bytes, no tokens and no trees.
 //!
-//! - `program`: the call `program_of`. `tokens`, `trees`: the tokens of all units, and their trees. `too_long`
+//! - `program`: the call `program_of`, the passes in a row. `tokens`, `trees`: the tokens of all units, and their trees. `too_long`
 //!   answers the fault of units of which one is longer than a unit may be.
 //! - `fault`: why units have no program.
 //!

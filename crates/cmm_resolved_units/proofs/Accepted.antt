@@ -1,5 +1,5 @@
--- Accepted units fit a program one after another.
-use Rattle.std.proofs.Common.{◌≡◌, ℕ, ◌+◌, ◌<◌, ◌^◌, length, length-append, refl, sym, ap, ◌∙◌, subst, arith, List, [], ◌∷◌, ◌++◌}
+-- Accepted units fit their program one after another.
+use Rattle.std.proofs.Common.{◌≡◌, ℕ, ◌+◌, ◌<◌, ◌^◌, length, length-append, refl, ap, ◌∙◌, subst, arith, List, [], ◌∷◌, ◌++◌}
 use Rattle.std.specs.Prelude.{flat_map}
 use Rattle.std.specs.List.{All}
 use Rattle.std.proofs.lemmas.List.Elements.{All-nil, All-cons, All-head}
@@ -7,7 +7,8 @@ use Rattle.std.proofs.lemmas.Grind.{flat_map-append}
 use Rattle.cmm_ast.specs.declared.unit.Unit.{Unit as UnitTree}
 use Rattle.cmm_accepted.specs.Declarations.{NamedUnit, labels_in, named_units, procs_in, sum_of, units_from}
 use Rattle.cmm_accepted.specs.Items.{items_of}
-use Rattle.cmm_accepted.specs.Linking.{exports_of, program_of}
+use Rattle.cmm_accepted.specs.Faults.{AreAccepted}
+use Rattle.cmm_accepted.specs.Linking.{program_of}
 use Rattle.cmm_accepted.specs.Scopes.{unit_senses}
 use Rattle.cmm_meaning.specs.Data.{datums_among}
 use Rattle.cmm_meaning.specs.Meaning.{meaning_of, unit_datums}
@@ -16,7 +17,8 @@ use Rattle.cmm_typing.proofs.Shared.{all_left, all_right}
 use Rattle.cmm_resolving.proofs.Shared.{programs_fit}
 use Rattle.cmm_bodies.specs.Fitting.{ItemFits}
 use Rattle.cmm_bodies.proofs.Shared.{units_fit}
-use Rattle.cmm_resolved_units.specs.Laws.{UnitsAreNext}
+use Rattle.cmm_meaning.specs.Laws.{AreRead, TextsAreBytes}
+use Rattle.cmm_resolved_units.specs.inside.Made.{AllFit}
 use Rattle.cmm_resolved_units.proofs.Growing.{IsShort}
 
 -- each unit has what stands in its tree
@@ -30,8 +32,9 @@ items_are procs labels (t ∷ ts) =
 at_unit : (P : NamedUnit → Type 0) (all before behind : List NamedUnit) (u : NamedUnit) → all ≡ before ++ u ∷ behind → All P all → P u
 at_unit P all before behind u split holds = All-head P u behind (all_right P before (u ∷ behind) (subst (All P) split holds))
 
-pub units_are_next : UnitsAreNext
-units_are_next us accepted read texts before behind u split =
+-- where units derive as many tokens as they have places for, and their texts are of bytes
+pub all_fit : (us : List UnitTree) → AreAccepted us → AreRead us → TextsAreBytes us → AllFit (program_of (named_units us)) (named_units us)
+all_fit us accepted read texts before behind u split =
     let named = named_units us in let program = program_of named in let names = unit_senses program u.entries in
     let range = programs_are_in_range us accepted read texts in
     let items : u.items ≡ items_of u.tree = at_unit (λ v. v.items ≡ items_of v.tree) named before behind u split (items_are 0 0 us) in
@@ -46,12 +49,8 @@ units_are_next us accepted read texts before behind u split =
     length-append (unit_datums program u) (flat_map (unit_datums program) behind) in
     let own : length (unit_datums program u) ≡ datums_among u.items = items_length names u.items in
     let few : length (flat_map (unit_datums program) named) < 2 ^ 32 = range.datum_count in record {
-      tree_is = refl;
-      items_are = items;
-      exports_are = refl;
-      senses_are = refl;
-      number_is = refl;
-      procedures = subst (All (λ i. ItemFits names i.what)) items fit;
+      items = items;
+      procedures = fit;
       lengths = all_left IsShort (unit_datums program u) (flat_map (unit_datums program) behind)
           (all_right IsShort (flat_map (unit_datums program) before) (unit_datums program u ++ flat_map (unit_datums program) behind) small);
       datums = omega arith;

@@ -1,6 +1,6 @@
 -- The program of units from its parts.
 use Rattle.std.proofs.Common.{◌≡◌, ℕ, refl, ap, ◌∙◌, List, map}
-use Rattle.std.specs.Prelude.{codes, flat_map}
+use Rattle.std.specs.Prelude.{codes}
 use Rattle.cmm_program.specs.declared.procedure.Proc.{Proc}
 use Rattle.cmm_program.specs.declared.program.Datum.{Datum}
 use Rattle.cmm_program.specs.declared.program.Global.{Global}
@@ -9,7 +9,7 @@ use Rattle.cmm_program.specs.declared.program.Program.{Program}
 use Rattle.cmm_accepted.specs.Declarations.{NamedUnit}
 use Rattle.cmm_accepted.specs.Linking.{Program as Linked, published_as}
 use Rattle.cmm_meaning.specs.Meaning.{global_of, procedure_number, program_by}
-use Rattle.cmm_resolved_units.specs.Made.{AreParts}
+use Rattle.cmm_resolved_units.specs.inside.Made.{AreParts}
 
 pub program_is : (program : Linked) (us : List NamedUnit) (procs : List Proc) (datums : List Datum) (globals : List Global) (labels : List Label) (main : ℕ) (names : List (List ℕ)) →
     AreParts program us (record { procs = procs; datums = datums; labels = labels }) → names ≡ program.registers → globals ≡ map (global_of us) names →

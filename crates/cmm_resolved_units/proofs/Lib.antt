@@ -1,4 +1,4 @@
 pub mod Growing
 pub mod Accepted
 pub mod Joined
-pub mod Shared
+pub mod Known

@@ -1,14 +1,12 @@
-//! What accepted units have of the program that they mean: their procedures, data and labels, unit by unit.
+//! The pass that lowers: from the units of a program, which break no static rule, to the program that they mean.
 //!
-//! `Parts` grows by one unit at a time, and then holds exactly what `cmm_meaning` says of the units so far, where they fit a program, as accepted units
-//! do. Want of memory is the only failure. Time is linear.
+//! `lower` answers exactly what `cmm_meaning` says of the trees, unit by unit: their procedures, data and labels. Want of memory is the only failure.
+//! Time is linear.
 //!
-//! - `parts`: `Parts`. `whole`: the program of all units. `laws`: that accepted units fit.
+//! - `whole`: the call `lower`, and the program of all units. `parts`: `Parts`, which grows by one unit at a time.
 #![tactic(auto)]
 
-pub mod laws;
 mod parts;
 mod whole;
 
-pub use parts::Parts;
-pub use whole::program_of;
+pub use whole::lower;

@@ -1,23 +1,23 @@
 //! The procedures, the data and the labels of some units.
 
-ghost use Rattle.std.specs.Prelude.{◌≡◌, ◌∷◌, ◌++◌, ◌<◌, ◌^◌, [], List, length, map, IfOk};
+ghost use Rattle.std.specs.Prelude.{◌≡◌, ◌∷◌, ◌++◌, ◌<◌, ◌^◌, [], List, length, IfOk};
 ghost use Rattle.cmm_accepted.specs.Declarations.{NamedUnit};
 ghost use Rattle.cmm_accepted.specs.Linking.{Program as Linked};
-ghost use Rattle.cmm_resolved_units.specs.Made.{AreParts, IsNext};
+ghost use Rattle.cmm_checked.specs.Known.{IsKnown};
+ghost use Rattle.cmm_constants.specs.Senses.{senses_of};
+ghost use Rattle.cmm_resolved_units.specs.inside.Made.{AreParts, FitsBehind};
 ghost use Rattle.cmm_typing.specs.Fitting.{AreWords};
 
-use cmm_ast::{Export, Unit};
 use cmm_bodies::add_procedures;
+use cmm_checked::CheckedUnit;
 use cmm_items::Items;
-use cmm_names::things_of;
 use cmm_program::{Datum, Label, Proc};
 use cmm_resolving::{Links, add_datums, add_labels};
-use cmm_typing::Names;
 use std::alloc::{AllocError, Global};
 
 /// The procedures, the data and the labels of some units, in their order.
 #[derive(Drop)]
-pub struct Parts {
+pub(crate) struct Parts {
     pub procs: Items<Proc>,
     pub datums: Items<Datum>,
     pub labels: Items<Label>,
@@ -32,7 +32,7 @@ fn next_datum(datums: &Items<Datum>) -> u32
 
 impl Parts {
     /// Those of no units. Takes no memory.
-    pub fn none(alloc: Global) -> Parts
+    pub(crate) fn none(alloc: Global) -> Parts
         ensures { (program : Linked) → AreParts program [] result }
     {
         Parts {
@@ -42,32 +42,29 @@ impl Parts {
         }
     }
 
-    /// Those with one more unit, by its number, whose names mean what `names` tells and which has these exports. Fails only for want of memory; a
-    /// procedure that declares 2^32 names of a sort or more, which no memory has room for, fails so too.
-    pub fn with_unit<'a, N: Names>(
+    /// Those with one more unit, by its number. Fails only for want of memory; a procedure that declares 2^32 names of a sort or more, which no memory
+    /// has room for, fails so too.
+    pub(crate) fn with_unit(
         self,
         alloc: Global,
-        names: &'a N,
         number: u32,
-        exports: &'a [&'a Export],
-        unit: &'a Unit,
+        unit: &CheckedUnit<'_>,
     ) -> Result<Parts, AllocError>
-        requires { AreWords (N.senses names.now) }
-        ensures { IfOk result (λ next. (program : Linked) (before : List NamedUnit) (u : NamedUnit) →
-            IsNext program before u (N.senses names.now) number (map (λ e. e.now) exports.now) unit.now → AreParts program before self →
-            AreParts program (before ++ u ∷ []) next) }
+        requires { AreWords (senses_of unit.now.senses) }
+        ensures { IfOk result (λ next. (program : Linked) (before : List NamedUnit) (u : NamedUnit) → FitsBehind program before u → IsKnown program u unit.now →
+            number ≡ length before → AreParts program before self → AreParts program (before ++ u ∷ []) next) }
     {
         let Parts {
             mut procs,
             mut datums,
             mut labels,
         } = self;
+        let names = &unit.senses;
         let first = next_datum(&datums);
-        add_procedures(alloc, names, number, unit, &mut procs)?;
-        let things = things_of(alloc, unit)?;
-        add_datums(alloc, names, things.as_slice(), &mut datums)?;
-        let links = Links::of(alloc, exports)?;
-        add_labels(alloc, &links, unit, first, &mut labels)?;
+        add_procedures(alloc, names, number, unit.tree, &mut procs)?;
+        add_datums(alloc, names, unit.things.as_slice(), &mut datums)?;
+        let links = Links::of(alloc, unit.exports.as_slice())?;
+        add_labels(alloc, &links, unit.tree, first, &mut labels)?;
         Ok(Parts {
             procs,
             datums,

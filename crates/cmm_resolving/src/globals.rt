@@ -3,9 +3,10 @@
 ghost use Rattle.std.specs.Prelude.{◌≡◌, List, Some, map, codes, IfOk};
 ghost use Rattle.cmm_accepted.specs.Declarations.{NamedUnit};
 ghost use Rattle.cmm_accepted.specs.Linking.{published_as};
+ghost use Rattle.cmm_linked.specs.Registers.{AreWidths};
 ghost use Rattle.cmm_meaning.specs.Meaning as meaning;
 ghost use Rattle.cmm_names.specs.Indexed.{indexed};
-ghost use Rattle.cmm_resolving.specs.Registers.{AreWidths, global_by};
+ghost use Rattle.cmm_resolving.specs.Registers.{global_by};
 
 use cmm_accepted::Sense;
 use cmm_items::Items;

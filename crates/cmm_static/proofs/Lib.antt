@@ -7,4 +7,4 @@ pub mod PlacedOrder
 pub mod Checked
 pub mod Whole
 pub mod Totals
-pub mod Following
+pub mod Known

@@ -7,5 +7,5 @@ use Rattle.cmm_static.specs.declared.fault.StaticFault.TheVariants.{At, Memory}
 
 -- it is the one that is named of units
 abbrev pub IsFaultOf : List UnitTree → StaticFault → Type 0
-IsFaultOf us (At rule unit line column) = first_fault us ≡ Some record { rule = rule; unit = unit; line = line; column = column }
+IsFaultOf us (At fault) = first_fault us ≡ Some fault
 IsFaultOf us Memory = Unit {0}

@@ -4,4 +4,3 @@ pub mod Cyclic
 pub mod Units
 pub mod Totals
 pub mod Found
-pub mod Following

@@ -1,29 +1,27 @@
-//! Which fault is named of units, and what program they mean where none is.
+//! Which fault is named of units, and what is known of them where none is.
 
 ghost use Rattle.std.specs.Prelude.{◌≡◌, ◌<◌, ◌^◌, List, map, length, IfOk, IfErr};
+ghost use Rattle.std.specs.List.{zip};
 ghost use Rattle.cmm_accepted.specs.Declarations.{NamedUnit, named_units};
 ghost use Rattle.cmm_accepted.specs.Linking.{program_of};
 ghost use Rattle.cmm_accepted.specs.Faults.{AreAccepted, fault_at, place_of};
-ghost use Rattle.cmm_meaning.specs.Laws.{AreRead, TextsAreBytes};
-ghost use Rattle.cmm_meaning.specs.Meaning.{meaning_of};
-ghost use Rattle.cmm_program.specs.InRange.{IsInRange};
 ghost use Rattle.cmm_static.specs.Faults.{IsFaultOf};
 ghost use Rattle.cmm_static.specs.inside.Flat.{flat_unit};
 ghost use Rattle.cmm_static.specs.inside.Found.{IsFound};
-ghost use Rattle.cmm_static.specs.inside.Units.{AreEarlier, unit_flat, broken_placed};
+ghost use Rattle.cmm_static.specs.inside.Units.{AreEarlier, broken_placed, checked_unit, unit_flat};
 
 use crate::earlier::Earlier;
 use crate::fault::StaticFault;
-use crate::program::program_of_all;
 use crate::together::fault_of_all;
 use crate::unit::{first_broken, names_of};
 use crate::unit_names::UnitNames;
 use cmm_accepted::{Fault, Spot};
 use cmm_ast::{Place, Unit};
+use cmm_checked::{Checked, CheckedUnit};
+use cmm_constants::UnitSenses;
 use cmm_items::Items;
 use cmm_linked::{Gathered, Linkage};
 use cmm_names::Numbers;
-use cmm_program::Program;
 use std::alloc::{AllocError, Global};
 
 /// Where a rule is broken: in which unit, from 0, and where in it.
@@ -131,28 +129,56 @@ fn unbroken<'a>(
 {
     let found = first_of_all(alloc, named, linkage)?;
     match found {
-        Found::Broken(broken) => Err(StaticFault::of(fault_at(units, broken))),
+        Found::Broken(broken) => Err(StaticFault::At(fault_at(units, broken))),
         Found::Unbroken(known) => match fault_of_all(named, linkage, &known.sums) {
-            Some(fault) => Err(StaticFault::of(fault)),
+            Some(fault) => Err(StaticFault::At(fault)),
             None => Ok(known),
         },
     }
 }
 
-/// The program that units mean, if they break no static rule, 20 to 40. Else the fault is the first by unit, place and rule; or, where none of the
-/// others is broken, that no unit exports `main`, rule 36, or that a limit over all units is passed, rule 40, at the beginning of the first unit. Units
-/// are those that `cmm_parser` gives, and fewer than 2^32: it is where they derive as many tokens as they have places for, and their texts are of bytes,
-/// that the program is the one that they mean, and in range.
-pub fn check(alloc: Global, units: &[Unit]) -> Result<Program, StaticFault>
+/// Units that break no rule, each with what its names mean.
+fn with_senses<'a>(
+    alloc: Global,
+    named: Items<UnitNames<'a>>,
+    senses: Items<UnitSenses<'a>>,
+) -> Result<Items<CheckedUnit<'a>>, AllocError>
+    ensures { IfOk result (λ units. units ≡ map checked_unit (zip named.entry senses.entry)) }
+{
+    let mut units = Items::new(alloc);
+    for (names, senses) in named.into_vec().into_iter().zip(senses.into_vec()) {
+        let UnitNames {
+            tree,
+            things,
+            exports,
+            ..
+        } = names;
+        units.push(CheckedUnit {
+            tree,
+            things,
+            exports,
+            senses,
+        })?;
+    }
+    Ok(units)
+}
+
+/// Units that break no static rule, 20 to 40, and what is known of them. Else the fault is the first by unit, place and rule; or, where none of the
+/// others is broken, that no unit exports `main`, rule 36, or that a limit over all units is passed, rule 40, at the beginning of the first unit.
+pub fn check_units<'a>(alloc: Global, units: &'a [Unit]) -> Result<Checked<'a>, StaticFault>
     requires { length units.now < 2 ^ 32 }
+    ensures ok { IfOk result (λ checked. checked ≡ units.now) }
     ensures accepted { IfOk result (λ _. AreAccepted units.now) }
-    ensures program { IfOk result (λ program. AreRead units.now → TextsAreBytes units.now → program ≡ meaning_of units.now) }
-    ensures range { IfOk result (λ program. AreRead units.now → TextsAreBytes units.now → IsInRange program) }
     ensures err { IfErr result (IsFaultOf units.now) }
 {
     let named = names_of_all(alloc, units)?;
     let linkage = linkage_of_all(alloc, named.as_slice())?;
     let known = unbroken(alloc, units, named.as_slice(), &linkage)?;
-    let program = program_of_all(alloc, named.as_slice(), &linkage, &known)?;
-    Ok(program)
+    let Earlier {
+        senses,
+        registers,
+        ..
+    } = known;
+    let checked = with_senses(alloc, named, senses)?;
+    Ok(Checked::new(checked, linkage, registers))
 }

@@ -1,13 +1,13 @@
-//! Which static rules units break, and the program that they mean where they break none.
+//! The pass that checks: which static rules units break, and what is known of them where they break none.
 //!
-//! `check` answers the fault that is named of units by the static rules, exactly: the first by unit, place and rule, from the definitions of
-//! `cmm_accepted`. Where there is none it answers the program that `cmm_meaning` says the units mean, made on a second walk, which can fail only for
-//! want of memory. Of the faults the first is kept while walking, so that each function's clause says how the first fault goes on. What the limits over
-//! all units count is added up on the same walk, and tested last. Time is linear in the units.
+//! `check_units` answers the fault that is named of units by the static rules, exactly: the first by unit, place and rule, from the definitions of
+//! `cmm_accepted`. Where there is none it answers what the pass that lowers takes, `Checked` of `cmm_checked`. Of the faults the first is kept while
+//! walking, so that each function's clause says how the first fault goes on. What the limits over all units count is added up on the same walk, and tested
+//! last. Time is linear in the units. `check` is this pass and the next in a row.
 //!
-//! - `checking`: the call `check`, over all units. `unit`, `unit_names`: the rules on one unit, laid flat. `together`, `sums`: those that all units break
-//!   together, and what the limits on them count.
-//! - `program`: the second walk. `fault`: why units are not accepted.
+//! - `checking`: the call `check_units`, over all units. `unit`, `unit_names`: the rules on one unit, laid flat. `together`, `sums`: those that all units
+//!   break together, and what the limits on them count.
+//! - `program`: the call `check`. `fault`: why units are not accepted.
 //! - `host`, `linking`, `target`, `registers`: names of the host, exports and imports, properties of the target, registers.
 //! - `cycles`: typedefs and constants that depend on themselves. `procedures`: procedures. `earlier`: what is known of the units before one.
 #![tactic(auto)]
@@ -27,5 +27,6 @@ mod together;
 mod unit;
 mod unit_names;
 
-pub use checking::check;
+pub use checking::check_units;
 pub use fault::StaticFault;
+pub use program::check;

@@ -1,42 +1,30 @@
-//! The program that units mean, where they break no rule.
+//! The two passes in a row: units are checked, and what is known of them is lowered.
 
-ghost use Rattle.std.specs.Prelude.{◌≡◌, ◌<◌, ◌^◌, List, map, length, IfOk};
-ghost use Rattle.cmm_accepted.specs.Declarations.{NamedUnit};
-ghost use Rattle.cmm_meaning.specs.Meaning.{program_by};
-ghost use Rattle.cmm_static.specs.inside.Flat.{flat_unit};
-ghost use Rattle.cmm_static.specs.inside.Following.{AreNext};
-ghost use Rattle.cmm_static.specs.inside.Units.{AreEarlier, unit_flat};
+ghost use Rattle.std.specs.Prelude.{◌≡◌, ◌<◌, ◌^◌, length, IfOk, IfErr};
+ghost use Rattle.cmm_accepted.specs.Faults.{AreAccepted};
+ghost use Rattle.cmm_meaning.specs.Laws.{AreRead, TextsAreBytes};
+ghost use Rattle.cmm_meaning.specs.Meaning.{meaning_of};
+ghost use Rattle.cmm_program.specs.InRange.{IsInRange};
+ghost use Rattle.cmm_static.specs.Faults.{IsFaultOf};
 
-use crate::earlier::Earlier;
-use crate::unit_names::UnitNames;
-use cmm_linked::Linkage;
+use crate::checking::check_units;
+use crate::fault::StaticFault;
+use cmm_ast::Unit;
 use cmm_program::Program;
-use cmm_resolved_units::{Parts, program_of};
-use std::alloc::{AllocError, Global};
+use cmm_resolved_units::lower;
+use std::alloc::Global;
 
-/// The program of units that break no rule, from what they know of each other and what is known of them.
-pub(crate) fn program_of_all<'a>(
-    alloc: Global,
-    units: &[UnitNames<'a>],
-    linkage: &Linkage<'a>,
-    known: &Earlier<'a>,
-) -> Result<Program, AllocError>
-    requires size { length units.now < 2 ^ 32 }
-    requires known { AreEarlier linkage.now known.now (map unit_flat units.now) }
-    ensures { IfOk result (λ program. (us : List NamedUnit) → map unit_flat units.now ≡ map flat_unit us → AreNext linkage.now us → program ≡ program_by linkage.now us) }
+/// The program that units mean, if they break no static rule; else the fault is that of `check_units`. Units are those that `cmm_parser` gives, and fewer
+/// than 2^32: it is where they derive as many tokens as they have places for, and their texts are of bytes, that the program is the one that they mean,
+/// and in range.
+pub fn check(alloc: Global, units: &[Unit]) -> Result<Program, StaticFault>
+    requires { length units.now < 2 ^ 32 }
+    ensures accepted { IfOk result (λ _. AreAccepted units.now) }
+    ensures program { IfOk result (λ program. AreRead units.now → TextsAreBytes units.now → program ≡ meaning_of units.now) }
+    ensures range { IfOk result (λ program. AreRead units.now → TextsAreBytes units.now → IsInRange program) }
+    ensures err { IfErr result (IsFaultOf units.now) }
 {
-    let senses = known.senses.as_slice();
-    let mut parts = Parts::none(alloc);
-    for (number, unit) in units.iter().enumerate() {
-        let exports = unit.exports.as_slice();
-        parts = parts.with_unit(alloc, &senses[number], number as u32, exports, unit.tree)?;
-    }
-    let program = program_of(
-        alloc,
-        parts,
-        linkage,
-        linkage.register_names(),
-        &known.registers,
-    )?;
+    let checked = check_units(alloc, units)?;
+    let program = lower(alloc, &checked)?;
     Ok(program)
 }

@@ -5,7 +5,9 @@ use Rattle.cmm_accepted.specs.Faults.{Placed}
 use Rattle.cmm_accepted.specs.Linking.{Program}
 use Rattle.cmm_accepted.specs.Scopes.{unit_senses}
 use Rattle.cmm_accepted.specs.Senses.{Senses}
+use Rattle.cmm_checked.specs.declared.unit.CheckedUnit.{CheckedUnit}
 use Rattle.cmm_constants.specs.Senses.{senses_of}
+use Rattle.cmm_constants.specs.declared.unit_senses.UnitSenses.{UnitSenses}
 use Rattle.cmm_typing.specs.Fitting.{AreWords}
 use Rattle.cmm_static.specs.inside.Flat.{Flat, flat_named, links_before, widths_before}
 use Rattle.cmm_static.specs.inside.Totals.{AreSums}
@@ -17,6 +19,10 @@ use Rattle.cmm_static.specs.declared.checking.Broken.{Broken}
 
 abbrev pub unit_flat : UnitNames → Flat
 unit_flat u = record { tree = u.tree.now; entries = map shown u.table.declared; exports = map (λ e. e.now) u.exports; items = map thing_item u.things }
+
+-- a unit with what its names mean
+abbrev pub checked_unit : UnitNames × UnitSenses → CheckedUnit
+checked_unit u = record { tree = u.0.tree; things = u.0.things; exports = u.0.exports; senses = u.1 }
 
 abbrev pub broken_placed : Broken → Placed
 broken_placed b = record { unit = b.unit; spot = b.spot }

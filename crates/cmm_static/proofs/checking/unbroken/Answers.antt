@@ -1,11 +1,10 @@
-use Rattle.std.proofs.Common.{◌≡◌, None, Some, length, map, sym, ap, ◌∙◌, subst}
+use Rattle.std.proofs.Common.{◌≡◌, None, Some, length, map, sym, ap, ◌∙◌}
 use Rattle.std.proofs.lemmas.List.{length-map}
 use Rattle.cmm_accepted.specs.Declarations.{named_units}
-use Rattle.cmm_static.specs.Faults.{IsFaultOf}
 use Rattle.cmm_static.specs.inside.Flat.{flat_unit}
 use Rattle.cmm_static.specs.inside.Units.{unit_flat, broken_placed}
 use Rattle.cmm_static.proofs.Checked.{first_found, named_fault}
-use Rattle.cmm_static.proofs.Following.{named_of_all}
+use Rattle.cmm_static.proofs.Known.{named_of_all}
 use Rattle.cmm_static.proofs.Numbering.{units_are_as_many}
 use Rattle.cmm_static.proofs.checking.unbroken.Goals as goal
 
@@ -20,17 +19,15 @@ pub returns-in-Broken-clause-err : goal.returns-in-Broken-clause-err
 returns-in-Broken-clause-err c =
     let us = c.args.units.now in
     let found = rw c.in-Broken.is at c.in_ok-found.ensures in
-    subst (IsFaultOf us) (sym c.of.ensures)
-    (named_fault us (broken_placed c.in-Broken.broken) (first_found us (map unit_flat c.args.named.now) c.args.linkage.now (Some (broken_placed c.in-Broken.broken)) c.requires.named c.requires.linkage
+    named_fault us (broken_placed c.in-Broken.broken) (first_found us (map unit_flat c.args.named.now) c.args.linkage.now (Some (broken_placed c.in-Broken.broken)) c.requires.named c.requires.linkage
     (sym found))
-    ∙ ap Some (sym c.fault_at.ensures))
+    ∙ ap Some (sym c.fault_at.ensures)
 
 pub returns-in-Some-clause-err : goal.returns-in-Some-clause-err
 returns-in-Some-clause-err c =
     let us = c.args.units.now in
     let found = rw c.in-Unbroken.is at c.in_ok-found.ensures in
-    subst (IsFaultOf us) (sym c.of-in-Some.ensures)
-    (named_of_all us c.args.linkage.now (map unit_flat c.args.named.now) c.in-Unbroken.known.sums (Some c.in-Some.fault) c.requires.named c.requires.linkage found.0 found.1.sums c.in-Some.ensures)
+    named_of_all us c.args.linkage.now (map unit_flat c.args.named.now) c.in-Unbroken.known.sums (Some c.in-Some.fault) c.requires.named c.requires.linkage found.0 found.1.sums c.in-Some.ensures
 
 pub returns-clause-accepted : goal.returns-clause-accepted
 returns-clause-accepted c =

@@ -19,7 +19,7 @@ use Rattle.cmm_static.specs.inside.Totals.{AreSums}
 use Rattle.cmm_static.specs.inside.Units.{unit_flat}
 use Rattle.cmm_static.proofs.Links.{AreLinks-of, before_plus}
 use Rattle.cmm_static.proofs.Checked.{noted_unit}
-use Rattle.cmm_static.proofs.Following.{senses_next, words_next}
+use Rattle.cmm_static.proofs.Known.{senses_next, words_next}
 use Rattle.cmm_static.proofs.unit.first_broken.Goals as goal
 
 pub returns-clause-best : goal.returns-clause-best

@@ -2,18 +2,23 @@ use Rattle.std.proofs.Common.{◌≡◌, ◌+◌, ◌<◌, ◌^◌, ◌++◌, ma
 use Rattle.std.specs.Prelude.{flat_map}
 use Rattle.std.specs.List.{All}
 use Rattle.cmm_accepted.specs.Items.{items_of}
+use Rattle.cmm_constants.specs.Senses.{senses_of}
 use Rattle.cmm_names.specs.Shown.{thing_item}
 use Rattle.cmm_meaning.specs.Data.{datums_among, item_datums, unit_labels}
 use Rattle.cmm_resolved_units.proofs.Growing.{IsShort, parts_next}
 use Rattle.cmm_resolved_units.proofs.parts.Parts.with_unit.Goals as goal
 
 pub returns : goal.returns
-returns g c program before u next are =
-    let names = g.N.Names.senses c.args.names.now in let tree = c.args.unit.now in let first = c.next_datum-first.result in
-    parts_next program before u names c.args.number (map (λ e. e.now) c.args.exports.now) tree next c.args.self.procs c.add_procedures.new.to c.args.self.datums c.add_datums.new.to
-    c.args.self.labels c.add_labels.new.to (map thing_item c.in_ok-things.things) first are c.in_ok-add_procedures.ensures c.in_ok-things.ensures
+returns c program before u fits known number are =
+    let unit = c.args.unit.now in
+    let names = senses_of unit.senses in
+    let first = c.next_datum-first.result in
+    parts_next program before u c.args.number unit fits known number c.args.self.procs c.add_procedures.new.to c.args.self.datums c.add_datums.new.to
+    c.args.self.labels c.add_labels.new.to first are c.in_ok-add_procedures.ensures
     (subst (λ ts. All IsShort (flat_map (item_datums names) (map thing_item ts)) →
     c.add_datums.new.to ≡ c.args.self.datums ++ flat_map (item_datums names) (map thing_item ts)) c.as_slice.ensures c.in_ok-add_datums.ensures.fitting)
     c.next_datum-first.ensures
-    (subst (λ es. first + datums_among (items_of tree) < 2 ^ 32 → c.add_labels.new.to ≡ c.args.self.labels ++ unit_labels (map (λ e. e.now) es.now) first tree.parts)
-    c.in_ok-links.ensures c.in_ok-add_labels.ensures.fitting)
+    (subst (λ xs. first + datums_among (items_of unit.tree.now) < 2 ^ 32 → c.add_labels.new.to ≡ c.args.self.labels ++ unit_labels (map (λ e. e.now) xs) first unit.tree.now.parts)
+    c.as_slice-2.ensures
+    (subst (λ es. first + datums_among (items_of unit.tree.now) < 2 ^ 32 → c.add_labels.new.to ≡ c.args.self.labels ++ unit_labels (map (λ e. e.now) es.now) first unit.tree.now.parts)
+    c.in_ok-links.ensures c.in_ok-add_labels.ensures.fitting))

@@ -1,4 +1,4 @@
-use Rattle.std.proofs.Common.{map, ap, subst, sym, []}
+use Rattle.std.proofs.Common.{map, ap, subst, sym}
 use Rattle.std.specs.List.{All}
 use Rattle.std.proofs.lemmas.List.Elements.{All-nil}
 use Rattle.cmm_accepted.specs.Senses.{is_there}

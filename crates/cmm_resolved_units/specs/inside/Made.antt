@@ -1,13 +1,10 @@
 -- What some units have of the program that they mean, made unit by unit (C-- Language Specification 2.0, compilation units).
-use Rattle.std.specs.Prelude.{◌≡◌, ℕ, ◌+◌, ◌<◌, ◌^◌, List, flat_map, length}
+use Rattle.std.specs.Prelude.{◌≡◌, ◌+◌, ◌<◌, ◌^◌, List, ◌∷◌, ◌++◌, flat_map, length}
 use Rattle.std.specs.List.{All}
-use Rattle.cmm_ast.specs.declared.declaration.Export.{Export}
-use Rattle.cmm_ast.specs.declared.unit.Unit.{Unit as UnitTree}
 use Rattle.cmm_accepted.specs.Declarations.{NamedUnit}
 use Rattle.cmm_accepted.specs.Items.{items_of}
-use Rattle.cmm_accepted.specs.Linking.{Program as Linked, exports_of}
+use Rattle.cmm_accepted.specs.Linking.{Program as Linked}
 use Rattle.cmm_accepted.specs.Scopes.{unit_senses}
-use Rattle.cmm_accepted.specs.Senses.{Senses}
 use Rattle.cmm_meaning.specs.Data.{datums_among}
 use Rattle.cmm_meaning.specs.Meaning.{labels_from, procedures_from, unit_datums}
 use Rattle.cmm_bodies.specs.Fitting.{ItemFits}
@@ -19,14 +16,13 @@ pub record AreParts (program : Linked) (us : List NamedUnit) (parts : Parts) : T
   pub datums : parts.datums ≡ flat_map (unit_datums program) us
   pub labels : parts.labels ≡ labels_from 0 us
 
--- a unit behind some others: its tree, what its names mean, its number and its exports; and it fits a program, whose numbers have 32 bits, as accepted
--- units do
-pub record IsNext (program : Linked) (before : List NamedUnit) (u : NamedUnit) (names : Senses) (number : ℕ) (exports : List Export) (tree : UnitTree) : Type 0 where
-  pub tree_is : u.tree ≡ tree
-  pub items_are : u.items ≡ items_of tree
-  pub exports_are : exports_of u ≡ exports
-  pub senses_are : names ≡ unit_senses program u.entries
-  pub number_is : number ≡ length before
-  pub procedures : All (λ i. ItemFits names i.what) (items_of tree)
+-- a unit behind some others fits a program, whose numbers have 32 bits, as accepted units do
+pub record FitsBehind (program : Linked) (before : List NamedUnit) (u : NamedUnit) : Type 0 where
+  pub items : u.items ≡ items_of u.tree
+  pub procedures : All (λ i. ItemFits (unit_senses program u.entries) i.what) u.items
   pub lengths : All (λ d. d.length < 2 ^ 32) (unit_datums program u)
   pub datums : length (flat_map (unit_datums program) before) + datums_among u.items < 2 ^ 32
+
+-- each of some units does
+abbrev pub AllFit : Linked → List NamedUnit → Type 0
+AllFit program us = (before behind : List NamedUnit) (u : NamedUnit) → us ≡ before ++ u ∷ behind → FitsBehind program before u

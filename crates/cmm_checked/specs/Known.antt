@@ -1,0 +1,34 @@
+-- What is known of units that break no rule, in the words of the definitions.
+use Rattle.std.specs.Prelude.{◌≡◌, ◌<◌, ◌^◌, List, length, map, Option}
+use Rattle.std.specs.List.{AllZip}
+use Rattle.cmm_words.specs.declared.width.Width.{Width}
+use Rattle.cmm_ast.specs.declared.unit.Unit.{Unit as UnitTree}
+use Rattle.cmm_accepted.specs.Declarations.{NamedUnit, named_units}
+use Rattle.cmm_accepted.specs.Faults.{AreAccepted}
+use Rattle.cmm_accepted.specs.Linking.{Program, exports_of, program_of}
+use Rattle.cmm_accepted.specs.Scopes.{unit_senses}
+use Rattle.cmm_names.specs.Shown.{thing_item, whats}
+use Rattle.cmm_names.specs.declared.index.Index.{Index}
+use Rattle.cmm_typing.specs.Fitting.{AreWords}
+use Rattle.cmm_linked.specs.Registers.{AreWidths}
+use Rattle.cmm_constants.specs.Senses.{senses_of}
+use Rattle.cmm_checked.specs.declared.unit.CheckedUnit.{CheckedUnit}
+
+-- of a unit of a program: its tree, what stands in it, what it exports and what its names mean
+pub record IsKnown (program : Program) (u : NamedUnit) (c : CheckedUnit) : Type 0 where
+  pub tree : c.tree.now ≡ u.tree
+  pub things : map thing_item c.things ≡ whats u.items
+  pub exports : map (λ e. e.now) c.exports ≡ exports_of u
+  pub senses : senses_of c.senses ≡ unit_senses program u.entries
+  pub words : AreWords (senses_of c.senses)
+
+abbrev pub trees_in : List CheckedUnit → List UnitTree
+trees_in units = map (λ c. c.tree.now) units
+
+-- of all units of a program: that they are accepted, what each of them is, what they know of each other, and the widths of their registers
+pub record AreKnown (program : Program) (registers : Index (Option Width)) (trees : List UnitTree) (units : List CheckedUnit) : Type 0 where
+  pub few : length units < 2 ^ 32
+  pub accepted : AreAccepted trees
+  pub linkage : program ≡ program_of (named_units trees)
+  pub each : AllZip (IsKnown program) (named_units trees) units
+  pub widths : AreWidths registers (named_units trees)

@@ -1,0 +1,123 @@
+-- What is known of units: of one more, and of all that break no rule.
+use Rattle.std.proofs.Common.{◌≡◌, ℕ, ◌+◌, ◌<◌, ◌^◌, length, map, refl, sym, ap, ◌∙◌, subst, List, [], ◌∷◌, ◌++◌, Option, None}
+use Rattle.std.specs.List.{All, AllZip, zip}
+use Rattle.std.proofs.lemmas.List.{length-map, map-append}
+use Rattle.std.proofs.lemmas.List.Elements.{All-head, All-push, All-tail}
+use Rattle.cmm_checked.specs.Known.{AreKnown, IsKnown, trees_in}
+use Rattle.cmm_checked.specs.declared.unit.CheckedUnit.{CheckedUnit}
+use Rattle.cmm_constants.specs.Senses.{senses_of}
+use Rattle.cmm_constants.specs.declared.unit_senses.UnitSenses.{UnitSenses}
+use Rattle.cmm_names.specs.declared.index.Index.{Index}
+use Rattle.cmm_words.specs.declared.width.Width.{Width}
+use Rattle.cmm_ast.specs.declared.unit.Unit.{Unit as UnitTree}
+use Rattle.cmm_accepted.specs.Declarations.{NamedUnit, found, labels_in, named_units, procs_in, sum_of, units_from}
+use Rattle.cmm_accepted.specs.Items.{items_of}
+use Rattle.cmm_accepted.specs.declared.fault.Fault.{Fault}
+use Rattle.cmm_accepted.specs.Faults.{AreAccepted, fault_of_all, first_fault, stands_before}
+use Rattle.cmm_accepted.specs.Linking.{Program, program_of}
+use Rattle.cmm_accepted.specs.Scopes.{unit_senses}
+use Rattle.cmm_accepted.specs.Senses.{Senses}
+use Rattle.cmm_accepted.specs.Spots.{first_by}
+use Rattle.cmm_linked.specs.Registers.{AreWidths}
+use Rattle.cmm_static.specs.inside.Flat.{Flat, flat_named, flat_unit, flats_broken, widths_before}
+use Rattle.cmm_static.specs.inside.Linked.{AreFound}
+use Rattle.cmm_static.specs.inside.Totals.{AreSums}
+use Rattle.cmm_static.specs.inside.Units.{AreEarlier, checked_unit, flat_senses, unit_flat}
+use Rattle.cmm_static.specs.declared.earlier.Earlier.{Earlier}
+use Rattle.cmm_static.specs.declared.sums.Sums.{Sums}
+use Rattle.cmm_static.specs.declared.unit_names.UnitNames.{UnitNames}
+use Rattle.cmm_static.proofs.Checked.{first_found, named_together}
+use Rattle.cmm_static.proofs.Totals.{sums_of_units}
+use Rattle.cmm_typing.specs.Fitting.{AreWords}
+use Rattle.cmm_static.proofs.FlatUnits.{widths_flat}
+
+-- the widths of registers of units laid flat
+pub widths_of_units : (us : List NamedUnit) (fs : List Flat) (registers : Index (Option Width)) → fs ≡ map flat_unit us → AreFound registers (widths_before fs) → AreWidths registers us
+widths_of_units us fs registers same are name = are name ∙ ap (λ (q : List Flat). found name (widths_before q)) same ∙ sym (ap (found name) (widths_flat us))
+
+-- ---- what is known of one more unit
+
+pub senses_next : (program : Program) (before : List Flat) (f : Flat) (old new : List UnitSenses) (s : UnitSenses) → new ≡ old ++ s ∷ [] → senses_of s ≡ unit_senses program f.entries →
+    map senses_of old ≡ map (flat_senses program) before → map senses_of new ≡ map (flat_senses program) (before ++ f ∷ [])
+senses_next program before f old new s is means known =
+    ap (map senses_of) is ∙ map-append senses_of old (s ∷ []) ∙ ap (λ t. t ++ senses_of s ∷ []) known
+    ∙ ap (λ (n : Senses). map (flat_senses program) before ++ n ∷ []) means ∙ sym (map-append (flat_senses program) before (f ∷ []))
+
+pub words_next : (old new : List UnitSenses) (s : UnitSenses) → new ≡ old ++ s ∷ [] → AreWords (senses_of s) → All (λ (n : UnitSenses). AreWords (senses_of n)) old →
+    All (λ (n : UnitSenses). AreWords (senses_of n)) new
+words_next old new s is words known =
+    subst (All (λ (n : UnitSenses). AreWords (senses_of n))) (sym is) (All-push (λ (n : UnitSenses). AreWords (senses_of n)) old s known words)
+
+-- ---- units of which none breaks a rule of its own
+
+-- what they break together is the fault that is named of them, if they do
+pub named_of_all : (us : List UnitTree) (program : Program) (fs : List Flat) (s : Sums) (fault : Option Fault) → fs ≡ map flat_unit (named_units us) → program ≡ program_of (named_units us) →
+    first_by stands_before None (flats_broken program [] 0 fs) ≡ None → AreSums program (map flat_named fs) s →
+    ((ns : List NamedUnit) → fs ≡ map flat_unit ns → program ≡ program_of ns → AreSums program ns s → fault ≡ fault_of_all ns) → first_fault us ≡ fault
+named_of_all us program fs s fault are knows none sums by_sums =
+    named_together us (first_found us fs program None are knows (sym none)) ∙ sym (by_sums (named_units us) are knows (sums_of_units program us fs s are sums))
+
+-- ---- units that break no rule, each with what its names mean
+
+each_known : (program : Program) (us : List NamedUnit) (named : List UnitNames) (senses : List UnitSenses) → map unit_flat named ≡ map flat_unit us →
+    map senses_of senses ≡ map (flat_senses program) (map unit_flat named) → All (λ (s : UnitSenses). AreWords (senses_of s)) senses →
+    AllZip (IsKnown program) us (map checked_unit (zip named senses))
+each_known program [] [] senses flat known words = tt
+each_known program [] (n ∷ ns) senses flat known words = cc
+each_known program (u ∷ us) [] senses flat known words = cc
+each_known program (u ∷ us) (n ∷ ns) [] flat known words = cc
+each_known program (u ∷ us) (n ∷ ns) (s ∷ ss) flat known words = (here, each_known program us ns ss flats knowns (All-tail (λ (s : UnitSenses). AreWords (senses_of s)) s ss words))
+  where
+    same : unit_flat n ≡ flat_unit u
+    same = cc
+
+    flats : map unit_flat ns ≡ map flat_unit us
+    flats = cc
+
+    means : senses_of s ≡ flat_senses program (unit_flat n)
+    means = cc
+
+    knowns : map senses_of ss ≡ map (flat_senses program) (map unit_flat ns)
+    knowns = cc
+
+    here : IsKnown program u (checked_unit (n, s))
+    here = record {
+      tree = ap (λ (f : Flat). f.tree) same;
+      things = ap (λ (f : Flat). f.items) same;
+      exports = ap (λ (f : Flat). f.exports) same;
+      senses = means ∙ ap (λ (f : Flat). unit_senses program f.entries) same;
+      words = All-head (λ (s : UnitSenses). AreWords (senses_of s)) s ss words;
+    }
+
+trees_known : (program : Program) (us : List NamedUnit) (cs : List CheckedUnit) → AllZip (IsKnown program) us cs → trees_in cs ≡ map (λ u. u.tree) us
+trees_known program [] [] known = refl
+trees_known program [] (c ∷ cs) known = absurd known
+trees_known program (u ∷ us) [] known = absurd known
+trees_known program (u ∷ us) (c ∷ cs) known =
+    ap (λ (t : UnitTree). t ∷ trees_in cs) known.0.tree ∙ ap (λ (ts : List UnitTree). u.tree ∷ ts) (trees_known program us cs known.1)
+
+trees_named : (procs labels : ℕ) (us : List UnitTree) → map (λ u. u.tree) (units_from procs labels us) ≡ us
+trees_named procs labels [] = refl
+trees_named procs labels (u ∷ us) =
+    ap (λ (ts : List UnitTree). u ∷ ts) (trees_named (procs + sum_of procs_in (items_of u)) (labels + sum_of labels_in (items_of u)) us)
+
+-- they are the units that were checked, and this is known of them
+pub all_known : (us : List UnitTree) (program : Program) (named : List UnitNames) (e : Earlier) (checked : List CheckedUnit) → length us < 2 ^ 32 → AreAccepted us →
+    map unit_flat named ≡ map flat_unit (named_units us) → program ≡ program_of (named_units us) → AreEarlier program e (map unit_flat named) →
+    checked ≡ map checked_unit (zip named e.senses) → (trees_in checked ≡ us) × AreKnown program e.registers us checked
+all_known us program named e checked few accepted flat knows known are = (
+  trees,
+  record {
+    few = subst (λ n. n < 2 ^ 32) (sym (ap length trees) ∙ length-map checked (λ c. c.tree.now)) few;
+    accepted = accepted;
+    linkage = knows;
+    each = each;
+    widths = widths_of_units (named_units us) (map unit_flat named) e.registers flat known.registers;
+  },
+)
+  where
+    each : AllZip (IsKnown program) (named_units us) checked
+    each = subst (AllZip (IsKnown program) (named_units us)) (sym are) (each_known program (named_units us) named e.senses flat known.senses known.words)
+
+    trees : trees_in checked ≡ us
+    trees = trees_known program (named_units us) checked each ∙ trees_named 0 0 us
