@@ -1,11 +1,11 @@
 #!/usr/bin/env python3
-"""Makes the input of crates/code_tests and what has to come of it, from formulas over Python's integers.
+"""Makes the input of crates/code_rows and what has to come of it, from formulas over Python's integers.
 
-    tools/code_rows.py              writes crates/code_tests/stdin and crates/code_tests/stdout
+    tools/code_rows.py              writes crates/code_rows/stdin and crates/code_rows/stdout
     tools/code_rows.py --check      compares what it makes with these files
     tools/code_rows.py --qemu PROGRAM
                                     has the built program print the code of each operator, runs that in QEMU on the same operands, and compares the results with
-                                    the formulas'. `rt ci` leaves the program in crates/code_tests/out/code_tests.
+                                    the formulas'. `rt ci` leaves the program in crates/code_rows/out/code_rows.
     tools/code_rows.py --table      prints the table of instructions a node of docs/PERFORMANCE.md
 
 The formulas of the operators are those of corner_rows.py. Where the assembler or the emulator is missing, --qemu says so and ends with status 0.
@@ -272,7 +272,7 @@ def print_table():
 
 def files():
     made = list(cases())
-    folder = os.path.join(TOP, "crates", "code_tests")
+    folder = os.path.join(TOP, "crates", "code_rows")
     yield os.path.join(folder, "stdin"), "".join(f"{case}\n" for case, _ in made)
     yield os.path.join(folder, "stdout"), "".join(f"{case}: {found}\n" for case, found in made)
 

@@ -3,7 +3,7 @@
 
 Reads texts from standard input, one a line, each a whole unit, and prints for each the tree as the parser's types print it, or the token at
 which rule 10 is broken, or that the text has more trees than one. An argument names another part of the grammar to start from, as `part`.
-crates/cmm_trees/stdout is what it prints for crates/cmm_trees/stdin.
+crates/parser_rows/stdout is what it prints for crates/parser_rows/stdin.
 """
 
 import re

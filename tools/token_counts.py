@@ -1,18 +1,18 @@
 #!/usr/bin/env python3
 """Counts the tokens of units, apart from the compiler: token_counts.py [--examples | --write].
 
-A case is a line, its units divided by tabs, as in crates/cmm_faults/stdin. Of each case that breaks no rule by crates/cmm_faults/stdout the line is printed that must
+A case is a line, its units divided by tabs, as in crates/static_rows/stdin. Of each case that breaks no rule by crates/static_rows/stdout the line is printed that must
 stand there: how many tokens the units have, and then of each procedure, from its name to its last brace, how many belong to statements of its own, and how many it has
 in all. What belongs to no statement is its name, its formals, the braces of its body, and its declarations. A declaration of a body begins with `stackdata`, or with
 words other than `foreign`, `span` and the like that are followed by another name: the type of locals and what stands before it. `--examples` prints the cases that
-the examples are, one a line, each with the units that it imports from; `--write` puts the lines printed into crates/cmm_faults/stdout.
+the examples are, one a line, each with the units that it imports from; `--write` puts the lines printed into crates/static_rows/stdout.
 """
 import os
 import re
 import sys
 
 TOP = os.path.dirname(os.path.dirname(os.path.abspath(__file__)))
-FAULTS = f"{TOP}/crates/cmm_faults"
+FAULTS = f"{TOP}/crates/static_rows"
 
 # The examples that are whole programs, and those whose units come from several files.
 PROGRAMS = ["alternate", "bytes", "coroutine", "cut", "difference", "exception", "generator", "interpreter", "loop", "recursion", "stackdata", "sum", "table"]

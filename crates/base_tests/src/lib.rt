@@ -1,4 +1,4 @@
-//! The tests of `cmm_items`, `cmm_rules`, `cmm_words`, `cmm_bitset`, `cmm_peeling`, `cmm_moves`, `cmm_generated`: of what no clause says.
+//! The tests of `cmm_items`, `cmm_rules`, `cmm_words`, `cmm_bitset`, `cmm_digraph`, `cmm_moves`, `cmm_generated`: of what no clause says.
 #![tactic(auto)]
 
 #[cfg(test)]

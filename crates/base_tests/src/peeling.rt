@@ -1,7 +1,7 @@
 //! Small graphs, peeled by hand.
 
+use cmm_digraph::*;
 use cmm_items::Items;
-use cmm_peeling::*;
 use std::alloc::{AllocError, Global};
 use std::test::Fail;
 

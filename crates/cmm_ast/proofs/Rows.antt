@@ -52,7 +52,7 @@ seen p tokens = option_map (λ r. record { left = length r.left; operators = r.o
 abbrev spelled : List ℕ → List Lexeme
 spelled text = map (λ t. t.lexeme) (tokens_of text)
 
--- all tokens are taken, of which so many are operators of the last outermost expression
+-- all tokens are taken, of which n are operators of the last outermost expression
 abbrev all_with : ℕ → Option Seen
 all_with operators = Some record { left = 0; operators = operators; over = None }
 
@@ -97,7 +97,7 @@ row_named = refl
 
 -- ---- limits
 
--- the number 1 in so many brackets, from a token on
+-- the number 1 in n brackets, from a token on
 abbrev nested : ℕ → ℕ → Expr
 nested zero token = int_at token 1
 nested (suc n) token = record { token = token; form = Prim (Bracketed (nested n (suc token))) }

@@ -10,8 +10,8 @@ use Rattle.rv_table.specs.Requests.{request_number, request_of}
 use Rattle.rv_table.specs.declared.instruction.Instr.TheVariants.{Addi, Ecall}
 use Rattle.rv_table.specs.declared.request.Request.{Request}
 use Rattle.rv_table.specs.declared.request.Request.TheVariants.{PutByte, GetByte, Yield, StackLimit, End}
-use Rattle.cmm_changes.proofs.Shared.{leads_set}
-use Rattle.cmm_changes.specs.Requests.{AsksFor}
+use Rattle.cmm_effects.proofs.Shared.{leads_set}
+use Rattle.cmm_effects.specs.Requests.{AsksFor}
 
 limit_asked : (g : ℕ → ℕ) → g 5 ≡ 4 → request_of g ≡ Some StackLimit
 limit_asked g is =

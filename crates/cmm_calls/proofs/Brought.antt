@@ -17,10 +17,10 @@ use Rattle.rv_table.proofs.Shared.{loaded-below, loaded-same, stored-outside}
 use Rattle.rv_table.specs.Machine.{MemoryMap, State, is_accessible, loaded, region_base, stack_base, stored}
 use Rattle.rv_table.specs.Words.{modulo, sum}
 use Rattle.rv_table.specs.declared.instruction.Instr.TheVariants.{Addi, Sd}
-use Rattle.cmm_changes.proofs.Shared.{adds_none, adds_then, adds_weaker, leads_set, leads_sound, leads_store, leads_then, leads_turns, leads_weaker, reaches_more, reaches_sound, runs_none, runs_of, turns_weaker}
-use Rattle.cmm_changes.specs.Changes.{Keeps, Sets, Writes}
-use Rattle.cmm_changes.specs.Pieces.{Adds, Always, BeginsQuietly, Leads}
-use Rattle.cmm_changes.specs.Ways.{Turns}
+use Rattle.cmm_effects.proofs.Shared.{adds_none, adds_then, adds_weaker, leads_set, leads_sound, leads_store, leads_then, leads_turns, leads_weaker, reaches_more, reaches_sound, runs_none, runs_of, turns_weaker}
+use Rattle.cmm_effects.specs.Changes.{Keeps, Sets, Writes}
+use Rattle.cmm_effects.specs.Pieces.{Adds, Always, BeginsQuietly, Leads}
+use Rattle.cmm_effects.specs.Ways.{Turns}
 use Rattle.cmm_select.specs.Operands.{Brings, BringsOperand, CanBringOperand, most_for, operand_at}
 use Rattle.cmm_select.specs.Sources.{CanBring}
 use Rattle.cmm_select.specs.declared.operand.Operand.{Operand}
@@ -280,7 +280,7 @@ gives_then at given a n k s t u is same gives more =
           ∙ gives.memory b (elim h [ inl low ↦ inl low | inr high ↦ inr (omega (arith, high, count, is)) ]);
     }
 
--- so many values went out
+-- n values went out
 abbrev pub GivesSome : ℕ → ℕ → List Operand → Code → ℕ → ℕ → Type 0
 GivesSome most size values x from to = Passes most (HasRegion size) (Gives x.at values) x from to
 

@@ -16,10 +16,10 @@ use Rattle.rv_asm.specs.declared.part.Part.{Part}
 use Rattle.rv_table.proofs.Shared.{loaded-below}
 use Rattle.rv_table.specs.Machine.{MemoryMap, State, is_accessible, loaded, region_base, stack_base, stored}
 use Rattle.rv_table.specs.declared.instruction.Instr.TheVariants.{Ld}
-use Rattle.cmm_changes.proofs.Shared.{adds_none, adds_then, adds_weaker, leads_then, leads_weaker, runs_none, runs_of, runs_weaker, set_keeps}
-use Rattle.cmm_changes.specs.Accesses.{CanReachGlobal, PutsGlobal}
-use Rattle.cmm_changes.specs.Changes.{Keeps, Puts, Sets}
-use Rattle.cmm_changes.specs.Pieces.{Adds, Leads}
+use Rattle.cmm_effects.proofs.Shared.{adds_none, adds_then, adds_weaker, leads_then, leads_weaker, runs_none, runs_of, runs_weaker, set_keeps}
+use Rattle.cmm_effects.specs.Accesses.{CanReachGlobal, PutsGlobal}
+use Rattle.cmm_effects.specs.Changes.{Keeps, Puts, Sets}
+use Rattle.cmm_effects.specs.Pieces.{Adds, Leads}
 use Rattle.cmm_select.specs.Destinations.{CanPut, PutsTo}
 use Rattle.cmm_select.specs.declared.destination.Destination.{Destination}
 use Rattle.cmm_select.specs.declared.destination.Destination.TheVariants.{Place, Register}
@@ -120,7 +120,7 @@ copied_first_at count k (p ∷ xs) (suc i) d all within =
     subst (λ (n : ℕ). is_copied_first count n (get_or xs i d) ≡ true) e
     (copied_first_at count (suc k) xs i d (both (is_copied_first count k p) (are_copied_first count (suc k) xs) all).1 (omega (arith, within)))
 
--- some of so many values were copied, and those that are left are where they were
+-- some of n values were copied, and those that are left are where they were
 pub record HasCopied (at : ℕ → ℕ) (count : ℕ) (to : List Destination) (s t : State) : Type 0 where
   pub puts : PutsEachTo at (values_to 0 to s) s t
   pub frame : t.registers 2 ≡ s.registers 2
@@ -215,7 +215,7 @@ places_are_first count k (p ∷ places) all =
     let parts = both (is_taken_first count k p) (are_taken_first count (suc k) places) all in
     rw (parts.0, places_are_first count (suc k) places parts.1) refl
 
--- so many values were taken to places
+-- n values were taken to places
 abbrev pub Taken : ℕ → ℕ → ℕ → List Location → Code → ℕ → ℕ → Type 0
 Taken most size count places = Copied (λ at. Unit {0}) most size count (map Place places)
 

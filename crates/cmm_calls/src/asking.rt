@@ -1,9 +1,9 @@
-//! The end of a run is asked for.
+//! The end of a run is requested.
 
 ghost use Rattle.std.specs.Prelude.{◌≡◌, OnOk};
 ghost use Rattle.rv_table.specs.declared.request.Request.TheVariants as request;
-ghost use Rattle.cmm_changes.specs.Pieces.{Adds};
-ghost use Rattle.cmm_changes.specs.Requests.{AsksFor};
+ghost use Rattle.cmm_effects.specs.Pieces.{Adds};
+ghost use Rattle.cmm_effects.specs.Requests.{AsksFor};
 
 use cmm_select::choose;
 use rv_asm::Asm;

@@ -4,7 +4,7 @@ ghost use Rattle.std.specs.Prelude.{◌≡◌, ◌+◌, ◌*◌, ◌≤◌, leng
 ghost use Rattle.std.specs.List.{All, list_all};
 ghost use Rattle.rv_asm.specs.Assembly.{IsInner, IsTarget, table_limit};
 ghost use Rattle.rv_asm.specs.declared.part.Meaning.TheVariants.{Inner};
-ghost use Rattle.cmm_changes.specs.Pieces.{Adds};
+ghost use Rattle.cmm_effects.specs.Pieces.{Adds};
 ghost use Rattle.cmm_select.specs.Operands.{IsOperand, most_for};
 ghost use Rattle.cmm_calls.specs.Calls.{Calls, CallsBy, CutsTo, HasExits, JumpsBy};
 ghost use Rattle.cmm_calls.specs.Frames.{CanBeMade};

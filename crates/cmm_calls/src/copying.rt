@@ -3,7 +3,7 @@
 ghost use Rattle.std.specs.Prelude.{◌≡◌, ◌*◌, ◌<◌, ◌≤◌, length, true, OnOk};
 ghost use Rattle.std.specs.List.{All, list_all};
 ghost use Rattle.rv_asm.specs.Assembly.{IsLabel};
-ghost use Rattle.cmm_changes.specs.Pieces.{Adds, Leads};
+ghost use Rattle.cmm_effects.specs.Pieces.{Adds, Leads};
 ghost use Rattle.cmm_select.specs.Destinations.{IsDestination, PutsTo};
 ghost use Rattle.cmm_calls.specs.Copying.{CopiesIn, are_copied_first, is_destination};
 ghost use Rattle.cmm_calls.specs.Frames.{CanBeMade};

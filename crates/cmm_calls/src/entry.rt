@@ -4,7 +4,7 @@ ghost use Rattle.std.specs.Prelude.{◌≡◌, ◌+◌, ◌*◌, ◌^◌, ◌<�
 ghost use Rattle.std.specs.List.{All, list_all};
 ghost use Rattle.cmm_chain.specs.Plans.{is_place};
 ghost use Rattle.rv_asm.specs.Assembly.{IsInner, IsLabel};
-ghost use Rattle.cmm_changes.specs.Pieces.{Adds, Runs};
+ghost use Rattle.cmm_effects.specs.Pieces.{Adds, Runs};
 ghost use Rattle.cmm_calls.specs.Frames.{CanBeMade, Enters, HasFrame, HasRoom, Makes, Stores, entry_cost, fixed_numbers, pair_numbers};
 ghost use Rattle.cmm_calls.specs.Values.{Begins, are_taken_first};
 ghost use Rattle.cmm_calls.specs.inside.Pairs.{CanReachPair};

@@ -5,7 +5,7 @@ ghost use Rattle.std.specs.List.{All, list_all};
 ghost use Rattle.rv_asm.specs.Assembly.{IsTarget};
 ghost use Rattle.rv_table.specs.Table.{IsValid};
 ghost use Rattle.rv_table.specs.declared.instruction.Instr.TheVariants.{Jalr};
-ghost use Rattle.cmm_changes.specs.Pieces.{Adds, Leads};
+ghost use Rattle.cmm_effects.specs.Pieces.{Adds, Leads};
 ghost use Rattle.cmm_select.specs.Operands.{IsOperand};
 ghost use Rattle.cmm_calls.specs.Frames.{CanBeMade, HasFrame, Leaves, LetsWait, Returns, leave_cost};
 ghost use Rattle.cmm_calls.specs.Values.{JumpsTo, ReturnsValues, are_given_first, is_operand, parting_cost};

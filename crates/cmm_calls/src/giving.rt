@@ -4,7 +4,7 @@ ghost use Rattle.std.specs.Prelude.{◌≡◌, ◌+◌, ◌-◌, ◌*◌, ◌<�
 ghost use Rattle.std.specs.List.{All, list_all};
 ghost use Rattle.rv_table.specs.Table.{IsValid};
 ghost use Rattle.rv_table.specs.declared.instruction.Instr.TheVariants.{Addi, Sd};
-ghost use Rattle.cmm_changes.specs.Pieces.{Adds, Leads};
+ghost use Rattle.cmm_effects.specs.Pieces.{Adds, Leads};
 ghost use Rattle.cmm_select.specs.Operands.{IsOperand, operand_at};
 ghost use Rattle.cmm_calls.specs.Frames.{CanBeMade};
 ghost use Rattle.cmm_calls.specs.Values.{Gives, HasRegion, Passes, are_given_first, is_operand};

@@ -2,7 +2,7 @@
 //!
 //! Each function appends code to an assembler, and its contract says what that changes of a machine state (`specs/Frames`, `specs/Values`,
 //! `specs/Calls`), how many instructions it adds, how many are executed at most, and, where it has one, that the first asks for nothing but
-//! input. A frame is any that `lay_frame` of cmm_places gives, of less than 2 MiB; an offset in it may be past what an instruction reaches.
+//! input. A frame is any that `lay_frame` of cmm_allocate gives, of less than 2 MiB; an offset in it may be past what an instruction reaches.
 //! Between two pieces registers 5 to 7 have nothing; within one, an address may wait in register 7 while values go out.
 //!
 //! - `word`: a word of the frame is written from a register, or read into one.
@@ -15,7 +15,7 @@
 //! - `copying`: values that control brings come to places and to global registers.
 //! - `giving`: values go out to where they travel.
 //! - `calling`: control goes to another procedure, or is cut to a continuation.
-//! - `asking`: the end of the run is asked for.
+//! - `asking`: the end of the run is requested.
 #![tactic(auto)]
 
 mod asking;

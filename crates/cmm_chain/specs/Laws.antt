@@ -29,7 +29,7 @@ pub record AreAlive (plan : Plan) (s t : Suspension) : Type 0 where
   pub site : s.site ≡ t.site
   pub values : (v : ℕ) → plan.live s.procedure s.site v ≡ true → s.values v ≡ t.values v
 
--- nothing is asked of the values of dead locals
+-- nothing is required of the values of dead locals
 abbrev pub LiveAlone : Type 0
 LiveAlone = (plan : Plan) (top : ℕ) (contents : Contents) (suspended others : List Suspension) (p : Point) → AllZip (AreAlive plan) suspended others →
     IsChain plan top contents suspended p → IsChain plan top contents others p

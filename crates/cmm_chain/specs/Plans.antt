@@ -54,7 +54,7 @@ are_distinct (offset ∷ rest) = is_fresh offset rest && are_distinct rest
 abbrev pub is_word_in : ℕ → ℕ → Bool
 is_word_in size offset = (offset % 8 == 0) && nat_le (offset + 8) size
 
--- what a chain asks of a frame: its words lie inside, and no two are one
+-- what a chain requires of a frame: its words lie inside, and no two are one
 abbrev pub is_laid : Frame → Bool
 is_laid f = (f.size % 16 == 0) && (list_all (is_word_in f.size) (fixed_offsets f) && are_distinct (fixed_offsets f))
 

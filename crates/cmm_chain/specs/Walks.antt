@@ -41,7 +41,7 @@ pub record Element : Type 0 where
   pub site : ℕ
   pub mark : Mark
 
--- at most so many activations, the youngest first
+-- at most n activations, the youngest first
 abbrev pub walk : Plan → Contents → ℕ → Mark → List Element
 walk plan contents zero m = []
 walk plan contents (suc n) m = elim m.back [

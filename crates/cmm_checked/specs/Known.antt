@@ -3,15 +3,15 @@ use Rattle.std.specs.Prelude.{◌≡◌, ◌<◌, ◌^◌, List, length, map, Op
 use Rattle.std.specs.List.{AllZip}
 use Rattle.cmm_words.specs.declared.width.Width.{Width}
 use Rattle.cmm_ast.specs.declared.unit.Unit.{Unit as UnitTree}
-use Rattle.cmm_accepted.specs.Declarations.{NamedUnit, named_units}
-use Rattle.cmm_accepted.specs.Faults.{AreAccepted}
-use Rattle.cmm_accepted.specs.Linking.{Program, exports_of, program_of}
-use Rattle.cmm_accepted.specs.Scopes.{unit_senses}
-use Rattle.cmm_names.specs.Shown.{thing_item, whats}
-use Rattle.cmm_names.specs.declared.index.Index.{Index}
+use Rattle.cmm_static_semantics.specs.Declarations.{NamedUnit, named_units}
+use Rattle.cmm_static_semantics.specs.Faults.{AreAccepted}
+use Rattle.cmm_static_semantics.specs.Linking.{Program, exports_of, program_of}
+use Rattle.cmm_static_semantics.specs.Scopes.{unit_senses}
+use Rattle.cmm_symbols.specs.Shown.{thing_item, whats}
+use Rattle.cmm_symbols.specs.declared.index.Index.{Index}
 use Rattle.cmm_typing.specs.Fitting.{AreWords}
-use Rattle.cmm_linked.specs.Registers.{AreWidths}
-use Rattle.cmm_constants.specs.Senses.{senses_of}
+use Rattle.cmm_linkage.specs.Registers.{AreWidths}
+use Rattle.cmm_unit_scope.specs.Senses.{senses_of}
 use Rattle.cmm_checked.specs.declared.unit.CheckedUnit.{CheckedUnit}
 
 -- of a unit of a program: its tree, what stands in it, what it exports and what its names mean

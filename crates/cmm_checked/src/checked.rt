@@ -2,16 +2,16 @@
 
 ghost use Rattle.std.specs.Prelude.{◌≡◌, ◌<◌, ◌^◌, length};
 ghost use Rattle.std.specs.List.{AllZip};
-ghost use Rattle.cmm_accepted.specs.Declarations.{named_units};
-ghost use Rattle.cmm_accepted.specs.Faults.{AreAccepted};
-ghost use Rattle.cmm_accepted.specs.Linking.{program_of};
-ghost use Rattle.cmm_linked.specs.Registers.{AreWidths};
+ghost use Rattle.cmm_static_semantics.specs.Declarations.{named_units};
+ghost use Rattle.cmm_static_semantics.specs.Faults.{AreAccepted};
+ghost use Rattle.cmm_static_semantics.specs.Linking.{program_of};
+ghost use Rattle.cmm_linkage.specs.Registers.{AreWidths};
 ghost use Rattle.cmm_checked.specs.Known.{AreKnown, IsKnown, trees_in};
 
 use crate::unit::CheckedUnit;
 use cmm_items::Items;
-use cmm_linked::Linkage;
-use cmm_names::Index;
+use cmm_linkage::Linkage;
+use cmm_symbols::Index;
 use cmm_words::Width;
 use std::marker::Model;
 

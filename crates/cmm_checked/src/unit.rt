@@ -1,9 +1,9 @@
 //! A unit that breaks no rule.
 
 use cmm_ast::{Export, Unit};
-use cmm_constants::UnitSenses;
 use cmm_items::Items;
-use cmm_names::Thing;
+use cmm_symbols::Thing;
+use cmm_unit_scope::UnitSenses;
 
 /// A unit that breaks no rule, and what is known of it.
 #[derive(Drop)]

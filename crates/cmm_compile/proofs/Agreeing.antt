@@ -17,12 +17,12 @@ use Rattle.cmm_program.specs.Machine.{start}
 use Rattle.cmm_program.specs.Placed.{IsPlaced, ascend_from, is_code_address}
 use Rattle.cmm_program.specs.State.{Setting}
 use Rattle.cmm_program.specs.Todo.{todo_control}
-use Rattle.cmm_laws.specs.Fitting.{IsByte, IsSetUp}
-use Rattle.cmm_laws.specs.Observed.{MachineLasts, machine_of}
+use Rattle.cmm_machine_laws.specs.Fitting.{IsByte, IsSetUp}
+use Rattle.cmm_machine_laws.specs.Observed.{MachineLasts, machine_of}
 use Rattle.cmm_data.specs.Laws.{DataReachesItsEnd, InRangeCanBeLaidOut}
-use Rattle.cmm_execution.specs.Laws.{ImagesLast}
-use Rattle.cmm_execution.specs.Machine.{Launch, first_run, map_of}
-use Rattle.cmm_execution.specs.Observed.{image_machine}
+use Rattle.cmm_image_machine.specs.Laws.{ImagesLast}
+use Rattle.cmm_image_machine.specs.Machine.{Launch, first_run, map_of}
+use Rattle.cmm_image_machine.specs.Observed.{image_machine}
 use Rattle.cmm_graph.specs.declared.graph.Graph.{Graph}
 use Rattle.cmm_flow.specs.Flow.{IsFlow}
 use Rattle.cmm_flow.specs.Relation as flow
@@ -30,21 +30,21 @@ use Rattle.cmm_image.specs.ImageFormat.{is_in_code}
 use Rattle.cmm_image.specs.Formats.{AreBytes}
 use Rattle.cmm_image.specs.declared.parts.ImageParts.{ImageParts}
 use Rattle.cmm_select.specs.Laws.{SwitchesLead}
-use Rattle.cmm_shown.specs.Shown.{IsFor}
+use Rattle.cmm_emit_laws.specs.Shown.{IsFor}
 use Rattle.cmm_located.specs.SameOrders.{HasFrames}
-use Rattle.cmm_places.specs.declared.procedure.ProcedurePlaces.{ProcedurePlaces}
-use Rattle.cmm_places.specs.Compiling.{compiled}
-use Rattle.cmm_places.specs.Laws.{PlacesFollowPrograms, RowsArePlaced, RowsHaveFrames, RunsBeginCheaply, RunsOverPlaces}
-use Rattle.cmm_places.specs.Places.{HasPlaces}
-use Rattle.cmm_places.specs.Placing.{placement_rows}
-use Rattle.cmm_coded.proofs.Shared.{image_agrees}
-use Rattle.cmm_coded.specs.Agreeing.{AgreesOnceBegun}
+use Rattle.cmm_allocate.specs.declared.procedure.ProcedurePlaces.{ProcedurePlaces}
+use Rattle.cmm_allocate.specs.Compiling.{compiled}
+use Rattle.cmm_allocate.specs.Laws.{LocatedRunsFollowPrograms, RowsArePlaced, RowsHaveFrames, RunsBeginCheaply, RunsOverPlaces}
+use Rattle.cmm_allocate.specs.Places.{HasPlaces}
+use Rattle.cmm_allocate.specs.Placing.{placement_rows}
+use Rattle.cmm_emit_laws.proofs.Shared.{image_agrees}
+use Rattle.cmm_emit_laws.specs.Agreeing.{AgreesOnceBegun}
 use Rattle.cmm_unit_code.specs.declared.text.Text.{Text}
 use Rattle.cmm_link.specs.Placements.{placement_of}
 use Rattle.cmm_unit_code.specs.Texts.{ascend_above}
-use Rattle.cmm_text.specs.Texts.{RunsProgram}
+use Rattle.cmm_emit.specs.Texts.{RunsProgram}
 use Rattle.cmm_compile.specs.Agreement.{IsStackSize, launch_of, setting_of}
-use Rattle.cmm_compile.specs.inside.Laws.{ImagesAgree, IsMade}
+use Rattle.cmm_compile.specs.inside.Laws.{ImagesAgreeWithUnits, IsMade}
 
 -- ---- addresses of procedures
 
@@ -91,7 +91,7 @@ record Promises : Type 0 where
   placed : RowsArePlaced
   can_be_laid_out : InRangeCanBeLaidOut
   reaches : DataReachesItsEnd
-  follows : PlacesFollowPrograms
+  follows : LocatedRunsFollowPrograms
   begins : RunsBeginCheaply
   switches : SwitchesLead
   images : ImagesLast
@@ -178,9 +178,9 @@ module _ (promises : Promises) (p : Program) (graphs : List Graph) (found : List
         (image_agrees s c l runs.finished runs.code input are runs.begins promises.switches promises.images (machine_of (todo_control p) s) (start s input)
         (flow.longest p + flow.longest p) (promises.machines s) (promises.follows s graphs found input set_up are over) (omega (arith, few, first, one, same)))
 
-pub images_agree : RowsHaveFrames → RowsArePlaced → InRangeCanBeLaidOut → DataReachesItsEnd → PlacesFollowPrograms → RunsBeginCheaply →
-    SwitchesLead → ImagesLast → MachineLasts → ImagesAgree
-images_agree frames placed can reaches follows begins switches images machines p graphs found t i made =
+pub images_agree_with_units : RowsHaveFrames → RowsArePlaced → InRangeCanBeLaidOut → DataReachesItsEnd → LocatedRunsFollowPrograms → RunsBeginCheaply →
+    SwitchesLead → ImagesLast → MachineLasts → ImagesAgreeWithUnits
+images_agree_with_units frames placed can reaches follows begins switches images machines p graphs found t i made =
     let promises : Promises = record {
       frames = frames;
       placed = placed;

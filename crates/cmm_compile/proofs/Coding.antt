@@ -14,7 +14,7 @@ use Rattle.cmm_graph.specs.declared.node.NodeKind.TheVariants.{Yield}
 use Rattle.cmm_flow.specs.Few.{is_quiet, proc_waits}
 use Rattle.cmm_flow.specs.Flow.{IsFlow}
 use Rattle.cmm_flow.specs.Laws.{AnswersAreQuiet}
-use Rattle.cmm_text.specs.Premises.{can_be_coded}
+use Rattle.cmm_emit.specs.Premises.{can_be_coded}
 use Rattle.cmm_compile.specs.inside.Laws.{ProgramsAreCoded}
 
 kind_coded : (kind : NodeKind) → IsTrue (is_quiet kind) → IsTrue (can_be_coded kind)

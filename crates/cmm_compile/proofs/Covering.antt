@@ -15,13 +15,13 @@ use Rattle.cmm_graph.specs.Covering.{covers}
 use Rattle.cmm_graph.specs.Ranges.{is_node}
 use Rattle.cmm_flow.specs.Flow.{IsFlow}
 use Rattle.cmm_flow.specs.Laws.{AnswersAreCovered, AnswersAreGraphs, AnswersAreShort}
-use Rattle.cmm_places.specs.declared.procedure.ProcedurePlaces.{ProcedurePlaces}
-use Rattle.cmm_places.specs.Laws.{EntriesAreShort, EntryIsShort, FlowsCanBePlaced}
-use Rattle.cmm_places.specs.Places.{CanBePlaced, HasPlaces, HavePlaces}
-use Rattle.cmm_nodes.specs.declared.context.Context.{Context}
-use Rattle.cmm_nodes.specs.Laws.{GraphsAreShort, IsShortFor, IsSmallFor, NodesAreShort}
-use Rattle.cmm_text.specs.Contexts.{place_in}
-use Rattle.cmm_text.specs.Premises.{IsCovered, IsShort}
+use Rattle.cmm_allocate.specs.declared.procedure.ProcedurePlaces.{ProcedurePlaces}
+use Rattle.cmm_allocate.specs.Laws.{EntriesAreShort, EntryIsShort, FlowsCanBePlaced}
+use Rattle.cmm_allocate.specs.Places.{CanBePlaced, HasPlaces, HavePlaces}
+use Rattle.cmm_emit.specs.declared.context.Context.{Context}
+use Rattle.cmm_emit.specs.Laws.{GraphsAreShort, IsShortFor, IsSmallFor, NodesAreShort}
+use Rattle.cmm_emit.specs.Contexts.{place_in}
+use Rattle.cmm_emit.specs.Premises.{IsCovered, IsShort}
 use Rattle.cmm_compile.specs.inside.Laws.{ProgramsAreCovered, ProgramsAreShort}
 
 -- a procedure by its number, with its graph and its places

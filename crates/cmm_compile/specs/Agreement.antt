@@ -12,16 +12,16 @@ use Rattle.cmm_program.specs.Machine.{start}
 use Rattle.cmm_program.specs.Placed.{IsPlaced}
 use Rattle.cmm_program.specs.State.{Setting}
 use Rattle.cmm_program.specs.Todo.{todo_control}
-use Rattle.cmm_laws.specs.Fitting.{IsByte}
-use Rattle.cmm_laws.specs.Observed.{machine_of}
+use Rattle.cmm_machine_laws.specs.Fitting.{IsByte}
+use Rattle.cmm_machine_laws.specs.Observed.{machine_of}
 use Rattle.cmm_image.specs.declared.parts.ImageParts.{ImageParts}
-use Rattle.cmm_execution.specs.Machine.{Launch, first_run}
-use Rattle.cmm_execution.specs.Observed.{image_machine}
-use Rattle.cmm_coded.specs.Agreeing.{AgreesOnceBegun}
+use Rattle.cmm_image_machine.specs.Machine.{Launch, first_run}
+use Rattle.cmm_image_machine.specs.Observed.{image_machine}
+use Rattle.cmm_emit_laws.specs.Agreeing.{AgreesOnceBegun}
 use Rattle.cmm_link.specs.Placements.{placement_of}
 use Rattle.cmm_front.specs.Programs.{IsProgramOf}
 
--- the machine runs with the placement that the image shows, and a stack of so many bytes
+-- the machine runs with the placement that the image shows, and a stack of n bytes
 abbrev pub setting_of : Program → ImageParts → Script → ℕ → Setting
 setting_of p i script stack = record { program = p; placement = placement_of i; stack_base = stack_base; stack_size = stack; script = script }
 

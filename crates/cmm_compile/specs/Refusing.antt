@@ -1,6 +1,6 @@
 -- When units are refused, and what is said of it.
 use Rattle.std.specs.Prelude.{◌≡◌, ◌⊎◌, ℕ, true, List}
-use Rattle.cmm_accepted.specs.declared.fault.Fault.{Fault}
+use Rattle.cmm_static_semantics.specs.declared.fault.Fault.{Fault}
 use Rattle.cmm_rules.specs.declared.rule.Rule.TheVariants.{FormNotBuilt}
 use Rattle.cmm_program.specs.declared.program.Program.{Program}
 use Rattle.cmm_front.specs.declared.fault.FrontFault.{FrontFault}

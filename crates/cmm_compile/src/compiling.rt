@@ -9,18 +9,18 @@ ghost use Rattle.cmm_compile.specs.Refusing.{IsFaultOf, IsRefused};
 use crate::fault::BuildFault;
 use crate::form::waits;
 use crate::laws::passes_fit;
-use cmm_accepted::Fault;
+use cmm_allocate::place_program;
 use cmm_data::lay_out;
+use cmm_emit::lay_program;
 use cmm_flow::flows;
 use cmm_front::program_of;
 use cmm_image::Image;
 use cmm_items::Items;
 use cmm_link::link;
 use cmm_live::liveness_of_all;
-use cmm_places::place_program;
 use cmm_program::Program;
 use cmm_rules::Rule;
-use cmm_text::lay_program;
+use cmm_static_semantics::Fault;
 use std::alloc::Global;
 
 /// The fault of units that break no other rule, and of whose program no image is made yet.

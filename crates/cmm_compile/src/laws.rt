@@ -1,9 +1,9 @@
-//! What the passes below are worth together. Each law is the contract of a function that does nothing.
+//! The theorems of the passes, composed. Each law is the contract of a function that does nothing.
 
-ghost use Rattle.cmm_meaning.specs.Laws.{ProceduresAscend};
+ghost use Rattle.cmm_elaboration.specs.Laws.{ProceduresAscend};
 ghost use Rattle.cmm_data.specs.Laws.{InRangeCanBeLaidOut};
 ghost use Rattle.cmm_link.specs.Laws.{PlacesHaveFrames};
-ghost use Rattle.cmm_compile.specs.inside.Laws.{ImagesAgree, ProgramsAreCoded, ProgramsAreCovered, ProgramsAreShort};
+ghost use Rattle.cmm_compile.specs.inside.Laws.{ImagesAgreeWithUnits, ProgramsAreCoded, ProgramsAreCovered, ProgramsAreShort};
 
 /// The nodes of a program that does not wait for a client are such that code is laid of them.
 #[tactic(auto, using(crate::proofs::Coding::programs_are_coded))]
@@ -13,19 +13,19 @@ fn programs_are_coded()
     cmm_flow::laws::answers_are_quiet();
 }
 
-/// The code of the nodes of a program over places has at most 32 instructions for each of their tokens.
+/// The code of the nodes of a located program has at most 32 instructions for each of their tokens.
 #[tactic(auto, using(crate::proofs::Covering::programs_are_covered))]
 fn programs_are_covered()
     ensures { ProgramsAreCovered }
 {
     cmm_flow::laws::answers_are_graphs();
     cmm_flow::laws::answers_are_covered();
-    cmm_places::laws::flows_can_be_placed();
-    cmm_places::laws::entries_are_short();
-    cmm_nodes::laws::nodes_are_short();
+    cmm_allocate::laws::flows_can_be_placed();
+    cmm_allocate::laws::entries_are_short();
+    cmm_emit::laws::nodes_are_short();
 }
 
-/// The code of the nodes of each procedure of a program over places, with one instruction behind it, is at most 64 instructions for each token of the
+/// The code of the nodes of each procedure of a located program, with one instruction behind it, is at most 64 instructions for each token of the
 /// procedure.
 #[tactic(auto, using(crate::proofs::Covering::programs_are_short))]
 fn programs_are_short()
@@ -34,22 +34,22 @@ fn programs_are_short()
     cmm_flow::laws::answers_are_graphs();
     cmm_flow::laws::answers_are_covered();
     cmm_flow::laws::answers_are_short();
-    cmm_places::laws::flows_can_be_placed();
-    cmm_places::laws::entries_are_short();
-    cmm_nodes::laws::graphs_are_short();
+    cmm_allocate::laws::flows_can_be_placed();
+    cmm_allocate::laws::entries_are_short();
+    cmm_emit::laws::graphs_are_short();
 }
 
 /// An image that is made of a program agrees with it.
-fn images_agree()
-    ensures { ImagesAgree }
+fn images_agree_with_units()
+    ensures { ImagesAgreeWithUnits }
 {
     cmm_data::laws::programs_in_range();
     cmm_data::laws::data_reaches_its_end();
-    cmm_laws::runs::what_is_seen_lasts();
-    cmm_places::laws::rows_are_placed();
-    cmm_places::laws::places_do_what_programs_do();
+    cmm_machine_laws::runs::what_is_seen_lasts();
+    cmm_allocate::laws::rows_are_placed();
+    cmm_allocate::laws::located_runs_follow_programs();
     cmm_select::laws::switches_lead();
-    cmm_execution::laws::images_last();
+    cmm_image_machine::laws::images_last();
 }
 
 /// Each pass answers what the passes behind it ask for, and the image of the last agrees with the program of the first.
@@ -60,13 +60,13 @@ pub(crate) fn passes_fit()
     ensures coded { ProgramsAreCoded }
     ensures covered { ProgramsAreCovered }
     ensures short { ProgramsAreShort }
-    ensures agree { ImagesAgree }
+    ensures agree { ImagesAgreeWithUnits }
 {
-    cmm_meaning::laws::procedures_ascend();
+    cmm_elaboration::laws::procedures_ascend();
     cmm_data::laws::programs_in_range();
     cmm_link::laws::places_have_frames();
     programs_are_coded();
     programs_are_covered();
     programs_are_short();
-    images_agree();
+    images_agree_with_units();
 }

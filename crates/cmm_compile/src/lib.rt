@@ -6,7 +6,7 @@
 //!
 //! - `compiling`: `compile` and `compile_program`, and the passes in their order.
 //! - `form`: of which programs no image is made yet.
-//! - `laws`: what the passes below are worth together.
+//! - `laws`: the theorems of the passes, composed.
 //! - `fault`: why units have no image.
 //!
 //! `specs/Agreement` says what it is that an image agrees with units, and `specs/Refusing` when they are refused.

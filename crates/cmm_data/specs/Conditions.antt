@@ -12,7 +12,7 @@ use Rattle.cmm_program.specs.declared.program.Datum.{Datum}
 use Rattle.cmm_program.specs.declared.program.Label.{Label}
 use Rattle.cmm_program.specs.Layout.{end_before}
 
--- the label whose address a value is, if it is one, is among so many
+-- the label whose address a value is, if it is one, is among n
 abbrev pub IsThere : ℕ → Constant → Type 0
 IsThere labels (Number word width) = Unit {0}
 IsThere labels (Code proc plus) = Unit {0}
@@ -31,14 +31,14 @@ Fill d = elim d.values [ [] ↦ Unit {0} | _ ∷ _ ↦ d.length ≡ length d.val
 abbrev pub HasAlignment : Datum → Type 0
 HasAlignment d = 0 < d.align
 
--- a datum can be laid out, where there are so many labels
+-- a datum can be laid out, where there are n labels
 pub record IsLayable (labels : ℕ) (d : Datum) : Type 0 where
   pub align : HasAlignment d
   pub length : Fill d
   pub there : All (IsThere labels) d.values
   pub width : All (MayStandIn d.width) d.values
 
--- a label stands on a datum, or at the end of one or of none, where there are so many
+-- a label stands on a datum, or at the end of one or of none, where there are n
 abbrev pub IsOnDatum : ℕ → Label → Type 0
 IsOnDatum datums l = elim l.at_end [ true ↦ l.datum ≤ datums | false ↦ l.datum < datums ]
 

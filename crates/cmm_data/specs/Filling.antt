@@ -39,7 +39,7 @@ procedure_addresses p = flat_map (λ d. flat_map procedure_address d.values) p.d
 abbrev pub fix_procedures : List Fix → List (ℕ × ℕ)
 fix_procedures fixes = map (λ f. (f.procedure, f.plus)) fixes
 
--- each fix has eight of so many bytes, which follow those of the fix before
+-- each fix has eight of n bytes, which follow those of the fix before
 abbrev pub AreApart : ℕ → List Fix → ℕ → Type 0
 AreApart from [] length = from ≤ length
 AreApart from (f ∷ fs) length = (from ≤ f.place) × AreApart (f.place + 8) fs length

@@ -55,7 +55,7 @@ impl Image {
         self.add_zeros(next_aligned(align, place) - place)
     }
 
-    /// Adds so many bytes that are 0.
+    /// Adds `count` bytes that are 0.
     fn add_zeros(&mut self, count: u64) -> Result<(), AllocError>
         requires size { length self.old.bytes.items ≤ 2 ^ 32 }
         requires count { count ≤ 2 ^ 33 }

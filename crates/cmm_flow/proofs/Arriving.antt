@@ -2,7 +2,7 @@
 use Rattle.std.proofs.Common.{◌≡◌, ℕ, zero, suc, true, false, Option, Some, None, List, [], ◌∷◌, IsTrue, drop, length, slice_get, refl, ap, sym, ◌∙◌, subst, arith}
 use Rattle.std.proofs.lemmas.Option.{slice_get_within}
 use Rattle.std.specs.List.{AllZip, list_all}
-use Rattle.cmm_laws.proofs.Shared.{entering_lands}
+use Rattle.cmm_machine_laws.proofs.Shared.{entering_lands}
 use Rattle.cmm_program.proofs.Shared.{all_get}
 use Rattle.cmm_program.specs.declared.procedure.Cont.{Cont}
 use Rattle.cmm_program.specs.declared.procedure.Proc.{Proc}

@@ -1,6 +1,6 @@
 -- The client's answer leaves both machines related, wherever it resumes them.
 use Rattle.std.proofs.Common.{◌≡◌, ℕ, zero, suc, Some, List, [], ◌∷◌, ◌++◌, drop, refl}
-use Rattle.cmm_laws.proofs.Shared.{IsExitOf, OfReturn, OfUnwind, OfCut, answered_kept}
+use Rattle.cmm_machine_laws.proofs.Shared.{IsExitOf, OfReturn, OfUnwind, OfCut, answered_kept}
 use Rattle.cmm_program.specs.Client.{answered, located, with_log, with_value}
 use Rattle.cmm_program.specs.Control.{transferred}
 use Rattle.cmm_program.specs.Exits.{Exit}

@@ -1,7 +1,7 @@
 -- The code of a condition leads to one node where it holds and to another where it does not.
 use Rattle.std.proofs.Common.{◌≡◌, ℕ, ◌+◌, ◌&&◌, ◌||◌, not, Bool, true, false, IsTrue, Ok, refl, ap, ◌∙◌, subst, arith}
 use Rattle.std.proofs.lemmas.Bool.{and_parts}
-use Rattle.cmm_laws.specs.Observed.{store_seen}
+use Rattle.cmm_machine_laws.specs.Observed.{store_seen}
 use Rattle.cmm_program.specs.declared.expression.Condition.{Condition, Row_of-Condition, more_of-Condition}
 use Rattle.cmm_program.specs.declared.expression.Condition.TheVariants.{Compare, Not', Both', Either'}
 use Rattle.cmm_program.specs.declared.procedure.Proc.{Proc}

@@ -111,7 +111,7 @@ each_passes test (x ∷ xs) passes =
     let later = each_passes test xs (λ n y is. passes (suc n) y is) in
     and_both (test x) (list_all test xs) first later
 
--- no node has more tokens than so many
+-- no node has more tokens than n
 abbrev pub AreWithin : ℕ → List Node → Type 0
 AreWithin most nodes = IsTrue (list_all (λ node. nat_le node.tokens most) nodes)
 

@@ -1,7 +1,7 @@
 -- What the code of a statement does where the machine does the statement: it goes through it in silence, or comes to a node that does
 -- the same order.
 use Rattle.std.proofs.Common.{◌≡◌, ℕ, ◌+◌, ◌≤◌, max, Result, Ok, Option, Some, None, List, slice_get, refl, subst, arith}
-use Rattle.cmm_laws.specs.Observed.{event_at, store_seen}
+use Rattle.cmm_machine_laws.specs.Observed.{event_at, store_seen}
 use Rattle.cmm_program.specs.declared.procedure.Proc.{Proc}
 use Rattle.cmm_program.specs.declared.statement.Form.{Form}
 use Rattle.cmm_program.specs.declared.statement.Statement.{Statement}

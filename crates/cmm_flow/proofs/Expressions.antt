@@ -1,7 +1,7 @@
 -- The code of an expression brings its value: once control has come through it, the operand has the value, in the same store.
 use Rattle.std.proofs.Common.{◌≡◌, ℕ, suc, ◌+◌, ◌^◌, ◌<◌, ◌≤◌, max, Bool, true, false, Result, Ok, Err, refl, ap, ◌∙◌, subst, arith}
 use Rattle.std.proofs.lemmas.Bool.Decides.{nat_tests}
-use Rattle.cmm_laws.specs.Observed.{store_seen}
+use Rattle.cmm_machine_laws.specs.Observed.{store_seen}
 use Rattle.cmm_program.specs.declared.expression.Expression.{Expression, Row_of-Expression, more_of-Expression}
 use Rattle.cmm_program.specs.declared.expression.Expression.TheVariants.{Known, Variable, Register, Stackdata, Continuation, Load', Unary', Binary', SignExtend', ZeroExtend', LowBits'}
 use Rattle.cmm_program.specs.declared.procedure.Proc.{Proc}

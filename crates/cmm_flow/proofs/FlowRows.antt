@@ -15,7 +15,7 @@ use Rattle.cmm_program.specs.declared.procedure.Target.TheVariants as target
 use Rattle.cmm_program.specs.declared.statement.Statement.{Statement}
 use Rattle.cmm_program.specs.InRange.{IsInRange, IsProcInRange}
 use Rattle.cmm_program.specs.State.{Done, Ended, Setting}
-use Rattle.cmm_laws.specs.Fitting.{IsSetUp}
+use Rattle.cmm_machine_laws.specs.Fitting.{IsSetUp}
 use Rattle.cmm_program.specs.Bodies.{AtContinuation, AtLabel, body_statements, follow}
 use Rattle.cmm_graph.specs.declared.graph.Graph.{Graph}
 use Rattle.cmm_graph.specs.declared.node.Node.{Node}

@@ -1,11 +1,11 @@
 -- The laws: runs over the graphs of a program are runs of the C-- machine.
 use Rattle.std.proofs.Common.{◌≡◌, ℕ, ◌+◌, List, subst, arith}
-use Rattle.cmm_following.proofs.Agreements.{agrees_of_follows}
-use Rattle.cmm_following.proofs.Followings.{follows_of_simulates}
-use Rattle.cmm_following.specs.Simulation.{Simulates}
-use Rattle.cmm_laws.proofs.Shared.{machine_lasts}
-use Rattle.cmm_laws.specs.Fitting.{ExpressionsFit, IsSetUp, StatesAreSound}
-use Rattle.cmm_laws.specs.Observed.{machine_of}
+use Rattle.cmm_simulation.proofs.Agreements.{agrees_of_follows}
+use Rattle.cmm_simulation.proofs.Followings.{follows_of_simulates}
+use Rattle.cmm_simulation.specs.Simulation.{Simulates}
+use Rattle.cmm_machine_laws.proofs.Shared.{machine_lasts}
+use Rattle.cmm_machine_laws.specs.Fitting.{ExpressionsFit, IsSetUp, StatesAreSound}
+use Rattle.cmm_machine_laws.specs.Observed.{machine_of}
 use Rattle.cmm_program.specs.Control.{State}
 use Rattle.cmm_program.specs.State.{Setting}
 use Rattle.cmm_program.specs.Todo.{todo_control}

@@ -1,8 +1,8 @@
 -- Landings: where control arrives in both machines, each activation stands for what it has to do.
 use Rattle.std.proofs.Common.{◌≡◌, ℕ, not, ◌&&◌, ◌==◌, nat_lt, Bool, true, false, Option, Some, None, List, [], ◌∷◌, map, drop, length, slice_get, refl, ap, sym, ◌∙◌, subst, arith}
 use Rattle.std.proofs.lemmas.Bool.Decides.{nat_tests}
-use Rattle.cmm_laws.proofs.Shared.{search_finds, targets_take}
-use Rattle.cmm_laws.specs.Landings.{begun_above}
+use Rattle.cmm_machine_laws.proofs.Shared.{search_finds, targets_take}
+use Rattle.cmm_machine_laws.specs.Landings.{begun_above}
 use Rattle.cmm_program.specs.declared.procedure.Cont.{Cont}
 use Rattle.cmm_program.specs.declared.procedure.Proc.{Proc}
 use Rattle.cmm_program.specs.declared.procedure.Site.{Site}

@@ -1,6 +1,6 @@
 -- Statements whose last node does the same order: foreign calls, calls, yields, jumps, returns and cuts.
 use Rattle.std.proofs.Common.{◌≡◌, ℕ, ◌+◌, Ok, None, List, [], ◌∷◌, map, slice_get, refl, ap, ◌∙◌, arith}
-use Rattle.cmm_laws.specs.Observed.{event_at, store_seen}
+use Rattle.cmm_machine_laws.specs.Observed.{event_at, store_seen}
 use Rattle.cmm_program.specs.declared.expression.Expression.{Expression}
 use Rattle.cmm_program.specs.declared.procedure.Proc.{Proc}
 use Rattle.cmm_program.specs.declared.procedure.Target.{Target}

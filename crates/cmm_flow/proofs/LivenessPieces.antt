@@ -75,7 +75,7 @@ module _ (g : Graph) (v : ℕ) where
     pub rest : Within left to
 
   -- A piece that begins at a node, and is left for the nodes of which X holds: the variable is read in it before it is
-  -- written, or else it is not. A path through it has at least so many nodes of it.
+  -- written, or else it is not. A path through it has at least n nodes of it.
   pub record Piece (s : ℕ) (n : NodeId) (read : Bool) (X : NodeId → Type 0) : Type 0 where
     pub now : IsTrue read → Live n
     pub on : (m : NodeId) → X m → Live m → Live n

@@ -1,6 +1,6 @@
 -- Several expressions one after the other: their operands have their values all at once.
 use Rattle.std.proofs.Common.{◌≡◌, ℕ, suc, List, [], ◌∷◌, map, Ok, refl, ap, sym, ◌∙◌, subst, arith}
-use Rattle.cmm_laws.specs.Observed.{store_seen}
+use Rattle.cmm_machine_laws.specs.Observed.{store_seen}
 use Rattle.cmm_program.specs.declared.expression.Expression.{Expression}
 use Rattle.cmm_program.specs.declared.procedure.Proc.{Proc}
 use Rattle.cmm_program.specs.Acts.{values_of, word_passed, words_of}

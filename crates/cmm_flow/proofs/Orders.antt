@@ -1,7 +1,7 @@
 -- Both machines do the same order to the same store: they are related again, wherever control then goes.
 use Rattle.std.proofs.Common.{◌%◌, ◌≡◌, ℕ, Ok, Some, List, [], ◌∷◌, ◌++◌, drop, refl, ap, sym, ◌∙◌, subst, arith}
-use Rattle.cmm_laws.proofs.Shared.{call_enters, cut_cuts, jump_enters, return_leaves}
-use Rattle.cmm_laws.specs.Transfers.{Cuts, CutsNot, CutsTo, Ends, Enters, EntersAt, EntersNot, Leaves as LeavesBy, LeavesNot, LeavesTo}
+use Rattle.cmm_machine_laws.proofs.Shared.{call_enters, cut_cuts, jump_enters, return_leaves}
+use Rattle.cmm_machine_laws.specs.Transfers.{Cuts, CutsNot, CutsTo, Ends, Enters, EntersAt, EntersNot, Leaves as LeavesBy, LeavesNot, LeavesTo}
 use Rattle.cmm_script.specs.Lines.{yield_line}
 use Rattle.cmm_program.specs.declared.procedure.Proc.{Proc}
 use Rattle.cmm_program.specs.declared.statement.Statement.{Statement}

@@ -21,7 +21,7 @@ use Rattle.cmm_flow.specs.inside.Parts.{rvalue_of}
 use Rattle.cmm_flow.proofs.Laying.{and_both, both_pass}
 use Rattle.cmm_flow.proofs.NodesPass.{FitAll, HoldsOfParts, In, operand_passes, operands_pass, value_passes}
 
--- ---- nothing is asked of expressions
+-- ---- nothing is required of expressions
 
 abbrev Any : ℕ → Expression → Type 0
 Any base e = Unit {0}

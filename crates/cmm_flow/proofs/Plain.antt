@@ -1,6 +1,6 @@
 -- Statements that are passed in silence: branches, blocks, labels and assignments.
 use Rattle.std.proofs.Common.{is_some, ◌≡◌, ℕ, zero, suc, ◌+◌, max, Bool, true, false, IsTrue, Ok, Option, Some, None, List, ◌∷◌, ◌++◌, map, slice_get, refl, ap, sym, subst, arith}
-use Rattle.cmm_laws.specs.Observed.{store_seen}
+use Rattle.cmm_machine_laws.specs.Observed.{store_seen}
 use Rattle.cmm_program.specs.declared.expression.Condition.{Condition}
 use Rattle.cmm_program.specs.declared.expression.Expression.{Expression}
 use Rattle.cmm_program.specs.declared.procedure.Proc.{Proc}

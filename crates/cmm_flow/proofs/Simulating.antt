@@ -3,16 +3,16 @@ use Rattle.std.proofs.Common.{◌≡◌, ℕ, ◌+◌, ◌≤◌, max, nat_le, B
 use Rattle.std.proofs.lemmas.Bool.{and_parts}
 use Rattle.std.proofs.lemmas.List.Elements.{All-head}
 use Rattle.std.proofs.lemmas.Bool.Decides.{nat_tests}
-use Rattle.cmm_following.proofs.Paths.{joined, one_step, weaker}
-use Rattle.cmm_following.proofs.Prefixes.{within_refl}
-use Rattle.cmm_following.specs.Machine.{Machine}
-use Rattle.cmm_following.specs.Observing.{Level, Passes}
-use Rattle.cmm_following.specs.Seen.{IsWithin, but_input}
-use Rattle.cmm_following.specs.Simulation.{Leads, Simulates}
-use Rattle.cmm_laws.proofs.Shared.{machine_lasts}
-use Rattle.cmm_laws.specs.Fitting as Fitting
-use Rattle.cmm_laws.specs.Fitting.{AreActivations, ExpressionsFit, IsByte, IsSetUp, IsSound, IsStatementOf, StatesAreSound}
-use Rattle.cmm_laws.specs.Observed.{Call, Ending, event_at, machine_of, store_seen}
+use Rattle.cmm_simulation.proofs.Paths.{joined, one_step, weaker}
+use Rattle.cmm_simulation.proofs.Prefixes.{within_refl}
+use Rattle.cmm_simulation.specs.Machine.{Machine}
+use Rattle.cmm_simulation.specs.Observing.{Level, Passes}
+use Rattle.cmm_simulation.specs.Seen.{IsWithin, but_input}
+use Rattle.cmm_simulation.specs.Simulation.{Leads, Simulates}
+use Rattle.cmm_machine_laws.proofs.Shared.{machine_lasts}
+use Rattle.cmm_machine_laws.specs.Fitting as Fitting
+use Rattle.cmm_machine_laws.specs.Fitting.{AreActivations, ExpressionsFit, IsByte, IsSetUp, IsSound, IsStatementOf, StatesAreSound}
+use Rattle.cmm_machine_laws.specs.Observed.{Call, Ending, event_at, machine_of, store_seen}
 use Rattle.cmm_program.proofs.Shared.{list_all_get}
 use Rattle.cmm_program.specs.declared.procedure.Proc.{Proc}
 use Rattle.cmm_program.specs.declared.statement.Statement.{Statement}

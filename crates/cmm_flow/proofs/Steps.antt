@@ -1,10 +1,10 @@
 -- Steps of the graph machine that are passed in silence: where one leads, and that it shows nothing.
 use Rattle.std.proofs.Common.{◌≡◌, ℕ, ◌+◌, ◌≤◌, max, List, ◌∷◌, true, false, is_some, slice_get, Ok, Some, None, refl, sym, ap, ◌∙◌, subst, arith}
-use Rattle.cmm_following.proofs.Paths.{one_step, joined, weaker}
-use Rattle.cmm_following.specs.Machine.{Machine}
-use Rattle.cmm_following.specs.Seen.{Seen}
-use Rattle.cmm_following.specs.Simulation.{Leads}
-use Rattle.cmm_laws.specs.Observed.{Call, Ending, event_at, machine_of, store_seen}
+use Rattle.cmm_simulation.proofs.Paths.{one_step, joined, weaker}
+use Rattle.cmm_simulation.specs.Machine.{Machine}
+use Rattle.cmm_simulation.specs.Seen.{Seen}
+use Rattle.cmm_simulation.specs.Simulation.{Leads}
+use Rattle.cmm_machine_laws.specs.Observed.{Call, Ending, event_at, machine_of, store_seen}
 use Rattle.cmm_program.specs.Acts.{evaluated}
 use Rattle.cmm_program.specs.Control.{State}
 use Rattle.cmm_program.specs.Orders as order
@@ -129,7 +129,7 @@ pub then_goes : {r : Run} {shown : Seen ℕ} {l m n o : ℕ} {t u v : State Posi
     Goes r shown (l + n) (m + o) t v
 then_goes first second = and_goes first second (omega arith) (omega arith)
 
--- of which less is asked
+-- of which less is required
 pub at_most : {r : Run} {shown : Seen ℕ} {l m least most : ℕ} {t u : State Position} → Goes r shown l m t u → least ≤ l → m ≤ most → Goes r shown least most t u
 at_most path enough within = weaker path (λ u p. p) (λ u q. q) enough (λ n le. omega arith)
 

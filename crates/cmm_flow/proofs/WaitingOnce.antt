@@ -28,7 +28,7 @@ beyond : (n k : ℕ) (ns : List ℕ) → n ≤ k → below n ns + times k ns ≤
 beyond n k [] least = omega arith
 beyond n k (m ∷ ns) least = grind (arith, nat_tests, beyond n k ns least)
 
--- where each below a count stands once, so many are below it
+-- where each below a count stands once, n are below it
 all_below : (count : ℕ) (ns : List ℕ) → ((n : ℕ) → n < count → times n ns ≡ 1) → below count ns ≡ count
 all_below zero ns once = below_zero ns
 all_below (suc count) ns once =

@@ -1,6 +1,6 @@
 -- What a value put into a place leaves as it is: the status, what is seen, and the activations but for the youngest one's variables.
 use Rattle.std.proofs.Common.{◌≡◌, ℕ, Bool, true, false, Ok, List, [], ◌∷◌, refl, ap, sym, ◌∙◌, arith}
-use Rattle.cmm_laws.specs.Observed.{store_seen}
+use Rattle.cmm_machine_laws.specs.Observed.{store_seen}
 use Rattle.cmm_program.specs.declared.procedure.Target.{Target}
 use Rattle.cmm_program.specs.declared.procedure.Target.TheVariants.{Variable, Register}
 use Rattle.cmm_program.specs.Orders.{Held, Memory, Place, Write}

@@ -1,5 +1,5 @@
 -- Which nodes are the code of an expression and of a condition: a relation of the node where control comes to it and of that
--- where it goes on. It is asked of the nodes that are passed, wherever they stand.
+-- where it goes on. It is required of the nodes that are passed, wherever they stand.
 use Rattle.std.specs.Prelude.{◌≡◌, ℕ, suc, true, false, List, [], ◌∷◌, slice_get, Some}
 use Rattle.cmm_words.specs.declared.operators.Cmp.{Cmp}
 use Rattle.cmm_words.specs.declared.width.Width.{Width}
@@ -24,7 +24,7 @@ abbrev pub to_temporary : ℕ → Destination
 to_temporary base = Temporary record { number = base }
 
 module _ (nodes : List Node) where
-  -- a node of so many tokens
+  -- a node of n tokens
   abbrev pub IsNode : NodeId → ℕ → NodeKind → Type 0
   IsNode n tokens kind = slice_get nodes n.number ≡ Some record { tokens = tokens; kind = kind }
 

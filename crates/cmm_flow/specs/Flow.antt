@@ -56,7 +56,7 @@ pub record IsFlowOf (q : Proc) (g : Graph) : Type 0 where
 abbrev pub HasTokens : Proc → Graph → Type 0
 HasTokens q g = IsTrue (list_all (λ node. nat_le node.tokens q.tokens) g.nodes)
 
--- so many tokens are as many as those of any word in memory, and of the CopyIn of each site, which has one, and one for each result
+-- n tokens are as many as those of any word in memory, and of the CopyIn of each site, which has one, and one for each result
 pub record CoversSites (q : Proc) (most : ℕ) : Type 0 where
   pub accesses : 3 ≤ most
   pub results : IsTrue (list_all (λ site. nat_lt (length site.results) most) q.sites)

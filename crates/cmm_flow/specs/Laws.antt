@@ -8,11 +8,11 @@ use Rattle.cmm_program.specs.InRange.{IsInRange, IsProcInRange}
 use Rattle.cmm_program.specs.Machine.{start}
 use Rattle.cmm_program.specs.State.{Setting, Running}
 use Rattle.cmm_program.specs.Todo.{todo_control}
-use Rattle.cmm_following.specs.Agreement.{Agrees}
-use Rattle.cmm_following.specs.Following.{Follows}
-use Rattle.cmm_following.specs.Simulation.{Simulates}
-use Rattle.cmm_laws.specs.Fitting.{IsByte, IsSetUp}
-use Rattle.cmm_laws.specs.Observed.{machine_of}
+use Rattle.cmm_simulation.specs.Agreement.{Agrees}
+use Rattle.cmm_simulation.specs.Following.{Follows}
+use Rattle.cmm_simulation.specs.Simulation.{Simulates}
+use Rattle.cmm_machine_laws.specs.Fitting.{IsByte, IsSetUp}
+use Rattle.cmm_machine_laws.specs.Observed.{machine_of}
 use Rattle.cmm_graph.specs.declared.graph.Graph.{Graph}
 use Rattle.cmm_graph.specs.Acting.{led}
 use Rattle.cmm_graph.specs.Counterpart.{HasSite, IsGraphOf}

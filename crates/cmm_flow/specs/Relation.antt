@@ -10,7 +10,7 @@ use Rattle.cmm_program.specs.Control.{State}
 use Rattle.cmm_program.specs.State.{Activation, Setting, Status, Running, Waiting, Ended, Wrong}
 use Rattle.cmm_program.specs.Todo.{Todo}
 use Rattle.cmm_program.specs.Tokens.{own_tokens}
-use Rattle.cmm_laws.specs.Fitting.{IsSound}
+use Rattle.cmm_machine_laws.specs.Fitting.{IsSound}
 use Rattle.cmm_graph.specs.declared.graph.Graph.{Graph}
 use Rattle.cmm_graph.specs.declared.node.Exits.{Exits}
 use Rattle.cmm_graph.specs.declared.number.NodeId.{NodeId}
@@ -97,7 +97,7 @@ module _ (p : Program) (graphs : List Graph) where
   AreGoing (a ∷ older) (t ∷ ts) (c ∷ cs) = StandsFor a t c × AreWaiting older ts cs
   AreGoing _ _ _ = ⊥
 
-  -- where a run is over nothing is asked
+  -- where a run is over nothing is required
   abbrev pub AreRelated : Status → List Activation → List Todo → List Position → Type 0
   AreRelated Running activations ts cs = AreGoing activations ts cs
   AreRelated (Waiting values) activations ts cs = AreWaiting activations ts cs

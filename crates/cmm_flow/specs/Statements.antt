@@ -163,7 +163,7 @@ module _ (nodes_there : List Node) where
 -- the procedure, the nodes of its graph, and the node to which a `goto` to each label goes
 module _ (q : Proc) (nodes_there : List Node) (label_node : ℕ → NodeId) where
   abbrev mutual
-    -- The nodes from n on are the code of a statement of so many tokens, behind which control goes on at k. A `goto` has no node
+    -- The nodes from n on are the code of a statement of m tokens, behind which control goes on at k. A `goto` has no node
     -- of its own: to go on at the node of its label is a step. A continuation that is reached from above ends the run.
     pub FormCode : ℕ → Form → NodeId → NodeId → Type 0
     FormCode tokens Empty n k = IsNode nodes_there n 1 (node.Goto k)

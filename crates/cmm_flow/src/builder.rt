@@ -27,7 +27,7 @@ pub struct Builder {
     pub nodes: Items<Node>,
 }
 
-/// A count as a number of 32 bits. That so many things fit in memory and not in these does not happen.
+/// A count as a number of 32 bits. More things than that do not fit in memory.
 pub fn as_number(count: usize) -> Result<u32, AllocError>
     ensures { IfOk result (λ n. n ≡ count) }
 {

@@ -53,7 +53,7 @@ pub fn operator_tokens(width: Width, left: &Operand, right: &Operand) -> u32
     }
 }
 
-/// The same of expressions, which leave their values at the bases 0 and 1.
+/// The tokens of the node of an operator, of expressions that leave their values at the bases 0 and 1.
 pub fn tokens_of_operator(width: Width, left: &Expression, right: &Expression) -> u32
     ensures { result ≡ operator_tokens_of width (operand_at 0 left.now) (operand_at 1 right.now) }
 {
@@ -96,7 +96,7 @@ pub fn operator_nodes(width: Width, left: &Expression, right: &Expression) -> u3
     )
 }
 
-/// The same of some expressions.
+/// The tokens of the nodes of some expressions.
 pub fn nodes_of_all(es: &[Expression]) -> u32
     ensures { result ≡ capped (nodes_of_list es.now) }
 {
@@ -141,7 +141,7 @@ fn normal_tokens(site: &Site) -> u32
     }
 }
 
-/// The same of a site by its number.
+/// The tokens of the CopyIn of the normal exit of a site by its number, if it has one.
 pub fn normal_tokens_at(q: &Proc, site: u32) -> u32
     ensures { result ≡ capped (normal_tokens_of (slice_get q.now.sites site)) }
 {

@@ -25,7 +25,7 @@ pub fn labels_in(statements: &[Statement]) -> Result<u32, AllocError>
     Ok(count)
 }
 
-/// The same of a statement.
+/// How many labels stand in a statement.
 #[cycle(labels)]
 fn labels_of(form: &Form) -> Result<u32, AllocError>
     ensures lacks { IfOk result (λ count. (l : ℕ) → count ≤ l → (is_mark (AtLabel l) form.now ≡ false) × (after_inside (AtLabel l) form.now ≡ None)) }
@@ -48,7 +48,7 @@ fn labels_of(form: &Form) -> Result<u32, AllocError>
     }
 }
 
-/// The same of the arms of a switch.
+/// How many labels stand in the arms of a switch.
 #[cycle(labels)]
 fn labels_in_arms(arms: &[Arm]) -> Result<u32, AllocError>
     ensures lacks { IfOk result (λ count. (l : ℕ) → count ≤ l → after_arms (AtLabel l) arms.now ≡ None) }

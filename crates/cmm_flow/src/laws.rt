@@ -3,7 +3,7 @@
 ghost use Rattle.cmm_flow.specs.Laws.{AnswersAreBounded, AnswersAreCovered, AnswersAreFlows, AnswersAreGraphs, AnswersAreQuiet, AnswersAreShort, AnswersHaveSites, AnswersLand, AnswersWaitAtEach, AnswersWaitOnce, FlowAgrees, FlowFollows, FlowFollowsAt, FlowSimulates, FlowSimulatesAt, RangeIsCounted};
 ghost use Rattle.cmm_flow.specs.Liveness.{AnswersAreInRange, CodeKeepsLiveness, SetsAreOfProcedure, SitesHaveNodes, SitesKeepLiveness};
 
-use cmm_laws::values::{every_state_is_sound, expressions_fit};
+use cmm_machine_laws::values::{every_state_is_sound, expressions_fit};
 use cmm_program::laws::liveness_is_by_paths;
 
 /// The flows of a program's procedures do what the program does. A step of the C-- machine is a path over the graphs of at
@@ -11,7 +11,7 @@ use cmm_program::laws::liveness_is_by_paths;
 /// same and stand at the same events, and agree in counts of steps with that factor. Every value of a run fits its width, so no
 /// node computes with what is no word.
 #[tactic(auto, using(crate::proofs::Flowing::flow_simulates, crate::proofs::Flowing::flow_follows, crate::proofs::Flowing::flow_agrees))]
-pub fn flows_do_what_programs_do()
+pub fn graphs_simulate_programs()
     ensures simulates { FlowSimulates }
     ensures follows { FlowFollows }
     ensures agrees { FlowAgrees }
@@ -23,7 +23,7 @@ pub fn flows_do_what_programs_do()
 /// They do so at dearer costs too, as a layer below has them for which control that leaves an activation is dearer: a step of the C-- machine is
 /// then dearer by as much.
 #[tactic(auto, using(crate::proofs::Flowing::flow_simulates_at, crate::proofs::Flowing::flow_follows_at))]
-pub fn flows_do_so_at_costs()
+pub fn graphs_simulate_at_costs()
     ensures simulates { FlowSimulatesAt }
     ensures follows { FlowFollowsAt }
 {
@@ -31,7 +31,7 @@ pub fn flows_do_so_at_costs()
     expressions_fit();
 }
 
-/// What the law asks of the statements of a program holds of every program in range.
+/// What the law requires of the statements of a program holds of every program in range.
 #[tactic(auto, using(crate::proofs::Ranges::range_is_counted))]
 pub fn programs_in_range_are_counted()
     ensures { RangeIsCounted }

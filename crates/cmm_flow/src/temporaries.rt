@@ -17,7 +17,7 @@ fn count_of(local: &Local) -> Result<u32, AllocError>
     }
 }
 
-/// The same of some locals.
+/// How many temporaries there are at least where some locals are among them.
 fn count_among(locals: &[Local]) -> Result<u32, AllocError>
     ensures { IfOk result (λ count. IsLeast is_below locals.now count) }
 {
@@ -28,7 +28,7 @@ fn count_among(locals: &[Local]) -> Result<u32, AllocError>
     Ok(count)
 }
 
-/// The same of those that a node reads and writes.
+/// How many temporaries there are at least where a node reads and writes some.
 fn count_at(alloc: Global, node: &Node) -> Result<u32, AllocError>
     ensures { IfOk result (λ count. (limit : ℕ) → (count ≤ limit) ↔ IsTrue (names_below limit node.now)) }
 {
@@ -39,7 +39,7 @@ fn count_at(alloc: Global, node: &Node) -> Result<u32, AllocError>
     Ok(read.max(written))
 }
 
-/// The same of those of some nodes.
+/// How many temporaries some nodes read and write.
 pub fn temporaries_of(alloc: Global, nodes: &[Node]) -> Result<u32, AllocError>
     ensures { IfOk result (λ count. IsLeast names_below nodes.now count) }
 {

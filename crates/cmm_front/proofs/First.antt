@@ -4,8 +4,8 @@ use Rattle.std.specs.Prelude.{IfErr, IsErrAnd, slice_index_or}
 use Rattle.std.specs.List.{All, AllZip}
 use Rattle.std.proofs.lemmas.List.{take_all}
 use Rattle.std.proofs.lemmas.List.Elements.{All-cons, All-head, All-nil, All-tail}
-use Rattle.cmm_accepted.specs.declared.fault.Fault.{Fault}
-use Rattle.cmm_accepted.specs.Faults.{first_fault}
+use Rattle.cmm_static_semantics.specs.declared.fault.Fault.{Fault}
+use Rattle.cmm_static_semantics.specs.Faults.{first_fault}
 use Rattle.cmm_static.specs.Faults.{IsFaultOf as IsStaticFault}
 use Rattle.cmm_static.specs.declared.fault.StaticFault.{StaticFault}
 use Rattle.cmm_static.specs.declared.fault.StaticFault.TheVariants as static_fault

@@ -7,8 +7,8 @@ use Rattle.cmm_ast.specs.declared.unit.Unit.{Unit as UnitTree}
 use Rattle.cmm_lexer.specs.Laws.{AreBytes}
 use Rattle.cmm_lexer.specs.Lexing.{tokens_of}
 use Rattle.cmm_lexer.specs.Places.{line_at, column_at}
-use Rattle.cmm_meaning.specs.Laws.{AreRead, IsReadFromBytes, TextsAreBytes}
-use Rattle.cmm_meaning.proofs.Shared.{are_read, read_texts_are_bytes}
+use Rattle.cmm_elaboration.specs.Laws.{AreRead, IsReadFromBytes, TextsAreBytes}
+use Rattle.cmm_elaboration.proofs.Shared.{are_read, read_texts_are_bytes}
 use Rattle.cmm_front.specs.Sources.{IsTreeOf, places_in}
 
 places_count : (unit : List ℕ) → length (places_in unit) ≡ suc (length (tokens_of unit))

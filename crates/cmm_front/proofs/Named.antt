@@ -5,14 +5,14 @@ use Rattle.std.specs.List.{All}
 use Rattle.std.proofs.lemmas.Option.{none-some}
 use Rattle.std.proofs.lemmas.List.Elements.{All-append, All-cons, All-head, All-nil, All-tail}
 use Rattle.cmm_ast.specs.declared.unit.Unit.{Unit as UnitTree}
-use Rattle.cmm_accepted.specs.declared.fault.Fault.{Fault}
-use Rattle.cmm_accepted.specs.declared.spot.Spot.{Spot}
-use Rattle.cmm_accepted.specs.Declarations.{NamedUnit, labels_in, named_units, procs_in, sum_of, units_from}
-use Rattle.cmm_accepted.specs.Items.{items_of}
-use Rattle.cmm_accepted.specs.Faults.{Placed, all_broken, at_beginning, broken_declarations, broken_names, broken_procedures, each_unit, fault_at, fault_of_all, first_fault, stands_before}
-use Rattle.cmm_accepted.specs.Linking.{has_main, program_of}
-use Rattle.cmm_accepted.specs.Limits.{sums_are_within}
-use Rattle.cmm_accepted.specs.Spots.{first_by, sooner_by}
+use Rattle.cmm_static_semantics.specs.declared.fault.Fault.{Fault}
+use Rattle.cmm_static_semantics.specs.declared.spot.Spot.{Spot}
+use Rattle.cmm_static_semantics.specs.Declarations.{NamedUnit, labels_in, named_units, procs_in, sum_of, units_from}
+use Rattle.cmm_static_semantics.specs.Items.{items_of}
+use Rattle.cmm_static_semantics.specs.Faults.{Placed, all_broken, at_beginning, broken_declarations, broken_names, broken_procedures, each_unit, fault_at, fault_of_all, first_fault, stands_before}
+use Rattle.cmm_static_semantics.specs.Linking.{has_main, program_of}
+use Rattle.cmm_static_semantics.specs.Limits.{sums_are_within}
+use Rattle.cmm_static_semantics.specs.Spots.{first_by, sooner_by}
 use Rattle.cmm_front.specs.declared.fault.FrontFault.{FrontFault}
 use Rattle.cmm_front.specs.Refusing.{IsFaultOf, IsOfFirst, IsRefused}
 use Rattle.cmm_front.specs.Sources.{HasTokens, HasTree, IsLexicalFault, IsSyntaxFault, IsTreeOf}

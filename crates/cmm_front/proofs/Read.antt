@@ -8,7 +8,7 @@ use Rattle.cmm_rules.specs.declared.rule.Rule.{Rule}
 use Rattle.cmm_rules.specs.declared.rule.Rule.TheVariants.{Syntax, TooDeep, UnitTooLong}
 use Rattle.cmm_rules.specs.Rules.{rule_number}
 use Rattle.cmm_lexer.specs.declared.tokens.TheConstants.{UNIT_LIMIT}
-use Rattle.cmm_accepted.specs.declared.fault.Fault.{Fault}
+use Rattle.cmm_static_semantics.specs.declared.fault.Fault.{Fault}
 use Rattle.cmm_ast.specs.declared.unit.Place.{Place}
 use Rattle.cmm_ast.specs.declared.unit.Unit.{Unit as UnitTree}
 use Rattle.cmm_ast.specs.Derivation.{DerivesWithin}

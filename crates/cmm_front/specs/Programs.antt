@@ -1,10 +1,10 @@
 -- Which program units mean.
 use Rattle.std.specs.Prelude.{◌≡◌, ℕ, List}
 use Rattle.std.specs.List.{AllZip}
-use Rattle.cmm_accepted.specs.Faults.{AreAccepted}
+use Rattle.cmm_static_semantics.specs.Faults.{AreAccepted}
 use Rattle.cmm_ast.specs.declared.unit.Unit.{Unit as UnitTree}
-use Rattle.cmm_meaning.specs.Meaning.{meaning_of}
-use Rattle.cmm_meaning.specs.Room.{KeepsRoom}
+use Rattle.cmm_elaboration.specs.Meaning.{meaning_of}
+use Rattle.cmm_elaboration.specs.Room.{KeepsRoom}
 use Rattle.cmm_program.specs.declared.program.Program.{Program}
 use Rattle.cmm_program.specs.InRange.{IsInRange}
 use Rattle.cmm_front.specs.Sources.{IsTreeOf}

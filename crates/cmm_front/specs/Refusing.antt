@@ -1,8 +1,8 @@
 -- Which fault is named of units: the first by phase, then by unit; of a unit by place and rule.
 use Rattle.std.specs.Prelude.{◌≡◌, ◌⊎◌, ℕ, suc, List, [], ◌∷◌, Some}
 use Rattle.std.specs.List.{All, AllZip}
-use Rattle.cmm_accepted.specs.declared.fault.Fault.{Fault}
-use Rattle.cmm_accepted.specs.Faults.{first_fault}
+use Rattle.cmm_static_semantics.specs.declared.fault.Fault.{Fault}
+use Rattle.cmm_static_semantics.specs.Faults.{first_fault}
 use Rattle.cmm_ast.specs.declared.unit.Unit.{Unit as UnitTree}
 use Rattle.cmm_front.specs.declared.fault.FrontFault.{FrontFault}
 use Rattle.cmm_front.specs.declared.fault.FrontFault.TheVariants.{At, Memory}

@@ -11,8 +11,8 @@ use crate::fault::FrontFault;
 use crate::tokens::tokens_of;
 use crate::trees::trees_of;
 use cmm_items::Items;
+use cmm_lower::lower;
 use cmm_program::Program;
-use cmm_resolved_units::lower;
 use cmm_static::check_units;
 use std::alloc::Global;
 
@@ -26,8 +26,8 @@ pub fn program_of(alloc: Global, units: &[Items<u8>]) -> Result<Program, FrontFa
     ensures err { IfErr result (IsRefused (IsFaultOf units.now)) }
     ensures named { 0 < length units.now → IfErr result (IsRefused (λ f. f.unit < length units.now)) }
 {
-    cmm_meaning::laws::registers_ascend();
-    cmm_meaning::laws::room_is_kept();
+    cmm_elaboration::laws::registers_ascend();
+    cmm_elaboration::laws::room_is_kept();
     let tokens = tokens_of(alloc, units)?;
     let trees = trees_of(alloc, tokens.as_slice())?;
     let checked = check_units(alloc, trees.as_slice())?;

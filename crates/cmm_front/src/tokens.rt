@@ -11,10 +11,10 @@ ghost use Rattle.cmm_front.specs.Refusing.{BreaksLexis, IsRefused};
 ghost use Rattle.cmm_front.specs.Sources.{IsLexicalFault};
 
 use crate::fault::FrontFault;
-use cmm_accepted::Fault;
 use cmm_items::Items;
 use cmm_lexer::{LexFault, Tokens, lex};
 use cmm_rules::Rule;
+use cmm_static_semantics::Fault;
 use std::alloc::Global;
 
 /// The rule of a number that some rule has.

@@ -9,12 +9,12 @@ ghost use Rattle.cmm_front.specs.Sources.{HasTree, IsSyntaxFault, IsTreeOf};
 
 use crate::fault::FrontFault;
 use crate::tokens::rule_of;
-use cmm_accepted::Fault;
 use cmm_ast::Unit;
 use cmm_items::Items;
 use cmm_lexer::Tokens;
 use cmm_parser::{SyntaxFault, parse};
 use cmm_rules::Rule;
+use cmm_static_semantics::Fault;
 use std::alloc::Global;
 
 /// A rule that is broken at a token of a unit with a number, or past the last one at the end of the unit.

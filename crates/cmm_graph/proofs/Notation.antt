@@ -83,6 +83,6 @@ graph variables temporaries kinds continuations = record {
 
 -- ---- runs
 
--- where a run without input is after so many steps
+-- where a run without input is after n steps
 abbrev pub status_after : List Graph → Setting → ℕ → Status
 status_after graphs setting steps = (graph_state_after graphs setting [] steps).store.status

@@ -1,4 +1,4 @@
--- How many tokens a node has at least, for what its code brings, moves and tests. A procedure has so many in its text.
+-- How many tokens a node has at least, for what its code brings, moves and tests. A procedure has n in its text.
 use Rattle.std.specs.Prelude.{ℕ, suc, ◌+◌, ◌&&◌, ◌||◌, max, nat_le, nat_lt, Bool, true, false, length}
 use Rattle.std.specs.List.{flat_map}
 use Rattle.cmm_words.specs.declared.constant.Constant.TheVariants as constant
@@ -49,7 +49,7 @@ least_for (rvalue.Binary operator width left right) = operator_tokens width left
 least_for (rvalue.Compare test) = operator_tokens test.width test.left test.right
 least_for _ = 1
 
--- The least of a node, where its procedure has so many. An Entry has as many as the procedure. One that passes values has one for each, and one for
+-- The least of a node, where its procedure has n. An Entry has as many as the procedure. One that passes values has one for each, and one for
 -- each exit that leads back to a continuation.
 abbrev pub least_tokens : ℕ → NodeKind → ℕ
 least_tokens whole (Entry formals next) = max whole (length formals + 3)
@@ -64,6 +64,6 @@ least_tokens whole (Cut to arguments own) = length arguments + 2
 least_tokens whole (Return exit alternates results) = length results + 2
 least_tokens whole _ = 1
 
--- a node of a procedure with so many tokens has enough
+-- a node of a procedure with n tokens has enough
 abbrev pub covers : ℕ → Node → Bool
 covers whole node = nat_le (least_tokens whole node.kind) node.tokens

@@ -15,7 +15,7 @@ pub enum Local {
 /// What a node needs, as a word.
 #[derive(Clone, Copy, Debug, PartialEq, Eq)]
 pub enum Operand {
-    /// A number, or the address of a procedure or of a data label, so many bytes on.
+    /// A number, or the address of a procedure or of a data label with a number of bytes added.
     Constant(Constant),
     /// The value of a local.
     Local(Local),

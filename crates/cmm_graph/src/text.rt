@@ -70,7 +70,7 @@ impl fmt::Display for Local {
     }
 }
 
-/// A number, or a procedure or a data label and so many bytes on.
+/// A number, or a procedure or a data label with a number of bytes added.
 fn write_constant<W: fmt::Write>(constant: Constant, f: &mut fmt::Formatter<W>) -> fmt::Result {
     match constant {
         Constant::Number(word, _) => write!(f, "{word}"),

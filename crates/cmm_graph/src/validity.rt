@@ -11,7 +11,7 @@ use crate::number::{ContinuationId, NodeId, Temporary, Variable};
 use crate::operand::{Argument, Comparison, Destination, Local, Operand, Rvalue};
 use cmm_program::Target;
 
-/// Whether words may be aligned to so many bytes.
+/// Whether words may be aligned to this number of bytes.
 fn is_alignment(bytes: u32) -> bool
     ensures { result ≡ is_alignment bytes }
 {

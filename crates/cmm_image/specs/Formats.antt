@@ -38,7 +38,7 @@ number_at width bytes = elim (nat_lt (length bytes) width) [
   | false ↦ Ok (little_number width bytes, drop width bytes)
 ]
 
--- a number of so many bytes, the lowest first
+-- a number of n bytes, the lowest first
 abbrev pub number : ℕ → Format ℕ
 number width = record { spelled = number_bytes width; Holds = λ n. n < 256 ^ width; at = number_at width }
 
@@ -48,7 +48,7 @@ block_at count bytes = elim (nat_lt (length bytes) count) [
   | false ↦ Ok (take count bytes, drop count bytes)
 ]
 
--- so many bytes
+-- n bytes
 abbrev pub block : ℕ → Format (List ℕ)
 block count = record { spelled = λ text. text; Holds = λ text. (length text ≡ count) × AreBytes text; at = block_at count }
 
@@ -62,7 +62,7 @@ text_at (count ∷ rest) = elim (nat_lt (length rest) count) [
   | false ↦ Ok (take count rest, drop count rest)
 ]
 
--- a count of one byte, and so many bytes
+-- a count of one byte, and n bytes
 abbrev pub text : Format (List ℕ)
 text = record { spelled = text_bytes; Holds = λ t. (length t < 256) × AreBytes t; at = text_at }
 
@@ -145,7 +145,7 @@ abbrev pub AreRows : {A : Type 0} → (Option A → A → Type 0) → Option A �
 AreRows Each previous [] = Unit {0}
 AreRows Each previous (a ∷ as_) = Each previous a × AreRows Each (Some a) as_
 
--- so many rows, each of a format that may depend on the row before
+-- n rows, each of a format that may depend on the row before
 abbrev pub rows : {A : Type 0} → (Option A → Format A) → ℕ → Format (List A)
 rows each count = record {
   spelled = flat_map (each None).spelled;

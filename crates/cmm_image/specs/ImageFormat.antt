@@ -285,7 +285,7 @@ site_fields s = (s.return_address, (s.procedure, (s.number, ((s.never_returns, s
 abbrev pub exits_in_code : ℕ → ℕ → ℕ → Bool
 exits_in_code code_length return_address n = is_in_code code_length (return_address + 4 * n)
 
--- the exits, places and spans of a site, in a procedure whose frame has a size and which has so many variables and continuations
+-- the exits, places and spans of a site, in a procedure whose frame has a size and which has n variables and continuations
 abbrev pub site_lists : ℕ → ℕ → ℕ → ℕ → ℕ → Format SiteLists
 site_lists code_length frame variables continuations return_address =
     counted (u8 when (formed (λ n. nat_le n 64) ∷ within (exits_in_code code_length return_address) ∷ [])) (continuation_number continuations)

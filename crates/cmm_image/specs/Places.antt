@@ -7,7 +7,7 @@ use Rattle.cmm_image.specs.declared.rows.VariablePlace.{VariablePlace}
 use Rattle.cmm_image.specs.declared.rows.VariablePlace.TheVariants.{Dead, Slot, Register}
 use Rattle.cmm_image.specs.Formats.{Format, Front, breaks, number_bytes}
 
--- so many bytes from an offset on lie in the frame
+-- n bytes from an offset on lie in the frame
 abbrev pub leaves : ℕ → ℕ → ℕ → Bool
 leaves count frame offset = nat_le (offset + count) frame
 

@@ -39,7 +39,7 @@ impl Bounds {
     }
 }
 
-/// Whether an address is that of an instruction of code of so many bytes.
+/// Whether an address is that of an instruction of code of this length, in bytes.
 pub(crate) fn is_code_address(length: u64, address: u64) -> bool
     ensures { result ≡ is_in_code length address }
 {

@@ -86,14 +86,14 @@ pub(crate) fn read_header(reader: &mut Reader<'_>) -> Result<Header, Unread>
     })
 }
 
-/// Whether code may have so many bytes.
+/// Whether code may have this length, in bytes.
 fn is_code_length(length: u64) -> bool
     ensures { result ≡ is_length_of_code length }
 {
     4 <= length && length <= CODE_LENGTH_LIMIT && length % 4 == 0
 }
 
-/// An address in code of so many bytes.
+/// An address in code of this length, in bytes.
 fn code_address(reader: &mut Reader<'_>, length: u64) -> Result<u64, Unread>
     ensures { Reads result ((u64 when (in_code length ∷ [])).at reader.old.rest.now) reader.new.rest.now }
 {
@@ -138,7 +138,7 @@ fn row_counts(reader: &mut Reader<'_>) -> Result<RowCounts, Unread>
     })
 }
 
-/// Whether an image may have so many procedures.
+/// Whether an image may have this number of procedures.
 fn is_procedure_count(count: u32) -> bool
     ensures { result ≡ is_count_of_procedures count }
 {

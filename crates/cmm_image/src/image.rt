@@ -10,7 +10,7 @@ use crate::search::place_among;
 use std::marker::Model;
 
 /// What the compiler makes of a program, and what runs. Its parts keep every rule of the format, so that they have bytes, and nothing more
-/// is asked of an image anywhere. Contracts see it as its parts.
+/// is required of an image anywhere. Contracts see it as its parts.
 #[derive(Debug, Drop)]
 pub struct Image {
     parts: ImageParts,

@@ -46,7 +46,7 @@ impl Read<Bounds> for SavedRegister {
     }
 }
 
-/// Whether so many bytes from an offset on lie in the frame.
+/// Whether `size` bytes from an offset on lie in the frame.
 pub(crate) fn leaves(count: u32, frame: u32, offset: u32) -> bool
     ensures { result ≡ leaves_in count frame offset }
 {

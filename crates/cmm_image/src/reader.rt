@@ -28,7 +28,7 @@ impl<'a> Reader<'a> {
         self.rest.len()
     }
 
-    /// The next so many bytes.
+    /// The next `count` bytes.
     #[tactic(auto, unfolding(crate::specs::Formats::block_at))]
     pub(crate) fn take(&mut self, count: usize) -> Result<&'a [u8], Unread>
         ensures { Sees (λ bytes. bytes.now) result (block_at count self.old.rest.now) self.new.rest.now }
@@ -95,7 +95,7 @@ impl<'a> Reader<'a> {
         Ok(number)
     }
 
-    /// A count of one byte and a name of so many bytes.
+    /// A count of one byte, and a name of as many bytes.
     #[tactic(auto, unfolding(crate::specs::Formats::text_at))]
     pub(crate) fn name(&mut self) -> Result<Name, Unread>
         ensures { Reads result (text_at self.old.rest.now) self.new.rest.now }
@@ -138,14 +138,14 @@ impl<'a> Reader<'a> {
     }
 }
 
-/// The answer that a rule is broken at the field from which on so many bytes are left.
+/// The answer that a rule is broken at the field from which on `left` bytes are left.
 pub(crate) fn broken(rule: Rule, left: usize) -> Unread
     ensures { result ≡ Unread.Breaks (record { rule = rule; left = left }) }
 {
     Unread::Breaks(Broken { rule, left })
 }
 
-/// Wants a condition of the field from which on so many bytes are left.
+/// Wants a condition of the field from which on `left` bytes are left.
 pub(crate) fn require(holds: bool, rule: Rule, left: usize) -> Result<(), Unread>
     ensures { MatchResult result (λ _. holds ≡ true) (λ why. (holds ≡ false) × (why ≡ Unread.Breaks (record { rule = rule; left = left }))) }
 {

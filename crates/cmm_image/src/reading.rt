@@ -39,7 +39,7 @@ pub fn read_image(alloc: Global, bytes: &[u8]) -> Result<Image, ImageFault>
     }
 }
 
-/// Why there is no image in so many bytes.
+/// Why there is no image in bytes of this count.
 fn fault(length: usize, why: Unread) -> ImageFault
     ensures { result ≡ fault_of length why }
 {

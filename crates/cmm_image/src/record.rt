@@ -44,7 +44,7 @@ pub(crate) fn read_rows<C, R: Read<C>>(
     Ok(Items::from_vec(rows))
 }
 
-/// A count of one byte, and so many records.
+/// A count of one byte, and as many records.
 pub(crate) fn read_rows8<C, R: Read<C>>(
     reader: &mut Reader<'_>,
     context: &C,
@@ -55,7 +55,7 @@ pub(crate) fn read_rows8<C, R: Read<C>>(
     read_rows(reader, context, usize::from(count))
 }
 
-/// A count of two bytes, and so many records.
+/// A count of two bytes, and as many records.
 pub(crate) fn read_rows16<C, R: Read<C>>(
     reader: &mut Reader<'_>,
     context: &C,

@@ -167,7 +167,7 @@ fn returns(
     read_rows(reader, bounds, usize::from(count))
 }
 
-/// Whether the normal return, behind so many alternate exits, lies in the code.
+/// Whether the normal return, behind `count` alternate exits, lies in the code.
 fn is_return_in_code(bounds: &Bounds, return_address: u64, count: u8) -> bool
     requires { IsTrue (is_in_code bounds.now.code_length return_address) }
     ensures { result ≡ exits_in_code bounds.now.code_length return_address count }

@@ -124,7 +124,7 @@ impl Read<Bounds> for VariablePlace {
     }
 }
 
-/// A slot: its offset, in the field from which on so many bytes are left.
+/// A slot: its offset, in the field from which on `left` bytes are left.
 fn slot_of(rest: &[u8], frame: u32, field: usize) -> Result<(VariablePlace, &[u8]), Unread>
     ensures { (bytes : List ℕ) → field ≡ length bytes → Places result (slot_at frame bytes rest.now) }
 {
@@ -136,7 +136,7 @@ fn slot_of(rest: &[u8], frame: u32, field: usize) -> Result<(VariablePlace, &[u8
     Ok((VariablePlace::Slot(offset), &rest[4..]))
 }
 
-/// A register, in the field from which on so many bytes are left.
+/// A register, in the field from which on `left` bytes are left.
 fn register_of(rest: &[u8], field: usize) -> Result<(VariablePlace, &[u8]), Unread>
     ensures { (bytes : List ℕ) → field ≡ length bytes → Places result (register_at bytes rest.now) }
 {

@@ -15,12 +15,12 @@ use Rattle.cmm_ast.specs.declared.statement.Part.TheVariants as parts
 use Rattle.cmm_ast.specs.declared.statement.StmtForm.{StmtForm}
 use Rattle.cmm_ast.specs.declared.statement.StmtForm.TheVariants as stmts
 use Rattle.cmm_rules.specs.declared.rule.Rule.{Rule}
-use Rattle.cmm_accepted.specs.declared.spot.Spot.{Spot}
-use Rattle.cmm_accepted.specs.Spots.{at, first_of}
-use Rattle.cmm_accepted.specs.Declarations.{Declared, Local, Variable, each_as, formal_name, is_variable, local_names, part_names, room_names, stmt_names}
-use Rattle.cmm_accepted.specs.Expressions.{past_limit}
-use Rattle.cmm_accepted.specs.Items.{parts_of}
-use Rattle.cmm_accepted.specs.Limits.{variables}
+use Rattle.cmm_static_semantics.specs.declared.spot.Spot.{Spot}
+use Rattle.cmm_static_semantics.specs.Spots.{at, first_of}
+use Rattle.cmm_static_semantics.specs.Declarations.{Declared, Local, Variable, each_as, formal_name, is_variable, local_names, part_names, room_names, stmt_names}
+use Rattle.cmm_static_semantics.specs.Expressions.{past_limit}
+use Rattle.cmm_static_semantics.specs.Items.{parts_of}
+use Rattle.cmm_static_semantics.specs.Limits.{variables}
 use Rattle.cmm_limits.specs.inside.VariableNames.{formal_names, local_variables, variable_names}
 
 -- the names of the variables among some declarations

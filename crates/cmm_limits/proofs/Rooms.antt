@@ -14,14 +14,14 @@ use Rattle.cmm_program.specs.Layout.{end_of}
 use Rattle.cmm_program.specs.Typing.{is_alignment}
 use Rattle.cmm_program.proofs.Shared.{aligned_up-grows}
 use Rattle.cmm_rules.specs.declared.rule.Rule.TheVariants.{Limit}
-use Rattle.cmm_accepted.specs.declared.spot.Spot.{Spot}
-use Rattle.cmm_accepted.specs.Spots.{first_of, unless}
-use Rattle.cmm_accepted.specs.Senses.{Senses}
-use Rattle.cmm_accepted.specs.Judging.{if_ok}
-use Rattle.cmm_accepted.specs.Scopes.{Scope, types}
-use Rattle.cmm_accepted.specs.Typing.{type_width}
-use Rattle.cmm_accepted.specs.Limits.{bytes_of, room_piece, room_limits}
-use Rattle.cmm_names.proofs.Shared.{first_of_append}
+use Rattle.cmm_static_semantics.specs.declared.spot.Spot.{Spot}
+use Rattle.cmm_static_semantics.specs.Spots.{first_of, unless}
+use Rattle.cmm_static_semantics.specs.Senses.{Senses}
+use Rattle.cmm_static_semantics.specs.Judging.{if_ok}
+use Rattle.cmm_static_semantics.specs.Scopes.{Scope, types}
+use Rattle.cmm_static_semantics.specs.Typing.{type_width}
+use Rattle.cmm_static_semantics.specs.Limits.{bytes_of, room_piece, room_limits}
+use Rattle.cmm_symbols.proofs.Shared.{first_of_append}
 use Rattle.cmm_limits.specs.inside.Ends.{IsWithin, form_piece}
 
 -- ---- sizes and alignments

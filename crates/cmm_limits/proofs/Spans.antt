@@ -19,13 +19,13 @@ use Rattle.cmm_ast.specs.declared.statement.Span.{Span as SwitchSpan}
 use Rattle.cmm_ast.specs.declared.statement.Stmt.{Stmt}
 use Rattle.cmm_ast.specs.declared.statement.StmtForm.{StmtForm, Row_of-Arm, end_of-Arm, more_of-Arm, items-the_row-Arm, items_hidden-the_row-Arm-2}
 use Rattle.cmm_ast.specs.declared.statement.StmtForm.TheVariants as stmts
-use Rattle.cmm_accepted.specs.Items.{SpanTree, Within, parts_in, part_within, parts_inside, parts_otherwise, parts_row}
-use Rattle.cmm_accepted.specs.Items as flat
-use Rattle.cmm_accepted.specs.Limits.{different, is_in, is_site, number_or_zero, site_tokens, sites_of, tokens_of}
-use Rattle.cmm_accepted.specs.Scopes.{Scope, senses}
-use Rattle.cmm_accepted.specs.Senses.{Senses}
-use Rattle.cmm_accepted.specs.Typing.{of_primary}
-use Rattle.cmm_names.proofs.Shared.{flat_plain}
+use Rattle.cmm_static_semantics.specs.Items.{SpanTree, Within, parts_in, part_within, parts_inside, parts_otherwise, parts_row}
+use Rattle.cmm_static_semantics.specs.Items as flat
+use Rattle.cmm_static_semantics.specs.Limits.{different, is_in, is_site, number_or_zero, site_tokens, sites_of, tokens_of}
+use Rattle.cmm_static_semantics.specs.Scopes.{Scope, senses}
+use Rattle.cmm_static_semantics.specs.Senses.{Senses}
+use Rattle.cmm_static_semantics.specs.Typing.{of_primary}
+use Rattle.cmm_symbols.proofs.Shared.{flat_plain}
 use Rattle.cmm_limits.specs.Capped.{capped}
 use Rattle.cmm_limits.specs.inside.InForce.{HasTokens, one_more, parts_of_arms, tokens_at}
 

@@ -8,14 +8,14 @@ use denote.Hole.Carrier as Carrier
 use Rattle.cmm_ast.specs.declared.unit.Item.{Item, Row_of-Item, end_of-Item, more_of-Item, items-the_row-Item, items_hidden-the_row-Item-0}
 use Rattle.cmm_ast.specs.declared.unit.Item.TheVariants as items
 use Rattle.cmm_ast.specs.declared.unit.Item.TheBlock as Items
-use Rattle.cmm_accepted.specs.Declarations.{NamedUnit, sum_of}
-use Rattle.cmm_accepted.specs.Items.{SpanTree, Within, item_within, items_within, parts_in}
-use Rattle.cmm_accepted.specs.Limits.{over_procs, site_tokens, site_variables, tokens_of}
-use Rattle.cmm_accepted.specs.Senses.{Senses}
-use Rattle.cmm_accepted.specs.Statements.{scope_of}
-use Rattle.cmm_names.specs.Shown.{alone, thing_item, whats}
-use Rattle.cmm_names.specs.declared.thing.Thing.{Thing}
-use Rattle.cmm_names.proofs.Shared.{flat_plain, mapped_next, sum_is}
+use Rattle.cmm_static_semantics.specs.Declarations.{NamedUnit, sum_of}
+use Rattle.cmm_static_semantics.specs.Items.{SpanTree, Within, item_within, items_within, parts_in}
+use Rattle.cmm_static_semantics.specs.Limits.{over_procs, site_tokens, site_variables, tokens_of}
+use Rattle.cmm_static_semantics.specs.Senses.{Senses}
+use Rattle.cmm_static_semantics.specs.Statements.{scope_of}
+use Rattle.cmm_symbols.specs.Shown.{alone, thing_item, whats}
+use Rattle.cmm_symbols.specs.declared.thing.Thing.{Thing}
+use Rattle.cmm_symbols.proofs.Shared.{flat_plain, mapped_next, sum_is}
 use Rattle.cmm_limits.specs.Capped.{capped}
 use Rattle.cmm_limits.specs.inside.OfUnits.{item_variables, spans_in}
 

@@ -1,6 +1,6 @@
-//! The limits on a procedure, and what the limits on sums over all units ask of it.
+//! Limits on a procedure, and its share of the limits on the whole program.
 //!
-//! `note_limits` notes what a procedure has past a limit: tokens, variables and stackdata, exactly as `cmm_accepted` has it. `variable_count`,
+//! `note_limits` notes what a procedure has past a limit: tokens, variables and stackdata, exactly as `cmm_static_semantics` has it. `variable_count`,
 //! `site_count` and `site_tokens` are numbers of a procedure, and `site_variables` and `site_spans` their sums over a unit. Time is linear, but
 //! that a token is looked for among those of the spans around it.
 //!

@@ -1,25 +1,25 @@
 //! The limits on a procedure.
-#![tactic(auto, using(cmm_names::proofs::Shared::first_of_append))]
+#![tactic(auto, using(cmm_symbols::proofs::Shared::first_of_append))]
 
 ghost use Rattle.std.specs.Prelude.{◌≡◌, ◌+◌, ◌-◌, nat_le, map, OnOk};
-ghost use Rattle.cmm_accepted.specs.Expressions.{past_limit};
-ghost use Rattle.cmm_accepted.specs.Limits as limits;
-ghost use Rattle.cmm_accepted.specs.Scopes.{senses};
-ghost use Rattle.cmm_accepted.specs.Senses.{Senses};
-ghost use Rattle.cmm_accepted.specs.Spots.{first_of, unless};
-ghost use Rattle.cmm_accepted.specs.Statements.{scope_of};
+ghost use Rattle.cmm_static_semantics.specs.Expressions.{past_limit};
+ghost use Rattle.cmm_static_semantics.specs.Limits as limits;
+ghost use Rattle.cmm_static_semantics.specs.Scopes.{senses};
+ghost use Rattle.cmm_static_semantics.specs.Senses.{Senses};
+ghost use Rattle.cmm_static_semantics.specs.Spots.{first_of, unless};
+ghost use Rattle.cmm_static_semantics.specs.Statements.{scope_of};
 ghost use Rattle.cmm_rules.specs.declared.rule.Rule.TheVariants.{Limit};
-ghost use Rattle.cmm_scopes.specs.Bodies.{scope_of_body};
+ghost use Rattle.cmm_proc_scope.specs.Bodies.{scope_of_body};
 ghost use Rattle.cmm_typing.specs.Fitting.{AreWords};
 
 use crate::stackdata::{note_rooms, rooms_of};
 use crate::variables::variables_of;
-use cmm_accepted::Spot;
 use cmm_ast::{Ident, Proc};
 use cmm_items::Items;
-use cmm_names::{pieces_of, unless};
+use cmm_proc_scope::BodyNames;
 use cmm_rules::Rule;
-use cmm_scopes::BodyNames;
+use cmm_static_semantics::Spot;
+use cmm_symbols::{pieces_of, unless};
 use cmm_typing::Names;
 use std::alloc::{AllocError, Global};
 

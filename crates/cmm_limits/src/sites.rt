@@ -1,12 +1,12 @@
 //! The call sites of a procedure.
 
 ghost use Rattle.std.specs.Prelude.{◌≡◌, ◌≤◌, length, map, IfOk};
-ghost use Rattle.cmm_accepted.specs.Items.{parts_of};
-ghost use Rattle.cmm_accepted.specs.Limits as limits;
-ghost use Rattle.cmm_names.specs.Shown.{piece_part};
+ghost use Rattle.cmm_static_semantics.specs.Items.{parts_of};
+ghost use Rattle.cmm_static_semantics.specs.Limits as limits;
+ghost use Rattle.cmm_symbols.specs.Shown.{piece_part};
 
 use cmm_ast::{Proc, StmtForm};
-use cmm_names::{Piece, pieces_of};
+use cmm_symbols::{Piece, pieces_of};
 use std::alloc::{AllocError, Global};
 
 /// Whether a statement is a call site.

@@ -2,21 +2,20 @@
 
 ghost use Rattle.std.specs.Prelude.{◌≡◌, ◌==◌, ◌*◌, ◌+◌, ◌++◌, [], ◌∷◌, ℕ, List, Bool, IfOk, OnOk};
 ghost use Rattle.std.specs.List.{list_any};
-ghost use Rattle.cmm_accepted.specs.Items.{SpanTree, part_within, parts_in, parts_inside, parts_otherwise};
-ghost use Rattle.cmm_accepted.specs.Limits as limits;
-ghost use Rattle.cmm_accepted.specs.Scopes.{senses};
-ghost use Rattle.cmm_accepted.specs.Typing.{of_primary};
+ghost use Rattle.cmm_static_semantics.specs.Items.{SpanTree, part_within, parts_in, parts_inside, parts_otherwise};
+ghost use Rattle.cmm_static_semantics.specs.Limits as limits;
+ghost use Rattle.cmm_static_semantics.specs.Scopes.{senses};
+ghost use Rattle.cmm_static_semantics.specs.Typing.{of_primary};
 ghost use Rattle.cmm_limits.specs.Capped.{capped};
 ghost use Rattle.cmm_limits.specs.inside.InForce.{AreInForce, HasTokens, one_more, parts_of_arms, tokens_at};
-ghost use Rattle.cmm_scopes.specs.Bodies.{scope_of_body};
+ghost use Rattle.cmm_proc_scope.specs.Bodies.{scope_of_body};
 ghost use Rattle.cmm_typing.specs.Fitting.{AreWords};
 
 use crate::sites::is_site;
 use cmm_ast::{Arm, Block, Otherwise, Part, Primary, Proc, Stmt, StmtForm};
 use cmm_items::Items;
-use cmm_scopes::BodyNames;
-use cmm_typing::Names;
-use cmm_wanted::number_of_primary;
+use cmm_proc_scope::BodyNames;
+use cmm_typing::{Names, number_of_primary};
 use std::alloc::{AllocError, Global};
 
 pub(crate) fn number_or_zero<N: Names>(names: &N, key: &Primary) -> u64
@@ -50,7 +49,7 @@ fn own_tokens(form: &StmtForm, different: u64) -> u64
     if is_site(form) { different } else { 0 }
 }
 
-/// The different tokens at each call site of a block, added up, where so many different ones are in force around it.
+/// The different tokens at each call site of a block, added up, where `around` different ones are in force around it.
 #[cycle(spans)]
 pub(crate) fn in_block<'a, N: Names>(
     block: &Block,
@@ -106,7 +105,7 @@ fn in_stmt<'a, N: Names>(
     Ok(own.saturating_add(inner))
 }
 
-/// The same of what stands inside a statement.
+/// The different tokens at each call site inside a statement, added up.
 #[cycle(spans)]
 fn in_form<'a, N: Names>(
     form: &StmtForm,

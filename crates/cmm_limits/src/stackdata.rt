@@ -1,27 +1,26 @@
 //! Where the stackdata of a procedure ends. What is broken takes no room.
-#![tactic(auto, using(cmm_names::proofs::Shared::first_of_append))]
+#![tactic(auto, using(cmm_symbols::proofs::Shared::first_of_append))]
 
 ghost use Rattle.std.specs.Prelude.{◌≡◌, ◌*◌, ◌<◌, ◌≤◌, ◌∷◌, ◌++◌, [], ℕ, nat_le, map, flat_map, IfOk, OnOk};
 ghost use Rattle.std.specs.Option.{ForSome};
-ghost use Rattle.cmm_accepted.specs.Limits as limits;
-ghost use Rattle.cmm_accepted.specs.Scopes.{senses, types};
-ghost use Rattle.cmm_accepted.specs.Spots.{first_of, unless};
+ghost use Rattle.cmm_static_semantics.specs.Limits as limits;
+ghost use Rattle.cmm_static_semantics.specs.Scopes.{senses, types};
+ghost use Rattle.cmm_static_semantics.specs.Spots.{first_of, unless};
 ghost use Rattle.cmm_limits.specs.inside.Ends.{IsWithin, form_piece, rooms_in};
 ghost use Rattle.cmm_limits.specs.Rooms.{words_in};
-ghost use Rattle.cmm_names.specs.Shown.{piece_part};
+ghost use Rattle.cmm_symbols.specs.Shown.{piece_part};
 ghost use Rattle.cmm_program.specs.Layout.{aligned_up, end_of};
 ghost use Rattle.cmm_rules.specs.declared.rule.Rule.TheVariants.{Limit};
-ghost use Rattle.cmm_scopes.specs.Bodies.{scope_of_body};
+ghost use Rattle.cmm_proc_scope.specs.Bodies.{scope_of_body};
 ghost use Rattle.cmm_typing.specs.Fitting.{AreWords};
 
-use cmm_accepted::Spot;
 use cmm_ast::{Expr, Int, LocalForm, Room, RoomForm, TypeName};
 use cmm_items::Items;
-use cmm_names::{Piece, unless};
+use cmm_proc_scope::BodyNames;
 use cmm_rules::Rule;
-use cmm_scopes::BodyNames;
-use cmm_typing::Names;
-use cmm_wanted::{is_alignment, number_of, width_of};
+use cmm_static_semantics::Spot;
+use cmm_symbols::{Piece, unless};
+use cmm_typing::{Names, is_alignment, number_of, width_of};
 use std::alloc::{AllocError, Global};
 
 /// The most bytes that the stackdata of a procedure may have, with its padding: 64 KiB.
@@ -37,7 +36,7 @@ fn aligned_up(align: u64, place: u64) -> u64
     (place + (align - 1)) / align * align
 }
 
-/// Where so many words of a size end from a place on, unless that is past the limit.
+/// Where a count of words of a size ends from an offset on, unless that is past the limit.
 fn laid(place: u64, align: u64, size: u64, count: u64) -> Option<u64>
     requires place { place ≤ 65536 }
     requires align { 0 < align }

@@ -1,11 +1,11 @@
 //! The tokens that have a span at the call sites of a unit.
 
 ghost use Rattle.std.specs.Prelude.{◌≡◌, [], List, flat_map, ℕ, IfOk, OnOk};
-ghost use Rattle.cmm_accepted.specs.Declarations.{NamedUnit};
-ghost use Rattle.cmm_accepted.specs.Items.{SpanTree, item_within, items_of, parts_in, top_items};
-ghost use Rattle.cmm_accepted.specs.Limits as limits;
-ghost use Rattle.cmm_accepted.specs.Limits.{tokens_of};
-ghost use Rattle.cmm_accepted.specs.Statements.{scope_of};
+ghost use Rattle.cmm_static_semantics.specs.Declarations.{NamedUnit};
+ghost use Rattle.cmm_static_semantics.specs.Items.{SpanTree, item_within, items_of, parts_in, top_items};
+ghost use Rattle.cmm_static_semantics.specs.Limits as limits;
+ghost use Rattle.cmm_static_semantics.specs.Limits.{tokens_of};
+ghost use Rattle.cmm_static_semantics.specs.Statements.{scope_of};
 ghost use Rattle.cmm_limits.specs.Capped.{capped};
 ghost use Rattle.cmm_limits.specs.inside.InForce.{HasTokens};
 ghost use Rattle.cmm_limits.specs.inside.OfUnits.{spans_in};
@@ -14,11 +14,11 @@ ghost use Rattle.cmm_typing.specs.Fitting.{AreWords};
 use crate::span_tokens::{in_block, number_or_zero, with_one_more};
 use cmm_ast::{Item, Proc, TopLevel, Unit};
 use cmm_items::Items;
-use cmm_scopes::names_of;
+use cmm_proc_scope::names_of;
 use cmm_typing::Names;
 use std::alloc::{AllocError, Global};
 
-/// The different tokens at each call site of a procedure, added up, where so many different ones are in force around it.
+/// The different tokens at each call site of a procedure, added up, where `around` different ones are in force around it.
 fn in_proc<'a, N: Names>(
     alloc: Global,
     names: &'a N,
@@ -36,7 +36,7 @@ fn in_proc<'a, N: Names>(
     in_block(&proc.body, &own, tokens, different)
 }
 
-/// The same of each procedure of an item.
+/// The different tokens at each call site of each procedure of an item, added up.
 #[cycle(sections)]
 fn in_item<'a, N: Names>(
     alloc: Global,

@@ -1,18 +1,18 @@
 //! The variables at the call sites of a unit.
 
 ghost use Rattle.std.specs.Prelude.{◌≡◌, map, IfOk};
-ghost use Rattle.cmm_accepted.specs.Declarations.{NamedUnit, sum_of};
-ghost use Rattle.cmm_accepted.specs.Items.{items_of};
-ghost use Rattle.cmm_accepted.specs.Limits as limits;
-ghost use Rattle.cmm_accepted.specs.Senses.{Senses};
+ghost use Rattle.cmm_static_semantics.specs.Declarations.{NamedUnit, sum_of};
+ghost use Rattle.cmm_static_semantics.specs.Items.{items_of};
+ghost use Rattle.cmm_static_semantics.specs.Limits as limits;
+ghost use Rattle.cmm_static_semantics.specs.Senses.{Senses};
 ghost use Rattle.cmm_limits.specs.Capped.{capped};
 ghost use Rattle.cmm_limits.specs.inside.OfUnits.{item_variables};
-ghost use Rattle.cmm_names.specs.Shown.{alone, thing_item};
+ghost use Rattle.cmm_symbols.specs.Shown.{alone, thing_item};
 
 use crate::sites::site_count;
 use crate::variables::variable_count;
 use cmm_ast::{Item, Proc, Unit};
-use cmm_names::{Thing, things_of};
+use cmm_symbols::{Thing, things_of};
 use std::alloc::{AllocError, Global};
 
 /// For each call site of a procedure its variables, added up.

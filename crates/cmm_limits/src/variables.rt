@@ -1,13 +1,13 @@
 //! The variables of a procedure.
 
 ghost use Rattle.std.specs.Prelude.{◌≡◌, ◌++◌, length, map, flat_map, IfOk, OnOk};
-ghost use Rattle.cmm_accepted.specs.Limits.{variables};
+ghost use Rattle.cmm_static_semantics.specs.Limits.{variables};
 ghost use Rattle.cmm_limits.specs.inside.VariableNames.{formal_names, local_variables, variable_names};
-ghost use Rattle.cmm_names.specs.Shown.{piece_part};
+ghost use Rattle.cmm_symbols.specs.Shown.{piece_part};
 
 use cmm_ast::{Formal, Ident, LocalForm, Proc};
 use cmm_items::Items;
-use cmm_names::{Piece, pieces_of};
+use cmm_symbols::{Piece, pieces_of};
 use std::alloc::{AllocError, Global};
 
 fn add_formals<'a>(formals: &'a [Formal], to: &mut Items<&'a Ident>) -> Result<(), AllocError>

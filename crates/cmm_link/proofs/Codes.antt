@@ -8,8 +8,8 @@ use Rattle.cmm_program.specs.declared.procedure.Proc.{Proc}
 use Rattle.cmm_data.specs.declared.fix.Fix.{Fix}
 use Rattle.cmm_data.specs.Laws.{FixesAreFilled}
 use Rattle.cmm_data.specs.Filling.{AreApart, code_in, filled, fix_value, with_value}
-use Rattle.cmm_places.specs.declared.procedure.ProcedurePlaces.{ProcedurePlaces}
-use Rattle.cmm_places.specs.Placing.{placement_rows}
+use Rattle.cmm_allocate.specs.declared.procedure.ProcedurePlaces.{ProcedurePlaces}
+use Rattle.cmm_allocate.specs.Placing.{placement_rows}
 use Rattle.cmm_link.specs.Linked.{HaveFrames}
 
 abbrev no_row : PlaceRow

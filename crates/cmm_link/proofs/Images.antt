@@ -18,7 +18,7 @@ use Rattle.cmm_image.specs.declared.rows.SiteRow.{SiteRow}
 use Rattle.cmm_image.specs.Formats.{AreBytes, AreRows}
 use Rattle.cmm_image.specs.ImageFormat.{global, header, image, image_header, is_code_length, label, procedure}
 use Rattle.cmm_image.specs.Images.{IsImage}
-use Rattle.cmm_places.specs.declared.procedure.ProcedurePlaces.{ProcedurePlaces}
+use Rattle.cmm_allocate.specs.declared.procedure.ProcedurePlaces.{ProcedurePlaces}
 use Rattle.cmm_unit_code.specs.declared.text.Text.{Text}
 use Rattle.cmm_link.specs.Labels.{AreLabelsOf, exports, names_ascend}
 use Rattle.cmm_link.specs.Linked.{HaveFrames, IsDataOf, IsImageOf}
@@ -33,7 +33,7 @@ use Rattle.cmm_link.proofs.ProcedureRows.{address_small, name_short}
 use Rattle.cmm_link.proofs.ProcedureTable.{rows_counted, table_holds}
 use Rattle.cmm_link.proofs.Sizes.{globals_long, header_long, labels_long, table_long}
 
--- what is asked of what they are made from
+-- what is required of what they are made from
 pub record AreGiven (p : Program) (places : List ProcedurePlaces) (d : DataImage) (t : Text) : Type 0 where
   pub range : IsInRange p
   pub frames : HaveFrames p.procs places

@@ -69,7 +69,7 @@ pub code_pushed : (value : ℕ → ℕ) (us : List UnitCode) (u : UnitCode) →
     joined_code value code_base (us ++ u ∷ []) ≡ joined_code value code_base us ++ filled value (code_base + size us) u.fixes u.code
 code_pushed value = pushed (λ at u. filled value at u.fixes u.code) (joined_code value) (λ at. refl) (λ at u us. refl) code_base
 
--- landings in a unit that ends within so many bytes have addresses there
+-- landings in a unit that ends within n bytes have addresses there
 pub landings_within : (us : List UnitCode) (i at : ℕ) (u : UnitCode) → All IsWhole us → code_base + size us ≤ 2 ^ 30 → i < length us → u ≡ get_or us i u →
     at ≡ code_base + size (take i us) → All (All (λ offset. at + offset ≤ 2 ^ 30)) u.landings
 landings_within us i at u whole room within is so_far =

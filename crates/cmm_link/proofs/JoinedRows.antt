@@ -47,7 +47,7 @@ is_joined = record { procedures = refl; landings = refl; code = refl; start = re
 symbols : map (symbol_value 1 (0x40000008 ∷ []) joined.procedures) (0 ∷ 1 ∷ 2 ∷ 3 ∷ 4 ∷ 5 ∷ []) ≡ 448 ∷ 0x40000008 ∷ 0x10000 ∷ 0x1000c ∷ 0x10010 ∷ 0 ∷ []
 symbols = refl
 
--- what is asked of units can be met
+-- what is required of units can be met
 within : (size offset : ℕ) → offset ≤ size → (offsets : List ℕ) → All (λ place. place ≤ size) offsets → All (λ place. place ≤ size) (offset ∷ offsets)
 within size offset less offsets = All-cons (λ place. place ≤ size) offset offsets less
 

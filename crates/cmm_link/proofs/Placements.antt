@@ -7,8 +7,8 @@ use Rattle.cmm_program.specs.declared.procedure.Proc.{Proc}
 use Rattle.rv_table.specs.Memory.{code_base}
 use Rattle.cmm_chain.specs.declared.frame.Frame.{Frame}
 use Rattle.cmm_located.specs.Layouts.{row_with}
-use Rattle.cmm_places.specs.declared.procedure.ProcedurePlaces.{ProcedurePlaces}
-use Rattle.cmm_places.specs.Placing.{placement_rows}
+use Rattle.cmm_allocate.specs.declared.procedure.ProcedurePlaces.{ProcedurePlaces}
+use Rattle.cmm_allocate.specs.Placing.{placement_rows}
 use Rattle.cmm_link.specs.Laws.{ImagesShowPlacements, PlacesHaveFrames}
 use Rattle.cmm_link.specs.Linked.{HaveFrames}
 use Rattle.cmm_link.specs.Placements.{place_row_of}

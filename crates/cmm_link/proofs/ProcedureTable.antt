@@ -11,7 +11,7 @@ use Rattle.cmm_program.specs.InRange.{IsProcInRange}
 use Rattle.cmm_image.specs.declared.rows.ProcRow.{ProcRow}
 use Rattle.cmm_image.specs.Formats.{AreRows}
 use Rattle.cmm_image.specs.ImageFormat.{is_above, is_in_code, procedure}
-use Rattle.cmm_places.specs.declared.procedure.ProcedurePlaces.{ProcedurePlaces}
+use Rattle.cmm_allocate.specs.declared.procedure.ProcedurePlaces.{ProcedurePlaces}
 use Rattle.cmm_link.specs.Linked.{HaveFrames}
 use Rattle.cmm_link.specs.Rows.{procedure_row, procedure_rows}
 use Rattle.cmm_unit_code.specs.Texts.{HasLandings, ascend_above}

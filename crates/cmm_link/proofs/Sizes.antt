@@ -22,7 +22,7 @@ use Rattle.cmm_image.specs.Formats.{AreRows, number_bytes, optional_number, text
 use Rattle.cmm_image.specs.ImageFormat.{continuation, global, header, image_header, label, no_return, one_if, procedure, saved_register, stack_label, variable, variable_number}
 use Rattle.cmm_image.proofs.Shared.{length-number_bytes}
 use Rattle.cmm_located.specs.Layouts.{IsFrameOf}
-use Rattle.cmm_places.specs.declared.procedure.ProcedurePlaces.{ProcedurePlaces}
+use Rattle.cmm_allocate.specs.declared.procedure.ProcedurePlaces.{ProcedurePlaces}
 use Rattle.cmm_link.specs.Linked.{HaveFrames}
 use Rattle.cmm_link.specs.Rows.{procedure_row, procedure_rows, stack_label_row, variable_row}
 use Rattle.cmm_link.proofs.Frames.{frame_fits}
@@ -43,7 +43,7 @@ text_then text rest = omega (arith, length-append (text_bytes text) rest, text_l
 
 -- ---- rows
 
--- rows of which none is longer than so many bytes
+-- rows of which none is longer than n bytes
 rows_long : {A : Type 0} (Each : Option A → A → Type 0) (spelled : A → List ℕ) (most : ℕ) → ((previous : Option A) (a : A) → Each previous a → length (spelled a) ≤ most) →
     (previous : Option A) (rows : List A) → AreRows Each previous rows → length (flat_map spelled rows) ≤ most * length rows
 rows_long Each spelled most one previous [] are = omega arith

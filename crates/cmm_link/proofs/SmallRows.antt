@@ -1,4 +1,4 @@
--- A worked row: what is asked of a program, its frames, its data and its code is met by a small one, and these are the rows of its image.
+-- A worked row: what is required of a program, its frames, its data and its code is met by a small one, and these are the rows of its image.
 --     export t as "u"; register bits32 g; section "data" { t: bits64 { main }; }
 --     main() { bits64 x; return (x); continuation k(x): return (x); }
 use Rattle.std.proofs.Common.{◌≡◌, ℕ, false, IsTrue, List, [], ◌∷◌, None, Some, refl, ap, lit<, lit≤}
@@ -19,8 +19,8 @@ use Rattle.cmm_located.specs.Layouts.{IsFrameOf}
 use Rattle.cmm_data.specs.declared.layout.DataImage.{DataImage}
 use Rattle.cmm_image.specs.declared.rows.LabelRow.{LabelRow}
 use Rattle.cmm_image.specs.declared.rows.ProcRow.{ProcRow}
-use Rattle.cmm_places.specs.declared.procedure.ProcedurePlaces.{ProcedurePlaces}
-use Rattle.cmm_places.specs.Placing.{placement_rows}
+use Rattle.cmm_allocate.specs.declared.procedure.ProcedurePlaces.{ProcedurePlaces}
+use Rattle.cmm_allocate.specs.Placing.{placement_rows}
 use Rattle.cmm_unit_code.specs.declared.text.Text.{Text}
 use Rattle.cmm_link.specs.Labels.{exports, names_ascend}
 use Rattle.cmm_link.specs.Linked.{IsDataOf}

@@ -7,8 +7,8 @@ use Rattle.cmm_program.specs.declared.procedure.Proc.{Proc}
 use Rattle.cmm_program.specs.declared.program.Program.{Program}
 use Rattle.cmm_program.specs.Layout.{data_bytes, end_before, label_addresses}
 use Rattle.cmm_located.specs.Layouts.{IsFrameOf}
-use Rattle.cmm_places.specs.declared.procedure.ProcedurePlaces.{ProcedurePlaces}
-use Rattle.cmm_places.specs.Placing.{placement_rows}
+use Rattle.cmm_allocate.specs.declared.procedure.ProcedurePlaces.{ProcedurePlaces}
+use Rattle.cmm_allocate.specs.Placing.{placement_rows}
 use Rattle.cmm_data.specs.declared.layout.DataImage.{DataImage}
 use Rattle.cmm_data.specs.Filling.{AreApart, code_in, filled}
 use Rattle.cmm_image.specs.declared.parts.ImageParts.{ImageParts}

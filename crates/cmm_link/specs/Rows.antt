@@ -13,7 +13,7 @@ use Rattle.cmm_image.specs.declared.rows.SavedRegister.{SavedRegister}
 use Rattle.cmm_image.specs.declared.rows.StackLabelRow.{StackLabelRow}
 use Rattle.cmm_image.specs.declared.rows.VariableNumber.{VariableNumber}
 use Rattle.cmm_image.specs.declared.rows.VariableRow.{VariableRow}
-use Rattle.cmm_places.specs.declared.procedure.ProcedurePlaces.{ProcedurePlaces}
+use Rattle.cmm_allocate.specs.declared.procedure.ProcedurePlaces.{ProcedurePlaces}
 
 -- ---- parts of procedures
 

@@ -146,7 +146,7 @@ fn joined_code(
     Ok(Items::from_vec(joined))
 }
 
-/// Joins the code of units to one text, one behind another, and fills in what symbols stand for: the global registers, of which there are so many,
+/// Joins the code of units to one text, one behind another, and fills in what symbols stand for: the `globals` global registers,
 /// then the data labels, which have these addresses, then the procedures. `last` is where, in bytes from the beginning, the call of main comes
 /// back. An error is want of memory.
 pub(crate) fn join(

@@ -2,7 +2,7 @@
 
 ghost use Rattle.std.specs.Prelude.{◌≡◌, IsTrue, IfOk, map};
 ghost use Rattle.cmm_program.specs.InRange.{IsInRange};
-ghost use Rattle.cmm_places.specs.Placing.{placement_rows};
+ghost use Rattle.cmm_allocate.specs.Placing.{placement_rows};
 ghost use Rattle.cmm_unit_code.specs.Joined.{CanBeJoined, IsTextOf};
 ghost use Rattle.cmm_link.specs.Labels.{names_ascend};
 ghost use Rattle.cmm_link.specs.Linked.{HaveFrames, IsDataOf, IsImageOf};
@@ -18,10 +18,10 @@ use crate::joining::join;
 use crate::labels::label_rows;
 use crate::names::know_bytes;
 use crate::procedures::procedure_rows;
+use cmm_allocate::ProcedurePlaces;
 use cmm_data::DataImage;
 use cmm_image::{Image, ImageParts};
 use cmm_items::Items;
-use cmm_places::ProcedurePlaces;
 use cmm_program::Program;
 use cmm_unit_code::{ProgramCode, Text};
 use std::alloc::{AllocError, Global};

@@ -6,12 +6,12 @@ ghost use Rattle.cmm_link.specs.inside.Named.{AreShort, HasByteKind, HasShortPar
 ghost use Rattle.cmm_link.specs.Rows.{continuation_rows, parameter, procedure_row, procedure_rows, saved_row, stack_label_row, variable_row};
 
 use crate::names::copy;
+use cmm_allocate::ProcedurePlaces;
 use cmm_chain::Frame;
 use cmm_image::{
     ContinuationRow, ProcRow, SavedRegister, StackLabelRow, VariableNumber, VariableRow,
 };
 use cmm_items::Items;
-use cmm_places::ProcedurePlaces;
 use cmm_program::{Cont, Proc, VarInfo};
 use std::alloc::{AllocError, Global};
 

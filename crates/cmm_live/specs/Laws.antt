@@ -1,4 +1,4 @@
--- What a layer that gives locals places asks of a liveness: the sets are closed along the paths of the graph.
+-- What a layer that gives locals places requires of a liveness: the sets are closed along the paths of the graph.
 use Rattle.std.specs.Prelude.{◌≡◌, ◌↔◌, true, IsTrue, Contains, Some}
 use Rattle.cmm_graph.specs.declared.number.NodeId.{NodeId}
 use Rattle.cmm_graph.specs.declared.number.SiteId.{SiteId}

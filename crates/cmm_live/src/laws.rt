@@ -2,7 +2,7 @@
 
 ghost use Rattle.cmm_live.specs.Laws.{SetsAreClosed, SetsDecideConflicts};
 
-/// The sets are closed along the paths of the graph, which is all that a layer that gives locals places asks of a liveness.
+/// The sets are closed along the paths of the graph, which is all that a layer that gives locals places requires of a liveness.
 pub fn sets_are_closed()
     ensures { SetsAreClosed }
 {}

@@ -15,7 +15,7 @@
 //! - `worklist`: the nodes that are still to be looked at.
 //! - `fixed_point`: the least sets that solve the equations.
 //! - `sites`: from sets before nodes to those of call sites.
-//! - `laws`: what a layer that gives locals places asks of a liveness.
+//! - `laws`: what a layer that gives locals places requires of a liveness.
 #![tactic(auto)]
 
 mod equation;

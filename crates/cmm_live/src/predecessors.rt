@@ -7,7 +7,7 @@ use cmm_graph::{Graph, NodeId};
 use cmm_items::Items;
 use std::alloc::{AllocError, Global};
 
-/// An empty list for each of so many nodes.
+/// An empty list for each of `count` nodes.
 fn empty_lists(alloc: Global, count: usize) -> Result<Vec<Items<usize>>, AllocError>
     ensures { IfOk result (λ lists. lists.items ≡ replicate count []) }
 {

@@ -13,7 +13,7 @@ pub struct Worklist {
     pub waits: Vec<bool>,
 }
 
-/// The node that is put into a list of all of so many nodes after so many others: each in its order, or from the last on.
+/// The node that is put at an index into a list of all of `count` nodes: each in its order, or from the last on.
 fn nth(index: usize, count: usize, ascending: bool) -> usize
     requires { index < count }
     ensures { result ≡ (if ascending then index else (count - 1 - index)) }
@@ -22,7 +22,7 @@ fn nth(index: usize, count: usize, ascending: bool) -> usize
 }
 
 impl Worklist {
-    /// All of so many nodes. The last comes first, or else the first.
+    /// All of `count` nodes. The last comes first, or else the first.
     pub fn of_all(alloc: Global, count: usize, last_first: bool) -> Result<Worklist, AllocError>
         ensures { IfOk result (λ list. IsList list.nodes.items list.waits.items × (list.waits.items ≡ replicate count true)) }
     {

@@ -15,10 +15,10 @@ use Rattle.cmm_program.specs.Orders.{Order, Word}
 use Rattle.cmm_program.specs.Performing.{Transfer, Away, perform, procedure_from}
 use Rattle.cmm_program.specs.State.{Setting, Activation, Store, stack_top}
 use Rattle.cmm_program.specs.Writes.{reads_of}
-use Rattle.cmm_laws.specs.Landings.{begun_above}
-use Rattle.cmm_laws.specs.Observed.{store_seen}
-use Rattle.cmm_laws.specs.Transfers.{Enters, EntersAt, EntersNot}
-use Rattle.cmm_laws.proofs.Shared.{call_enters, entering_lands, jump_enters}
+use Rattle.cmm_machine_laws.specs.Landings.{begun_above}
+use Rattle.cmm_machine_laws.specs.Observed.{store_seen}
+use Rattle.cmm_machine_laws.specs.Transfers.{Enters, EntersAt, EntersNot}
+use Rattle.cmm_machine_laws.proofs.Shared.{call_enters, entering_lands, jump_enters}
 use Rattle.cmm_graph.specs.declared.number.NodeId.{NodeId}
 use Rattle.cmm_graph.specs.declared.number.SiteId.{SiteId}
 use Rattle.cmm_graph.specs.declared.operand.Argument.{Argument}
@@ -88,7 +88,7 @@ module _ (s : Setting) (c : Compiled) (live : Liveness) (frames : HasFrames s c)
   abbrev Before : State Position
   Before = state_of store a older p ps
 
-  -- a step that does not go wrong is two steps over places
+  -- a step that does not go wrong is two steps over locations
   abbrev pub IsMoved : Type 0
   IsMoved = wrong_in (graph_step c.graphs s Before).store ≡ false → Moves s c live most Before (graph_step c.graphs s Before) (located_step s c There)
 

@@ -9,9 +9,9 @@ use Rattle.cmm_program.specs.Control.{next_act, transferred}
 use Rattle.cmm_program.specs.Errors.{UncheckedError}
 use Rattle.cmm_program.specs.State.{Setting, Status, Store, Running, Waiting, Ended, Wrong}
 use Rattle.cmm_program.proofs.Shared.{youngest_is}
-use Rattle.cmm_laws.specs.Alike.{AreAlike, LeftAlike}
-use Rattle.cmm_laws.specs.Observed.{event_at, store_seen}
-use Rattle.cmm_laws.proofs.Shared.{answers_are_alike}
+use Rattle.cmm_machine_laws.specs.Alike.{AreAlike, LeftAlike}
+use Rattle.cmm_machine_laws.specs.Observed.{event_at, store_seen}
+use Rattle.cmm_machine_laws.proofs.Shared.{answers_are_alike}
 use Rattle.cmm_graph.specs.Acting.{act_of}
 use Rattle.cmm_graph.specs.GraphControl.{Position, graph_control, kind_at}
 use Rattle.cmm_graph.specs.GraphMachine.{graph_step}
@@ -32,7 +32,7 @@ module _ (s : Setting) (c : Compiled) (live : Liveness) (most : ℕ) (compiled :
   parted : (x : Store) (at : Located) → Stands s c ps x at → at ≡ waiting_of x at.holdings at.procedure at.node at.carried
   parted x at stands = ap (λ store. record at { store = store }) stands.store
 
-  -- a state over places by its parts
+  -- a located state by its parts
   by_parts : (x : Store) (Q : Located → Type 0) (at : Located) → Stands s c ps x at → Q (waiting_of x at.holdings at.procedure at.node at.carried) → Q at
   by_parts x Q at stands holds = subst Q (sym (parted x at stands)) holds
 

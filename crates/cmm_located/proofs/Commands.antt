@@ -1,4 +1,4 @@
--- what is asked of a stopped program is the same over places as over a graph
+-- what is required of a stopped program is the same over locations as over a graph
 use Rattle.std.proofs.Common.{◌≡◌, ◌⊎◌, inl, inr, ℕ, ◌+◌, ◌<◌, Bool, true, false, Contains, List, [], ◌∷◌, map, drop, length, slice_get, Option, Some, None, arith, refl, sym, ap, ◌∙◌, subst}
 use Rattle.std.specs.Prelude.{slice_index_or}
 use Rattle.std.specs.List.{AllByRecursion, AllZip}
@@ -26,8 +26,8 @@ use Rattle.cmm_program.specs.Performing.{Away}
 use Rattle.cmm_program.specs.State.{Setting, Activation, Store, stack_top}
 use Rattle.cmm_program.specs.Walks.{live_value}
 use Rattle.cmm_program.proofs.Shared.{IsFound, StandsAt, all_found, found_at, set_found, shown_of, some_by, stands_at, variable_shown}
-use Rattle.cmm_laws.specs.Alike.{ChainsAlike, ChangesAlike, ExitsAlike, StayAlike}
-use Rattle.cmm_laws.proofs.Shared.{returning_lands}
+use Rattle.cmm_machine_laws.specs.Alike.{ChainsAlike, ChangesAlike, ExitsAlike, StayAlike}
+use Rattle.cmm_machine_laws.proofs.Shared.{returning_lands}
 use Rattle.cmm_graph.specs.declared.number.NodeId.{NodeId}
 use Rattle.cmm_graph.specs.Counterpart.{parameter_targets}
 use Rattle.cmm_graph.specs.GraphControl.{Position, graph_control, kind_at, normal_of}
@@ -70,7 +70,7 @@ module _ (s : Setting) (c : Compiled) (live : Liveness) (most : ℕ) (ps : List 
   abbrev pub GoesOn : Landed → Located → Type 0
   GoesOn r here = (log : List ℕ) → Comes (transferred (graph_control c.graphs) s (Away r.gone (with_log log r.store) r.landing) ps) (logged_as log here)
 
-  -- what is asked of both
+  -- what is required of both
   abbrev pub Chains : Store → Located → Chain client.Located → Chain client.Located → Type 0
   Chains = ChainsAlike (Stands s c ps) IsThere GoesOn
 
@@ -101,7 +101,7 @@ module _ (s : Setting) (c : Compiled) (live : Liveness) (most : ℕ) (compiled :
   zip_there [] all = tt
   zip_there (a ∷ xs) all = ((refl, all.0), zip_there xs all.1)
 
-  -- behind so many activations
+  -- behind n activations
   pub chains_alike : (m : ℕ) → Chains s c live most ps x At (chain_behind s m x) (chain_behind s m (shown s c At))
   chains_alike m =
       let here = all_located s m (drop m x.activations) in

@@ -20,8 +20,8 @@ use Rattle.cmm_program.specs.Orders.{Order, Word}
 use Rattle.cmm_program.specs.Performing.{Found, Transfer, cut_among, found_exit, perform}
 use Rattle.cmm_program.specs.State.{Setting, Activation, Store, Running, stack_top}
 use Rattle.cmm_program.specs.Writes.{reads_of}
-use Rattle.cmm_laws.specs.Transfers.{Cuts, CutsNot, CutsTo, IsListed}
-use Rattle.cmm_laws.proofs.Shared.{cut_cuts, resuming_lands, search_finds}
+use Rattle.cmm_machine_laws.specs.Transfers.{Cuts, CutsNot, CutsTo, IsListed}
+use Rattle.cmm_machine_laws.proofs.Shared.{cut_cuts, resuming_lands, search_finds}
 use Rattle.cmm_program.proofs.Shared.{some_by}
 use Rattle.cmm_graph.specs.declared.number.ContinuationId.{ContinuationId}
 use Rattle.cmm_graph.specs.declared.number.NodeId.{NodeId}
@@ -191,7 +191,7 @@ module _ (s : Setting) (c : Compiled) (live : Liveness) (frames : HasFrames s c)
     abbrev At : Located
     At = Lands s c live planned base f fs q qs (cut_at frame h) to node next is_copy reads.of reads.is_graph keeps (numbers words) count exists variables holds framed waits
 
-    -- ---- over places
+    -- ---- over locations
 
     abbrev offset : ℕ
     offset = slice_index_or (place_row s f.procedure).pairs k 0

@@ -1,4 +1,4 @@
--- a procedure is entered over places as over graphs
+-- a procedure is entered over locations as over graphs
 use Rattle.std.proofs.Common.{◌≡◌, ◌≢◌, ◌⊎◌, inl, inr, ℕ, zero, suc, ◌+◌, ◌-◌, ◌<◌, ◌≤◌, nat_lt, Bool, true, false, Contains, List, [], ◌∷◌, ◌++◌, drop, map, length, nat_le, slice_index_or, Ok, Option, Some, None, arith, refl, sym, ap, ◌∙◌, subst}
 use Rattle.std.specs.List.{range_with_len}
 use Rattle.std.proofs.lemmas.Bool.Decides.{nat_tests}
@@ -15,9 +15,9 @@ use Rattle.cmm_program.specs.Frames.{fits_stack, frame_size, new_activation, pla
 use Rattle.cmm_program.specs.Machine.{first_store}
 use Rattle.cmm_program.specs.Memory.{Room}
 use Rattle.cmm_program.specs.State.{Setting, Activation, Store, Running, Ended, StackLimit, stack_top}
-use Rattle.cmm_laws.specs.Landings.{begun_above}
-use Rattle.cmm_laws.specs.Observed.{event_at, store_seen}
-use Rattle.cmm_laws.proofs.Shared.{entering_lands}
+use Rattle.cmm_machine_laws.specs.Landings.{begun_above}
+use Rattle.cmm_machine_laws.specs.Observed.{event_at, store_seen}
+use Rattle.cmm_machine_laws.proofs.Shared.{entering_lands}
 use Rattle.cmm_graph.specs.declared.number.NodeId.{NodeId}
 use Rattle.cmm_graph.specs.declared.number.Variable.{Variable}
 use Rattle.cmm_graph.specs.Acting.{act_of}
@@ -159,7 +159,7 @@ module _ (s : Setting) (c : Compiled) (live : Liveness) (frames : HasFrames s c)
     | false ↦ record { store = over (Ended StackLimit) store; controls = before }
   ]
 
-  -- ---- over places
+  -- ---- over locations
 
   abbrev zeroed : Holdings
   zeroed = zeros_in c.plan q (c.zeroed q) (running_.entered c.plan q h.point h.contents)

@@ -1,7 +1,7 @@
 -- The client can be shown the program with exits of each kind: what is live at its sites is known, and stands in places that are apart.
 use Rattle.std.proofs.Common.{◌≡◌, ◌≢◌, ℕ, zero, suc, ◌<◌, true, false, List, [], ◌∷◌, length, Some, arith, refl, subst, ◌==◌, ◌&&◌}
-use Rattle.cmm_following.specs.Following.{Follows}
-use Rattle.cmm_laws.specs.Observed.{machine_of}
+use Rattle.cmm_simulation.specs.Following.{Follows}
+use Rattle.cmm_machine_laws.specs.Observed.{machine_of}
 use Rattle.cmm_program.specs.declared.procedure.Proc.{Proc}
 use Rattle.cmm_program.specs.Frames.{procedure_at}
 use Rattle.cmm_program.specs.Liveness.{is_among, is_live_at}
@@ -20,7 +20,7 @@ use Rattle.cmm_located.proofs.ExitNodes.{among, every, is_apart, past, places_ap
 use Rattle.cmm_located.proofs.ExitRows.{row-setting, exiting_is_compiled, c-site}
 use Rattle.cmm_located.proofs.ExitSample.{main-proc, c-proc, d-proc, exiting, exit-live}
 use Rattle.cmm_located.proofs.Notation.{laid}
-use Rattle.cmm_located.proofs.Simulating.{places_follow}
+use Rattle.cmm_located.proofs.Simulating.{located_runs_follow_graphs}
 
 -- ---- which variables are live at a site
 
@@ -88,7 +88,7 @@ exiting_is_followed : OrderIsByReads → ValueIsByReads → (input : List ℕ) �
     Follows (machine_of (graph_control exiting.graphs) row-setting) (step_cost exiting 1) (located_machine row-setting exiting) (tokens_at row-setting exiting)
     (graph_start exiting.graphs row-setting input) (located_step row-setting exiting (located_start row-setting exiting input))
 exiting_is_followed by_reads by_values input =
-    places_follow by_reads by_values row-setting exiting exit-live 1 main-proc input exiting_is_compiled exiting_is_showable refl refl
+    located_runs_follow_graphs by_reads by_values row-setting exiting exit-live 1 main-proc input exiting_is_compiled exiting_is_showable refl refl
 
 -- ---- what the premises refuse
 

@@ -1,18 +1,18 @@
--- Steps of the machine over graphs are paths of the machine over places.
+-- Steps of the machine over graphs are paths of the located machine.
 use Rattle.std.proofs.Common.{◌≡◌, ◌⊎◌, inl, inr, ℕ, ◌+◌, ◌≤◌, Bool, true, false, List, Some, None, arith, refl, sym, ap, ◌∙◌, subst}
-use Rattle.cmm_following.specs.Machine.{Machine}
-use Rattle.cmm_following.specs.Observing.{Passes}
-use Rattle.cmm_following.specs.Seen.{Seen, IsWithin, Event}
-use Rattle.cmm_following.specs.Simulation.{Leads}
-use Rattle.cmm_following.proofs.Paths.{one_step, joined}
-use Rattle.cmm_following.proofs.Prefixes.{within_refl}
+use Rattle.cmm_simulation.specs.Machine.{Machine}
+use Rattle.cmm_simulation.specs.Observing.{Passes}
+use Rattle.cmm_simulation.specs.Seen.{Seen, IsWithin, Event}
+use Rattle.cmm_simulation.specs.Simulation.{Leads}
+use Rattle.cmm_simulation.proofs.Paths.{one_step, joined}
+use Rattle.cmm_simulation.proofs.Prefixes.{within_refl}
 use Rattle.cmm_program.specs.declared.procedure.Target.TheVariants as target
 use Rattle.cmm_program.specs.declared.procedure.Target.{Target}
 use Rattle.cmm_program.specs.Acts.{Fail}
 use Rattle.cmm_program.specs.Control.{State}
 use Rattle.cmm_program.specs.Errors.{EndOfBody}
 use Rattle.cmm_program.specs.State.{Setting, Store, Running, Wrong}
-use Rattle.cmm_laws.specs.Observed.{Call, Ending, event_at, machine_of, store_seen}
+use Rattle.cmm_machine_laws.specs.Observed.{Call, Ending, event_at, machine_of, store_seen}
 use Rattle.cmm_graph.specs.declared.number.NodeId.{NodeId}
 use Rattle.cmm_graph.specs.declared.operand.Destination.TheVariants as destination
 use Rattle.cmm_graph.specs.declared.node.HostCall.TheVariants.{PutByte, GetByte}
@@ -31,7 +31,7 @@ use Rattle.cmm_located.specs.Steps.{IsFollowed}
 within_same : {Line : Type 0} (a b : Seen Line) → a ≡ b → IsWithin a b
 within_same a b is = rw is (within_refl b)
 
--- a node stands at the same event over places as over a graph
+-- a node stands at the same event over locations as over a graph
 pub asks_alike : (s : Setting) (c : Compiled) (store other : Store) (p : Position) (at : Located) (node : NodeKind) →
     event_at s Running other (act_of (keeping s c at) node) ≡ event_at s Running store (act_of (graph.keeping p) node)
 asks_alike s c store other p at (kind.Entry formals next) = refl
@@ -85,14 +85,14 @@ module _ (s : Setting) (c : Compiled) (live : Liveness) where
     right = λ right. wrong_alike (over_graphs.step st) (located_step s c at) related ∙ right;
   }
 
-  -- one step over places
+  -- one step over locations
   pub in_one : (cost : ℕ) (st : State Position) (at : Located) →
       (over_graphs.wrong (over_graphs.step st) ≡ false → Related s c live (over_graphs.step st) (located_step s c at)) →
       ((event : Event Call Ending) → over_places.asks at ≡ Some event → over_graphs.asks st ≡ Some event) → store_seen at.store ≡ store_seen st.store →
       tokens_at s c at ≤ cost → IsFollowed s c live cost st at
   in_one cost st at related asks same within right = one_step (passing st at (related right) asks same) (related right) within
 
-  -- Two steps over places do one step of the machine over graphs: the first leads to a node that no state of a graph stands at, shows
+  -- Two steps over locations do one step of the machine over graphs: the first leads to a node that no state of a graph stands at, shows
   -- nothing, and the second comes to what the step comes to.
   pub record Moves (most : ℕ) (before after : State Position) (here : Located) : Type 0 where
     pub first : Located
@@ -140,7 +140,7 @@ module _ (s : Setting) (c : Compiled) (live : Liveness) where
       tokens_at s c at ≤ cost → IsFollowed s c live (cost + most) st at
   in_two cost most st at moves asks same within right = in_two_from cost most st st at moves asks same within right
 
-  -- one step or two over places
+  -- one step or two over locations
   pub in_either : (cost most : ℕ) (st : State Position) (at : Located) →
       (over_graphs.wrong (over_graphs.step st) ≡ false →
       Related s c live (over_graphs.step st) (located_step s c at) ⊎ Moves most st (over_graphs.step st) (located_step s c at)) →

@@ -9,9 +9,9 @@ use Rattle.cmm_program.specs.Errors.{WrongValues, provided, with_some}
 use Rattle.cmm_program.specs.Exits.{Landing, gone_on, land}
 use Rattle.cmm_program.specs.Frames.{with_site}
 use Rattle.cmm_program.specs.State.{Setting, Activation, Store, Running, Ended, StackLimit, stack_top}
-use Rattle.cmm_laws.specs.Landings.{registers_after, variables_after}
-use Rattle.cmm_laws.specs.Observed.{store_seen}
-use Rattle.cmm_laws.proofs.Shared.{targets_take}
+use Rattle.cmm_machine_laws.specs.Landings.{registers_after, variables_after}
+use Rattle.cmm_machine_laws.specs.Observed.{store_seen}
+use Rattle.cmm_machine_laws.proofs.Shared.{targets_take}
 use Rattle.cmm_graph.specs.declared.number.NodeId.{NodeId}
 use Rattle.cmm_graph.specs.declared.operand.Local.TheVariants as local
 use Rattle.cmm_graph.specs.declared.node.NodeKind.TheVariants.{CopyIn}
@@ -204,7 +204,7 @@ module _ (s : Setting) (c : Compiled) (live : Liveness) (planned : IsPlanned c.p
 
   -- ---- the step of the machine over graphs
 
-  -- it comes there by two steps over places
+  -- it comes there by two steps over locations
   pub lands_moves : (most : ℕ) → IsWithinMost c most → (before after : State Position) (here : Located) → store_seen (running store older) ≡ store_seen before.store →
       after ≡ gone_state → here ≡ Lands → Moves s c live most before after here
   lands_moves most is_most before after here same is goes = record {

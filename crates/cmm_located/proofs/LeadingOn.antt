@@ -1,4 +1,4 @@
--- a node that leads on is done over places in one step
+-- a node that leads on is done over locations in one step
 use Rattle.std.proofs.Common.{◌≡◌, true, ◌∷◌, arith, refl, sym, ◌∙◌}
 use Rattle.cmm_graph.specs.GraphControl.{kind_at}
 use Rattle.cmm_graph.specs.GraphMachine.{tokens_of_youngest}

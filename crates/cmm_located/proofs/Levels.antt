@@ -3,13 +3,13 @@ use Rattle.std.proofs.Common.{◌≡◌, ℕ, ◌-◌, ◌<◌, Bool, true, fals
 use Rattle.std.specs.Prelude.{nat_lt, slice_index_or}
 use Rattle.std.specs.List.{AllZip}
 use Rattle.std.proofs.lemmas.Bool.Decides.{nat_tests}
-use Rattle.cmm_following.specs.Seen.{Client, End, but_input}
+use Rattle.cmm_simulation.specs.Seen.{Client, End, but_input}
 use Rattle.cmm_script.specs.Walk as walk
 use Rattle.cmm_program.specs.Acts.{Act, Nothing, Assign, Choose, PutByte, GetByte, Call, Yield, Checked, Jump, Return, Cut, Fail}
 use Rattle.cmm_program.specs.Control.{State, next_act}
 use Rattle.cmm_program.specs.State.{Setting, Activation, Status, Running, Waiting, Ended, Wrong, Done, Stopped, StackLimit, Store, stack_top}
 use Rattle.cmm_program.specs.Walks.{walk_of}
-use Rattle.cmm_laws.specs.Observed.{ending_of, event_at, store_seen}
+use Rattle.cmm_machine_laws.specs.Observed.{ending_of, event_at, store_seen}
 use Rattle.cmm_graph.specs.Acting.{act_of}
 use Rattle.cmm_graph.specs.GraphControl.{Position, graph_control, kind_at}
 use Rattle.cmm_located.specs.Answering.{shown}

@@ -4,7 +4,7 @@ use Rattle.std.specs.Prelude.{nat_lt, slice_index_or}
 use Rattle.cmm_words.specs.declared.operators.Op2.TheVariants.{Add}
 use Rattle.cmm_program.specs.State.{Setting, Status}
 use Rattle.cmm_program.proofs.Shared.{variables_of}
-use Rattle.cmm_following.specs.Machine.{after}
+use Rattle.cmm_simulation.specs.Machine.{after}
 use Rattle.cmm_graph.specs.declared.number.NodeId.{NodeId}
 use Rattle.cmm_graph.specs.declared.operand.Operand.{Operand}
 use Rattle.cmm_graph.specs.declared.operand.Rvalue.{Rvalue}
@@ -61,7 +61,7 @@ compiled graphs frames places live zeroed = record {
 
 -- ---- runs
 
--- where runs without input are after so many steps
+-- where runs without input are after n steps
 abbrev pub located_after : Setting → Compiled → ℕ → Located
 located_after setting c steps = after (located_machine setting c) steps (located_start setting c [])
 

@@ -3,7 +3,7 @@ use Rattle.std.proofs.Common.{◌≡◌, ℕ, List, arith, sym, ap, ◌∙◌, s
 use Rattle.cmm_program.specs.Control.{next_act}
 use Rattle.cmm_program.specs.Errors.{UncheckedError}
 use Rattle.cmm_program.specs.State.{Outcome, Status, Store, Running, Waiting, Ended, Wrong}
-use Rattle.cmm_laws.specs.Observed.{event_at, store_seen}
+use Rattle.cmm_machine_laws.specs.Observed.{event_at, store_seen}
 use Rattle.cmm_graph.specs.Acting.{act_of}
 use Rattle.cmm_graph.specs.GraphControl.{graph_control, kind_at}
 use Rattle.cmm_graph.specs.GraphMachine.{graph_step}

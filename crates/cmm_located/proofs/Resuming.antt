@@ -9,7 +9,7 @@ use Rattle.cmm_program.specs.Errors.{with_some}
 use Rattle.cmm_program.specs.Exits.{Landing, Resumed, gone_on, land}
 use Rattle.cmm_program.specs.Frames.{procedure_at, with_site, without}
 use Rattle.cmm_program.specs.State.{Setting, Activation, Store, Running, stack_top}
-use Rattle.cmm_laws.proofs.Shared.{resuming_lands}
+use Rattle.cmm_machine_laws.proofs.Shared.{resuming_lands}
 use Rattle.cmm_graph.specs.declared.number.NodeId.{NodeId}
 use Rattle.cmm_graph.specs.declared.node.NodeKind.TheVariants as kind
 use Rattle.cmm_graph.specs.Counterpart.{parameter_targets}
@@ -76,7 +76,7 @@ module _ (s : Setting) (c : Compiled) (live : Liveness) (planned : IsPlanned c.p
       abbrev Landed : Located
       Landed = Lands s c live planned Base f fs g gs Again to node lands.next lands.is_copy reads.of reads.is_graph keeps values count chain.0.exists there.0.variables holds framed there.1
 
-      -- over places
+      -- over locations
       abbrev comes : List Activation → ℕ → List ℕ → Located
       comes activations r brought = record {
         store = record (without gone At.store) { log = log; activations = with_site None activations; status = Running };

@@ -21,8 +21,8 @@ use Rattle.cmm_program.specs.Orders.{Order, Word, target_width}
 use Rattle.cmm_program.specs.Performing.{Transfer, Over, perform}
 use Rattle.cmm_program.specs.State.{Setting, Activation, Store, Ended, Done, stack_top}
 use Rattle.cmm_program.specs.Writes.{reads_of}
-use Rattle.cmm_laws.specs.Transfers.{Leaves, LeavesTo, Ends, LeavesNot}
-use Rattle.cmm_laws.proofs.Shared.{resuming_lands, return_leaves, returning_lands}
+use Rattle.cmm_machine_laws.specs.Transfers.{Leaves, LeavesTo, Ends, LeavesNot}
+use Rattle.cmm_machine_laws.proofs.Shared.{resuming_lands, return_leaves, returning_lands}
 use Rattle.cmm_program.proofs.Shared.{some_by}
 use Rattle.cmm_graph.specs.declared.number.ContinuationId.{ContinuationId}
 use Rattle.cmm_graph.specs.declared.number.NodeId.{NodeId}
@@ -200,7 +200,7 @@ module _ (s : Setting) (c : Compiled) (live : Liveness) (frames : HasFrames s c)
         waits.variables there_holds back_framed runs.waits.1 waits.procedure o is_node))
         goes
 
-  -- over places, to the node of the exit
+  -- over locations, to the node of the exit
   module _ (exit alternates : ℕ) (words : List Word) (pr : Proc) (site : Site) (e : HasExits c live f.procedure pr waits.site site) where
     abbrev here : Located
     here = tried s c There (to_return s c back_at.back exit alternates (numbers words) (without 1 There.store) gone)

@@ -7,14 +7,14 @@ use Rattle.cmm_script.specs.declared.script.Command.{Command}
 use Rattle.cmm_script.specs.declared.script.Command.TheVariants as command
 use Rattle.cmm_script.specs.declared.script.Value.TheVariants.{Number}
 use Rattle.cmm_script.specs.Walk.{Activation}
-use Rattle.cmm_following.specs.Seen.{Event, End}
+use Rattle.cmm_simulation.specs.Seen.{Event, End}
 use Rattle.cmm_program.specs.declared.statement.Form.TheVariants as form
 use Rattle.cmm_program.specs.Errors.{WrongValues}
 use Rattle.cmm_program.specs.Machine.{state_after}
 use Rattle.cmm_program.specs.Todo.{todo_control}
 use Rattle.cmm_program.specs.Walks.{walk_of}
-use Rattle.cmm_laws.specs.Observed as observed
-use Rattle.cmm_laws.specs.Observed.{Ending, machine_of}
+use Rattle.cmm_machine_laws.specs.Observed as observed
+use Rattle.cmm_machine_laws.specs.Observed.{Ending, machine_of}
 use Rattle.cmm_graph.specs.GraphControl.{graph_control}
 use Rattle.cmm_graph.specs.GraphMachine.{graph_state_after}
 use Rattle.cmm_program.specs.declared.procedure.Proc.{Proc}

@@ -21,7 +21,7 @@ use Rattle.cmm_located.proofs.Asking.{Same}
 use Rattle.cmm_located.proofs.Levels.{all_told}
 use Rattle.cmm_located.proofs.ShowingWalks.{as_many, value_is_shown}
 
--- a state over places, made of its parts
+-- a located state, made of its parts
 abbrev pub waiting_of : Store → Holdings → ℕ → NodeId → List ℕ → Located
 waiting_of x h q n carried = record {
   store = record x { activations = map bare x.activations };
@@ -31,7 +31,7 @@ waiting_of x h q n carried = record {
   carried = carried;
 }
 
--- A store of the machine over graphs, whose activations all wait at these positions, and a state over places that stands for it.
+-- A store of the machine over graphs, whose activations all wait at these positions, and a located state that stands for it.
 pub record Stands (s : Setting) (c : Compiled) (ps : List Position) (x : Store) (at : Located) : Type 0 where
   pub store : at.store ≡ record x { activations = map bare x.activations }
   pub waits : AllWait c.graphs x.activations ps

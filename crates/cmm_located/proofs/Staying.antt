@@ -145,7 +145,7 @@ module _ (s : Setting) (c : Compiled) (live : Liveness) (frames : HasFrames s c)
   abbrev pub Before : State Position
   Before = state_of store a older p ps
 
-  -- a step that does not go wrong is one step over places
+  -- a step that does not go wrong is one step over locations
   abbrev pub IsStepDone : Type 0
   IsStepDone = wrong_in (step_of (graph_control c.graphs) s Before).store ≡ false → Related s c live (step_of (graph_control c.graphs) s Before) (located_step s c There)
 
@@ -343,7 +343,7 @@ module _ (s : Setting) (c : Compiled) (live : Liveness) (frames : HasFrames s c)
     abbrev value_here : Tried ℕ
     value_here = rvalue_value (graph.keeping Here).held value (reads_of s Now)
 
-    -- the value is the same over places
+    -- the value is the same over locations
     value_is : ValueIsByReads → ReadsAreLive c live a.procedure p.node assignment → rvalue_value (keeping s c There).held value (reads_at s c There) ≡ value_here
     value_is by_values reads =
         by_values (keeping s c There).held (graph.keeping Here).held (reads_at s c There) (order_variables s c live Before a older Here ps There frames refl refl runs) value

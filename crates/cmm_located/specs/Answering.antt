@@ -1,4 +1,4 @@
--- The client over places. It is asked of activations that the walk of the stack shows, as that of the C-- machine is of its store; what it
+-- The client over locations. It is required of activations that the walk of the stack shows, as that of the C-- machine is of its store; what it
 -- changes and where it resumes is done to places (C-- Language Specification 2.0, the run-time interface).
 use Rattle.std.specs.Prelude.{ℕ, suc, List, [], ◌++◌, map, length, slice_get, Option, Some, None}
 use Rattle.std.specs.List.{range_with_len}
@@ -104,7 +104,7 @@ module _ (s : Setting) (c : Compiled) where
     | None ↦ no_landing at
   ]
 
-  -- once so many of the youngest activations are gone
+  -- once n of the youngest activations are gone
   abbrev pub resumed_by : (Element → Holdings → Holdings) → ℕ → Landing → Located → Located
   resumed_by come gone landing at = elim (slice_get (listed at) gone) [ Some e ↦ come_back come gone landing e at | None ↦ no_landing at ]
 
@@ -114,7 +114,7 @@ module _ (s : Setting) (c : Compiled) where
 
   -- ---- the client's answer
 
-  -- the program over places as one that can be asked
+  -- the located program as one that can be asked
   abbrev pub places_askable : Askable client.Located Located Located
   places_askable = record {
     chain = λ at. chain_behind s 0 (shown at);

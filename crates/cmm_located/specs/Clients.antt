@@ -1,4 +1,4 @@
--- The client answers: a run that waits goes on, or is over, over places as over graphs.
+-- The client answers: a run that waits goes on, or is over, over locations as over graphs.
 use Rattle.std.specs.Prelude.{◌≡◌, ◌≢◌, ℕ, ◌+◌, true, List}
 use Rattle.cmm_program.specs.Control.{State}
 use Rattle.cmm_program.specs.State.{Setting, Waiting}
@@ -22,7 +22,7 @@ pub record IsShowable (s : Setting) (c : Compiled) : Type 0 where
   pub live : KnowsLive s c
   pub apart : AreApart c
 
--- The client's answer is done over places in at most two steps, the second at a CopyIn.
+-- The client's answer is done over locations in at most two steps, the second at a CopyIn.
 abbrev pub ClientsAreFollowed : Type 0
 ClientsAreFollowed = (s : Setting) (c : Compiled) (live : Liveness) (most : ℕ) (values : List ℕ) (st : State Position) (at : Located) → IsCompiled s c live most →
     IsShowable s c → Related s c live st at → st.store.status ≡ Waiting values → IsFollowed s c live (tokens_at s c at + most) st at

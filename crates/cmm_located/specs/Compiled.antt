@@ -1,4 +1,4 @@
--- The procedures of a program as they are compiled, and a state of the machine that runs them over places.
+-- The procedures of a program as they are compiled, and a state of the machine that runs them over locations.
 use Rattle.std.specs.Prelude.{ℕ, ◌==◌, Bool, false, List, [], find, slice_get, Option, Some, None}
 use Rattle.cmm_program.specs.Errors.{with_some}
 use Rattle.cmm_program.specs.State.{Activation, Store}

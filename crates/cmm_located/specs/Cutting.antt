@@ -61,7 +61,7 @@ abbrev pub is_cut : NodeKind → Bool
 is_cut (Cut to arguments own) = true
 is_cut _ = false
 
--- A cut is done over places in two steps: control moves to the frame, and the CopyIn of the continuation takes the values.
+-- A cut is done over locations in two steps: control moves to the frame, and the CopyIn of the continuation takes the values.
 abbrev pub CutsAreFollowed : Type 0
 CutsAreFollowed = (s : Setting) (c : Compiled) (live : Liveness) (most : ℕ) (st : State Position) (at : Located) → HasFrames s c → IsPlanned c.plan →
     IsClosed c live → HaveCuts s c live → HaveOwnCuts s c live → HavePairs s → IsWithinMost c most → Related s c live st at → st.store.status ≡ Running →

@@ -1,4 +1,4 @@
--- A procedure is entered: what the machine over graphs does as it lands is a step at the Entry over places.
+-- A procedure is entered: what the machine over graphs does as it lands is a step at the Entry over locations.
 use Rattle.std.specs.Prelude.{◌≡◌, ◌≢◌, ◌⊎◌, ℕ, ◌+◌, ◌<◌, ◌≤◌, Bool, true, false, Contains, List, map, length, Some}
 use Rattle.std.specs.List.{range_with_len}
 use Rattle.cmm_program.specs.declared.procedure.Proc.{Proc}
@@ -76,7 +76,7 @@ enters_procedure (Call site callee arguments exits) = true
 enters_procedure (Jump callee arguments) = true
 enters_procedure _ = false
 
--- A call and a tail call are done over places in two steps, at the cost of their node and of an Entry.
+-- A call and a tail call are done over locations in two steps, at the cost of their node and of an Entry.
 abbrev pub CallsAreFollowed : Type 0
 CallsAreFollowed = (s : Setting) (c : Compiled) (live : Liveness) (most : ℕ) (st : State Position) (at : Located) → HasFrames s c → IsPlanned c.plan →
     IsClosed c live → HaveEntries s c live → AreReady c live → IsWithinMost c most → Related s c live st at → st.store.status ≡ Running →
@@ -84,7 +84,7 @@ CallsAreFollowed = (s : Setting) (c : Compiled) (live : Liveness) (most : ℕ) (
 
 -- ---- the start
 
--- A run over places begins at the Entry of `main`, and comes from there to what stands for the first state over graphs.
+-- A located run begins at the Entry of `main`, and comes from there to what stands for the first state over graphs.
 abbrev pub RunsBeginAlike : Type 0
 RunsBeginAlike = (s : Setting) (c : Compiled) (live : Liveness) (p : Proc) (input : List ℕ) → HasFrames s c → IsPlanned c.plan →
     procedure_at s s.program.main ≡ Some p → p.formals ≡ 0 → HasEntry c live s.program.main p →

@@ -4,8 +4,8 @@ use Rattle.cmm_program.specs.declared.procedure.Proc.{Proc}
 use Rattle.cmm_program.specs.Control.{State}
 use Rattle.cmm_program.specs.Frames.{procedure_at}
 use Rattle.cmm_program.specs.State.{Setting}
-use Rattle.cmm_following.specs.Observing.{Level}
-use Rattle.cmm_laws.specs.Observed.{machine_of}
+use Rattle.cmm_simulation.specs.Observing.{Level}
+use Rattle.cmm_machine_laws.specs.Observed.{machine_of}
 use Rattle.cmm_graph.specs.GraphControl.{Position, graph_control}
 use Rattle.cmm_located.specs.Compiled.{Compiled, Located}
 use Rattle.cmm_located.specs.LocatedMachine.{located_machine}

@@ -68,7 +68,7 @@ saved_registers p places = to_save p places callee_saves
 abbrev pub row_with : ℕ → Frame → PlaceRow
 row_with code f = record { code = code; frame = f.size; pairs = f.pairs; stack = f.stack }
 
--- a word and so many bytes from a base on have none in common
+-- a word and n bytes from a base on have none in common
 abbrev pub is_clear : ℕ → ℕ → ℕ → Bool
 is_clear base size offset = (size == 0) || (nat_le (offset + 8) base || nat_le (base + size) offset)
 

@@ -1,12 +1,12 @@
--- The located machine: its states, one after the other, what is seen of them, and what a step costs. It does each node over places,
+-- The located machine: its states, one after the other, what is seen of them, and what a step costs. It does each node over locations,
 -- and what a graph does as it lands it does in a step of its own, at an Entry or a CopyIn.
 use Rattle.std.specs.Prelude.{ℕ, true, false, List, [], Ok, Err, Some, None}
-use Rattle.cmm_following.specs.Machine.{Machine}
+use Rattle.cmm_simulation.specs.Machine.{Machine}
 use Rattle.cmm_program.specs.Control.{over}
 use Rattle.cmm_program.specs.Errors.{Tried}
 use Rattle.cmm_program.specs.Machine.{first_store}
 use Rattle.cmm_program.specs.State.{Setting, Running, Waiting, Ended, Wrong, stack_top}
-use Rattle.cmm_laws.specs.Observed.{Call, Ending, event_at, store_seen}
+use Rattle.cmm_machine_laws.specs.Observed.{Call, Ending, event_at, store_seen}
 use Rattle.cmm_graph.specs.Acting.{act_of}
 use Rattle.cmm_graph.specs.GraphControl.{in_graph, kind_at}
 use Rattle.cmm_graph.specs.Paths.{node_of}

@@ -1,4 +1,4 @@
--- What the machine over places does at a node. Each node does to places what it does to locals; an Entry and a CopyIn are steps of
+-- What the located machine does at a node. Each node does to places what it does to locals; an Entry and a CopyIn are steps of
 -- their own, which take what control brings (Ramsey and Peyton Jones, PLDI 2000, the abstract machine).
 use Rattle.std.specs.Prelude.{ℕ, ◌+◌, ◌==◌, ◌&&◌, nat_le, Bool, true, false, List, [], ◌∷◌, drop, map, length, slice_get, slice_index_or, Ok, Err, Option, Some, None}
 use Rattle.cmm_program.specs.declared.procedure.Target.{Target}
@@ -15,7 +15,7 @@ use Rattle.cmm_program.specs.Performing.{Transfer, Stay, Wait, Away, Over, Found
 use Rattle.cmm_program.specs.State.{Setting, Activation, Store, Running, Ended, Done, StackLimit}
 use Rattle.cmm_program.specs.Values.{Reads, Value}
 use Rattle.cmm_program.specs.Writes.{assigned, reads_of}
-use Rattle.cmm_laws.specs.Landings.{registers_after}
+use Rattle.cmm_machine_laws.specs.Landings.{registers_after}
 use Rattle.cmm_graph.specs.declared.number.NodeId.{NodeId}
 use Rattle.cmm_graph.specs.declared.operand.Local.{Local}
 use Rattle.cmm_graph.specs.declared.operand.Local.TheVariants as local

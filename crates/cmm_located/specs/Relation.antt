@@ -79,7 +79,7 @@ pub record IsSuspendedAll (s : Setting) (c : Compiled) (activations : List Activ
   pub waits : AllWait c.graphs activations ps
   pub chain : IsChain c.plan (stack_top s) at.holdings.contents (suspensions c.graphs activations ps) at.holdings.point
 
--- a run that the client has stopped still has its stack; where a run is over otherwise nothing is asked
+-- a run that the client has stopped still has its stack; where a run is over otherwise nothing is required
 abbrev pub IsStanding : Setting → Compiled → Liveness → Status → State Position → Located → Type 0
 IsStanding s c live Running st at = IsRunning s c live st.store.activations st.controls at
 IsStanding s c live (Waiting values) st at = IsSuspendedAll s c st.store.activations st.controls at
@@ -87,7 +87,7 @@ IsStanding s c live (Ended Stopped) st at = IsSuspendedAll s c st.store.activati
 IsStanding s c live (Ended outcome) st at = Unit {0}
 IsStanding s c live (Wrong error) st at = Unit {0}
 
--- But for activations, stores are the same; at the stack limit a call has suspended its caller over places, and not over a graph.
+-- But for activations, stores are the same; at the stack limit a call has suspended its caller over locations, and not over a graph.
 pub record Related (s : Setting) (c : Compiled) (live : Liveness) (st : State Position) (at : Located) : Type 0 where
   pub store : at.store ≡ record st.store { activations = at.store.activations }
   pub stands : IsStanding s c live st.store.status st at

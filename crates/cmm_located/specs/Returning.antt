@@ -1,4 +1,4 @@
--- Control goes back to an activation that waits: what the machine over graphs does as it lands is a step at the CopyIn over places.
+-- Control goes back to an activation that waits: what the machine over graphs does as it lands is a step at the CopyIn over locations.
 use Rattle.std.specs.Prelude.{◌≡◌, ℕ, ◌+◌, ◌≤◌, Bool, true, false, Contains, List, slice_get, Some}
 use Rattle.cmm_program.specs.declared.procedure.Proc.{Proc}
 use Rattle.cmm_program.specs.declared.procedure.Cont.{Cont}
@@ -58,7 +58,7 @@ IsInRange _ = Unit {0}
 abbrev pub ReturnsAreInRange : Compiled → Type 0
 ReturnsAreInRange c = (q : ℕ) (n : NodeId) → c.plan.is_procedure q ≡ true → IsInRange (kind_at c.graphs q n)
 
--- A return is done over places in at most two steps: the frame goes, and the CopyIn of the exit takes the values.
+-- A return is done over locations in at most two steps: the frame goes, and the CopyIn of the exit takes the values.
 abbrev pub ReturnsAreFollowed : Type 0
 ReturnsAreFollowed = (s : Setting) (c : Compiled) (live : Liveness) (most : ℕ) (st : State Position) (at : Located) → HasFrames s c → IsPlanned c.plan →
     IsClosed c live → HaveExits s c live → ReturnsAreInRange c → IsWithinMost c most → Related s c live st at → st.store.status ≡ Running →

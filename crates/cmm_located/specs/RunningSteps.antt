@@ -1,4 +1,4 @@
--- Every step of a run over graphs but the client's answer, over places.
+-- Every step of a run over graphs but the client's answer, over locations.
 use Rattle.std.specs.Prelude.{◌≡◌, ℕ, ◌+◌}
 use Rattle.cmm_program.specs.Control.{State}
 use Rattle.cmm_program.specs.State.{Setting, Running}
@@ -13,7 +13,7 @@ use Rattle.cmm_located.specs.Returning.{HaveExits, ReturnsAreInRange}
 use Rattle.cmm_located.specs.SameOrders.{HasFrames}
 use Rattle.cmm_located.specs.Steps.{IsClosed, IsFollowed}
 
--- the procedures of a program are compiled, for a liveness, into nodes of at most so many tokens
+-- the procedures of a program are compiled, for a liveness, into nodes of at most n tokens
 pub record IsCompiled (s : Setting) (c : Compiled) (live : Liveness) (most : ℕ) : Type 0 where
   pub planned : IsPlanned c.plan
   pub frames : HasFrames s c
@@ -27,7 +27,7 @@ pub record IsCompiled (s : Setting) (c : Compiled) (live : Liveness) (most : ℕ
   pub pairs : HavePairs s
   pub within : IsWithinMost c most
 
--- A step of an activation that runs is done over places, at the cost of its node and of the node where it lands.
+-- A step of an activation that runs is done over locations, at the cost of its node and of the node where it lands.
 abbrev pub StepsAreFollowed : Type 0
 StepsAreFollowed = (s : Setting) (c : Compiled) (live : Liveness) (most : ℕ) (st : State Position) (at : Located) → IsCompiled s c live most →
     Related s c live st at → st.store.status ≡ Running → IsFollowed s c live (tokens_of_youngest c.graphs st + most) st at

@@ -1,4 +1,4 @@
--- A node that is no assignment asks for the same over places as over a graph: the same order, with the same numbers.
+-- A node that is no assignment asks for the same over locations as over a graph: the same order, with the same numbers.
 use Rattle.std.specs.Prelude.{◌≡◌, ℕ, true, false, Contains, List, ◌∷◌, slice_get, Some}
 use Rattle.cmm_program.specs.Acts.{evaluated}
 use Rattle.cmm_program.specs.Control.{State}

@@ -1,4 +1,4 @@
--- The walk over places is the walk of the C-- machine: what the client is shown.
+-- The walk over locations is the walk of the C-- machine: what the client is shown.
 use Rattle.std.specs.Prelude.{◌≡◌, ℕ, ◌<◌, true, List, length, map, slice_index_or, Some}
 use Rattle.std.specs.List.{AllZip}
 use Rattle.cmm_program.specs.declared.procedure.Proc.{Proc}
@@ -20,7 +20,7 @@ pub record IsToldOf (s : Setting) (a : Activation) (t : Suspension) : Type 0 whe
 abbrev pub KnowsLive : Setting → Compiled → Type 0
 KnowsLive s c = (q site v : ℕ) (p : Proc) → procedure_at s q ≡ Some p → v < length p.vars → is_live_at p site v ≡ true → c.plan.live q site v ≡ true
 
--- Where the activations of a store are those of a chain, the walk over places shows what the store's walk does: the same activations
+-- Where the activations of a store are those of a chain, the walk over locations shows what the store's walk does: the same activations
 -- with their sites and descriptors, and the value of each variable that is live.
 abbrev pub WalkIsShown : Type 0
 WalkIsShown = (s : Setting) (c : Compiled) (top : ℕ) (store : Store) (suspended : List Suspension) (at : Located) → KnowsLive s c →

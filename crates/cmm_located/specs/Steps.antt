@@ -1,10 +1,10 @@
--- What a step of the machine over graphs is over places.
+-- What a step of the machine over graphs is over locations.
 use Rattle.std.specs.Prelude.{◌≡◌, ◌≢◌, ℕ, Bool, true, false, Contains, [], ◌∷◌, map, slice_get, is_some, Some}
 use Rattle.cmm_program.specs.Control.{State}
 use Rattle.cmm_program.specs.State.{Setting, Running}
-use Rattle.cmm_following.specs.Observing.{Passes}
-use Rattle.cmm_following.specs.Simulation.{Leads}
-use Rattle.cmm_laws.specs.Observed.{machine_of}
+use Rattle.cmm_simulation.specs.Observing.{Passes}
+use Rattle.cmm_simulation.specs.Simulation.{Leads}
+use Rattle.cmm_machine_laws.specs.Observed.{machine_of}
 use Rattle.cmm_graph.specs.declared.number.NodeId.{NodeId}
 use Rattle.cmm_graph.specs.declared.operand.Local.{Local}
 use Rattle.cmm_graph.specs.declared.node.NodeKind.{NodeKind}
@@ -22,7 +22,7 @@ use Rattle.cmm_located.specs.LocatedMachine.{located_machine, tokens_at}
 use Rattle.cmm_located.specs.Relation.{Liveness, Related}
 use Rattle.cmm_located.specs.SameOrders.{HasFrames, ReadsAreLive}
 
--- A step of the machine over graphs that does not go wrong leads the machine over places, by at least one step and for at most a
+-- A step of the machine over graphs that does not go wrong leads the located machine, by at least one step and for at most a
 -- cost, to a state that stands for what it comes to; on the way nothing is shown that the step does not show.
 abbrev pub IsFollowed : Setting → Compiled → Liveness → ℕ → State Position → Located → Type 0
 IsFollowed s c live cost st at =
@@ -57,7 +57,7 @@ leads_on kind = is_some (led 0 kind)
 abbrev pub kind_of_youngest : Compiled → State Position → NodeKind
 kind_of_youngest c st = elim st.controls [ [] ↦ Stop | p ∷ _ ↦ kind_here c.graphs p ]
 
--- A node that leads on is done over places in one step, at the same cost.
+-- A node that leads on is done over locations in one step, at the same cost.
 abbrev pub NodesAreFollowed : Type 0
 NodesAreFollowed = (s : Setting) (c : Compiled) (live : Liveness) (st : State Position) (at : Located) → HasFrames s c → IsPlanned c.plan → IsClosed c live →
     Related s c live st at → st.store.status ≡ Running → leads_on (kind_of_youngest c st) ≡ true →

@@ -16,7 +16,7 @@ abbrev pub is_yield : NodeKind → Bool
 is_yield (Yield site values exits) = true
 is_yield _ = false
 
--- A yield is done over places in one step, at the same cost: the stack is then the chain of all activations.
+-- A yield is done over locations in one step, at the same cost: the stack is then the chain of all activations.
 abbrev pub YieldsAreFollowed : Type 0
 YieldsAreFollowed = (s : Setting) (c : Compiled) (live : Liveness) (st : State Position) (at : Located) → HasFrames s c → IsClosed c live → AreReady c live →
     Related s c live st at → st.store.status ≡ Running → is_yield (kind_of_youngest c st) ≡ true →

@@ -1,4 +1,4 @@
-//! What `sequence` asks of moves, as tests.
+//! What `sequence` requires of moves, as tests.
 
 ghost use Rattle.std.specs.Prelude.{◌≡◌, ◌||◌};
 ghost use Rattle.cmm_moves.specs.Moves.{are_apart, is_source, is_target};

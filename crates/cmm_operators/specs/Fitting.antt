@@ -2,12 +2,12 @@
 use Rattle.std.specs.Prelude.{Option, Some, None}
 use Rattle.cmm_words.specs.declared.width.Width.{Width}
 use Rattle.cmm_words.specs.Widths.{IsWord}
-use Rattle.cmm_accepted.specs.declared.known.Known.{Known}
-use Rattle.cmm_accepted.specs.declared.known.Known.TheVariants.{Number, Symbol, Sum, Nothing}
-use Rattle.cmm_accepted.specs.declared.judged.Bits.{Bits}
-use Rattle.cmm_accepted.specs.declared.judged.Typed.{Typed}
-use Rattle.cmm_accepted.specs.declared.judged.Typed.TheVariants as typed
-use Rattle.cmm_accepted.specs.declared.judged.Operand.{Operand}
+use Rattle.cmm_static_semantics.specs.declared.known.Known.{Known}
+use Rattle.cmm_static_semantics.specs.declared.known.Known.TheVariants.{Number, Symbol, Sum, Nothing}
+use Rattle.cmm_static_semantics.specs.declared.judged.Bits.{Bits}
+use Rattle.cmm_static_semantics.specs.declared.judged.Typed.{Typed}
+use Rattle.cmm_static_semantics.specs.declared.judged.Typed.TheVariants as typed
+use Rattle.cmm_static_semantics.specs.declared.judged.Operand.{Operand}
 
 -- a number is a word of this width
 abbrev pub IsKnown : Width → Known → Type 0

@@ -1,17 +1,17 @@
 //! Operators applied to operands.
 
 ghost use Rattle.std.specs.Prelude.{◌≡◌, IfOk, IfErr, Err, option_map};
-ghost use Rattle.cmm_accepted.specs.Judging.{Judged as JudgedAs};
-ghost use Rattle.cmm_accepted.specs.Typing as typing;
-ghost use Rattle.cmm_accepted.specs.declared.judged.Bits.{Bits as BitsAs};
-ghost use Rattle.cmm_accepted.specs.declared.judged.Typed.{Typed as TypedAs};
+ghost use Rattle.cmm_static_semantics.specs.Judging.{Judged as JudgedAs};
+ghost use Rattle.cmm_static_semantics.specs.Typing as typing;
+ghost use Rattle.cmm_static_semantics.specs.declared.judged.Bits.{Bits as BitsAs};
+ghost use Rattle.cmm_static_semantics.specs.declared.judged.Typed.{Typed as TypedAs};
 ghost use Rattle.cmm_operators.specs.Fitting.{BitsFit, FitsIf, OperandFits, TypedFits};
 
 use crate::converting::{Conversion, converted};
 use crate::values::{BitsOf, OperandOf, Outcome, TypedOf, Values};
 use crate::wanted::{Judged, as_bits, as_test, faulty, of_width};
-use cmm_accepted::{Bits, Operator, Spot, Typed};
 use cmm_rules::Rule;
+use cmm_static_semantics::{Bits, Operator, Spot, Typed};
 use cmm_words::{Cmp, Op1, Op2};
 
 /// An operator with one operand, on bits.

@@ -1,15 +1,15 @@
 //! Bits of one width as bits of another.
 
 ghost use Rattle.std.specs.Prelude.{◌≡◌, IfOk};
-ghost use Rattle.cmm_accepted.specs.Judging.{with_ok, bits_of};
-ghost use Rattle.cmm_accepted.specs.Typing as typing;
+ghost use Rattle.cmm_static_semantics.specs.Judging.{with_ok, bits_of};
+ghost use Rattle.cmm_static_semantics.specs.Typing as typing;
 ghost use Rattle.cmm_operators.specs.Fitting.{BitsFit, OperandFits, TypedFits};
 ghost use Rattle.cmm_operators.specs.inside.Converting.{Allowed, allowed, made};
 
 use crate::values::{BitsOf, OperandOf, Outcome, TypedOf, Values};
 use crate::wanted::{as_bits, faulty};
-use cmm_accepted::{Bits, Typed};
 use cmm_rules::Rule;
+use cmm_static_semantics::{Bits, Typed};
 use cmm_words::Width;
 
 /// How bits become bits of another width.

@@ -4,11 +4,11 @@ ghost use Rattle.std.specs.Prelude.{◌≡◌, ◌≤◌, ◌^◌, ◌<◌};
 ghost use Rattle.cmm_words.specs.Widths.{bits};
 ghost use Rattle.cmm_words.specs.Words.{sign_extended, low_bits};
 ghost use Rattle.cmm_words.specs.Constants.{Fits};
-ghost use Rattle.cmm_accepted.specs.Senses.{constant_width};
-ghost use Rattle.cmm_accepted.specs.Algebras as algebras;
+ghost use Rattle.cmm_static_semantics.specs.Senses.{constant_width};
+ghost use Rattle.cmm_static_semantics.specs.Algebras as algebras;
 ghost use Rattle.cmm_operators.specs.Fitting.{IsKnown};
 
-use cmm_accepted::Known;
+use cmm_static_semantics::Known;
 use cmm_words::{Constant, Op1, Op2, Width, apply1, apply2, extend, low};
 
 /// What is known of a constant.
@@ -24,7 +24,7 @@ pub(crate) fn known_constant(constant: Constant) -> Known
     }
 }
 
-/// An address so many bytes further on.
+/// An address, moved by a number of bytes.
 fn moved(constant: Constant, more: u64) -> Constant
     ensures { result ≡ algebras.moved constant more }
 {

@@ -1,6 +1,6 @@
 //! What is known of values before the program runs, in the place of values.
 
-ghost use Rattle.cmm_accepted.specs.Algebras.{knowns};
+ghost use Rattle.cmm_static_semantics.specs.Algebras.{knowns};
 ghost use Rattle.cmm_operators.specs.Fitting.{IsKnown};
 
 use crate::known::{
@@ -8,7 +8,7 @@ use crate::known::{
     known_zero_extended,
 };
 use crate::values::Values;
-use cmm_accepted::Known;
+use cmm_static_semantics::Known;
 use cmm_words::{Cmp, Constant, Op1, Op2, Width};
 use std::convert::Infallible;
 

@@ -1,6 +1,6 @@
 //! Operators: by their names and by their signs, and at operands, over whatever stands for values.
 //!
-//! What an operator is judged to be at operands is exactly the judgement of `cmm_accepted`: bits of a width or a condition, with what stands for
+//! What an operator is judged to be at operands is exactly the judgement of `cmm_static_semantics`: bits of a width or a condition, with what stands for
 //! them, or the first place at which a rule is broken. What is known of a value before the program runs may stand for it, which takes no memory;
 //! in `cmm_typing` also the resolved expression.
 //!

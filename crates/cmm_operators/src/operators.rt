@@ -2,10 +2,10 @@
 
 ghost use Rattle.std.specs.Prelude.{◌≡◌, map};
 ghost use Rattle.cmm_words.specs.Words.{is_division};
-ghost use Rattle.cmm_accepted.specs.Operators as operators;
+ghost use Rattle.cmm_static_semantics.specs.Operators as operators;
 
-use cmm_accepted::Operator;
 use cmm_ast::{Infix, Prefix};
+use cmm_static_semantics::Operator;
 use cmm_words::{Cmp, Name, Op1, Op2, Width};
 
 /// Each operator with the name that stands after the percent sign.

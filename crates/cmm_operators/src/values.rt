@@ -4,11 +4,11 @@ ghost use Rattle.std.specs.Prelude.{◌≡◌, ◌≤◌, IfOk};
 ghost use Rattle.cmm_words.specs.declared.width.Width.{Width as WidthAs};
 ghost use Rattle.cmm_words.specs.Widths.{bits};
 ghost use Rattle.cmm_words.specs.Constants.{Fits};
-ghost use Rattle.cmm_accepted.specs.Algebras.{Algebra};
-ghost use Rattle.cmm_accepted.specs.Senses.{constant_width};
+ghost use Rattle.cmm_static_semantics.specs.Algebras.{Algebra};
+ghost use Rattle.cmm_static_semantics.specs.Senses.{constant_width};
 
 use crate::wanted::Judged;
-use cmm_accepted::{Bits, Operand, Operands, Typed};
+use cmm_static_semantics::{Bits, Operand, Operands, Typed};
 use cmm_words::{Cmp, Constant, Op1, Op2, Width};
 
 /// What stands for the values of expressions and for conditions, made from what stands for their parts.

@@ -1,13 +1,13 @@
 //! What is wanted of an expression: bits, of a width where there is one, a condition or a constant.
 
 ghost use Rattle.std.specs.Prelude.{◌≡◌, IfOk};
-ghost use Rattle.cmm_accepted.specs.Judging as judging;
-ghost use Rattle.cmm_accepted.specs.Constants as constants;
+ghost use Rattle.cmm_static_semantics.specs.Judging as judging;
+ghost use Rattle.cmm_static_semantics.specs.Constants as constants;
 ghost use Rattle.cmm_operators.specs.Fitting.{BitsFit, FitsIf, TypedFits};
 
 use crate::values::{BitsOf, TypedOf, Values};
-use cmm_accepted::{Bits, Known, Spot, Typed};
 use cmm_rules::Rule;
+use cmm_static_semantics::{Bits, Known, Spot, Typed};
 use cmm_words::{Constant, Width};
 
 /// A judgement, or the first place at which a rule is broken; no place where that is named elsewhere.

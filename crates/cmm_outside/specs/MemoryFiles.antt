@@ -7,7 +7,7 @@ use Rattle.cmm_outside.specs.declared.storage.CallKind.TheVariants.{Read, Create
 use Rattle.cmm_outside.specs.FailingCalls.{Calls}
 use Rattle.cmm_outside.specs.Storage.{FailedCall, bytes_of}
 
--- what there is of one name: room for so many bytes, and the file's bytes, where there is a file
+-- what there is of one name: room for n bytes, and the file's bytes, where there is a file
 pub record Place : Type 0 where
   pub name : List ℕ
   pub room : ℕ

@@ -65,7 +65,7 @@ impl MemFiles {
         Ok(())
     }
 
-    /// Takes memory for a file of that name of up to so many bytes. Room that it has already it keeps.
+    /// Takes memory for a file of that name of up to `room` bytes. Room that it has already it keeps.
     pub fn room(&mut self, name: &str, bytes: u64) -> Result<(), AllocError>
         ensures ok { OnOk result (Puts self.old.places self.new.places name.now (record {
           name = name.now;

@@ -31,7 +31,7 @@ impl Model for MemSink {
 impl MemSink {
     ghost use Rattle.cmm_outside.specs.FailingCalls.{no_calls};
 
-    /// A sink with room for so many bytes. The list of the calls that are to fail may be in any order.
+    /// A sink with room for `room` bytes. The list of the calls that are to fail may be in any order.
     pub fn new(alloc: Global, room: u64, failing: Vec<u64>) -> Result<Self, AllocError>
         ensures { IfOk result (λ sink. sink ≡ record { taken = []; room = room; calls = no_calls failing.items }) }
     {

@@ -37,7 +37,7 @@ impl Place {
     ghost use Rattle.cmm_outside.specs.MemoryFiles.{holding, room_left, serves};
     ghost use Rattle.cmm_outside.specs.Storage.{bytes_of};
 
-    /// Room for so many bytes, and no file.
+    /// Room for `room` bytes, and no file.
     pub fn new(alloc: Global, name: &str, room: usize) -> Result<Self, AllocError>
         ensures { IfOk result (λ place. place ≡ record { name = name.now; room = room; file = None }) }
     {
@@ -106,7 +106,7 @@ impl Place {
         count
     }
 
-    /// Takes memory for a file of so many bytes.
+    /// Takes memory for a file of `room` bytes.
     pub fn grow(&mut self, room: usize) -> Result<(), AllocError>
         ensures ok { OnOk result (self.new ≡ record self.old { room = max self.old.room room }) }
         ensures err { OnErr result (self.new ≡ self.old) }

@@ -2,12 +2,12 @@
 use Rattle.std.proofs.Common.{◌≡◌, subst, ℕ, zero, suc, pred, ◌<◌, Bool, true, false, IsTrue, IsFalse, length, Option, Some, None, MatchOption, Result, Ok, refl, arith}
 use Rattle.cmm_lexer.specs.declared.piece.Lexeme.{Lexeme}
 use Rattle.cmm_ast.specs.declared.expression.TypeName.{TypeName}
-use Rattle.cmm_readers.specs.Reading.{Point, Reads, ◌>>=◌, if_next, skip, give, here}
-use Rattle.cmm_readers.specs.ExpressionReading.{type_name}
-use Rattle.cmm_readers.specs.PartReading.{is_width}
-use Rattle.cmm_readers.specs.DeclarationReading.{bits}
-use Rattle.cmm_readers.specs.StatementReading.{block}
-use Rattle.cmm_readers.specs.UnitReading.{span, item, flat_item}
+use Rattle.cmm_grammar_laws.specs.Reading.{Point, Reads, ◌>>=◌, if_next, skip, give, here}
+use Rattle.cmm_grammar_laws.specs.ExpressionReading.{type_name}
+use Rattle.cmm_grammar_laws.specs.PartReading.{is_width}
+use Rattle.cmm_grammar_laws.specs.DeclarationReading.{bits}
+use Rattle.cmm_grammar_laws.specs.StatementReading.{block}
+use Rattle.cmm_grammar_laws.specs.UnitReading.{span, item, flat_item}
 use Rattle.cmm_ast.specs.Taking.{is_word}
 use Rattle.cmm_lexer.specs.declared.keyword.Keyword.TheVariants.{Span as SpanWord}
 use Rattle.cmm_ast.specs.declared.unit.Item.{Item}

@@ -5,12 +5,12 @@ ghost use Rattle.cmm_lexer.specs.Spellings.{symbol_number};
 ghost use Rattle.cmm_ast.specs.Taking.{is_sign};
 ghost use Rattle.cmm_lexer.specs.declared.symbol.Symbol.TheVariants.{Open, Less};
 ghost use Rattle.cmm_ast.specs.declared.statement.Lvalue.TheVariants as lvalues;
-ghost use Rattle.cmm_readers.specs.declared.told_apart.Targets.TheVariants as targets;
-ghost use Rattle.cmm_readers.specs.Reading.{◌>>=◌ as followed_by, optional, round, may_list};
-ghost use Rattle.cmm_readers.specs.ExpressionReading.{whole_memory};
-ghost use Rattle.cmm_readers.specs.ProcedureReading.{variables};
-ghost use Rattle.cmm_readers.specs.PartReading as parts;
-ghost use Rattle.cmm_readers.specs.StatementReading as readers;
+ghost use Rattle.cmm_grammar_laws.specs.declared.told_apart.Targets.TheVariants as targets;
+ghost use Rattle.cmm_grammar_laws.specs.Reading.{◌>>=◌ as followed_by, optional, round, may_list};
+ghost use Rattle.cmm_grammar_laws.specs.ExpressionReading.{whole_memory};
+ghost use Rattle.cmm_grammar_laws.specs.ProcedureReading.{variables};
+ghost use Rattle.cmm_grammar_laws.specs.PartReading as parts;
+ghost use Rattle.cmm_grammar_laws.specs.StatementReading as readers;
 ghost use Rattle.cmm_parser.specs.inside.Parsing.{Takes, MayTake, point_of};
 
 use crate::fault::Stop;
@@ -20,9 +20,9 @@ use cmm_ast::{
     Actual, Callee, CalleeForm, Exit, Ident, Kinded, LocalForm, Lvalue, Memory, Modifiers,
     StmtForm, Text, TypeName,
 };
+use cmm_grammar_laws::{PartForm, Targets};
 use cmm_items::Items;
 use cmm_lexer::{Keyword, Symbol, TokenKind};
-use cmm_readers::{PartForm, Targets};
 use std::alloc::{AllocError, Global};
 
 /// This name, as what an assignment begins with.

@@ -4,17 +4,17 @@ ghost use Rattle.std.specs.Prelude.{◌≡◌, ◌+◌, ◌-◌, ◌<◌, ◌≤
 ghost use Rattle.cmm_lexer.specs.declared.symbol.Symbol.TheVariants.{OpenSquare};
 ghost use Rattle.cmm_lexer.specs.Spellings.{symbol_number};
 ghost use Rattle.cmm_ast.specs.Taking.{is_sign};
-ghost use Rattle.cmm_readers.specs.Reading.{braces, optional, many};
-ghost use Rattle.cmm_readers.specs.StatementReading as readers;
-ghost use Rattle.cmm_readers.specs.StatementReading.{is_within};
+ghost use Rattle.cmm_grammar_laws.specs.Reading.{braces, optional, many};
+ghost use Rattle.cmm_grammar_laws.specs.StatementReading as readers;
+ghost use Rattle.cmm_grammar_laws.specs.StatementReading.{is_within};
 ghost use Rattle.cmm_parser.specs.inside.Parsing.{Takes, MayTake, TakesBlocks, MayTakeBlocks, TakesChain, MayTakeChain, point_of};
 
 use crate::fault::Stop;
 use crate::parser::Parser;
 use cmm_ast::{Arm, Block, Local, Otherwise, Part, Span, Stmt, StmtForm};
+use cmm_grammar_laws::PartForm;
 use cmm_items::{Boxed, Items};
 use cmm_lexer::{Keyword, Symbol};
-use cmm_readers::PartForm;
 
 /// The part with these numbers of its first token and of the token after its last.
 fn part_of(token: u32, past: u32, form: PartForm) -> Part

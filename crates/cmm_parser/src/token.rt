@@ -3,11 +3,11 @@
 ghost use Rattle.std.specs.Prelude.{◌≡◌, ◌+◌, ◌-◌, ◌^◌, ◌<◌, ◌≤◌, length, Ok, Some, IsTrue, IsFalse, OnOk, OnSome, MatchOption, option_map};
 ghost use Rattle.cmm_lexer.specs.Spellings.{keyword_number, symbol_number};
 ghost use Rattle.cmm_ast.specs.Taking.{is_word, is_sign};
-ghost use Rattle.cmm_readers.specs.Reading.{next, past, passes};
-ghost use Rattle.cmm_readers.specs.Reading as readers;
-ghost use Rattle.cmm_readers.specs.ExpressionReading.{operator_name};
-ghost use Rattle.cmm_readers.specs.PartReading.{is_any_name, is_any_text};
-ghost use Rattle.cmm_readers.specs.DeclarationReading.{is_other, optional_text};
+ghost use Rattle.cmm_grammar_laws.specs.Reading.{next, past, passes};
+ghost use Rattle.cmm_grammar_laws.specs.Reading as readers;
+ghost use Rattle.cmm_grammar_laws.specs.ExpressionReading.{operator_name};
+ghost use Rattle.cmm_grammar_laws.specs.PartReading.{is_any_name, is_any_text};
+ghost use Rattle.cmm_grammar_laws.specs.DeclarationReading.{is_other, optional_text};
 ghost use Rattle.cmm_lexer.specs.declared.piece.Lexeme.{Lexeme};
 ghost use Rattle.cmm_parser.specs.inside.Parsing.{Takes, MayTake, Skips, Stays, NoWord, NoSymbol, skipped, point_of};
 ghost use Rattle.cmm_parser.specs.Faults.{lexeme_in};

@@ -1,4 +1,4 @@
--- The test of liveness finds just what paths reach: what it finds within so many statements is a path, a path is found
+-- The test of liveness finds just what paths reach: what it finds within n statements is a path, a path is found
 -- within its length, and what is found at all is found within as many statements as the procedure has tokens.
 use Rattle.std.proofs.Common.{◌≡◌, ℕ, zero, suc, ◌≤◌, Bool, true, false, IsTrue, IsFalse, Contains, List, [], ◌∷◌, length, refl, arith}
 use Rattle.std.specs.List.{AllByRecursion}
@@ -93,7 +93,7 @@ read_more t u v false ws all h =
     along_one u v ws found.way found.is_one found.unwritten passes
 
 module _ (q : Proc) (v : ℕ) where
-  -- some path of at most so many statements reads the variable
+  -- some path of at most n statements reads the variable
   abbrev test : ℕ → List Statement → Bool
   test n position = is_read_within n q v position
 

@@ -81,7 +81,7 @@ test operator left right = c.Compare operator W64 left right
 
 -- ---- statements
 
--- a statement of so many tokens
+-- a statement of n tokens
 abbrev pub is : ℕ → Form → Statement
 is tokens form = record { tokens = tokens; form = form }
 
@@ -109,7 +109,7 @@ variable width kind invariant = record { width = width; kind = kind; invariant =
 abbrev pub plain : Width → VarInfo
 plain width = variable width [] false
 
--- a label of stackdata at an alignment, and so many bytes at one
+-- a label of stackdata at an alignment, and n bytes at one
 abbrev pub stack_label : ℕ → StackItem
 stack_label align = record { align = align; length = 0; label = true }
 
@@ -133,7 +133,7 @@ call_site results = record {
   spans = [];
 }
 
--- the site of a yield of so many values
+-- the site of a yield of n values
 abbrev pub yield_site : List ℕ → ℕ → Site
 yield_site results count = record (call_site results) { yield_values = Some count }
 
@@ -169,7 +169,7 @@ program procs = record { procs = procs; datums = []; globals = []; labels = []; 
 
 -- ---- placements: procedures stand 4096 bytes apart
 
--- a frame of so many bytes, and one with pairs and labels of stackdata
+-- a frame of n bytes, and one with pairs and labels of stackdata
 abbrev pub frame : ℕ → PlaceRow
 frame size = record { code = 0; frame = size; pairs = []; stack = [] }
 
@@ -197,7 +197,7 @@ alone procedure frame = sample (program (procedure ∷ [])) (frame ∷ [])
 
 -- ---- settings and clients
 
--- a stack of so many bytes, and a client
+-- a stack of n bytes, and a client
 abbrev pub setting : Sample → ℕ → Script → Setting
 setting s stack script =
     record { program = s.program; placement = s.placement; stack_base = stack_base; stack_size = stack; script = script }

@@ -18,7 +18,7 @@ one_stays true c h e = refl
 one_stays false true h e = absurd (omega arith)
 one_stays false false h e = e
 
--- the round after so many adds nothing here
+-- the round after n adds nothing here
 abbrev pub IsStill : {A : Type 0} → (ℕ → A → Bool) → ℕ → A → Type 0
 IsStill test n a = test (suc n) a ≡ true → test n a ≡ true
 

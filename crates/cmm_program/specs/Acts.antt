@@ -33,7 +33,7 @@ pub data Act : Type 0 where
   -- at a site: a division of words of a width, whose value these take
   Checked : ℕ → List Target → Op2 → Width → Value → Value → Act
   Jump : Value → List Passed → Act
-  -- by an exit, of a site with so many alternate exits
+  -- by an exit, of a site with n alternate exits
   Return : ℕ → ℕ → List Passed → Act
   -- to a continuation value; the last list has the continuations of its own activation
   Cut : Value → List Passed → List ℕ → Act

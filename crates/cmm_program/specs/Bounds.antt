@@ -16,6 +16,6 @@ step_factor p = 64 * longest p.procs
 abbrev pub frame_bound : Proc → ℕ
 frame_bound p = 8 * p.tokens + stackdata_size p.stack + 160
 
--- the most code that units with so many tokens may have, in bytes
+-- the most code that units with n tokens may have, in bytes
 abbrev pub code_bound : ℕ → ℕ
 code_bound tokens = 256 * tokens + 8192

@@ -30,7 +30,7 @@ pub record Located : Type 0 where
 abbrev pub located : ℕ → Suspended → Located
 located younger a = record { younger = younger; procedure = a.procedure; number = a.number; site = a.site }
 
--- the youngest of these activations, if it is suspended, where so many more are younger
+-- the youngest of these activations, if it is suspended, where n more are younger
 abbrev pub first_located : Setting → ℕ → List Activation → Option Located
 first_located s younger activations = with_some (suspended_at s activations) (λ a. Some (located younger a))
 
@@ -42,7 +42,7 @@ all_located s younger (a ∷ older) = elim (first_located s younger (a ∷ older
   | None ↦ []
 ]
 
--- but for so many of the youngest; the chain never breaks
+-- but for n of the youngest; the chain never breaks
 abbrev pub chain_behind : Setting → ℕ → Store → Chain Located
 chain_behind s younger store = record { activations = all_located s younger (drop younger store.activations); broken = None }
 
@@ -53,7 +53,7 @@ values_at (a ∷ older) = a.variables
 abbrev pub located_shown : Setting → Store → Located → walk.Activation
 located_shown s store a = site_shown s a.procedure a.number a.site (values_at (drop a.younger store.activations))
 
--- the activation that has so many younger ones, if there is one
+-- the activation that has n younger ones, if there is one
 abbrev pub at_number : Setting → ℕ → Store → Option Located
 at_number s n store = first_located s n (drop n store.activations)
 
@@ -91,7 +91,7 @@ with_data s store name offset bytes = with_some (linked_label name s.program.lab
 
 -- ---- exits
 
--- so many of the youngest activations are gone from a store, and control lands
+-- n of the youngest activations are gone from a store, and control lands
 pub record Landed : Type 0 where
   pub gone : ℕ
   pub store : Store

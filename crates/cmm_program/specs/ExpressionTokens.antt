@@ -49,7 +49,7 @@ sign_level _ = None
 abbrev pub Shortest : Type 0
 Shortest = ℕ → ℕ
 
--- a text of so many tokens that binds as tightly as its level; in brackets where more is asked for
+-- a text of n tokens that binds as tightly as its level; in brackets where more is asked for
 abbrev pub at_level : ℕ → ℕ → Shortest
 at_level level tokens asked = elim (nat_le asked level) [ true ↦ tokens | false ↦ 2 + tokens ]
 
@@ -67,7 +67,7 @@ binary (Some level) a b asked = min (at_level level (a level + 1 + b (suc level)
 
 -- ---- expressions
 
--- a constant may have a name; the address of a procedure or a label so many bytes on is a sum
+-- a constant may have a name; the address of a procedure or a label n bytes on is a sum
 abbrev pub address_tokens : ℕ → Shortest
 address_tokens zero asked = 1
 address_tokens (suc _) asked = at_level 5 3 asked

@@ -94,6 +94,6 @@ abbrev pub with_site : Option ℕ → List Activation → List Activation
 with_site site [] = []
 with_site site (a ∷ older) = record a { site = site } ∷ older
 
--- without the youngest activations, so many
+-- without the youngest activations, n
 abbrev pub without : ℕ → Store → Store
 without n store = record store { activations = drop n store.activations; memory = record store.memory { rooms = drop n store.memory.rooms } }

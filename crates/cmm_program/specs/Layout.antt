@@ -58,7 +58,7 @@ constant_value p placement (Number n width) = n
 constant_value p placement (Code proc plus) = ((row_of placement proc).code + plus) % 2 ^ 64
 constant_value p placement (Address label plus) = (slice_index_or (label_addresses p) label 0 + plus) % 2 ^ 64
 
--- so many bytes of a number, the lowest first
+-- n bytes of a number, the lowest first
 abbrev pub bytes_of : ℕ → ℕ → List ℕ
 bytes_of zero value = []
 bytes_of (suc n) value = value % 256 ∷ bytes_of n (value / 256)

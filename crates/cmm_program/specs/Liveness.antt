@@ -139,7 +139,7 @@ along test v (w ∷ ws) = elim (is_among v w.written) [
   | false ↦ elim (test w.to) [ true ↦ true | false ↦ along test v ws ]
 ]
 
--- Some path of at most so many statements reads the variable, and nothing writes it before on that path.
+-- Some path of at most n statements reads the variable, and nothing writes it before on that path.
 abbrev pub is_read_within : ℕ → Proc → ℕ → List Statement → Bool
 is_read_within zero p v position = false
 is_read_within (suc n) p v [] = false

@@ -6,7 +6,7 @@ use Rattle.cmm_program.specs.declared.procedure.Target.{Target}
 use Rattle.cmm_program.specs.declared.procedure.Target.TheVariants.{Variable, Register}
 
 -- where a value is put: a variable or a register, or the word of a width in memory, at an address that is to be a
--- multiple of so many bytes
+-- multiple of n bytes
 pub data Place : Type 0 where
   Held : Target → Place
   Memory : Width → ℕ → ℕ → Place
@@ -37,7 +37,7 @@ pub data Order : Type 0 where
   -- at a site
   Yield : ℕ → List ℕ → Order
   Jump : ℕ → List Word → Order
-  -- by an exit, of a site with so many alternate exits
+  -- by an exit, of a site with n alternate exits
   Return : ℕ → ℕ → List Word → Order
   -- to a continuation value; the last list has the continuations of its own activation
   Cut : ℕ → List Word → List ℕ → Order

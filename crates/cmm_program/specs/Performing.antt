@@ -17,9 +17,9 @@ pub data Transfer : Type 0 where
   Stay : ℕ → Store → Transfer
   -- the youngest activation waits at its site, and the state for the client
   Wait : Store → Transfer
-  -- so many of the youngest activations are gone, and control lands
+  -- n of the youngest activations are gone, and control lands
   Away : ℕ → Store → Landing → Transfer
-  -- so many of the youngest activations are gone, and the run has ended
+  -- n of the youngest activations are gone, and the run has ended
   Over : ℕ → Store → Transfer
 
 -- ---- calls and jumps

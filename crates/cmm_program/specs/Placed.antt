@@ -24,7 +24,7 @@ is_frame_size p size = (size % 16 == 0) && nat_le size (frame_bound p)
 abbrev pub is_pair_in : ℕ → ℕ → Bool
 is_pair_in frame offset = (offset % 8 == 0) && nat_le (offset + 16) frame
 
--- so many bytes from an offset on and the pair at another have none in common
+-- n bytes from an offset on and the pair at another have none in common
 abbrev pub apart : ℕ → ℕ → ℕ → Bool
 apart offset size pair = (size == 0) || nat_le (offset + size) pair || nat_le (pair + 16) offset
 

@@ -6,7 +6,7 @@ use cmm_words::{Cmp, Constant, Op1, Op2, Width};
 /// What has a word as its value. It has no effect.
 #[derive(Debug, Drop)]
 pub enum Expression {
-    /// A number, or the address of a procedure or of a data label, so many bytes on.
+    /// A number, or the address of a procedure or of a data label with a number of bytes added.
     Known(Constant),
     /// The value of a variable of the procedure, by its number, and its width.
     Variable(u32, Width),

@@ -131,7 +131,7 @@ fn pairs_lie_inside(frame: u32, pairs: &[u32]) -> bool
     true
 }
 
-/// Whether so many bytes from a place on have none in common with the pairs at these offsets.
+/// Whether `size` bytes from an offset on have none in common with the pairs at these offsets.
 fn lies_apart(place: u64, size: u64, pairs: &[u32]) -> bool
     requires { place + size < 2 ^ 63 }
     ensures { result ≡ list_all (λ other. apart place size other) pairs.now }

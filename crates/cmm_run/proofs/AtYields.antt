@@ -12,14 +12,14 @@ use Rattle.cmm_script.specs.Lines.{yield_line}
 use Rattle.cmm_program.specs.Commands.{commands_for}
 use Rattle.cmm_program.specs.State as c
 use Rattle.cmm_program.specs.Asking.{Break, Chain, at_youngest}
-use Rattle.cmm_execution.specs.Changes.{at_pc}
+use Rattle.cmm_image_machine.specs.Changes.{at_pc}
 use Rattle.cmm_program.specs.Commands.{answer_of}
-use Rattle.cmm_execution.specs.Frames.{Element, Point, Found, Activation, Nothing, Broken, along, chain_from, chain_of, first_point, point_after}
-use Rattle.cmm_execution.specs.Laws.{KeepFrames}
-use Rattle.cmm_execution.specs.Machine as image
-use Rattle.cmm_execution.specs.Machine.{Launch, Run, Running, Ended, map_of, region_of, askable, yielded_at, left, yields, yielded, goes_on, step}
-use Rattle.cmm_execution.specs.Regions.{Region, values_in}
-use Rattle.cmm_execution.proofs.Shared.{chain_goes_on}
+use Rattle.cmm_image_machine.specs.Frames.{Element, Point, Found, Activation, Nothing, Broken, along, chain_from, chain_of, first_point, point_after}
+use Rattle.cmm_image_machine.specs.Laws.{KeepFrames}
+use Rattle.cmm_image_machine.specs.Machine as image
+use Rattle.cmm_image_machine.specs.Machine.{Launch, Run, Running, Ended, map_of, region_of, askable, yielded_at, left, yields, yielded, goes_on, step}
+use Rattle.cmm_image_machine.specs.Regions.{Region, values_in}
+use Rattle.cmm_image_machine.proofs.Shared.{chain_goes_on}
 use Rattle.cmm_run.specs.declared.machine.Machine.{Machine}
 use Rattle.cmm_run.specs.declared.outcome.Outcome.{Outcome}
 use Rattle.cmm_run.specs.declared.outcome.Outcome.TheVariants as outcome

@@ -11,7 +11,7 @@ use Rattle.rv_table.specs.Registers.{registers_of, with_register}
 use Rattle.rv_memory.specs.Regions as regions
 use Rattle.rv_memory.specs.Regions.{Regions, memory_of, started}
 use Rattle.cmm_image.specs.declared.parts.ImageParts.{ImageParts}
-use Rattle.cmm_execution.specs.Machine.{Launch, map_of, first_memory}
+use Rattle.cmm_image_machine.specs.Machine.{Launch, map_of, first_memory}
 use Rattle.cmm_run.specs.declared.machine.Machine.{Machine}
 use Rattle.cmm_run.specs.inside.Loading.{IsReady}
 use Rattle.cmm_run.proofs.Zeros.{zero_at}

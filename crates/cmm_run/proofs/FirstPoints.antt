@@ -9,10 +9,10 @@ use Rattle.cmm_image.specs.declared.parts.ImageParts.{ImageParts}
 use Rattle.cmm_image.specs.declared.rows.SiteRow.{SiteRow}
 use Rattle.cmm_image.specs.ImageFormat.{procedure_at}
 use Rattle.cmm_image.specs.Sites.{site_place}
-use Rattle.cmm_execution.specs.Frames.{Point, activation_at, first_point, found_at, is_end, is_frame, site_at}
-use Rattle.cmm_execution.specs.Machine.{Launch, map_of, region_of}
-use Rattle.cmm_execution.specs.Regions.{Region, top}
-use Rattle.cmm_execution.proofs.Shared.{sites_are_found}
+use Rattle.cmm_image_machine.specs.Frames.{Point, activation_at, first_point, found_at, is_end, is_frame, site_at}
+use Rattle.cmm_image_machine.specs.Machine.{Launch, map_of, region_of}
+use Rattle.cmm_image_machine.specs.Regions.{Region, top}
+use Rattle.cmm_image_machine.proofs.Shared.{sites_are_found}
 use Rattle.cmm_run.specs.declared.machine.Machine.{Machine}
 use Rattle.cmm_run.specs.inside.Yields.{count_found, count_of, found_first}
 

@@ -5,8 +5,8 @@ use Rattle.std.specs.Fmt as Fmt
 use Rattle.rv_table.specs.declared.instruction.Instr.TheVariants.{Addi, Ecall}
 use Rattle.rv_table.specs.declared.trap.TrapKind.TheVariants.{BadTarget}
 use Rattle.cmm_image.specs.declared.parts.ImageParts.{ImageParts}
-use Rattle.cmm_execution.specs.Machine.{Launch}
-use Rattle.cmm_execution.proofs.Shared.{bare, yielding}
+use Rattle.cmm_image_machine.specs.Machine.{Launch}
+use Rattle.cmm_image_machine.proofs.Shared.{bare, yielding}
 use Rattle.cmm_run.specs.declared.outcome.Outcome.{Outcome}
 use Rattle.cmm_run.specs.declared.outcome.Outcome.TheVariants.{Done, Stopped, StepLimit, Trap, InputFault, OutputFault, Torn}
 use Rattle.cmm_run.specs.Outside.{Outside}

@@ -2,8 +2,8 @@
 use Rattle.std.proofs.Common.{◌≡◌, ◌≢◌, ℕ, zero, suc, ◌+◌, ◌-◌, ◌≤◌, List, ap, sym, ◌∙◌, subst, arith, add-zero}
 use Rattle.cmm_outside.specs.Output.{AppendsFront}
 use Rattle.cmm_report.proofs.Shared.{front_longer}
-use Rattle.cmm_execution.specs.Machine.{Launch, Running, step, image_after}
-use Rattle.cmm_execution.proofs.Shared.{over_stays, run_grows, runs_are_the_machine}
+use Rattle.cmm_image_machine.specs.Machine.{Launch, Running, step, image_after}
+use Rattle.cmm_image_machine.proofs.Shared.{over_stays, run_grows, runs_are_the_machine}
 use Rattle.cmm_run.specs.Outside.{Outside}
 use Rattle.cmm_run.specs.Runs.{ShowsFront}
 

@@ -10,11 +10,11 @@ use Rattle.rv_sim.specs.declared.event.Event.TheVariants as event
 use Rattle.rv_sim.specs.Stepping.{event_of, outcome_of, state_of}
 use Rattle.cmm_outside.specs.Output.{Appends, AppendsFront}
 use Rattle.cmm_report.proofs.Shared.{front_longer}
-use Rattle.cmm_execution.proofs.Shared.{step_grows}
+use Rattle.cmm_image_machine.proofs.Shared.{step_grows}
 use Rattle.cmm_program.specs.Performing.{next_byte}
 use Rattle.cmm_program.specs.State as c
-use Rattle.cmm_execution.specs.Changes.{at_pc}
-use Rattle.cmm_execution.specs.Machine.{Launch, Run, Status, Running, Ended, Trapped, map_of, one_taken, after_instruction, step}
+use Rattle.cmm_image_machine.specs.Changes.{at_pc}
+use Rattle.cmm_image_machine.specs.Machine.{Launch, Run, Status, Running, Ended, Trapped, map_of, one_taken, after_instruction, step}
 use Rattle.cmm_run.specs.declared.machine.Machine.{Machine}
 use Rattle.cmm_run.specs.declared.outcome.Outcome.{Outcome}
 use Rattle.cmm_run.specs.declared.outcome.Outcome.TheVariants as outcome

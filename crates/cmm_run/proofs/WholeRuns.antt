@@ -1,7 +1,7 @@
 -- Whole runs, turn by turn.
 use Rattle.std.proofs.Common.{◌≡◌, ℕ, suc, ◌+◌, ◌<◌, List, Option, Some, None, inl, inr, ap, sym, ◌∙◌, subst, arith}
 use Rattle.cmm_outside.specs.Output.{Appends, AppendsFront}
-use Rattle.cmm_execution.specs.Machine.{Launch, Run, step, image_after}
+use Rattle.cmm_image_machine.specs.Machine.{Launch, Run, step, image_after}
 use Rattle.cmm_run.specs.declared.machine.Machine.{Machine}
 use Rattle.cmm_run.specs.declared.outcome.Outcome.{Outcome}
 use Rattle.cmm_run.specs.declared.outcome.Outcome.TheVariants.{Done, Stopped, StackLimit, StepLimit, Trap, InputFault, OutputFault, Torn}
@@ -13,7 +13,7 @@ use Rattle.cmm_run.proofs.Moving.{moves_all, moves_front}
 use Rattle.cmm_run.proofs.Turning.{whole_front}
 use Rattle.cmm_run.proofs.Steps.{front_until, stays_until, step_last}
 
--- so many turns were done, and the run goes on
+-- n turns were done, and the run goes on
 pub record HasRun (l : Launch) (start now : Outside) (machine : Machine) (count : ℕ) : Type 0 where
   pub fails : NoneFailed start now
   pub at : (input : List ℕ) → start.input ≡ Some input → IsAt machine start now (image_after l input count)

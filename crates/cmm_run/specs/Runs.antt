@@ -5,8 +5,8 @@ use Rattle.rv_table.specs.Machine as rv
 use Rattle.rv_table.specs.Machine.{instruction_step}
 use Rattle.cmm_outside.specs.Output.{Appends, AppendsFront}
 use Rattle.cmm_program.specs.State as c
-use Rattle.cmm_execution.specs.Machine as image
-use Rattle.cmm_execution.specs.Machine.{Launch, Run, Status, Running, Ended, Trapped, map_of, image_after}
+use Rattle.cmm_image_machine.specs.Machine as image
+use Rattle.cmm_image_machine.specs.Machine.{Launch, Run, Status, Running, Ended, Trapped, map_of, image_after}
 use Rattle.cmm_run.specs.declared.outcome.Outcome.{Outcome}
 use Rattle.cmm_run.specs.declared.outcome.Outcome.TheVariants.{Done, Stopped, StackLimit, StepLimit, Trap, InputFault, OutputFault, Torn}
 use Rattle.cmm_run.specs.Outside.{Outside, NoneFailed, InputFailed, OutputFailed}
@@ -65,7 +65,7 @@ Fails before after StepLimit = NoneFailed before after
 Fails before after (Trap t) = NoneFailed before after
 Fails before after (Torn t) = NoneFailed before after
 
--- A run of an image within so many instructions has this outcome.
+-- A run of an image within n instructions has this outcome.
 pub record Runs (l : Launch) (steps : ℕ) (before after : Outside) (outcome : Outcome) : Type 0 where
   pub fails : Fails before after outcome
   -- of the input that there is, where it tells its bytes

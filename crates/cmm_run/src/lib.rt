@@ -1,7 +1,7 @@
 //! Sessions that run images.
 //!
 //! A session is an image with its script and its limits, ready to run. This layer promises that `Session::run` does exactly what the definition of
-//! an image does (`cmm_execution.specs.Machine`), for every image, a hostile one too: what it writes, takes and answers is that of the
+//! an image does (`cmm_image_machine.specs.Machine`), for every image, a hostile one too: what it writes, takes and answers is that of the
 //! state after as many instructions as the limit allows, or of the first one that has ended. `Session::load` takes all memory; a run takes none.
 //! For now a script has no block, so the first yield of a run stops it.
 //!

@@ -22,7 +22,7 @@ pub struct Loaded {
 }
 
 impl Model for Loaded {
-    ghost use Rattle.cmm_execution.specs.Machine.{Launch};
+    ghost use Rattle.cmm_image_machine.specs.Machine.{Launch};
     ghost use Rattle.cmm_run.specs.inside.Loading.{IsLoaded};
 
     ghost Value = { Launch };

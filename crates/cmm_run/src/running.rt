@@ -1,7 +1,7 @@
 //! The turns of a run.
 ghost use Rattle.std.specs.Prelude.{◌≡◌};
 ghost use Rattle.rv_memory.specs.Regions.{map_of as memory_map_of};
-ghost use Rattle.cmm_execution.specs.Machine.{Run, map_of};
+ghost use Rattle.cmm_image_machine.specs.Machine.{Run, map_of};
 ghost use Rattle.cmm_run.specs.Outside.{Outside, outside_of};
 ghost use Rattle.cmm_run.specs.Runs.{Runs};
 ghost use Rattle.cmm_run.specs.inside.Loading.{IsReady};
@@ -15,7 +15,7 @@ use cmm_outside::{Sink, Source};
 use rv_sim::{Event, execute};
 use rv_table::Trap;
 
-/// Runs an image from its start, for no more than so many instructions.
+/// Runs an image from its start, for no more than `steps` instructions.
 pub fn run<I: Source, O: Sink, E: Sink>(
     loaded: &Loaded,
     steps: u64,

@@ -1,7 +1,7 @@
 //! Sessions.
 ghost use Rattle.std.specs.Prelude.{◌≡◌, ◌≤◌, [], ℕ, None, Some, IfOk};
 ghost use Rattle.rv_memory.specs.Regions.{map_of as memory_map_of, started};
-ghost use Rattle.cmm_execution.specs.Machine.{map_of};
+ghost use Rattle.cmm_image_machine.specs.Machine.{map_of};
 ghost use Rattle.cmm_run.specs.Outside.{outside_of};
 ghost use Rattle.cmm_run.specs.Runs.{Runs};
 ghost use Rattle.cmm_run.specs.declared.outcome.Outcome.{Outcome as OutcomeOf};

@@ -5,9 +5,9 @@ ghost use Rattle.rv_sim.specs.Stepping.{state_of};
 ghost use Rattle.rv_table.specs.Machine.{loaded as number_at, region_base, stack_base};
 ghost use Rattle.cmm_image.specs.ImageFormat.{procedure_at};
 ghost use Rattle.cmm_image.specs.Images.{IsImage};
-ghost use Rattle.cmm_execution.specs.Frames.{is_frame as is_frame_in};
-ghost use Rattle.cmm_execution.specs.Machine.{Launch, map_of};
-ghost use Rattle.cmm_execution.specs.Regions.{Region, bottom, top as top_of, value_place, values_in, word_at};
+ghost use Rattle.cmm_image_machine.specs.Frames.{is_frame as is_frame_in};
+ghost use Rattle.cmm_image_machine.specs.Machine.{Launch, map_of};
+ghost use Rattle.cmm_image_machine.specs.Regions.{Region, bottom, top as top_of, value_place, values_in, word_at};
 ghost use Rattle.cmm_run.specs.inside.Yields.{Counts, StopsWith, YieldsTo, count_found, count_of, found_first, values_at};
 
 use crate::machine::Machine;
@@ -33,7 +33,7 @@ pub fn yields<E: Sink>(image: &Image, machine: &Machine, log: &mut E) -> Outcome
     }
 }
 
-/// Writes the line of a yield of so many values, which stops the run.
+/// Writes the line of a yield of `count` values, which stops the run.
 fn log_yield<E: Sink>(machine: &Machine, count: usize, log: &mut E) -> Outcome
     requires { count ≤ 64 }
     ensures { (r : Region) → r.address ≡ region_base → StopsWith (values_in r (state_of machine.now.regs machine.now.memory) count) E.taken E.faults log.old log.new result }

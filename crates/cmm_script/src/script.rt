@@ -30,7 +30,7 @@ pub enum Command {
     Var(u32),
     /// Gives the variable of this number at the cursor a value.
     Set(u32, Value),
-    /// Writes a value of 8 bytes at an exported data label, so many bytes further on.
+    /// Writes a value of 8 bytes behind an exported data label, by an offset in bytes.
     Poke(Items<u8>, u64, Value),
     /// Resumes the youngest activation at this exit with these values, as a return of the procedure that it calls.
     Return(u32, Items<Value>),

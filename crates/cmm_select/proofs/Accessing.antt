@@ -11,9 +11,9 @@ use Rattle.rv_table.specs.Row.{row}
 use Rattle.rv_table.specs.Words.{modulo, sum}
 use Rattle.rv_table.specs.declared.effects.Effect.TheVariants.{Load, Store}
 use Rattle.rv_table.specs.declared.instruction.Instr.{Instr}
-use Rattle.cmm_changes.proofs.Shared.{leads_load, leads_store, leads_weaker, set_keeps}
-use Rattle.cmm_changes.specs.Changes.{Writes}
-use Rattle.cmm_changes.specs.Pieces.{Leads}
+use Rattle.cmm_effects.proofs.Shared.{leads_load, leads_store, leads_weaker, set_keeps}
+use Rattle.cmm_effects.specs.Changes.{Writes}
+use Rattle.cmm_effects.specs.Pieces.{Leads}
 use Rattle.cmm_select.proofs.Places.{One}
 use Rattle.cmm_select.proofs.Sums.{loaded_whole, plus_none}
 use Rattle.cmm_select.specs.Cells.{IsCell, Loads}

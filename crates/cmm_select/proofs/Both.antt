@@ -4,8 +4,8 @@ use Rattle.rv_asm.specs.Appending.{Then}
 use Rattle.rv_asm.specs.Parts.{Code}
 use Rattle.rv_asm.specs.declared.part.Meaning.{Meaning}
 use Rattle.rv_table.specs.Machine.{State}
-use Rattle.cmm_changes.proofs.Shared.{keeps_then, leads_then, leads_weaker, runs_of}
-use Rattle.cmm_changes.specs.Changes.{Keeps}
+use Rattle.cmm_effects.proofs.Shared.{keeps_then, leads_then, leads_weaker, runs_of}
+use Rattle.cmm_effects.specs.Changes.{Keeps}
 use Rattle.cmm_select.proofs.Keeping.{brings_keeps, operand_as_before, still_brought}
 use Rattle.cmm_select.specs.Operands.{Brings, BringsBoth, BringsOperand, CanBringBoth, HasBoth, IsOperand, most_for, operand_at}
 use Rattle.cmm_select.specs.declared.operand.Operand.{Operand}

@@ -4,8 +4,8 @@ use Rattle.rv_asm.specs.Appending.{Then}
 use Rattle.rv_asm.specs.declared.part.Part.{Part}
 use Rattle.rv_asm.specs.declared.part.Part.TheVariants.{Single}
 use Rattle.rv_table.specs.declared.instruction.Instr.{Instr}
-use Rattle.cmm_changes.proofs.Shared.{adds_one, adds_then}
-use Rattle.cmm_changes.specs.Pieces.{Adds}
+use Rattle.cmm_effects.proofs.Shared.{adds_one, adds_then}
+use Rattle.cmm_effects.specs.Pieces.{Adds}
 use Rattle.cmm_select.proofs.Places.{One}
 
 abbrev pub also : List Part → Instr → List Part

@@ -10,9 +10,9 @@ use Rattle.rv_asm.specs.declared.part.Part.{Part}
 use Rattle.rv_table.specs.Machine.{State}
 use Rattle.rv_table.specs.Words.{modulo, shifted_left, signed, sum, upper, word}
 use Rattle.rv_table.specs.declared.instruction.Instr.TheVariants.{Addi, Lui, Slli}
-use Rattle.cmm_changes.proofs.Shared.{leads_set, leads_then, leads_weaker, runs_of}
-use Rattle.cmm_changes.specs.Changes.{Sets}
-use Rattle.cmm_changes.specs.Pieces.{Adds, Always, Leads}
+use Rattle.cmm_effects.proofs.Shared.{leads_set, leads_then, leads_weaker, runs_of}
+use Rattle.cmm_effects.specs.Changes.{Sets}
+use Rattle.cmm_effects.specs.Pieces.{Adds, Always, Leads}
 use Rattle.cmm_select.proofs.Places.{One, same_set, set_as}
 use Rattle.cmm_select.specs.Operands.{most_for_number}
 

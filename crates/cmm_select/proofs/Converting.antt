@@ -16,8 +16,8 @@ use Rattle.rv_table.specs.Row.{row}
 use Rattle.rv_table.specs.Words.{difference, modulo}
 use Rattle.rv_table.specs.declared.effects.Effect.TheVariants.{Set}
 use Rattle.rv_table.specs.declared.instruction.Instr.{Instr}
-use Rattle.cmm_changes.proofs.Shared.{keeps_then, leads_set, runs_then, runs_weaker, set_keeps}
-use Rattle.cmm_changes.specs.Pieces.{Always, Runs}
+use Rattle.cmm_effects.proofs.Shared.{keeps_then, leads_set, runs_then, runs_weaker, set_keeps}
+use Rattle.cmm_effects.specs.Pieces.{Always, Runs}
 use Rattle.cmm_select.proofs.Places.{One}
 use Rattle.cmm_select.specs.Operators.{Extends, HasWord, Narrows}
 use Rattle.cmm_select.specs.Unary.{Converts, OperatesOnOne}

@@ -18,10 +18,10 @@ use Rattle.rv_asm.specs.declared.part.Part.TheVariants.{Branch}
 use Rattle.rv_table.specs.Bounds.{IsSound}
 use Rattle.rv_table.specs.Machine.{State}
 use Rattle.rv_table.specs.Words.{is_less, signed}
-use Rattle.cmm_changes.proofs.Shared.{keeps_same, keeps_then, reaches_more, reaches_sound, runs_none, runs_weaker}
+use Rattle.cmm_effects.proofs.Shared.{keeps_same, keeps_then, reaches_more, reaches_sound, runs_none, runs_weaker}
 use Rattle.cmm_abi.specs.Registers.{is_scratch}
-use Rattle.cmm_changes.specs.Changes.{Keeps}
-use Rattle.cmm_changes.specs.Pieces.{Runs}
+use Rattle.cmm_effects.specs.Changes.{Keeps}
+use Rattle.cmm_effects.specs.Pieces.{Runs}
 use Rattle.cmm_select.proofs.Operating.{Signs}
 use Rattle.cmm_select.proofs.Wide.{signed_same}
 use Rattle.cmm_select.specs.Comparisons.{Chooses}

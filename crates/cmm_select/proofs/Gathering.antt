@@ -20,10 +20,10 @@ use Rattle.rv_table.specs.Words.{modulo, shifted_left, shifted_right, sum}
 use Rattle.rv_table.specs.declared.effects.Effect.TheVariants.{Load, Store}
 use Rattle.rv_table.specs.declared.instruction.Instr.{Instr}
 use Rattle.rv_table.specs.declared.instruction.Instr.TheVariants.{Add}
-use Rattle.cmm_changes.proofs.Shared.{keeps_then, leads_load, leads_set, leads_store_alone, leads_then, leads_weaker, runs_of, set_keeps}
+use Rattle.cmm_effects.proofs.Shared.{keeps_then, leads_load, leads_set, leads_store_alone, leads_then, leads_weaker, runs_of, set_keeps}
 use Rattle.cmm_abi.specs.Registers.{is_scratch}
-use Rattle.cmm_changes.specs.Changes.{Keeps, Sets, Writes}
-use Rattle.cmm_changes.specs.Pieces.{Adds, Always, Leads}
+use Rattle.cmm_effects.specs.Changes.{Keeps, Sets, Writes}
+use Rattle.cmm_effects.specs.Pieces.{Adds, Always, Leads}
 use Rattle.cmm_select.proofs.Places.{One, set_as}
 use Rattle.cmm_select.proofs.Sums.{loaded_whole, plus_near}
 use Rattle.cmm_select.specs.Cells.{IsCell, Loads}

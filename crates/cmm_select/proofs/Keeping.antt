@@ -7,9 +7,9 @@ use Rattle.cmm_chain.specs.declared.frame.Location.TheVariants.{Slot, Saved, Tem
 use Rattle.rv_asm.specs.declared.part.Meaning.{Meaning}
 use Rattle.rv_table.specs.Machine.{MemoryMap, State, is_accessible, stored}
 use Rattle.std.specs.Prelude.{List}
-use Rattle.cmm_changes.proofs.Shared.{kept_is_reachable, kept_is_read}
+use Rattle.cmm_effects.proofs.Shared.{kept_is_reachable, kept_is_read}
 use Rattle.cmm_abi.specs.Registers.{is_scratch}
-use Rattle.cmm_changes.specs.Changes.{Keeps, Puts, PutsRegister, Writes}
+use Rattle.cmm_effects.specs.Changes.{Keeps, Puts, PutsRegister, Writes}
 use Rattle.cmm_select.specs.Destinations.{CanPut, PutsTo}
 use Rattle.cmm_select.specs.Operands.{Brings, CanBringOperand, IsOperand, operand_at}
 use Rattle.cmm_select.specs.Sources.{CanBring, IsSource, brought}

@@ -5,9 +5,9 @@ use Rattle.cmm_words.specs.declared.width.Width.{Width}
 use Rattle.rv_asm.specs.Appending.{Then}
 use Rattle.rv_asm.specs.Parts.{Code}
 use Rattle.rv_table.specs.Machine.{MemoryMap, State, loaded, stored}
-use Rattle.cmm_changes.proofs.Shared.{keeps_then, leads_then, leads_weaker, runs_of}
-use Rattle.cmm_changes.specs.Changes.{Writes}
-use Rattle.cmm_changes.specs.Pieces.{Leads}
+use Rattle.cmm_effects.proofs.Shared.{keeps_then, leads_then, leads_weaker, runs_of}
+use Rattle.cmm_effects.specs.Changes.{Writes}
+use Rattle.cmm_effects.specs.Pieces.{Leads}
 use Rattle.cmm_select.proofs.Keeping.{brings_keeps, put_as}
 use Rattle.cmm_select.proofs.Putting.{then_put}
 use Rattle.cmm_select.specs.Cells.{Loads}

@@ -5,9 +5,9 @@ use Rattle.rv_asm.specs.Parts.{Code}
 use Rattle.rv_table.specs.Machine.{State}
 use Rattle.rv_table.specs.Words.{modulo, sum}
 use Rattle.rv_table.specs.declared.instruction.Instr.TheVariants.{Addi}
-use Rattle.cmm_changes.proofs.Shared.{leads_set, leads_then, leads_weaker, runs_of}
-use Rattle.cmm_changes.specs.Changes.{Sets}
-use Rattle.cmm_changes.specs.Pieces.{Always, Leads}
+use Rattle.cmm_effects.proofs.Shared.{leads_set, leads_then, leads_weaker, runs_of}
+use Rattle.cmm_effects.specs.Changes.{Sets}
+use Rattle.cmm_effects.specs.Pieces.{Always, Leads}
 use Rattle.cmm_select.proofs.Places.{One, same_set, set_as}
 use Rattle.cmm_select.proofs.Sums.{plus_far, plus_near}
 use Rattle.cmm_select.specs.Sources.{CanBring, brought}

@@ -10,9 +10,9 @@ use Rattle.cmm_words.specs.declared.width.Width.{Width}
 use Rattle.cmm_words.specs.declared.width.Width.TheVariants.{W64}
 use Rattle.rv_asm.specs.Parts.{Code}
 use Rattle.rv_table.specs.Machine.{State}
-use Rattle.cmm_changes.proofs.Shared.{keeps_then, runs_then, runs_weaker, set_keeps}
-use Rattle.cmm_changes.specs.Changes.{Keeps}
-use Rattle.cmm_changes.specs.Pieces.{Always, Runs}
+use Rattle.cmm_effects.proofs.Shared.{keeps_then, runs_then, runs_weaker, set_keeps}
+use Rattle.cmm_effects.specs.Changes.{Keeps}
+use Rattle.cmm_effects.specs.Pieces.{Always, Runs}
 use Rattle.cmm_select.proofs.Rotating.{OperatesUncut}
 use Rattle.cmm_select.specs.Operators.{Extends, HasWord, HaveWords, Narrows, Operates}
 use Rattle.cmm_select.specs.inside.Wide.{is_plain, is_shift, is_signed}

@@ -12,9 +12,9 @@ use Rattle.rv_table.specs.Machine.{State, is_accessible, extended, loaded, store
 use Rattle.rv_table.specs.Words.{modulo, shifted_left, sum}
 use Rattle.rv_table.specs.declared.instruction.Instr.{Instr}
 use Rattle.rv_table.specs.declared.instruction.Instr.TheVariants.{Add, Addi, Ld, Sd, Slli}
-use Rattle.cmm_changes.proofs.Shared.{leads_load, leads_set, leads_store, leads_then, leads_weaker, runs_of}
-use Rattle.cmm_changes.specs.Changes.{CanReach, Puts, PutsRegister, Sets, Writes, read_at}
-use Rattle.cmm_changes.specs.Pieces.{Always, Leads}
+use Rattle.cmm_effects.proofs.Shared.{leads_load, leads_set, leads_store, leads_then, leads_weaker, runs_of}
+use Rattle.cmm_effects.specs.Changes.{CanReach, Puts, PutsRegister, Sets, Writes, read_at}
+use Rattle.cmm_effects.specs.Pieces.{Always, Leads}
 use Rattle.cmm_select.proofs.Sums.{loaded_whole, moved_up, plus_far, plus_near, plus_none}
 
 -- one instruction, where it stands

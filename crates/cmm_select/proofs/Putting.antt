@@ -9,9 +9,9 @@ use Rattle.cmm_words.specs.declared.width.Width.{Width}
 use Rattle.rv_asm.specs.Appending.{Then}
 use Rattle.rv_asm.specs.Parts.{Code}
 use Rattle.rv_table.specs.Machine.{MemoryMap, State}
-use Rattle.cmm_changes.proofs.Shared.{keeps_then, leads_then, leads_weaker, runs_of}
-use Rattle.cmm_changes.specs.Changes.{Keeps}
-use Rattle.cmm_changes.specs.Pieces.{Leads, Runs}
+use Rattle.cmm_effects.proofs.Shared.{keeps_then, leads_then, leads_weaker, runs_of}
+use Rattle.cmm_effects.specs.Changes.{Keeps}
+use Rattle.cmm_effects.specs.Pieces.{Leads, Runs}
 use Rattle.cmm_select.proofs.Keeping.{brings_keeps, put_after, put_as, still_put}
 use Rattle.cmm_select.specs.Assignments.{Assigns, AssignsBinary, AssignsComparison, AssignsOne, Copies}
 use Rattle.cmm_select.specs.Comparisons.{Tells}

@@ -14,10 +14,10 @@ use Rattle.rv_asm.specs.declared.part.Part.TheVariants.{Branch}
 use Rattle.rv_table.specs.Machine.{State}
 use Rattle.rv_table.specs.Words.{difference}
 use Rattle.rv_table.specs.declared.instruction.Instr.TheVariants.{Sub}
-use Rattle.cmm_changes.proofs.Shared.{goes_choice, goes_keeps, goes_none, goes_weaker, keeps_same, keeps_then, leads_set, leads_then, leads_turns, reaches_more, runs_of, set_keeps, turns_weaker}
-use Rattle.cmm_changes.specs.Changes.{Sets}
-use Rattle.cmm_changes.specs.Pieces.{Always, Leads}
-use Rattle.cmm_changes.specs.Ways.{Goes}
+use Rattle.cmm_effects.proofs.Shared.{goes_choice, goes_keeps, goes_none, goes_weaker, keeps_same, keeps_then, leads_set, leads_then, leads_turns, reaches_more, runs_of, set_keeps, turns_weaker}
+use Rattle.cmm_effects.specs.Changes.{Sets}
+use Rattle.cmm_effects.specs.Pieces.{Always, Leads}
+use Rattle.cmm_effects.specs.Ways.{Goes}
 use Rattle.cmm_select.proofs.Keeping.{brings_keeps}
 use Rattle.cmm_select.proofs.Places.{One}
 use Rattle.cmm_select.specs.Operands.{Brings, BringsOperand, most_for, operand_at}

@@ -18,9 +18,9 @@ use Rattle.rv_asm.specs.Parts.{Code}
 use Rattle.rv_table.specs.Machine.{State}
 use Rattle.rv_table.specs.Words.{difference, flag, product, quotient, remainder, shifted_right, signed, sum, upper_half}
 use Rattle.rv_table.specs.declared.instruction.Instr.TheVariants.{Add, Div, Mul, Mulh, Rem, Srli, Sub}
-use Rattle.cmm_changes.proofs.Shared.{keeps_then, leads_set, leads_then, leads_weaker, runs_of, set_keeps}
-use Rattle.cmm_changes.specs.Changes.{Sets}
-use Rattle.cmm_changes.specs.Pieces.{Always, Leads}
+use Rattle.cmm_effects.proofs.Shared.{keeps_then, leads_set, leads_then, leads_weaker, runs_of, set_keeps}
+use Rattle.cmm_effects.specs.Changes.{Sets}
+use Rattle.cmm_effects.specs.Pieces.{Always, Leads}
 use Rattle.cmm_select.proofs.Places.{One}
 use Rattle.cmm_select.proofs.Wide.{Gives, add_row, divided_some, quot_row, rem_row, some_same, sub_row}
 use Rattle.cmm_select.specs.Operators.{Operates}

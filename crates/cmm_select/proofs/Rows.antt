@@ -7,7 +7,7 @@ use Rattle.cmm_words.specs.declared.operators.Op2.TheVariants as op
 use Rattle.cmm_words.specs.declared.width.Width.TheVariants.{W8, W64}
 use Rattle.rv_table.specs.Machine.{MemoryMap, State, steps}
 use Rattle.rv_table.specs.Registers.{with_register}
-use Rattle.cmm_changes.specs.Changes.{read_at}
+use Rattle.cmm_effects.specs.Changes.{read_at}
 use Rattle.cmm_select.specs.Assignments.{CanAssignBoth}
 use Rattle.cmm_select.specs.Operators.{HaveWords}
 use Rattle.cmm_select.specs.Sources.{brought}

@@ -13,9 +13,9 @@ use Rattle.rv_table.specs.Machine.{State}
 use Rattle.rv_table.specs.Words.{flag, floor_divided, modulo, shifted_right_signed, signed, sum}
 use Rattle.rv_table.specs.declared.instruction.Instr.TheVariants.{Addi, Sltiu, Sra}
 use Rattle.cmm_words.specs.declared.width.Width.TheVariants.{W64}
-use Rattle.cmm_changes.proofs.Shared.{keeps_then, leads_set, leads_then, leads_weaker, runs_of, set_keeps}
-use Rattle.cmm_changes.specs.Changes.{Sets}
-use Rattle.cmm_changes.specs.Pieces.{Always, Leads}
+use Rattle.cmm_effects.proofs.Shared.{keeps_then, leads_set, leads_then, leads_weaker, runs_of, set_keeps}
+use Rattle.cmm_effects.specs.Changes.{Sets}
+use Rattle.cmm_effects.specs.Pieces.{Always, Leads}
 use Rattle.cmm_select.proofs.Places.{One}
 use Rattle.cmm_select.proofs.Wide.{Gives, modulo_same, signed_same, some_same}
 use Rattle.cmm_select.specs.Operators.{Operates}

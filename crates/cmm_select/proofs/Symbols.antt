@@ -9,11 +9,11 @@ use Rattle.rv_table.specs.Bounds.{IsSound}
 use Rattle.rv_table.specs.Machine.{State, extended, is_accessible, loaded, stored}
 use Rattle.rv_table.specs.Words.{modulo, sum}
 use Rattle.rv_table.specs.declared.instruction.Instr.TheVariants.{Add, Ld, Sd}
-use Rattle.cmm_changes.proofs.Shared.{leads_address, leads_load, leads_set, leads_sound, leads_store, leads_then, leads_weaker, runs_of}
-use Rattle.cmm_changes.specs.Accesses.{CanReachGlobal, PutsGlobal, global_at}
+use Rattle.cmm_effects.proofs.Shared.{leads_address, leads_load, leads_set, leads_sound, leads_store, leads_then, leads_weaker, runs_of}
+use Rattle.cmm_effects.specs.Accesses.{CanReachGlobal, PutsGlobal, global_at}
 use Rattle.cmm_abi.specs.Registers.{is_scratch}
-use Rattle.cmm_changes.specs.Changes.{Sets, Writes}
-use Rattle.cmm_changes.specs.Pieces.{Always, Leads}
+use Rattle.cmm_effects.specs.Changes.{Sets, Writes}
+use Rattle.cmm_effects.specs.Pieces.{Always, Leads}
 use Rattle.cmm_select.proofs.Places.{One, not_same, same_set, set_as}
 use Rattle.cmm_select.proofs.Sums.{loaded_whole}
 use Rattle.cmm_select.specs.Operands.{Brings}
@@ -51,7 +51,7 @@ module _ (x : Code) (rd from to : ℕ) (l : Label) where
       (λ s t sound p arrived. brings_set rd (sum (x.at l.number) 0) s t (set_as rd (x.at l.number) (sum (x.at l.number) 0) s t
       (no_more (x.at l.number) (subst (λ (n : ℕ). n < 2 ^ 64) arrived.0.given (arrived.1.registers rd))) arrived.0))
 
-  -- so many bytes on
+  -- n bytes on
   pub brings_address_on : (plus : ℕ) → rd ≢ 0 → rd ≢ 6 →
       Then (Leads 8 Always (λ s t. Sets 6 plus s t)) (Then (Names rd l) (One (Add rd rd 6))) x from to →
       Leads 11 Always (λ s t. Brings rd (sum (x.at l.number) plus) s t) x from to

@@ -15,8 +15,8 @@ use Rattle.rv_table.specs.Words.{difference, flag, is_less, modulo}
 use Rattle.rv_table.specs.declared.effects.Effect.TheVariants.{Set}
 use Rattle.rv_table.specs.declared.instruction.Instr.{Instr}
 use Rattle.rv_table.specs.declared.instruction.Instr.TheVariants.{Sltiu, Sub, Xori}
-use Rattle.cmm_changes.proofs.Shared.{keeps_then, leads_set, leads_then, runs_of, runs_then, runs_weaker, set_keeps}
-use Rattle.cmm_changes.specs.Pieces.{Always, Runs}
+use Rattle.cmm_effects.proofs.Shared.{keeps_then, leads_set, leads_then, runs_of, runs_then, runs_weaker, set_keeps}
+use Rattle.cmm_effects.specs.Pieces.{Always, Runs}
 use Rattle.cmm_select.proofs.Deciding.{less_same, not_below, not_less}
 use Rattle.cmm_select.proofs.Places.{One}
 use Rattle.cmm_select.specs.Comparisons.{Tells}

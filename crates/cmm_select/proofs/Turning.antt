@@ -9,10 +9,10 @@ use Rattle.rv_asm.specs.Parts.{Code, way}
 use Rattle.rv_asm.specs.declared.part.Label.{Label}
 use Rattle.rv_table.specs.Words.{modulo, sum}
 use Rattle.rv_table.specs.declared.instruction.Instr.TheVariants.{Addi}
-use Rattle.cmm_changes.proofs.Shared.{keeps_then, leads_set, leads_turns, leads_weaker, set_keeps, turns_weaker}
-use Rattle.cmm_changes.specs.Changes.{Keeps}
-use Rattle.cmm_changes.specs.Pieces.{Always, Leads}
-use Rattle.cmm_changes.specs.Ways.{Goes}
+use Rattle.cmm_effects.proofs.Shared.{keeps_then, leads_set, leads_turns, leads_weaker, set_keeps, turns_weaker}
+use Rattle.cmm_effects.specs.Changes.{Keeps}
+use Rattle.cmm_effects.specs.Pieces.{Always, Leads}
+use Rattle.cmm_effects.specs.Ways.{Goes}
 use Rattle.cmm_select.proofs.Places.{One}
 use Rattle.cmm_select.specs.Comparisons.{Chooses}
 use Rattle.cmm_select.specs.Going.{CanDecide, Decides}

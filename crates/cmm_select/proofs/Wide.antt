@@ -16,8 +16,8 @@ use Rattle.rv_table.specs.Row.{row}
 use Rattle.rv_table.specs.Words.{difference, modulo, product, quotient, quotient_unsigned, remainder, remainder_unsigned, sign_extended, signed, sum}
 use Rattle.rv_table.specs.declared.effects.Effect.TheVariants.{Set}
 use Rattle.rv_table.specs.declared.instruction.Instr.{Instr}
-use Rattle.cmm_changes.proofs.Shared.{leads_set, leads_weaker, set_keeps}
-use Rattle.cmm_changes.specs.Pieces.{Always, Leads}
+use Rattle.cmm_effects.proofs.Shared.{leads_set, leads_weaker, set_keeps}
+use Rattle.cmm_effects.specs.Pieces.{Always, Leads}
 use Rattle.cmm_select.proofs.Places.{One}
 use Rattle.cmm_select.proofs.Sums.{sign_extended_64}
 use Rattle.cmm_select.specs.Operators.{Operates}

@@ -10,9 +10,9 @@ use Rattle.rv_asm.specs.Appending.{Then}
 use Rattle.rv_asm.specs.Parts.{Code}
 use Rattle.rv_table.specs.Words.{modulo, shifted_left, shifted_right, shifted_right_signed}
 use Rattle.rv_table.specs.declared.instruction.Instr.TheVariants.{Slli, Srai, Srli}
-use Rattle.cmm_changes.proofs.Shared.{leads_set, leads_then, leads_weaker, runs_none, runs_of, runs_weaker, set_keeps, keeps_same}
-use Rattle.cmm_changes.specs.Changes.{Sets}
-use Rattle.cmm_changes.specs.Pieces.{Always, Runs}
+use Rattle.cmm_effects.proofs.Shared.{leads_set, leads_then, leads_weaker, runs_none, runs_of, runs_weaker, set_keeps, keeps_same}
+use Rattle.cmm_effects.specs.Changes.{Sets}
+use Rattle.cmm_effects.specs.Pieces.{Always, Runs}
 use Rattle.cmm_select.proofs.Places.{One, same_set, set_as}
 use Rattle.cmm_select.specs.Operators.{Extends, HasWord, Narrows}
 

@@ -7,8 +7,8 @@ use Rattle.cmm_words.specs.declared.operators.Op2.{Op2}
 use Rattle.cmm_words.specs.declared.width.Width.{Width}
 use Rattle.rv_asm.specs.Parts.{Code}
 use Rattle.rv_table.specs.Machine.{MemoryMap, State}
-use Rattle.cmm_changes.specs.Accesses.{CanReachGlobal}
-use Rattle.cmm_changes.specs.Pieces.{Leads}
+use Rattle.cmm_effects.specs.Accesses.{CanReachGlobal}
+use Rattle.cmm_effects.specs.Pieces.{Leads}
 use Rattle.cmm_select.specs.Destinations.{CanPut, PutsTo}
 use Rattle.cmm_select.specs.Operands.{AreWords, CanBringBoth, CanBringOperand, operand_at}
 use Rattle.cmm_select.specs.declared.destination.Destination.{Destination}

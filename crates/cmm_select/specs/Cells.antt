@@ -3,7 +3,7 @@ use Rattle.std.specs.Prelude.{◌≡◌, IsTrue}
 use Rattle.cmm_words.specs.Widths.{bytes}
 use Rattle.cmm_words.specs.declared.width.Width.{Width}
 use Rattle.rv_table.specs.Machine.{MemoryMap, State, is_accessible, loaded}
-use Rattle.cmm_changes.specs.Changes.{Keeps}
+use Rattle.cmm_effects.specs.Changes.{Keeps}
 
 -- a word of a width may be loaded and stored there
 abbrev pub IsCell : Width → MemoryMap → State → Type 0

@@ -9,10 +9,10 @@ use Rattle.rv_asm.specs.Reaching.{Reaches}
 use Rattle.rv_asm.specs.declared.part.Label.{Label}
 use Rattle.rv_table.specs.Bounds.{IsSound}
 use Rattle.rv_table.specs.Machine.{State}
-use Rattle.cmm_changes.specs.Changes.{Keeps}
+use Rattle.cmm_effects.specs.Changes.{Keeps}
 use Rattle.cmm_select.specs.Operators.{HaveWords}
 
--- from every sound state at one address, with words of a width for operands, so many instructions at most, and none of them asks or traps,
+-- from every sound state at one address, with words of a width for operands, n instructions at most, and none of them asks or traps,
 -- lead to the label where the comparison holds, and else to the other address, and nothing but registers 5 to 7 is changed
 pub record Chooses (most : ℕ) (c : Cmp) (w : Width) (l : Label) (x : Code) (from to : ℕ) : Type 0 where
   pub go : (s : State) → IsSound s → s.pc ≡ from → HaveWords w x.map s →

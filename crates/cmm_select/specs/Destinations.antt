@@ -4,9 +4,9 @@ use Rattle.rv_asm.specs.Assembly.{IsLabel}
 use Rattle.rv_asm.specs.Parts.{Code}
 use Rattle.rv_asm.specs.declared.part.Meaning.{Meaning}
 use Rattle.rv_table.specs.Machine.{MemoryMap, State}
-use Rattle.cmm_changes.specs.Accesses.{CanReachGlobal, PutsGlobal}
-use Rattle.cmm_changes.specs.Changes.{CanReach, IsPlace, Puts}
-use Rattle.cmm_changes.specs.Pieces.{Leads}
+use Rattle.cmm_effects.specs.Accesses.{CanReachGlobal, PutsGlobal}
+use Rattle.cmm_effects.specs.Changes.{CanReach, IsPlace, Puts}
+use Rattle.cmm_effects.specs.Pieces.{Leads}
 use Rattle.cmm_select.specs.declared.destination.Destination.{Destination}
 use Rattle.cmm_select.specs.declared.destination.Destination.TheVariants.{Place, Register}
 

@@ -6,8 +6,8 @@ use Rattle.cmm_words.specs.declared.width.Width.{Width}
 use Rattle.rv_asm.specs.Parts.{Code, way}
 use Rattle.rv_asm.specs.declared.part.Label.{Label}
 use Rattle.rv_table.specs.Machine.{MemoryMap, State}
-use Rattle.cmm_changes.specs.Changes.{Keeps}
-use Rattle.cmm_changes.specs.Ways.{Turns}
+use Rattle.cmm_effects.specs.Changes.{Keeps}
+use Rattle.cmm_effects.specs.Ways.{Turns}
 use Rattle.cmm_select.specs.Operands.{AreWords, CanBringBoth, operand_at}
 use Rattle.cmm_select.specs.declared.operand.Operand.{Operand}
 

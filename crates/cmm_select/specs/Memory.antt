@@ -5,14 +5,14 @@ use Rattle.cmm_words.specs.declared.width.Width.{Width}
 use Rattle.cmm_words.specs.declared.width.Width.TheVariants.{W8, W16, W32, W64}
 use Rattle.rv_asm.specs.Parts.{Code}
 use Rattle.rv_table.specs.Machine.{MemoryMap, State, is_accessible, loaded}
-use Rattle.cmm_changes.specs.Changes.{Writes}
-use Rattle.cmm_changes.specs.Pieces.{Leads}
+use Rattle.cmm_effects.specs.Changes.{Writes}
+use Rattle.cmm_effects.specs.Pieces.{Leads}
 use Rattle.cmm_select.specs.Destinations.{CanPut, PutsTo}
 use Rattle.cmm_select.specs.Operands.{CanBringBoth, CanBringOperand, operand_at}
 use Rattle.cmm_select.specs.declared.destination.Destination.{Destination}
 use Rattle.cmm_select.specs.declared.operand.Operand.{Operand}
 
--- the widest accesses of a word at an address that is a multiple of so many bytes: as wide as the word, or as the address allows
+-- the widest accesses of a word at an address that is a multiple of n bytes: as wide as the word, or as the address allows
 abbrev pub access_of_half : ℕ → Width
 access_of_half aligned = elim (aligned % 2 == 0) [ true ↦ W16 | false ↦ W8 ]
 

@@ -7,8 +7,8 @@ use Rattle.rv_asm.specs.Parts.{Code}
 use Rattle.rv_asm.specs.declared.part.Meaning.{Meaning}
 use Rattle.rv_table.specs.Machine.{MemoryMap, State}
 use Rattle.rv_table.specs.Words.{sum}
-use Rattle.cmm_changes.specs.Changes.{Keeps, KeepsBut}
-use Rattle.cmm_changes.specs.Pieces.{Leads}
+use Rattle.cmm_effects.specs.Changes.{Keeps, KeepsBut}
+use Rattle.cmm_effects.specs.Pieces.{Leads}
 use Rattle.cmm_select.specs.Sources.{CanBring, IsSource, brought}
 use Rattle.cmm_select.specs.declared.operand.Operand.{Operand}
 use Rattle.cmm_select.specs.declared.operand.Operand.TheVariants.{Held, Symbol}

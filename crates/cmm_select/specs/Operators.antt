@@ -6,7 +6,7 @@ use Rattle.cmm_words.specs.declared.operators.Op2.{Op2}
 use Rattle.cmm_words.specs.declared.width.Width.{Width}
 use Rattle.cmm_words.specs.declared.width.Width.TheVariants.{W8, W16, W32, W64}
 use Rattle.rv_table.specs.Machine.{MemoryMap, State}
-use Rattle.cmm_changes.specs.Changes.{Keeps, Sets}
+use Rattle.cmm_effects.specs.Changes.{Keeps, Sets}
 
 -- a register has a word of a width
 abbrev pub HasWord : Width → ℕ → MemoryMap → State → Type 0

@@ -1,7 +1,7 @@
 -- Where operands come from, in the activation whose frame is at the address in register 2.
 use Rattle.std.specs.Prelude.{ℕ, ◌+◌, ◌^◌, ◌<◌}
 use Rattle.rv_table.specs.Machine.{MemoryMap, State}
-use Rattle.cmm_changes.specs.Changes.{CanReach, IsPlace, read_at}
+use Rattle.cmm_effects.specs.Changes.{CanReach, IsPlace, read_at}
 use Rattle.cmm_select.specs.declared.source.Source.{Source}
 use Rattle.cmm_select.specs.declared.source.Source.TheVariants.{Place, Number, Address}
 

@@ -7,9 +7,9 @@ use Rattle.cmm_program.specs.declared.statement.Range.{Range}
 use Rattle.rv_asm.specs.Parts.{Code, way}
 use Rattle.rv_asm.specs.declared.part.Label.{Label}
 use Rattle.rv_table.specs.Machine.{State}
-use Rattle.cmm_changes.specs.Changes.{Keeps}
-use Rattle.cmm_changes.specs.Pieces.{Always}
-use Rattle.cmm_changes.specs.Ways.{Goes, Turns}
+use Rattle.cmm_effects.specs.Changes.{Keeps}
+use Rattle.cmm_effects.specs.Pieces.{Always}
+use Rattle.cmm_effects.specs.Ways.{Goes, Turns}
 use Rattle.cmm_select.specs.Operands.{CanBringOperand, operand_at}
 use Rattle.cmm_select.specs.declared.operand.Operand.{Operand}
 

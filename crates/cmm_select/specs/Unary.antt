@@ -4,7 +4,7 @@ use Rattle.cmm_words.specs.Words.{sign_extended, value1}
 use Rattle.cmm_words.specs.declared.operators.Op1.{Op1}
 use Rattle.cmm_words.specs.declared.width.Width.{Width}
 use Rattle.rv_table.specs.Machine.{State}
-use Rattle.cmm_changes.specs.Changes.{Keeps}
+use Rattle.cmm_effects.specs.Changes.{Keeps}
 
 -- the result is the operator's value (C-- Language Specification 2.0, the table of primitive operators), and nothing but registers 5 to 7
 -- is changed

@@ -3,8 +3,8 @@
 ghost use Rattle.std.specs.Prelude.{◌≡◌, ◌+◌, ◌-◌, ◌*◌, ◌<◌, ◌≤◌, OnOk};
 ghost use Rattle.cmm_words.specs.Widths.{bytes};
 ghost use Rattle.rv_table.specs.Table.{IsValid};
-ghost use Rattle.cmm_changes.specs.Changes.{Writes};
-ghost use Rattle.cmm_changes.specs.Pieces.{Adds, Leads};
+ghost use Rattle.cmm_effects.specs.Changes.{Writes};
+ghost use Rattle.cmm_effects.specs.Pieces.{Adds, Leads};
 ghost use Rattle.cmm_select.specs.Cells.{Loads};
 ghost use Rattle.cmm_select.specs.Memory.{IsCellBy, access_of as widest, access_of_half, access_of_word, accesses};
 ghost use Rattle.cmm_select.specs.inside.Gathering.{CanAccess, Gathers, Joins, Scatters, shift_down as shifted_down, shift_up as shifted_up};
@@ -16,7 +16,7 @@ use rv_asm::Asm;
 use rv_table::Instr;
 use std::alloc::AllocError;
 
-/// The widest accesses of a word at an address that is a multiple of so many bytes.
+/// The widest accesses of a word at an address that is a multiple of `aligned` bytes.
 fn access_of(width: Width, aligned: u32) -> Width
     ensures { result ≡ widest width aligned }
 {
@@ -34,7 +34,7 @@ fn access_of(width: Width, aligned: u32) -> Width
     }
 }
 
-/// The same of four bytes.
+/// The widest access of at most four bytes at such an address.
 fn word(aligned: u32) -> Width
     ensures { result ≡ access_of_word aligned }
 {
@@ -45,7 +45,7 @@ fn word(aligned: u32) -> Width
     }
 }
 
-/// The same of two bytes.
+/// The widest access of at most two bytes at such an address.
 fn half(aligned: u32) -> Width
     ensures { result ≡ access_of_half aligned }
 {
@@ -56,7 +56,7 @@ fn half(aligned: u32) -> Width
     }
 }
 
-/// Gives register 5 the word of a width at the address in it, which is a multiple of so many bytes. An error is want of memory, and then
+/// Gives register 5 the word of a width at the address in it, which is a multiple of `aligned` bytes. An error is want of memory, and then
 /// some of the instructions may be there.
 pub fn load_word(asm: &mut Asm, width: Width, aligned: u32) -> Result<(), AllocError>
     ensures loads { OnOk result (Adds (3 * accesses width aligned - 2) asm.old.parts asm.new.parts (Leads (3 * accesses width aligned - 2) (λ m s. IsCellBy (widest width aligned) width (s.registers 5) m) (Loads width))) }
@@ -73,7 +73,7 @@ pub fn load_word(asm: &mut Asm, width: Width, aligned: u32) -> Result<(), AllocE
     Ok(())
 }
 
-/// Stores the low bytes of register 7, as many as a width has, at the address in register 5, which is a multiple of so many bytes. An error
+/// Stores the low bytes of register 7, as many as a width has, at the address in register 5, which is a multiple of `aligned` bytes. An error
 /// is want of memory, and then some of the instructions may be there.
 pub fn store_word(asm: &mut Asm, width: Width, aligned: u32) -> Result<(), AllocError>
     ensures stores { OnOk result (Adds (2 * accesses width aligned - 1) asm.old.parts asm.new.parts (Leads (2 * accesses width aligned - 1) (λ m s. IsCellBy (widest width aligned) width (s.registers 5) m) (λ s t. Writes (s.registers 5) (bytes width) (s.registers 7) s t))) }
@@ -84,7 +84,7 @@ pub fn store_word(asm: &mut Asm, width: Width, aligned: u32) -> Result<(), Alloc
     Ok(())
 }
 
-/// Gives register 7 so many words of the width of an access, from an offset on, the lowest first.
+/// Gives register 7 a count of words of the width of an access, from an offset on, the lowest first.
 fn gather(asm: &mut Asm, access: Width, offset: u32, count: u32) -> Result<(), AllocError>
     requires some { 0 < count }
     requires within { offset + count * bytes access ≤ 8 }
@@ -119,7 +119,7 @@ fn join(asm: &mut Asm, access: Width, offset: u32, rd: u8) -> Result<(), AllocEr
     Ok(())
 }
 
-/// Stores register 7 as so many words of the width of an access, from an offset on, the lowest first.
+/// Stores register 7 as a count of words of the width of an access, from an offset on, the lowest first.
 fn scatter(asm: &mut Asm, access: Width, offset: u32, count: u32) -> Result<(), AllocError>
     requires some { 0 < count }
     requires within { offset + count * bytes access ≤ 8 }

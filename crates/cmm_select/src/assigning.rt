@@ -3,8 +3,8 @@
 ghost use Rattle.std.specs.Prelude.{◌≡◌, ◌+◌, ◌*◌, OnOk};
 ghost use Rattle.cmm_words.specs.Words.{low_bits, sign_extended, value1};
 ghost use Rattle.rv_asm.specs.Assembly.{IsLabel};
-ghost use Rattle.cmm_changes.specs.Accesses.{global_at};
-ghost use Rattle.cmm_changes.specs.Pieces.{Adds, Leads};
+ghost use Rattle.cmm_effects.specs.Accesses.{global_at};
+ghost use Rattle.cmm_effects.specs.Pieces.{Adds, Leads};
 ghost use Rattle.cmm_select.specs.Assignments.{AssignsBinary, AssignsComparison, AssignsOne, CanCopyGlobal, Copies};
 ghost use Rattle.cmm_select.specs.Destinations.{IsDestination, PutsTo};
 ghost use Rattle.cmm_select.specs.Operands.{IsOperand, most_for};

@@ -3,8 +3,8 @@
 ghost use Rattle.std.specs.Prelude.{◌≡◌, ◌<◌, OnOk};
 ghost use Rattle.cmm_words.specs.Widths.{bytes};
 ghost use Rattle.rv_table.specs.Table.{IsValid};
-ghost use Rattle.cmm_changes.specs.Changes.{Writes};
-ghost use Rattle.cmm_changes.specs.Pieces.{Adds, Leads};
+ghost use Rattle.cmm_effects.specs.Changes.{Writes};
+ghost use Rattle.cmm_effects.specs.Pieces.{Adds, Leads};
 ghost use Rattle.cmm_select.specs.Cells.{IsCell, Loads};
 ghost use Rattle.cmm_select.specs.inside.Accesses.{load_part as part_loaded, store_part as part_stored};
 

@@ -4,7 +4,7 @@ ghost use Rattle.std.specs.Prelude.{◌≡◌, ◌+◌, ◌*◌, None, OnOk};
 ghost use Rattle.cmm_words.specs.declared.width.Width.TheVariants.{W64};
 ghost use Rattle.rv_asm.specs.Assembly.{IsInner};
 ghost use Rattle.rv_table.specs.Table.{IsValid};
-ghost use Rattle.cmm_changes.specs.Pieces.{Adds, Always, Runs};
+ghost use Rattle.cmm_effects.specs.Pieces.{Adds, Always, Runs};
 ghost use Rattle.cmm_select.specs.Comparisons.{Chooses, Tells};
 ghost use Rattle.cmm_select.specs.Operators.{HaveWords, shifts_of};
 ghost use Rattle.cmm_select.specs.inside.Comparing.{Readies, compares_integers, contrary_of, less_of, turned_of};

@@ -3,9 +3,9 @@
 ghost use Rattle.std.specs.Prelude.{◌≡◌, ◌≢◌, ◌+◌, ◌<◌, ◌≤◌, OnOk};
 ghost use Rattle.rv_asm.specs.Assembly.{IsLabel};
 ghost use Rattle.rv_table.specs.Words.{sum};
-ghost use Rattle.cmm_changes.specs.Accesses.{CanReachGlobal, PutsGlobal, global_at};
-ghost use Rattle.cmm_changes.specs.Changes.{Sets};
-ghost use Rattle.cmm_changes.specs.Pieces.{Adds, Always, Leads};
+ghost use Rattle.cmm_effects.specs.Accesses.{CanReachGlobal, PutsGlobal, global_at};
+ghost use Rattle.cmm_effects.specs.Changes.{Sets};
+ghost use Rattle.cmm_effects.specs.Pieces.{Adds, Always, Leads};
 ghost use Rattle.cmm_select.specs.Destinations.{IsDestination, PutsFirst};
 
 use crate::place::write;

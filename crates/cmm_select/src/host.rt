@@ -5,8 +5,8 @@ ghost use Rattle.rv_table.specs.Requests.{request_number};
 ghost use Rattle.rv_table.specs.Table.{IsValid};
 ghost use Rattle.rv_table.specs.declared.instruction.Instr.TheVariants.{Addi};
 ghost use Rattle.rv_table.specs.declared.request.Request.TheVariants.{GetByte, PutByte};
-ghost use Rattle.cmm_changes.specs.Pieces.{Adds};
-ghost use Rattle.cmm_changes.specs.Requests.{Requests};
+ghost use Rattle.cmm_effects.specs.Pieces.{Adds};
+ghost use Rattle.cmm_effects.specs.Requests.{Requests};
 ghost use Rattle.cmm_select.specs.Destinations.{CanPut, IsDestination, PutsTo};
 ghost use Rattle.cmm_select.specs.Operands.{CanBringOperand, IsOperand, most_for, operand_at};
 

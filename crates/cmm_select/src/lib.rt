@@ -1,7 +1,7 @@
 //! The code of nodes.
 //!
 //! The code of a node is appended to an assembler, and its contract says what it changes of a machine state (`specs/Changes` of
-//! cmm_changes), how many instructions it adds, how many are executed at most, and that the first of them asks for nothing but input.
+//! cmm_effects), how many instructions it adds, how many are executed at most, and that the first of them asks for nothing but input.
 //! Between two nodes the values of locals are in their places: slots of the frame, callee-saves registers, other registers. Within a
 //! node, registers 5 to 7 are used: the first operand and the result are in 5, the second operand is in 7, and 6 helps. A node's code
 //! ends where control goes on, so a jump is added only where another node follows.

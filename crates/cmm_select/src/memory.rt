@@ -1,7 +1,7 @@
 //! Words of memory at operands' addresses.
 
 ghost use Rattle.std.specs.Prelude.{◌≡◌, ◌+◌, ◌-◌, ◌*◌, OnOk};
-ghost use Rattle.cmm_changes.specs.Pieces.{Adds};
+ghost use Rattle.cmm_effects.specs.Pieces.{Adds};
 ghost use Rattle.cmm_select.specs.Destinations.{IsDestination};
 ghost use Rattle.cmm_select.specs.Memory.{AssignsLoaded, StoresWord, accesses};
 ghost use Rattle.cmm_select.specs.Operands.{IsOperand, most_for};
@@ -14,7 +14,7 @@ use cmm_words::Width;
 use rv_asm::Asm;
 use std::alloc::AllocError;
 
-/// Assigns the word of a width at an address that is a multiple of so many bytes. An error is want of memory, and then some of the instructions
+/// Assigns the word of a width at an address that is a multiple of `aligned` bytes. An error is want of memory, and then some of the instructions
 /// may be there.
 pub fn assign_loaded(
     asm: &mut Asm,
@@ -34,7 +34,7 @@ pub fn assign_loaded(
     Ok(())
 }
 
-/// Stores the low bytes of an operand, as many as a width has, at an address that is a multiple of so many bytes. An error is want of memory, and then
+/// Stores the low bytes of an operand, as many as a width has, at an address that is a multiple of `aligned` bytes. An error is want of memory, and then
 /// some of the instructions may be there.
 pub fn store(
     asm: &mut Asm,

@@ -4,8 +4,8 @@ ghost use Rattle.std.specs.Prelude.{◌≡◌, ◌+◌, ◌*◌, ◌/◌, ◌^�
 ghost use Rattle.rv_table.specs.Table.{IsValid};
 ghost use Rattle.rv_table.specs.Words.{signed};
 ghost use Rattle.rv_table.specs.declared.instruction.Instr.TheVariants.{Addi, Lui};
-ghost use Rattle.cmm_changes.specs.Changes.{Sets};
-ghost use Rattle.cmm_changes.specs.Pieces.{Adds, Always, Leads};
+ghost use Rattle.cmm_effects.specs.Changes.{Sets};
+ghost use Rattle.cmm_effects.specs.Pieces.{Adds, Always, Leads};
 ghost use Rattle.cmm_select.specs.Operands.{most_for_number};
 
 use crate::place::{NEAR, add_to};

@@ -2,7 +2,7 @@
 
 ghost use Rattle.std.specs.Prelude.{◌≡◌, ◌≢◌, ◌+◌, ◌^◌, ◌<◌, ◌≤◌, OnOk};
 ghost use Rattle.rv_asm.specs.Assembly.{IsLabel};
-ghost use Rattle.cmm_changes.specs.Pieces.{Adds};
+ghost use Rattle.cmm_effects.specs.Pieces.{Adds};
 ghost use Rattle.cmm_select.specs.Operands.{BringsBoth, BringsOperand, IsOperand, most_for};
 
 use crate::number::load_constant;
@@ -17,7 +17,7 @@ use std::alloc::AllocError;
 pub enum Operand {
     /// What the activation has, or a number.
     Held(Source),
-    /// The number that a label stands for, so many bytes on, modulo 2^64: the address of a procedure or of a data label.
+    /// The number that a label stands for, with a number of bytes added, modulo 2^64: the address of a procedure or of a data label.
     Symbol { of: Label, plus: u64 },
 }
 
@@ -43,7 +43,7 @@ pub fn bring_operand(asm: &mut Asm, from: &Operand, rd: u8) -> Result<(), AllocE
     }
 }
 
-/// Brings the number that a label stands for, so many bytes on.
+/// Brings the number that a label stands for, with a number of bytes added.
 fn bring_symbol(asm: &mut Asm, of: Label, plus: u64, rd: u8) -> Result<(), AllocError>
     requires label { IsLabel asm.old.labels of }
     requires low { 5 ≤ rd }

@@ -6,8 +6,8 @@ ghost use Rattle.cmm_words.specs.declared.width.Width.TheVariants.{W64};
 ghost use Rattle.rv_table.specs.Table.{IsValid};
 ghost use Rattle.rv_table.specs.Words.{shifted_left, shifted_right, shifted_right_signed};
 ghost use Rattle.rv_table.specs.declared.instruction.Instr.TheVariants.{Addi, Andi, Slli, Srai, Srli};
-ghost use Rattle.cmm_changes.specs.Changes.{Sets};
-ghost use Rattle.cmm_changes.specs.Pieces.{Adds, Always, Leads, Runs};
+ghost use Rattle.cmm_effects.specs.Changes.{Sets};
+ghost use Rattle.cmm_effects.specs.Pieces.{Adds, Always, Leads, Runs};
 ghost use Rattle.cmm_select.specs.Operators.{Extends, HasWord, HaveWords, Narrows, Operates, shifts_of};
 ghost use Rattle.cmm_select.specs.inside.Wide.{direct, is_plain, is_shift, is_signed, method_of};
 
@@ -290,7 +290,7 @@ fn shift_signed(asm: &mut Asm, width: Width) -> Result<(), AllocError>
     Ok(())
 }
 
-/// The same of 64 bits.
+/// The shift to the right of 64 bits that copies the top bit.
 fn shift_copies(asm: &mut Asm) -> Result<(), AllocError>
     ensures operates { OnOk result (Adds 4 asm.old.parts asm.new.parts (Leads 4 Always (Operates Op2.Shra W64))) }
     ensures labels { asm.new.labels ≡ asm.old.labels }
@@ -331,7 +331,7 @@ fn divide_down(asm: &mut Asm, width: Width) -> Result<(), AllocError>
     Ok(())
 }
 
-/// The same of 64 bits.
+/// The quotient of 64 bits, rounded down.
 fn quotient_down(asm: &mut Asm) -> Result<(), AllocError>
     ensures operates { OnOk result (Adds 5 asm.old.parts asm.new.parts (Leads 5 Always (Operates Op2.Div W64))) }
     ensures labels { asm.new.labels ≡ asm.old.labels }
@@ -378,7 +378,7 @@ fn modulo_down(asm: &mut Asm, width: Width) -> Result<(), AllocError>
     Ok(())
 }
 
-/// The same of 64 bits.
+/// The remainder of 64 bits, with the sign of the divisor.
 fn remainder_down(asm: &mut Asm) -> Result<(), AllocError>
     ensures operates { OnOk result (Adds 5 asm.old.parts asm.new.parts (Leads 5 Always (Operates Op2.Mod W64))) }
     ensures labels { asm.new.labels ≡ asm.old.labels }

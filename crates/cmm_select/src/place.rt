@@ -4,8 +4,8 @@ ghost use Rattle.std.specs.Prelude.{◌≡◌, ◌+◌, ◌*◌, ◌/◌, ◌%�
 ghost use Rattle.rv_table.specs.Table.{IsValid};
 ghost use Rattle.rv_table.specs.declared.instruction.Instr.TheVariants.{Addi, Ld, Sd};
 ghost use Rattle.rv_table.specs.Words.{sum};
-ghost use Rattle.cmm_changes.specs.Changes.{CanReach, IsPlace, Puts, Sets, read_at};
-ghost use Rattle.cmm_changes.specs.Pieces.{Adds, Always, Leads};
+ghost use Rattle.cmm_effects.specs.Changes.{CanReach, IsPlace, Puts, Sets, read_at};
+ghost use Rattle.cmm_effects.specs.Pieces.{Adds, Always, Leads};
 
 use cmm_abi::registers::{FIRST_SCRATCH, FRAME, HELPER, ZERO};
 use cmm_chain::Location;
@@ -141,7 +141,7 @@ pub(crate) fn add_to(rd: u8, rs1: u8, number: u32) -> Instr
     }
 }
 
-/// The instruction that loads the word so many bytes from an address in a register.
+/// The instruction that loads the word at an offset in bytes from an address in a register.
 fn load_from(rd: u8, base: u8, offset: u32) -> Instr
     requires to { rd < 32 }
     requires base { base < 32 }

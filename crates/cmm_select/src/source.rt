@@ -1,8 +1,8 @@
 //! Operands, and where they come from.
 
 ghost use Rattle.std.specs.Prelude.{◌≡◌, ◌+◌, ◌^◌, ◌<◌, ◌≤◌, OnOk};
-ghost use Rattle.cmm_changes.specs.Changes.{Sets};
-ghost use Rattle.cmm_changes.specs.Pieces.{Adds, Leads};
+ghost use Rattle.cmm_effects.specs.Changes.{Sets};
+ghost use Rattle.cmm_effects.specs.Pieces.{Adds, Leads};
 ghost use Rattle.cmm_select.specs.Operands.{most_for_source};
 ghost use Rattle.cmm_select.specs.Sources.{CanBring, IsSource, brought};
 
@@ -20,7 +20,7 @@ pub enum Source {
     Place(Location),
     /// A number.
     Number(u64),
-    /// The address so many bytes above that of the frame, less than 2 MiB.
+    /// The address a number of bytes above that of the frame, less than 2 MiB.
     Address(u32),
 }
 

@@ -2,7 +2,7 @@
 
 ghost use Rattle.std.specs.Prelude.{◌≡◌, ◌+◌, OnOk};
 ghost use Rattle.rv_table.specs.Table.{IsValid};
-ghost use Rattle.cmm_changes.specs.Pieces.{Adds, Runs};
+ghost use Rattle.cmm_effects.specs.Pieces.{Adds, Runs};
 ghost use Rattle.cmm_select.specs.Operators.{HasWord, shifts_of};
 ghost use Rattle.cmm_select.specs.Unary.{Converts, OperatesOnOne};
 ghost use Rattle.cmm_select.specs.inside.Complements.{direct_of_one};

@@ -4,22 +4,22 @@ use Rattle.std.specs.Prelude.{flat_map}
 use Rattle.cmm_words.specs.declared.width.Width.{Width}
 use Rattle.cmm_ast.specs.declared.expression.TypeName.{TypeName}
 use Rattle.cmm_ast.specs.declared.unit.Unit.{Unit as UnitTree}
-use Rattle.cmm_accepted.specs.declared.spot.Spot.{Spot}
-use Rattle.cmm_accepted.specs.declared.fault.Fault.{Fault}
-use Rattle.cmm_accepted.specs.Spots.{first_of, first_by}
-use Rattle.cmm_accepted.specs.Senses.{Senses}
-use Rattle.cmm_accepted.specs.Declarations.{named_units, again, host_again}
-use Rattle.cmm_accepted.specs.Linking.{Program, program_of, export_spots, twice, import_spots}
-use Rattle.cmm_accepted.specs.Units.{target_decl_spots, item_spots}
-use Rattle.cmm_accepted.specs.Scopes.{width_in, unit_senses}
-use Rattle.cmm_accepted.specs.LongNames.{long_spots, of_item}
-use Rattle.cmm_accepted.specs.Faults.{Placed, stands_before, all_broken, item_procedure_spots, fault_at, fault_of_all, first_fault}
-use Rattle.cmm_declarations.specs.EntryFaults.{entry_value_spots}
+use Rattle.cmm_static_semantics.specs.declared.spot.Spot.{Spot}
+use Rattle.cmm_static_semantics.specs.declared.fault.Fault.{Fault}
+use Rattle.cmm_static_semantics.specs.Spots.{first_of, first_by}
+use Rattle.cmm_static_semantics.specs.Senses.{Senses}
+use Rattle.cmm_static_semantics.specs.Declarations.{named_units, again, host_again}
+use Rattle.cmm_static_semantics.specs.Linking.{Program, program_of, export_spots, twice, import_spots}
+use Rattle.cmm_static_semantics.specs.Units.{target_decl_spots, item_spots}
+use Rattle.cmm_static_semantics.specs.Scopes.{width_in, unit_senses}
+use Rattle.cmm_static_semantics.specs.LongNames.{long_spots, of_item}
+use Rattle.cmm_static_semantics.specs.Faults.{Placed, stands_before, all_broken, item_procedure_spots, fault_at, fault_of_all, first_fault}
+use Rattle.cmm_check_declarations.specs.EntryFaults.{entry_value_spots}
 use Rattle.cmm_static.specs.inside.Flat.{Flat, flat_unit, links_before, widths_before, register_spots_by, flat_register_spots, flat_cycle_spots, flat_procedure_spots, flat_value_spots, flat_name_spots, spots_by, flat_spots, flats_broken}
-use Rattle.cmm_linked.specs.Exports.{exported_links}
-use Rattle.cmm_linked.specs.Registers.{registers_in}
-use Rattle.cmm_names.specs.Noted.{long_of}
-use Rattle.cmm_names.proofs.Shared.{first_of_append, long_is}
+use Rattle.cmm_linkage.specs.Exports.{exported_links}
+use Rattle.cmm_linkage.specs.Registers.{registers_in}
+use Rattle.cmm_symbols.specs.Noted.{long_of}
+use Rattle.cmm_symbols.proofs.Shared.{first_of_append, long_is}
 use Rattle.cmm_static.specs.inside.Cyclic.{AreNoted}
 use Rattle.cmm_static.proofs.Cyclic.{are_noted}
 use Rattle.cmm_static.proofs.FlatUnits.{broken_flat}

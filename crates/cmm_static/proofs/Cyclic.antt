@@ -5,18 +5,18 @@ use Rattle.std.proofs.lemmas.Slice.Eq.{bytes_eq-Decides}
 use Rattle.std.proofs.lemmas.Grind.{flat_map-append}
 use Rattle.std.proofs.lemmas.List.{length-map, length-take-le, map-append, take-append-drop}
 use Rattle.cmm_rules.specs.declared.rule.Rule.TheVariants.{DeclaredTwice, Cycle}
-use Rattle.cmm_accepted.specs.declared.spot.Spot.{Spot}
-use Rattle.cmm_accepted.specs.Spots.{comes_before, first_of, at, unless}
-use Rattle.cmm_accepted.specs.Senses.{is_there, is_host}
-use Rattle.cmm_accepted.specs.Units.{cycle_spots}
-use Rattle.cmm_accepted.specs.Scopes.{depends_on_itself}
-use Rattle.cmm_accepted.specs.Declarations.{Declared, Entry, Typedef, Const, Register, Import, DataLabel, Procedure, found, again, host_again, is_own_import}
+use Rattle.cmm_static_semantics.specs.declared.spot.Spot.{Spot}
+use Rattle.cmm_static_semantics.specs.Spots.{comes_before, first_of, at, unless}
+use Rattle.cmm_static_semantics.specs.Senses.{is_there, is_host}
+use Rattle.cmm_static_semantics.specs.Units.{cycle_spots}
+use Rattle.cmm_static_semantics.specs.Scopes.{depends_on_itself}
+use Rattle.cmm_static_semantics.specs.Declarations.{Declared, Entry, Typedef, Const, Register, Import, DataLabel, Procedure, found, again, host_again, is_own_import}
 use Rattle.cmm_ast.specs.declared.token.Ident.{Ident}
-use Rattle.cmm_names.specs.Shown.{shown, entry_shown, with_what}
-use Rattle.cmm_names.specs.declared.table.Named.{Named}
-use Rattle.cmm_names.specs.declared.entry.Entry.{Entry as EntryTree}
-use Rattle.cmm_names.proofs.Shared.{first_of_append, found_with, again_append, rest_next, spot_order}
-use Rattle.cmm_typedefs.specs.Numbers.{numbering, number_in, entry_at}
+use Rattle.cmm_symbols.specs.Shown.{shown, entry_shown, with_what}
+use Rattle.cmm_symbols.specs.declared.table.Named.{Named}
+use Rattle.cmm_symbols.specs.declared.entry.Entry.{Entry as EntryTree}
+use Rattle.cmm_symbols.proofs.Shared.{first_of_append, found_with, again_append, rest_next, spot_order}
+use Rattle.cmm_unit_scope.specs.Numbers.{numbering, number_in, entry_at}
 use Rattle.cmm_static.specs.inside.Cyclic.{is_dependent, IsNoted, CountsOrIsNoted, AreNoted}
 use Rattle.cmm_static.proofs.FirstUnit.{in_one}
 

@@ -2,12 +2,12 @@
 use Rattle.std.proofs.Common.{◌≡◌, ℕ, suc, ◌+◌, ◌<◌, ◌==◌, length, take, drop, get_or, Bool, true, false, ◌||◌, ◌&&◌, map, refl, ap, sym, ◌∙◌, List, [], ◌∷◌, ◌++◌, Option, Some, None, option_map, arith}
 use Rattle.std.specs.Prelude.{nat_lt}
 use Rattle.std.proofs.lemmas.Bool.Decides.{nat_tests}
-use Rattle.cmm_accepted.specs.declared.spot.Spot.{Spot}
-use Rattle.cmm_accepted.specs.Spots.{first_by, sooner_by, comes_before, first_of}
-use Rattle.cmm_accepted.specs.Linking.{Program}
-use Rattle.cmm_accepted.specs.Faults.{stands_before}
+use Rattle.cmm_static_semantics.specs.declared.spot.Spot.{Spot}
+use Rattle.cmm_static_semantics.specs.Spots.{first_by, sooner_by, comes_before, first_of}
+use Rattle.cmm_static_semantics.specs.Linking.{Program}
+use Rattle.cmm_static_semantics.specs.Faults.{stands_before}
 use Rattle.cmm_static.specs.inside.Flat.{Flat, flat_spots, placed, flats_broken}
-use Rattle.cmm_names.proofs.Shared.{first_by_append, rest_next, mapped_next}
+use Rattle.cmm_symbols.proofs.Shared.{first_by_append, rest_next, mapped_next}
 
 not_less : (n : ℕ) → nat_lt n n ≡ false
 not_less n = grind (arith, nat_tests)

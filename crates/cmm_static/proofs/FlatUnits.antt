@@ -3,20 +3,20 @@ use Rattle.std.proofs.Common.{◌≡◌, ℕ, suc, ◌||◌, map, refl, ap, sym,
 use Rattle.std.specs.Prelude.{flat_map}
 use Rattle.std.proofs.lemmas.List.{map-append}
 use Rattle.std.proofs.lemmas.List.Folds.{flat_map-map}
-use Rattle.cmm_accepted.specs.declared.spot.Spot.{Spot}
-use Rattle.cmm_accepted.specs.Spots.{first_by, first_of, sooner_by, comes_before}
-use Rattle.cmm_accepted.specs.Senses.{Senses}
-use Rattle.cmm_accepted.specs.Declarations.{Declared, Entry, NamedUnit, host_again, again}
-use Rattle.cmm_accepted.specs.Linking.{export_links, exports_of, export_spots, twice, import_spots, program_of, has_main, registers_of}
-use Rattle.cmm_accepted.specs.Scopes.{unit_senses}
-use Rattle.cmm_accepted.specs.Units.{target_decl_spots, entry_spots, register_spots, item_spots}
-use Rattle.cmm_accepted.specs.LongNames.{long_spots, of_item}
-use Rattle.cmm_accepted.specs.Faults.{stands_before, name_spots, declaration_spots, procedure_spots, item_procedure_spots, register_widths, each_unit, all_broken}
-use Rattle.cmm_declarations.specs.EntryFaults.{entry_value_spots}
-use Rattle.cmm_declarations.proofs.Shared.{value_or_cycle}
-use Rattle.cmm_linked.specs.Exports.{exported_links}
-use Rattle.cmm_linked.proofs.Shared.{links_of_all}
-use Rattle.cmm_names.proofs.Shared.{first_of_append, first_apart, first_joined, first_swapped, first_of_each, spot_order}
+use Rattle.cmm_static_semantics.specs.declared.spot.Spot.{Spot}
+use Rattle.cmm_static_semantics.specs.Spots.{first_by, first_of, sooner_by, comes_before}
+use Rattle.cmm_static_semantics.specs.Senses.{Senses}
+use Rattle.cmm_static_semantics.specs.Declarations.{Declared, Entry, NamedUnit, host_again, again}
+use Rattle.cmm_static_semantics.specs.Linking.{export_links, exports_of, export_spots, twice, import_spots, program_of, has_main, registers_of}
+use Rattle.cmm_static_semantics.specs.Scopes.{unit_senses}
+use Rattle.cmm_static_semantics.specs.Units.{target_decl_spots, entry_spots, register_spots, item_spots}
+use Rattle.cmm_static_semantics.specs.LongNames.{long_spots, of_item}
+use Rattle.cmm_static_semantics.specs.Faults.{stands_before, name_spots, declaration_spots, procedure_spots, item_procedure_spots, register_widths, each_unit, all_broken}
+use Rattle.cmm_check_declarations.specs.EntryFaults.{entry_value_spots}
+use Rattle.cmm_check_declarations.proofs.Shared.{value_or_cycle}
+use Rattle.cmm_linkage.specs.Exports.{exported_links}
+use Rattle.cmm_linkage.proofs.Shared.{links_of_all}
+use Rattle.cmm_symbols.proofs.Shared.{first_of_append, first_apart, first_joined, first_swapped, first_of_each, spot_order}
 use Rattle.cmm_static.specs.inside.Cyclic.{entry_cycle_spots}
 use Rattle.cmm_static.specs.inside.Flat.{flat_unit, flat_links, links_before, widths_before, flat_widths, flat_name_spots, flat_value_spots, flat_register_spots, flat_cycle_spots, spots_by, flat_spots, placed, flats_broken, flat_starts, some_starts}
 use Rattle.cmm_static.proofs.FirstUnit.{first_placed}

@@ -5,20 +5,20 @@ use Rattle.std.proofs.lemmas.List.{length-map, map-append}
 use Rattle.std.proofs.lemmas.List.Elements.{All-head, All-push, All-tail}
 use Rattle.cmm_checked.specs.Known.{AreKnown, IsKnown, trees_in}
 use Rattle.cmm_checked.specs.declared.unit.CheckedUnit.{CheckedUnit}
-use Rattle.cmm_constants.specs.Senses.{senses_of}
-use Rattle.cmm_constants.specs.declared.unit_senses.UnitSenses.{UnitSenses}
-use Rattle.cmm_names.specs.declared.index.Index.{Index}
+use Rattle.cmm_unit_scope.specs.Senses.{senses_of}
+use Rattle.cmm_unit_scope.specs.declared.unit_senses.UnitSenses.{UnitSenses}
+use Rattle.cmm_symbols.specs.declared.index.Index.{Index}
 use Rattle.cmm_words.specs.declared.width.Width.{Width}
 use Rattle.cmm_ast.specs.declared.unit.Unit.{Unit as UnitTree}
-use Rattle.cmm_accepted.specs.Declarations.{NamedUnit, found, labels_in, named_units, procs_in, sum_of, units_from}
-use Rattle.cmm_accepted.specs.Items.{items_of}
-use Rattle.cmm_accepted.specs.declared.fault.Fault.{Fault}
-use Rattle.cmm_accepted.specs.Faults.{AreAccepted, fault_of_all, first_fault, stands_before}
-use Rattle.cmm_accepted.specs.Linking.{Program, program_of}
-use Rattle.cmm_accepted.specs.Scopes.{unit_senses}
-use Rattle.cmm_accepted.specs.Senses.{Senses}
-use Rattle.cmm_accepted.specs.Spots.{first_by}
-use Rattle.cmm_linked.specs.Registers.{AreWidths}
+use Rattle.cmm_static_semantics.specs.Declarations.{NamedUnit, found, labels_in, named_units, procs_in, sum_of, units_from}
+use Rattle.cmm_static_semantics.specs.Items.{items_of}
+use Rattle.cmm_static_semantics.specs.declared.fault.Fault.{Fault}
+use Rattle.cmm_static_semantics.specs.Faults.{AreAccepted, fault_of_all, first_fault, stands_before}
+use Rattle.cmm_static_semantics.specs.Linking.{Program, program_of}
+use Rattle.cmm_static_semantics.specs.Scopes.{unit_senses}
+use Rattle.cmm_static_semantics.specs.Senses.{Senses}
+use Rattle.cmm_static_semantics.specs.Spots.{first_by}
+use Rattle.cmm_linkage.specs.Registers.{AreWidths}
 use Rattle.cmm_static.specs.inside.Flat.{Flat, flat_named, flat_unit, flats_broken, widths_before}
 use Rattle.cmm_static.specs.inside.Linked.{AreFound}
 use Rattle.cmm_static.specs.inside.Totals.{AreSums}

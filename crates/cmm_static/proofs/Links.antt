@@ -5,16 +5,16 @@ use Rattle.std.proofs.lemmas.Grind.{flat_map-append}
 use Rattle.std.proofs.Math.Bool.{or-false}
 use Rattle.cmm_ast.specs.declared.declaration.Export.{Export}
 use Rattle.cmm_rules.specs.declared.rule.Rule.TheVariants.{ExportedTwice}
-use Rattle.cmm_accepted.specs.declared.spot.Spot.{Spot}
-use Rattle.cmm_accepted.specs.Spots.{first_of, unless}
-use Rattle.cmm_accepted.specs.Senses.{is_there}
-use Rattle.cmm_accepted.specs.Declarations.{Declared}
-use Rattle.cmm_accepted.specs.Linking.{is_among, export_link, twice}
-use Rattle.cmm_names.specs.Indexed.{indexed, or_else}
-use Rattle.cmm_linked.proofs.Shared.{listed_next}
+use Rattle.cmm_static_semantics.specs.declared.spot.Spot.{Spot}
+use Rattle.cmm_static_semantics.specs.Spots.{first_of, unless}
+use Rattle.cmm_static_semantics.specs.Senses.{is_there}
+use Rattle.cmm_static_semantics.specs.Declarations.{Declared}
+use Rattle.cmm_static_semantics.specs.Linking.{is_among, export_link, twice}
+use Rattle.cmm_symbols.specs.Indexed.{indexed, or_else}
+use Rattle.cmm_linkage.proofs.Shared.{listed_next}
 use Rattle.cmm_static.specs.inside.Linked.{AreLinks, AreFound}
-use Rattle.cmm_names.specs.declared.index.Index.{Index}
-use Rattle.cmm_names.proofs.Shared.{first_of_append, found_push, mapped_next}
+use Rattle.cmm_symbols.specs.declared.index.Index.{Index}
+use Rattle.cmm_symbols.proofs.Shared.{first_of_append, found_push, mapped_next}
 
 or_assoc : (a b c : Bool) → (a || (b || c)) ≡ ((a || b) || c)
 or_assoc true b c = refl

@@ -6,12 +6,12 @@ use Rattle.std.proofs.lemmas.List.{length-map}
 use Rattle.std.proofs.lemmas.List.Folds.{flat_map-map}
 use Rattle.cmm_ast.specs.declared.declaration.Export.{Export}
 use Rattle.cmm_ast.specs.declared.unit.Unit.{Unit as UnitTree}
-use Rattle.cmm_accepted.specs.Items.{items_of}
-use Rattle.cmm_accepted.specs.Declarations.{Declared, Entry, NamedUnit, procs_in, labels_in, entries_from, sum_of, units_from}
-use Rattle.cmm_accepted.specs.Linking.{item_exports}
-use Rattle.cmm_names.specs.Shown.{alone, thing_item, whats}
-use Rattle.cmm_names.specs.declared.thing.Thing.{Thing}
-use Rattle.cmm_names.proofs.Shared.{entries_are, sum_is}
+use Rattle.cmm_static_semantics.specs.Items.{items_of}
+use Rattle.cmm_static_semantics.specs.Declarations.{Declared, Entry, NamedUnit, procs_in, labels_in, entries_from, sum_of, units_from}
+use Rattle.cmm_static_semantics.specs.Linking.{item_exports}
+use Rattle.cmm_symbols.specs.Shown.{alone, thing_item, whats}
+use Rattle.cmm_symbols.specs.declared.thing.Thing.{Thing}
+use Rattle.cmm_symbols.proofs.Shared.{entries_are, sum_is}
 use Rattle.cmm_static.specs.inside.Flat.{Flat, flat_unit, numbered_unit}
 
 -- a unit laid flat, from what stands in it

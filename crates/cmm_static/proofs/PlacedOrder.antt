@@ -1,12 +1,12 @@
 -- The first fault of units is the same whether their faults are listed unit by unit or rule by rule.
 use Rattle.std.proofs.Common.{◌≡◌, ℕ, suc, List, [], ◌∷◌, ◌++◌, map, Option, None, refl, sym, ◌∙◌, ap}
 use Rattle.std.proofs.lemmas.List.{map-append}
-use Rattle.cmm_accepted.specs.declared.spot.Spot.{Spot}
-use Rattle.cmm_accepted.specs.Spots.{sooner_by, first_by, comes_before}
-use Rattle.cmm_accepted.specs.Declarations.{NamedUnit}
-use Rattle.cmm_accepted.specs.Linking.{program_of}
-use Rattle.cmm_accepted.specs.Faults.{Placed, stands_before, each_unit, name_spots, declaration_spots, procedure_spots, broken_names, broken_declarations, broken_procedures, all_broken}
-use Rattle.cmm_names.proofs.Shared.{IsOrder, order_of, order_by, order_by_number_then, spot_order, first_joined, middle_swapped}
+use Rattle.cmm_static_semantics.specs.declared.spot.Spot.{Spot}
+use Rattle.cmm_static_semantics.specs.Spots.{sooner_by, first_by, comes_before}
+use Rattle.cmm_static_semantics.specs.Declarations.{NamedUnit}
+use Rattle.cmm_static_semantics.specs.Linking.{program_of}
+use Rattle.cmm_static_semantics.specs.Faults.{Placed, stands_before, each_unit, name_spots, declaration_spots, procedure_spots, broken_names, broken_declarations, broken_procedures, all_broken}
+use Rattle.cmm_symbols.proofs.Shared.{IsOrder, order_of, order_by, order_by_number_then, spot_order, first_joined, middle_swapped}
 
 -- by unit, and in a unit as spots are
 pub placed_order : IsOrder stands_before

@@ -7,19 +7,19 @@ use Rattle.cmm_ast.specs.declared.unit.Unit.{Unit as UnitTree}
 use Rattle.cmm_ast.specs.declared.unit.Item.{Item}
 use Rattle.cmm_program.specs.Layout.{end_of}
 use Rattle.cmm_rules.specs.declared.rule.Rule.TheVariants.{Limit, NoMain}
-use Rattle.cmm_accepted.specs.declared.fault.Fault.{Fault}
-use Rattle.cmm_accepted.specs.Declarations.{NamedUnit, labels_in, named_units, procs_in, sum_of, units_from}
-use Rattle.cmm_accepted.specs.Items.{items_of}
-use Rattle.cmm_accepted.specs.Limits.{data_pieces, over_units, proc_count, site_spans, site_variables, sums_are_within, token_count}
-use Rattle.cmm_accepted.specs.Faults.{at_beginning, fault_of_all}
-use Rattle.cmm_accepted.specs.Linking.{Program, has_main, program_of, register_names}
-use Rattle.cmm_accepted.specs.Senses.{Senses}
-use Rattle.cmm_accepted.specs.Scopes.{unit_senses}
-use Rattle.cmm_declarations.specs.DataEnds.{IsEnd, data_of}
-use Rattle.cmm_declarations.proofs.Shared.{data_grows, units_next}
+use Rattle.cmm_static_semantics.specs.declared.fault.Fault.{Fault}
+use Rattle.cmm_static_semantics.specs.Declarations.{NamedUnit, labels_in, named_units, procs_in, sum_of, units_from}
+use Rattle.cmm_static_semantics.specs.Items.{items_of}
+use Rattle.cmm_static_semantics.specs.Limits.{data_pieces, over_units, proc_count, site_spans, site_variables, sums_are_within, token_count}
+use Rattle.cmm_static_semantics.specs.Faults.{at_beginning, fault_of_all}
+use Rattle.cmm_static_semantics.specs.Linking.{Program, has_main, program_of, register_names}
+use Rattle.cmm_static_semantics.specs.Senses.{Senses}
+use Rattle.cmm_static_semantics.specs.Scopes.{unit_senses}
+use Rattle.cmm_check_declarations.specs.DataEnds.{IsEnd, data_of}
+use Rattle.cmm_check_declarations.proofs.Shared.{data_grows, units_next}
 use Rattle.cmm_limits.specs.Capped.{capped}
 use Rattle.cmm_limits.proofs.Shared.{capped_sum}
-use Rattle.cmm_names.specs.Shown.{whats}
+use Rattle.cmm_symbols.specs.Shown.{whats}
 use Rattle.cmm_static.specs.inside.Flat.{Flat, flat_named, flat_unit, numbered_unit}
 use Rattle.cmm_static.specs.inside.Totals.{AreSums, are_within, totals_are_within}
 use Rattle.cmm_static.specs.declared.sums.Sums.{Sums}

@@ -2,13 +2,13 @@
 use Rattle.std.proofs.Common.{◌≡◌, List, ◌++◌, Option, ap, sym, ◌∙◌}
 use Rattle.cmm_ast.specs.declared.procedure.Proc.{Proc}
 use Rattle.cmm_ast.specs.declared.unit.Item.TheVariants as items
-use Rattle.cmm_accepted.specs.declared.spot.Spot.{Spot}
-use Rattle.cmm_accepted.specs.Faults.{item_procedure_spots}
-use Rattle.cmm_accepted.specs.Limits.{proc_limits}
-use Rattle.cmm_accepted.specs.Senses.{Senses}
-use Rattle.cmm_accepted.specs.Spots.{first_of}
-use Rattle.cmm_accepted.specs.Statements.{proc_spots}
-use Rattle.cmm_names.proofs.Shared.{first_of_append}
+use Rattle.cmm_static_semantics.specs.declared.spot.Spot.{Spot}
+use Rattle.cmm_static_semantics.specs.Faults.{item_procedure_spots}
+use Rattle.cmm_static_semantics.specs.Limits.{proc_limits}
+use Rattle.cmm_static_semantics.specs.Senses.{Senses}
+use Rattle.cmm_static_semantics.specs.Spots.{first_of}
+use Rattle.cmm_static_semantics.specs.Statements.{proc_spots}
+use Rattle.cmm_symbols.proofs.Shared.{first_of_append}
 
 joined : (b0 b1 b2 : Option Spot) (xs ys : List Spot) → b1 ≡ first_of b0 xs → b2 ≡ first_of b1 ys → b2 ≡ first_of b0 (xs ++ ys)
 joined b0 b1 b2 xs ys first then_ = then_ ∙ ap (λ b. first_of b ys) first ∙ sym (first_of_append b0 xs ys)

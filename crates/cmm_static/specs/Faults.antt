@@ -1,7 +1,7 @@
 -- The fault that an answer names.
 use Rattle.std.specs.Prelude.{◌≡◌, List, Some}
 use Rattle.cmm_ast.specs.declared.unit.Unit.{Unit as UnitTree}
-use Rattle.cmm_accepted.specs.Faults.{first_fault}
+use Rattle.cmm_static_semantics.specs.Faults.{first_fault}
 use Rattle.cmm_static.specs.declared.fault.StaticFault.{StaticFault}
 use Rattle.cmm_static.specs.declared.fault.StaticFault.TheVariants.{At, Memory}
 

@@ -2,9 +2,9 @@
 
 ghost use Rattle.std.specs.Prelude.{◌≡◌, ◌<◌, ◌^◌, List, map, length, IfOk, IfErr};
 ghost use Rattle.std.specs.List.{zip};
-ghost use Rattle.cmm_accepted.specs.Declarations.{NamedUnit, named_units};
-ghost use Rattle.cmm_accepted.specs.Linking.{program_of};
-ghost use Rattle.cmm_accepted.specs.Faults.{AreAccepted, fault_at, place_of};
+ghost use Rattle.cmm_static_semantics.specs.Declarations.{NamedUnit, named_units};
+ghost use Rattle.cmm_static_semantics.specs.Linking.{program_of};
+ghost use Rattle.cmm_static_semantics.specs.Faults.{AreAccepted, fault_at, place_of};
 ghost use Rattle.cmm_static.specs.Faults.{IsFaultOf};
 ghost use Rattle.cmm_static.specs.inside.Flat.{flat_unit};
 ghost use Rattle.cmm_static.specs.inside.Found.{IsFound};
@@ -15,13 +15,13 @@ use crate::fault::StaticFault;
 use crate::together::fault_of_all;
 use crate::unit::{first_broken, names_of};
 use crate::unit_names::UnitNames;
-use cmm_accepted::{Fault, Spot};
 use cmm_ast::{Place, Unit};
 use cmm_checked::{Checked, CheckedUnit};
-use cmm_constants::UnitSenses;
 use cmm_items::Items;
-use cmm_linked::{Gathered, Linkage};
-use cmm_names::Numbers;
+use cmm_linkage::{Gathered, Linkage};
+use cmm_static_semantics::{Fault, Spot};
+use cmm_symbols::Numbers;
+use cmm_unit_scope::UnitSenses;
 use std::alloc::{AllocError, Global};
 
 /// Where a rule is broken: in which unit, from 0, and where in it.

@@ -1,21 +1,21 @@
 //! Typedefs and constants that depend on themselves.
 
 ghost use Rattle.std.specs.Prelude.{◌≡◌, ◌<◌, ◌∷◌, [], true, false, List, Some, ℕ, flat_map, length, map, OnOk};
-ghost use Rattle.cmm_accepted.specs.Declarations.{Declared, Entry as UnitEntry};
-ghost use Rattle.cmm_accepted.specs.Spots.{first_of};
-ghost use Rattle.cmm_accepted.specs.Units.{cycle_spots};
-ghost use Rattle.cmm_dependencies.specs.Dependent.{AreDependencies};
-ghost use Rattle.cmm_names.specs.Shown.{shown, entry_shown};
+ghost use Rattle.cmm_static_semantics.specs.Declarations.{Declared, Entry as UnitEntry};
+ghost use Rattle.cmm_static_semantics.specs.Spots.{first_of};
+ghost use Rattle.cmm_static_semantics.specs.Units.{cycle_spots};
+ghost use Rattle.cmm_unit_scope.specs.Dependent.{AreDependencies};
+ghost use Rattle.cmm_symbols.specs.Shown.{shown, entry_shown};
 ghost use Rattle.cmm_static.specs.inside.Cyclic.{entry_cycle_spots, is_dependent, AreNoted, CountsOrIsNoted};
-ghost use Rattle.cmm_typedefs.specs.Numbers.{entry_at};
+ghost use Rattle.cmm_unit_scope.specs.Numbers.{entry_at};
 
-use cmm_accepted::Spot;
-use cmm_dependencies::Dependencies;
-use cmm_names::{Entry, Named, unless};
 use cmm_rules::Rule;
+use cmm_static_semantics::Spot;
+use cmm_symbols::{Entry, Named, unless};
+use cmm_unit_scope::Dependencies;
 use std::alloc::{AllocError, Global};
 
-/// Notes a declaration, by its number, if it depends on itself. Of one that doesn't count, rule 20 is named at its place.
+/// Notes a declaration, by its number, if it depends on itself. A later declaration of the name already breaks rule 20, and is skipped.
 fn note_dependent<'a>(
     dependencies: &Dependencies,
     number: usize,

@@ -1,13 +1,13 @@
 //! What is known of the units before one.
 
 ghost use Rattle.std.specs.Prelude.{[]};
-ghost use Rattle.cmm_accepted.specs.Linking.{Program};
+ghost use Rattle.cmm_static_semantics.specs.Linking.{Program};
 ghost use Rattle.cmm_static.specs.inside.Units.{AreEarlier};
 
 use crate::sums::Sums;
-use cmm_constants::UnitSenses;
 use cmm_items::Items;
-use cmm_names::Index;
+use cmm_symbols::Index;
+use cmm_unit_scope::UnitSenses;
 use cmm_words::Width;
 use std::alloc::Global;
 

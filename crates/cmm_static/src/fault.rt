@@ -2,7 +2,7 @@
 
 ghost use Rattle.std.specs.Prelude.{◌≡◌};
 
-use cmm_accepted::Fault;
+use cmm_static_semantics::Fault;
 use std::alloc::{AllocError, AllocFailed};
 use thiserror::Error;
 

@@ -1,15 +1,15 @@
 //! Names of the host.
 
 ghost use Rattle.std.specs.Prelude.{◌≡◌, ◌||◌, not, flat_map, map};
-ghost use Rattle.cmm_accepted.specs.Senses.{is_host};
-ghost use Rattle.cmm_accepted.specs.Declarations.{host_again, is_own_import};
-ghost use Rattle.cmm_accepted.specs.Spots.{first_of};
-ghost use Rattle.cmm_names.specs.Shown.{shown};
+ghost use Rattle.cmm_static_semantics.specs.Senses.{is_host};
+ghost use Rattle.cmm_static_semantics.specs.Declarations.{host_again, is_own_import};
+ghost use Rattle.cmm_static_semantics.specs.Spots.{first_of};
+ghost use Rattle.cmm_symbols.specs.Shown.{shown};
 
-use cmm_accepted::Spot;
-use cmm_linked::import_link;
-use cmm_names::{Entry, Named, is_host, unless};
+use cmm_linkage::import_link;
 use cmm_rules::Rule;
+use cmm_static_semantics::Spot;
+use cmm_symbols::{Entry, Named, is_host, unless};
 
 /// Whether a name is an import of itself.
 fn is_own_import<'a>(named: &Named<'a, Entry<'a>>) -> bool

@@ -1,7 +1,7 @@
 //! The pass that checks: which static rules units break, and what is known of them where they break none.
 //!
 //! `check_units` answers the fault that is named of units by the static rules, exactly: the first by unit, place and rule, from the definitions of
-//! `cmm_accepted`. Where there is none it answers what the pass that lowers takes, `Checked` of `cmm_checked`. Of the faults the first is kept while
+//! `cmm_static_semantics`. Where there is none it answers what the pass that lowers takes, `Checked` of `cmm_checked`. Of the faults the first is kept while
 //! walking, so that each function's clause says how the first fault goes on. What the limits over all units count is added up on the same walk, and tested
 //! last. Time is linear in the units. `check` is this pass and the next in a row.
 //!

@@ -1,19 +1,19 @@
 //! What a unit exports and imports.
 
 ghost use Rattle.std.specs.Prelude.{◌≡◌, ◌++◌, List, ℕ, flat_map, map, option_map, IfOk, OnOk};
-ghost use Rattle.cmm_accepted.specs.Spots.{first_of};
-ghost use Rattle.cmm_accepted.specs.Senses.{is_there};
-ghost use Rattle.cmm_accepted.specs.Linking.{address_of, export_spots, export_link, twice, import_spots, is_start, starts};
-ghost use Rattle.cmm_linked.specs.Exports.{exported_links};
+ghost use Rattle.cmm_static_semantics.specs.Spots.{first_of};
+ghost use Rattle.cmm_static_semantics.specs.Senses.{is_there};
+ghost use Rattle.cmm_static_semantics.specs.Linking.{address_of, export_spots, export_link, twice, import_spots, is_start, starts};
+ghost use Rattle.cmm_linkage.specs.Exports.{exported_links};
 ghost use Rattle.cmm_static.specs.inside.Linked.{AreLinks};
 ghost use Rattle.cmm_static.specs.inside.Flat.{is_main};
-ghost use Rattle.cmm_names.specs.Shown.{shown, entry_shown};
+ghost use Rattle.cmm_symbols.specs.Shown.{shown, entry_shown};
 
-use cmm_accepted::Spot;
 use cmm_ast::Export;
-use cmm_linked::{Linkage, entry_of, export_link, import_link};
-use cmm_names::{Entry, Index, Named, Table, is_host, unless};
+use cmm_linkage::{Linkage, entry_of, export_link, import_link};
 use cmm_rules::Rule;
+use cmm_static_semantics::Spot;
+use cmm_symbols::{Entry, Index, Named, Table, is_host, unless};
 use cmm_words::Name;
 use std::alloc::{AllocError, Global};
 

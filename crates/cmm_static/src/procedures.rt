@@ -1,17 +1,17 @@
 //! The procedures of a unit.
 
 ghost use Rattle.std.specs.Prelude.{◌≡◌, flat_map, map, OnOk};
-ghost use Rattle.cmm_accepted.specs.Faults.{item_procedure_spots};
-ghost use Rattle.cmm_accepted.specs.Spots.{first_of};
-ghost use Rattle.cmm_names.specs.Shown.{thing_item};
+ghost use Rattle.cmm_static_semantics.specs.Faults.{item_procedure_spots};
+ghost use Rattle.cmm_static_semantics.specs.Spots.{first_of};
+ghost use Rattle.cmm_symbols.specs.Shown.{thing_item};
 ghost use Rattle.cmm_typing.specs.Fitting.{AreWords};
 
-use cmm_accepted::Spot;
 use cmm_ast::{Item, Proc};
+use cmm_check_procedure::note_procedure;
 use cmm_limits::note_limits;
-use cmm_names::Thing;
-use cmm_scopes::names_of;
-use cmm_statements::note_procedure;
+use cmm_proc_scope::names_of;
+use cmm_static_semantics::Spot;
+use cmm_symbols::Thing;
 use cmm_typing::Names;
 use std::alloc::{AllocError, Global};
 

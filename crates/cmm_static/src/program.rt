@@ -1,17 +1,17 @@
 //! The two passes in a row: units are checked, and what is known of them is lowered.
 
 ghost use Rattle.std.specs.Prelude.{◌≡◌, ◌<◌, ◌^◌, length, IfOk, IfErr};
-ghost use Rattle.cmm_accepted.specs.Faults.{AreAccepted};
-ghost use Rattle.cmm_meaning.specs.Laws.{AreRead, TextsAreBytes};
-ghost use Rattle.cmm_meaning.specs.Meaning.{meaning_of};
+ghost use Rattle.cmm_static_semantics.specs.Faults.{AreAccepted};
+ghost use Rattle.cmm_elaboration.specs.Laws.{AreRead, TextsAreBytes};
+ghost use Rattle.cmm_elaboration.specs.Meaning.{meaning_of};
 ghost use Rattle.cmm_program.specs.InRange.{IsInRange};
 ghost use Rattle.cmm_static.specs.Faults.{IsFaultOf};
 
 use crate::checking::check_units;
 use crate::fault::StaticFault;
 use cmm_ast::Unit;
+use cmm_lower::lower;
 use cmm_program::Program;
-use cmm_resolved_units::lower;
 use std::alloc::Global;
 
 /// The program that units mean, if they break no static rule; else the fault is that of `check_units`. Units are those that `cmm_parser` gives, and fewer

@@ -1,22 +1,22 @@
 //! Global registers: those of one name are one register, of one width in all units.
-#![tactic(auto, using(cmm_names::proofs::Shared::first_of_append))]
+#![tactic(auto, using(cmm_symbols::proofs::Shared::first_of_append))]
 
 ghost use Rattle.std.specs.Prelude.{◌≡◌, ◌++◌, List, map, flat_map, Option, OnOk};
 ghost use Rattle.cmm_words.specs.declared.width.Width.{Width};
-ghost use Rattle.cmm_accepted.specs.Declarations.{Declared};
-ghost use Rattle.cmm_accepted.specs.Judging.{if_ok};
-ghost use Rattle.cmm_accepted.specs.Spots.{first_of};
-ghost use Rattle.cmm_accepted.specs.Typing.{type_width};
+ghost use Rattle.cmm_static_semantics.specs.Declarations.{Declared};
+ghost use Rattle.cmm_static_semantics.specs.Judging.{if_ok};
+ghost use Rattle.cmm_static_semantics.specs.Spots.{first_of};
+ghost use Rattle.cmm_static_semantics.specs.Typing.{type_width};
 ghost use Rattle.cmm_static.specs.inside.Flat.{register_spots_by, widths_by};
 ghost use Rattle.cmm_static.specs.inside.Linked.{AreFound};
-ghost use Rattle.cmm_linked.specs.Registers.{register_shown};
-ghost use Rattle.cmm_typedefs.specs.Types.{senses_of};
+ghost use Rattle.cmm_linkage.specs.Registers.{register_shown};
+ghost use Rattle.cmm_unit_scope.specs.Types.{senses_of};
 
-use cmm_accepted::Spot;
-use cmm_linked::Register;
-use cmm_names::Index;
-use cmm_typedefs::Types;
-use cmm_wanted::{note_width, width_of};
+use cmm_linkage::Register;
+use cmm_static_semantics::Spot;
+use cmm_symbols::Index;
+use cmm_typing::{note_width, width_of};
+use cmm_unit_scope::Types;
 use cmm_words::{Name, Width};
 use std::alloc::{AllocError, Global};
 

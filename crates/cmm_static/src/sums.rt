@@ -1,20 +1,20 @@
 //! The sums over all units that have a limit.
 
 ghost use Rattle.std.specs.Prelude.{◌≡◌, ◌-◌, ◌++◌, ◌∷◌, [], ℕ, nat_le, List, length, map, IfOk};
-ghost use Rattle.cmm_accepted.specs.Declarations.{NamedUnit, procs_in, sum_of};
-ghost use Rattle.cmm_accepted.specs.Items.{items_of};
-ghost use Rattle.cmm_accepted.specs.Linking.{Program};
-ghost use Rattle.cmm_accepted.specs.Scopes.{unit_senses};
-ghost use Rattle.cmm_declarations.specs.DataEnds.{IsEnd, data_of};
+ghost use Rattle.cmm_static_semantics.specs.Declarations.{NamedUnit, procs_in, sum_of};
+ghost use Rattle.cmm_static_semantics.specs.Items.{items_of};
+ghost use Rattle.cmm_static_semantics.specs.Linking.{Program};
+ghost use Rattle.cmm_static_semantics.specs.Scopes.{unit_senses};
+ghost use Rattle.cmm_check_declarations.specs.DataEnds.{IsEnd, data_of};
 ghost use Rattle.cmm_limits.specs.Capped.{capped};
-ghost use Rattle.cmm_names.specs.Shown.{alone, thing_item};
+ghost use Rattle.cmm_symbols.specs.Shown.{alone, thing_item};
 ghost use Rattle.cmm_static.specs.inside.Totals.{AreSums, are_within};
 ghost use Rattle.cmm_typing.specs.Fitting.{AreWords};
 
 use cmm_ast::Unit;
-use cmm_declarations::end_of_data;
+use cmm_check_declarations::end_of_data;
 use cmm_limits::{site_spans, site_variables};
-use cmm_names::{Numbers, Thing, things_of};
+use cmm_symbols::{Numbers, Thing, things_of};
 use cmm_typing::Names;
 use std::alloc::{AllocError, Global};
 

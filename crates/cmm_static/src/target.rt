@@ -1,14 +1,14 @@
 //! Properties of the target machine.
 
 ghost use Rattle.std.specs.Prelude.{◌≡◌, [], flat_map, map};
-ghost use Rattle.cmm_accepted.specs.Spots.{first_of};
-ghost use Rattle.cmm_accepted.specs.Units.{is_of_target, property_spots, target_decl_spots};
-ghost use Rattle.cmm_names.specs.Shown.{thing_item};
+ghost use Rattle.cmm_static_semantics.specs.Spots.{first_of};
+ghost use Rattle.cmm_static_semantics.specs.Units.{is_of_target, property_spots, target_decl_spots};
+ghost use Rattle.cmm_symbols.specs.Shown.{thing_item};
 
-use cmm_accepted::Spot;
 use cmm_ast::{ByteOrder, Decl, DeclForm, Item, Property, PropertyForm};
-use cmm_names::{Thing, unless};
 use cmm_rules::Rule;
+use cmm_static_semantics::Spot;
+use cmm_symbols::{Thing, unless};
 
 /// Whether it is a property of the machine for which code is made.
 fn is_of_target(property: PropertyForm) -> bool

@@ -1,9 +1,9 @@
 //! What units break together, where none breaks a rule of its own.
 
 ghost use Rattle.std.specs.Prelude.{◌≡◌, ◌&&◌, nat_le, List, Some, length, map};
-ghost use Rattle.cmm_accepted.specs.Declarations.{NamedUnit};
-ghost use Rattle.cmm_accepted.specs.Faults.{at_beginning, fault_of_all};
-ghost use Rattle.cmm_accepted.specs.Linking.{program_of};
+ghost use Rattle.cmm_static_semantics.specs.Declarations.{NamedUnit};
+ghost use Rattle.cmm_static_semantics.specs.Faults.{at_beginning, fault_of_all};
+ghost use Rattle.cmm_static_semantics.specs.Linking.{program_of};
 ghost use Rattle.cmm_static.specs.inside.Flat.{flat_unit, some_starts};
 ghost use Rattle.cmm_static.specs.inside.Totals.{AreSums, are_within};
 ghost use Rattle.cmm_static.specs.inside.Units.{unit_flat};
@@ -11,9 +11,9 @@ ghost use Rattle.cmm_static.specs.inside.Units.{unit_flat};
 use crate::linking::starts;
 use crate::sums::Sums;
 use crate::unit_names::UnitNames;
-use cmm_accepted::Fault;
-use cmm_linked::Linkage;
+use cmm_linkage::Linkage;
 use cmm_rules::Rule;
+use cmm_static_semantics::Fault;
 
 /// How many units a program may have.
 const UNITS_LIMIT: usize = 256;

@@ -1,14 +1,14 @@
 //! The first fault of one unit, and its names.
 
 ghost use Rattle.std.specs.Prelude.{◌≡◌, ◌++◌, ◌∷◌, [], None, List, ℕ, flat_map, map, IfOk, OnOk};
-ghost use Rattle.cmm_accepted.specs.Declarations.{NamedUnit};
-ghost use Rattle.cmm_accepted.specs.Faults.{item_procedure_spots};
-ghost use Rattle.cmm_accepted.specs.Items.{items_of};
-ghost use Rattle.cmm_accepted.specs.Linking.{Program};
-ghost use Rattle.cmm_accepted.specs.Scopes.{unit_senses};
-ghost use Rattle.cmm_accepted.specs.Spots.{first_of};
-ghost use Rattle.cmm_linked.specs.Exports.{exported_links};
-ghost use Rattle.cmm_names.specs.Shown.{thing_item};
+ghost use Rattle.cmm_static_semantics.specs.Declarations.{NamedUnit};
+ghost use Rattle.cmm_static_semantics.specs.Faults.{item_procedure_spots};
+ghost use Rattle.cmm_static_semantics.specs.Items.{items_of};
+ghost use Rattle.cmm_static_semantics.specs.Linking.{Program};
+ghost use Rattle.cmm_static_semantics.specs.Scopes.{unit_senses};
+ghost use Rattle.cmm_static_semantics.specs.Spots.{first_of};
+ghost use Rattle.cmm_linkage.specs.Exports.{exported_links};
+ghost use Rattle.cmm_symbols.specs.Shown.{thing_item};
 ghost use Rattle.cmm_static.specs.inside.Flat.{Flat, flat_links, flat_name_spots, flat_unit, numbered_unit, flat_spots};
 ghost use Rattle.cmm_static.specs.inside.Linked.{AreLinks};
 ghost use Rattle.cmm_static.specs.inside.Totals.{AreSums};
@@ -24,15 +24,13 @@ use crate::registers::{add_registers, note_registers};
 use crate::sums::Sums;
 use crate::target::note_targets;
 use crate::unit_names::UnitNames;
-use cmm_accepted::Spot;
 use cmm_ast::Unit;
-use cmm_constants::senses_of_unit;
-use cmm_declarations::{note_entries, note_items};
-use cmm_dependencies::dependencies_of;
-use cmm_linked::{Linkage, registers_in};
-use cmm_names::{Index, Numbers, Table, Thing, declared_in, exports_in, note_things, things_of};
-use cmm_typedefs::types_of;
+use cmm_check_declarations::{note_entries, note_items};
+use cmm_linkage::{Linkage, registers_in};
+use cmm_static_semantics::Spot;
+use cmm_symbols::{Index, Numbers, Table, Thing, declared_in, exports_in, note_things, things_of};
 use cmm_typing::Names;
+use cmm_unit_scope::{dependencies_of, senses_of_unit, types_of};
 use std::alloc::{AllocError, Global};
 
 /// A unit laid flat, from the numbers of its first procedure and data label on.

@@ -1,14 +1,14 @@
 //! The names of a unit, laid flat.
 
 ghost use Rattle.std.specs.Prelude.{◌≡◌, [], None, map};
-ghost use Rattle.cmm_accepted.specs.Declarations.{again};
-ghost use Rattle.cmm_accepted.specs.Spots.{first_of};
-ghost use Rattle.cmm_names.specs.Shown.{named};
+ghost use Rattle.cmm_static_semantics.specs.Declarations.{again};
+ghost use Rattle.cmm_static_semantics.specs.Spots.{first_of};
+ghost use Rattle.cmm_symbols.specs.Shown.{named};
 
-use cmm_accepted::Spot;
 use cmm_ast::{Export, Unit};
 use cmm_items::Items;
-use cmm_names::{Entry, Table, Thing};
+use cmm_static_semantics::Spot;
+use cmm_symbols::{Entry, Table, Thing};
 
 /// What stands in a unit, what it exports and what it declares.
 #[derive(Drop)]

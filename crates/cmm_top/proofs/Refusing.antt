@@ -1,7 +1,7 @@
 -- What is said of a fault that a layer below names.
 use Rattle.std.proofs.Common.{◌≡◌, List, ℕ, Option, None, inl, inr, refl, subst, sym}
 use Rattle.std.specs.Prelude.{◌⊎◌}
-use Rattle.cmm_accepted.specs.declared.fault.Fault.{Fault}
+use Rattle.cmm_static_semantics.specs.declared.fault.Fault.{Fault}
 use Rattle.cmm_compile.specs.declared.fault.BuildFault.{BuildFault}
 use Rattle.cmm_compile.specs.declared.fault.BuildFault.TheVariants as build
 use Rattle.cmm_compile.specs.Refusing.{IsFaultOf, IsRefused as IsRefusedBy, of_front}

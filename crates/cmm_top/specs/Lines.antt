@@ -1,6 +1,6 @@
 -- The line that closes the log, and those of the counts of a program. Each has the byte 10 at its end.
 use Rattle.std.specs.Prelude.{ℕ, List, [], ◌++◌, codes, decimal, length, sum_by}
-use Rattle.cmm_accepted.specs.declared.fault.Fault.{Fault}
+use Rattle.cmm_static_semantics.specs.declared.fault.Fault.{Fault}
 use Rattle.cmm_program.specs.declared.program.Program.{Program}
 use Rattle.cmm_report.specs.Texts.{address_text}
 use Rattle.cmm_rules.specs.declared.rule.Rule.{Rule}

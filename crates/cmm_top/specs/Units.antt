@@ -1,7 +1,7 @@
 -- Units in files, and what there is to say where they have no image.
 use Rattle.std.specs.Prelude.{◌≡◌, ◌⊎◌, ℕ, List, Contains, IfSome, slice_get, Option, Some, None}
 use Rattle.std.specs.List.{AllZip}
-use Rattle.cmm_accepted.specs.declared.fault.Fault.{Fault}
+use Rattle.cmm_static_semantics.specs.declared.fault.Fault.{Fault}
 use Rattle.cmm_compile.specs.Refusing.{IsFaultOf}
 use Rattle.cmm_outside.specs.declared.storage.CallKind.TheVariants.{Read}
 use Rattle.cmm_outside.specs.Faults.{Rose}

@@ -1,8 +1,8 @@
 //! What a call comes to, before its line is written.
 
-use cmm_accepted::Fault;
 use cmm_rules::Rule;
 use cmm_run::Outcome;
+use cmm_static_semantics::Fault;
 
 /// What a call comes to, before its line is written.
 #[derive(Clone, Copy, Debug)]

@@ -8,10 +8,10 @@ ghost use Rattle.cmm_top.specs.Lines.{bad_image_line, outcome_line, refused_line
 use crate::ending::Ending;
 use crate::parts::{Part, write_parts};
 use crate::status::Status;
-use cmm_accepted::Fault;
 use cmm_outside::{Failed, Sink, write_all};
 use cmm_rules::Rule;
 use cmm_run::Outcome;
+use cmm_static_semantics::Fault;
 
 /// Writes the line of an ending, and answers the call's status.
 pub(crate) fn close<E: Sink>(ending: &Ending, log: &mut E) -> Status

@@ -1,4 +1,4 @@
-//! What words ask for.
+//! The task of a command line.
 
 ghost use Rattle.std.specs.Prelude.{◌≡◌};
 ghost use Rattle.cmm_command.specs.Meaning.{plain};

@@ -16,17 +16,17 @@ use Rattle.cmm_ast.specs.declared.expression.Memory.{Memory, Memory'}
 use Rattle.cmm_program.specs.declared.expression.Expression.{Expression}
 use Rattle.cmm_program.specs.declared.expression.Expression.TheVariants.{Load}
 use Rattle.cmm_program.specs.declared.expression.Condition.{Condition}
-use Rattle.cmm_accepted.specs.declared.judged.Typed.{Typed}
-use Rattle.cmm_accepted.specs.declared.judged.Typed.TheVariants as typed
-use Rattle.cmm_accepted.specs.declared.judged.Operand.{Operand}
-use Rattle.cmm_accepted.specs.declared.judged.Operands.{Operands}
-use Rattle.cmm_accepted.specs.declared.judged.Operands.TheVariants as operands
-use Rattle.cmm_accepted.specs.Senses.{Senses}
-use Rattle.cmm_accepted.specs.Operators.{infix_operator, prefix_operator, operator_named}
-use Rattle.cmm_accepted.specs.Algebras.{expressions}
-use Rattle.cmm_accepted.specs.Judging.{Judged, with_ok, with_both, as_wanted}
-use Rattle.cmm_accepted.specs.Mentions.{form_alignments, row_alignments, prim_alignments, memory_alignments, listed}
-use Rattle.cmm_accepted.specs.Typing as typing
+use Rattle.cmm_static_semantics.specs.declared.judged.Typed.{Typed}
+use Rattle.cmm_static_semantics.specs.declared.judged.Typed.TheVariants as typed
+use Rattle.cmm_static_semantics.specs.declared.judged.Operand.{Operand}
+use Rattle.cmm_static_semantics.specs.declared.judged.Operands.{Operands}
+use Rattle.cmm_static_semantics.specs.declared.judged.Operands.TheVariants as operands
+use Rattle.cmm_static_semantics.specs.Senses.{Senses}
+use Rattle.cmm_static_semantics.specs.Operators.{infix_operator, prefix_operator, operator_named}
+use Rattle.cmm_static_semantics.specs.Algebras.{expressions}
+use Rattle.cmm_static_semantics.specs.Judging.{Judged, with_ok, with_both, as_wanted}
+use Rattle.cmm_static_semantics.specs.Mentions.{form_alignments, row_alignments, prim_alignments, memory_alignments, listed}
+use Rattle.cmm_static_semantics.specs.Typing as typing
 use Rattle.cmm_typing.specs.Resolved.{resolved, AlignmentsFit}
 
 -- ---- lists of which each element is something
@@ -52,7 +52,7 @@ alignment_kept None fits W16 = refl
 alignment_kept None fits W32 = refl
 alignment_kept None fits W64 = refl
 
--- the word at an address that is aligned to so many bytes
+-- the word at an address that is aligned to n bytes
 abbrev word_at : Width → Operand Expression Condition → ℕ → Judged (Typed Expression Condition)
 word_at width o aligned = with_ok (as_wanted (Some W64) o.token o.typed) (λ a. Ok (typed.Bits record { width = width; value = option_map (Load width aligned) a.value }))
 

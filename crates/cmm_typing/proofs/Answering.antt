@@ -4,14 +4,14 @@ use Rattle.std.specs.Prelude.{option_map, Result, Ok, Err}
 use Rattle.cmm_words.specs.declared.constant.Constant.{Constant}
 use Rattle.cmm_words.specs.declared.width.Width.{Width}
 use Rattle.cmm_ast.specs.declared.expression.Expr.{Expr}
-use Rattle.cmm_accepted.specs.declared.known.Known.{Known}
-use Rattle.cmm_accepted.specs.declared.known.Known.TheVariants.{Number, Symbol, Sum, Nothing}
-use Rattle.cmm_accepted.specs.declared.spot.Spot.{Spot}
-use Rattle.cmm_accepted.specs.Senses.{Senses}
-use Rattle.cmm_accepted.specs.Algebras.{knowns}
-use Rattle.cmm_accepted.specs.Judging.{Judged, as_wanted}
-use Rattle.cmm_accepted.specs.Typing.{expr_type, wanted}
-use Rattle.cmm_accepted.specs.Constants.{as_constant, constant_known, constant_of}
+use Rattle.cmm_static_semantics.specs.declared.known.Known.{Known}
+use Rattle.cmm_static_semantics.specs.declared.known.Known.TheVariants.{Number, Symbol, Sum, Nothing}
+use Rattle.cmm_static_semantics.specs.declared.spot.Spot.{Spot}
+use Rattle.cmm_static_semantics.specs.Senses.{Senses}
+use Rattle.cmm_static_semantics.specs.Algebras.{knowns}
+use Rattle.cmm_static_semantics.specs.Judging.{Judged, as_wanted}
+use Rattle.cmm_static_semantics.specs.Typing.{expr_type, wanted}
+use Rattle.cmm_static_semantics.specs.Constants.{as_constant, constant_known, constant_of}
 use Rattle.cmm_typing.specs.declared.meaning.Meaning.{Meaning}
 use Rattle.cmm_typing.specs.declared.meaning.Meaning.TheVariants.{Variable, Register, Value, Stack, Continuation, Typedef, CodeLabel, Host}
 use Rattle.cmm_typing.specs.declared.meaning.TypeFault.{TypeFault}

@@ -12,16 +12,16 @@ use Rattle.cmm_ast.specs.declared.expression.PrimForm.{PrimForm}
 use Rattle.cmm_ast.specs.declared.expression.PrimForm.TheVariants.{Bracketed}
 use Rattle.cmm_ast.specs.declared.expression.Memory.{Memory, Memory', out-Memory}
 use Rattle.cmm_words.specs.declared.width.Width.{Width}
-use Rattle.cmm_accepted.specs.declared.judged.Typed.{Typed}
-use Rattle.cmm_accepted.specs.declared.judged.Operand.{Operand}
-use Rattle.cmm_accepted.specs.declared.judged.Operands.{Operands}
-use Rattle.cmm_accepted.specs.declared.judged.Operands.TheVariants as operands
-use Rattle.cmm_accepted.specs.declared.operator.Operator.{Operator}
-use Rattle.cmm_accepted.specs.Senses.{Senses}
-use Rattle.cmm_accepted.specs.Operators.{infix_operator, prefix_operator, operator_named}
-use Rattle.cmm_accepted.specs.Algebras.{Algebra}
-use Rattle.cmm_accepted.specs.Judging.{Judged, with_ok, with_both}
-use Rattle.cmm_accepted.specs.Typing.{expr_type, form_type, prim_type, memory_type, type_width, operand_at, given_operands, with_operand, applied, applied_to_one, applied_to_two, load}
+use Rattle.cmm_static_semantics.specs.declared.judged.Typed.{Typed}
+use Rattle.cmm_static_semantics.specs.declared.judged.Operand.{Operand}
+use Rattle.cmm_static_semantics.specs.declared.judged.Operands.{Operands}
+use Rattle.cmm_static_semantics.specs.declared.judged.Operands.TheVariants as operands
+use Rattle.cmm_static_semantics.specs.declared.operator.Operator.{Operator}
+use Rattle.cmm_static_semantics.specs.Senses.{Senses}
+use Rattle.cmm_static_semantics.specs.Operators.{infix_operator, prefix_operator, operator_named}
+use Rattle.cmm_static_semantics.specs.Algebras.{Algebra}
+use Rattle.cmm_static_semantics.specs.Judging.{Judged, with_ok, with_both}
+use Rattle.cmm_static_semantics.specs.Typing.{expr_type, form_type, prim_type, memory_type, type_width, operand_at, given_operands, with_operand, applied, applied_to_one, applied_to_two, load}
 use Rattle.cmm_typing.specs.inside.Operands.{list_operands}
 
 module _ {E C : Type 0} (algebra : Algebra E C) (names : Senses) where

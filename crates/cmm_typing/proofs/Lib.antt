@@ -4,3 +4,7 @@ pub mod Wholes
 pub mod Answering
 pub mod Words
 pub mod Shared
+pub mod FirstFaults
+pub mod Named
+pub mod Aligned
+pub mod PartTypes

@@ -18,23 +18,23 @@ use Rattle.cmm_ast.specs.declared.expression.TypeName.{TypeName}
 use Rattle.cmm_ast.specs.declared.expression.TypeForm.{TypeForm}
 use Rattle.cmm_ast.specs.declared.expression.TypeForm.TheVariants.{Bits as OfBits, Named as OfName}
 use Rattle.cmm_rules.specs.declared.rule.Rule.TheVariants.{WidthsDiffer, LiteralDoesNotFit}
-use Rattle.cmm_accepted.specs.declared.judged.Bits.{Bits}
-use Rattle.cmm_accepted.specs.declared.judged.Typed.{Typed}
-use Rattle.cmm_accepted.specs.declared.judged.Typed.TheVariants as typed
-use Rattle.cmm_accepted.specs.declared.judged.Operand.{Operand}
-use Rattle.cmm_accepted.specs.declared.judged.Operands.{Operands}
-use Rattle.cmm_accepted.specs.declared.judged.Operands.TheVariants as operands
-use Rattle.cmm_accepted.specs.declared.operator.Operator.{Operator}
-use Rattle.cmm_accepted.specs.declared.operator.Operator.TheVariants.{Unary, Binary, Compare, Not, Conjoin, Disjoin, SignExtend, ZeroExtend, LowBits}
-use Rattle.cmm_accepted.specs.declared.sense.Sense.{Sense}
-use Rattle.cmm_accepted.specs.declared.sense.Sense.TheVariants.{Variable, Register, Value, Broken, Stackdata, Continuation, Typedef, CodeLabel, Host}
-use Rattle.cmm_accepted.specs.declared.spot.Spot.{Spot}
-use Rattle.cmm_accepted.specs.Spots.{comes_before, sooner}
-use Rattle.cmm_accepted.specs.Senses.{Senses}
-use Rattle.cmm_accepted.specs.Operators.{infix_operator, prefix_operator, operator_named}
-use Rattle.cmm_accepted.specs.Algebras.{Algebra}
-use Rattle.cmm_accepted.specs.Judging.{Judged, faulty, with_ok, with_both, as_bits, as_test, of_width, as_wanted, bits_of, test_of}
-use Rattle.cmm_accepted.specs.Typing as typing
+use Rattle.cmm_static_semantics.specs.declared.judged.Bits.{Bits}
+use Rattle.cmm_static_semantics.specs.declared.judged.Typed.{Typed}
+use Rattle.cmm_static_semantics.specs.declared.judged.Typed.TheVariants as typed
+use Rattle.cmm_static_semantics.specs.declared.judged.Operand.{Operand}
+use Rattle.cmm_static_semantics.specs.declared.judged.Operands.{Operands}
+use Rattle.cmm_static_semantics.specs.declared.judged.Operands.TheVariants as operands
+use Rattle.cmm_static_semantics.specs.declared.operator.Operator.{Operator}
+use Rattle.cmm_static_semantics.specs.declared.operator.Operator.TheVariants.{Unary, Binary, Compare, Not, Conjoin, Disjoin, SignExtend, ZeroExtend, LowBits}
+use Rattle.cmm_static_semantics.specs.declared.sense.Sense.{Sense}
+use Rattle.cmm_static_semantics.specs.declared.sense.Sense.TheVariants.{Variable, Register, Value, Broken, Stackdata, Continuation, Typedef, CodeLabel, Host}
+use Rattle.cmm_static_semantics.specs.declared.spot.Spot.{Spot}
+use Rattle.cmm_static_semantics.specs.Spots.{comes_before, sooner}
+use Rattle.cmm_static_semantics.specs.Senses.{Senses}
+use Rattle.cmm_static_semantics.specs.Operators.{infix_operator, prefix_operator, operator_named}
+use Rattle.cmm_static_semantics.specs.Algebras.{Algebra}
+use Rattle.cmm_static_semantics.specs.Judging.{Judged, faulty, with_ok, with_both, as_bits, as_test, of_width, as_wanted, bits_of, test_of}
+use Rattle.cmm_static_semantics.specs.Typing as typing
 
 -- ---- judgements in which nothing is broken elsewhere
 

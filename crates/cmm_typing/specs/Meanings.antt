@@ -3,15 +3,15 @@ use mathlib.Core.List.{reverse}
 use Rattle.std.specs.Prelude.{◌≡◌, ℕ, List, bytes_eq, option_map, Option, Some, None, Result, Ok, Err}
 use Rattle.std.specs.List.{find}
 use Rattle.cmm_rules.specs.Rules.{rule_number}
-use Rattle.cmm_accepted.specs.declared.known.Known.{Known}
-use Rattle.cmm_accepted.specs.declared.judged.Typed.{Typed}
-use Rattle.cmm_accepted.specs.declared.judged.Typed.TheVariants as typed
-use Rattle.cmm_accepted.specs.declared.sense.Sense.{Sense}
-use Rattle.cmm_accepted.specs.declared.sense.Sense.TheVariants as senses
-use Rattle.cmm_accepted.specs.declared.sense.Host.TheVariants.{Yield}
-use Rattle.cmm_accepted.specs.declared.spot.Spot.{Spot}
-use Rattle.cmm_accepted.specs.Senses.{Senses}
-use Rattle.cmm_accepted.specs.Judging.{Judged}
+use Rattle.cmm_static_semantics.specs.declared.known.Known.{Known}
+use Rattle.cmm_static_semantics.specs.declared.judged.Typed.{Typed}
+use Rattle.cmm_static_semantics.specs.declared.judged.Typed.TheVariants as typed
+use Rattle.cmm_static_semantics.specs.declared.sense.Sense.{Sense}
+use Rattle.cmm_static_semantics.specs.declared.sense.Sense.TheVariants as senses
+use Rattle.cmm_static_semantics.specs.declared.sense.Host.TheVariants.{Yield}
+use Rattle.cmm_static_semantics.specs.declared.spot.Spot.{Spot}
+use Rattle.cmm_static_semantics.specs.Senses.{Senses}
+use Rattle.cmm_static_semantics.specs.Judging.{Judged}
 use Rattle.cmm_typing.specs.declared.meaning.Meaning.{Meaning}
 use Rattle.cmm_typing.specs.declared.meaning.Meaning.TheVariants.{Variable, Register, Value, Stack, Continuation, Typedef, CodeLabel, Host}
 use Rattle.cmm_typing.specs.declared.meaning.ExprType.{ExprType}

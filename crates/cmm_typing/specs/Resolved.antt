@@ -5,8 +5,8 @@ use Rattle.cmm_ast.specs.declared.expression.Expr.{Expr}
 use Rattle.cmm_program.specs.declared.expression.Expression.{Expression}
 use Rattle.cmm_program.specs.declared.expression.Expression.TheVariants.{Load}
 use Rattle.cmm_program.specs.declared.expression.Condition.{Condition}
-use Rattle.cmm_accepted.specs.Algebras.{Algebra, expressions}
-use Rattle.cmm_accepted.specs.Mentions.{form_alignments}
+use Rattle.cmm_static_semantics.specs.Algebras.{Algebra, expressions}
+use Rattle.cmm_static_semantics.specs.Mentions.{form_alignments}
 
 abbrev pub resolved : Algebra Expression Condition
 resolved = record expressions { load = λ width aligned address. Load width (min aligned (2 ^ 32 - 1)) address }

@@ -1,1 +1,4 @@
 pub mod Operands
+pub mod Prefixes
+pub mod Noted
+pub mod Loads

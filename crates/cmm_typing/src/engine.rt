@@ -1,7 +1,7 @@
 //! The judgement of expressions, over whatever tells what names mean and whatever stands for their values.
 
 ghost use Rattle.std.specs.Prelude.{◌≡◌, IfOk, Ok};
-ghost use Rattle.cmm_accepted.specs.Typing as typing;
+ghost use Rattle.cmm_static_semantics.specs.Typing as typing;
 ghost use Rattle.cmm_operators.specs.Fitting.{TypedFits};
 ghost use Rattle.cmm_typing.specs.Fitting.{AreWords};
 ghost use Rattle.cmm_typing.specs.inside.Operands.{OperandsFit, list_operands};
@@ -9,9 +9,9 @@ ghost use Rattle.cmm_typing.specs.inside.Operands.{OperandsFit, list_operands};
 use crate::joining::{applied, infixed, loaded, prefixed, with_operand};
 use crate::leaf::{literal_type, name_type, type_width};
 use crate::names::Names;
-use cmm_accepted::Operands;
 use cmm_ast::{Expr, ExprForm, Memory, PrimForm};
 use cmm_operators::{OperandsOf, Outcome, TypedOf, Values, operator_named};
+use cmm_static_semantics::Operands;
 
 /// What an expression is judged to be among names, with what stands for its value.
 #[cycle(expression)]

@@ -1,19 +1,19 @@
-//! Judgements of what holds other expressions, from theirs. What is broken in an operand is named before what is asked of it.
+//! Judgements of what holds other expressions, from theirs. What is broken in an operand is named before what is required of it.
 
 ghost use Rattle.std.specs.Prelude.{◌≡◌, IfOk, option_map};
-ghost use Rattle.cmm_accepted.specs.Judging.{with_ok, with_both};
-ghost use Rattle.cmm_accepted.specs.Operators as operators;
-ghost use Rattle.cmm_accepted.specs.Typing as typing;
+ghost use Rattle.cmm_static_semantics.specs.Judging.{with_ok, with_both};
+ghost use Rattle.cmm_static_semantics.specs.Operators as operators;
+ghost use Rattle.cmm_static_semantics.specs.Typing as typing;
 ghost use Rattle.cmm_operators.specs.Fitting.{OperandFits, TypedFits};
 ghost use Rattle.cmm_typing.specs.inside.Operands.{OperandsFit};
 
-use cmm_accepted::{Bits, Operand, Operands, Operator, Spot, Typed};
 use cmm_ast::{Infix, Int, Prefix};
 use cmm_operators::{
     Judged, OperandOf, OperandsOf, Outcome, TypedOf, Values, applied_to_one, applied_to_two,
     as_wanted, faulty, infix_operator, prefix_operator,
 };
 use cmm_rules::Rule;
+use cmm_static_semantics::{Bits, Operand, Operands, Operator, Spot, Typed};
 use cmm_words::Width;
 
 /// What is judged, as an operand by its first token.

@@ -2,9 +2,9 @@
 //! something is known, and what is wanted of them.
 
 ghost use Rattle.std.specs.Prelude.{◌≡◌, IfOk};
-ghost use Rattle.cmm_accepted.specs.Algebras.{expressions, knowns};
-ghost use Rattle.cmm_accepted.specs.Judging as judging;
-ghost use Rattle.cmm_accepted.specs.Typing as typing;
+ghost use Rattle.cmm_static_semantics.specs.Algebras.{expressions, knowns};
+ghost use Rattle.cmm_static_semantics.specs.Judging as judging;
+ghost use Rattle.cmm_static_semantics.specs.Typing as typing;
 ghost use Rattle.cmm_typing.specs.Fitting.{AreWords, FitsBits, FitsSense, FitsTyped};
 ghost use Rattle.cmm_typing.specs.Resolved.{AlignmentsFit, resolved};
 
@@ -12,10 +12,10 @@ use crate::engine::{judge_by, judge_memory};
 use crate::expressions::Expressions;
 use crate::leaf;
 use crate::names::Names;
-use cmm_accepted::{Bits, Known, Operand, Operator, Sense, Typed};
 use cmm_ast::{Expr, Memory};
 use cmm_operators::{Judged, Knowns};
 use cmm_program::{Condition, Expression};
+use cmm_static_semantics::{Bits, Known, Operand, Operator, Sense, Typed};
 use cmm_words::Width;
 use std::alloc::{AllocError, Global};
 

@@ -2,16 +2,16 @@
 
 ghost use Rattle.std.specs.Prelude.{◌≡◌, IfOk, Ok};
 ghost use Rattle.cmm_words.specs.Constants.{Fits};
-ghost use Rattle.cmm_accepted.specs.Senses.{constant_width};
-ghost use Rattle.cmm_accepted.specs.Typing as typing;
+ghost use Rattle.cmm_static_semantics.specs.Senses.{constant_width};
+ghost use Rattle.cmm_static_semantics.specs.Typing as typing;
 ghost use Rattle.cmm_operators.specs.Fitting.{TypedFits};
 ghost use Rattle.cmm_typing.specs.Fitting.{FitsSense};
 
 use crate::names::Names;
-use cmm_accepted::{Bits, Sense, Typed};
 use cmm_ast::{Number, TypeForm, TypeName};
 use cmm_operators::{Judged, Outcome, TypedOf, Values, faulty};
 use cmm_rules::Rule;
+use cmm_static_semantics::{Bits, Sense, Typed};
 use cmm_words::{Constant, Width};
 
 /// The width of what stands as a type at a token: rule 21 where it is no typedef.

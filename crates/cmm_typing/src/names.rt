@@ -1,9 +1,9 @@
 //! What names mean at a place.
 
 ghost use Rattle.std.specs.Prelude.{◌≡◌};
-ghost use Rattle.cmm_accepted.specs.Senses.{Senses};
+ghost use Rattle.cmm_static_semantics.specs.Senses.{Senses};
 
-use cmm_accepted::Sense;
+use cmm_static_semantics::Sense;
 use cmm_words::Name;
 
 /// What names mean at a place, which contracts see as a function.

@@ -1,9 +1,9 @@
 //! The types and the values of expressions in a scope that is a list of names.
 
 ghost use Rattle.std.specs.Prelude.{◌≡◌, IsTrue};
-ghost use Rattle.cmm_accepted.specs.Algebras.{knowns};
-ghost use Rattle.cmm_accepted.specs.Constants.{constant_of};
-ghost use Rattle.cmm_accepted.specs.Typing.{expr_type};
+ghost use Rattle.cmm_static_semantics.specs.Algebras.{knowns};
+ghost use Rattle.cmm_static_semantics.specs.Constants.{constant_of};
+ghost use Rattle.cmm_static_semantics.specs.Typing.{expr_type};
 ghost use Rattle.cmm_typing.specs.Fitting.{AreWords};
 ghost use Rattle.cmm_typing.specs.Meanings.{Answers, fault_of, meaning_in, sense_of, senses_of, type_shown};
 ghost use Rattle.cmm_typing.specs.Words.{are_words, is_word};
@@ -11,11 +11,11 @@ ghost use Rattle.cmm_typing.specs.Words.{are_words, is_word};
 use crate::judging::{as_wanted, judge};
 use crate::meaning::{ExprType, Meaning, TypeFault};
 use crate::names::Names;
-use cmm_accepted::{Host, Known, Sense, Spot, Typed};
 use cmm_ast::Expr;
 use cmm_items::Items;
 use cmm_operators::{Judged, as_constant};
 use cmm_rules::Rule;
+use cmm_static_semantics::{Host, Known, Sense, Spot, Typed};
 use cmm_words::{Constant, Name};
 
 /// Names with what they mean. The last entry of a name counts.

@@ -8,7 +8,7 @@ use Rattle.cmm_words.specs.Integers.{wrapped}
 use Rattle.cmm_words.proofs.Wrapping.{wrapped-below}
 use Rattle.cmm_words.proofs.Shifts.{mul-mod}
 
--- a number that is z and so many times 2 ^ k
+-- a number that is z and n times 2 ^ k
 pub record Lifted (k : ℕ) (z : ℤ) : Type 0 where
   pub times : ℕ
   pub number : ℕ

@@ -60,7 +60,7 @@ signed-extended w a h =
 same_test : (x y : ℕ) → (x ≡ 0 → y ≡ 0) → (y ≡ 0 → x ≡ 0) → (x == 0) ≡ (y == 0)
 same_test x y f g = grind (arith, nat_tests)
 
--- and of so many bits
+-- and of n bits
 pub signed_fits_width : (w : Width) (a : ℕ) → a < 2 ^ bits w → mag (signed (bits w) a) < 2 ^ bits w
 signed_fits_width w a h =
     let fewer : bits w - 1 ≤ bits w = omega arith in

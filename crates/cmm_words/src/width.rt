@@ -32,7 +32,7 @@ impl Width {
         self.bits() / 8
     }
 
-    /// The width of so many bits, if there is one.
+    /// The width of this many bits, if there is one.
     pub fn from_bits(count: u64) -> Option<Width>
         ensures some { IfSome result (λ width. bits width ≡ count) }
         ensures none { IfNone result ((width : Width) → bits width ≢ count) }

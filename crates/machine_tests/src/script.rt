@@ -278,7 +278,7 @@ fn scripts_without_a_block_are_empty(rt: HostRuntime) -> Result<(), Fail> {
     Ok(())
 }
 
-/// A line of this keyword, and then so many values.
+/// A line of this keyword, and then `count` values.
 fn line_of_values(
     alloc: Global,
     keyword: &[u8],

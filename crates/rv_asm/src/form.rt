@@ -86,7 +86,7 @@ fn add_table(
     Ok(())
 }
 
-/// Adds a one-word jump for each label, the first one by so many bytes, and each next one by four more.
+/// Adds a one-word jump for each label, the first one by a number of bytes, and each next one by four more.
 fn add_entries(bytes: &mut Vec<u8>, to: &[Label], ahead: u32) -> Result<(), AllocError>
     requires few { length to.now ≤ table_limit }
     requires near { ahead ≤ 4 * table_limit + 4 }
@@ -162,7 +162,7 @@ fn add_address(bytes: &mut Vec<u8>, meaning: Meaning, rd: u8, n: u64) -> Result<
     Ok(())
 }
 
-/// The jump of one word by so many bytes.
+/// The jump of one word by a number of bytes.
 fn jump_ahead(distance: u32) -> Instr
     requires { distance < 2 ^ 31 }
     ensures { result ≡ Instr.Jal 0 (pos distance) }

@@ -2,7 +2,7 @@
 //!
 //! A part is an instruction, the place of a label, or something that leads to a label: a branch, a jump, a call, an address, a table of
 //! jumps. What it means is a statement about finished code in real addresses (`Does` of `specs/Parts`): wherever it stands, the machine
-//! does this, by so many instructions at most, and stands behind it or at the label. Nothing in it has a size. `Asm` collects parts, and
+//! does this, by at most a given number of instructions, and stands behind it or at the label. Nothing in it has a size. `Asm` collects parts, and
 //! `finish` is proved to give bytes that run as the list of parts, wherever they stand and whatever numbers the symbols outside of them
 //! get. So nobody above sees a byte, an offset or an encoding.
 //!

@@ -37,7 +37,7 @@ impl Model for Memory {
 }
 
 impl Memory {
-    /// A memory with this code and these first bytes of data, a region of zeros, and a stack of so many bytes.
+    /// A memory with this code and these first bytes of data, a region of zeros, and a stack of `stack_size` bytes.
     pub fn new(alloc: Global, code: &[u8], initial: &[u8], stack: u64) -> Result<Memory, NoMemory>
         requires code { length code.now ≤ CODE_LENGTH_LIMIT }
         requires initial { length initial.now ≤ DATA_LENGTH_LIMIT }

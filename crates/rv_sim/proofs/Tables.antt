@@ -8,7 +8,7 @@ use Rattle.rv_table.specs.Table.{IsValid}
 use Rattle.rv_sim.specs.Standing.{IsTableOf}
 use Rattle.rv_sim.specs.inside.Tables.{IsTable}
 
--- a table has the first words of the code, so many
+-- a table has the first words of the code, n
 pub record IsFront (code : List ℕ) (count : ℕ) (table : List (Option Instr)) : Type 0 where
   pub length_is : length table ≡ count
   pub each : (n : ℕ) → n < count → slice_get table n ≡ Some (standing code (code_base + 4 * n))

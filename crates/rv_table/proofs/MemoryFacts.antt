@@ -62,7 +62,7 @@ next_bytes value offset =
     let e : 8 * (offset + 1) ≡ 8 * offset + 8 = omega arith in
     rw (e, pow-add 2 (8 * offset) 8) (sym (div-div-eq-div-mul value (2 ^ (8 * offset)) 256))
 
--- so many bytes from within what was stored
+-- n bytes from within what was stored
 pub loaded-within : (memory : ℕ → ℕ) (address size value offset count : ℕ) → offset + count ≤ size →
     loaded (stored memory address size value) (address + offset) count ≡ value / 2 ^ (8 * offset) % 2 ^ (8 * count)
 loaded-within memory address size value offset zero h = omega arith

@@ -18,7 +18,7 @@ and_then-steps m a b (Next t) h = h t
 and_then-steps m a b (Asks _) h = refl
 and_then-steps m a b (Traps _) h = refl
 
--- a run of so many steps and then so many more
+-- a run of n steps and then m more
 pub steps-add : (m : MemoryMap) (a b : ℕ) (s : State) → steps m (a + b) s ≡ option_and_then (steps m b) (steps m a s)
 steps-add m zero b s = rw (zero-add b)
 steps-add m (suc a) b s =

@@ -70,7 +70,7 @@ summing =
 map : MemoryMap
 map = record { code = code_of summing; data_length = 0; stack_size = 4096 }
 
--- what stands after so many instructions
+-- what stands after n instructions
 after : ℕ → Outcome
 after n = elim (steps map n (start map (λ _. 0))) [ Some s ↦ instruction_step map s | None ↦ Asks (End 0) ]
 

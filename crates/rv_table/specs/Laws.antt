@@ -35,7 +35,7 @@ CodeStands =
 abbrev pub CodeHasLength : Type 0
 CodeHasLength = (is : List Instr) → length (code_of is) ≡ 4 * length is
 
--- so many steps and then so many more are one run
+-- n steps and then m more are one run
 abbrev pub StepsJoin : Type 0
 StepsJoin =
     (m : MemoryMap) (a b : ℕ) (s : State) → steps m (a + b) s ≡ option_and_then (steps m b) (steps m a s)

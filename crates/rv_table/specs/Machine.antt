@@ -82,7 +82,7 @@ and_then (Next s) go = go s
 and_then (Asks _) go = None
 and_then (Traps _) go = None
 
--- the state after so many instructions, none of which asks or traps
+-- the state after n instructions, none of which asks or traps
 abbrev pub steps : MemoryMap → ℕ → State → Option State
 steps m zero s = Some s
 steps m (suc n) s = and_then (instruction_step m s) (steps m n)

@@ -34,7 +34,7 @@ fetched code pc =
       | false ↦ None
     ]
 
--- a load or a store of so many bytes is aligned, and lies wholly in the data or wholly in the region
+-- a load or a store of n bytes is aligned, and lies wholly in the data or wholly in the region
 abbrev pub is_accessible : MemoryMap → ℕ → ℕ → Bool
 is_accessible m address size =
     (address % size == 0)

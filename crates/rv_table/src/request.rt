@@ -1,4 +1,4 @@
-//! What an ECALL asks of what lies outside the machine.
+//! Requests: the system calls of the target.
 ghost use Rattle.std.specs.Prelude.{◌≡◌};
 ghost use Rattle.rv_table.specs.Registers.{registers_of};
 ghost use Rattle.rv_table.specs.Requests.{request_number, request_of};

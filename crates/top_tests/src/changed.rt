@@ -16,7 +16,7 @@ const HEADER: [usize; 13] = [0, 4, 8, 16, 24, 32, 40, 44, 48, 52, 56, 60, 64];
 /// stackdata labels and no continuations. There is no data, no site, no label and no global register.
 const ROW: [usize; 8] = [28, 20, 15, 11, 7, 6, 4, 2];
 
-/// Where the field of the image of `SUM` begins that has the byte at a place, where the image has so many bytes.
+/// Where the field of the image of `SUM` begins that has the byte at a place, where the image has this length.
 fn field_at(length: usize, place: usize) -> usize {
     let row = ROW.iter().map(|left| length.saturating_sub(*left));
     HEADER

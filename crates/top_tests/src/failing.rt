@@ -220,7 +220,7 @@ fn calls_fail(
     Ok(())
 }
 
-/// The unit with so many bytes of data, and as many spaces.
+/// The unit with `size` bytes of data, and as many spaces.
 fn unit_of(alloc: Global, length: usize) -> Result<String, AllocError> {
     let spaces = " ".repeat(alloc, length)?;
     format!(in alloc; "{COPY} section \"data\" {{ d: bits8[{length}]; }}{spaces}")
@@ -251,7 +251,7 @@ fn calls_fail_in_turn(rt: HostRuntime) -> Result<(), Fail> {
 
 const SUM: &str = "export main; main() { return (2 + 3); }";
 
-/// The image of a sum, where the file `i` has room for so many bytes.
+/// The image of a sum, where the file `i` has room for `room` bytes.
 fn built_within(alloc: Global, room: usize) -> Result<Answer, AllocError> {
     let outside = Outside {
         image_room: room as u64,

@@ -223,7 +223,7 @@ fn repeated(alloc: Global, piece: &str, times: usize) -> Result<String, AllocErr
     Ok(all)
 }
 
-/// A unit with an expression in so many brackets, which has so many signs, and with spaces at its end.
+/// A unit with an expression in a count of brackets, which has a count of signs, and with spaces at its end.
 fn unit_of(
     alloc: Global,
     brackets: usize,

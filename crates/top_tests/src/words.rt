@@ -149,7 +149,7 @@ const NAMED: [(&[&str], &[&str]); 4] = [
     (&["build", "a.cmm", "-o"], &[]),
 ];
 
-/// What the program answers to these words with a name of so many bytes between.
+/// What the program answers to these words with a name of `length` bytes between.
 fn status_of(
     alloc: Global,
     before: &[&str],

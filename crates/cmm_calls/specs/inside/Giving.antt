@@ -2,7 +2,7 @@
 use Rattle.std.specs.Prelude.{◌≡◌, ℕ, ◌+◌, ◌-◌, ◌*◌, ◌<◌, ◌^◌, nat_lt, Bool, true, false}
 use Rattle.cmm_abi.specs.declared.registers.TheConstants.{REGION}
 use Rattle.rv_table.specs.Machine.{MemoryMap, State, region_base}
-use Rattle.cmm_changes.specs.Changes.{PutsRegister, Writes}
+use Rattle.cmm_effects.specs.Changes.{PutsRegister, Writes}
 use Rattle.cmm_select.specs.Operands.{CanBringOperand}
 use Rattle.cmm_select.specs.declared.operand.Operand.{Operand}
 use Rattle.cmm_calls.specs.Frames.{LetsWait}

@@ -1,4 +1,4 @@
--- What the passes below are worth together.
+-- The theorems of the passes, composed.
 use Rattle.std.specs.Prelude.{◌≡◌, false, List}
 use Rattle.std.specs.List.{AllZip}
 use Rattle.cmm_program.specs.declared.program.Program.{Program}
@@ -7,19 +7,19 @@ use Rattle.cmm_program.specs.State.{Setting}
 use Rattle.cmm_graph.specs.declared.graph.Graph.{Graph}
 use Rattle.cmm_flow.specs.Flow.{IsFlow}
 use Rattle.cmm_located.specs.SameOrders.{HasFrames}
-use Rattle.cmm_places.specs.declared.procedure.ProcedurePlaces.{ProcedurePlaces}
-use Rattle.cmm_places.specs.Compiling.{compiled}
-use Rattle.cmm_places.specs.Laws.{RunsOverPlaces}
-use Rattle.cmm_places.specs.Places.{HavePlaces}
-use Rattle.cmm_places.specs.Placing.{placement_rows}
+use Rattle.cmm_allocate.specs.declared.procedure.ProcedurePlaces.{ProcedurePlaces}
+use Rattle.cmm_allocate.specs.Compiling.{compiled}
+use Rattle.cmm_allocate.specs.Laws.{RunsOverPlaces}
+use Rattle.cmm_allocate.specs.Places.{HavePlaces}
+use Rattle.cmm_allocate.specs.Placing.{placement_rows}
 use Rattle.cmm_image.specs.declared.parts.ImageParts.{ImageParts}
 use Rattle.cmm_image.specs.Images.{IsImage}
 use Rattle.cmm_unit_code.specs.declared.text.Text.{Text}
 use Rattle.cmm_link.specs.Linked.{IsImageOf}
 use Rattle.cmm_link.specs.Placements.{placement_of}
 use Rattle.cmm_unit_code.specs.Texts.{IsText}
-use Rattle.cmm_text.specs.Premises.{AreCovered, AreShort, CanBeCoded}
-use Rattle.cmm_text.specs.Texts.{IsCodeOfProgram}
+use Rattle.cmm_emit.specs.Premises.{AreCovered, AreShort, CanBeCoded}
+use Rattle.cmm_emit.specs.Texts.{IsCodeOfProgram}
 use Rattle.cmm_compile.specs.Agreement.{AgreesWith}
 use Rattle.cmm_compile.specs.Forms.{waits}
 
@@ -50,5 +50,5 @@ pub record IsMade (p : Program) (graphs : List Graph) (found : List ProcedurePla
   pub rows : (placement_of i).rows ≡ placement_rows found t.procedures
 
 -- so the image agrees with the program
-abbrev pub ImagesAgree : Type 0
-ImagesAgree = (p : Program) (graphs : List Graph) (found : List ProcedurePlaces) (t : Text) (i : ImageParts) → IsMade p graphs found t i → AgreesWith p i
+abbrev pub ImagesAgreeWithUnits : Type 0
+ImagesAgreeWithUnits = (p : Program) (graphs : List Graph) (found : List ProcedurePlaces) (t : Text) (i : ImageParts) → IsMade p graphs found t i → AgreesWith p i

@@ -50,7 +50,7 @@ address_in ds l = elim l.at_end [
   | false ↦ slice_index_or (starts data_base (map datum_piece ds)) l.datum 0
 ]
 
--- the fix of a value that begins so many bytes behind the first of the data
+-- the fix of a value that begins n bytes behind the first of the data
 abbrev pub fix_by : ℕ → Constant → List Fix
 fix_by place (Number word width) = []
 fix_by place (Code proc plus) = record { place = place; procedure = proc; plus = plus } ∷ []

@@ -57,7 +57,7 @@ AreCopyIns g ns = IsTrue (list_all (leads_to g is_copy_in) ns)
 abbrev pub leads_on : Graph → NodeKind → Bool
 leads_on g kind = list_all (leads_to g is_step) (steps_of kind) && list_all (leads_to g is_copy_in) (normal_of kind)
 
--- ---- what is asked of nodes
+-- ---- what is required of nodes
 
 -- a test of nodes, wherever they lead, and the graph in which they lead on
 pub record Asked : Type 0 where
@@ -77,7 +77,7 @@ pub record StandIn (b : Builder) (g : Graph) : Type 0 where
   pub many : length front ≡ b.stop.number
   pub nodes : g.nodes ≡ (front ++ b.nodes) ++ later
 
--- what is asked of a builder's nodes holds of those of another, where something holds of what is asked
+-- what is required of a builder's nodes holds of those of another, where something holds of what is asked
 abbrev pub Keeps : (Asked → Type 0) → Builder → Builder → Type 0
 Keeps If a b = (x : Asked) → StandIn b x.graph → If x → AreAsked x a.nodes → AreAsked x b.nodes
 
@@ -91,7 +91,7 @@ pub record Holds (laid : List Node) (ahead normal : List NodeId) (x : Asked) : T
 abbrev pub AddsSites : List ℕ → Builder → Builder → Type 0
 AddsSites sites a b = (site : ℕ) → times site (waiting_sites b.nodes) ≤ times site (waiting_sites a.nodes) + times site sites
 
--- and have so many tokens more at most
+-- and have n tokens more at most
 abbrev pub AddsTokens : ℕ → Builder → Builder → Type 0
 AddsTokens most a b = all_tokens b.nodes ≤ all_tokens a.nodes + most
 
@@ -121,7 +121,7 @@ LaysNode node a b n =
 abbrev pub label_of : ℕ → ℕ → NodeId
 label_of count label = record { number = min label count }
 
--- a builder that has so many labels, and begins with a Stop
+-- a builder that has n labels, and begins with a Stop
 pub record IsReady (count : ℕ) (b : Builder) : Type 0 where
   pub labels : length b.labels ≡ count
   pub stop : slice_get b.nodes 0 ≡ Some record { tokens = 1; kind = Stop }

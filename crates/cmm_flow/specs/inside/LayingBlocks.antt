@@ -60,7 +60,7 @@ block_tokens q statements = sum_by (λ s. form_tokens q s.tokens s.form) stateme
 abbrev pub arm_tokens : Proc → List Arm → ℕ
 arm_tokens q arms = sum_by (λ arm. block_tokens q (out-Arm arm).body) arms
 
--- a run may stand at the node of each label, of which there are so many, and at a node where control goes on
+-- a run may stand at the node of each label, of which there are n, and at a node where control goes on
 pub record GoesOn (count : ℕ) (k : NodeId) (x : Asked) : Type 0 where
   pub labels : (l : ℕ) → IsTrue (leads_to x.graph is_step (label_of count l))
   pub next : IsTrue (leads_to x.graph is_step k)

@@ -267,7 +267,7 @@ abbrev pub nodes_of_switch : ℕ → Expression → List Range → List Node
 nodes_of_switch tokens value ranges =
     nodes_of_operand 0 value ++ switch_node tokens value ranges ∷ []
 
--- a statement of so many tokens, without the blocks inside it
+-- a statement of n tokens, without the blocks inside it
 abbrev pub nodes_of_form : Proc → ℕ → Form → List Node
 nodes_of_form q tokens Empty = goto ∷ []
 nodes_of_form q tokens (If' condition _ then_ _ otherwise) = nodes_of_test condition

@@ -6,7 +6,7 @@ use Rattle.cmm_graph.specs.declared.operand.Local.{Local}
 use Rattle.cmm_graph.specs.declared.operand.Local.TheVariants.{Variable, Temporary}
 use Rattle.cmm_graph.specs.Paths.{reads, writes}
 
--- a local is a variable, or one of so many temporaries
+-- a local is a variable, or one of n temporaries
 abbrev pub is_below : ℕ → Local → Bool
 is_below limit (Variable v) = true
 is_below limit (Temporary t) = nat_lt t.number limit

@@ -30,7 +30,7 @@ lists_seen s = (s.returns, (s.unwinds, (s.cuts, (s.variables, s.spans))))
 abbrev pub bounds_in : Bounds → ProcRow → Bounds
 bounds_in b p = record { code_length = b.code_length; data_length = b.data_length; frame = p.frame; variables = length p.variables; continuations = length p.continuations }
 
--- why there is no image in so many bytes
+-- why there is no image in n bytes
 abbrev pub fault_of : ℕ → Unread → ImageFault
 fault_of length (Breaks b) = At b.rule (length - b.left)
 fault_of length Memory = image_fault.Memory

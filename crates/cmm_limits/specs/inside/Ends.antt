@@ -7,8 +7,8 @@ use Rattle.cmm_ast.specs.declared.procedure.Room.{Room}
 use Rattle.cmm_ast.specs.declared.procedure.RoomForm.{RoomForm}
 use Rattle.cmm_ast.specs.declared.procedure.RoomForm.TheVariants as rooms
 use Rattle.cmm_program.specs.Layout.{Piece}
-use Rattle.cmm_accepted.specs.Limits.{align_piece, bytes_of, piece_of}
-use Rattle.cmm_accepted.specs.Scopes.{Scope, senses, types}
+use Rattle.cmm_static_semantics.specs.Limits.{align_piece, bytes_of, piece_of}
+use Rattle.cmm_static_semantics.specs.Scopes.{Scope, senses, types}
 use Rattle.cmm_limits.specs.Rooms.{words_in}
 
 -- a place, or none where it is past 64 KiB

@@ -3,12 +3,12 @@ use Rattle.std.specs.Prelude.{◌≡◌, ℕ, ◌==◌, ◌+◌, Bool, true, fal
 use Rattle.std.specs.List.{list_any}
 use Rattle.cmm_ast.specs.declared.statement.Arm.{Arm}
 use Rattle.cmm_ast.specs.declared.statement.Part.{Part}
-use Rattle.cmm_accepted.specs.Items.{SpanTree, Within, parts_in}
-use Rattle.cmm_accepted.specs.Limits.{different, is_in, tokens_of}
-use Rattle.cmm_accepted.specs.Senses.{Senses}
+use Rattle.cmm_static_semantics.specs.Items.{SpanTree, Within, parts_in}
+use Rattle.cmm_static_semantics.specs.Limits.{different, is_in, tokens_of}
+use Rattle.cmm_static_semantics.specs.Senses.{Senses}
 use Rattle.cmm_limits.specs.Capped.{capped}
 
--- a list has these tokens, in whatever order, and so many of them are different
+-- a list has these tokens, in whatever order, and n of them are different
 pub record HasTokens (tokens : List ℕ) (count : ℕ) (all : List ℕ) : Type 0 where
   pub member : (n : ℕ) → list_any (λ t. t == n) tokens ≡ is_in n all
   pub counted : count ≡ capped (different all)

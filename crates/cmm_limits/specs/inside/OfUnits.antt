@@ -2,10 +2,10 @@
 use Rattle.std.specs.Prelude.{ℕ, ◌*◌, List, [], length}
 use Rattle.cmm_ast.specs.declared.unit.Item.{Item}
 use Rattle.cmm_ast.specs.declared.unit.Item.TheVariants as items
-use Rattle.cmm_accepted.specs.Items.{Within, parts_in, parts_of}
-use Rattle.cmm_accepted.specs.Limits.{over_procs, site_count, site_tokens, tokens_of, variables}
-use Rattle.cmm_accepted.specs.Senses.{Senses}
-use Rattle.cmm_accepted.specs.Statements.{scope_of}
+use Rattle.cmm_static_semantics.specs.Items.{Within, parts_in, parts_of}
+use Rattle.cmm_static_semantics.specs.Limits.{over_procs, site_count, site_tokens, tokens_of, variables}
+use Rattle.cmm_static_semantics.specs.Senses.{Senses}
+use Rattle.cmm_static_semantics.specs.Statements.{scope_of}
 
 -- for each site the tokens that have a span there
 abbrev pub spans_in : Senses → List (Within Item) → ℕ

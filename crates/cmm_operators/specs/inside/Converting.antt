@@ -2,7 +2,7 @@
 use Rattle.std.specs.Prelude.{◌≡◌, Bool, true, nat_le}
 use Rattle.cmm_words.specs.declared.width.Width.{Width}
 use Rattle.cmm_words.specs.Widths.{bits}
-use Rattle.cmm_accepted.specs.Algebras.{Algebra}
+use Rattle.cmm_static_semantics.specs.Algebras.{Algebra}
 use Rattle.cmm_operators.specs.declared.converting.Conversion.{Conversion}
 use Rattle.cmm_operators.specs.declared.converting.Conversion.TheVariants.{SignExtend, ZeroExtend, LowBits}
 

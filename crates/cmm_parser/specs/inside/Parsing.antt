@@ -4,16 +4,16 @@ use Rattle.cmm_words.specs.declared.width.Width.{Width}
 use Rattle.cmm_lexer.specs.declared.keyword.Keyword.{Keyword}
 use Rattle.cmm_lexer.specs.declared.piece.Lexeme.{Lexeme}
 use Rattle.cmm_lexer.specs.declared.piece.Lexeme.TheVariants as l
-use Rattle.cmm_readers.specs.Reading.{Point, Unexpected, TooDeep, Answer, Read, Stopped, Reads, next, past, passes, and_then, if_next, skip_opening, stop as refuse, symbol}
+use Rattle.cmm_grammar_laws.specs.Reading.{Point, Unexpected, TooDeep, Answer, Read, Stopped, Reads, next, past, passes, and_then, if_next, skip_opening, stop as refuse, symbol}
 use Rattle.cmm_ast.specs.Taking.{is_word, is_sign}
 use Rattle.cmm_lexer.specs.declared.keyword.Keyword.TheVariants.{If}
 use Rattle.cmm_lexer.specs.declared.symbol.Symbol.{Symbol}
 use Rattle.cmm_ast.specs.declared.expression.TypeName.{TypeName}
 use Rattle.cmm_ast.specs.declared.statement.Block.{Block}
 use Rattle.cmm_ast.specs.declared.expression.Prefix.{Prefix}
-use Rattle.cmm_readers.specs.ExpressionReading.{type_name, width_in, prefix_in}
-use Rattle.cmm_readers.specs.PartReading.{is_width}
-use Rattle.cmm_readers.specs.StatementReading.{block}
+use Rattle.cmm_grammar_laws.specs.ExpressionReading.{type_name, width_in, prefix_in}
+use Rattle.cmm_grammar_laws.specs.PartReading.{is_width}
+use Rattle.cmm_grammar_laws.specs.StatementReading.{block}
 use Rattle.cmm_rules.specs.Rules.{rule_number}
 use Rattle.cmm_rules.specs.declared.rule.Rule.TheVariants as rules
 use Rattle.cmm_parser.specs.Faults.{lexemes}
@@ -120,7 +120,7 @@ opening bracket = if_next (is_sign bracket) skip_opening refuse
 abbrev pub chaining : Reads (Unit {0})
 chaining = if_next (is_word If) skip_opening refuse
 
--- the next token, which closes this bracket, outside of which so many are open
+-- the next token, which closes this bracket, outside of which n are open
 abbrev pub closing : Symbol → ℕ → Reads (Unit {0})
 closing bracket outside limited p = and_then (symbol bracket limited p) (λ _ after. Read tt record after { open_brackets = outside })
 

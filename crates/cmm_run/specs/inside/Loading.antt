@@ -5,7 +5,7 @@ use Rattle.rv_sim.specs.Standing.{IsTableOf}
 use Rattle.rv_sim.specs.Stepping.{state_of}
 use Rattle.rv_table.specs.declared.instruction.Instr.{Instr}
 use Rattle.rv_table.specs.declared.memory_map.TheConstants.{STACK_SIZE_LIMIT}
-use Rattle.cmm_execution.specs.Machine.{Launch, map_of, first_run}
+use Rattle.cmm_image_machine.specs.Machine.{Launch, map_of, first_run}
 use Rattle.cmm_run.specs.declared.machine.Machine.{Machine}
 
 -- the code is decoded, the script has no block, and the stack is within its limit

@@ -2,7 +2,7 @@
 use Rattle.std.specs.Prelude.{◌≡◌, ◌≢◌, ℕ, List, Option, Some, None}
 use Rattle.cmm_outside.specs.Output.{Appends}
 use Rattle.rv_sim.specs.Stepping.{state_of}
-use Rattle.cmm_execution.specs.Machine.{Launch, Run, Running, step}
+use Rattle.cmm_image_machine.specs.Machine.{Launch, Run, Running, step}
 use Rattle.cmm_run.specs.declared.machine.Machine.{Machine}
 use Rattle.cmm_run.specs.declared.outcome.Outcome.{Outcome}
 use Rattle.cmm_run.specs.declared.outcome.Outcome.TheVariants.{Done, Stopped, StackLimit, StepLimit, Trap, InputFault, OutputFault, Torn}

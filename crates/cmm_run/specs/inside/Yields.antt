@@ -5,9 +5,9 @@ use Rattle.cmm_outside.specs.Faults.{Rose}
 use Rattle.cmm_outside.specs.Output.{Appends, AppendsFront}
 use Rattle.cmm_script.specs.Lines.{yield_line}
 use Rattle.cmm_program.specs.Asking.{Break}
-use Rattle.cmm_execution.specs.Frames.{Found, Activation, Nothing, Broken, found_at, first_point}
-use Rattle.cmm_execution.specs.Machine.{Launch, region_of}
-use Rattle.cmm_execution.specs.Regions.{Region, values_in}
+use Rattle.cmm_image_machine.specs.Frames.{Found, Activation, Nothing, Broken, found_at, first_point}
+use Rattle.cmm_image_machine.specs.Machine.{Launch, region_of}
+use Rattle.cmm_image_machine.specs.Regions.{Region, values_in}
 use Rattle.cmm_run.specs.declared.outcome.Outcome.{Outcome}
 use Rattle.cmm_run.specs.declared.outcome.Outcome.TheVariants as outcome
 use Rattle.cmm_run.specs.declared.outcome.Torn.{Torn}

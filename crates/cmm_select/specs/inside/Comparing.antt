@@ -8,7 +8,7 @@ use Rattle.cmm_words.specs.declared.width.Width.TheVariants.{W64}
 use Rattle.rv_table.specs.Machine.{State}
 use Rattle.rv_table.specs.declared.instruction.Instr.{Instr}
 use Rattle.rv_table.specs.declared.instruction.Instr.TheVariants.{Slt, Sltu}
-use Rattle.cmm_changes.specs.Changes.{Keeps}
+use Rattle.cmm_effects.specs.Changes.{Keeps}
 
 -- the comparisons of signed words
 abbrev pub compares_integers : Cmp → Bool

@@ -7,7 +7,7 @@ use Rattle.rv_table.specs.Machine.{MemoryMap, State, is_accessible, loaded}
 use Rattle.rv_table.specs.declared.instruction.Instr.{Instr}
 use Rattle.rv_table.specs.declared.instruction.Instr.TheVariants.{Slli, Srli}
 use Rattle.rv_table.specs.Words.{shifted_left, sum}
-use Rattle.cmm_changes.specs.Changes.{Keeps, KeepsBut, Writes}
+use Rattle.cmm_effects.specs.Changes.{Keeps, KeepsBut, Writes}
 
 -- register 7 is shifted by what an access has; by one of 64 bits nothing is
 abbrev pub shift_up : Width → Instr
@@ -22,7 +22,7 @@ shift_down W16 = Srli 7 7 (pos 16)
 shift_down W32 = Srli 7 7 (pos 32)
 shift_down W64 = Srli 7 7 (pos 0)
 
--- so many accesses may be made from an offset on
+-- n accesses may be made from an offset on
 pub record CanAccess (p : Width) (o n : ℕ) (m : MemoryMap) (s : State) : Type 0 where
   pub fits : s.registers 5 + o + n * bytes p ≤ 2 ^ 64
   pub accessible : (k : ℕ) → k < n → IsTrue (is_accessible m (s.registers 5 + o + k * bytes p) (bytes p))

@@ -2,11 +2,11 @@
 use Rattle.std.specs.Prelude.{◌≡◌, ◌⊎◌, ℕ, Bool, true, false, List, [], ◌∷◌, ◌++◌, length, Option, Some}
 use Rattle.cmm_ast.specs.declared.token.Ident.{Ident}
 use Rattle.cmm_rules.specs.declared.rule.Rule.TheVariants.{Cycle}
-use Rattle.cmm_accepted.specs.declared.spot.Spot.{Spot}
-use Rattle.cmm_accepted.specs.Spots.{first_of, at}
-use Rattle.cmm_accepted.specs.Declarations.{Declared, Entry, Typedef, Const}
-use Rattle.cmm_accepted.specs.Units.{cycle_spots}
-use Rattle.cmm_typedefs.specs.Numbers.{numbering, number_in}
+use Rattle.cmm_static_semantics.specs.declared.spot.Spot.{Spot}
+use Rattle.cmm_static_semantics.specs.Spots.{first_of, at}
+use Rattle.cmm_static_semantics.specs.Declarations.{Declared, Entry, Typedef, Const}
+use Rattle.cmm_static_semantics.specs.Units.{cycle_spots}
+use Rattle.cmm_unit_scope.specs.Numbers.{numbering, number_in}
 
 -- 39: a typedef or constant depends on itself
 abbrev pub entry_cycle_spots : List (Declared Entry) → Declared Entry → List Spot

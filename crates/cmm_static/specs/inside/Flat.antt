@@ -6,20 +6,20 @@ use Rattle.cmm_ast.specs.declared.expression.TypeName.{TypeName}
 use Rattle.cmm_ast.specs.declared.declaration.Export.{Export}
 use Rattle.cmm_ast.specs.declared.unit.Item.{Item}
 use Rattle.cmm_ast.specs.declared.unit.Unit.{Unit as UnitTree}
-use Rattle.cmm_accepted.specs.declared.spot.Spot.{Spot}
-use Rattle.cmm_accepted.specs.Items.{items_of}
-use Rattle.cmm_accepted.specs.Declarations.{Declared, Entry, NamedUnit, found, entry_of, entries_from, again, host_again}
-use Rattle.cmm_accepted.specs.Linking.{Program, exports_of, export_link, export_spots, twice, import_spots, is_start, starts}
-use Rattle.cmm_accepted.specs.Senses.{Senses}
-use Rattle.cmm_accepted.specs.Units.{target_decl_spots, width_spots, item_spots}
-use Rattle.cmm_accepted.specs.Scopes.{width_in, unit_senses}
-use Rattle.cmm_accepted.specs.LongNames.{long_spots, of_item}
-use Rattle.cmm_accepted.specs.Faults.{Placed, item_procedure_spots}
-use Rattle.cmm_declarations.specs.EntryFaults.{entry_value_spots}
-use Rattle.cmm_linked.specs.Exports.{exported_links}
-use Rattle.cmm_linked.specs.Registers.{registers_in}
+use Rattle.cmm_static_semantics.specs.declared.spot.Spot.{Spot}
+use Rattle.cmm_static_semantics.specs.Items.{items_of}
+use Rattle.cmm_static_semantics.specs.Declarations.{Declared, Entry, NamedUnit, found, entry_of, entries_from, again, host_again}
+use Rattle.cmm_static_semantics.specs.Linking.{Program, exports_of, export_link, export_spots, twice, import_spots, is_start, starts}
+use Rattle.cmm_static_semantics.specs.Senses.{Senses}
+use Rattle.cmm_static_semantics.specs.Units.{target_decl_spots, width_spots, item_spots}
+use Rattle.cmm_static_semantics.specs.Scopes.{width_in, unit_senses}
+use Rattle.cmm_static_semantics.specs.LongNames.{long_spots, of_item}
+use Rattle.cmm_static_semantics.specs.Faults.{Placed, item_procedure_spots}
+use Rattle.cmm_check_declarations.specs.EntryFaults.{entry_value_spots}
+use Rattle.cmm_linkage.specs.Exports.{exported_links}
+use Rattle.cmm_linkage.specs.Registers.{registers_in}
 use Rattle.cmm_static.specs.inside.Cyclic.{entry_cycle_spots}
-use Rattle.cmm_names.specs.Shown.{whats, with_what}
+use Rattle.cmm_symbols.specs.Shown.{whats, with_what}
 
 pub record Flat : Type 0 where
   pub tree : UnitTree
@@ -30,7 +30,7 @@ pub record Flat : Type 0 where
 abbrev pub flat_unit : NamedUnit → Flat
 flat_unit u = record { tree = u.tree; entries = u.entries; exports = exports_of u; items = whats u.items }
 
--- a unit before which so many procedures and data labels stand
+-- a unit before which n procedures and data labels stand
 abbrev pub numbered_unit : ℕ → ℕ → UnitTree → NamedUnit
 numbered_unit procs labels u = record { tree = u; items = items_of u; entries = entries_from procs labels (items_of u) }
 

@@ -1,8 +1,8 @@
 -- What is found of units by the rules that are tested unit by unit.
 use Rattle.std.specs.Prelude.{◌≡◌, List, [], Some, None}
-use Rattle.cmm_accepted.specs.Linking.{Program}
-use Rattle.cmm_accepted.specs.Spots.{first_by}
-use Rattle.cmm_accepted.specs.Faults.{stands_before}
+use Rattle.cmm_static_semantics.specs.Linking.{Program}
+use Rattle.cmm_static_semantics.specs.Spots.{first_by}
+use Rattle.cmm_static_semantics.specs.Faults.{stands_before}
 use Rattle.cmm_static.specs.inside.Flat.{Flat, flats_broken}
 use Rattle.cmm_static.specs.inside.Units.{AreEarlier, broken_placed}
 use Rattle.cmm_static.specs.declared.checking.Found.{Found}

@@ -1,10 +1,10 @@
 -- Names in tables.
 use Rattle.std.specs.Prelude.{◌≡◌, ℕ, List}
-use Rattle.cmm_accepted.specs.Senses.{is_there}
-use Rattle.cmm_accepted.specs.Declarations.{Declared, found}
-use Rattle.cmm_accepted.specs.Linking.{is_among}
-use Rattle.cmm_names.specs.Indexed.{indexed}
-use Rattle.cmm_names.specs.declared.index.Index.{Index}
+use Rattle.cmm_static_semantics.specs.Senses.{is_there}
+use Rattle.cmm_static_semantics.specs.Declarations.{Declared, found}
+use Rattle.cmm_static_semantics.specs.Linking.{is_among}
+use Rattle.cmm_symbols.specs.Indexed.{indexed}
+use Rattle.cmm_symbols.specs.declared.index.Index.{Index}
 
 -- the names in a table are these
 abbrev pub AreLinks : Index (Unit {0}) → List (List ℕ) → Type 0

@@ -1,10 +1,10 @@
 -- What is counted over all units, and the limits on it.
 use Rattle.std.specs.Prelude.{◌≡◌, ◌&&◌, is_some, nat_le, Bool, List}
 use Rattle.cmm_program.specs.Layout.{end_of}
-use Rattle.cmm_accepted.specs.Declarations.{NamedUnit}
-use Rattle.cmm_accepted.specs.Limits.{data_pieces, over_units, proc_count, site_spans, site_variables, token_count}
-use Rattle.cmm_accepted.specs.Linking.{Program}
-use Rattle.cmm_declarations.specs.DataEnds.{IsEnd}
+use Rattle.cmm_static_semantics.specs.Declarations.{NamedUnit}
+use Rattle.cmm_static_semantics.specs.Limits.{data_pieces, over_units, proc_count, site_spans, site_variables, token_count}
+use Rattle.cmm_static_semantics.specs.Linking.{Program}
+use Rattle.cmm_check_declarations.specs.DataEnds.{IsEnd}
 use Rattle.cmm_limits.specs.Capped.{capped}
 use Rattle.cmm_static.specs.declared.sums.Sums.{Sums}
 

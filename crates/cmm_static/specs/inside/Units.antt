@@ -1,18 +1,18 @@
 -- The names of units, laid flat, as the rules see them.
 use Rattle.std.specs.Prelude.{◌≡◌, List, map}
 use Rattle.std.specs.List.{All}
-use Rattle.cmm_accepted.specs.Faults.{Placed}
-use Rattle.cmm_accepted.specs.Linking.{Program}
-use Rattle.cmm_accepted.specs.Scopes.{unit_senses}
-use Rattle.cmm_accepted.specs.Senses.{Senses}
+use Rattle.cmm_static_semantics.specs.Faults.{Placed}
+use Rattle.cmm_static_semantics.specs.Linking.{Program}
+use Rattle.cmm_static_semantics.specs.Scopes.{unit_senses}
+use Rattle.cmm_static_semantics.specs.Senses.{Senses}
 use Rattle.cmm_checked.specs.declared.unit.CheckedUnit.{CheckedUnit}
-use Rattle.cmm_constants.specs.Senses.{senses_of}
-use Rattle.cmm_constants.specs.declared.unit_senses.UnitSenses.{UnitSenses}
+use Rattle.cmm_unit_scope.specs.Senses.{senses_of}
+use Rattle.cmm_unit_scope.specs.declared.unit_senses.UnitSenses.{UnitSenses}
 use Rattle.cmm_typing.specs.Fitting.{AreWords}
 use Rattle.cmm_static.specs.inside.Flat.{Flat, flat_named, links_before, widths_before}
 use Rattle.cmm_static.specs.inside.Totals.{AreSums}
 use Rattle.cmm_static.specs.inside.Linked.{AreLinks, AreFound}
-use Rattle.cmm_names.specs.Shown.{thing_item, shown}
+use Rattle.cmm_symbols.specs.Shown.{thing_item, shown}
 use Rattle.cmm_static.specs.declared.unit_names.UnitNames.{UnitNames}
 use Rattle.cmm_static.specs.declared.earlier.Earlier.{Earlier}
 use Rattle.cmm_static.specs.declared.checking.Broken.{Broken}

@@ -22,7 +22,7 @@ AreUnits units s = elim s.cut [
   | true ↦ (unit : List ℕ) × (rest : List (List ℕ)) × (units ≡ s.units ++ unit ∷ rest) × (UNIT_LIMIT < length unit)
 ]
 
--- these are the units of so many files, or those before one that is too long
+-- these are the units of n files, or those before one that is too long
 abbrev pub AreWithin : ℕ → Sources → Type 0
 AreWithin count s = (length s.units ≤ count) × (s.cut ≡ true → length s.units < count) × (s.cut ≡ false → length s.units ≡ count)
 

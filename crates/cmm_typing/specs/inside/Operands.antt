@@ -2,12 +2,12 @@
 use Rattle.std.specs.Prelude.{List, [], ◌∷◌}
 use Rattle.cmm_words.specs.declared.width.Width.{Width}
 use Rattle.cmm_ast.specs.declared.expression.Expr.{Expr}
-use Rattle.cmm_accepted.specs.declared.judged.Operands.{Operands}
-use Rattle.cmm_accepted.specs.declared.judged.Operands.TheVariants as operands
-use Rattle.cmm_accepted.specs.Senses.{Senses}
-use Rattle.cmm_accepted.specs.Algebras.{Algebra}
-use Rattle.cmm_accepted.specs.Judging.{Judged}
-use Rattle.cmm_accepted.specs.Typing.{expr_type, operand_at, with_operand}
+use Rattle.cmm_static_semantics.specs.declared.judged.Operands.{Operands}
+use Rattle.cmm_static_semantics.specs.declared.judged.Operands.TheVariants as operands
+use Rattle.cmm_static_semantics.specs.Senses.{Senses}
+use Rattle.cmm_static_semantics.specs.Algebras.{Algebra}
+use Rattle.cmm_static_semantics.specs.Judging.{Judged}
+use Rattle.cmm_static_semantics.specs.Typing.{expr_type, operand_at, with_operand}
 use Rattle.cmm_operators.specs.Fitting.{OperandFits}
 
 abbrev pub OperandsFit : {E C : Type 0} → (Width → E → Type 0) → Operands E C → Type 0

@@ -53,7 +53,7 @@ pub record ArePlaces (base : ℕ) (parts : List Part) (labels : List Meaning) (p
   pub at : ArePlacesBelow (length parts) base parts places
   pub others : OthersAreZero (length parts) parts places
 
--- a part that is a place has its label among so many
+-- a part that is a place has its label among n
 abbrev pub PlaceFits : ℕ → Part → Type 0
 PlaceFits count (Place l) = l.number < count
 PlaceFits count _ = Unit {0}

@@ -1,7 +1,7 @@
 use Rattle.std.proofs.Common.{◌∷◌, ◌++◌, [], arith, pos}
 use Rattle.rv_asm.specs.declared.part.Part.TheVariants.{Single}
 use Rattle.rv_table.specs.declared.instruction.Instr.TheVariants.{Addi, Ecall}
-use Rattle.cmm_changes.proofs.Shared.{adds_one, adds_then, adds_weaker}
+use Rattle.cmm_effects.proofs.Shared.{adds_one, adds_then, adds_weaker}
 use Rattle.cmm_calls.proofs.AskedEnds.{asks_end}
 use Rattle.cmm_calls.proofs.asking.ask_end.Goals as goal
 

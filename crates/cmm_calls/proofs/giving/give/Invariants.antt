@@ -1,5 +1,5 @@
 use Rattle.std.proofs.Common.{◌≡◌, ◌*◌, take}
-use Rattle.cmm_changes.specs.Pieces.{Adds}
+use Rattle.cmm_effects.specs.Pieces.{Adds}
 use Rattle.cmm_calls.proofs.Brought.{GivesSome}
 use Rattle.cmm_calls.proofs.giving.give.Given as goal
 

@@ -1,5 +1,5 @@
 use Rattle.std.proofs.Common.{◌≡◌, ◌*◌, length, take}
-use Rattle.cmm_changes.specs.Pieces.{Adds}
+use Rattle.cmm_effects.specs.Pieces.{Adds}
 use Rattle.cmm_calls.proofs.Copied.{Taken}
 use Rattle.cmm_calls.proofs.taking.take.Given as goal
 

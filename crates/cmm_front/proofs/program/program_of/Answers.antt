@@ -3,11 +3,11 @@ use Rattle.std.specs.Cmp.Lexicographic.{slice_cmp}
 use Rattle.std.specs.List.{AllZip}
 use Rattle.std.specs.List.Sorted.{IsStrictlySortedBy}
 use Rattle.std.specs.Ordering.{nat_cmp}
-use Rattle.cmm_accepted.specs.Faults.{AreAccepted, first_fault}
+use Rattle.cmm_static_semantics.specs.Faults.{AreAccepted, first_fault}
 use Rattle.cmm_ast.specs.declared.unit.Unit.{Unit as UnitTree}
-use Rattle.cmm_meaning.specs.Laws.{AreRead, TextsAreBytes}
-use Rattle.cmm_meaning.specs.Meaning.{meaning_of}
-use Rattle.cmm_meaning.specs.Room.{KeepsRoom}
+use Rattle.cmm_elaboration.specs.Laws.{AreRead, TextsAreBytes}
+use Rattle.cmm_elaboration.specs.Meaning.{meaning_of}
+use Rattle.cmm_elaboration.specs.Room.{KeepsRoom}
 use Rattle.cmm_front.proofs.Meant.{when_read}
 use Rattle.cmm_lexer.specs.Lexing.{Lexes}
 use Rattle.cmm_program.specs.InRange.{IsInRange}

@@ -1,5 +1,5 @@
 use Rattle.std.proofs.Common.{arith}
-use Rattle.cmm_names.specs.Shown.{piece_part}
+use Rattle.cmm_symbols.specs.Shown.{piece_part}
 use Rattle.cmm_limits.proofs.Counts.{counted_next}
 use Rattle.cmm_limits.proofs.sites.sites_in.Goals as goal
 

@@ -1,6 +1,6 @@
 use Rattle.std.proofs.Common.{◌≡◌, ◌≤◌, map, take}
-use Rattle.cmm_accepted.specs.Limits.{site_count}
-use Rattle.cmm_names.specs.Shown.{piece_part}
+use Rattle.cmm_static_semantics.specs.Limits.{site_count}
+use Rattle.cmm_symbols.specs.Shown.{piece_part}
 use Rattle.cmm_limits.proofs.sites.sites_in.Given as goal
 
 abbrev pub invariant-loop-piece : goal.invariant-loop-piece

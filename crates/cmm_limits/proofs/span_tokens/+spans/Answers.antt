@@ -2,10 +2,10 @@ use Rattle.std.proofs.Common.{◌==◌, ◌++◌, ◌∷◌, sym, ap, ◌∙◌,
 use Rattle.std.specs.List.{list_any}
 use Rattle.cmm_ast.specs.declared.statement.Part.{Part}
 use Rattle.cmm_ast.specs.declared.statement.Part.TheVariants as parts
-use Rattle.cmm_accepted.specs.Items.{part_within, parts_in, parts_otherwise}
-use Rattle.cmm_accepted.specs.Limits.{site_tokens, tokens_of}
-use Rattle.cmm_accepted.specs.Scopes.{senses}
-use Rattle.cmm_scopes.specs.Bodies.{scope_of_body}
+use Rattle.cmm_static_semantics.specs.Items.{part_within, parts_in, parts_otherwise}
+use Rattle.cmm_static_semantics.specs.Limits.{site_tokens, tokens_of}
+use Rattle.cmm_static_semantics.specs.Scopes.{senses}
+use Rattle.cmm_proc_scope.specs.Bodies.{scope_of_body}
 use Rattle.cmm_limits.specs.Capped.{capped}
 use Rattle.cmm_limits.specs.inside.InForce.{AreInForce, one_more, parts_of_arms}
 use Rattle.cmm_limits.proofs.Spans.{both, else_if_law, else_law, from_ok, if_law, span_entered, span_law, switch_law, tokens_next}

@@ -1,9 +1,9 @@
 use Rattle.std.proofs.Common.{◌≡◌, ℕ, List, take}
 use Rattle.std.specs.Prelude.{flat_map}
-use Rattle.cmm_accepted.specs.Items.{SpanTree, part_within}
-use Rattle.cmm_accepted.specs.Limits.{site_tokens}
-use Rattle.cmm_accepted.specs.Scopes.{senses}
-use Rattle.cmm_scopes.specs.Bodies.{scope_of_body}
+use Rattle.cmm_static_semantics.specs.Items.{SpanTree, part_within}
+use Rattle.cmm_static_semantics.specs.Limits.{site_tokens}
+use Rattle.cmm_static_semantics.specs.Scopes.{senses}
+use Rattle.cmm_proc_scope.specs.Bodies.{scope_of_body}
 use Rattle.cmm_limits.specs.Capped.{capped}
 use Rattle.cmm_limits.specs.inside.InForce.{AreInForce, parts_of_arms}
 use Rattle.cmm_limits.proofs.span_tokens.+spans.Given as goal

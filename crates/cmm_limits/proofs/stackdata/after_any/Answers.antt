@@ -1,5 +1,5 @@
 use Rattle.std.proofs.Common.{subst, Option, ℕ}
-use Rattle.cmm_scopes.specs.Bodies.{scope_of_body}
+use Rattle.cmm_proc_scope.specs.Bodies.{scope_of_body}
 use Rattle.cmm_limits.specs.inside.Ends.{IsWithin}
 use Rattle.cmm_limits.proofs.Rooms.{past_stays}
 use Rattle.cmm_limits.proofs.stackdata.after_any.Goals as goal

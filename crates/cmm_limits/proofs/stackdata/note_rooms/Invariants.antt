@@ -1,5 +1,5 @@
 use Rattle.std.proofs.Common.{map, take}
-use Rattle.cmm_scopes.specs.Bodies.{scope_of_body}
+use Rattle.cmm_proc_scope.specs.Bodies.{scope_of_body}
 use Rattle.cmm_limits.proofs.Rooms.{Walked}
 use Rattle.cmm_limits.proofs.stackdata.note_rooms.Given as goal
 

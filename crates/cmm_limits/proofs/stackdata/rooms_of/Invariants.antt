@@ -1,7 +1,7 @@
 use Rattle.std.proofs.Common.{◌≡◌, map, take}
 use Rattle.std.specs.Prelude.{flat_map}
-use Rattle.cmm_accepted.specs.Limits.{local_rooms}
-use Rattle.cmm_names.specs.Shown.{piece_part}
+use Rattle.cmm_static_semantics.specs.Limits.{local_rooms}
+use Rattle.cmm_symbols.specs.Shown.{piece_part}
 use Rattle.cmm_limits.proofs.stackdata.rooms_of.Given as goal
 
 abbrev pub invariant-loop-piece : goal.invariant-loop-piece

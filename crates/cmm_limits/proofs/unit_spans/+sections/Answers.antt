@@ -1,8 +1,8 @@
 use Rattle.std.proofs.Common.{◌==◌, ◌∷◌, sym, ap, ◌∙◌, subst}
 use Rattle.std.specs.Prelude.{flat_map}
 use Rattle.std.specs.List.{list_any}
-use Rattle.cmm_accepted.specs.Items.{item_within}
-use Rattle.cmm_accepted.specs.Limits.{tokens_of}
+use Rattle.cmm_static_semantics.specs.Items.{item_within}
+use Rattle.cmm_static_semantics.specs.Limits.{tokens_of}
 use Rattle.cmm_limits.specs.Capped.{capped}
 use Rattle.cmm_limits.specs.inside.InForce.{HasTokens, one_more}
 use Rattle.cmm_limits.specs.inside.OfUnits.{spans_in}

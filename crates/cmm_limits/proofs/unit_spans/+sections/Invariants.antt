@@ -1,7 +1,7 @@
 use Rattle.std.proofs.Common.{◌≡◌, List, take}
 use Rattle.std.specs.Prelude.{flat_map}
-use Rattle.cmm_accepted.specs.Items.{SpanTree, item_within}
-use Rattle.cmm_accepted.specs.Limits.{tokens_of}
+use Rattle.cmm_static_semantics.specs.Items.{SpanTree, item_within}
+use Rattle.cmm_static_semantics.specs.Limits.{tokens_of}
 use Rattle.cmm_limits.specs.Capped.{capped}
 use Rattle.cmm_limits.specs.inside.InForce.{HasTokens}
 use Rattle.cmm_limits.specs.inside.OfUnits.{spans_in}

@@ -1,5 +1,5 @@
 use Rattle.std.proofs.Common.{◌∙◌}
-use Rattle.cmm_accepted.specs.Items.{top_items}
+use Rattle.cmm_static_semantics.specs.Items.{top_items}
 use Rattle.cmm_limits.proofs.Sums.{spans_next}
 use Rattle.cmm_limits.proofs.unit_spans.site_spans.Goals as goal
 

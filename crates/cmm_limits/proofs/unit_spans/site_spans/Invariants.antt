@@ -1,6 +1,6 @@
 use Rattle.std.proofs.Common.{◌≡◌, take}
 use Rattle.std.specs.Prelude.{flat_map}
-use Rattle.cmm_accepted.specs.Items.{top_items}
+use Rattle.cmm_static_semantics.specs.Items.{top_items}
 use Rattle.cmm_limits.specs.Capped.{capped}
 use Rattle.cmm_limits.specs.inside.OfUnits.{spans_in}
 use Rattle.cmm_limits.proofs.unit_spans.site_spans.Given as goal

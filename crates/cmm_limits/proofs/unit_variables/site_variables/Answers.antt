@@ -1,6 +1,6 @@
 use Rattle.std.proofs.Common.{map, sym, ap, ◌∙◌}
 use Rattle.cmm_limits.specs.Capped.{capped}
-use Rattle.cmm_names.specs.Shown.{thing_item, whats}
+use Rattle.cmm_symbols.specs.Shown.{thing_item, whats}
 use Rattle.cmm_limits.proofs.Spans.{from_ok}
 use Rattle.cmm_limits.proofs.Sums.{unit_variables}
 use Rattle.cmm_limits.proofs.unit_variables.site_variables.Goals as goal

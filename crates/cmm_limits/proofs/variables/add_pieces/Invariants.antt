@@ -1,6 +1,6 @@
 use Rattle.std.proofs.Common.{◌≡◌, ◌++◌, map, take}
 use Rattle.std.specs.Prelude.{flat_map}
-use Rattle.cmm_names.specs.Shown.{piece_part}
+use Rattle.cmm_symbols.specs.Shown.{piece_part}
 use Rattle.cmm_limits.specs.inside.VariableNames.{variable_names}
 use Rattle.cmm_limits.proofs.variables.add_pieces.Given as goal
 

@@ -1,5 +1,5 @@
 use Rattle.std.proofs.Common.{◌≡◌, map, drop}
-use Rattle.cmm_accepted.specs.Operators as operators
+use Rattle.cmm_static_semantics.specs.Operators as operators
 use Rattle.cmm_operators.proofs.operators.operator_in.Given as goal
 
 -- the rows that are left say what all rows do

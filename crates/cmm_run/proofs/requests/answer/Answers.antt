@@ -2,7 +2,7 @@ use Rattle.std.proofs.Common.{refl, ap, sym, ◌∙◌, subst}
 use Rattle.rv_memory.specs.Regions.{memory_of}
 use Rattle.rv_table.specs.Machine.{Asks}
 use Rattle.cmm_image.specs.Images.{IsImage}
-use Rattle.cmm_execution.proofs.Shared.{images_keep_frames}
+use Rattle.cmm_image_machine.proofs.Shared.{images_keep_frames}
 use Rattle.cmm_run.specs.declared.machine.Machine.{Machine}
 use Rattle.cmm_run.specs.Outside.{Outside, outside_of}
 use Rattle.cmm_run.specs.inside.Turns.{IsAt}

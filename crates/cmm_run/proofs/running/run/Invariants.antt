@@ -1,6 +1,6 @@
 use Rattle.std.proofs.Common.{◌≡◌}
 use Rattle.rv_memory.specs.Regions.{map_of as memory_map_of}
-use Rattle.cmm_execution.specs.Machine.{map_of}
+use Rattle.cmm_image_machine.specs.Machine.{map_of}
 use Rattle.cmm_run.specs.Outside.{outside_of}
 use Rattle.cmm_run.proofs.WholeRuns.{HasRun}
 use Rattle.cmm_run.proofs.running.run.Given as goal

@@ -4,7 +4,7 @@ use Rattle.rv_table.specs.Machine.{State}
 use Rattle.rv_sim.specs.Standing.{found_at}
 use Rattle.rv_sim.specs.Stepping.{outcome_of}
 use Rattle.rv_sim.proofs.Shared.{step_missing}
-use Rattle.cmm_execution.specs.Machine.{map_of}
+use Rattle.cmm_image_machine.specs.Machine.{map_of}
 use Rattle.cmm_run.specs.declared.machine.Machine.{Machine}
 use Rattle.cmm_run.proofs.Turning.{at_outcome, trap_of, trap_turn}
 use Rattle.cmm_run.proofs.running.turn.Goals as goal

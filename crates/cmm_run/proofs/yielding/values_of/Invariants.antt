@@ -1,7 +1,7 @@
 use Rattle.std.proofs.Common.{◌≡◌, ℕ, ◌<◌, slice_index}
 use Rattle.rv_sim.specs.Stepping.{state_of}
 use Rattle.rv_table.specs.Machine.{region_base}
-use Rattle.cmm_execution.specs.Regions.{Region, value_place, word_at}
+use Rattle.cmm_image_machine.specs.Regions.{Region, value_place, word_at}
 use Rattle.cmm_run.proofs.yielding.values_of.Given as goal
 
 abbrev pub invariant-loop-k : goal.invariant-loop-k

@@ -2,7 +2,7 @@ use Rattle.std.proofs.Common.{slice_get, Ok, refl, ap, sym, ◌∙◌}
 use Rattle.cmm_image.specs.declared.parts.ImageParts.{ImageParts}
 use Rattle.cmm_image.specs.ImageFormat.{procedure_at}
 use Rattle.cmm_image.specs.Sites.{site_place}
-use Rattle.cmm_execution.specs.Machine.{region_of}
+use Rattle.cmm_image_machine.specs.Machine.{region_of}
 use Rattle.cmm_run.proofs.FirstPoints.{ends, none_there, one_there, top_is, unfit_there}
 use Rattle.cmm_run.proofs.ImageBounds.{sites_yield_few}
 use Rattle.cmm_run.proofs.yielding.yield_count.Goals as goal

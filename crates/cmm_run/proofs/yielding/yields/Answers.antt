@@ -1,7 +1,7 @@
 use Rattle.std.proofs.Common.{ℕ, List, Result, refl, sym, ap, subst}
 use Rattle.rv_sim.specs.Stepping.{state_of}
 use Rattle.cmm_program.specs.Asking.{Break}
-use Rattle.cmm_execution.specs.Machine.{region_of}
+use Rattle.cmm_image_machine.specs.Machine.{region_of}
 use Rattle.cmm_run.specs.inside.Yields.{YieldsTo, values_found}
 use Rattle.cmm_run.proofs.yielding.yields.Goals as goal
 

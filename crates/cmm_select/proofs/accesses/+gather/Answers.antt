@@ -1,6 +1,6 @@
 use Rattle.std.proofs.Common.{◌≡◌, ℕ, suc, ◌+◌, ◌-◌, ◌*◌, ◌<◌, ◌≤◌, sym, subst, arith}
 use Rattle.cmm_words.specs.Widths.{bytes}
-use Rattle.cmm_changes.proofs.Shared.{adds_one, adds_then, adds_weaker}
+use Rattle.cmm_effects.proofs.Shared.{adds_one, adds_then, adds_weaker}
 use Rattle.cmm_select.proofs.Gathering.{gathers_as, gathers_more, gathers_one}
 use Rattle.cmm_select.specs.inside.Accesses.{load_part}
 use Rattle.cmm_select.proofs.accesses.+gather.Goals as goal

@@ -1,7 +1,7 @@
 use Rattle.std.proofs.Common.{◌≡◌, ℕ, suc, ◌+◌, ◌-◌, ◌*◌, ◌<◌, ◌≤◌, sym, subst, arith}
 use Rattle.cmm_words.specs.Widths.{bytes}
-use Rattle.cmm_changes.proofs.Shared.{adds_one, adds_then, adds_weaker}
-use Rattle.cmm_changes.specs.Pieces.{Adds}
+use Rattle.cmm_effects.proofs.Shared.{adds_one, adds_then, adds_weaker}
+use Rattle.cmm_effects.specs.Pieces.{Adds}
 use Rattle.cmm_select.proofs.Gathering.{less_than_eight, scatters_as, scatters_more, scatters_one}
 use Rattle.cmm_select.proofs.Places.{One}
 use Rattle.cmm_select.specs.inside.Accesses.{store_part}

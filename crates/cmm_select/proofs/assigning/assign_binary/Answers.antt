@@ -1,5 +1,5 @@
 use Rattle.std.proofs.Common.{◌+◌, ◌*◌, arith}
-use Rattle.cmm_changes.proofs.Shared.{adds_then, adds_weaker, leads_weaker}
+use Rattle.cmm_effects.proofs.Shared.{adds_then, adds_weaker, leads_weaker}
 use Rattle.cmm_select.proofs.Putting.{assigns_binary}
 use Rattle.cmm_select.specs.Operators.{shifts_of}
 use Rattle.cmm_select.proofs.assigning.assign_binary.Goals as goal

@@ -1,5 +1,5 @@
 use Rattle.std.proofs.Common.{arith}
-use Rattle.cmm_changes.proofs.Shared.{adds_then, adds_weaker}
+use Rattle.cmm_effects.proofs.Shared.{adds_then, adds_weaker}
 use Rattle.cmm_select.proofs.Putting.{copies_operand}
 use Rattle.cmm_select.proofs.assigning.assign_copy.Goals as goal
 

@@ -1,6 +1,6 @@
 use Rattle.std.proofs.Common.{refl, arith}
-use Rattle.cmm_changes.proofs.Shared.{adds_then, adds_weaker, leads_weaker, set_keeps}
-use Rattle.cmm_changes.specs.Accesses.{global_at}
+use Rattle.cmm_effects.proofs.Shared.{adds_then, adds_weaker, leads_weaker, set_keeps}
+use Rattle.cmm_effects.specs.Accesses.{global_at}
 use Rattle.cmm_select.proofs.Putting.{then_put}
 use Rattle.cmm_select.proofs.Keeping.{put_as}
 use Rattle.cmm_select.proofs.assigning.assign_global.Goals as goal

@@ -1,6 +1,6 @@
 use Rattle.std.proofs.Common.{arith}
 use Rattle.cmm_words.specs.Words.{low_bits}
-use Rattle.cmm_changes.proofs.Shared.{adds_then, adds_weaker, leads_weaker, runs_weaker}
+use Rattle.cmm_effects.proofs.Shared.{adds_then, adds_weaker, leads_weaker, runs_weaker}
 use Rattle.cmm_select.proofs.Putting.{assigns_one}
 use Rattle.cmm_select.specs.Operators.{HasWord, Narrows, shifts_of}
 use Rattle.cmm_select.proofs.assigning.assign_low.Goals as goal

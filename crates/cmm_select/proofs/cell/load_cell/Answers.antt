@@ -1,5 +1,5 @@
 use Rattle.std.proofs.Common.{arith}
-use Rattle.cmm_changes.proofs.Shared.{adds_one, adds_weaker}
+use Rattle.cmm_effects.proofs.Shared.{adds_one, adds_weaker}
 use Rattle.cmm_select.proofs.Accessing.{loads_cell}
 use Rattle.cmm_select.specs.inside.Accesses.{load_of}
 use Rattle.cmm_select.proofs.cell.load_cell.Goals as goal

@@ -1,5 +1,5 @@
 use Rattle.std.proofs.Common.{◌∙◌, sym, arith}
-use Rattle.cmm_changes.proofs.Shared.{adds_part, adds_weaker}
+use Rattle.cmm_effects.proofs.Shared.{adds_part, adds_weaker}
 use Rattle.cmm_select.proofs.Deciding.{straight_chooses, turned_chooses}
 use Rattle.rv_asm.specs.declared.part.Part.TheVariants.{Branch}
 use Rattle.cmm_select.proofs.comparing.branch_wide.Goals as goal

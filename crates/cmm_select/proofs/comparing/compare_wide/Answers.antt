@@ -1,6 +1,6 @@
 use Rattle.std.proofs.Common.{◌∙◌, sym, arith, pos}
-use Rattle.cmm_changes.proofs.Shared.{adds_one, adds_then, adds_weaker, runs_weaker}
-use Rattle.cmm_changes.specs.Pieces.{Adds}
+use Rattle.cmm_effects.proofs.Shared.{adds_one, adds_then, adds_weaker, runs_weaker}
+use Rattle.cmm_effects.specs.Pieces.{Adds}
 use Rattle.cmm_select.proofs.Places.{One}
 use Rattle.cmm_select.proofs.Telling.{contrary_is_plain, tells_contrary}
 use Rattle.rv_table.specs.declared.instruction.Instr.TheVariants.{Xori}

@@ -1,5 +1,5 @@
 use Rattle.std.proofs.Common.{◌≡◌, ◌*◌, arith, true, false}
-use Rattle.cmm_changes.proofs.Shared.{adds_none, adds_then, adds_weaker, runs_weaker}
+use Rattle.cmm_effects.proofs.Shared.{adds_none, adds_then, adds_weaker, runs_weaker}
 use Rattle.cmm_select.proofs.Deciding.{are_ready, as_they_are, signs_ready, with_their_sign}
 use Rattle.cmm_select.proofs.Operating.{both_signed}
 use Rattle.cmm_select.specs.Operators.{shifts_of}

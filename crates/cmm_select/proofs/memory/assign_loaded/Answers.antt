@@ -1,5 +1,5 @@
 use Rattle.std.proofs.Common.{◌-◌, ◌*◌, arith}
-use Rattle.cmm_changes.proofs.Shared.{adds_then, adds_weaker}
+use Rattle.cmm_effects.proofs.Shared.{adds_then, adds_weaker}
 use Rattle.cmm_select.proofs.Loading.{assigns_loaded}
 use Rattle.cmm_select.specs.Memory.{accesses}
 use Rattle.cmm_select.proofs.memory.assign_loaded.Goals as goal

@@ -1,7 +1,7 @@
 use Rattle.std.proofs.Common.{◌∷◌, ◌++◌, [], arith}
 use Rattle.rv_asm.specs.declared.part.Part.TheVariants.{Address}
 use Rattle.rv_table.specs.declared.instruction.Instr.TheVariants.{Add}
-use Rattle.cmm_changes.proofs.Shared.{adds_one, adds_part, adds_then, adds_weaker, leads_weaker}
+use Rattle.cmm_effects.proofs.Shared.{adds_one, adds_part, adds_then, adds_weaker, leads_weaker}
 use Rattle.cmm_select.proofs.Constants.{eight_at_most}
 use Rattle.cmm_select.proofs.Symbols.{brings_address, brings_address_on}
 use Rattle.cmm_select.proofs.operand.bring_symbol.Goals as goal

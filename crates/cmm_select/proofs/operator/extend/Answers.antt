@@ -1,5 +1,5 @@
 use Rattle.std.proofs.Common.{arith}
-use Rattle.cmm_changes.proofs.Shared.{adds_none, adds_weaker}
+use Rattle.cmm_effects.proofs.Shared.{adds_none, adds_weaker}
 use Rattle.cmm_select.proofs.Widths.{extends_8, extends_16, extends_32, extends_none}
 use Rattle.cmm_select.proofs.operator.extend.Goals as goal
 

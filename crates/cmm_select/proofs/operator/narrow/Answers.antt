@@ -1,5 +1,5 @@
 use Rattle.std.proofs.Common.{arith}
-use Rattle.cmm_changes.proofs.Shared.{adds_none, adds_weaker}
+use Rattle.cmm_effects.proofs.Shared.{adds_none, adds_weaker}
 use Rattle.cmm_select.proofs.Widths.{cuts_8, cuts_16, cuts_32, cuts_none}
 use Rattle.cmm_select.proofs.operator.narrow.Goals as goal
 

@@ -1,7 +1,7 @@
 use Rattle.std.proofs.Common.{arith, pos, subst}
-use Rattle.cmm_changes.specs.Changes.{IsPlace}
+use Rattle.cmm_effects.specs.Changes.{IsPlace}
 use Rattle.rv_table.specs.declared.instruction.Instr.TheVariants.{Addi}
-use Rattle.cmm_changes.proofs.Shared.{adds_one, adds_weaker}
+use Rattle.cmm_effects.proofs.Shared.{adds_one, adds_weaker}
 use Rattle.cmm_select.proofs.Places.{puts_register, saved_written, temporary_written}
 use Rattle.cmm_select.proofs.place.write.Goals as goal
 

@@ -1,5 +1,5 @@
 use Rattle.std.proofs.Common.{arith}
-use Rattle.cmm_changes.proofs.Shared.{adds_weaker, leads_weaker}
+use Rattle.cmm_effects.proofs.Shared.{adds_weaker, leads_weaker}
 use Rattle.cmm_select.proofs.source.bring.Goals as goal
 
 pub returns-in_ok-read-in-Place-clause-brings : goal.returns-in_ok-read-in-Place-clause-brings

@@ -3,8 +3,8 @@ use Rattle.cmm_program.specs.declared.statement.Range.{Range}
 use Rattle.cmm_words.specs.declared.operators.Cmp.TheVariants.{Geu}
 use Rattle.rv_asm.specs.declared.part.Part.TheVariants.{Branch}
 use Rattle.rv_table.specs.declared.instruction.Instr.TheVariants.{Sub}
-use Rattle.cmm_changes.proofs.Shared.{adds_none, adds_one, adds_part, adds_then, adds_weaker}
-use Rattle.cmm_changes.specs.Pieces.{Adds}
+use Rattle.cmm_effects.proofs.Shared.{adds_none, adds_one, adds_part, adds_then, adds_weaker}
+use Rattle.cmm_effects.specs.Pieces.{Adds}
 use Rattle.cmm_select.proofs.Constants.{eight_at_most}
 use Rattle.cmm_select.proofs.Places.{One}
 use Rattle.cmm_select.proofs.Ranging.{goes_in_range, goes_past}

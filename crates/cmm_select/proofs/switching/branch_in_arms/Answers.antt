@@ -1,5 +1,5 @@
 use Rattle.std.proofs.Common.{◌∙◌, refl, arith}
-use Rattle.cmm_changes.proofs.Shared.{adds_then, adds_weaker}
+use Rattle.cmm_effects.proofs.Shared.{adds_then, adds_weaker}
 use Rattle.cmm_select.proofs.Ranging.{next_arm, next_count}
 use Rattle.cmm_select.specs.Switches.{label_of}
 use Rattle.cmm_select.proofs.switching.branch_in_arms.Goals as goal

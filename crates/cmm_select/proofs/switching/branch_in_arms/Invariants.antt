@@ -1,5 +1,5 @@
 use Rattle.std.proofs.Common.{◌≡◌, ◌*◌, take}
-use Rattle.cmm_changes.specs.Pieces.{Adds}
+use Rattle.cmm_effects.specs.Pieces.{Adds}
 use Rattle.cmm_select.specs.Switches.{GoesInArms, ranges_in}
 use Rattle.cmm_select.proofs.switching.branch_in_arms.Given as goal
 

@@ -1,5 +1,5 @@
 use Rattle.std.proofs.Common.{◌≡◌, ◌*◌, take}
-use Rattle.cmm_changes.specs.Pieces.{Adds}
+use Rattle.cmm_effects.specs.Pieces.{Adds}
 use Rattle.cmm_select.specs.Switches.{GoesInRanges}
 use Rattle.cmm_select.proofs.switching.branch_in_ranges.Given as goal
 

@@ -1,6 +1,6 @@
 use Rattle.std.proofs.Common.{arith}
-use Rattle.cmm_changes.proofs.Shared.{adds_one, adds_then, adds_weaker}
-use Rattle.cmm_changes.specs.Pieces.{Adds}
+use Rattle.cmm_effects.proofs.Shared.{adds_one, adds_then, adds_weaker}
+use Rattle.cmm_effects.specs.Pieces.{Adds}
 use Rattle.cmm_select.proofs.Converting.{cut_of_one, cut_operates_on_one, does_direct}
 use Rattle.cmm_select.proofs.Places.{One}
 use Rattle.cmm_select.specs.Operators.{shifts_of}

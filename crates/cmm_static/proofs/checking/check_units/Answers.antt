@@ -1,6 +1,6 @@
 use Rattle.std.proofs.Common.{List, map, sym, ap, ◌∙◌, subst}
 use Rattle.std.proofs.lemmas.Result.{err_from_is_err_and}
-use Rattle.cmm_accepted.specs.Declarations.{named_units}
+use Rattle.cmm_static_semantics.specs.Declarations.{named_units}
 use Rattle.cmm_ast.specs.declared.unit.Unit.{Unit as UnitTree}
 use Rattle.cmm_checked.specs.Known.{AreKnown}
 use Rattle.cmm_static.specs.inside.Units.{AreEarlier, unit_flat}

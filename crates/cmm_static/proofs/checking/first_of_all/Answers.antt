@@ -1,11 +1,11 @@
 use Rattle.std.proofs.Common.{◌+◌, List, None, Some, map, take, refl, sym, ap, ◌∙◌, subst}
 use Rattle.std.proofs.lemmas.List.{drop_all, take_all}
-use Rattle.cmm_accepted.specs.Faults.{stands_before}
-use Rattle.cmm_accepted.specs.Spots.{first_by}
+use Rattle.cmm_static_semantics.specs.Faults.{stands_before}
+use Rattle.cmm_static_semantics.specs.Spots.{first_by}
 use Rattle.cmm_static.specs.inside.Flat.{flats_broken, placed}
 use Rattle.cmm_static.specs.inside.Units.{AreEarlier, unit_flat}
 use Rattle.cmm_static.specs.declared.unit_names.UnitNames.{UnitNames}
-use Rattle.cmm_names.proofs.Shared.{mapped_next}
+use Rattle.cmm_symbols.proofs.Shared.{mapped_next}
 use Rattle.cmm_static.proofs.FirstUnit.{later_step, here_step}
 use Rattle.cmm_static.proofs.checking.first_of_all.Goals as goal
 

@@ -1,6 +1,6 @@
 use Rattle.std.proofs.Common.{◌≡◌, [], None, map, take, drop}
-use Rattle.cmm_accepted.specs.Spots.{first_by}
-use Rattle.cmm_accepted.specs.Faults.{stands_before}
+use Rattle.cmm_static_semantics.specs.Spots.{first_by}
+use Rattle.cmm_static_semantics.specs.Faults.{stands_before}
 use Rattle.cmm_static.specs.inside.Flat.{flats_broken}
 use Rattle.cmm_static.specs.inside.Units.{AreEarlier, unit_flat}
 use Rattle.cmm_static.proofs.checking.first_of_all.Given as goal

@@ -1,6 +1,6 @@
 use Rattle.std.proofs.Common.{◌≡◌, ◌≤◌, ◌∙◌, length, map, take, ap, sym, arith}
 use Rattle.std.proofs.lemmas.List.{length-map, take_all}
-use Rattle.cmm_accepted.specs.Linking.{program_of}
+use Rattle.cmm_static_semantics.specs.Linking.{program_of}
 use Rattle.cmm_static.specs.inside.Flat.{flat_unit}
 use Rattle.cmm_static.specs.inside.Units.{unit_flat}
 use Rattle.cmm_static.proofs.Numbering.{same_at}

@@ -1,6 +1,6 @@
 use Rattle.std.proofs.Common.{◌≡◌, List, map, take}
-use Rattle.cmm_accepted.specs.Declarations.{NamedUnit}
-use Rattle.cmm_accepted.specs.Linking.{program_of}
+use Rattle.cmm_static_semantics.specs.Declarations.{NamedUnit}
+use Rattle.cmm_static_semantics.specs.Linking.{program_of}
 use Rattle.cmm_static.specs.inside.Flat.{flat_unit}
 use Rattle.cmm_static.specs.inside.Units.{unit_flat}
 use Rattle.cmm_static.proofs.checking.linkage_of_all.Given as goal

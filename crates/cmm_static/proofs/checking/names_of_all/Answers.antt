@@ -1,6 +1,6 @@
 use Rattle.std.proofs.Common.{◌+◌, ◌++◌, ◌∷◌, ◌∙◌, [], map, ap, drop, refl}
 use Rattle.std.proofs.lemmas.List.{map-append}
-use Rattle.cmm_accepted.specs.Declarations.{units_from, named_units}
+use Rattle.cmm_static_semantics.specs.Declarations.{units_from, named_units}
 use Rattle.cmm_static.specs.inside.Flat.{flat_unit}
 use Rattle.cmm_static.specs.inside.Units.{unit_flat}
 use Rattle.cmm_static.proofs.Numbering.{units_next}

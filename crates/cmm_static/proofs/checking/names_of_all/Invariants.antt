@@ -1,5 +1,5 @@
 use Rattle.std.proofs.Common.{◌≡◌, ◌++◌, map, drop}
-use Rattle.cmm_accepted.specs.Declarations.{units_from, named_units}
+use Rattle.cmm_static_semantics.specs.Declarations.{units_from, named_units}
 use Rattle.cmm_static.specs.inside.Flat.{flat_unit}
 use Rattle.cmm_static.specs.inside.Units.{unit_flat}
 use Rattle.cmm_static.proofs.checking.names_of_all.Given as goal

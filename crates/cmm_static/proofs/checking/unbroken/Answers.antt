@@ -1,6 +1,6 @@
 use Rattle.std.proofs.Common.{◌≡◌, None, Some, length, map, sym, ap, ◌∙◌}
 use Rattle.std.proofs.lemmas.List.{length-map}
-use Rattle.cmm_accepted.specs.Declarations.{named_units}
+use Rattle.cmm_static_semantics.specs.Declarations.{named_units}
 use Rattle.cmm_static.specs.inside.Flat.{flat_unit}
 use Rattle.cmm_static.specs.inside.Units.{unit_flat, broken_placed}
 use Rattle.cmm_static.proofs.Checked.{first_found, named_fault}

@@ -2,7 +2,7 @@ use Rattle.std.proofs.Common.{◌≡◌, ◌∙◌, List, [], ◌∷◌, ap, map
 use Rattle.std.proofs.lemmas.Iterator.{YieldsList-from_zip}
 use Rattle.std.proofs.lemmas.Iterator.Adapters.{YieldsList-from_vec}
 use Rattle.std.proofs.lemmas.Iterator.Consumers.{YieldsList-end}
-use Rattle.cmm_constants.specs.declared.unit_senses.UnitSenses.{UnitSenses}
+use Rattle.cmm_unit_scope.specs.declared.unit_senses.UnitSenses.{UnitSenses}
 use Rattle.cmm_static.specs.declared.unit_names.UnitNames.{UnitNames}
 use Rattle.cmm_static.specs.inside.Units.{checked_unit}
 use Rattle.cmm_static.proofs.checking.with_senses.Goals as goal

@@ -1,10 +1,10 @@
 use Rattle.std.proofs.Common.{◌≡◌, ◌<◌, ◌∙◌, map, take, ap, length, arith}
 use Rattle.std.specs.Prelude.{flat_map}
 use Rattle.std.proofs.lemmas.List.{length-map}
-use Rattle.cmm_accepted.specs.Spots.{first_of}
-use Rattle.cmm_names.specs.Shown.{shown}
-use Rattle.cmm_names.proofs.Shared.{noted_next_of}
-use Rattle.cmm_typedefs.proofs.Shared.{entry_listed}
+use Rattle.cmm_static_semantics.specs.Spots.{first_of}
+use Rattle.cmm_symbols.specs.Shown.{shown}
+use Rattle.cmm_symbols.proofs.Shared.{noted_next_of}
+use Rattle.cmm_unit_scope.proofs.Shared.{entry_listed}
 use Rattle.cmm_static.specs.inside.Cyclic.{entry_cycle_spots}
 use Rattle.cmm_static.proofs.Cyclic.{counted_now}
 use Rattle.cmm_static.proofs.cycles.note_cycles.Goals as goal

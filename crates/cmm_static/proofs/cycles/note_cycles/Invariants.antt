@@ -1,7 +1,7 @@
 use Rattle.std.proofs.Common.{◌≡◌, map, take}
 use Rattle.std.specs.Prelude.{flat_map}
-use Rattle.cmm_accepted.specs.Spots.{first_of}
-use Rattle.cmm_names.specs.Shown.{shown}
+use Rattle.cmm_static_semantics.specs.Spots.{first_of}
+use Rattle.cmm_symbols.specs.Shown.{shown}
 use Rattle.cmm_static.specs.inside.Cyclic.{AreNoted, entry_cycle_spots}
 use Rattle.cmm_static.proofs.cycles.note_cycles.Given as goal
 

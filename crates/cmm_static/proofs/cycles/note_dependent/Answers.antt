@@ -1,4 +1,4 @@
-use Rattle.cmm_names.specs.Shown.{shown}
+use Rattle.cmm_symbols.specs.Shown.{shown}
 use Rattle.cmm_static.proofs.Cyclic.{noted_here}
 use Rattle.cmm_static.proofs.cycles.note_dependent.Goals as goal
 

@@ -1,8 +1,8 @@
 use Rattle.std.proofs.Common.{◌≡◌, map, take}
 use Rattle.std.specs.Prelude.{flat_map}
-use Rattle.cmm_accepted.specs.Spots.{first_of}
-use Rattle.cmm_accepted.specs.Linking.{export_spots}
-use Rattle.cmm_names.specs.Shown.{shown}
+use Rattle.cmm_static_semantics.specs.Spots.{first_of}
+use Rattle.cmm_static_semantics.specs.Linking.{export_spots}
+use Rattle.cmm_symbols.specs.Shown.{shown}
 use Rattle.cmm_static.proofs.linking.note_exports.Given as goal
 
 abbrev pub invariant-loop-export : goal.invariant-loop-export

@@ -1,6 +1,6 @@
 use Rattle.std.proofs.Common.{◌≡◌, ◌++◌, List, ℕ, map, take}
-use Rattle.cmm_accepted.specs.Spots.{first_of}
-use Rattle.cmm_accepted.specs.Linking.{export_link, twice}
+use Rattle.cmm_static_semantics.specs.Spots.{first_of}
+use Rattle.cmm_static_semantics.specs.Linking.{export_link, twice}
 use Rattle.cmm_static.specs.inside.Linked.{AreLinks}
 use Rattle.cmm_static.proofs.linking.note_twice.Given as goal
 

@@ -1,6 +1,6 @@
 use Rattle.std.proofs.Common.{◌≡◌, map, drop}
-use Rattle.cmm_accepted.specs.Linking.{starts}
-use Rattle.cmm_names.specs.Shown.{shown}
+use Rattle.cmm_static_semantics.specs.Linking.{starts}
+use Rattle.cmm_symbols.specs.Shown.{shown}
 use Rattle.cmm_static.proofs.linking.starts.Given as goal
 
 abbrev pub invariant-loop-export : goal.invariant-loop-export

@@ -1,4 +1,4 @@
-use Rattle.cmm_names.proofs.Shared.{on_ok}
+use Rattle.cmm_symbols.proofs.Shared.{on_ok}
 use Rattle.cmm_static.proofs.Whole.{proc_noted}
 use Rattle.cmm_static.proofs.procedures.note_proc.Goals as goal
 

@@ -1,6 +1,6 @@
-use Rattle.cmm_accepted.specs.Faults.{item_procedure_spots}
-use Rattle.cmm_names.specs.Shown.{thing_item}
-use Rattle.cmm_names.proofs.Shared.{noted_next_of}
+use Rattle.cmm_static_semantics.specs.Faults.{item_procedure_spots}
+use Rattle.cmm_symbols.specs.Shown.{thing_item}
+use Rattle.cmm_symbols.proofs.Shared.{noted_next_of}
 use Rattle.cmm_static.proofs.procedures.note_procedures.Goals as goal
 
 pub loop-thing-preserved : goal.loop-thing-preserved

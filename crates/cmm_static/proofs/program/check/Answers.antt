@@ -1,7 +1,7 @@
 use Rattle.std.proofs.Common.{◌≡◌, List, subst}
 use Rattle.cmm_ast.specs.declared.unit.Unit.{Unit as UnitTree}
-use Rattle.cmm_meaning.specs.Laws.{AreRead, TextsAreBytes}
-use Rattle.cmm_meaning.specs.Meaning.{meaning_of}
+use Rattle.cmm_elaboration.specs.Laws.{AreRead, TextsAreBytes}
+use Rattle.cmm_elaboration.specs.Meaning.{meaning_of}
 use Rattle.cmm_program.specs.InRange.{IsInRange}
 use Rattle.cmm_static.proofs.program.check.Goals as goal
 

@@ -2,17 +2,17 @@ use Rattle.std.proofs.Common.{◌≡◌, ◌++◌, ◌∙◌, List, ℕ, Option,
 use Rattle.std.specs.Prelude.{bytes_eq}
 use Rattle.cmm_words.specs.declared.width.Width.{Width}
 use Rattle.cmm_ast.specs.declared.expression.TypeName.{TypeName}
-use Rattle.cmm_accepted.specs.Declarations.{Declared}
-use Rattle.cmm_accepted.specs.Judging.{if_ok}
-use Rattle.cmm_accepted.specs.Typing.{type_width}
-use Rattle.cmm_names.specs.Indexed.{indexed, or_else}
-use Rattle.cmm_names.specs.Shown.{with_what}
+use Rattle.cmm_static_semantics.specs.Declarations.{Declared}
+use Rattle.cmm_static_semantics.specs.Judging.{if_ok}
+use Rattle.cmm_static_semantics.specs.Typing.{type_width}
+use Rattle.cmm_symbols.specs.Indexed.{indexed, or_else}
+use Rattle.cmm_symbols.specs.Shown.{with_what}
 use Rattle.cmm_static.specs.inside.Flat.{widths_by}
 use Rattle.cmm_static.specs.inside.Linked.{AreFound}
-use Rattle.cmm_linked.specs.Registers.{register_shown}
-use Rattle.cmm_linked.proofs.Shared.{listed_next}
+use Rattle.cmm_linkage.specs.Registers.{register_shown}
+use Rattle.cmm_linkage.proofs.Shared.{listed_next}
 use Rattle.cmm_static.proofs.Links.{found_added}
-use Rattle.cmm_typedefs.specs.Types.{senses_of}
+use Rattle.cmm_unit_scope.specs.Types.{senses_of}
 use Rattle.cmm_static.proofs.registers.add_registers.Goals as goal
 
 pub loop-register-preserved : goal.loop-register-preserved

@@ -1,12 +1,12 @@
 use Rattle.std.proofs.Common.{◌++◌, List, Option, map, take}
 use Rattle.cmm_words.specs.declared.width.Width.{Width}
-use Rattle.cmm_accepted.specs.Declarations.{Declared}
-use Rattle.cmm_accepted.specs.Judging.{if_ok}
-use Rattle.cmm_accepted.specs.Typing.{type_width}
+use Rattle.cmm_static_semantics.specs.Declarations.{Declared}
+use Rattle.cmm_static_semantics.specs.Judging.{if_ok}
+use Rattle.cmm_static_semantics.specs.Typing.{type_width}
 use Rattle.cmm_static.specs.inside.Flat.{widths_by}
 use Rattle.cmm_static.specs.inside.Linked.{AreFound}
-use Rattle.cmm_linked.specs.Registers.{register_shown}
-use Rattle.cmm_typedefs.specs.Types.{senses_of}
+use Rattle.cmm_linkage.specs.Registers.{register_shown}
+use Rattle.cmm_unit_scope.specs.Types.{senses_of}
 use Rattle.cmm_static.proofs.registers.add_registers.Given as goal
 
 abbrev pub invariant-loop-register : goal.invariant-loop-register

@@ -1,13 +1,13 @@
 use Rattle.std.proofs.Common.{◌∙◌, map, ap}
 use Rattle.std.specs.Prelude.{flat_map}
 use Rattle.std.proofs.lemmas.List.{take_all}
-use Rattle.cmm_accepted.specs.Judging.{if_ok}
-use Rattle.cmm_accepted.specs.Spots.{first_of}
-use Rattle.cmm_accepted.specs.Typing.{type_width}
-use Rattle.cmm_names.proofs.Shared.{noted_next_of}
+use Rattle.cmm_static_semantics.specs.Judging.{if_ok}
+use Rattle.cmm_static_semantics.specs.Spots.{first_of}
+use Rattle.cmm_static_semantics.specs.Typing.{type_width}
+use Rattle.cmm_symbols.proofs.Shared.{noted_next_of}
 use Rattle.cmm_static.specs.inside.Flat.{register_spots_by}
-use Rattle.cmm_linked.specs.Registers.{register_shown}
-use Rattle.cmm_typedefs.specs.Types.{senses_of}
+use Rattle.cmm_linkage.specs.Registers.{register_shown}
+use Rattle.cmm_unit_scope.specs.Types.{senses_of}
 use Rattle.cmm_static.proofs.registers.note_registers.Goals as goal
 
 pub loop-register-preserved : goal.loop-register-preserved

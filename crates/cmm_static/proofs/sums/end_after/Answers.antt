@@ -1,6 +1,6 @@
 use Rattle.std.proofs.Common.{[], map, subst}
-use Rattle.cmm_declarations.specs.DataEnds.{IsEnd}
-use Rattle.cmm_names.specs.Shown.{thing_item}
+use Rattle.cmm_check_declarations.specs.DataEnds.{IsEnd}
+use Rattle.cmm_symbols.specs.Shown.{thing_item}
 use Rattle.cmm_static.proofs.Totals.{goes_on, stays_past}
 use Rattle.cmm_static.proofs.sums.end_after.Goals as goal
 

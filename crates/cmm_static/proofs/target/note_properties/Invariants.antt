@@ -1,7 +1,7 @@
 use Rattle.std.proofs.Common.{◌≡◌, take}
 use Rattle.std.specs.Prelude.{flat_map}
-use Rattle.cmm_accepted.specs.Spots.{first_of}
-use Rattle.cmm_accepted.specs.Units.{property_spots}
+use Rattle.cmm_static_semantics.specs.Spots.{first_of}
+use Rattle.cmm_static_semantics.specs.Units.{property_spots}
 use Rattle.cmm_static.proofs.target.note_properties.Given as goal
 
 abbrev pub invariant-loop-property : goal.invariant-loop-property

@@ -1,8 +1,8 @@
 use Rattle.std.proofs.Common.{◌≡◌, map, take}
 use Rattle.std.specs.Prelude.{flat_map}
-use Rattle.cmm_accepted.specs.Spots.{first_of}
-use Rattle.cmm_accepted.specs.Units.{target_decl_spots}
-use Rattle.cmm_names.specs.Shown.{thing_item}
+use Rattle.cmm_static_semantics.specs.Spots.{first_of}
+use Rattle.cmm_static_semantics.specs.Units.{target_decl_spots}
+use Rattle.cmm_symbols.specs.Shown.{thing_item}
 use Rattle.cmm_static.proofs.target.note_targets.Given as goal
 
 abbrev pub invariant-loop-thing : goal.invariant-loop-thing

@@ -1,6 +1,6 @@
 use Rattle.std.proofs.Common.{◌≡◌, List, ap, length, map, sym, ◌∙◌}
-use Rattle.cmm_accepted.specs.Declarations.{NamedUnit}
-use Rattle.cmm_accepted.specs.Linking.{has_main}
+use Rattle.cmm_static_semantics.specs.Declarations.{NamedUnit}
+use Rattle.cmm_static_semantics.specs.Linking.{has_main}
 use Rattle.cmm_static.specs.declared.unit_names.UnitNames.{UnitNames}
 use Rattle.cmm_static.specs.inside.Flat.{flat_unit, some_starts}
 use Rattle.cmm_static.specs.inside.Units.{unit_flat}

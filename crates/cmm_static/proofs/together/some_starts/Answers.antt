@@ -1,9 +1,9 @@
 use Rattle.std.proofs.Common.{◌+◌, ◌||◌, map, drop, sym, ap, ◌∙◌}
-use Rattle.cmm_accepted.specs.Linking.{starts}
+use Rattle.cmm_static_semantics.specs.Linking.{starts}
 use Rattle.cmm_static.specs.inside.Flat.{some_starts}
-use Rattle.cmm_names.specs.Shown.{shown}
+use Rattle.cmm_symbols.specs.Shown.{shown}
 use Rattle.cmm_static.specs.inside.Units.{unit_flat}
-use Rattle.cmm_names.proofs.Shared.{rest_next}
+use Rattle.cmm_symbols.proofs.Shared.{rest_next}
 use Rattle.cmm_static.proofs.together.some_starts.Goals as goal
 
 pub loop-unit-preserved : goal.loop-unit-preserved

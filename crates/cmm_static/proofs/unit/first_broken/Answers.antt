@@ -4,15 +4,15 @@ use Rattle.std.specs.Prelude.{flat_map}
 use Rattle.std.proofs.Math.Path.{fun_ext}
 use Rattle.cmm_words.specs.declared.width.Width.{Width}
 use Rattle.cmm_ast.specs.declared.expression.TypeName.{TypeName}
-use Rattle.cmm_accepted.specs.Declarations.{Declared, NamedUnit}
-use Rattle.cmm_accepted.specs.Judging.{if_ok}
-use Rattle.cmm_accepted.specs.Scopes.{width_in}
-use Rattle.cmm_accepted.specs.Spots.{first_of}
-use Rattle.cmm_accepted.specs.Typing.{type_width}
-use Rattle.cmm_constants.specs.Senses.{senses_of}
-use Rattle.cmm_linked.specs.Registers.{registers_in, register_shown}
-use Rattle.cmm_names.specs.Shown.{shown}
-use Rattle.cmm_typedefs.specs.Types.{senses_of as types_senses}
+use Rattle.cmm_static_semantics.specs.Declarations.{Declared, NamedUnit}
+use Rattle.cmm_static_semantics.specs.Judging.{if_ok}
+use Rattle.cmm_static_semantics.specs.Scopes.{width_in}
+use Rattle.cmm_static_semantics.specs.Spots.{first_of}
+use Rattle.cmm_static_semantics.specs.Typing.{type_width}
+use Rattle.cmm_unit_scope.specs.Senses.{senses_of}
+use Rattle.cmm_linkage.specs.Registers.{registers_in, register_shown}
+use Rattle.cmm_symbols.specs.Shown.{shown}
+use Rattle.cmm_unit_scope.specs.Types.{senses_of as types_senses}
 use Rattle.cmm_static.specs.inside.Flat.{flat_links, flat_named, flat_widths, links_before, register_spots_by, widths_before, widths_by}
 use Rattle.cmm_static.specs.inside.Linked.{AreFound}
 use Rattle.cmm_static.specs.inside.Totals.{AreSums}

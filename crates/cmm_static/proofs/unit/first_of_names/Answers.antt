@@ -1,7 +1,7 @@
 use Rattle.std.proofs.Common.{◌∙◌, None, ap}
-use Rattle.cmm_accepted.specs.Spots.{first_of}
-use Rattle.cmm_names.proofs.Shared.{again_shown}
-use Rattle.cmm_linked.specs.Exports.{exported_links}
+use Rattle.cmm_static_semantics.specs.Spots.{first_of}
+use Rattle.cmm_symbols.proofs.Shared.{again_shown}
+use Rattle.cmm_linkage.specs.Exports.{exported_links}
 use Rattle.cmm_static.specs.inside.Units.{unit_flat}
 use Rattle.cmm_static.proofs.Checked.{noted_names}
 use Rattle.cmm_static.proofs.unit.first_of_names.Goals as goal

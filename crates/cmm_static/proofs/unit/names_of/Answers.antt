@@ -1,8 +1,8 @@
 use Rattle.std.proofs.Common.{◌∙◌, map, ap}
 use Rattle.std.specs.Prelude.{flat_map}
-use Rattle.cmm_accepted.specs.Declarations.{entries_from}
-use Rattle.cmm_accepted.specs.Linking.{item_exports}
-use Rattle.cmm_names.specs.Shown.{alone, shown, thing_item}
+use Rattle.cmm_static_semantics.specs.Declarations.{entries_from}
+use Rattle.cmm_static_semantics.specs.Linking.{item_exports}
+use Rattle.cmm_symbols.specs.Shown.{alone, shown, thing_item}
 use Rattle.cmm_static.proofs.Numbering.{flat_of}
 use Rattle.cmm_static.proofs.unit.names_of.Goals as goal
 

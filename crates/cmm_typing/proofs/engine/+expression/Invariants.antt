@@ -1,6 +1,6 @@
 use Rattle.std.proofs.Common.{◌≡◌, drop}
 use Rattle.std.specs.Prelude.{IfOk, Ok}
-use Rattle.cmm_accepted.specs.declared.judged.Operands.TheVariants as operands
+use Rattle.cmm_static_semantics.specs.declared.judged.Operands.TheVariants as operands
 use Rattle.cmm_typing.specs.inside.Operands.{OperandsFit, list_operands}
 use Rattle.cmm_typing.proofs.engine.+expression.Given as goal
 

@@ -1,4 +1,4 @@
-use Rattle.cmm_accepted.specs.Typing.{of_memory}
+use Rattle.cmm_static_semantics.specs.Typing.{of_memory}
 use Rattle.cmm_typing.proofs.Aligning.{in_program}
 use Rattle.cmm_typing.proofs.judging.resolve_memory.Goals as goal
 

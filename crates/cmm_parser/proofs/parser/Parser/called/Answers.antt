@@ -1,6 +1,6 @@
 use Rattle.std.proofs.Common.{◌≡◌, rules, sym, None}
-use Rattle.cmm_readers.specs.CallReading.{call}
-use Rattle.cmm_readers.specs.TargetReading.{results_of, called}
+use Rattle.cmm_grammar_laws.specs.CallReading.{call}
+use Rattle.cmm_grammar_laws.specs.TargetReading.{results_of, called}
 use Rattle.cmm_parser.proofs.Steps.{same_reader}
 use Rattle.cmm_parser.proofs.parser.Parser.called.Goals as goal
 

@@ -1,5 +1,5 @@
-use Rattle.cmm_readers.specs.Reading.{◌>>=◌, give, symbol}
-use Rattle.cmm_readers.specs.ExpressionReading.{whole_prim}
+use Rattle.cmm_grammar_laws.specs.Reading.{◌>>=◌, give, symbol}
+use Rattle.cmm_grammar_laws.specs.ExpressionReading.{whole_prim}
 use Rattle.cmm_parser.proofs.Steps.{handed, steps, stops, gives}
 use Rattle.cmm_parser.proofs.CallSteps.{at_token}
 use Rattle.cmm_lexer.specs.declared.symbol.Symbol.TheVariants.{Less, Slash, Greater}

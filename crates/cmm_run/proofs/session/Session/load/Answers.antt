@@ -2,7 +2,7 @@ use Rattle.std.proofs.Common.{◌≡◌, ◌+◌, ℕ, ap, sym, ◌∙◌, subst
 use Rattle.rv_table.specs.Machine.{MemoryMap, region_base, stack_base}
 use Rattle.rv_table.specs.Registers.{with_register}
 use Rattle.cmm_image.specs.declared.parts.ImageParts.{ImageParts}
-use Rattle.cmm_execution.specs.Machine.{Launch}
+use Rattle.cmm_image_machine.specs.Machine.{Launch}
 use Rattle.cmm_run.specs.declared.machine.Machine.{Machine}
 use Rattle.cmm_run.specs.inside.Loading.{IsReady}
 use Rattle.cmm_run.proofs.FirstMemory.{is_ready, map_is}

@@ -1,9 +1,9 @@
 use Rattle.std.proofs.Common.{map, ap, subst, sym}
 use Rattle.std.specs.List.{All}
 use Rattle.std.proofs.lemmas.List.Elements.{All-nil}
-use Rattle.cmm_accepted.specs.Senses.{is_there}
-use Rattle.cmm_constants.specs.Senses.{senses_of}
-use Rattle.cmm_constants.specs.declared.unit_senses.UnitSenses.{UnitSenses}
+use Rattle.cmm_static_semantics.specs.Senses.{is_there}
+use Rattle.cmm_unit_scope.specs.Senses.{senses_of}
+use Rattle.cmm_unit_scope.specs.declared.unit_senses.UnitSenses.{UnitSenses}
 use Rattle.cmm_typing.specs.Fitting.{AreWords}
 use Rattle.cmm_static.proofs.earlier.Earlier.none.Goals as goal
 

@@ -1,13 +1,13 @@
 use Rattle.std.proofs.Common.{◌∙◌, ◌-◌, length, map, ap, sym, subst}
 use Rattle.cmm_ast.specs.declared.unit.Unit.{Unit as UnitTree}
 use Rattle.cmm_program.specs.Layout.{end_of}
-use Rattle.cmm_accepted.specs.Declarations.{procs_in}
-use Rattle.cmm_accepted.specs.Limits.{data_pieces, proc_count, site_spans, site_variables, token_count}
-use Rattle.cmm_accepted.specs.Senses.{Senses}
-use Rattle.cmm_declarations.specs.DataEnds.{IsEnd, data_of}
+use Rattle.cmm_static_semantics.specs.Declarations.{procs_in}
+use Rattle.cmm_static_semantics.specs.Limits.{data_pieces, proc_count, site_spans, site_variables, token_count}
+use Rattle.cmm_static_semantics.specs.Senses.{Senses}
+use Rattle.cmm_check_declarations.specs.DataEnds.{IsEnd, data_of}
 use Rattle.cmm_limits.specs.Capped.{capped}
-use Rattle.cmm_names.specs.Shown.{thing_item, whats}
-use Rattle.cmm_names.proofs.Shared.{sum_is}
+use Rattle.cmm_symbols.specs.Shown.{thing_item, whats}
+use Rattle.cmm_symbols.proofs.Shared.{sum_is}
 use Rattle.cmm_static.proofs.Totals.{total_next, end_next}
 use Rattle.cmm_static.proofs.sums.Sums.with_unit.Goals as goal
 

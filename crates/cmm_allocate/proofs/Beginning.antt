@@ -1,0 +1,97 @@
+-- The Entry of a procedure: what is live behind it is a formal or is made 0.
+use Rattle.std.proofs.Common.{◌≡◌, ◌⊎◌, inl, inr, ℕ, ◌<◌, ◌≤◌, nat_le, nat_lt, Bool, true, false, Contains, Option, Some, None, List, [], ◌∷◌, flat_map, length, map, refl, ap, sym, ◌∙◌, subst, arith}
+use Rattle.std.proofs.lemmas.Bool.{and_parts}
+use Rattle.std.proofs.lemmas.Bool.Decides.{nat_tests}
+use Rattle.std.proofs.lemmas.List.FromFn.{get_or-range_with_len, length-range_with_len}
+use Rattle.std.proofs.lemmas.Option.{same_Some}
+use Rattle.std.specs.List.{range_with_len}
+use Rattle.cmm_bitset.proofs.Shared.{members_had}
+use Rattle.cmm_bitset.specs.Sets.{members}
+use Rattle.cmm_program.specs.declared.procedure.Proc.{Proc}
+use Rattle.cmm_program.specs.declared.program.Program.{Program}
+use Rattle.cmm_program.specs.Errors.{with_some}
+use Rattle.cmm_program.specs.InRange.{IsProcInRange}
+use Rattle.cmm_graph.specs.declared.graph.Graph.{Graph}
+use Rattle.cmm_graph.specs.declared.node.Node.{Node}
+use Rattle.cmm_graph.specs.declared.node.NodeKind.{NodeKind}
+use Rattle.cmm_graph.specs.declared.node.NodeKind.TheVariants.{Entry, Stop}
+use Rattle.cmm_graph.specs.declared.number.Variable.{Variable}
+use Rattle.cmm_graph.specs.Counterpart.{formals_of}
+use Rattle.cmm_graph.specs.Paths.{node_of, writes, written_by_variable}
+use Rattle.cmm_live.specs.Exact.{set_at}
+use Rattle.cmm_live.specs.Laws.{SetsAreClosed}
+use Rattle.cmm_live.specs.Locals.{local_number}
+use Rattle.cmm_located.specs.Entering.{HasEntry}
+use Rattle.cmm_located.specs.Relation.{variable_count}
+use Rattle.cmm_allocate.specs.declared.procedure.ProcedurePlaces.{ProcedurePlaces}
+use Rattle.cmm_allocate.specs.Compiling.{compiled, live_before}
+use Rattle.cmm_allocate.proofs.Living.{before, stays}
+use Rattle.cmm_allocate.proofs.Placing.{Beside, are_apart, exists, kind_is, live_is, live_within}
+
+-- the numbers of what an Entry writes are those of its formals
+written_numbers : (g : Graph) (formals : List Variable) → map (local_number g) (flat_map written_by_variable formals) ≡ map (λ v. v.number) formals
+written_numbers g [] = refl
+written_numbers g (v ∷ formals) = ap (λ ns. v.number ∷ ns) (written_numbers g formals)
+
+-- and these are the first ones
+among_first : (count u : ℕ) → Contains (range_with_len 0 count) u → u < count
+among_first count u has =
+    let less : has.0 < count = subst (λ n. has.0 < n) (length-range_with_len 0 count) has.1 in
+    omega (arith, less, sym has.2 ∙ get_or-range_with_len 0 count has.0 u less)
+
+module _ (program : Program) (procs : List Proc) (graphs : List Graph) (found : List ProcedurePlaces) (q : ℕ) (at : Beside procs graphs found q) (closed : SetsAreClosed)
+    (range : IsProcInRange program at.procedure) where
+  abbrev g : Graph
+  g = at.graph
+
+  abbrev p : Proc
+  p = at.procedure
+
+  abbrev first : Node
+  first = record { tokens = p.tokens; kind = Entry at.flow.flow.flow.begun.formals at.flow.flow.flow.begun.next }
+
+  there : node_of g g.first ≡ Some first
+  there = at.flow.flow.flow.begun.node
+
+  numbers : map (λ (v : Variable). v.number) at.flow.flow.flow.begun.formals ≡ range_with_len 0 p.formals
+  numbers = same_Some _ _ (sym (ap (λ o. with_some o (λ (node : Node). formals_of node.kind)) there) ∙ at.flow.flow.formals)
+
+  pub variables_are : variable_count graphs q ≡ length p.vars
+  variables_are = ap (λ (o : Option Graph). elim o as (λ _. ℕ) [ Some g ↦ g.variables | None ↦ 0 ]) at.is_graph ∙ at.flow.flow.variables
+
+  few : p.formals ≤ length p.vars
+  few = let both = and_parts (nat_le p.formals (length p.vars)) (nat_le p.formals 64) range.formals in grind (arith, nat_tests, both.0)
+
+  zeroed_is : (compiled graphs found).zeroed q ≡ members (set_at at.places.live.before g.first.number)
+  zeroed_is = ap (λ (o : Option ProcedurePlaces). elim o as (λ _. List ℕ) [ Some k ↦ k.zeroed | None ↦ [] ]) at.is_places ∙ at.has.zeroed
+
+  known : (u : ℕ) → live_before found q at.flow.flow.flow.begun.next u ≡ true → (u < p.formals) ⊎ Contains ((compiled graphs found).zeroed q) u
+  known u is = by (nat_lt u p.formals) refl
+    where
+      by : (b : Bool) → nat_lt u p.formals ≡ b → (u < p.formals) ⊎ Contains ((compiled graphs found).zeroed q) u
+      by true formal = inl (grind (arith, nat_tests, formal))
+      by false formal =
+          let past : p.formals ≤ u = grind (arith, nat_tests, formal) in
+          let fresh : ¬ Contains (map (local_number g) (writes first.kind)) u =
+          (λ written. let less = among_first p.formals u (subst (λ ns. Contains ns u) (written_numbers g at.flow.flow.flow.begun.formals ∙ numbers) written) in omega (arith, past, less)) in
+          let live : before at.places.live g.first u ≡ true =
+          stays g at.places.live at.has.live closed g.first first there at.flow.flow.flow.begun.next u (0, omega arith, refl)
+          (sym (live_is procs graphs found q at at.flow.flow.flow.begun.next u) ∙ is) fresh in
+          inr (subst (λ ns. Contains ns u) (sym zeroed_is) ((members_had (set_at at.places.live.before g.first.number) u).1 live))
+
+  pub has_entry : HasEntry (compiled graphs found) (live_before found) q at.procedure
+  has_entry = record {
+    exists = exists procs graphs found q at;
+    variables = variables_are;
+    first = g.first;
+    formals = at.flow.flow.flow.begun.formals;
+    next = at.flow.flow.flow.begun.next;
+    is_first = ap (λ (o : Option Graph). with_some o (λ (g : Graph). Some g.first)) at.is_graph;
+    is_entry = kind_is procs graphs found q at g.first ∙ ap (λ (o : Option Node). elim o as (λ _. NodeKind) [ Some node ↦ node.kind | None ↦ Stop ]) there;
+    numbered = numbers;
+    formals_are_variables = few;
+    known = known;
+    apart = λ u v is less other.
+        are_apart procs graphs found q at v u (omega (arith, less, few, at.flow.flow.variables)) (live_within procs graphs found q at at.flow.flow.flow.begun.next u is)
+        (λ same. other (sym same));
+  }

@@ -1,0 +1,22 @@
+//! Places for the locals of procedures.
+//!
+//! `places` gives each local of a procedure's graph a slot of its own in the frame, lays the frame, and lists those that begin as 0, by
+//! which locals are live where. `place_program` does so for the graphs of a whole program. Such a plan meets all that the located machine
+//! requires of a compiled program, so that its runs follow those of the C-- machine: that is said in `laws`.
+//!
+//! - `layout`: the frame of a procedure, for the places of its locals.
+//! - `procedure`: the places of one procedure.
+//! - `program`: those of all procedures.
+//! - `rows`: the rows of a placement that has these frames.
+//! - `laws`: what they guarantee, as contracts.
+#![tactic(auto)]
+
+pub mod laws;
+mod layout;
+mod procedure;
+mod program;
+mod rows;
+
+pub use procedure::ProcedurePlaces;
+pub use program::place_program;
+pub use rows::placement;

@@ -1,5 +1,0 @@
-use Rattle.cmm_bodies.proofs.Kept.{procedure_fits}
-use Rattle.cmm_bodies.proofs.laws.procedures_fit.Goals as goal
-
-pub returns : goal.returns
-returns c = procedure_fits

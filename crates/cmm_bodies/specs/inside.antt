@@ -1,5 +1,0 @@
-pub mod Lengths
-pub mod Exits
-pub mod Making
-pub mod Ranges
-pub mod Sections

@@ -1,9 +1,0 @@
-use Rattle.std.proofs.Common.{◌≡◌, take}
-use Rattle.std.specs.Prelude.{flat_map}
-use Rattle.cmm_accepted.specs.Spots.{first_of}
-use Rattle.cmm_accepted.specs.Calls.{parameter_spots}
-use Rattle.cmm_scopes.specs.Bodies.{scope_of_body}
-use Rattle.cmm_calling.proofs.passing.note_parameters.Given as goal
-
-abbrev pub invariant-loop-parameter : goal.invariant-loop-parameter
-invariant-loop-parameter g l = l.best ≡ first_of l.initial.best (flat_map (parameter_spots (scope_of_body g.N.Names.senses l.names)) (take l.parameter-index l.parameters))

@@ -1,5 +1,0 @@
-use Rattle.cmm_changes.proofs.Globals as lemma
-use Rattle.cmm_changes.proofs.laws.globals_are_read.Goals as goal
-
-pub returns : goal.returns
-returns c = lemma.globals_are_read

@@ -1,0 +1,10 @@
+pub mod Sided
+pub mod StatementFaults
+pub mod Whole
+pub mod Ordered
+pub mod Sets
+pub mod Walks
+pub mod Switched
+pub mod Heads
+pub mod Past
+pub mod Shared

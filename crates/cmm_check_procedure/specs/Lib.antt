@@ -1,0 +1,4 @@
+pub mod inside
+pub mod InOrder
+pub mod Extents
+pub mod Heads

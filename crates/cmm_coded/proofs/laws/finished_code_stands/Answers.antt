@@ -1,5 +1,0 @@
-use Rattle.cmm_coded.proofs.Placing.{finished_code_stands}
-use Rattle.cmm_coded.proofs.laws.finished_code_stands.Goals as goal
-
-pub returns : goal.returns
-returns c = finished_code_stands

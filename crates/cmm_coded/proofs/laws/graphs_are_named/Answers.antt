@@ -1,5 +1,0 @@
-use Rattle.cmm_coded.proofs.Naming.{graphs_are_named}
-use Rattle.cmm_coded.proofs.laws.graphs_are_named.Goals as goal
-
-pub returns : goal.returns
-returns c = graphs_are_named

@@ -1,2 +1,0 @@
-pub mod Senses
-pub mod inside

@@ -1,6 +1,0 @@
-use Rattle.std.proofs.Common.{take}
-use Rattle.cmm_cycles.specs.inside.Components.{IsLowest}
-use Rattle.cmm_cycles.proofs.components.lowest_open.Given as goal
-
-abbrev pub invariant-loop-node : goal.invariant-loop-node
-invariant-loop-node l = IsLowest (take l.node-index l.nodes) l.states l.lowest

@@ -1,8 +1,0 @@
-use Rattle.cmm_accepted.specs.Expressions.{constant_alone_spots}
-use Rattle.cmm_names.proofs.Shared.{noted_next}
-use Rattle.cmm_declarations.proofs.data.note_values.Goals as goal
-
-pub loop-value-preserved : goal.loop-value-preserved
-loop-value-preserved g c = rw (c.note_constant_alone.ensures, c.loop-value.invariant)
-    (noted_next (constant_alone_spots (g.N.Names.senses c.args.names.now) c.args.width) c.args.best.now c.args.values.now c.loop-value.value-index c.value-item.result
-    c.loop-value-test.true c.value-item.is)

@@ -1,9 +1,0 @@
-use Rattle.std.proofs.Common.{◌≡◌, ◌++◌, map, take}
-use Rattle.std.specs.Prelude.{flat_map}
-use Rattle.cmm_accepted.specs.Mentions.{values_alone, expr_names}
-use Rattle.cmm_names.specs.Shown.{named}
-use Rattle.cmm_dependencies.specs.inside.Numbered.{numbers_in}
-use Rattle.cmm_dependencies.proofs.mentioned.+expression.Given as goal
-
-abbrev pub invariant-add_operands-loop-operand : goal.invariant-add_operands-loop-operand
-invariant-add_operands-loop-operand l = l.to ≡ l.fn.to ++ numbers_in (map named l.numbers.declared) (flat_map (expr_names values_alone) (take l.operand-index l.operands))

@@ -1,3 +1,0 @@
-pub mod Depending
-pub mod Dependent
-pub mod inside

@@ -1,0 +1,4 @@
+pub mod Graphs
+pub mod Peeled
+pub mod inside
+pub mod Reaching

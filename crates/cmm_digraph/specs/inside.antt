@@ -1,0 +1,4 @@
+pub mod Listed
+pub mod Waiting
+pub mod Components
+pub mod Searched

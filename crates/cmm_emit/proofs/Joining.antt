@@ -1,0 +1,310 @@
+-- From the codes of units to what the joined text guarantees.
+use Rattle.std.proofs.Common.{◌≡◌, ℕ, ◌+◌, ◌-◌, ◌%◌, ◌<◌, ◌≤◌, ◌^◌, refl, sym, ◌∙◌, ap, subst, arith, Bool, true, false, List, [], ◌∷◌, ◌++◌, append_assoc, length, length-append, map, get_or, Some, slice_get}
+use Rattle.std.specs.Prelude.{nat_lt, slice_index, sum_by}
+use Rattle.std.specs.List.{All, AllZip}
+use Rattle.std.proofs.lemmas.Bool.Decides.{nat_tests}
+use Rattle.std.proofs.lemmas.List.{get_or-append-add, get_or-map, get_or_append_left, length-map}
+use Rattle.rv_table.specs.Memory.{code_base}
+use Rattle.rv_asm.specs.Filling.{filled}
+use Rattle.rv_asm.specs.declared.part.Label.{Label}
+use Rattle.cmm_program.specs.declared.procedure.Proc.{Proc}
+use Rattle.cmm_program.specs.declared.program.Program.{Program}
+use Rattle.cmm_program.specs.InRange.{IsInRange}
+use Rattle.cmm_program.specs.Layout.{label_addresses}
+use Rattle.cmm_program.specs.Bounds.{code_bound}
+use Rattle.cmm_graph.specs.declared.graph.Graph.{Graph}
+use Rattle.cmm_emit_laws.specs.Laying.{FramesCanBeMade, ProceduresAreLaid}
+use Rattle.cmm_emit_laws.specs.Placing.{FinishedCodeStands}
+use Rattle.cmm_emit_laws.specs.Naming.{GraphsAreNamed}
+use Rattle.cmm_data.specs.Laws.{InRangeCanBeLaidOut, LabelsLieInData, LiesInData}
+use Rattle.cmm_flow.specs.Flow.{IsFlow}
+use Rattle.cmm_flow.specs.Laws.{AnswersAreGraphs, AnswersWaitOnce}
+use Rattle.cmm_unit_code.specs.Joined.{CanBeJoined, IsJoined, IsTextOf, IsWhole, joined_code, procedure_addresses}
+use Rattle.cmm_unit_code.specs.Texts.{IsText}
+use Rattle.cmm_unit_code.specs.declared.text.Text.{Text}
+use Rattle.cmm_unit_code.specs.declared.unit_code.ProgramCode.{ProgramCode}
+use Rattle.cmm_unit_code.specs.declared.unit_code.UnitCode.{UnitCode}
+use Rattle.cmm_allocate.specs.declared.procedure.ProcedurePlaces.{ProcedurePlaces}
+use Rattle.cmm_allocate.specs.Laws.{RowsHaveFrames}
+use Rattle.cmm_allocate.specs.Places.{HavePlaces}
+use Rattle.cmm_emit.specs.Naming.{label_at}
+use Rattle.cmm_emit.proofs.Belonging.{length-entry_labels}
+use Rattle.cmm_emit.proofs.Coding.{finished}
+use Rattle.cmm_emit.proofs.Layable.{can_all_be_laid, coded_at, continuations_counted, found_counted, graph_of, graphs_counted, places_at, procedure_beside}
+use Rattle.cmm_emit.proofs.Ranged.{all_whole, code_bounded, code_fits, filled_counted, is_text, last_low, procedure_count, procedures_aligned, procedures_low, size_fits}
+use Rattle.cmm_emit.proofs.Standing.{HasProcedure, IsJoint, IsLaid, Laid, StandAt, unit_of, value_in}
+use Rattle.cmm_emit.proofs.Whole.{AreGraphs, is_code, starts}
+use Rattle.cmm_emit.specs.LaidProcedures.{CanAllBeLaidIn}
+use Rattle.cmm_emit.specs.Starts.{IsStart}
+use Rattle.cmm_emit.specs.Outlines.{own}
+use Rattle.cmm_emit.specs.Premises.{AreCovered, AreShort, CanBeCoded}
+use Rattle.cmm_emit.specs.Texts.{IsCodeOfProgram}
+use Rattle.cmm_emit.specs.Units.{AreUnits, IsUnit}
+use Rattle.cmm_emit.specs.declared.start.Start.{Start}
+
+module _ (p : Program) (graphs : List Graph) (found : List ProcedurePlaces)
+    (can_of : (first count : ℕ) (u : UnitCode) (is : IsUnit p graphs found first count u) → CanAllBeLaidIn p graphs found is.outline)
+    (addresses : List ℕ) (t : Text) where
+  abbrev value : ℕ → ℕ
+  value = value_in p addresses t
+
+  -- a unit where it stands
+  abbrev made : (first count at : ℕ) (u : UnitCode) → IsUnit p graphs found first count u → Laid
+  made first count at u is = record { at = at; outline = is.outline; labels = is.labels; parts = is.parts; places = is.finished.places; code = u }
+
+  -- the units that stand one behind another from an address on
+  abbrev pub laid_from : (first end at : ℕ) (us : List UnitCode) → AreUnits p graphs found first end us → List Laid
+  laid_from first end at [] are = []
+  laid_from first end at (u ∷ us) are = made first are.0 at u are.1 ∷ laid_from (first + are.0) end (at + length u.code) us are.2
+
+  -- what is so far of the text, before the units from an address on
+  pub record IsBehind (first at : ℕ) (us : List UnitCode) : Type 0 where
+    pub front : List ℕ
+    pub code : t.code ≡ front ++ joined_code value at us
+    pub place : at ≡ code_base + length front
+    pub aligned : at % 4 ≡ 0
+    pub earlier : List ℕ
+    pub procedures : t.procedures ≡ earlier ++ procedure_addresses at us
+    pub count : length earlier ≡ first
+
+  module _ (first count at : ℕ) (u : UnitCode) (us : List UnitCode) (is : IsUnit p graphs found first count u) (behind : IsBehind first at (u ∷ us)) where
+    abbrev x : Laid
+    x = made first count at u is
+
+    filled_same : length (filled value at u.fixes u.code) ≡ length u.code
+    filled_same = (filled_counted value at 0 u.fixes u.code is.finished.done.apart).0
+
+    within : at + length u.code ≤ code_base + length t.code
+    within =
+        let place = behind.place in
+        omega (
+          arith,
+          place,
+          filled_same,
+          ap (λ (bs : List ℕ). length bs) behind.code,
+          length-append behind.front (filled value at u.fixes u.code ++ joined_code value (at + length u.code) us),
+          length-append (filled value at u.fixes u.code) (joined_code value (at + length u.code) us),
+        )
+
+    procedures_counted : length u.procedures ≡ length is.outline.contexts
+    procedures_counted =
+        let can = can_of first count u is in
+        let graph_count = can.graph_count in
+        let contexts = is.is_outline.contexts.count in
+        ap (λ (ns : List ℕ). length ns) is.finished.procedures
+        ∙ (length-map is.outline.entries (λ (l : Label). slice_index is.finished.places l.number)
+        ∙ (ap (λ (ls : List Label). length ls) is.is_outline.entries ∙ length-entry_labels is.outline.contexts (own is.outline graphs) (omega (arith, graph_count, contexts))))
+
+    entry : (k : ℕ) → k < length is.outline.contexts → get_or t.procedures (is.outline.first + k) 0 ≡ slice_index is.finished.places (label_at is.outline.entries k).number + at
+    entry k less =
+        let inside : k < length u.procedures = omega (arith, less, procedures_counted) in
+        let moved = λ (offset : ℕ). at + offset in
+        let number : is.outline.first + k ≡ length behind.earlier + k = let count_ = behind.count in let first_ = is.first_is in omega (arith, count_, first_) in
+        let here = length-map u.procedures moved in
+        let entries : length is.outline.entries ≡ length u.procedures =
+        sym (ap (λ (ns : List ℕ). length ns) is.finished.procedures ∙ length-map is.outline.entries (λ (l : Label). slice_index is.finished.places l.number)) in
+        let place : get_or u.procedures k 0 ≡ slice_index is.finished.places (label_at is.outline.entries k).number =
+        ap (λ (ns : List ℕ). get_or ns k 0) is.finished.procedures
+        ∙ get_or-map (λ (l : Label). slice_index is.finished.places l.number) is.outline.entries k (record { number = 0 }) 0 (omega (arith, inside, entries)) in
+        let at_place : at + get_or u.procedures k 0 ≡ slice_index is.finished.places (label_at is.outline.entries k).number + at = omega (arith, place) in
+        ap (λ (ns : List ℕ). get_or ns (is.outline.first + k) 0) behind.procedures
+        ∙ (ap (λ (m : ℕ). get_or (behind.earlier ++ (map moved u.procedures ++ procedure_addresses (at + length u.code) us)) m 0) number
+        ∙ (get_or-append-add behind.earlier (map moved u.procedures ++ procedure_addresses (at + length u.code) us) k 0
+        ∙ (get_or_append_left (map moved u.procedures) (procedure_addresses (at + length u.code) us) 0 k (omega (arith, inside, here))
+        ∙ (get_or-map moved u.procedures k 0 0 inside ∙ at_place))))
+
+    unit_laid : IsLaid p graphs found addresses t x
+    unit_laid = record {
+      outline = is.is_outline;
+      can = can_of first count u is;
+      whole = is.whole;
+      done = is.finished.done;
+      stands = record { front = behind.front; back = joined_code value (at + length u.code) us; is = behind.code; place = behind.place; aligned = behind.aligned; within = within };
+      entries = entry;
+    }
+
+    next_behind : IsBehind (first + count) (at + length u.code) us
+    next_behind = record {
+      front = behind.front ++ filled value at u.fixes u.code;
+      code = behind.code ∙ sym (append_assoc behind.front (filled value at u.fixes u.code) (joined_code value (at + length u.code) us));
+      place = let place = behind.place in omega (arith, place, filled_same, length-append behind.front (filled value at u.fixes u.code));
+      aligned = let four = behind.aligned in let whole = is.finished.done.whole in omega (arith, four, whole);
+      earlier = behind.earlier ++ map (λ offset. at + offset) u.procedures;
+      procedures = behind.procedures ∙ sym (append_assoc behind.earlier (map (λ offset. at + offset) u.procedures) (procedure_addresses (at + length u.code) us));
+      count =
+          let before = behind.count in
+          let contexts = is.count_is in
+          omega (arith, before, contexts, procedures_counted, length-append behind.earlier (map (λ offset. at + offset) u.procedures), length-map u.procedures (λ offset. at + offset));
+    }
+
+  -- the unit of each procedure
+  pub unit_there : (first end at : ℕ) (us : List UnitCode) (are : AreUnits p graphs found first end us) → IsBehind first at us → (q : ℕ) → first ≤ q → q < end →
+      IsLaid p graphs found addresses t (unit_of (laid_from first end at us are) q) × HasProcedure (unit_of (laid_from first end at us are) q) q
+  unit_there first end at [] are behind q least less = absurd (omega (arith, least, less, are))
+  unit_there first end at (u ∷ us) are behind q least less =
+      by (nat_lt q (are.1.outline.first + length are.1.outline.contexts)) refl
+      (λ out. unit_there (first + are.0) end (at + length u.code) us are.2 (next_behind first are.0 at u us are.1 behind) q out less)
+    where
+      Found : Laid → Type 0
+      Found z = IsLaid p graphs found addresses t z × HasProcedure z q
+
+      by : (b : Bool) → nat_lt q (are.1.outline.first + length are.1.outline.contexts) ≡ b →
+          (first + are.0 ≤ q → Found (unit_of (laid_from (first + are.0) end (at + length u.code) us are.2) q)) →
+          Found (elim b as (λ _. Laid) [ true ↦ made first are.0 at u are.1 | false ↦ unit_of (laid_from (first + are.0) end (at + length u.code) us are.2) q ])
+      by true test later =
+          let inside : q < are.1.outline.first + length are.1.outline.contexts = grind (arith, nat_tests, test) in
+          let first_ = are.1.first_is in (
+            unit_laid first are.0 at u us are.1 behind,
+            record { number = q - first; is = omega (arith, least, first_); inside = omega (arith, least, first_, inside) },
+          )
+      by false test later =
+          let out : are.1.outline.first + length are.1.outline.contexts ≤ q = grind (arith, nat_tests, test) in
+          let first_ = are.1.first_is in
+          let count_ = are.1.count_is in
+          later (omega (arith, out, first_, count_))
+
+  -- ---- behind the code with which a run begins
+
+  module _ (start : Start) (is_start : IsStart p start) (us : List UnitCode) (joined : IsJoined (length p.globals) addresses (start.code ∷ us) start.last t) where
+    abbrev rest : List ℕ
+    rest = joined_code value (code_base + length start.code.code) us
+
+    start_filled : length (filled value code_base start.code.fixes start.code.code) ≡ length start.code.code
+    start_filled = (filled_counted value code_base 0 start.code.fixes start.code.code is_start.done.apart).0
+
+    pub start_behind : IsBehind 0 (code_base + length start.code.code) us
+    start_behind = record {
+      front = filled value code_base start.code.fixes start.code.code;
+      code = joined.code;
+      place = omega (arith, start_filled);
+      aligned = let whole = is_start.done.whole in omega (arith, whole);
+      earlier = [];
+      procedures =
+          joined.procedures
+          ∙ ap (λ (ns : List ℕ). map (λ offset. code_base + offset) ns ++ procedure_addresses (code_base + length start.code.code) us) is_start.procedures;
+      count = refl;
+    }
+
+    pub start_stands : StandAt value t code_base start.code
+    start_stands = record {
+      front = [];
+      back = rest;
+      is = joined.code;
+      place = refl;
+      aligned = refl;
+      within =
+          omega (
+            arith,
+            start_filled,
+            ap (λ (bs : List ℕ). length bs) joined.code,
+            length-append (filled value code_base start.code.fixes start.code.code) rest,
+          );
+    }
+
+    module _ (are : AreUnits p graphs found 0 (length p.procs) us) (range : IsInRange p)
+        (graph_count : length graphs ≡ length p.procs) (found_count : length found ≡ length p.procs) (is_addresses : addresses ≡ label_addresses p) (lie : All (LiesInData p) addresses)
+        (continuations : (q : ℕ) (procedure : Proc) (g : Graph) → slice_get p.procs q ≡ Some procedure → slice_get graphs q ≡ Some g → length g.continuations ≡ length procedure.conts)
+        (procedure_count : length t.procedures ≡ length p.procs) (procedures_aligned : (q : ℕ) → get_or t.procedures q 0 % 4 ≡ 0)
+        (procedures_low : (q : ℕ) → get_or t.procedures q 0 ≤ 2 ^ 30) (room : code_base + length t.code ≤ 2 ^ 30) where
+      pub joint : IsJoint p graphs found addresses t
+      joint = record {
+        range = range;
+        graph_count = graph_count;
+        found_count = found_count;
+        is_addresses = is_addresses;
+        lie = lie;
+        continuations = continuations;
+        laid = laid_from 0 (length p.procs) (code_base + length start.code.code) us are;
+        units = λ q less. unit_there 0 (length p.procs) (code_base + length start.code.code) us are start_behind q (omega arith) less;
+        start = start;
+        is_start = is_start;
+        begins = start_stands;
+        from = joined.start;
+        last = let last = joined.last in omega (arith, last);
+        procedure_count = procedure_count;
+        procedures_aligned = procedures_aligned;
+        procedures_low = procedures_low;
+        room = room;
+      }
+
+      -- so it is the code of the program
+      pub code_is : AreGraphs p graphs found → FinishedCodeStands → ProceduresAreLaid → RowsHaveFrames → IsCodeOfProgram p graphs found t
+      code_is graphs_are stands laid_by frames s l has =
+          let known : IsJoint s.program graphs found addresses t = subst (λ (z : Program). IsJoint z graphs found addresses t) (sym has.program) joint in
+          let graphs_ : AreGraphs s.program graphs found = subst (λ (z : Program). AreGraphs z graphs found) (sym has.program) graphs_are in
+          let begins = starts s graphs found addresses t known graphs_ l has.rows has.code stands laid_by frames has.start has.is_data has.bytes in
+          record {
+            finished = finished s.program graphs found addresses t known;
+            code = is_code s graphs found addresses t known graphs_ l has.rows has.code stands laid_by frames has.is_for;
+            begins = begins.0;
+            few = begins.1;
+          }
+
+-- ---- a located program, with the codes of its units
+
+module _ (p : Program) (graphs : List Graph) (found : List ProcedurePlaces) (range : IsInRange p) (flows : AllZip IsFlow p.procs graphs)
+    (places : HavePlaces p.procs graphs found) (coded : CanBeCoded graphs) (answers : AnswersAreGraphs) (named : GraphsAreNamed) (made : FramesCanBeMade) (waits : AnswersWaitOnce)
+    (short : AreShort p.procs graphs found) (start : Start) (is_start : IsStart p start)
+    (codes : List UnitCode) (units : (us : List UnitCode) × (codes ≡ start.code ∷ us) × (length us ≤ 256) × AreUnits p graphs found 0 (length p.procs) us) where
+  abbrev pub code : ProgramCode
+  code = record { units = codes; last = start.last }
+
+  graph_count : length graphs ≡ length p.procs
+  graph_count = graphs_counted p graphs found range flows places coded answers named
+
+  can : (first count : ℕ) (u : UnitCode) (is : IsUnit p graphs found first count u) → CanAllBeLaidIn p graphs found is.outline
+  can first count u is = can_all_be_laid p graphs found range flows places coded answers named is.outline is.is_outline made waits short
+
+  continuations : (q : ℕ) (procedure : Proc) (g : Graph) → slice_get p.procs q ≡ Some procedure → slice_get graphs q ≡ Some g → length g.continuations ≡ length procedure.conts
+  continuations = continuations_counted p graphs found range flows places coded answers named
+
+  abbrev us : List UnitCode
+  us = units.0
+
+  few : length us ≤ 256
+  few = units.2
+
+  abbrev are : AreUnits p graphs found 0 (length p.procs) us
+  are = units.3
+
+  pub can_be_joined : CanBeJoined code
+  can_be_joined = record {
+    whole = subst (All IsWhole) (sym units.1) (all_whole p graphs found range graph_count continuations can us few are start is_start);
+    room =
+        let fits = size_fits p graphs found range graph_count continuations can us few are start is_start in
+        subst (λ (cs : List UnitCode). code_base + sum_by (λ u. length u.code) cs ≤ 2 ^ 30) (sym units.1) (omega (arith, fits));
+    last = last_low p start is_start;
+  }
+
+  module _ (t : Text) (is : IsTextOf p code t) where
+    joined : IsJoined (length p.globals) (label_addresses p) (start.code ∷ us) start.last t
+    joined = subst (λ (cs : List UnitCode). IsJoined (length p.globals) (label_addresses p) cs start.last t) units.1 is
+
+    pub text_is : IsText p t
+    text_is = is_text p graphs found range graph_count continuations can us few are start is_start (label_addresses p) t joined
+
+    pub text_bounded : length t.code ≤ code_bound (sum_by (λ q. q.tokens) p.procs)
+    text_bounded = code_bounded p graphs found range graph_count continuations can us few are start is_start (label_addresses p) t joined
+
+    graphs_known : AreCovered graphs found → AreGraphs p graphs found
+    graphs_known covered = record {
+      valid = λ n g is.
+          let q = procedure_beside p graphs found range flows places coded answers named n g is in
+          (graph_of p graphs found range flows places coded answers named n q.0 g q.1 is).valid;
+      named = λ n g is.
+          let q = procedure_beside p graphs found range flows places coded answers named n g is in
+          (named p q.0 g (graph_of p graphs found range flows places coded answers named n q.0 g q.1 is)).named;
+      coded = coded_at p graphs found range flows places coded answers named;
+      covered = covered;
+      places = λ n q g k is also there. places_at p.procs graphs found n q g k places is also there;
+    }
+
+    pub code_of_program : AreCovered graphs found → LabelsLieInData → InRangeCanBeLaidOut → FinishedCodeStands → ProceduresAreLaid → RowsHaveFrames → IsCodeOfProgram p graphs found t
+    code_of_program covered lie layable stands laid_by frames =
+        code_is p graphs found can (label_addresses p) t start is_start us joined are range graph_count
+        (found_counted p graphs found range flows places coded answers named) refl (lie p (layable p range)) continuations
+        (procedure_count p graphs found range graph_count continuations can us few are start is_start (label_addresses p) t joined)
+        (procedures_aligned p graphs found range graph_count continuations can us few are start is_start (label_addresses p) t joined)
+        (procedures_low p graphs found range graph_count continuations can us few are start is_start (label_addresses p) t joined)
+        (code_fits p graphs found range graph_count continuations can us few are start is_start (label_addresses p) t joined)
+        (graphs_known covered) stands laid_by frames

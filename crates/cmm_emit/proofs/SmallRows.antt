@@ -1,0 +1,67 @@
+-- A worked row: what is required beside the answers of `place_program` holds of a program with a call, and its labels are these.
+--     main() { f(); return (7); }    f() { return (); }
+use Rattle.std.proofs.Common.{◌≡◌, ℕ, zero, suc, refl, sym, subst, arith, [], ◌∷◌, Some, slice_get}
+use Rattle.std.specs.Prelude.{IsTrue}
+use Rattle.std.specs.List.{list_all}
+use Rattle.std.proofs.lemmas.List.Elements.{All-cons, All-nil}
+use Rattle.cmm_graph.proofs.Shared.{arg, code, exits, graph, n, num, s}
+use Rattle.cmm_graph.specs.declared.graph.Graph.{Graph}
+use Rattle.cmm_graph.specs.declared.node.Node.{Node}
+use Rattle.cmm_graph.specs.declared.node.NodeKind.TheVariants.{Call, CopyIn, Entry, Return}
+use Rattle.cmm_allocate.specs.declared.procedure.ProcedurePlaces.{ProcedurePlaces}
+use Rattle.cmm_emit.specs.Premises.{AreCovered, CanBeCoded, IsCovered, can_be_coded}
+
+abbrev main-graph : Graph
+main-graph = graph 0 0 (Entry [] (n 1) ∷ Call (s 0) (code 1) [] (exits (n 2) [] [] []) ∷ CopyIn [] (n 3) ∷ Return 0 0 (arg (num 7) ∷ []) ∷ []) []
+
+abbrev callee-graph : Graph
+callee-graph = graph 0 0 (Entry [] (n 1) ∷ Return 0 0 [] ∷ []) []
+
+abbrev small-places : ProcedurePlaces
+small-places = record {
+  locals = [];
+  frame = record { size = 16; return_at = 8; saved = []; pairs = []; stack = [] };
+  live = record { before = []; sites = []; cuts = [] };
+  zeroed = [];
+}
+
+abbrev CanBeCodedOne : Graph → Type 0
+CanBeCodedOne g = IsTrue (list_all (λ node. can_be_coded node.kind) g.nodes)
+
+coded : CanBeCoded (main-graph ∷ callee-graph ∷ [])
+coded = All-cons CanBeCodedOne main-graph (callee-graph ∷ []) refl (All-cons CanBeCodedOne callee-graph [] refl (All-nil CanBeCodedOne))
+
+main_covered : (k : ℕ) (node : Node) → slice_get main-graph.nodes k ≡ Some node → IsCovered small-places node
+main_covered zero node is =
+    let e : record { tokens = 1; kind = Entry [] (n 1) } ≡ node = cc in
+    subst (IsCovered small-places) e (λ c y frame locals zeroed. rw (frame, zeroed) (omega arith))
+main_covered (suc zero) node is =
+    let e : record { tokens = 1; kind = Call (s 0) (code 1) [] (exits (n 2) [] [] []) } ≡ node = cc in
+    subst (IsCovered small-places) e (λ c y frame locals zeroed. omega arith)
+main_covered (suc (suc zero)) node is =
+    let e : record { tokens = 1; kind = CopyIn [] (n 3) } ≡ node = cc in
+    subst (IsCovered small-places) e (λ c y frame locals zeroed. omega arith)
+main_covered (suc (suc (suc zero))) node is =
+    let e : record { tokens = 1; kind = Return 0 0 (arg (num 7) ∷ []) } ≡ node = cc in
+    subst (IsCovered small-places) e (λ c y frame locals zeroed. rw frame (omega arith))
+main_covered (suc (suc (suc (suc k)))) node is = absurd (cc)
+
+callee_covered : (k : ℕ) (node : Node) → slice_get callee-graph.nodes k ≡ Some node → IsCovered small-places node
+callee_covered zero node is =
+    let e : record { tokens = 1; kind = Entry [] (n 1) } ≡ node = cc in
+    subst (IsCovered small-places) e (λ c y frame locals zeroed. rw (frame, zeroed) (omega arith))
+callee_covered (suc zero) node is =
+    let e : record { tokens = 1; kind = Return 0 0 [] } ≡ node = cc in
+    subst (IsCovered small-places) e (λ c y frame locals zeroed. rw frame (omega arith))
+callee_covered (suc (suc k)) node is = absurd (cc)
+
+pub covered : AreCovered (main-graph ∷ callee-graph ∷ []) (small-places ∷ small-places ∷ [])
+covered zero g k m node is also there =
+    let one : main-graph ≡ g = cc in
+    let two : small-places ≡ k = cc in
+    subst (λ (z : ProcedurePlaces). IsCovered z node) two (main_covered m node (subst (λ (z : Graph). slice_get z.nodes m ≡ Some node) (sym one) there))
+covered (suc zero) g k m node is also there =
+    let one : callee-graph ≡ g = cc in
+    let two : small-places ≡ k = cc in
+    subst (λ (z : ProcedurePlaces). IsCovered z node) two (callee_covered m node (subst (λ (z : Graph). slice_get z.nodes m ≡ Some node) (sym one) there))
+covered (suc (suc q)) g k m node is also there = absurd (cc (is))

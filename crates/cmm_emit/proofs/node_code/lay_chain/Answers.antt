@@ -1,0 +1,144 @@
+use Rattle.std.proofs.Common.{◌≡◌, ◌<◌, ◌∙◌, ap, inr, refl, sym, get_or, length, set, subst, List, Some, None, true, arith}
+use Rattle.rv_asm.specs.declared.part.Meaning.TheVariants.{Inner}
+use Rattle.std.proofs.lemmas.Option.{slice_get-get_or, slice_get_within}
+use Rattle.rv_asm.proofs.Shared.{appends_none, appends_then, appends_weaker}
+use Rattle.rv_asm.specs.declared.part.Meaning.{Meaning}
+use Rattle.cmm_bitset.specs.Sets.{has}
+use Rattle.cmm_program.proofs.Shared.{list_all_get}
+use Rattle.cmm_emit.proofs.Own.{own_node, own_none, own_then, own_with}
+use Rattle.cmm_bitset.proofs.Shared.{member_count-le}
+use Rattle.cmm_emit.proofs.Placing.{code_comes, member_stays, node_stands, one_member_more, place_comes, some_member}
+use Rattle.cmm_emit.proofs.Summing.{last_costs, next_costs, rest_costs}
+use Rattle.cmm_emit.proofs.WaitingSites.{waits_behind, waits_with}
+use Rattle.cmm_emit.specs.LaidNodes.{EndsAt, PlacesOwn, SitesWait}
+use Rattle.cmm_emit.specs.Naming.{has_kind, label_at}
+use Rattle.cmm_emit.specs.Standing.{labels_with}
+use Rattle.cmm_emit.proofs.node_code.lay_chain.Goals as goal
+
+pub loop-init : goal.loop-init
+loop-init c = (c.requires.pending, λ k is. is, some_member c.args.placed.now c.args.first.number c.requires.pending.member, appends_weaker (appends_none c.args.asm.now.parts) (λ x from to is. tt), own_none c.args.context.now c.args.asm.now.labels, omega arith)
+
+pub lay_node-requires-clause-waits : goal.lay_node-requires-clause-waits
+lay_node-requires-clause-waits c =
+    let at = c.loop.at in
+    let node = c.index-as_slice-at.result in
+    let nodes = c.args.graph.now.nodes in
+    let inside : at.number < length nodes = omega (arith, c.loop.invariant.0.within, c.requires.size) in
+    let same : get_or nodes at.number node ≡ node = sym (rw c.as_slice.ensures at c.index-as_slice-at.is) in
+    c.loop.invariant.0.waits at.number node (slice_get-get_or nodes at.number node inside ∙ ap Some same) (inr refl)
+
+pub returns-in-None-clause-waits : goal.returns-in-None-clause-waits
+returns-in-None-clause-waits c =
+    let p = c.args.context.now in
+    let g = c.args.graph.now in
+    let at = c.loop.at in
+    let node = c.index-as_slice-at.result in
+    let nodes = g.nodes in
+    let inside : at.number < length nodes = omega (arith, c.loop.invariant.0.within, c.requires.size) in
+    let same : get_or nodes at.number node ≡ node = sym (rw c.as_slice.ensures at c.index-as_slice-at.is) in
+    let is = slice_get-get_or nodes at.number node inside ∙ ap Some same in
+    let pending = c.loop.invariant.0 in
+    let stays : c.lay_node.new.placed ≡ c.loop.placed = rw c.in-None.is at c.in_ok-next.ensures.stays in
+    let labels : c.lay_node.new.asm.labels ≡ labels_with p node.kind c.loop.asm.labels = rw c.in-None.is at c.in_ok-next.ensures.labels in
+    let waits : SitesWait p g (labels_with p node.kind c.loop.asm.labels) c.loop.placed None =
+    waits_with p c.args.targets.now g c.requires.kinds c.requires.sites c.requires.once c.loop.asm.labels c.loop.placed at node is pending.member pending.waits
+    in rw (labels, stays) waits
+
+pub returns-in-None-clause-have : goal.returns-in-None-clause-have
+returns-in-None-clause-have c =
+    let p = c.args.context.now in
+    let y = c.args.targets.now in
+    let g = c.args.graph.now in
+    let at = c.loop.at in
+    let node = c.index-as_slice-at.result in
+    let nodes = g.nodes in
+    let inside : at.number < length nodes = omega (arith, c.loop.invariant.0.within, c.requires.size) in
+    let same : get_or nodes at.number node ≡ node = sym (rw c.as_slice.ensures at c.index-as_slice-at.is) in
+    let is = slice_get-get_or nodes at.number node inside ∙ ap Some same in
+    let appends = appends_weaker c.in_ok-next.ensures.code.appends (λ x from to codes. node_stands p y g at.number node is x from to codes) in
+    let have = code_comes p y g c.loop.asm.labels c.loop.placed at c.loop.asm.parts c.lay_node.new.asm.parts c.loop.invariant.0 appends in
+    let stays : c.lay_node.new.placed ≡ c.loop.placed = rw c.in-None.is at c.in_ok-next.ensures.stays in
+    rw stays have
+
+pub loop-preserved : goal.loop-preserved
+loop-preserved c =
+    let p = c.args.context.now in
+    let y = c.args.targets.now in
+    let g = c.args.graph.now in
+    let at = c.loop.at in
+    let node = c.index-as_slice-at.result in
+    let nodes = g.nodes in
+    let inside : at.number < length nodes = omega (arith, c.loop.invariant.0.within, c.requires.size) in
+    let same : get_or nodes at.number node ≡ node = sym (rw c.as_slice.ensures at c.index-as_slice-at.is) in
+    let is = slice_get-get_or nodes at.number node inside ∙ ap Some same in
+    let appends = appends_weaker c.in_ok-next.ensures.code.appends (λ x from to codes. node_stands p y g at.number node is x from to codes) in
+    let have = code_comes p y g c.loop.asm.labels c.loop.placed at c.loop.asm.parts c.lay_node.new.asm.parts c.loop.invariant.0 appends in
+    let next = c.in-Some.next in
+    let old = c.loop.placed in
+    let ends : EndsAt p next old c.lay_node.new.placed c.lay_node.new.asm.parts = rw c.in-Some.is at c.in_ok-next.ensures.ends in
+    let size = c.loop.invariant.0.laid.size in
+    let within : next.number < length old = omega (arith, size, ends.within) in
+    let labels : c.lay_node.new.asm.labels ≡ set (labels_with p node.kind c.loop.asm.labels) (label_at p.nodes next.number).number (Inner true) =
+    rw c.in-Some.is at c.in_ok-next.ensures.labels in
+    let pending = c.loop.invariant.0 in
+    let sites_wait : SitesWait p g (labels_with p node.kind c.loop.asm.labels) old None =
+    waits_with p y g c.requires.kinds c.requires.sites c.requires.once c.loop.asm.labels old at node is pending.member pending.waits in
+    let can = list_all_get (λ node. has_kind p y node.kind) nodes at.number node c.requires.kinds is in
+    let own = own_with p y node.kind c.loop.asm.labels can (pending.waits at.number node is (inr refl)) in
+    let there = slice_get_within c.loop.asm.labels (label_at p.nodes next.number).number (Inner (has old next.number)) (pending.laid.each next.number ends.within) in
+    let waits : SitesWait p g c.lay_node.new.asm.labels c.lay_node.new.placed (Some next) =
+    rw (labels, ends.placed) (waits_behind p y g c.requires.kinds c.requires.sites (labels_with p node.kind c.loop.asm.labels) old next ends.within ends.fresh sites_wait) in (
+      place_comes p y g c.lay_node.new.asm.labels old c.lay_node.new.placed next c.lay_node.new.asm.parts ends c.in_ok-next.ensures.ready c.in_ok-next.ensures.laid waits size have,
+      λ k is. rw ends.placed (member_stays old next.number k within (c.loop.invariant.1 k is)),
+      rw (ends.placed, one_member_more old next.number within ends.fresh) (omega (arith, c.loop.invariant.2)),
+      appends_weaker (appends_then c.loop.invariant.3 appends) (λ x from to does. tt),
+      own_then p c.args.asm.now.labels c.loop.asm.labels c.lay_node.new.asm.labels c.loop.invariant.4 (subst (λ (ms : List Meaning). PlacesOwn p c.loop.asm.labels ms) (sym labels)
+          (own_then p c.loop.asm.labels (labels_with p node.kind c.loop.asm.labels) (set (labels_with p node.kind c.loop.asm.labels) (label_at p.nodes next.number).number (Inner true)) own
+          (own_node p (labels_with p node.kind c.loop.asm.labels) next.number ends.within (omega (arith, own.count, there))))),
+      rw ends.placed (omega (arith, c.loop.invariant.5, c.in_ok-next.ensures.code.few, next_costs p y g old at next node is pending.member ends.fresh)),
+    )
+
+pub returns-clause-have : goal.returns-clause-have
+returns-clause-have c k is =
+    absurd (omega (arith, c.loop.invariant.2, member_count-le c.loop.placed, c.loop.invariant.0.laid.size, c.requires.size, c.loop-test.false, c.len-end.ensures))
+
+pub returns-clause-waits : goal.returns-clause-waits
+returns-clause-waits c k node is comes =
+    absurd (omega (arith, c.loop.invariant.2, member_count-le c.loop.placed, c.loop.invariant.0.laid.size, c.requires.size, c.loop-test.false, c.len-end.ensures))
+
+pub returns-in-None-clause-added : goal.returns-in-None-clause-added
+returns-in-None-clause-added c = appends_weaker (appends_then c.loop.invariant.3 c.in_ok-next.ensures.code.appends) (λ x from to does. tt)
+
+pub returns-in-None-clause-places : goal.returns-in-None-clause-places
+returns-in-None-clause-places c =
+    let p = c.args.context.now in
+    let y = c.args.targets.now in
+    let g = c.args.graph.now in
+    let at = c.loop.at in
+    let node = c.index-as_slice-at.result in
+    let nodes = g.nodes in
+    let inside : at.number < length nodes = omega (arith, c.loop.invariant.0.within, c.requires.size) in
+    let same : get_or nodes at.number node ≡ node = sym (rw c.as_slice.ensures at c.index-as_slice-at.is) in
+    let is = slice_get-get_or nodes at.number node inside ∙ ap Some same in
+    let pending = c.loop.invariant.0 in
+    let labels : c.lay_node.new.asm.labels ≡ labels_with p node.kind c.loop.asm.labels = rw c.in-None.is at c.in_ok-next.ensures.labels in
+    let can = list_all_get (λ node. has_kind p y node.kind) nodes at.number node c.requires.kinds is in
+    let own = own_with p y node.kind c.loop.asm.labels can (pending.waits at.number node is (inr refl)) in
+    own_then p c.args.asm.now.labels c.loop.asm.labels c.lay_node.new.asm.labels c.loop.invariant.4 (subst (λ (ms : List Meaning). PlacesOwn p c.loop.asm.labels ms) (sym labels) own)
+
+pub returns-clause-size : goal.returns-clause-size
+returns-clause-size c =
+    omega (arith, c.loop.invariant.5, rest_costs c.args.context.now c.args.targets.now c.args.graph.now c.loop.placed c.loop.at)
+
+pub returns-in-None-clause-size : goal.returns-in-None-clause-size
+returns-in-None-clause-size c =
+    let p = c.args.context.now in
+    let y = c.args.targets.now in
+    let g = c.args.graph.now in
+    let at = c.loop.at in
+    let node = c.index-as_slice-at.result in
+    let inside : at.number < length g.nodes = omega (arith, c.loop.invariant.0.within, c.requires.size) in
+    let same : get_or g.nodes at.number node ≡ node = sym (rw c.as_slice.ensures at c.index-as_slice-at.is) in
+    let is = slice_get-get_or g.nodes at.number node inside ∙ ap Some same in
+    let stays : c.lay_node.new.placed ≡ c.loop.placed = rw c.in-None.is at c.in_ok-next.ensures.stays in
+    rw stays (omega (arith, c.loop.invariant.5, c.in_ok-next.ensures.code.few, last_costs p y g c.loop.placed at node is c.loop.invariant.0.member))

@@ -1,0 +1,45 @@
+use Rattle.std.proofs.Common.{None, arith, below_more}
+use Rattle.rv_asm.proofs.Shared.{appends_none, appends_then, appends_weaker}
+use Rattle.cmm_emit.proofs.Own.{own_none, own_then}
+use Rattle.cmm_emit.proofs.Summing.{come_few}
+use Rattle.cmm_emit.proofs.WaitingSites.{none_placed}
+use Rattle.cmm_emit.proofs.node_code.lay_nodes.Goals as goal
+
+pub lay_from-requires-clause-waits : goal.lay_from-requires-clause-waits
+lay_from-requires-clause-waits c =
+    none_placed c.args.context.now c.args.targets.now c.args.graph.now c.requires.kinds c.args.asm.now.labels c.in_ok-placed.placed c.requires.unplaced
+
+pub returns-clause-added : goal.returns-clause-added
+returns-clause-added c = appends_weaker (appends_then c.in_ok-lay_from.ensures.added c.loop-number.invariant.5) (λ x from to does. tt)
+
+pub returns-clause-places : goal.returns-clause-places
+returns-clause-places c =
+    own_then c.args.context.now c.args.asm.now.labels c.lay_from.new.asm.labels c.loop-number.asm.labels c.in_ok-lay_from.ensures.places c.loop-number.invariant.6
+
+pub loop-number-init : goal.loop-number-init
+loop-number-init c =
+    let e = c.in_ok-lay_from.ensures in
+    (e.ready, e.laid, e.waits, e.have, λ k less. absurd (omega (arith, less)), appends_weaker (appends_none c.lay_from.new.asm.parts) (λ x from to is. tt), own_none c.args.context.now c.lay_from.new.asm.labels, omega arith)
+
+pub loop-number-preserved : goal.loop-number-preserved
+loop-number-preserved c =
+    let e = c.in_ok-lay_from-2.ensures in
+    let inv = c.loop-number.invariant in (
+      e.ready,
+      e.laid,
+      e.waits,
+      e.have,
+      below_more _ _ (λ k less. e.grows k (inv.4 k less)) e.first,
+      appends_weaker (appends_then inv.5 e.added) (λ x from to does. tt),
+      own_then c.args.context.now c.lay_from.new.asm.labels c.loop-number.asm.labels c.lay_from-in-loop-number.new.asm.labels inv.6 e.places,
+      omega (arith, e.size, inv.7),
+    )
+
+pub returns-clause-code : goal.returns-clause-code
+returns-clause-code c k less =
+    c.loop-number.invariant.3 k (c.loop-number.invariant.4 k (omega (arith, less, c.loop-number-test.false, c.len-number-end.ensures)))
+
+pub returns-clause-size : goal.returns-clause-size
+returns-clause-size c =
+    let p = c.args.context.now in
+    omega (arith, c.in_ok-lay_from.ensures.size, c.loop-number.invariant.7, come_few p c.args.targets.now c.in_ok-placed.placed None c.args.graph.now.nodes)

@@ -1,0 +1,104 @@
+-- The code of a unit that is laid, procedure by procedure.
+use Rattle.std.specs.Prelude.{◌≡◌, ◌⊎◌, ℕ, ◌+◌, ◌*◌, ◌<◌, ◌≤◌, ◌^◌, false, IsTrue, List, ◌∷◌, [], ◌++◌, length, take, slice_get, slice_index_or, sum_by, Some}
+use Rattle.std.specs.List.{All, list_all}
+use Rattle.rv_asm.specs.Appending.{Codes}
+use Rattle.rv_asm.specs.Assembly.{is_inner}
+use Rattle.rv_asm.specs.Sizes.{all_longest}
+use Rattle.rv_asm.specs.declared.part.Meaning.{Meaning}
+use Rattle.rv_asm.specs.declared.part.Meaning.TheVariants.{Inner}
+use Rattle.rv_asm.specs.declared.part.Part.{Part}
+use Rattle.rv_asm.specs.declared.part.Part.TheVariants.{Place}
+use Rattle.rv_table.specs.declared.request.Request.TheVariants.{StackLimit}
+use Rattle.cmm_program.specs.declared.procedure.Proc.{Proc}
+use Rattle.cmm_program.specs.declared.program.Program.{Program}
+use Rattle.cmm_graph.specs.declared.graph.Graph.{Graph}
+use Rattle.cmm_effects.specs.Changes.{IsPlace}
+use Rattle.cmm_calls.specs.Frames.{CanBeMade}
+use Rattle.cmm_allocate.specs.declared.procedure.ProcedurePlaces.{ProcedurePlaces}
+use Rattle.cmm_effects.specs.Requests.{AsksFor}
+use Rattle.cmm_emit.specs.declared.context.Context.{Context}
+use Rattle.cmm_emit.specs.declared.context.Targets.{Targets}
+use Rattle.cmm_emit.specs.Costs.{total_cost}
+use Rattle.cmm_emit.specs.LaidNodes.{StandsHere, WaitApart}
+use Rattle.cmm_emit.specs.Naming.{has_kind, label_at}
+use Rattle.cmm_emit.specs.Contexts.{first_label}
+use Rattle.cmm_emit.specs.Orders.{AreInOrder, IsClosed}
+use Rattle.cmm_emit.specs.Outlines.{IsOutlineIn, own, symbol_count, symbol_meaning}
+use Rattle.cmm_emit.specs.declared.outline.Outline.{Outline}
+
+-- ---- before
+
+-- the nodes of a graph name what is there, in a frame that can be made
+pub record CanBeLaid (y : Targets) (p : Context) (g : Graph) : Type 0 where
+  pub frame : CanBeMade p.frame
+  pub places : All IsPlace p.places
+  pub stack : All (λ offset. offset < 2 ^ 21) p.frame.stack
+  pub pairs : All (λ offset. offset < 2 ^ 21) p.frame.pairs
+  pub landed : length p.landings ≡ length p.frame.pairs
+  pub landings : All (λ n. n.number < length g.nodes) g.continuations
+  pub kinds : IsTrue (list_all (λ node. has_kind p y node.kind) g.nodes)
+  pub first : g.first.number < length g.nodes
+  pub once : WaitApart g
+
+-- so it is for each procedure of a unit
+pub record CanAllBeLaid (p : Program) (procs : List Proc) (graphs : List Graph) (found : List ProcedurePlaces) (o : Outline) : Type 0 where
+  pub graph_count : length graphs ≡ length procs
+  pub found_count : length found ≡ length procs
+  pub registers : length p.globals ≤ 256
+  pub each : (n : ℕ) (c : Context) (g : Graph) → slice_get o.contexts n ≡ Some c → slice_get graphs n ≡ Some g → CanBeLaid o.targets c g
+  pub short : (n : ℕ) (q : Proc) (c : Context) (g : Graph) → slice_get procs n ≡ Some q → slice_get o.contexts n ≡ Some c → slice_get graphs n ≡ Some g →
+      total_cost c o.targets g.nodes + 1 ≤ 64 * q.tokens
+
+abbrev pub CanAllBeLaidIn : Program → List Graph → List ProcedurePlaces → Outline → Type 0
+CanAllBeLaidIn p graphs found o = CanAllBeLaid p (own o p.procs) (own o graphs) (own o found) o
+
+-- a unit has this outline over the places of its procedures, and its code can be laid
+pub record HasOutline (p : Program) (graphs : List Graph) (o : Outline) : Type 0 where
+  pub found : List ProcedurePlaces
+  pub is_outline : IsOutlineIn p graphs found o
+  pub can : CanAllBeLaidIn p graphs found o
+
+-- ---- while n procedures are laid
+
+-- what labels mean then: those of the other procedures and of the limit have no place yet
+pub record HaveLabels (p : Program) (procs : List Proc) (graphs : List Graph) (n : ℕ) (labels : List Meaning) : Type 0 where
+  pub count : length labels ≡ first_label (symbol_count p + 1) procs graphs (length procs)
+  pub symbols : (k : ℕ) → k < symbol_count p → slice_get labels k ≡ Some (symbol_meaning p k)
+  pub limit : slice_get labels (symbol_count p) ≡ Some (Inner false)
+  pub inner : (k : ℕ) → symbol_count p ≤ k → k < length labels → IsTrue (is_inner (slice_index_or labels k (Inner false)))
+  pub fresh : (k : ℕ) → first_label (symbol_count p + 1) procs graphs n ≤ k → k < length labels → slice_get labels k ≡ Some (Inner false)
+
+abbrev pub HaveLabelsIn : Program → List Graph → Outline → ℕ → List Meaning → Type 0
+HaveLabelsIn p graphs o n labels = HaveLabels p (own o p.procs) (own o graphs) n labels
+
+-- the tokens of the first procedures of a unit
+abbrev pub tokens_of_first : ℕ → List Proc → ℕ
+tokens_of_first n procs = sum_by (λ q. q.tokens) (take n procs)
+
+-- the code has that of their nodes, each behind its label, and is at most 256 for each of their tokens
+pub record HaveCodes (procs : List Proc) (graphs : List Graph) (o : Outline) (n : ℕ) (parts : List Part) : Type 0 where
+  pub nodes : (q : ℕ) (c : Context) (g : Graph) (k : ℕ) → q < n → slice_get o.contexts q ≡ Some c → slice_get graphs q ≡ Some g → k < length g.nodes →
+      Codes parts (label_at c.nodes k) (StandsHere c o.targets g k)
+  pub order : AreInOrder (take n o.entries) parts
+  pub closed : (parts ≡ []) ⊎ IsClosed parts
+  pub size : all_longest parts ≤ 256 * tokens_of_first n procs
+
+abbrev pub HaveCodesIn : Program → List Graph → Outline → ℕ → List Part → Type 0
+HaveCodesIn p graphs o n parts = HaveCodes (own o p.procs) (own o graphs) o n parts
+
+-- ---- the whole
+
+-- behind all procedures, the run ends at the limit of the stack; and there is no more of it than tokens allow
+pub record IsWhole (p : Program) (procs : List Proc) (graphs : List Graph) (o : Outline) (labels : List Meaning) (parts : List Part) : Type 0 where
+  pub count : length labels ≡ first_label (symbol_count p + 1) procs graphs (length procs)
+  pub symbols : (k : ℕ) → k < symbol_count p → slice_get labels k ≡ Some (symbol_meaning p k)
+  pub inner : (k : ℕ) → symbol_count p ≤ k → k < length labels → IsTrue (is_inner (slice_index_or labels k (Inner false)))
+  pub front : List Part
+  pub codes : HaveCodes procs graphs o (length procs) front
+  pub back : List Part
+  pub is : parts ≡ front ++ Place o.targets.limit ∷ back
+  pub limits : Codes parts o.targets.limit (λ x from to. AsksFor 1 (λ t. StackLimit) x from)
+  pub size : all_longest parts ≤ 256 * sum_by (λ q. q.tokens) procs + 8
+
+abbrev pub IsWholeIn : Program → List Graph → Outline → List Meaning → List Part → Type 0
+IsWholeIn p graphs o labels parts = IsWhole p (own o p.procs) (own o graphs) o labels parts

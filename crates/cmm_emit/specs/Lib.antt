@@ -1,0 +1,15 @@
+pub mod Naming
+pub mod Costs
+pub mod Standing
+pub mod LaidNodes
+pub mod Laws
+pub mod Labels
+pub mod Contexts
+pub mod Outlines
+pub mod Starts
+pub mod Orders
+pub mod Finishing
+pub mod LaidProcedures
+pub mod Units
+pub mod Premises
+pub mod Texts

@@ -1,0 +1,158 @@
+-- What is known of the code of a node, wherever finished code of a program has it.
+use Rattle.std.specs.Prelude.{◌≡◌, ℕ, ◌+◌, ◌*◌, ◌%◌, ◌<◌, ◌≤◌, ◌^◌, IsTrue, IfSome, List, length, map, slice_get, slice_index_or, slice_set, Option, Some, None, true, false}
+use Rattle.std.specs.List.{All}
+use Rattle.cmm_abi.specs.declared.registers.TheConstants.{REQUEST_VALUE}
+use Rattle.cmm_words.specs.declared.constant.Constant.TheVariants as constant
+use Rattle.cmm_chain.specs.declared.frame.Location.TheVariants.{Slot}
+use Rattle.cmm_program.specs.Layout.{constant_value}
+use Rattle.cmm_program.specs.State.{Setting}
+use Rattle.cmm_graph.specs.declared.operand.Local.{Local}
+use Rattle.cmm_graph.specs.declared.operand.Rvalue.{Rvalue}
+use Rattle.cmm_graph.specs.declared.number.NodeId.{NodeId}
+use Rattle.cmm_graph.specs.declared.number.SiteId.{SiteId}
+use Rattle.cmm_graph.specs.declared.operand.Argument.{Argument}
+use Rattle.cmm_graph.specs.declared.operand.Operand.{Operand}
+use Rattle.cmm_graph.specs.declared.node.Exits.{Exits}
+use Rattle.cmm_graph.specs.declared.node.NodeKind.{NodeKind}
+use Rattle.cmm_graph.specs.declared.node.NodeKind.TheVariants.{Entry, CopyIn, Assign, Store, Branch, Switch, Call, Host, Goto}
+use Rattle.cmm_live.specs.Sites.{site_of}
+use Rattle.rv_asm.specs.Assembly.{IsInner, IsLabel, IsTarget, table_limit}
+use Rattle.rv_asm.specs.Parts.{Code}
+use Rattle.rv_asm.specs.declared.part.Label.{Label}
+use Rattle.rv_asm.specs.declared.part.Meaning.{Meaning}
+use Rattle.rv_asm.specs.declared.part.Meaning.TheVariants.{Inner}
+use Rattle.rv_table.specs.Machine.{region_base}
+use Rattle.rv_table.specs.Words.{sum}
+use Rattle.rv_table.specs.declared.request.Request.TheVariants.{StackLimit, End}
+use Rattle.cmm_effects.specs.Changes.{IsPlace}
+use Rattle.cmm_effects.specs.Pieces.{BeginsQuietly}
+use Rattle.cmm_select.specs.declared.destination.Destination.{Destination as CodeDestination}
+use Rattle.cmm_select.specs.Switches.{label_of}
+use Rattle.cmm_calls.specs.Calls.{HasExits}
+use Rattle.cmm_calls.specs.Frames.{CanBeMade}
+use Rattle.cmm_image_machine.specs.Machine.{Launch}
+use Rattle.cmm_emit_laws.specs.Shown.{AreLandings}
+use Rattle.cmm_emit_laws.specs.Words.{register_address}
+use Rattle.cmm_located.specs.Compiled.{Compiled, landing_in, number_in}
+use Rattle.cmm_effects.specs.Requests.{AsksFor}
+use Rattle.cmm_emit_laws.specs.Finished.{Finished, code_of}
+use Rattle.cmm_emit_laws.specs.NodeCode.{CallCode, GoesOn, IsCodeOf, IsPutInto, SiteCode}
+use Rattle.cmm_emit.specs.declared.context.Context.{Context}
+use Rattle.cmm_emit.specs.declared.context.Targets.{Targets}
+use Rattle.cmm_emit.specs.Costs.{callee_cost, cost_of, rvalue_cost}
+use Rattle.cmm_emit.specs.Naming.{has_local, label_at, landing_labels, local_number, site_label}
+
+-- ---- while code is assembled
+
+-- labels are made for all that nodes name, places can be read and written, and the frame can be made. A procedure's label may stand for a place in
+-- the code, or for a symbol that is reached from where the code stands, as that of a procedure elsewhere.
+pub record IsReady (labels : List Meaning) (p : Context) (y : Targets) : Type 0 where
+  pub frame : CanBeMade p.frame
+  pub places : All IsPlace p.places
+  pub stack : All (λ offset. offset < 2 ^ 21) p.frame.stack
+  pub pairs : All (λ offset. offset < 2 ^ 21) p.frame.pairs
+  pub landings : All (IsInner labels) p.landings
+  pub landed : length p.landings ≡ length p.frame.pairs
+  pub nodes : All (IsInner labels) p.nodes
+  pub procedures : All (IsTarget labels) y.procedures
+  pub data_labels : All (IsLabel labels) y.data_labels
+  pub registers : All (IsLabel labels) y.registers
+  pub few_registers : length y.registers ≤ 256
+  pub limit : IsInner labels y.limit
+
+-- the site at which a node is to wait, if it is to, has no place yet
+abbrev pub CanWait : Context → NodeKind → List Meaning → Type 0
+CanWait p kind labels = IfSome (site_of kind) (λ site. slice_get labels (site_label p site).number ≡ Some (Inner false))
+
+-- the labels once the code of a node is there: its site has its place
+abbrev pub labels_with : Context → NodeKind → List Meaning → List Meaning
+labels_with p kind labels = elim (site_of kind) [ Some site ↦ slice_set labels (site_label p site).number (Inner true) | None ↦ labels ]
+
+-- ---- once it is finished
+
+module _ (s : Setting) (c : Compiled) (l : Launch) (f : Finished) (q : ℕ) where
+  -- a label stands where control comes back to a site, and the jumps of the exits fit behind it
+  pub record IsSiteOf (site : ℕ) (label : Label) : Type 0 where
+    pub stands : f.labels q label.number ≡ f.symbols.return_to q site
+    pub aligned : f.labels q label.number % 4 ≡ 0
+    pub fits : f.labels q label.number + 4 * table_limit < 2 ^ 64
+
+  -- the context is that of a procedure of a compiled program, and labels stand for what they are made for
+  pub record IsContextOf (p : Context) (y : Targets) : Type 0 where
+    pub frame : c.plan.frame q ≡ p.frame
+    pub places : (u : ℕ) → u < length p.places → c.plan.place q u ≡ slice_index_or p.places u (Slot 0)
+    pub numbers : (v : Local) → IsTrue (has_local p v) → number_in c.graphs q v ≡ local_number p v
+    pub zeroed : map (c.plan.place q) (c.zeroed q) ≡ p.zeroed
+    pub nodes : (n : NodeId) → n.number < length p.nodes → f.labels q (label_of p.nodes n).number ≡ f.node_at q n
+    pub procedures : (k plus : ℕ) → k < length y.procedures →
+        sum (f.labels q (label_at y.procedures k).number) plus ≡ constant_value s.program s.placement (constant.Code k plus)
+    pub entries : (k : ℕ) → k < length y.procedures → f.labels q (label_at y.procedures k).number ≡ constant_value s.program s.placement (constant.Code k 0)
+    pub data_labels : (k plus : ℕ) → k < length y.data_labels →
+        sum (f.labels q (label_at y.data_labels k).number) plus ≡ constant_value s.program s.placement (constant.Address k plus)
+    pub registers : (r : ℕ) → r < length y.registers → region_base + f.labels q (label_at y.registers r).number ≡ register_address r
+    pub landings : AreLandings f.symbols (f.labels q) q 0 p.landings
+    pub landed : (k : ℕ) (n : NodeId) → k < length p.landings → landing_in c.graphs q k ≡ Some n → f.labels q (label_at p.landings k).number ≡ f.node_at q n
+    pub sites : (k : ℕ) → k < length p.sites → IsSiteOf k (label_at p.sites k)
+    pub limit : AsksFor 1 (λ t. StackLimit) (code_of l f q) (f.labels q y.limit.number)
+    pub end_asked : AsksFor 1 (λ t. End (t.registers REQUEST_VALUE)) (code_of l f q) f.symbols.last_return
+
+  -- control goes on at a node from an address, if there is one
+  abbrev pub GoesOnTo : Option NodeId → ℕ → Type 0
+  GoesOnTo next from = IfSome next (λ n. GoesOn s c l f q n from)
+
+  -- the code behind the site at which a node waits, if it does
+  abbrev pub IsSiteCodeOf : NodeKind → Type 0
+  IsSiteCodeOf (Call site callee arguments exits) = SiteCode s c l f q site.number exits
+  IsSiteCodeOf _ = Unit {0}
+
+  -- the code of a node within n instructions, with that behind its site
+  pub record HasCode (n : NodeId) (kind : NodeKind) (most : ℕ) : Type 0 where
+    pub node : IsCodeOf s c l f q n kind most
+    pub site : IsSiteCodeOf kind
+
+-- the node to which a node falls: the one that may follow it in code
+abbrev pub falls_to : NodeKind → Option NodeId
+falls_to (Entry formals next) = Some next
+falls_to (CopyIn to next) = Some next
+falls_to (Assign to value next) = Some next
+falls_to (Store width aligned address value next) = Some next
+falls_to (Branch test then_ otherwise) = Some otherwise
+falls_to (Switch value arms otherwise) = Some otherwise
+falls_to (Call site callee arguments exits) = exits.normal
+falls_to (Host call next) = Some next
+falls_to (Goto next) = Some next
+falls_to _ = None
+
+-- the value of a right side is put where a destination is, and control goes on
+abbrev pub PutsValue : Context → Targets → Rvalue → CodeDestination → Code → ℕ → ℕ → Type 0
+PutsValue p y value into x from to =
+    BeginsQuietly x from × ((s : Setting) (c : Compiled) (l : Launch) (f : Finished) (q : ℕ) → x ≡ code_of l f q → IsContextOf s c l f q p y →
+    IsPutInto s c l f q value into (rvalue_cost p y value) from to)
+
+-- the code of a node up to where control goes on at the node to which it falls, wherever finished code has it
+abbrev pub CodesNode : Context → Targets → NodeKind → Code → ℕ → ℕ → Type 0
+CodesNode p y kind x from to =
+    (s : Setting) (c : Compiled) (l : Launch) (f : Finished) (q : ℕ) (n : NodeId) → x ≡ code_of l f q → IsContextOf s c l f q p y →
+    f.node_at q n ≡ from → GoesOnTo s c l f q (falls_to kind) to → IsCodeOf s c l f q n kind (cost_of p y kind)
+
+-- the code of a call up to its site, to which control comes back
+abbrev pub CodesCall : Context → Targets → SiteId → Operand → List Argument → Code → ℕ → ℕ → Type 0
+CodesCall p y site callee arguments x from to =
+    (x.at (site_label p site).number ≡ to)
+    × ((s : Setting) (c : Compiled) (l : Launch) (f : Finished) (q : ℕ) (n : NodeId) (most : ℕ) → x ≡ code_of l f q → IsContextOf s c l f q p y →
+    f.node_at q n ≡ from → 12 * length arguments + callee_cost ≤ most → CallCode s c l f q n site.number callee arguments most)
+
+-- behind it each alternate exit leads to its landing, and the normal one, if there is one, goes on
+abbrev pub LeadsBack : Context → Exits → Code → ℕ → ℕ → Type 0
+LeadsBack p exits x from to =
+    (on : ℕ) × HasExits (landing_labels p exits.returns) x from on × ((n : NodeId) → exits.normal ≡ Some n → on ≡ to)
+
+-- the code behind a node's site, up to where control goes on by the normal exit
+abbrev pub CodesSite : Context → Targets → NodeKind → Code → ℕ → ℕ → Type 0
+CodesSite p y kind x from to =
+    (s : Setting) (c : Compiled) (l : Launch) (f : Finished) (q : ℕ) → x ≡ code_of l f q → IsContextOf s c l f q p y →
+    GoesOnTo s c l f q (falls_to kind) to → IsSiteCodeOf s c l f q kind
+
+-- both
+abbrev pub CodesWhole : Context → Targets → NodeKind → Code → ℕ → ℕ → Type 0
+CodesWhole p y kind x from to = CodesNode p y kind x from to × CodesSite p y kind x from to

@@ -1,0 +1,37 @@
+-- What the code of a program guarantees: in an image it is all that is required of the code of the program.
+use Rattle.std.specs.Prelude.{◌≡◌, ◌≤◌, List}
+use Rattle.std.specs.List.{All}
+use Rattle.cmm_program.specs.declared.program.Program.{Program}
+use Rattle.cmm_program.specs.Layout.{data_bytes}
+use Rattle.cmm_program.specs.State.{Setting}
+use Rattle.cmm_machine_laws.specs.Fitting.{IsByte}
+use Rattle.cmm_graph.specs.declared.graph.Graph.{Graph}
+use Rattle.cmm_image_machine.specs.Machine.{Launch, map_of}
+use Rattle.cmm_emit_laws.specs.Shown.{IsFor}
+use Rattle.cmm_emit_laws.specs.Finished.{Finished}
+use Rattle.cmm_emit_laws.specs.ProgramCode.{IsCode}
+use Rattle.cmm_emit_laws.specs.Starting.{StartCode}
+use Rattle.cmm_unit_code.specs.declared.text.Text.{Text}
+use Rattle.cmm_allocate.specs.Compiling.{compiled}
+use Rattle.cmm_allocate.specs.Placing.{placement_rows}
+use Rattle.cmm_allocate.specs.declared.procedure.ProcedurePlaces.{ProcedurePlaces}
+
+-- an image has this code and the data of the program, and the program is placed where its code is, with the frames of these places
+pub record HasText (p : Program) (found : List ProcedurePlaces) (t : Text) (s : Setting) (l : Launch) : Type 0 where
+  pub program : s.program ≡ p
+  pub rows : s.placement.rows ≡ placement_rows found t.procedures
+  pub code : l.image.code ≡ t.code
+  pub start : l.image.start ≡ t.start
+  pub is_data : l.image.initial ≡ data_bytes s.program s.placement
+  pub bytes : All IsByte l.image.initial
+  pub is_for : IsFor s (map_of l)
+
+-- its code is that of the program, and begins its runs by at most two instructions
+pub record RunsProgram (s : Setting) (graphs : List Graph) (found : List ProcedurePlaces) (l : Launch) : Type 0 where
+  pub finished : Finished
+  pub code : IsCode s (compiled graphs found) l finished
+  pub begins : StartCode s (compiled graphs found) l finished
+  pub few : begins.most ≤ 2
+
+abbrev pub IsCodeOfProgram : Program → List Graph → List ProcedurePlaces → Text → Type 0
+IsCodeOfProgram p graphs found t = (s : Setting) (l : Launch) → HasText p found t s l → RunsProgram s graphs found l

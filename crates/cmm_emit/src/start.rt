@@ -1,0 +1,94 @@
+//! The code with which a run begins, and with which it ends for want of room in the stack.
+
+ghost use Rattle.std.specs.Prelude.{◌≡◌, ◌+◌, ◌≤◌, List, [], ◌∷◌, ◌++◌, Some, true, false, length, slice_get, slice_set, IfOk, OnOk};
+ghost use Rattle.rv_asm.specs.Appending.{Appends, Codes};
+ghost use Rattle.rv_asm.specs.Assembly.{IsTarget};
+ghost use Rattle.rv_asm.specs.Sizes.{all_longest};
+ghost use Rattle.rv_asm.specs.declared.part.Part.{Part};
+ghost use Rattle.rv_asm.specs.declared.part.Part.TheVariants.{Place, Single};
+ghost use Rattle.rv_asm.specs.declared.part.Meaning.TheVariants.{Inner};
+ghost use Rattle.rv_table.specs.declared.instruction.Instr.TheVariants.{Ebreak};
+ghost use Rattle.rv_table.specs.declared.request.Request.TheVariants as request;
+ghost use Rattle.cmm_effects.specs.Requests.{AsksFor};
+ghost use Rattle.cmm_program.specs.InRange.{IsInRange};
+ghost use Rattle.cmm_emit.specs.Starts.{CallsMain, IsStart};
+ghost use Rattle.cmm_emit.specs.Orders.{IsClosed};
+
+use crate::finishing::place;
+use cmm_calls::{ask_end, ask_limit};
+use cmm_items::Items;
+use cmm_program::Program;
+use cmm_unit_code::UnitCode;
+use rv_asm::{Asm, Label};
+use rv_table::Instr;
+use std::alloc::{AllocError, Global};
+
+/// A word at which no run arrives. It stands behind the code of each procedure, so that no two begin at one address. An error is want of memory, and
+/// nothing is changed.
+pub fn close(asm: &mut Asm) -> Result<(), AllocError>
+    ensures parts { OnOk result (asm.new.parts ≡ asm.old.parts ++ Single Ebreak ∷ []) }
+    ensures labels { asm.new.labels ≡ asm.old.labels }
+{
+    asm.emit(Instr::Ebreak)?;
+    Ok(())
+}
+
+/// Calls `main`, and ends the run with what it returns, at a label. An error is want of memory, and then some of the instructions may be there.
+fn lay_start(asm: &mut Asm, main: Label, last: Label) -> Result<(), AllocError>
+    requires main { IsTarget asm.old.labels main }
+    requires last { slice_get asm.old.labels last.number ≡ Some (Inner false) }
+    ensures calls { OnOk result (Appends asm.old.parts asm.new.parts (λ x from to. CallsMain main last x from)) }
+    ensures ends { OnOk result (Codes asm.new.parts last (λ x from to. AsksFor 1 (λ t. request.End (t.registers 10)) x from)) }
+    ensures closed { OnOk result (IsClosed asm.new.parts) }
+    ensures size { OnOk result (all_longest asm.new.parts ≤ all_longest asm.old.parts + 20) }
+    ensures labels { OnOk result (asm.new.labels ≡ slice_set asm.old.labels last.number (Inner true)) }
+{
+    asm.call(main)?;
+    asm.place(last);
+    ask_end(asm)?;
+    close(asm)?;
+    Ok(())
+}
+
+/// Ends the run at the limit of the stack, at a label. An error is want of memory, and then some of the instructions may be there.
+pub fn lay_limit(asm: &mut Asm, limit: Label) -> Result<(), AllocError>
+    requires { slice_get asm.old.labels limit.number ≡ Some (Inner false) }
+    ensures placed { OnOk result ((back : List Part) × (asm.new.parts ≡ asm.old.parts ++ Place limit ∷ back)) }
+    ensures ends { OnOk result (Codes asm.new.parts limit (λ x from to. AsksFor 1 (λ t. request.StackLimit) x from)) }
+    ensures size { OnOk result (all_longest asm.new.parts ≤ all_longest asm.old.parts + 8) }
+    ensures labels { OnOk result (asm.new.labels ≡ slice_set asm.old.labels limit.number (Inner true)) }
+{
+    asm.place(limit);
+    ask_limit(asm)?;
+    Ok(())
+}
+
+/// The code with which a run begins.
+#[derive(Debug, Drop)]
+pub struct Start {
+    pub code: UnitCode,
+    /// Where in it the call of `main` comes back.
+    pub last: u64,
+}
+
+/// The code with which a run of a program begins: it calls `main`, a symbol as all procedures are. An error is want of memory.
+pub fn start_code(alloc: Global, program: &Program) -> Result<Start, AllocError>
+    requires range { IsInRange program.now }
+    requires labels { length program.now.labels ≤ 1000000 }
+    ensures { IfOk result (IsStart program.now) }
+{
+    let mut asm = Asm::new(alloc);
+    let before = program.globals.len() + program.labels.len();
+    let main = asm.outer(before as u32 + program.main, true)?;
+    let last = asm.label()?;
+    lay_start(&mut asm, main, last)?;
+    let placed = asm.finish(0)?;
+    let last = place(placed.places.as_slice(), last);
+    let code = UnitCode {
+        code: placed.bytes,
+        fixes: placed.fixes,
+        procedures: Items::new(alloc),
+        landings: Items::new(alloc),
+    };
+    Ok(Start { code, last })
+}

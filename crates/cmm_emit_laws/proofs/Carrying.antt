@@ -1,0 +1,141 @@
+-- What is shown as values go out to where they travel, and come to places.
+use Rattle.std.proofs.Common.{◌≡◌, ◌⊎◌, inl, inr, ℕ, zero, suc, ◌+◌, ◌-◌, ◌*◌, ◌<◌, ◌≤◌, refl, sym, ◌∙◌, ap, subst, arith, Bool, true, false, List, [], ◌∷◌, length, Option, Some, None}
+use Rattle.std.specs.Prelude.{◌==◌, ◌&&◌, ◌||◌, min, nat_le, nat_lt, slice_get, slice_index_or}
+use Rattle.std.specs.List.{list_all}
+use Rattle.std.proofs.lemmas.Bool.{and_parts}
+use Rattle.std.proofs.lemmas.Bool.Decides.{nat_tests}
+use Rattle.cmm_chain.specs.declared.frame.Location.{Location}
+use Rattle.cmm_chain.specs.declared.frame.Location.TheVariants.{Slot, Saved, Temp}
+use Rattle.cmm_abi.specs.Registers.{is_callee_saves, is_temporary, is_scratch}
+use Rattle.cmm_chain.specs.Contents.{Number}
+use Rattle.cmm_chain.specs.Running.{Holdings, none_known, put_in}
+use Rattle.cmm_program.specs.Memory.{Outside, cell_at, rooms_of}
+use Rattle.cmm_program.specs.State.{Setting, Activation, Store}
+use Rattle.rv_table.proofs.Shared.{loaded-below}
+use Rattle.rv_table.specs.Machine.{MemoryMap, State, loaded, region_base, stack_base}
+use Rattle.cmm_effects.specs.Changes.{Puts}
+use Rattle.cmm_calls.specs.Frames.{PutsEach, zeros}
+use Rattle.cmm_calls.specs.Values.{Gives, is_taken_first, value_in}
+use Rattle.cmm_select.specs.declared.operand.Operand.{Operand}
+use Rattle.cmm_emit_laws.specs.Words.{Symbols, Sits, register_address, value_at}
+use Rattle.cmm_emit_laws.specs.Shown.{ArePlacesOf, IsFor, IsGiven, IsPlaceOf, IsShown, put_each}
+use Rattle.cmm_emit_laws.proofs.WrittenWords.{rooms_same, shown_same}
+use Rattle.cmm_emit_laws.proofs.Frames.{region_free}
+use Rattle.cmm_emit_laws.proofs.Showing.{no_values, own_word_sits, put_shows, saved_no_scratch}
+
+-- values that were brought are done with
+pub forget_values : (y : Symbols) (s : Setting) (m : MemoryMap) (h : Holdings) (store : Store) (carried : List ℕ) (t : State) → IsShown y s m h store carried t → IsShown y s m h store [] t
+forget_values y s m h store carried t shows = record {
+  holdings = shows.holdings;
+  words = shows.words;
+  cells = shows.cells;
+  registers = shows.registers;
+  values = no_values t.registers t.memory;
+  stack = shows.stack;
+  at = shows.at;
+}
+
+-- numbers are put into places, one after the other
+pub puts_show : (y : Symbols) (s : Setting) (m : MemoryMap) → IsFor s m → (list : List (Location × ℕ)) (h : Holdings) (store : Store) (a : Activation) (older : List Activation) (t t' : State) →
+    store.activations ≡ a ∷ older → ArePlacesOf s a list → PutsEach list t t' → IsShown y s m h store [] t → IsShown y s m (put_each list h) store [] t'
+puts_show y s m is_for [] h store a older t t' youngest are puts shows = subst (λ (u : State). IsShown y s m h store [] u) puts shows
+puts_show y s m is_for ((place, n) ∷ rest) h store a older t t' youngest are puts shows =
+    puts_show y s m is_for rest (put_in place (Number n) h) store a older puts.0 t' youngest are.1.1 puts.2
+    (put_shows y s m is_for h store a older t puts.0 youngest place n are.0 are.1.0 puts.1 shows)
+
+-- ---- values stay where they came while places are put in which none of them is
+
+module _ (y : Symbols) (s : Setting) (m : MemoryMap) (is_for : IsFor s m) (store : Store) (a : Activation) (older : List Activation) (youngest : store.activations ≡ a ∷ older)
+    (count i : ℕ) (among : i < count) (few : i < 64) where
+  module _ (h : Holdings) (t t' : State) (shows : IsShown y s m h store [] t) where
+    value_same : (i < 8 → t'.registers (10 + i) ≡ t.registers (10 + i)) → ((b : ℕ) → b + 8 ≤ stack_base → loaded t'.memory b 8 ≡ loaded t.memory b 8) → value_in i t' ≡ value_in i t
+    value_same registers below = by (nat_lt i 8) refl
+      where
+        by : (test : Bool) → nat_lt i 8 ≡ test → value_in i t' ≡ value_in i t
+        by true is = rw (value_in, is) (registers (grind (arith, nat_tests, is)))
+        by false is = rw (value_in, is) (below (region_base + 8 * (i - 8)) (omega arith))
+
+    saved_apart : (r : ℕ) → is_callee_saves r ≡ true → i < 8 → ((10 + i == r) || is_scratch (10 + i)) ≡ false
+    saved_apart r is early = grind (arith, nat_tests, is, early)
+
+    temp_differs : (r : ℕ) → is_temporary r ≡ true → is_taken_first count 0 (Temp r) ≡ true → i < 8 → ((10 + i == r) || is_scratch (10 + i)) ≡ false
+    temp_differs r is apart early =
+        let far : nat_le (10 + min count 8) r ≡ true = grind (arith, nat_tests, is, apart) in
+        let near : 10 + i < 10 + min count 8 = grind (arith, nat_tests, among, early) in
+        grind (arith, nat_tests, far, near)
+
+    value_stays : (place : Location) (n : ℕ) → IsPlaceOf s a place → is_taken_first count 0 place ≡ true → Puts place n t t' → value_in i t' ≡ value_in i t
+    value_stays (Slot offset) n is apart puts =
+        let sits : Sits m store.memory (h.point.at + offset) = own_word_sits y s m is_for h store a older t t' youngest offset [] is shows in
+        let low : stack_base ≤ t.registers 2 + offset = omega (arith, sits.low, shows.holdings.frame) in
+        value_same (λ early. puts.registers (10 + i) (grind (arith, nat_tests)))
+        (λ b below. rw puts.memory (loaded-below t.memory (t.registers 2 + offset) 8 n b 8 (omega (arith, low, below))))
+    value_stays (Saved r) n is apart puts = value_same (λ early. puts.1 (10 + i) (saved_apart r is early)) (λ b below. rw puts.2 refl)
+    value_stays (Temp r) n is apart puts = value_same (λ early. puts.1 (10 + i) (temp_differs r is apart early)) (λ b below. rw puts.2 refl)
+
+  pub zeros_keep_values : (places : List Location) (h : Holdings) (t t' : State) → ArePlacesOf s a (zeros places) → list_all (is_taken_first count 0) places ≡ true →
+      PutsEach (zeros places) t t' → IsShown y s m h store [] t → value_in i t' ≡ value_in i t
+  zeros_keep_values [] h t t' are apart puts shows = ap (value_in i) (sym puts)
+  zeros_keep_values (place ∷ places) h t t' are apart puts shows =
+      let both = and_parts (is_taken_first count 0 place) (list_all (is_taken_first count 0) places) apart in
+      zeros_keep_values places (put_in place (Number 0) h) puts.0 t' are.1.1 both.1 puts.2
+      (put_shows y s m is_for h store a older t puts.0 youngest place 0 are.0 are.1.0 puts.1 shows)
+      ∙ value_stays h t puts.0 shows place 0 are.0 both.0 puts.1
+
+none_past : (operands : List Operand) (i : ℕ) → slice_get operands i ≡ None → i < length operands → ⊥
+none_past [] i is less = omega arith
+none_past (operand ∷ operands) zero is less = absurd (cc)
+none_past (operand ∷ operands) (suc i) is less = none_past operands i is (omega arith)
+
+loaded_same : (bytes bytes' : ℕ → ℕ) (a n : ℕ) → ((i : ℕ) → i < n → bytes' (a + i) ≡ bytes (a + i)) → loaded bytes' a n ≡ loaded bytes a n
+loaded_same bytes bytes' a zero same = refl
+loaded_same bytes bytes' a (suc n) same =
+    let first : bytes' a ≡ bytes a = subst (λ (k : ℕ). bytes' k ≡ bytes k) (omega arith) (same 0 (omega arith)) in
+    let rest : loaded bytes' (a + 1) n ≡ loaded bytes (a + 1) n =
+    loaded_same bytes bytes' (a + 1) n (λ i less. subst (λ (k : ℕ). bytes' k ≡ bytes k) (omega arith) (same (suc i) (omega arith))) in
+    omega (arith, first, rest)
+
+module _ (y : Symbols) (s : Setting) (m : MemoryMap) (is_for : IsFor s m) (h : Holdings) (store : Store) (values : List ℕ) (address_of : ℕ → ℕ) (operands : List Operand) (t t' : State)
+    (gives : Gives address_of operands t t') (is_given : IsGiven address_of operands values t) (shows : IsShown y s m h store [] t) where
+  far : (k : ℕ) → region_base + 448 ≤ k → region_base + 8 * (length operands - 8) ≤ k
+  far k above = omega (arith, is_given.count, is_given.few)
+
+  keeps : (r : ℕ) → nat_le 10 r && nat_lt r 18 ≡ false → is_scratch r ≡ false → t'.registers r ≡ t.registers r
+  keeps r apart scratch = gives.registers r (grind (arith, nat_tests, apart, scratch))
+
+  free : (k : ℕ) (low : Bool) → nat_lt k region_base ≡ low → (area : Bool) → nat_lt k (region_base + 448) ≡ area →
+      (t'.memory k ≡ t.memory k) ⊎ (cell_at store.memory k ≡ Outside)
+  free k true low area top = inl (gives.memory k (inl (grind (arith, nat_tests))))
+  free k false low false top = inl (gives.memory k (inr (far k (grind (arith, nat_tests)))))
+  free k false low true top = inr (region_free s m is_for store shows.stack k (grind (arith, nat_tests)) (grind (arith, nat_tests)))
+
+  pub given_shows : IsShown y s m (record h { temps = none_known }) store values t'
+  given_shows = record {
+    holdings = record {
+      zero = keeps 0 refl refl ∙ shows.holdings.zero;
+      frame = keeps 2 refl refl ∙ shows.holdings.frame;
+      region = keeps 4 refl refl ∙ shows.holdings.region;
+      back = shown_same y h.point.back (t.registers 1) (t'.registers 1) (λ known. keeps 1 refl refl) shows.holdings.back;
+      kept = λ r is. shown_same y (h.point.kept r) (t.registers r) (t'.registers r)
+          (λ known. keeps r (grind (arith, nat_tests, is)) (saved_no_scratch r is)) (shows.holdings.kept r is);
+      temps = λ r is. tt;
+    };
+    words = record {
+      sits = shows.words.sits;
+      shown = λ b. shown_same y (h.contents b) (loaded t.memory b 8) (loaded t'.memory b 8)
+          (λ known. loaded_same t.memory t'.memory b 8 (λ i less. gives.memory (b + i) (inr (far (b + i) (omega (arith, (shows.words.sits b known).low)))))) (shows.words.shown b);
+    };
+    cells = rooms_same (rooms_of store.memory) t.memory t'.memory (λ k. free k (nat_lt k region_base) refl (nat_lt k (region_base + 448)) refl) shows.cells;
+    registers = (
+      shows.registers.0,
+      λ r less. loaded_same t.memory t'.memory (register_address r) 8 (λ i under. gives.memory (register_address r + i) (inr (far (register_address r + i) (omega arith))))
+          ∙ shows.registers.1 r less,
+    );
+    values = (is_given.few, λ i less. given_at i less (slice_get operands i) refl);
+    stack = shows.stack;
+    at = shows.at;
+  }
+    where
+      given_at : (i : ℕ) → i < length values → (o : Option Operand) → slice_get operands i ≡ o → value_at t'.registers t'.memory i ≡ slice_index_or values i 0
+      given_at i less (Some operand) is = gives.arrive i operand is ∙ is_given.have i operand is
+      given_at i less None is = absurd (none_past operands i is (omega (arith, is_given.count, less)))

@@ -1,0 +1,17 @@
+pub mod Words
+pub mod Shown
+pub mod StateLaws
+pub mod Outside
+pub mod Serving
+pub mod RequestLaws
+pub mod Finished
+pub mod NodeCode
+pub mod ProgramCode
+pub mod Laying
+pub mod Standing
+pub mod Starting
+pub mod Placing
+pub mod Naming
+pub mod Examples
+pub mod Laws
+pub mod Agreeing

@@ -1,5 +1,0 @@
-use Rattle.cmm_execution.proofs.StackRead.{images_keep_frames}
-use Rattle.cmm_execution.proofs.laws.images_keep_frames.Goals as goal
-
-pub returns : goal.returns
-returns c = images_keep_frames

@@ -1,5 +1,0 @@
-use Rattle.cmm_execution.proofs.StackRead.{walk_reads_the_stack}
-use Rattle.cmm_execution.proofs.laws.walks_read_the_stack.Goals as goal
-
-pub returns : goal.returns
-returns c = walk_reads_the_stack

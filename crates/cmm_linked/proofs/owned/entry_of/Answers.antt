@@ -1,8 +1,0 @@
-use Rattle.std.proofs.Common.{sym, ap, ◌∙◌}
-use Rattle.cmm_accepted.specs.Senses.{is_host}
-use Rattle.cmm_names.proofs.Shared.{entry_found}
-use Rattle.cmm_linked.proofs.owned.entry_of.Goals as goal
-
-pub returns-else-is_host : goal.returns-else-is_host
-returns-else-is_host c = entry_found c.args.name.now c.args.table.now.declared c.find.result
-    (sym (c.is_host.ensures ∙ ap is_host c.as_bytes.ensures) ∙ c.if-is_host.false) c.find.ensures

@@ -1,6 +1,0 @@
-use Rattle.cmm_linked.proofs.Gathering.{names_sorted}
-use Rattle.cmm_linked.proofs.register_names.put_in_order.Goals as goal
-
-pub returns-clause-names : goal.returns-clause-names
-returns-clause-names c =
-    names_sorted c.args.names.now.keys c.sort.new.self.keys c.sort.ensures.reordered.0 c.in_ok-sort.ensures.sorted c.sort.ensures.unique

@@ -1,6 +1,0 @@
--- The link names under which units export something.
-use Rattle.std.specs.Prelude.{ℕ, List, map}
-use Rattle.cmm_accepted.specs.Linking.{Program}
-
-abbrev pub exported_links : Program → List (List ℕ)
-exported_links program = map (λ p. p.link) program.exports

@@ -1,0 +1,17 @@
+pub mod Lengths
+pub mod Turns
+pub mod Continuations
+pub mod CallSites
+pub mod Variants
+pub mod Making
+pub mod Statements
+pub mod WholeProcedures
+pub mod Marked
+pub mod Kept
+pub mod AcceptedProcedures
+pub mod Sections
+pub mod Growing
+pub mod AcceptedUnits
+pub mod Joined
+pub mod Known
+pub mod Shared

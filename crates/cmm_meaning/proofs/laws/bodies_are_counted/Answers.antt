@@ -1,5 +1,0 @@
-use Rattle.cmm_meaning.proofs.BodyTokens.{bodies_are_counted}
-use Rattle.cmm_meaning.proofs.laws.bodies_are_counted.Goals as goal
-
-pub returns : goal.returns
-returns c = bodies_are_counted

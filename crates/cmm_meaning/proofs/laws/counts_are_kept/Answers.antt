@@ -1,5 +1,0 @@
-use Rattle.cmm_meaning.proofs.Weighing.{counts_are_kept}
-use Rattle.cmm_meaning.proofs.laws.counts_are_kept.Goals as goal
-
-pub returns : goal.returns
-returns c = counts_are_kept

@@ -1,5 +1,0 @@
-use Rattle.cmm_meaning.proofs.DataSize.{data_fits}
-use Rattle.cmm_meaning.proofs.laws.data_fits.Goals as goal
-
-pub returns : goal.returns
-returns c = data_fits

@@ -1,5 +1,0 @@
-use Rattle.cmm_meaning.proofs.Datums.{datums_are_in_range}
-use Rattle.cmm_meaning.proofs.laws.datums_are_in_range.Goals as goal
-
-pub returns : goal.returns
-returns c = datums_are_in_range

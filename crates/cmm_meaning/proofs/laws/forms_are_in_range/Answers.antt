@@ -1,5 +1,0 @@
-use Rattle.cmm_meaning.proofs.AllForms.{forms_are_in_range}
-use Rattle.cmm_meaning.proofs.laws.forms_are_in_range.Goals as goal
-
-pub returns : goal.returns
-returns c = forms_are_in_range

@@ -1,5 +1,0 @@
-use Rattle.cmm_meaning.proofs.Labels.{labels_are_there}
-use Rattle.cmm_meaning.proofs.laws.labels_are_there.Goals as goal
-
-pub returns : goal.returns
-returns c = labels_are_there

@@ -1,5 +1,0 @@
-use Rattle.cmm_meaning.proofs.ProgramLimits.{limits_are_kept}
-use Rattle.cmm_meaning.proofs.laws.limits_are_kept.Goals as goal
-
-pub returns : goal.returns
-returns c = limits_are_kept

@@ -1,5 +1,0 @@
-use Rattle.cmm_meaning.proofs.MarkNumbers.{marks_are_in_order}
-use Rattle.cmm_meaning.proofs.laws.marks_are_in_order.Goals as goal
-
-pub returns : goal.returns
-returns c = marks_are_in_order

@@ -1,5 +1,0 @@
-use Rattle.cmm_meaning.proofs.WholeUnits.{names_are_whole}
-use Rattle.cmm_meaning.proofs.laws.names_are_whole.Goals as goal
-
-pub returns : goal.returns
-returns c = names_are_whole

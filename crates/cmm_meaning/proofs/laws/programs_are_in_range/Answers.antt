@@ -1,5 +1,0 @@
-use Rattle.cmm_meaning.proofs.Together.{programs_are_in_range}
-use Rattle.cmm_meaning.proofs.laws.programs_are_in_range.Goals as goal
-
-pub returns : goal.returns
-returns c = programs_are_in_range

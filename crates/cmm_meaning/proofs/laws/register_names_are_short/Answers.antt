@@ -1,5 +1,0 @@
-use Rattle.cmm_meaning.proofs.RegisterNames.{register_names_are_short}
-use Rattle.cmm_meaning.proofs.laws.register_names_are_short.Goals as goal
-
-pub returns : goal.returns
-returns c = register_names_are_short

@@ -1,5 +1,0 @@
-use Rattle.cmm_meaning.proofs.SiteNumbers.{sites_are_in_order}
-use Rattle.cmm_meaning.proofs.laws.sites_are_in_order.Goals as goal
-
-pub returns : goal.returns
-returns c = sites_are_in_order

@@ -1,5 +1,0 @@
-use Rattle.cmm_meaning.proofs.Starting.{start_has_no_formals}
-use Rattle.cmm_meaning.proofs.laws.start_has_no_formals.Goals as goal
-
-pub returns : goal.returns
-returns c = start_has_no_formals

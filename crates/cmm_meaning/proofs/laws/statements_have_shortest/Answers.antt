@@ -1,5 +1,0 @@
-use Rattle.cmm_meaning.proofs.SpentBodies.{statements_have_shortest}
-use Rattle.cmm_meaning.proofs.laws.statements_have_shortest.Goals as goal
-
-pub returns : goal.returns
-returns c = statements_have_shortest

@@ -1,5 +1,0 @@
-use Rattle.cmm_meaning.proofs.Forms.{statements_keep_rules}
-use Rattle.cmm_meaning.proofs.laws.statements_keep_rules.Goals as goal
-
-pub returns : goal.returns
-returns c = statements_keep_rules

@@ -1,5 +1,0 @@
-use Rattle.cmm_meaning.proofs.OfBytes.{texts_are_bytes}
-use Rattle.cmm_meaning.proofs.laws.texts_are_bytes.Goals as goal
-
-pub returns : goal.returns
-returns c = texts_are_bytes

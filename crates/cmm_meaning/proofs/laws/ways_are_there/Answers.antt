@@ -1,5 +1,0 @@
-use Rattle.cmm_meaning.proofs.Leading.{ways_are_there}
-use Rattle.cmm_meaning.proofs.laws.ways_are_there.Goals as goal
-
-pub returns : goal.returns
-returns c = ways_are_there

@@ -1,5 +1,0 @@
-use Rattle.cmm_meaning.proofs.Widths.{widths_are_kept}
-use Rattle.cmm_meaning.proofs.laws.widths_are_kept.Goals as goal
-
-pub returns : goal.returns
-returns c = widths_are_kept

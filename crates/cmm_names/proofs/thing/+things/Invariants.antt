@@ -1,8 +1,0 @@
-use Rattle.std.proofs.Common.{◌≡◌, ◌++◌, List, map, take}
-use Rattle.std.specs.Prelude.{flat_map}
-use Rattle.cmm_accepted.specs.Items.{SpanTree, item_within}
-use Rattle.cmm_names.specs.Shown.{thing_item, whats}
-use Rattle.cmm_names.proofs.thing.+things.Given as goal
-
-abbrev pub invariant-add_items-loop-item : goal.invariant-add_items-loop-item
-invariant-add_items-loop-item l = (spans : List SpanTree) → map thing_item l.to ≡ map thing_item l.initial.to ++ whats (flat_map (item_within spans) (take l.item-index l.items))

@@ -1,5 +1,0 @@
-use Rattle.cmm_nodes.proofs.Covering.{graphs_are_short}
-use Rattle.cmm_nodes.proofs.laws.graphs_are_short.Goals as goal
-
-pub returns : goal.returns
-returns c = graphs_are_short

@@ -1,7 +1,0 @@
-use Rattle.std.proofs.Common.{◌≡◌, take}
-use Rattle.cmm_nodes.specs.Naming.{variable_places}
-use Rattle.cmm_nodes.proofs.operand.variable_places.Given as goal
-
--- the places of the variables so far
-abbrev pub invariant-loop-variable : goal.invariant-loop-variable
-invariant-loop-variable l = l.places ≡ variable_places l.context (take l.variable-index l.variables)

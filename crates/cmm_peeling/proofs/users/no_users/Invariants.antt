@@ -1,6 +1,0 @@
-use Rattle.std.proofs.Common.{◌≡◌}
-use Rattle.cmm_peeling.specs.inside.Listed.{nobody}
-use Rattle.cmm_peeling.proofs.users.no_users.Given as goal
-
-abbrev pub invariant-loop : goal.invariant-loop
-invariant-loop l = l.users.items ≡ nobody l.index

@@ -1,5 +1,0 @@
-use Rattle.cmm_places.proofs.Placed.{entries_are_short}
-use Rattle.cmm_places.proofs.laws.entries_are_short.Goals as goal
-
-pub returns : goal.returns
-returns c = entries_are_short

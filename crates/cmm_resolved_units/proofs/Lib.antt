@@ -1,4 +1,0 @@
-pub mod Growing
-pub mod Accepted
-pub mod Joined
-pub mod Known

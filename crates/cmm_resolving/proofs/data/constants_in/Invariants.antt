@@ -1,7 +1,0 @@
-use Rattle.std.proofs.Common.{◌≡◌, map, take, Some}
-use Rattle.cmm_accepted.specs.Constants.{constant_alone}
-use Rattle.cmm_meaning.specs.Resolving.{or_zero}
-use Rattle.cmm_resolving.proofs.data.constants_in.Given as goal
-
-abbrev pub invariant-loop-value : goal.invariant-loop-value
-invariant-loop-value g l = l.constants ≡ map (λ e. or_zero l.width (constant_alone (g.N.Names.senses l.names) (Some l.width) e)) (take l.value-index l.values)

@@ -1,5 +1,0 @@
-use Rattle.cmm_resolving.proofs.Accepted.{alignments_are_small as law}
-use Rattle.cmm_resolving.proofs.laws.alignments_are_small.Goals as goal
-
-pub returns : goal.returns
-returns c = law

@@ -1,5 +1,0 @@
-use Rattle.cmm_resolving.proofs.Accepted.{parameters_are_variables as law}
-use Rattle.cmm_resolving.proofs.laws.parameters_are_variables.Goals as goal
-
-pub returns : goal.returns
-returns c = law

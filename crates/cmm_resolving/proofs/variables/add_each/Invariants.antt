@@ -1,7 +1,0 @@
-use Rattle.std.proofs.Common.{◌≡◌, ◌++◌, map, take}
-use Rattle.cmm_meaning.specs.Procedures.{variable_info}
-use Rattle.cmm_scopes.specs.Bodies.{scope_of_body}
-use Rattle.cmm_resolving.proofs.variables.add_each.Given as goal
-
-abbrev pub invariant-loop-name : goal.invariant-loop-name
-invariant-loop-name g l = l.to ≡ l.initial.to ++ map (λ i. variable_info (scope_of_body g.N.Names.senses l.names) l.modifiers l.t) (take l._name-index l.declared)

@@ -1,3 +1,0 @@
-pub mod Simulating
-pub mod Itself
-pub mod Shared

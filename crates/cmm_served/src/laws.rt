@@ -1,8 +1,0 @@
-//! What holds of machines that are served by images, as contracts.
-ghost use Rattle.cmm_served.specs.Laws.{ImagesSimulateThemselves, StepsAreDone};
-
-/// Every step of an image is done by one instruction or one request, and so the image simulates itself.
-pub fn images_serve_themselves()
-    ensures done { StepsAreDone }
-    ensures simulates { ImagesSimulateThemselves }
-{}

@@ -1,8 +1,0 @@
-use Rattle.cmm_shown.proofs.Reading.{held_is_read, place_is_reachable}
-use Rattle.cmm_shown.proofs.laws.places_are_shown.Goals as goal
-
-pub returns-clause-read : goal.returns-clause-read
-returns-clause-read c = λ y s m h store carried a older t is_for youngest shows. held_is_read y s m is_for h store carried a older t youngest shows
-
-pub returns-clause-reached : goal.returns-clause-reached
-returns-clause-reached c = λ y s m h store carried a older t is_for youngest shows. place_is_reachable y s m is_for h store carried a older t youngest shows

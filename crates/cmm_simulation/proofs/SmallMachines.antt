@@ -1,0 +1,61 @@
+-- The small machines: what lasts in them, the two simulations, and what the theory makes of these.
+use Rattle.std.proofs.Common.{◌≡◌, refl, arith}
+use Rattle.std.specs.Prelude.{Bool, true, false}
+use Rattle.cmm_simulation.proofs.Agreements.{agrees_of_follows}
+use Rattle.cmm_simulation.proofs.Composing.{follows_trans, simulates_trans}
+use Rattle.cmm_simulation.proofs.Followings.{follows_of_simulates}
+use Rattle.cmm_simulation.proofs.Paths.{joined, one_step}
+use Rattle.cmm_simulation.proofs.Prefixes.{prefix_more, prefix_refl}
+use Rattle.cmm_simulation.proofs.Runs.{one_end, right_until}
+use Rattle.cmm_simulation.proofs.Scaling.{follows_scaled, simulates_scaled}
+use Rattle.cmm_simulation.proofs.Simulations.{in_lock_step}
+use Rattle.cmm_simulation.specs.Examples.{UncheckedSimulates, TickingSimulates, TicksSimulate, TicksFollow, TicksAgree, EndsOnce}
+use Rattle.cmm_simulation.specs.Machine.{Machine, Lasts}
+use Rattle.cmm_simulation.specs.Reader.{reader, start}
+use Rattle.cmm_simulation.specs.Ticking.{ticking}
+
+-- what is seen of a reader only grows, and one that is over or wrong stays so
+reader_lasts : (checks : Bool) → Lasts (reader checks)
+reader_lasts checks =
+    record { grows = λ s. grind (arith, prefix_refl, prefix_more); over = λ s ending is. grind arith; wrong = λ s is. grind arith }
+
+-- where the check finds no 0, it makes no difference
+pub unchecked_simulates : UncheckedSimulates
+unchecked_simulates = in_lock_step (λ s t is. grind arith) (λ s t is right. grind arith)
+
+-- a machine lasts when it is done in ticks
+ticking_lasts : {S L C E : Type 0} (M : Machine S L C E) → Lasts M → Lasts (ticking M)
+ticking_lasts M lasts =
+    record { grows = λ u. grind (arith, prefix_refl, lasts.grows u.0); over = λ u ending is. grind arith; wrong = λ u is. grind arith }
+
+-- a step is fetched, which shows nothing, and done
+pub ticking_simulates : TickingSimulates
+ticking_simulates checks = record {
+  level = λ s u is. grind arith;
+  leads = λ s u is right.
+      rw is
+      (joined {Q = λ v. v ≡ (s, true)} {m = 1} {n = 1} {o = 1}
+      (one_step (grind (arith, (reader_lasts checks).grows s, right_until _ (reader_lasts checks) 0 1 s)) refl (omega arith))
+      (λ v at. rw at (one_step (grind (arith, prefix_refl)) refl (omega arith))) (omega arith) (omega arith));
+}
+
+-- both together, the first at two for a step
+pub ticks_simulate : TicksSimulate
+ticks_simulate =
+    simulates_trans (simulates_scaled 2 (λ _. omega arith) (λ _. omega arith) unchecked_simulates) (ticking_simulates false)
+
+-- the unchecked reader follows the checked one, at two for a step once this is scaled, and ticks follow it at two a step
+pub ticks_follow : TicksFollow
+ticks_follow input =
+    follows_trans
+    (follows_scaled 2 (λ _. omega arith) (λ _. omega arith) (follows_of_simulates (reader_lasts true) unchecked_simulates refl))
+    (follows_of_simulates (reader_lasts false) (ticking_simulates false) refl)
+
+-- so they agree
+pub ticks_agree : TicksAgree
+ticks_agree input =
+    agrees_of_follows (reader_lasts true) (ticking_lasts (reader false) (reader_lasts false)) (omega arith) (ticks_follow input)
+
+-- the reader ends once, as every machine that lasts
+pub ends_once : EndsOnce
+ends_once checks input first second m n = one_end (reader checks) (reader_lasts checks) first second m n (start input)

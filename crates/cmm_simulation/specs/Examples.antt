@@ -1,0 +1,35 @@
+-- What the theory proves of the small machines.
+use Rattle.std.specs.Prelude.{◌≡◌, ℕ, List, Bool, true, false, Some}
+use Rattle.cmm_simulation.specs.Agreement.{Agrees}
+use Rattle.cmm_simulation.specs.Following.{Follows}
+use Rattle.cmm_simulation.specs.Machine.{after}
+use Rattle.cmm_simulation.specs.Reader.{reader, start}
+use Rattle.cmm_simulation.specs.Seen.{End}
+use Rattle.cmm_simulation.specs.Simulation.{Simulates, Through}
+use Rattle.cmm_simulation.specs.Ticking.{ticking}
+
+-- in lock-step, the reader that does not check for 0 simulates the one that does, in the same states
+abbrev pub UncheckedSimulates : Type 0
+UncheckedSimulates = Simulates (reader true) (λ _. 1) (reader false) (λ _. 1) (λ s t. s ≡ t)
+
+-- done in two ticks a step, a reader simulates itself: in the same state, its step still to be fetched
+abbrev pub TickingSimulates : Type 0
+TickingSimulates = (checks : Bool) → Simulates (reader checks) (λ _. 2) (ticking (reader checks)) (λ _. 1) (λ s u. u ≡ (s, false))
+
+-- so the unchecked reader done in ticks simulates the checked one, at two ticks a step
+abbrev pub TicksSimulate : Type 0
+TicksSimulate = Simulates (reader true) (λ _. 2) (ticking (reader false)) (λ _. 1) (Through (λ s t. s ≡ t) (λ t u. u ≡ (t, false)))
+
+-- on every input, the unchecked reader done in ticks follows the checked one at two ticks a step
+abbrev pub TicksFollow : Type 0
+TicksFollow = (input : List ℕ) → Follows (reader true) (λ _. 2) (ticking (reader false)) (λ _. 1) (start input) (start input, false)
+
+-- and agrees with it with the factor 2
+abbrev pub TicksAgree : Type 0
+TicksAgree = (input : List ℕ) → Agrees (reader true) (ticking (reader false)) 2 (start input) (start input, false)
+
+-- a run of a reader has one ending at most
+abbrev pub EndsOnce : Type 0
+EndsOnce = (checks : Bool) (input : List ℕ) (first second m n : ℕ) →
+    (reader checks).asks (after (reader checks) m (start input)) ≡ Some (End first) →
+    (reader checks).asks (after (reader checks) n (start input)) ≡ Some (End second) → first ≡ second

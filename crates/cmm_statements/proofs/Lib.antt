@@ -1,3 +1,0 @@
-pub mod Sided
-pub mod Switched
-pub mod Whole

@@ -1,9 +1,0 @@
-use Rattle.std.proofs.Common.{◌≡◌, take}
-use Rattle.std.specs.Prelude.{flat_map}
-use Rattle.cmm_accepted.specs.Spots.{first_of}
-use Rattle.cmm_scopes.specs.Bodies.{scope_of_body}
-use Rattle.cmm_statements.specs.inside.Formals.{formal_spots}
-use Rattle.cmm_statements.proofs.declaring.note_types.Given as goal
-
-abbrev pub invariant-loop-formal : goal.invariant-loop-formal
-invariant-loop-formal g l = l.best ≡ first_of l.fn.best (flat_map (formal_spots (scope_of_body g.N.Names.senses l.names)) (take l.formal-index l.formals))

@@ -1,4 +1,0 @@
-pub mod Forms
-pub mod Parted
-pub mod Sides
-pub mod Formals

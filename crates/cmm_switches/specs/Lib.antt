@@ -1,4 +1,0 @@
-pub mod InOrder
-pub mod Extents
-pub mod Heads
-pub mod inside

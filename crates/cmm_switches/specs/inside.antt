@@ -1,3 +1,0 @@
-pub mod Earlier
-pub mod Arms
-pub mod Falling

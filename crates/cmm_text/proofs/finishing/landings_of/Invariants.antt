@@ -1,7 +1,0 @@
-use Rattle.std.proofs.Common.{◌≡◌, map, take}
-use Rattle.cmm_text.specs.Finishing.{places_at}
-use Rattle.cmm_text.proofs.finishing.landings_of.Given as goal
-
--- those of the procedures so far
-abbrev pub invariant-loop-context : goal.invariant-loop-context
-invariant-loop-context l = l.found ≡ map (λ c. places_at l.places c.landings) (take l.context-index l.contexts)

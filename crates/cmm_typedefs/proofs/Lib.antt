@@ -1,4 +1,0 @@
-pub mod Numbering
-pub mod Evaluated
-pub mod Meanings
-pub mod Shared

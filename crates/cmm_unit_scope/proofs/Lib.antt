@@ -1,0 +1,12 @@
+pub mod Numbering
+pub mod Evaluated
+pub mod Meanings
+pub mod Listed
+pub mod Depended
+pub mod Lacking
+pub mod Outcomes
+pub mod Local
+pub mod Order
+pub mod Setting
+pub mod Loops
+pub mod Shared

@@ -1,0 +1,4 @@
+pub mod Numbers
+pub mod Widths
+pub mod Numbered
+pub mod Evaluating

@@ -1,4 +1,0 @@
-pub mod FirstFaults
-pub mod Named
-pub mod Aligned
-pub mod PartTypes
