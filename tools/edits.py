@@ -1,18 +1,28 @@
 #!/usr/bin/env python3
 """Tries the edits of crates that the prover must refuse, those that `rt ci` tries and those of edits/: edits.py [NAME..]
+or edits.py --since REF [--minutes N] [--gated]
 
-`rt ci` proves a crate once more before the first of its edits, so it tries all of them in light crates alone; docs/CONTRIBUTING.md ("Must-fail edits
-and tests") says how many of each, and edits/NAME/ holds the others. With names, each edit of these crates is tried, over what earlier checks have kept:
-minutes for a light crate, most of an hour for the parser. Without a name nothing is tried: each edit of edits/ must still apply to its crate, and must
-stand there once. The last line is `N passed, M failed`.
+`rt ci` proves a crate once more before the first of its edits, so it tries those of light crates alone, and of those that keep what the top call promises;
+docs/CONTRIBUTING.md ("Must-fail edits and tests") says which, and edits/NAME/ holds the others. With names, each edit of these crates is tried, over what
+earlier checks have kept: minutes for a light crate, most of an hour for the parser. Without a name nothing is tried: each edit of edits/ must still apply to
+its crate, and must stand there once.
+
+With --since the crates are those whose own sources, definitions, proofs or edits differ from REF, in the order of their proofs by the table of
+docs/CONTRIBUTING.md, the lightest first, for N minutes in all (20 where they are not given); what is left then is named, and fails nothing. With --gated
+`rt ci` has just tried those of must-fail/, so that only those aside are tried. The line of each edit names the clause or the place that the prover refuses:
+where that is no clause of the function that the edit turns, but a bound of a slice or an overflow, it says little of the contract, and the edit is written
+anew. The last line is `N passed, M failed`.
 """
 
+import argparse
 import os
 import re
 import shutil
+import signal
 import subprocess
 import sys
 import tempfile
+import time
 
 TOP = os.path.dirname(os.path.dirname(os.path.abspath(__file__)))
 
@@ -68,29 +78,95 @@ def linked(source, target):
         shutil.copy2(source, target)
 
 
+def repository_with(room, names, gated):
+    """A copy of the repository where all edits of the crates are tried by `rt must-fail`, or those aside alone."""
+    copy = f"{room}/repository"
+    shutil.copytree(TOP, copy, copy_function=linked, ignore=shutil.ignore_patterns(".git"))
+    for name in names:
+        to = f"{copy}/crates/{name}/must-fail"
+        if gated:
+            shutil.rmtree(to, ignore_errors=True)
+        os.makedirs(to, exist_ok=True)
+        for edit in edits_of(f"{TOP}/edits/{name}"):
+            shutil.copy2(f"{TOP}/edits/{name}/{edit}", f"{to}/{edit}")
+    return copy
+
+
+def tried(copy, names, seconds=None):
+    """What `rt must-fail` says of each edit of these crates in a copy, and whether it came to its end within the seconds."""
+    ran = subprocess.Popen(
+        ["rt", "must-fail", *names], cwd=copy, stdin=subprocess.DEVNULL, stdout=subprocess.PIPE, stderr=subprocess.STDOUT, text=True, errors="replace", start_new_session=True
+    )
+    ended = True
+    try:
+        said, _ = ran.communicate(timeout=seconds)
+    except subprocess.TimeoutExpired:
+        ended = False
+        os.killpg(ran.pid, signal.SIGTERM)
+        said, _ = ran.communicate()
+    told = [it.removeprefix("rt: ") for it in said.split("\n") if re.search(r"must-fail \w+/\S+\.edit: ", it)]
+    return (told, ended) if told or not ended else ([f"{' '.join(names)}: {said}"], ended)
+
+
 def attempt(names):
-    """Whether the prover refuses every edit of the crates, in a copy of the repository where all of them stand."""
+    """How many edits of the crates the prover does not refuse."""
     with tempfile.TemporaryDirectory(prefix="edits-") as room:
-        copy = f"{room}/repository"
-        shutil.copytree(TOP, copy, copy_function=linked, ignore=shutil.ignore_patterns(".git"))
-        for name in names:
-            to = f"{copy}/crates/{name}/must-fail"
-            os.makedirs(to, exist_ok=True)
-            for edit in edits_of(f"{TOP}/edits/{name}"):
-                shutil.copy2(f"{TOP}/edits/{name}/{edit}", f"{to}/{edit}")
-        ran = subprocess.run(["rt", "must-fail", *names], cwd=copy, stdout=subprocess.PIPE, stderr=subprocess.STDOUT, text=True, errors="replace")
-    told = [it for it in ran.stdout.split("\n") if re.search(r"must-fail \w+/\S+\.edit: ", it)]
+        told, _ = tried(repository_with(room, names, gated=False), names)
+    return count(told)
+
+
+def count(told):
+    """Prints the lines of edits and how many are refused. Gives how many are not."""
     refused = sum(": refused, as it must be" in it for it in told)
-    print("\n".join(told) if told else ran.stdout)
-    print(f"{refused} passed, {max(len(told) - refused, not told)} failed")
-    return ran.returncode
+    print("\n".join([*told, f"{refused} passed, {len(told) - refused} failed"]))
+    return len(told) - refused
 
 
-def main(names):
-    unknown = [it for it in names if not os.path.isdir(f"{TOP}/crates/{it}")]
+def changed_since(ref):
+    """The crates whose sources, definitions, proofs or edits differ from a commit, those with the lightest proof first."""
+    ran = subprocess.run(["git", "diff", "--name-status", "-M", ref, "--", "crates", "edits"], cwd=TOP, stdout=subprocess.PIPE, text=True, check=True)
+    # (an edit that only stands elsewhere is the same edit)
+    paths = "\n".join(path for line in ran.stdout.split("\n") if not re.fullmatch(r"R100\t.*\.edit", line) for path in line.split("\t")[1:])
+    found = re.findall(r"^(?:crates/(\w+)/(?:src|specs|proofs|must-fail)|edits/(\w+))/", paths, re.M)
+    names = {one or other for one, other in found}
+    with open(f"{TOP}/docs/CONTRIBUTING.md", encoding="utf-8") as page:
+        minutes = dict(re.findall(r"^\| `(\w+)` \| ([\d.]+) \|", page.read(), re.M))
+    return sorted((it for it in names if os.path.isdir(f"{TOP}/crates/{it}")), key=lambda it: (float(minutes.get(it, 0)), it))
+
+
+def attempt_since(ref, minutes, gated):
+    """How many edits of crates that differ from a commit the prover does not refuse, of those for which there is time."""
+    until = time.monotonic() + 60 * minutes
+    names = changed_since(ref)
+    every = {name: {*edits_of(f"{TOP}/edits/{name}"), *([] if gated else edits_of(f"{TOP}/crates/{name}/must-fail"))} for name in names}
+    told = []
+    with tempfile.TemporaryDirectory(prefix="edits-") as room:
+        copy = repository_with(room, names, gated)
+        for name in (it for it in names if every[it]):
+            left = until - time.monotonic()
+            said, ended = tried(copy, [name], left) if left > 0 else ([], False)
+            told += said
+            if not ended:
+                lines = "\n".join(said)
+                lost = sorted(it for it in every[name] if f" {name}/{it}: " not in lines)
+                print(f"left out after {minutes:g} minutes: {name}: {' '.join(lost)}")
+    print(f"crates that differ from {ref}: {' '.join(names) or 'none'}")
+    return count(told)
+
+
+def main(words):
+    parser = argparse.ArgumentParser(description=__doc__, formatter_class=argparse.RawDescriptionHelpFormatter)
+    parser.add_argument("names", nargs="*", metavar="NAME")
+    parser.add_argument("--since", metavar="REF")
+    parser.add_argument("--minutes", type=float, default=20, metavar="N")
+    parser.add_argument("--gated", action="store_true")
+    given = parser.parse_args(words)
+    unknown = [it for it in given.names if not os.path.isdir(f"{TOP}/crates/{it}")]
     if unknown:
         sys.exit(f"there is no crate {unknown[0]}")
-    return 1 if (attempt(names) if names else look()) else 0
+    if given.since:
+        return 1 if attempt_since(given.since, given.minutes, given.gated) else 0
+    return 1 if (attempt(given.names) if given.names else look()) else 0
 
 
 if __name__ == "__main__":

@@ -1,9 +1,10 @@
 #!/usr/bin/env python3
 """Processor minutes that `rt ci` spends on each crate: its proof, its tests and its must-fail edits.
 
-Usage, at the top of the repository: tools/gate_minutes.py [NAME..], which runs `rt ci NAME..` and prints the table of docs/CONTRIBUTING.md
-after the lines of that. What an earlier run on this machine has kept takes no time: for the table of everything give `--anew`. The figures are
-of processor time, which other work on the machine lengthens little.
+Usage, at the top of the repository: tools/gate_minutes.py [NAME..], which runs `rt ci NAME..` and prints the table after the lines of that. With `--anew`
+alone, which proves all, it writes the table into docs/CONTRIBUTING.md, between its two marks, with the sum and the budget below: what an earlier run on this
+machine has kept takes no time, so a run without it tells nothing of the whole. The figures are of processor time, which other work on the machine lengthens
+too, up to twice. `--sum` runs nothing, and prints the sum of the table that stands.
 """
 
 import os
@@ -13,6 +14,11 @@ import sys
 import time
 
 TICKS = os.sysconf("SC_CLK_TCK")
+PAGE = os.path.join(os.path.dirname(os.path.dirname(os.path.abspath(__file__))), "docs", "CONTRIBUTING.md")
+MARKS = ("<!-- minutes of the gate -->\n", "<!-- end of the minutes -->\n")
+SORTS = ("proof", "tests", "edits")
+LEAST = 0.5
+BUDGET = "The budget: at most 180 processor minutes in all now, 200 at the end."
 
 
 def processes():
@@ -47,24 +53,61 @@ def below(root, found):
             yield process
 
 
-def main():
-    gate = subprocess.Popen(["rt", "ci", *sys.argv[1:]])
+def sampled(words):
+    """The status of `rt ci` with these words, and the processor minutes of each crate by sort."""
+    gate = subprocess.Popen(["rt", "ci", *words])
     spent = {}
     while gate.poll() is None:
-        for number, _, seconds, folder, words in below(gate.pid, list(processes())):
-            if "--crate-name" in words:
-                crate = words[words.index("--crate-name") + 1]
-                spent[number, crate, sort_of(folder, words)] = seconds
+        for number, _, seconds, folder, given in below(gate.pid, list(processes())):
+            if "--crate-name" in given:
+                crate = given[given.index("--crate-name") + 1]
+                spent[number, crate, sort_of(folder, given)] = seconds
         time.sleep(1)
     table = {}
     for (_, crate, sort), seconds in spent.items():
-        row = table.setdefault(crate, {})
-        row[sort] = row.get(sort, 0) + seconds
-    print("| crate | proof | tests | edits |\n|---|---|---|---|")
+        row = table.setdefault(crate, dict.fromkeys(SORTS, 0))
+        row[sort] += seconds / 60
+    return gate.returncode, table
+
+
+def lines_of(table):
+    """The table as it stands in the page, the dearest crate first, with the sums of all crates, also of those that are left out."""
+    lines = ["| crate | proof | tests | edits |", "|---|---|---|---|"]
     for crate, row in sorted(table.items(), key=lambda entry: -sum(entry[1].values())):
-        print(f"| `{crate}` | " + " | ".join(f"{row.get(sort, 0) / 60:.1f}" for sort in ("proof", "tests", "edits")) + " |")
-    return gate.returncode
+        shown = [f"{row[sort]:.1f}" if row[sort] >= LEAST else "" for sort in SORTS]
+        if any(shown):
+            lines.append(f"| `{crate}` | {' | '.join(shown)} |")
+    sums = [sum(row[sort] for row in table.values()) for sort in SORTS]
+    lines += ["", f"In all {sum(sums):.0f}: proofs {sums[0]:.0f}, tests {sums[1]:.0f}, edits {sums[2]:.0f}. {BUDGET}"]
+    return lines
+
+
+def standing(text):
+    """The table that stands in a text of the page."""
+    rows = re.findall(r"^\| `(\w+)` \| ([\d.]*) \| ([\d.]*) \| ([\d.]*) \|$", text, re.M)
+    return {crate: dict(zip(SORTS, (float(it or 0) for it in row))) for crate, *row in rows}
+
+
+def written(text, lines):
+    """The page with these lines between its marks."""
+    front, rest = text.split(MARKS[0])
+    _, end = rest.split(MARKS[1])
+    return front + MARKS[0] + "\n".join(lines) + "\n" + MARKS[1] + end
+
+
+def main(words):
+    with open(PAGE, encoding="utf-8") as page:
+        text = page.read()
+    if words == ["--sum"]:
+        print(lines_of(standing(text))[-1])
+        return 0
+    status, table = sampled(words)
+    print("\n".join(lines_of(table)))
+    if words == ["--anew"] and status == 0:
+        with open(PAGE, "w", encoding="utf-8") as page:
+            page.write(written(text, lines_of(table)))
+    return status
 
 
 if __name__ == "__main__":
-    sys.exit(main())
+    sys.exit(main(sys.argv[1:]))

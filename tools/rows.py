@@ -1,0 +1,405 @@
+#!/usr/bin/env python3
+"""Runs the cases of rows/*.txt with a built program, and compares what comes of each: rows.py PROGRAM [FILE..]
+
+A case is a paragraph: lines up to an empty one. It runs in a folder of its own, which has the files that it names and no others.
+
+    case: a sum                 what it shows, which may be left out
+    file a.cmm: export main;    a file; each line that begins with four spaces is a further line of it, without these
+        main() { return (2 + 3); }
+    input = "ab\\x00"            what is on standard input; without this line nothing
+    $ exec a.cmm --steps 1000   the words of the command line
+    status: 0                   the exit status; without this line 0
+    output = "A\\n" * 3          what must be on standard output; without this line nothing
+    log: result 5               a line that must be on standard error, where `*` stands for any text; without such lines nothing
+    then i image of a.cmm       a file that must be there afterwards. All others must be as they were
+
+A file has one of these after its name, and so has `then`; the paths of `from` begin at rows/:
+
+    : TEXT                      this text, without an end of its last line
+    = "TEXT" * N + "TEXT"       these bytes, by the escapes \\n \\t \\r \\0 \\\\ \\" and \\xHH
+    is NAME                     the text of a line `unit NAME` with `: TEXT` or `= ..`, of this paragraph or of an earlier one without words
+    from PATH
+    image of a.cmm b.cmm        what the program builds of these files of the case; CHANGES may follow, each behind a comma:
+                                `first 0 .. 3 bytes` (a run for each length), `each byte xor ff` (a run for each byte), `at 64 00 00`, `24 has 00 01`
+                                (which those bytes must be already), `and 00` (at the end)
+
+`input fails`, `output fails` and `log fails` make that stream one that cannot be read or written. `any: 8 trap *` says one of more answers: with such lines
+the status and the log are those of one of them, and are the same when it runs again. In words and in the log `$NAME` is the text of a line `text NAME = ..`,
+or the sum of a line `number NAME: end - 28 of a.cmm`, where `end` is the length of the image of these files and `frame.NAME` the frame size of a procedure
+in it. A paragraph without a line of words holds for all later cases of its file. Lines that begin with `#` are comments.
+
+An `exec` is run a second way by itself: `build`, and `run` of the image, with the same options. What comes must be the same, where `build` answers units that
+are refused, and where it is done says nothing. The last line is `N passed, M failed`, of cases.
+"""
+
+import concurrent.futures
+import dataclasses
+import functools
+import os
+import re
+import shlex
+import subprocess
+import sys
+import tempfile
+
+ROWS = os.path.join(os.path.dirname(os.path.dirname(os.path.abspath(__file__))), "rows")
+QUOTED = r'"(?:[^"\\]|\\.)*"'
+ESCAPES = {"n": 10, "t": 9, "r": 13, "0": 0, "\\": 92, '"': 34}
+USAGE, REFUSED, FILE_FAULT = 2, 3, 9
+SECONDS = 120
+
+
+class BadRow(Exception):
+    """A case that cannot be read."""
+
+
+@dataclasses.dataclass
+class Case:
+    """A paragraph: its place, its lines by their keys, and the files, units and numbers that it names."""
+
+    place: str
+    title: str = ""
+    words: str | None = None
+    status: int = 0
+    output: bytes = b""
+    input: bytes = b""
+    log: list = dataclasses.field(default_factory=list)
+    answers: list = dataclasses.field(default_factory=list)
+    failing: set = dataclasses.field(default_factory=set)
+    files: dict = dataclasses.field(default_factory=dict)
+    wanted: dict = dataclasses.field(default_factory=dict)
+    units: dict = dataclasses.field(default_factory=dict)
+    texts: dict = dataclasses.field(default_factory=dict)
+    numbers: dict = dataclasses.field(default_factory=dict)
+
+
+def bytes_of(text):
+    """The bytes of quoted texts that are repeated and joined."""
+    found = b""
+    for piece in re.findall(rf"(?:{QUOTED}|[^+\"])+", text):
+        match = re.fullmatch(rf"\s*({QUOTED})(?:\s*\*\s*(\d+))?\s*", piece)
+        if not match:
+            raise BadRow(f"no quoted text: {piece[:60]}")
+        one = re.sub(rb"\\(x..|.)", lambda it: bytes([int(it[1][1:], 16) if len(it[1]) == 3 else ESCAPES[it[1].decode()]]), match[1][1:-1].encode())
+        found += one * int(match[2] or 1)
+    return found
+
+
+def plain(rest):
+    """The bytes behind `:` or `=`."""
+    if rest.startswith(": "):
+        return rest[2:].encode()
+    if rest.startswith("= "):
+        return bytes_of(rest[2:])
+    raise BadRow(f"neither `: TEXT` nor `= ..`: {rest[:60]}")
+
+
+def take(case, line):
+    """Notes a line of a paragraph, with the lines of its text, in the case."""
+    key, _, rest = re.match(r"(\$|[a-z]+)(\b| |$)(.*)", line, re.S).groups() if re.match(r"\$|[a-z]", line) else ("", "", line)
+    rest = rest.removeprefix(" ")
+    if key == "$":
+        case.words = rest
+    elif key == "case":
+        case.title = plain(rest).decode()
+    elif key in ("input", "output", "log") and rest == "fails":
+        case.failing.add(key)
+    elif key in ("input", "output"):
+        setattr(case, key, plain(rest))
+    elif key == "status":
+        case.status = int(plain(rest))
+    elif key in ("log", "any"):
+        (case.log if key == "log" else case.answers).append(plain(rest).decode())
+    else:
+        take_named(case, key, *re.match(r"([^\s:]*)\s*(.*)", rest, re.S).groups())
+
+
+def take_named(case, key, name, rest):
+    """Notes a line that names a file, a unit, a text or a number."""
+    if key in ("file", "then"):
+        (case.files if key == "file" else case.wanted)[name] = rest
+    elif key in ("unit", "text"):
+        (case.units if key == "unit" else case.texts)[name] = plain(rest)
+    elif key == "number":
+        case.numbers[name] = plain(rest).decode()
+    else:
+        raise BadRow(f"no line of a case begins so: {key} {name}"[:80])
+
+
+def paragraphs(text):
+    """The paragraphs of a file, each with the number of its first line and its lines, with further lines joined to those that they belong to."""
+    found, lines = [], []
+    for number, line in enumerate([*text.split("\n"), ""], 1):
+        if line.startswith("    ") and lines:
+            lines[-1][1] += "\n" + line[4:]
+        elif line.strip() == "":
+            found += [lines] if lines else []
+            lines = []
+        elif not line.startswith("#"):
+            lines.append([number, line])
+    return found
+
+
+def cases_of(path):
+    """The cases of a file of rows."""
+    with open(path, encoding="utf-8") as file:
+        text = file.read()
+    shared, found = Case(""), []
+    for lines in paragraphs(text):
+        number = lines[0][0]
+        case = Case(f"{os.path.relpath(path, os.path.dirname(ROWS))}:{number}", files=dict(shared.files), units=dict(shared.units), texts=dict(shared.texts))
+        for number, line in lines:
+            try:
+                take(case, line)
+            except (BadRow, ValueError, KeyError) as why:
+                sys.exit(f"{path}:{number}: {why}")
+        if case.words is None:
+            shared = case
+        else:
+            found.append(case)
+    return found
+
+
+def sum_of(text, names):
+    """What a sum comes to: `10 * frame.g + frame.main - 16`."""
+    found = 0
+    for sign, times, word in re.findall(r"([+-]?)\s*(?:(\d+)\s*\*\s*)?([\w.]+)", text):
+        value = int(word) if word.isdigit() else names[word]
+        found += (-1 if sign == "-" else 1) * int(times or 1) * value
+    return found
+
+
+def frames_of(image):
+    """The frame size of each procedure of an image, by its name: docs/FORMATS.md has the fields."""
+    at = 64 + int.from_bytes(image[8:16], "little") + int.from_bytes(image[16:24], "little")
+
+    def number(size):
+        nonlocal at
+        at += size
+        return int.from_bytes(image[at - size : at], "little")
+
+    def skip_each(count, size):
+        nonlocal at
+        at += number(count) * size
+
+    found = {}
+    for _ in range(int.from_bytes(image[40:44], "little")):
+        number(8)
+        length = number(1)
+        name = image[at : at + length].decode()
+        at += length
+        found[f"frame.{name}"] = number(4)
+        number(4)
+        skip_each(1, 5)
+        for _ in range(number(2)):
+            number(2)
+            skip_each(1, 1)
+        skip_each(2, 4)
+        for _ in range(number(2)):
+            number(12)
+            skip_each(1, 2)
+    return found
+
+
+@dataclasses.dataclass
+class Answer:
+    status: int
+    output: bytes
+    log: bytes
+    files: dict
+
+
+def held(folder):
+    """The files in a folder, with what is in them."""
+    found = {}
+    for at, _, names in os.walk(folder):
+        for name in names:
+            with open(os.path.join(at, name), "rb") as file:
+                found[os.path.relpath(os.path.join(at, name), folder)] = file.read()
+    return found
+
+
+def call(program, words, files, given=b"", failing=()):
+    """What comes of the program with these words, in a folder that has these files."""
+    with tempfile.TemporaryDirectory(prefix="rows-") as folder, open("/dev/full", "wb") as full:
+        for name, content in files.items():
+            with open(os.path.join(folder, name), "wb") as file:
+                file.write(content)
+        ends = {"stdout": full if "output" in failing else subprocess.PIPE, "stderr": full if "log" in failing else subprocess.PIPE}
+        if "input" in failing:
+            ends["stdin"] = os.open(folder, os.O_RDONLY)
+        else:
+            ends["input"] = given
+        try:
+            ran = subprocess.run([program, *words], cwd=folder, timeout=SECONDS, **ends)
+        finally:
+            if "input" in failing:
+                os.close(ends["stdin"])
+        return Answer(ran.returncode, ran.stdout or b"", ran.stderr or b"", held(folder))
+
+
+class Runner:
+    """Runs cases with a program."""
+
+    def __init__(self, program):
+        self.program = program
+        self.image = functools.lru_cache(maxsize=None)(self.build)
+
+    def build(self, *files):
+        """The image of units in files of these names and texts."""
+        names = [name for name, _ in files]
+        made = call(self.program, ["build", "-o", "image", "--", *names], dict(files))
+        if made.status or "image" not in made.files:
+            raise BadRow(f"no image is built of {names}: {made.log.decode(errors='replace')}")
+        return made.files["image"]
+
+    def image_of(self, case, names):
+        return self.image(*((name, self.contents(case, case.files[name])[0]) for name in names))
+
+    def contents(self, case, told):
+        """What a file may have in it: one content, or several where a change says `each` or `first`."""
+        if told.startswith("is "):
+            return [case.units[told[3:]]]
+        if told.startswith("from "):
+            with open(os.path.join(ROWS, told[5:]), "rb") as file:
+                return [file.read()]
+        if told.startswith("image of "):
+            names, *changes = told[len("image of ") :].split(", ")
+            found = [self.image_of(case, names.split())]
+            for change in changes:
+                found = [it for image in found for it in changed(image, change)]
+            return found
+        return [plain(told)]
+
+    def texts_of(self, case):
+        """What stands for `$NAME` in a case."""
+        found = {name: text.decode() for name, text in case.texts.items()}
+        for name, told in case.numbers.items():
+            formula, names = told.rsplit(" of ", 1)
+            image = self.image_of(case, names.split())
+            found[name] = str(sum_of(formula, {"end": len(image), **frames_of(image)}))
+        return found
+
+    def runs(self, case):
+        """The runs of a case: files, and the files that must be there afterwards."""
+        ways = {name: self.contents(case, told) for name, told in case.files.items()}
+        then = {name: self.contents(case, told)[0] for name, told in case.wanted.items()}
+        several = [name for name, contents in ways.items() if len(contents) != 1]
+        files = {name: contents[0] for name, contents in ways.items() if len(contents) == 1}
+        if not several:
+            return [(files, {**files, **then})]
+        return [({**files, several[0]: content},) * 2 for content in ways[several[0]]]
+
+    def fault_of(self, case, texts, files, then):
+        """What is wrong with a run of a case, if anything is."""
+        words = [filled(word, texts) for word in shlex.split(case.words)]
+        answer = call(self.program, words, files, case.input, case.failing)
+        fault = fault_of_answer(case, texts, answer)
+        if fault is None and answer.files != then:
+            fault = f"the files {told_apart(answer.files, then)} are not as they must be"
+        if fault is None and case.answers:
+            fault = None if call(self.program, words, files, case.input) == answer else "another run answers otherwise"
+        if fault is None and words[:1] == ["exec"] and answer.status != USAGE and not case.failing:
+            fault = self.fault_of_second_way(words, files, case.input, answer)
+        return fault
+
+    def fault_of_second_way(self, words, files, given, answer):
+        """What is wrong where the units are built to a file and that is run, if anything is."""
+        names, options = parts_of(words[1:])
+        built = call(self.program, ["build", "-o", "image", "--", *names], files)
+        made = built.files.pop("image", None)
+        if answer.status in (REFUSED, FILE_FAULT):
+            same = (built.status, built.log, made) == (answer.status, answer.log, None)
+            return None if same and built.files == files else f"`build` answers {built.status} {built.log}"
+        if (built.status, built.log, built.output) != (0, b"", b"") or made is None or built.files != files:
+            return f"`build` answers {built.status} {built.log}"
+        again = call(self.program, ["run", *options, "--", "image"], {"image": made}, given)
+        same = (again.status, again.log, again.output, again.files) == (answer.status, answer.log, answer.output, {"image": made})
+        return None if same else f"`run` of the image answers {again.status} {again.log} {again.output}"
+
+
+def parts_of(words):
+    """The names and the options of an `exec`."""
+    names, options, at = [], [], 0
+    while at < len(words):
+        if words[at] == "--":
+            return names + words[at + 1 :], options
+        value = words[at] in ("--steps", "--stack")
+        (options if words[at].startswith("-") else names).extend(words[at : at + 1 + value])
+        at += 1 + value
+    return names, options
+
+
+def changed(image, change):
+    """The bytes that an image becomes by a change."""
+    if match := re.fullmatch(r"first (.*) \.\. (.*) bytes", change):
+        least, most = (sum_of(it, {"end": len(image)}) for it in match.groups())
+        return [image[:length] for length in range(least, most + 1)]
+    if match := re.fullmatch(r"each byte xor (\w\w)", change):
+        bits = int(match[1], 16)
+        return [image[:at] + bytes([byte ^ bits]) + image[at + 1 :] for at, byte in enumerate(image)]
+    if match := re.fullmatch(r"at (\d+) ([\w ]+)", change):
+        at, others = int(match[1]), bytes.fromhex(match[2])
+        return [image[:at] + others + image[at + len(others) :]]
+    if match := re.fullmatch(r"(\d+) has ([\w ]+)", change):
+        if not image[int(match[1]) :].startswith(bytes.fromhex(match[2])):
+            raise BadRow(f"the image has other bytes at {match[1]}")
+        return [image]
+    if match := re.fullmatch(r"and ([\w ]+)", change):
+        return [image + bytes.fromhex(match[1])]
+    raise BadRow(f"no change of an image: {change}")
+
+
+def filled(text, texts):
+    return re.sub(r"\$(\w+)", lambda it: texts[it[1]], text)
+
+
+def is_told(text, pattern):
+    """Whether a text is that of a pattern, in which `*` stands for any text."""
+    return re.fullmatch(".*".join(map(re.escape, pattern.split("*"))), text, re.S) is not None
+
+
+def told_apart(found, wanted):
+    return sorted(name for name in found.keys() | wanted.keys() if found.get(name) != wanted.get(name))
+
+
+def fault_of_answer(case, texts, answer):
+    """What is wrong with a status, an output and a log, if anything is."""
+    log = answer.log.decode(errors="replace")
+    if case.answers:
+        told = [it.split(" ", 1) for it in case.answers]
+        good = any(answer.status == int(status) and is_told(log, filled(line, texts) + "\n") for status, line in told)
+        return None if good else f"answered {answer.status} {log!r}, which is none of the answers"
+    wanted = "".join(filled(line, texts) + "\n" for line in case.log)
+    if (answer.status, answer.output) != (case.status, case.output) or not is_told(log, wanted):
+        return f"answered {answer.status} {log[-200:]!r} {answer.output!r}, and not {case.status} {wanted[-200:]!r} {case.output!r}"
+    return None
+
+
+def main(program, *paths):
+    """Runs the cases of these files, or of all, a few at once, and says which fail."""
+    paths = paths or sorted(os.path.join(ROWS, name) for name in os.listdir(ROWS) if name.endswith(".txt"))
+    runner = Runner(os.path.abspath(program))
+    cases = [case for path in paths for case in cases_of(path)]
+    faults, runs = {}, {}
+    with concurrent.futures.ThreadPoolExecutor(min(4, os.cpu_count() or 1)) as pool:
+        for case in cases:
+            try:
+                texts = runner.texts_of(case)
+                for files, then in runner.runs(case):
+                    runs[pool.submit(runner.fault_of, case, texts, files, then)] = case
+            except (BadRow, KeyError) as why:
+                faults.setdefault(case.place, f"{case.title}: {why}")
+        for run, case in runs.items():
+            fault = run.result()
+            if fault:
+                faults.setdefault(case.place, f"{case.title}: {fault}" if case.title else fault)
+    for place, fault in faults.items():
+        print(f"{place}: {fault}")
+    print(f"rows: {len(runs)} runs")
+    print(f"{len(cases) - len(faults)} passed, {len(faults)} failed")
+    return 1 if faults or not cases else 0
+
+
+if __name__ == "__main__":
+    sys.exit(main(*sys.argv[1:]) if len(sys.argv) > 1 else __doc__)
