@@ -180,7 +180,8 @@ def frames_of(image):
 
     def skip_each(count, size):
         nonlocal at
-        at += number(count) * size
+        times = number(count)
+        at += times * size
 
     found = {}
     for _ in range(int.from_bytes(image[40:44], "little")):
