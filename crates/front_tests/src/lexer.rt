@@ -1,4 +1,4 @@
-//! Units on both sides of each rule and boundary, with what the language's text says of them.
+//! Units on both sides of each boundary between tokens, with what the language's text says of them. Units that break a rule are cases of `rows/`.
 
 use cmm_lexer::TokenKind::{Char, Checked, Int, Name, Op, Symbol, Text, Word};
 use cmm_lexer::*;
@@ -69,60 +69,6 @@ const KINDS: [(&[u8], &[TokenKind]); 58] = [
     (b"a /*\n*/ b", &[Name(0), Name(1)]),
 ];
 
-/// Units that break a rule, with the rule, line and column of the first fault.
-const FAULTS: [(&[u8], u8, u32, u32); 50] = [
-    (b"export main; /* x", 2, 1, 14),
-    (b"\x00", 1, 1, 1),
-    (b"\x80", 1, 1, 1),
-    (b"\xff", 1, 1, 1),
-    (b"\x0b", 1, 1, 1),
-    (b"a!", 1, 1, 2),
-    (b"a ! = b", 1, 1, 3),
-    (b"?", 1, 1, 1),
-    (b"\\", 1, 1, 1),
-    (b" #", 1, 1, 2),
-    (b"/**/# x", 1, 1, 5),
-    (b"a\n# x\n /* # */ !", 1, 3, 10),
-    (b"\xc3\xa9 'a", 1, 1, 1),
-    (b"'\xc3' `", 1, 1, 5),
-    (b"! 08", 1, 1, 1),
-    (b"08 !", 4, 1, 1),
-    (b"/*", 2, 1, 1),
-    (b"/*/", 2, 1, 1),
-    (b"/* *", 2, 1, 1),
-    (b"\n\n  /* \n", 2, 3, 3),
-    (b"/**/ /*", 2, 1, 6),
-    (b"'", 3, 1, 1),
-    (b"''", 3, 1, 1),
-    (b"'a", 3, 1, 1),
-    (b"'ab'", 3, 1, 1),
-    (b"'\n'", 3, 1, 1),
-    (b"'\\q'", 3, 1, 1),
-    (b"'\\x4'", 3, 1, 1),
-    (b"'\\x", 3, 1, 1),
-    (b"'\\xg0'", 3, 1, 1),
-    (b"'\\", 3, 1, 1),
-    (b"\"", 3, 1, 1),
-    (b"x \"", 3, 1, 3),
-    (b"\"abc\n\"", 3, 1, 1),
-    (b"\"\\\"", 3, 1, 1),
-    (b"\"\\x4\"", 3, 1, 1),
-    (b"\"\\a\"", 3, 1, 1),
-    (b"0x", 4, 1, 1),
-    (b"0xg", 4, 1, 1),
-    (b"0x1g", 4, 1, 1),
-    (b"08", 4, 1, 1),
-    (b"0179", 4, 1, 1),
-    (b"0b1", 4, 1, 1),
-    (b"1a", 4, 1, 1),
-    (b"a 1_", 4, 1, 3),
-    (b"1$", 4, 1, 1),
-    (b"1@", 4, 1, 1),
-    (b"18446744073709551616", 4, 1, 1),
-    (b"02000000000000000000000", 4, 1, 1),
-    (b"0x10000000000000000", 4, 1, 1),
-];
-
 #[test]
 fn units_have_tokens(rt: HostRuntime) -> Result<(), Fail> {
     for (unit, kinds) in KINDS.iter() {
@@ -130,24 +76,6 @@ fn units_have_tokens(rt: HostRuntime) -> Result<(), Fail> {
         assert_eq!(rt; tokens.list.len(), kinds.len(), "{unit:?}");
         for (token, kind) in tokens.list.iter().zip(kinds.iter()) {
             assert_eq!(rt; token.kind, *kind, "{unit:?}");
-        }
-    }
-    Ok(())
-}
-
-#[test]
-fn first_faults_are_named(rt: HostRuntime) -> Result<(), Fail> {
-    for (unit, wanted, at_line, at_column) in FAULTS.iter() {
-        match lex(rt.alloc(), unit) {
-            Ok(_) => assert!(rt; false, "{unit:?}"),
-            Err(LexFault::Memory) => assert!(rt; false, "memory"),
-            Err(LexFault::At { rule, line, column }) => {
-                assert_eq!(rt;
-                    (rule, line, column),
-                    (*wanted, *at_line, *at_column),
-                    "{unit:?}"
-                );
-            }
         }
     }
     Ok(())
@@ -190,19 +118,5 @@ fn tokens_have_places_and_spellings(rt: HostRuntime) -> Result<(), Fail> {
     assert_eq!(rt; tokens.spelling(2), b"d".as_slice());
     assert_eq!(rt; tokens.spelling(3), b"e\n".as_slice());
     assert_eq!(rt; tokens.spelling(4), b"".as_slice());
-    Ok(())
-}
-
-#[test]
-fn the_longest_unit_is_1_mib(rt: HostRuntime) -> Result<(), Fail> {
-    let mut unit = vec![in rt.alloc(); b'\n'; 1_048_576]?;
-    let tokens = lex(rt.alloc(), unit.as_slice())?;
-    assert_eq!(rt; (tokens.line, tokens.column), (1_048_577, 1));
-    unit.push(b'!')?;
-    match lex(rt.alloc(), unit.as_slice()) {
-        Err(LexFault::At { rule, line, column }) => assert_eq!(rt; (rule, line, column), (5, 1, 1)),
-        Err(LexFault::Memory) => assert!(rt; false, "memory"),
-        Ok(_) => assert!(rt; false, "a unit of {} bytes", unit.len()),
-    }
     Ok(())
 }
