@@ -161,21 +161,7 @@ pub(crate) fn call_with(alloc: Global, words: &[&str], unit: &str) -> Result<Ans
     call(alloc, words, &with_files(&[("a.cmm", unit)]))
 }
 
-/// Builds and runs this unit, in the file `a.cmm`.
-pub(crate) fn exec(alloc: Global, unit: &str) -> Result<Answer, AllocError> {
-    call_with(alloc, &["exec", "a.cmm"], unit)
-}
-
 /// Builds this unit, in the file `a.cmm`, to the file `i`.
 pub(crate) fn build(alloc: Global, unit: &str) -> Result<Answer, AllocError> {
     call_with(alloc, &["build", "a.cmm", "-o", "i"], unit)
-}
-
-/// Does what the words say where the file `i` has these bytes, and there is no other.
-pub(crate) fn call_on(alloc: Global, words: &[&str], image: &[u8]) -> Result<Answer, AllocError> {
-    let outside = Outside {
-        image: Some(image),
-        ..with_files(&[])
-    };
-    call(alloc, words, &outside)
 }

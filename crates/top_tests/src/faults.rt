@@ -189,22 +189,3 @@ fn faults_have_their_answers(rt: HostRuntime) -> Result<(), Fail> {
     }
     Ok(())
 }
-
-#[test]
-fn files_that_are_not_there_are_faults(rt: HostRuntime) -> Result<(), Fail> {
-    let outside = with_files(&[("a.cmm", COPY)]);
-    for words in [["exec", "no.cmm", "a.cmm"], ["exec", "a.cmm", "no.cmm"]] {
-        let answer = call(rt.alloc(), &words, &outside)?;
-        assert_eq!(rt;
-            answer.log.as_slice(),
-            b"file fault no.cmm\n".as_slice(),
-            "{words:?}"
-        );
-        assert_eq!(rt; answer.status, Status::FileFault, "{words:?}");
-    }
-    let answer = call(rt.alloc(), &["exec", "no.cmm"], &outside)?;
-    assert_eq!(rt; answer.log.as_slice(), b"file fault no.cmm\n".as_slice());
-    assert_eq!(rt; answer.status, Status::FileFault);
-    assert_eq!(rt; answer.status.number(), 9);
-    Ok(())
-}

@@ -1,34 +1,10 @@
-//! Units that are built to a file, and the file that is run.
+//! That `exec` runs the image that `build` writes, whatever the run comes to.
 
-use crate::calls::{Answer, build, call_on, call_with};
+use crate::calls::{build, call_with};
 use cmm_image::write_image;
 use cmm_top::Status;
-use std::alloc::{AllocError, Global};
 use std::process::Abort;
 use std::test::Fail;
-
-/// A run of a unit, and what comes of it.
-#[derive(Clone, Copy, Debug)]
-pub(crate) struct Run<'a> {
-    pub unit: &'a str,
-    /// The limits on the stack and on instructions.
-    pub stack: &'a str,
-    pub steps: &'a str,
-    pub status: Status,
-    pub output: &'a str,
-    /// How the log begins.
-    pub line: &'a str,
-}
-
-/// A run with the limits of one for which none are given, which comes to a result and writes nothing.
-pub(crate) const USUAL: Run<'static> = Run {
-    unit: "",
-    stack: "1048576",
-    steps: "1000000000",
-    status: Status::Done,
-    output: "",
-    line: "result ",
-};
 
 /// The bytes to which a unit is built. Nothing is said of that, and no image is loaded.
 pub(crate) fn built(rt: &(impl AllocGlobal + Abort), unit: &str) -> Result<Vec<u8>, Fail> {
@@ -40,37 +16,53 @@ pub(crate) fn built(rt: &(impl AllocGlobal + Abort), unit: &str) -> Result<Vec<u
     Ok(answer.written.ok_or("no image was written")?)
 }
 
-/// A run by `exec`.
-fn run_at_once(alloc: Global, run: &Run) -> Result<Answer, AllocError> {
-    let words = ["exec", "a.cmm", "--stack", run.stack, "--steps", run.steps];
-    call_with(alloc, &words, run.unit)
+/// Units, each with the status of its run of at most two million instructions: a sum; a unit that has each kind of part that an image has a field for; a stray
+/// store; more activations than the stack has room for; and a loop without end.
+const RUNS: [(&str, Status); 5] = [
+    ("export main; main() { return (2 + 3); }", Status::Done),
+    (
+        "register bits64 count; register bits8 part; export main; export numbers; section \"data\" { align 8; numbers: bits64[] { 3, 5, f }; } \
+        main() { bits64 n; invariant bits8 x; bits16 y; bits32 z; count = 2; n = f(1, 2) also returns to k; n = n + bits64[numbers]; return (n); \
+        continuation k(n): foreign \"C\" cmm_putbyte(n + 65); n = g(3); return (n); } \
+        f(\"number\" bits64 a, invariant bits64 b) { bits64 r; stackdata { align 8; s: bits64[2]; } bits64[s + 8] = a; r = bits64[s + 8]; \
+        switch r { case 1, 4 .. 6: { return <0/1> (b); } default: { return <1/1> (a); } } } \
+        g(bits64 n) { bits64 r; r = h(k, n) also cuts to k; return (r); continuation k(n): jump i(n); } \
+        h(bits64 k, bits64 n) { cut to k(n * 2); } i(bits64 n) { bits64 b; b = foreign \"C\" cmm_getbyte(); part = 7::bits8; return (n * count + %zx64(part) + b); }",
+        Status::Done,
+    ),
+    (
+        "export main; section \"data\" { d: bits8[16]; } main() { bits8[d + 16] = 1::bits8; return (0); }",
+        Status::Trap,
+    ),
+    (
+        "export main; main() { bits64 r; r = g(100000); return (r); } \
+            g(bits64 n) { bits64 r; if n == 0 { return (0); } r = g(n - 1); return (r + 1); }",
+        Status::StackLimit,
+    ),
+    (
+        "export main; main() { again: goto again; }",
+        Status::StepLimit,
+    ),
+];
+
+fn runs_what_is_built(
+    rt: &(impl AllocGlobal + Abort),
+    unit: &str,
+    status: Status,
+) -> Result<(), Fail> {
+    let bytes = built(rt, unit)?;
+    let words = ["exec", "a.cmm", "--steps", "2000000"];
+    let answer = call_with(rt.alloc(), &words, unit)?;
+    assert_eq!(rt; answer.status, status, "{unit}");
+    let image = answer.image.ok_or("no image was run")?;
+    assert_eq!(rt; write_image(rt.alloc(), &image)?, bytes, "{unit}");
+    Ok(())
 }
 
-/// A run by `run` of the file `i`, where that has these bytes.
-fn run_later(alloc: Global, run: &Run, bytes: &[u8]) -> Result<Answer, AllocError> {
-    let words = ["run", "i", "--stack", run.stack, "--steps", run.steps];
-    call_on(alloc, &words, bytes)
-}
-
-fn has_come(rt: &impl Abort, run: &Run, answer: &Answer) {
-    assert_eq!(rt; answer.status, run.status, "{run:?}");
-    assert_eq!(rt; answer.output.as_slice(), run.output.as_bytes(), "{run:?}");
-    assert!(rt;
-        answer.log.as_slice().starts_with(run.line.as_bytes()),
-        "{run:?}"
-    );
-}
-
-/// Runs a unit by `exec`, and by `build` and `run`: this comes of both, the logs are the same, and the image is.
-pub(crate) fn comes_both_ways(rt: &(impl AllocGlobal + Abort), run: &Run) -> Result<(), Fail> {
-    let bytes = built(rt, run.unit)?;
-    let at_once = run_at_once(rt.alloc(), run)?;
-    let later = run_later(rt.alloc(), run, &bytes)?;
-    has_come(rt, run, &at_once);
-    has_come(rt, run, &later);
-    assert_eq!(rt; at_once.log, later.log, "{run:?}");
-    assert!(rt; later.image.is_none());
-    let image = at_once.image.ok_or("no image was run")?;
-    assert_eq!(rt; write_image(rt.alloc(), &image)?, bytes, "{run:?}");
+#[test]
+fn exec_runs_the_image_that_build_writes(rt: HostRuntime) -> Result<(), Fail> {
+    for (unit, status) in RUNS {
+        runs_what_is_built(&rt, unit, status)?;
+    }
     Ok(())
 }

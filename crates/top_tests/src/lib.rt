@@ -1,12 +1,9 @@
-//! The tests of `cmm_top`: whole calls over files and streams in memory, with what the output, the log and the exit status must be.
+//! The tests of `cmm_top` that need files and streams in memory: calls on them that fail, room that ends, and the image that a call has loaded. What
+//! comes of calls where nothing outside fails is told by `rows/`, over the built program.
 #![tactic(auto)]
 
 #[cfg(test)]
 mod calls;
-#[cfg(test)]
-mod changed;
-#[cfg(test)]
-mod exits;
 #[cfg(test)]
 mod failing;
 #[cfg(test)]
@@ -16,18 +13,4 @@ mod generated;
 #[cfg(test)]
 mod images;
 #[cfg(test)]
-mod jumps;
-#[cfg(test)]
-mod lists;
-#[cfg(test)]
-mod programs;
-#[cfg(test)]
-mod stacks;
-#[cfg(test)]
-mod streams;
-#[cfg(test)]
-mod switches;
-#[cfg(test)]
-mod units;
-#[cfg(test)]
-mod words;
+mod statuses;
