@@ -137,10 +137,13 @@ def main(flag=""):
         cases = file.read().splitlines()
     with open(f"{FAULTS}/stdout", encoding="utf-8") as file:
         lines = file.read().splitlines()
+    # (the cases that show graphs stand last, and are told by several lines each)
+    cases = [it for it in cases if not it.startswith("graphs\t")]
+    lines, graphs = lines[: len(cases)], lines[len(cases) :]
     made = [line_of(case) if line.startswith("accepted") else line for case, line in zip(cases, lines, strict=True)]
     if flag == "--write":
         with open(f"{FAULTS}/stdout", "w", encoding="utf-8") as file:
-            file.write("\n".join(made) + "\n")
+            file.write("\n".join(made + graphs) + "\n")
         return 0
     for line in made:
         if line.startswith("accepted"):

@@ -1,9 +1,5 @@
-//! The tests of `cmm_graph`, `cmm_live`, `cmm_flow`: of what no clause says.
+//! The tests of `cmm_graph`: of what no clause says, and no line of `static_rows`.
 #![tactic(auto)]
 
 #[cfg(test)]
-mod flow;
-#[cfg(test)]
 mod graph;
-#[cfg(test)]
-mod live;

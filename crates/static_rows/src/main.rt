@@ -1,8 +1,10 @@
-//! Prints which fault is named of the units of each line of its input, or that they break no rule, and how many tokens their program has.
+//! Prints which fault is named of the units of each line of its input, or that they break no rule, and how many tokens their program has; of a line that
+//! begins with the word `graphs` and a tab, the graphs of the procedures of its units, and what is live in them.
 //!
 //! It is the test of `cmm_static` on texts, as data: `stdin` has a case a line, its units divided by tabs, and `stdout` the faults that are named
 //! of them by docs/LANGUAGE.md, worked out by hand: the number of the unit, from 0, line, column, and the rule. Of units that break none it has how
 //! many tokens they have, and then of each procedure how many its statements have of its own, as `tools/token_counts.py` counts them in the texts.
+//! Graphs and live sets are worked out by hand too: a node is laid before those that lead to it, behind those of labels and continuations.
 #![tactic(auto)]
 
 use cmm_ast::Unit;
@@ -14,25 +16,46 @@ use cmm_static_semantics::Fault;
 use std::alloc::{AllocError, AllocFailed, Global};
 use std::io;
 
+mod graphs;
+
+use graphs::print_graphs;
+
 /// More units than a case has.
 const UNITS: usize = 16;
 
 fn main(rt: HostRuntime) -> io::Result<()> {
     for line in rt.lines(rt.alloc()) {
-        print_fault(&rt, line?.as_str())?;
+        print_line(&rt, line?.as_str())?;
     }
     Ok(())
 }
 
-/// Prints the fault that is named of the units of a line.
-fn print_fault(rt: &(impl AllocGlobal + Print), line: &str) -> io::Result<()> {
+/// What is printed of units that break no rule.
+#[derive(Clone, Copy)]
+enum Shown {
+    Counts,
+    Graphs,
+}
+
+fn print_line(rt: &(impl AllocGlobal + Print), line: &str) -> io::Result<()> {
+    match line.strip_prefix("graphs\t") {
+        Some(units) => print_units(rt, units, Shown::Graphs),
+        None => print_units(rt, line, Shown::Counts),
+    }
+}
+
+/// Prints the fault that is named of the units of a line, or what is shown of those that break no rule.
+fn print_units(rt: &(impl AllocGlobal + Print), line: &str, shown: Shown) -> io::Result<()> {
     let units = match units_of(rt.alloc(), line) {
         Ok(units) if units.len() < UNITS => units,
         Ok(_) => return println!(rt; "too many units"),
         Err(NoUnit) => return println!(rt; "no unit"),
     };
     match check(rt.alloc(), &units) {
-        Ok(program) => print_counts(rt, &units, &program),
+        Ok(program) => match shown {
+            Shown::Counts => print_counts(rt, &units, &program),
+            Shown::Graphs => print_graphs(rt, &program),
+        },
         Err(StaticFault::At(fault)) => print_rule(rt, fault),
         Err(StaticFault::Memory) => println!(rt; "out of memory"),
     }
