@@ -4,6 +4,7 @@ use Rattle.std.specs.Prelude.{flat_map, slice_get}
 use Rattle.std.specs.List.{All}
 use Rattle.std.proofs.lemmas.List.{length-take-le, map-append}
 use Rattle.std.proofs.lemmas.List.Elements.{All-head, All-tail}
+use Rattle.cmm_items.proofs.Shared.{apart_within, apart_later}
 use Rattle.rv_table.specs.Memory.{data_base}
 use Rattle.cmm_words.specs.Widths.{bytes}
 use Rattle.cmm_words.specs.declared.width.Width.{Width}
@@ -48,20 +49,16 @@ pub procedures_are : (p : Program) → fix_procedures (fixes_from data_base p.da
 procedures_are p = all_procedures data_base p.datums
 
 -- ---- each has eight bytes of its own
-apart_later : (from at size : ℕ) (fs : List Fix) → from ≤ at → AreApart at fs size → AreApart from fs size
-apart_later from at size [] less apart = omega (arith, less, apart)
-apart_later from at size (f ∷ fs) less apart = (omega (arith, less, apart.0), apart.1)
-
 value_apart : (place size : ℕ) (width : Width) (c : Constant) (fs : List Fix) → MayStandIn width c → AreApart (place + bytes width) fs size → AreApart place (fix_by place c ++ fs) size
-value_apart place size width (Number word own) fs may apart = apart_later place (place + bytes width) size fs (omega arith) apart
-value_apart place size width (Address label plus) fs may apart = apart_later place (place + bytes width) size fs (omega arith) apart
+value_apart place size width (Number word own) fs may apart = apart_later (λ (f : Fix). f.place) place (place + bytes width) size fs (omega arith) apart
+value_apart place size width (Address label plus) fs may apart = apart_later (λ (f : Fix). f.place) place (place + bytes width) size fs (omega arith) apart
 value_apart place size width (Code proc plus) fs may apart =
     let P : Width → Type 0 = λ w. AreApart (place + bytes w) fs size in
     (omega arith, subst P may apart)
 
 values_apart : (place size : ℕ) (width : Width) (cs : List Constant) (fs : List Fix) → All (MayStandIn width) cs → AreApart (place + length cs * bytes width) fs size →
     AreApart place (value_fixes place width cs ++ fs) size
-values_apart place size width [] fs may apart = apart_later place (place + 0 * bytes width) size fs (omega arith) apart
+values_apart place size width [] fs may apart = apart_later (λ (f : Fix). f.place) place (place + 0 * bytes width) size fs (omega arith) apart
 values_apart place size width (c ∷ cs) fs may apart =
     let n = bytes width in
     let on : place + suc (length cs) * n ≡ place + n + length cs * n = omega arith in
@@ -86,21 +83,11 @@ all_apart labels place (d ∷ ds) from layable =
     in
     let left : at - data_base + length d.values * bytes d.width ≤ at + d.length - data_base = omega (arith, values_within d here.length, from, grows) in
     let mine : AreApart (at - data_base) (value_fixes (at - data_base) d.width d.values ++ rest) size =
-    values_apart (at - data_base) size d.width d.values rest here.width (apart_later (at - data_base + length d.values * bytes d.width) (at + d.length - data_base) size rest left behind)
+    values_apart (at - data_base) size d.width d.values rest here.width (apart_later (λ (f : Fix). f.place) (at - data_base + length d.values * bytes d.width) (at + d.length - data_base) size rest left behind)
     in
-    apart_later (place - data_base) (at - data_base) size (value_fixes (at - data_base) d.width d.values ++ rest) (omega (arith, grows)) mine
+    apart_later (λ (f : Fix). f.place) (place - data_base) (at - data_base) size (value_fixes (at - data_base) d.width d.values ++ rest) (omega (arith, grows)) mine
 
 -- ---- one after another
-apart_end : (from size : ℕ) (fixes : List Fix) → AreApart from fixes size → from ≤ size
-apart_end from size [] apart = apart
-apart_end from size (f ∷ fixes) apart = let e = apart_end (f.place + 8) size fixes apart.1 in omega (arith, e, apart.0)
-
-fix_within : (from size i : ℕ) (fixes : List Fix) (f : Fix) → AreApart from fixes size → slice_get fixes i ≡ Some f → f.place + 8 ≤ size
-fix_within from size i [] f apart is = absurd (cc)
-fix_within from size zero (g ∷ fixes) f apart is =
-    let same : g ≡ f = cc in
-    rw same at (apart_end (g.place + 8) size fixes apart.1)
-fix_within from size (suc i) (g ∷ fixes) f apart is = fix_within (g.place + 8) size i fixes f apart.1 is
 
 length-with_value : (value place : ℕ) (bytes : List ℕ) → place + 8 ≤ length bytes → length (with_value value place bytes) ≡ length bytes
 length-with_value value place bytes within =
@@ -116,6 +103,6 @@ length-with_value value place bytes within =
 pub fixes_are_filled : FixesAreFilled
 fixes_are_filled = record {
   more = λ code fixes f bytes. filled-append code fixes (f ∷ []) bytes;
-  within = fix_within;
+  within = apart_within (λ f. f.place);
   kept = length-with_value;
 }

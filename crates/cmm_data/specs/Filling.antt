@@ -1,5 +1,6 @@
 -- Places in the bytes of data that wait for the address of a procedure (C-- Language Specification 2.0, initialised data).
 use Rattle.std.specs.Prelude.{◌≡◌, ℕ, ◌+◌, ◌%◌, ◌^◌, ◌≤◌, List, [], ◌∷◌, ◌++◌, map, flat_map, replicate, take, drop}
+use Rattle.cmm_items.specs.Apart as apart
 use Rattle.cmm_words.specs.declared.constant.Constant.{Constant}
 use Rattle.cmm_words.specs.declared.constant.Constant.TheVariants.{Number, Code, Address}
 use Rattle.cmm_program.specs.declared.program.Program.{Program}
@@ -41,8 +42,7 @@ fix_procedures fixes = map (λ f. (f.procedure, f.plus)) fixes
 
 -- each fix has eight of n bytes, which follow those of the fix before
 abbrev pub AreApart : ℕ → List Fix → ℕ → Type 0
-AreApart from [] length = from ≤ length
-AreApart from (f ∷ fs) length = (from ≤ f.place) × AreApart (f.place + 8) fs length
+AreApart = apart.AreApart (λ f. f.place)
 
 -- the bytes of a fix are 0
 abbrev pub IsWaiting : List ℕ → Fix → Type 0

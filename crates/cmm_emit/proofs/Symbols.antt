@@ -6,6 +6,7 @@ use Rattle.std.proofs.lemmas.Bool.Decides.{nat_tests}
 use Rattle.std.proofs.lemmas.List.{get_or_past}
 use Rattle.std.proofs.lemmas.List.Elements.{All-cons, All-nil}
 use Rattle.std.proofs.lemmas.Option.{get_or_from_slice_get}
+use Rattle.cmm_items.proofs.Shared.{apart_end}
 use Rattle.rv_asm.specs.Assembly.{Fits, is_inner, is_target, meaning}
 use Rattle.rv_asm.specs.Filling.{AreApart, IsNear, IsReached, number_at}
 use Rattle.rv_asm.specs.Finishing.{GoesToCode, IsAligned, address_of, stands_for}
@@ -99,11 +100,7 @@ pub fixes_reached : (value : ℕ → ℕ) (at size before : ℕ) (fixes : List C
     All (IsReached value at) fixes
 fixes_reached value at size before [] small room apart = All-nil (IsReached value at)
 fixes_reached value at size before (f ∷ fixes) small room apart =
-    let later = apart_within (f.place + 8) fixes size apart.1 in
+    let later = apart_end (λ (f : CodeFix). f.place) (f.place + 8) size fixes apart.1 in
     All-cons (IsReached value at) f fixes
     ((let less = small f.symbol in omega (arith, less)), number_near f.relative (value f.symbol) (at + f.place) (small f.symbol) (omega (arith, later, room)))
     (fixes_reached value at size (f.place + 8) fixes small room apart.1)
-  where
-    apart_within : (before : ℕ) (fixes : List CodeFix) (size : ℕ) → AreApart before fixes size → before ≤ size
-    apart_within before [] size apart = apart
-    apart_within before (f ∷ fixes) size apart = let rest = apart_within (f.place + 8) fixes size apart.1 in let first = apart.0 in omega (arith, rest, first)

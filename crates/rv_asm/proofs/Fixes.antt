@@ -6,6 +6,7 @@ use Rattle.std.specs.List.{All}
 use Rattle.std.proofs.lemmas.Grind.{flat_map-append}
 use Rattle.std.proofs.lemmas.List.{map-append}
 use Rattle.std.proofs.lemmas.List.Elements.{All-head, All-tail}
+use Rattle.cmm_items.proofs.Shared.{apart_later}
 use Rattle.rv_table.proofs.Shared.{length-code_of, word_of-lt}
 use Rattle.rv_table.specs.declared.instruction.Instr.{Instr}
 use Rattle.rv_table.specs.declared.instruction.Instr.TheVariants.{Auipc, Jalr, Addi}
@@ -136,23 +137,18 @@ module _ (labels : List Meaning) where
       in
       rw (whole, of_symbols place p, symbols_are (place + longest p) ps) refl
 
-  -- fixes that follow a place that lies no later
-  apart_later : (from to length : ℕ) (fs : List CodeFix) → from ≤ to → AreApart to fs length → AreApart from fs length
-  apart_later from to length [] le apart = omega arith
-  apart_later from to length (f ∷ fs) le apart = (omega (arith, apart.0), apart.1)
-
   by_apart : (meant : Meaning) (place end : ℕ) (fs : List CodeFix) → AreApart (place + 8) fs end → AreApart place (fix_by meant place ++ fs) end
-  by_apart (Inner placed) place end fs apart = apart_later place (place + 8) end fs (omega arith) apart
+  by_apart (Inner placed) place end fs apart = apart_later (λ (f : CodeFix). f.place) place (place + 8) end fs (omega arith) apart
   by_apart (Outer symbol relative) place end fs apart = (omega arith, apart)
 
   part_apart : (place end : ℕ) (p : Part) (fs : List CodeFix) → AreApart (place + longest p) fs end → AreApart place (fix_of labels place p ++ fs) end
   part_apart place end (Jump l) fs apart = by_apart (meaning labels l) place end fs apart
   part_apart place end (Call l) fs apart = by_apart (meaning labels l) place end fs apart
   part_apart place end (Address rd l) fs apart = by_apart (meaning labels l) place end fs apart
-  part_apart place end (Single i) fs apart = apart_later place (place + 4) end fs (omega arith) apart
-  part_apart place end (Place l) fs apart = apart_later place (place + 0) end fs (omega arith) apart
-  part_apart place end (Branch c a b l) fs apart = apart_later place (place + 12) end fs (omega arith) apart
-  part_apart place end (Table ls) fs apart = apart_later place (place + (12 * length ls + 4)) end fs (omega arith) apart
+  part_apart place end (Single i) fs apart = apart_later (λ (f : CodeFix). f.place) place (place + 4) end fs (omega arith) apart
+  part_apart place end (Place l) fs apart = apart_later (λ (f : CodeFix). f.place) place (place + 0) end fs (omega arith) apart
+  part_apart place end (Branch c a b l) fs apart = apart_later (λ (f : CodeFix). f.place) place (place + 12) end fs (omega arith) apart
+  part_apart place end (Table ls) fs apart = apart_later (λ (f : CodeFix). f.place) place (place + (12 * length ls + 4)) end fs (omega arith) apart
 
   -- each fix has its own two words
   pub fixes_apart : (place end : ℕ) (ps : List Part) → place + all_longest ps ≤ end → AreApart place (fixes_of labels place ps) end
