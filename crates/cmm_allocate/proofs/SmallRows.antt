@@ -6,7 +6,7 @@ use Rattle.std.proofs.lemmas.List.Elements.{All-cons, All-nil}
 use Rattle.cmm_simulation.specs.Machine.{after}
 use Rattle.cmm_machine_laws.specs.Fitting.{IsSetUp}
 use Rattle.cmm_program.proofs.Shared.{opened}
-use Rattle.cmm_program.proofs.Shared.{frame, is, local as variable_of, no_client, procedure, program, sample, setting}
+use Rattle.cmm_program.proofs.Shared.{frame, is, local as variable_of, no_client, procedure, procedure_in_range, program, program_in_range, sample, setting}
 use Rattle.cmm_program.specs.declared.procedure.Proc.{Proc}
 use Rattle.cmm_program.specs.declared.program.Program.{Program}
 use Rattle.cmm_program.specs.declared.statement.Form.TheVariants as form
@@ -106,41 +106,11 @@ answer = record {
 
 in_range : IsProcInRange p main
 unfolding opened
-in_range = record {
-  name = refl;
-  unit = lit< tt;
-  formals = refl;
-  variables = lit≤ tt;
-  kinds = refl;
-  frames = record { items = refl; stackdata = lit≤ tt; tokens = lit≤ tt };
-  continuations = refl;
-  sites = refl;
-  body = refl;
-  labels_numbered = refl;
-  continuations_numbered = refl;
-  sites_numbered = refl;
-  shortest = lit≤ tt;
-  counts = lit≤ tt;
-}
+in_range = procedure_in_range p main refl
 
 range : IsInRange p
 unfolding opened
-range = record {
-  procedures = All-cons (IsProcInRange p) main [] in_range (All-nil (IsProcInRange p));
-  procedure_count = lit≤ tt;
-  main = lit< tt;
-  main_formals = λ q is. let same : q ≡ main = cc in ap (λ (q : Proc). q.formals) same;
-  datums = refl;
-  datum_count = lit< tt;
-  data_size = lit≤ tt;
-  labels = refl;
-  label_count = lit< tt;
-  registers = lit≤ tt;
-  register_names = refl;
-  tokens = lit≤ tt;
-  site_variables = lit≤ tt;
-  site_spans = lit≤ tt;
-}
+range = program_in_range p refl
 
 -- ---- what is live: the variable, before the return and before the Entry
 

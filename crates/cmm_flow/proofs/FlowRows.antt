@@ -8,7 +8,7 @@ use Rattle.cmm_words.specs.declared.operators.Cmp.TheVariants.{Eq}
 use Rattle.cmm_words.specs.declared.operators.Op2.TheVariants.{Add, Mul}
 use Rattle.cmm_words.specs.declared.width.Width.TheVariants.{W64}
 use Rattle.cmm_program.proofs.Shared.{opened}
-use Rattle.cmm_program.proofs.Shared.{alone, assign, continuation, frame_with, is, local as variable, no_client, num, op, procedure, setting, test}
+use Rattle.cmm_program.proofs.Shared.{alone, assign, continuation, frame_with, is, local as variable, no_client, num, op, procedure, program_in_range, setting, test}
 use Rattle.cmm_program.specs.declared.procedure.Proc.{Proc}
 use Rattle.cmm_program.specs.declared.statement.Form.TheVariants as form
 use Rattle.cmm_program.specs.declared.procedure.Target.TheVariants as target
@@ -168,43 +168,9 @@ are_flows = record {
 }
 
 -- the program is in range, at a valid placement
-main_in_range : IsProcInRange small.program main
-unfolding opened
-main_in_range = record {
-  name = refl;
-  unit = lit< tt;
-  formals = refl;
-  variables = lit≤ tt;
-  kinds = refl;
-  frames = record { items = refl; stackdata = lit≤ tt; tokens = lit≤ tt };
-  continuations = refl;
-  sites = refl;
-  body = refl;
-  labels_numbered = refl;
-  continuations_numbered = refl;
-  sites_numbered = refl;
-  shortest = lit≤ tt;
-  counts = lit≤ tt;
-}
-
 in_range : IsInRange small.program
 unfolding opened
-in_range = record {
-  procedures = All-cons (IsProcInRange small.program) main [] main_in_range (All-nil (IsProcInRange small.program));
-  procedure_count = lit≤ tt;
-  main = lit< tt;
-  main_formals = λ q is. let same : q ≡ main = cc in ap (λ (q : Proc). q.formals) same;
-  datums = refl;
-  datum_count = lit< tt;
-  data_size = lit≤ tt;
-  labels = refl;
-  label_count = lit< tt;
-  registers = lit≤ tt;
-  register_names = refl;
-  tokens = lit≤ tt;
-  site_variables = lit≤ tt;
-  site_spans = lit≤ tt;
-}
+in_range = program_in_range small.program refl
 
 is_set_up : IsSetUp small
 is_set_up = record { program = in_range; placement = record { rows = refl; ascending = refl }; top = lit< tt }

@@ -7,7 +7,7 @@ use Rattle.std.specs.List.{list_all}
 use Rattle.cmm_words.specs.declared.constant.Constant.TheVariants.{Code}
 use Rattle.cmm_words.specs.declared.width.Width.TheVariants.{W64}
 use Rattle.cmm_program.proofs.Shared.{opened}
-use Rattle.cmm_program.proofs.Shared.{call_site, code, continuation, is, list_all_get, local as variable_of, procedure, program}
+use Rattle.cmm_program.proofs.Shared.{call_site, code, continuation, is, list_all_get, local as variable_of, procedure, procedure_in_range, program, program_in_range}
 use Rattle.cmm_program.specs.declared.procedure.Proc.{Proc}
 use Rattle.cmm_program.specs.declared.procedure.Site.{Site}
 use Rattle.cmm_program.specs.declared.procedure.Target.TheVariants as target
@@ -165,22 +165,7 @@ is_graph = record {
 
 in_range : IsProcInRange p f
 unfolding opened
-in_range = record {
-  name = refl;
-  unit = lit< tt;
-  formals = refl;
-  variables = lit≤ tt;
-  kinds = refl;
-  frames = record { items = refl; stackdata = lit≤ tt; tokens = lit≤ tt };
-  continuations = refl;
-  sites = refl;
-  body = refl;
-  labels_numbered = refl;
-  continuations_numbered = refl;
-  sites_numbered = refl;
-  shortest = lit≤ tt;
-  counts = lit≤ tt;
-}
+in_range = procedure_in_range p f refl
 
 flows : IsFlowInRange p f graph
 flows = record {
@@ -228,28 +213,13 @@ answer = record {
   covered = λ p range sites. refl;
 }
 
-program_in_range : IsInRange p
+range : IsInRange p
 unfolding opened
-program_in_range = record {
-  procedures = All-cons (IsProcInRange p) f [] in_range (All-nil (IsProcInRange p));
-  procedure_count = lit≤ tt;
-  main = lit< tt;
-  main_formals = λ q is. let same : q ≡ f = cc in ap (λ (q : Proc). q.formals) same;
-  datums = refl;
-  datum_count = lit< tt;
-  data_size = lit≤ tt;
-  labels = refl;
-  label_count = lit< tt;
-  registers = lit≤ tt;
-  register_names = refl;
-  tokens = lit≤ tt;
-  site_variables = lit≤ tt;
-  site_spans = lit≤ tt;
-}
+range = program_in_range p refl
 
 -- so it is the flow of the program, wherever that is placed
 are_flows : (s : Setting) → s.program ≡ p → AreFlows s (graph ∷ [])
-are_flows s same = flows_given p (graph ∷ []) (answer, tt) s same program_in_range
+are_flows s same = flows_given p (graph ∷ []) (answer, tt) s same range
 
 -- ---- both sides
 

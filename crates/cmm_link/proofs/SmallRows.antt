@@ -6,7 +6,7 @@ use Rattle.std.proofs.lemmas.List.Elements.{All-cons, All-nil}
 use Rattle.cmm_words.specs.declared.constant.Constant.TheVariants.{Code}
 use Rattle.cmm_words.specs.declared.width.Width.TheVariants.{W32, W64}
 use Rattle.cmm_program.proofs.Shared.{opened}
-use Rattle.cmm_program.proofs.Shared.{datum, global, is, local, procedure, program}
+use Rattle.cmm_program.proofs.Shared.{datum, global, is, local, procedure, program, program_in_range}
 use Rattle.cmm_program.specs.declared.procedure.Proc.{Proc}
 use Rattle.cmm_program.specs.declared.program.Label.{Label}
 use Rattle.cmm_program.specs.declared.program.Program.{Program}
@@ -45,43 +45,9 @@ table = record { name = 116 ∷ []; links = (117 ∷ []) ∷ []; datum = 0; at_e
 abbrev p : Program
 p = record (program (main ∷ [])) { datums = datum 8 8 W64 (Code 0 0 ∷ []) ∷ []; globals = global (103 ∷ []) W32 ∷ []; labels = table ∷ [] }
 
-in_range : IsProcInRange p main
-unfolding opened
-in_range = record {
-  name = refl;
-  unit = lit< tt;
-  formals = refl;
-  variables = lit≤ tt;
-  kinds = refl;
-  frames = record { items = refl; stackdata = lit≤ tt; tokens = lit≤ tt };
-  continuations = refl;
-  sites = refl;
-  body = refl;
-  labels_numbered = refl;
-  continuations_numbered = refl;
-  sites_numbered = refl;
-  shortest = lit≤ tt;
-  counts = lit≤ tt;
-}
-
 range : IsInRange p
 unfolding opened
-range = record {
-  procedures = All-cons (IsProcInRange p) main [] in_range (All-nil (IsProcInRange p));
-  procedure_count = lit≤ tt;
-  main = lit< tt;
-  main_formals = λ q is. let same : q ≡ main = cc in ap (λ (q : Proc). q.formals) same;
-  datums = refl;
-  datum_count = lit< tt;
-  data_size = lit≤ tt;
-  labels = refl;
-  label_count = lit< tt;
-  registers = lit≤ tt;
-  register_names = refl;
-  tokens = lit≤ tt;
-  site_variables = lit≤ tt;
-  site_spans = lit≤ tt;
-}
+range = program_in_range p refl
 
 -- ---- its frame, its data and its code
 

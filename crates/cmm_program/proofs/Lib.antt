@@ -3,6 +3,7 @@ pub mod Keeping
 pub mod Places
 pub mod Samples
 pub mod AskedStores
+pub mod RangeTests
 pub mod Shared
 pub mod Settling
 pub mod Positions

@@ -7,7 +7,7 @@ use Rattle.cmm_program.specs.declared.statement.Form.TheVariants as f
 use Rattle.cmm_program.specs.declared.procedure.Proc.{Proc}
 use Rattle.cmm_program.specs.declared.program.Program.{Program}
 use Rattle.cmm_program.specs.InRange.{IsInRange, IsProcInRange}
-use Rattle.cmm_program.proofs.Shared.{opened, is, stack_label, stack_bytes, continuation, procedure, program}
+use Rattle.cmm_program.proofs.Shared.{opened, continuation, is, procedure, program, program_in_range, stack_bytes, stack_label}
 
 --     main() {}
 abbrev pub main_only : Proc
@@ -26,63 +26,9 @@ program_of main f = program (main ∷ f ∷ [])
 abbrev pub two_procedures : Program
 two_procedures = program_of main_only framed
 
-main_in_range : IsProcInRange two_procedures main_only
-unfolding opened
-main_in_range = record {
-  name = refl;
-  unit = omega arith;
-  formals = refl;
-  variables = omega arith;
-  kinds = refl;
-  frames = record { items = refl; stackdata = omega arith; tokens = omega arith };
-  continuations = refl;
-  sites = refl;
-  body = refl;
-  labels_numbered = refl;
-  continuations_numbered = refl;
-  sites_numbered = refl;
-  shortest = omega arith;
-  counts = omega arith;
-}
-
-framed_in_range : IsProcInRange two_procedures framed
-unfolding opened
-framed_in_range = record {
-  name = refl;
-  unit = omega arith;
-  formals = refl;
-  variables = omega arith;
-  kinds = refl;
-  frames = record { items = refl; stackdata = omega arith; tokens = omega arith };
-  continuations = refl;
-  sites = refl;
-  body = refl;
-  labels_numbered = refl;
-  continuations_numbered = refl;
-  sites_numbered = refl;
-  shortest = omega arith;
-  counts = omega arith;
-}
-
 in_range : IsInRange two_procedures
 unfolding opened
-in_range = record {
-  procedures = All-cons (IsProcInRange two_procedures) main_only (framed ∷ []) main_in_range
-      (All-cons (IsProcInRange two_procedures) framed [] framed_in_range (All-nil (IsProcInRange two_procedures)));
-  procedure_count = omega arith;
-  main = omega arith;
-  main_formals = λ q e. ap (λ (q : Proc). q.formals) (sym (same_Some main_only q e));
-  datums = refl;
-  datum_count = omega arith;
-  data_size = omega arith;
-  labels = refl;
-  label_count = omega arith;
-  registers = omega arith;
-  register_names = refl;
-  tokens = omega arith;
-  site_variables = omega arith;
-  site_spans = omega arith;
-}
+in_range = program_in_range two_procedures refl
 
 -- the program that is made of two such procedures, if there is memory for it
 pub made_in_range : (made : Result Program AllocError) (main f : Proc) → main ≡ main_only → f ≡ framed →
