@@ -6,6 +6,9 @@ Usage: bench/static.py [PROGRAM], at the top of the repository; PROGRAM is the b
 It makes units of nearly 1 MiB, and of each another that lacks its last token, so that it ends with the fault of the syntax there: with that one the
 program lexes and parses, with the whole unit it tests the static rules as well, and the difference is their time. Each takes the least of seven runs,
 less the time for a small unit, which is that of a process. The tokens are counted here.
+
+Then it makes units of 15,000, 30,000 and 60,000 constants, each of the next, of which only the last depends on itself: that one is named, and twice as many
+take twice as long.
 """
 import os
 import re
@@ -54,6 +57,12 @@ def units():
     yield "procedures with a call", MAIN + "".join(filled(called))
 
 
+def leading_to_cycle(count):
+    """Constants of which each is the next, and the last is itself."""
+    short = [name(number)[1:] for number in range(count)]
+    return MAIN + "".join(f"const {mine}={of};" for mine, of in zip(short, [*short[1:], short[-1]]))
+
+
 def tokens(unit):
     return len(re.findall(r'"[^"]*"|\w+|[^\w\s]', unit))
 
@@ -85,6 +94,11 @@ def main(program="crates/cmm/out/cmm"):
         test = whole - read
         tested = f"{count / test / 1e6:.1f} million" if test > 1e-3 else "no time to see"
         print(f"| {sort} | {count:,} | {count / (read - process) / 1e6:.1f} million | {tested} |")
+    print("\n| constants that lead to a cycle | ms |\n|---|---|")
+    for count in (15_000, 30_000, 60_000):
+        took, fault = seconds(program, leading_to_cycle(count))
+        assert ": 39 " in fault, fault
+        print(f"| {count:,} | {(took - process) * 1000:.0f} |")
 
 
 if __name__ == "__main__":
