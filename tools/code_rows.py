@@ -189,7 +189,7 @@ def counts(width, place):
 
 def count_cases():
     for width in WIDTHS:
-        rows = [list(counts(width, place)) for place in (1, 1, 4)]
+        rows = [list(counts(width, place)) for place in (1, 1, 3)]
         yield f"count {width:x}", " ".join(
             " ".join([each[0][0]] + [str(row[k]) for k in range(1, len(each[0])) for row in each]) for each in zip(*rows)
         )
@@ -247,7 +247,7 @@ def compare_with_qemu(program):
 def table_rows(width):
     """Each node with its instructions on registers and near slots, and on far slots."""
     for name, *near in counts(width, 1):
-        far = next(row[1:] for row in counts(width, 4) if row[0] == name)
+        far = next(row[1:] for row in counts(width, 3) if row[0] == name)
         labels = {"load": ["load, aligned", "load, by bytes"], "store": ["store, aligned", "store, by bytes"]}
         kinds = labels.get(name) or ([name] if len(near) == 1 else [f"{name} told", f"{name} branch"])
         yield from zip(kinds, zip(near, far))

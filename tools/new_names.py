@@ -54,7 +54,7 @@ SOURCES = {
 DEFINITIONS = {
     "cmm_nodes": {"Laying": "LaidNodes"},
     "cmm_text": {"Laying": "LaidProcedures"},
-    "cmm_shown": {"Laws": "StateLaws"},
+    "cmm_shown": {"Laws": "StateLaws", "Shown": "Represented"},
     "cmm_served": {"Laws": "RequestLaws"},
 }
 PROOFS = {
@@ -89,6 +89,17 @@ WORDS = {
     "CodeFollows": "ImagesFollowLocatedRuns",
     "images_agree": "images_agree_with_units",
     "ImagesAgree": "ImagesAgreeWithUnits",
+    "IsShown": "IsRepresented",
+    "IsShownIn": "IsRepresentedIn",
+    "IsShownBy": "IsRepresentedBy",
+    "ShowsWords": "RepresentsWords",
+    "ShowsCell": "RepresentsCell",
+    "ShowsCells": "RepresentsCells",
+    "ShowsRoom": "RepresentsRoom",
+    "ShowsRooms": "RepresentsRooms",
+    "ShowsRegisters": "RepresentsRegisters",
+    "ShowsValues": "RepresentsValues",
+    "ShowsHoldings": "RepresentsHoldings",
 }
 
 

@@ -1,2 +1,4 @@
 pub mod Roles
+pub mod Words
 pub mod Shared
+mod PlaceRows

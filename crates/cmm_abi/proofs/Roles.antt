@@ -1,5 +1,5 @@
 -- The roles of registers: who is called saves those that are listed, and nothing else is in a scratch register.
-use Rattle.std.proofs.Common.{◌≡◌, ℕ, true, arith}
+use Rattle.std.proofs.Common.{arith}
 use Rattle.std.proofs.lemmas.Bool.Decides.{nat_tests}
 use Rattle.cmm_abi.specs.Laws.{CalleeSavesAreListed, ScratchIsApart}
 

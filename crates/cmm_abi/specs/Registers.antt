@@ -1,6 +1,6 @@
 -- The registers by their roles (RISC-V ABIs Specification, Integer Register Convention: s1 to s11 are saved by who is called).
 use Rattle.std.specs.Prelude.{ℕ, ◌+◌, ◌==◌, ◌&&◌, ◌||◌, nat_le, nat_lt, Bool, List}
-use Rattle.cmm_abi.specs.declared.registers.TheConstants.{ZERO, RETURN_ADDRESS, FRAME, REGION, FIRST_SCRATCH, HELPER, SECOND_SCRATCH, REQUEST_NUMBER, REQUEST_VALUE, FIRST_VALUE, CALLEE_SAVES}
+use Rattle.cmm_abi.specs.declared.registers.TheConstants.{ZERO, RETURN_ADDRESS, FRAME, REGION, FIRST_SCRATCH, SECOND_SCRATCH, FIRST_VALUE, CALLEE_SAVES}
 use Rattle.cmm_abi.specs.declared.values.TheConstants.{IN_REGISTERS}
 
 -- the registers s1 to s11, which a procedure gives back as it got them

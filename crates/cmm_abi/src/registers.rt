@@ -10,10 +10,10 @@ pub const ZERO: u8 = 0;
 pub const RETURN_ADDRESS: u8 = 1;
 
 /// The address of the youngest frame: the stack pointer.
-pub const FRAME: u8 = 2;
+pub const FRAME: u8 = rv_table::FRAME;
 
 /// The address of the region of argument area, global registers and stack.
-pub const REGION: u8 = 4;
+pub const REGION: u8 = rv_table::REGION;
 
 /// The first of the three scratch registers, which nothing keeps between two nodes: the first operand and the result.
 pub const FIRST_SCRATCH: u8 = 5;
@@ -25,10 +25,10 @@ pub const HELPER: u8 = 6;
 pub const SECOND_SCRATCH: u8 = 7;
 
 /// What has the number of a request at its ECALL.
-pub const REQUEST_NUMBER: u8 = 5;
+pub const REQUEST_NUMBER: u8 = rv_table::REQUEST_NUMBER;
 
 /// The value that goes with a request, and what comes of one.
-pub const REQUEST_VALUE: u8 = 10;
+pub const REQUEST_VALUE: u8 = rv_table::REQUEST_VALUE;
 
 /// The first value of a call, a return, a cut or a yield. The next ones follow it.
 pub const FIRST_VALUE: u8 = 10;

@@ -3,7 +3,7 @@ use Rattle.std.proofs.Common.{◌≡◌, ℕ, zero, suc, ◌*◌, ◌==◌, ◌|
 use Rattle.std.proofs.lemmas.Bool.{or_left}
 use Rattle.std.proofs.lemmas.Bool.Decides.{nat_tests}
 use Rattle.std.specs.List.{list_any}
-use Rattle.cmm_abi.proofs.Shared.{callee_saves_are_listed}
+use Rattle.cmm_chain.proofs.Shared.{callee_saves_is_listed}
 use Rattle.cmm_program.specs.declared.procedure.Cont.{Cont}
 use Rattle.cmm_program.specs.declared.procedure.Proc.{Proc}
 use Rattle.cmm_program.specs.declared.procedure.Site.{Site}
@@ -50,9 +50,6 @@ has_word ((register, offset) ∷ rest) r is = by (has_word rest r) (r == registe
         let listed : list_any (λ x. r == x) (map (λ (s : ℕ × ℕ). s.0) rest) ≡ true = grind (arith, is, same) in
         ap (λ b. is_some (elim b as (λ _. Option ℕ) [ true ↦ Some offset | false ↦ saved_in rest r ])) same ∙ later listed
 
-is_listed : (r : ℕ) → is_callee_saves r ≡ true → list_any (λ x. r == x) callee_saves ≡ true
-is_listed r is = sym (callee_saves_are_listed r) ∙ is
-
 -- a site with a cut exit lets its procedure save all
 some_cut : (ks : List ℕ) (k : ℕ) → Contains ks k → has_cuts ks ≡ true
 some_cut [] k has = absurd (none_contained k has)
@@ -83,7 +80,7 @@ module _ (procs : List Proc) (graphs : List Graph) (found : List ProcedurePlaces
       (λ r. or_left (has_cut_exit p) (keeps_local r at.places.locals) cuts) in
       let registers : map (λ (s : ℕ × ℕ). s.0) at.places.frame.saved ≡ callee_saves = at.has.frame.registers ∙ kept in
       let listed : list_any (λ x. r == x) (map (λ (s : ℕ × ℕ). s.0) at.places.frame.saved) ≡ true =
-      ap (λ l. list_any (λ x. r == x) l) registers ∙ is_listed r is in
+      ap (λ l. list_any (λ x. r == x) l) registers ∙ callee_saves_is_listed r is in
       ap (λ (f : Frame). is_some (saved_in f.saved r)) frame_is ∙ has_word at.places.frame.saved r listed
 
   in_slot : (n : NodeId) (u : ℕ) → live_before found q n u ≡ true → (offset : ℕ) × ((compiled graphs found).plan.place q u ≡ Slot offset)

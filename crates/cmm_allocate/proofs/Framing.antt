@@ -6,7 +6,7 @@ use Rattle.std.specs.Str.{bytes_eq}
 use Rattle.std.proofs.lemmas.Bool.{and_from, and_parts}
 use Rattle.std.proofs.lemmas.Bool.Decides.{nat_tests}
 use Rattle.std.proofs.lemmas.Slice.Eq.{bytes_eq-Decides}
-use Rattle.cmm_abi.proofs.Shared.{callee_saves_are_listed}
+use Rattle.cmm_chain.proofs.Shared.{callee_saves_is_listed}
 use Rattle.cmm_program.specs.declared.procedure.Proc.{Proc}
 use Rattle.cmm_program.specs.Bounds.{frame_bound}
 use Rattle.cmm_program.specs.Errors.{with_some}
@@ -145,9 +145,6 @@ module _ (p : Proc) (places : List Location) (are : list_all is_location places 
       (subst (λ l. list_all (is_word_in frame.size) l ≡ true) (sym fixed_are) (words_inside frame.size slots (suc words) even (omega (arith, words_end, base_below))))
       (subst (λ l. are_distinct l ≡ true) (sym fixed_are) (words_distinct slots (suc words))))
 
-  is_listed : (r : ℕ) → is_callee_saves r ≡ true → list_any (λ x. r == x) callee_saves ≡ true
-  is_listed r is = sym (callee_saves_are_listed r) ∙ is
-
   uses : (r : ℕ) → keeps_local r places ≡ true → (has_cut_exit p || keeps_local r places) ≡ true
   uses r is = by (has_cut_exit p) (keeps_local r places) is
     where
@@ -157,7 +154,7 @@ module _ (p : Proc) (places : List Location) (are : list_all is_location places 
 
   locals : list_all (is_place frame) places ≡ true
   locals = slots_fresh places slots (suc words) frame fixed_are (omega arith) (omega (arith, words_end, base_below)) are
-      (λ r is keeps. is_saved (slots + 8) r (λ r. has_cut_exit p || keeps_local r places) callee_saves (is_listed r is) (uses r keeps))
+      (λ r is keeps. is_saved (slots + 8) r (λ r. has_cut_exit p || keeps_local r places) callee_saves (callee_saves_is_listed r is) (uses r keeps))
 
   clear : are_clear p frame (slot_offsets places ++ fixed_offsets frame) ≡ true
   clear = labels_offset (stackdata_labels p.stack) base

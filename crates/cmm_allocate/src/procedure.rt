@@ -16,7 +16,7 @@ use cmm_program::Proc;
 use std::alloc::{AllocError, Global};
 
 /// How a procedure keeps its locals. A local is named by its number: the variables come first, the temporaries after them.
-#[derive(Debug, Drop)]
+#[derive(Drop)]
 pub struct ProcedurePlaces {
     /// The place of each local.
     pub locals: Items<Location>,

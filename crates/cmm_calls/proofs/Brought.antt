@@ -1,10 +1,11 @@
 -- Values go out to where they travel.
-use Rattle.std.proofs.Common.{◌≡◌, ◌⊎◌, inl, inr, ℕ, zero, suc, ◌+◌, ◌-◌, ◌*◌, ◌%◌, ◌<◌, ◌≤◌, ◌^◌, Bool, true, false, List, [], ◌∷◌, ◌++◌, length, length-append, take, min, get_or, refl, sym, ◌∙◌, ap, subst, arith, pos, Some}
+use Rattle.std.proofs.Common.{◌≡◌, ◌≢◌, ◌⊎◌, inl, inr, ℕ, zero, suc, ◌+◌, ◌-◌, ◌*◌, ◌%◌, ◌<◌, ◌≤◌, ◌^◌, Bool, true, false, List, [], ◌∷◌, ◌++◌, length, length-append, take, min, get_or, refl, sym, ◌∙◌, ap, subst, arith, pos, Some}
 use Rattle.std.specs.Prelude.{◌==◌, ◌&&◌, ◌||◌, nat_le, nat_lt, slice_get, IsTrue}
 use Rattle.std.proofs.lemmas.Bool.{cases_lt}
 use Rattle.std.proofs.lemmas.Bool.Decides.{nat_tests}
-use Rattle.std.proofs.lemmas.List.{length-take-le, take_more}
+use Rattle.std.proofs.lemmas.List.{length-take-le, take_all, take_more}
 use Rattle.std.proofs.lemmas.Option.{slice_get_within}
+use Rattle.cmm_abi.specs.Regions.{InMemory, InRegister, LiesIn, Place as WordPlace, value_place, with_word, word_at}
 use Rattle.cmm_abi.specs.Registers.{is_callee_saves, is_temporary, is_scratch}
 use Rattle.cmm_chain.specs.declared.frame.Frame.{Frame}
 use Rattle.cmm_chain.specs.declared.frame.Location.TheVariants.{Slot, Saved, Temp}
@@ -13,12 +14,13 @@ use Rattle.rv_asm.specs.Appending.{Then}
 use Rattle.rv_asm.specs.Parts.{Code}
 use Rattle.rv_asm.specs.declared.part.Label.{Label}
 use Rattle.rv_asm.specs.declared.part.Part.{Part}
-use Rattle.rv_table.proofs.Shared.{loaded-below, loaded-same, stored-outside}
-use Rattle.rv_table.specs.Machine.{MemoryMap, State, is_accessible, loaded, region_base, stack_base, stored}
+use Rattle.rv_table.proofs.Shared.{loaded-below, loaded-same, stored-outside, with_register-other, with_register-same}
+use Rattle.rv_table.specs.Machine.{MemoryMap, Region, State, bottom, is_accessible, loaded, stored, top}
+use Rattle.rv_table.specs.Registers.{with_register}
 use Rattle.rv_table.specs.Words.{modulo, sum}
 use Rattle.rv_table.specs.declared.instruction.Instr.TheVariants.{Addi, Sd}
 use Rattle.cmm_effects.proofs.Shared.{adds_none, adds_then, adds_weaker, leads_set, leads_sound, leads_store, leads_then, leads_turns, leads_weaker, reaches_more, reaches_sound, runs_none, runs_of, turns_weaker}
-use Rattle.cmm_effects.specs.Changes.{Keeps, Sets, Writes}
+use Rattle.cmm_effects.specs.Changes.{Keeps, PutsRegister, Sets, Writes}
 use Rattle.cmm_effects.specs.Pieces.{Adds, Always, BeginsQuietly, Leads}
 use Rattle.cmm_effects.specs.Ways.{Turns}
 use Rattle.cmm_select.specs.Operands.{Brings, BringsOperand, CanBringOperand, most_for, operand_at}
@@ -28,12 +30,12 @@ use Rattle.cmm_select.specs.declared.operand.Operand.TheVariants.{Held, Symbol}
 use Rattle.cmm_select.specs.declared.source.Source.{Source}
 use Rattle.cmm_select.specs.declared.source.Source.TheVariants.{Place, Number, Address}
 use Rattle.cmm_calls.proofs.Leaving.{left_further}
-use Rattle.cmm_calls.proofs.Reached.{One, plus_none}
+use Rattle.cmm_select.proofs.Shared.{One, plus_none}
 use Rattle.cmm_calls.proofs.Standing.{both, frame_stays, place_reached}
-use Rattle.cmm_calls.proofs.Taken.{area_address, area_reached, passes_of, passes_then, value_in_area, value_in_register}
-use Rattle.cmm_calls.specs.Frames.{CanBeMade, CanReturn, HasFrame, Leaves, LetsWait, Returns, leave_cost, return_address}
-use Rattle.cmm_calls.specs.Values.{Gives, HasRegion, JumpsTo, Passes, ReturnsValues, are_given_first, is_given_first, is_operand, is_source, value_in}
-use Rattle.cmm_calls.specs.inside.Giving.{CanGive, GivesBy, GivesValue}
+use Rattle.cmm_calls.proofs.Taken.{area_address, area_below, area_reached, far_place, near_place, no_scratch_value, passes_of, passes_then, value_in_area, value_in_register}
+use Rattle.cmm_calls.specs.Frames.{CanBeMade, CanReturn, HasFrame, Leaves, LeavesFrame, LetsWait, Returns, leave_cost, return_address}
+use Rattle.cmm_calls.specs.Values.{Gives, GivesIn, HasRegion, JumpsTo, Passes, ReturnsValues, are_given_first, is_given_first, is_operand, is_source}
+use Rattle.cmm_calls.specs.inside.Giving.{CanGive, GivesValue}
 
 -- ---- one value
 
@@ -47,33 +49,39 @@ away_brought r h = grind (arith, nat_tests, h)
 waits_beside : (k : ℕ) → (7 == 10 + k) ≡ false
 waits_beside k = grind (arith, nat_tests)
 
-near_value : (k : ℕ) → k < 8 → nat_lt k 8 ≡ true
-near_value k h = grind (arith, nat_tests, h)
+-- a register that is put has its number, and all but scratch registers are as if nothing else were changed
+register_given : (k n : ℕ) (s t : State) → PutsRegister (10 + k) n s t → Keeps (with_word (InRegister (10 + k)) n s) t
+register_given k n s t puts = record { registers = λ r h. by r (r == 10 + k) refl h; memory = puts.2 }
+  where
+    by : (r : ℕ) (test : Bool) → (r == 10 + k) ≡ test → is_scratch r ≡ false → t.registers r ≡ with_register s.registers (10 + k) n r
+    by r true is h =
+        let same : r ≡ 10 + k = grind (arith, nat_tests, is) in
+        subst (λ (i : ℕ). t.registers i ≡ with_register s.registers (10 + k) n i) (sym same) (puts.0 ∙ sym (with_register-same s.registers (10 + k) n (omega arith)))
+    by r false is h =
+        let other : r ≢ 10 + k = grind (arith, nat_tests, is) in
+        puts.1 r (grind (arith, nat_tests, is, h)) ∙ sym (with_register-other s.registers (10 + k) n r other)
 
-far_value : (k : ℕ) → 8 ≤ k → nat_lt k 8 ≡ false
-far_value k h = grind (arith, nat_tests, h)
-
-module _ (x : Code) (a : Operand) (k from to : ℕ) (short : most_for a ≤ 11) where
+module _ (x : Code) (a : Operand) (k from to : ℕ) (short : most_for a ≤ 11) (region : Region) where
   -- it is brought into register 5, and has 64 bits
   comes : (mid : ℕ) → BringsOperand a 5 x from mid →
-      Leads 11 (CanGive a) (λ s t. Brings 5 (operand_at x.at a s) s t × (operand_at x.at a s < 2 ^ 64)) x from mid
+      Leads 11 (CanGive region a) (λ s t. Brings 5 (operand_at x.at a s) s t × (operand_at x.at a s < 2 ^ 64)) x from mid
   comes mid first =
       leads_weaker (leads_sound first) short (λ s sound can. can.brings)
       (λ s t sound can both. (both.0, subst (λ (v : ℕ). v < 2 ^ 64) both.0.given (both.1.registers 5)))
 
   pub gives_register : k < 8 → Then (BringsOperand a 5) (One (Addi (10 + k) 5 (pos 0))) x from to →
-      Leads 12 (CanGive a) (λ s t. GivesValue k (operand_at x.at a s) s t) x from to
+      Leads 12 (CanGive region a) (λ s t. GivesValue region k (operand_at x.at a s) s t) x from to
   gives_register low does =
       leads_weaker
       (leads_then {R = Always} (comes does.0 does.1) (runs_of (leads_set x (Addi (10 + k) 5 (pos 0)) does.0 to (10 + k) (λ g. sum (g 5) (modulo 64 (pos 0))) (omega arith) (λ g pc. refl) does.2))
       (λ s t sound also can brought. tt))
       (omega arith) (λ s sound can. can) (λ s u sound can passed. all s passed.0 u (operand_at x.at a s) passed.1.0 passed.1.1 passed.2)
     where
-      all : (s t u : State) (n : ℕ) → Brings 5 n s t → n < 2 ^ 64 → Sets (10 + k) (sum (t.registers 5) (modulo 64 (pos 0))) t u → GivesValue k n s u
+      all : (s t u : State) (n : ℕ) → Brings 5 n s t → n < 2 ^ 64 → Sets (10 + k) (sum (t.registers 5) (modulo 64 (pos 0))) t u → GivesValue region k n s u
       all s t u n first fits second = record {
         fits = fits;
-        given = subst (λ (b : Bool). GivesBy b k n s u) (sym (near_value k low))
-            ((
+        given = subst (λ (p : WordPlace). Keeps (with_word p n s) u) (sym (near_place region k low))
+            (register_given k n s u (
               second.given ∙ ap (λ (v : ℕ). sum v (modulo 64 (pos 0))) first.given ∙ plus_none n fits,
               (λ r h. let parts = first_both (r == 10 + k) (is_scratch r) h in second.others r parts.0 ∙ first.others r (away_brought r parts.1)),
               second.memory ∙ first.memory,
@@ -98,28 +106,28 @@ module _ (x : Code) (a : Operand) (k from to : ℕ) (short : most_for a ≤ 11) 
   }
 
   pub gives_area : 8 ≤ k → k < 64 → Then (BringsOperand a 5) (One (Sd 4 5 (pos (8 * (k - 8))))) x from to →
-      Leads 12 (CanGive a) (λ s t. GivesValue k (operand_at x.at a s) s t) x from to
+      Leads 12 (CanGive region a) (λ s t. GivesValue region k (operand_at x.at a s) s t) x from to
   gives_area far few does =
       leads_weaker
       (leads_then (comes does.0 does.1) (runs_of (stored_there does.0 does.2))
-      (λ s t sound also can brought. subst (λ (v : ℕ). IsTrue (is_accessible x.map v 8)) (sym (address t (brought.0.others 4 refl ∙ can.region))) (area_reached x.map k far few)))
+      (λ s t sound also can brought. subst (λ (v : ℕ). IsTrue (is_accessible x.map v 8)) (sym (address t can.lies (brought.0.others 4 refl ∙ can.region))) (area_reached region x.map k can.lies far few)))
       (omega arith) (λ s sound can. can)
-      (λ s u sound can passed. all s passed.0 u (operand_at x.at a s) (passed.1.0.others 4 refl ∙ can.region) passed.1.0 passed.1.1 passed.2.0 passed.2.1)
+      (λ s u sound can passed. all s passed.0 u (operand_at x.at a s) can.lies (passed.1.0.others 4 refl ∙ can.region) passed.1.0 passed.1.1 passed.2.0 passed.2.1)
     where
-      address : (t : State) → t.registers 4 ≡ region_base → sum (t.registers 4) (modulo 64 (pos (8 * (k - 8)))) ≡ region_base + 8 * (k - 8)
-      address t region = ap (λ (n : ℕ). sum n (modulo 64 (pos (8 * (k - 8))))) region ∙ area_address k far few
+      address : (t : State) → LiesIn region x.map → t.registers 4 ≡ region.address → sum (t.registers 4) (modulo 64 (pos (8 * (k - 8)))) ≡ region.address + 8 * (k - 8)
+      address t lies is = ap (λ (n : ℕ). sum n (modulo 64 (pos (8 * (k - 8))))) is ∙ area_address region.address k (area_below region x.map lies) far few
 
-      all : (s t u : State) (n : ℕ) → t.registers 4 ≡ region_base → Brings 5 n s t → n < 2 ^ 64 →
-          Writes (sum (t.registers 4) (modulo 64 (pos (8 * (k - 8))))) 8 (t.registers 5) t u → LetsWait t u → GivesValue k n s u
-      all s t u n region first fits second waits = record {
+      all : (s t u : State) (n : ℕ) → LiesIn region x.map → t.registers 4 ≡ region.address → Brings 5 n s t → n < 2 ^ 64 →
+          Writes (sum (t.registers 4) (modulo 64 (pos (8 * (k - 8))))) 8 (t.registers 5) t u → LetsWait t u → GivesValue region k n s u
+      all s t u n lies is first fits second waits = record {
         fits = fits;
-        given = subst (λ (b : Bool). GivesBy b k n s u) (sym (far_value k far))
+        given = subst (λ (p : WordPlace). Keeps (with_word p n s) u) (sym (far_place region k far))
             (record {
               registers = λ r h. second.registers r h ∙ first.others r (away_brought r h);
               memory = second.memory
-                  ∙ ap (λ (v : ℕ). stored t.memory v 8 (t.registers 5)) (address t region)
-                  ∙ ap (λ (v : ℕ). stored t.memory (region_base + 8 * (k - 8)) 8 v) first.given
-                  ∙ ap (λ (m : ℕ → ℕ). stored m (region_base + 8 * (k - 8)) 8 n) first.memory;
+                  ∙ ap (λ (v : ℕ). stored t.memory v 8 (t.registers 5)) (address t lies is)
+                  ∙ ap (λ (v : ℕ). stored t.memory (region.address + 8 * (k - 8)) 8 v) first.given
+                  ∙ ap (λ (m : ℕ → ℕ). stored m (region.address + 8 * (k - 8)) 8 n) first.memory;
             });
         waits = waits ∙ first.others 7 refl;
       }
@@ -143,34 +151,34 @@ away_temporary r n is first = grind (arith, nat_tests, is, first)
 at_most_eight : (n : ℕ) → min n 8 ≤ 8
 at_most_eight n = omega arith
 
-source_brought : (f : Frame) (source : Source) (m : MemoryMap) (s : State) → is_source f source ≡ true → HasFrame f.size m s → CanBring source m s
+source_brought : {region : Region} (f : Frame) (source : Source) (m : MemoryMap) (s : State) → is_source f source ≡ true → HasFrame region f.size m s → CanBring source m s
 source_brought f (Place p) m s is has = place_reached f p m s is has
 source_brought f (Number n) m s is has = tt
-source_brought f (Address o) m s is has = within f.size o is has.high has.fits
+source_brought {region} f (Address o) m s is has = within f.size o (top region) is has.high has.lies.narrow
   where
-    within : (size o : ℕ) → nat_le o size ≡ true → s.registers 2 + size ≤ stack_base + m.stack_size → stack_base + m.stack_size < 2 ^ 64 → s.registers 2 + o < 2 ^ 64
-    within size o h g k = let e : o ≤ size = grind (arith, nat_tests, h) in omega (arith, e, g, k)
+    within : (size o end : ℕ) → nat_le o size ≡ true → s.registers 2 + size ≤ end → end < 2 ^ 64 → s.registers 2 + o < 2 ^ 64
+    within size o end h g k = let e : o ≤ size = grind (arith, nat_tests, h) in omega (arith, e, g, k)
 
-pub operand_brought : (f : Frame) (a : Operand) (m : MemoryMap) (s : State) → is_operand f a ≡ true → HasFrame f.size m s → CanBringOperand a m s
+pub operand_brought : {region : Region} (f : Frame) (a : Operand) (m : MemoryMap) (s : State) → is_operand f a ≡ true → HasFrame region f.size m s → CanBringOperand a m s
 operand_brought f (Held source) m s is has = source_brought f source m s is has
 operand_brought f (Symbol l plus) m s is has = tt
 
 -- a word of the frame
-word_stays : (at : ℕ → ℕ) (o : ℕ) (given : List Operand) (s t : State) → length given ≤ 64 → stack_base ≤ s.registers 2 → Gives at given s t →
+word_stays : (region : Region) (at : ℕ → ℕ) (o : ℕ) (given : List Operand) (s t : State) → length given ≤ 64 → bottom region ≤ s.registers 2 → Gives region at given s t →
     loaded t.memory (t.registers 2 + o) 8 ≡ loaded s.memory (s.registers 2 + o) 8
-word_stays at o given s t few low gives =
+word_stays region at o given s t few low gives =
     ap (λ (a : ℕ). loaded t.memory (a + o) 8) (gives.registers 2 refl)
     ∙ loaded-agree t.memory s.memory (s.registers 2 + o) 8 (λ a h. gives.memory a (inr (omega (arith, h, low, few))))
 
-operand_stays : (at : ℕ → ℕ) (f : Frame) (a : Operand) (given : List Operand) (s t : State) → length given ≤ 64 → is_operand f a ≡ true → is_given_first (length given) a ≡ true →
-    stack_base ≤ s.registers 2 → Gives at given s t → operand_at at a t ≡ operand_at at a s
-operand_stays at f (Held (Place (Slot o))) given s t few is first low gives = word_stays at o given s t few low gives
-operand_stays at f (Held (Place (Saved r))) given s t few is first low gives =
+operand_stays : (region : Region) (at : ℕ → ℕ) (f : Frame) (a : Operand) (given : List Operand) (s t : State) → length given ≤ 64 → is_operand f a ≡ true → is_given_first (length given) a ≡ true →
+    bottom region ≤ s.registers 2 → Gives region at given s t → operand_at at a t ≡ operand_at at a s
+operand_stays region at f (Held (Place (Slot o))) given s t few is first low gives = word_stays region at o given s t few low gives
+operand_stays region at f (Held (Place (Saved r))) given s t few is first low gives =
     gives.registers r (away_saved r (min (length given) 8) (both (is_callee_saves r) _ is).0 (at_most_eight (length given)))
-operand_stays at f (Held (Place (Temp r))) given s t few is first low gives = gives.registers r (away_temporary r (min (length given) 8) is first)
-operand_stays at f (Held (Number n)) given s t few is first low gives = refl
-operand_stays at f (Held (Address o)) given s t few is first low gives = ap (λ (a : ℕ). a + o) (gives.registers 2 refl)
-operand_stays at f (Symbol l plus) given s t few is first low gives = refl
+operand_stays region at f (Held (Place (Temp r))) given s t few is first low gives = gives.registers r (away_temporary r (min (length given) 8) is first)
+operand_stays region at f (Held (Number n)) given s t few is first low gives = refl
+operand_stays region at f (Held (Address o)) given s t few is first low gives = ap (λ (a : ℕ). a + o) (gives.registers 2 refl)
+operand_stays region at f (Symbol l plus) given s t few is first low gives = refl
 
 -- ---- one value more
 
@@ -186,108 +194,87 @@ end_of_list (z ∷ xs) x (suc k) y is = elim (end_of_list xs x k y is) [
 word_fits : (n : ℕ) → n < 2 ^ 64 → n % 2 ^ (8 * 8) ≡ n
 word_fits n h = omega (arith, h)
 
+-- where a value went into a register, or into the area
+in_register : (region : Region) (k n : ℕ) (s t : State) → k < 8 → GivesValue region k n s t → Keeps (with_word (InRegister (10 + k)) n s) t
+in_register region k n s t near gives = subst (λ (p : WordPlace). Keeps (with_word p n s) t) (near_place region k near) gives.given
+
+in_area : (region : Region) (k n : ℕ) (s t : State) → 8 ≤ k → GivesValue region k n s t → Keeps (with_word (InMemory (region.address + 8 * (k - 8))) n s) t
+in_area region k n s t far gives = subst (λ (p : WordPlace). Keeps (with_word p n s) t) (far_place region k far) gives.given
+
 -- the value that goes out arrives
-value_arrives : (k n : ℕ) (s t : State) → GivesValue k n s t → value_in k t ≡ n
-value_arrives k n s t gives = by (nat_lt k 8) gives.given
-  where
-    by : (b : Bool) → GivesBy b k n s t →
-        elim b as (λ _. ℕ) [ true ↦ t.registers (10 + k) | false ↦ loaded t.memory (region_base + 8 * (k - 8)) 8 ] ≡ n
-    by true puts = puts.0
-    by false wrote =
-        ap (λ (m : ℕ → ℕ). loaded m (region_base + 8 * (k - 8)) 8) wrote.memory ∙ loaded-same s.memory (region_base + 8 * (k - 8)) 8 n ∙ word_fits n gives.fits
+value_arrives : (region : Region) (k n : ℕ) (s t : State) → GivesValue region k n s t → word_at t (value_place region k) ≡ n
+value_arrives region k n s t gives = elim (cases_lt k 8) [
+  | inl near ↦ value_in_register region k t near ∙ (in_register region k n s t near gives).registers (10 + k) (no_scratch_value k)
+      ∙ with_register-same s.registers (10 + k) n (omega arith)
+  | inr far ↦ value_in_area region k t far ∙ ap (λ (m : ℕ → ℕ). loaded m (region.address + 8 * (k - 8)) 8) (in_area region k n s t far gives).memory
+      ∙ loaded-same s.memory (region.address + 8 * (k - 8)) 8 n ∙ word_fits n gives.fits
+]
 
-no_scratch_value : (k : ℕ) → is_scratch (10 + k) ≡ false
-no_scratch_value k = grind (arith, nat_tests)
-
-other_value : (j k : ℕ) → j < k → ((10 + j == 10 + k) || is_scratch (10 + j)) ≡ false
-other_value j k h = grind (arith, nat_tests, h)
+-- registers that are neither scratch registers nor where the value travels stay
+others_kept : (region : Region) (k n r : ℕ) (s t : State) → is_scratch r ≡ false → (k < 8 → r ≢ 10 + k) → GivesValue region k n s t → t.registers r ≡ s.registers r
+others_kept region k n r s t away other gives = elim (cases_lt k 8) [
+  | inl near ↦ (in_register region k n s t near gives).registers r away ∙ with_register-other s.registers (10 + k) n r (other near)
+  | inr far ↦ (in_area region k n s t far gives).registers r away
+]
 
 -- an earlier one stays
-value_kept : (j k n : ℕ) (s t : State) → j < k → GivesValue k n s t → value_in j t ≡ value_in j s
-value_kept j k n s t before gives = by (nat_lt k 8) refl gives.given
-  where
-    less : (a b : ℕ) → nat_lt a b ≡ true → a < b
-    less a b h = grind (arith, nat_tests)
-
-    not_less : (a b : ℕ) → nat_lt a b ≡ false → b ≤ a
-    not_less a b h = grind (arith, nat_tests)
-
-    by : (b : Bool) → nat_lt k 8 ≡ b → GivesBy b k n s t →
-        value_in j t ≡ value_in j s
-    by true is puts =
-        let near = less k 8 is in
-        value_in_register j t (omega (arith, before, near)) ∙ puts.1 (10 + j) (other_value j k before) ∙ sym (value_in_register j s (omega (arith, before, near)))
-    by false is wrote =
-        let far = not_less k 8 is in
-        elim (cases_lt j 8) [
-          | inl low ↦ value_in_register j t low ∙ wrote.registers (10 + j) (no_scratch_value j) ∙ sym (value_in_register j s low)
-          | inr high ↦ value_in_area j t high ∙ ap (λ (m : ℕ → ℕ). loaded m (region_base + 8 * (j - 8)) 8) wrote.memory
-              ∙ loaded-below s.memory (region_base + 8 * (k - 8)) 8 n (region_base + 8 * (j - 8)) 8 (omega (arith, high, before)) ∙ sym (value_in_area j s high)
-        ]
+value_kept : (region : Region) (j k n : ℕ) (s t : State) → j < k → GivesValue region k n s t → word_at t (value_place region j) ≡ word_at s (value_place region j)
+value_kept region j k n s t before gives = elim (cases_lt j 8) [
+  | inl low ↦ value_in_register region j t low ∙ others_kept region k n (10 + j) s t (no_scratch_value j) (λ near e. omega (arith, before, e)) gives ∙ sym (value_in_register region j s low)
+  | inr high ↦ value_in_area region j t high
+      ∙ ap (λ (m : ℕ → ℕ). loaded m (region.address + 8 * (j - 8)) 8) (in_area region k n s t (omega (arith, before, high)) gives).memory
+      ∙ loaded-below s.memory (region.address + 8 * (k - 8)) 8 n (region.address + 8 * (j - 8)) 8 (omega (arith, high, before)) ∙ sym (value_in_area region j s high)
+]
 
 away_less : (r n m : ℕ) → n ≤ m → ((nat_le 10 r && nat_lt r (10 + m)) || is_scratch r) ≡ false → ((nat_le 10 r && nat_lt r (10 + n)) || is_scratch r) ≡ false
 away_less r n m h g = grind (arith, nat_tests, h, g)
 
-away_value : (r k m : ℕ) → k < m → ((nat_le 10 r && nat_lt r (10 + m)) || is_scratch r) ≡ false → ((r == 10 + k) || is_scratch r) ≡ false
-away_value r k m h g = grind (arith, nat_tests, h, g)
+away_value : (r k m : ℕ) → k < m → ((nat_le 10 r && nat_lt r (10 + m)) || is_scratch r) ≡ false → r ≢ 10 + k
+away_value r k m h g e = grind (arith, nat_tests, h, g, e)
 
 away_scratch : (r m : ℕ) → ((nat_le 10 r && nat_lt r (10 + m)) || is_scratch r) ≡ false → is_scratch r ≡ false
 away_scratch r m g = grind (arith, nat_tests, g)
 
 -- registers and bytes that no value goes to stay
-value_registers : (k n r count : ℕ) (s t : State) → k < count → ((nat_le 10 r && nat_lt r (10 + min count 8)) || is_scratch r) ≡ false → GivesValue k n s t → t.registers r ≡ s.registers r
-value_registers k n r count s t among away gives = by (nat_lt k 8) refl gives.given
+value_registers : (region : Region) (k n r count : ℕ) (s t : State) → k < count → ((nat_le 10 r && nat_lt r (10 + min count 8)) || is_scratch r) ≡ false → GivesValue region k n s t →
+    t.registers r ≡ s.registers r
+value_registers region k n r count s t among away gives =
+    others_kept region k n r s t (away_scratch r (min count 8) away) (λ near. away_value r k (min count 8) (omega (arith, among, near)) away) gives
+
+value_memory : (region : Region) (k n a count : ℕ) (s t : State) → k < count → (a < region.address) ⊎ (region.address + 8 * (count - 8) ≤ a) → GivesValue region k n s t → t.memory a ≡ s.memory a
+value_memory region k n a count s t among away gives = elim (cases_lt k 8) [
+  | inl near ↦ ap (λ (m : ℕ → ℕ). m a) (in_register region k n s t near gives).memory
+  | inr far ↦ ap (λ (m : ℕ → ℕ). m a) (in_area region k n s t far gives).memory ∙ stored-outside s.memory (region.address + 8 * (k - 8)) 8 n a (apart far)
+]
   where
-    less : (a b : ℕ) → nat_lt a b ≡ true → a < b
-    less a b h = grind (arith, nat_tests)
-
-    by : (b : Bool) → nat_lt k 8 ≡ b → GivesBy b k n s t →
-        t.registers r ≡ s.registers r
-    by true is puts = puts.1 r (away_value r k (min count 8) (let near = less k 8 is in omega (arith, among, near)) away)
-    by false is wrote = wrote.registers r (away_scratch r (min count 8) away)
-
-value_memory : (k n a count : ℕ) (s t : State) → k < count → (a < region_base) ⊎ (region_base + 8 * (count - 8) ≤ a) → GivesValue k n s t → t.memory a ≡ s.memory a
-value_memory k n a count s t among away gives = by (nat_lt k 8) refl gives.given
-  where
-    not_less : (a b : ℕ) → nat_lt a b ≡ false → b ≤ a
-    not_less a b h = grind (arith, nat_tests)
-
-    apart : 8 ≤ k → (a < region_base + 8 * (k - 8)) ⊎ (region_base + 8 * (k - 8) + 8 ≤ a)
+    apart : 8 ≤ k → (a < region.address + 8 * (k - 8)) ⊎ (region.address + 8 * (k - 8) + 8 ≤ a)
     apart far = elim away [ inl low ↦ inl (omega (arith, low)) | inr high ↦ inr (omega (arith, high, among, far)) ]
-
-    by : (b : Bool) → nat_lt k 8 ≡ b → GivesBy b k n s t → t.memory a ≡ s.memory a
-    by true is puts = ap (λ (m : ℕ → ℕ). m a) puts.2
-    by false is wrote = ap (λ (m : ℕ → ℕ). m a) wrote.memory ∙ stored-outside s.memory (region_base + 8 * (k - 8)) 8 n a (apart (not_less k 8 is))
 
 -- ---- one after the other
 
-gives_then : (at : ℕ → ℕ) (given : List Operand) (a : Operand) (n k : ℕ) (s t u : State) → length given ≡ k → n ≡ operand_at at a s → Gives at given s t → GivesValue k n t u →
-    Gives at (given ++ a ∷ []) s u
-gives_then at given a n k s t u is same gives more =
+gives_then : (region : Region) (at : ℕ → ℕ) (given : List Operand) (a : Operand) (n k : ℕ) (s t u : State) → length given ≡ k → n ≡ operand_at at a s → Gives region at given s t → GivesValue region k n t u →
+    Gives region at (given ++ a ∷ []) s u
+gives_then region at given a n k s t u is same gives more =
     let count : length (given ++ a ∷ []) ≡ k + 1 = simp length-append (omega (arith, is)) in
     record {
       arrive = λ j other found. elim (end_of_list given a j other found) [
         | inl before ↦
-            value_kept j k n t u (let within = slice_get_within given j other before in omega (arith, within, is)) more ∙ gives.arrive j other before
-        | inr last ↦ ap (λ (i : ℕ). value_in i u) (last.0 ∙ is) ∙ value_arrives k n t u more ∙ same ∙ ap (λ (o : Operand). operand_at at o s) last.1
+            value_kept region j k n t u (let within = slice_get_within given j other before in omega (arith, within, is)) more ∙ gives.arrive j other before
+        | inr last ↦ ap (λ (i : ℕ). word_at u (value_place region i)) (last.0 ∙ is) ∙ value_arrives region k n t u more ∙ same ∙ ap (λ (o : Operand). operand_at at o s) last.1
       ];
       registers = λ r h.
-          value_registers k n r (length (given ++ a ∷ [])) t u (omega (arith, count)) h more
+          value_registers region k n r (length (given ++ a ∷ [])) t u (omega (arith, count)) h more
           ∙ gives.registers r (away_less r (min (length given) 8) (min (length (given ++ a ∷ [])) 8) (omega (arith, count, is)) h);
       waits = more.waits ∙ gives.waits;
       memory = λ b h.
-          value_memory k n b (length (given ++ a ∷ [])) t u (omega (arith, count)) h more
+          value_memory region k n b (length (given ++ a ∷ [])) t u (omega (arith, count)) h more
           ∙ gives.memory b (elim h [ inl low ↦ inl low | inr high ↦ inr (omega (arith, high, count, is)) ]);
     }
 
--- n values went out
-abbrev pub GivesSome : ℕ → ℕ → List Operand → Code → ℕ → ℕ → Type 0
-GivesSome most size values x from to = Passes most (HasRegion size) (Gives x.at values) x from to
-
-pub gives_none : (old : List Part) (size : ℕ) → Adds 0 old old (GivesSome 0 size [])
+pub gives_none : (old : List Part) (size : ℕ) → Adds 0 old old (GivesIn 0 size [])
 gives_none old size =
     adds_weaker (adds_none old) (omega arith)
-    (λ x from to is. record {
+    (λ x from to is. λ region. record {
       begins = inl is;
       runs = runs_none is (λ s sound has. record { arrive = λ k a found. absurd (cc); registers = λ r h. refl; waits = refl; memory = λ b h. refl });
     })
@@ -303,9 +290,9 @@ given_first_at k (p ∷ xs) (suc i) d all within =
     (given_first_at (suc k) xs i d (both (is_given_first k p) (are_given_first (suc k) xs) all).1 (omega (arith, within)))
 
 pub gives_more : (old mid new : List Part) (f : Frame) (values : List Operand) (i : ℕ) (d : Operand) → CanBeMade f → is_operand f (get_or values i d) ≡ true →
-    are_given_first 0 values ≡ true → i < length values → length values ≤ 64 → Adds (12 * i) old mid (GivesSome (12 * i) f.size (take i values)) →
-    Adds 12 mid new (λ x from to. Leads 12 (CanGive (get_or values i d)) (λ s t. GivesValue i (operand_at x.at (get_or values i d) s) s t) x from to) →
-    Adds (12 * (i + 1)) old new (GivesSome (12 * (i + 1)) f.size (take (i + 1) values))
+    are_given_first 0 values ≡ true → i < length values → length values ≤ 64 → Adds (12 * i) old mid (GivesIn (12 * i) f.size (take i values)) →
+    Adds 12 mid new (λ x from to. (region : Region) → Leads 12 (CanGive region (get_or values i d)) (λ s t. GivesValue region i (operand_at x.at (get_or values i d) s) s t) x from to) →
+    Adds (12 * (i + 1)) old new (GivesIn (12 * (i + 1)) f.size (take (i + 1) values))
 gives_more old mid new f values i d can is first within few so_far more =
     let a = get_or values i d in
     let count : length (take i values) ≡ i = length-take-le i values (omega (arith, within)) in
@@ -314,25 +301,33 @@ gives_more old mid new f values i d can is first within few so_far more =
     let first_now = subst (λ (n : ℕ). is_given_first n a ≡ true) none (given_first_at 0 values i d first within) in
     rw (take_more values i d within)
     (adds_weaker (adds_then so_far more) (omega arith)
-    (λ x from to does.
+    (λ x from to does. λ region.
     passes_of (leads_weaker
-    (passes_then does.1 does.2
+    (passes_then (does.1 region) (does.2 region)
     (λ s t sound also has gives. record {
       brings = operand_brought f a x.map t is (frame_stays f.size x.map s t (gives.registers 2 refl) has.stack);
+      lies = has.stack.lies;
       region = gives.registers 4 refl ∙ has.region;
     }))
     (omega arith) (λ s sound has. has)
-    (λ s u sound has passed. gives_then x.at (take i values) a (operand_at x.at a passed.0) i s passed.0 u count
-    (operand_stays x.at f a (take i values) s passed.0 (omega (arith, count, within, few)) is first_now has.stack.low passed.1) passed.1 passed.2))))
+    (λ s u sound has passed. gives_then region x.at (take i values) a (operand_at x.at a passed.0) i s passed.0 u count
+    (operand_stays region x.at f a (take i values) s passed.0 (omega (arith, count, within, few)) is first_now has.stack.low passed.1) passed.1 passed.2))))
+
+pub gives_all : (old new : List Part) (size i : ℕ) (values : List Operand) → i ≤ length values → length values ≤ i →
+    Adds (12 * i) old new (GivesIn (12 * i) size (take i values)) → Adds (12 * length values) old new (GivesIn (12 * length values) size values)
+gives_all old new size i values within all_are adds =
+    let count : i ≡ length values = omega (arith, within, all_are) in
+    subst (λ (n : ℕ). Adds (12 * n) old new (GivesIn (12 * n) size values)) count
+    (subst (λ (xs : List Operand). Adds (12 * i) old new (GivesIn (12 * i) size xs)) (take_all i values all_are) adds)
 
 -- ---- and then control leaves
 
-module _ (x : Code) (f : Frame) (values : List Operand) (few : length values ≤ 64) where
+module _ (x : Code) (f : Frame) (values : List Operand) (few : length values ≤ 64) (region : Region) where
   -- values, and then what goes some way
-  pub parts_then : (from mid a b : ℕ) (P R : MemoryMap → State → Type 0) (there far : State → ℕ) (S : State → State → Type 0) → Passes a (HasRegion f.size) (Gives x.at values) x from mid →
-      Turns b R there S x mid → ((m : MemoryMap) (s : State) → P m s → HasRegion f.size m s) →
-      ((s t : State) → P x.map s → Gives x.at values s t → R x.map t) → ((s t : State) → P x.map s → Gives x.at values s t → there t ≡ far s) →
-      Turns (a + b) P far (λ s u. (t : State) × Gives x.at values s t × S t u) x from
+  pub parts_then : (from mid a b : ℕ) (P R : MemoryMap → State → Type 0) (there far : State → ℕ) (S : State → State → Type 0) → Passes a (HasRegion region f.size) (Gives region x.at values) x from mid →
+      Turns b R there S x mid → ((m : MemoryMap) (s : State) → P m s → HasRegion region f.size m s) →
+      ((s t : State) → P x.map s → Gives region x.at values s t → R x.map t) → ((s t : State) → P x.map s → Gives region x.at values s t → there t ≡ far s) →
+      Turns (a + b) P far (λ s u. (t : State) × Gives region x.at values s t × S t u) x from
   parts_then from mid a b P R there far S first second less meets same = record {
     quiet = elim first.begins [ inl is ↦ subst (λ (n : ℕ). BeginsQuietly x n) (sym is) second.quiet | inr quiet ↦ quiet ];
     goes = record {
@@ -345,31 +340,33 @@ module _ (x : Code) (f : Frame) (values : List Operand) (few : length values ≤
     };
   }
 
-  address_stays : (s t : State) → stack_base ≤ s.registers 2 → Gives x.at values s t → return_address f t ≡ return_address f s
-  address_stays s t low gives = word_stays x.at f.return_at values s t few low gives
+  address_stays : (s t : State) → bottom region ≤ s.registers 2 → Gives region x.at values s t → return_address f t ≡ return_address f s
+  address_stays s t low gives = word_stays region x.at f.return_at values s t few low gives
 
-  pub returns_values : (exit from mid : ℕ) → GivesSome (12 * length values) f.size values x from mid → Returns f exit x mid → ReturnsValues f values exit x from
-  returns_values exit from mid first second =
+module _ (x : Code) (f : Frame) (values : List Operand) (few : length values ≤ 64) where
+  pub returns_values : (exit from mid : ℕ) → GivesIn (12 * length values) f.size values x from mid → Returns f exit x mid → ReturnsValues f values exit x from
+  returns_values exit from mid first second region =
       turns_weaker
-      (parts_then from mid (12 * length values) (leave_cost f + 1) (λ m s. HasRegion f.size m s × CanReturn f exit m s) (CanReturn f exit) (λ s. return_address f s + 4 * exit)
-      (λ s. return_address f s + 4 * exit) (Leaves f) first second (λ m s can. can.0)
+      (parts_then x f values few region from mid (12 * length values) (leave_cost f + 1) (λ m s. HasRegion region f.size m s × CanReturn region f exit m s) (CanReturn region f exit)
+      (λ s. return_address f s + 4 * exit) (λ s. return_address f s + 4 * exit) (Leaves f) (first region) (second region) (λ m s can. can.0)
       (λ s t can gives.
-      let same = address_stays s t can.0.stack.low gives in
+      let same = address_stays x f values few region s t can.0.stack.low gives in
       record {
         frame = frame_stays f.size x.map s t (gives.registers 2 refl) can.0.stack;
         aligned = ap (λ (n : ℕ). n % 4) same ∙ can.1.aligned;
         fits = subst (λ (n : ℕ). n + 4 * exit < 2 ^ 64) (sym same) can.1.fits;
       })
-      (λ s t can gives. ap (λ (n : ℕ). n + 4 * exit) (address_stays s t can.0.stack.low gives)))
+      (λ s t can gives. ap (λ (n : ℕ). n + 4 * exit) (address_stays x f values few region s t can.0.stack.low gives)))
       (omega arith) (λ s sound can. can) (λ s u can passed. passed)
 
-  pub jumps_to : (can : CanBeMade f) (to : Label) (from mid last : ℕ) → GivesSome (12 * length values) f.size values x from mid →
-      Leads (leave_cost f) (HasFrame f.size) (λ s t. Leaves f s t × LetsWait s t) x mid last → Turns 2 Always (λ s. x.at to.number) Keeps x last → JumpsTo f values to x from
-  jumps_to can to from mid last first second third =
+  pub jumps_to : (can : CanBeMade f) (to : Label) (from mid last : ℕ) → GivesIn (12 * length values) f.size values x from mid → LeavesFrame f x mid last →
+      Turns 2 Always (λ s. x.at to.number) Keeps x last → JumpsTo f values to x from
+  jumps_to can to from mid last first second third region =
       turns_weaker
-      (parts_then from mid (12 * length values) (leave_cost f + 2) (HasRegion f.size) (HasFrame f.size) (λ s. x.at to.number) (λ s. x.at to.number) (Leaves f) first
+      (parts_then x f values few region from mid (12 * length values) (leave_cost f + 2) (HasRegion region f.size) (HasFrame region f.size) (λ s. x.at to.number) (λ s. x.at to.number) (Leaves f)
+      (first region)
       (turns_weaker
-      (leads_turns second third.goes (λ s t sound also has left. tt) (λ s. x.at to.number) (λ s t has left. refl))
+      (leads_turns (second region) third.goes (λ s t sound also has left. tt) (λ s. x.at to.number) (λ s t has left. refl))
       (omega arith) (λ s sound has. has) (λ s u has passed. left_further x f can s passed.0 u passed.1.0 passed.2))
       (λ m s has. has) (λ s t has gives. frame_stays f.size x.map s t (gives.registers 2 refl) has.stack) (λ s t has gives. refl))
       (omega arith) (λ s sound has. has) (λ s u has passed. passed)

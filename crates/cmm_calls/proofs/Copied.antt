@@ -6,6 +6,8 @@ use Rattle.std.proofs.Math.ListN.{get_or-map}
 use Rattle.std.proofs.lemmas.Bool.{cases_lt}
 use Rattle.std.proofs.lemmas.List.Elements.{All-get_or}
 use Rattle.std.proofs.lemmas.List.{length-map, length-take-le, map-append, take_all, take_more}
+use Rattle.cmm_abi.proofs.Shared.{low_word_accessible}
+use Rattle.cmm_abi.specs.Regions.{value_place, word_at}
 use Rattle.cmm_chain.specs.Plans.{is_place}
 use Rattle.cmm_chain.specs.declared.frame.Frame.{Frame}
 use Rattle.cmm_chain.specs.declared.frame.Location.{Location}
@@ -14,7 +16,7 @@ use Rattle.rv_asm.specs.Parts.{Code}
 use Rattle.rv_asm.specs.declared.part.Label.{Label}
 use Rattle.rv_asm.specs.declared.part.Part.{Part}
 use Rattle.rv_table.proofs.Shared.{loaded-below}
-use Rattle.rv_table.specs.Machine.{MemoryMap, State, is_accessible, loaded, region_base, stack_base, stored}
+use Rattle.rv_table.specs.Machine.{MemoryMap, Region, State, bottom, is_accessible, loaded, stored}
 use Rattle.rv_table.specs.declared.instruction.Instr.TheVariants.{Ld}
 use Rattle.cmm_effects.proofs.Shared.{adds_none, adds_then, adds_weaker, leads_then, leads_weaker, runs_none, runs_of, runs_weaker, set_keeps}
 use Rattle.cmm_effects.specs.Accesses.{CanReachGlobal, PutsGlobal}
@@ -24,12 +26,12 @@ use Rattle.cmm_select.specs.Destinations.{CanPut, PutsTo}
 use Rattle.cmm_select.specs.declared.destination.Destination.{Destination}
 use Rattle.cmm_select.specs.declared.destination.Destination.TheVariants.{Place, Register}
 use Rattle.cmm_calls.proofs.Putting.{puts_frame}
-use Rattle.cmm_calls.proofs.Reached.{One}
+use Rattle.cmm_select.proofs.Shared.{One}
 use Rattle.cmm_calls.proofs.Standing.{both, frame_stays, place_is, place_reached}
-use Rattle.cmm_calls.proofs.Taken.{area_loads, no_scratch_value, none_more, passes_of, passes_then, puts_region, region_reached, value_in_area, value_in_register, value_stays}
+use Rattle.cmm_calls.proofs.Taken.{area_below, area_loads, no_scratch_value, none_more, passes_of, passes_then, puts_region, value_in_area, value_in_register, value_stays}
 use Rattle.cmm_calls.specs.Copying.{CopiesIn, IsGlobal, IsGlobalBy, PutsEachTo, are_copied_first, is_copied_first, is_destination, values_to}
 use Rattle.cmm_calls.specs.Frames.{CanBeMade, PutsEach}
-use Rattle.cmm_calls.specs.Values.{HasRegion, Passes, Takes, are_taken_first, is_taken_first, value_in, values_for}
+use Rattle.cmm_calls.specs.Values.{HasRegion, Passes, TakesIn, are_taken_first, is_taken_first, values_for}
 use Rattle.cmm_calls.specs.inside.Taking.{CanCopyIn, CanTake}
 
 -- ---- one value comes to a global register
@@ -42,24 +44,24 @@ puts_global_after o n s t u keeps wrote = record {
 }
 
 module _ (x : Code) (k : ℕ) (few : k < 64) (l : Label) (from to : ℕ) where
-  pub copies_from_register : k < 8 → Leads 4 (CanReachGlobal (x.at l.number)) (λ s t. PutsGlobal (x.at l.number) (s.registers (10 + k)) s t) x from to →
-      Leads 5 (CanCopyIn x.at (Register l)) (λ s t. PutsTo x.at (Register l) (value_in k s) s t) x from to
-  copies_from_register low leads =
+  pub copies_from_register : k < 8 → Leads 4 (CanReachGlobal (x.at l.number)) (λ s t. PutsGlobal (x.at l.number) (s.registers (10 + k)) s t) x from to → (region : Region) →
+      Leads 5 (CanCopyIn region x.at (Register l)) (λ s t. PutsTo x.at (Register l) (word_at s (value_place region k)) s t) x from to
+  copies_from_register low leads region =
       leads_weaker leads (omega arith) (λ s sound can. can.reaches)
-      (λ s t sound can puts. subst (λ (n : ℕ). PutsGlobal (x.at l.number) n s t) (sym (value_in_register k s low)) puts)
+      (λ s t sound can puts. subst (λ (n : ℕ). PutsGlobal (x.at l.number) n s t) (sym (value_in_register region k s low)) puts)
 
   pub copies_from_area : 8 ≤ k →
-      Then (One (Ld 5 4 (pos (8 * (k - 8))))) (Leads 4 (CanReachGlobal (x.at l.number)) (λ s t. PutsGlobal (x.at l.number) (s.registers 5) s t)) x from to →
-      Leads 5 (CanCopyIn x.at (Register l)) (λ s t. PutsTo x.at (Register l) (value_in k s) s t) x from to
-  copies_from_area low does =
+      Then (One (Ld 5 4 (pos (8 * (k - 8))))) (Leads 4 (CanReachGlobal (x.at l.number)) (λ s t. PutsGlobal (x.at l.number) (s.registers 5) s t)) x from to → (region : Region) →
+      Leads 5 (CanCopyIn region x.at (Register l)) (λ s t. PutsTo x.at (Register l) (word_at s (value_place region k)) s t) x from to
+  copies_from_area low does region =
       leads_weaker
       (leads_then
-      (leads_weaker {R = CanCopyIn x.at (Register l)} {S = λ s t. Sets 5 (value_in k s) s t} {b = 1} (area_loads x k few from does.0 low does.1) (omega arith) (λ s sound can. can.region)
+      (leads_weaker {R = CanCopyIn region x.at (Register l)} {S = λ s t. Sets 5 (word_at s (value_place region k)) s t} {b = 1} (area_loads x k few from does.0 low does.1 region) (omega arith) (λ s sound can. (can.lies, can.region))
       (λ s t sound can sets. sets))
       (runs_of does.2)
-      (λ s t sound also can sets. reached_after s t (set_keeps 5 (value_in k s) s t refl sets) can.reaches))
+      (λ s t sound also can sets. reached_after s t (set_keeps 5 (word_at s (value_place region k)) s t refl sets) can.reaches))
       (omega arith) (λ s sound can. can)
-      (λ s u sound can both. puts_global_after (x.at l.number) (value_in k s) s both.0 u (set_keeps 5 (value_in k s) s both.0 refl both.1)
+      (λ s u sound can both. puts_global_after (x.at l.number) (word_at s (value_place region k)) s both.0 u (set_keeps 5 (word_at s (value_place region k)) s both.0 refl both.1)
       (subst (λ (n : ℕ). PutsGlobal (x.at l.number) n both.0 u) both.1.given both.2))
     where
       reached_after : (s t : State) → Keeps s t → CanReachGlobal (x.at l.number) x.map s → CanReachGlobal (x.at l.number) x.map t
@@ -69,28 +71,28 @@ module _ (x : Code) (k : ℕ) (few : k < 64) (l : Label) (from to : ℕ) where
 -- ---- what a destination leaves as it was
 
 -- a destination in a frame is reached
-destination_reached : (f : Frame) (at : ℕ → ℕ) (to : Destination) (m : MemoryMap) (s : State) → is_destination f to ≡ true → IsGlobalBy at to → HasRegion f.size m s → CanPut at to m s
-destination_reached f at (Place p) m s is global has = place_reached f p m s is has.stack
-destination_reached f at (Register l) m s is global has =
+destination_reached : (region : Region) (f : Frame) (at : ℕ → ℕ) (to : Destination) (m : MemoryMap) (s : State) → is_destination f to ≡ true → IsGlobalBy at to → HasRegion region f.size m s → CanPut at to m s
+destination_reached region f at (Place p) m s is global has = place_reached f p m s is has.stack
+destination_reached region f at (Register l) m s is global has =
     subst (λ (a : ℕ). (a + at l.number < 2 ^ 64) × IsTrue (is_accessible m (a + at l.number) 8)) (sym has.region)
-    (small (at l.number) global, region_reached m (at l.number) global.aligned global.below)
+    (small (at l.number) global, low_word_accessible region m (at l.number) has.stack.lies global.aligned global.below)
   where
-    small : (o : ℕ) → IsGlobal o → region_base + o < 2 ^ 64
-    small o is_global = omega (arith, is_global.below)
+    small : (o : ℕ) → IsGlobal o → region.address + o < 2 ^ 64
+    small o is_global = omega (arith, is_global.below, area_below region m has.stack.lies)
 
-destination_value : (f : Frame) (at : ℕ → ℕ) (to : Destination) (n k i count : ℕ) (s t : State) → CanBeMade f → is_destination f to ≡ true → IsGlobalBy at to → is_copied_first count i to ≡ true →
-    i < k → k < count → count ≤ 64 → stack_base ≤ s.registers 2 → s.registers 4 ≡ region_base → PutsTo at to n s t → value_in k t ≡ value_in k s
-destination_value f at (Place p) n k i count s t can is global first later among few low region puts =
-    value_stays p n k i count s t (place_is f p can is) first later among few low puts
-destination_value f at (Register l) n k i count s t can is global first later among few low region puts = elim (cases_lt k 8) [
-  | inl near ↦ value_in_register k t near ∙ puts.registers (10 + k) (no_scratch_value k) ∙ sym (value_in_register k s near)
-  | inr far ↦ value_in_area k t far
-      ∙ ap (λ (m : ℕ → ℕ). loaded m (region_base + 8 * (k - 8)) 8) puts.memory
-      ∙ loaded-below s.memory (s.registers 4 + at l.number) 8 n (region_base + 8 * (k - 8)) 8 (behind (s.registers 4) (at l.number) region global)
-      ∙ sym (value_in_area k s far)
+destination_value : (region : Region) (f : Frame) (at : ℕ → ℕ) (to : Destination) (n k i count : ℕ) (s t : State) → CanBeMade f → is_destination f to ≡ true → IsGlobalBy at to → is_copied_first count i to ≡ true →
+    i < k → k < count → count ≤ 64 → bottom region ≤ s.registers 2 → s.registers 4 ≡ region.address → PutsTo at to n s t → word_at t (value_place region k) ≡ word_at s (value_place region k)
+destination_value region f at (Place p) n k i count s t can is global first later among few low is_region puts =
+    value_stays region p n k i count s t (place_is f p can is) first later among few low puts
+destination_value region f at (Register l) n k i count s t can is global first later among few low is_region puts = elim (cases_lt k 8) [
+  | inl near ↦ value_in_register region k t near ∙ puts.registers (10 + k) (no_scratch_value k) ∙ sym (value_in_register region k s near)
+  | inr far ↦ value_in_area region k t far
+      ∙ ap (λ (m : ℕ → ℕ). loaded m (region.address + 8 * (k - 8)) 8) puts.memory
+      ∙ loaded-below s.memory (s.registers 4 + at l.number) 8 n (region.address + 8 * (k - 8)) 8 (behind (s.registers 4) (at l.number) is_region global)
+      ∙ sym (value_in_area region k s far)
 ]
   where
-    behind : (a o : ℕ) → a ≡ region_base → IsGlobal o → region_base + 8 * (k - 8) + 8 ≤ a + o
+    behind : (a o : ℕ) → a ≡ region.address → IsGlobal o → region.address + 8 * (k - 8) + 8 ≤ a + o
     behind a o same is_global = omega (arith, same, is_global.behind, among, few)
 
 destination_frame : (f : Frame) (at : ℕ → ℕ) (to : Destination) (n : ℕ) (s t : State) → CanBeMade f → is_destination f to ≡ true → PutsTo at to n s t →
@@ -100,11 +102,11 @@ destination_frame f at (Register l) n s t can is puts = (puts.registers 2 refl, 
 
 -- ---- one after the other
 
-values_to-append : (k : ℕ) (xs ys : List Destination) (s : State) → values_to k (xs ++ ys) s ≡ values_to k xs s ++ values_to (k + length xs) ys s
-values_to-append k [] ys s = ap (λ (n : ℕ). values_to n ys s) (omega arith)
-values_to-append k (p ∷ xs) ys s =
+values_to-append : (region : Region) (k : ℕ) (xs ys : List Destination) (s : State) → values_to region k (xs ++ ys) s ≡ values_to region k xs s ++ values_to region (k + length xs) ys s
+values_to-append region k [] ys s = ap (λ (n : ℕ). values_to region n ys s) (omega arith)
+values_to-append region k (p ∷ xs) ys s =
     let e : suc k + length xs ≡ k + suc (length xs) = omega arith in
-    ap (λ rest. (p, value_in k s) ∷ rest) (values_to-append (suc k) xs ys s ∙ ap (λ (n : ℕ). values_to (suc k) xs s ++ values_to n ys s) e)
+    ap (λ rest. (p, word_at s (value_place region k)) ∷ rest) (values_to-append region (suc k) xs ys s ∙ ap (λ (n : ℕ). values_to region (suc k) xs s ++ values_to region n ys s) e)
 
 puts_to_then : (at : ℕ → ℕ) (xs ys : List (Destination × ℕ)) (s t u : State) → PutsEachTo at xs s t → PutsEachTo at ys t u → PutsEachTo at (xs ++ ys) s u
 puts_to_then at [] ys s t u first second = subst (λ (v : State). PutsEachTo at ys v u) (sym first) second
@@ -121,39 +123,39 @@ copied_first_at count k (p ∷ xs) (suc i) d all within =
     (copied_first_at count (suc k) xs i d (both (is_copied_first count k p) (are_copied_first count (suc k) xs) all).1 (omega (arith, within)))
 
 -- some of n values were copied, and those that are left are where they were
-pub record HasCopied (at : ℕ → ℕ) (count : ℕ) (to : List Destination) (s t : State) : Type 0 where
-  pub puts : PutsEachTo at (values_to 0 to s) s t
+pub record HasCopied (r : Region) (at : ℕ → ℕ) (count : ℕ) (to : List Destination) (s t : State) : Type 0 where
+  pub puts : PutsEachTo at (values_to r 0 to s) s t
   pub frame : t.registers 2 ≡ s.registers 2
   pub region : t.registers 4 ≡ s.registers 4
-  pub others : (k : ℕ) → length to ≤ k → k < count → value_in k t ≡ value_in k s
+  pub others : (k : ℕ) → length to ≤ k → k < count → word_at t (value_place r k) ≡ word_at s (value_place r k)
 
 -- that is done by a piece, where so much is known of the labels
 abbrev pub Copied : ((ℕ → ℕ) → Type 0) → ℕ → ℕ → ℕ → List Destination → Code → ℕ → ℕ → Type 0
-Copied known most size count to x from on = known x.at → Passes most (HasRegion size) (HasCopied x.at count to) x from on
+Copied known most size count to x from on = known x.at → (region : Region) → Passes most (HasRegion region size) (HasCopied region x.at count to) x from on
 
 pub copied_none : (known : (ℕ → ℕ) → Type 0) (old : List Part) (size count : ℕ) → Adds 0 old old (Copied known 0 size count [])
 copied_none known old size count =
     adds_weaker (adds_none old) (omega arith)
-    (λ x from to is. λ knows. record {
+    (λ x from to is. λ knows. λ region. record {
       begins = inl is;
       runs = runs_none is (λ s sound has. record { puts = refl; frame = refl; region = refl; others = λ k low among. refl });
     })
 
-copied_then : (f : Frame) (at : ℕ → ℕ) (count i : ℕ) (before : List Destination) (to : Destination) (s t u : State) → CanBeMade f → is_destination f to ≡ true → IsGlobalBy at to →
-    length before ≡ i → i < count → count ≤ 64 → stack_base ≤ s.registers 2 → s.registers 4 ≡ region_base → is_copied_first count i to ≡ true →
-    HasCopied at count before s t → PutsTo at to (value_in i t) t u → HasCopied at count (before ++ to ∷ []) s u
-copied_then f at count i before to s t u can is global count_is within few low region first copied puts = record {
-  puts = subst (λ (ws : List (Destination × ℕ)). PutsEachTo at ws s u) (sym (values_to-append 0 before (to ∷ []) s))
-      (puts_to_then at (values_to 0 before s) ((to, value_in (0 + length before) s) ∷ []) s t u copied.puts (u, subst (λ (n : ℕ). PutsTo at to n t u) same puts, refl));
-  frame = (destination_frame f at to (value_in i t) t u can is puts).0 ∙ copied.frame;
-  region = (destination_frame f at to (value_in i t) t u can is puts).1 ∙ copied.region;
+copied_then : (region : Region) (f : Frame) (at : ℕ → ℕ) (count i : ℕ) (before : List Destination) (to : Destination) (s t u : State) → CanBeMade f → is_destination f to ≡ true → IsGlobalBy at to →
+    length before ≡ i → i < count → count ≤ 64 → bottom region ≤ s.registers 2 → s.registers 4 ≡ region.address → is_copied_first count i to ≡ true →
+    HasCopied region at count before s t → PutsTo at to (word_at t (value_place region i)) t u → HasCopied region at count (before ++ to ∷ []) s u
+copied_then region f at count i before to s t u can is global count_is within few low is_region first copied puts = record {
+  puts = subst (λ (ws : List (Destination × ℕ)). PutsEachTo at ws s u) (sym (values_to-append region 0 before (to ∷ []) s))
+      (puts_to_then at (values_to region 0 before s) ((to, word_at s (value_place region (0 + length before))) ∷ []) s t u copied.puts (u, subst (λ (n : ℕ). PutsTo at to n t u) same puts, refl));
+  frame = (destination_frame f at to (word_at t (value_place region i)) t u can is puts).0 ∙ copied.frame;
+  region = (destination_frame f at to (word_at t (value_place region i)) t u can is puts).1 ∙ copied.region;
   others = λ k later among.
-      destination_value f at to (value_in i t) k i count t u can is global first (behind k later) among few (rw copied.frame low) (copied.region ∙ region) puts
+      destination_value region f at to (word_at t (value_place region i)) k i count t u can is global first (behind k later) among few (rw copied.frame low) (copied.region ∙ is_region) puts
       ∙ copied.others k (omega (arith, behind k later, count_is)) among;
 }
   where
-    same : value_in i t ≡ value_in (0 + length before) s
-    same = let e : i ≡ 0 + length before = omega (arith, count_is) in copied.others i (omega (arith, count_is)) within ∙ ap (λ (n : ℕ). value_in n s) e
+    same : word_at t (value_place region i) ≡ word_at s (value_place region (0 + length before))
+    same = let e : i ≡ 0 + length before = omega (arith, count_is) in copied.others i (omega (arith, count_is)) within ∙ ap (λ (n : ℕ). word_at s (value_place region n)) e
 
     behind : (k : ℕ) → length (before ++ to ∷ []) ≤ k → i < k
     behind k h = omega (arith, count_is, simp length-append at h)
@@ -161,20 +163,21 @@ copied_then f at count i before to s t u can is global count_is within few low r
 pub copied_more : (known : (ℕ → ℕ) → Type 0) (a b : ℕ) (old mid new : List Part) (f : Frame) (count i : ℕ) (before : List Destination) (to : Destination) → CanBeMade f →
     is_destination f to ≡ true → ((at : ℕ → ℕ) → known at → IsGlobalBy at to) → is_copied_first count i to ≡ true → length before ≡ i → i < count → count ≤ 64 →
     Adds a old mid (Copied known a f.size count before) →
-    Adds b mid new (λ x. Leads b (CanCopyIn x.at to) (λ s t. PutsTo x.at to (value_in i s) s t) x) →
+    Adds b mid new (λ x from on. (region : Region) → Leads b (CanCopyIn region x.at to) (λ s t. PutsTo x.at to (word_at s (value_place region i)) s t) x from on) →
     Adds (a + b) old new (Copied known (a + b) f.size count (before ++ to ∷ []))
 copied_more known a b old mid new f count i before to can is global first count_is within few so_far more =
     adds_weaker (adds_then so_far more) (omega arith)
-    (λ x from on does. λ knows.
+    (λ x from on does. λ knows. λ region.
     passes_of (leads_weaker
-    (passes_then (does.1 knows) does.2
+    (passes_then (does.1 knows region) (does.2 region)
     (λ s t sound also has copied. record {
-      reaches = destination_reached f x.at to x.map t is (global x.at knows) record { stack = frame_stays f.size x.map s t copied.frame has.stack; region = copied.region ∙ has.region };
+      reaches = destination_reached region f x.at to x.map t is (global x.at knows) record { stack = frame_stays f.size x.map s t copied.frame has.stack; region = copied.region ∙ has.region };
+      lies = has.stack.lies;
       region = copied.region ∙ has.region;
     }))
     (omega arith) (λ s sound has. has)
     (λ s u sound has passed.
-    copied_then f x.at count i before to s passed.0 u can is (global x.at knows) count_is within few has.stack.low has.region first passed.1 passed.2)))
+    copied_then region f x.at count i before to s passed.0 u can is (global x.at knows) count_is within few has.stack.low has.region first passed.1 passed.2)))
 
 -- ---- to any destinations
 
@@ -184,7 +187,7 @@ CopiedTo most size to so_far = Copied (λ at. All (IsGlobalBy at) to) most size 
 pub copied_next : (old mid new : List Part) (f : Frame) (to : List Destination) (i : ℕ) (d : Destination) → CanBeMade f → is_destination f (get_or to i d) ≡ true →
     are_copied_first (length to) 0 to ≡ true → i < length to → length to ≤ 64 →
     Adds (5 * i) old mid (CopiedTo (5 * i) f.size to (take i to)) →
-    Adds 5 mid new (λ x. Leads 5 (CanCopyIn x.at (get_or to i d)) (λ s t. PutsTo x.at (get_or to i d) (value_in i s) s t) x) →
+    Adds 5 mid new (λ x from on. (region : Region) → Leads 5 (CanCopyIn region x.at (get_or to i d)) (λ s t. PutsTo x.at (get_or to i d) (word_at s (value_place region i)) s t) x from on) →
     Adds (5 * (i + 1)) old new (CopiedTo (5 * (i + 1)) f.size to (take (i + 1) to))
 copied_next old mid new f to i d can is first within few so_far more =
     let known : (ℕ → ℕ) → Type 0 = λ at. All (IsGlobalBy at) to in
@@ -201,10 +204,10 @@ pub copied_all : (old new : List Part) (f : Frame) (to : List Destination) (i : 
     Adds (5 * length to) old new (CopiesIn (5 * length to) f to)
 copied_all old new f to i within all_are adds =
     adds_weaker adds (omega (arith, within, all_are))
-    (λ x from on copied. λ knows. record {
-      begins = (copied knows).begins;
-      runs = runs_weaker {k = 0} (copied knows).runs (omega arith) (omega (arith, within, all_are)) (λ s sound has. has)
-          (λ s t sound has all. subst (λ (xs : List Destination). PutsEachTo x.at (values_to 0 xs s) s t) (take_all i to all_are) all.puts);
+    (λ x from on copied. λ knows. λ region. record {
+      begins = (copied knows region).begins;
+      runs = runs_weaker {k = 0} (copied knows region).runs (omega arith) (omega (arith, within, all_are)) (λ s sound has. has)
+          (λ s t sound has all. subst (λ (xs : List Destination). PutsEachTo x.at (values_to region 0 xs s) s t) (take_all i to all_are) all.puts);
     })
 
 -- ---- places alone
@@ -222,7 +225,7 @@ Taken most size count places = Copied (λ at. Unit {0}) most size count (map Pla
 pub taken_more : (old mid new : List Part) (f : Frame) (places : List Location) (i : ℕ) (d : Location) → CanBeMade f → is_place f (get_or places i d) ≡ true →
     are_taken_first (length places) 0 places ≡ true → i < length places → length places ≤ 64 →
     Adds (4 * i) old mid (Taken (4 * i) f.size (length places) (take i places)) →
-    Adds 4 mid new (Leads 4 (CanTake (get_or places i d)) (λ s t. Puts (get_or places i d) (value_in i s) s t)) →
+    Adds 4 mid new (λ x from to. (region : Region) → Leads 4 (CanTake region (get_or places i d)) (λ s t. Puts (get_or places i d) (word_at s (value_place region i)) s t) x from to) →
     Adds (4 * (i + 1)) old new (Taken (4 * (i + 1)) f.size (length places) (take (i + 1) places))
 taken_more old mid new f places i d can is first within few so_far more =
     let place = get_or places i d in
@@ -235,24 +238,24 @@ taken_more old mid new f places i d can is first within few so_far more =
     let first_as = subst (λ (n : ℕ). is_taken_first (length places) n place ≡ true) (none_more i) first_now in
     let step : Adds (4 * i + 4) old new (Copied known (4 * i + 4) f.size (length places) (before ++ Place place ∷ [])) =
     copied_more known (4 * i) 4 old mid new f (length places) i before (Place place) can is (λ at knows. tt) first_as count within few so_far
-    (adds_weaker more (omega arith) (λ x from to leads. leads_weaker leads (omega arith) (λ s sound can_. record { reaches = can_.reaches; region = can_.region }) (λ s t sound can_ puts. puts))) in
+    (adds_weaker more (omega arith) (λ x from to leads. λ region. leads_weaker (leads region) (omega arith) (λ s sound can_. record { reaches = can_.reaches; lies = can_.lies; region = can_.region }) (λ s t sound can_ puts. puts))) in
     let most : 4 * i + 4 ≡ 4 * (i + 1) = omega arith in
     let list : before ++ Place place ∷ [] ≡ map Place (take (i + 1) places) = sym (ap (map Place) (take_more places i d within) ∙ map-append Place (take i places) (place ∷ [])) in
     subst (λ (n : ℕ). Adds n old new (Copied known n f.size (length places) (map Place (take (i + 1) places)))) most
     (subst (λ (xs : List Destination). Adds (4 * i + 4) old new (Copied known (4 * i + 4) f.size (length places) xs)) list step)
 
-puts_places : (at : ℕ → ℕ) (k : ℕ) (places : List Location) (r s t : State) → PutsEachTo at (values_to k (map Place places) r) s t → PutsEach (values_for k places r) s t
-puts_places at k [] r s t puts = puts
-puts_places at k (p ∷ places) r s t puts = (puts.0, puts.1, puts_places at (suc k) places r puts.0 t puts.2)
+puts_places : (region : Region) (at : ℕ → ℕ) (k : ℕ) (places : List Location) (r s t : State) → PutsEachTo at (values_to region k (map Place places) r) s t → PutsEach (values_for region k places r) s t
+puts_places region at k [] r s t puts = puts
+puts_places region at k (p ∷ places) r s t puts = (puts.0, puts.1, puts_places region at (suc k) places r puts.0 t puts.2)
 
 pub taken_all : (old new : List Part) (size : ℕ) (places : List Location) (i : ℕ) → i ≤ length places → length places ≤ i →
     Adds (4 * i) old new (Taken (4 * i) size (length places) (take i places)) →
-    Adds (4 * length places) old new (Passes (4 * length places) (HasRegion size) (Takes places))
+    Adds (4 * length places) old new (TakesIn (4 * length places) size places)
 taken_all old new size places i within all_are adds =
     adds_weaker adds (omega (arith, within, all_are))
-    (λ x from to taken. record {
-      begins = (taken tt).begins;
-      runs = runs_weaker {k = 0} (taken tt).runs (omega arith) (omega (arith, within, all_are)) (λ s sound has. has)
+    (λ x from to taken. λ region. record {
+      begins = (taken tt region).begins;
+      runs = runs_weaker {k = 0} (taken tt region).runs (omega arith) (omega (arith, within, all_are)) (λ s sound has. has)
           (λ s t sound has all.
-          puts_places x.at 0 places s s t (subst (λ (ps : List Location). PutsEachTo x.at (values_to 0 (map Place ps) s) s t) (take_all i places all_are) all.puts));
+          puts_places region x.at 0 places s s t (subst (λ (ps : List Location). PutsEachTo x.at (values_to region 0 (map Place ps) s) s t) (take_all i places all_are) all.puts));
     })

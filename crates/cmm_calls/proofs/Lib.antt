@@ -1,5 +1,3 @@
-mod Offsets
-mod Reached
 mod Standing
 mod Saving
 mod Restoring

@@ -5,6 +5,7 @@ ghost use Rattle.rv_table.specs.declared.request.Request.TheVariants as request;
 ghost use Rattle.cmm_effects.specs.Pieces.{Adds};
 ghost use Rattle.cmm_effects.specs.Requests.{AsksFor};
 
+use cmm_abi::registers::REQUEST_VALUE;
 use cmm_select::choose;
 use rv_asm::Asm;
 use rv_table::{Instr, Request};
@@ -22,7 +23,7 @@ pub fn ask_limit(asm: &mut Asm) -> Result<(), AllocError>
 
 /// Ends a run with the value in register 10. An error is want of memory, and then one of the instructions may be there.
 pub fn ask_end(asm: &mut Asm) -> Result<(), AllocError>
-    ensures asks { OnOk result (Adds 2 asm.old.parts asm.new.parts (λ x from to. AsksFor 1 (λ t. request.End (t.registers 10)) x from)) }
+    ensures asks { OnOk result (Adds 2 asm.old.parts asm.new.parts (λ x from to. AsksFor 1 (λ t. request.End (t.registers REQUEST_VALUE)) x from)) }
     ensures labels { asm.new.labels ≡ asm.old.labels }
 {
     asm.emit(choose(Request::End(0)))?;

@@ -2,12 +2,13 @@
 
 ghost use Rattle.std.specs.Prelude.{◌≡◌, ◌*◌, ◌<◌, ◌≤◌, length, true, OnOk};
 ghost use Rattle.std.specs.List.{All, list_all};
+ghost use Rattle.cmm_abi.specs.Regions.{value_place, word_at};
 ghost use Rattle.rv_asm.specs.Assembly.{IsLabel};
+ghost use Rattle.rv_table.specs.Machine.{Region};
 ghost use Rattle.cmm_effects.specs.Pieces.{Adds, Leads};
 ghost use Rattle.cmm_select.specs.Destinations.{IsDestination, PutsTo};
 ghost use Rattle.cmm_calls.specs.Copying.{CopiesIn, are_copied_first, is_destination};
 ghost use Rattle.cmm_calls.specs.Frames.{CanBeMade};
-ghost use Rattle.cmm_calls.specs.Values.{value_in};
 ghost use Rattle.cmm_calls.specs.inside.Taking.{CanCopyIn};
 
 use crate::taking::{load_value, take_value};
@@ -39,7 +40,7 @@ pub fn copy_in(asm: &mut Asm, frame: &Frame, to: &[Destination]) -> Result<(), A
 fn copy_value(asm: &mut Asm, index: u32, to: &Destination) -> Result<(), AllocError>
     requires few { index < 64 }
     requires destination { IsDestination asm.old.labels to.now }
-    ensures copies { OnOk result (Adds 5 asm.old.parts asm.new.parts (λ x. Leads 5 (CanCopyIn x.at to.now) (λ s t. PutsTo x.at to.now (value_in index s) s t) x)) }
+    ensures copies { OnOk result (Adds 5 asm.old.parts asm.new.parts (λ x from on. (r : Region) → Leads 5 (CanCopyIn r x.at to.now) (λ s t. PutsTo x.at to.now (word_at s (value_place r index)) s t) x from on)) }
     ensures labels { asm.new.labels ≡ asm.old.labels }
 {
     match *to {
@@ -58,7 +59,7 @@ fn copy_value(asm: &mut Asm, index: u32, to: &Destination) -> Result<(), AllocEr
 fn copy_to_global(asm: &mut Asm, index: u32, of: Label) -> Result<(), AllocError>
     requires few { index < 64 }
     requires label { IsLabel asm.old.labels of }
-    ensures copies { OnOk result (Adds 5 asm.old.parts asm.new.parts (λ x. Leads 5 (CanCopyIn x.at (Destination.Register of)) (λ s t. PutsTo x.at (Destination.Register of) (value_in index s) s t) x)) }
+    ensures copies { OnOk result (Adds 5 asm.old.parts asm.new.parts (λ x from on. (r : Region) → Leads 5 (CanCopyIn r x.at (Destination.Register of)) (λ s t. PutsTo x.at (Destination.Register of) (word_at s (value_place r index)) s t) x from on)) }
     ensures labels { asm.new.labels ≡ asm.old.labels }
 {
     if index < IN_REGISTERS {

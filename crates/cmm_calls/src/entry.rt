@@ -4,8 +4,9 @@ ghost use Rattle.std.specs.Prelude.{◌≡◌, ◌+◌, ◌*◌, ◌^◌, ◌<�
 ghost use Rattle.std.specs.List.{All, list_all};
 ghost use Rattle.cmm_chain.specs.Plans.{is_place};
 ghost use Rattle.rv_asm.specs.Assembly.{IsInner, IsLabel};
+ghost use Rattle.rv_table.specs.Machine.{Region};
 ghost use Rattle.cmm_effects.specs.Pieces.{Adds, Runs};
-ghost use Rattle.cmm_calls.specs.Frames.{CanBeMade, Enters, HasFrame, HasRoom, Makes, Stores, entry_cost, fixed_numbers, pair_numbers};
+ghost use Rattle.cmm_calls.specs.Frames.{CanBeMade, Enters, HasRoom, Makes, RunsInFrame, Stores, entry_cost, fixed_numbers, pair_numbers};
 ghost use Rattle.cmm_calls.specs.Values.{Begins, are_taken_first};
 ghost use Rattle.cmm_calls.specs.inside.Pairs.{CanReachPair};
 
@@ -13,9 +14,9 @@ use crate::place::zero_all;
 use crate::room::{check_room, move_down};
 use crate::saved::save_all;
 use crate::taking::take;
-use crate::word::save;
 use cmm_abi::registers::{FIRST_SCRATCH, FRAME, RETURN_ADDRESS};
 use cmm_chain::{Frame, Location};
+use cmm_select::save;
 use rv_asm::{Asm, Label};
 use std::alloc::AllocError;
 
@@ -74,7 +75,7 @@ fn make_frame(asm: &mut Asm, frame: &Frame, landings: &[Label]) -> Result<(), Al
     requires frame { CanBeMade frame.now }
     requires landings { length landings.now ≡ length frame.now.pairs }
     requires labels { All (IsLabel asm.old.labels) landings.now }
-    ensures makes { OnOk result (Adds (7 + (3 * length frame.now.saved + 8 * length frame.now.pairs)) asm.old.parts asm.new.parts (λ x from to. Runs 0 (7 + (3 * length frame.now.saved + 8 * length frame.now.pairs)) (HasRoom frame.now.size) (λ s u. Makes frame.now.size (fixed_numbers x.at frame.now landings.now s.registers (u.registers 2)) s u) x from to)) }
+    ensures makes { OnOk result (Adds (7 + (3 * length frame.now.saved + 8 * length frame.now.pairs)) asm.old.parts asm.new.parts (λ x from to. (r : Region) → Runs 0 (7 + (3 * length frame.now.saved + 8 * length frame.now.pairs)) (HasRoom r frame.now.size) (λ s u. Makes frame.now.size (fixed_numbers x.at frame.now landings.now s.registers (u.registers FRAME)) s u) x from to)) }
     ensures labels { asm.new.labels ≡ asm.old.labels }
 {
     move_down(asm, frame.size)?;
@@ -89,7 +90,7 @@ fn write_pairs(asm: &mut Asm, frame: &Frame, landings: &[Label]) -> Result<(), A
     requires frame { CanBeMade frame.now }
     requires landings { length landings.now ≡ length frame.now.pairs }
     requires labels { All (IsLabel asm.old.labels) landings.now }
-    ensures writes { OnOk result (Adds (8 * length frame.now.pairs) asm.old.parts asm.new.parts (λ x from to. Runs 0 (8 * length frame.now.pairs) (HasFrame frame.now.size) (λ s t. Stores (pair_numbers x.at (s.registers 2) frame.now.pairs landings.now) s t) x from to)) }
+    ensures writes { OnOk result (Adds (8 * length frame.now.pairs) asm.old.parts asm.new.parts (λ x from to. RunsInFrame (8 * length frame.now.pairs) frame.now.size (λ s t. Stores (pair_numbers x.at (s.registers FRAME) frame.now.pairs landings.now) s t) x from to)) }
     ensures labels { asm.new.labels ≡ asm.old.labels }
 {
     let pairs = frame.pairs.as_slice();
@@ -103,7 +104,7 @@ fn write_pairs(asm: &mut Asm, frame: &Frame, landings: &[Label]) -> Result<(), A
 fn write_pair(asm: &mut Asm, offset: u32, landing: Label) -> Result<(), AllocError>
     requires offset { offset + 8 < 2 ^ 21 }
     requires landing { IsLabel asm.old.labels landing }
-    ensures writes { OnOk result (Adds 8 asm.old.parts asm.new.parts (λ x from to. Runs 0 8 (CanReachPair offset) (λ s t. Stores ((offset, x.at landing.number) ∷ (offset + 8, s.registers 2) ∷ []) s t) x from to)) }
+    ensures writes { OnOk result (Adds 8 asm.old.parts asm.new.parts (λ x from to. Runs 0 8 (CanReachPair offset) (λ s t. Stores ((offset, x.at landing.number) ∷ (offset + 8, s.registers FRAME) ∷ []) s t) x from to)) }
     ensures labels { asm.new.labels ≡ asm.old.labels }
 {
     asm.address(FIRST_SCRATCH, landing)?;

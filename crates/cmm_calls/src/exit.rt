@@ -5,18 +5,17 @@ ghost use Rattle.std.specs.List.{All, list_all};
 ghost use Rattle.rv_asm.specs.Assembly.{IsTarget};
 ghost use Rattle.rv_table.specs.Table.{IsValid};
 ghost use Rattle.rv_table.specs.declared.instruction.Instr.TheVariants.{Jalr};
-ghost use Rattle.cmm_effects.specs.Pieces.{Adds, Leads};
+ghost use Rattle.cmm_effects.specs.Pieces.{Adds};
 ghost use Rattle.cmm_select.specs.Operands.{IsOperand};
-ghost use Rattle.cmm_calls.specs.Frames.{CanBeMade, HasFrame, Leaves, LetsWait, Returns, leave_cost};
+ghost use Rattle.cmm_calls.specs.Frames.{CanBeMade, LeavesFrame, Returns, leave_cost};
 ghost use Rattle.cmm_calls.specs.Values.{JumpsTo, ReturnsValues, are_given_first, is_operand, parting_cost};
 
 use crate::giving::give;
 use crate::room::move_up;
 use crate::saved::restore_all;
-use crate::word::restore;
 use cmm_abi::registers::{RETURN_ADDRESS, ZERO};
 use cmm_chain::Frame;
-use cmm_select::{Operand, go_to};
+use cmm_select::{Operand, go_to, restore};
 use rv_asm::{Asm, Label};
 use rv_table::Instr;
 use std::alloc::AllocError;
@@ -25,7 +24,7 @@ use std::alloc::AllocError;
 /// address may wait in register 7. An error is want of memory, and then some of the instructions may be there.
 pub fn leave(asm: &mut Asm, frame: &Frame) -> Result<(), AllocError>
     requires { CanBeMade frame.now }
-    ensures leaves { OnOk result (Adds (leave_cost frame.now) asm.old.parts asm.new.parts (Leads (leave_cost frame.now) (HasFrame frame.now.size) (λ s t. Leaves frame.now s t × LetsWait s t))) }
+    ensures leaves { OnOk result (Adds (leave_cost frame.now) asm.old.parts asm.new.parts (LeavesFrame frame.now)) }
     ensures labels { asm.new.labels ≡ asm.old.labels }
 {
     restore(asm, RETURN_ADDRESS, frame.return_at)?;
@@ -90,7 +89,7 @@ pub fn jump(asm: &mut Asm, frame: &Frame, values: &[Operand], to: Label) -> Resu
 /// The instruction that goes back to an exit.
 fn jump_back(exit: u32) -> Instr
     requires { exit < 512 }
-    ensures is { result ≡ Jalr 0 1 (pos (4 * exit)) }
+    ensures is { result ≡ Jalr ZERO RETURN_ADDRESS (pos (4 * exit)) }
     ensures valid { IsValid result }
 {
     Instr::Jalr {

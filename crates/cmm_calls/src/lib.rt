@@ -5,9 +5,8 @@
 //! input. A frame is any that `lay_frame` of cmm_allocate gives, of less than 2 MiB; an offset in it may be past what an instruction reaches.
 //! Between two pieces registers 5 to 7 have nothing; within one, an address may wait in register 7 while values go out.
 //!
-//! - `word`: a word of the frame is written from a register, or read into one.
 //! - `saved`: the registers that a procedure saves are saved, and restored.
-//! - `place`: a place is written from a register, and places are made 0.
+//! - `place`: places are made 0.
 //! - `room`: whether the stack has room for a frame, and how register 2 moves.
 //! - `entry`: a procedure is entered, and its frame is made.
 //! - `exit`: a frame is left, and control goes back.
@@ -28,7 +27,6 @@ mod place;
 mod room;
 mod saved;
 mod taking;
-mod word;
 
 pub use asking::{ask_end, ask_limit};
 pub use calling::{call, call_by, cut, jump_by, lay_exits};
@@ -36,7 +34,6 @@ pub use copying::copy_in;
 pub use entry::{begin, enter};
 pub use exit::{jump, leave, leave_by, return_values};
 pub use giving::give;
-pub use place::{put, zero_all};
+pub use place::zero_all;
 pub use saved::{restore_all, save_all};
 pub use taking::take;
-pub use word::{restore, save};

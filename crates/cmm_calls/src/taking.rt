@@ -3,18 +3,20 @@
 ghost use Rattle.std.specs.Prelude.{◌≡◌, ◌-◌, ◌*◌, ◌<◌, ◌≤◌, length, pos, true, OnOk};
 ghost use Rattle.std.specs.List.{list_all};
 ghost use Rattle.cmm_chain.specs.Plans.{is_place};
+ghost use Rattle.cmm_abi.specs.Regions.{value_place, word_at};
+ghost use Rattle.rv_table.specs.Machine.{Region};
 ghost use Rattle.rv_table.specs.Table.{IsValid};
 ghost use Rattle.rv_table.specs.declared.instruction.Instr.TheVariants.{Ld};
 ghost use Rattle.cmm_effects.specs.Changes.{IsPlace, Puts};
 ghost use Rattle.cmm_effects.specs.Pieces.{Adds, Leads};
 ghost use Rattle.cmm_calls.specs.Frames.{CanBeMade};
-ghost use Rattle.cmm_calls.specs.Values.{HasRegion, Passes, Takes, are_taken_first, value_in};
+ghost use Rattle.cmm_calls.specs.Values.{TakesIn, are_taken_first};
 ghost use Rattle.cmm_calls.specs.inside.Taking.{CanTake};
 
-use crate::place::put;
 use cmm_abi::registers::{FIRST_SCRATCH, FIRST_VALUE, REGION};
 use cmm_abi::values::IN_REGISTERS;
 use cmm_chain::{Frame, Location};
+use cmm_select::write;
 use rv_asm::Asm;
 use rv_table::Instr;
 use std::alloc::AllocError;
@@ -26,7 +28,7 @@ pub fn take(asm: &mut Asm, frame: &Frame, places: &[Location]) -> Result<(), All
     requires places { list_all (is_place frame.now) places.now ≡ true }
     requires few { length places.now ≤ 64 }
     requires first { are_taken_first (length places.now) 0 places.now ≡ true }
-    ensures takes { OnOk result (Adds (4 * length places.now) asm.old.parts asm.new.parts (Passes (4 * length places.now) (HasRegion frame.now.size) (Takes places.now))) }
+    ensures takes { OnOk result (Adds (4 * length places.now) asm.old.parts asm.new.parts (TakesIn (4 * length places.now) frame.now.size places.now)) }
     ensures labels { asm.new.labels ≡ asm.old.labels }
 {
     for (index, place) in places.iter().enumerate() {
@@ -39,23 +41,23 @@ pub fn take(asm: &mut Asm, frame: &Frame, places: &[Location]) -> Result<(), All
 pub(crate) fn take_value(asm: &mut Asm, index: u32, to: Location) -> Result<(), AllocError>
     requires few { index < 64 }
     requires place { IsPlace to }
-    ensures takes { OnOk result (Adds 4 asm.old.parts asm.new.parts (Leads 4 (CanTake to) (λ s t. Puts to (value_in index s) s t))) }
+    ensures takes { OnOk result (Adds 4 asm.old.parts asm.new.parts (λ x from on. (r : Region) → Leads 4 (CanTake r to) (λ s t. Puts to (word_at s (value_place r index)) s t) x from on)) }
     ensures labels { asm.new.labels ≡ asm.old.labels }
 {
     if index < IN_REGISTERS {
-        put(asm, FIRST_VALUE + index as u8, to)?;
+        write(asm, FIRST_VALUE + index as u8, to)?;
         return Ok(());
     }
     asm.emit(load_value(index))?;
-    put(asm, FIRST_SCRATCH, to)?;
+    write(asm, FIRST_SCRATCH, to)?;
     Ok(())
 }
 
 /// The instruction that loads a value from the argument area.
 pub(crate) fn load_value(index: u32) -> Instr
-    requires area { 8 ≤ index }
+    requires area { IN_REGISTERS ≤ index }
     requires few { index < 64 }
-    ensures is { result ≡ Ld 5 4 (pos (8 * (index - 8))) }
+    ensures is { result ≡ Ld FIRST_SCRATCH REGION (pos (8 * (index - IN_REGISTERS))) }
     ensures valid { IsValid result }
 {
     Instr::Ld {

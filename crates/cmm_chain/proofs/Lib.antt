@@ -1,4 +1,5 @@
 pub mod Offsets
+pub mod Registers
 pub mod Lasting
 pub mod Holding
 pub mod Entering

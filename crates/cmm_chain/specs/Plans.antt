@@ -15,6 +15,14 @@ pub record Plan : Type 0 where
   -- of a procedure, a site and the number of a local
   pub live : ℕ → ℕ → ℕ → Bool
 
+-- ---- locations
+
+-- A register of its kind, in which a local may be. A slot is none.
+abbrev pub is_register : Location → Bool
+is_register (Slot offset) = false
+is_register (Saved r) = is_callee_saves r
+is_register (Temp r) = is_temporary r
+
 -- ---- saved registers
 
 -- the offset at which a register is saved
@@ -62,8 +70,8 @@ is_laid f = (f.size % 16 == 0) && (list_all (is_word_in f.size) (fixed_offsets f
 -- register
 abbrev pub is_place : Frame → Location → Bool
 is_place f (Slot offset) = is_word_in f.size offset && is_fresh offset (fixed_offsets f)
-is_place f (Saved r) = is_callee_saves r && is_some (saved_in f.saved r)
-is_place f (Temp r) = is_temporary r
+is_place f (Saved r) = is_register (Saved r) && is_some (saved_in f.saved r)
+is_place f (Temp r) = is_register (Temp r)
 
 pub record IsPlanned (plan : Plan) : Type 0 where
   pub laid : (q : ℕ) → plan.is_procedure q ≡ true → is_laid (plan.frame q) ≡ true

@@ -3,9 +3,8 @@ use Rattle.std.specs.Prelude.{◌≡◌, ℕ, suc, ◌+◌, ◌-◌, ◌==◌, �
 use Rattle.cmm_chain.specs.declared.frame.Frame.{Frame}
 use Rattle.cmm_chain.specs.declared.frame.Location.{Location}
 use Rattle.cmm_chain.specs.declared.frame.Location.TheVariants.{Slot, Saved, Temp}
-use Rattle.cmm_abi.specs.Registers.{is_callee_saves}
 use Rattle.cmm_chain.specs.Contents.{Content, Unknown, Number, ReturnTo, LandingOf, Contents, with_content}
-use Rattle.cmm_chain.specs.Plans.{Plan}
+use Rattle.cmm_chain.specs.Plans.{Plan, is_register}
 use Rattle.cmm_chain.specs.Chain.{Point, Suspension, HasPairs, IsChain, behind}
 
 -- what registers and stack hold while an activation runs: its point, the registers that are no callee-saves registers, and the stack.
@@ -96,5 +95,5 @@ with_number v x values u = elim (u == v) [ true ↦ x | false ↦ values u ]
 -- a place whose content lasts while the activation is suspended
 abbrev pub lasts : Location → Bool
 lasts (Slot offset) = true
-lasts (Saved r) = is_callee_saves r
+lasts (Saved r) = is_register (Saved r)
 lasts (Temp r) = false

@@ -2,7 +2,8 @@
 use Rattle.std.proofs.Common.{◌≡◌, ◌≢◌, ℕ, ◌+◌, ◌*◌, ◌%◌, ◌<◌, ◌^◌, refl, sym, ◌∙◌, ap, subst, arith}
 use Rattle.std.specs.Prelude.{◌==◌, Bool, true, false, IsTrue}
 use Rattle.std.proofs.lemmas.Bool.Decides.{nat_tests}
-use Rattle.cmm_abi.specs.Registers.{is_callee_saves, is_temporary, is_scratch}
+use Rattle.cmm_abi.specs.Registers.{is_scratch}
+use Rattle.cmm_chain.proofs.Shared.{callee_saves_is_kept, temporary_is_kept}
 use Rattle.cmm_chain.specs.declared.frame.Location.{Location}
 use Rattle.cmm_chain.specs.declared.frame.Location.TheVariants.{Slot, Saved, Temp}
 use Rattle.rv_table.proofs.Shared.{loaded-same}
@@ -19,16 +20,10 @@ put_is_read (Slot o) n s t small puts =
 put_is_read (Saved r) n s t small puts = puts.0
 put_is_read (Temp r) n s t small puts = puts.0
 
-saved_is_kept : (r : ℕ) → IsTrue (is_callee_saves r) → is_scratch r ≡ false
-saved_is_kept r is = grind (arith, nat_tests, is)
-
-temporary_is_kept : (r : ℕ) → IsTrue (is_temporary r) → is_scratch r ≡ false
-temporary_is_kept r is = grind (arith, nat_tests, is)
-
 pub kept_is_read : KeptIsRead
 kept_is_read (Slot o) s t is keeps =
     ap (λ (a : ℕ). loaded t.memory (a + o) 8) (keeps.registers 2 refl) ∙ ap (λ (m : ℕ → ℕ). loaded m (s.registers 2 + o) 8) keeps.memory
-kept_is_read (Saved r) s t is keeps = keeps.registers r (saved_is_kept r is)
+kept_is_read (Saved r) s t is keeps = keeps.registers r (callee_saves_is_kept r is)
 kept_is_read (Temp r) s t is keeps = keeps.registers r (temporary_is_kept r is)
 
 pub kept_is_reachable : KeptIsReachable

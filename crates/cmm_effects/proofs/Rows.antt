@@ -10,7 +10,7 @@ use Rattle.cmm_abi.specs.Registers.{is_scratch}
 use Rattle.cmm_effects.specs.Changes.{CanReach, Puts, read_at}
 
 abbrev map : MemoryMap
-map = record { code = []; data_length = 16; stack_size = 64 }
+map = record { code = []; data_length = 16; region_length = 0x1040 }
 
 abbrev before : State
 before = record { registers = with_register (λ r. 100 + r) 2 0x60001000; pc = 0x10000; memory = λ a. 0 }

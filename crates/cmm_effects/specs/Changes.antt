@@ -1,9 +1,10 @@
 -- What pieces of code change, said of the states of the machine before and after: RISC-V ISA Volume I, registers and memory.
 use Rattle.std.specs.Prelude.{◌≡◌, ℕ, ◌+◌, ◌<◌, ◌^◌, ◌==◌, ◌&&◌, ◌||◌, nat_le, Bool, true, false, IsTrue}
 use Rattle.cmm_abi.specs.declared.registers.TheConstants.{FRAME}
-use Rattle.cmm_abi.specs.Registers.{is_callee_saves, is_scratch, is_temporary}
+use Rattle.cmm_abi.specs.Registers.{is_scratch}
 use Rattle.cmm_chain.specs.declared.frame.Location.{Location}
 use Rattle.cmm_chain.specs.declared.frame.Location.TheVariants.{Slot, Saved, Temp}
+use Rattle.cmm_chain.specs.Plans.{is_register}
 use Rattle.rv_table.specs.Machine.{MemoryMap, State, is_accessible, loaded, stored}
 
 -- all registers but these are as they were
@@ -31,8 +32,7 @@ pub record Writes (address size number : ℕ) (s t : State) : Type 0 where
 -- a slot of a frame, which has less than 2 MiB, or a register of its kind
 abbrev pub IsPlace : Location → Type 0
 IsPlace (Slot o) = o < 2 ^ 21
-IsPlace (Saved r) = IsTrue (is_callee_saves r)
-IsPlace (Temp r) = IsTrue (is_temporary r)
+IsPlace l = IsTrue (is_register l)
 
 -- what a place has
 abbrev pub read_at : Location → State → ℕ

@@ -23,7 +23,7 @@ use Rattle.cmm_graph.specs.declared.node.NodeKind.TheVariants.{Assign, Branch, C
 use Rattle.rv_asm.specs.Parts.{Code}
 use Rattle.rv_asm.specs.declared.part.Label.{Label}
 use Rattle.rv_asm.specs.declared.part.Meaning.{Meaning}
-use Rattle.rv_table.specs.Machine.{MemoryMap, State, Traps, instruction_step}
+use Rattle.rv_table.specs.Machine.{MemoryMap, State, Traps, instruction_step, Region}
 use Rattle.rv_table.specs.declared.request.Request.TheVariants.{GetByte, PutByte}
 use Rattle.rv_table.specs.declared.trap.TrapKind.TheVariants.{Breakpoint}
 use Rattle.cmm_effects.proofs.Shared.{keeps_then, leads_turns, reaches_more, reaches_sound, turns_weaker}
@@ -52,6 +52,7 @@ use Rattle.cmm_emit.specs.declared.context.Targets.{Targets}
 use Rattle.cmm_emit.specs.Costs.{branch_cost, copy_cost, operand_cost, rvalue_cost, store_cost, switch_cost}
 use Rattle.cmm_emit.specs.Naming.{IsNamed, argument_operand, argument_operands, can_begin, can_go_to, can_land, can_return, code_destination, code_operand, has_arm, has_both, has_destination, has_local, has_node, has_operand, has_target, place, target_destination, target_destinations, variable_places}
 use Rattle.cmm_emit.specs.Standing.{CodesNode, IsReady, PutsValue}
+use Rattle.cmm_emit_laws.specs.Represented.{stack_region}
 
 -- code is that of an image, and an address is that of a node
 pub moved : {x z : Code} {from at : ℕ} (P : Code → ℕ → Type 0) → x ≡ z → at ≡ from → P x from → P z at
@@ -198,19 +199,19 @@ module _ (labels : List Meaning) (p : Context) (y : Targets) (ready : IsReady la
   copy_codes targets next mid can copies leads s c l f q n is-x of at goes = record {
     destinations = target_destinations p y targets;
     are = targets_are_of labels p y ready s c l f q of targets (grind (arith, can));
-    turns = subst (λ (fr : Frame). Turns (copy_cost p y targets + 2) (HasRegion fr.size) (λ u. f.node_at q next)
-        (λ u w. (v : State) × PutsEachTo (f.labels q) (values_to 0 (target_destinations p y targets) u) u v × Keeps v w) (code_of l f q) (f.node_at q n)) (sym of.frame)
-        (copied (moved (λ z a. CopiesIn (5 * length (target_destinations p y targets)) p.frame (target_destinations p y targets) z a mid) is-x at copies
-        (targets_are_global labels p y ready s c l f q of targets (grind (arith, can)))) (subst (λ z. Leads 1 Always Keeps z mid to) is-x leads) goes);
+    turns = λ r. subst (λ (fr : Frame). Turns (copy_cost p y targets + 2) (HasRegion r fr.size) (λ u. f.node_at q next)
+        (λ u w. (v : State) × PutsEachTo (f.labels q) (values_to r 0 (target_destinations p y targets) u) u v × Keeps v w) (code_of l f q) (f.node_at q n)) (sym of.frame)
+        (copied r (moved (λ z a. CopiesIn (5 * length (target_destinations p y targets)) p.frame (target_destinations p y targets) z a mid) is-x at copies
+        (targets_are_global labels p y ready s c l f q of targets (grind (arith, can))) r) (subst (λ z. Leads 1 Always Keeps z mid to) is-x leads) goes);
     few_values = (let same : length (target_destinations p y targets) ≡ length targets = length-map targets (target_destination p y) in grind (arith, nat_tests, can, same));
   }
     where
-      copied : Passes (5 * length (target_destinations p y targets)) (HasRegion p.frame.size)
-          (λ u v. PutsEachTo (f.labels q) (values_to 0 (target_destinations p y targets) u) u v) (code_of l f q) (f.node_at q n) mid →
+      copied : (r : Region) → Passes (5 * length (target_destinations p y targets)) (HasRegion r p.frame.size)
+          (λ u v. PutsEachTo (f.labels q) (values_to r 0 (target_destinations p y targets) u) u v) (code_of l f q) (f.node_at q n) mid →
           Leads 1 Always Keeps (code_of l f q) mid to → GoesOn s c l f q next to →
-          Turns (copy_cost p y targets + 2) (HasRegion p.frame.size) (λ u. f.node_at q next)
-          (λ u w. (v : State) × PutsEachTo (f.labels q) (values_to 0 (target_destinations p y targets) u) u v × Keeps v w) (code_of l f q) (f.node_at q n)
-      copied passes here on =
+          Turns (copy_cost p y targets + 2) (HasRegion r p.frame.size) (λ u. f.node_at q next)
+          (λ u w. (v : State) × PutsEachTo (f.labels q) (values_to r 0 (target_destinations p y targets) u) u v × Keeps v w) (code_of l f q) (f.node_at q n)
+      copied r passes here on =
           let same : length (target_destinations p y targets) ≡ length targets = length-map targets (target_destination p y) in
           let last = leads_turns here on (λ u v sound sound_after can_be kept. tt) (λ u. f.node_at q next) (λ u v can_be kept. refl) in
           turns_weaker (passes_turns passes last) (omega (arith, same)) (λ u sound region. region)
@@ -236,7 +237,7 @@ module _ (labels : List Meaning) (p : Context) (y : Targets) (ready : IsReady la
     operands = argument_operands p y arguments;
     are = operands_are_of labels p y ready s c l f q of arguments (grind (arith, can));
     few_values = grind (arith, nat_tests, can);
-    quiet = moved (λ z a. BeginsQuietly z a) is-x at jumps.quiet;
+    quiet = moved (λ z a. BeginsQuietly z a) is-x at (jumps (stack_region s)).quiet;
     jumps = inl ((
       to_label,
       subst (λ o. IsLabelOf s c l f q o to_label) (sym named.is) (ap (λ (k : Label). f.labels q k.number) named.is_label ∙ of.entries named.procedure named.there),
@@ -252,7 +253,7 @@ module _ (labels : List Meaning) (p : Context) (y : Targets) (ready : IsReady la
     operands = argument_operands p y arguments;
     are = operands_are_of labels p y ready s c l f q of arguments (grind (arith, can));
     few_values = grind (arith, nat_tests, can);
-    quiet = moved (λ z a. BeginsQuietly z a) is-x at jumps.quiet;
+    quiet = moved (λ z a. BeginsQuietly z a) is-x at (jumps (stack_region s)).quiet;
     jumps = inr ((
       code_operand p y callee,
       operand_is_of labels p y ready s c l f q of callee (grind (arith, can)),

@@ -29,6 +29,7 @@ use Rattle.cmm_emit.specs.declared.context.Targets.{Targets}
 use Rattle.cmm_emit.specs.Naming.{IsNamed, argument_operand, argument_operands, can_call, can_come_back, can_give, can_go_to, code_operand, has_argument, has_landing, has_site, label_at, landing_labels, site_label}
 use Rattle.cmm_emit.specs.Costs.{cost_of}
 use Rattle.cmm_emit.specs.Standing.{CodesCall, CodesSite, CodesWhole, GoesOnTo, IsReady, IsSiteOf, LeadsBack}
+use Rattle.cmm_emit_laws.specs.Represented.{stack_region}
 
 module _ (labels : List Meaning) (p : Context) (y : Targets) (ready : IsReady labels p y) (x : Code) (from to : ℕ) (site : SiteId) (there : IsTrue (has_site p site)) where
   within : site.number < length p.sites
@@ -43,7 +44,7 @@ module _ (labels : List Meaning) (p : Context) (y : Targets) (ready : IsReady la
       operands = argument_operands p y arguments;
       are = operands_are_of labels p y ready s c l f q of arguments has;
       few_values = grind (arith, nat_tests, gives);
-      quiet = moved (λ z a. BeginsQuietly z a) is-x at calls.turns.quiet;
+      quiet = moved (λ z a. BeginsQuietly z a) is-x at (calls.turns (stack_region s)).quiet;
       back = site_label p site;
       is_back = (of.sites site.number within).stands;
       fits = omega (arith, (of.sites site.number within).fits);
@@ -68,7 +69,7 @@ module _ (labels : List Meaning) (p : Context) (y : Targets) (ready : IsReady la
       operands = argument_operands p y arguments;
       are = operands_are_of labels p y ready s c l f q of arguments (grind (arith, can));
       few_values = grind (arith, nat_tests, can);
-      quiet = moved (λ z a. BeginsQuietly z a) is-x at calls.turns.quiet;
+      quiet = moved (λ z a. BeginsQuietly z a) is-x at (calls.turns (stack_region s)).quiet;
       back = site_label p site;
       is_back = (of.sites site.number within).stands;
       fits = omega (arith, (of.sites site.number within).fits);

@@ -6,7 +6,6 @@ use Rattle.std.proofs.lemmas.Bool.{eqb-true}
 use Rattle.std.proofs.lemmas.Bool.Decides.{nat_tests}
 use Rattle.std.proofs.lemmas.List.{get_or-map, get_or_default, get_or_past, length-map}
 use Rattle.std.proofs.lemmas.Option.{get_or_from_slice_get, slice_get_within}
-use Rattle.rv_table.specs.Machine.{region_base}
 use Rattle.rv_table.specs.Words.{sum}
 use Rattle.rv_table.specs.declared.request.Request.TheVariants.{End}
 use Rattle.rv_asm.proofs.Shared.{codes_do}
@@ -34,8 +33,8 @@ use Rattle.cmm_graph.specs.declared.operand.Local.TheVariants as local
 use Rattle.cmm_graph.specs.GraphControl.{in_graph}
 use Rattle.cmm_graph.specs.Paths.{landing_of}
 use Rattle.cmm_live.specs.Locals.{local_number as number_of_local}
-use Rattle.cmm_emit_laws.specs.Shown.{AreLandings}
-use Rattle.cmm_emit_laws.specs.Words.{Symbols, register_address}
+use Rattle.cmm_emit_laws.specs.Represented.{AreLandings}
+use Rattle.cmm_emit_laws.specs.Words.{Symbols}
 use Rattle.cmm_image_machine.specs.Machine.{Launch, map_of}
 use Rattle.cmm_effects.specs.Requests.{AsksFor}
 use Rattle.cmm_emit_laws.specs.Finished.{Finished, code_of}
@@ -61,6 +60,8 @@ use Rattle.cmm_emit.specs.Finishing.{AreFinished}
 use Rattle.cmm_emit.specs.Labels.{labels_from}
 use Rattle.cmm_emit.specs.Outlines.{number_symbols, own, symbol_count, with_own}
 use Rattle.cmm_emit.specs.declared.outline.Outline.{Outline}
+use Rattle.rv_table.specs.Machine.{Region}
+use Rattle.cmm_abi.specs.Regions.{global_address}
 
 -- ---- rows of the placement
 
@@ -393,8 +394,8 @@ module _ (p : Program) (graphs : List Graph) (found : List ProcedurePlaces) (add
         ap (λ (z : Label). x_at z.number) label
         ∙ (symbol_stands p x.labels meant x.places x.at value (n + k) (omega (arith, inside)) ∙ (of_label (n + k) k refl inside ∙ ap (λ (ns : List ℕ). get_or ns k 0) known.is_addresses))
 
-    pub register_value : (r : ℕ) → r < length o.targets.registers → region_base + x_at (label_at o.targets.registers r).number ≡ register_address r
-    register_value r less =
+    pub register_value : (r : ℕ) → r < length o.targets.registers → (w : Region) → w.address + x_at (label_at o.targets.registers r).number ≡ global_address w r
+    register_value r less w =
         let inside : r < length p.globals = omega (arith, less, registers_counted) in
         let label : label_at o.targets.registers r ≡ record { number = 0 + r } =
         ap (λ (ls : List Label). label_at ls r) is.outline.registers ∙ label_from 0 (length p.globals) r (record { number = 0 }) inside in

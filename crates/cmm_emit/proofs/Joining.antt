@@ -232,7 +232,7 @@ module _ (p : Program) (graphs : List Graph) (found : List ProcedurePlaces)
       code_is graphs_are stands laid_by frames s l has =
           let known : IsJoint s.program graphs found addresses t = subst (λ (z : Program). IsJoint z graphs found addresses t) (sym has.program) joint in
           let graphs_ : AreGraphs s.program graphs found = subst (λ (z : Program). AreGraphs z graphs found) (sym has.program) graphs_are in
-          let begins = starts s graphs found addresses t known graphs_ l has.rows has.code stands laid_by frames has.start has.is_data has.bytes in
+          let begins = starts s graphs found addresses t known graphs_ l has.rows has.code stands laid_by frames has.region has.start has.is_data has.bytes in
           record {
             finished = finished s.program graphs found addresses t known;
             code = is_code s graphs found addresses t known graphs_ l has.rows has.code stands laid_by frames has.is_for;

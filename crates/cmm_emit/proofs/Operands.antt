@@ -34,6 +34,7 @@ use Rattle.cmm_emit.specs.declared.context.Context.{Context}
 use Rattle.cmm_emit.specs.declared.context.Targets.{Targets}
 use Rattle.cmm_emit.specs.Naming.{IsNamed, argument_operand, argument_operands, code_destination, code_operand, has_argument, has_destination, has_local, has_operand, has_target, label_at, local_number, place, target_destination, target_destinations}
 use Rattle.cmm_emit.specs.Standing.{IsContextOf, IsReady}
+use Rattle.rv_table.specs.declared.memory_map.TheConstants.{GLOBALS_OFFSET}
 
 -- ---- while code is assembled
 
@@ -129,7 +130,7 @@ module _ (labels : List Meaning) (p : Context) (y : Targets) (ready : IsReady la
   target_is_global (target.Variable number width) there = tt
   target_is_global (target.Register number width) there =
       let less : number < length y.registers = grind (arith, nat_tests, there) in
-      let offset : f.labels q (label_at y.registers number).number ≡ 448 + 8 * number = omega (arith, is.registers number less) in
+      let offset : f.labels q (label_at y.registers number).number ≡ GLOBALS_OFFSET + 8 * number = omega (arith, is.registers number less (record { address = 0; stack_size = 0 })) in
       subst IsGlobal (sym offset) (record {
         aligned = mod_eight number;
         behind = omega arith;

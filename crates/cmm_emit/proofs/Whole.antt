@@ -16,6 +16,7 @@ use Rattle.rv_asm.specs.declared.part.Part.{Part}
 use Rattle.rv_asm.specs.declared.part.Meaning.TheVariants.{Inner}
 use Rattle.rv_asm.specs.declared.part.Part.TheVariants.{Single, Place, Branch, Jump as Jumping, Call as Calling, Address, Table}
 use Rattle.rv_table.specs.declared.request.Request.TheVariants.{End}
+use Rattle.cmm_chain.specs.Plans.{is_register}
 use Rattle.cmm_chain.specs.declared.frame.Frame.{Frame}
 use Rattle.cmm_chain.specs.declared.frame.Location.{Location}
 use Rattle.cmm_program.proofs.Shared.{all_get, list_all_get}
@@ -36,11 +37,11 @@ use Rattle.cmm_graph.specs.GraphControl.{in_graph}
 use Rattle.cmm_graph.specs.Paths.{landing_of, node_of}
 use Rattle.cmm_graph.specs.Ranges.{IsValid}
 use Rattle.cmm_effects.proofs.Shared.{goes_weaker}
-use Rattle.cmm_image_machine.specs.Machine.{Launch, map_of}
+use Rattle.cmm_image_machine.specs.Machine.{Launch, map_of, region_of}
 use Rattle.cmm_located.specs.Compiled.{Compiled, exits_of, landing_in, site_exits, waits_at}
 use Rattle.cmm_effects.specs.Requests.{AsksFor}
 use Rattle.cmm_emit_laws.specs.Finished.{Finished, code_of}
-use Rattle.cmm_emit_laws.specs.Laying.{IsLaidOut, ProceduresAreLaid, is_register}
+use Rattle.cmm_emit_laws.specs.Laying.{IsLaidOut, ProceduresAreLaid}
 use Rattle.cmm_effects.specs.Changes.{PutsRegister}
 use Rattle.cmm_effects.specs.Pieces.{Always}
 use Rattle.cmm_effects.specs.Ways.{Goes}
@@ -59,7 +60,7 @@ use Rattle.cmm_emit.specs.Naming.{label_at}
 use Rattle.cmm_emit.specs.Standing.{HasCode, IsSiteCodeOf}
 use Rattle.cmm_located.specs.Layouts.{IsFrameOf}
 use Rattle.cmm_program.specs.Layout.{data_bytes}
-use Rattle.cmm_emit_laws.specs.Shown.{IsFor}
+use Rattle.cmm_emit_laws.specs.Represented.{IsFor, stack_region}
 use Rattle.cmm_emit.proofs.Addresses.{place_fine}
 use Rattle.cmm_emit.proofs.Belonging.{there_at}
 use Rattle.cmm_emit.proofs.Coding.{IsHere, aligned, begins_at, context_is, does, finished, here, lands, lands_inside, no_row, node_fits, node_is, of_procedure, row_found, row_of_procedure, stand_at}
@@ -323,8 +324,8 @@ module _ (s : Setting) (graphs : List Graph) (found : List ProcedurePlaces) (add
     back_fits = let few = last_fine.1 in omega (arith, few);
   }
 
-  pub starts : l.image.start ≡ t.start → l.image.initial ≡ data_bytes s.program s.placement → All IsByte l.image.initial → (begins : StartCode s c l f) × (begins.most ≤ 2)
-  starts start is_data bytes =
+  pub starts : stack_region s ≡ region_of l → l.image.start ≡ t.start → l.image.initial ≡ data_bytes s.program s.placement → All IsByte l.image.initial → (begins : StartCode s c l f) × (begins.most ≤ 2)
+  starts region start is_data bytes =
       let main = s.program.main in
       let inside : main < length graphs = let less = known.range.main in let count = known.graph_count in omega (arith, less, count) in
       let g = there_at graphs main inside in
@@ -341,6 +342,7 @@ module _ (s : Setting) (graphs : List Graph) (found : List ProcedurePlaces) (add
       let goes = goes_weaker calls (omega arith) (omega arith) (λ u. f.node_at main (g.0).first) (λ u sound. first)
       (λ u w is. subst (λ (a : ℕ). PutsRegister 1 a u w) back is) in
       let starts_ : StartCode s c l f = record {
+        region = region;
         first = (g.0).first;
         is_first = ap (λ (z : Option Graph). with_some z (λ g. Some g.first)) g.1;
         most = 2;

@@ -21,7 +21,6 @@ use Rattle.rv_asm.specs.Parts.{Code}
 use Rattle.rv_asm.specs.declared.part.Label.{Label}
 use Rattle.rv_asm.specs.declared.part.Meaning.{Meaning}
 use Rattle.rv_asm.specs.declared.part.Meaning.TheVariants.{Inner}
-use Rattle.rv_table.specs.Machine.{region_base}
 use Rattle.rv_table.specs.Words.{sum}
 use Rattle.rv_table.specs.declared.request.Request.TheVariants.{StackLimit, End}
 use Rattle.cmm_effects.specs.Changes.{IsPlace}
@@ -31,12 +30,11 @@ use Rattle.cmm_select.specs.Switches.{label_of}
 use Rattle.cmm_calls.specs.Calls.{HasExits}
 use Rattle.cmm_calls.specs.Frames.{CanBeMade}
 use Rattle.cmm_image_machine.specs.Machine.{Launch}
-use Rattle.cmm_emit_laws.specs.Shown.{AreLandings}
-use Rattle.cmm_emit_laws.specs.Words.{register_address}
+use Rattle.cmm_emit_laws.specs.Represented.{AreLandings}
 use Rattle.cmm_located.specs.Compiled.{Compiled, landing_in, number_in}
 use Rattle.cmm_effects.specs.Requests.{AsksFor}
 use Rattle.cmm_emit_laws.specs.Finished.{Finished, code_of}
-use Rattle.cmm_emit_laws.specs.NodeCode.{CallCode, GoesOn, IsCodeOf, IsPutInto, SiteCode}
+use Rattle.cmm_emit_laws.specs.NodeCode.{CallCode, GoesOn, IsCodeOf, IsPutInto, SiteCode, IsRegister}
 use Rattle.cmm_emit.specs.declared.context.Context.{Context}
 use Rattle.cmm_emit.specs.declared.context.Targets.{Targets}
 use Rattle.cmm_emit.specs.Costs.{callee_cost, cost_of, rvalue_cost}
@@ -89,7 +87,7 @@ module _ (s : Setting) (c : Compiled) (l : Launch) (f : Finished) (q : ℕ) wher
     pub entries : (k : ℕ) → k < length y.procedures → f.labels q (label_at y.procedures k).number ≡ constant_value s.program s.placement (constant.Code k 0)
     pub data_labels : (k plus : ℕ) → k < length y.data_labels →
         sum (f.labels q (label_at y.data_labels k).number) plus ≡ constant_value s.program s.placement (constant.Address k plus)
-    pub registers : (r : ℕ) → r < length y.registers → region_base + f.labels q (label_at y.registers r).number ≡ register_address r
+    pub registers : (k : ℕ) → k < length y.registers → IsRegister s c l f q k (label_at y.registers k)
     pub landings : AreLandings f.symbols (f.labels q) q 0 p.landings
     pub landed : (k : ℕ) (n : NodeId) → k < length p.landings → landing_in c.graphs q k ≡ Some n → f.labels q (label_at p.landings k).number ≡ f.node_at q n
     pub sites : (k : ℕ) → k < length p.sites → IsSiteOf k (label_at p.sites k)

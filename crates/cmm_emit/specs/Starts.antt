@@ -1,6 +1,6 @@
 -- The code with which a run begins.
 use Rattle.std.specs.Prelude.{◌≡◌, ℕ, ◌+◌, ◌≤◌, true, List, [], ◌∷◌, ◌++◌, slice_index}
-use Rattle.cmm_abi.specs.declared.registers.TheConstants.{REQUEST_VALUE}
+use Rattle.cmm_abi.specs.declared.registers.TheConstants.{REQUEST_VALUE, RETURN_ADDRESS}
 use Rattle.rv_asm.specs.Appending.{Codes}
 use Rattle.rv_asm.specs.Parts.{Code, Stand}
 use Rattle.rv_asm.specs.Sizes.{all_longest}
@@ -19,9 +19,9 @@ use Rattle.cmm_emit.specs.Orders.{IsClosed}
 use Rattle.cmm_emit.specs.Outlines.{number_symbols}
 use Rattle.cmm_emit.specs.declared.start.Start.{Start}
 
--- a label is called, with the address of another label in register 1, and nothing else is changed but scratch registers
+-- a label is called, with another label as the return address, and nothing else is changed but scratch registers
 abbrev pub CallsMain : Label → Label → Code → ℕ → Type 0
-CallsMain main last x from = Goes 1 2 Always (λ t. x.at main.number) (PutsRegister 1 (x.at last.number)) x from
+CallsMain main last x from = Goes 1 2 Always (λ t. x.at main.number) (PutsRegister RETURN_ADDRESS (x.at last.number)) x from
 
 -- the code begins with a call of `main`
 pub record BeginsBy (main last : Label) (parts : List Part) : Type 0 where

@@ -6,8 +6,8 @@ use Rattle.cmm_program.specs.Layout.{data_bytes}
 use Rattle.cmm_program.specs.State.{Setting}
 use Rattle.cmm_machine_laws.specs.Fitting.{IsByte}
 use Rattle.cmm_graph.specs.declared.graph.Graph.{Graph}
-use Rattle.cmm_image_machine.specs.Machine.{Launch, map_of}
-use Rattle.cmm_emit_laws.specs.Shown.{IsFor}
+use Rattle.cmm_image_machine.specs.Machine.{Launch, map_of, region_of}
+use Rattle.cmm_emit_laws.specs.Represented.{IsFor, stack_region}
 use Rattle.cmm_emit_laws.specs.Finished.{Finished}
 use Rattle.cmm_emit_laws.specs.ProgramCode.{IsCode}
 use Rattle.cmm_emit_laws.specs.Starting.{StartCode}
@@ -25,6 +25,8 @@ pub record HasText (p : Program) (found : List ProcedurePlaces) (t : Text) (s : 
   pub is_data : l.image.initial ≡ data_bytes s.program s.placement
   pub bytes : All IsByte l.image.initial
   pub is_for : IsFor s (map_of l)
+  -- and its runs begin in the region of the setting
+  pub region : stack_region s ≡ region_of l
 
 -- its code is that of the program, and begins its runs by at most two instructions
 pub record RunsProgram (s : Setting) (graphs : List Graph) (found : List ProcedurePlaces) (l : Launch) : Type 0 where

@@ -5,7 +5,7 @@ use cmm_items::Items;
 use rv_asm::Label;
 
 /// What the code of a procedure's nodes is made over.
-#[derive(Debug, Drop)]
+#[derive(Drop)]
 pub struct Context {
     /// How many variables the procedure has. Its temporaries are numbered after them.
     pub variables: u32,
@@ -23,7 +23,7 @@ pub struct Context {
 }
 
 /// The labels of a program, for what its nodes name outside of their procedure.
-#[derive(Debug, Drop)]
+#[derive(Drop)]
 pub struct Targets {
     /// The code of each procedure.
     pub procedures: Items<Label>,

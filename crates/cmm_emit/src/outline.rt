@@ -17,7 +17,7 @@ use rv_asm::{Asm, Label};
 use std::alloc::{AllocError, Global};
 
 /// The labels and contexts that a unit's code needs.
-#[derive(Debug, Drop)]
+#[derive(Drop)]
 pub struct Outline {
     /// The number of its first procedure in the program. The others follow.
     pub first: usize,

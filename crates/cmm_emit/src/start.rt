@@ -10,6 +10,7 @@ ghost use Rattle.rv_asm.specs.declared.part.Meaning.TheVariants.{Inner};
 ghost use Rattle.rv_table.specs.declared.instruction.Instr.TheVariants.{Ebreak};
 ghost use Rattle.rv_table.specs.declared.request.Request.TheVariants as request;
 ghost use Rattle.cmm_effects.specs.Requests.{AsksFor};
+ghost use Rattle.cmm_abi.specs.declared.registers.TheConstants.{REQUEST_VALUE};
 ghost use Rattle.cmm_program.specs.InRange.{IsInRange};
 ghost use Rattle.cmm_emit.specs.Starts.{CallsMain, IsStart};
 ghost use Rattle.cmm_emit.specs.Orders.{IsClosed};
@@ -38,7 +39,7 @@ fn lay_start(asm: &mut Asm, main: Label, last: Label) -> Result<(), AllocError>
     requires main { IsTarget asm.old.labels main }
     requires last { slice_get asm.old.labels last.number ≡ Some (Inner false) }
     ensures calls { OnOk result (Appends asm.old.parts asm.new.parts (λ x from to. CallsMain main last x from)) }
-    ensures ends { OnOk result (Codes asm.new.parts last (λ x from to. AsksFor 1 (λ t. request.End (t.registers 10)) x from)) }
+    ensures ends { OnOk result (Codes asm.new.parts last (λ x from to. AsksFor 1 (λ t. request.End (t.registers REQUEST_VALUE)) x from)) }
     ensures closed { OnOk result (IsClosed asm.new.parts) }
     ensures size { OnOk result (all_longest asm.new.parts ≤ all_longest asm.old.parts + 20) }
     ensures labels { OnOk result (asm.new.labels ≡ slice_set asm.old.labels last.number (Inner true)) }
@@ -64,7 +65,7 @@ pub fn lay_limit(asm: &mut Asm, limit: Label) -> Result<(), AllocError>
 }
 
 /// The code with which a run begins.
-#[derive(Debug, Drop)]
+#[derive(Drop)]
 pub struct Start {
     pub code: UnitCode,
     /// Where in it the call of `main` comes back.

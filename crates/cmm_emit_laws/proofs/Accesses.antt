@@ -7,7 +7,7 @@ use Rattle.std.proofs.lemmas.Bool.Decides.{nat_tests}
 use Rattle.cmm_words.specs.Widths.{bytes}
 use Rattle.cmm_words.specs.declared.width.Width.{Width}
 use Rattle.cmm_words.specs.declared.width.Width.TheVariants.{W8, W16, W32, W64}
-use Rattle.rv_table.specs.Machine.{MemoryMap, data_base, is_accessible, stack_base}
+use Rattle.rv_table.specs.Machine.{MemoryMap, data_base, is_accessible, bottom, top}
 use Rattle.cmm_program.specs.Memory.{Cell, cell_at}
 use Rattle.cmm_program.specs.State.{Setting, Store}
 use Rattle.cmm_program.specs.Typing.{is_alignment}
@@ -15,7 +15,7 @@ use Rattle.cmm_program.specs.Values.{is_there, may_access}
 use Rattle.cmm_machine_laws.specs.Stacks.{IsStack, stack_of}
 use Rattle.cmm_select.specs.Memory.{IsCellBy, access_of}
 use Rattle.cmm_emit_laws.proofs.Accessing.{there_is_accessible, there_is_placed}
-use Rattle.cmm_emit_laws.specs.Shown.{IsFor}
+use Rattle.cmm_emit_laws.specs.Represented.{IsFor, stack_region}
 
 -- each of the bytes is there
 each_there : (cell : ℕ → Cell) (size address : ℕ) → list_all is_there (map cell (range_with_len address size)) ≡ true → (i : ℕ) → i < size → is_there (cell (address + i)) ≡ true
@@ -88,10 +88,10 @@ module _ (s : Setting) (m : MemoryMap) (is_for : IsFor s m) (store : Store) (sta
   near : (w : Width) → ((i : ℕ) → i < bytes w → is_there (cell_at store.memory (a + i)) ≡ true) → a + bytes w ≤ 2 ^ 64
   near w there = by (there_is_placed s m is_for store (a + (bytes w - 1)) stack (there (bytes w - 1) (omega (arith, (some_bytes w).0))))
     where
-      by : ((data_base ≤ a + (bytes w - 1)) × (a + (bytes w - 1) < data_base + m.data_length)) ⊎ ((stack_base ≤ a + (bytes w - 1)) × (a + (bytes w - 1) < stack_base + m.stack_size)) →
+      by : ((data_base ≤ a + (bytes w - 1)) × (a + (bytes w - 1) < data_base + m.data_length)) ⊎ ((bottom (stack_region s) ≤ a + (bytes w - 1)) × (a + (bytes w - 1) < top (stack_region s))) →
           a + bytes w ≤ 2 ^ 64
-      by (inl place) = omega (arith, place.1, is_for.region, (some_bytes w).0)
-      by (inr place) = omega (arith, place.1, is_for.small, is_for.base, is_for.size, (some_bytes w).0)
+      by (inl place) = omega (arith, place.1, is_for.region, is_for.lies.narrow, (some_bytes w).0)
+      by (inr place) = omega (arith, place.1, is_for.lies.narrow, (some_bytes w).0)
 
   module _ (w : Width) (there : (i : ℕ) → i < bytes w → is_there (cell_at store.memory (a + i)) ≡ true) where
     -- an access that begins n bytes on

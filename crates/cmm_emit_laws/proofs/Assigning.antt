@@ -45,7 +45,7 @@ use Rattle.cmm_select.specs.Operands.{CanBringOperand, operand_at}
 use Rattle.cmm_image_machine.specs.Machine.{Launch, map_of}
 use Rattle.cmm_emit_laws.proofs.Carrying.{forget_values}
 use Rattle.cmm_emit_laws.proofs.Accessing.{loaded_is_spelled}
-use Rattle.cmm_emit_laws.specs.Shown.{IsFor, IsPlaceOf, IsShown}
+use Rattle.cmm_emit_laws.specs.Represented.{IsFor, IsPlaceOf, IsRepresented}
 use Rattle.cmm_located.specs.Compiled.{Compiled, Located}
 use Rattle.cmm_located.specs.Nodes.{done, keeping, ran_at, reads_at}
 use Rattle.cmm_emit_laws.proofs.Accesses.{may_is_cell}
@@ -70,8 +70,8 @@ module _ (s : Setting) (c : Compiled) (l : Launch) (f : Finished) (is_for : IsFo
   brought : (o : Operand) (a : CodeOperand) (x : ℕ) → IsOperandOf s c l f at.procedure o a → value o ≡ Ok x → (operand_at (f.labels at.procedure) a t ≡ x) × CanBringOperand a (map_of l) t
   brought o a x is is_x = operand_is s c l f is_for at t body.activation body.older body.youngest places stands.shown o a x is is_x
 
-  shown_here : IsShown f.symbols s (map_of l) at.holdings at.store [] t
-  shown_here = forget_values f.symbols s (map_of l) at.holdings at.store at.carried t stands.shown
+  shown_here : IsRepresented f.symbols s at.holdings at.store [] t
+  shown_here = forget_values f.symbols s at.holdings at.store at.carried t stands.shown
 
   module _ (to : CodeDestination) (reached : CanPut (f.labels at.procedure) to (map_of l) t) (count on v : ℕ) where
     abbrev ArePut : State → Type 0
@@ -216,7 +216,7 @@ module _ (s : Setting) (c : Compiled) (l : Launch) (f : Finished) (is_for : IsFo
     assigned d right next cost v code small fine leads named reads e =
         silently s c l f at cost t (record (taken d v) { node = next }) (tokens_there s c l f (taken d v) g is_graph valid next leads) refl
         (count_with d v at.store.registers) (λ b. b)
-        (reaches_more (reaches_sound {Q = λ u. (u.pc ≡ f.node_at at.procedure next) × IsShown f.symbols s (map_of l) (taken d v).holdings (store_with d v) at.carried u}
+        (reaches_more (reaches_sound {Q = λ u. (u.pc ≡ f.node_at at.procedure next) × IsRepresented f.symbols s (taken d v).holdings (store_with d v) at.carried u}
         (reaches_weaker
         (reaches_then (reaches_sound (puts code.into reached code.count code.on v right code.puts fine reads kept e) stands.sound)
         (λ u there. reaches_more (code.goes_on.go u there.1 there.0.0 tt)
@@ -229,9 +229,9 @@ module _ (s : Setting) (c : Compiled) (l : Launch) (f : Finished) (is_for : IsFo
         reached : CanPut (f.labels at.procedure) code.into (map_of l) t
         reached = can_put s c l f is_for at.procedure at.holdings at.store body.activation body.older body.youngest places t shown_here kept d code.into code.is_into named
 
-        shown_put : (u : State) → PutsTo (f.labels at.procedure) code.into v t u → IsShown f.symbols s (map_of l) (taken d v).holdings (store_with d v) at.carried u
+        shown_put : (u : State) → PutsTo (f.labels at.procedure) code.into v t u → IsRepresented f.symbols s (taken d v).holdings (store_with d v) at.carried u
         shown_put u there =
-            subst (λ (xs : List ℕ). IsShown f.symbols s (map_of l) (taken d v).holdings (store_with d v) xs u) (sym body.carried)
+            subst (λ (xs : List ℕ). IsRepresented f.symbols s (taken d v).holdings (store_with d v) xs u) (sym body.carried)
             (put_shown s c l f is_for at.procedure at.holdings at.store body.activation body.older body.youngest places t shown_here kept v small u d code.into code.is_into named there)
 
     pub assign_done : (d : Destination) (right : Rvalue) (next : NodeId) (cost : ℕ) (after : Located) → AssignCode s c l f at.procedure at.node d right next cost →

@@ -8,7 +8,7 @@ use Rattle.std.proofs.lemmas.List.Elements.{All-tail}
 use Rattle.rv_table.proofs.Shared.{sound_start}
 use Rattle.rv_table.specs.Bounds.{IsSound}
 use Rattle.rv_table.specs.Machine as rv
-use Rattle.rv_table.specs.Machine.{State, data_base, loaded}
+use Rattle.rv_table.specs.Machine.{State, data_base, loaded, top, Region}
 use Rattle.rv_asm.proofs.Shared.{leads_of}
 use Rattle.cmm_simulation.proofs.Paths.{weaker}
 use Rattle.cmm_simulation.proofs.Simulations.{run_leads}
@@ -33,22 +33,24 @@ use Rattle.cmm_effects.proofs.Shared.{reaches_sound}
 use Rattle.cmm_effects.specs.Changes.{PutsRegister}
 use Rattle.cmm_select.specs.Laws.{SwitchesLead}
 use Rattle.cmm_image_machine.specs.Changes.{at_pc}
-use Rattle.cmm_image_machine.specs.Machine.{Launch, Run, Running, first_memory, first_run, map_of}
+use Rattle.cmm_image_machine.specs.Machine.{Launch, Run, Running, first_memory, first_run, map_of, region_of}
 use Rattle.cmm_image_machine.specs.Observed.{image_machine}
 use Rattle.cmm_emit_laws.proofs.SimulatedMachines.{image_is_quiet}
 use Rattle.cmm_emit_laws.specs.Outside.{Outside, run_with, seen_outside}
 use Rattle.cmm_emit_laws.proofs.StartingStates.{starts_are_shown}
 use Rattle.cmm_emit_laws.specs.StateLaws.{Begins}
-use Rattle.cmm_emit_laws.specs.Words.{register_address}
 use Rattle.cmm_located.specs.Compiled.{Compiled, Located}
 use Rattle.cmm_located.specs.LocatedMachine.{located_machine, located_start, located_step, tokens_at}
 use Rattle.cmm_emit_laws.proofs.Landing.{first_holds, has_tokens, inside_entry}
 use Rattle.cmm_emit_laws.proofs.Simulating.{images_simulate_located_runs, step_is}
 use Rattle.cmm_emit_laws.specs.Finished.{Finished}
-use Rattle.cmm_emit_laws.specs.Laws.{CodeBegins, ImagesFollowLocatedRuns, IsShownIn, most_for_step}
+use Rattle.cmm_emit_laws.specs.Laws.{CodeBegins, ImagesFollowLocatedRuns, IsRepresentedIn, most_for_step}
 use Rattle.cmm_emit_laws.specs.ProgramCode.{IsCode}
 use Rattle.cmm_emit_laws.specs.Standing.{IsOfRun, Stands}
 use Rattle.cmm_emit_laws.specs.Starting.{StartCode}
+use Rattle.cmm_emit_laws.specs.Represented.{stack_region}
+use Rattle.cmm_abi.specs.Regions.{global_address}
+use Rattle.cmm_emit_laws.proofs.Regions.{top_is}
 
 -- ---- the first memory
 
@@ -107,7 +109,7 @@ right_earlier s c at m (suc n) less right =
     by false is rest = rest (grind (arith, nat_tests, is, less))
 
 -- what represents a state follows the run from there on
-pub shown_follows : (lead : SwitchesLead) (s : Setting) (c : Compiled) (l : Launch) (f : Finished) → IsCode s c l f → (at : Located) (u : Run) → IsShownIn s c l f at u →
+pub shown_follows : (lead : SwitchesLead) (s : Setting) (c : Compiled) (l : Launch) (f : Finished) → IsCode s c l f → (at : Located) (u : Run) → IsRepresentedIn s c l f at u →
     Follows (located_machine s c) (most_for_step s c) (image_machine l) (λ run. 1) at u
 shown_follows lead s c l f code at u is_shown = record {
   leads = λ m right.
@@ -124,7 +126,7 @@ module _ (s : Setting) (c : Compiled) (l : Launch) (f : Finished) (code : IsCode
 
   module _ (begins : StartCode s c l f) where
     abbrev begun : State
-    begun = at_pc l.image.start (rv.start (map_of l) (first_memory l.image))
+    begun = at_pc l.image.start (rv.start (region_of l) (first_memory l.image))
 
     begun_byte : (a : ℕ) → first_memory l.image a < 2 ^ 8
     begun_byte a = by (nat_le data_base a)
@@ -135,13 +137,13 @@ module _ (s : Setting) (c : Compiled) (l : Launch) (f : Finished) (code : IsCode
 
     begun_sound : IsSound begun
     begun_sound =
-        let sound = sound_start (map_of l) (first_memory l.image) (omega (arith, code.is_for.small, code.is_for.base, code.is_for.size)) begun_byte in
+        let sound = sound_start (region_of l) (first_memory l.image) (subst (λ (r : Region). top r < 2 ^ 64) begins.region code.is_for.lies.narrow) begun_byte in
         record { registers = sound.registers; zero = sound.zero; memory = sound.memory }
 
-    global_byte : (r i : ℕ) → r < length s.program.globals → i < 8 → first_memory l.image (register_address r + i) ≡ 0
+    global_byte : (r i : ℕ) → r < length s.program.globals → i < 8 → first_memory l.image (global_address (stack_region s) r + i) ≡ 0
     global_byte r i less under =
-        let above : nat_le data_base (register_address r + i) ≡ true = grind (arith, nat_tests) in
-        rw (first_memory, above) (past_end l.image.initial (register_address r + i - data_base) (omega (arith, code.is_for.region)))
+        let above : nat_le data_base (global_address (stack_region s) r + i) ≡ true = (let low = code.is_for.region in grind (arith, nat_tests, low)) in
+        rw (first_memory, above) (past_end l.image.initial (global_address (stack_region s) r + i - data_base) (omega (arith, code.is_for.region)))
 
     data_byte : (i : ℕ) → first_memory l.image (data_base + i) ≡ slice_index_or (data_bytes s.program s.placement) i 0
     data_byte i =
@@ -153,11 +155,11 @@ module _ (s : Setting) (c : Compiled) (l : Launch) (f : Finished) (code : IsCode
     begins_so u puts = record {
       zero = puts.1 0 refl;
       back = puts.0;
-      frame = puts.1 2 refl ∙ omega (arith, code.is_for.base, code.is_for.size);
-      region = puts.1 4 refl;
+      frame = puts.1 2 refl ∙ ap top (sym begins.region) ∙ top_is s (map_of l) code.is_for;
+      region = puts.1 4 refl ∙ ap (λ (r : Region). r.address) (sym begins.region);
       few = begins.few_registers;
-      globals = λ r less. ap (λ (memory : ℕ → ℕ). loaded memory (register_address r) 8) puts.2
-          ∙ zeros_loaded (first_memory l.image) (register_address r) 8 (λ i under. global_byte r i less under);
+      globals = λ r less. ap (λ (memory : ℕ → ℕ). loaded memory (global_address (stack_region s) r) 8) puts.2
+          ∙ zeros_loaded (first_memory l.image) (global_address (stack_region s) r) 8 (λ i under. global_byte r i less under);
       data_bytes = λ i less. ap (λ (memory : ℕ → ℕ). memory (data_base + i)) puts.2 ∙ data_byte i;
     }
 
@@ -204,7 +206,7 @@ module _ (s : Setting) (c : Compiled) (l : Launch) (f : Finished) (code : IsCode
     first_outside = record { input = input; taken = []; output = []; log = []; status = Running }
 
     shown_first : (u : State) → (u.pc ≡ f.node_at s.program.main begins.first) × PutsRegister 1 f.symbols.last_return begun u → IsSound u →
-        IsShownIn s c l f start (run_with first_outside u)
+        IsRepresentedIn s c l f start (run_with first_outside u)
     shown_first u there sound = record {
       outside = refl;
       right = refl;
@@ -213,11 +215,11 @@ module _ (s : Setting) (c : Compiled) (l : Launch) (f : Finished) (code : IsCode
       over = λ outcome ended. absurd (cc);
     }
 
-    pub shown_at_start : Leads (image_machine l) (λ run. 1) (Passes (located_machine s c) (image_machine l) start) (IsShownIn s c l f start) 0 begins.most (first_run l input)
+    pub shown_at_start : Leads (image_machine l) (λ run. 1) (Passes (located_machine s c) (image_machine l) start) (IsRepresentedIn s c l f start) 0 begins.most (first_run l input)
     shown_at_start =
         leads_of (located_machine s c) (image_machine l) (map_of l) (run_with first_outside) (seen_outside first_outside) (image_is_quiet l first_outside refl) start
         (nothing_within ((located_machine s c).seen (located_step s c start)))
-        0 begins.most begun (λ u. ((u.pc ≡ f.node_at s.program.main begins.first) × PutsRegister 1 f.symbols.last_return begun u) × IsSound u) (IsShownIn s c l f start)
+        0 begins.most begun (λ u. ((u.pc ≡ f.node_at s.program.main begins.first) × PutsRegister 1 f.symbols.last_return begun u) × IsSound u) (IsRepresentedIn s c l f start)
         (reaches_sound (begins.calls.go begun begun_sound refl tt) begun_sound)
         (λ u there. shown_first u there.0 there.1)
 

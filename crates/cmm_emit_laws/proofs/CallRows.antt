@@ -38,6 +38,8 @@ use Rattle.cmm_emit_laws.specs.Laying.{IsLaidOut}
 use Rattle.cmm_emit_laws.specs.NodeCode.{GoesOn, IsCodeOf, SiteCode}
 use Rattle.cmm_emit_laws.specs.ProgramCode.{IsCode, IsLaidFor, is_coded, names_registers}
 use Rattle.cmm_emit_laws.specs.Starting.{StartCode}
+use Rattle.cmm_emit_laws.specs.Represented.{stack_region}
+use Rattle.rv_table.specs.Machine.{region_base}
 
 abbrev main-proc : Proc
 main-proc = procedure [] 99 0 0 (call_site [] ∷ []) []
@@ -181,7 +183,7 @@ module _ (l : Launch) (at : ℕ → ℕ) (main callee site behind limit : Label)
           operands = [];
           are = tt;
           few_values = omega arith;
-          quiet = pieces.calls.turns.quiet;
+          quiet = (pieces.calls.turns (stack_region call-setting)).quiet;
           back = site;
           is_back = refl;
           fits = site_fits;
@@ -193,7 +195,7 @@ module _ (l : Launch) (at : ℕ → ℕ) (main callee site behind limit : Label)
         subst (λ (z : Node). IsCodeOf call-setting calls-once l finished 0 (record { number = 2 }) z.kind (32 * z.tokens)) e (record {
           destinations = [];
           are = tt;
-          turns = record {
+          turns = λ r. record {
             quiet = pieces.copies.quiet;
             goes = record {
               go = λ u sound pc p.
@@ -306,8 +308,7 @@ module _ (l : Launch) (at : ℕ → ℕ) (main callee site behind limit : Label)
     call_is_code stack none aligned fits = record {
       is_for = record {
         set = record { placed = record { rows = refl; ascending = refl }; aligned = refl };
-        base = refl;
-        size = sym stack;
+        lies = record { low = omega arith; high = omega (arith, stack); narrow = omega arith; aligned = refl };
         small = omega arith;
         data_length = ap (λ (xs : List ℕ). length xs) none;
         region = omega (arith, ap (λ (xs : List ℕ). length xs) none);
@@ -326,8 +327,9 @@ module _ (l : Launch) (at : ℕ → ℕ) (main callee site behind limit : Label)
       back_fits = fits;
     }
 
-    call_starts : l.image.initial ≡ [] → StartCode call-setting calls-once l finished
-    call_starts none = record {
+    call_starts : l.stack_size ≡ 4096 → l.image.initial ≡ [] → StartCode call-setting calls-once l finished
+    call_starts stack none = record {
+      region = ap (λ (size : ℕ). record { address = region_base; stack_size = size }) (sym stack);
       first = n 0;
       is_first = refl;
       most = 2;

@@ -16,7 +16,7 @@ use Rattle.cmm_program.specs.Orders as order
 use Rattle.cmm_program.specs.Orders.{Word}
 use Rattle.cmm_program.specs.Performing.{procedure_from}
 use Rattle.cmm_program.specs.State as p
-use Rattle.cmm_program.specs.State.{Activation, Setting, Store}
+use Rattle.cmm_program.specs.State.{Setting, Store}
 use Rattle.cmm_graph.specs.declared.number.NodeId.{NodeId}
 use Rattle.cmm_graph.specs.declared.number.SiteId.{SiteId}
 use Rattle.cmm_graph.specs.declared.operand.Argument.{Argument}
@@ -41,7 +41,7 @@ use Rattle.cmm_calls.specs.Values.{Gives, GivesAndLeaves, JumpsTo}
 use Rattle.cmm_image_machine.specs.Machine.{Launch, map_of}
 use Rattle.cmm_emit_laws.proofs.Leaving.{called_shows}
 use Rattle.cmm_emit_laws.proofs.Resiting.{resited_shows}
-use Rattle.cmm_emit_laws.specs.Shown.{IsFor, IsShown}
+use Rattle.cmm_emit_laws.specs.Represented.{IsFor, IsRepresented, stack_region}
 use Rattle.cmm_located.specs.Compiled.{Compiled, Located}
 use Rattle.cmm_located.specs.LocatedMachine.{tokens_at}
 use Rattle.cmm_located.specs.Nodes.{done, keeping, ran_at, reads_at, to_procedure}
@@ -67,7 +67,7 @@ brings_keeps n t u brings = record { registers = λ r is. brings.others r (apart
 module _ (s : Setting) (c : Compiled) (l : Launch) (f : Finished) (is_for : IsFor s (map_of l)) (valid : (q : ℕ) (g : Graph) → slice_get c.graphs q ≡ Some g → IsValid g)
     (entries : (address q : ℕ) (n : NodeId) → procedure_from 0 address s.placement.rows ≡ Some q → in_graph c.graphs q (λ g. Some g.first) ≡ Some n →
     (f.node_at q n ≡ address) × (address % 4 ≡ 0)) (at : Located) (t : State) (stands : Stands s c l f at t) (body : IsInBody at) (laid : IsLaidFor s c at.procedure) where
-  framed : HasFrame (c.plan.frame at.procedure).size (map_of l) t
+  framed : HasFrame (stack_region s) (c.plan.frame at.procedure).size (map_of l) t
   framed = framed_inside s c l f is_for at t stands body laid
 
   abbrev value : Operand → Tried ℕ
@@ -91,7 +91,7 @@ module _ (s : Setting) (c : Compiled) (l : Launch) (f : Finished) (is_for : IsFo
         let some : 1 ≤ entry.0.tokens = has_tokens c.graphs q (valid q) n entry.0 entry.1 in
         omega (arith, e, some)
 
-    stands_entering : (u : State) → store.status ≡ p.Running → u.pc ≡ f.node_at q n → IsShown f.symbols s (map_of l) h store (numbers ws) u → IsSound u → Stands s c l f entering u
+    stands_entering : (u : State) → store.status ≡ p.Running → u.pc ≡ f.node_at q n → IsRepresented f.symbols s h store (numbers ws) u → IsSound u → Stands s c l f entering u
     stands_entering u running pc shown sound = record {
       running = running;
       node = entry.0;
@@ -127,7 +127,7 @@ module _ (s : Setting) (c : Compiled) (l : Launch) (f : Finished) (is_for : IsFo
       (operand_is s c l f is_for at t body.activation body.older body.youngest (λ k. laid.places body.activation k body.same) stands.shown callee to v is e).0
 
   -- what is shown once the address is in register 7
-  brought_shown : (n : ℕ) (u : State) → Brings 7 n t u → IsShown f.symbols s (map_of l) at.holdings at.store at.carried u
+  brought_shown : (n : ℕ) (u : State) → Brings 7 n t u → IsRepresented f.symbols s at.holdings at.store at.carried u
   brought_shown n u brings = kept_shown f s l is_for at.holdings at.store at.carried t u (brings_keeps n t u brings) stands.shown
 
   -- ---- calls
@@ -135,11 +135,11 @@ module _ (s : Setting) (c : Compiled) (l : Launch) (f : Finished) (is_for : IsFo
   module _ (site : ℕ) (callee : Operand) (arguments : List Argument) (cost : ℕ) (code : CallCode s c l f at.procedure at.node site callee arguments cost) (ws : List Word)
       (is_words : words arguments ≡ Ok ws) where
     abbrev CalledAt : ℕ → State → Type 0
-    CalledAt v u = (u.pc ≡ v) × IsShown f.symbols s (map_of l) (called at.procedure site at.holdings) at.store (numbers ws) u
+    CalledAt v u = (u.pc ≡ v) × IsRepresented f.symbols s (called at.procedure site at.holdings) at.store (numbers ws) u
 
     -- values have gone out, and the return address is set
-    linked : (r w u : State) (link : ℕ) → IsShown f.symbols s (map_of l) at.holdings at.store at.carried r → Gives (f.labels at.procedure) code.operands r w → Sets 1 link w u →
-        link ≡ f.symbols.return_to at.procedure site → IsShown f.symbols s (map_of l) (called at.procedure site at.holdings) at.store (numbers ws) u
+    linked : (r w u : State) (link : ℕ) → IsRepresented f.symbols s at.holdings at.store at.carried r → Gives (stack_region s) (f.labels at.procedure) code.operands r w → Sets 1 link w u →
+        link ≡ f.symbols.return_to at.procedure site → IsRepresented f.symbols s (called at.procedure site at.holdings) at.store (numbers ws) u
     linked r w u link shown gives sets is_link =
         called_shows f.symbols s (map_of l) is_for _ at.store (numbers ws) w u at.procedure site (sets.given ∙ is_link) sets.memory (λ k is. sets.others k (apart k is))
         (given s c l f is_for at r body.activation body.older body.youngest body.same laid shown code.operands ws w code.few_values
@@ -155,12 +155,12 @@ module _ (s : Setting) (c : Compiled) (l : Launch) (f : Finished) (is_for : IsFo
             ⊎ ((to : CodeOperand) × IsOperandOf s c l f at.procedure callee to × ((on : ℕ) × (most_for to ≤ 11) × CallsBy (c.plan.frame at.procedure) to code.operands code.back (code_of l f at.procedure) (f.node_at at.procedure at.node) on)) →
             Reaches (map_of l) 1 cost t (CalledAt v)
         by (inl (to, is, (on, calls))) =
-            reaches_weaker (calls.turns.goes.go t stands.sound stands.pc (record { stack = framed; region = stands.shown.holdings.region })) (omega arith) (omega (arith, code.few))
+            reaches_weaker ((calls.turns (stack_region s)).goes.go t stands.sound stands.pc (record { stack = framed; region = stands.shown.holdings.region })) (omega arith) (omega (arith, code.few))
             (λ u there. (there.0 ∙ label_is callee to v is is_v, linked t there.1.0 u (f.labels at.procedure code.back.number) stands.shown there.1.1 there.1.2 code.is_back))
         by (inr (to, is, (on, small, calls))) =
             let same = callee_is callee to v is is_v in
             reaches_weaker
-            (calls.turns.goes.go t stands.sound stands.pc (record { stack = framed; region = stands.shown.holdings.region }, ap (λ (n : ℕ). n % 4) same ∙ aligned))
+            ((calls.turns (stack_region s)).goes.go t stands.sound stands.pc (record { stack = framed; region = stands.shown.holdings.region }, ap (λ (n : ℕ). n % 4) same ∙ aligned))
             (omega arith) (omega (arith, code.few, small))
             (λ u there. (
               there.0 ∙ same,
@@ -179,7 +179,7 @@ module _ (s : Setting) (c : Compiled) (l : Launch) (f : Finished) (is_for : IsFo
         (entry_tokens store_called (called at.procedure site at.holdings) ws q n first) refl refl (resited_are_bare (Some site) at.store.activations)
         (reaches_more (reaches_sound (calls_to v is_v there_is.1) stands.sound)
         (λ u there. stands_entering store_called (called at.procedure site at.holdings) ws q n first u stands.running (there.0.0 ∙ sym there_is.0)
-        (resited_shows f.symbols s (map_of l) (called at.procedure site at.holdings) at.store (numbers ws) u (Some site) at.store.status there.0.1) there.1))
+        (resited_shows f.symbols s (called at.procedure site at.holdings) at.store (numbers ws) u (Some site) at.store.status there.0.1) there.1))
 
   pub call_done : (site : SiteId) (callee : Operand) (arguments : List Argument) (exits : Exits) (cost : ℕ) (after : Located) → CallCode s c l f at.procedure at.node site.number callee arguments cost →
       ran_at s c (Call site callee arguments exits) at ≡ Ok after → IsDone s c l f at cost t after
@@ -199,25 +199,25 @@ module _ (s : Setting) (c : Compiled) (l : Launch) (f : Finished) (is_for : IsFo
     abbrev holdings_left : Holdings
     holdings_left = left c.plan at.procedure at.holdings
 
-    gone : (r u : State) → IsShown f.symbols s (map_of l) at.holdings at.store at.carried r → GivesAndLeaves (f.labels at.procedure) (c.plan.frame at.procedure) code.operands r u →
-        IsShown f.symbols s (map_of l) holdings_left (without 1 at.store) (numbers ws) u
+    gone : (r u : State) → IsRepresented f.symbols s at.holdings at.store at.carried r → GivesAndLeaves (stack_region s) (f.labels at.procedure) (c.plan.frame at.procedure) code.operands r u →
+        IsRepresented f.symbols s holdings_left (without 1 at.store) (numbers ws) u
     gone r u shown parts =
         parted s c l f is_for at r body.activation body.older body.youngest body.same laid shown code.operands ws u code.few_values
         (values_are s c l f is_for at r body.activation body.older body.youngest body.same laid shown arguments code.operands ws code.are is_words) parts
 
-    jumps_to : (v : ℕ) → value callee ≡ Ok v → v % 4 ≡ 0 → Reaches (map_of l) 1 cost t (λ u. (u.pc ≡ v) × IsShown f.symbols s (map_of l) holdings_left (without 1 at.store) (numbers ws) u)
+    jumps_to : (v : ℕ) → value callee ≡ Ok v → v % 4 ≡ 0 → Reaches (map_of l) 1 cost t (λ u. (u.pc ≡ v) × IsRepresented f.symbols s holdings_left (without 1 at.store) (numbers ws) u)
     jumps_to v is_v aligned = by code.jumps
       where
         by : ((to : Label) × IsLabelOf s c l f at.procedure callee to × JumpsTo (c.plan.frame at.procedure) code.operands to (code_of l f at.procedure) (f.node_at at.procedure at.node))
             ⊎ ((to : CodeOperand) × IsOperandOf s c l f at.procedure callee to × ((most_for to ≤ 11) × JumpsBy (c.plan.frame at.procedure) to code.operands (code_of l f at.procedure) (f.node_at at.procedure at.node))) →
-            Reaches (map_of l) 1 cost t (λ u. (u.pc ≡ v) × IsShown f.symbols s (map_of l) holdings_left (without 1 at.store) (numbers ws) u)
+            Reaches (map_of l) 1 cost t (λ u. (u.pc ≡ v) × IsRepresented f.symbols s holdings_left (without 1 at.store) (numbers ws) u)
         by (inl (to, is, jumps)) =
-            reaches_weaker (jumps.goes.go t stands.sound stands.pc (record { stack = framed; region = stands.shown.holdings.region })) (omega arith) (omega (arith, code.few))
+            reaches_weaker ((jumps (stack_region s)).goes.go t stands.sound stands.pc (record { stack = framed; region = stands.shown.holdings.region })) (omega arith) (omega (arith, code.few))
             (λ u there. (there.0 ∙ label_is callee to v is is_v, gone t u stands.shown there.1))
         by (inr (to, is, (small, jumps))) =
             let same = callee_is callee to v is is_v in
             reaches_weaker
-            (jumps.goes.go t stands.sound stands.pc (record { stack = framed; region = stands.shown.holdings.region }, ap (λ (n : ℕ). n % 4) same ∙ aligned))
+            ((jumps (stack_region s)).goes.go t stands.sound stands.pc (record { stack = framed; region = stands.shown.holdings.region }, ap (λ (n : ℕ). n % 4) same ∙ aligned))
             (omega arith) (omega (arith, code.few, small))
             (λ u there. (there.0 ∙ same, gone there.1.0 u (brought_shown _ there.1.0 there.1.1) there.1.2))
 

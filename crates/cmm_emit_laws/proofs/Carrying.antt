@@ -4,6 +4,7 @@ use Rattle.std.specs.Prelude.{◌==◌, ◌&&◌, ◌||◌, min, nat_le, nat_lt,
 use Rattle.std.specs.List.{list_all}
 use Rattle.std.proofs.lemmas.Bool.{and_parts}
 use Rattle.std.proofs.lemmas.Bool.Decides.{nat_tests}
+use Rattle.cmm_chain.proofs.Shared.{callee_saves_is_kept}
 use Rattle.cmm_chain.specs.declared.frame.Location.{Location}
 use Rattle.cmm_chain.specs.declared.frame.Location.TheVariants.{Slot, Saved, Temp}
 use Rattle.cmm_abi.specs.Registers.{is_callee_saves, is_temporary, is_scratch}
@@ -12,33 +13,36 @@ use Rattle.cmm_chain.specs.Running.{Holdings, none_known, put_in}
 use Rattle.cmm_program.specs.Memory.{Outside, cell_at, rooms_of}
 use Rattle.cmm_program.specs.State.{Setting, Activation, Store}
 use Rattle.rv_table.proofs.Shared.{loaded-below}
-use Rattle.rv_table.specs.Machine.{MemoryMap, State, loaded, region_base, stack_base}
+use Rattle.rv_table.specs.Machine.{MemoryMap, State, loaded, bottom}
 use Rattle.cmm_effects.specs.Changes.{Puts}
 use Rattle.cmm_calls.specs.Frames.{PutsEach, zeros}
-use Rattle.cmm_calls.specs.Values.{Gives, is_taken_first, value_in}
+use Rattle.cmm_calls.specs.Values.{Gives, is_taken_first}
 use Rattle.cmm_select.specs.declared.operand.Operand.{Operand}
-use Rattle.cmm_emit_laws.specs.Words.{Symbols, Sits, register_address, value_at}
-use Rattle.cmm_emit_laws.specs.Shown.{ArePlacesOf, IsFor, IsGiven, IsPlaceOf, IsShown, put_each}
+use Rattle.cmm_emit_laws.specs.Words.{Symbols, Sits}
+use Rattle.cmm_emit_laws.specs.Represented.{ArePlacesOf, IsFor, IsGiven, IsPlaceOf, IsRepresented, put_each, stack_region}
 use Rattle.cmm_emit_laws.proofs.WrittenWords.{rooms_same, shown_same}
 use Rattle.cmm_emit_laws.proofs.Frames.{region_free}
-use Rattle.cmm_emit_laws.proofs.Showing.{no_values, own_word_sits, put_shows, saved_no_scratch}
+use Rattle.cmm_emit_laws.proofs.Showing.{no_values, own_word_sits, put_shows}
+use Rattle.cmm_abi.specs.Regions.{global_address, value_place, word_at}
+use Rattle.rv_table.specs.declared.memory_map.TheConstants.{GLOBALS_OFFSET}
+use Rattle.cmm_emit_laws.proofs.Regions.{value_same}
 
 -- values that were brought are done with
-pub forget_values : (y : Symbols) (s : Setting) (m : MemoryMap) (h : Holdings) (store : Store) (carried : List ℕ) (t : State) → IsShown y s m h store carried t → IsShown y s m h store [] t
-forget_values y s m h store carried t shows = record {
+pub forget_values : (y : Symbols) (s : Setting) (h : Holdings) (store : Store) (carried : List ℕ) (t : State) → IsRepresented y s h store carried t → IsRepresented y s h store [] t
+forget_values y s h store carried t shows = record {
   holdings = shows.holdings;
   words = shows.words;
   cells = shows.cells;
   registers = shows.registers;
-  values = no_values t.registers t.memory;
+  values = no_values (stack_region s) t;
   stack = shows.stack;
   at = shows.at;
 }
 
 -- numbers are put into places, one after the other
 pub puts_show : (y : Symbols) (s : Setting) (m : MemoryMap) → IsFor s m → (list : List (Location × ℕ)) (h : Holdings) (store : Store) (a : Activation) (older : List Activation) (t t' : State) →
-    store.activations ≡ a ∷ older → ArePlacesOf s a list → PutsEach list t t' → IsShown y s m h store [] t → IsShown y s m (put_each list h) store [] t'
-puts_show y s m is_for [] h store a older t t' youngest are puts shows = subst (λ (u : State). IsShown y s m h store [] u) puts shows
+    store.activations ≡ a ∷ older → ArePlacesOf s a list → PutsEach list t t' → IsRepresented y s h store [] t → IsRepresented y s (put_each list h) store [] t'
+puts_show y s m is_for [] h store a older t t' youngest are puts shows = subst (λ (u : State). IsRepresented y s h store [] u) puts shows
 puts_show y s m is_for ((place, n) ∷ rest) h store a older t t' youngest are puts shows =
     puts_show y s m is_for rest (put_in place (Number n) h) store a older puts.0 t' youngest are.1.1 puts.2
     (put_shows y s m is_for h store a older t puts.0 youngest place n are.0 are.1.0 puts.1 shows)
@@ -47,13 +51,10 @@ puts_show y s m is_for ((place, n) ∷ rest) h store a older t t' youngest are p
 
 module _ (y : Symbols) (s : Setting) (m : MemoryMap) (is_for : IsFor s m) (store : Store) (a : Activation) (older : List Activation) (youngest : store.activations ≡ a ∷ older)
     (count i : ℕ) (among : i < count) (few : i < 64) where
-  module _ (h : Holdings) (t t' : State) (shows : IsShown y s m h store [] t) where
-    value_same : (i < 8 → t'.registers (10 + i) ≡ t.registers (10 + i)) → ((b : ℕ) → b + 8 ≤ stack_base → loaded t'.memory b 8 ≡ loaded t.memory b 8) → value_in i t' ≡ value_in i t
-    value_same registers below = by (nat_lt i 8) refl
-      where
-        by : (test : Bool) → nat_lt i 8 ≡ test → value_in i t' ≡ value_in i t
-        by true is = rw (value_in, is) (registers (grind (arith, nat_tests, is)))
-        by false is = rw (value_in, is) (below (region_base + 8 * (i - 8)) (omega arith))
+  module _ (h : Holdings) (t t' : State) (shows : IsRepresented y s h store [] t) where
+    below_same : (i < 8 → t'.registers (10 + i) ≡ t.registers (10 + i)) → ((b : ℕ) → b + 8 ≤ bottom (stack_region s) → loaded t'.memory b 8 ≡ loaded t.memory b 8) →
+        word_at t' (value_place (stack_region s) i) ≡ word_at t (value_place (stack_region s) i)
+    below_same registers below = value_same (stack_region s) t t' i registers (λ far. below ((stack_region s).address + 8 * (i - 8)) (omega arith))
 
     saved_apart : (r : ℕ) → is_callee_saves r ≡ true → i < 8 → ((10 + i == r) || is_scratch (10 + i)) ≡ false
     saved_apart r is early = grind (arith, nat_tests, is, early)
@@ -64,18 +65,18 @@ module _ (y : Symbols) (s : Setting) (m : MemoryMap) (is_for : IsFor s m) (store
         let near : 10 + i < 10 + min count 8 = grind (arith, nat_tests, among, early) in
         grind (arith, nat_tests, far, near)
 
-    value_stays : (place : Location) (n : ℕ) → IsPlaceOf s a place → is_taken_first count 0 place ≡ true → Puts place n t t' → value_in i t' ≡ value_in i t
+    value_stays : (place : Location) (n : ℕ) → IsPlaceOf s a place → is_taken_first count 0 place ≡ true → Puts place n t t' → word_at t' (value_place (stack_region s) i) ≡ word_at t (value_place (stack_region s) i)
     value_stays (Slot offset) n is apart puts =
-        let sits : Sits m store.memory (h.point.at + offset) = own_word_sits y s m is_for h store a older t t' youngest offset [] is shows in
-        let low : stack_base ≤ t.registers 2 + offset = omega (arith, sits.low, shows.holdings.frame) in
-        value_same (λ early. puts.registers (10 + i) (grind (arith, nat_tests)))
+        let sits : Sits (stack_region s) store.memory (h.point.at + offset) = own_word_sits y s m is_for h store a older t t' youngest offset [] is shows in
+        let low : bottom (stack_region s) ≤ t.registers 2 + offset = omega (arith, sits.low, shows.holdings.frame) in
+        below_same (λ early. puts.registers (10 + i) (grind (arith, nat_tests)))
         (λ b below. rw puts.memory (loaded-below t.memory (t.registers 2 + offset) 8 n b 8 (omega (arith, low, below))))
-    value_stays (Saved r) n is apart puts = value_same (λ early. puts.1 (10 + i) (saved_apart r is early)) (λ b below. rw puts.2 refl)
-    value_stays (Temp r) n is apart puts = value_same (λ early. puts.1 (10 + i) (temp_differs r is apart early)) (λ b below. rw puts.2 refl)
+    value_stays (Saved r) n is apart puts = below_same (λ early. puts.1 (10 + i) (saved_apart r is early)) (λ b below. rw puts.2 refl)
+    value_stays (Temp r) n is apart puts = below_same (λ early. puts.1 (10 + i) (temp_differs r is apart early)) (λ b below. rw puts.2 refl)
 
   pub zeros_keep_values : (places : List Location) (h : Holdings) (t t' : State) → ArePlacesOf s a (zeros places) → list_all (is_taken_first count 0) places ≡ true →
-      PutsEach (zeros places) t t' → IsShown y s m h store [] t → value_in i t' ≡ value_in i t
-  zeros_keep_values [] h t t' are apart puts shows = ap (value_in i) (sym puts)
+      PutsEach (zeros places) t t' → IsRepresented y s h store [] t → word_at t' (value_place (stack_region s) i) ≡ word_at t (value_place (stack_region s) i)
+  zeros_keep_values [] h t t' are apart puts shows = ap (λ (u : State). word_at u (value_place (stack_region s) i)) (sym puts)
   zeros_keep_values (place ∷ places) h t t' are apart puts shows =
       let both = and_parts (is_taken_first count 0 place) (list_all (is_taken_first count 0) places) apart in
       zeros_keep_values places (put_in place (Number 0) h) puts.0 t' are.1.1 both.1 puts.2
@@ -96,20 +97,20 @@ loaded_same bytes bytes' a (suc n) same =
     omega (arith, first, rest)
 
 module _ (y : Symbols) (s : Setting) (m : MemoryMap) (is_for : IsFor s m) (h : Holdings) (store : Store) (values : List ℕ) (address_of : ℕ → ℕ) (operands : List Operand) (t t' : State)
-    (gives : Gives address_of operands t t') (is_given : IsGiven address_of operands values t) (shows : IsShown y s m h store [] t) where
-  far : (k : ℕ) → region_base + 448 ≤ k → region_base + 8 * (length operands - 8) ≤ k
+    (gives : Gives (stack_region s) address_of operands t t') (is_given : IsGiven address_of operands values t) (shows : IsRepresented y s h store [] t) where
+  far : (k : ℕ) → (stack_region s).address + GLOBALS_OFFSET ≤ k → (stack_region s).address + 8 * (length operands - 8) ≤ k
   far k above = omega (arith, is_given.count, is_given.few)
 
   keeps : (r : ℕ) → nat_le 10 r && nat_lt r 18 ≡ false → is_scratch r ≡ false → t'.registers r ≡ t.registers r
   keeps r apart scratch = gives.registers r (grind (arith, nat_tests, apart, scratch))
 
-  free : (k : ℕ) (low : Bool) → nat_lt k region_base ≡ low → (area : Bool) → nat_lt k (region_base + 448) ≡ area →
+  free : (k : ℕ) (low : Bool) → nat_lt k (stack_region s).address ≡ low → (area : Bool) → nat_lt k ((stack_region s).address + GLOBALS_OFFSET) ≡ area →
       (t'.memory k ≡ t.memory k) ⊎ (cell_at store.memory k ≡ Outside)
   free k true low area top = inl (gives.memory k (inl (grind (arith, nat_tests))))
   free k false low false top = inl (gives.memory k (inr (far k (grind (arith, nat_tests)))))
   free k false low true top = inr (region_free s m is_for store shows.stack k (grind (arith, nat_tests)) (grind (arith, nat_tests)))
 
-  pub given_shows : IsShown y s m (record h { temps = none_known }) store values t'
+  pub given_shows : IsRepresented y s (record h { temps = none_known }) store values t'
   given_shows = record {
     holdings = record {
       zero = keeps 0 refl refl ∙ shows.holdings.zero;
@@ -117,7 +118,7 @@ module _ (y : Symbols) (s : Setting) (m : MemoryMap) (is_for : IsFor s m) (h : H
       region = keeps 4 refl refl ∙ shows.holdings.region;
       back = shown_same y h.point.back (t.registers 1) (t'.registers 1) (λ known. keeps 1 refl refl) shows.holdings.back;
       kept = λ r is. shown_same y (h.point.kept r) (t.registers r) (t'.registers r)
-          (λ known. keeps r (grind (arith, nat_tests, is)) (saved_no_scratch r is)) (shows.holdings.kept r is);
+          (λ known. keeps r (grind (arith, nat_tests, is)) (callee_saves_is_kept r is)) (shows.holdings.kept r is);
       temps = λ r is. tt;
     };
     words = record {
@@ -125,10 +126,10 @@ module _ (y : Symbols) (s : Setting) (m : MemoryMap) (is_for : IsFor s m) (h : H
       shown = λ b. shown_same y (h.contents b) (loaded t.memory b 8) (loaded t'.memory b 8)
           (λ known. loaded_same t.memory t'.memory b 8 (λ i less. gives.memory (b + i) (inr (far (b + i) (omega (arith, (shows.words.sits b known).low)))))) (shows.words.shown b);
     };
-    cells = rooms_same (rooms_of store.memory) t.memory t'.memory (λ k. free k (nat_lt k region_base) refl (nat_lt k (region_base + 448)) refl) shows.cells;
+    cells = rooms_same (rooms_of store.memory) t.memory t'.memory (λ k. free k (nat_lt k (stack_region s).address) refl (nat_lt k ((stack_region s).address + GLOBALS_OFFSET)) refl) shows.cells;
     registers = (
       shows.registers.0,
-      λ r less. loaded_same t.memory t'.memory (register_address r) 8 (λ i under. gives.memory (register_address r + i) (inr (far (register_address r + i) (omega arith))))
+      λ r less. loaded_same t.memory t'.memory (global_address (stack_region s) r) 8 (λ i under. gives.memory (global_address (stack_region s) r + i) (inr (far (global_address (stack_region s) r + i) (omega arith))))
           ∙ shows.registers.1 r less,
     );
     values = (is_given.few, λ i less. given_at i less (slice_get operands i) refl);
@@ -136,6 +137,6 @@ module _ (y : Symbols) (s : Setting) (m : MemoryMap) (is_for : IsFor s m) (h : H
     at = shows.at;
   }
     where
-      given_at : (i : ℕ) → i < length values → (o : Option Operand) → slice_get operands i ≡ o → value_at t'.registers t'.memory i ≡ slice_index_or values i 0
+      given_at : (i : ℕ) → i < length values → (o : Option Operand) → slice_get operands i ≡ o → word_at t' (value_place (stack_region s) i) ≡ slice_index_or values i 0
       given_at i less (Some operand) is = gives.arrive i operand is ∙ is_given.have i operand is
       given_at i less None is = absurd (none_past operands i is (omega (arith, is_given.count, less)))

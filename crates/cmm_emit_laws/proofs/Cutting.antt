@@ -1,8 +1,7 @@
 -- Control is cut to a continuation of an activation that is present.
 use Rattle.std.proofs.Common.{◌≡◌, ℕ, suc, ◌+◌, ◌%◌, ◌≤◌, refl, sym, ◌∙◌, ap, subst, arith, Bool, true, false, List, [], ◌∷◌, map, drop, Option, Some, None, IsTrue, slice_get}
 use Rattle.std.specs.Prelude.{◌==◌, ◌&&◌, ◌||◌, find, Ok, Err}
-use Rattle.std.proofs.lemmas.Bool.{and_parts}
-use Rattle.std.proofs.lemmas.Bool.Decides.{nat_tests}
+use Rattle.std.proofs.lemmas.Bool.{and_parts, eqb-true, or_parts}
 use Rattle.rv_table.specs.Bounds.{IsSound}
 use Rattle.rv_table.specs.Machine.{State, loaded}
 use Rattle.rv_asm.proofs.Shared.{reaches_weaker}
@@ -37,8 +36,8 @@ use Rattle.cmm_image_machine.specs.Machine.{Launch, map_of}
 use Rattle.cmm_emit_laws.proofs.Leaving.{cut_shows}
 use Rattle.cmm_emit_laws.proofs.Resiting.{resited_shows}
 use Rattle.cmm_emit_laws.proofs.Reading.{sits_accessible}
-use Rattle.cmm_emit_laws.specs.Shown.{IsFor, IsShown}
-use Rattle.cmm_emit_laws.specs.Words.{Shows, Sits, is_known}
+use Rattle.cmm_emit_laws.specs.Represented.{IsFor, IsRepresented, stack_region}
+use Rattle.cmm_emit_laws.specs.Words.{Represents, Sits, is_known}
 use Rattle.cmm_located.specs.Compiled.{Compiled, Located, landing_in}
 use Rattle.cmm_located.specs.LocatedMachine.{tokens_at}
 use Rattle.cmm_located.specs.Nodes.{done, is_pair_of, keeping, ran_at, reads_at, to_landing, to_pair}
@@ -80,7 +79,7 @@ found_among s younger own value (a ∷ older) found is =
 module _ (s : Setting) (c : Compiled) (l : Launch) (f : Finished) (is_for : IsFor s (map_of l)) (valid : (q : ℕ) (g : Graph) → slice_get c.graphs q ≡ Some g → IsValid g)
     (landings : (q k : ℕ) (n : NodeId) → landing_in c.graphs q k ≡ Some n → (f.node_at q n ≡ f.symbols.landing_of q k) × (f.symbols.landing_of q k % 4 ≡ 0))
     (at : Located) (t : State) (stands : Stands s c l f at t) (body : IsInBody at) (laid : IsLaidFor s c at.procedure) where
-  framed : HasFrame (c.plan.frame at.procedure).size (map_of l) t
+  framed : HasFrame (stack_region s) (c.plan.frame at.procedure).size (map_of l) t
   framed = framed_inside s c l f is_for at t stands body laid
 
   abbrev value : Operand → Tried ℕ
@@ -98,21 +97,21 @@ module _ (s : Setting) (c : Compiled) (l : Launch) (f : Finished) (is_for : IsFo
 
     -- ---- the pair
 
-    first_sits : Sits (map_of l) at.store.memory v
+    first_sits : Sits (stack_region s) at.store.memory v
     first_sits = stands.shown.words.sits v (ap is_known first)
 
-    second_sits : Sits (map_of l) at.store.memory (v + 8)
+    second_sits : Sits (stack_region s) at.store.memory (v + 8)
     second_sits = stands.shown.words.sits (v + 8) (ap is_known second)
 
     code_is : loaded t.memory v 8 ≡ f.symbols.landing_of q k
-    code_is = subst (λ (content : Content). Shows f.symbols content (loaded t.memory v 8)) first (stands.shown.words.shown v)
+    code_is = subst (λ (content : Content). Represents f.symbols content (loaded t.memory v 8)) first (stands.shown.words.shown v)
 
-    has_pair : HasPair v (map_of l) t
+    has_pair : HasPair (stack_region s) v (map_of l) t
     has_pair = record {
       low = first_sits.low;
-      fits = omega (arith, first_sits.high, is_for.small, is_for.base, is_for.size);
-      code = sits_accessible (map_of l) at.store.memory v first_sits;
-      frame = sits_accessible (map_of l) at.store.memory (v + 8) second_sits;
+      fits = omega (arith, first_sits.high, is_for.lies.narrow);
+      code = sits_accessible (stack_region s) (map_of l) at.store.memory v is_for.lies first_sits;
+      frame = sits_accessible (stack_region s) (map_of l) at.store.memory (v + 8) is_for.lies second_sits;
       aligned = ap (λ (z : ℕ). z % 4) code_is ∙ (landings q k n lands).1;
     }
 
@@ -122,7 +121,7 @@ module _ (s : Setting) (c : Compiled) (l : Launch) (f : Finished) (is_for : IsFo
     parts =
         let both = and_parts (q == found.procedure) ((k == found.continuation) && (frame == frame_address s (drop found.younger at.store.activations))) pair in
         let last = (and_parts (k == found.continuation) (frame == frame_address s (drop found.younger at.store.activations)) both.1).1 in
-        (grind (arith, nat_tests, both.0), grind (arith, nat_tests, last))
+        (eqb-true q found.procedure both.0, eqb-true frame (frame_address s (drop found.younger at.store.activations)) last)
 
     abbrev store_cut : Store
     store_cut = record (without found.younger at.store) { activations = with_site None (drop found.younger at.store.activations); status = p.Running }
@@ -152,26 +151,23 @@ module _ (s : Setting) (c : Compiled) (l : Launch) (f : Finished) (is_for : IsFo
 
     -- ---- what is shown
 
-    moved : (u : State) → GivesAndMoves (f.labels at.procedure) code.pair code.operands t u → IsShown f.symbols s (map_of l) (cut_at frame at.holdings) (without found.younger at.store) (numbers ws) u
+    moved : (u : State) → GivesAndMoves (stack_region s) (f.labels at.procedure) code.pair code.operands t u → IsRepresented f.symbols s (cut_at frame at.holdings) (without found.younger at.store) (numbers ws) u
     moved u (r, brings, (w, gives, moves)) =
-        let shown_r : IsShown f.symbols s (map_of l) at.holdings at.store at.carried r = kept_shown f s l is_for at.holdings at.store at.carried t r (brings_keeps _ t r brings) stands.shown in
-        let shown_w : IsShown f.symbols s (map_of l) (record at.holdings { temps = none_known }) at.store (numbers ws) w =
+        let shown_r : IsRepresented f.symbols s at.holdings at.store at.carried r = kept_shown f s l is_for at.holdings at.store at.carried t r (brings_keeps _ t r brings) stands.shown in
+        let shown_w : IsRepresented f.symbols s (record at.holdings { temps = none_known }) at.store (numbers ws) w =
         given s c l f is_for at r body.activation body.older body.youngest body.same laid shown_r code.operands ws w code.few_values
         (values_are s c l f is_for at r body.activation body.older body.youngest body.same laid shown_r arguments code.operands ws code.are is_words) gives in
-        let frame_is : loaded w.memory (v + 8) 8 ≡ frame = subst (λ (content : Content). Shows f.symbols content (loaded w.memory (v + 8) 8)) second (shown_w.words.shown (v + 8)) in
+        let frame_is : loaded w.memory (v + 8) 8 ≡ frame = subst (λ (content : Content). Represents f.symbols content (loaded w.memory (v + 8) 8)) second (shown_w.words.shown (v + 8)) in
         cut_shows f.symbols s (map_of l) is_for (record at.holdings { temps = none_known }) at.store (numbers ws) w u frame found.younger
-        (moves.frame ∙ ap (λ (z : ℕ). loaded w.memory (z + 8) 8) pair_is ∙ frame_is) moves.memory (λ i is. moves.registers i (fewer i is)) parts.1 shown_w
-      where
-        fewer : (i : ℕ) → ((i == 1) || ((i == 2) || is_scratch i)) ≡ false → ((i == 2) || is_scratch i) ≡ false
-        fewer i is = grind (arith, nat_tests, is)
+        (moves.frame ∙ ap (λ (z : ℕ). loaded w.memory (z + 8) 8) pair_is ∙ frame_is) moves.memory (λ i is. moves.registers i (or_parts (i == 1) ((i == 2) || is_scratch i) is).1) parts.1 shown_w
 
-    stands_cut : (u : State) → u.pc ≡ f.node_at q n → GivesAndMoves (f.labels at.procedure) code.pair code.operands t u → IsSound u → Stands s c l f cut_there u
+    stands_cut : (u : State) → u.pc ≡ f.node_at q n → GivesAndMoves (stack_region s) (f.labels at.procedure) code.pair code.operands t u → IsSound u → Stands s c l f cut_there u
     stands_cut u pc gone sound = record {
       running = refl;
       node = landing.0;
       there = landing.1;
       inside = inside_copy landing.0.kind landing.2 cut_there youngest;
-      shown = resited_shows f.symbols s (map_of l) (cut_at frame at.holdings) (without found.younger at.store) (numbers ws) u None p.Running (moved u gone);
+      shown = resited_shows f.symbols s (cut_at frame at.holdings) (without found.younger at.store) (numbers ws) u None p.Running (moved u gone);
       pc = pc;
       sound = sound;
     }
@@ -183,9 +179,9 @@ module _ (s : Setting) (c : Compiled) (l : Launch) (f : Finished) (is_for : IsFo
         (reaches_more
         (reaches_sound
         (reaches_weaker
-        (code.cuts.goes.go t stands.sound stands.pc (
+        ((code.cuts (stack_region s)).goes.go t stands.sound stands.pc (
           record { stack = framed; region = stands.shown.holdings.region },
-          subst (λ (z : ℕ). HasPair z (map_of l) t) (sym pair_is) has_pair,
+          subst (λ (z : ℕ). HasPair (stack_region s) z (map_of l) t) (sym pair_is) has_pair,
         ))
         (omega arith) (omega (arith, code.few)) (λ u there. there))
         stands.sound)

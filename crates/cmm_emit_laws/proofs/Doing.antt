@@ -21,7 +21,7 @@ use Rattle.cmm_emit_laws.specs.Outside.{Outside}
 use Rattle.cmm_emit_laws.specs.Serving.{IsDoneBy, Silently}
 use Rattle.cmm_emit_laws.proofs.Showing.{holdings_same}
 use Rattle.cmm_emit_laws.proofs.Leaving.{moved_shows}
-use Rattle.cmm_emit_laws.specs.Shown.{IsFor, IsShown}
+use Rattle.cmm_emit_laws.specs.Represented.{IsFor, IsRepresented, stack_region}
 use Rattle.cmm_located.specs.Compiled.{Compiled, Located}
 use Rattle.cmm_located.specs.LocatedMachine.{located_machine, located_step, tokens_at}
 use Rattle.cmm_emit_laws.proofs.Nodes.{found_there, is_inside, led_to, node_holds}
@@ -30,10 +30,10 @@ use Rattle.cmm_emit_laws.specs.Standing.{AreBare, IsInBody, IsOfRun, Stands, out
 
 -- nothing is changed but scratch registers
 pub kept_shown : (f : Finished) (s : Setting) (l : Launch) → IsFor s (map_of l) → (h : Holdings) (store : Store) (carried : List ℕ) (t u : State) → Keeps t u →
-    IsShown f.symbols s (map_of l) h store carried t → IsShown f.symbols s (map_of l) h store carried u
+    IsRepresented f.symbols s h store carried t → IsRepresented f.symbols s h store carried u
 kept_shown f s l is_for h store carried t u keeps shown =
     moved_shows f.symbols s (map_of l) is_for h h store carried 0 t u shown keeps.memory refl
-    (holdings_same f.symbols h t.registers u.registers keeps.registers shown.holdings)
+    (holdings_same f.symbols (stack_region s) h t.registers u.registers keeps.registers shown.holdings)
     (λ i less. keeps.registers (10 + i) (grind (arith, nat_tests, less))) shown.at
 
 module _ (s : Setting) (c : Compiled) (l : Launch) (f : Finished) where
@@ -70,7 +70,7 @@ module _ (s : Setting) (c : Compiled) (l : Launch) (f : Finished) where
         let some : 1 ≤ there.0.tokens = (node_holds g m there.0 valid there.1).0 in
         omega (arith, e, some)
 
-    pub stands_there : (u : State) → at.store.status ≡ p.Running → IsInBody at → IsShown f.symbols s (map_of l) at.holdings at.store at.carried u →
+    pub stands_there : (u : State) → at.store.status ≡ p.Running → IsInBody at → IsRepresented f.symbols s at.holdings at.store at.carried u →
         u.pc ≡ f.node_at at.procedure m → IsSound u → Stands s c l f (record at { node = m }) u
     stands_there u running body shown pc sound = record {
       running = running;

@@ -28,11 +28,11 @@ use Rattle.cmm_machine_laws.proofs.Shared.{frames_aligned}
 use Rattle.cmm_machine_laws.specs.Stacks.{Extent, extent, stack_of, stackdata_at}
 use Rattle.cmm_effects.proofs.Shared.{reaches_more, reaches_sound}
 use Rattle.cmm_calls.specs.Frames.{HasRoom, IsEntered, Makes, PutsEach, fixed_numbers, zeros}
-use Rattle.cmm_calls.specs.Values.{Takes, value_in, values_for}
+use Rattle.cmm_calls.specs.Values.{Takes, values_for}
 use Rattle.cmm_image_machine.specs.Machine.{Launch, map_of}
 use Rattle.cmm_emit_laws.proofs.Carrying.{forget_values, puts_show, zeros_keep_values}
 use Rattle.cmm_emit_laws.proofs.Making.{made_shows}
-use Rattle.cmm_emit_laws.specs.Shown.{ArePlacesOf, IsFor, IsMade, IsPlaceOf, IsShown, put_each}
+use Rattle.cmm_emit_laws.specs.Represented.{ArePlacesOf, IsFor, IsMade, IsPlaceOf, IsRepresented, put_each, stack_region}
 use Rattle.cmm_located.specs.Compiled.{Compiled, Located, bare}
 use Rattle.cmm_located.specs.LocatedMachine.{tokens_at}
 use Rattle.cmm_located.specs.Nodes.{begins, passed_to, ran_at, zeros_in}
@@ -44,6 +44,8 @@ use Rattle.cmm_emit_laws.specs.Finished.{Finished, code_of}
 use Rattle.cmm_emit_laws.specs.NodeCode.{EntryCode, places_of}
 use Rattle.cmm_emit_laws.specs.ProgramCode.{IsLaidFor}
 use Rattle.cmm_emit_laws.specs.Standing.{AreBare, Stands}
+use Rattle.cmm_abi.specs.Regions.{value_place, word_at}
+use Rattle.cmm_emit_laws.proofs.Regions.{bottom_is, top_is}
 
 -- stackdata comes unwritten
 room_unwritten : (frame : ℕ) (p : Proc) (row : PlaceRow) → (count : ℕ) × ((room_of frame p row).cells ≡ replicate count None)
@@ -76,9 +78,10 @@ module _ (s : Setting) (c : Compiled) (l : Launch) (f : Finished) (is_for : IsFo
       (ended_outside at p.StackLimit stands.running) tokens refl (λ b. b) cost (7 + code.ends) (omega (arith, code.few_at_limit))
       (reaches_weaker
       (reaches_then
-      (reaches_sound (code.begins.short.runs.go t stands.sound stands.pc (record {
+      (reaches_sound ((code.begins.short (stack_region s)).runs.go t stands.sound stands.pc (record {
         region = stands.shown.holdings.region;
-        lacks = grind (arith, nat_tests, lacks, stands.shown.holdings.frame, is_for.base);
+        lacks = grind (arith, nat_tests, lacks, stands.shown.holdings.frame, bottom_is s (map_of l) is_for);
+        fits = omega (arith, bottom_is s (map_of l) is_for, is_for.small, laid.can.small);
       })) stands.sound)
       (λ u there. code.limits.go u there.1 there.0.0))
       (omega arith) (omega arith) (λ v asks. asks))
@@ -108,19 +111,19 @@ module _ (s : Setting) (c : Compiled) (l : Launch) (f : Finished) (is_for : IsFo
     above : s.stack_base + (c.plan.frame at.procedure).size ≤ at.holdings.point.at
     above = grind (arith, nat_tests, fits)
 
-    has_room : HasRoom (c.plan.frame at.procedure).size (map_of l) t
+    has_room : HasRoom (stack_region s) (c.plan.frame at.procedure).size (map_of l) t
     has_room =
         let aligned = frames_aligned.of_stack s (stack_of at.store) stands.shown.stack is_for.set in
         let high : frame_address s at.store.activations ≤ stack_top s = omega arith in
         record {
           stack = record {
+            lies = is_for.lies;
             aligned = ap (λ (n : ℕ). n % 16) (stands.shown.holdings.frame ∙ stands.shown.at) ∙ aligned.0;
-            low = omega (arith, above, stands.shown.holdings.frame, is_for.base);
-            high = omega (arith, stands.shown.holdings.frame, stands.shown.at, high, is_for.base, is_for.size);
-            fits = omega (arith, is_for.small, is_for.base, is_for.size);
+            low = omega (arith, above, stands.shown.holdings.frame, bottom_is s (map_of l) is_for);
+            high = omega (arith, stands.shown.holdings.frame, stands.shown.at, high, top_is s (map_of l) is_for);
           };
           region = stands.shown.holdings.region;
-          room = omega (arith, above, stands.shown.holdings.frame, is_for.base);
+          room = omega (arith, above, stands.shown.holdings.frame, bottom_is s (map_of l) is_for);
         }
 
     new_address : frame_address s (new_activation at.procedure laid.procedure [] ∷ at.store.activations) ≡ at.holdings.point.at - (c.plan.frame at.procedure).size
@@ -152,49 +155,49 @@ module _ (s : Setting) (c : Compiled) (l : Launch) (f : Finished) (is_for : IsFo
 
     module _ (next : NodeId) (cost : ℕ) (code : EntryCode s c l f at.procedure at.node formals next cost) (w u v : State)
         (makes : Makes (c.plan.frame at.procedure).size (fixed_numbers (f.labels at.procedure) (c.plan.frame at.procedure) code.landings t.registers (w.registers 2)) t w)
-        (puts : PutsEach (zeros (map (c.plan.place at.procedure) (c.zeroed at.procedure))) w u) (takes : Takes (places_of s c l f at.procedure formals) u v) where
-      first_shown : IsShown f.symbols s (map_of l) (entered c.plan at.procedure at.holdings.point at.holdings.contents) store_made at.carried w
+        (puts : PutsEach (zeros (map (c.plan.place at.procedure) (c.zeroed at.procedure))) w u) (takes : Takes (stack_region s) (places_of s c l f at.procedure formals) u v) where
+      first_shown : IsRepresented f.symbols s (entered c.plan at.procedure at.holdings.point at.holdings.contents) store_made at.carried w
       first_shown =
           made_shows f.symbols s (map_of l) is_for c.plan at.procedure at.holdings at.store at.carried new room (f.labels at.procedure) code.landings t w (is_made next cost code)
           stands.sound.registers makes stands.shown
 
-      first_bare : IsShown f.symbols s (map_of l) (entered c.plan at.procedure at.holdings.point at.holdings.contents) store_made [] w
-      first_bare = forget_values f.symbols s (map_of l) (entered c.plan at.procedure at.holdings.point at.holdings.contents) store_made at.carried w first_shown
+      first_bare : IsRepresented f.symbols s (entered c.plan at.procedure at.holdings.point at.holdings.contents) store_made [] w
+      first_bare = forget_values f.symbols s (entered c.plan at.procedure at.holdings.point at.holdings.contents) store_made at.carried w first_shown
 
       zero_places : ArePlacesOf s new (zeros (map (c.plan.place at.procedure) (c.zeroed at.procedure)))
       zero_places = zeros_are_places s new (c.plan.place at.procedure) (c.zeroed at.procedure) (λ k. laid.places new k refl)
 
-      zeroed_shown : IsShown f.symbols s (map_of l) holdings_made store_made [] u
+      zeroed_shown : IsRepresented f.symbols s holdings_made store_made [] u
       zeroed_shown =
-          subst (λ (h : Holdings). IsShown f.symbols s (map_of l) h store_made [] u) (zeros_put c at.procedure (c.zeroed at.procedure) _)
+          subst (λ (h : Holdings). IsRepresented f.symbols s h store_made [] u) (zeros_put c at.procedure (c.zeroed at.procedure) _)
           (puts_show f.symbols s (map_of l) is_for (zeros (map (c.plan.place at.procedure) (c.zeroed at.procedure))) (entered c.plan at.procedure at.holdings.point at.holdings.contents)
           store_made new at.store.activations w u refl zero_places puts first_bare)
 
       -- the arguments are still where they came
-      came : (i : ℕ) → i < length formals → value_in i u ≡ slice_index_or at.carried i 0
+      came : (i : ℕ) → i < length formals → word_at u (value_place (stack_region s) i) ≡ slice_index_or at.carried i 0
       came i less =
           zeros_keep_values f.symbols s (map_of l) is_for store_made new at.store.activations refl (length formals) i less (omega (arith, less, code.few_formals))
           (map (c.plan.place at.procedure) (c.zeroed at.procedure)) (entered c.plan at.procedure at.holdings.point at.holdings.contents) w u zero_places code.apart puts first_bare
           ∙ first_shown.values.1 i (omega (arith, less, enough))
 
-      entered_shown : IsShown f.symbols s (map_of l) (holdings_entered formals) store_made [] v
+      entered_shown : IsRepresented f.symbols s (holdings_entered formals) store_made [] v
       entered_shown =
           let places : List Location = places_of s c l f at.procedure formals in
           let count : length places ≡ length formals = length-map formals (λ k. c.plan.place at.procedure k.number) in
-          let same : values_for 0 places u ≡ pairs places at.carried = come_to_places places at.carried u (omega (arith, count, enough)) (λ i less. came i (omega (arith, less, count))) in
-          subst (λ (h : Holdings). IsShown f.symbols s (map_of l) h store_made [] v) (formals_put c.plan at.procedure formals at.carried holdings_made)
+          let same : values_for (stack_region s) 0 places u ≡ pairs places at.carried = come_to_places (stack_region s) places at.carried u (omega (arith, count, enough)) (λ i less. came i (omega (arith, less, count))) in
+          subst (λ (h : Holdings). IsRepresented f.symbols s h store_made [] v) (formals_put c.plan at.procedure formals at.carried holdings_made)
           (puts_show f.symbols s (map_of l) is_for (pairs places at.carried) holdings_made store_made new at.store.activations u v refl
           (pairs_are_places s new places at.carried (formals_are_places s new c.plan at.procedure formals (λ k. laid.places new k refl))
-          (values_fit at.carried t stands.sound stands.shown.values))
+          (values_fit (stack_region s) at.carried t stands.sound stands.shown.values))
           (subst (λ (list : List (Location × ℕ)). PutsEach list u v) same takes) zeroed_shown)
 
     made_done : (cost : ℕ) (next : NodeId) (code : EntryCode s c l f at.procedure at.node formals next cost) (g : Graph) → slice_get c.graphs at.procedure ≡ Some g → IsValid g →
         IsTrue (leads_to g is_step next) → IsDone s c l f at cost t (record (made formals) { node = next })
     made_done cost next code g is_graph valid leads =
         silently s c l f at cost t (record (made formals) { node = next }) (tokens_there s c l f (made formals) g is_graph valid next leads) refl refl (λ b. ap (λ (xs : List Activation). new ∷ xs) b)
-        (reaches_more (reaches_sound {Q = λ v. (v.pc ≡ f.node_at at.procedure next) × IsShown f.symbols s (map_of l) (holdings_entered formals) store_made [] v}
+        (reaches_more (reaches_sound {Q = λ v. (v.pc ≡ f.node_at at.procedure next) × IsRepresented f.symbols s (holdings_entered formals) store_made [] v}
         (reaches_weaker
-        (reaches_then (reaches_sound (code.begins.made.runs.go t stands.sound stands.pc has_room) stands.sound)
+        (reaches_then (reaches_sound ((code.begins.made (stack_region s)).runs.go t stands.sound stands.pc has_room) stands.sound)
         (λ u there. reaches_more (code.goes_on.go u there.1 there.0.0 tt)
         (λ v last. (last.0, kept_shown f s l is_for (holdings_entered formals) store_made [] u v last.1 (taken u there.0.1)))))
         (omega arith) (omega (arith, code.few, length-map {B = Location} formals (λ k. c.plan.place at.procedure k.number))) (λ v last. last))
@@ -204,8 +207,8 @@ module _ (s : Setting) (c : Compiled) (l : Launch) (f : Finished) (is_for : IsFo
       where
         taken : (v : State) →
             (u : State) × IsEntered (code_of l f at.procedure) (c.plan.frame at.procedure) code.landings (map (c.plan.place at.procedure) (c.zeroed at.procedure)) t u
-            × Takes (places_of s c l f at.procedure formals) u v →
-            IsShown f.symbols s (map_of l) (holdings_entered formals) store_made [] v
+            × Takes (stack_region s) (places_of s c l f at.procedure formals) u v →
+            IsRepresented f.symbols s (holdings_entered formals) store_made [] v
         taken v (u, (w, makes, puts), takes) = entered_shown next cost code w u v makes puts takes
 
   store_is : (o : Option Proc) → o ≡ Some laid.procedure → elim o as (λ _. Store) [

@@ -10,27 +10,28 @@ use Rattle.cmm_program.specs.Frames.{frame_size, frame_address}
 use Rattle.cmm_program.specs.State.{Setting, Activation, Store, stack_top}
 use Rattle.cmm_machine_laws.specs.Stacks.{Extent, extent, IsStack, LiesIn, Stackdata, stack_of, stackdata_of, stackdata_at}
 use Rattle.cmm_machine_laws.proofs.Shared.{frames_adjoin, frames_aligned, none_below, own_alone, parts_in_frame}
-use Rattle.rv_table.specs.Machine.{MemoryMap, data_base, region_base, stack_base, loaded}
-use Rattle.cmm_emit_laws.specs.Words.{Symbols, Shows, is_known, Sits, ShowsWords, ShowsRooms, IsRegionFree}
-use Rattle.cmm_emit_laws.specs.Shown.{IsFor, IsWordAt}
+use Rattle.rv_table.specs.Machine.{MemoryMap, Region, bottom, data_base, loaded}
+use Rattle.cmm_emit_laws.specs.Words.{Symbols, Represents, is_known, Sits, RepresentsWords, RepresentsRooms, IsRegionFree}
+use Rattle.cmm_emit_laws.specs.Represented.{IsFor, IsWordAt, stack_region}
+use Rattle.cmm_emit_laws.proofs.Regions.{bottom_is, top_is}
 use Rattle.cmm_emit_laws.proofs.WrittenWords.{not_in, in_none}
 
 module _ (s : Setting) (m : MemoryMap) (is_for : IsFor s m) where
-  -- data is below the region
-  data_lacks : (store : Store) (at : ℕ) → IsStack s (stack_of store) → region_base ≤ at → is_in store.memory.data_room at ≡ false
+  -- data is below the region of the stack
+  data_lacks : (store : Store) (at : ℕ) → IsStack s (stack_of store) → (stack_region s).address ≤ at → is_in store.memory.data_room at ≡ false
   data_lacks store at stack low =
       let begin : store.memory.data_room.address ≡ data_base = ap (λ (x : Extent). x.address) stack.data_room in
       let count : length store.memory.data_room.cells ≡ length (data_bytes s.program s.placement) = ap (λ (x : Extent). x.length) stack.data_room in
       grind (arith, nat_tests, is_for.data_length, is_for.region, low, begin, count)
 
   -- no frame begins below the stack
-  frames_above : (store : Store) → IsStack s (stack_of store) → stack_base ≤ frame_address s store.activations
-  frames_above store stack = omega (arith, stack.fits, is_for.base)
+  frames_above : (store : Store) → IsStack s (stack_of store) → bottom (stack_region s) ≤ frame_address s store.activations
+  frames_above store stack = omega (arith, stack.fits, bottom_is s m is_for)
 
   -- nothing stands in the region below the stack
-  pub region_free : (store : Store) → IsStack s (stack_of store) → IsRegionFree store.memory
+  pub region_free : (store : Store) → IsStack s (stack_of store) → IsRegionFree (stack_region s) store.memory
   region_free store stack at low high =
-      let above : stack_base ≤ frame_address s store.activations = frames_above store stack in
+      let above : bottom (stack_region s) ≤ frame_address s store.activations = frames_above store stack in
       in_none store.memory.data_room store.memory.rooms at (data_lacks store at stack low) (none_below s store at stack (omega arith))
 
   -- ---- the youngest frame
@@ -74,14 +75,14 @@ module _ (s : Setting) (m : MemoryMap) (is_for : IsFor s m) where
             own_alone s store a older room rooms (frame_address s store.activations + offset + i) stack youngest is below (grind (arith, nat_tests, clear))
 
     -- a word of it sits
-    pub word_sits : (offset : ℕ) → IsWordAt s a offset → Sits m store.memory (frame_address s store.activations + offset)
+    pub word_sits : (offset : ℕ) → IsWordAt s a offset → Sits (stack_region s) store.memory (frame_address s store.activations + offset)
     word_sits offset word =
-        let above : stack_base ≤ frame_address s store.activations = frames_above store stack in
-        let top : frame_address s older ≤ stack_top s = omega arith in
+        let above : bottom (stack_region s) ≤ frame_address s store.activations = frames_above store stack in
+        let highest : frame_address s older ≤ stack_top s = omega arith in
         record {
           aligned = omega (arith, frame_aligned, word.aligned);
           low = omega (arith, above);
-          high = omega (arith, ends_at_next, word.inside, top, is_for.base, is_for.size);
+          high = omega (arith, ends_at_next, word.inside, highest, top_is s m is_for);
           apart = λ i less.
               in_none store.memory.data_room store.memory.rooms (frame_address s store.activations + offset + i)
               (data_lacks store (frame_address s store.activations + offset + i) stack (omega (arith, above))) (lacks_own offset i word less);
@@ -107,32 +108,32 @@ module _ (s : Setting) (m : MemoryMap) (is_for : IsFor s m) where
         let here : frame_address s (drop 1 store.activations) ≡ to = ap (λ (as_ : List Activation). frame_address s (drop 1 as_)) youngest in
         (lies.0, omega (arith, lies.1, here))
 
-    still_lacks : (b i : ℕ) → Sits m before b → (b + 8 ≤ at) ⊎ (to ≤ b) → i < 8 → cell_at store.memory (b + i) ≡ Outside
+    still_lacks : (b i : ℕ) → Sits (stack_region s) before b → (b + 8 ≤ at) ⊎ (to ≤ b) → i < 8 → cell_at store.memory (b + i) ≡ Outside
     still_lacks b i sits out less =
         let old : (is_in store.memory.data_room (b + i) ≡ false) × (cell_in rooms (b + i) ≡ Outside) = not_in store.memory.data_room rooms (b + i) (sits.apart i less) in
         let other : is_in room (b + i) ≡ false = grind (arith, nat_tests, out, room_inside.0, room_inside.1, less) in
         in_none store.memory.data_room store.memory.rooms (b + i) old.0
         (ap (λ (rs : List Room). cell_in rs (b + i)) first ∙ in_none room rooms (b + i) other old.1)
 
-    still_sits : (b : ℕ) → (b + 8 ≤ at) ⊎ (to ≤ b) → Sits m before b → Sits m store.memory b
+    still_sits : (b : ℕ) → (b + 8 ≤ at) ⊎ (to ≤ b) → Sits (stack_region s) before b → Sits (stack_region s) store.memory b
     still_sits b out sits = record { aligned = sits.aligned; low = sits.low; high = sits.high; apart = λ i less. still_lacks b i sits out less }
 
-    pub room_comes : ShowsWords y m before contents bytes → ShowsWords y m store.memory (blank at to contents) bytes
+    pub room_comes : RepresentsWords y (stack_region s) before contents bytes → RepresentsWords y (stack_region s) store.memory (blank at to contents) bytes
     room_comes shows = record {
       sits = λ b known. sits_at b (nat_le at b) refl (nat_lt b to) refl known;
       shown = λ b. shown_at b (nat_le at b && nat_lt b to);
     }
       where
         sits_at : (b : ℕ) (low : Bool) → nat_le at b ≡ low → (high : Bool) → nat_lt b to ≡ high →
-            is_known (elim (low && high) [ true ↦ Unknown | false ↦ contents b ]) ≡ true → Sits m store.memory b
+            is_known (elim (low && high) [ true ↦ Unknown | false ↦ contents b ]) ≡ true → Sits (stack_region s) store.memory b
         sits_at b false low high top known =
-            let sits : Sits m before b = shows.sits b known in
+            let sits : Sits (stack_region s) before b = shows.sits b known in
             let less : b < at = grind (arith, nat_tests) in
             still_sits b (inl (omega (arith, sits.aligned, frame_aligned store a older stack youngest, less))) sits
         sits_at b true low false top known = still_sits b (inr (grind (arith, nat_tests))) (shows.sits b known)
         sits_at b true low true top known = absurd (cc)
 
-        shown_at : (b : ℕ) (test : Bool) → Shows y (elim test [ true ↦ Unknown | false ↦ contents b ]) (loaded bytes b 8)
+        shown_at : (b : ℕ) (test : Bool) → Represents y (elim test [ true ↦ Unknown | false ↦ contents b ]) (loaded bytes b 8)
         shown_at b true = tt
         shown_at b false = shows.shown b
 
@@ -143,14 +144,14 @@ lack_fewer rooms zero a lacks = lacks
 lack_fewer [] (suc n) a lacks = refl
 lack_fewer (room ∷ rooms) (suc n) a lacks = lack_fewer rooms n a (not_in room rooms a lacks).1
 
-pub show_fewer : (rooms : List Room) (n : ℕ) (bytes : ℕ → ℕ) → ShowsRooms rooms bytes → ShowsRooms (drop n rooms) bytes
+pub show_fewer : (rooms : List Room) (n : ℕ) (bytes : ℕ → ℕ) → RepresentsRooms rooms bytes → RepresentsRooms (drop n rooms) bytes
 show_fewer rooms zero bytes shows = shows
 show_fewer [] (suc n) bytes shows = tt
 show_fewer (room ∷ rooms) (suc n) bytes shows = show_fewer rooms n bytes shows.1
 
-pub rooms_go : (y : Symbols) (m : MemoryMap) (memory : Memory) (n : ℕ) (contents : Contents) (bytes : ℕ → ℕ) →
-    ShowsWords y m memory contents bytes → ShowsWords y m (record memory { rooms = drop n memory.rooms }) contents bytes
-rooms_go y m memory n contents bytes before = record {
+pub rooms_go : (y : Symbols) (r : Region) (memory : Memory) (n : ℕ) (contents : Contents) (bytes : ℕ → ℕ) →
+    RepresentsWords y r memory contents bytes → RepresentsWords y r (record memory { rooms = drop n memory.rooms }) contents bytes
+rooms_go y r memory n contents bytes before = record {
   sits = λ b known. let sits = before.sits b known in record {
     aligned = sits.aligned;
     low = sits.low;

@@ -17,7 +17,7 @@ use Rattle.cmm_program.specs.declared.procedure.Target.{Target}
 use Rattle.cmm_program.specs.declared.procedure.Target.TheVariants as target
 use Rattle.cmm_program.specs.Performing.{next_byte, one_taken}
 use Rattle.cmm_program.specs.State as p
-use Rattle.cmm_program.specs.State.{Outcome, Setting, Store}
+use Rattle.cmm_program.specs.State.{Setting, Store}
 use Rattle.cmm_graph.specs.declared.number.NodeId.{NodeId}
 use Rattle.cmm_graph.specs.declared.operand.Destination.TheVariants as destination
 use Rattle.cmm_graph.specs.declared.node.HostCall.TheVariants as host
@@ -35,7 +35,7 @@ use Rattle.cmm_image_machine.specs.Machine.{Launch, map_of, requested}
 use Rattle.cmm_emit_laws.specs.Outside.{Outside, outside, run_with}
 use Rattle.cmm_emit_laws.specs.Serving.{Asking}
 use Rattle.cmm_emit_laws.proofs.Carrying.{forget_values}
-use Rattle.cmm_emit_laws.specs.Shown.{IsFor, IsPlaceOf, IsShown}
+use Rattle.cmm_emit_laws.specs.Represented.{IsFor, IsPlaceOf, IsRepresented}
 use Rattle.cmm_located.specs.Answering.{shown}
 use Rattle.cmm_located.specs.Compiled.{Compiled, Located}
 use Rattle.cmm_located.specs.LocatedMachine.{located_machine}
@@ -125,14 +125,14 @@ module _ (s : Setting) (c : Compiled) (l : Launch) (f : Finished) (is_for : IsFo
     sound_there : IsSound w
     sound_there = sound_taken u value (next_fits at.store.input bytes) sound
 
-    shown_there : IsShown f.symbols s (map_of l) at.holdings store_taking [] w
+    shown_there : IsRepresented f.symbols s at.holdings store_taking [] w
     shown_there =
-        asked_shown f s l at.holdings at.store at.carried (rest_of at.store.input) (taken_with at.store.input at.store.taken) at.store.output t w
+        asked_shown f s at.holdings at.store at.carried (rest_of at.store.input) (taken_with at.store.input at.store.taken) at.store.output t w
         (set_keeps_asking t u value keeps) stands.shown
 
-    shown_put : (v : State) → PutsTo (f.labels at.procedure) code.into (w.registers 10) w v → IsShown f.symbols s (map_of l) got.holdings got.store at.carried v
+    shown_put : (v : State) → PutsTo (f.labels at.procedure) code.into (w.registers 10) w v → IsRepresented f.symbols s got.holdings got.store at.carried v
     shown_put v puts =
-        subst (λ (xs : List ℕ). IsShown f.symbols s (map_of l) got.holdings got.store xs v) (sym body.carried)
+        subst (λ (xs : List ℕ). IsRepresented f.symbols s got.holdings got.store xs v) (sym body.carried)
         (put_shown s c l f is_for at.procedure at.holdings store_taking body.activation body.older body.youngest places w shown_there kept value (next_fits at.store.input bytes) v
         (destination.Target takes) code.into code.is_into named_there
         (subst (λ (n : ℕ). PutsTo (f.labels at.procedure) code.into n w v) (with_register-same u.registers 10 value (omega arith)) puts))
@@ -150,7 +150,7 @@ module _ (s : Setting) (c : Compiled) (l : Launch) (f : Finished) (is_for : IsFo
 
   reached : CanPut (f.labels at.procedure) code.into (map_of l) t
   reached = can_put s c l f is_for at.procedure at.holdings at.store body.activation body.older body.youngest places t
-      (forget_values f.symbols s (map_of l) at.holdings at.store at.carried t stands.shown) kept (destination.Target takes) code.into code.is_into named_there
+      (forget_values f.symbols s at.holdings at.store at.carried t stands.shown) kept (destination.Target takes) code.into code.is_into named_there
 
   asks_input : (located_machine s c).asks at ≡ Some Input
   asks_input =

@@ -2,6 +2,7 @@
 use Rattle.std.proofs.Common.{◌≡◌, ℕ, zero, suc, ◌≤◌, refl, ap, sym, ◌∙◌, subst, arith, List, [], ◌∷◌, length, map, Some, slice_get}
 use Rattle.std.specs.Prelude.{Ok, Err, slice_index_or}
 use Rattle.rv_table.specs.Machine.{State}
+use Rattle.cmm_chain.proofs.Shared.{saved_is_callee_saves}
 use Rattle.cmm_chain.specs.Running.{left, none_known}
 use Rattle.cmm_program.specs.Acts.{word_passed}
 use Rattle.cmm_program.specs.Errors.{Tried, all_of, and_then}
@@ -17,10 +18,10 @@ use Rattle.cmm_calls.specs.Values.{Gives, GivesAndLeaves}
 use Rattle.cmm_image_machine.specs.Machine.{Launch, map_of}
 use Rattle.cmm_emit_laws.proofs.Carrying.{forget_values, given_shows}
 use Rattle.cmm_emit_laws.proofs.Leaving.{left_shows}
-use Rattle.cmm_emit_laws.specs.Shown.{IsFor, IsShown}
+use Rattle.cmm_emit_laws.specs.Represented.{IsFor, IsRepresented, stack_region}
 use Rattle.cmm_located.specs.Compiled.{Compiled, Located}
 use Rattle.cmm_located.specs.Nodes.{keeping, reads_at}
-use Rattle.cmm_emit_laws.proofs.Framed.{saved_is, size_of}
+use Rattle.cmm_emit_laws.proofs.Framed.{size_of}
 use Rattle.cmm_emit_laws.proofs.Operands.{operand_is}
 use Rattle.cmm_emit_laws.specs.Finished.{Finished}
 use Rattle.cmm_emit_laws.specs.NodeCode.{AreOperandsOf}
@@ -28,7 +29,7 @@ use Rattle.cmm_emit_laws.specs.ProgramCode.{IsLaidFor}
 
 module _ (s : Setting) (c : Compiled) (l : Launch) (f : Finished) (is_for : IsFor s (map_of l)) (at : Located) (t : State) (a : Activation) (older : List Activation)
     (youngest : at.store.activations ≡ a ∷ older) (same : a.procedure ≡ at.procedure) (laid : IsLaidFor s c at.procedure)
-    (shown : IsShown f.symbols s (map_of l) at.holdings at.store at.carried t) where
+    (shown : IsRepresented f.symbols s at.holdings at.store at.carried t) where
   pub record AreValues (operands : List CodeOperand) (ws : List Word) : Type 0 where
     pub count : length operands ≡ length (numbers ws)
     pub have : (k : ℕ) (operand : CodeOperand) → slice_get operands k ≡ Some operand → operand_at (f.labels at.procedure) operand t ≡ slice_index_or (numbers ws) k 0
@@ -68,17 +69,17 @@ module _ (s : Setting) (c : Compiled) (l : Launch) (f : Finished) (is_for : IsFo
       by again (Err error) is_n others is_rest e = absurd (cc)
 
   -- so they are shown where they travel
-  pub given : (operands : List CodeOperand) (ws : List Word) (u : State) → length operands ≤ 64 → AreValues operands ws → Gives (f.labels at.procedure) operands t u →
-      IsShown f.symbols s (map_of l) (record at.holdings { temps = none_known }) at.store (numbers ws) u
+  pub given : (operands : List CodeOperand) (ws : List Word) (u : State) → length operands ≤ 64 → AreValues operands ws → Gives (stack_region s) (f.labels at.procedure) operands t u →
+      IsRepresented f.symbols s (record at.holdings { temps = none_known }) at.store (numbers ws) u
   given operands ws u few are gives =
       given_shows f.symbols s (map_of l) is_for at.holdings at.store (numbers ws) (f.labels at.procedure) operands t u gives
       (record { few = omega (arith, few, are.count); count = are.count; have = are.have })
-      (forget_values f.symbols s (map_of l) at.holdings at.store at.carried t shown)
+      (forget_values f.symbols s at.holdings at.store at.carried t shown)
 
   -- and so once the frame is left as well
-  pub parted : (operands : List CodeOperand) (ws : List Word) (u : State) → length operands ≤ 64 → AreValues operands ws → GivesAndLeaves (f.labels at.procedure) (c.plan.frame at.procedure) operands t u →
-      IsShown f.symbols s (map_of l) (left c.plan at.procedure at.holdings) (without 1 at.store) (numbers ws) u
+  pub parted : (operands : List CodeOperand) (ws : List Word) (u : State) → length operands ≤ 64 → AreValues operands ws → GivesAndLeaves (stack_region s) (f.labels at.procedure) (c.plan.frame at.procedure) operands t u →
+      IsRepresented f.symbols s (left c.plan at.procedure at.holdings) (without 1 at.store) (numbers ws) u
   parted operands ws u few are (w, gives, leaves) =
       left_shows f.symbols s (map_of l) is_for c.plan at.procedure (record at.holdings { temps = none_known }) at.store (numbers ws) a older w u youngest
-      (size_of s c at.procedure a laid same) (λ r offset found. saved_is (c.plan.frame at.procedure).saved r offset laid.can.registers found) leaves
+      (size_of s c at.procedure a laid same) (λ r offset found. saved_is_callee_saves (c.plan.frame at.procedure).saved r offset laid.can.registers found) leaves
       (given operands ws w few are gives)

@@ -28,7 +28,7 @@ use Rattle.cmm_select.specs.Laws.{SwitchesLead}
 use Rattle.cmm_select.specs.Operands.{CanBringOperand, operand_at}
 use Rattle.cmm_select.specs.Switches.{arm_address, label_of}
 use Rattle.cmm_image_machine.specs.Machine.{Launch, map_of}
-use Rattle.cmm_emit_laws.specs.Shown.{IsFor, IsPlaceOf}
+use Rattle.cmm_emit_laws.specs.Represented.{IsFor, IsPlaceOf}
 use Rattle.cmm_located.specs.Compiled.{Compiled, Located}
 use Rattle.cmm_located.specs.Nodes.{done, keeping, ran_at, reads_at}
 use Rattle.cmm_emit_laws.proofs.Doing.{IsDone, kept_shown, silently, stands_there, tokens_there}

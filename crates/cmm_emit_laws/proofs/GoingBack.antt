@@ -34,8 +34,8 @@ use Rattle.cmm_calls.specs.Values.{GivesAndLeaves}
 use Rattle.cmm_image_machine.specs.Machine.{Launch, map_of}
 use Rattle.cmm_emit_laws.specs.Outside.{Outside}
 use Rattle.cmm_emit_laws.proofs.Resiting.{resited_shows}
-use Rattle.cmm_emit_laws.specs.Shown.{IsFor}
-use Rattle.cmm_emit_laws.specs.Words.{Shows}
+use Rattle.cmm_emit_laws.specs.Represented.{IsFor, stack_region}
+use Rattle.cmm_emit_laws.specs.Words.{Represents}
 use Rattle.cmm_located.specs.Compiled.{Compiled, Located, landing_in, site_exits}
 use Rattle.cmm_located.specs.LocatedMachine.{tokens_at}
 use Rattle.cmm_located.specs.Nodes.{exit_node, is_at, to_landing, to_return}
@@ -91,9 +91,9 @@ module _ (s : Setting) (c : Compiled) (l : Launch) (f : Finished) (is_for : IsFo
   address_is =
       let offset = (c.plan.frame at.procedure).return_at in
       ap (λ (n : ℕ). loaded t.memory (n + offset) 8) stands.shown.holdings.frame
-      ∙ subst (λ (content : Content). Shows f.symbols content (loaded t.memory (at.holdings.point.at + offset) 8)) back (stands.shown.words.shown (at.holdings.point.at + offset))
+      ∙ subst (λ (content : Content). Represents f.symbols content (loaded t.memory (at.holdings.point.at + offset) 8)) back (stands.shown.words.shown (at.holdings.point.at + offset))
 
-  framed : HasFrame (c.plan.frame at.procedure).size (map_of l) t
+  framed : HasFrame (stack_region s) (c.plan.frame at.procedure).size (map_of l) t
   framed = framed_inside s c l f is_for at t stands body laid
 
   module _ (waits : is_at s c (drop 1 at.store.activations) q site ≡ true) (exits : Exits) (is_exits : site_exits c.graphs q site ≡ Some exits)
@@ -145,14 +145,14 @@ module _ (s : Setting) (c : Compiled) (l : Launch) (f : Finished) (is_for : IsFo
         let some : 1 ≤ landing.0.tokens = has_tokens c.graphs q valid n landing.0 landing.1 in
         omega (arith, e, some)
 
-    stands_back : (u v : State) → GivesAndLeaves (f.labels at.procedure) (c.plan.frame at.procedure) code.operands t u → v.pc ≡ f.node_at q n → Keeps u v → IsSound v → Stands s c l f back_at v
+    stands_back : (u v : State) → GivesAndLeaves (stack_region s) (f.labels at.procedure) (c.plan.frame at.procedure) code.operands t u → v.pc ≡ f.node_at q n → Keeps u v → IsSound v → Stands s c l f back_at v
     stands_back u v parts pc keeps sound = record {
       running = refl;
       node = landing.0;
       there = landing.1;
       inside = inside_copy landing.0.kind landing.2 back_at youngest;
       shown = kept_shown f s l is_for back_at.holdings store_back (numbers ws) u v keeps
-          (resited_shows f.symbols s (map_of l) back_at.holdings (without 1 at.store) (numbers ws) u None p.Running
+          (resited_shows f.symbols s back_at.holdings (without 1 at.store) (numbers ws) u None p.Running
           (parted s c l f is_for at t body.activation body.older body.youngest body.same laid stands.shown code.operands ws u code.few_results are_out parts));
       pc = pc;
       sound = sound;
@@ -164,7 +164,7 @@ module _ (s : Setting) (c : Compiled) (l : Launch) (f : Finished) (is_for : IsFo
         (λ are. resited_are_bare None (drop 1 at.store.activations) (dropped_are_bare 1 at.store.activations are))
         (reaches_weaker
         (reaches_then
-        (reaches_sound (code.returns.goes.go t stands.sound stands.pc (
+        (reaches_sound ((code.returns (stack_region s)).goes.go t stands.sound stands.pc (
           record { stack = framed; region = stands.shown.holdings.region },
           record {
             frame = framed;

@@ -13,7 +13,7 @@ use Rattle.cmm_chain.specs.declared.frame.Frame.{Frame}
 use Rattle.cmm_chain.specs.declared.frame.Location.{Location}
 use Rattle.cmm_chain.specs.declared.frame.Location.TheVariants.{Slot, Saved, Temp}
 use Rattle.cmm_abi.specs.Registers.{is_callee_saves, callee_saves}
-use Rattle.cmm_chain.specs.Plans.{are_distinct, fixed_offsets, is_fresh, is_place, is_word_in}
+use Rattle.cmm_chain.specs.Plans.{are_distinct, fixed_offsets, is_fresh, is_place, is_register, is_word_in}
 use Rattle.cmm_program.specs.declared.procedure.Proc.{Proc}
 use Rattle.cmm_program.specs.Bounds.{frame_bound}
 use Rattle.cmm_program.specs.Errors.{with_some}
@@ -23,10 +23,10 @@ use Rattle.cmm_program.specs.Memory.{Room}
 use Rattle.cmm_program.specs.Placed.{are_pairs, is_code_address, is_frame_size, is_stackdata}
 use Rattle.cmm_program.specs.State.{Activation, Setting}
 use Rattle.cmm_machine_laws.specs.Stacks.{Extent, extent, stackdata_at}
-use Rattle.cmm_emit_laws.specs.Shown.{AreWordsAt, IsClear, IsPlaceOf, IsWordAt}
+use Rattle.cmm_emit_laws.specs.Represented.{AreWordsAt, IsClear, IsPlaceOf, IsWordAt}
 use Rattle.cmm_located.specs.Compiled.{Compiled}
 use Rattle.cmm_located.specs.Layouts.{IsFrameOf, has_cut_exit, is_clear, keeps_local, row_with, saved_registers, slot_offset, slot_offsets}
-use Rattle.cmm_emit_laws.specs.Laying.{FramesCanBeMade, IsLaidOut, ProceduresAreLaid, is_register}
+use Rattle.cmm_emit_laws.specs.Laying.{FramesCanBeMade, IsLaidOut, ProceduresAreLaid}
 
 -- ---- a frame can be made
 

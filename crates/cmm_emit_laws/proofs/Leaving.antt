@@ -3,6 +3,7 @@ use Rattle.std.proofs.Common.{◌≡◌, ℕ, ◌+◌, ◌<◌, refl, ◌∙◌,
 use Rattle.std.specs.Prelude.{◌==◌, ◌||◌, is_some}
 use Rattle.std.proofs.lemmas.Bool.Decides.{nat_tests}
 use Rattle.std.proofs.lemmas.Bool.{or_from}
+use Rattle.cmm_chain.proofs.Shared.{callee_saves_is_kept}
 use Rattle.cmm_chain.specs.Chain.{behind}
 use Rattle.cmm_abi.specs.Registers.{is_callee_saves, is_scratch}
 use Rattle.cmm_chain.specs.Contents.{Unknown, ReturnTo}
@@ -14,23 +15,23 @@ use Rattle.cmm_machine_laws.proofs.Shared.{without_keeps}
 use Rattle.rv_table.specs.Machine.{MemoryMap, State, loaded}
 use Rattle.cmm_effects.specs.Changes.{KeepsBut}
 use Rattle.cmm_calls.specs.Frames.{Leaves}
-use Rattle.cmm_emit_laws.specs.Words.{Symbols, Shows}
-use Rattle.cmm_emit_laws.specs.Shown.{IsFor, IsShown, ShowsHoldings}
+use Rattle.cmm_emit_laws.specs.Words.{Symbols, Represents}
+use Rattle.cmm_emit_laws.specs.Represented.{IsFor, IsRepresented, RepresentsHoldings, stack_region}
 use Rattle.cmm_emit_laws.proofs.WrittenWords.{shown_same}
 use Rattle.cmm_emit_laws.proofs.Frames.{ends_at_next, rooms_go, show_fewer}
-use Rattle.cmm_emit_laws.proofs.Showing.{saved_no_scratch, values_same}
+use Rattle.cmm_emit_laws.proofs.Showing.{values_same}
 
 module _ (y : Symbols) (s : Setting) (m : MemoryMap) (is_for : IsFor s m) where
   -- memory stays, and some of the youngest activations may go
-  pub moved_shows : (h h' : Holdings) (store : Store) (carried : List ℕ) (younger : ℕ) (t t' : State) → IsShown y s m h store carried t → t'.memory ≡ t.memory →
-      h'.contents ≡ h.contents → ShowsHoldings y h' t'.registers → ((i : ℕ) → i < 8 → t'.registers (10 + i) ≡ t.registers (10 + i)) →
-      h'.point.at ≡ frame_address s (drop younger store.activations) → IsShown y s m h' (without younger store) carried t'
+  pub moved_shows : (h h' : Holdings) (store : Store) (carried : List ℕ) (younger : ℕ) (t t' : State) → IsRepresented y s h store carried t → t'.memory ≡ t.memory →
+      h'.contents ≡ h.contents → RepresentsHoldings y (stack_region s) h' t'.registers → ((i : ℕ) → i < 8 → t'.registers (10 + i) ≡ t.registers (10 + i)) →
+      h'.point.at ≡ frame_address s (drop younger store.activations) → IsRepresented y s h' (without younger store) carried t'
   moved_shows h h' store carried younger t t' shows same contents holdings values at = record {
     holdings = holdings;
-    words = rw (same, contents) (rooms_go y m store.memory younger h.contents t.memory shows.words);
+    words = rw (same, contents) (rooms_go y (stack_region s) store.memory younger h.contents t.memory shows.words);
     cells = rw same ((shows.cells.0, show_fewer store.memory.rooms younger t.memory shows.cells.1));
     registers = rw same shows.registers;
-    values = values_same carried t.registers t'.registers t.memory t'.memory values (λ b less low. rw same refl) shows.values;
+    values = values_same (stack_region s) carried t t' values (λ b less low. rw same refl) shows.values;
     stack = (without_keeps s younger store).1 shows.stack;
     at = at;
   }
@@ -40,7 +41,7 @@ module _ (y : Symbols) (s : Setting) (m : MemoryMap) (is_for : IsFor s m) where
   module _ (plan : Plan) (q : ℕ) (h : Holdings) (store : Store) (carried : List ℕ) (a : Activation) (older : List Activation) (t t' : State)
       (youngest : store.activations ≡ a ∷ older) (size : (plan.frame q).size ≡ frame_size s a)
       (saves : (r offset : ℕ) → saved_at plan q r ≡ Some offset → is_callee_saves r ≡ true) (leaves : Leaves (plan.frame q) t t')
-      (shows : IsShown y s m h store carried t) where
+      (shows : IsRepresented y s h store carried t) where
     not_saved : (r : ℕ) → is_callee_saves r ≡ false → is_some (saved_at plan q r) ≡ false
     not_saved r never = by (saved_at plan q r) refl
       where
@@ -53,17 +54,17 @@ module _ (y : Symbols) (s : Setting) (m : MemoryMap) (is_for : IsFor s m) where
         (or_from (r == 1) ((r == 2) || (is_scratch r || is_some (saved_at plan q r))) one
         (or_from (r == 2) (is_scratch r || is_some (saved_at plan q r)) two (or_from (is_scratch r) (is_some (saved_at plan q r)) scratch unsaved)))
 
-    word_there : (offset n : ℕ) → n ≡ loaded t.memory (t.registers 2 + offset) 8 → Shows y (h.contents (h.point.at + offset)) n
+    word_there : (offset n : ℕ) → n ≡ loaded t.memory (t.registers 2 + offset) 8 → Represents y (h.contents (h.point.at + offset)) n
     word_there offset n is = shown_same y (h.contents (h.point.at + offset)) (loaded t.memory (h.point.at + offset) 8) n
         (λ known. is ∙ ap (λ (at : ℕ). loaded t.memory (at + offset) 8) shows.holdings.frame) (shows.words.shown (h.point.at + offset))
 
     kept_at : (r : ℕ) → is_callee_saves r ≡ true → (o : Option ℕ) → saved_at plan q r ≡ o →
-        Shows y (elim o [ Some offset ↦ h.contents (h.point.at + offset) | None ↦ h.point.kept r ]) (t'.registers r)
+        Represents y (elim o [ Some offset ↦ h.contents (h.point.at + offset) | None ↦ h.point.kept r ]) (t'.registers r)
     kept_at r is (Some offset) at = word_there offset (t'.registers r) (leaves.restored r offset at)
     kept_at r is None at = shown_same y (h.point.kept r) (t.registers r) (t'.registers r)
-        (λ known. still r (grind (arith, nat_tests, is)) (grind (arith, nat_tests, is)) (saved_no_scratch r is) (ap is_some at)) (shows.holdings.kept r is)
+        (λ known. still r (grind (arith, nat_tests, is)) (grind (arith, nat_tests, is)) (callee_saves_is_kept r is) (ap is_some at)) (shows.holdings.kept r is)
 
-    pub left_shows : IsShown y s m (record { point = behind plan h.contents q h.point; temps = none_known; contents = h.contents }) (without 1 store) carried t'
+    pub left_shows : IsRepresented y s (record { point = behind plan h.contents q h.point; temps = none_known; contents = h.contents }) (without 1 store) carried t'
     left_shows = moved_shows h _ store carried 1 t t' shows leaves.memory refl
         (record {
           zero = still 0 refl refl refl (not_saved 0 refl) ∙ shows.holdings.zero;
@@ -81,8 +82,8 @@ module _ (y : Symbols) (s : Setting) (m : MemoryMap) (is_for : IsFor s m) where
 
   -- to a procedure that is called: register 1 has the return address of the site
   pub called_shows : (h : Holdings) (store : Store) (values : List ℕ) (t t' : State) (q site : ℕ) → t'.registers 1 ≡ y.return_to q site → t'.memory ≡ t.memory →
-      KeepsBut (λ r. (r == 1) || is_scratch r) t t' → IsShown y s m h store values t →
-      IsShown y s m (record { point = record h.point { back = ReturnTo q site }; temps = none_known; contents = h.contents }) store values t'
+      KeepsBut (λ r. (r == 1) || is_scratch r) t t' → IsRepresented y s h store values t →
+      IsRepresented y s (record { point = record h.point { back = ReturnTo q site }; temps = none_known; contents = h.contents }) store values t'
   called_shows h store values t t' q site link same others shows = moved_shows h _ store values 0 t t' shows same refl
       (record {
         zero = others 0 refl ∙ shows.holdings.zero;
@@ -90,7 +91,7 @@ module _ (y : Symbols) (s : Setting) (m : MemoryMap) (is_for : IsFor s m) where
         region = others 4 refl ∙ shows.holdings.region;
         back = link;
         kept = λ r is. shown_same y (h.point.kept r) (t.registers r) (t'.registers r)
-            (λ known. others r (or_from (r == 1) (is_scratch r) (grind (arith, nat_tests, is)) (saved_no_scratch r is))) (shows.holdings.kept r is);
+            (λ known. others r (or_from (r == 1) (is_scratch r) (grind (arith, nat_tests, is)) (callee_saves_is_kept r is))) (shows.holdings.kept r is);
         temps = λ r is. tt;
       })
       (λ i less. others (10 + i) (or_from (10 + i == 1) (is_scratch (10 + i)) (grind (arith, nat_tests)) (grind (arith, nat_tests))))
@@ -98,8 +99,8 @@ module _ (y : Symbols) (s : Setting) (m : MemoryMap) (is_for : IsFor s m) where
 
   -- by a cut: register 2 has the address of an older frame, and no register is restored
   pub cut_shows : (h : Holdings) (store : Store) (values : List ℕ) (t t' : State) (at younger : ℕ) → t'.registers 2 ≡ at → t'.memory ≡ t.memory →
-      KeepsBut (λ r. (r == 1) || ((r == 2) || is_scratch r)) t t' → at ≡ frame_address s (drop younger store.activations) → IsShown y s m h store values t →
-      IsShown y s m (record { point = record { at = at; back = Unknown; kept = h.point.kept }; temps = none_known; contents = h.contents }) (without younger store) values t'
+      KeepsBut (λ r. (r == 1) || ((r == 2) || is_scratch r)) t t' → at ≡ frame_address s (drop younger store.activations) → IsRepresented y s h store values t →
+      IsRepresented y s (record { point = record { at = at; back = Unknown; kept = h.point.kept }; temps = none_known; contents = h.contents }) (without younger store) values t'
   cut_shows h store values t t' at younger frame same others is shows = moved_shows h _ store values younger t t' shows same refl
       (record {
         zero = others 0 refl ∙ shows.holdings.zero;
@@ -113,4 +114,4 @@ module _ (y : Symbols) (s : Setting) (m : MemoryMap) (is_for : IsFor s m) where
       is
     where
       apart : (r : ℕ) → is_callee_saves r ≡ true → ((r == 1) || ((r == 2) || is_scratch r)) ≡ false
-      apart r saved = or_from (r == 1) ((r == 2) || is_scratch r) (grind (arith, nat_tests, saved)) (or_from (r == 2) (is_scratch r) (grind (arith, nat_tests, saved)) (saved_no_scratch r saved))
+      apart r saved = or_from (r == 1) ((r == 2) || is_scratch r) (grind (arith, nat_tests, saved)) (or_from (r == 2) (is_scratch r) (grind (arith, nat_tests, saved)) (callee_saves_is_kept r saved))

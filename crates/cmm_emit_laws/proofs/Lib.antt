@@ -1,3 +1,4 @@
+pub mod Regions
 pub mod WrittenWords
 pub mod WrittenBytes
 pub mod Frames

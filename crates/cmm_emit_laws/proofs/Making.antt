@@ -6,6 +6,7 @@ use Rattle.std.proofs.lemmas.Bool.Decides.{nat_tests}
 use Rattle.std.proofs.lemmas.Bool.{or_from, and_parts}
 use Rattle.std.proofs.lemmas.List.{get_or-replicate, length-replicate}
 use Rattle.std.proofs.lemmas.List.Sums.{sum_by-cons}
+use Rattle.cmm_chain.proofs.Shared.{callee_saves_is_kept}
 use Rattle.cmm_chain.specs.declared.frame.Frame.{Frame}
 use Rattle.cmm_abi.specs.Registers.{is_callee_saves, is_scratch}
 use Rattle.cmm_chain.specs.Contents.{Content, Contents, with_content}
@@ -16,39 +17,39 @@ use Rattle.cmm_program.specs.Memory.{Room, Memory}
 use Rattle.cmm_program.specs.State.{Setting, Activation, Store}
 use Rattle.cmm_machine_laws.specs.Stacks.{IsStack, extent, stack_of, stackdata_of}
 use Rattle.rv_asm.specs.declared.part.Label.{Label}
-use Rattle.rv_table.specs.Machine.{MemoryMap, State, loaded, stack_base, stored}
+use Rattle.rv_table.specs.Machine.{MemoryMap, State, loaded, stored, bottom, Region}
 use Rattle.cmm_calls.specs.Frames.{Makes, fixed_numbers, pair_numbers, saved_numbers, stored_words}
-use Rattle.cmm_emit_laws.specs.Words.{Symbols, Shows, ShowsCells, ShowsRoom, ShowsWords, Sits}
-use Rattle.cmm_emit_laws.specs.Shown.{AreLandings, AreWordsAt, AreWritten, IsFor, IsMade, IsShown, IsWordAt}
+use Rattle.cmm_emit_laws.specs.Words.{Symbols, Represents, RepresentsCells, RepresentsRoom, RepresentsWords, Sits}
+use Rattle.cmm_emit_laws.specs.Represented.{AreLandings, AreWordsAt, AreWritten, IsFor, IsMade, IsRepresented, IsWordAt, stack_region}
 use Rattle.cmm_emit_laws.proofs.WrittenWords.{below_stays, cells_stay, shown_same, word_written}
 use Rattle.cmm_emit_laws.proofs.Frames.{room_comes, word_sits}
-use Rattle.cmm_emit_laws.proofs.Showing.{registers_same, saved_no_scratch, values_same}
+use Rattle.cmm_emit_laws.proofs.Showing.{registers_same, values_same}
 
 -- ---- words are written, one after the other
 
-abbrev AreSitting : MemoryMap → Memory → ℕ → List (ℕ × Content) → Type 0
-AreSitting m memory at [] = Unit {0}
-AreSitting m memory at ((offset, c) ∷ rest) = Sits m memory (at + offset) × AreSitting m memory at rest
+abbrev AreSitting : Region → Memory → ℕ → List (ℕ × Content) → Type 0
+AreSitting w memory at [] = Unit {0}
+AreSitting w memory at ((offset, c) ∷ rest) = Sits w memory (at + offset) × AreSitting w memory at rest
 
 -- what one or many writes leave
-record Written (y : Symbols) (m : MemoryMap) (memory : Memory) (contents : Contents) (before after : ℕ → ℕ) : Type 0 where
-  words : ShowsWords y m memory contents after
-  cells : ShowsCells memory after
-  below : (b : ℕ) → b + 8 ≤ stack_base → loaded after b 8 ≡ loaded before b 8
+record Written (y : Symbols) (w : Region) (memory : Memory) (contents : Contents) (before after : ℕ → ℕ) : Type 0 where
+  words : RepresentsWords y w memory contents after
+  cells : RepresentsCells memory after
+  below : (b : ℕ) → b + 8 ≤ bottom w → loaded after b 8 ≡ loaded before b 8
 
-words_written : (y : Symbols) (m : MemoryMap) (memory : Memory) (at : ℕ) (numbers : List (ℕ × ℕ)) (words : List (ℕ × Content)) (contents : Contents) (first before : ℕ → ℕ) →
-    AreSitting m memory at words → AreWritten y numbers words → Written y m memory contents first before →
-    Written y m memory (with_words at words contents) first (stored_words at numbers before)
-words_written y m memory at [] [] contents first before sit written so_far = so_far
-words_written y m memory at ((offset, n) ∷ numbers) ((place, c) ∷ words) contents first before sit written so_far =
-    subst (λ (o : ℕ). Written y m memory (with_words at words (with_content (at + place) c contents)) first (stored_words at numbers (stored before (at + o) 8 n))) (sym written.0)
-    (words_written y m memory at numbers words (with_content (at + place) c contents) first (stored before (at + place) 8 n) sit.1 written.1.1.1 (record {
-      words = word_written y m memory (at + place) n sit.0 contents before c written.1.1.0 written.1.0 so_far.words;
-      cells = cells_stay y m memory (at + place) n sit.0 before so_far.cells;
-      below = λ b low. below_stays y m memory (at + place) n sit.0 before b low ∙ so_far.below b low;
+words_written : (y : Symbols) (w : Region) (memory : Memory) (at : ℕ) (numbers : List (ℕ × ℕ)) (words : List (ℕ × Content)) (contents : Contents) (first before : ℕ → ℕ) →
+    AreSitting w memory at words → AreWritten y numbers words → Written y w memory contents first before →
+    Written y w memory (with_words at words contents) first (stored_words at numbers before)
+words_written y w memory at [] [] contents first before sit written so_far = so_far
+words_written y w memory at ((offset, n) ∷ numbers) ((place, c) ∷ words) contents first before sit written so_far =
+    subst (λ (o : ℕ). Written y w memory (with_words at words (with_content (at + place) c contents)) first (stored_words at numbers (stored before (at + o) 8 n))) (sym written.0)
+    (words_written y w memory at numbers words (with_content (at + place) c contents) first (stored before (at + place) 8 n) sit.1 written.1.1.1 (record {
+      words = word_written y w memory (at + place) n sit.0 contents before c written.1.1.0 written.1.0 so_far.words;
+      cells = cells_stay y w memory (at + place) n sit.0 before so_far.cells;
+      below = λ b low. below_stays y w memory (at + place) n sit.0 before b low ∙ so_far.below b low;
     }))
-words_written y m memory at [] (word ∷ words) contents first before sit written so_far = absurd written
-words_written y m memory at (number ∷ numbers) [] contents first before sit written so_far = absurd written
+words_written y w memory at [] (word ∷ words) contents first before sit written so_far = absurd written
+words_written y w memory at (number ∷ numbers) [] contents first before sit written so_far = absurd written
 
 -- ---- the words of a new frame represent its contents
 
@@ -60,7 +61,7 @@ written_pairs y address_of q at k (offset ∷ rest) (landing ∷ landings) count
     (refl, (are.1.0, (are.0, (refl, (small, (refl, written_pairs y address_of q at (suc k) rest landings (omega arith) small are.1.1))))))
 
 written_saved : (y : Symbols) (registers : ℕ → ℕ) (kept : Contents) (saved : List (ℕ × ℕ)) (numbers : List (ℕ × ℕ)) (words : List (ℕ × Content)) → ((r : ℕ) → registers r < 2 ^ 64) →
-    ((r : ℕ) → is_callee_saves r ≡ true → Shows y (kept r) (registers r)) → list_all (λ word. is_callee_saves word.0) saved ≡ true → AreWritten y numbers words →
+    ((r : ℕ) → is_callee_saves r ≡ true → Represents y (kept r) (registers r)) → list_all (λ word. is_callee_saves word.0) saved ≡ true → AreWritten y numbers words →
     AreWritten y (saved_numbers registers saved ++ numbers) (saved_words kept saved ++ words)
 written_saved y registers kept [] numbers words small shows are rest = rest
 written_saved y registers kept ((r, offset) ∷ saved) numbers words small shows are rest =
@@ -69,22 +70,22 @@ written_saved y registers kept ((r, offset) ∷ saved) numbers words small shows
 
 -- ---- and sit in it
 
-sit_pairs : (s : Setting) (m : MemoryMap) (memory : Memory) (a : Activation) (q at k : ℕ) (pairs : List ℕ) → ((offset : ℕ) → IsWordAt s a offset → Sits m memory (at + offset)) →
-    AreWordsAt s a (pair_offsets pairs) → AreSitting m memory at (pair_words q at k pairs)
-sit_pairs s m memory a q at k [] sits all = tt
-sit_pairs s m memory a q at k (offset ∷ rest) sits all = (sits offset all.0, (sits (offset + 8) all.1.0, sit_pairs s m memory a q at (suc k) rest sits all.1.1))
+sit_pairs : (s : Setting) (w : Region) (memory : Memory) (a : Activation) (q at k : ℕ) (pairs : List ℕ) → ((offset : ℕ) → IsWordAt s a offset → Sits w memory (at + offset)) →
+    AreWordsAt s a (pair_offsets pairs) → AreSitting w memory at (pair_words q at k pairs)
+sit_pairs s w memory a q at k [] sits all = tt
+sit_pairs s w memory a q at k (offset ∷ rest) sits all = (sits offset all.0, (sits (offset + 8) all.1.0, sit_pairs s w memory a q at (suc k) rest sits all.1.1))
 
-sit_saved : (s : Setting) (m : MemoryMap) (memory : Memory) (a : Activation) (q at : ℕ) (kept : Contents) (saved : List (ℕ × ℕ)) (pairs : List ℕ) →
-    ((offset : ℕ) → IsWordAt s a offset → Sits m memory (at + offset)) → AreWordsAt s a (saved_offsets saved ++ pair_offsets pairs) →
-    AreSitting m memory at (saved_words kept saved ++ pair_words q at 0 pairs)
-sit_saved s m memory a q at kept [] pairs sits all = sit_pairs s m memory a q at 0 pairs sits all
-sit_saved s m memory a q at kept ((r, offset) ∷ rest) pairs sits all = (sits offset all.0, sit_saved s m memory a q at kept rest pairs sits all.1)
+sit_saved : (s : Setting) (w : Region) (memory : Memory) (a : Activation) (q at : ℕ) (kept : Contents) (saved : List (ℕ × ℕ)) (pairs : List ℕ) →
+    ((offset : ℕ) → IsWordAt s a offset → Sits w memory (at + offset)) → AreWordsAt s a (saved_offsets saved ++ pair_offsets pairs) →
+    AreSitting w memory at (saved_words kept saved ++ pair_words q at 0 pairs)
+sit_saved s w memory a q at kept [] pairs sits all = sit_pairs s w memory a q at 0 pairs sits all
+sit_saved s w memory a q at kept ((r, offset) ∷ rest) pairs sits all = (sits offset all.0, sit_saved s w memory a q at kept rest pairs sits all.1)
 
 -- ---- a frame comes
 
 module _ (y : Symbols) (s : Setting) (m : MemoryMap) (is_for : IsFor s m) (plan : Plan) (q : ℕ) (h : Holdings) (store : Store) (carried : List ℕ) (a : Activation) (room : Room)
     (address_of : ℕ → ℕ) (landings : List Label) (t t' : State) (is_made : IsMade y s plan q a room address_of landings h) (small : (r : ℕ) → t.registers r < 2 ^ 64)
-    (makes : Makes (plan.frame q).size (fixed_numbers address_of (plan.frame q) landings t.registers (t'.registers 2)) t t') (shows : IsShown y s m h store carried t) where
+    (makes : Makes (plan.frame q).size (fixed_numbers address_of (plan.frame q) landings t.registers (t'.registers 2)) t t') (shows : IsRepresented y s h store carried t) where
   abbrev f : Frame
   f = plan.frame q
 
@@ -110,11 +111,11 @@ module _ (y : Symbols) (s : Setting) (m : MemoryMap) (is_for : IsFor s m) (plan 
     data_room = shows.stack.data_room;
   }
 
-  lookup : (o : ℕ) → IsWordAt s a o → Sits m after.memory (at + o)
-  lookup o word = subst (λ (b : ℕ). Sits m after.memory (b + o)) (sym here) (word_sits s m is_for after a store.activations new_stack refl o word)
+  lookup : (o : ℕ) → IsWordAt s a o → Sits (stack_region s) after.memory (at + o)
+  lookup o word = subst (λ (b : ℕ). Sits (stack_region s) after.memory (b + o)) (sym here) (word_sits s m is_for after a store.activations new_stack refl o word)
 
   -- the room of its stackdata has no byte that was written
-  room_shown : ShowsRoom room t.memory
+  room_shown : RepresentsRoom room t.memory
   room_shown b inside =
       let count : length room.cells ≡ is_made.count = ap (length {A = Option ℕ}) is_made.unwritten ∙ length-replicate is_made.count None in
       let less : b - room.address < is_made.count = grind (arith, nat_tests, inside, count) in
@@ -122,9 +123,9 @@ module _ (y : Symbols) (s : Setting) (m : MemoryMap) (is_for : IsFor s m) (plan 
       ap (λ (c : List (Option ℕ)). slice_index_or c (b - room.address) None) is_made.unwritten ∙ get_or-replicate is_made.count (b - room.address) None None less in
       rw none tt
 
-  blanked : ShowsWords y m after.memory (blank at h.point.at h.contents) t.memory
-  blanked = subst (λ (b : ℕ). ShowsWords y m after.memory (blank b h.point.at h.contents) t.memory) (sym here)
-      (subst (λ (b : ℕ). ShowsWords y m after.memory (blank (frame_address s (a ∷ store.activations)) b h.contents) t.memory) (sym shows.at)
+  blanked : RepresentsWords y (stack_region s) after.memory (blank at h.point.at h.contents) t.memory
+  blanked = subst (λ (b : ℕ). RepresentsWords y (stack_region s) after.memory (blank b h.point.at h.contents) t.memory) (sym here)
+      (subst (λ (b : ℕ). RepresentsWords y (stack_region s) after.memory (blank (frame_address s (a ∷ store.activations)) b h.contents) t.memory) (sym shows.at)
       (room_comes s m is_for y h.contents t.memory after a store.activations room store.memory.rooms new_stack refl refl shows.words))
 
   words : List (ℕ × Content)
@@ -147,10 +148,10 @@ module _ (y : Symbols) (s : Setting) (m : MemoryMap) (is_for : IsFor s m) (plan 
     ),
   )
 
-  written : Written y m after.memory (with_words at words (blank at h.point.at h.contents)) t.memory (stored_words at numbers t.memory)
+  written : Written y (stack_region s) after.memory (with_words at words (blank at h.point.at h.contents)) t.memory (stored_words at numbers t.memory)
   unfolding numbers words
-  written = words_written y m after.memory at numbers words (blank at h.point.at h.contents) t.memory t.memory
-      (lookup f.return_at is_made.words.0, sit_saved s m after.memory a q at h.point.kept f.saved f.pairs lookup is_made.words.1) are_written
+  written = words_written y (stack_region s) after.memory at numbers words (blank at h.point.at h.contents) t.memory t.memory
+      (lookup f.return_at is_made.words.0, sit_saved s (stack_region s) after.memory a q at h.point.kept f.saved f.pairs lookup is_made.words.1) are_written
       (record { words = blanked; cells = (shows.cells.0, (room_shown, shows.cells.1)); below = λ b low. refl })
 
   stored_there : t'.memory ≡ stored_words at numbers t.memory
@@ -160,7 +161,7 @@ module _ (y : Symbols) (s : Setting) (m : MemoryMap) (is_for : IsFor s m) (plan 
   keeps : (r : ℕ) → (r == 2) ≡ false → is_scratch r ≡ false → t'.registers r ≡ t.registers r
   keeps r two scratch = makes.registers r (or_from (r == 2) (is_scratch r) two scratch)
 
-  pub made_shows : IsShown y s m (entered plan q h.point h.contents) after carried t'
+  pub made_shows : IsRepresented y s (entered plan q h.point h.contents) after carried t'
   unfolding numbers words
   made_shows = record {
     holdings = record {
@@ -169,14 +170,14 @@ module _ (y : Symbols) (s : Setting) (m : MemoryMap) (is_for : IsFor s m) (plan 
       region = keeps 4 refl refl ∙ shows.holdings.region;
       back = tt;
       kept = λ r is. shown_same y (h.point.kept r) (t.registers r) (t'.registers r)
-          (λ known. keeps r (grind (arith, nat_tests, is)) (saved_no_scratch r is)) (shows.holdings.kept r is);
+          (λ known. keeps r (grind (arith, nat_tests, is)) (callee_saves_is_kept r is)) (shows.holdings.kept r is);
       temps = λ r is. tt;
     };
     words = rw stored_there written.words;
     cells = rw stored_there written.cells;
-    registers = rw stored_there (registers_same store.registers t.memory (stored_words at numbers t.memory) (λ b less low. written.below b less) shows.registers);
-    values = rw stored_there (values_same carried t.registers t'.registers t.memory (stored_words at numbers t.memory)
-        (λ i less. keeps (10 + i) (grind (arith, nat_tests)) (grind (arith, nat_tests))) (λ b less low. written.below b less) shows.values);
+    registers = rw stored_there (registers_same (stack_region s) store.registers t.memory (stored_words at numbers t.memory) (λ b less low. written.below b less) shows.registers);
+    values = values_same (stack_region s) carried t t'
+        (λ i less. keeps (10 + i) (grind (arith, nat_tests)) (grind (arith, nat_tests))) (λ b less low. rw stored_there (written.below b less)) shows.values;
     stack = new_stack;
     at = here;
   }

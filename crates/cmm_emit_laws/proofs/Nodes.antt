@@ -30,6 +30,7 @@ use Rattle.cmm_emit_laws.specs.Finished.{Finished, code_of}
 use Rattle.cmm_emit_laws.specs.NodeCode.{IsCodeOf}
 use Rattle.cmm_emit_laws.specs.Standing.{IsInBody, IsInside}
 use Rattle.cmm_program.specs.State as c
+use Rattle.cmm_emit_laws.specs.Represented.{stack_region}
 
 -- what is found in a graph is found in one that is there
 pub found_in : {A : Type 0} (graphs : List Graph) (q : ℕ) (find : Graph → Option A) (x : A) → in_graph graphs q find ≡ Some x →
@@ -84,18 +85,18 @@ quiet_asks l f q from t quiet at = by (instruction_step (map_of l) t) refl
 
 pub code_is_quiet : (s : Setting) (c' : Compiled) (l : Launch) (f : Finished) (q : ℕ) (n : NodeId) (kind : NodeKind) (most : ℕ) → IsCodeOf s c' l f q n kind most →
     BeginsQuietly (code_of l f q) (f.node_at q n)
-code_is_quiet s c' l f q n (Entry formals next) most code = code.begins.made.quiet
+code_is_quiet s c' l f q n (Entry formals next) most code = (code.begins.made (stack_region s)).quiet
 code_is_quiet s c' l f q n (Branch test then_ otherwise) most code = code.decides.quiet
 code_is_quiet s c' l f q n (Switch value arms otherwise) most code = code.switches.quiet
-code_is_quiet s c' l f q n (Return exit alternates results) most code = code.returns.quiet
+code_is_quiet s c' l f q n (Return exit alternates results) most code = (code.returns (stack_region s)).quiet
 code_is_quiet s c' l f q n (Goto next) most code = code.goes.quiet
 code_is_quiet s c' l f q n Stop most code = code
-code_is_quiet s c' l f q n (CopyIn to next) most code = code.turns.quiet
+code_is_quiet s c' l f q n (CopyIn to next) most code = (code.turns (stack_region s)).quiet
 code_is_quiet s c' l f q n (Assign to value next) most code = code.quiet
 code_is_quiet s c' l f q n (StoreWord width aligned address value next) most code = code.stores.quiet
 code_is_quiet s c' l f q n (Call site callee arguments exits) most code = code.quiet
 code_is_quiet s c' l f q n (Yield site values exits) most code = absurd code
 code_is_quiet s c' l f q n (Jump callee arguments) most code = code.quiet
-code_is_quiet s c' l f q n (Cut to arguments own) most code = code.cuts.quiet
+code_is_quiet s c' l f q n (Cut to arguments own) most code = (code.cuts (stack_region s)).quiet
 code_is_quiet s c' l f q n (Host (host.PutByte value) next) most code = code.requests.quiet
 code_is_quiet s c' l f q n (Host (host.GetByte to) next) most code = code.requests.quiet

@@ -20,7 +20,7 @@ use Rattle.cmm_select.specs.declared.source.Source.TheVariants as source
 use Rattle.cmm_select.specs.Operands.{CanBringOperand, operand_at}
 use Rattle.cmm_image_machine.specs.Machine.{Launch, map_of}
 use Rattle.cmm_emit_laws.proofs.Reading.{held_is_read, place_is_reachable}
-use Rattle.cmm_emit_laws.specs.Shown.{IsFor, IsPlaceOf, IsShown}
+use Rattle.cmm_emit_laws.specs.Represented.{IsFor, IsPlaceOf, IsRepresented}
 use Rattle.cmm_located.specs.Compiled.{Compiled, Located, number_in, place_of}
 use Rattle.cmm_located.specs.Nodes.{keeping, number_of, reads_at}
 use Rattle.cmm_emit_laws.specs.Finished.{Finished}
@@ -48,7 +48,7 @@ number_is LastReturn v is = absurd (cc)
 
 module _ (s : Setting) (c : Compiled) (l : Launch) (f : Finished) (is_for : IsFor s (map_of l)) (at : Located) (t : State) (a : Activation) (older : List Activation)
     (youngest : at.store.activations ≡ a ∷ older) (places : (v : ℕ) → IsPlaceOf s a (c.plan.place at.procedure v))
-    (shown : IsShown f.symbols s (map_of l) at.holdings at.store at.carried t) where
+    (shown : IsRepresented f.symbols s at.holdings at.store at.carried t) where
   constant_is : (k : Constant) (x : CodeOperand) (v : ℕ) → IsConstant s c l f at.procedure k x → constant_value s.program s.placement k ≡ v →
       (operand_at (f.labels at.procedure) x t ≡ v) × CanBringOperand x (map_of l) t
   constant_is k (code.Held (source.Number n)) v is e = (is ∙ e, tt)

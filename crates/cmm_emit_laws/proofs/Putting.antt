@@ -29,7 +29,7 @@ use Rattle.cmm_image_machine.specs.Machine.{Launch, Running, Ended, map_of}
 use Rattle.cmm_emit_laws.specs.Serving.{Asking}
 use Rattle.cmm_emit_laws.proofs.Showing.{no_values}
 use Rattle.cmm_emit_laws.proofs.WrittenWords.{shown_same}
-use Rattle.cmm_emit_laws.specs.Shown.{IsFor, IsPlaceOf, IsShown}
+use Rattle.cmm_emit_laws.specs.Represented.{IsFor, IsPlaceOf, IsRepresented, stack_region}
 use Rattle.cmm_located.specs.Compiled.{Compiled, Located}
 use Rattle.cmm_located.specs.Nodes.{done, keeping, ran_at, reads_at}
 use Rattle.cmm_emit_laws.proofs.Doing.{IsDone, kept_shown, stands_there, tokens_there}
@@ -40,9 +40,9 @@ use Rattle.cmm_emit_laws.specs.NodeCode.{PutByteCode}
 use Rattle.cmm_emit_laws.specs.Standing.{IsInBody, Stands, outside_at, status_of}
 
 -- only registers of a request are changed, and something may be put or taken
-pub asked_shown : (f : Finished) (s : Setting) (l : Launch) (h : Holdings) (store : Store) (carried input taken output : List ℕ) (t u : State) → KeepsAsking t u →
-    IsShown f.symbols s (map_of l) h store carried t → IsShown f.symbols s (map_of l) h (record store { input = input; taken = taken; output = output }) [] u
-asked_shown f s l h store carried input taken output t u keeps shown = record {
+pub asked_shown : (f : Finished) (s : Setting) (h : Holdings) (store : Store) (carried input taken output : List ℕ) (t u : State) → KeepsAsking t u →
+    IsRepresented f.symbols s h store carried t → IsRepresented f.symbols s h (record store { input = input; taken = taken; output = output }) [] u
+asked_shown f s h store carried input taken output t u keeps shown = record {
   holdings = record {
     zero = keeps.registers 0 refl ∙ shown.holdings.zero;
     frame = keeps.registers 2 refl ∙ shown.holdings.frame;
@@ -54,7 +54,7 @@ asked_shown f s l h store carried input taken output t u keeps shown = record {
   words = rw keeps.memory shown.words;
   cells = rw keeps.memory shown.cells;
   registers = rw keeps.memory shown.registers;
-  values = no_values u.registers u.memory;
+  values = no_values (stack_region s) u;
   stack = shown.stack;
   at = shown.at;
 }
@@ -91,9 +91,9 @@ module _ (s : Setting) (c : Compiled) (l : Launch) (f : Finished) (is_for : IsFo
       (λ x last. stands_there s c l f (put v) g is_graph valid next leads x stands.running
       (record { activation = body.activation; older = body.older; youngest = body.youngest; same = body.same; carried = body.carried })
       (kept_shown f s l is_for at.holdings (store_after v) at.carried w x last.0.1
-      (subst (λ (z : State). IsShown f.symbols s (map_of l) at.holdings (store_after v) at.carried z) (sym there.1)
-      (subst (λ (xs : List ℕ). IsShown f.symbols s (map_of l) at.holdings (store_after v) xs (at_pc (u.pc + 4) u)) (sym body.carried)
-      (asked_shown f s l at.holdings at.store at.carried at.store.input at.store.taken (at.store.output ++ v % 256 ∷ []) t (at_pc (u.pc + 4) u)
+      (subst (λ (z : State). IsRepresented f.symbols s at.holdings (store_after v) at.carried z) (sym there.1)
+      (subst (λ (xs : List ℕ). IsRepresented f.symbols s at.holdings (store_after v) xs (at_pc (u.pc + 4) u)) (sym body.carried)
+      (asked_shown f s at.holdings at.store at.carried at.store.input at.store.taken (at.store.output ++ v % 256 ∷ []) t (at_pc (u.pc + 4) u)
       (record { registers = keeps.registers; memory = keeps.memory }) stands.shown)))) last.0.0 last.1)))
       (omega arith) (omega arith) (λ x last. last)
 

@@ -4,9 +4,9 @@ use Rattle.cmm_chain.specs.Running.{Holdings}
 use Rattle.cmm_program.specs.Frames.{frame_address, sum_of_sizes, with_site}
 use Rattle.cmm_program.specs.State.{Activation, Setting, Status, Store}
 use Rattle.cmm_machine_laws.specs.Stacks.{stackdata_of}
-use Rattle.rv_table.specs.Machine.{MemoryMap, State}
+use Rattle.rv_table.specs.Machine.{State}
 use Rattle.cmm_emit_laws.specs.Words.{Symbols}
-use Rattle.cmm_emit_laws.specs.Shown.{IsShown}
+use Rattle.cmm_emit_laws.specs.Represented.{IsRepresented}
 
 sizes_same : (s : Setting) (site : Option ℕ) (activations : List Activation) → sum_of_sizes s (with_site site activations) ≡ sum_of_sizes s activations
 sizes_same s site [] = refl
@@ -20,9 +20,9 @@ stackdata_same : (s : Setting) (site : Option ℕ) (activations : List Activatio
 stackdata_same s site [] = refl
 stackdata_same s site (a ∷ older) = refl
 
-pub resited_shows : (y : Symbols) (s : Setting) (m : MemoryMap) (h : Holdings) (store : Store) (carried : List ℕ) (t : State) (site : Option ℕ) (status : Status) →
-    IsShown y s m h store carried t → IsShown y s m h (record store { activations = with_site site store.activations; status = status }) carried t
-resited_shows y s m h store carried t site status shows = record {
+pub resited_shows : (y : Symbols) (s : Setting) (h : Holdings) (store : Store) (carried : List ℕ) (t : State) (site : Option ℕ) (status : Status) →
+    IsRepresented y s h store carried t → IsRepresented y s h (record store { activations = with_site site store.activations; status = status }) carried t
+resited_shows y s h store carried t site status shows = record {
   holdings = shows.holdings;
   words = shows.words;
   cells = shows.cells;

@@ -1,7 +1,7 @@
 -- An activation returns: the oldest ends the run, and any other goes back to a site.
 use Rattle.std.proofs.Common.{◌≡◌, ℕ, ◌+◌, ◌%◌, ◌<◌, ◌≤◌, ◌^◌, refl, ◌∙◌, ap, subst, arith, Bool, true, false, List, [], ◌∷◌, length, map, Some, slice_get}
+use Rattle.std.proofs.lemmas.Bool.{eqb-true}
 use Rattle.std.specs.Prelude.{◌==◌, Ok, Err, slice_index_or}
-use Rattle.std.proofs.lemmas.Bool.Decides.{nat_tests}
 use Rattle.rv_table.specs.Machine.{State, Asks, instruction_step, loaded}
 use Rattle.rv_table.specs.declared.request.Request.TheVariants as request
 use Rattle.rv_asm.proofs.Shared.{reaches_then, reaches_weaker}
@@ -15,7 +15,7 @@ use Rattle.cmm_program.specs.Frames.{frame_size, without}
 use Rattle.cmm_program.specs.Orders as order
 use Rattle.cmm_program.specs.Orders.{Word}
 use Rattle.cmm_program.specs.State as p
-use Rattle.cmm_program.specs.State.{Activation, Setting, Store, Outcome, stack_top}
+use Rattle.cmm_program.specs.State.{Setting}
 use Rattle.cmm_program.specs.Control.{over}
 use Rattle.cmm_graph.specs.declared.operand.Argument.{Argument}
 use Rattle.cmm_graph.specs.declared.node.Exits.{Exits}
@@ -28,8 +28,8 @@ use Rattle.cmm_select.specs.declared.operand.Operand.{Operand as CodeOperand}
 use Rattle.cmm_calls.specs.Frames.{HasFrame, return_address}
 use Rattle.cmm_calls.specs.Values.{GivesAndLeaves, parting_cost}
 use Rattle.cmm_image_machine.specs.Machine.{Launch, map_of}
-use Rattle.cmm_emit_laws.specs.Shown.{IsFor}
-use Rattle.cmm_emit_laws.specs.Words.{Shows}
+use Rattle.cmm_emit_laws.specs.Represented.{IsFor, stack_region}
+use Rattle.cmm_emit_laws.specs.Words.{Represents}
 use Rattle.cmm_located.specs.Compiled.{Compiled, Located, site_exits}
 use Rattle.cmm_located.specs.LocatedMachine.{tokens_at}
 use Rattle.cmm_located.specs.Nodes.{done, keeping, ran_at, reads_at, to_return}
@@ -58,18 +58,18 @@ module _ (s : Setting) (c : Compiled) (l : Launch) (f : Finished) (is_for : IsFo
   size_is : (c.plan.frame at.procedure).size ≡ frame_size s body.activation
   size_is = size_of s c at.procedure body.activation laid body.same
 
-  framed : HasFrame (c.plan.frame at.procedure).size (map_of l) t
+  framed : HasFrame (stack_region s) (c.plan.frame at.procedure).size (map_of l) t
   framed = framed_inside s c l f is_for at t stands body laid
 
   address_is : back_in ≡ LastReturn → return_address (c.plan.frame at.procedure) t ≡ f.symbols.last_return
   address_is back =
       let offset = (c.plan.frame at.procedure).return_at in
       ap (λ (n : ℕ). loaded t.memory (n + offset) 8) stands.shown.holdings.frame
-      ∙ subst (λ (content : Content). Shows f.symbols content (loaded t.memory (at.holdings.point.at + offset) 8)) back (stands.shown.words.shown (at.holdings.point.at + offset))
+      ∙ subst (λ (content : Content). Represents f.symbols content (loaded t.memory (at.holdings.point.at + offset) 8)) back (stands.shown.words.shown (at.holdings.point.at + offset))
 
   -- the first value is in register 10 once the frame is left
   value_is : (operands : List CodeOperand) (ws : List Word) (value : ℕ) (values : List ℕ) (u : State) → length operands ≤ 64 → AreOut operands ws → numbers ws ≡ value ∷ values →
-      GivesAndLeaves (f.labels at.procedure) (c.plan.frame at.procedure) operands t u → u.registers 10 ≡ value
+      GivesAndLeaves (stack_region s) (f.labels at.procedure) (c.plan.frame at.procedure) operands t u → u.registers 10 ≡ value
   value_is operands ws value values u few are is parts =
       let gone = parted s c l f is_for at t body.activation body.older body.youngest body.same laid stands.shown operands ws u few are parts in
       let some : 0 < length (numbers ws) = grind (arith, is) in
@@ -81,7 +81,7 @@ module _ (s : Setting) (c : Compiled) (l : Launch) (f : Finished) (is_for : IsFo
   returned results exit cost value values ws code aligned fits are is back none =
       reaches_weaker
       (reaches_then
-      (reaches_sound (code.returns.goes.go t stands.sound stands.pc (
+      (reaches_sound ((code.returns (stack_region s)).goes.go t stands.sound stands.pc (
         record { stack = framed; region = stands.shown.holdings.region },
         record {
           frame = framed;
@@ -109,7 +109,7 @@ module _ (s : Setting) (c : Compiled) (l : Launch) (f : Finished) (is_for : IsFo
         subst (λ (z : Located). IsDone s c l f at cost t z) (place_is e)
         (ends s c l f at t (request.End value) (p.Done value) (record { leaves = λ o u. refl; silent = λ u event is. absurd (cc); plain = λ walk other. refl }) _ refl
         (ended_outside at (p.Done value) stands.running) first refl (dropped_are_bare 1 at.store.activations) cost (parting_cost (c.plan.frame at.procedure) code.operands + 1 + code.ends)
-        (omega (arith, code.few)) (returned results exit cost value values ws code aligned fits are is back (grind (arith, nat_tests, none))))
+        (omega (arith, code.few)) (returned results exit cost value values ws code aligned fits are is back (eqb-true exit 0 none)))
     last_done value values ws are is back false some e = absurd (cc)
 
     by_values : (ws : List Word) → AreOut code.operands ws → back_in ≡ LastReturn → (xs : List ℕ) → numbers ws ≡ xs →

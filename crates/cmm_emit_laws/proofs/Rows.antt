@@ -1,6 +1,6 @@
 -- A worked row: the premises of the laws hold of a small program, so the laws say something.
 --     main() { return (7); }
-use Rattle.std.proofs.Common.{ℕ, ◌==◌, refl, arith, true, false, [], ◌∷◌, inr, None}
+use Rattle.std.proofs.Common.{ℕ, ◌+◌, ◌==◌, refl, arith, true, false, [], ◌∷◌, inr, None}
 use Rattle.cmm_chain.specs.Contents.{LastReturn}
 use Rattle.cmm_chain.specs.Plans.{Plan}
 use Rattle.cmm_chain.specs.Running.{Holdings, none_known}
@@ -10,8 +10,9 @@ use Rattle.cmm_program.specs.Machine.{first_store}
 use Rattle.cmm_program.proofs.Shared as sample
 use Rattle.cmm_program.proofs.Shared.{frame, no_client, opened, procedure, program, setting}
 use Rattle.rv_table.specs.Machine.{MemoryMap, State}
+use Rattle.rv_table.specs.declared.memory_map.TheConstants.{BELOW_STACK}
 use Rattle.cmm_emit_laws.specs.Words.{Symbols}
-use Rattle.cmm_emit_laws.specs.Shown.{IsFor, IsMade, IsShown}
+use Rattle.cmm_emit_laws.specs.Represented.{IsFor, IsMade, IsRepresented}
 use Rattle.cmm_emit_laws.specs.StateLaws.{Begins}
 use Rattle.cmm_emit_laws.proofs.StartingStates.{starts_are_shown}
 
@@ -19,7 +20,7 @@ abbrev small : Setting
 small = setting (sample.sample (program (procedure [] 9 0 0 [] [] ∷ [])) (frame 16 ∷ [])) 4096 no_client
 
 abbrev map : MemoryMap
-map = record { code = []; data_length = 0; stack_size = 4096 }
+map = record { code = []; data_length = 0; region_length = BELOW_STACK + 4096 }
 
 abbrev symbols : Symbols
 symbols = record { return_to = λ q site. 0x10100; landing_of = λ q k. 0x10200; last_return = 0x10004 }
@@ -34,8 +35,7 @@ is_for : IsFor small map
 unfolding opened
 is_for = record {
   set = record { placed = record { rows = refl; ascending = refl }; aligned = refl };
-  base = refl;
-  size = refl;
+  lies = record { low = omega arith; high = omega arith; narrow = omega arith; aligned = refl };
   small = omega arith;
   data_length = refl;
   region = omega arith;
@@ -56,7 +56,7 @@ begins = record {
 abbrev at_start : Holdings
 at_start = record { point = record { at = 0x60002000; back = LastReturn; kept = none_known }; temps = none_known; contents = none_known }
 
-row_start : IsShown symbols small map at_start (first_store small []) [] first
+row_start : IsRepresented symbols small at_start (first_store small []) [] first
 unfolding opened
 row_start = starts_are_shown symbols small map [] first is_for begins
 

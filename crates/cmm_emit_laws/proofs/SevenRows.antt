@@ -36,6 +36,7 @@ use Rattle.cmm_emit_laws.specs.Starting.{StartCode}
 use Rattle.cmm_emit_laws.specs.Finished.{Finished}
 use Rattle.cmm_emit_laws.specs.NodeCode.{IsCodeOf}
 use Rattle.cmm_emit_laws.specs.ProgramCode.{IsCode, IsLaidFor, is_coded, names_registers}
+use Rattle.rv_table.specs.Machine.{region_base}
 
 abbrev seven-main : Proc
 seven-main = procedure [] 99 0 0 [] []
@@ -173,8 +174,7 @@ module _ (l : Launch) (at : ℕ → ℕ) (main limit : Label) (to : ℕ) (pieces
   seven_is_code stack main_is none aligned fits = record {
     is_for = record {
       set = record { placed = record { rows = refl; ascending = refl }; aligned = refl };
-      base = refl;
-      size = sym stack;
+      lies = record { low = omega arith; high = omega (arith, stack); narrow = omega arith; aligned = refl };
       small = omega arith;
       data_length = ap (λ (xs : List ℕ). length xs) none;
       region = omega (arith, ap (λ (xs : List ℕ). length xs) none);
@@ -193,8 +193,9 @@ module _ (l : Launch) (at : ℕ → ℕ) (main limit : Label) (to : ℕ) (pieces
     back_fits = fits;
   }
 
-  seven_starts : l.image.initial ≡ [] → StartCode seven-setting seven l finished
-  seven_starts none = record {
+  seven_starts : l.stack_size ≡ 4096 → l.image.initial ≡ [] → StartCode seven-setting seven l finished
+  seven_starts stack none = record {
+    region = ap (λ (size : ℕ). record { address = region_base; stack_size = size }) (sym stack);
     first = n 0;
     is_first = refl;
     most = 2;

@@ -5,7 +5,7 @@ pub use Rattle.cmm_emit_laws.proofs.Leaving.{called_shows, cut_shows, left_shows
 pub use Rattle.cmm_emit_laws.proofs.Making.{made_shows}
 pub use Rattle.cmm_emit_laws.proofs.Reading.{held_is_read, place_is_reachable, register_is_read, register_shows, sits_accessible}
 pub use Rattle.cmm_emit_laws.proofs.Resiting.{resited_shows}
-pub use Rattle.cmm_emit_laws.proofs.Showing.{holdings_same, no_values, put_shows, saved_no_scratch, store_shows, temp_no_scratch}
+pub use Rattle.cmm_emit_laws.proofs.Showing.{holdings_same, no_values, put_shows, store_shows}
 pub use Rattle.cmm_emit_laws.proofs.StartingStates.{starts_are_shown}
 pub use Rattle.cmm_emit_laws.proofs.WrittenWords.{shown_same}
 pub use Rattle.cmm_emit_laws.proofs.SimulatedMachines.{image_is_level, image_is_quiet, image_leads, image_simulates}

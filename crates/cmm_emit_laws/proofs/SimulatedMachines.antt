@@ -18,7 +18,7 @@ use Rattle.cmm_image_machine.proofs.Shared.{step_grows}
 use Rattle.cmm_image_machine.specs.Machine.{Launch, Run, Status, Running, Ended, Trapped, Torn, map_of, requested, after_instruction, step}
 use Rattle.cmm_image_machine.specs.Observed.{asked_at, event_at, has_failed, image_machine}
 use Rattle.cmm_emit_laws.specs.Outside.{Outside, run_with, seen_outside}
-use Rattle.cmm_emit_laws.specs.Serving.{AreDone, IsAsked, IsDoneBy, IsServed, Silently, Asking, IsShownBy}
+use Rattle.cmm_emit_laws.specs.Serving.{AreDone, IsAsked, IsDoneBy, IsServed, Silently, Asking, IsRepresentedBy}
 
 -- a step by how the run stands
 step_by : (l : Launch) (run : Run) (status : Status) → run.status ≡ status →
@@ -40,7 +40,7 @@ module _ {S : Type 0} (A : Machine S ℕ Call Ending) (l : Launch) (outside_of :
   B = image_machine l
 
   abbrev Relates : S → Run → Type 0
-  Relates = IsShownBy A l outside_of Shown Holds
+  Relates = IsRepresentedBy A l outside_of Shown Holds
 
   within_same : (a : S) → outside_of (A.step a) ≡ outside_of a → IsWithin (seen_outside (outside_of a)) (A.seen (A.step a))
   within_same a same =
@@ -208,7 +208,7 @@ module _ {S : Type 0} (A : Machine S ℕ Call Ending) (l : Launch) (outside_of :
   image_is_level a u shown = level_by a u shown (outside_of a).status refl
 
 pub image_simulates : {S : Type 0} (A : Machine S ℕ Call Ending) (l : Launch) (outside_of : S → Outside) (Shown : S → State → Type 0) (Holds : S → Type 0) (cost : S → ℕ) →
-    AreDone A l outside_of Shown Holds cost → Simulates A cost (image_machine l) (λ _. 1) (IsShownBy A l outside_of Shown Holds)
+    AreDone A l outside_of Shown Holds cost → Simulates A cost (image_machine l) (λ _. 1) (IsRepresentedBy A l outside_of Shown Holds)
 image_simulates A l outside_of Shown Holds cost done = record {
   level = λ a u shown. image_is_level A l outside_of Shown Holds cost done.served a u shown;
   leads = λ a u shown right.

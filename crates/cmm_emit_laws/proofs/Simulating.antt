@@ -46,7 +46,7 @@ use Rattle.cmm_emit_laws.proofs.Putting.{byte_put}
 use Rattle.cmm_emit_laws.proofs.Returning.{return_done}
 use Rattle.cmm_emit_laws.proofs.Storing.{store_done}
 use Rattle.cmm_emit_laws.specs.Finished.{Finished}
-use Rattle.cmm_emit_laws.specs.Laws.{ImagesSimulateLocatedRuns, IsShownIn, most_for_step}
+use Rattle.cmm_emit_laws.specs.Laws.{ImagesSimulateLocatedRuns, IsRepresentedIn, most_for_step}
 use Rattle.cmm_emit_laws.specs.NodeCode.{IsCodeOf}
 use Rattle.cmm_emit_laws.specs.ProgramCode.{IsCode, is_coded, names_registers}
 use Rattle.cmm_emit_laws.specs.Standing.{AreBare, IsInside, IsOfRun, Stands, outside_at, status_of}
@@ -189,8 +189,8 @@ module _ (lead : SwitchesLead) (s : Setting) (c : Compiled) (l : Launch) (f : Fi
     level = λ at t run going stands. level at t stands;
   }
 
-  pub step_leads : (at : Located) (u : Run) → IsShownIn s c l f at u → (located_machine s c).wrong (located_step s c at) ≡ false →
-      Leads (image_machine l) (λ run. 1) (Passes (located_machine s c) (image_machine l) at) (IsShownIn s c l f (located_step s c at)) 1 (most_for_step s c at) u
+  pub step_leads : (at : Located) (u : Run) → IsRepresentedIn s c l f at u → (located_machine s c).wrong (located_step s c at) ≡ false →
+      Leads (image_machine l) (λ run. 1) (Passes (located_machine s c) (image_machine l) at) (IsRepresentedIn s c l f (located_step s c at)) 1 (most_for_step s c at) u
   step_leads at u is_shown right =
       image_leads (located_machine s c) l outside_at (Stands s c l f) (IsOfRun s c) (most_for_step s c) is_served at u is_shown right
       (λ going. keeps at u.machine (is_shown.running going) is_shown.holds right)

@@ -28,7 +28,7 @@ use Rattle.cmm_select.specs.Operands.{CanBringOperand, operand_at}
 use Rattle.cmm_image_machine.specs.Machine.{Launch, map_of}
 use Rattle.cmm_emit_laws.proofs.Carrying.{forget_values}
 use Rattle.cmm_emit_laws.proofs.Showing.{store_shows}
-use Rattle.cmm_emit_laws.specs.Shown.{IsFor, IsPlaceOf, IsShown}
+use Rattle.cmm_emit_laws.specs.Represented.{IsFor, IsPlaceOf, IsRepresented}
 use Rattle.cmm_located.specs.Compiled.{Compiled, Located}
 use Rattle.cmm_located.specs.Nodes.{done, keeping, ran_at, reads_at, transferred}
 use Rattle.cmm_emit_laws.proofs.Accesses.{all_there, may_is_cell, some_bytes}
@@ -58,7 +58,7 @@ module _ (s : Setting) (c : Compiled) (l : Launch) (f : Finished) (is_for : IsFo
       may_access (cell_at at.store.memory) (bytes width) aligned a ≡ true → IsDone s c l f at cost t (record at { store = store_after a v; node = next })
   stored a v is_a is_v may =
       silently s c l f at cost t (record at { store = store_after a v; node = next }) (tokens_there s c l f (record at { store = store_after a v }) g is_graph valid next leads) refl refl (λ b. b)
-      (reaches_more (reaches_sound {Q = λ u. (u.pc ≡ f.node_at at.procedure next) × IsShown f.symbols s (map_of l) at.holdings (store_after a v) at.carried u}
+      (reaches_more (reaches_sound {Q = λ u. (u.pc ≡ f.node_at at.procedure next) × IsRepresented f.symbols s at.holdings (store_after a v) at.carried u}
       (reaches_weaker
       (reaches_then (reaches_sound (code.stores.runs.go t stands.sound stands.pc (record {
         brings = record { brings_left = first.1; brings_right = second.1 };
@@ -79,13 +79,13 @@ module _ (s : Setting) (c : Compiled) (l : Launch) (f : Finished) (is_for : IsFo
       second = operand_is s c l f is_for at t body.activation body.older body.youngest places stands.shown value code.stored v code.is_value is_v
 
       written : (u : State) → Writes (operand_at (f.labels at.procedure) code.to t) (bytes width) (operand_at (f.labels at.procedure) code.stored t) t u →
-          IsShown f.symbols s (map_of l) at.holdings (store_after a v) at.carried u
+          IsRepresented f.symbols s at.holdings (store_after a v) at.carried u
       written u writes =
-          subst (λ (xs : List ℕ). IsShown f.symbols s (map_of l) at.holdings (store_after a v) xs u) (sym body.carried)
+          subst (λ (xs : List ℕ). IsRepresented f.symbols s at.holdings (store_after a v) xs u) (sym body.carried)
           (store_shows f.symbols s (map_of l) is_for at.holdings at.store t u a (bytes width) v (some_bytes width).0
           (all_there s (map_of l) is_for at.store stands.shown.stack a width aligned may)
           (subst (λ (n : ℕ). Writes n (bytes width) v t u) first.0 (subst (λ (n : ℕ). Writes (operand_at (f.labels at.procedure) code.to t) (bytes width) n t u) second.0 writes))
-          (forget_values f.symbols s (map_of l) at.holdings at.store at.carried t stands.shown))
+          (forget_values f.symbols s at.holdings at.store at.carried t stands.shown))
 
   by_access : (a v : ℕ) → operand_value (keeping s c at).held address (reads_at s c at) ≡ Ok a → operand_value (keeping s c at).held value (reads_at s c at) ≡ Ok v →
       (test : Bool) → may_access (cell_at at.store.memory) (bytes width) aligned a ≡ test →

@@ -11,8 +11,8 @@ use Rattle.cmm_program.specs.Memory.{Cell, Outside, Room, Memory, cell_at, with_
 use Rattle.cmm_program.specs.Values.{is_there}
 use Rattle.cmm_machine_laws.proofs.Shared.{read_after_write}
 use Rattle.rv_table.proofs.Shared.{loaded-above, loaded-below, stored-outside}
-use Rattle.rv_table.specs.Machine.{MemoryMap, loaded, stored}
-use Rattle.cmm_emit_laws.specs.Words.{Symbols, Sits, ShowsWords, ShowsRoom, ShowsRooms, ShowsCells}
+use Rattle.rv_table.specs.Machine.{Region, loaded, stored}
+use Rattle.cmm_emit_laws.specs.Words.{Symbols, Sits, RepresentsWords, RepresentsRoom, RepresentsRooms, RepresentsCells}
 use Rattle.cmm_emit_laws.proofs.WrittenWords.{shown_same}
 
 -- ---- one byte and then the others
@@ -21,14 +21,14 @@ abbrev pub with_one : ℕ → ℕ → (ℕ → ℕ) → ℕ → ℕ
 with_one a x bytes k = elim (k == a) [ true ↦ x | false ↦ bytes k ]
 
 -- the cell of a room at an address in it, once a byte was written
-room_written : (room : Room) (bytes : ℕ → ℕ) (a x : ℕ) → ShowsRoom room bytes → ShowsRoom (with_byte_in room a x) (with_one a x bytes)
+room_written : (room : Room) (bytes : ℕ → ℕ) (a x : ℕ) → RepresentsRoom room bytes → RepresentsRoom (with_byte_in room a x) (with_one a x bytes)
 room_written room bytes a x shows k inside = grind (arith, nat_tests, common_steps, shows k)
 
-rooms_written : (rooms : List Room) (bytes : ℕ → ℕ) (a x : ℕ) → ShowsRooms rooms bytes → ShowsRooms (map (λ room. with_byte_in room a x) rooms) (with_one a x bytes)
+rooms_written : (rooms : List Room) (bytes : ℕ → ℕ) (a x : ℕ) → RepresentsRooms rooms bytes → RepresentsRooms (map (λ room. with_byte_in room a x) rooms) (with_one a x bytes)
 rooms_written [] bytes a x shows = tt
 rooms_written (room ∷ rooms) bytes a x shows = (room_written room bytes a x shows.0, rooms_written rooms bytes a x shows.1)
 
-rooms_alike : (rooms : List Room) (bytes bytes' : ℕ → ℕ) → ((k : ℕ) → bytes' k ≡ bytes k) → ShowsRooms rooms bytes → ShowsRooms rooms bytes'
+rooms_alike : (rooms : List Room) (bytes bytes' : ℕ → ℕ) → ((k : ℕ) → bytes' k ≡ bytes k) → RepresentsRooms rooms bytes → RepresentsRooms rooms bytes'
 rooms_alike [] bytes bytes' same shows = tt
 rooms_alike (room ∷ rooms) bytes bytes' same shows =
     (λ k inside. rw (same k) (shows.0 k inside), rooms_alike rooms bytes bytes' same shows.1)
@@ -37,7 +37,7 @@ abbrev pub with_each : ℕ → List ℕ → (ℕ → ℕ) → ℕ → ℕ
 with_each a [] bytes = bytes
 with_each a (x ∷ xs) bytes = with_each (a + 1) xs (with_one a x bytes)
 
-all_written : (memory : Memory) (a : ℕ) (xs : List ℕ) (bytes : ℕ → ℕ) → ShowsCells memory bytes → ShowsCells (with_bytes memory a xs) (with_each a xs bytes)
+all_written : (memory : Memory) (a : ℕ) (xs : List ℕ) (bytes : ℕ → ℕ) → RepresentsCells memory bytes → RepresentsCells (with_bytes memory a xs) (with_each a xs bytes)
 all_written memory a [] bytes shows = shows
 all_written memory a (x ∷ xs) bytes shows =
     all_written (with_byte memory a x) (a + 1) xs (with_one a x bytes) (rooms_written (rooms_of memory) bytes a x shows)
@@ -81,8 +81,8 @@ all_is_stored zero a v bytes k = sym (nothing (nat_lt k a) refl)
 all_is_stored (suc n) a v bytes k = all_is_stored n (a + 1) (v / 256) (with_one a (v % 256) bytes) k ∙ stored_next bytes a n v k
 
 -- bytes of memory and of the machine are written alike
-pub cells_written : (memory : Memory) (a size v : ℕ) (bytes : ℕ → ℕ) → ShowsCells memory bytes →
-    ShowsCells (with_bytes memory a (bytes_of size v)) (stored bytes a size v)
+pub cells_written : (memory : Memory) (a size v : ℕ) (bytes : ℕ → ℕ) → RepresentsCells memory bytes →
+    RepresentsCells (with_bytes memory a (bytes_of size v)) (stored bytes a size v)
 cells_written memory a size v bytes shows =
     let after = with_bytes memory a (bytes_of size v) in
     rooms_alike (rooms_of after) (with_each a (bytes_of size v) bytes) (stored bytes a size v) (λ k. sym (all_is_stored size a v bytes k))
@@ -94,8 +94,8 @@ cells_written memory a size v bytes shows =
 pub still_outside : (memory : Memory) (a : ℕ) (xs : List ℕ) (k : ℕ) → cell_at memory k ≡ Outside → cell_at (with_bytes memory a xs) k ≡ Outside
 still_outside memory a xs k is = read_after_write memory a xs k ∙ grind (arith, nat_tests, is)
 
-pub sits_still : (m : MemoryMap) (memory : Memory) (a b : ℕ) (xs : List ℕ) → Sits m memory b → Sits m (with_bytes memory a xs) b
-sits_still m memory a b xs sits = record {
+pub sits_still : (r : Region) (memory : Memory) (a b : ℕ) (xs : List ℕ) → Sits r memory b → Sits r (with_bytes memory a xs) b
+sits_still r memory a b xs sits = record {
   aligned = sits.aligned;
   low = sits.low;
   high = sits.high;
@@ -130,10 +130,10 @@ module _ (memory : Memory) (a size v : ℕ) (bytes : ℕ → ℕ) (some : 1 ≤ 
     | inr h ↦ loaded-above bytes a size v b 8 h
   ]
 
-  pub words_stay : (y : Symbols) (m : MemoryMap) (words : Contents) → ShowsWords y m memory words bytes →
-      ShowsWords y m (with_bytes memory a (bytes_of size v)) words (stored bytes a size v)
-  words_stay y m words before = record {
-    sits = λ b known. sits_still m memory a b (bytes_of size v) (before.sits b known);
+  pub words_stay : (y : Symbols) (r : Region) (words : Contents) → RepresentsWords y r memory words bytes →
+      RepresentsWords y r (with_bytes memory a (bytes_of size v)) words (stored bytes a size v)
+  words_stay y r words before = record {
+    sits = λ b known. sits_still r memory a b (bytes_of size v) (before.sits b known);
     shown = λ b. shown_same y (words b) (loaded bytes b 8) (loaded (stored bytes a size v) b 8)
         (λ known. word_stays b ((before.sits b known).apart)) (before.shown b);
   }

@@ -1,9 +1,8 @@
 -- Frames that are laid for the places of locals, and the procedures that have them.
-use Rattle.std.specs.Prelude.{◌≡◌, ◌⊎◌, ℕ, Bool, true, false, Contains, List, Some}
+use Rattle.std.specs.Prelude.{◌≡◌, ◌⊎◌, ℕ, true, Contains, List, Some}
 use Rattle.cmm_chain.specs.declared.frame.Frame.{Frame}
 use Rattle.cmm_chain.specs.declared.frame.Location.{Location}
-use Rattle.cmm_chain.specs.declared.frame.Location.TheVariants.{Slot, Saved, Temp}
-use Rattle.cmm_abi.specs.Registers.{is_callee_saves, is_temporary}
+use Rattle.cmm_chain.specs.Plans.{is_register}
 use Rattle.cmm_program.specs.declared.procedure.Proc.{Proc}
 use Rattle.cmm_program.specs.Frames.{place_row, procedure_at}
 use Rattle.cmm_program.specs.InRange.{FitsFrames}
@@ -12,12 +11,6 @@ use Rattle.cmm_calls.specs.Frames.{CanBeMade}
 use Rattle.cmm_located.specs.Compiled.{Compiled}
 use Rattle.cmm_located.specs.Layouts.{IsFrameOf}
 use Rattle.cmm_emit_laws.specs.ProgramCode.{IsLaidFor}
-
--- a register in which a local may be
-abbrev pub is_register : Location → Bool
-is_register (Slot offset) = false
-is_register (Saved r) = is_callee_saves r
-is_register (Temp r) = is_temporary r
 
 -- A procedure has a frame that is laid for some places, which its row of the placement has as well; and each local has one of the places, or a
 -- register.

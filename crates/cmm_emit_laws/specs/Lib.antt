@@ -1,5 +1,5 @@
 pub mod Words
-pub mod Shown
+pub mod Represented
 pub mod StateLaws
 pub mod Outside
 pub mod Serving

@@ -28,7 +28,7 @@ use Rattle.cmm_graph.specs.declared.node.HostCall.TheVariants as host
 use Rattle.cmm_graph.specs.declared.node.NodeKind.{NodeKind}
 use Rattle.cmm_graph.specs.declared.node.NodeKind.TheVariants.{Entry, CopyIn, Assign, Store, Branch, Switch, Call, Jump, Cut, Return, Host, Goto, Stop}
 use Rattle.rv_asm.specs.declared.part.Label.{Label}
-use Rattle.rv_table.specs.Machine.{State, region_base}
+use Rattle.rv_table.specs.Machine.{State, Region}
 use Rattle.rv_table.specs.Words.{sum}
 use Rattle.rv_table.specs.declared.request.Request.TheVariants.{GetByte, PutByte, StackLimit, End}
 use Rattle.cmm_effects.specs.Accesses.{global_at}
@@ -52,11 +52,11 @@ use Rattle.cmm_calls.specs.Copying.{PutsEachTo, values_to}
 use Rattle.cmm_calls.specs.Frames.{entry_cost}
 use Rattle.cmm_calls.specs.Values.{Begins, HasRegion, JumpsTo, ReturnsValues, is_taken_first, parting_cost}
 use Rattle.cmm_image_machine.specs.Machine.{Launch}
-use Rattle.cmm_emit_laws.specs.Shown.{AreLandings}
-use Rattle.cmm_emit_laws.specs.Words.{register_address}
+use Rattle.cmm_emit_laws.specs.Represented.{AreLandings}
 use Rattle.cmm_located.specs.Compiled.{Compiled, landing_in, place_of}
 use Rattle.cmm_effects.specs.Requests.{AsksFor}
 use Rattle.cmm_emit_laws.specs.Finished.{Finished, code_of}
+use Rattle.cmm_abi.specs.Regions.{global_address}
 
 module _ (s : Setting) (c : Compiled) (l : Launch) (f : Finished) where
   -- ---- operands
@@ -85,9 +85,9 @@ module _ (s : Setting) (c : Compiled) (l : Launch) (f : Finished) where
 
   -- ---- what takes a number
 
-  -- a label stands for the offset of a global register in the region, in the code of a procedure
+  -- a label stands for the offset of a global register in a region, in the code of a procedure
   abbrev pub IsRegister : ℕ → ℕ → Label → Type 0
-  IsRegister q r label = region_base + f.labels q label.number ≡ register_address r
+  IsRegister q k label = (r : Region) → r.address + f.labels q label.number ≡ global_address r k
 
   -- what takes a value in a procedure, as code has it
   abbrev pub IsTargetOf : ℕ → Target → CodeDestination → Type 0
@@ -213,8 +213,8 @@ module _ (s : Setting) (c : Compiled) (l : Launch) (f : Finished) where
   pub record CopyInCode (q : ℕ) (n : NodeId) (to : List Target) (next : NodeId) (most : ℕ) : Type 0 where
     pub destinations : List CodeDestination
     pub are : AreTargetsOf q to destinations
-    pub turns : Turns most (HasRegion (c.plan.frame q).size) (λ u. f.node_at q next)
-        (λ u w. (v : State) × PutsEachTo (f.labels q) (values_to 0 destinations u) u v × Keeps v w) (code_of l f q) (f.node_at q n)
+    pub turns : (r : Region) → Turns most (HasRegion r (c.plan.frame q).size) (λ u. f.node_at q next)
+        (λ u w. (v : State) × PutsEachTo (f.labels q) (values_to r 0 destinations u) u v × Keeps v w) (code_of l f q) (f.node_at q n)
     pub few_values : length to ≤ 64
 
   -- The frame is made with the landings of the continuations, locals are made 0, none of which is where an argument comes, and the formals

@@ -21,7 +21,7 @@ use Rattle.cmm_graph.specs.Paths.{node_of}
 use Rattle.cmm_graph.specs.Ranges.{IsValid}
 use Rattle.cmm_calls.specs.Frames.{CanBeMade}
 use Rattle.cmm_image_machine.specs.Machine.{Launch, map_of}
-use Rattle.cmm_emit_laws.specs.Shown.{AreWordsAt, IsFor, IsPlaceOf}
+use Rattle.cmm_emit_laws.specs.Represented.{AreWordsAt, IsFor, IsPlaceOf}
 use Rattle.cmm_located.specs.Compiled.{Compiled, landing_in, site_exits}
 use Rattle.cmm_emit_laws.specs.Finished.{Finished}
 use Rattle.cmm_emit_laws.specs.NodeCode.{IsCodeOf, SiteCode}

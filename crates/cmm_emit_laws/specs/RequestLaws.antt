@@ -5,7 +5,7 @@ use Rattle.cmm_simulation.specs.Simulation.{Simulates}
 use Rattle.cmm_image_machine.specs.Machine.{Launch, Run}
 use Rattle.cmm_image_machine.specs.Observed.{image_machine}
 use Rattle.cmm_emit_laws.specs.Outside.{outside}
-use Rattle.cmm_emit_laws.specs.Serving.{AreDone, IsShownBy}
+use Rattle.cmm_emit_laws.specs.Serving.{AreDone, IsRepresentedBy}
 
 abbrev pub IsMachineOf : Run → State → Type 0
 IsMachineOf run s = s ≡ run.machine
@@ -20,4 +20,4 @@ StepsAreDone = (l : Launch) → AreDone (image_machine l) l outside IsMachineOf 
 -- so an image simulates itself, at one instruction a step
 abbrev pub ImagesSimulateThemselves : Type 0
 ImagesSimulateThemselves = (l : Launch) →
-    Simulates (image_machine l) (λ run. 1) (image_machine l) (λ run. 1) (IsShownBy (image_machine l) l outside IsMachineOf Always)
+    Simulates (image_machine l) (λ run. 1) (image_machine l) (λ run. 1) (IsRepresentedBy (image_machine l) l outside IsMachineOf Always)

@@ -16,7 +16,7 @@ use Rattle.cmm_emit_laws.specs.Outside.{Outside, outside, run_with, seen_outside
 -- is not over, and `Holds` what holds of the states of which this is asked.
 module _ {S : Type 0} (A : Machine S ℕ Call Ending) (l : Launch) (outside_of : S → Outside) (Shown : S → State → Type 0) (Holds : S → Type 0) where
   -- the run has what is outside alike, and registers and memory that represent the state; once the run is over, the ending is the state's
-  pub record IsShownBy (a : S) (run : Run) : Type 0 where
+  pub record IsRepresentedBy (a : S) (run : Run) : Type 0 where
     pub outside : outside run ≡ outside_of a
     pub right : A.wrong a ≡ false
     pub holds : Holds a

@@ -13,9 +13,9 @@ use Rattle.cmm_graph.specs.GraphControl.{in_graph}
 use Rattle.cmm_graph.specs.Paths.{node_of}
 use Rattle.cmm_graph.specs.declared.node.NodeKind.{NodeKind}
 use Rattle.cmm_graph.specs.declared.node.NodeKind.TheVariants.{Entry, CopyIn}
-use Rattle.cmm_image_machine.specs.Machine.{Launch, Status, Running, Ended, Trapped, map_of}
+use Rattle.cmm_image_machine.specs.Machine.{Launch, Status, Running, Ended, Trapped}
 use Rattle.cmm_emit_laws.specs.Outside.{Outside}
-use Rattle.cmm_emit_laws.specs.Shown.{IsShown}
+use Rattle.cmm_emit_laws.specs.Represented.{IsRepresented}
 use Rattle.cmm_located.specs.Compiled.{Compiled, Located, bare}
 use Rattle.cmm_located.specs.LocatedMachine.{tokens_at}
 use Rattle.cmm_emit_laws.specs.Finished.{Finished}
@@ -71,7 +71,7 @@ module _ (s : Setting) (c' : Compiled) (l : Launch) (f : Finished) where
     pub node : Node
     pub there : in_graph c'.graphs at.procedure (λ g. node_of g at.node) ≡ Some node
     pub inside : IsInside node.kind at
-    pub shown : IsShown f.symbols s (map_of l) at.holdings at.store at.carried t
+    pub shown : IsRepresented f.symbols s at.holdings at.store at.carried t
     pub pc : t.pc ≡ f.node_at at.procedure at.node
     pub sound : IsSound t
 

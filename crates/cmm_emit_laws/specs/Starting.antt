@@ -13,10 +13,11 @@ use Rattle.cmm_graph.specs.GraphControl.{in_graph}
 use Rattle.cmm_effects.specs.Changes.{PutsRegister}
 use Rattle.cmm_effects.specs.Pieces.{Always}
 use Rattle.cmm_effects.specs.Ways.{Goes}
-use Rattle.cmm_image_machine.specs.Machine.{Launch}
+use Rattle.cmm_image_machine.specs.Machine.{Launch, region_of}
 use Rattle.cmm_located.specs.Compiled.{Compiled}
 use Rattle.cmm_effects.specs.Requests.{AsksFor}
 use Rattle.cmm_emit_laws.specs.Finished.{Finished, code_of}
+use Rattle.cmm_emit_laws.specs.Represented.{stack_region}
 
 -- A label is called, with the address behind the call in register 1, and nothing else is changed but scratch registers; there the end of the
 -- run is requested, with the value in register 10.
@@ -29,6 +30,8 @@ pub record BeginsRun (main : Label) (x : Code) (from : ℕ) : Type 0 where
 -- scratch registers. This code belongs to no procedure, and no label is named here, so it is taken as that of `main`. The data of the image are
 -- those of the program.
 pub record StartCode (s : Setting) (c : Compiled) (l : Launch) (f : Finished) : Type 0 where
+  -- the run begins in the region of the setting
+  pub region : stack_region s ≡ region_of l
   pub first : NodeId
   pub is_first : in_graph c.graphs s.program.main (λ g. Some g.first) ≡ Some first
   pub most : ℕ

@@ -1,9 +1,9 @@
 -- How the bytes and registers of the machine represent what words, cells and values hold.
-use Rattle.std.specs.Prelude.{◌≡◌, ℕ, ◌+◌, ◌-◌, ◌*◌, ◌%◌, ◌<◌, ◌≤◌, nat_lt, Bool, true, false, List, [], ◌∷◌, length, slice_index_or, None}
+use Rattle.std.specs.Prelude.{◌≡◌, ℕ, ◌+◌, ◌-◌, ◌%◌, ◌<◌, ◌≤◌, Bool, true, false, List, [], ◌∷◌, length, slice_index_or, None}
 use Rattle.cmm_chain.specs.Contents.{Content, Unknown, Number, ReturnTo, LandingOf, LastReturn, Contents}
 use Rattle.cmm_program.specs.Memory.{Cell, Outside, Byte, Room, Memory, is_in, cell_of, cell_at, rooms_of}
-use Rattle.rv_table.specs.Machine.{MemoryMap, region_base, stack_base, loaded}
-use Rattle.rv_table.specs.declared.memory_map.TheConstants.{GLOBALS_OFFSET}
+use Rattle.cmm_abi.specs.Regions.{global_address, value_place, word_at}
+use Rattle.rv_table.specs.Machine.{Region, State, bottom, loaded, top}
 
 -- ---- words
 
@@ -16,61 +16,55 @@ pub record Symbols : Type 0 where
   pub last_return : ℕ
 
 -- a number represents a content; nothing is required where none is known
-abbrev pub Shows : Symbols → Content → ℕ → Type 0
-Shows y Unknown n = Unit {0}
-Shows y (Number a) n = n ≡ a
-Shows y (ReturnTo q site) n = n ≡ y.return_to q site
-Shows y (LandingOf q k) n = n ≡ y.landing_of q k
-Shows y LastReturn n = n ≡ y.last_return
+abbrev pub Represents : Symbols → Content → ℕ → Type 0
+Represents y Unknown n = Unit {0}
+Represents y (Number a) n = n ≡ a
+Represents y (ReturnTo q site) n = n ≡ y.return_to q site
+Represents y (LandingOf q k) n = n ≡ y.landing_of q k
+Represents y LastReturn n = n ≡ y.last_return
 
 abbrev pub is_known : Content → Bool
 is_known Unknown = false
 is_known _ = true
 
--- eight bytes of the stack, at a multiple of 8, none of which is data or stackdata
-pub record Sits (m : MemoryMap) (memory : Memory) (address : ℕ) : Type 0 where
+-- eight bytes of the stack of a region, at a multiple of 8, none of which is data or stackdata
+pub record Sits (r : Region) (memory : Memory) (address : ℕ) : Type 0 where
   pub aligned : address % 8 ≡ 0
-  pub low : stack_base ≤ address
-  pub high : address + 8 ≤ stack_base + m.stack_size
+  pub low : bottom r ≤ address
+  pub high : address + 8 ≤ top r
   pub apart : (i : ℕ) → i < 8 → cell_at memory (address + i) ≡ Outside
 
 -- every word of the stack that is known sits so, and its bytes represent it
-pub record ShowsWords (y : Symbols) (m : MemoryMap) (memory : Memory) (contents : Contents) (bytes : ℕ → ℕ) : Type 0 where
-  pub sits : (a : ℕ) → is_known (contents a) ≡ true → Sits m memory a
-  pub shown : (a : ℕ) → Shows y (contents a) (loaded bytes a 8)
+pub record RepresentsWords (y : Symbols) (r : Region) (memory : Memory) (contents : Contents) (bytes : ℕ → ℕ) : Type 0 where
+  pub sits : (a : ℕ) → is_known (contents a) ≡ true → Sits r memory a
+  pub shown : (a : ℕ) → Represents y (contents a) (loaded bytes a 8)
 
 -- ---- cells: a byte is shown where one was written
 
-abbrev pub ShowsCell : Cell → ℕ → Type 0
-ShowsCell (Byte byte) n = n ≡ byte
-ShowsCell _ n = Unit {0}
+abbrev pub RepresentsCell : Cell → ℕ → Type 0
+RepresentsCell (Byte byte) n = n ≡ byte
+RepresentsCell _ n = Unit {0}
 
-abbrev pub ShowsRoom : Room → (ℕ → ℕ) → Type 0
-ShowsRoom room bytes = (a : ℕ) → is_in room a ≡ true → ShowsCell (cell_of (slice_index_or room.cells (a - room.address) None)) (bytes a)
+abbrev pub RepresentsRoom : Room → (ℕ → ℕ) → Type 0
+RepresentsRoom room bytes = (a : ℕ) → is_in room a ≡ true → RepresentsCell (cell_of (slice_index_or room.cells (a - room.address) None)) (bytes a)
 
-abbrev pub ShowsRooms : List Room → (ℕ → ℕ) → Type 0
-ShowsRooms [] bytes = Unit {0}
-ShowsRooms (room ∷ rooms) bytes = ShowsRoom room bytes × ShowsRooms rooms bytes
+abbrev pub RepresentsRooms : List Room → (ℕ → ℕ) → Type 0
+RepresentsRooms [] bytes = Unit {0}
+RepresentsRooms (room ∷ rooms) bytes = RepresentsRoom room bytes × RepresentsRooms rooms bytes
 
-abbrev pub ShowsCells : Memory → (ℕ → ℕ) → Type 0
-ShowsCells memory bytes = ShowsRooms (rooms_of memory) bytes
+abbrev pub RepresentsCells : Memory → (ℕ → ℕ) → Type 0
+RepresentsCells memory bytes = RepresentsRooms (rooms_of memory) bytes
 
--- ---- the region below the stack: the argument area, and a word for each global register
+-- ---- below the stack of a region: the argument area, and a word for each global register
 
--- nothing stands there
-abbrev pub IsRegionFree : Memory → Type 0
-IsRegionFree memory = (a : ℕ) → region_base ≤ a → a < stack_base → cell_at memory a ≡ Outside
+-- nothing of the program's memory stands there
+abbrev pub IsRegionFree : Region → Memory → Type 0
+IsRegionFree r memory = (a : ℕ) → r.address ≤ a → a < bottom r → cell_at memory a ≡ Outside
 
-abbrev pub register_address : ℕ → ℕ
-register_address r = region_base + GLOBALS_OFFSET + 8 * r
+abbrev pub RepresentsRegisters : Region → List ℕ → (ℕ → ℕ) → Type 0
+RepresentsRegisters r registers bytes =
+    (length registers ≤ 256) × ((k : ℕ) → k < length registers → loaded bytes (global_address r k) 8 ≡ slice_index_or registers k 0)
 
-abbrev pub ShowsRegisters : List ℕ → (ℕ → ℕ) → Type 0
-ShowsRegisters registers bytes =
-    (length registers ≤ 256) × ((r : ℕ) → r < length registers → loaded bytes (register_address r) 8 ≡ slice_index_or registers r 0)
-
--- where a value is that control brings: the first eight in registers, the others in the argument area
-abbrev pub value_at : (ℕ → ℕ) → (ℕ → ℕ) → ℕ → ℕ
-value_at registers bytes i = elim (nat_lt i 8) [ true ↦ registers (10 + i) | false ↦ loaded bytes (region_base + 8 * (i - 8)) 8 ]
-
-abbrev pub ShowsValues : List ℕ → (ℕ → ℕ) → (ℕ → ℕ) → Type 0
-ShowsValues values registers bytes = (length values ≤ 64) × ((i : ℕ) → i < length values → value_at registers bytes i ≡ slice_index_or values i 0)
+-- the values that control brings are where values travel
+abbrev pub RepresentsValues : Region → List ℕ → State → Type 0
+RepresentsValues r values t = (length values ≤ 64) × ((i : ℕ) → i < length values → word_at t (value_place r i) ≡ slice_index_or values i 0)

@@ -6,7 +6,7 @@
 //! after the node's step, within 32 instructions for each token of the node, or makes the request of the step by an ECALL. So the image simulates the located
 //! machine, and follows it from its first state on.
 //!
-//! - `specs/Words`, `specs/Shown`: how numbers represent words, and which states represent which. `specs/StateLaws`, `state_laws`: what each effect preserves.
+//! - `specs/Words`, `specs/Represented`: how numbers represent words, and which states represent which. `specs/StateLaws`, `state_laws`: what each effect preserves.
 //! - `specs/Outside`, `specs/Serving`: when an image simulates a machine: each step is instructions alone, or instructions around one request.
 //!   `specs/RequestLaws`, `request_laws`: an image does so for itself. That it simulates every such machine holds of machines of any type, which a contract
 //!   cannot say, so it is the public lemma `image_simulates` of `proofs/Shared`.

@@ -10,37 +10,37 @@ pub fn places_are_shown()
 
 /// Numbers that are put into places are shown to be held there.
 pub fn puts_are_shown()
-    ensures { laws.PutsAreShown }
+    ensures { laws.PutsAreRepresented }
 {}
 
 /// A global register is read and written at its word of the region below the stack.
 pub fn registers_are_shown()
     ensures read { laws.RegistersAreRead }
-    ensures put { laws.RegisterPutsAreShown }
+    ensures put { laws.RegisterPutsAreRepresented }
 {}
 
 /// Data and stackdata are loaded and stored where their cells stand; where these do, an aligned access does not trap.
 pub fn cells_are_shown()
     ensures reached { laws.CellsAreReached }
-    ensures loads { laws.LoadsAreShown }
-    ensures stores { laws.StoresAreShown }
+    ensures loads { laws.LoadsAreRepresented }
+    ensures stores { laws.StoresAreRepresented }
 {}
 
 /// The frame of an activation comes with its fixed words, and goes with its saved registers restored.
 pub fn frames_are_shown()
-    ensures come { laws.FramesComeShown }
-    ensures go { laws.FramesGoShown }
+    ensures come { laws.FramesComeRepresented }
+    ensures go { laws.FramesGoRepresented }
 {}
 
 /// Values go out to where they travel, at a call, a return, a tail call or a cut; a call sets the return address, and a cut moves to an older
 /// frame.
 pub fn transfers_are_shown()
     ensures values { laws.ValuesAreGiven }
-    ensures calls { laws.CallsAreShown }
-    ensures cuts { laws.CutsAreShown }
+    ensures calls { laws.CallsAreRepresented }
+    ensures cuts { laws.CutsAreRepresented }
 {}
 
 /// A run begins with a state that represents the first one.
 pub fn starts_are_shown()
-    ensures { laws.StartsAreShown }
+    ensures { laws.StartsAreRepresented }
 {}

@@ -6,7 +6,7 @@ use Rattle.cmm_image.specs.declared.rows.SiteRow.{SiteRow}
 use Rattle.cmm_image.specs.ImageFormat.{procedure_at}
 use Rattle.cmm_image.specs.InFrames.{KeepsFrame}
 use Rattle.cmm_program.specs.Asking.{Chain}
-use Rattle.cmm_image_machine.specs.Regions.{Region, bottom, top}
+use Rattle.cmm_abi.specs.Regions.{Region, bottom, top}
 use Rattle.cmm_image_machine.specs.Frames.{Element, Point, Found, Activation, Nothing, Broken, is_end, is_frame, site_at, break_at, activation_at, found_at, point_after, behind, along, chain_within, points_from, chain_from}
 use Rattle.cmm_image_machine.specs.Laws.{KeepFrames, ChainGoesOn}
 

@@ -16,7 +16,7 @@ use Rattle.cmm_image.specs.Places.{IsPlace, leaves}
 use Rattle.cmm_image.proofs.Shared.{sites_keep_frames}
 use Rattle.std.proofs.lemmas.Bool.Decides.{nat_tests}
 use Rattle.cmm_program.specs.Asking.{Break, Chain}
-use Rattle.cmm_image_machine.specs.Regions.{Region, bottom, top, Place, InRegister, InMemory, word_at}
+use Rattle.cmm_abi.specs.Regions.{Region, bottom, top, Place, InRegister, InMemory, word_at}
 use Rattle.cmm_image_machine.specs.Frames as frames
 use Rattle.cmm_image_machine.specs.Frames.{Element, Point, Found, Nothing, Broken, first_point, site_at, found_at, return_offset, places_before, point_after, behind, along, chain_within, points_from, chain_from, chain_of}
 use Rattle.cmm_image_machine.specs.Walks.{place_in, value_at, variables_shown, element_shown, walk_along, chain_walk}

@@ -15,7 +15,7 @@ use Rattle.cmm_image.specs.declared.rows.ProcRow.{ProcRow}
 use Rattle.cmm_image.specs.declared.rows.VariableNumber.{VariableNumber}
 use Rattle.cmm_abi.specs.Registers.{is_callee_saves}
 use Rattle.cmm_program.specs.Asking.{Exit}
-use Rattle.cmm_image_machine.specs.Regions.{Region, with_word, word_at, with_values}
+use Rattle.cmm_abi.specs.Regions.{Region, with_word, word_at, with_values}
 use Rattle.cmm_image_machine.specs.Frames.{Element}
 use Rattle.cmm_image_machine.specs.Walks.{place_in}
 

@@ -8,7 +8,7 @@ use Rattle.cmm_image.specs.declared.rows.ProcRow.{ProcRow}
 use Rattle.cmm_image.specs.declared.rows.SiteRow.{SiteRow}
 use Rattle.cmm_image.specs.ImageFormat.{procedure_at}
 use Rattle.cmm_program.specs.Asking.{Break, Chain}
-use Rattle.cmm_image_machine.specs.Regions.{Region, bottom, top, Place, InRegister, InMemory}
+use Rattle.cmm_abi.specs.Regions.{Region, bottom, top, Place, InRegister, InMemory}
 
 -- An activation as its frame shows it: the rows of its site and of its procedure, the address of its frame, and where the value is
 -- now that each callee-saves register had in it.

@@ -14,7 +14,7 @@ use Rattle.cmm_image.specs.Images.{IsImage}
 use Rattle.cmm_image.specs.InFrames.{KeepsFrame}
 use Rattle.cmm_image.specs.Sites.{site_place}
 use Rattle.cmm_abi.specs.Registers.{is_callee_saves}
-use Rattle.cmm_image_machine.specs.Regions.{Region, bottom, top, Place, InRegister, InMemory}
+use Rattle.cmm_abi.specs.Regions.{Region, bottom, top, Place, InRegister, InMemory}
 use Rattle.cmm_image_machine.specs.Frames.{Element, Point, is_frame, site_at, found_at, along, chain_from, chain_of, older_than}
 use Rattle.cmm_image_machine.specs.Walks.{chain_walk}
 use Rattle.cmm_image_machine.specs.Machine.{Launch, Run, Running, step, first_run, image_after}

@@ -1,4 +1,3 @@
-pub mod Regions
 pub mod Frames
 pub mod Walks
 pub mod Changes

@@ -1,6 +1,7 @@
 -- What an image does: the state after n instructions.
 use Rattle.std.specs.Prelude.{ℕ, zero, suc, ◌+◌, ◌-◌, nat_le, true, false, List, [], ◌∷◌, ◌++◌, length, slice_index_or, Some, None}
 use Rattle.cmm_abi.specs.declared.registers.TheConstants.{REQUEST_VALUE}
+use Rattle.rv_table.specs.declared.memory_map.TheConstants.{BELOW_STACK}
 use Rattle.rv_table.specs.declared.request.Request.{Request}
 use Rattle.rv_table.specs.declared.request.Request.TheVariants.{PutByte, GetByte, Yield, StackLimit, End}
 use Rattle.rv_table.specs.declared.trap.TrapKind.{TrapKind}
@@ -15,7 +16,7 @@ use Rattle.cmm_image.specs.declared.parts.ImageParts.{ImageParts}
 use Rattle.cmm_program.specs.Asking.{Askable, Break, Chain}
 use Rattle.cmm_program.specs.Commands.{Answer, Left, answer_to}
 use Rattle.cmm_program.specs.Commands as client
-use Rattle.cmm_image_machine.specs.Regions.{Region, values_in}
+use Rattle.cmm_abi.specs.Regions.{Region, values_in}
 use Rattle.cmm_image_machine.specs.Frames.{Element, chain_of, older_than}
 use Rattle.cmm_image_machine.specs.Walks.{element_shown}
 use Rattle.cmm_image_machine.specs.Changes.{with_variable, with_data, return_exit, unwind_exit, cut_exit, at_pc}
@@ -47,7 +48,7 @@ pub record Run : Type 0 where
 -- ---- where everything lies
 
 abbrev pub map_of : Launch → MemoryMap
-map_of l = record { code = l.image.code; data_length = length l.image.initial; stack_size = l.stack_size }
+map_of l = record { code = l.image.code; data_length = length l.image.initial; region_length = BELOW_STACK + l.stack_size }
 
 abbrev pub region_of : Launch → Region
 region_of l = record { address = region_base; stack_size = l.stack_size }
@@ -129,7 +130,7 @@ step l run = elim run.status [ Running ↦ after_instruction l run (instruction_
 -- at the image's start, with the stack's top in register 2 and the region in register 4
 abbrev pub first_run : Launch → List ℕ → Run
 first_run l input = record {
-  machine = at_pc l.image.start (rv.start (map_of l) (first_memory l.image));
+  machine = at_pc l.image.start (rv.start (region_of l) (first_memory l.image));
   input = input;
   taken = [];
   output = [];

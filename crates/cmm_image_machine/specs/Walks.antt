@@ -10,7 +10,7 @@ use Rattle.cmm_image.specs.declared.rows.VariablePlace.{VariablePlace}
 use Rattle.cmm_image.specs.declared.rows.VariablePlace.TheVariants.{Dead, Slot, Register}
 use Rattle.cmm_image.specs.declared.parts.ImageParts.{ImageParts}
 use Rattle.cmm_program.specs.Asking.{Chain}
-use Rattle.cmm_image_machine.specs.Regions.{Region, Place, InMemory, word_at}
+use Rattle.cmm_abi.specs.Regions.{Region, Place, InMemory, word_at}
 use Rattle.cmm_image_machine.specs.Frames.{Element, chain_of}
 
 -- where a variable of an activation is, if it is live: in a slot of the frame, or where the value of its register is

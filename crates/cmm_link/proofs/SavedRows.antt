@@ -5,6 +5,7 @@ use Rattle.std.proofs.lemmas.Bool.Decides.{nat_tests}
 use Rattle.std.proofs.lemmas.List.{length-map}
 use Rattle.std.specs.List.{list_all}
 use Rattle.std.specs.Option.{option_map}
+use Rattle.cmm_chain.proofs.Shared.{callee_saves_is_written}
 use Rattle.cmm_chain.specs.Plans.{is_word_in, saved_offsets}
 use Rattle.cmm_abi.specs.Registers.{callee_saves, is_callee_saves}
 use Rattle.cmm_image.specs.declared.rows.SavedRegister.{SavedRegister}
@@ -39,9 +40,6 @@ filtered test previous (r ∷ rs) are =
 all_saves : AreSaves None callee_saves
 all_saves = (refl, refl, (refl, refl, (refl, refl, (refl, refl, (refl, refl, (refl, refl, (refl, refl, (refl, refl, (refl, refl, (refl, refl, (refl, refl, tt)))))))))))
 
-register_small : (r : ℕ) → is_callee_saves r ≡ true → r < 256
-register_small r is = grind (arith, nat_tests, is)
-
 leaves_word : (size offset : ℕ) → is_word_in size offset ≡ true → IsTrue (leaves 8 size offset)
 leaves_word size offset is = (and_parts (offset % 8 == 0) (nat_le (offset + 8) size) is).1
 
@@ -53,7 +51,7 @@ rows_hold : (size : ℕ) (previous : Option SavedRegister) (saved : List (ℕ ×
 rows_hold size previous [] small are words = tt
 rows_hold size previous ((register, offset) ∷ saved) small are words =
     let both = and_parts (is_word_in size offset) (list_all (is_word_in size) (saved_offsets saved)) words in (
-      ((register_small register are.0, (are.0, (are.1, tt))), (omega (arith, small, word_small size offset both.0), (leaves_word size offset both.0, tt))),
+      ((omega (arith, (callee_saves_is_written register are.0).1), (are.0, (are.1, tt))), (omega (arith, small, word_small size offset both.0), (leaves_word size offset both.0, tt))),
       rows_hold size (Some (saved_row (register, offset))) saved small are.2 both.1,
     )
 

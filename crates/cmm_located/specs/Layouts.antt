@@ -8,17 +8,16 @@ use Rattle.cmm_program.specs.Frames.{stackdata_offset}
 use Rattle.cmm_program.specs.Placed.{is_code_address, is_row_placed}
 use Rattle.cmm_chain.specs.declared.frame.Frame.{Frame}
 use Rattle.cmm_chain.specs.declared.frame.Location.{Location}
-use Rattle.cmm_chain.specs.declared.frame.Location.TheVariants.{Slot, Saved, Temp}
-use Rattle.cmm_abi.specs.Registers.{callee_saves, is_callee_saves, is_temporary}
-use Rattle.cmm_chain.specs.Plans.{is_laid, is_place, fixed_offsets}
+use Rattle.cmm_chain.specs.declared.frame.Location.TheVariants.{Slot, Saved}
+use Rattle.cmm_abi.specs.Registers.{callee_saves}
+use Rattle.cmm_chain.specs.Plans.{is_laid, is_place, is_register, fixed_offsets}
 
 -- ---- places that a layout takes
 
 -- a slot at a multiple of 8, or a register of its kind
 abbrev pub is_location : Location → Bool
 is_location (Slot offset) = offset % 8 == 0
-is_location (Saved r) = is_callee_saves r
-is_location (Temp r) = is_temporary r
+is_location l = is_register l
 
 -- the end of a slot
 abbrev pub slot_end : Location → ℕ

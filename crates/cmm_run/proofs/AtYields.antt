@@ -18,7 +18,7 @@ use Rattle.cmm_image_machine.specs.Frames.{Element, Point, Found, Activation, No
 use Rattle.cmm_image_machine.specs.Laws.{KeepFrames}
 use Rattle.cmm_image_machine.specs.Machine as image
 use Rattle.cmm_image_machine.specs.Machine.{Launch, Run, Running, Ended, map_of, region_of, askable, yielded_at, left, yields, yielded, goes_on, step}
-use Rattle.cmm_image_machine.specs.Regions.{Region, values_in}
+use Rattle.cmm_abi.specs.Regions.{Region, values_in}
 use Rattle.cmm_image_machine.proofs.Shared.{chain_goes_on}
 use Rattle.cmm_run.specs.declared.machine.Machine.{Machine}
 use Rattle.cmm_run.specs.declared.outcome.Outcome.{Outcome}
@@ -70,20 +70,20 @@ tears_by l run on b Nothing is = absurd (cc is)
 tears_by l run on b (Broken d) is = let same : d ≡ b = cc is in ap (λ (e : Break). record run { status = image.Torn e }) same
 
 chain_is : (l : Launch) (s : State) → KeepFrames l.image →
-    chain_of l.image (region_of l) s ≡ along (chain_from l.image (region_of l) s.memory) s.memory (found_first l s)
+    chain_of l.image (region_of l) s ≡ along (chain_from l.image (region_of l) s.memory) s.memory (found_first l.image (region_of l) s)
 chain_is l s frames = chain_goes_on l.image (region_of l) s.memory (first_point s) frames
 
-pub stops : (l : Launch) (run : Run) (values : List ℕ) → l.script.blocks ≡ [] → KeepFrames l.image → values_at l run.machine ≡ Ok values →
+pub stops : (l : Launch) (run : Run) (values : List ℕ) → l.script.blocks ≡ [] → KeepFrames l.image → values_at l.image (region_of l) run.machine ≡ Ok values →
     yielded l (chain_of l.image (region_of l) run.machine) run ≡ stopped values run
 stops l run values none frames is =
     ap (λ (chain : Chain Element). yielded l chain run) (chain_is l run.machine frames)
-    ∙ stops_by l run (chain_from l.image (region_of l) run.machine.memory) values (found_first l run.machine) none is
+    ∙ stops_by l run (chain_from l.image (region_of l) run.machine.memory) values (found_first l.image (region_of l) run.machine) none is
 
-pub tears : (l : Launch) (run : Run) (b : Break) → KeepFrames l.image → values_at l run.machine ≡ Err b →
+pub tears : (l : Launch) (run : Run) (b : Break) → KeepFrames l.image → values_at l.image (region_of l) run.machine ≡ Err b →
     yielded l (chain_of l.image (region_of l) run.machine) run ≡ record run { status = image.Torn b }
 tears l run b frames is =
     ap (λ (chain : Chain Element). yielded l chain run) (chain_is l run.machine frames)
-    ∙ tears_by l run (chain_from l.image (region_of l) run.machine.memory) b (found_first l run.machine) is
+    ∙ tears_by l run (chain_from l.image (region_of l) run.machine.memory) b (found_first l.image (region_of l) run.machine) is
 
 -- ---- the turn
 
@@ -104,12 +104,12 @@ module _ (l : Launch) (start before after : Outside) (machine next : Machine) (r
   output_shown = subst (λ (told : Option (List ℕ)). Appends start.output told run.output) (sym only.output)
       (moves_end start.output before.output run.output machine.waiting none_waits at.written.output)
 
-  stop_step : (values : List ℕ) → l.script.blocks ≡ [] → values_at l (state_of next.regs next.memory) ≡ Ok values → step l run ≡ stopped values (goes_on run)
+  stop_step : (values : List ℕ) → l.script.blocks ≡ [] → values_at l.image (region_of l) (state_of next.regs next.memory) ≡ Ok values → step l run ≡ stopped values (goes_on run)
   stop_step values none found =
-      step_is l run (rv.Asks Yield) at.running asks ∙ stops l (goes_on run) values none frames (ap (values_at l) (sym here) ∙ found)
+      step_is l run (rv.Asks Yield) at.running asks ∙ stops l (goes_on run) values none frames (ap (values_at l.image (region_of l)) (sym here) ∙ found)
 
-  tear_step : (b : Break) → values_at l (state_of next.regs next.memory) ≡ Err b → step l run ≡ record (goes_on run) { status = image.Torn b }
-  tear_step b found = step_is l run (rv.Asks Yield) at.running asks ∙ tears l (goes_on run) b frames (ap (values_at l) (sym here) ∙ found)
+  tear_step : (b : Break) → values_at l.image (region_of l) (state_of next.regs next.memory) ≡ Err b → step l run ≡ record (goes_on run) { status = image.Torn b }
+  tear_step b found = step_is l run (rv.Asks Yield) at.running asks ∙ tears l (goes_on run) b frames (ap (values_at l.image (region_of l)) (sym here) ∙ found)
 
   stop_turn : (values : List ℕ) → step l run ≡ stopped values (goes_on run) → Appends before.log after.log (yield_line values) →
       IsOver start after (step l run) outcome.Stopped
@@ -159,7 +159,7 @@ module _ (l : Launch) (start before after : Outside) (machine next : Machine) (r
   stops_with taken faults old new values (outcome.Torn t) is was log s = absurd s
 
   yields_to : {Sink : Type 0} (taken : Sink → Option (List ℕ)) (faults : Sink → ℕ) (old new : Sink) (found : Result (List ℕ) Break) (o : Outcome) →
-      l.script.blocks ≡ [] → values_at l (state_of next.regs next.memory) ≡ found → before.log ≡ taken old → after.log ≡ taken new →
+      l.script.blocks ≡ [] → values_at l.image (region_of l) (state_of next.regs next.memory) ≡ found → before.log ≡ taken old → after.log ≡ taken new →
       YieldsTo found taken faults old new o → Turns l start after next run (Some o)
   yields_to taken faults old new (Ok values) o none found was log to = stops_with taken faults old new values o (stop_step values none found) was log to
   yields_to taken faults old new (Err b) o none found was log to =
@@ -171,7 +171,7 @@ pub yield_turn : {Sink : Type 0} (taken : Sink → Option (List ℕ)) (faults : 
     instruction_step (map_of l) run.machine ≡ rv.Asks Yield →
     state_of next.regs next.memory ≡ at_pc (machine.regs.pc + 4) (state_of machine.regs machine.memory) →
     before.log ≡ taken old → after.log ≡ taken new → after.input ≡ before.input → after.output ≡ before.output →
-    YieldsTo (values_at l (state_of next.regs next.memory)) taken faults old new o → Turns l start after next run (Some o)
+    YieldsTo (values_at l.image (region_of l) (state_of next.regs next.memory)) taken faults old new o → Turns l start after next run (Some o)
 yield_turn taken faults old new l start before after machine next run o none frames at waits asks state was log input output to =
     yields_to l start before after machine next run at asks waits state frames (record { input = input; output = output }) taken faults old new
-    (values_at l (state_of next.regs next.memory)) o none refl was log to
+    (values_at l.image (region_of l) (state_of next.regs next.memory)) o none refl was log to

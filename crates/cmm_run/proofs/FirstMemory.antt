@@ -6,12 +6,13 @@ use Rattle.std.proofs.lemmas.Bool.Decides.{nat_tests}
 use Rattle.std.proofs.lemmas.List.{get_or_past, length-replicate}
 use Rattle.std.specs.Prelude.{nat_le, true, false}
 use Rattle.rv_table.specs.declared.memory_map.TheConstants.{BELOW_STACK, DATA_LENGTH_LIMIT}
-use Rattle.rv_table.specs.Machine.{data_base, region_base, stack_base}
-use Rattle.rv_table.specs.Registers.{registers_of, with_register}
+use Rattle.rv_table.specs.Machine.{data_base, region_base, start}
 use Rattle.rv_memory.specs.Regions as regions
 use Rattle.rv_memory.specs.Regions.{Regions, memory_of, started}
+use Rattle.rv_sim.specs.Stepping.{state_with}
 use Rattle.cmm_image.specs.declared.parts.ImageParts.{ImageParts}
-use Rattle.cmm_image_machine.specs.Machine.{Launch, map_of, first_memory}
+use Rattle.cmm_image_machine.specs.Changes.{at_pc}
+use Rattle.cmm_image_machine.specs.Machine.{Launch, map_of, region_of, first_memory}
 use Rattle.cmm_run.specs.declared.machine.Machine.{Machine}
 use Rattle.cmm_run.specs.inside.Loading.{IsReady}
 use Rattle.cmm_run.proofs.Zeros.{zero_at}
@@ -35,20 +36,25 @@ first_memory_is i stack short = fun_ext (λ address. memory_at i stack address s
 -- what stays as it is in a run
 pub map_is : (l : Launch) (m : Regions) → m ≡ started l.image.code l.image.initial l.stack_size → regions.map_of m ≡ map_of l
 map_is l m is =
+    let count : length (replicate {A = ℕ} (BELOW_STACK + l.stack_size) 0) ≡ BELOW_STACK + l.stack_size = length-replicate (BELOW_STACK + l.stack_size) 0 in
+    ap regions.map_of is ∙ ap (λ (n : ℕ). record { code = l.image.code; data_length = length l.image.initial; region_length = n }) count
+
+pub region_is : (l : Launch) (m : Regions) → m ≡ started l.image.code l.image.initial l.stack_size → regions.region_of m ≡ region_of l
+region_is l m is =
     let zeros : List ℕ = replicate (BELOW_STACK + l.stack_size) 0 in
     let count : length zeros - BELOW_STACK ≡ l.stack_size = omega (arith, length-replicate {A = ℕ} (BELOW_STACK + l.stack_size) 0) in
-    ap regions.map_of is ∙ ap (λ (n : ℕ). record { code = l.image.code; data_length = length l.image.initial; stack_size = n }) count
+    ap regions.region_of is ∙ ap (λ (n : ℕ). record { address = region_base; stack_size = n }) count
 
 -- a machine is ready with the first registers and the first memory
 pub is_ready : (l : Launch) (machine : Machine) → length l.image.initial ≤ DATA_LENGTH_LIMIT →
-    registers_of machine.regs ≡ with_register (with_register (λ _. 0) 2 (stack_base + l.stack_size)) 4 region_base → machine.regs.pc ≡ l.image.start →
+    ((bytes : ℕ → ℕ) → state_with machine.regs bytes ≡ at_pc l.image.start (start (regions.region_of machine.memory) bytes)) →
     machine.memory ≡ started l.image.code l.image.initial l.stack_size → machine.waiting ≡ [] → IsReady l machine
-is_ready l machine short registers pc memory none = record {
-  map = map_is l machine.memory memory;
-  first = λ i. record {
-    registers = sym registers i;
-    pc = sym pc i;
-    memory = (first_memory_is l.image l.stack_size short ∙ ap memory_of (sym memory)) i;
-  };
-  none_waits = none;
-}
+is_ready l machine short registers memory none =
+    let region = region_is l machine.memory memory in
+    let bytes : first_memory l.image ≡ memory_of machine.memory = first_memory_is l.image l.stack_size short ∙ ap memory_of (sym memory) in
+    record {
+      map = map_is l machine.memory memory;
+      region = region;
+      first = (λ i. at_pc l.image.start (start (sym region i) (bytes i))) ∙ sym (registers (memory_of machine.memory));
+      none_waits = none;
+    }

@@ -1,6 +1,7 @@
 -- One turn of a run, by what its instruction comes to.
 use Rattle.std.proofs.Common.{◌≡◌, ◌≢◌, ℕ, ◌+◌, List, [], ◌∷◌, ◌++◌, drop, length, Option, Some, None, inl, inr, refl, ap, sym, ◌∙◌, subst, arith}
 use Rattle.std.proofs.lemmas.List.{take_all}
+use Rattle.cmm_abi.specs.declared.registers.TheConstants.{REQUEST_VALUE}
 use Rattle.rv_table.specs.declared.request.Request.TheVariants.{PutByte, GetByte, StackLimit, End}
 use Rattle.rv_table.specs.declared.trap.Trap.{Trap}
 use Rattle.rv_table.specs.Machine as rv
@@ -168,13 +169,13 @@ is_taken machine (byte ∷ rest) taken output log status = record { status = ref
 
 take_next : (l : Launch) (start before after : Outside) (machine next : Machine) (run : Run) → IsAt machine start before run →
     instruction_step (map_of l) run.machine ≡ rv.Asks GetByte → next.waiting ≡ machine.waiting →
-    state_of next.regs next.memory ≡ with_set (state_of machine.regs machine.memory) 10 (next_byte run.input) →
+    state_of next.regs next.memory ≡ with_set (state_of machine.regs machine.memory) REQUEST_VALUE (next_byte run.input) →
     after.input ≡ Some (drop 1 run.input) → after.output ≡ before.output → after.log ≡ before.log → IsAt next start after (step l run)
 take_next l start before after machine next run at asks waits state input output log =
     let taken = is_taken run.machine run.input run.taken run.output run.log run.status in
     subst (IsAt next start after) (sym (step_is l run (rv.Asks GetByte) at.running asks)) record {
       running = taken.status ∙ at.running;
-      machine_is = ap (λ (s : State). with_set s 10 (next_byte run.input)) at.machine_is ∙ sym state;
+      machine_is = ap (λ (s : State). with_set s REQUEST_VALUE (next_byte run.input)) at.machine_is ∙ sym state;
       written = record {
         input = input ∙ ap Some (sym taken.input);
         output = subst (λ (xs : List ℕ). Moves start.output after.output xs next.waiting) (sym taken.output)

@@ -2,7 +2,7 @@
 use Rattle.std.proofs.Common.{◌≡◌, ℕ, zero, suc, ◌+◌, ◌≤◌, ◌<◌, List, length, take, drop, slice_index, refl, arith}
 use Rattle.std.proofs.Math.Seq.{drop-cons}
 use Rattle.rv_table.specs.Machine.{State}
-use Rattle.cmm_image_machine.specs.Regions.{Region, value_place, values_from, values_in, word_at}
+use Rattle.cmm_abi.specs.Regions.{Region, value_place, values_from, values_in, word_at}
 
 from_places : (r : Region) (s : State) (xs : List ℕ) (k n : ℕ) → k + n ≤ length xs →
     ((j : ℕ) → j < length xs → slice_index xs j ≡ word_at s (value_place r j)) → take n (drop k xs) ≡ values_from r s k n

@@ -13,7 +13,7 @@ use rv_table::{Instr, TrapKind};
 use std::marker::Model;
 
 /// An image with its code decoded, a script without a block, and the size of the stack in bytes.
-#[derive(Debug, Drop)]
+#[derive(Drop)]
 pub struct Loaded {
     image: Image,
     script: Script,

@@ -1,32 +1,32 @@
 //! What a run changes.
-ghost use Rattle.std.specs.Prelude.{◌≡◌, ◌≤◌, ◌+◌};
-ghost use Rattle.rv_table.specs.Machine.{code_base, region_base};
-ghost use Rattle.rv_table.specs.Registers.{registers_of, with_register};
+ghost use Rattle.std.specs.Prelude.{◌≡◌, ℕ};
+ghost use Rattle.rv_memory.specs.Regions.{region_of};
+ghost use Rattle.rv_sim.specs.Stepping.{state_with};
+ghost use Rattle.rv_table.specs.Machine.{start as first_state};
+ghost use Rattle.cmm_image_machine.specs.Changes.{at_pc};
 
 use crate::waiting::Waiting;
 use cmm_abi::registers::{FRAME, REGION};
 use rv_memory::Memory;
 use rv_table::Regs;
-use rv_table::memory_map::REGION_BASE;
 
 /// What a run changes: registers, pc and memory, and the output that it has put and not written yet.
-#[derive(Debug, Drop)]
+#[derive(Drop)]
 pub struct Machine {
     pub regs: Regs,
     pub memory: Memory,
     pub waiting: Waiting,
 }
 
-/// The registers where a run begins at an address, in a memory whose stack ends at `top`.
-pub fn first_registers(start: u64, top: u64) -> Regs
-    ensures registers { registers_of result ≡ with_register (with_register (λ _. 0) 2 top) 4 region_base }
-    ensures pc { result.pc ≡ start }
+/// The registers where a run begins at an address, in this memory.
+pub fn first_registers(start: u64, memory: &Memory) -> Regs
+    ensures { (bytes : ℕ → ℕ) → state_with result bytes ≡ at_pc start (first_state (region_of memory.now) bytes) }
 {
     let mut regs = Regs {
         x: [0; 32],
         pc: start,
     };
-    regs.write(FRAME, top);
-    regs.write(REGION, REGION_BASE);
+    regs.write(FRAME, memory.top());
+    regs.write(REGION, memory.region());
     regs
 }

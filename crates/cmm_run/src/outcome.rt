@@ -2,7 +2,7 @@
 use rv_table::Trap;
 
 /// Where the chain of frames of a stopped program breaks: no activation with this frame has this return address.
-#[derive(Clone, Copy, Debug, PartialEq, Eq)]
+#[derive(Clone, Copy, PartialEq, Eq)]
 pub struct Torn {
     /// The address of the frame.
     pub frame: u64,
@@ -11,7 +11,7 @@ pub struct Torn {
 }
 
 /// What a run comes to.
-#[derive(Clone, Copy, Debug, PartialEq, Eq)]
+#[derive(Clone, Copy, PartialEq, Eq)]
 pub enum Outcome {
     /// The program has returned this value.
     Done(u64),

@@ -1,12 +1,12 @@
 //! What an ECALL asks for.
 ghost use Rattle.std.specs.Prelude.{◌≡◌, ◌+◌, ◌<◌, ◌^◌, ℕ, List, [], ◌∷◌, drop, Some, IfOk, OnErr, OnOk};
-ghost use Rattle.rv_memory.specs.Regions.{map_of as memory_map_of};
+ghost use Rattle.rv_memory.specs.Regions.{map_of as memory_map_of, region_of as memory_region_of};
 ghost use Rattle.rv_sim.specs.Stepping.{state_of, state_with};
 ghost use Rattle.rv_table.specs.Machine.{Asks, instruction_step, with_set};
 ghost use Rattle.cmm_outside.specs.Faults.{Rose};
 ghost use Rattle.cmm_program.specs.Performing.{next_byte};
 ghost use Rattle.cmm_image_machine.specs.Changes.{at_pc};
-ghost use Rattle.cmm_image_machine.specs.Machine.{Run, map_of};
+ghost use Rattle.cmm_image_machine.specs.Machine.{Run, map_of, region_of};
 ghost use Rattle.cmm_run.specs.Outside.{Outside, outside_of};
 ghost use Rattle.cmm_run.specs.inside.Takes.{TakeFails, Takes};
 ghost use Rattle.cmm_run.specs.inside.Turns.{IsAt, TurnFails, Turns};
@@ -29,8 +29,10 @@ pub fn answer<I: Source, O: Sink, E: Sink>(
     log: &mut E,
 ) -> Option<Outcome>
     requires map { memory_map_of machine.old.memory ≡ map_of loaded.now }
+    requires region { memory_region_of machine.old.memory ≡ region_of loaded.now }
     requires room { machine.old.regs.pc + 4 < 2 ^ 64 }
     ensures map { memory_map_of machine.new.memory ≡ map_of loaded.now }
+    ensures region { memory_region_of machine.new.memory ≡ region_of loaded.now }
     ensures fails { TurnFails (outside_of I.left I.faults O.taken O.faults E.taken E.faults input.old out.old log.old)
         (outside_of I.left I.faults O.taken O.faults E.taken E.faults input.new out.new log.new) result }
     ensures turns { (start : Outside) (run : Run) →
@@ -62,7 +64,7 @@ pub fn answer<I: Source, O: Sink, E: Sink>(
     }
 }
 
-/// Gives register 10 the next byte of the input.
+/// Gives the register for it the next byte of the input.
 fn get_byte<I: Source>(machine: &mut Machine, input: &mut I) -> Option<Outcome>
     requires { machine.old.regs.pc + 4 < 2 ^ 64 }
     ensures memory { machine.new.memory ≡ machine.old.memory }
@@ -88,10 +90,10 @@ fn go_on(r: &mut Regs)
     r.pc += 4;
 }
 
-/// Gives register 10 a value, and moves pc on.
+/// Gives the register of what comes of a request its value, and moves pc on.
 fn receive(r: &mut Regs, value: u64)
     requires { r.old.pc + 4 < 2 ^ 64 }
-    ensures { (memory : ℕ → ℕ) → state_with r.new memory ≡ with_set (state_with r.old memory) 10 value }
+    ensures { (memory : ℕ → ℕ) → state_with r.new memory ≡ with_set (state_with r.old memory) REQUEST_VALUE value }
 {
     r.write(REQUEST_VALUE, value);
     go_on(r);

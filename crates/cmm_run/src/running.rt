@@ -1,7 +1,7 @@
 //! The turns of a run.
 ghost use Rattle.std.specs.Prelude.{◌≡◌};
-ghost use Rattle.rv_memory.specs.Regions.{map_of as memory_map_of};
-ghost use Rattle.cmm_image_machine.specs.Machine.{Run, map_of};
+ghost use Rattle.rv_memory.specs.Regions.{map_of as memory_map_of, region_of as memory_region_of};
+ghost use Rattle.cmm_image_machine.specs.Machine.{Run, map_of, region_of};
 ghost use Rattle.cmm_run.specs.Outside.{Outside, outside_of};
 ghost use Rattle.cmm_run.specs.Runs.{Runs};
 ghost use Rattle.cmm_run.specs.inside.Loading.{IsReady};
@@ -44,8 +44,10 @@ fn turn<I: Source, O: Sink, E: Sink>(
     out: &mut O,
     log: &mut E,
 ) -> Option<Outcome>
-    requires { memory_map_of machine.old.memory ≡ map_of loaded.now }
+    requires map { memory_map_of machine.old.memory ≡ map_of loaded.now }
+    requires region { memory_region_of machine.old.memory ≡ region_of loaded.now }
     ensures map { memory_map_of machine.new.memory ≡ map_of loaded.now }
+    ensures region { memory_region_of machine.new.memory ≡ region_of loaded.now }
     ensures fails { TurnFails (outside_of I.left I.faults O.taken O.faults E.taken E.faults input.old out.old log.old)
         (outside_of I.left I.faults O.taken O.faults E.taken E.faults input.new out.new log.new) result }
     ensures turns { (start : Outside) (run : Run) →

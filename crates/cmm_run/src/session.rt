@@ -1,7 +1,6 @@
 //! Sessions.
 ghost use Rattle.std.specs.Prelude.{◌≡◌, ◌≤◌, [], ℕ, None, Some, IfOk};
-ghost use Rattle.rv_memory.specs.Regions.{map_of as memory_map_of, started};
-ghost use Rattle.cmm_image_machine.specs.Machine.{map_of};
+ghost use Rattle.rv_memory.specs.Regions.{started};
 ghost use Rattle.cmm_run.specs.Outside.{outside_of};
 ghost use Rattle.cmm_run.specs.Runs.{Runs};
 ghost use Rattle.cmm_run.specs.declared.outcome.Outcome.{Outcome as OutcomeOf};
@@ -21,7 +20,7 @@ use std::alloc::Global;
 use std::marker::Model;
 
 /// The limits of a run.
-#[derive(Clone, Copy, Debug, PartialEq, Eq)]
+#[derive(Clone, Copy, PartialEq, Eq)]
 pub struct Limits {
     /// The bytes of the stack.
     pub stack: u64,
@@ -30,7 +29,7 @@ pub struct Limits {
 }
 
 /// An image, its script and its limits, ready to run once.
-#[derive(Debug, Drop)]
+#[derive(Drop)]
 pub struct Session {
     loaded: Loaded,
     machine: Machine,
@@ -70,7 +69,7 @@ impl Session {
         let memory = memory_for(alloc, &image, limits.stack)?;
         let table = Decoded::new(alloc, &memory)?;
         let waiting = Waiting::new(alloc)?;
-        let regs = first_registers(image.parts().start, memory.top());
+        let regs = first_registers(image.parts().start, &memory);
         Ok(Session {
             loaded: Loaded::new(image, script, limits.stack, table),
             machine: Machine {

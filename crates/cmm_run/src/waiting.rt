@@ -14,7 +14,7 @@ pub const ROOM: usize = 4096;
 
 /// Bytes that a program has put and that are not written yet. They are written together, before anything else is read or written and
 /// before the run ends, so that a reader sees the same order. Contracts see these bytes.
-#[derive(Debug, Drop)]
+#[derive(Drop)]
 pub struct Waiting {
     bytes: Vec<u8>,
 }

@@ -1,13 +1,12 @@
 //! The youngest activation at a yield, and the values of the yield.
 ghost use Rattle.std.specs.Prelude.{◌≡◌, ◌==◌, ◌&&◌, ◌≤◌, ◌<◌, ◌+◌, ◌*◌, ℕ, Some, IfOk, length, slice_get, slice_index};
-ghost use Rattle.rv_memory.specs.Regions.{map_of as memory_map_of, memory_of};
+ghost use Rattle.rv_memory.specs.Regions.{memory_of, region_of};
 ghost use Rattle.rv_sim.specs.Stepping.{state_of};
-ghost use Rattle.rv_table.specs.Machine.{loaded as number_at, region_base, stack_base};
+ghost use Rattle.rv_table.specs.Machine.{Region, loaded as number_at, bottom as bottom_of, top as top_of};
 ghost use Rattle.cmm_image.specs.ImageFormat.{procedure_at};
 ghost use Rattle.cmm_image.specs.Images.{IsImage};
 ghost use Rattle.cmm_image_machine.specs.Frames.{is_frame as is_frame_in};
-ghost use Rattle.cmm_image_machine.specs.Machine.{Launch, map_of};
-ghost use Rattle.cmm_image_machine.specs.Regions.{Region, bottom, top as top_of, value_place, values_in, word_at};
+ghost use Rattle.cmm_abi.specs.Regions.{value_place, values_in, word_at};
 ghost use Rattle.cmm_run.specs.inside.Yields.{Counts, StopsWith, YieldsTo, count_found, count_of, found_first, values_at};
 
 use crate::machine::Machine;
@@ -18,13 +17,13 @@ use cmm_image::{Image, SiteRow};
 use cmm_outside::{Failed, Sink};
 use cmm_report::put_yield;
 use rv_memory::Memory;
-use rv_table::memory_map::{REGION_BASE, STACK_BASE};
+use rv_table::memory_map::ARGUMENT_WORDS;
 
 /// Writes the line of a yield, which stops the run, since no block of the script answers it. Where the chain of frames breaks at its
 /// first point, nothing is written.
 pub fn yields<E: Sink>(image: &Image, machine: &Machine, log: &mut E) -> Outcome
-    ensures yields { (l : Launch) → l.image ≡ image.now → memory_map_of machine.now.memory ≡ map_of l →
-        YieldsTo (values_at l (state_of machine.now.regs machine.now.memory)) E.taken E.faults log.old log.new result }
+    ensures yields { YieldsTo (values_at image.now (region_of machine.now.memory) (state_of machine.now.regs machine.now.memory))
+        E.taken E.faults log.old log.new result }
     ensures kept { IsImage image.now }
 {
     match yield_count(image, machine) {
@@ -36,7 +35,8 @@ pub fn yields<E: Sink>(image: &Image, machine: &Machine, log: &mut E) -> Outcome
 /// Writes the line of a yield of `count` values, which stops the run.
 fn log_yield<E: Sink>(machine: &Machine, count: usize, log: &mut E) -> Outcome
     requires { count ≤ 64 }
-    ensures { (r : Region) → r.address ≡ region_base → StopsWith (values_in r (state_of machine.now.regs machine.now.memory) count) E.taken E.faults log.old log.new result }
+    ensures { StopsWith (values_in (region_of machine.now.memory) (state_of machine.now.regs machine.now.memory) count)
+        E.taken E.faults log.old log.new result }
 {
     let values = values_of(machine);
     match put_yield(log, &values[..count]) {
@@ -48,13 +48,13 @@ fn log_yield<E: Sink>(machine: &Machine, count: usize, log: &mut E) -> Outcome
 /// How many values the youngest activation yields: none where there is none or its site does not yield. The error is where the chain of
 /// frames breaks at its first point.
 fn yield_count(image: &Image, machine: &Machine) -> Result<usize, Torn>
-    ensures counts { (l : Launch) → l.image ≡ image.now → memory_map_of machine.now.memory ≡ map_of l →
-        Counts (count_found (found_first l (state_of machine.now.regs machine.now.memory))) result }
+    ensures counts { Counts (count_found (found_first image.now (region_of machine.now.memory) (state_of machine.now.regs machine.now.memory))) result }
     ensures few { IfOk result (λ count. count ≤ 64) }
     ensures kept { IsImage image.now }
 {
     let address = machine.regs.read(RETURN_ADDRESS);
     let frame = machine.regs.read(FRAME);
+    let bottom = machine.memory.base();
     let top = machine.memory.top();
     if is_end(address, image.parts().last, frame, top) {
         return Ok(0);
@@ -64,7 +64,7 @@ fn yield_count(image: &Image, machine: &Machine) -> Result<usize, Torn>
         return Err(torn);
     };
     let site = site_at(image, place);
-    if is_frame(frame, frame_size(image, site), top) {
+    if is_frame(frame, frame_size(image, site), bottom, top) {
         Ok(count_at(site))
     } else {
         Err(torn)
@@ -106,18 +106,18 @@ fn count_at(site: &SiteRow) -> usize
     }
 }
 
-/// Whether a frame of a size begins at a multiple of 16 and lies in a stack that ends at `top`.
-fn is_frame(frame: u64, size: u32, top: u64) -> bool
-    ensures { (r : Region) → top ≡ top_of r → bottom r ≡ stack_base → result ≡ is_frame_in r frame size }
+/// Whether a frame of a size begins at a multiple of 16 and lies in a stack from `bottom` to `top`.
+fn is_frame(frame: u64, size: u32, bottom: u64, top: u64) -> bool
+    ensures { (r : Region) → bottom ≡ bottom_of r → top ≡ top_of r → result ≡ is_frame_in r frame size }
 {
-    frame % 16 == 0 && STACK_BASE <= frame && frame <= top && u64::from(size) <= top - frame
+    frame % 16 == 0 && bottom <= frame && frame <= top && u64::from(size) <= top - frame
 }
 
 /// What stands at the places of the values.
 fn values_of(machine: &Machine) -> [u64; 64]
     ensures count { length result ≡ 64 }
-    ensures each { (r : Region) → r.address ≡ region_base → (k : ℕ) → k < 64 →
-        slice_index result k ≡ word_at (state_of machine.now.regs machine.now.memory) (value_place r k) }
+    ensures each { (k : ℕ) → k < 64 →
+        slice_index result k ≡ word_at (state_of machine.now.regs machine.now.memory) (value_place (region_of machine.now.memory) k) }
 {
     let mut values = [0; 64];
     for (k, value) in values.iter_mut().enumerate() {
@@ -129,7 +129,7 @@ fn values_of(machine: &Machine) -> [u64; 64]
 /// What stands at the place of the value of this number.
 fn value_at(machine: &Machine, k: usize) -> u64
     requires { k < 64 }
-    ensures { (r : Region) → r.address ≡ region_base → result ≡ word_at (state_of machine.now.regs machine.now.memory) (value_place r k) }
+    ensures { result ≡ word_at (state_of machine.now.regs machine.now.memory) (value_place (region_of machine.now.memory) k) }
 {
     let in_registers = IN_REGISTERS as usize;
     if k < in_registers {
@@ -141,10 +141,10 @@ fn value_at(machine: &Machine, k: usize) -> u64
 
 /// The word of this number of the argument area.
 fn argument(memory: &Memory, index: u64) -> u64
-    requires { index < 56 }
-    ensures { result ≡ number_at (memory_of memory.now) (region_base + 8 * index) 8 }
+    requires { index < ARGUMENT_WORDS }
+    ensures { result ≡ number_at (memory_of memory.now) ((region_of memory.now).address + 8 * index) 8 }
 {
-    match memory.load(REGION_BASE + 8 * index, 8) {
+    match memory.load(memory.region() + 8 * index, 8) {
         Ok(value) => value,
         Err(_) => unreachable!(),
     }

@@ -18,13 +18,13 @@ use Rattle.cmm_select.specs.Operands.{most_for_number}
 
 -- ---- a number is what it is rounded to, and the rest
 
-rest : (n : ℕ) → n < 2 ^ 64 → ((n + 2048) / 4096 * 4096 + modulo 64 (signed 12 n)) % 2 ^ 64 ≡ n
+pub rest : (n : ℕ) → n < 2 ^ 64 → ((n + 2048) / 4096 * 4096 + modulo 64 (signed 12 n)) % 2 ^ 64 ≡ n
 rest n h = grind (arith, ints, nat_tests)
 
 word_low : (n : ℕ) → n < 2 ^ 31 → word n ≡ n
 word_low n h = grind (arith, ints, nat_tests)
 
-upper_low : (n : ℕ) → n + 2048 < 2 ^ 31 → upper (pos ((n + 2048) / 4096)) ≡ (n + 2048) / 4096 * 4096
+pub upper_low : (n : ℕ) → n + 2048 < 2 ^ 31 → upper (pos ((n + 2048) / 4096)) ≡ (n + 2048) / 4096 * 4096
 upper_low n h =
     let a : (n + 2048) / 4096 % 2 ^ 20 * 4096 ≡ (n + 2048) / 4096 * 4096 = omega arith in
     rw a (word_low ((n + 2048) / 4096 * 4096) (omega arith))

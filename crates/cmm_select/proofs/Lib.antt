@@ -1,6 +1,8 @@
 mod Sums
 mod Places
 mod Constants
+mod Offsets
+mod Reached
 mod Wide
 mod Widths
 mod Shifting

@@ -21,7 +21,7 @@ use Rattle.cmm_select.specs.Switches.{arm_address}
 use Rattle.cmm_select.specs.declared.source.Source.TheVariants.{Place, Number, Address}
 
 abbrev running : List ℕ → MemoryMap
-running code = record { code = code; data_length = 0; stack_size = 4096 }
+running code = record { code = code; data_length = 0; region_length = 0x2000 }
 
 abbrev on_words : ℕ → ℕ → State
 on_words a b = record { registers = with_register (with_register (λ r. 0) 5 a) 7 b; pc = 0x10000; memory = λ k. 0 }

@@ -1,10 +1,10 @@
 -- Addresses and numbers that are put together from pieces, and what is loaded as it is.
-use Rattle.std.proofs.Common.{◌≡◌, ℕ, ◌+◌, ◌*◌, ◌/◌, ◌%◌, ◌<◌, ◌^◌, arith, pos, true}
+use Rattle.std.proofs.Common.{◌≡◌, ℕ, ◌+◌, ◌<◌, ◌^◌, arith, pos, true}
 use Rattle.std.proofs.lemmas.Bool.Decides.{nat_tests}
 use Rattle.std.proofs.lemmas.Int.{ints}
 use Rattle.rv_table.proofs.Shared.{loaded-lt}
 use Rattle.rv_table.specs.Machine.{extended, loaded}
-use Rattle.rv_table.specs.Words.{modulo, shifted_left, sign_extended, sum}
+use Rattle.rv_table.specs.Words.{modulo, sign_extended, sum}
 
 pub sign_extended_64 : (v : ℕ) → v < 2 ^ 64 → sign_extended 64 v ≡ v
 sign_extended_64 v h = grind (arith, ints, nat_tests)
@@ -20,11 +20,3 @@ plus_none a h = omega arith
 -- an address and an offset
 pub plus_near : (a o : ℕ) → o < 2048 → a + o < 2 ^ 64 → sum a (modulo 64 (pos o)) ≡ a + o
 plus_near a o near fits = omega arith
-
--- an address, the upper part of an offset, and its lower part
-pub plus_far : (a o : ℕ) → a + o < 2 ^ 64 → sum (sum (o / 2048 * 2048) a) (modulo 64 (pos (o % 2048))) ≡ a + o
-plus_far a o fits = omega arith
-
--- the upper part of an offset, in a register
-pub moved_up : (z o : ℕ) → z ≡ 0 → o < 2 ^ 21 → shifted_left (sum z (modulo 64 (pos (o / 2048)))) 11 ≡ o / 2048 * 2048
-moved_up z o none small = omega arith

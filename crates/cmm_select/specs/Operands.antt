@@ -1,5 +1,6 @@
 -- Operands of nodes, in code whose labels stand for these numbers.
 use Rattle.std.specs.Prelude.{◌≡◌, ℕ, ◌+◌, ◌^◌, ◌==◌, ◌||◌, nat_le, true, false, List}
+use Rattle.cmm_abi.specs.declared.registers.TheConstants.{FIRST_SCRATCH, HELPER, SECOND_SCRATCH}
 use Rattle.cmm_words.specs.Widths.{IsWord}
 use Rattle.cmm_words.specs.declared.width.Width.{Width}
 use Rattle.rv_asm.specs.Assembly.{IsLabel}
@@ -49,7 +50,7 @@ most_for (Symbol l plus) = 11
 -- a register gets a number, register 6 any, and nothing else is changed
 pub record Brings (rd number : ℕ) (s t : State) : Type 0 where
   pub given : t.registers rd ≡ number
-  pub others : KeepsBut (λ r. (r == rd) || (r == 6)) s t
+  pub others : KeepsBut (λ r. (r == rd) || (r == HELPER)) s t
   pub memory : t.memory ≡ s.memory
 
 -- an operand is brought into a register
@@ -63,8 +64,8 @@ pub record CanBringBoth (left right : Operand) (m : MemoryMap) (s : State) : Typ
 
 -- register 5 gets the first and register 7 the second, and nothing but registers 5 to 7 is changed
 pub record HasBoth (at : ℕ → ℕ) (left right : Operand) (s t : State) : Type 0 where
-  pub first : t.registers 5 ≡ operand_at at left s
-  pub second : t.registers 7 ≡ operand_at at right s
+  pub first : t.registers FIRST_SCRATCH ≡ operand_at at left s
+  pub second : t.registers SECOND_SCRATCH ≡ operand_at at right s
   pub keeps : Keeps s t
 
 abbrev pub BringsBoth : Operand → Operand → Code → ℕ → ℕ → Type 0

@@ -1,5 +1,6 @@
 -- What the pieces for operators do, with their operands in registers 5 and 7 and their result in register 5.
 use Rattle.std.specs.Prelude.{◌≡◌, ℕ, Some}
+use Rattle.cmm_abi.specs.declared.registers.TheConstants.{FIRST_SCRATCH, SECOND_SCRATCH}
 use Rattle.cmm_words.specs.Widths.{IsWord}
 use Rattle.cmm_words.specs.Words.{low_bits, sign_extended, value2}
 use Rattle.cmm_words.specs.declared.operators.Op2.{Op2}
@@ -14,17 +15,17 @@ HasWord w r m s = IsWord w (s.registers r)
 
 -- both operands are words of a width
 abbrev pub HaveWords : Width → MemoryMap → State → Type 0
-HaveWords w m s = IsWord w (s.registers 5) × IsWord w (s.registers 7)
+HaveWords w m s = IsWord w (s.registers FIRST_SCRATCH) × IsWord w (s.registers SECOND_SCRATCH)
 
 -- the result is the operator's value, if it has one (C-- Language Specification 2.0, the table of primitive operators), and nothing but
 -- registers 5 to 7 is changed
 pub record Operates (op : Op2) (w : Width) (s t : State) : Type 0 where
-  pub given : (v : ℕ) → value2 op w (s.registers 5) (s.registers 7) ≡ Some v → t.registers 5 ≡ v
+  pub given : (v : ℕ) → value2 op w (s.registers FIRST_SCRATCH) (s.registers SECOND_SCRATCH) ≡ Some v → t.registers FIRST_SCRATCH ≡ v
   pub keeps : Keeps s t
 
 -- the number in register 5 is cut to a width
 pub record Narrows (w : Width) (s t : State) : Type 0 where
-  pub given : t.registers 5 ≡ low_bits w (s.registers 5)
+  pub given : t.registers FIRST_SCRATCH ≡ low_bits w (s.registers FIRST_SCRATCH)
   pub keeps : Keeps s t
 
 -- the word in a register gets its sign

@@ -1,5 +1,6 @@
 -- Where operands come from, in the activation whose frame is at the address in register 2.
 use Rattle.std.specs.Prelude.{ℕ, ◌+◌, ◌^◌, ◌<◌}
+use Rattle.cmm_abi.specs.declared.registers.TheConstants.{FRAME}
 use Rattle.rv_table.specs.Machine.{MemoryMap, State}
 use Rattle.cmm_effects.specs.Changes.{CanReach, IsPlace, read_at}
 use Rattle.cmm_select.specs.declared.source.Source.{Source}
@@ -15,10 +16,10 @@ IsSource (Address o) = o < 2 ^ 21
 abbrev pub brought : Source → State → ℕ
 brought (Place p) s = read_at p s
 brought (Number n) s = n
-brought (Address o) s = s.registers 2 + o
+brought (Address o) s = s.registers FRAME + o
 
 -- instructions bring it: a place is reached, and an address has 64 bits
 abbrev pub CanBring : Source → MemoryMap → State → Type 0
 CanBring (Place p) m s = CanReach p m s
 CanBring (Number n) m s = Unit {0}
-CanBring (Address o) m s = s.registers 2 + o < 2 ^ 64
+CanBring (Address o) m s = s.registers FRAME + o < 2 ^ 64

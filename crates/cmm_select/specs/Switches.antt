@@ -1,5 +1,6 @@
 -- Which way switches go (C-- Language Specification 2.0, the switch statement).
 use Rattle.std.specs.Prelude.{◌≡◌, ℕ, ◌+◌, List, [], ◌∷◌, length, slice_index_or}
+use Rattle.cmm_abi.specs.declared.registers.TheConstants.{FIRST_SCRATCH}
 use Rattle.cmm_graph.specs.declared.node.Arm.{Arm}
 use Rattle.cmm_graph.specs.declared.number.NodeId.{NodeId}
 use Rattle.cmm_program.specs.Bodies.{is_in_ranges}
@@ -15,12 +16,12 @@ use Rattle.cmm_select.specs.declared.operand.Operand.{Operand}
 
 -- the value stays in register 5, and nothing else is changed but registers 6 and 7
 pub record KeepsFirst (s t : State) : Type 0 where
-  pub first : t.registers 5 ≡ s.registers 5
+  pub first : t.registers FIRST_SCRATCH ≡ s.registers FIRST_SCRATCH
   pub keeps : Keeps s t
 
 -- control goes to the label where the value in register 5 is in a range, and on otherwise
 abbrev pub GoesInRanges : ℕ → List Range → Label → Code → ℕ → ℕ → Type 0
-GoesInRanges most ranges l x from on = Goes 0 most Always (λ s. way (is_in_ranges (s.registers 5) ranges) (x.at l.number) on) KeepsFirst x from
+GoesInRanges most ranges l x from on = Goes 0 most Always (λ s. way (is_in_ranges (s.registers FIRST_SCRATCH) ranges) (x.at l.number) on) KeepsFirst x from
 
 -- how many ranges arms have
 abbrev pub ranges_in : List Arm → ℕ
@@ -37,7 +38,7 @@ arm_address at labels [] value on = on
 arm_address at labels (arm ∷ arms) value on = way (is_in_ranges value arm.ranges) (at (label_of labels arm.to).number) (arm_address at labels arms value on)
 
 abbrev pub GoesInArms : ℕ → List Label → List Arm → Code → ℕ → ℕ → Type 0
-GoesInArms most labels arms x from on = Goes 0 most Always (λ s. arm_address x.at labels arms (s.registers 5) on) KeepsFirst x from
+GoesInArms most labels arms x from on = Goes 0 most Always (λ s. arm_address x.at labels arms (s.registers FIRST_SCRATCH) on) KeepsFirst x from
 
 -- control goes where an arm leads that is for an operand, and on where there is none; nothing is changed but scratch registers
 abbrev pub Switches : ℕ → Operand → List Label → List Arm → Code → ℕ → ℕ → Type 0

@@ -59,7 +59,7 @@ fn half(aligned: u32) -> Width
 /// Gives register 5 the word of a width at the address in it, which is a multiple of `aligned` bytes. An error is want of memory, and then
 /// some of the instructions may be there.
 pub fn load_word(asm: &mut Asm, width: Width, aligned: u32) -> Result<(), AllocError>
-    ensures loads { OnOk result (Adds (3 * accesses width aligned - 2) asm.old.parts asm.new.parts (Leads (3 * accesses width aligned - 2) (λ m s. IsCellBy (widest width aligned) width (s.registers 5) m) (Loads width))) }
+    ensures loads { OnOk result (Adds (3 * accesses width aligned - 2) asm.old.parts asm.new.parts (Leads (3 * accesses width aligned - 2) (λ m s. IsCellBy (widest width aligned) width (s.registers FIRST_SCRATCH) m) (Loads width))) }
     ensures labels { asm.new.labels ≡ asm.old.labels }
 {
     let access = access_of(width, aligned);
@@ -76,7 +76,7 @@ pub fn load_word(asm: &mut Asm, width: Width, aligned: u32) -> Result<(), AllocE
 /// Stores the low bytes of register 7, as many as a width has, at the address in register 5, which is a multiple of `aligned` bytes. An error
 /// is want of memory, and then some of the instructions may be there.
 pub fn store_word(asm: &mut Asm, width: Width, aligned: u32) -> Result<(), AllocError>
-    ensures stores { OnOk result (Adds (2 * accesses width aligned - 1) asm.old.parts asm.new.parts (Leads (2 * accesses width aligned - 1) (λ m s. IsCellBy (widest width aligned) width (s.registers 5) m) (λ s t. Writes (s.registers 5) (bytes width) (s.registers 7) s t))) }
+    ensures stores { OnOk result (Adds (2 * accesses width aligned - 1) asm.old.parts asm.new.parts (Leads (2 * accesses width aligned - 1) (λ m s. IsCellBy (widest width aligned) width (s.registers FIRST_SCRATCH) m) (λ s t. Writes (s.registers FIRST_SCRATCH) (bytes width) (s.registers SECOND_SCRATCH) s t))) }
     ensures labels { asm.new.labels ≡ asm.old.labels }
 {
     let access = access_of(width, aligned);
@@ -102,8 +102,8 @@ fn gather(asm: &mut Asm, access: Width, offset: u32, count: u32) -> Result<(), A
 
 /// Gives register `rd` what register 7 has above, and below it the word of the width of an access at an offset.
 fn join(asm: &mut Asm, access: Width, offset: u32, rd: u8) -> Result<(), AllocError>
-    requires low { 5 ≤ rd }
-    requires high { rd ≤ 7 }
+    requires low { FIRST_SCRATCH ≤ rd }
+    requires high { rd ≤ SECOND_SCRATCH }
     requires access { bytes access < 8 }
     requires near { offset < 2048 }
     ensures joins { OnOk result (Adds 3 asm.old.parts asm.new.parts (Leads 3 (CanAccess access offset 1) (Joins access offset rd))) }

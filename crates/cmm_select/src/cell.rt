@@ -26,7 +26,7 @@ pub fn load_cell(asm: &mut Asm, width: Width) -> Result<(), AllocError>
 /// Stores the low bytes of register 7, as many as a width has, at the address in register 5. An error is want of memory, and nothing is
 /// changed.
 pub fn store_cell(asm: &mut Asm, width: Width) -> Result<(), AllocError>
-    ensures stores { OnOk result (Adds 1 asm.old.parts asm.new.parts (Leads 1 (IsCell width) (λ s t. Writes (s.registers 5) (bytes width) (s.registers 7) s t))) }
+    ensures stores { OnOk result (Adds 1 asm.old.parts asm.new.parts (Leads 1 (IsCell width) (λ s t. Writes (s.registers FIRST_SCRATCH) (bytes width) (s.registers SECOND_SCRATCH) s t))) }
     ensures labels { asm.new.labels ≡ asm.old.labels }
 {
     asm.emit(store_part(width, 0))?;

@@ -9,7 +9,7 @@ ghost use Rattle.cmm_effects.specs.Pieces.{Adds, Always, Leads};
 ghost use Rattle.cmm_select.specs.Destinations.{IsDestination, PutsFirst};
 
 use crate::place::write;
-use cmm_abi::registers::{FIRST_SCRATCH, HELPER, REGION};
+use cmm_abi::registers::{FIRST_SCRATCH, HELPER, REGION, SECOND_SCRATCH};
 use cmm_chain::Location;
 use rv_asm::{Asm, Label};
 use rv_table::Instr;
@@ -32,7 +32,7 @@ pub fn put(asm: &mut Asm, to: &Destination) -> Result<(), AllocError>
 {
     match *to {
         Destination::Place(place) => {
-            write(asm, place)?;
+            write(asm, FIRST_SCRATCH, place)?;
             Ok(())
         }
         Destination::Register(of) => {
@@ -47,7 +47,7 @@ pub fn put(asm: &mut Asm, to: &Destination) -> Result<(), AllocError>
 pub fn put_global(asm: &mut Asm, register: u8, of: Label) -> Result<(), AllocError>
     requires label { IsLabel asm.old.labels of }
     requires register { register < 32 }
-    requires other { register ≢ 6 }
+    requires other { register ≢ HELPER }
     ensures puts { OnOk result (Adds 4 asm.old.parts asm.new.parts (λ x. Leads 4 (CanReachGlobal (x.at of.number)) (λ s t. PutsGlobal (x.at of.number) (s.registers register) s t) x)) }
     ensures labels { asm.new.labels ≡ asm.old.labels }
 {
@@ -63,7 +63,7 @@ pub fn put_global(asm: &mut Asm, register: u8, of: Label) -> Result<(), AllocErr
 /// Gives register 5 what a global register has. An error is want of memory, and then some of the instructions may be there.
 pub fn read_global(asm: &mut Asm, of: Label) -> Result<(), AllocError>
     requires { IsLabel asm.old.labels of }
-    ensures reads { OnOk result (Adds 4 asm.old.parts asm.new.parts (λ x. Leads 4 (CanReachGlobal (x.at of.number)) (λ s t. Sets 5 (global_at (x.at of.number) s) s t) x)) }
+    ensures reads { OnOk result (Adds 4 asm.old.parts asm.new.parts (λ x. Leads 4 (CanReachGlobal (x.at of.number)) (λ s t. Sets FIRST_SCRATCH (global_at (x.at of.number) s) s t) x)) }
     ensures labels { asm.new.labels ≡ asm.old.labels }
 {
     find_global(asm, of, FIRST_SCRATCH)?;
@@ -78,9 +78,9 @@ pub fn read_global(asm: &mut Asm, of: Label) -> Result<(), AllocError>
 /// Gives register `rd` the address of a global register.
 fn find_global(asm: &mut Asm, of: Label, rd: u8) -> Result<(), AllocError>
     requires label { IsLabel asm.old.labels of }
-    requires low { 5 ≤ rd }
-    requires high { rd ≤ 7 }
-    ensures sets { OnOk result (Adds 3 asm.old.parts asm.new.parts (λ x. Leads 3 Always (λ s t. Sets rd (sum (x.at of.number) (s.registers 4)) s t) x)) }
+    requires low { FIRST_SCRATCH ≤ rd }
+    requires high { rd ≤ SECOND_SCRATCH }
+    ensures sets { OnOk result (Adds 3 asm.old.parts asm.new.parts (λ x. Leads 3 Always (λ s t. Sets rd (sum (x.at of.number) (s.registers REGION)) s t) x)) }
     ensures labels { asm.new.labels ≡ asm.old.labels }
 {
     asm.address(rd, of)?;

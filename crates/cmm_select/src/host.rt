@@ -34,7 +34,7 @@ pub fn put_byte(asm: &mut Asm, value: &Operand) -> Result<(), AllocError>
 /// Takes the input's next byte, or all ones at its end. An error is want of memory, and then some of the instructions may be there.
 pub fn get_byte(asm: &mut Asm, to: &Destination) -> Result<(), AllocError>
     requires { IsDestination asm.old.labels to.now }
-    ensures requests { OnOk result (Adds 7 asm.old.parts asm.new.parts (λ x. Requests 1 5 (CanPut x.at to.now) (λ s. GetByte) (λ u v. PutsTo x.at to.now (u.registers 10) u v) x)) }
+    ensures requests { OnOk result (Adds 7 asm.old.parts asm.new.parts (λ x. Requests 1 5 (CanPut x.at to.now) (λ s. GetByte) (λ u v. PutsTo x.at to.now (u.registers REQUEST_VALUE) u v) x)) }
     ensures labels { asm.new.labels ≡ asm.old.labels }
 {
     asm.emit(choose(Request::GetByte))?;
@@ -46,7 +46,7 @@ pub fn get_byte(asm: &mut Asm, to: &Destination) -> Result<(), AllocError>
 
 /// The instruction that chooses a request by its number. The value that goes with the request says nothing here.
 pub fn choose(request: Request) -> Instr
-    ensures is { result ≡ Addi 5 0 (pos (request_number request)) }
+    ensures is { result ≡ Addi REQUEST_NUMBER ZERO (pos (request_number request)) }
     ensures valid { IsValid result }
 {
     let number = request.number();

@@ -8,7 +8,8 @@
 //!
 //! What nodes are made of:
 //!
-//! - `place`: a place is read into one of these registers, and written from register 5.
+//! - `word`: a word of the frame is saved from a register, and restored to one, at any offset of the frame.
+//! - `place`: a place is read into a scratch register, and written from any.
 //! - `number`: a register gets a number.
 //! - `source`: a register gets what a place has, a number or an address of the frame.
 //! - `operand`: a register gets an operand, which may name a label too; two registers get two.
@@ -45,6 +46,7 @@ mod place;
 mod source;
 mod switching;
 mod unary;
+mod word;
 
 pub use accesses::{load_word, store_word};
 pub use assigning::{
@@ -60,7 +62,8 @@ pub use memory::{assign_loaded, store};
 pub use number::{load_constant, load_low};
 pub use operand::{Operand, bring_both, bring_operand};
 pub use operator::{extend, narrow, operate};
-pub use place::{read, write};
+pub use place::{copy, read, write};
 pub use source::{Source, bring};
 pub use switching::switch;
 pub use unary::{convert, operate_on_one};
+pub use word::{NEAR, restore, save};

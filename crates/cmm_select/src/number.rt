@@ -8,8 +8,9 @@ ghost use Rattle.cmm_effects.specs.Changes.{Sets};
 ghost use Rattle.cmm_effects.specs.Pieces.{Adds, Always, Leads};
 ghost use Rattle.cmm_select.specs.Operands.{most_for_number};
 
-use crate::place::{NEAR, add_to};
-use cmm_abi::registers::ZERO;
+use crate::place::add_to;
+use crate::word::NEAR;
+use cmm_abi::registers::{FIRST_SCRATCH, SECOND_SCRATCH, ZERO};
 use rv_asm::Asm;
 use rv_table::Instr;
 use std::alloc::AllocError;
@@ -20,10 +21,10 @@ const SHORT: u64 = 0x100_0000_0000;
 /// Numbers below this are loaded by two instructions: 2^31 and half of what an immediate reaches below it.
 const LOW: u64 = 0x7FFF_F800;
 
-/// Gives register `rd`, one of 5 to 7, a number. An error is want of memory, and then some of the instructions may be there.
+/// Gives register `rd`, a scratch register, a number. An error is want of memory, and then some of the instructions may be there.
 pub fn load_constant(asm: &mut Asm, number: u64, rd: u8) -> Result<(), AllocError>
-    requires low { 5 ≤ rd }
-    requires high { rd ≤ 7 }
+    requires low { FIRST_SCRATCH ≤ rd }
+    requires high { rd ≤ SECOND_SCRATCH }
     ensures sets { OnOk result (Adds (most_for_number number) asm.old.parts asm.new.parts (Leads (most_for_number number) Always (λ s t. Sets rd number s t))) }
     ensures labels { asm.new.labels ≡ asm.old.labels }
 {
@@ -38,8 +39,8 @@ pub fn load_constant(asm: &mut Asm, number: u64, rd: u8) -> Result<(), AllocErro
 /// Gives register `rd` a number, in pieces of 12 bits from the highest on, which are immediates with a sign: what is left of the number is
 /// rounded. `more` is how many pieces there are at most behind the first, which has 28 bits.
 fn load_rounded(asm: &mut Asm, number: u64, rd: u8, more: u32) -> Result<(), AllocError>
-    requires low { 5 ≤ rd }
-    requires high { rd ≤ 7 }
+    requires low { FIRST_SCRATCH ≤ rd }
+    requires high { rd ≤ SECOND_SCRATCH }
     requires pieces { number ≤ 2 ^ (28 + 12 * more) }
     ensures sets { OnOk result (Adds (2 + 2 * more) asm.old.parts asm.new.parts (Leads (2 + 2 * more) Always (λ s t. Sets rd number s t))) }
     ensures labels { asm.new.labels ≡ asm.old.labels }
@@ -58,11 +59,11 @@ fn load_rounded(asm: &mut Asm, number: u64, rd: u8, more: u32) -> Result<(), All
     Ok(())
 }
 
-/// Gives register `rd`, one of 5 to 7, a number that an upper immediate and a lower one make up. An error is want of memory, and then some of the
+/// Gives register `rd`, a scratch register, a number that an upper immediate and a lower one make up. An error is want of memory, and then some of the
 /// instructions may be there.
 pub fn load_low(asm: &mut Asm, number: u64, rd: u8) -> Result<(), AllocError>
-    requires low { 5 ≤ rd }
-    requires high { rd ≤ 7 }
+    requires low { FIRST_SCRATCH ≤ rd }
+    requires high { rd ≤ SECOND_SCRATCH }
     requires near { number + 2048 < 2 ^ 31 }
     ensures sets { OnOk result (Adds 2 asm.old.parts asm.new.parts (Leads 2 Always (λ s t. Sets rd number s t))) }
     ensures labels { asm.new.labels ≡ asm.old.labels }
@@ -77,14 +78,14 @@ pub fn load_low(asm: &mut Asm, number: u64, rd: u8) -> Result<(), AllocError>
 }
 
 /// How many times 4,096 a number is, rounded.
-fn rounded(number: u64) -> u64
+pub(crate) fn rounded(number: u64) -> u64
     ensures { result ≡ (number + 2048) / 4096 }
 {
     number / 4096 + u64::from(number % 4096 >= 2048)
 }
 
 /// The instruction that gives a register a number times 4,096.
-fn upper(rd: u8, number: u32) -> Instr
+pub(crate) fn upper(rd: u8, number: u32) -> Instr
     requires register { rd < 32 }
     requires number { number < 2 ^ 20 }
     ensures is { result ≡ Lui rd (pos number) }
@@ -97,12 +98,22 @@ fn upper(rd: u8, number: u32) -> Instr
 }
 
 /// The instruction that adds to a register how much a number is above or below what it is rounded to.
-fn add_rest(rd: u8, number: u64) -> Instr
+pub(crate) fn add_rest(rd: u8, number: u64) -> Instr
     requires { rd < 32 }
     ensures is { result ≡ Addi rd rd (signed 12 number) }
     ensures valid { IsValid result }
 {
+    Instr::Addi {
+        rd,
+        rs1: rd,
+        imm: low_part(number),
+    }
+}
+
+/// The low 12 bits of a number as a signed number: how much it is above or below what it is rounded to.
+pub(crate) fn low_part(number: u64) -> i32
+    ensures { result ≡ signed 12 number }
+{
     let bits = (number % 4096) as i32;
-    let imm = if bits < 2048 { bits } else { bits - 4096 };
-    Instr::Addi { rd, rs1: rd, imm }
+    if bits < 2048 { bits } else { bits - 4096 }
 }

@@ -25,9 +25,9 @@ pub enum Operand {
 /// there.
 pub fn bring_operand(asm: &mut Asm, from: &Operand, rd: u8) -> Result<(), AllocError>
     requires operand { IsOperand asm.old.labels from.now }
-    requires low { 5 ≤ rd }
-    requires high { rd ≤ 7 }
-    requires beside { rd ≢ 6 }
+    requires low { FIRST_SCRATCH ≤ rd }
+    requires high { rd ≤ SECOND_SCRATCH }
+    requires beside { rd ≢ HELPER }
     ensures brings { OnOk result (Adds (most_for from.now) asm.old.parts asm.new.parts (BringsOperand from.now rd)) }
     ensures labels { asm.new.labels ≡ asm.old.labels }
 {
@@ -46,9 +46,9 @@ pub fn bring_operand(asm: &mut Asm, from: &Operand, rd: u8) -> Result<(), AllocE
 /// Brings the number that a label stands for, with a number of bytes added.
 fn bring_symbol(asm: &mut Asm, of: Label, plus: u64, rd: u8) -> Result<(), AllocError>
     requires label { IsLabel asm.old.labels of }
-    requires low { 5 ≤ rd }
-    requires high { rd ≤ 7 }
-    requires beside { rd ≢ 6 }
+    requires low { FIRST_SCRATCH ≤ rd }
+    requires high { rd ≤ SECOND_SCRATCH }
+    requires beside { rd ≢ HELPER }
     ensures brings { OnOk result (Adds 11 asm.old.parts asm.new.parts (BringsOperand (Operand.Symbol of plus) rd)) }
     ensures labels { asm.new.labels ≡ asm.old.labels }
 {

@@ -44,8 +44,8 @@ pub fn narrow(asm: &mut Asm, width: Width) -> Result<(), AllocError>
 /// Gives the word in register `rd`, one of 5 to 7, its sign: copies of its top bit above it. An error is want of memory, and then some
 /// of the instructions may be there.
 pub fn extend(asm: &mut Asm, width: Width, rd: u8) -> Result<(), AllocError>
-    requires low { 5 ≤ rd }
-    requires high { rd ≤ 7 }
+    requires low { FIRST_SCRATCH ≤ rd }
+    requires high { rd ≤ SECOND_SCRATCH }
     ensures extends { OnOk result (Adds (shifts_of width) asm.old.parts asm.new.parts (Runs 0 (shifts_of width) (HasWord width rd) (Extends width rd))) }
     ensures labels { asm.new.labels ≡ asm.old.labels }
 {
@@ -69,7 +69,7 @@ pub fn extend(asm: &mut Asm, width: Width, rd: u8) -> Result<(), AllocError>
 /// Shifts register 5 to the left, and back with zeros.
 fn shift_out(asm: &mut Asm, amount: u8) -> Result<(), AllocError>
     requires { amount < 64 }
-    ensures shifts { OnOk result (Adds 2 asm.old.parts asm.new.parts (Runs 0 2 Always (λ s t. Sets 5 (shifted_right (shifted_left (s.registers 5) amount) amount) s t))) }
+    ensures shifts { OnOk result (Adds 2 asm.old.parts asm.new.parts (Runs 0 2 Always (λ s t. Sets FIRST_SCRATCH (shifted_right (shifted_left (s.registers FIRST_SCRATCH) amount) amount) s t))) }
     ensures labels { asm.new.labels ≡ asm.old.labels }
 {
     asm.emit(shift_left(FIRST_SCRATCH, amount))?;
@@ -80,8 +80,8 @@ fn shift_out(asm: &mut Asm, amount: u8) -> Result<(), AllocError>
 /// Shifts register `rd` to the left, and back with copies of the top bit.
 fn shift_back(asm: &mut Asm, rd: u8, amount: u8) -> Result<(), AllocError>
     requires amount { amount < 64 }
-    requires low { 5 ≤ rd }
-    requires high { rd ≤ 7 }
+    requires low { FIRST_SCRATCH ≤ rd }
+    requires high { rd ≤ SECOND_SCRATCH }
     ensures shifts { OnOk result (Adds 2 asm.old.parts asm.new.parts (Runs 0 2 Always (λ s t. Sets rd (shifted_right_signed 64 (shifted_left (s.registers rd) amount) amount) s t))) }
     ensures labels { asm.new.labels ≡ asm.old.labels }
 {
@@ -507,7 +507,7 @@ fn count_of(width: Width) -> Instr
 
 /// The instruction that takes the width away from a count.
 fn without_width(width: Width) -> Instr
-    ensures is { result ≡ Addi 7 7 (negsuc (bits width - 1)) }
+    ensures is { result ≡ Addi SECOND_SCRATCH SECOND_SCRATCH (negsuc (bits width - 1)) }
     ensures valid { IsValid result }
 {
     match width {

@@ -1,14 +1,15 @@
 //! Operands, and where they come from.
 
-ghost use Rattle.std.specs.Prelude.{◌≡◌, ◌+◌, ◌^◌, ◌<◌, ◌≤◌, OnOk};
+ghost use Rattle.std.specs.Prelude.{◌≡◌, ◌^◌, ◌<◌, ◌≤◌, OnOk};
 ghost use Rattle.cmm_effects.specs.Changes.{Sets};
 ghost use Rattle.cmm_effects.specs.Pieces.{Adds, Leads};
 ghost use Rattle.cmm_select.specs.Operands.{most_for_source};
 ghost use Rattle.cmm_select.specs.Sources.{CanBring, IsSource, brought};
 
-use crate::number::load_constant;
-use crate::place::{NEAR, add_to, approach, read};
-use cmm_abi::registers::FRAME;
+use crate::number::{add_rest, load_constant};
+use crate::place::{add_to, read};
+use crate::word::{NEAR, approach};
+use cmm_abi::registers::{FIRST_SCRATCH, FRAME, SECOND_SCRATCH};
 use cmm_chain::Location;
 use rv_asm::Asm;
 use std::alloc::AllocError;
@@ -24,11 +25,11 @@ pub enum Source {
     Address(u32),
 }
 
-/// Brings an operand into register `rd`, one of 5 to 7. An error is want of memory, and then some of the instructions may be there.
+/// Brings an operand into register `rd`, a scratch register. An error is want of memory, and then some of the instructions may be there.
 pub fn bring(asm: &mut Asm, from: Source, rd: u8) -> Result<(), AllocError>
     requires source { IsSource from }
-    requires low { 5 ≤ rd }
-    requires high { rd ≤ 7 }
+    requires low { FIRST_SCRATCH ≤ rd }
+    requires high { rd ≤ SECOND_SCRATCH }
     ensures brings { OnOk result (Adds (most_for_source from) asm.old.parts asm.new.parts (Leads (most_for_source from) (CanBring from) (λ s t. Sets rd (brought from s) s t))) }
     ensures labels { asm.new.labels ≡ asm.old.labels }
 {
@@ -51,8 +52,8 @@ pub fn bring(asm: &mut Asm, from: Source, rd: u8) -> Result<(), AllocError>
 /// Gives register `rd` the address at an offset of the frame.
 pub(crate) fn address(asm: &mut Asm, offset: u32, rd: u8) -> Result<(), AllocError>
     requires frame { offset < 2 ^ 21 }
-    requires low { 5 ≤ rd }
-    requires high { rd ≤ 7 }
+    requires low { FIRST_SCRATCH ≤ rd }
+    requires high { rd ≤ SECOND_SCRATCH }
     ensures brings { OnOk result (Adds 4 asm.old.parts asm.new.parts (Leads 4 (CanBring (Source.Address offset)) (λ s t. Sets rd (brought (Source.Address offset) s) s t))) }
     ensures labels { asm.new.labels ≡ asm.old.labels }
 {
@@ -61,6 +62,6 @@ pub(crate) fn address(asm: &mut Asm, offset: u32, rd: u8) -> Result<(), AllocErr
         return Ok(());
     }
     approach(asm, offset, rd)?;
-    asm.emit(add_to(rd, rd, offset % NEAR))?;
+    asm.emit(add_rest(rd, offset as u64))?;
     Ok(())
 }

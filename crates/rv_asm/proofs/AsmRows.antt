@@ -76,7 +76,7 @@ given = refl
 
 -- what code that runs as the parts has to be can be met
 abbrev map : MemoryMap
-map = record { code = code; data_length = 0; stack_size = 4096 }
+map = record { code = code; data_length = 0; region_length = 8192 }
 
 reached : All (IsReached value 0x10000) fixes
 reached =

@@ -2,8 +2,8 @@
 ghost use Rattle.std.specs.Prelude.{◌≡◌, ◌≤◌, ◌+◌, ◌*◌, ◌/◌, length, IfOk, Ok, Err, IsTrue, IsFalse};
 ghost use Rattle.std.specs.Option.{ok_or};
 ghost use Rattle.rv_table.specs.Bounds.{is_size};
-ghost use Rattle.rv_table.specs.Memory.{code_base, data_base, fetched, is_accessible, loaded, stored, stack_base};
-ghost use Rattle.rv_memory.specs.Regions.{map_of, memory_of, started};
+ghost use Rattle.rv_table.specs.Memory.{code_base, data_base, fetched, is_accessible, loaded, stored, LiesIn, bottom as bottom_of, top as top_of};
+ghost use Rattle.rv_memory.specs.Regions.{map_of, memory_of, region_of, started};
 
 use crate::numbers::{offset_in, read, read_word, write};
 use rv_table::TrapKind;
@@ -73,6 +73,7 @@ impl Memory {
         ensures done { IsTrue (is_accessible (map_of self.old) address size) → result ≡ Ok tt }
         ensures memory { IsTrue (is_accessible (map_of self.old) address size) → memory_of self.new ≡ stored (memory_of self.old) address size value }
         ensures map { map_of self.new ≡ map_of self.old }
+        ensures region { region_of self.new ≡ region_of self.old }
         ensures refused { IsFalse (is_accessible (map_of self.old) address size) → result ≡ Err TrapKind.BadStore }
         ensures unchanged { IsFalse (is_accessible (map_of self.old) address size) → self.new ≡ self.old }
     {
@@ -108,16 +109,26 @@ impl Memory {
         self.code.len() as u64 / 4
     }
 
+    /// The address of the region of argument area, global registers and stack. All of it can be loaded and stored.
+    pub fn region(&self) -> u64
+        ensures address { result ≡ (region_of self.now).address }
+        ensures lies { LiesIn (region_of self.now) (map_of self.now) }
+    {
+        // by the invariant, which is known where a field is named
+        let _ = &self.region;
+        REGION_BASE
+    }
+
     /// The stack's lowest address.
     pub fn base(&self) -> u64
-        ensures { result ≡ stack_base }
+        ensures { result ≡ bottom_of (region_of self.now) }
     {
         STACK_BASE
     }
 
     /// The address after the stack's last byte.
     pub fn top(&self) -> u64
-        ensures { result ≡ stack_base + (map_of self.now).stack_size }
+        ensures { result ≡ top_of (region_of self.now) }
     {
         REGION_BASE + self.region.len() as u64
     }

@@ -1,6 +1,6 @@
 //! One step: an instruction is fetched, decoded and done.
 ghost use Rattle.std.specs.Prelude.{◌≡◌, ◌≢◌, ◌<◌, ◌+◌, ◌^◌, ℕ, Some, Ok, IfOk, IsTrue, slice_index};
-ghost use Rattle.rv_memory.specs.Regions.{map_of};
+ghost use Rattle.rv_memory.specs.Regions.{map_of, region_of};
 ghost use Rattle.rv_sim.specs.declared.event.Event.TheVariants.{Next};
 ghost use Rattle.rv_sim.specs.Stepping.{state_of, state_with, outcome_of, event_of, state_after};
 ghost use Rattle.rv_sim.specs.Standing.{found_at};
@@ -20,6 +20,7 @@ pub fn step(r: &mut Regs, m: &mut Memory) -> Event
     ensures event { result ≡ event_of r.old.pc (outcome_of r.old m.old) }
     ensures state { state_of r.new m.new ≡ state_after (state_of r.old m.old) (outcome_of r.old m.old) }
     ensures map { map_of m.new ≡ map_of m.old }
+    ensures region { region_of m.new ≡ region_of m.old }
     ensures zero { slice_index r.new.x 0 ≡ slice_index r.old.x 0 }
     ensures registers_kept { result ≢ Next → r.new ≡ r.old }
     ensures memory_kept { result ≢ Next → m.new ≡ m.old }
@@ -38,6 +39,7 @@ pub fn execute(instruction: Instr, r: &mut Regs, m: &mut Memory) -> Event
     ensures event { result ≡ event_of r.old.pc (outcome_of r.old m.old) }
     ensures state { state_of r.new m.new ≡ state_after (state_of r.old m.old) (outcome_of r.old m.old) }
     ensures map { map_of m.new ≡ map_of m.old }
+    ensures region { region_of m.new ≡ region_of m.old }
     ensures zero { slice_index r.new.x 0 ≡ slice_index r.old.x 0 }
     ensures registers_kept { result ≢ Next → r.new ≡ r.old }
     ensures memory_kept { result ≢ Next → m.new ≡ m.old }
@@ -74,6 +76,7 @@ fn perform(effect: Effect, r: &mut Regs, m: &mut Memory) -> Result<Event, TrapKi
     ensures answer { result ≡ answer_of (done (map_of m.old) (state_of r.old m.old) effect) }
     ensures state { state_of r.new m.new ≡ state_after (state_of r.old m.old) (done (map_of m.old) (state_of r.old m.old) effect) }
     ensures map { map_of m.new ≡ map_of m.old }
+    ensures region { region_of m.new ≡ region_of m.old }
     ensures zero { slice_index r.new.x 0 ≡ slice_index r.old.x 0 }
     ensures registers_kept { result ≢ Ok Next → r.new ≡ r.old }
     ensures memory_kept { result ≢ Ok Next → m.new ≡ m.old }

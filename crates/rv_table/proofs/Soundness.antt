@@ -7,11 +7,12 @@ use Rattle.std.proofs.Math.Pow.{pow_pos, pow_mono}
 use Rattle.rv_table.specs.declared.effects.Effect.{Effect}
 use Rattle.rv_table.specs.declared.effects.Effect.TheVariants.{Set, Jump, Branch, Load, Store, Ask, Break}
 use Rattle.rv_table.specs.declared.instruction.Instr.{Instr}
+use Rattle.rv_table.specs.declared.registers.TheConstants.{FRAME, REGION}
 use Rattle.rv_table.specs.declared.request.Request.{Request}
 use Rattle.rv_table.specs.declared.trap.TrapKind.TheVariants.{NoRequest}
 use Rattle.rv_table.specs.Bounds.{ValuesFit, HasASize, IsSound, is_size}
 use Rattle.rv_table.specs.Decoding.{instr_of}
-use Rattle.rv_table.specs.Machine.{MemoryMap, State, Outcome, Next, Asks, Traps, and_then, extended, fetched, instruction_step, fetched_step, decoded_step, done, goes_to, with_set, steps, start, request_of, is_accessible, loaded, stored, stack_base, region_base}
+use Rattle.rv_table.specs.Machine.{MemoryMap, State, Outcome, Next, Asks, Traps, and_then, extended, fetched, instruction_step, fetched_step, decoded_step, done, goes_to, with_set, steps, start, request_of, is_accessible, loaded, stored, Region, top}
 use Rattle.rv_table.specs.Row.{row}
 use Rattle.rv_table.proofs.Immediates.{modulo-lt}
 use Rattle.rv_table.proofs.MemoryFacts.{loaded-lt}
@@ -100,10 +101,9 @@ sound_steps m (suc n) s t h is =
     (λ u sound. sound_steps m n u t sound)
     is
 
-pub sound_start : (m : MemoryMap) (memory : ℕ → ℕ) → stack_base + m.stack_size < 2 ^ 64 →
-    ((address : ℕ) → memory address < 2 ^ 8) → IsSound (start m memory)
-sound_start m memory fits bytes = record {
-  registers = with_register-fits _ 4 region_base (with_register-fits _ 2 _ (λ k. lit< tt) fits) (lit< tt);
+pub sound_start : (r : Region) (memory : ℕ → ℕ) → top r < 2 ^ 64 → ((address : ℕ) → memory address < 2 ^ 8) → IsSound (start r memory)
+sound_start r memory fits bytes = record {
+  registers = with_register-fits _ REGION _ (with_register-fits _ FRAME _ (λ k. lit< tt) fits) (omega (arith, fits));
   zero = refl;
   memory = bytes;
 }

@@ -7,7 +7,7 @@ use Rattle.rv_table.specs.declared.instruction.Instr.TheVariants.{Addi, Jalr, Sd
 use Rattle.rv_table.specs.declared.request.Request.TheVariants.{End}
 use Rattle.rv_table.specs.declared.memory_map.TheConstants.{CODE_LENGTH_LIMIT, DATA_LENGTH_LIMIT, GLOBALS_OFFSET, STACK_SIZE_LIMIT}
 use Rattle.rv_table.specs.Decoding.{instr_of}
-use Rattle.rv_table.specs.Machine.{MemoryMap, Outcome, Asks, code_base, data_base, region_base, stack_base, steps, start, instruction_step}
+use Rattle.rv_table.specs.Machine.{MemoryMap, Region, Outcome, Asks, code_base, data_base, region_base, stack_base, steps, start, instruction_step}
 use Rattle.rv_table.specs.Stands.{code_of}
 use Rattle.rv_table.specs.Table.{word_of}
 
@@ -68,12 +68,15 @@ summing =
     ∷ []
 
 map : MemoryMap
-map = record { code = code_of summing; data_length = 0; stack_size = 4096 }
+map = record { code = code_of summing; data_length = 0; region_length = 8192 }
+
+stack_region : Region
+stack_region = record { address = region_base; stack_size = 4096 }
 
 -- what stands after n instructions
 after : ℕ → Outcome
-after n = elim (steps map n (start map (λ _. 0))) [ Some s ↦ instruction_step map s | None ↦ Asks (End 0) ]
+after n = elim (steps map n (start stack_region (λ _. 0))) [ Some s ↦ instruction_step map s | None ↦ Asks (End 0) ]
 
 runs : after 305 ≡ Asks (End 5050)
-unfolding after map summing
+unfolding after map stack_region summing
 runs = refl

@@ -8,7 +8,7 @@ use Rattle.rv_table.specs.declared.request.Request.{Request}
 use Rattle.rv_table.specs.declared.trap.TrapKind.{TrapKind}
 use Rattle.rv_table.specs.Bounds.{ValuesFit, HasASize, WritesARegister, IsSound}
 use Rattle.rv_table.specs.Decoding.{instr_of}
-use Rattle.rv_table.specs.Machine.{MemoryMap, State, Next, Asks, Traps, code_base, stack_base, is_accessible, loaded, stored, extended, with_set, with_jump, with_store, request_of, done, instruction_step, steps, start}
+use Rattle.rv_table.specs.Machine.{MemoryMap, State, Next, Asks, Traps, Region, top, code_base, is_accessible, loaded, stored, extended, with_set, with_jump, with_store, request_of, done, instruction_step, steps, start}
 use Rattle.rv_table.specs.Registers.{with_register}
 use Rattle.rv_table.specs.Row.{row}
 use Rattle.rv_table.specs.Stands.{standing, Stands, code_of}
@@ -86,8 +86,7 @@ pub record RowsAreBounded : Type 0 where
 
 -- runs begin and stay in sound states: registers have 64 bits, register 0 is 0, and memory holds bytes
 pub record RunsAreSound : Type 0 where
-  pub begin : (m : MemoryMap) (memory : ℕ → ℕ) → stack_base + m.stack_size < 2 ^ 64 →
-      ((address : ℕ) → memory address < 2 ^ 8) → IsSound (start m memory)
+  pub begin : (r : Region) (memory : ℕ → ℕ) → top r < 2 ^ 64 → ((address : ℕ) → memory address < 2 ^ 8) → IsSound (start r memory)
   pub stay : (m : MemoryMap) (n : ℕ) (s t : State) → IsSound s → steps m n s ≡ Some t → IsSound t
 
 -- what is read after a store

@@ -3,11 +3,12 @@ use Rattle.std.specs.Prelude.{ℕ, zero, suc, ◌+◌, ◌*◌, ◌%◌, ◌==�
 use Rattle.rv_table.specs.declared.effects.Effect.{Effect}
 use Rattle.rv_table.specs.declared.effects.Effect.TheVariants.{Set, Jump, Branch, Load, Store, Ask, Break}
 use Rattle.rv_table.specs.declared.instruction.Instr.{Instr}
+use Rattle.rv_table.specs.declared.registers.TheConstants.{FRAME, REGION}
 use Rattle.rv_table.specs.declared.request.Request.{Request}
 use Rattle.rv_table.specs.declared.trap.TrapKind.{TrapKind}
 use Rattle.rv_table.specs.declared.trap.TrapKind.TheVariants.{NoInstruction, BadTarget, BadLoad, BadStore, Breakpoint, NoRequest}
 use Rattle.rv_table.specs.Decoding.{instr_of}
-pub use Rattle.rv_table.specs.Memory.{MemoryMap, code_base, data_base, region_base, stack_base, is_fetchable, fetched, is_accessible, loaded, stored}
+pub use Rattle.rv_table.specs.Memory.{MemoryMap, Region, bottom, top, LiesIn, code_base, data_base, region_base, stack_base, is_fetchable, fetched, is_accessible, loaded, stored}
 use Rattle.rv_table.specs.Registers.{with_register}
 pub use Rattle.rv_table.specs.Requests.{request_of}
 use Rattle.rv_table.specs.Row.{row}
@@ -87,10 +88,10 @@ abbrev pub steps : MemoryMap → ℕ → State → Option State
 steps m zero s = Some s
 steps m (suc n) s = and_then (instruction_step m s) (steps m n)
 
--- where a run begins: pc at the code, register 2 at the stack's top, register 4 at the region
-abbrev pub start : MemoryMap → (ℕ → ℕ) → State
-start m memory = record {
-  registers = with_register (with_register (λ _. 0) 2 (stack_base + m.stack_size)) 4 region_base;
+-- where a run begins: pc at the code, and registers with the top of the region's stack and the region's address
+abbrev pub start : Region → (ℕ → ℕ) → State
+start r memory = record {
+  registers = with_register (with_register (λ _. 0) FRAME (top r)) REGION r.address;
   pc = code_base;
   memory = memory;
 }

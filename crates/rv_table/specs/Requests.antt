@@ -1,5 +1,6 @@
--- What an ECALL asks for: the number that register 5 has, and the value that register 10 has.
+-- What an ECALL asks for: by the number in one register, with the value in another.
 use Rattle.std.specs.Prelude.{ℕ, ◌%◌, ◌==◌, [], ◌∷◌, find, Option}
+use Rattle.rv_table.specs.declared.request.TheConstants.{REQUEST_NUMBER, REQUEST_VALUE}
 use Rattle.rv_table.specs.declared.request.Request.{Request}
 use Rattle.rv_table.specs.declared.request.Request.TheVariants.{PutByte, GetByte, Yield, StackLimit, End}
 
@@ -10,8 +11,8 @@ request_number Yield = 3
 request_number StackLimit = 4
 request_number (End _) = 5
 
--- the request of the number in register 5, if it has one
+-- the request of the number in the register for it, if it has one
 abbrev pub request_of : (ℕ → ℕ) → Option Request
 request_of x =
-    find (λ r. request_number r == x 5)
-    (PutByte (x 10 % 256) ∷ GetByte ∷ Yield ∷ StackLimit ∷ End (x 10) ∷ [])
+    find (λ r. request_number r == x REQUEST_NUMBER)
+    (PutByte (x REQUEST_VALUE % 256) ∷ GetByte ∷ Yield ∷ StackLimit ∷ End (x REQUEST_VALUE) ∷ [])

@@ -6,9 +6,9 @@
 //!
 //! - `instruction`: `Instr`, one variant a row, and `valid`, the test that its operands fit their fields.
 //! - `word_fields`: the six fields that every word is cut into.
-//! - `registers`: the registers and pc.
+//! - `registers`: the registers and pc, and the two that have a value where a run begins.
 //! - `memory_map`: where code, data, argument area, global registers and stack lie.
-//! - `request` and `trap`: what an ECALL asks for, and why a run stops.
+//! - `request` and `trap`: what an ECALL asks for and by which registers, and why a run stops.
 //! - `effects`: what a row asks for, and `effect_of`.
 //! - `arithmetic`: the operations on words that the rows need.
 //! - `laws`: what is proved of the definitions.
@@ -26,7 +26,7 @@ mod word_fields;
 
 pub use effects::{Effect, effect_of};
 pub use instruction::{Instr, valid};
-pub use registers::Regs;
-pub use request::Request;
+pub use registers::{FRAME, REGION, Regs};
+pub use request::{REQUEST_NUMBER, REQUEST_VALUE, Request};
 pub use trap::{Trap, TrapKind};
 pub use word_fields::Fields;

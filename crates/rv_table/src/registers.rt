@@ -1,6 +1,12 @@
 //! The registers and pc.
 ghost use Rattle.std.specs.Prelude.{◌≡◌, ◌<◌, slice_index};
 
+/// The register that has the top of the stack where a run begins, and then the address of the youngest frame: the stack pointer.
+pub const FRAME: u8 = 2;
+
+/// The register that has the address of the region of argument area, global registers and stack.
+pub const REGION: u8 = 4;
+
 /// The 32 registers and the program counter.
 #[derive(Clone, Copy, Debug, PartialEq, Eq)]
 pub struct Regs {

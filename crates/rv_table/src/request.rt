@@ -5,12 +5,18 @@ ghost use Rattle.rv_table.specs.Requests.{request_number, request_of};
 
 use crate::registers::Regs;
 
-/// What an ECALL asks for. Its number stands in register 5, and a value that goes with it in register 10.
+/// The register that has the number of a request at its ECALL.
+pub const REQUEST_NUMBER: u8 = 5;
+
+/// The register of the value that goes with a request, and of what comes of one.
+pub const REQUEST_VALUE: u8 = 10;
+
+/// What an ECALL asks for. Its number stands in register `REQUEST_NUMBER`, and a value that goes with it in register `REQUEST_VALUE`.
 #[derive(Clone, Copy, Debug, PartialEq, Eq)]
 pub enum Request {
     /// 1: to write this byte, the low eight bits of the value.
     PutByte(u8),
-    /// 2: to read a byte into register 10.
+    /// 2: to read a byte into register `REQUEST_VALUE`.
     GetByte,
     /// 3: to yield to the client.
     Yield,
@@ -34,16 +40,16 @@ impl Request {
         }
     }
 
-    /// What an ECALL asks for at these registers; none where the number in register 5 means nothing.
+    /// What an ECALL asks for at these registers; none where the number in register `REQUEST_NUMBER` means nothing.
     pub fn asked_by(r: &Regs) -> Option<Request>
         ensures { result ≡ request_of (registers_of r.now) }
     {
-        match r.read(5) {
-            1 => Some(Request::PutByte((r.read(10) % 256) as u8)),
+        match r.read(REQUEST_NUMBER) {
+            1 => Some(Request::PutByte((r.read(REQUEST_VALUE) % 256) as u8)),
             2 => Some(Request::GetByte),
             3 => Some(Request::Yield),
             4 => Some(Request::StackLimit),
-            5 => Some(Request::End(r.read(10))),
+            5 => Some(Request::End(r.read(REQUEST_VALUE))),
             _ => None,
         }
     }

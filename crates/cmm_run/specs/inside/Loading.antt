@@ -5,7 +5,7 @@ use Rattle.rv_sim.specs.Standing.{IsTableOf}
 use Rattle.rv_sim.specs.Stepping.{state_of}
 use Rattle.rv_table.specs.declared.instruction.Instr.{Instr}
 use Rattle.rv_table.specs.declared.memory_map.TheConstants.{STACK_SIZE_LIMIT}
-use Rattle.cmm_image_machine.specs.Machine.{Launch, map_of, first_run}
+use Rattle.cmm_image_machine.specs.Machine.{Launch, map_of, region_of, first_run}
 use Rattle.cmm_run.specs.declared.machine.Machine.{Machine}
 
 -- the code is decoded, the script has no block, and the stack is within its limit
@@ -17,5 +17,6 @@ pub record IsLoaded (l : Launch) (table : List (Option Instr)) : Type 0 where
 -- registers and memory are those where a run begins, and no output waits
 pub record IsReady (l : Launch) (machine : Machine) : Type 0 where
   pub map : regions.map_of machine.memory ≡ map_of l
+  pub region : regions.region_of machine.memory ≡ region_of l
   pub first : (first_run l []).machine ≡ state_of machine.regs machine.memory
   pub none_waits : machine.waiting ≡ []

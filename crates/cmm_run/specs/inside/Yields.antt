@@ -5,16 +5,16 @@ use Rattle.cmm_outside.specs.Faults.{Rose}
 use Rattle.cmm_outside.specs.Output.{Appends, AppendsFront}
 use Rattle.cmm_script.specs.Lines.{yield_line}
 use Rattle.cmm_program.specs.Asking.{Break}
+use Rattle.cmm_image.specs.declared.parts.ImageParts.{ImageParts}
 use Rattle.cmm_image_machine.specs.Frames.{Found, Activation, Nothing, Broken, found_at, first_point}
-use Rattle.cmm_image_machine.specs.Machine.{Launch, region_of}
-use Rattle.cmm_image_machine.specs.Regions.{Region, values_in}
+use Rattle.cmm_abi.specs.Regions.{Region, values_in}
 use Rattle.cmm_run.specs.declared.outcome.Outcome.{Outcome}
 use Rattle.cmm_run.specs.declared.outcome.Outcome.TheVariants as outcome
 use Rattle.cmm_run.specs.declared.outcome.Torn.{Torn}
 
 -- what stands at the first point of the chain
-abbrev pub found_first : Launch → State → Found
-found_first l s = found_at l.image (region_of l) (first_point s)
+abbrev pub found_first : ImageParts → Region → State → Found
+found_first i r s = found_at i r (first_point s)
 
 -- how many values a site yields; none if it does not yield
 abbrev pub count_of : Option ℕ → ℕ
@@ -32,8 +32,8 @@ abbrev pub values_found : Region → State → Result ℕ Break → Result (List
 values_found r s (Ok count) = Ok (values_in r s count)
 values_found r s (Err b) = Err b
 
-abbrev pub values_at : Launch → State → Result (List ℕ) Break
-values_at l s = values_found (region_of l) s (count_found (found_first l s))
+abbrev pub values_at : ImageParts → Region → State → Result (List ℕ) Break
+values_at i r s = values_found r s (count_found (found_first i r s))
 
 abbrev pub break_of : Torn → Break
 break_of t = record { frame = t.frame; address = t.address }

@@ -1,5 +1,6 @@
 -- The instructions that load and store words, at an offset from the address in register 5: RISC-V ISA Volume I, "Load and Store Instructions".
 use Rattle.std.specs.Prelude.{ℕ, pos}
+use Rattle.cmm_abi.specs.declared.registers.TheConstants.{FIRST_SCRATCH, SECOND_SCRATCH}
 use Rattle.cmm_words.specs.declared.width.Width.{Width}
 use Rattle.cmm_words.specs.declared.width.Width.TheVariants.{W8, W16, W32, W64}
 use Rattle.rv_table.specs.declared.instruction.Instr.{Instr}
@@ -15,7 +16,7 @@ abbrev pub store_part : Width → ℕ → Instr
 store_part W8 o = Sb 5 7 (pos o)
 store_part W16 o = Sh 5 7 (pos o)
 store_part W32 o = Sw 5 7 (pos o)
-store_part W64 o = Sd 5 7 (pos o)
+store_part W64 o = Sd FIRST_SCRATCH SECOND_SCRATCH (pos o)
 
 -- there
 abbrev pub load_of : Width → Instr

@@ -1,5 +1,6 @@
 -- How comparisons are made at 64 bits: RISC-V ISA Volume I, "Conditional Branches", which has six of them.
 use Rattle.std.specs.Prelude.{◌≡◌, Bool, true, false, Option, Some, None}
+use Rattle.cmm_abi.specs.declared.registers.TheConstants.{FIRST_SCRATCH, SECOND_SCRATCH}
 use Rattle.cmm_words.specs.Words.{holds}
 use Rattle.cmm_words.specs.declared.operators.Cmp.{Cmp}
 use Rattle.cmm_words.specs.declared.operators.Cmp.TheVariants.{Eq, Ne, Lt, Le, Gt, Ge, Ltu, Leu, Gtu, Geu}
@@ -20,7 +21,7 @@ compares_integers _ = false
 
 -- the comparison at 64 bits is that at the width before, and nothing but registers 5 to 7 is changed
 pub record Readies (c : Cmp) (w : Width) (s t : State) : Type 0 where
-  pub same : holds c W64 (t.registers 5) (t.registers 7) ≡ holds c w (s.registers 5) (s.registers 7)
+  pub same : holds c W64 (t.registers FIRST_SCRATCH) (t.registers SECOND_SCRATCH) ≡ holds c w (s.registers FIRST_SCRATCH) (s.registers SECOND_SCRATCH)
   pub keeps : Keeps s t
 
 -- the branch on the operands with their places changed, where there is none on them as they are

@@ -1,5 +1,6 @@
 -- Words of memory in several accesses of a width, each at its offset from the address in register 5.
 use Rattle.std.specs.Prelude.{◌≡◌, ℕ, ◌+◌, ◌*◌, ◌<◌, ◌≤◌, ◌^◌, ◌==◌, ◌||◌, pos, IsTrue}
+use Rattle.cmm_abi.specs.declared.registers.TheConstants.{FIRST_SCRATCH, HELPER, SECOND_SCRATCH}
 use Rattle.cmm_words.specs.Widths.{bytes}
 use Rattle.cmm_words.specs.declared.width.Width.{Width}
 use Rattle.cmm_words.specs.declared.width.Width.TheVariants.{W8, W16, W32, W64}
@@ -24,22 +25,22 @@ shift_down W64 = Srli 7 7 (pos 0)
 
 -- n accesses may be made from an offset on
 pub record CanAccess (p : Width) (o n : ℕ) (m : MemoryMap) (s : State) : Type 0 where
-  pub fits : s.registers 5 + o + n * bytes p ≤ 2 ^ 64
-  pub accessible : (k : ℕ) → k < n → IsTrue (is_accessible m (s.registers 5 + o + k * bytes p) (bytes p))
+  pub fits : s.registers FIRST_SCRATCH + o + n * bytes p ≤ 2 ^ 64
+  pub accessible : (k : ℕ) → k < n → IsTrue (is_accessible m (s.registers FIRST_SCRATCH + o + k * bytes p) (bytes p))
 
 -- register 7 gets the number whose bytes they are, and nothing else is changed but register 6
 pub record Gathers (p : Width) (o n : ℕ) (s t : State) : Type 0 where
-  pub given : t.registers 7 ≡ loaded s.memory (s.registers 5 + o) (n * bytes p)
-  pub first : t.registers 5 ≡ s.registers 5
+  pub given : t.registers SECOND_SCRATCH ≡ loaded s.memory (s.registers FIRST_SCRATCH + o) (n * bytes p)
+  pub first : t.registers FIRST_SCRATCH ≡ s.registers FIRST_SCRATCH
   pub keeps : Keeps s t
 
 -- a register gets what register 7 has above, and an access at an offset below it, and nothing else is changed but registers 6 and 7
 pub record Joins (p : Width) (o rd : ℕ) (s t : State) : Type 0 where
-  pub given : t.registers rd ≡ sum (shifted_left (s.registers 7) (8 * bytes p)) (loaded s.memory (s.registers 5 + o) (bytes p))
-  pub others : KeepsBut (λ r. (r == rd) || ((r == 6) || (r == 7))) s t
+  pub given : t.registers rd ≡ sum (shifted_left (s.registers SECOND_SCRATCH) (8 * bytes p)) (loaded s.memory (s.registers FIRST_SCRATCH + o) (bytes p))
+  pub others : KeepsBut (λ r. (r == rd) || ((r == HELPER) || (r == SECOND_SCRATCH))) s t
   pub memory : t.memory ≡ s.memory
 
 -- the bytes of register 7 are stored there, and the address stays
 pub record Scatters (p : Width) (o n : ℕ) (s t : State) : Type 0 where
-  pub writes : Writes (s.registers 5 + o) (n * bytes p) (s.registers 7) s t
-  pub first : t.registers 5 ≡ s.registers 5
+  pub writes : Writes (s.registers FIRST_SCRATCH + o) (n * bytes p) (s.registers SECOND_SCRATCH) s t
+  pub first : t.registers FIRST_SCRATCH ≡ s.registers FIRST_SCRATCH

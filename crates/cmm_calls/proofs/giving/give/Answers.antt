@@ -4,7 +4,7 @@ use Rattle.cmm_chain.specs.declared.frame.Location.TheVariants.{Slot}
 use Rattle.cmm_select.specs.Operands.{IsOperand}
 use Rattle.cmm_select.specs.declared.operand.Operand.TheVariants.{Held}
 use Rattle.cmm_select.specs.declared.source.Source.TheVariants.{Place}
-use Rattle.cmm_calls.proofs.Brought.{gives_more, gives_none}
+use Rattle.cmm_calls.proofs.Brought.{gives_all, gives_more, gives_none}
 use Rattle.cmm_calls.proofs.Standing.{each}
 use Rattle.cmm_calls.specs.Values.{is_operand}
 use Rattle.cmm_calls.proofs.giving.give.Goals as goal
@@ -27,3 +27,8 @@ loop-index-preserved c =
           c.loop-index-test.true c.requires.few c.loop-index.invariant.gives c.in_ok-give_value.ensures.gives;
       labels = c.in_ok-give_value.ensures.labels ∙ c.loop-index.invariant.labels;
     }
+
+pub returns-clause-gives : goal.returns-clause-gives
+returns-clause-gives c =
+    gives_all c.args.asm.now.parts c.loop-index.asm.parts c.args.frame.now.size c.loop-index.index c.args.values.now c.loop-index.auto.index-end c.loop-index-test.false
+    c.loop-index.invariant.gives

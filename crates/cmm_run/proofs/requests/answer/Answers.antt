@@ -1,11 +1,14 @@
-use Rattle.std.proofs.Common.{refl, ap, sym, ◌∙◌, subst}
+use Rattle.std.proofs.Common.{ℕ, List, Result, refl, ap, ◌∙◌, subst}
 use Rattle.rv_memory.specs.Regions.{memory_of}
+use Rattle.rv_sim.specs.Stepping.{state_of}
 use Rattle.rv_table.specs.Machine.{Asks}
+use Rattle.cmm_program.specs.Asking.{Break}
 use Rattle.cmm_image.specs.Images.{IsImage}
 use Rattle.cmm_image_machine.proofs.Shared.{images_keep_frames}
 use Rattle.cmm_run.specs.declared.machine.Machine.{Machine}
 use Rattle.cmm_run.specs.Outside.{Outside, outside_of}
 use Rattle.cmm_run.specs.inside.Turns.{IsAt}
+use Rattle.cmm_run.specs.inside.Yields.{YieldsTo, values_at}
 use Rattle.cmm_run.proofs.AtYields.{yield_turn}
 use Rattle.cmm_run.proofs.Turning.{end_turn, limit_turn, put_turn, take_turn, write_fails, written_at}
 use Rattle.cmm_run.proofs.requests.answer.Goals as goal
@@ -44,7 +47,9 @@ returns-in-Ok-flush-2-clause-turns g c start run at asks =
     let kept : IsImage c.args.loaded.now.image = subst IsImage c.image.ensures.same c.yields.ensures.kept in
     yield_turn g.E.Sink.taken g.E.Sink.faults c.args.log.now c.yields.new.log c.args.loaded.now start mid _ flushed next run c.yields.result c.image.ensures.no_block
     (images_keep_frames c.args.loaded.now.image kept) here c.flush-in-Yield.ensures.empty (asks ∙ ap Asks c.in-Yield.is)
-    (c.go_on-in-Ok-flush-2.ensures (memory_of machine.memory)) refl refl refl refl (c.yields.ensures.yields c.args.loaded.now (sym c.image.ensures.same) c.requires.map)
+    (c.go_on-in-Ok-flush-2.ensures (memory_of machine.memory)) refl refl refl refl
+    (subst (λ (found : Result (List ℕ) Break). YieldsTo found g.E.Sink.taken g.E.Sink.faults c.args.log.now c.yields.new.log c.yields.result)
+    (λ i. values_at (c.image.ensures.same i) (c.requires.region i) (state_of next.regs next.memory)) c.yields.ensures.yields)
 
 pub returns-in-Err-flush-2-clause-turns : goal.returns-in-Err-flush-2-clause-turns
 returns-in-Err-flush-2-clause-turns g c start run at asks =

@@ -10,6 +10,7 @@ returns-in-Some g c =
 pub loop-preserved : goal.loop-preserved
 loop-preserved g c = record {
   map = c.turn.ensures.map;
+  region = c.turn.ensures.region;
   run = has_run_more c.args.loaded.now _ _ _ c.loop.machine c.turn.new.machine c.loop.counter c.turn.result c.in_default.is c.loop.invariant.run c.turn.ensures.fails
       c.turn.ensures.turns;
 }

@@ -1,6 +1,6 @@
 use Rattle.std.proofs.Common.{◌≡◌}
-use Rattle.rv_memory.specs.Regions.{map_of as memory_map_of}
-use Rattle.cmm_image_machine.specs.Machine.{map_of}
+use Rattle.rv_memory.specs.Regions.{map_of as memory_map_of, region_of as memory_region_of}
+use Rattle.cmm_image_machine.specs.Machine.{map_of, region_of}
 use Rattle.cmm_run.specs.Outside.{outside_of}
 use Rattle.cmm_run.proofs.WholeRuns.{HasRun}
 use Rattle.cmm_run.proofs.running.run.Given as goal
@@ -8,6 +8,7 @@ use Rattle.cmm_run.proofs.running.run.Given as goal
 abbrev pub invariant-loop : goal.invariant-loop
 invariant-loop g l = record {
   map : memory_map_of l.machine.memory ≡ map_of l.loaded;
+  region : memory_region_of l.machine.memory ≡ region_of l.loaded;
   run : HasRun l.loaded
       (outside_of g.I.Source.left g.I.Source.faults g.O.Sink.taken g.O.Sink.faults g.E.Sink.taken g.E.Sink.faults l.initial.input l.initial.out l.initial.log)
       (outside_of g.I.Source.left g.I.Source.faults g.O.Sink.taken g.O.Sink.faults g.E.Sink.taken g.E.Sink.faults l.input l.out l.log)

@@ -28,4 +28,4 @@ returns-in-Trap-clause-turns g c start run at =
     let next : Machine = record { regs = c.execute.new.r; memory = c.execute.new.m; waiting = c.close-in-Trap.new.self } in
     let trap = trap_of machine.regs.pc c.in-Trap.trap (outcome_of machine.regs machine.memory) (sym c.execute.ensures.event ∙ c.in-Trap.is) in
     trap_turn g.O.Sink.taken g.O.Sink.faults c.args.out.now c.close-in-Trap.new.out l start _ _ machine next run at refl refl refl refl c.close-in-Trap.result
-    c.in-Trap.trap (at_outcome l machine start _ run c.requires at ∙ trap.0) trap.1 c.close-in-Trap.ensures
+    c.in-Trap.trap (at_outcome l machine start _ run c.requires.map at ∙ trap.0) trap.1 c.close-in-Trap.ensures

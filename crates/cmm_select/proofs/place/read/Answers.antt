@@ -1,20 +1,24 @@
 use Rattle.std.proofs.Common.{arith, pos}
 use Rattle.rv_table.specs.declared.instruction.Instr.TheVariants.{Addi}
-use Rattle.cmm_effects.proofs.Shared.{adds_one, adds_weaker}
+use Rattle.cmm_effects.proofs.Shared.{adds_one, adds_weaker, leads_weaker}
 use Rattle.cmm_select.proofs.Places.{copies}
 use Rattle.cmm_select.proofs.place.read.Goals as goal
 
-pub returns-in_ok-load-in-Slot-clause-reads : goal.returns-in_ok-load-in-Slot-clause-reads
-returns-in_ok-load-in-Slot-clause-reads c = rw c.in-Slot.is c.in_ok-load-in-Slot.ensures.reads
+pub returns-in_ok-restore-in-Slot-clause-reads : goal.returns-in_ok-restore-in-Slot-clause-reads
+returns-in_ok-restore-in-Slot-clause-reads c = rw c.in-Slot.is c.in_ok-restore-in-Slot.ensures.restores
 
 pub returns-in_ok-emit-in-Saved-clause-reads : goal.returns-in_ok-emit-in-Saved-clause-reads
 returns-in_ok-emit-in-Saved-clause-reads c =
+    let rd = c.args.rd in
+    let r = c.in-Saved.register in
     rw (c.in-Saved.is, c.in_ok-emit-in-Saved.ensures.parts, c.copy.ensures.is)
-    (adds_weaker (adds_one c.args.asm.now.parts (Addi c.args.rd c.in-Saved.register (pos 0))) (omega arith)
-    (λ x from to does. copies x c.args.rd c.in-Saved.register from to (omega (arith, c.requires.low)) does))
+    (adds_weaker (adds_one c.args.asm.now.parts (Addi rd r (pos 0))) (omega arith)
+    (λ x from to does. leads_weaker (copies x rd r from to (omega (arith, c.requires.low)) does) (omega arith) (λ s sound p. tt) (λ s t sound p sets. sets)))
 
 pub returns-in_ok-emit-in-Temp-clause-reads : goal.returns-in_ok-emit-in-Temp-clause-reads
 returns-in_ok-emit-in-Temp-clause-reads c =
+    let rd = c.args.rd in
+    let r = c.in-Temp.register in
     rw (c.in-Temp.is, c.in_ok-emit-in-Temp.ensures.parts, c.copy-in-Temp.ensures.is)
-    (adds_weaker (adds_one c.args.asm.now.parts (Addi c.args.rd c.in-Temp.register (pos 0))) (omega arith)
-    (λ x from to does. copies x c.args.rd c.in-Temp.register from to (omega (arith, c.requires.low)) does))
+    (adds_weaker (adds_one c.args.asm.now.parts (Addi rd r (pos 0))) (omega arith)
+    (λ x from to does. leads_weaker (copies x rd r from to (omega (arith, c.requires.low)) does) (omega arith) (λ s sound p. tt) (λ s t sound p sets. sets)))

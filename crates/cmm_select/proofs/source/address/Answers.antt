@@ -1,4 +1,5 @@
-use Rattle.std.proofs.Common.{◌%◌, arith, pos}
+use Rattle.std.proofs.Common.{arith, pos}
+use Rattle.rv_table.specs.Words.{signed}
 use Rattle.rv_table.specs.declared.instruction.Instr.TheVariants.{Addi}
 use Rattle.cmm_effects.proofs.Shared.{adds_one, adds_then, adds_weaker}
 use Rattle.cmm_select.proofs.Operands.{address_far, address_near}
@@ -16,6 +17,6 @@ pub returns-clause-brings : goal.returns-clause-brings
 returns-clause-brings c =
     let o = c.args.offset in
     let rd = c.args.rd in
-    rw (c.in_ok-emit-2.ensures.parts, c.add_to-2.ensures.is)
-    (adds_weaker (adds_then c.in_ok-approach.ensures.sets (adds_one c.approach.new.asm.parts (Addi rd rd (pos (o % 2048))))) (omega arith)
-    (λ x from to does. address_far x from to o rd (omega (arith, c.requires.low)) does))
+    rw (c.in_ok-emit-2.ensures.parts, c.add_rest.ensures.is)
+    (adds_weaker (adds_then c.in_ok-approach.ensures.sets (adds_one c.approach.new.asm.parts (Addi rd rd (signed 12 o)))) (omega arith)
+    (λ x from to does. address_far x from to o rd (omega (arith, c.requires.low)) c.requires.frame does))

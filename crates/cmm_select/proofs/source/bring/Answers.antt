@@ -3,7 +3,10 @@ use Rattle.cmm_effects.proofs.Shared.{adds_weaker, leads_weaker}
 use Rattle.cmm_select.proofs.source.bring.Goals as goal
 
 pub returns-in_ok-read-in-Place-clause-brings : goal.returns-in_ok-read-in-Place-clause-brings
-returns-in_ok-read-in-Place-clause-brings c = rw c.in-Place.is c.in_ok-read-in-Place.ensures.reads
+returns-in_ok-read-in-Place-clause-brings c =
+    rw c.in-Place.is
+    (adds_weaker c.in_ok-read-in-Place.ensures.reads (omega arith)
+    (λ x from to leads. leads_weaker leads (omega arith) (λ s sound can. can) (λ s t sound can sets. sets)))
 
 pub returns-in_ok-load_constant-in-Number-clause-brings : goal.returns-in_ok-load_constant-in-Number-clause-brings
 returns-in_ok-load_constant-in-Number-clause-brings c =

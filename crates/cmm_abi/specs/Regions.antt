@@ -1,21 +1,11 @@
--- Where an image keeps words while a program is stopped: in registers and in memory.
+-- The region of a thread, and where values lie in registers and regions.
 use Rattle.std.specs.Prelude.{ℕ, zero, suc, ◌+◌, ◌-◌, ◌*◌, nat_lt, true, false, List, [], ◌∷◌}
-use Rattle.rv_table.specs.declared.memory_map.TheConstants.{BELOW_STACK}
+use Rattle.cmm_abi.specs.declared.registers.TheConstants.{FIRST_VALUE}
+use Rattle.cmm_abi.specs.declared.values.TheConstants.{IN_REGISTERS}
+use Rattle.rv_table.specs.declared.memory_map.TheConstants.{GLOBALS_OFFSET}
 use Rattle.rv_table.specs.Machine.{State, loaded, stored}
+pub use Rattle.rv_table.specs.Machine.{Region, bottom, top, LiesIn}
 use Rattle.rv_table.specs.Registers.{with_register}
-
--- the region of a thread: the argument area from its address on, the global registers, and then the stack of this size
-pub record Region : Type 0 where
-  pub address : ℕ
-  pub stack_size : ℕ
-
--- the lowest address of the stack
-abbrev pub bottom : Region → ℕ
-bottom r = r.address + BELOW_STACK
-
--- where the frame of the oldest activation ends
-abbrev pub top : Region → ℕ
-top r = bottom r + r.stack_size
 
 -- the 8 bytes that a word is kept in
 pub data Place : Type 0 where
@@ -32,11 +22,18 @@ abbrev pub with_word : Place → ℕ → State → State
 with_word (InRegister n) value s = record s { registers = with_register s.registers n value }
 with_word (InMemory address) value s = record s { memory = stored s.memory address 8 value }
 
+-- ---- the global registers
+
+-- the address of the global register of this number
+abbrev pub global_address : Region → ℕ → ℕ
+global_address r k = r.address + GLOBALS_OFFSET + 8 * k
+
 -- ---- the values of a call, return, cut or yield
 
 -- the first eight travel in registers 10 to 17, and the others in the argument area
 abbrev pub value_place : Region → ℕ → Place
-value_place r k = elim (nat_lt k 8) [ true ↦ InRegister (10 + k) | false ↦ InMemory (r.address + 8 * (k - 8)) ]
+value_place r k =
+    elim (nat_lt k IN_REGISTERS) [ true ↦ InRegister (FIRST_VALUE + k) | false ↦ InMemory (r.address + 8 * (k - IN_REGISTERS)) ]
 
 -- n values, from the one of this number on
 abbrev pub values_from : Region → State → ℕ → ℕ → List ℕ

@@ -4,47 +4,50 @@ use Rattle.std.specs.List.{list_all}
 use Rattle.cmm_abi.specs.declared.registers.TheConstants.{FRAME, REGION, RETURN_ADDRESS, ZERO}
 use Rattle.cmm_abi.specs.Registers.{is_callee_saves, is_temporary}
 use Rattle.cmm_chain.specs.Contents.{Content, Number}
-use Rattle.cmm_chain.specs.Plans.{Plan, fixed_offsets}
+use Rattle.cmm_chain.specs.Plans.{Plan, fixed_offsets, is_register}
 use Rattle.cmm_chain.specs.Running.{Holdings, put_in}
 use Rattle.cmm_program.specs.Memory.{Room}
 use Rattle.cmm_chain.specs.declared.frame.Location.{Location}
-use Rattle.cmm_chain.specs.declared.frame.Location.TheVariants.{Slot, Saved, Temp}
+use Rattle.cmm_chain.specs.declared.frame.Location.TheVariants.{Slot}
 use Rattle.cmm_program.specs.Frames.{frame_address, frame_size}
 use Rattle.cmm_program.specs.Layout.{data_bytes}
 use Rattle.cmm_program.specs.State.{Setting, Activation, Store, stack_top}
 use Rattle.cmm_machine_laws.specs.Stacks.{Extent, IsSet, IsStack, extent, stack_of, stackdata_at}
 use Rattle.rv_asm.specs.declared.part.Label.{Label}
-use Rattle.rv_table.specs.Machine.{MemoryMap, State, data_base, region_base, stack_base}
+use Rattle.rv_table.specs.Machine.{LiesIn, MemoryMap, Region, State, data_base}
+use Rattle.rv_table.specs.declared.memory_map.TheConstants.{BELOW_STACK}
 use Rattle.cmm_select.specs.Operands.{operand_at}
 use Rattle.cmm_select.specs.declared.operand.Operand.{Operand}
-use Rattle.cmm_emit_laws.specs.Words.{Symbols, Shows, ShowsWords, ShowsCells, ShowsRegisters, ShowsValues}
+use Rattle.cmm_emit_laws.specs.Words.{Symbols, Represents, RepresentsWords, RepresentsCells, RepresentsRegisters, RepresentsValues}
 
--- the memory of the machine is that of a run of the program
+-- the region whose stack is that of a setting
+abbrev pub stack_region : Setting → Region
+stack_region s = record { address = s.stack_base - BELOW_STACK; stack_size = s.stack_size }
+
+-- the memory of the machine is that of a run of the program: the region of its stack lies in it, behind the data
 pub record IsFor (s : Setting) (m : MemoryMap) : Type 0 where
   pub set : IsSet s
-  pub base : s.stack_base ≡ stack_base
-  pub size : s.stack_size ≡ m.stack_size
+  pub lies : LiesIn (stack_region s) m
   pub small : stack_top s < 2 ^ 31
   pub data_length : m.data_length ≡ length (data_bytes s.program s.placement)
-  pub region : data_base + m.data_length ≤ region_base
+  pub region : data_base + m.data_length ≤ (stack_region s).address
 
--- Register 2 has the address of the youngest frame, register 4 that of the region below the stack, and register 1 the return address
--- where it is known.
-pub record ShowsHoldings (y : Symbols) (h : Holdings) (registers : ℕ → ℕ) : Type 0 where
+-- Registers have the address of the youngest frame, that of the region, and the return address where it is known.
+pub record RepresentsHoldings (y : Symbols) (r : Region) (h : Holdings) (registers : ℕ → ℕ) : Type 0 where
   pub zero : registers ZERO ≡ 0
   pub frame : registers FRAME ≡ h.point.at
-  pub region : registers REGION ≡ region_base
-  pub back : Shows y h.point.back (registers RETURN_ADDRESS)
-  pub kept : (r : ℕ) → is_callee_saves r ≡ true → Shows y (h.point.kept r) (registers r)
-  pub temps : (r : ℕ) → is_temporary r ≡ true → Shows y (h.temps r) (registers r)
+  pub region : registers REGION ≡ r.address
+  pub back : Represents y h.point.back (registers RETURN_ADDRESS)
+  pub kept : (k : ℕ) → is_callee_saves k ≡ true → Represents y (h.point.kept k) (registers k)
+  pub temps : (k : ℕ) → is_temporary k ≡ true → Represents y (h.temps k) (registers k)
 
 -- Words, cells, global registers and the values that control brings are shown. The frames of the store lie where the machine has them.
-pub record IsShown (y : Symbols) (s : Setting) (m : MemoryMap) (h : Holdings) (store : Store) (carried : List ℕ) (t : State) : Type 0 where
-  pub holdings : ShowsHoldings y h t.registers
-  pub words : ShowsWords y m store.memory h.contents t.memory
-  pub cells : ShowsCells store.memory t.memory
-  pub registers : ShowsRegisters store.registers t.memory
-  pub values : ShowsValues carried t.registers t.memory
+pub record IsRepresented (y : Symbols) (s : Setting) (h : Holdings) (store : Store) (carried : List ℕ) (t : State) : Type 0 where
+  pub holdings : RepresentsHoldings y (stack_region s) h t.registers
+  pub words : RepresentsWords y (stack_region s) store.memory h.contents t.memory
+  pub cells : RepresentsCells store.memory t.memory
+  pub registers : RepresentsRegisters (stack_region s) store.registers t.memory
+  pub values : RepresentsValues (stack_region s) carried t
   pub stack : IsStack s (stack_of store)
   pub at : h.point.at ≡ frame_address s store.activations
 
@@ -63,8 +66,7 @@ pub record IsWordAt (s : Setting) (a : Activation) (offset : ℕ) : Type 0 where
 -- a place of a local is a word of the frame, or a register of its kind
 abbrev pub IsPlaceOf : Setting → Activation → Location → Type 0
 IsPlaceOf s a (Slot offset) = IsWordAt s a offset
-IsPlaceOf s a (Saved r) = is_callee_saves r ≡ true
-IsPlaceOf s a (Temp r) = is_temporary r ≡ true
+IsPlaceOf s a l = is_register l ≡ true
 
 abbrev pub AreWordsAt : Setting → Activation → List ℕ → Type 0
 AreWordsAt s a [] = Unit {0}
@@ -74,7 +76,7 @@ AreWordsAt s a (offset ∷ rest) = IsWordAt s a offset × AreWordsAt s a rest
 
 abbrev pub AreWritten : Symbols → List (ℕ × ℕ) → List (ℕ × Content) → Type 0
 AreWritten y [] [] = Unit {0}
-AreWritten y ((offset, n) ∷ numbers) ((place, c) ∷ words) = (offset ≡ place) × ((n < 2 ^ 64) × (Shows y c n × AreWritten y numbers words))
+AreWritten y ((offset, n) ∷ numbers) ((place, c) ∷ words) = (offset ≡ place) × ((n < 2 ^ 64) × (Represents y c n × AreWritten y numbers words))
 AreWritten y _ _ = ⊥
 
 -- labels have the addresses that the symbols say, of the landings of a procedure from one on
