@@ -1,5 +1,6 @@
 -- What the list of a set says of membership.
 use Rattle.std.proofs.Common.{◌≡◌, ◌≢◌, ℕ, ◌+◌, ◌-◌, ◌<◌, ◌≤◌, ◌⊎◌, inl, inr, suc, zero, Bool, true, false, ◌||◌, List, [], ◌∷◌, length, replicate, set, refl, sym, ◌∙◌, ap, add-zero, zero-add, arith}
+use Rattle.std.proofs.Math.Bool.{or-true}
 use Rattle.std.specs.List.{filter, range_with_len}
 use Rattle.std.proofs.lemmas.List.{get_or-set_same, get_or-set_other, ext_get_or}
 use Rattle.cmm_bitset.specs.Sets.{has, union, members_from, member_count}
@@ -92,10 +93,6 @@ members_from-least s from least behind within member none =
     let there : from + skipped ≡ least = omega arith in
     rw (split, filter_skip (has s) from skipped (suc count) (λ n low high. none n low (omega arith)), there, member) refl
 
-or_true : (b : Bool) → (b || true) ≡ true
-or_true true = refl
-or_true false = refl
-
 -- a set that a union leaves as it is has the members of the other
 pub union_settled : (s t : List Bool) (number : ℕ) → length s ≡ length t → union s t ≡ s → has t number ≡ true → has s number ≡ true
-union_settled s t number e settled member = ap (λ r. has r number) (sym settled) ∙ has-union s t number e ∙ rw member (or_true (has s number))
+union_settled s t number e settled member = ap (λ r. has r number) (sym settled) ∙ has-union s t number e ∙ rw member (or-true (has s number))

@@ -1,6 +1,6 @@
 -- A search begins, and ends.
 use Rattle.std.proofs.Common.{◌≡◌, ℕ, suc, zero, ◌+◌, ◌<◌, ◌≤◌, ◌==◌, Bool, true, false, ◌||◌, inl, inr, ◌⊎◌, List, [], ◌∷◌, ◌++◌, length, get_or, replicate, reverse, refl, sym, ◌∙◌, ap, subst, arith}
-use Rattle.std.proofs.lemmas.Bool.{cases_lt, eqb-true, eq-eqb}
+use Rattle.std.proofs.lemmas.Bool.{cases_lt, eqb-true, eq-eqb, or_right}
 use Rattle.std.proofs.lemmas.List.{length-replicate, reverse-append}
 use Rattle.cmm_digraph.specs.Graphs.{is_among}
 use Rattle.cmm_digraph.specs.declared.search.State.{State}
@@ -10,7 +10,6 @@ use Rattle.cmm_digraph.specs.declared.search.Step.TheVariants.{Enter}
 use Rattle.cmm_digraph.specs.Reaching.{comes_back}
 use Rattle.cmm_digraph.specs.inside.Components.{state_of}
 use Rattle.cmm_digraph.specs.inside.Searched.{is_new, on_path, AreDue, IsSearched}
-use Rattle.cmm_digraph.proofs.Leading.{or_second}
 
 -- steps that enter all nodes below a number, the last first
 unfoldable pub entered_to : ℕ → List Step
@@ -30,7 +29,7 @@ due_to graph states zero asked le all only = record { all = λ v lt young. all v
 due_to graph states (suc n) asked le all only = due_to graph states n (n ∷ asked) (omega arith) (λ v from lt. here v from lt (cases_lt n v)) (λ v there. below v there (cases_lt n v))
   where
     here : (v : ℕ) → n ≤ v → v < length graph → (n < v) ⊎ (v ≤ n) → is_among v (n ∷ asked) ≡ true
-    here v from lt (inl more) = or_second (n == v) (is_among v asked) (all v (omega arith) lt)
+    here v from lt (inl more) = or_right (n == v) (is_among v asked) (all v (omega arith) lt)
     here v from lt (inr most) = let e : n ≡ v = omega arith in ap (λ b. b || is_among v asked) (eq-eqb n v e)
 
     below : (v : ℕ) → is_among v (n ∷ asked) ≡ true → (n < v) ⊎ (v ≤ n) → v < length graph

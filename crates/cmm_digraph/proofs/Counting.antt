@@ -2,7 +2,7 @@
 use Rattle.std.proofs.Common.{◌≡◌, ℕ, suc, zero, ◌+◌, ◌<◌, ◌≤◌, ◌==◌, inl, inr, Bool, true, false, ◌||◌, ◌&&◌, not, List, [], ◌∷◌, ◌++◌, length, set, get_or, refl, sym, ◌∙◌, ap, subst, append_assoc, append-nil, arith}
 use Rattle.std.specs.Prelude.{nat_lt}
 use Rattle.std.specs.List.{list_all, list_any}
-use Rattle.std.proofs.lemmas.Bool.{and_parts, or_cases, eqb-true, eq-eqb, ltb-true, lt-ltb}
+use Rattle.std.proofs.lemmas.Bool.{and_parts, or_cases, eqb-true, eq-eqb, ltb-true, lt-ltb, or_right, and_from}
 use Rattle.std.proofs.lemmas.Bool.Decides.{nat_tests}
 use Rattle.std.proofs.lemmas.List.Folds.{list_all-append}
 use Rattle.cmm_digraph.specs.Graphs.{one_if, occurrences, is_among, are_among, are_below, mentions}
@@ -21,28 +21,21 @@ all_at p (x ∷ xs) u all among = elim (or_cases (x == u) (is_among u xs) among)
 pub among_first : (x : ℕ) (xs : List ℕ) → is_among x (x ∷ xs) ≡ true
 among_first x xs = rw (eq-eqb x x refl) refl
 
-or_second : (b c : Bool) → c ≡ true → (b || c) ≡ true
-or_second true c h = refl
-or_second false c h = h
-
 pub among_later : (u x : ℕ) (xs : List ℕ) → is_among u xs ≡ true → is_among u (x ∷ xs) ≡ true
-among_later u x xs h = or_second (x == u) (is_among u xs) h
-
-and_both : (b c : Bool) → b ≡ true → c ≡ true → (b && c) ≡ true
-and_both b c h i = rw (h, i) refl
+among_later u x xs h = or_right (x == u) (is_among u xs) h
 
 pub all_from : (p : ℕ → Bool) (xs : List ℕ) → ((u : ℕ) → is_among u xs ≡ true → p u ≡ true) → list_all p xs ≡ true
 all_from p [] each = refl
-all_from p (x ∷ xs) each = and_both (p x) (list_all p xs) (each x (among_first x xs)) (all_from p xs (λ u h. each u (among_later u x xs h)))
+all_from p (x ∷ xs) each = and_from (p x) (list_all p xs) (each x (among_first x xs)) (all_from p xs (λ u h. each u (among_later u x xs h)))
 
 pub all_both : (p : ℕ → Bool) (xs ys : List ℕ) → list_all p xs ≡ true → list_all p ys ≡ true → list_all p (xs ++ ys) ≡ true
-all_both p xs ys h i = list_all-append p xs ys ∙ and_both (list_all p xs) (list_all p ys) h i
+all_both p xs ys h i = list_all-append p xs ys ∙ and_from (list_all p xs) (list_all p ys) h i
 
 pub any_from : (p : ℕ → Bool) (xs : List ℕ) (u : ℕ) → is_among u xs ≡ true → p u ≡ true → list_any p xs ≡ true
 any_from p [] u among h = cc
 any_from p (x ∷ xs) u among h = elim (or_cases (x == u) (is_among u xs) among) [
   | inl same ↦ first (p x) (list_any p xs) (subst (λ n. p n ≡ true) (sym (eqb-true x u same)) h)
-  | inr later ↦ or_second (p x) (list_any p xs) (any_from p xs u later h)
+  | inr later ↦ or_right (p x) (list_any p xs) (any_from p xs u later h)
 ]
   where
     first : (b c : Bool) → b ≡ true → (b || c) ≡ true
@@ -107,7 +100,7 @@ below_none size xs u all le = by (occurrences u xs) refl
     by (suc n) e = let lt : u < size = below_at size xs u all (among_of u xs (omega arith)) in absurd (omega arith)
 
 pub below_last : (size : ℕ) (xs : List ℕ) (y : ℕ) → are_below size xs ≡ true → y < size → are_below size (xs ++ y ∷ []) ≡ true
-below_last size xs y h lt = all_both (λ n. nat_lt n size) xs (y ∷ []) h (and_both (nat_lt y size) true (lt-ltb y size lt) refl)
+below_last size xs y h lt = all_both (λ n. nat_lt n size) xs (y ∷ []) h (and_from (nat_lt y size) true (lt-ltb y size lt) refl)
 
 -- ---- how many wait
 
@@ -152,7 +145,7 @@ pub among_start : (m : ℕ) (done more : List ℕ) → is_among m done ≡ true 
 among_start m [] more h = cc
 among_start m (d ∷ done) more h = elim (or_cases (d == m) (is_among m done) h) [
   | inl same ↦ rw same refl
-  | inr later ↦ or_second (d == m) (is_among m (done ++ more)) (among_start m done more later)
+  | inr later ↦ or_right (d == m) (is_among m (done ++ more)) (among_start m done more later)
 ]
 
 -- one node more that is done
@@ -176,7 +169,7 @@ missing-last done v (m ∷ ms) new =
 
 pub missing_zero : (done ms : List ℕ) → missing done ms ≡ 0 → are_among ms done ≡ true
 missing_zero done [] h = refl
-missing_zero done (m ∷ ms) h = and_both (is_among m done) (are_among ms done) (by (is_among m done) refl) (missing_zero done ms (omega arith))
+missing_zero done (m ∷ ms) h = and_from (is_among m done) (are_among ms done) (by (is_among m done) refl) (missing_zero done ms (omega arith))
   where
     by : (b : Bool) → is_among m done ≡ b → b ≡ true
     by true e = refl
@@ -210,13 +203,13 @@ ordered_from graph before [] h = refl
 ordered_from graph before (x ∷ xs) h =
     let parts : (are_among (mentions graph x) before ≡ true) × (list_all (λ u. are_among (mentions graph u) before) xs ≡ true)
     = and_parts (are_among (mentions graph x) before) (list_all (λ u. are_among (mentions graph u) before) xs) h in
-    and_both (are_among (mentions graph x) before) (is_ordered graph (before ++ x ∷ []) xs) parts.0
+    and_from (are_among (mentions graph x) before) (is_ordered graph (before ++ x ∷ []) xs) parts.0
     (ordered_from graph (before ++ x ∷ []) xs (all_from (λ u. are_among (mentions graph u) (before ++ x ∷ [])) xs
     (λ u among. let all : are_among (mentions graph u) before ≡ true = all_at (λ w. are_among (mentions graph w) before) xs u parts.1 among in
     all_from (λ n. is_among n (before ++ x ∷ [])) (mentions graph u) (λ n in_it. among_start n before (x ∷ []) (all_at (λ w. is_among w before) (mentions graph u) n all in_it)))))
 
 pub ordered_both : (graph : List (List ℕ)) (xs ys : List ℕ) → is_ordered graph [] xs ≡ true → is_ordered graph xs ys ≡ true → is_ordered graph [] (xs ++ ys) ≡ true
-ordered_both graph xs ys h i = ordered-append graph [] xs ys ∙ and_both (is_ordered graph [] xs) (is_ordered graph xs ys) h i
+ordered_both graph xs ys h i = ordered-append graph [] xs ys ∙ and_from (is_ordered graph [] xs) (is_ordered graph xs ys) h i
 
 pub below_index : (size : ℕ) (xs : List ℕ) (k : ℕ) → are_below size xs ≡ true → k < length xs → get_or xs k 0 < size
 below_index size [] k h lt = absurd (omega arith)

@@ -1,6 +1,6 @@
 -- What a search has yet to do.
 use Rattle.std.proofs.Common.{◌≡◌, ℕ, ◌<◌, ◌≤◌, ◌==◌, true, false, inl, inr, ◌⊎◌, List, [], ◌∷◌, ◌++◌, length, map, reverse, refl, sym, ◌∙◌, ap, subst, append_assoc, append-nil, arith}
-use Rattle.std.proofs.lemmas.Bool.{or_cases, eqb-true}
+use Rattle.std.proofs.lemmas.Bool.{or_cases, eqb-true, or_right, or_left}
 use Rattle.std.proofs.lemmas.List.{reverse-append}
 use Rattle.cmm_digraph.specs.Graphs.{is_among, is_graph, mentions}
 use Rattle.cmm_digraph.specs.declared.search.State.{State}
@@ -9,7 +9,6 @@ use Rattle.cmm_digraph.specs.declared.search.Step.TheVariants.{Enter, Leave}
 use Rattle.cmm_digraph.specs.inside.Components.{state_of}
 use Rattle.cmm_digraph.specs.inside.Searched.{is_new, node_at, on_path, AreAsked, AreDue}
 use Rattle.cmm_digraph.proofs.Shortening.{mention_below}
-use Rattle.cmm_digraph.proofs.Leading.{or_first, or_second}
 
 -- ---- other nodes are asked for
 
@@ -30,18 +29,18 @@ asked_wider wanted states asked asked' still fewer are = record {
 
 one_more_for : (states : List State) (asked asked' : List ℕ) (x : ℕ) → IsAskedFor states asked asked' → IsAskedFor states (x ∷ asked) (x ∷ asked')
 one_more_for states asked asked' x still node there = elim (or_cases (x == node) (is_among node asked) there) [
-  | inl same ↦ inl (or_first (x == node) (is_among node asked') same)
+  | inl same ↦ inl (or_left (x == node) (is_among node asked') same)
   | inr later ↦
       elim (still node later) [
-        | inl in_it ↦ inl (or_second (x == node) (is_among node asked') in_it)
+        | inl in_it ↦ inl (or_right (x == node) (is_among node asked') in_it)
         | inr old ↦ inr old
       ]
 ]
 
 one_more_fewer : (asked asked' : List ℕ) (x : ℕ) → AreFewer asked asked' → AreFewer (x ∷ asked) (x ∷ asked')
 one_more_fewer asked asked' x fewer node there = elim (or_cases (x == node) (is_among node asked') there) [
-  | inl same ↦ or_first (x == node) (is_among node asked) same
-  | inr later ↦ or_second (x == node) (is_among node asked) (fewer node later)
+  | inl same ↦ or_left (x == node) (is_among node asked) same
+  | inr later ↦ or_right (x == node) (is_among node asked) (fewer node later)
 ]
 
 module _ (graph : List (List ℕ)) where
@@ -101,7 +100,7 @@ module _ (graph : List (List ℕ)) where
   pub due_node : is_graph graph ≡ true → (states : List State) (open_ : List ℕ) (steps : List Step) (asked : List ℕ) (limit : ℕ) → AreDue graph states open_ steps asked limit →
       (node : ℕ) → is_among node asked ≡ true → node < length graph
   due_node is states open_ [] asked limit due node there = due.only node there
-  due_node is states open_ (Enter x ∷ steps) asked limit due node there = due_node is states open_ steps (x ∷ asked) limit due node (or_second (x == node) (is_among node asked) there)
+  due_node is states open_ (Enter x ∷ steps) asked limit due node there = due_node is states open_ steps (x ∷ asked) limit due node (or_right (x == node) (is_among node asked) there)
   due_node is states open_ (Leave place ∷ steps) asked limit due node there = mention_below graph is (node_at open_ place) node (due.1.only node there)
 
   pub due_before : (states : List State) (open_ : List ℕ) (steps : List Step) (asked : List ℕ) (limit : ℕ) → AreDue graph states open_ steps asked limit →
@@ -124,7 +123,7 @@ module _ (graph : List (List ℕ)) where
   due_last states open_ [] asked limit due start there = cc
   due_last states open_ (Enter x ∷ steps) asked limit due start there =
       let last : (place : ℕ) × IsLast open_ steps (x ∷ asked) limit place = due_last states open_ steps (x ∷ asked) limit due start there in
-      (last.0, record { before = last.1.before; most = last.1.most; asks = λ node in_it. last.1.asks node (or_second (x == node) (is_among node asked) in_it) })
+      (last.0, record { before = last.1.before; most = last.1.most; asks = λ node in_it. last.1.asks node (or_right (x == node) (is_among node asked) in_it) })
   due_last states open_ (Leave place ∷ steps) asked limit due start there = (place, record { before = due.0; most = λ other h. most other (or_cases (place == other) (is_among other (on_path steps)) h); asks = due.1.only })
     where
       most : (other : ℕ) → ((place == other) ≡ true) ⊎ (is_among other (on_path steps) ≡ true) → other ≤ place

@@ -1,6 +1,6 @@
 -- A search enters a node.
 use Rattle.std.proofs.Common.{◌≡◌, ℕ, suc, zero, ◌+◌, ◌-◌, ◌<◌, ◌≤◌, ◌==◌, Bool, true, false, ◌||◌, inl, inr, ◌⊎◌, List, [], ◌∷◌, ◌++◌, length, length-append, get_or, set, refl, sym, ◌∙◌, ap, subst, arith}
-use Rattle.std.proofs.lemmas.Bool.{or_cases, cases_lt, cases_eq, cases_Bool, eqb-true, eq-eqb}
+use Rattle.std.proofs.lemmas.Bool.{or_cases, cases_lt, cases_eq, cases_Bool, eqb-true, eq-eqb, or_right}
 use Rattle.std.proofs.lemmas.List.{length-set, get_or-set_same, get_or-set_other, get_or_append_left}
 use Rattle.std.proofs.Math.Seq.{get_or-append_seam}
 use Rattle.cmm_digraph.specs.Graphs.{is_among, is_graph, mentions}
@@ -12,7 +12,7 @@ use Rattle.cmm_digraph.specs.declared.search.Step.TheVariants.{Enter, Leave}
 use Rattle.cmm_digraph.specs.Reaching.{comes_back}
 use Rattle.cmm_digraph.specs.inside.Components.{state_of, IsAscending}
 use Rattle.cmm_digraph.specs.inside.Searched.{Leads, is_new, node_at, on_path, AreDue, IsStart, IsWithin, IsSearched}
-use Rattle.cmm_digraph.proofs.Leading.{or_second, leads_self, leads_on, leads_through}
+use Rattle.cmm_digraph.proofs.Leading.{leads_self, leads_on, leads_through}
 use Rattle.cmm_digraph.proofs.Due.{IsLast, due_done, due_kept, due_node, due_before, due_last, due_entered, entered, entered_path}
 use Rattle.cmm_digraph.proofs.Starting.{start_of}
 
@@ -134,7 +134,7 @@ module _ (graph : List (List ℕ)) (is : is_graph graph ≡ true) (states : List
   start_old b there = among-last b starts place ∙ ap (λ c. c || (place == b)) there
 
   start_new : is_among place starts' ≡ true
-  start_new = among-last place starts place ∙ or_second (is_among place starts) (place == place) (eq-eqb place place refl)
+  start_new = among-last place starts place ∙ or_right (is_among place starts) (place == place) (eq-eqb place place refl)
 
   start_before : (b : ℕ) → is_among b starts ≡ true → b < place
   start_before b there = due_before graph states open_ steps (v ∷ []) place s.due b (s.starting b there)
@@ -222,7 +222,7 @@ module _ (graph : List (List ℕ)) (is : is_graph graph ≡ true) (states : List
 
       by : (i < place) ⊎ (place ≤ i) → (is_among i (on_path steps) ≡ true) ⊎ (is_among i (on_path steps) ≡ false) → (i < place) × (is_among i (on_path steps) ≡ false)
       by (inl a) (inr none) = (a, none)
-      by b (inl there) = let f : true ≡ false = sym (or_second (place == i) (is_among i (on_path steps)) there) ∙ off' in cc
+      by b (inl there) = let f : true ≡ false = sym (or_right (place == i) (is_among i (on_path steps)) there) ∙ off' in cc
       by (inr a) (inr none) =
           let size : length open' ≡ place + 1 = size' in
           let e : place ≡ i = omega arith in
@@ -245,7 +245,7 @@ module _ (graph : List (List ℕ)) (is : is_graph graph ≡ true) (states : List
       | inr none ↦ let e : place ≡ 0 = omega arith in subst (λ (n : ℕ). is_among n starts' ≡ true) e start_new
     ];
     starting = λ start there. ap (is_among start) path' ∙ elim (start_cases start there) [
-      | inl old ↦ or_second (place == start) (is_among start (on_path steps)) (s.starting start old)
+      | inl old ↦ or_right (place == start) (is_among start (on_path steps)) (s.starting start old)
       | inr same ↦ ap (λ b. b || is_among start (on_path steps)) (eq-eqb place start (sym same))
     ];
     left = λ i lt off node among.

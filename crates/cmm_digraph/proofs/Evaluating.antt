@@ -1,7 +1,7 @@
 -- What is computed of nodes from what is computed of those that they mention: along the order each value is final, and what is left stays as it begins.
 use Rattle.std.proofs.Common.{◌≡◌, ◌≢◌, ℕ, suc, zero, ◌+◌, ◌-◌, ◌<◌, ◌≤◌, ◌==◌, Bool, true, false, ◌||◌, ◌&&◌, ◌⊎◌, inl, inr, List, [], ◌∷◌, ◌++◌, length, take, set, get_or, refl, sym, ◌∙◌, ap, subst, append_assoc, append-nil, arith}
 use Rattle.std.specs.List.{list_all, list_any}
-use Rattle.std.proofs.lemmas.Bool.{and_parts, or_cases, eqb-true, eq-eqb}
+use Rattle.std.proofs.lemmas.Bool.{and_parts, or_cases, eqb-true, eq-eqb, or_right, or_parts}
 use Rattle.std.proofs.lemmas.Bool.Decides.{nat_tests}
 use Rattle.std.proofs.lemmas.List.{length-append, get_or-set_same, get_or-set_other, get_or_past, length-set}
 use Rattle.std.proofs.Math.Seq.{take-suc}
@@ -86,18 +86,10 @@ pub record AreSet {X : Type 0} (final : ℕ → X) (start : X) (nodes : List ℕ
   pub done : (v : ℕ) → is_among v nodes ≡ true → get_or values v start ≡ final v
   pub others : (v : ℕ) → is_among v nodes ≡ false → get_or values v start ≡ start
 
-or_second : (b c : Bool) → c ≡ true → (b || c) ≡ true
-or_second true c e = refl
-or_second false c e = e
-
 node_among : (xs : List ℕ) (i : ℕ) → i < length xs → is_among (get_or xs i 0) xs ≡ true
 node_among [] i h = absurd (omega arith)
 node_among (x ∷ xs) zero h = among_first x xs
-node_among (x ∷ xs) (suc i) h = or_second (x == get_or xs i 0) (is_among (get_or xs i 0) xs) (node_among xs i (omega arith))
-
-false_or : (b c : Bool) → (b || c) ≡ false → (b ≡ false) × (c ≡ false)
-false_or true c h = cc
-false_or false c h = (refl, h)
+node_among (x ∷ xs) (suc i) h = or_right (x == get_or xs i 0) (is_among (get_or xs i 0) xs) (node_among xs i (omega arith))
 
 pub set_next : {X : Type 0} (graph : List (List ℕ)) (next : (ℕ → X) → ℕ → X) (final : ℕ → X) (start : X) → IsLocal graph next → (order : List ℕ) → is_ordered graph [] order ≡ true →
     ((v : ℕ) → is_among v order ≡ true → final v ≡ next final v) → (k : ℕ) → k < length order → (values : List X) → get_or order k 0 < length values →
@@ -105,7 +97,7 @@ pub set_next : {X : Type 0} (graph : List (List ℕ)) (next : (ℕ → X) → �
 set_next {X} graph next final start local order ordered fixed k lt values within are = record {
   done = λ v among. done_at v (or_cases (is_among v (take k order)) (get_or order k 0 == v) (sym (last v) ∙ among));
   others = λ v no.
-      let none : (is_among v (take k order) ≡ false) × ((get_or order k 0 == v) ≡ false) = false_or (is_among v (take k order)) (get_or order k 0 == v) (sym (last v) ∙ no) in
+      let none : (is_among v (take k order) ≡ false) × ((get_or order k 0 == v) ≡ false) = or_parts (is_among v (take k order)) (get_or order k 0 == v) (sym (last v) ∙ no) in
       let off : (get_or order k 0 == v) ≡ false = none.1 in
       let ne : v ≢ get_or order k 0 = grind (arith, nat_tests) in
       get_or-set_other values (get_or order k 0) v new start ne ∙ are.others v none.0;

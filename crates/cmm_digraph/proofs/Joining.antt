@@ -1,6 +1,6 @@
 -- Places of open nodes, and where components of them begin.
 use Rattle.std.proofs.Common.{◌≡◌, ◌≢◌, ℕ, suc, ◌+◌, ◌-◌, ◌<◌, ◌≤◌, ◌==◌, min, Bool, true, false, ◌||◌, inl, inr, ◌⊎◌, List, [], length, take, get_or, set, Option, Some, None, refl, sym, ◌∙◌, ap, subst, arith}
-use Rattle.std.proofs.lemmas.Bool.{or_cases, cases_lt, cases_eq, cases_Bool, eqb-true, eq-eqb}
+use Rattle.std.proofs.lemmas.Bool.{or_cases, cases_lt, cases_eq, cases_Bool, eqb-true, eq-eqb, or_right, or_left}
 use Rattle.std.proofs.lemmas.List.{length-set, length-take-le, get_or-take, get_or-set_same, get_or-set_other}
 use Rattle.std.proofs.Math.Seq.{take-suc}
 use Rattle.cmm_digraph.specs.Graphs.{is_among}
@@ -10,7 +10,6 @@ use Rattle.cmm_digraph.specs.declared.search.State.TheVariants.{New, Open, Close
 use Rattle.cmm_digraph.specs.inside.Components.{state_of, lower_of, IsLowest, IsAscending, IsUpTo, IsJoined, AreClosed}
 use Rattle.cmm_digraph.proofs.Entering.{among_place}
 use Rattle.cmm_digraph.proofs.Leaving.{place_of}
-use Rattle.cmm_digraph.proofs.Leading.{or_first, or_second}
 
 -- one more of a list
 among_more : (v : ℕ) (xs : List ℕ) (k : ℕ) → k < length xs → is_among v (take (k + 1) xs) ≡ (is_among v (take k xs) || (get_or xs k 0 == v))
@@ -26,10 +25,10 @@ module _ (xs : List ℕ) (k : ℕ) (lt : k < length xs) (states : List State) (l
   node = get_or xs k 0
 
   in_more : (v : ℕ) → is_among v (take k xs) ≡ true → is_among v (take (k + 1) xs) ≡ true
-  in_more v there = among_more v xs k lt ∙ or_first (is_among v (take k xs)) (node == v) there
+  in_more v there = among_more v xs k lt ∙ or_left (is_among v (take k xs)) (node == v) there
 
   last_in : is_among node (take (k + 1) xs) ≡ true
-  last_in = among_more node xs k lt ∙ or_second (is_among node (take k xs)) (node == node) (eq-eqb node node refl)
+  last_in = among_more node xs k lt ∙ or_right (is_among node (take k xs)) (node == node) (eq-eqb node node refl)
 
   in_cases : (v : ℕ) → is_among v (take (k + 1) xs) ≡ true → (is_among v (take k xs) ≡ true) ⊎ (v ≡ node)
   in_cases v there = elim (or_cases (is_among v (take k xs)) (node == v) (sym (among_more v xs k lt) ∙ there)) [

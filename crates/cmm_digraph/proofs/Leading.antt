@@ -1,20 +1,12 @@
 -- Which nodes lead to which, step by step.
 use Rattle.std.proofs.Common.{◌≡◌, ℕ, suc, zero, ◌+◌, ◌-◌, ◌≤◌, ◌==◌, Bool, true, false, ◌||◌, inl, inr, List, [], ◌∷◌, refl, sym, ◌∙◌, ap, subst, arith}
 use Rattle.std.specs.List.{list_any}
-use Rattle.std.proofs.lemmas.Bool.{eqb-true, eq-eqb, or_cases}
+use Rattle.std.proofs.lemmas.Bool.{eqb-true, eq-eqb, or_cases, or_right, or_left}
 use Rattle.cmm_digraph.specs.Graphs.{is_among, mentions}
 use Rattle.cmm_digraph.proofs.Evaluating.{any_at}
 use Rattle.cmm_digraph.proofs.Counting.{any_from, among_first, among_later}
 use Rattle.cmm_digraph.specs.Reaching.{reaches}
 use Rattle.cmm_digraph.specs.inside.Searched.{Leads}
-
-pub or_second : (b c : Bool) → c ≡ true → (b || c) ≡ true
-or_second true c h = refl
-or_second false c h = h
-
-pub or_first : (b c : Bool) → b ≡ true → (b || c) ≡ true
-or_first true c h = refl
-or_first false c h = cc
 
 module _ (graph : List (List ℕ)) where
   abbrev step : ℕ → ℕ → ℕ → Bool
@@ -22,7 +14,7 @@ module _ (graph : List (List ℕ)) where
 
   -- what is mentioned is led to
   pub leads_first : (count : ℕ) (m : ℕ) (from : List ℕ) → is_among m from ≡ true → reaches graph (suc count) m from ≡ true
-  leads_first count m from among = any_from (step count m) from m among (or_first (m == m) (reaches graph count m (mentions graph m)) (eq-eqb m m refl))
+  leads_first count m from among = any_from (step count m) from m among (or_left (m == m) (reaches graph count m (mentions graph m)) (eq-eqb m m refl))
 
   -- a step more
   pub leads_more : (count v : ℕ) (from : List ℕ) → reaches graph count v from ≡ true → reaches graph (suc count) v from ≡ true
@@ -30,8 +22,8 @@ module _ (graph : List (List ℕ)) where
   leads_more (suc count) v from h =
       let at : (n : ℕ) × (is_among n from ≡ true) × (step count v n ≡ true) = any_at (step count v) from h in
       any_from (step (suc count) v) from at.0 at.1 (elim (or_cases (at.0 == v) (reaches graph count v (mentions graph at.0)) at.2) [
-        | inl same ↦ or_first (at.0 == v) (reaches graph (suc count) v (mentions graph at.0)) same
-        | inr later ↦ or_second (at.0 == v) (reaches graph (suc count) v (mentions graph at.0)) (leads_more count v (mentions graph at.0) later)
+        | inl same ↦ or_left (at.0 == v) (reaches graph (suc count) v (mentions graph at.0)) same
+        | inr later ↦ or_right (at.0 == v) (reaches graph (suc count) v (mentions graph at.0)) (leads_more count v (mentions graph at.0) later)
       ])
 
   more_by : (d count v : ℕ) (from : List ℕ) → reaches graph count v from ≡ true → reaches graph (d + count) v from ≡ true
@@ -46,7 +38,7 @@ module _ (graph : List (List ℕ)) where
   leads_next zero u m from h among = cc
   leads_next (suc count) u m from h among =
       let at : (n : ℕ) × (is_among n from ≡ true) × (step count u n ≡ true) = any_at (step count u) from h in
-      any_from (step (suc count) m) from at.0 at.1 (or_second (at.0 == m) (reaches graph (suc count) m (mentions graph at.0)) (elim (or_cases (at.0 == u) (reaches graph count u (mentions graph at.0)) at.2) [
+      any_from (step (suc count) m) from at.0 at.1 (or_right (at.0 == m) (reaches graph (suc count) m (mentions graph at.0)) (elim (or_cases (at.0 == u) (reaches graph count u (mentions graph at.0)) at.2) [
         | inl same ↦ leads_first count m (mentions graph at.0) (subst (λ (n : ℕ). is_among m (mentions graph n) ≡ true) (sym (eqb-true at.0 u same)) among)
         | inr later ↦ leads_next count u m (mentions graph at.0) later among
       ]))

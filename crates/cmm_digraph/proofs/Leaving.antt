@@ -1,7 +1,7 @@
 -- A search leaves a node.
 use Rattle.std.proofs.Common.{◌≡◌, ℕ, suc, ◌+◌, ◌-◌, ◌<◌, ◌≤◌, ◌==◌, Bool, true, false, ◌||◌, inl, inr, ◌⊎◌, List, [], ◌∷◌, ◌++◌, length, length-append, take, drop, get_or, set, Option, Some, None, refl, sym, ◌∙◌, ap, subst, arith}
 use Rattle.std.specs.Prelude.{is_some, nat_lt}
-use Rattle.std.proofs.lemmas.Bool.{or_cases, cases_lt, cases_eq, cases_Bool, eqb-true, eq-eqb, lt-ltb}
+use Rattle.std.proofs.lemmas.Bool.{or_cases, cases_lt, cases_eq, cases_Bool, eqb-true, eq-eqb, lt-ltb, or_right}
 use Rattle.std.proofs.lemmas.List.{length-set, length-drop, length-take-le, get_or-set_same, get_or-set_other, get_or_append_left, get_or_past, get_or-take, get_or-drop, get_or_read}
 use Rattle.std.proofs.Math.Seq.{get_or-append_seam}
 use Rattle.cmm_digraph.specs.Graphs.{is_among, are_below, is_graph, mentions}
@@ -13,7 +13,7 @@ use Rattle.cmm_digraph.specs.declared.search.Step.TheVariants.{Leave}
 use Rattle.cmm_digraph.specs.Reaching.{reaches, comes_back}
 use Rattle.cmm_digraph.specs.inside.Components.{state_of, IsLowest, IsUpTo, IsJoined, AreClosed}
 use Rattle.cmm_digraph.specs.inside.Searched.{Leads, is_new, node_at, on_path, AreDue, IsStart, IsWithin, IsSearched}
-use Rattle.cmm_digraph.proofs.Leading.{or_second, leads_on, leads_through, leads_round, never}
+use Rattle.cmm_digraph.proofs.Leading.{leads_on, leads_through, leads_round, never}
 use Rattle.cmm_digraph.proofs.Shortening.{mention_below, shorter}
 use Rattle.cmm_digraph.proofs.Due.{due_more, due_kept, due_before}
 use Rattle.cmm_digraph.proofs.Starting.{start_of}
@@ -310,7 +310,7 @@ module _ (graph : List (List ℕ)) (is : is_graph graph ≡ true) (states : List
     ]
 
     begins : is_among place starts' ≡ true
-    begins = ap (is_among place) cut ∙ among-last place rest place ∙ or_second (is_among place rest) (place == place) (eq-eqb place place refl)
+    begins = ap (is_among place) cut ∙ among-last place rest place ∙ or_right (is_among place rest) (place == place) (eq-eqb place place refl)
 
     rest_in : (start : ℕ) → is_among start rest ≡ true → is_among start starts' ≡ true
     rest_in start there = ap (is_among start) cut ∙ among-last start rest place ∙ ap (λ b. b || (place == start)) there

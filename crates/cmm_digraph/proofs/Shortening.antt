@@ -2,13 +2,13 @@
 use Rattle.std.proofs.Common.{◌≡◌, ℕ, suc, zero, ◌+◌, ◌<◌, ◌≤◌, ◌==◌, Bool, true, false, ◌||◌, inl, inr, ◌⊎◌, List, [], ◌∷◌, length, refl, sym, ◌∙◌, ap, arith}
 use Rattle.std.specs.Prelude.{nat_lt}
 use Rattle.std.specs.List.{list_all}
-use Rattle.std.proofs.lemmas.Bool.{and_parts, or_cases, ltb-true, eqb-true, eq-eqb}
+use Rattle.std.proofs.lemmas.Bool.{and_parts, or_cases, ltb-true, eqb-true, eq-eqb, or_right, or_left}
 use Rattle.std.proofs.lemmas.Bool.Decides.{nat_tests}
 use Rattle.cmm_digraph.specs.Graphs.{one_if, is_among, is_graph, are_below, mentions}
 use Rattle.cmm_digraph.proofs.Counting.{all_at, any_from}
 use Rattle.cmm_digraph.proofs.Evaluating.{any_at}
 use Rattle.cmm_digraph.specs.Reaching.{reaches}
-use Rattle.cmm_digraph.proofs.Leading.{or_first, or_second, leads_more}
+use Rattle.cmm_digraph.proofs.Leading.{leads_more}
 
 -- ---- how many numbers below one pass a test
 
@@ -90,8 +90,8 @@ module _ (graph : List (List ℕ)) (is : is_graph graph ≡ true) (node : ℕ) w
 
   leads_wider : (count n : ℕ) → leads count n ≡ true → leads (suc count) n ≡ true
   leads_wider count n h = elim (or_cases (n == node) (reaches graph count node (mentions graph n)) h) [
-    | inl same ↦ or_first (n == node) (reaches graph (suc count) node (mentions graph n)) same
-    | inr later ↦ or_second (n == node) (reaches graph (suc count) node (mentions graph n)) (leads_more graph count node (mentions graph n) later)
+    | inl same ↦ or_left (n == node) (reaches graph (suc count) node (mentions graph n)) same
+    | inr later ↦ or_right (n == node) (reaches graph (suc count) node (mentions graph n)) (leads_more graph count node (mentions graph n) later)
   ]
 
   abbrev AreAll : ℕ → Type 0
@@ -100,14 +100,14 @@ module _ (graph : List (List ℕ)) (is : is_graph graph ≡ true) (node : ℕ) w
   -- where a step more leads from no other node, no more of them do
   stays : (count : ℕ) → ((n : ℕ) → n < length graph → leads (suc count) n ≡ true → leads count n ≡ true) → AreAll count
   stays count same zero n within h = elim (or_cases (n == node) false h) [
-    | inl here ↦ or_first (n == node) (reaches graph count node (mentions graph n)) here
+    | inl here ↦ or_left (n == node) (reaches graph count node (mentions graph n)) here
     | inr none ↦ cc
   ]
   stays count same (suc more) n within h = elim (or_cases (n == node) (reaches graph (suc more) node (mentions graph n)) h) [
-    | inl here ↦ or_first (n == node) (reaches graph count node (mentions graph n)) here
+    | inl here ↦ or_left (n == node) (reaches graph count node (mentions graph n)) here
     | inr later ↦
         let at : (m : ℕ) × (is_among m (mentions graph n) ≡ true) × (leads more m ≡ true) = any_at (leads more) (mentions graph n) later in
-        same n within (or_second (n == node) (reaches graph (suc count) node (mentions graph n))
+        same n within (or_right (n == node) (reaches graph (suc count) node (mentions graph n))
         (any_from (leads count) (mentions graph n) at.0 at.1 (stays count same more at.0 (mention_below graph is n at.0 at.1) at.2)))
   ]
 
@@ -118,7 +118,7 @@ module _ (graph : List (List ℕ)) (is : is_graph graph ≡ true) (node : ℕ) w
     counted : (count : ℕ) → (suc count ≤ passing (leads count) (length graph)) ⊎ AreAll count
     counted zero = elim (more_or_same (λ _. false) (leads 0) (λ x h. cc) (length graph)) [
       | inl more ↦ inl (omega arith)
-      | inr none ↦ let f : false ≡ true = none node within (or_first (node == node) false (eq-eqb node node refl)) in cc
+      | inr none ↦ let f : false ≡ true = none node within (or_left (node == node) false (eq-eqb node node refl)) in cc
     ]
     counted (suc count) = elim (counted count) [
       | inl many ↦

@@ -2,7 +2,7 @@
 use Rattle.std.proofs.Common.{◌≡◌, ℕ, ◌+◌, refl, sym, ap, ◌∙◌, Bool, true, false, List, [], ◌∷◌, Option, Some, None, length, IsTrue}
 use Rattle.std.specs.Prelude.{map, nat_lt, nat_le, ◌&&◌}
 use Rattle.std.specs.List.{list_all}
-use Rattle.std.proofs.lemmas.Bool.{and_parts}
+use Rattle.std.proofs.lemmas.Bool.{and_parts, and_from}
 use Rattle.std.proofs.lemmas.List.{length-map}
 use Rattle.std.proofs.lemmas.List.Elements.{All-head, All-tail}
 use Rattle.std.proofs.lemmas.List.Folds.{list_all-append}
@@ -47,7 +47,6 @@ use Rattle.cmm_elaboration.specs.Meaning.{meaning_of}
 use Rattle.cmm_elaboration.specs.Laws.{AreDerived, keeps_rules, are_apart, ranges_apart, FormsAreInRange}
 use Rattle.cmm_elaboration.proofs.Everywhere.{all_read}
 use Rattle.cmm_elaboration.proofs.Flat.{flat_from, procedure_is}
-use Rattle.cmm_elaboration.proofs.Keeping.{both_true}
 use Rattle.cmm_elaboration.proofs.Forms.{all_three, statement_kept}
 use Rattle.cmm_elaboration.proofs.Switching.{branch_of, hidden_branches, rolled_case, statement_apart}
 use Rattle.cmm_elaboration.proofs.Derived.{has_range, part_has, item_has, unit_has}
@@ -71,7 +70,7 @@ module _ (s : Scope) where
   arms_all n width k end_of-Arm h = refl
   arms_all n width k (more_of-Arm {n = m} first what _ body rest) h =
       let both = and_parts (has_range what) (list_all (λ x. has_range x.case_) (heads rest)) h in
-      both_true _ _ (ap has_ranges (rolled_case (case_of s width what) (row_of s n body)) ∙ case_all width what both.0) (arms_all (n + sites_in_row body) width m rest both.1)
+      and_from _ _ (ap has_ranges (rolled_case (case_of s width what) (row_of s n body)) ∙ case_all width what both.0) (arms_all (n + sites_in_row body) width m rest both.1)
 
   call_all : (n : ℕ) (c : Callee) (values : List Expression) (b : Bool) → has_all (elim b as (λ x. Form) [ true ↦ forms.Yield n values | false ↦ forms.Call n (callee_of (senses s) c) values ]) ≡ true
   call_all n c values true = refl
@@ -92,12 +91,12 @@ module _ (s : Scope) where
   one_all : (n : ℕ) (x : Part) → part_has x ≡ true → list_all (λ st. has_all st.form) (part_of s n x) ≡ true
   one_all n (parts.Local l) h = refl
   one_all n (parts.Stmt' first past (stmts.Switch' over value _ arms)) h =
-      both_true _ true (switch_all (value_of (senses s) value) (arms_of s n (value_width s value) arms) ∙ arms_all n (value_width s value) _ arms h) refl
-  one_all n (parts.Stmt' first past (stmts.Assign to values)) h = both_true _ true (ap (λ m. nat_lt 0 m) (length-map to (place_of (senses s))) ∙ h) refl
-  one_all n (parts.Stmt' first past (stmts.Call results None callee actuals flows)) h = both_true _ true (call_all n callee (values_of (senses s) actuals) (is_yield s callee)) refl
-  one_all n (parts.Stmt' first past (stmts.Call results (Some convention) callee actuals flows)) h = both_true _ true (host_all (foreign_callee s callee) results (values_of (senses s) actuals)) refl
-  one_all n (parts.Stmt' first past (stmts.Return exit None)) h = both_true _ true (return_all exit []) refl
-  one_all n (parts.Stmt' first past (stmts.Return exit (Some values))) h = both_true _ true (return_all exit (values_of (senses s) values)) refl
+      and_from _ true (switch_all (value_of (senses s) value) (arms_of s n (value_width s value) arms) ∙ arms_all n (value_width s value) _ arms h) refl
+  one_all n (parts.Stmt' first past (stmts.Assign to values)) h = and_from _ true (ap (λ m. nat_lt 0 m) (length-map to (place_of (senses s))) ∙ h) refl
+  one_all n (parts.Stmt' first past (stmts.Call results None callee actuals flows)) h = and_from _ true (call_all n callee (values_of (senses s) actuals) (is_yield s callee)) refl
+  one_all n (parts.Stmt' first past (stmts.Call results (Some convention) callee actuals flows)) h = and_from _ true (host_all (foreign_callee s callee) results (values_of (senses s) actuals)) refl
+  one_all n (parts.Stmt' first past (stmts.Return exit None)) h = and_from _ true (return_all exit []) refl
+  one_all n (parts.Stmt' first past (stmts.Return exit (Some values))) h = and_from _ true (return_all exit (values_of (senses s) values)) refl
   one_all n (parts.Stmt' first past (stmts.If' c _ body otherwise)) h = refl
   one_all n (parts.Stmt' first past (stmts.Span' key value _ body)) h = refl
   one_all n (parts.Stmt' first past (stmts.Checked result operator left right flows)) h = refl
@@ -112,7 +111,7 @@ module _ (s : Scope) where
   flat_all n [] h = refl
   flat_all n (x ∷ ps) h = let both = and_parts (part_has x) (list_all part_has ps) h in
       list_all-append (λ st. has_all st.form) (part_of s n x) (flat_from s (n + sites_of x) ps)
-      ∙ both_true (list_all (λ st. has_all st.form) (part_of s n x)) _ (one_all n x both.0) (flat_all (n + sites_of x) ps both.1)
+      ∙ and_from (list_all (λ st. has_all st.form) (part_of s n x)) _ (one_all n x both.0) (flat_all (n + sites_of x) ps both.1)
 
 -- ---- with the rules that they keep
 
@@ -121,10 +120,10 @@ arms_by None bs typed_ apart all = let bad : false ≡ true = typed_ in cc
 arms_by (Some w) bs typed_ apart all =
     let two = and_parts (list_all (is_range w) (all_ranges bs) && none_meet (all_ranges bs)) (nat_le (defaults bs) 1) apart in
     let one = and_parts (list_all (is_range w) (all_ranges bs)) (none_meet (all_ranges bs)) two.0 in
-    both_true _ _ (both_true _ _ (both_true _ _ all one.0) one.1) two.1
+    and_from _ _ (and_from _ _ (and_from _ _ all one.0) one.1) two.1
 
 form_in : (p : Program) (q : Proc) (form : Form) → keeps_rules p q form ≡ true → ranges_apart p q form ≡ true → has_all form ≡ true → is_form p q form ≡ true
-form_in p q (forms.Assign to values) a b c = both_true (nat_lt 0 (length to)) _ c a
+form_in p q (forms.Assign to values) a b c = and_from (nat_lt 0 (length to)) _ c a
 form_in p q (forms.Switch' value _ arms) a b c = arms_by (width_of p q value) (branches arms) a b c
 form_in p q form a b c = a
 
@@ -133,7 +132,7 @@ form_in p q form a b c = a
 named_have : (procs labels : ℕ) (us : List UnitTree) → AreDerived us → list_all (λ u. list_all (λ i. item_has i.what) u.items) (units_from procs labels us) ≡ true
 named_have procs labels [] derived = refl
 named_have procs labels (u ∷ us) derived = let own = All-head (λ v. (tokens : List Lexeme) × Derives tokens v) u us derived in
-    both_true (list_all (λ i. item_has i.what) (items_of u)) _ (unit_has u own.0 own.1)
+    and_from (list_all (λ i. item_has i.what) (items_of u)) _ (unit_has u own.0 own.1)
     (named_have (procs + sum_of procs_in (items_of u)) (labels + sum_of labels_in (items_of u)) us (All-tail (λ v. (tokens : List Lexeme) × Derives tokens v) u us derived))
 
 pub forms_are_in_range : FormsAreInRange

@@ -2,7 +2,7 @@
 use mathlib.Core.Former.{one_more}
 use Rattle.std.proofs.Common.{◌≡◌, ℕ, refl, sym, ap, ◌∙◌, subst, true, List, [], ◌∷◌, ◌++◌, Option, Some, None, Ok, Err, arith, length}
 use Rattle.std.specs.Prelude.{map, flat_map, option_map, unwrap_or, ◌==◌}
-use Rattle.std.proofs.lemmas.Bool.{eqb-true}
+use Rattle.std.proofs.lemmas.Bool.{eqb-true, and_from}
 use Rattle.std.proofs.lemmas.Grind.{flat_map-append}
 use Rattle.cmm_words.specs.declared.width.Width.{Width}
 use Rattle.cmm_words.specs.declared.width.Width.TheVariants.{W64}
@@ -40,7 +40,6 @@ use Rattle.cmm_elaboration.specs.Fitting.{NamesFit}
 use Rattle.cmm_elaboration.specs.Resolving.{value_in, value_of, width_at, target_in, operand_in, place_of}
 use Rattle.cmm_elaboration.proofs.Nothing.{no_left, no_right}
 use Rattle.cmm_elaboration.proofs.Judged.{alignment_is}
-use Rattle.cmm_elaboration.proofs.Keeping.{both_true}
 use Rattle.cmm_elaboration.proofs.SiteParts.{target_there}
 use Rattle.cmm_elaboration.proofs.Wide.{IsWide}
 use Rattle.cmm_elaboration.proofs.Whole.{IsUnbroken}
@@ -139,7 +138,7 @@ module _ (p : Program) (q : Proc) (s : Scope) (fit : NamesFit p q (senses s)) (w
       let inner = no_right (spots (wanted knowns names None e)) (inner_spots names e) free in
       let m = memory_by t row aligned (typed.Bits b.known) b.typed_as (no_left (flat_map (host_spots names) (row_names values_alone row)) _ inner) (no_right (flat_map (host_spots names) (row_names values_alone row)) _ inner) in
       record {
-        is = both_true _ _ (m.alignment (width_at names t)) m.address;
+        is = and_from _ _ (m.alignment (width_at names t)) m.address;
         width = m.width;
         wanted_is = ap if_ok m.type_is;
         resolved = ap (λ j. unwrap_or (if_ok j) W64) m.type_is;
@@ -163,7 +162,7 @@ module _ (p : Program) (q : Proc) (s : Scope) (fit : NamesFit p q (senses s)) (w
       subst (λ o. bits_spots names o e ≡ []) place.wanted_is (no_left (bits_spots names (wanted_width s l) e) (sides s ls es) free) in
       let value : has_width p q (lvalue_width p q (place_of names l)) (value_of names e) ≡ true =
       subst (λ w. has_width p q w (value_of names e) ≡ true) (sym place.resolved) (has_wanted p q names fit wide unbroken place.width e own) in
-      both_true _ _ (both_true (is_lvalue p q (place_of names l)) _ place.is value)
+      and_from _ _ (and_from (is_lvalue p q (place_of names l)) _ place.is value)
       (assigned_by ls es (omega arith) (no_right (lvalue_spots s l) (flat_map (lvalue_spots s) ls) places) (no_right (bits_spots names (wanted_width s l) e) (sides s ls es) free))
 
   pub assigned_there : (to : List LvalueTree) (values : List Expr) → (length to == length values) ≡ true → flat_map (lvalue_spots s) to ≡ [] → sides s to values ≡ [] →

@@ -3,7 +3,7 @@
 use Rattle.std.proofs.Common.{◌≡◌, ℕ, ◌+◌, ◌-◌, ◌≤◌, refl, sym, ap, ◌∙◌, subst, Bool, true, List, [], ◌∷◌, ◌++◌, Some, None, arith}
 use Rattle.std.specs.Prelude.{map, flat_map, nat_le, sum_by}
 use Rattle.std.specs.List.{list_all}
-use Rattle.std.proofs.lemmas.Bool.{le-leb, leb-true}
+use Rattle.std.proofs.lemmas.Bool.{le-leb, leb-true, and_from}
 use Rattle.std.proofs.lemmas.List.Elements.{All-head, All-tail}
 use Rattle.std.proofs.lemmas.List.Sums.{sum_by-append, sum_by-cons}
 use Rattle.cmm_lexer.specs.declared.piece.Lexeme.{Lexeme}
@@ -35,9 +35,8 @@ use Rattle.cmm_elaboration.specs.Procedures.{procedure_of}
 use Rattle.cmm_elaboration.specs.Laws.{AreDerived, BodiesAreCounted}
 use Rattle.cmm_elaboration.proofs.Everywhere.{all_read}
 use Rattle.cmm_elaboration.proofs.Flat.{flat_from, procedure_is}
-use Rattle.cmm_elaboration.proofs.Keeping.{both_true}
 use Rattle.cmm_elaboration.proofs.Derived.{Taken, middle, block_is, item_test, unit_test}
-use Rattle.cmm_elaboration.proofs.Inside.{hidden_parts}
+use Rattle.cmm_static_semantics.proofs.Shared.{hidden_parts}
 use Rattle.cmm_elaboration.proofs.Steady.{IsSteady, here_is, steady_keyword, steady_opening, steady_whole, steady_primary, steady_optional, steady_round, steady_list, steady_ident}
 use Rattle.cmm_elaboration.proofs.SteadyUnits.{steady_case, steady_span, steady_formal, steady_local, steady_stmt}
 use Rattle.cmm_elaboration.proofs.Weighing.{inside_of, taken_of}
@@ -228,7 +227,7 @@ flat_counted s n (x ∷ ps) =
 named_counted : (procs labels : ℕ) (us : List UnitTree) → AreDerived us → list_all (λ u. list_all (λ i. item_test is_counted i.what) u.items) (units_from procs labels us) ≡ true
 named_counted procs labels [] derived = refl
 named_counted procs labels (u ∷ us) derived = let d = All-head (λ v. (tokens : List Lexeme) × Derives tokens v) u us derived in
-    both_true (list_all (λ i. item_test is_counted i.what) (items_of u)) _ (unit_test is_counted counted_by u d.0 d.1)
+    and_from (list_all (λ i. item_test is_counted i.what) (items_of u)) _ (unit_test is_counted counted_by u d.0 d.1)
     (named_counted (procs + sum_of procs_in (items_of u)) (labels + sum_of labels_in (items_of u)) us (All-tail (λ v. (tokens : List Lexeme) × Derives tokens v) u us derived))
 
 pub bodies_are_counted : BodiesAreCounted

@@ -2,7 +2,7 @@
 use Rattle.std.proofs.Common.{◌≡◌, ℕ, ◌*◌, refl, sym, ap, ◌∙◌, subst, Bool, true, false, List, [], ◌∷◌, ◌++◌, append_assoc, Option, Some, None, Ok, Err, length}
 use Rattle.std.specs.Prelude.{map, flat_map, unwrap_or, ◌==◌}
 use Rattle.std.specs.List.{list_all}
-use Rattle.std.proofs.lemmas.Bool.{and_parts, eqb-true, eq-eqb}
+use Rattle.std.proofs.lemmas.Bool.{and_parts, eqb-true, eq-eqb, and_from}
 use Rattle.std.proofs.lemmas.List.{length-map}
 use Rattle.std.proofs.lemmas.List.Folds.{list_all-append}
 use Rattle.cmm_words.specs.declared.width.Width.{Width}
@@ -52,7 +52,7 @@ use Rattle.cmm_elaboration.proofs.Nothing.{no_left, no_right, no_unless}
 use Rattle.cmm_elaboration.proofs.Judged.{Holds, same_bits}
 use Rattle.cmm_elaboration.proofs.Widths.{own_width}
 use Rattle.cmm_elaboration.proofs.Knowing.{known_from, constant_alone_is}
-use Rattle.cmm_elaboration.proofs.Keeping.{both_true, width_alignment, own_alignment}
+use Rattle.cmm_elaboration.proofs.Keeping.{width_alignment, own_alignment}
 use Rattle.cmm_elaboration.proofs.UnitNames.{names_of, declarations_at, declared_there}
 use Rattle.cmm_elaboration.proofs.Wide.{IsWide, unit_wide}
 use Rattle.cmm_elaboration.proofs.Mentioned.{EachName}
@@ -115,26 +115,26 @@ module _ (names : Senses) (wide : (name : List ℕ) → IsWide (names name)) (un
         list_all (is_initial p w) (map (λ e. or_zero w (constant_alone names (Some w) e)) es) ≡ true
     values_are w [] free = refl
     values_are w (e ∷ es) free =
-        both_true (is_initial p w (or_zero w (constant_alone names (Some w) e))) _
+        and_from (is_initial p w (or_zero w (constant_alone names (Some w) e))) _
         (initial_is w e (no_left (constant_alone_spots names (Some w) e) (flat_map (constant_alone_spots names (Some w)) es) free))
         (values_are w es (no_right (constant_alone_spots names (Some w) e) (flat_map (constant_alone_spots names (Some w)) es) free))
 
     bytes_are : (bs : List ℕ) → list_all (below 256) bs ≡ true → list_all (is_initial p W8) (map (λ byte. Number byte W8) bs) ≡ true
     bytes_are [] h = refl
     bytes_are (b ∷ bs) h = let both = and_parts (below 256 b) (list_all (below 256) bs) h in
-        both_true (is_initial p W8 (Number b W8)) _
+        and_from (is_initial p W8 (Number b W8)) _
         (ap (λ t. elim (if_holds t W8) as (λ x. Bool) [ Some found ↦ same_width found W8 | None ↦ false ]) both.0) (bytes_are bs both.1)
 
     -- values that fill a datum
     filled : (w : Width) (n : ℕ) (vs : List Constant) → n ≡ length vs → list_all (is_initial p w) vs ≡ true → is_datum p (datum_of (piece_of (bytes w) n) w vs) ≡ true
-    filled w n [] many h = both_true (is_alignment (bytes w)) true (width_alignment w) refl
+    filled w n [] many h = and_from (is_alignment (bytes w)) true (width_alignment w) refl
     filled w n (v ∷ vs) many h =
-        both_true (is_alignment (bytes w)) _ (width_alignment w)
-        (both_true (n * bytes w == length (v ∷ vs) * bytes w) _ (eq-eqb (n * bytes w) (length (v ∷ vs) * bytes w) (ap (λ m. m * bytes w) many)) h)
+        and_from (is_alignment (bytes w)) _ (width_alignment w)
+        (and_from (n * bytes w == length (v ∷ vs) * bytes w) _ (eq-eqb (n * bytes w) (length (v ∷ vs) * bytes w) (ap (λ m. m * bytes w) many)) h)
 
     filled_by : (w : Width) (t : TypeName) (count : Count) (i : Initial) → type_width names t ≡ Ok w → count_spots names count ≡ [] → initial_spots names t i ≡ [] →
         counts_agree names count i ≡ true → has_bytes i ≡ true → is_datum p (datum_of (piece_of (bytes w) (data_count names count i)) w (initial_values names w i)) ≡ true
-    filled_by w t count initials.Zeros is counted free agree text = both_true (is_alignment (bytes w)) true (width_alignment w) refl
+    filled_by w t count initials.Zeros is counted free agree text = and_from (is_alignment (bytes w)) true (width_alignment w) refl
     filled_by w t count (initials.Values es) is counted free agree text =
         let here : flat_map (constant_alone_spots names (Some w)) es ≡ [] = subst (λ j. flat_map (constant_alone_spots names (if_ok j)) es ≡ []) is free in
         filled w (data_count names count (initials.Values es)) (map (λ e. or_zero w (constant_alone names (Some w) e)) es)
@@ -154,14 +154,14 @@ module _ (names : Senses) (wide : (name : List ℕ) → IsWide (names name)) (un
         let n = data_count names count i in
         let filled_at : Judged Width → Type 0 =
         λ j. is_datum p (datum_of (piece_of (elim (if_ok j) as (λ o. ℕ) [ Some width ↦ bytes width | None ↦ 1 ]) n) (unwrap_or (if_ok j) W64) (initial_values names (unwrap_or (if_ok j) W64) i)) ≡ true in
-        both_true _ true
+        and_from _ true
         (subst filled_at (sym w.1)
         (filled_by w.0 t count i w.1 (no_right (type_spots names t) (count_spots names count) first) (no_right _ (initial_spots names t i) before)
         (no_unless (counts_agree names count i) CountsDiffer token (no_right _ _ free)) text)) refl
 
     datum_in : (form : DatumForm) (token : ℕ) → datum_spots names token form ≡ [] → of_bytes (items.Datum record { token = token; form = form }) ≡ true → list_all (is_datum p) (form_datums names form) ≡ true
     datum_in (data_forms.Label name) token free text = refl
-    datum_in (data_forms.Align k) token free text = both_true _ true (both_true _ true (own_alignment (is_alignment k.value) k.value refl) refl) refl
+    datum_in (data_forms.Align k) token free text = and_from _ true (and_from _ true (own_alignment (is_alignment k.value) k.value refl) refl) refl
     datum_in (data_forms.Data t count i) token free text = data_by t count i token free text
 
     item_in : (i : Item) → item_spots names i ≡ [] → of_bytes i ≡ true → list_all (is_datum p) (item_datums names i) ≡ true
@@ -175,7 +175,7 @@ module _ (names : Senses) (wide : (name : List ℕ) → IsWide (names name)) (un
     items_in [] free text = refl
     items_in (i ∷ is) free text = let both = and_parts (of_bytes i.what) (list_all (λ j. of_bytes j.what) is) text in
         list_all-append (is_datum p) (item_datums names i.what) (flat_map (λ j. item_datums names j.what) is)
-        ∙ both_true (list_all (is_datum p) (item_datums names i.what)) _
+        ∙ and_from (list_all (is_datum p) (item_datums names i.what)) _
         (item_in i.what (no_left (item_spots names i.what) (flat_map (λ j. item_spots names j.what) is) free) both.0)
         (items_in is (no_right (item_spots names i.what) (flat_map (λ j. item_spots names j.what) is) free) both.1)
 
@@ -196,7 +196,7 @@ module _ (us : List UnitTree) (accepted : AreAccepted us) where
       let both = and_parts (list_all (λ i. of_bytes i.what) u.items) (list_all (λ v. list_all (λ i. of_bytes i.what) v.items) rest) text in
       let names = unit_senses (program_of units) u.entries in let none = declared_there us accepted earlier rest u is in
       list_all-append (is_datum (meaning_of us)) (unit_datums (program_of units) u) (flat_map (unit_datums (program_of units)) rest)
-      ∙ both_true (list_all (is_datum (meaning_of us)) (unit_datums (program_of units) u)) _
+      ∙ and_from (list_all (is_datum (meaning_of us)) (unit_datums (program_of units) u)) _
       (items_in names (unit_wide (program_of units) u.entries none) (unit_unbroken (program_of units) u.entries none) (meaning_of us) nobody (names_of us accepted earlier rest u is nobody) u.items
       (no_right _ (flat_map (λ i. item_spots names i.what) u.items) (declarations_at us accepted earlier rest u is)) both.0)
       (units_in (earlier ++ u ∷ []) rest (is ∙ sym (append_assoc earlier (u ∷ []) rest)) both.1)

@@ -3,7 +3,7 @@
 use Rattle.std.proofs.Common.{◌≡◌, refl, sym, ap, ◌∙◌, subst, Bool, true, List, [], ◌∷◌, ◌++◌, Option, Some, None, arith, length}
 use Rattle.std.specs.Prelude.{map, flat_map, nat_lt, ◌&&◌}
 use Rattle.std.specs.List.{list_all}
-use Rattle.std.proofs.lemmas.Bool.{lt-ltb}
+use Rattle.std.proofs.lemmas.Bool.{lt-ltb, and_from}
 use Rattle.std.proofs.lemmas.List.Folds.{list_all-append}
 use denote.Hole.Carrier as Carrier
 use Rattle.cmm_lexer.specs.declared.piece.Lexeme.{Lexeme}
@@ -33,8 +33,7 @@ use Rattle.cmm_ast.specs.StatementGrammar.{formal, lvalue, range, case, switch_s
 use Rattle.cmm_ast.specs.UnitGrammar.{item, item_row, top_level}
 use Rattle.cmm_static_semantics.specs.Items.{SpanTree, Within, item_within, items_within, top_items, items_of, parts_inside, parts_otherwise, part_within, parts_row, parts_of_arms, parts_in, parts_of}
 use Rattle.cmm_static_semantics.specs.Switches.{heads}
-use Rattle.cmm_elaboration.proofs.Inside.{hidden_parts}
-use Rattle.cmm_elaboration.proofs.Keeping.{both_true}
+use Rattle.cmm_static_semantics.proofs.Shared.{hidden_parts}
 
 -- ---- what is taken has been taken part by part
 
@@ -88,7 +87,7 @@ abbrev AllHave : List (Within Part) → Type 0
 AllHave ps = list_all (λ p. part_has p.what) ps ≡ true
 
 both_have : (xs ys : List (Within Part)) → AllHave xs → AllHave ys → AllHave (xs ++ ys)
-both_have xs ys h k = list_all-append (λ p. part_has p.what) xs ys ∙ both_true (list_all (λ p. part_has p.what) xs) (list_all (λ p. part_has p.what) ys) h k
+both_have xs ys h k = list_all-append (λ p. part_has p.what) xs ys ∙ and_from (list_all (λ p. part_has p.what) xs) (list_all (λ p. part_has p.what) ys) h k
 
 case_has : (what : Case) → Taken (case what) → has_range what ≡ true
 case_has (Ranges rs) t = not_empty range rs (front (commas range rs) (symbol Colon) (back (keyword word.Case) (commas range rs ⨾ symbol Colon) t))
@@ -99,7 +98,7 @@ heads_have n end_of-Arm t = refl
 heads_have n (more_of-Arm {n = m} first what _ body rest) t =
     let a = back (here first) (case what ⨾ braces (part_row body) ⨾ arm_row rest) t in
     let b = back (case what) (braces (part_row body) ⨾ arm_row rest) a in
-    both_true (has_range what) _ (case_has what (front (case what) (braces (part_row body) ⨾ arm_row rest) a)) (heads_have m rest (back (braces (part_row body)) (arm_row rest) b))
+    and_from (has_range what) _ (case_has what (front (case what) (braces (part_row body) ⨾ arm_row rest) a)) (heads_have m rest (back (braces (part_row body)) (arm_row rest) b))
 
 mutual
   form_has : (spans : List SpanTree) (form : StmtForm) → Taken (stmt_form form) → (has_parts form ≡ true) × AllHave (parts_inside spans form)
@@ -139,12 +138,12 @@ mutual
   otherwise_has spans (ElseIf' _ (more_of-Stmt first past form rest)) t =
       let inner = closed (here first ⨾ chained form ⨾ here past) (back (keyword Else) (enclosed (here first ⨾ chained form ⨾ here past)) t) in
       let h = chained_has spans form (front (chained form) (here past) (back (here first) (chained form ⨾ here past) inner)) in
-      both_true (has_parts form) _ h.0 h.1
+      and_from (has_parts form) _ h.0 h.1
 
   one_has : (spans : List SpanTree) (p : Part) → Taken (part_ p) → AllHave (part_within spans p)
   one_has spans (parts.Local l) t = refl
   one_has spans (parts.Stmt' first past form) t =
-      let h = form_has spans form (front (stmt_form form) (here past) (back (here first) (stmt_form form ⨾ here past) t)) in both_true (has_parts form) _ h.0 h.1
+      let h = form_has spans form (front (stmt_form form) (here past) (back (here first) (stmt_form form ⨾ here past) t)) in and_from (has_parts form) _ h.0 h.1
 
   row_has : (spans : List SpanTree) (n : _) (row : Row_of-Part n) → Taken (part_row row) → AllHave (parts_row spans row)
   row_has spans n end_of-Part t = refl
@@ -197,12 +196,12 @@ module _ (test : Proc → Bool) (each : (p : Proc) → Taken (proc p) → test p
   ItemsHave is = list_all (λ i. item_test test i.what) is ≡ true
 
   items_both : (xs ys : List (Within Item)) → ItemsHave xs → ItemsHave ys → ItemsHave (xs ++ ys)
-  items_both xs ys h k = list_all-append (λ i. item_test test i.what) xs ys ∙ both_true (list_all (λ i. item_test test i.what) xs) (list_all (λ i. item_test test i.what) ys) h k
+  items_both xs ys h k = list_all-append (λ i. item_test test i.what) xs ys ∙ and_from (list_all (λ i. item_test test i.what) xs) (list_all (λ i. item_test test i.what) ys) h k
 
   mutual
     item_is : (spans : List SpanTree) (i : Item) → Taken (item i) → ItemsHave (item_within spans i)
     item_is spans (items.Decl d) t = refl
-    item_is spans (items.Proc p) t = both_true (test p) true (each p t) refl
+    item_is spans (items.Proc p) t = and_from (test p) true (each p t) refl
     item_is spans (items.Datum d) t = refl
     item_is spans (items.Span' first key value size inside) t =
         items_are (record { key = key; value = value } ∷ spans) _ inside (inside_braces (item_row inside) (back (whole value) (braces (item_row inside))
@@ -223,7 +222,7 @@ module _ (test : Proc → Bool) (each : (p : Proc) → Taken (proc p) → test p
       section_has s.items (inside_braces (many item s.items) (back (text s.name) (braces (many item s.items))
       (back (keyword SectionWord) (text s.name ⨾ braces (many item s.items)) (back (here s.token) (keyword SectionWord ⨾ text s.name ⨾ braces (many item s.items)) t))))
   top_has (tops.Decl d) t = refl
-  top_has (tops.Proc p) t = both_true (test p) true (each p t) refl
+  top_has (tops.Proc p) t = and_from (test p) true (each p t) refl
 
   tops_have : (ts : List TopLevel) → Taken (many top_level ts) → ItemsHave (flat_map top_items ts)
   tops_have [] t = refl

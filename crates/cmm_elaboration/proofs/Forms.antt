@@ -3,7 +3,7 @@ use Rattle.std.proofs.Common.{◌≡◌, ℕ, zero, suc, ◌+◌, ◌≤◌, ref
 use Rattle.std.specs.Prelude.{map, flat_map, unwrap_or, not, nat_le, slice_get, ◌==◌, ◌&&◌}
 use Rattle.std.specs.List.{list_all, range_with_len}
 use Rattle.std.specs.Option.{is_some}
-use Rattle.std.proofs.lemmas.Bool.{and_parts, eq-eqb, lt-ltb}
+use Rattle.std.proofs.lemmas.Bool.{and_parts, eq-eqb, lt-ltb, and_from}
 use Rattle.std.proofs.lemmas.List.{length-map}
 use Rattle.std.proofs.lemmas.List.Folds.{list_all-append}
 use Rattle.cmm_words.specs.declared.width.Width.TheVariants.{W64}
@@ -62,7 +62,6 @@ use Rattle.cmm_elaboration.proofs.Nothing.{no_left, no_right, no_unless}
 use Rattle.cmm_elaboration.proofs.Everywhere.{Place, all_accepted}
 use Rattle.cmm_elaboration.proofs.Flat.{whats, flat_from, procedure_is}
 use Rattle.cmm_elaboration.proofs.Judged.{same_bits}
-use Rattle.cmm_elaboration.proofs.Keeping.{both_true}
 use Rattle.cmm_elaboration.proofs.Scoping.{scopes_fit}
 use Rattle.cmm_elaboration.proofs.Starting.{behind}
 use Rattle.cmm_elaboration.proofs.UnitNames.{names_of, declared_there}
@@ -112,12 +111,12 @@ module _ (p : Program) (q : Proc) (s : Scope) (fit : NamesFit p q (senses s)) (w
       slice_get q.sites n ≡ Some (site_with s results (yielded_by s callee as_) fs spans) → callee_spots s true callee ≡ [] → actuals_spots s as_ ≡ [] →
       computes p q (elim b as (λ x. Form) [ true ↦ forms.Yield n (values_of names as_) | false ↦ forms.Call n (callee_of names callee) (values_of names as_) ]) ≡ true
   call_by n results callee as_ fs spans true is there called given =
-      both_true _ _
+      and_from _ _
       (at_own n (site_with s results (yielded_by s callee as_) fs spans) (is_yield_site p q (length (values_of names as_))) there
       (yield_site (length (values_of names as_)) results true callee as_ fs spans is refl (sym (length-map as_ (λ a. value_of names a.value)))))
       (passed_there p q s fit wide unbroken as_ given)
   call_by n results callee as_ fs spans false is there called given =
-      both_true _ _ (both_true _ _ (at_own n (site_with s results (yielded_by s callee as_) fs spans) (is_call_site p q) there (call_site results callee as_ fs spans is))
+      and_from _ _ (and_from _ _ (at_own n (site_with s results (yielded_by s callee as_) fs spans) (is_call_site p q) there (call_site results callee as_ fs spans is))
       (callee_there p q s fit wide unbroken true callee called (inr is))) (passed_there p q s fit wide unbroken as_ given)
 
   -- ---- calls of the host
@@ -130,7 +129,7 @@ module _ (p : Program) (q : Proc) (s : Scope) (fit : NamesFit p q (senses s)) (w
   get_by : (i : Ident) → ident_spots s i ≡ [] → may_hold_bits64 (target_width (names i.name)) ≡ true → computes p q (forms.GetByte (target_of names i)) ≡ true
   get_by i free is = let w = ident_place p q s fit wide unbroken i free in
       let here : (bits w.0 == bits W64) ≡ true = ap may_hold_bits64 (sym w.1.0) ∙ is in
-      both_true _ _ (target_there p q i.token (names i.name) free (fit i.name) (wide i.name)) (ap (λ v. same_width v W64) (w.1.1 ∙ same_bits w.0 W64 here))
+      and_from _ _ (target_there p q i.token (names i.name) free (fit i.name) (wide i.name)) (ap (λ v. same_width v W64) (w.1.1 ∙ same_bits w.0 W64 here))
 
   host_by : (o : Option Host) (results : List Kinded) (as_ : List Actual) → ◌≡◌ {A = Bool} (elim o as (λ x. Bool) [ Some h ↦ is_host_call s h results as_ | None ↦ false ]) true →
       flat_map (λ k. ident_spots s k.name) results ≡ [] → flat_map (λ a. bits_spots names None a.value) as_ ≡ [] → computes p q (host_form s o results (values_of names as_)) ≡ true
@@ -141,7 +140,7 @@ module _ (p : Program) (q : Proc) (s : Scope) (fit : NamesFit p q (senses s)) (w
   -- ---- returns
 
   return_by : (exit : Option Exit) (as_ : List Actual) → return_spots s exit ≡ [] → actuals_spots s as_ ≡ [] → computes p q (return_form s exit (values_of names as_)) ≡ true
-  return_by None as_ free given = both_true _ _ refl (passed_there p q s fit wide unbroken as_ given)
+  return_by None as_ free given = and_from _ _ refl (passed_there p q s fit wide unbroken as_ given)
   return_by (Some x) as_ free given =
       let index = of_primary x.index in let count = of_primary x.count in
       let before = no_left _ _ free in
@@ -151,7 +150,7 @@ module _ (p : Program) (q : Proc) (s : Scope) (fit : NamesFit p q (senses s)) (w
       let kept : (nat_le a.0 b.0 && nat_le b.0 64) ≡ true = sym (ap (λ j. is_exit (if_ok j) (if_ok (number_of names count))) a.1 ∙ ap (λ j. is_exit (Some a.0) (if_ok j)) b.1) ∙ leaves in
       let first : number_or_zero names index ≡ a.0 = ap (λ j. unwrap_or (if_ok j) 0) a.1 in
       let second : number_or_zero names count ≡ b.0 = ap (λ j. unwrap_or (if_ok j) 0) b.1 in
-      both_true _ _ (ap (λ m. nat_le m (number_or_zero names count) && nat_le (number_or_zero names count) 64) first ∙ ap (λ m. nat_le a.0 m && nat_le m 64) second ∙ kept)
+      and_from _ _ (ap (λ m. nat_le m (number_or_zero names count) && nat_le (number_or_zero names count) 64) first ∙ ap (λ m. nat_le a.0 m && nat_le m 64) second ∙ kept)
       (passed_there p q s fit wide unbroken as_ given)
 
   -- ---- statements
@@ -169,8 +168,8 @@ module _ (p : Program) (q : Proc) (s : Scope) (fit : NamesFit p q (senses s)) (w
       let c = checked_there p q s fit wide unbroken result operator left right (no_left (checked_spots s result operator left right) (site_flows_spots s flows) free) in
       let site = site_with s (target_of names result ∷ []) (Some 1) flows spans in
       let kept : (at_site p q n (is_checked_site p q c.width) && is_division (division (checked_named operator.name)) && has_width p q c.width (value_of names left) && has_width p q c.width (value_of names right)) ≡ true =
-      both_true _ _ (both_true _ _ (both_true _ _
-      (at_own n site (is_checked_site p q c.width) sites (both_true (same_width (resolved_width (target_of names result)) c.width) true c.result_has refl)) c.divides) c.left_has) c.right_has in
+      and_from _ _ (and_from _ _ (and_from _ _
+      (at_own n site (is_checked_site p q c.width) sites (and_from (same_width (resolved_width (target_of names result)) c.width) true c.result_has refl)) c.divides) c.left_has) c.right_has in
       subst (λ w. (at_site p q n (is_checked_site p q w) && is_division (division (checked_named operator.name)) && has_width p q w (value_of names left) && has_width p q w (value_of names right)) ≡ true)
       (sym c.width_is) kept
   form_computes n first spans (stmts.Call results None callee actuals flows) free sites =
@@ -186,7 +185,7 @@ module _ (p : Program) (q : Proc) (s : Scope) (fit : NamesFit p q (senses s)) (w
       (no_right (too_many_names results) (flat_map (λ k. ident_spots s k.name) results) targets)
       (no_right (too_many_actuals actuals) (flat_map (λ a. bits_spots names None a.value) actuals) given)
   form_computes n first spans (stmts.Jump callee actuals) free sites =
-      both_true _ _ (callee_there p q s fit wide unbroken false callee (no_left (callee_spots s false callee) (actuals_spots s actuals) free) (inl refl))
+      and_from _ _ (callee_there p q s fit wide unbroken false callee (no_left (callee_spots s false callee) (actuals_spots s actuals) free) (inl refl))
       (passed_there p q s fit wide unbroken actuals (no_right (callee_spots s false callee) (actuals_spots s actuals) free))
   form_computes n first spans (stmts.Return exit None) free sites =
       return_by exit [] (no_left (return_spots s exit) (actuals_spots s []) free) (no_right (return_spots s exit) (actuals_spots s []) free)
@@ -196,13 +195,13 @@ module _ (p : Program) (q : Proc) (s : Scope) (fit : NamesFit p q (senses s)) (w
   form_computes n first spans (stmts.Continuation name parameters) free sites = refl
   form_computes n first spans (stmts.Goto name) free sites = refl
   form_computes n first spans (stmts.Cut callee actuals flows) free sites = let before = no_left _ (flows_spots s flows) free in
-      both_true _ _ (callee_there p q s fit wide unbroken false callee (no_left (callee_spots s false callee) (actuals_spots s actuals) before) (inl refl))
+      and_from _ _ (callee_there p q s fit wide unbroken false callee (no_left (callee_spots s false callee) (actuals_spots s actuals) before) (inl refl))
       (passed_there p q s fit wide unbroken actuals (no_right (callee_spots s false callee) (actuals_spots s actuals) before))
   form_computes n first spans stmts.Empty free sites = refl
 
   part_computes : (n : ℕ) (spans : List SpanValue) (x : Part) → part_spots s x ≡ [] → SitesAt n (part_sites s spans x) → list_all (λ st. computes p q st.form) (part_of s n x) ≡ true
   part_computes n spans (parts.Local l) free sites = refl
-  part_computes n spans (parts.Stmt' first past form) free sites = both_true _ true (form_computes n first spans form free sites) refl
+  part_computes n spans (parts.Stmt' first past form) free sites = and_from _ true (form_computes n first spans form free sites) refl
 
   pub one_site : (spans : List SpanValue) (x : Part) → length (part_sites s spans x) ≡ sites_of x
   one_site spans (parts.Local l) = refl
@@ -221,7 +220,7 @@ module _ (p : Program) (q : Proc) (s : Scope) (fit : NamesFit p q (senses s)) (w
   flat_computes n before around (x ∷ ps) is counted free =
       let spans = innermost (map (span_value (senses s)) x.spans ++ around) in let own = part_sites s spans x.what in
       list_all-append (λ st. computes p q st.form) (part_of s n x.what) (flat_from s (n + sites_of x.what) (whats ps))
-      ∙ both_true (list_all (λ st. computes p q st.form) (part_of s n x.what)) _
+      ∙ and_from (list_all (λ st. computes p q st.form) (part_of s n x.what)) _
       (part_computes n spans x.what (no_left (part_spots s x.what) (flat_map (part_spots s) (whats ps)) free) (own_sites n before own (sites_among s around ps) is counted))
       (flat_computes (n + sites_of x.what) (before ++ own) around ps (is ∙ sym (append_assoc before own (sites_among s around ps)))
       (ap (λ m. m + sites_of x.what) counted ∙ ap (λ m. length before + m) (sym (one_site spans x.what)) ∙ sym (length-append before own))
@@ -231,18 +230,18 @@ module _ (p : Program) (q : Proc) (s : Scope) (fit : NamesFit p q (senses s)) (w
 
 below_range : (a k limit : ℕ) → a + k ≤ limit → list_all (below limit) (range_with_len a k) ≡ true
 below_range a zero limit few = refl
-below_range a (suc k) limit few = both_true (below limit a) _ (lt-ltb a limit (omega arith)) (below_range (a + 1) k limit (omega arith))
+below_range a (suc k) limit few = and_from (below limit a) _ (lt-ltb a limit (omega arith)) (below_range (a + 1) k limit (omega arith))
 
 apart : {A B : Type 0} (f : B → Bool) (g : A → List B) (xs : List A) → list_all f (flat_map g xs) ≡ true → list_all (λ x. list_all f (g x)) xs ≡ true
 apart f g [] h = refl
 apart f g (x ∷ xs) h = let both = and_parts (list_all f (g x)) (list_all f (flat_map g xs)) (sym (list_all-append f (g x) (flat_map g xs)) ∙ h) in
-    both_true (list_all f (g x)) _ both.0 (apart f g xs both.1)
+    and_from (list_all f (g x)) _ both.0 (apart f g xs both.1)
 
 pub all_three : {A : Type 0} (f g h r : A → Bool) → ((x : A) → f x ≡ true → g x ≡ true → h x ≡ true → r x ≡ true) → (xs : List A) → list_all f xs ≡ true → list_all g xs ≡ true → list_all h xs ≡ true → list_all r xs ≡ true
 all_three f g h r each [] a b c = refl
 all_three f g h r each (x ∷ xs) a b c =
     let a' = and_parts (f x) (list_all f xs) a in let b' = and_parts (g x) (list_all g xs) b in let c' = and_parts (h x) (list_all h xs) c in
-    both_true (r x) _ (each x a'.0 b'.0 c'.0) (all_three f g h r each xs a'.1 b'.1 c'.1)
+    and_from (r x) _ (each x a'.0 b'.0 c'.0) (all_three f g h r each xs a'.1 b'.1 c'.1)
 
 -- a number of a continuation that is there
 abbrev numbered : Proc → Form → Bool
@@ -251,7 +250,7 @@ numbered q form = list_all (below (length q.conts)) (continuation_number form)
 together : (p : Program) (q : Proc) (form : Form) → computes p q form ≡ true → leads q form ≡ true → numbered q form ≡ true → keeps_rules p q form ≡ true
 together p q (forms.Goto n) a b c = b
 together p q (forms.Continuation n) a b c = (and_parts (below (length q.conts) n) true c).0
-together p q (forms.Cut to values own) a b c = both_true _ _ a b
+together p q (forms.Cut to values own) a b c = and_from _ _ a b
 together p q form a b c = a
 
 module _ (p : Program) (q : Proc) where

@@ -1,9 +1,9 @@
 -- The limits that the rules on a procedure keep, in the procedure that it means.
 use Rattle.std.proofs.Common.{◌≡◌, ℕ, zero, suc, ◌+◌, ◌-◌, ◌<◌, ◌≤◌, refl, sym, ap, ◌∙◌, subst, Bool, true, false, cond, List, [], ◌∷◌, Option, Some, None, arith, length, length-append, max, inl, inr}
-use Rattle.std.specs.Prelude.{map, flat_map, filter, slice_get, nat_le, ◌&&◌}
+use Rattle.std.specs.Prelude.{map, flat_map, filter, slice_get, nat_le}
 use Rattle.std.specs.List.{list_all}
 use Rattle.std.proofs.lemmas.List.{length-map}
-use Rattle.std.proofs.lemmas.Bool.{leb-true, le-leb, lt-ltb, and_parts, cases_lt}
+use Rattle.std.proofs.lemmas.Bool.{leb-true, le-leb, lt-ltb, and_parts, cases_lt, and_from}
 use Rattle.std.proofs.lemmas.List.Folds.{list_all-append}
 use Rattle.cmm_words.specs.declared.width.Width.{Width}
 use Rattle.cmm_words.specs.declared.width.Width.TheVariants.{W8, W16, W32, W64}
@@ -49,11 +49,6 @@ use Rattle.cmm_elaboration.proofs.Everywhere.{Place}
 use Rattle.cmm_elaboration.proofs.Naming.{how_many}
 use Rattle.cmm_elaboration.proofs.Scoping.{number_below, variables_are, widths_in, local_widths}
 use Rattle.cmm_elaboration.proofs.Entries.{counted_in, MayFit}
-
-pub both_true : (a b : Bool) → a ≡ true → b ≡ true → (a && b) ≡ true
-both_true true true h k = refl
-both_true true false h k = k
-both_true false b h k = h
 
 -- ---- lists within their limits
 
@@ -122,7 +117,7 @@ module _ (outer : Senses) (tree : ProcTree) where
   parameters_below : (ks : List Kinded) → flat_map (parameter_spots s) ks ≡ [] → list_all (below count) (map (parameter_of s) ks) ≡ true
   parameters_below [] none = refl
   parameters_below (k ∷ ks) none =
-      both_true (below count (parameter_of s k)) _ (parameter_below k (no_left (parameter_spots s k) (flat_map (parameter_spots s) ks) none))
+      and_from (below count (parameter_of s k)) _ (parameter_below k (no_left (parameter_spots s k) (flat_map (parameter_spots s) ks) none))
       (parameters_below ks (no_right (parameter_spots s k) (flat_map (parameter_spots s) ks) none))
 
   module _ (p : Program) (q : Proc) (vars : length q.vars ≡ count) where
@@ -134,7 +129,7 @@ module _ (outer : Senses) (tree : ProcTree) where
         let under : list_all (below (length q.vars)) (map (parameter_of s) parameters) ≡ true =
         ap (λ n. list_all (below n) (map (parameter_of s) parameters)) vars
         ∙ parameters_below parameters (no_right (too_many_names parameters) (flat_map (parameter_spots s) parameters) none) in
-        both_true _ true (both_true (at_most_64 (map (parameter_of s) parameters)) _ (le-leb (length (map (parameter_of s) parameters)) 64 few) under) refl
+        and_from _ true (and_from (at_most_64 (map (parameter_of s) parameters)) _ (le-leb (length (map (parameter_of s) parameters)) 64 few) under) refl
     conts_by first past (stmts.If' c _ body otherwise) none = refl
     conts_by first past (stmts.Switch' range value _ arms) none = refl
     conts_by first past (stmts.Span' key value _ body) none = refl
@@ -156,7 +151,7 @@ module _ (outer : Senses) (tree : ProcTree) where
     conts_kept [] none = refl
     conts_kept (x ∷ ps) none =
         list_all-append (is_cont p q) (part_conts s x) (flat_map (part_conts s) ps)
-        ∙ both_true (list_all (is_cont p q) (part_conts s x)) _ (part_kept x (no_left (part_spots s x) (flat_map (part_spots s) ps) none))
+        ∙ and_from (list_all (is_cont p q) (part_conts s x)) _ (part_kept x (no_left (part_spots s x) (flat_map (part_spots s) ps) none))
         (conts_kept ps (no_right (part_spots s x) (flat_map (part_spots s) ps) none))
 
 -- ---- stackdata
@@ -196,10 +191,10 @@ label_aligned s [] = refl
 label_aligned s (r ∷ rs) = label_by s r.form r.token rs (label_aligned s rs)
 
 items_by : (s : Scope) (form : RoomForm) (token : ℕ) (rs : List Room) → list_all is_item (stack_items s rs) ≡ true → list_all is_item (stack_items s (record { token = token; form = form } ∷ rs)) ≡ true
-items_by s (rooms.Label name) token rs later = both_true _ _ (both_true (is_alignment (label_alignment s rs)) true (label_aligned s rs) refl) later
-items_by s (rooms.Align k) token rs later = both_true _ _ (both_true (is_alignment (room_piece s record { token = token; form = rooms.Align k }).align) true (piece_alignment s (rooms.Align k) token) refl) later
+items_by s (rooms.Label name) token rs later = and_from _ _ (and_from (is_alignment (label_alignment s rs)) true (label_aligned s rs) refl) later
+items_by s (rooms.Align k) token rs later = and_from _ _ (and_from (is_alignment (room_piece s record { token = token; form = rooms.Align k }).align) true (piece_alignment s (rooms.Align k) token) refl) later
 items_by s (rooms.Data width size) token rs later =
-    both_true _ _ (both_true (is_alignment (room_piece s record { token = token; form = rooms.Data width size }).align) true (piece_alignment s (rooms.Data width size) token) refl) later
+    and_from _ _ (and_from (is_alignment (room_piece s record { token = token; form = rooms.Data width size }).align) true (piece_alignment s (rooms.Data width size) token) refl) later
 
 items_kept : (s : Scope) (rs : List Room) → list_all is_item (stack_items s rs) ≡ true
 items_kept s [] = refl
@@ -240,7 +235,7 @@ module _ (us : List UnitTree) (accepted : AreAccepted us) where
       ∙ ap (λ n. n + length (flat_map (part_infos sc) (parts_of tree.body))) (length-map tree.formals (formal_info sc)) in
       record {
         unit = omega arith;
-        formals = both_true (nat_le (length tree.formals) (length (variable_infos sc tree))) (nat_le (length tree.formals) 64)
+        formals = and_from (nat_le (length tree.formals) (length (variable_infos sc tree))) (nat_le (length tree.formals) 64)
             (le-leb (length tree.formals) (length (variable_infos sc tree)) (omega arith)) (le-leb (length tree.formals) 64 formals);
         variables = subst (λ n. n ≤ 1024) (sym (variables_length sc tree)) many;
         tokens = leb-true (tree.past - tree.name.token) 131072 (no_unless (nat_le (tree.past - tree.name.token) 131072) Limit (tree.name.token + 131072) tokens);

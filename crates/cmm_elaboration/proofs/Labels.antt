@@ -2,7 +2,7 @@
 use Rattle.std.proofs.Common.{◌≡◌, ℕ, suc, ◌+◌, ◌≤◌, refl, ap, ◌∙◌, subst, Bool, true, false, cond, List, [], ◌∷◌, ◌++◌, Option, Some, None, arith, length, length-append}
 use Rattle.std.specs.Prelude.{map, flat_map, filter, bytes_eq, nat_le, nat_lt}
 use Rattle.std.specs.List.{list_all}
-use Rattle.std.proofs.lemmas.Bool.{le-leb, lt-ltb, and_parts}
+use Rattle.std.proofs.lemmas.Bool.{le-leb, lt-ltb, and_parts, and_from}
 use Rattle.std.proofs.lemmas.List.{map-append}
 use Rattle.std.proofs.lemmas.List.Folds.{list_all-append}
 use Rattle.std.proofs.lemmas.Grind.{flat_map-append}
@@ -30,7 +30,6 @@ use Rattle.cmm_elaboration.specs.Data.{item_datums, form_datums, datums_in, datu
 use Rattle.cmm_elaboration.specs.Meaning.{unit_datums, labels_from, meaning_of}
 use Rattle.cmm_elaboration.specs.Laws.{LabelsAreThere}
 use Rattle.cmm_elaboration.proofs.Nothing.{unbroken, names_kept}
-use Rattle.cmm_elaboration.proofs.Keeping.{both_true}
 use Rattle.cmm_elaboration.proofs.Entries.{EachUnit}
 use Rattle.cmm_elaboration.proofs.Short.{Short, short_left, short_right, short_first, short_rest, each_short}
 
@@ -100,7 +99,7 @@ link_short None i h = short_first i [] h
 
 exports_short : (es : List Export) → Short (flat_map of_export es) → LinksShort es
 exports_short [] h = refl
-exports_short (e ∷ es) h = both_true (is_name (export_link e)) _ (link_short e.link e.name (short_left (of_export e) (flat_map of_export es) h))
+exports_short (e ∷ es) h = and_from (is_name (export_link e)) _ (link_short e.link e.name (short_left (of_export e) (flat_map of_export es) h))
     (exports_short es (short_right (of_export e) (flat_map of_export es) h))
 
 decl_short : (form : DeclForm) (token : ℕ) → Short (of_item (items.Decl record { token = token; form = form })) → LinksShort (item_exports (items.Decl record { token = token; form = form }))
@@ -121,10 +120,10 @@ all_links : (is : List (Within Item)) → Short (names_in is) → LinksShort (fl
 all_links [] h = refl
 all_links (i ∷ is) h = let here = item_exports i.what in let rest = flat_map (λ j. item_exports j.what) is in
     ap (list_all is_name) (map-append export_link here rest) ∙ list_all-append is_name (map export_link here) (map export_link rest)
-    ∙ both_true (list_all is_name (map export_link here)) _ (item_links i.what (short_left (of_item i.what) (names_in is) h)) (all_links is (short_right (of_item i.what) (names_in is) h))
+    ∙ and_from (list_all is_name (map export_link here)) _ (item_links i.what (short_left (of_item i.what) (names_in is) h)) (all_links is (short_right (of_item i.what) (names_in is) h))
 
 kept_by : (b : Bool) (e : Export) (es : List Export) → is_name (export_link e) ≡ true → LinksShort es → LinksShort (cond b (e ∷ es) es)
-kept_by true e es h k = both_true (is_name (export_link e)) _ h k
+kept_by true e es h k = and_from (is_name (export_link e)) _ h k
 kept_by false e es h k = k
 
 links_short : (test : Export → Bool) (es : List Export) → LinksShort es → LinksShort (filter test es)
@@ -140,11 +139,11 @@ module _ (p : Program) (es : List Export) (links : LinksShort es) where
 
   label_there : (i : Ident) (s : Standing) → is_name i.name ≡ true → stands_within limit s ≡ true → is_label p (label_at es i s) ≡ true
   label_there i s short within =
-      both_true _ _ (both_true (is_name i.name) (list_all is_name (links_of es i.name)) short (links_short (λ e. bytes_eq e.name.name i.name) es links)) within
+      and_from _ _ (and_from (is_name i.name) (list_all is_name (links_of es i.name)) short (links_short (λ e. bytes_eq e.name.name i.name) es links)) within
 
   datum_labelled : (number : ℕ) (form : DatumForm) (token : ℕ) (rest : List (Within Item)) → number + datums_among rest ≤ limit →
       Short (of_item (items.Datum record { token = token; form = form })) → list_all (is_label p) (item_labels es number (items.Datum record { token = token; form = form }) rest) ≡ true
-  datum_labelled number (data_forms.Label name) token rest few h = both_true _ true (label_there name (standing number rest) (short_first name [] h) (stands limit number rest few)) refl
+  datum_labelled number (data_forms.Label name) token rest few h = and_from _ true (label_there name (standing number rest) (short_first name [] h) (stands limit number rest few)) refl
   datum_labelled number (data_forms.Align k) token rest few h = refl
   datum_labelled number (data_forms.Data t count initial) token rest few h = refl
 
@@ -159,7 +158,7 @@ module _ (p : Program) (es : List Export) (links : LinksShort es) where
   section_labelled number [] few h = refl
   section_labelled number (i ∷ is) few h =
       list_all-append (is_label p) (item_labels es number i.what is) (section_labels es (number + datums_in i.what) is)
-      ∙ both_true (list_all (is_label p) (item_labels es number i.what is)) _ (item_labelled number i.what is few (short_left (of_item i.what) (names_in is) h))
+      ∙ and_from (list_all (is_label p) (item_labels es number i.what is)) _ (item_labelled number i.what is few (short_left (of_item i.what) (names_in is) h))
       (section_labelled (number + datums_in i.what) is (omega arith) (short_right (of_item i.what) (names_in is) h))
 
   unit_labelled : (number : ℕ) (ts : List TopLevel) → number + datums_among (flat_map top_items ts) ≤ limit → Short (names_in (flat_map top_items ts)) →
@@ -169,7 +168,7 @@ module _ (p : Program) (es : List Export) (links : LinksShort es) where
       let split : Short (names_in here ++ names_in rest) = subst Short (flat_map-append (λ i. of_item i.what) here rest) h in
       let many : datums_among (here ++ rest) ≡ datums_among here + datums_among rest = among_append here rest in
       list_all-append (is_label p) (section_labels es number here) (unit_labels es (number + datums_among here) ts)
-      ∙ both_true (list_all (is_label p) (section_labels es number here)) _ (section_labelled number here (omega arith) (short_left (names_in here) (names_in rest) split))
+      ∙ and_from (list_all (is_label p) (section_labels es number here)) _ (section_labelled number here (omega arith) (short_left (names_in here) (names_in rest) split))
       (unit_labelled (number + datums_among here) ts (omega arith) (short_right (names_in here) (names_in rest) split))
 
 units_labelled : (p : Program) (number procs labels : ℕ) (us : List UnitTree) → number + all_datums (units_from procs labels us) ≤ length p.datums →
@@ -179,7 +178,7 @@ units_labelled p number procs labels (u ∷ us) few each =
     let is = items_of u in let named : NamedUnit = record { tree = u; items = is; entries = entries_from procs labels is } in
     let rest = units_from (procs + sum_of procs_in is) (labels + sum_of labels_in is) us in
     list_all-append (is_label p) (unit_labels (exports_of named) number u.parts) (labels_from (number + datums_among is) rest)
-    ∙ both_true (list_all (is_label p) (unit_labels (exports_of named) number u.parts)) _
+    ∙ and_from (list_all (is_label p) (unit_labels (exports_of named) number u.parts)) _
     (unit_labelled p (exports_of named) (all_links is each.0) number u.parts (omega arith) each.0)
     (units_labelled p (number + datums_among is) (procs + sum_of procs_in is) (labels + sum_of labels_in is) us (omega arith) each.1)
 

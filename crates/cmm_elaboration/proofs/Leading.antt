@@ -3,8 +3,8 @@ use Rattle.std.proofs.Common.{◌≡◌, ℕ, zero, suc, ◌+◌, ◌<◌, ◌�
 use Rattle.std.specs.Prelude.{map, flat_map, ◌||◌, ◌==◌}
 use Rattle.std.specs.List.{list_all, list_any, range_with_len}
 use Rattle.std.specs.Option.{is_some}
-use Rattle.std.proofs.lemmas.Bool.{cases_eq, or_cases, or_left, or_right, eq-eqb}
-use Rattle.std.proofs.lemmas.List.Folds.{list_all-append}
+use Rattle.std.proofs.lemmas.Bool.{cases_eq, or_cases, or_left, or_right, eq-eqb, and_from}
+use Rattle.std.proofs.lemmas.List.Folds.{list_all-append, list_any-append}
 use Rattle.cmm_ast.specs.declared.token.Ident.{Ident}
 use Rattle.cmm_ast.specs.declared.procedure.Proc.{Proc as ProcTree}
 use Rattle.cmm_ast.specs.declared.statement.Callee.{Callee}
@@ -43,7 +43,6 @@ use Rattle.cmm_elaboration.specs.Laws.{leads, WaysAreThere}
 use Rattle.cmm_elaboration.proofs.Nothing.{no_left, no_right, no_unless}
 use Rattle.cmm_elaboration.proofs.Everywhere.{all_accepted}
 use Rattle.cmm_elaboration.proofs.Flat.{flat_from, procedure_is}
-use Rattle.cmm_elaboration.proofs.Keeping.{both_true}
 use Rattle.cmm_elaboration.proofs.Naming.{how_many, how_many_append}
 use Rattle.cmm_elaboration.proofs.MarkNumbers.{formals_none, labels_alone, label_part, marks_ascend, declared_once}
 use Rattle.cmm_elaboration.proofs.Scoping.{number_below}
@@ -51,16 +50,8 @@ use Rattle.cmm_elaboration.proofs.SiteParts.{exits_below, flows_below, by_cuts}
 
 -- ---- a mark that stands among the statements is found
 
-or_assoc : (a b c : Bool) → (a || (b || c)) ≡ ((a || b) || c)
-or_assoc true b c = refl
-or_assoc false b c = refl
-
-any_append : {A : Type 0} (test : A → Bool) (xs ys : List A) → list_any test (xs ++ ys) ≡ (list_any test xs || list_any test ys)
-any_append test [] ys = refl
-any_append test (x ∷ xs) ys = ap (λ b. test x || b) (any_append test xs ys) ∙ or_assoc (test x) (list_any test xs) (list_any test ys)
-
 any_two : {A : Type 0} (test : A → Bool) (xs ys : List A) → list_any test (xs ++ ys) ≡ true → (list_any test xs ≡ true) ⊎ (list_any test ys ≡ true)
-any_two test xs ys e = or_cases (list_any test xs) (list_any test ys) (sym (any_append test xs ys) ∙ e)
+any_two test xs ys e = or_cases (list_any test xs) (list_any test ys) (sym (list_any-append test xs ys) ∙ e)
 
 first_some : {A : Type 0} (a b : Option A) → (is_some a ≡ true) ⊎ (is_some b ≡ true) → is_some (first_of_two a b) ≡ true
 first_some (Some x) b h = refl
@@ -92,7 +83,7 @@ mutual
   row_marked m end_of-Statement e = let bad : false ≡ true = e in cc
   row_marked m (more_of-Statement tokens form rest) e =
       row_by (is_mark m form) (after_inside m form) (after_in m rest) (statements rest) (marked m (within form)) (marked m (within_block rest))
-      (ap (λ b. is_mark m form || b) (sym (any_append (λ st. is_mark m st.form) (within form) (within_block rest))) ∙ e) (form_marked m form) (row_marked m rest)
+      (ap (λ b. is_mark m form || b) (sym (list_any-append (λ st. is_mark m st.form) (within form) (within_block rest))) ∙ e) (form_marked m form) (row_marked m rest)
 
   arms_marked : {n : _} (m : Mark) (row : Row_of-Arm n) → marked m (within_arms row) ≡ true → is_some (after_in_arms m row) ≡ true
   arms_marked m end_of-Arm e = let bad : false ≡ true = e in cc
@@ -171,14 +162,14 @@ module _ (outer : Senses) (unit : ℕ) (around : List SpanTree) (tree : ProcTree
 
   part_leads : (n : ℕ) (p : Part) → part_spots s p ≡ [] → list_all (λ st. leads q st.form) (part_of s n p) ≡ true
   part_leads n (parts.Local l) free = refl
-  part_leads n (parts.Stmt' first past (stmts.Goto i)) free = both_true _ true (goto_there i free) refl
+  part_leads n (parts.Stmt' first past (stmts.Goto i)) free = and_from _ true (goto_there i free) refl
   part_leads n (parts.Stmt' first past (stmts.Cut callee actuals flows)) free =
-      both_true _ true (exits_below outer tree (flat_map cut_names flows) (flows_below outer tree cut_names (by_cuts outer tree) flows (no_right _ (flows_spots s flows) free))) refl
-  part_leads n (parts.Stmt' first past (stmts.Call results None callee actuals flows)) free = both_true _ true (call_leads n callee (values_of (senses s) actuals) (is_yield s callee)) refl
+      and_from _ true (exits_below outer tree (flat_map cut_names flows) (flows_below outer tree cut_names (by_cuts outer tree) flows (no_right _ (flows_spots s flows) free))) refl
+  part_leads n (parts.Stmt' first past (stmts.Call results None callee actuals flows)) free = and_from _ true (call_leads n callee (values_of (senses s) actuals) (is_yield s callee)) refl
   part_leads n (parts.Stmt' first past (stmts.Call results (Some convention) callee actuals flows)) free =
-      both_true _ true (host_leads (foreign_callee s callee) results (values_of (senses s) actuals)) refl
-  part_leads n (parts.Stmt' first past (stmts.Return exit None)) free = both_true _ true (return_leads exit []) refl
-  part_leads n (parts.Stmt' first past (stmts.Return exit (Some values))) free = both_true _ true (return_leads exit (values_of (senses s) values)) refl
+      and_from _ true (host_leads (foreign_callee s callee) results (values_of (senses s) actuals)) refl
+  part_leads n (parts.Stmt' first past (stmts.Return exit None)) free = and_from _ true (return_leads exit []) refl
+  part_leads n (parts.Stmt' first past (stmts.Return exit (Some values))) free = and_from _ true (return_leads exit (values_of (senses s) values)) refl
   part_leads n (parts.Stmt' first past (stmts.If' c _ body otherwise)) free = refl
   part_leads n (parts.Stmt' first past (stmts.Switch' range value _ arms)) free = refl
   part_leads n (parts.Stmt' first past (stmts.Span' key value _ body)) free = refl
@@ -193,7 +184,7 @@ module _ (outer : Senses) (unit : ℕ) (around : List SpanTree) (tree : ProcTree
   flat_leads n [] free = refl
   flat_leads n (p ∷ ps) free =
       list_all-append (λ st. leads q st.form) (part_of s n p) (flat_from s (n + sites_of p) ps)
-      ∙ both_true (list_all (λ st. leads q st.form) (part_of s n p)) _ (part_leads n p (no_left (part_spots s p) (flat_map (part_spots s) ps) free))
+      ∙ and_from (list_all (λ st. leads q st.form) (part_of s n p)) _ (part_leads n p (no_left (part_spots s p) (flat_map (part_spots s) ps) free))
       (flat_leads (n + sites_of p) ps (no_right (part_spots s p) (flat_map (part_spots s) ps) free))
 
   pub all_lead : list_all (λ st. leads q st.form) (body_statements q) ≡ true

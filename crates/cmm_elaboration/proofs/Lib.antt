@@ -2,7 +2,6 @@ mod Texts
 mod StatementRows
 mod UnitRows
 pub mod Flat
-pub mod Inside
 pub mod Ranges
 pub mod Counting
 pub mod Everywhere

@@ -2,7 +2,7 @@
 use Rattle.std.proofs.Common.{◌≡◌, ℕ, suc, ◌+◌, ◌<◌, refl, sym, ap, ◌∙◌, Bool, true, false, List, [], ◌∷◌, ◌++◌, Option, Some, None, length, drop, All}
 use Rattle.std.specs.Prelude.{map, flat_map}
 use Rattle.std.specs.List.{list_all}
-use Rattle.std.proofs.lemmas.Bool.{lt-ltb}
+use Rattle.std.proofs.lemmas.Bool.{lt-ltb, and_from}
 use Rattle.std.proofs.lemmas.List.{drop_at, length-map}
 use Rattle.std.proofs.lemmas.List.Elements.{All-head, All-tail, All-same, All-drop, All-map, All-weaker}
 use Rattle.std.proofs.lemmas.List.Folds.{list_all-append}
@@ -34,7 +34,6 @@ use Rattle.cmm_static_semantics.specs.Items.{SpanTree, Within, item_within, item
 use Rattle.cmm_static_semantics.specs.Declarations.{units_from, procs_in, labels_in, sum_of}
 use Rattle.cmm_elaboration.specs.Laws.{has_bytes, of_bytes, AreOfBytes, AreRead, IsReadFromBytes, ReadProgramsAreInRange, TextsAreBytes, TextsComeFromTokens}
 use Rattle.cmm_elaboration.proofs.Derived.{middle}
-use Rattle.cmm_elaboration.proofs.Keeping.{both_true}
 use Rattle.cmm_elaboration.proofs.Steady.{Moves, IsSteady, steady_here, steady_keyword, steady_opening, steady_primary, steady_symbol, steady_text, steady_type, steady_whole}
 use Rattle.cmm_elaboration.proofs.SteadyUnits.{steady_count, steady_item, steady_top}
 use Rattle.cmm_elaboration.proofs.Together.{programs_are_in_range}
@@ -120,13 +119,13 @@ abbrev HaveBytes : List (Within Item) → Type 0
 HaveBytes is = list_all (λ i. of_bytes i.what) is ≡ true
 
 both_have : (xs ys : List (Within Item)) → HaveBytes xs → HaveBytes ys → HaveBytes (xs ++ ys)
-both_have xs ys h k = list_all-append (λ i. of_bytes i.what) xs ys ∙ both_true (list_all (λ i. of_bytes i.what) xs) (list_all (λ i. of_bytes i.what) ys) h k
+both_have xs ys h k = list_all-append (λ i. of_bytes i.what) xs ys ∙ and_from (list_all (λ i. of_bytes i.what) xs) (list_all (λ i. of_bytes i.what) ys) h k
 
 mutual
   item_bytes : (spans : List SpanTree) (i : Item) → TakenBytes (item i) → HaveBytes (item_within spans i)
   item_bytes spans (items.Decl d) t = refl
   item_bytes spans (items.Proc p) t = refl
-  item_bytes spans (items.Datum d) t = both_true (of_bytes (items.Datum d)) true (datum_bytes d.form d.token (back (here d.token) (datum_form d.form) (steady_here d.token) t)) refl
+  item_bytes spans (items.Datum d) t = and_from (of_bytes (items.Datum d)) true (datum_bytes d.form d.token (back (here d.token) (datum_form d.form) (steady_here d.token) t)) refl
   item_bytes spans (items.Span' first key value size inside) t =
       items_bytes (record { key = key; value = value } ∷ spans) _ inside (inside_braces (item_row inside) (back (whole value) (braces (item_row inside)) (steady_whole value)
       (back (whole_prim key) (whole value ⨾ braces (item_row inside)) (steady_primary key)
@@ -166,7 +165,7 @@ units_bytes : (procs labels : ℕ) (us : List UnitTree) → AreOfBytes us → li
 units_bytes procs labels [] read = refl
 units_bytes procs labels (u ∷ us) read =
     let d : FromTokens u = All-head FromTokens u us read in
-    both_true (list_all (λ i. of_bytes i.what) (items_of u)) _ (unit_bytes u d.0 d.1.0 d.1.1)
+    and_from (list_all (λ i. of_bytes i.what) (items_of u)) _ (unit_bytes u d.0 d.1.0 d.1.1)
     (units_bytes (procs + sum_of procs_in (items_of u)) (labels + sum_of labels_in (items_of u)) us (All-tail FromTokens u us read))
 
 pub texts_are_bytes : TextsComeFromTokens

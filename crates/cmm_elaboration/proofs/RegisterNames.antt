@@ -5,7 +5,7 @@ use Rattle.std.specs.List.{AllByRecursion, list_all}
 use Rattle.std.specs.List.Sorted.{IsStrictlySortedBy}
 use Rattle.std.specs.Cmp.Lexicographic.{slice_cmp}
 use Rattle.std.specs.Ordering.{nat_cmp}
-use Rattle.std.proofs.lemmas.Bool.{and_parts}
+use Rattle.std.proofs.lemmas.Bool.{and_parts, and_from}
 use Rattle.std.proofs.lemmas.List.{map-append}
 use Rattle.std.proofs.lemmas.List.Folds.{list_all-append}
 use Rattle.cmm_ast.specs.declared.token.Ident.{Ident}
@@ -28,7 +28,6 @@ use Rattle.cmm_static_semantics.proofs.Shared.{all_in_order, in_order_ascends}
 use Rattle.cmm_elaboration.specs.Meaning.{global_of}
 use Rattle.cmm_elaboration.specs.Laws.{RegisterNamesAreShort, RegistersAscend}
 use Rattle.cmm_elaboration.proofs.Nothing.{unbroken, names_kept}
-use Rattle.cmm_elaboration.proofs.Keeping.{both_true}
 use Rattle.cmm_elaboration.proofs.Entries.{EachUnit}
 use Rattle.cmm_elaboration.proofs.Short.{Short, short_left, short_right, short_first, short_rest, each_short}
 
@@ -39,32 +38,32 @@ NamedShort ds = list_all (λ d. is_name d.name.name) ds ≡ true
 
 all_named : (e : Entry) (is : List Ident) → Short is → NamedShort (each_as e is)
 all_named e [] h = refl
-all_named e (i ∷ is) h = both_true (is_name i.name) _ (short_first i is h) (all_named e is (short_rest i is h))
+all_named e (i ∷ is) h = and_from (is_name i.name) _ (short_first i is h) (all_named e is (short_rest i is h))
 
 imports_named : (is : List ImportTree) → Short (map (λ i. i.name) is) → NamedShort (map import_entry is)
 imports_named [] h = refl
 imports_named (i ∷ is) h =
-    both_true (is_name i.name.name) _ (short_first i.name (map (λ j. j.name) is) h) (imports_named is (short_rest i.name (map (λ j. j.name) is) h))
+    and_from (is_name i.name.name) _ (short_first i.name (map (λ j. j.name) is) h) (imports_named is (short_rest i.name (map (λ j. j.name) is) h))
 
 decl_named : (form : DeclForm) (token : ℕ) → Short (of_item (items.Decl record { token = token; form = form })) → NamedShort (decl_entries form)
 decl_named (decls.Import width imports) token h = imports_named imports (short_right (flat_map type_names (listed width)) (map (λ i. i.name) imports) h)
 decl_named (decls.Export width exports) token h = refl
 decl_named (decls.Const width name value) token h =
-    both_true (is_name name.name) true (short_first name (of_expr value) (short_right (flat_map type_names (listed width)) (name ∷ of_expr value) h)) refl
+    and_from (is_name name.name) true (short_first name (of_expr value) (short_right (flat_map type_names (listed width)) (name ∷ of_expr value) h)) refl
 decl_named (decls.Typedef width names) token h = all_named (Typedef width) names (short_right (type_names width) names h)
 decl_named (decls.Register invariant kind width names) token h =
     all_named (Register width) names (short_right (map of_text (listed kind) ++ type_names width) names h)
 decl_named (decls.Target properties) token h = refl
 
 datum_named : (labels : ℕ) (form : DatumForm) (token : ℕ) → Short (of_item (items.Datum record { token = token; form = form })) → NamedShort (datum_entries labels form)
-datum_named labels (data_forms.Label name) token h = both_true (is_name name.name) true (short_first name [] h) refl
+datum_named labels (data_forms.Label name) token h = and_from (is_name name.name) true (short_first name [] h) refl
 datum_named labels (data_forms.Align k) token h = refl
 datum_named labels (data_forms.Data width count initial) token h = refl
 
 item_named : (procs labels : ℕ) (i : Item) → Short (of_item i) → NamedShort (item_entries procs labels i)
 item_named procs labels (items.Decl d) h = decl_named d.form d.token h
 item_named procs labels (items.Proc p) h =
-    both_true (is_name p.name.name) true (short_first p.name (flat_map of_formal p.formals ++ flat_map of_part (parts_of p.body)) h) refl
+    and_from (is_name p.name.name) true (short_first p.name (flat_map of_formal p.formals ++ flat_map of_part (parts_of p.body)) h) refl
 item_named procs labels (items.Datum d) h = datum_named labels d.form d.token h
 item_named procs labels (items.Span' first key value size inside) h = refl
 
@@ -72,7 +71,7 @@ entries_named : (procs labels : ℕ) (is : List (Within Item)) → Short (names_
 entries_named procs labels [] h = refl
 entries_named procs labels (i ∷ is) h =
     list_all-append (λ d. is_name d.name.name) (item_entries procs labels i.what) (entries_from (procs + procs_in i.what) (labels + labels_in i.what) is)
-    ∙ both_true (list_all (λ d. is_name d.name.name) (item_entries procs labels i.what)) _ (item_named procs labels i.what (short_left (of_item i.what) (names_in is) h))
+    ∙ and_from (list_all (λ d. is_name d.name.name) (item_entries procs labels i.what)) _ (item_named procs labels i.what (short_left (of_item i.what) (names_in is) h))
     (entries_named (procs + procs_in i.what) (labels + labels_in i.what) is (short_right (of_item i.what) (names_in is) h))
 
 -- ---- its registers
@@ -80,7 +79,7 @@ entries_named procs labels (i ∷ is) h =
 kept_named : (known : Bool) (d : Declared Entry) (skip next : List (Declared Entry)) → is_name d.name.name ≡ true → NamedShort skip → NamedShort next →
     NamedShort (elim known as (λ b. List (Declared Entry)) [ true ↦ skip | false ↦ d ∷ next ])
 kept_named true d skip next h a b = a
-kept_named false d skip next h a b = both_true (is_name d.name.name) _ h b
+kept_named false d skip next h a b = and_from (is_name d.name.name) _ h b
 
 firsts_named : (earlier ds : List (Declared Entry)) → NamedShort ds → NamedShort (firsts earlier ds)
 firsts_named earlier [] h = refl
@@ -119,7 +118,7 @@ units_short procs labels (u ∷ us) each =
 
 globals_short : (us : List NamedUnit) (ns : List (List ℕ)) → AllShort ns → list_all (λ g. is_name g.name) (map (global_of us) ns) ≡ true
 globals_short us [] h = refl
-globals_short us (n ∷ ns) h = both_true (is_name n) _ h.0 (globals_short us ns h.1)
+globals_short us (n ∷ ns) h = and_from (is_name n) _ h.0 (globals_short us ns h.1)
 
 pub register_names_are_short : RegisterNamesAreShort
 register_names_are_short us accepted = let ns = named_units us in

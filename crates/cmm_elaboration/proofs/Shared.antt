@@ -4,7 +4,7 @@
 pub use Rattle.cmm_elaboration.proofs.Judged.{Holds, holds_with, holds_both, SenseFits}
 pub use Rattle.cmm_elaboration.proofs.Mentioned.{EachName, judged_same}
 pub use Rattle.cmm_elaboration.proofs.Knowing.{IsKnownBy, untyped_is_word, typed_is_word}
-pub use Rattle.cmm_elaboration.proofs.Inside.{hidden_parts, shown_parts, if_inside, span_inside, switch_inside, in_arms, else_inside, else_if_inside}
+pub use Rattle.cmm_static_semantics.proofs.Shared.{hidden_parts, shown_parts, if_inside, span_inside, switch_inside, else_inside, else_if_inside}
 pub use Rattle.cmm_elaboration.proofs.Flat.{whats_append, alike_part, whats_alike, count_append, flat_from, procedure_is}
 pub use Rattle.cmm_elaboration.proofs.SiteNumbers.{length_is, site_here}
 pub use Rattle.cmm_elaboration.proofs.Nothing.{no_left, no_right, no_unless, unbroken, procedures_kept, first_unit, other_units}

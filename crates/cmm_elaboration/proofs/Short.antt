@@ -1,5 +1,6 @@
 -- The names and kinds of accepted units have at most 255 bytes, so those of their procedures have.
 use Rattle.std.proofs.Common.{◌≡◌, ℕ, suc, refl, sym, ◌∙◌, true, All, List, [], ◌∷◌, ◌++◌, length}
+use Rattle.std.proofs.lemmas.Bool.{and_from}
 use Rattle.std.specs.Prelude.{map, flat_map, nat_le}
 use Rattle.std.specs.List.{list_all}
 use Rattle.std.proofs.lemmas.Grind.{flat_map-append}
@@ -32,7 +33,6 @@ use Rattle.cmm_elaboration.specs.Procedures.{kind_in, variable_info, formal_info
 use Rattle.cmm_elaboration.specs.Meaning.{item_procedures, unit_procedures, procedures_from}
 use Rattle.cmm_elaboration.specs.Laws.{NamesShort, NamesAreShort}
 use Rattle.cmm_elaboration.proofs.Nothing.{no_left, no_right, no_unless, first_unit, other_units, unbroken, names_kept}
-use Rattle.cmm_elaboration.proofs.Keeping.{both_true}
 use Rattle.cmm_elaboration.proofs.Entries.{EachUnit}
 
 -- none of some names is too long
@@ -65,14 +65,14 @@ module _ (s : Scope) where
   formals_short [] h = refl
   formals_short (f ∷ fs) h =
       let here : Short (of_formal f) = short_left (of_formal f) (flat_map of_formal fs) h in
-      both_true (is_name (kind_in f.modifiers)) _
+      and_from (is_name (kind_in f.modifiers)) _
       (kind_short f.modifiers (short_left (of_modifiers f.modifiers) (type_names f.width) (short_left (of_modifiers f.modifiers ++ type_names f.width) (f.name ∷ []) here)))
       (formals_short fs (short_right (of_formal f) (flat_map of_formal fs) h))
 
   one_kind : (before : Modifiers) (width : TypeName) (names : List Ident) → is_name (kind_in before) ≡ true →
       list_all (λ v. is_name v.kind) (map (λ i. variable_info s before width) names) ≡ true
   one_kind before width [] h = refl
-  one_kind before width (i ∷ is) h = both_true (is_name (kind_in before)) _ h (one_kind before width is h)
+  one_kind before width (i ∷ is) h = and_from (is_name (kind_in before)) _ h (one_kind before width is h)
 
   local_short : (form : LocalForm) → Short (of_local form) → list_all (λ v. is_name v.kind) (local_infos s form) ≡ true
   local_short (locals.Variables before width names) h =
@@ -87,7 +87,7 @@ module _ (s : Scope) where
   parts_short [] h = refl
   parts_short (p ∷ ps) h =
       list_all-append (λ v. is_name v.kind) (part_infos s p) (flat_map (part_infos s) ps)
-      ∙ both_true (list_all (λ v. is_name v.kind) (part_infos s p)) _ (part_short p (short_left (of_part p) (flat_map of_part ps) h))
+      ∙ and_from (list_all (λ v. is_name v.kind) (part_infos s p)) _ (part_short p (short_left (of_part p) (flat_map of_part ps) h))
       (parts_short ps (short_right (of_part p) (flat_map of_part ps) h))
 
 -- ---- procedures
@@ -99,7 +99,7 @@ proc_short names unit around p h =
     record {
       name = short_first p.name (flat_map of_formal p.formals ++ flat_map of_part (parts_of p.body)) h;
       kinds = list_all-append (λ v. is_name v.kind) (map (formal_info s) p.formals) (flat_map (part_infos s) (parts_of p.body))
-          ∙ both_true (list_all (λ v. is_name v.kind) (map (formal_info s) p.formals)) _
+          ∙ and_from (list_all (λ v. is_name v.kind) (map (formal_info s) p.formals)) _
           (formals_short s p.formals (short_left (flat_map of_formal p.formals) (flat_map of_part (parts_of p.body)) rest))
           (parts_short s (parts_of p.body) (short_right (flat_map of_formal p.formals) (flat_map of_part (parts_of p.body)) rest));
     }

@@ -5,7 +5,7 @@ use Rattle.std.specs.Prelude.{map, flat_map, nat_lt, ◌==◌}
 use Rattle.std.specs.List.{list_all}
 use Rattle.std.specs.Option.{is_some}
 use Rattle.std.proofs.lemmas.List.{length-map}
-use Rattle.std.proofs.lemmas.Bool.{le-leb, lt-ltb, ltb-false, eqb-true, eqb-false, and_parts}
+use Rattle.std.proofs.lemmas.Bool.{le-leb, lt-ltb, ltb-false, eqb-true, eqb-false, and_parts, and_from}
 use Rattle.std.proofs.lemmas.List.Folds.{list_all-append}
 use Rattle.std.proofs.lemmas.Grind.{flat_map-append}
 use Rattle.cmm_ast.specs.declared.token.Ident.{Ident}
@@ -45,7 +45,7 @@ use Rattle.cmm_elaboration.proofs.Nothing.{no_left, no_right, no_unless}
 use Rattle.cmm_elaboration.proofs.Everywhere.{all_accepted}
 use Rattle.cmm_elaboration.proofs.Flat.{whats}
 use Rattle.cmm_elaboration.proofs.Knowing.{constant_there}
-use Rattle.cmm_elaboration.proofs.Keeping.{within, both_true}
+use Rattle.cmm_elaboration.proofs.Keeping.{within}
 use Rattle.cmm_elaboration.proofs.Naming.{how_many}
 use Rattle.cmm_elaboration.proofs.Scoping.{number_below, continuations_are, scopes_fit}
 use Rattle.cmm_elaboration.proofs.UnitNames.{names_of, declared_there}
@@ -61,7 +61,7 @@ module _ (p : Program) (q : Proc) where
 
   spans_cons : (x : SpanValue) (ys : List SpanValue) → is_some (constant_width p x.1) ≡ true → Above x.0 ys ≡ true → are_spans p q ys ≡ true → are_spans p q (x ∷ ys) ≡ true
   spans_cons x [] there above are = there
-  spans_cons x (y ∷ ys) there above are = both_true _ (are_spans p q (y ∷ ys)) (both_true (is_some (constant_width p x.1)) (nat_lt x.0 y.0) there above) are
+  spans_cons x (y ∷ ys) there above are = and_from _ (are_spans p q (y ∷ ys)) (and_from (is_some (constant_width p x.1)) (nat_lt x.0 y.0) there above) are
 
   spans_head : (x : SpanValue) (ys : List SpanValue) → are_spans p q (x ∷ ys) ≡ true → is_some (constant_width p x.1) ≡ true
   spans_head x [] are = are
@@ -152,7 +152,7 @@ module _ (outer : Senses) (tree : ProcTree) where
 
   pub exits_below : (is : List Ident) → flat_map (exit_spots s) is ≡ [] → list_all (below count) (map (continuation_of s) is) ≡ true
   exits_below [] none = refl
-  exits_below (i ∷ is) none = both_true (below count (continuation_of s i)) _ (exit_below i (no_left (exit_spots s i) (flat_map (exit_spots s) is) none))
+  exits_below (i ∷ is) none = and_from (below count (continuation_of s i)) _ (exit_below i (no_left (exit_spots s i) (flat_map (exit_spots s) is) none))
       (exits_below is (no_right (exit_spots s i) (flat_map (exit_spots s) is) none))
 
   -- an annotation names some of its names, as one kind
@@ -199,7 +199,7 @@ module _ (outer : Senses) (tree : ProcTree) where
 
     results_there : (ks : List Kinded) → flat_map (λ k. ident_spots s k.name) ks ≡ [] → list_all (is_target p q) (map (λ k. target_of (senses s) k.name) ks) ≡ true
     results_there [] none = refl
-    results_there (k ∷ ks) none = both_true (is_target p q (target_of (senses s) k.name)) _ (ident_there k.name (no_left (ident_spots s k.name) (flat_map (λ j. ident_spots s j.name) ks) none))
+    results_there (k ∷ ks) none = and_from (is_target p q (target_of (senses s) k.name)) _ (ident_there k.name (no_left (ident_spots s k.name) (flat_map (λ j. ident_spots s j.name) ks) none))
         (results_there ks (no_right (ident_spots s k.name) (flat_map (λ j. ident_spots s j.name) ks) none))
 
     site_there : (results : List Target) (yielded : Option ℕ) (fs : List Flow) (spans : List SpanValue) → at_most_64 results ≡ true → list_all (is_target p q) results ≡ true →
@@ -210,7 +210,7 @@ module _ (outer : Senses) (tree : ProcTree) where
         within Limit 64 (λ i. i.token) (flat_map return_names fs) (no_right (flows_spots s fs) (past_limit Limit 64 (λ i. i.token) (flat_map return_names fs)) none) in
         let returns : at_most_64 (continuations_by s return_names fs) ≡ true =
         le-leb (length (continuations_by s return_names fs)) 64 (subst (λ n. n ≤ 64) (sym (length-map (flat_map return_names fs) (continuation_of s))) alternates) in
-        both_true _ _ (both_true _ _ (both_true _ _ (both_true _ _ (both_true _ _ (both_true _ _ few there) returns)
+        and_from _ _ (and_from _ _ (and_from _ _ (and_from _ _ (and_from _ _ (and_from _ _ few there) returns)
         (continuations_below return_names by_returns fs exits)) (continuations_below unwind_names by_unwinds fs exits)) (continuations_below cut_names by_cuts fs exits)) are
 
     form_there : (first : ℕ) (form : StmtForm) (spans : List SpanValue) → stmt_spots s first form ≡ [] → are_spans p q spans ≡ true → list_all (is_site p q) (form_sites s spans form) ≡ true
@@ -220,14 +220,14 @@ module _ (outer : Senses) (tree : ProcTree) where
         let few : length (map (λ k. target_of (senses s) k.name) results) ≤ 64 =
         subst (λ n. n ≤ 64) (sym (length-map results (λ k. target_of (senses s) k.name)))
         (within TooManyValues 64 (λ k. first_token k.kind k.name.token) results (no_left (too_many_names results) (flat_map (λ k. ident_spots s k.name) results) names)) in
-        both_true _ true (site_there (map (λ k. target_of (senses s) k.name) results) (yielded_by s callee actuals) fs spans
+        and_from _ true (site_there (map (λ k. target_of (senses s) k.name) results) (yielded_by s callee actuals) fs spans
         (le-leb (length (map (λ k. target_of (senses s) k.name) results)) 64 few)
         (results_there results (no_right (too_many_names results) (flat_map (λ k. ident_spots s k.name) results) names))
         (no_right _ (site_flows_spots s fs) none) are) refl
     form_there first (stmts.Checked result operator left right fs) spans none are =
         let checked = no_left (checked_spots s result operator left right) (site_flows_spots s fs) none in
-        both_true _ true (site_there (target_of (senses s) result ∷ []) (Some 1) fs spans refl
-        (both_true _ true (ident_there result (no_left (ident_spots s result) _ (no_left _ _ (no_left _ _ (no_left _ _ (no_left _ _ checked)))))) refl)
+        and_from _ true (site_there (target_of (senses s) result ∷ []) (Some 1) fs spans refl
+        (and_from _ true (ident_there result (no_left (ident_spots s result) _ (no_left _ _ (no_left _ _ (no_left _ _ (no_left _ _ checked)))))) refl)
         (no_right (checked_spots s result operator left right) (site_flows_spots s fs) none) are) refl
     form_there first (stmts.Call results (Some convention) callee actuals fs) spans none are = refl
     form_there first (stmts.If' c _ body otherwise) spans none are = refl
@@ -251,7 +251,7 @@ module _ (outer : Senses) (tree : ProcTree) where
     all_there around there (x ∷ ps) none =
         let spans = innermost (map (span_value (senses s)) x.spans ++ around) in
         list_all-append (is_site p q) (part_sites s spans x.what) (sites_among s around ps)
-        ∙ both_true (list_all (is_site p q) (part_sites s spans x.what)) _
+        ∙ and_from (list_all (is_site p q) (part_sites s spans x.what)) _
         (part_there x.what spans (no_left (part_spots s x.what) (flat_map (part_spots s) (whats ps)) none)
         (innermost_are p q (map (span_value (senses s)) x.spans ++ around) (there_append p q (map (span_value (senses s)) x.spans) around (values_there p q (senses s) fit x.spans) there)))
         (all_there around there ps (no_right (part_spots s x.what) (flat_map (part_spots s) (whats ps)) none))

@@ -2,7 +2,7 @@
 use Rattle.std.proofs.Common.{◌≡◌, ℕ, suc, ◌+◌, ◌-◌, ◌≤◌, refl, sym, ap, ◌∙◌, true, List, [], ◌∷◌, ◌++◌, append_assoc, Some, None, arith, length, length-append, IsTrue, ◌⊎◌, inl, inr}
 use Rattle.std.specs.Prelude.{map, flat_map, nat_le, slice_get, All}
 use Rattle.std.specs.List.{list_all}
-use Rattle.std.proofs.lemmas.Bool.{and_parts, le-leb}
+use Rattle.std.proofs.lemmas.Bool.{and_parts, le-leb, and_from}
 use Rattle.std.proofs.lemmas.List.Folds.{list_all-append}
 use Rattle.std.proofs.lemmas.List.Elements.{All-nil, All-cons, All-append, All-head, All-tail}
 use Rattle.cmm_ast.specs.declared.procedure.Proc.{Proc as ProcTree}
@@ -42,7 +42,6 @@ use Rattle.cmm_elaboration.proofs.Naming.{how_many, how_many_append, number_here
 use Rattle.cmm_elaboration.proofs.MarkNumbers.{formals_none, continuations_alone, part_conts_are, declared_once}
 use Rattle.cmm_elaboration.proofs.Everywhere.{Place}
 use Rattle.cmm_elaboration.proofs.Flat.{whats, flat_from, procedure_is}
-use Rattle.cmm_elaboration.proofs.Keeping.{both_true}
 use Rattle.cmm_elaboration.proofs.Scoping.{scopes_fit}
 use Rattle.cmm_elaboration.proofs.Starting.{behind}
 use Rattle.cmm_elaboration.proofs.UnitNames.{names_of, declared_there}
@@ -145,7 +144,7 @@ module _ (p : Program) (q : Proc) (s : Scope) (fit : NamesFit p q (senses s)) (w
   part_shortest n spans (parts.Stmt' first past form) free sites cont taken =
       let a : first ≡ taken.from.taken = taken.first_is in let b : past ≡ taken.to.taken = taken.past_is in
       let h : taken.from.taken + own_tokens q (form_of s n form) + blocks_length form ≤ taken.to.taken = spent_by n spans form taken.from taken.to taken.is (form_needs n first past spans form free sites cont) in
-      both_true (nat_le (own_tokens q (form_of s n form)) (past - first - blocks_length form)) true (le-leb (own_tokens q (form_of s n form)) (past - first - blocks_length form) (omega arith)) refl
+      and_from (nat_le (own_tokens q (form_of s n form)) (past - first - blocks_length form)) true (le-leb (own_tokens q (form_of s n form)) (past - first - blocks_length form) (omega arith)) refl
 
   flat_shortest : (n : ℕ) (before : List Site) (conts : List Cont) (earlier : List (Declared Local)) (around : List SpanValue) (ps : List (Within Part)) →
       q.sites ≡ before ++ sites_among s around ps → n ≡ length before → q.conts ≡ conts ++ flat_map (part_conts s) (whats ps) → length conts ≡ how_many is_continuation earlier →
@@ -156,7 +155,7 @@ module _ (p : Program) (q : Proc) (s : Scope) (fit : NamesFit p q (senses s)) (w
       let spans = innermost (map (span_value (senses s)) x.spans ++ around) in let mine = part_sites s spans x.what in
       let more = flat_map (part_conts s) (whats ps) in let names = part_names x.what in let rest = flat_map part_names (whats ps) in
       list_all-append (λ st. nat_le (own_tokens q st.form) st.tokens) (part_of s n x.what) (flat_from s (n + sites_of x.what) (whats ps))
-      ∙ both_true (list_all (λ st. nat_le (own_tokens q st.form) st.tokens) (part_of s n x.what)) _
+      ∙ and_from (list_all (λ st. nat_le (own_tokens q st.form) st.tokens) (part_of s n x.what)) _
       (part_shortest n spans x.what (no_left (part_spots s x.what) (flat_map (part_spots s) (whats ps)) free) (own_sites p q s fit wide whole n before mine (sites_among s around ps) is counted)
       (cont_at x.what conts more earlier rest cs many own once) (All-head (λ y. PartTaken y.what) x ps taken))
       (flat_shortest (n + sites_of x.what) (before ++ mine) (conts ++ part_conts s x.what) (earlier ++ names) around ps (is ∙ sym (append_assoc before mine (sites_among s around ps)))

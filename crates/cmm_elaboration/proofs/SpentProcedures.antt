@@ -30,7 +30,7 @@ use Rattle.cmm_elaboration.specs.Bodies.{row_length}
 use Rattle.cmm_elaboration.specs.Procedures.{formal_info, part_infos, stack_items, procedure_of}
 use Rattle.cmm_elaboration.specs.Laws.{ProceduresHaveShortest}
 use Rattle.cmm_elaboration.proofs.Derived.{Taken, middle, block_is}
-use Rattle.cmm_elaboration.proofs.Inside.{hidden_parts}
+use Rattle.cmm_static_semantics.proofs.Shared.{hidden_parts}
 use Rattle.cmm_elaboration.proofs.Flat.{whats, flat_from, procedure_is}
 use Rattle.cmm_elaboration.proofs.Steady.{here_is}
 use Rattle.cmm_elaboration.proofs.BodyTokens.{owns, sum_owns, without_spans, all_declared, flat_counted, row_fits}

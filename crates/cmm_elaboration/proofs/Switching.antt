@@ -2,7 +2,7 @@
 use Rattle.std.proofs.Common.{◌≡◌, ℕ, ◌+◌, ◌^◌, ◌≤◌, refl, sym, ap, ◌∙◌, subst, Bool, true, false, cond, List, [], ◌∷◌, ◌++◌, Option, Some, None, Ok, Err, arith, IsTrue}
 use Rattle.std.specs.Prelude.{map, flat_map, option_map, not, nat_le, nat_lt, ◌&&◌, ◌||◌}
 use Rattle.std.specs.List.{list_all}
-use Rattle.std.proofs.lemmas.Bool.{and_parts, le-leb}
+use Rattle.std.proofs.lemmas.Bool.{and_parts, le-leb, and_from}
 use Rattle.std.proofs.lemmas.List.Folds.{list_all-append}
 use denote.Hole.Carrier as Carrier
 use Rattle.cmm_words.specs.declared.width.Width.{Width}
@@ -66,7 +66,6 @@ use Rattle.cmm_elaboration.proofs.Nothing.{no_left, no_right, no_unless}
 use Rattle.cmm_elaboration.proofs.Everywhere.{Place, all_accepted}
 use Rattle.cmm_elaboration.proofs.Flat.{flat_from, procedure_is}
 use Rattle.cmm_elaboration.proofs.Judged.{Holds}
-use Rattle.cmm_elaboration.proofs.Keeping.{both_true}
 use Rattle.cmm_elaboration.proofs.Knowing.{known_from, number_alone_is}
 use Rattle.cmm_elaboration.proofs.Scoping.{scopes_fit}
 use Rattle.cmm_elaboration.proofs.UnitNames.{names_of, declared_there}
@@ -125,11 +124,11 @@ module _ (s : Scope) (width : Option Width) where
       let both = and_parts (clear_of x r && meets_none names width earlier (extent_of r)) _ h in
       let here = and_parts (clear_of x r) (meets_none names width earlier (extent_of r)) both.0 in
       let rest = from_first x earlier rs both.1 in
-      (both_true _ _ (or_turned (nat_lt r.to x.low) (nat_lt x.high r.from) here.0) rest.0, both_true _ _ here.1 rest.1)
+      (and_from _ _ (or_turned (nat_lt r.to x.low) (nat_lt x.high r.from) here.0) rest.0, and_from _ _ here.1 rest.1)
 
   clear_next : (x : Extent) (earlier : List (Option Extent)) (rs : List Range) → meets_none names width earlier x ≡ true → Clear (Some x ∷ earlier) rs →
       Clear earlier (record { from = x.low; to = x.high } ∷ rs)
-  clear_next x earlier rs own h = let rest = from_first x earlier rs h.0 in (both_true _ _ own rest.1, both_true _ _ rest.0 h.1)
+  clear_next x earlier rs own h = let rest = from_first x earlier rs h.0 in (and_from _ _ own rest.1, and_from _ _ rest.0 h.1)
 
 -- ---- the ranges of the source
 
@@ -194,7 +193,7 @@ module _ (p : Program) (q : Proc) (s : Scope) (fit : NamesFit p q (senses s)) (w
         extent = e;
         is = x.is;
         range = ap (λ o. elim o as (λ y. Range) [ Some y ↦ record { from = y.low; to = y.high } | None ↦ record { from = 0; to = 0 } ]) x.is;
-        rises = both_true (nat_le x.low x.high) _ (and_parts (nat_le x.low x.high) (lies_in (senses s) (Some w) all e) first.0).0 x.fits;
+        rises = and_from (nat_le x.low x.high) _ (and_parts (nat_le x.low x.high) (lies_in (senses s) (Some w) all e) first.0).0 x.fits;
         clear = first.1;
       }
 
@@ -211,7 +210,7 @@ module _ (p : Program) (q : Proc) (s : Scope) (fit : NamesFit p q (senses s)) (w
       ranges_right all (range_extent (senses s) (Some w) r ∷ earlier) rs more (no_right (range_spots (senses s) (Some w) all earlier r) _ free) h in
       let next : Right (Some own.extent ∷ earlier) (map (range_of s (Some w)) rs ++ more) = subst (λ o. Right (o ∷ earlier) (map (range_of s (Some w)) rs ++ more)) own.is rest in
       subst (λ x. Right earlier (x ∷ (map (range_of s (Some w)) rs ++ more))) (sym own.range)
-      (clear_next s (Some w) own.extent earlier (map (range_of s (Some w)) rs ++ more) own.clear next.0, both_true _ _ own.rises next.1)
+      (clear_next s (Some w) own.extent earlier (map (range_of s (Some w)) rs ++ more) own.clear next.0, and_from _ _ own.rises next.1)
 
   -- ---- the arms
 
@@ -267,7 +266,7 @@ module _ (p : Program) (q : Proc) (s : Scope) (fit : NamesFit p q (senses s)) (w
   arms_are : (n : ℕ) (over : Option Span) (k : _) (row : Row_of-Arm k) → switch_spots (senses s) (Some w) over (heads row) ≡ [] → are_apart (Some w) (branches_of n row) ≡ true
   arms_are n over k row free =
       let right = arms_right n (whole_extent (senses s) (Some w) over) [] false k row (no_right (whole_spots (senses s) (Some w) over) _ free) in
-      both_true _ _ (both_true _ _ right.ranges.1 right.ranges.0.1) (le-leb (defaults (branches_of n row)) 1 (let h : cond false 1 0 + defaults (branches_of n row) ≤ 1 = right.one in omega arith))
+      and_from _ _ (and_from _ _ right.ranges.1 right.ranges.0.1) (le-leb (defaults (branches_of n row)) 1 (let h : cond false 1 0 + defaults (branches_of n row) ≤ 1 = right.one in omega arith))
 
 -- ---- statements
 
@@ -301,12 +300,12 @@ module _ (p : Program) (q : Proc) (s : Scope) (fit : NamesFit p q (senses s)) (w
   part_apart : (n : ℕ) (x : Part) → part_spots s x ≡ [] → list_all (λ st. ranges_apart p q st.form) (part_of s n x) ≡ true
   part_apart n (parts.Local l) free = refl
   part_apart n (parts.Stmt' first past (stmts.Switch' over value _ arms)) free =
-      both_true _ true (switch_apart n over value _ arms (no_left (bits_spots (senses s) None value) _ free) (no_right (bits_spots (senses s) None value) _ free)) refl
-  part_apart n (parts.Stmt' first past (stmts.Call results None callee actuals flows)) free = both_true _ true (call_apart n callee (values_of (senses s) actuals) (is_yield s callee)) refl
+      and_from _ true (switch_apart n over value _ arms (no_left (bits_spots (senses s) None value) _ free) (no_right (bits_spots (senses s) None value) _ free)) refl
+  part_apart n (parts.Stmt' first past (stmts.Call results None callee actuals flows)) free = and_from _ true (call_apart n callee (values_of (senses s) actuals) (is_yield s callee)) refl
   part_apart n (parts.Stmt' first past (stmts.Call results (Some convention) callee actuals flows)) free =
-      both_true _ true (host_apart (foreign_callee s callee) results (values_of (senses s) actuals)) refl
-  part_apart n (parts.Stmt' first past (stmts.Return exit None)) free = both_true _ true (return_apart exit []) refl
-  part_apart n (parts.Stmt' first past (stmts.Return exit (Some values))) free = both_true _ true (return_apart exit (values_of (senses s) values)) refl
+      and_from _ true (host_apart (foreign_callee s callee) results (values_of (senses s) actuals)) refl
+  part_apart n (parts.Stmt' first past (stmts.Return exit None)) free = and_from _ true (return_apart exit []) refl
+  part_apart n (parts.Stmt' first past (stmts.Return exit (Some values))) free = and_from _ true (return_apart exit (values_of (senses s) values)) refl
   part_apart n (parts.Stmt' first past (stmts.If' c _ body otherwise)) free = refl
   part_apart n (parts.Stmt' first past (stmts.Span' key value _ body)) free = refl
   part_apart n (parts.Stmt' first past (stmts.Assign to values)) free = refl
@@ -322,7 +321,7 @@ module _ (p : Program) (q : Proc) (s : Scope) (fit : NamesFit p q (senses s)) (w
   flat_apart n [] free = refl
   flat_apart n (x ∷ ps) free =
       list_all-append (λ st. ranges_apart p q st.form) (part_of s n x) (flat_from s (n + sites_of x) ps)
-      ∙ both_true (list_all (λ st. ranges_apart p q st.form) (part_of s n x)) _ (part_apart n x (no_left (part_spots s x) (flat_map (part_spots s) ps) free))
+      ∙ and_from (list_all (λ st. ranges_apart p q st.form) (part_of s n x)) _ (part_apart n x (no_left (part_spots s x) (flat_map (part_spots s) ps) free))
       (flat_apart (n + sites_of x) ps (no_right (part_spots s x) (flat_map (part_spots s) ps) free))
 
 -- the statements of the procedure that a tree of accepted units means

@@ -28,7 +28,7 @@ use Rattle.cmm_static_semantics.specs.Items.{SpanTree, Within, within, item_with
 use Rattle.cmm_static_semantics.specs.Declarations.{NamedUnit, units_from, procs_in, labels_in, sum_of}
 use Rattle.cmm_elaboration.specs.Laws.{AreDerived}
 use Rattle.cmm_elaboration.proofs.Derived.{Taken, middle, front, back, closed, inside_braces, block_is}
-use Rattle.cmm_elaboration.proofs.Inside.{hidden_parts}
+use Rattle.cmm_static_semantics.proofs.Shared.{hidden_parts}
 use Rattle.cmm_elaboration.proofs.Steady.{here_is}
 
 -- ---- parts of a body

@@ -1,5 +1,6 @@
 -- The program of accepted units is in range, part by part, where its counts of tokens are those of texts.
 use Rattle.std.proofs.Common.{◌≡◌, suc, ◌≤◌, List, [], ◌∷◌, length, All, IsTrue}
+use Rattle.std.proofs.lemmas.Bool.{and_from}
 use Rattle.std.specs.Prelude.{nat_le}
 use Rattle.std.specs.List.{list_all}
 use Rattle.std.proofs.lemmas.List.Elements.{All-nil, All-cons, All-head, All-tail, All-weaker}
@@ -14,7 +15,6 @@ use Rattle.cmm_program.specs.Numbering.{body_tokens, site_number}
 use Rattle.cmm_program.specs.Tokens.{own_tokens, procedure_tokens}
 use Rattle.cmm_elaboration.specs.Meaning.{meaning_of}
 use Rattle.cmm_elaboration.specs.Laws.{AreInOrder, MarksInOrder, ProcKeepsLimits, NamesShort, AreDerived, ProgramsAreInRange}
-use Rattle.cmm_elaboration.proofs.Keeping.{both_true}
 use Rattle.cmm_elaboration.proofs.SiteNumbers.{sites_are_in_order}
 use Rattle.cmm_elaboration.proofs.MarkNumbers.{marks_are_in_order}
 use Rattle.cmm_elaboration.proofs.ProgramLimits.{limits_are_kept}
@@ -61,7 +61,7 @@ procedure_in p q x = record {
   continuations = x.limits.continuations;
   sites = x.sites;
   body = all_three (λ st. is_form p q st.form) (λ st. nat_le (own_tokens q st.form) st.tokens) (λ st. nat_le (own_tokens q st.form) st.tokens) (is_statement p q)
-      (λ st a b c. both_true (is_form p q st.form) (nat_le (own_tokens q st.form) st.tokens) a b) (body_statements q) x.forms x.statements x.statements;
+      (λ st a b c. and_from (is_form p q st.form) (nat_le (own_tokens q st.form) st.tokens) a b) (body_statements q) x.forms x.statements x.statements;
   labels_numbered = x.marks.labels.once;
   continuations_numbered = x.marks.continuations.once;
   sites_numbered = x.ascending.once;

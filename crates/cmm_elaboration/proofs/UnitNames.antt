@@ -1,5 +1,6 @@
 -- What the names of accepted units mean is there in their program.
 use Rattle.std.proofs.Common.{◌≡◌, ℕ, suc, ◌<◌, refl, sym, ap, ◌∙◌, subst, Bool, true, false, List, [], ◌∷◌, ◌++◌, append_assoc, append-nil, Option, Some, None, arith}
+use Rattle.std.proofs.Math.Bool.{or-true}
 use Rattle.std.specs.Prelude.{map, flat_map, option_map, unwrap_or, bytes_eq, slice_get, ◌||◌, ◌==◌}
 use Rattle.std.proofs.lemmas.Option.{slice_get-map}
 use Rattle.std.proofs.lemmas.Grind.{flat_map-append}
@@ -34,10 +35,6 @@ use Rattle.cmm_elaboration.proofs.Cycles.{found_at}
 use Rattle.cmm_elaboration.proofs.Entries.{EachUnit, unit_each, UnitFits, units_fit, procedures_length, labels_length, counted_in, all_published, some_procedure}
 use Rattle.cmm_elaboration.proofs.Declaring.{type_wide, unit_fits}
 use Rattle.cmm_elaboration.proofs.Registers.{name_at, found_left, found_right, found_among, register_found, found_width}
-
-or_true : (b : Bool) → (b || true) ≡ true
-or_true true = refl
-or_true false = refl
 
 -- ---- the registers of a unit have widths
 
@@ -180,7 +177,7 @@ module _ (earlier later : List NamedUnit) (u : NamedUnit) (name : List ℕ) (t :
       ∙ ap (λ b. is_among name (flat_map (λ v. map (λ d. d.name.name) (registers_of v)) earlier) || b)
       (among_append name (map (λ d. d.name.name) (registers_of u)) (flat_map (λ v. map (λ d. d.name.name) (registers_of v)) later)
       ∙ ap (λ b. b || is_among name (flat_map (λ v. map (λ d. d.name.name) (registers_of v)) later)) (found_among name t (registers_of u) own))
-      ∙ or_true (is_among name (flat_map (λ v. map (λ d. d.name.name) (registers_of v)) earlier))
+      ∙ or-true (is_among name (flat_map (λ v. map (λ d. d.name.name) (registers_of v)) earlier))
 
 -- ---- the units
 

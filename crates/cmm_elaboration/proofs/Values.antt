@@ -2,7 +2,7 @@
 use Rattle.std.proofs.Common.{◌≡◌, ℕ, ◌≤◌, refl, sym, ap, ◌∙◌, subst, Bool, true, false, List, [], ◌∷◌, ◌++◌, Option, Some, None, Ok, Err, length, inl, inr, ◌⊎◌}
 use Rattle.std.specs.Prelude.{flat_map, IfSome, ◌==◌}
 use Rattle.std.specs.List.{list_all}
-use Rattle.std.proofs.lemmas.Bool.{le-leb}
+use Rattle.std.proofs.lemmas.Bool.{le-leb, and_from}
 use Rattle.std.proofs.lemmas.List.{length-map}
 use Rattle.cmm_words.specs.declared.width.Width.{Width}
 use Rattle.cmm_words.specs.declared.width.Width.TheVariants.{W64}
@@ -46,7 +46,7 @@ use Rattle.cmm_elaboration.specs.Sites.{is_yield}
 use Rattle.cmm_elaboration.proofs.Nothing.{no_left, no_right}
 use Rattle.cmm_elaboration.proofs.Judged.{same_bits}
 use Rattle.cmm_elaboration.proofs.Widths.{has_own, widths_are_kept}
-use Rattle.cmm_elaboration.proofs.Keeping.{both_true, within}
+use Rattle.cmm_elaboration.proofs.Keeping.{within}
 use Rattle.cmm_elaboration.proofs.Wide.{IsWide}
 use Rattle.cmm_elaboration.proofs.Whole.{Whole, Present, IsUnbroken, whole_with, TypedWhole, BitsWhole, test_whole, expression_whole, bits_wanted_whole}
 use Rattle.cmm_elaboration.proofs.Settled.{whole_ok}
@@ -232,7 +232,7 @@ module _ (p : Program) (q : Proc) (s : Scope) (fit : NamesFit p q (senses s)) (w
   all_typed : (as_ : List Actual) → flat_map (λ a. bits_spots names None a.value) as_ ≡ [] → list_all (is_typed p q) (values_of names as_) ≡ true
   all_typed [] free = refl
   all_typed (a ∷ as_) free =
-      both_true (is_typed p q (value_of names a.value)) _
+      and_from (is_typed p q (value_of names a.value)) _
       (is_some_width p q names fit wide unbroken a.value (no_left (bits_spots names None a.value) (flat_map (λ b. bits_spots names None b.value) as_) free))
       (all_typed as_ (no_right (bits_spots names None a.value) (flat_map (λ b. bits_spots names None b.value) as_) free))
 
@@ -240,7 +240,7 @@ module _ (p : Program) (q : Proc) (s : Scope) (fit : NamesFit p q (senses s)) (w
   passed_there as_ free =
       let few : length (values_of names as_) ≤ 64 = subst (λ n. n ≤ 64) (sym (length-map as_ (λ a. value_of names a.value)))
       (within TooManyValues 64 (λ a. first_token a.kind a.value.token) as_ (no_left (too_many_actuals as_) (flat_map (λ a. bits_spots names None a.value) as_) free)) in
-      both_true (at_most_64 (values_of names as_)) _ (le-leb (length (values_of names as_)) 64 few) (all_typed as_ (no_right (too_many_actuals as_) (flat_map (λ a. bits_spots names None a.value) as_) free))
+      and_from (at_most_64 (values_of names as_)) _ (le-leb (length (values_of names as_)) 64 few) (all_typed as_ (no_right (too_many_actuals as_) (flat_map (λ a. bits_spots names None a.value) as_) free))
 
   callee_by : (allowed : Bool) (token : ℕ) (form : CalleeForm) → callee_spots s allowed record { token = token; form = form } ≡ [] → NoYield allowed (is_yield s record { token = token; form = form }) →
       has_width p q W64 (callee_of names record { token = token; form = form }) ≡ true

@@ -1,5 +1,6 @@
 -- Expressions with names resolved have the widths that they are judged to have.
 use Rattle.std.proofs.Common.{◌≡◌, ℕ, ◌^◌, refl, ap, ◌∙◌, Bool, true, false, Option, Some, None, Ok, Err, IsTrue, length}
+use Rattle.std.proofs.lemmas.Bool.{and_from}
 use Rattle.std.specs.Prelude.{nat_lt, nat_le, ◌&&◌, IfSome}
 use Rattle.std.specs.Option.{is_some}
 use Rattle.cmm_words.specs.declared.width.Width.{Width}
@@ -42,11 +43,6 @@ own_width W8 = refl
 own_width W16 = refl
 own_width W32 = refl
 own_width W64 = refl
-
-both_true : (a b : Bool) → a ≡ true → b ≡ true → (a && b) ≡ true
-both_true true true h k = refl
-both_true true false h k = k
-both_true false b h k = h
 
 either_is_some : (a : Bool) (w : Width) → is_some (if_holds a w) ≡ true → a ≡ true
 either_is_some true w e = refl
@@ -123,10 +119,10 @@ module _ (p : Program) (q : Proc) where
     sign_extend = λ from to a is fits. sign_is from to a ∙ converted (nat_le (bits from) (bits to)) from to (width_of p q a) is fits;
     zero_extend = λ from to a is fits. zero_is from to a ∙ converted (nat_le (bits from) (bits to)) from to (width_of p q a) is fits;
     low_part = λ from to a is fits. low_is from to a ∙ converted (nat_le (bits to) (bits from)) from to (width_of p q a) is fits;
-    compare = λ cmp w a b fits fits'. compare_is cmp w a b ∙ both_true (has_width p q w a) (has_width p q w b) (has_own w a fits) (has_own w b fits');
+    compare = λ cmp w a b fits fits'. compare_is cmp w a b ∙ and_from (has_width p q w a) (has_width p q w b) (has_own w a fits) (has_own w b fits');
     negated = λ a is. not_is a ∙ is;
-    conjoined = λ a b is is'. both_is a b ∙ both_true (is_condition p q a) (is_condition p q b) is is';
-    disjoined = λ a b is is'. either_is a b ∙ both_true (is_condition p q a) (is_condition p q b) is is';
+    conjoined = λ a b is is'. both_is a b ∙ and_from (is_condition p q a) (is_condition p q b) is is';
+    disjoined = λ a b is is'. either_is a b ∙ and_from (is_condition p q a) (is_condition p q b) is is';
   }
 
   -- ---- names

@@ -1,12 +1,11 @@
 -- What the lexer and the parser say of the tokens of a unit, said of its bytes.
-use Rattle.std.proofs.Common.{◌≡◌, ℕ, zero, suc, List, [], ◌∷◌, ◌++◌, length, inl, inr, Some, refl, ap, sym, ◌∙◌, subst, arith}
+use Rattle.std.proofs.Common.{◌≡◌, ℕ, zero, suc, List, [], ◌∷◌, ◌++◌, length, Some, refl, ap, sym, ◌∙◌, subst, arith}
 use Rattle.std.specs.Prelude.{◌≤◌, ◌<◌, ◌^◌, Bool, true, false, cond, nat_lt, None, map, slice_get, slice_index_or}
 use Rattle.std.specs.List.{All, AllZip}
 use Rattle.std.proofs.lemmas.List.Elements.{All-cons, All-nil}
 use Rattle.std.proofs.lemmas.Bool.Decides.{nat_tests}
 use Rattle.cmm_rules.specs.declared.rule.Rule.{Rule}
-use Rattle.cmm_rules.specs.declared.rule.Rule.TheVariants.{Syntax, TooDeep, UnitTooLong}
-use Rattle.cmm_rules.specs.Rules.{rule_number}
+use Rattle.cmm_rules.specs.declared.rule.Rule.TheVariants.{UnitTooLong}
 use Rattle.cmm_lexer.specs.declared.tokens.TheConstants.{UNIT_LIMIT}
 use Rattle.cmm_static_semantics.specs.declared.fault.Fault.{Fault}
 use Rattle.cmm_ast.specs.declared.unit.Place.{Place}
@@ -14,9 +13,7 @@ use Rattle.cmm_ast.specs.declared.unit.Unit.{Unit as UnitTree}
 use Rattle.cmm_ast.specs.Derivation.{DerivesWithin}
 use Rattle.cmm_lexer.specs.declared.token.Token.{Token}
 use Rattle.cmm_lexer.specs.declared.tokens.Tokens.{Tokens}
-use Rattle.cmm_lexer.specs.declared.piece.Lexeme.{Lexeme}
-use Rattle.cmm_lexer.specs.declared.tokens.LexFault.TheVariants.{At}
-use Rattle.cmm_lexer.specs.Lexing.{IsFirstFault, Lexes, faults_of, Spelled, lexeme_of, spelled, tokens_of}
+use Rattle.cmm_lexer.specs.Lexing.{Lexes, faults_of, Spelled, lexeme_of, spelled, tokens_of}
 use Rattle.cmm_lexer.specs.Places.{line_at, column_at}
 use Rattle.cmm_parser.specs.declared.fault.SyntaxFault.TheVariants as syntax
 use Rattle.cmm_parser.specs.Faults.{IsFaultOf, lexemes_of, place_of, places_of}
@@ -57,22 +54,14 @@ tree_is unit ts tree lexes derives places = record {
   places = places ∙ same_places unit ts lexes;
 }
 
--- a fault of the lexical form is of a rule, and so is one of the syntax
-pub lexical_rule : (unit : List ℕ) (rule line column : ℕ) → IsFirstFault unit (At rule line column) → (r : Rule) × (rule ≡ rule_number r)
-lexical_rule unit rule line column (f, first, is, at_line, at_column) = (f.rule, is)
-
-pub syntax_rule : (tokens : List Lexeme) (rule token : ℕ) → IsFaultOf tokens (syntax.At rule token) → (r : Rule) × (rule ≡ rule_number r)
-syntax_rule tokens rule token (inl (is, unexpected)) = (Syntax, is)
-syntax_rule tokens rule token (inr (is, deep)) = (TooDeep, is)
-
 -- a fault of the syntax of the tokens is one of the unit
-pub syntax_is : (unit : List ℕ) (ts : Tokens) (rule token number : ℕ) (f : Fault) → Lexes unit ts → IsFaultOf (lexemes_of ts) (syntax.At rule token) → rule ≡ rule_number f.rule →
+pub syntax_is : (unit : List ℕ) (ts : Tokens) (rule : Rule) (token number : ℕ) (f : Fault) → Lexes unit ts → IsFaultOf (lexemes_of ts) (syntax.At rule token) → f.rule ≡ rule →
     f.unit ≡ number → slice_get (places_of ts) token ≡ Some record { line = f.line; column = f.column } → IsSyntaxFault unit number f
 syntax_is unit ts rule token number f lexes broken rule_is unit_is place_is = record {
   is_unit = unit_is;
   unbroken = lexes.unbroken;
   token = token;
-  broken = subst (λ n. IsFaultOf (lexemes_in unit) (syntax.At n token)) rule_is (subst (λ xs. IsFaultOf xs (syntax.At rule token)) (same_lexemes unit ts lexes) broken);
+  broken = subst (λ r. IsFaultOf (lexemes_in unit) (syntax.At r token)) (sym rule_is) (subst (λ xs. IsFaultOf xs (syntax.At rule token)) (same_lexemes unit ts lexes) broken);
   place = ap (λ (ps : List Place). slice_get ps token) (sym (same_places unit ts lexes)) ∙ place_is;
 }
 
@@ -127,9 +116,8 @@ pub too_long_is : (unit : List ℕ) (number : ℕ) → UNIT_LIMIT < length unit 
 too_long_is unit number more = record {
   is_unit = refl;
   first = (
-    record { rule = UnitTooLong; start = 0 },
+    0,
     ap (λ (b : Bool). cond b (Some record { rule = UnitTooLong; start = 0 }) (slice_get (faults_of unit) 0)) (over (length unit) more),
-    refl,
     refl,
     refl,
   );

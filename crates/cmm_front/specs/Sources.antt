@@ -10,7 +10,6 @@ use Rattle.cmm_lexer.specs.Lexing.{first_fault, tokens_of, IsFirstFault}
 use Rattle.cmm_lexer.specs.Places.{line_at, column_at}
 use Rattle.cmm_parser.specs.declared.fault.SyntaxFault.TheVariants as syntax
 use Rattle.cmm_parser.specs.Faults.{IsFaultOf}
-use Rattle.cmm_rules.specs.Rules.{rule_number}
 
 -- the tokens of a unit
 abbrev pub lexemes_in : List ℕ → List Lexeme
@@ -38,12 +37,12 @@ HasTree unit = (tree : UnitTree) × IsTreeOf unit tree
 -- the first rule of the lexical form that it breaks
 pub record IsLexicalFault (unit : List ℕ) (number : ℕ) (f : Fault) : Type 0 where
   pub is_unit : f.unit ≡ number
-  pub first : IsFirstFault unit (At (rule_number f.rule) f.line f.column)
+  pub first : IsFirstFault unit (At f.rule f.line f.column)
 
 -- its tokens derive no tree, or none within the limits, and the token where that shows
 pub record IsSyntaxFault (unit : List ℕ) (number : ℕ) (f : Fault) : Type 0 where
   pub is_unit : f.unit ≡ number
   pub unbroken : HasTokens unit
   pub token : ℕ
-  pub broken : IsFaultOf (lexemes_in unit) (syntax.At (rule_number f.rule) token)
+  pub broken : IsFaultOf (lexemes_in unit) (syntax.At f.rule token)
   pub place : slice_get (places_in unit) token ≡ Some record { line = f.line; column = f.column }

@@ -1,12 +1,10 @@
 //! The tokens of units.
 
-ghost use Rattle.std.specs.Prelude.{◌≡◌, ◌<◌, ◌≤◌, ◌^◌, ◌++◌, ◌∷◌, ℕ, List, length, IfOk, IfErr, OnOk};
+ghost use Rattle.std.specs.Prelude.{◌<◌, ◌≤◌, ◌^◌, ◌++◌, ◌∷◌, ℕ, List, length, IfOk, IfErr, OnOk};
 ghost use Rattle.std.specs.List.{All, AllZip};
 ghost use Rattle.cmm_lexer.specs.declared.tokens.TheConstants.{UNIT_LIMIT};
 ghost use Rattle.cmm_lexer.specs.Laws.{AreBytes};
 ghost use Rattle.cmm_lexer.specs.Lexing.{Lexes};
-ghost use Rattle.cmm_rules.specs.Rules.{rule_number};
-ghost use Rattle.cmm_rules.specs.declared.rule.Rule.{Rule as RuleOf};
 ghost use Rattle.cmm_front.specs.Refusing.{BreaksLexis, IsRefused};
 ghost use Rattle.cmm_front.specs.Sources.{IsLexicalFault};
 
@@ -16,17 +14,6 @@ use cmm_lexer::{LexFault, Tokens, lex};
 use cmm_rules::Rule;
 use cmm_static_semantics::Fault;
 use std::alloc::Global;
-
-/// The rule of a number that some rule has.
-pub(crate) fn rule_of(number: u8) -> Rule
-    requires { (rule : RuleOf) × (number ≡ rule_number rule) }
-    ensures { number ≡ rule_number result }
-{
-    let Some(rule) = Rule::of_number(number) else {
-        unreachable!()
-    };
-    rule
-}
 
 /// The tokens of a unit with a number.
 fn tokens_in(alloc: Global, unit: &[u8], number: u32) -> Result<Tokens, FrontFault>
@@ -38,7 +25,7 @@ fn tokens_in(alloc: Global, unit: &[u8], number: u32) -> Result<Tokens, FrontFau
         Ok(tokens) => Ok(tokens),
         Err(fault) => match fault {
             LexFault::At { rule, line, column } => Err(FrontFault::At(Fault {
-                rule: rule_of(rule),
+                rule,
                 unit: number,
                 line,
                 column,

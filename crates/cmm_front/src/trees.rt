@@ -8,7 +8,6 @@ ghost use Rattle.cmm_front.specs.Refusing.{IsOfFirst, IsRefused};
 ghost use Rattle.cmm_front.specs.Sources.{HasTree, IsSyntaxFault, IsTreeOf};
 
 use crate::fault::FrontFault;
-use crate::tokens::rule_of;
 use cmm_ast::Unit;
 use cmm_items::Items;
 use cmm_lexer::Tokens;
@@ -45,12 +44,9 @@ fn tree_of(alloc: Global, tokens: &Tokens, number: u32) -> Result<Unit, FrontFau
     match parse(alloc, tokens) {
         Ok(tree) => Ok(tree),
         Err(fault) => match fault {
-            SyntaxFault::At { rule, token } => Err(FrontFault::At(fault_at(
-                rule_of(rule),
-                token,
-                tokens,
-                number,
-            ))),
+            SyntaxFault::At { rule, token } => {
+                Err(FrontFault::At(fault_at(rule, token, tokens, number)))
+            }
             SyntaxFault::Memory => Err(FrontFault::Memory),
         },
     }

@@ -1,5 +1,6 @@
 -- Each type and expression that what follows does not go on is read.
 use Rattle.std.proofs.Common.{◌≡◌, ℕ, zero, suc, ◌<◌, ◌≤◌, ◌⊎◌, inl, inr, Bool, true, false, ◌||◌, ◌==◌, nat_le, List, [], ◌∷◌, length, Option, Some, None, refl, sym, ap, ◌∙◌, arith, subst, is_some}
+use Rattle.std.proofs.lemmas.Bool.{or_parts, eqb-true}
 use Rattle.std.proofs.lemmas.Bool.Decides.{nat_tests}
 use denote.Hole.Carrier as Carrier
 use Rattle.cmm_words.specs.declared.width.Width.{Width}
@@ -34,7 +35,7 @@ use Rattle.cmm_grammar_laws.specs.inside.Duties.{passed, outcome, Moves, Complet
 use Rattle.cmm_grammar_laws.specs.ExpressionReading.{width_in, infix_in, sized, type_by, type_name, named_type, number_in, typed, literal, bracketed, aligned, located, memory, name_or_memory, prefixed, unary_by, begins_expression, tight, infix_next, joined, climb, operand, whole}
 use Rattle.cmm_grammar_laws.proofs.Takings.{takes_nothing, same_number}
 use Rattle.cmm_grammar_laws.proofs.ExpressionForms.{opened, operand_is, form_of_infix, level_of_infix, small_level, row_operands, any_level}
-use Rattle.cmm_grammar_laws.proofs.Completes.{Next, Anything, Strict, moves_trans, outcome_read, outcome_stopped, after_outcome, after_outcome_if, after_complete, fewer_complete, give_complete, last_complete, follow_complete, less_complete, at_complete, holds_complete, fails_complete, skip_complete, operator_complete, operator_strict, opening_complete, opening_strict, here_complete, enclosed_complete, outermost_complete, both, number_same, never_complete, by_taken, same_complete}
+use Rattle.cmm_grammar_laws.proofs.Completes.{Next, Anything, Strict, moves_trans, outcome_read, outcome_stopped, after_outcome, after_outcome_if, after_complete, fewer_complete, give_complete, last_complete, follow_complete, less_complete, at_complete, holds_complete, fails_complete, skip_complete, operator_complete, operator_strict, opening_complete, opening_strict, here_complete, enclosed_complete, outermost_complete, both, never_complete, by_taken, same_complete}
 use Rattle.cmm_grammar_laws.proofs.Tokens.{only_symbol, only_keyword, only_int, only_char, only_name, only_operator, symbol_complete, ident_complete, int_complete, pick_complete, some_is}
 use Rattle.cmm_grammar_laws.proofs.Lists.{After, Parts, Each, list_complete}
 use Rattle.cmm_grammar_laws.proofs.CompleteRepeats.{parts_before}
@@ -106,14 +107,6 @@ type_name_complete t =
 
 -- ---- literals
 
-pub left_false : (a b : Bool) → (a || b) ≡ false → a ≡ false
-left_false true b e = absurd cc
-left_false false b e = refl
-
-pub right_false : (a b : Bool) → (a || b) ≡ false → b ≡ false
-right_false true b e = absurd cc
-right_false false b e = e
-
 typed_complete : {fuel : ℕ} (width : Option TypeName) →
     Complete fuel (optional_is (λ t. symbol_is Colons ⨾ grammar.type_name t) width) width typed Anything NoMore
 typed_complete (Some t) =
@@ -124,7 +117,7 @@ typed_complete (Some t) =
 typed_complete None =
     follow_complete (λ x f. tt) (λ x f. f) (fails_complete (is_sign Colons) no_colons (give_complete None)) where
       no_colons : (x : Option Lexeme) → NoMore x → passes (is_sign Colons) x ≡ false
-      no_colons (Some (l.Symbol n)) e = left_false (symbol_number Colons == n) (symbol_number OpenSquare == n) e
+      no_colons (Some (l.Symbol n)) e = (or_parts (symbol_number Colons == n) (symbol_number OpenSquare == n) e).0
       no_colons (Some _) e = refl
       no_colons None e = refl
 
@@ -271,7 +264,7 @@ operand_taken level e r after is =
     let o = high_enough (nat_le level (level_of e.form)) (here_is e.token ⨾ expr_form e.form) r after is in
     let h = high_enough (e.token == r.taken) (expr_form e.form) r after o.1 in
     let test = o.0 in
-    record { high = grind (arith, nat_tests); token = number_same e.token r.taken h.0; form = h.1 }
+    record { high = grind (arith, nat_tests); token = eqb-true e.token r.taken h.0; form = h.1 }
 
 pub operand_complete : (fuel level : ℕ) (e : Expr) → ((n : ℕ) → Spine n e.form) → Complete fuel (operand_is level e) e (operand fuel level) Begins (Ends level)
 operand_complete fuel level e spine = record {
@@ -457,7 +450,7 @@ module _ (fuel : ℕ) where
   Unary form = Complete (suc fuel) (expr_form form) form (look (unary_by fuel (operand fuel))) Begins NoMore
 
   no_square : (x : Option Lexeme) → NoMore x → passes (is_sign OpenSquare) x ≡ false
-  no_square (Some (l.Symbol n)) e = right_false (symbol_number Colons == n) (symbol_number OpenSquare == n) e
+  no_square (Some (l.Symbol n)) e = (or_parts (symbol_number Colons == n) (symbol_number OpenSquare == n) e).1
   no_square (Some _) e = refl
   no_square None e = refl
 

@@ -1,5 +1,6 @@
 -- Each part of a statement that what follows does not go on is read.
 use Rattle.std.proofs.Common.{◌≡◌, ℕ, ◌⊎◌, inl, inr, Bool, true, false, ◌==◌, ◌||◌, List, Option, Some, None, refl, sym, ap, arith, is_some}
+use Rattle.std.proofs.lemmas.Bool.{or_left, or_right}
 use Rattle.cmm_lexer.specs.declared.piece.Lexeme.{Lexeme}
 use Rattle.cmm_lexer.specs.declared.piece.Lexeme.TheVariants as l
 use Rattle.cmm_lexer.specs.declared.symbol.Symbol.TheVariants.{Open, Close, OpenSquare, Less, Greater, Slash}
@@ -38,14 +39,6 @@ use Rattle.cmm_grammar_laws.proofs.Tokens.{only_name, only_symbol, symbol_comple
 use Rattle.cmm_grammar_laws.proofs.Lists.{Parts, may_list_complete}
 use Rattle.cmm_grammar_laws.proofs.CompleteExpressions.{Begins, Ends, NoMore, spine, width_in_is, literal_complete, bracketed_complete, type_name_complete, in_brackets_complete, memory_complete, whole_complete, ends_after}
 use Rattle.cmm_grammar_laws.proofs.CompleteRepeats.{Passes, Not, optional_complete, parts_before, other_symbol}
-
-or_left : (a b : Bool) → a ≡ true → (a || b) ≡ true
-or_left true b e = refl
-or_left false b e = absurd cc
-
-or_right : (a b : Bool) → b ≡ true → (a || b) ≡ true
-or_right true b e = refl
-or_right false b e = e
 
 either_passes : (one two : Lexeme → Bool) (x : Option Lexeme) → Passes one x ⊎ Passes two x → Passes (λ y. one y || two y) x
 either_passes one two (Some x) (inl e) = or_left (one x) (two x) e

@@ -1,5 +1,6 @@
 -- Parts that may be missing, rows, and words that say what follows: each that what follows does not go on is read.
 use Rattle.std.proofs.Common.{◌≡◌, ℕ, zero, suc, ◌≤◌, ◌⊎◌, inl, inr, Bool, true, false, List, [], ◌∷◌, ◌++◌, Option, Some, None, sym, arith, append_assoc, append-nil, le_refl, ◌==◌, refl}
+use Rattle.std.proofs.lemmas.Bool.{eqb-true}
 use Rattle.cmm_lexer.specs.declared.piece.Lexeme.{Lexeme}
 use Rattle.cmm_lexer.specs.declared.piece.Lexeme.TheVariants as l
 use Rattle.cmm_lexer.specs.declared.keyword.Keyword.{Keyword}
@@ -10,7 +11,7 @@ use Rattle.cmm_grammar_laws.specs.Reading.{Reads, ◌>>=◌, give, passes, if_ne
 use Rattle.cmm_grammar_laws.specs.inside.Duties.{Moves, Complete}
 use Rattle.cmm_grammar_laws.specs.DeclarationReading.{if_word, if_symbol}
 use Rattle.cmm_grammar_laws.proofs.Takings.{same_number, takes_assoc, takes_nothing}
-use Rattle.cmm_grammar_laws.proofs.Completes.{Next, Anything, Strict, both, follow_complete, less_complete, fewer_complete, after_complete, give_complete, last_complete, holds_complete, fails_complete, skip_complete, here_complete, token_strict, number_same, never_complete, then_complete, by_taken, same_complete}
+use Rattle.cmm_grammar_laws.proofs.Completes.{Next, Anything, Strict, both, follow_complete, less_complete, fewer_complete, after_complete, give_complete, last_complete, holds_complete, fails_complete, skip_complete, here_complete, token_strict, never_complete, then_complete, by_taken, same_complete}
 use Rattle.cmm_grammar_laws.proofs.Tokens.{only_keyword, only_symbol, keyword_complete}
 use Rattle.cmm_grammar_laws.proofs.Lists.{After, Parts, Each, zero_complete, by_turns}
 
@@ -25,7 +26,7 @@ Not test x = passes test x ≡ false
 other_number : (test : Lexeme → Bool) (make : ℕ → Lexeme) (k n : ℕ) → test (make k) ≡ false → test (make n) ≡ true → (k == n) ≡ false
 other_number test make k n none e = by (k == n) refl where
   by : (o : Bool) → (k == n) ≡ o → o ≡ false
-  by true is = absurd (let same : k ≡ n = number_same k n is in let f : test (make k) ≡ true = rw same e in cc)
+  by true is = absurd (let same : k ≡ n = eqb-true k n is in let f : test (make k) ≡ true = rw same e in cc)
   by false is = refl
 
 pub other_word : (test : Lexeme → Bool) (word : Keyword) → test (l.Word (keyword_number word)) ≡ false → (x : Option Lexeme) → Passes test x →

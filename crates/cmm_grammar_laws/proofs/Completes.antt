@@ -1,6 +1,6 @@
 -- Each tree that what follows does not go on is read: for each way in which readers are put together.
 use Rattle.std.proofs.Common.{◌≡◌, ℕ, suc, ◌<◌, ◌≤◌, Bool, true, false, ◌&&◌, List, [], ◌∷◌, length, Option, Some, None, refl, sym, ap, ◌∙◌, arith, nat_lt, ◌==◌, le_trans}
-use Rattle.std.proofs.lemmas.Bool.Decides.{nat_tests}
+use Rattle.std.proofs.lemmas.Bool.{eqb-true}
 use Rattle.cmm_lexer.specs.declared.piece.Lexeme.{Lexeme}
 use Rattle.cmm_ast.specs.Taking.{Reading, Takes, ◌⨾◌, here as here_is, nothing, token, taken_if, first_over, operator as operator_is, opening as opening_is, enclosed as enclosed_is, outermost as outermost_is}
 use Rattle.cmm_grammar_laws.specs.Reading.{Point, TooDeep, Answer, Read, Stopped, Reads, and_then, ◌>>=◌, give, next, past, look, choice, passes, if_next, here, skip, skip_opening, skip_operator, enclosed, outermost}
@@ -342,16 +342,13 @@ here_taken : (n : ℕ) (test : Bool) (r after : Reading) → elim test as (λ _.
 here_taken n true r after e = (refl, cc)
 here_taken n false r after e = absurd cc
 
-pub number_same : (n m : ℕ) → (n == m) ≡ true → n ≡ m
-number_same n m e = grind (arith, nat_tests)
-
 -- the number of the next token was said
 pub number_taken : (n : ℕ) (p : Takes) (r after : Reading) → (here_is n ⨾ p) r ≡ Some after → (n ≡ r.taken) × (p r ≡ Some after)
 number_taken n p r after e =
     let s = both (here_is n) p r after e in
     let o = here_taken n (n == r.taken) r s.between s.first in
     let second : p r ≡ Some after = rw (sym o.1) s.second in
-    (number_same n r.taken o.0, second)
+    (eqb-true n r.taken o.0, second)
 
 pub here_complete : {fuel : ℕ} {follow : Option Lexeme → Type 0} (n : ℕ) → Complete fuel (here_is n) n here follow follow
 here_complete {follow = follow} n = record {
@@ -359,7 +356,7 @@ here_complete {follow = follow} n = record {
   begins = λ r after e f. rw (here_taken n (n == r.taken) r after e).1 at f;
   complete = λ limited r after e f less fits.
       let o = here_taken n (n == r.taken) r after e in
-      let same = number_same n r.taken o.0 in
+      let same = eqb-true n r.taken o.0 in
       sym (rw (o.1, same) (outcome_read limited r.taken r fits));
 }
 

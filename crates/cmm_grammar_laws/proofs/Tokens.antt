@@ -1,5 +1,6 @@
 -- Single tokens: what each has taken, and how it is read.
 use Rattle.std.proofs.Common.{◌≡◌, ℕ, Bool, true, List, Option, Some, refl, sym, ap, bytes_eq}
+use Rattle.std.proofs.lemmas.Bool.{eqb-true}
 use Rattle.std.proofs.lemmas.Slice.Eq.{bytes_eq-Decides}
 use Rattle.cmm_lexer.specs.declared.piece.Lexeme.{Lexeme}
 use Rattle.cmm_lexer.specs.declared.piece.Lexeme.TheVariants as l
@@ -14,24 +15,24 @@ use Rattle.cmm_ast.specs.ExpressionGrammar.{ident as ident_is, text as text_is, 
 use Rattle.cmm_grammar_laws.specs.Reading.{expect, keyword, symbol, picked, held, pick, name_in, text_in, int_in, checked_in, name, ident, text, int}
 use Rattle.cmm_grammar_laws.specs.inside.Duties.{Complete}
 use Rattle.cmm_grammar_laws.proofs.Takings.{same_number}
-use Rattle.cmm_grammar_laws.proofs.Completes.{Next, Anything, Only, after_complete, last_complete, at_complete, holds_complete, skip_complete, here_complete, number_same}
+use Rattle.cmm_grammar_laws.proofs.Completes.{Next, Anything, Only, after_complete, last_complete, at_complete, holds_complete, skip_complete, here_complete}
 
 -- ---- tests that one token alone passes
 
 pub only_symbol : (s : Symbol) → Only (is_sign s) (l.Symbol (symbol_number s))
-only_symbol s (l.Symbol n) e = ap (λ k. l.Symbol k) (sym (number_same (symbol_number s) n e))
+only_symbol s (l.Symbol n) e = ap (λ k. l.Symbol k) (sym (eqb-true (symbol_number s) n e))
 only_symbol s _ e = absurd cc
 
 pub only_keyword : (k : Keyword) → Only (is_word k) (l.Word (keyword_number k))
-only_keyword k (l.Word n) e = ap (λ k. l.Word k) (sym (number_same (keyword_number k) n e))
+only_keyword k (l.Word n) e = ap (λ k. l.Word k) (sym (eqb-true (keyword_number k) n e))
 only_keyword k _ e = absurd cc
 
 pub only_int : (n : ℕ) → Only (is_int n) (l.Int n)
-only_int n (l.Int m) e = ap (λ k. l.Int k) (sym (number_same n m e))
+only_int n (l.Int m) e = ap (λ k. l.Int k) (sym (eqb-true n m e))
 only_int n _ e = absurd cc
 
 pub only_char : (n : ℕ) → Only (is_char n) (l.Char n)
-only_char n (l.Char m) e = ap (λ k. l.Char k) (sym (number_same n m e))
+only_char n (l.Char m) e = ap (λ k. l.Char k) (sym (eqb-true n m e))
 only_char n _ e = absurd cc
 
 bytes_same : (a b : List ℕ) → bytes_eq a b ≡ true → b ≡ a

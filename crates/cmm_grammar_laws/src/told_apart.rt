@@ -4,7 +4,7 @@ use cmm_ast::{Ident, Kinded, LocalForm, Lvalue, StmtForm, TypeName};
 use cmm_items::Items;
 
 /// What a declaration with a type that may be left out begins with.
-#[derive(Debug, Drop)]
+#[derive(Drop)]
 pub enum Head {
     TypeFirst(TypeName),
     /// Its first name, where there is no type.
@@ -13,7 +13,7 @@ pub enum Head {
 }
 
 /// What stands before an `=`.
-#[derive(Debug, Drop)]
+#[derive(Drop)]
 pub enum Targets {
     /// Names alone.
     Names(Items<Ident>),
@@ -24,7 +24,7 @@ pub enum Targets {
 }
 
 /// What a part of a body is, before its tokens are counted.
-#[derive(Debug, Drop)]
+#[derive(Drop)]
 pub enum PartForm {
     OfLocal(LocalForm),
     OfStmt(StmtForm),

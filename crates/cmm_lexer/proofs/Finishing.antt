@@ -34,8 +34,8 @@ first_fault-broken unit place p rule ps h is e = let short : nat_lt UNIT_LIMIT (
 pub blamed : (unit : List ℕ) (place : ℕ) (p : Piece) (line column : ℕ) (fault : LexFault) (ps : List Placed) → length unit ≤ UNIT_LIMIT → pieces_at unit place ≡ record { start = place; piece = p } ∷ ps → flat_map fault_of (pieces_at unit place) ≡ faults_of unit →
     line ≡ line_at unit place → column ≡ column_at unit place → Blames p.part line column fault → IsFirstFault unit fault
 blamed unit place p line column Memory ps h step e sl sc b = tt
-blamed unit place p line column (At r l c) ps h step e sl sc (rule, is, er, el, ec) =
-    (record { rule = rule; start = place }, first_fault-broken unit place p rule ps h is (rw step at e), er, el ∙ sl, ec ∙ sc)
+blamed unit place p line column (At r l c) ps h step e sl sc (is, el, ec) =
+    (place, first_fault-broken unit place p r ps h is (rw step at e), el ∙ sl, ec ∙ sc)
 
 -- nothing is left at the end of a unit
 pieces_at-end : (unit : List ℕ) (place : ℕ) → length unit ≤ place → pieces_at unit place ≡ []

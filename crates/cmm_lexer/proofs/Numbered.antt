@@ -1,6 +1,7 @@
 -- Numbers of spellings, as more spellings come.
-use Rattle.std.proofs.Common.{◌≡◌, ℕ, ◌<◌, ◌≤◌, Bool, true, false, ◌&&◌, nat_eq, nat_lt, List, [], ◌∷◌, ◌++◌, length, get_or, map, Some, refl, ap, sym, ◌∙◌, ◌+◌, arith, length-append}
+use Rattle.std.proofs.Common.{◌≡◌, ℕ, ◌<◌, ◌≤◌, true, nat_eq, nat_lt, List, [], ◌∷◌, ◌++◌, length, get_or, map, Some, refl, ap, sym, ◌∙◌, ◌+◌, arith, length-append}
 use Rattle.std.proofs.Math.ListN.{length-map}
+use Rattle.std.proofs.lemmas.Bool.{and_parts}
 use Rattle.std.proofs.lemmas.Bool.Decides.{nat_tests}
 use Rattle.std.proofs.lemmas.Grind.{common_steps}
 use Rattle.std.proofs.lemmas.Option.{get_or_from_slice_get}
@@ -46,15 +47,10 @@ is_numbered-more a b l (Checked n) h = below-more n a b l h
 is_numbered-more a b l (Word n) h = refl
 is_numbered-more a b l (Symbol n) h = refl
 
-both-true : (a b : Bool) → (a && b) ≡ true → (a ≡ true) × (b ≡ true)
-both-true true true h = (refl, refl)
-both-true true false h = absurd (cc)
-both-true false b h = absurd (cc)
-
 spelled-push : (names more : List (List ℕ)) (ts : List Token) (t : Token) → are_numbered (length names) ts ≡ true → map (spelled (names ++ more)) (ts ++ t ∷ []) ≡ map (spelled names) ts ++ spelled (names ++ more) t ∷ []
 spelled-push names more [] t h = refl
 spelled-push names more (u ∷ ts) t h =
-    let parts = both-true (is_numbered (length names) u.kind) (are_numbered (length names) ts) h in
+    let parts = and_parts (is_numbered (length names) u.kind) (are_numbered (length names) ts) h in
     rw (lexeme_of-more names more u.kind parts.0, spelled-push names more ts t parts.1) refl
 
 -- a token more
@@ -67,7 +63,7 @@ spelled-pushed names later ts us t x (more, few, grown) e h l =
 are_numbered-push : (a b : ℕ) → a ≤ b → (ts : List Token) (t : Token) → are_numbered a ts ≡ true → is_numbered b t.kind ≡ true → are_numbered b (ts ++ t ∷ []) ≡ true
 are_numbered-push a b l [] t h n = rw n refl
 are_numbered-push a b l (u ∷ ts) t h n =
-    let parts = both-true (is_numbered a u.kind) (are_numbered a ts) h in
+    let parts = and_parts (is_numbered a u.kind) (are_numbered a ts) h in
     rw (is_numbered-more a b l u.kind parts.0, are_numbered-push a b l ts t parts.1 n) refl
 
 pub are_numbered-pushed : (names later : List (List ℕ)) (ts us : List Token) (t : Token) → ((more : List (List ℕ)) × (length more ≤ 1) × (later ≡ names ++ more)) → us ≡ ts ++ t ∷ [] → are_numbered (length names) ts ≡ true → is_numbered (length later) t.kind ≡ true → are_numbered (length later) us ≡ true

@@ -1,5 +1,6 @@
 -- Words and symbols in the order of their numbers: each stands at its number, and one is found by its spelling where the spelling stands.
 use Rattle.std.proofs.Common.{◌≡◌, ℕ, zero, suc, ◌+◌, ◌<◌, ◌==◌, Bool, true, false, ◌&&◌, List, [], ◌∷◌, length, get_or, Some, None, refl, ap, sym, ◌∙◌, arith, nat_eq, nat_lt}
+use Rattle.std.proofs.lemmas.Bool.{and_parts, eqb-true}
 use Rattle.std.proofs.lemmas.Bool.Decides.{nat_tests}
 use Rattle.std.specs.Cmp.Lexicographic.{pointwise}
 use Rattle.cmm_lexer.specs.declared.keyword.Keyword.{Keyword}
@@ -18,20 +19,12 @@ abbrev are_numbered : {W : Type 0} → (W → ℕ) → ℕ → List W → Bool
 are_numbered number n [] = true
 are_numbered number n (w ∷ ws) = number w == n && are_numbered number (n + 1) ws
 
-both : (a b : Bool) → (a && b) ≡ true → (a ≡ true) × (b ≡ true)
-both true true h = (refl, refl)
-both true false h = absurd cc
-both false b h = absurd cc
-
-same : (a b : ℕ) → (a == b) ≡ true → a ≡ b
-same a b h = grind (arith, nat_tests)
-
 -- what stands at a place has the number of the place
 number-at : {W : Type 0} (number : W → ℕ) (n : ℕ) (ws : List W) (d : W) → are_numbered number n ws ≡ true → (i : ℕ) → i < length ws → number (get_or ws i d) ≡ n + i
 number-at number n [] d h i l = absurd (omega (arith, l))
-number-at number n (w ∷ ws) d h zero l = omega (arith, same (number w) n (both (number w == n) (are_numbered number (n + 1) ws) h).0)
+number-at number n (w ∷ ws) d h zero l = omega (arith, eqb-true (number w) n (and_parts (number w == n) (are_numbered number (n + 1) ws) h).0)
 number-at number n (w ∷ ws) d h (suc i) l =
-    omega (arith, number-at number (n + 1) ws d (both (number w == n) (are_numbered number (n + 1) ws) h).1 i (omega (arith, l)))
+    omega (arith, number-at number (n + 1) ws d (and_parts (number w == n) (are_numbered number (n + 1) ws) h).1 i (omega (arith, l)))
 
 -- ---- words and symbols
 

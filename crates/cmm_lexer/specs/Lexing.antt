@@ -5,7 +5,6 @@ use Rattle.cmm_lexer.specs.declared.piece.Lexeme.{Lexeme}
 use Rattle.cmm_lexer.specs.declared.piece.Lexeme.TheVariants as lexeme
 use Rattle.cmm_lexer.specs.declared.piece.Part.{Part}
 use Rattle.cmm_lexer.specs.declared.piece.Part.TheVariants.{Skipped, Lexed, Broken}
-use Rattle.cmm_rules.specs.Rules.{rule_number}
 use Rattle.cmm_rules.specs.declared.rule.Rule.{Rule}
 use Rattle.cmm_rules.specs.declared.rule.Rule.TheVariants.{UnitTooLong}
 use Rattle.cmm_lexer.specs.declared.token.Token.{Token}
@@ -62,7 +61,7 @@ first_fault unit = if nat_lt UNIT_LIMIT (length unit) then Some (record { rule =
 -- the first fault of a unit is this one
 abbrev pub IsFirstFault : List ℕ → LexFault → Type 0
 IsFirstFault unit Memory = Unit {0}
-IsFirstFault unit (At r l c) = (f : Fault) × (first_fault unit ≡ Some f) × (r ≡ rule_number f.rule) × (l ≡ line_at unit f.start) × (c ≡ column_at unit f.start)
+IsFirstFault unit (At r l c) = (start : ℕ) × (first_fault unit ≡ Some (record { rule = r; start = start })) × (l ≡ line_at unit start) × (c ≡ column_at unit start)
 
 -- a token's kind, with its spelling in place of its number
 abbrev pub lexeme_of : List (List ℕ) → TokenKind → Lexeme

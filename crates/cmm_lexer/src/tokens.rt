@@ -7,7 +7,6 @@ ghost use Rattle.indexmap.specs.IndexSet.{IsUnique};
 ghost use Rattle.cmm_lexer.specs.Places.{ends_line};
 ghost use Rattle.cmm_lexer.specs.inside.Columns.{column_past};
 ghost use Rattle.cmm_lexer.specs.Lexing.{spelled, lexeme_of, is_numbered, are_numbered, token_in, fault_in};
-ghost use Rattle.cmm_rules.specs.Rules.{rule_number};
 ghost use Rattle.cmm_lexer.specs.inside.Blame.{Blames};
 
 use crate::piece::{Lexeme, Part, Piece};
@@ -24,13 +23,10 @@ pub const UNIT_LIMIT: usize = 1_048_576;
 /// Why a unit has no tokens.
 #[derive(Debug, Drop, Error)]
 pub enum LexFault {
-    /// It breaks this rule of the lexical form at this place: 1 where a byte starts no token, at the byte; 2 where a block comment is
-    /// not closed, at its `/*`; 3 where a text or a character is not closed on its line, has an unknown escape, or a character is not
-    /// exactly one, at its opening quote; 4 where a number is out of range, has no digit or a digit past its base, or a letter, `_`,
-    /// `$` or `@` follows it, at its first digit; 5 where the unit has more than `UNIT_LIMIT` bytes, at 1:1. Lines and columns count
-    /// from 1, columns in bytes.
+    /// It breaks this rule of the lexical form, one of those from `Rule::BadByte` to `Rule::UnitTooLong`, at the place that the rule
+    /// names. Lines and columns count from 1, columns in bytes.
     #[error("rule {rule} at {line}:{column}")]
-    At { rule: u8, line: u32, column: u32 },
+    At { rule: Rule, line: u32, column: u32 },
     #[error("out of memory")]
     Memory,
 }
@@ -164,10 +160,10 @@ impl Tokens {
 
     /// The fault of a rule that is broken at the place reached.
     pub(crate) fn fault(&self, rule: Rule) -> LexFault
-        ensures { result ≡ LexFault.At (rule_number rule) self.now.line self.now.column }
+        ensures { result ≡ LexFault.At rule self.now.line self.now.column }
     {
         LexFault::At {
-            rule: rule.number(),
+            rule,
             line: self.line,
             column: self.column,
         }

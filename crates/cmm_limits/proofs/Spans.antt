@@ -5,87 +5,45 @@ use Rattle.std.specs.List.{list_any}
 use Rattle.std.proofs.lemmas.List.{drop_more}
 use Rattle.std.proofs.lemmas.List.Folds.{list_any-append}
 use Rattle.std.proofs.lemmas.Bool.Decides.{nat_tests}
-use denote.Hole.Carrier as Carrier
 use Rattle.cmm_ast.specs.declared.expression.Expr.{Expr}
 use Rattle.cmm_ast.specs.declared.expression.Primary.{Primary}
 use Rattle.cmm_ast.specs.declared.statement.Arm.{Arm}
-use Rattle.cmm_ast.specs.declared.statement.Block.{Block, Row_of-Part, end_of-Part, more_of-Part, items-the_row-Part, items_hidden-the_row-Part-0, items_shown-the_row-Part-0}
+use Rattle.cmm_ast.specs.declared.statement.Block.{Block}
 use Rattle.cmm_ast.specs.declared.statement.Otherwise.{Otherwise}
 use Rattle.cmm_ast.specs.declared.statement.Otherwise.TheVariants as otherwises
-use Rattle.cmm_ast.specs.declared.statement.Otherwise.TheBlock as OtherwiseForms
 use Rattle.cmm_ast.specs.declared.statement.Part.{Part}
 use Rattle.cmm_ast.specs.declared.statement.Part.TheVariants as parts
 use Rattle.cmm_ast.specs.declared.statement.Span.{Span as SwitchSpan}
 use Rattle.cmm_ast.specs.declared.statement.Stmt.{Stmt}
-use Rattle.cmm_ast.specs.declared.statement.StmtForm.{StmtForm, Row_of-Arm, end_of-Arm, more_of-Arm, items-the_row-Arm, items_hidden-the_row-Arm-2}
+use Rattle.cmm_ast.specs.declared.statement.StmtForm.{StmtForm}
 use Rattle.cmm_ast.specs.declared.statement.StmtForm.TheVariants as stmts
-use Rattle.cmm_static_semantics.specs.Items.{SpanTree, Within, parts_in, part_within, parts_inside, parts_otherwise, parts_row}
-use Rattle.cmm_static_semantics.specs.Items as flat
+use Rattle.cmm_static_semantics.specs.Items.{SpanTree, Within, parts_in, part_within, parts_inside, parts_otherwise}
 use Rattle.cmm_static_semantics.specs.Limits.{different, is_in, is_site, number_or_zero, site_tokens, sites_of, tokens_of}
 use Rattle.cmm_static_semantics.specs.Scopes.{Scope, senses}
 use Rattle.cmm_static_semantics.specs.Senses.{Senses}
 use Rattle.cmm_static_semantics.specs.Typing.{of_primary}
+use Rattle.cmm_static_semantics.proofs.Shared.{if_inside, span_inside, switch_inside, else_inside, else_if_inside}
 use Rattle.cmm_symbols.proofs.Shared.{flat_plain}
 use Rattle.cmm_limits.specs.Capped.{capped}
 use Rattle.cmm_limits.specs.inside.InForce.{HasTokens, one_more, parts_of_arms, tokens_at}
 
 -- ---- what stands inside a statement
 
-unfoldable opened : Unit {0}
-unfolding OtherwiseForms.hidden-the_row-Part-0 OtherwiseForms.hidden-the_row-Stmt-1 OtherwiseForms.hidden-the_row-Arm-2 Carrier.hidden Carrier.roll
-opened = tt
-
-part_rows : (spans : List SpanTree) (n : _) (row : Row_of-Part n) → parts_row spans row ≡ flat_map (part_within spans) (items-the_row-Part n row)
-part_rows spans n end_of-Part = refl
-part_rows spans n (more_of-Part {n = m} p rest) = ap (λ t. part_within spans p ++ t) (part_rows spans m rest)
-
-hidden_parts : (spans : List SpanTree) (ps : List Part) → parts_row spans (OtherwiseForms.hidden-the_row-Part-0 ps) ≡ flat_map (part_within spans) ps
-hidden_parts spans ps = part_rows spans _ (OtherwiseForms.hidden-the_row-Part-0 ps) ∙ ap (flat_map (part_within spans)) (items_hidden-the_row-Part-0 ps)
-
-shown_parts : (spans : List SpanTree) (x : _) (body : Row_of-Part _) → flat_map (part_within spans) (OtherwiseForms.shown-the_row-Part-0 x body) ≡ parts_row spans body
-shown_parts spans x body = ap (flat_map (part_within spans)) (items_shown-the_row-Part-0 x body) ∙ sym (part_rows spans _ body)
-
-if_is : (spans : List SpanTree) (c : Expr) (b : Block) (o : Otherwise) → parts_inside spans (stmts.If c b o) ≡ parts_in spans b ++ parts_otherwise spans o
-unfolding opened
-if_is spans c b o = ap (λ t. t ++ parts_otherwise spans o) (hidden_parts spans b.parts)
-
-span_is : (spans : List SpanTree) (key : Primary) (v : Expr) (b : Block) → parts_inside spans (stmts.Span key v b) ≡ parts_in (record { key = key; value = v } ∷ spans) b
-unfolding opened
-span_is spans key v b = hidden_parts (record { key = key; value = v } ∷ spans) b.parts
-
-arm_rows : (spans : List SpanTree) (n : _) (row : Row_of-Arm n) → flat.parts_of_arms spans row ≡ parts_of_arms spans (items-the_row-Arm n row)
-unfolding opened
-arm_rows spans n end_of-Arm = refl
-arm_rows spans n (more_of-Arm {n = m} first what x body rest) =
-    ap (λ t. parts_row spans body ++ t) (arm_rows spans m rest) ∙ ap (λ t. t ++ parts_of_arms spans (items-the_row-Arm m rest)) (sym (shown_parts spans _ body))
-
-switch_is : (spans : List SpanTree) (over : Option SwitchSpan) (v : Expr) (as_ : List Arm) → parts_inside spans (stmts.Switch over v as_) ≡ parts_of_arms spans as_
-unfolding opened
-switch_is spans over v as_ = arm_rows spans _ (OtherwiseForms.hidden-the_row-Arm-2 as_) ∙ ap (parts_of_arms spans) (items_hidden-the_row-Arm-2 as_)
-
-else_is : (spans : List SpanTree) (b : Block) → parts_otherwise spans (otherwises.Else b) ≡ parts_in spans b
-unfolding opened
-else_is spans b = hidden_parts spans b.parts
-
-else_if_is : (spans : List SpanTree) (s : Stmt) → parts_otherwise spans (otherwises.ElseIf s) ≡ part_within spans (parts.Stmt s)
-unfolding opened
-else_if_is spans s = refl
-
 pub if_law : (spans : List SpanTree) (f : StmtForm) (c : Expr) (b : Block) (o : Otherwise) → f ≡ stmts.If c b o → parts_inside spans f ≡ parts_in spans b ++ parts_otherwise spans o
-if_law spans f c b o is = ap (parts_inside spans) is ∙ if_is spans c b o
+if_law spans f c b o is = ap (parts_inside spans) is ∙ if_inside spans c b o
 
 pub span_law : (spans : List SpanTree) (f : StmtForm) (key : Primary) (v : Expr) (b : Block) → f ≡ stmts.Span key v b →
     parts_inside spans f ≡ parts_in (record { key = key; value = v } ∷ spans) b
-span_law spans f key v b is = ap (parts_inside spans) is ∙ span_is spans key v b
+span_law spans f key v b is = ap (parts_inside spans) is ∙ span_inside spans key v b
 
 pub switch_law : (spans : List SpanTree) (f : StmtForm) (over : Option SwitchSpan) (v : Expr) (as_ : List Arm) → f ≡ stmts.Switch over v as_ → parts_inside spans f ≡ parts_of_arms spans as_
-switch_law spans f over v as_ is = ap (parts_inside spans) is ∙ switch_is spans over v as_
+switch_law spans f over v as_ is = ap (parts_inside spans) is ∙ switch_inside spans over v as_
 
 pub else_law : (spans : List SpanTree) (o : Otherwise) (b : Block) → o ≡ otherwises.Else b → parts_otherwise spans o ≡ parts_in spans b
-else_law spans o b is = ap (parts_otherwise spans) is ∙ else_is spans b
+else_law spans o b is = ap (parts_otherwise spans) is ∙ else_inside spans b
 
 pub else_if_law : (spans : List SpanTree) (o : Otherwise) (s : Stmt) → o ≡ otherwises.ElseIf s → parts_otherwise spans o ≡ part_within spans (parts.Stmt s)
-else_if_law spans o s is = ap (parts_otherwise spans) is ∙ else_if_is spans s
+else_if_law spans o s is = ap (parts_otherwise spans) is ∙ else_if_inside spans s
 
 -- ---- sums
 

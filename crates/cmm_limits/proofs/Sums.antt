@@ -1,18 +1,18 @@
 -- Sums that are capped, and sums over the procedures of a unit.
 use Rattle.std.proofs.Common.{◌≡◌, ℕ, ◌+◌, ◌-◌, ◌^◌, ◌<◌, length, map, min, take, get_or, refl, sym, ap, ◌∙◌, arith, List, [], ◌∷◌, ◌++◌}
+use Rattle.std.proofs.Math.Nat.{zero-add}
 use Rattle.std.specs.Prelude.{flat_map}
 use Rattle.cmm_ast.specs.declared.expression.Expr.{Expr}
 use Rattle.cmm_ast.specs.declared.expression.Primary.{Primary}
 use Rattle.cmm_ast.specs.declared.procedure.Proc.{Proc}
-use denote.Hole.Carrier as Carrier
-use Rattle.cmm_ast.specs.declared.unit.Item.{Item, Row_of-Item, end_of-Item, more_of-Item, items-the_row-Item, items_hidden-the_row-Item-0}
+use Rattle.cmm_ast.specs.declared.unit.Item.{Item}
 use Rattle.cmm_ast.specs.declared.unit.Item.TheVariants as items
-use Rattle.cmm_ast.specs.declared.unit.Item.TheBlock as Items
 use Rattle.cmm_static_semantics.specs.Declarations.{NamedUnit, sum_of}
-use Rattle.cmm_static_semantics.specs.Items.{SpanTree, Within, item_within, items_within, parts_in}
+use Rattle.cmm_static_semantics.specs.Items.{SpanTree, Within, item_within, parts_in}
 use Rattle.cmm_static_semantics.specs.Limits.{over_procs, site_tokens, site_variables, tokens_of}
 use Rattle.cmm_static_semantics.specs.Senses.{Senses}
 use Rattle.cmm_static_semantics.specs.Statements.{scope_of}
+use Rattle.cmm_static_semantics.proofs.Shared.{span_item_inside}
 use Rattle.cmm_symbols.specs.Shown.{alone, thing_item, whats}
 use Rattle.cmm_symbols.specs.declared.thing.Thing.{Thing}
 use Rattle.cmm_symbols.proofs.Shared.{flat_plain, mapped_next, sum_is}
@@ -65,19 +65,10 @@ variables_next ts i t so_far more within is e g =
 
 -- ---- the items of a section
 
-item_rows : (spans : List SpanTree) (n : _) (row : Row_of-Item n) → items_within spans row ≡ flat_map (item_within spans) (items-the_row-Item n row)
-item_rows spans n end_of-Item = refl
-item_rows spans n (more_of-Item {n = m} i rest) = ap (λ t. item_within spans i ++ t) (item_rows spans m rest)
-
-none_more : (n : ℕ) → 0 + n ≡ n
-none_more n = omega arith
-
 span_is : (names : Senses) (spans : List SpanTree) (t : ℕ) (key : Primary) (value : Expr) (inside : List Item) →
     spans_in names (item_within spans (items.Span t key value inside)) ≡ spans_in names (flat_map (item_within (record { key = key; value = value } ∷ spans)) inside)
-unfolding Items.hidden-the_row-Item-0 Carrier.hidden
-span_is names spans t key value inside = let around = record { key = key; value = value } ∷ spans in
-    none_more (spans_in names (items_within around (Items.hidden-the_row-Item-0 inside)))
-    ∙ ap (spans_in names) (item_rows around _ (Items.hidden-the_row-Item-0 inside) ∙ ap (flat_map (item_within around)) (items_hidden-the_row-Item-0 inside))
+span_is names spans t key value inside =
+    ap (spans_in names) (span_item_inside spans t key value inside) ∙ zero-add (spans_in names (flat_map (item_within (record { key = key; value = value } ∷ spans)) inside))
 
 pub span_item : (names : Senses) (spans : List SpanTree) (i : Item) (t : ℕ) (key : Primary) (value : Expr) (inside : List Item) → i ≡ items.Span t key value inside →
     spans_in names (item_within spans i) ≡ spans_in names (flat_map (item_within (record { key = key; value = value } ∷ spans)) inside)

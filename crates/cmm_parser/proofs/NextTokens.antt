@@ -1,6 +1,6 @@
 -- The word or the symbol that is next, and what it stands for.
-use Rattle.std.proofs.Common.{◌≡◌, ◌≢◌, sym, ap, refl, ℕ, ◌==◌, Bool, true, false, Option, Some, None, arith}
-use Rattle.std.proofs.lemmas.Bool.Decides.{nat_tests}
+use Rattle.std.proofs.Common.{◌≡◌, ◌≢◌, sym, ap, refl, ℕ, Bool, true, false, Option, Some, None}
+use Rattle.std.proofs.lemmas.Bool.{eq-eqb, ne_eqb}
 use Rattle.cmm_lexer.specs.declared.keyword.Keyword.{Keyword}
 use Rattle.cmm_lexer.specs.declared.keyword.Keyword.TheVariants as word
 use Rattle.cmm_lexer.specs.declared.symbol.Symbol.{Symbol}
@@ -13,12 +13,6 @@ use Rattle.cmm_ast.specs.declared.expression.ExprForm.{ExprForm}
 use Rattle.cmm_ast.specs.Taking.{is_word, is_sign}
 use Rattle.cmm_grammar_laws.specs.ExpressionReading.{infix_next}
 use Rattle.cmm_parser.specs.inside.Parsing.{NoWord, NoSymbol, width_next, prefix_next}
-
-other : (a b : ℕ) → a ≢ b → (a == b) ≡ false
-other a b h = grind (arith, nat_tests)
-
-equal : (a b : ℕ) → a ≡ b → (a == b) ≡ true
-equal a b h = grind (arith, nat_tests)
 
 -- ---- what no word and no symbol stands for
 
@@ -55,11 +49,11 @@ no_infix level left _ none = refl
 -- ---- a word or a symbol that is next is this one
 
 pub word_same : (found word : Keyword) (t : Bool) → (t ≡ true → found ≡ word) → (t ≡ false → found ≢ word) → is_word word (l.Word (keyword_number found)) ≡ t
-word_same found word true same differs = let e : found ≡ word = same refl in equal (keyword_number word) (keyword_number found) (ap keyword_number (sym e))
+word_same found word true same differs = let e : found ≡ word = same refl in eq-eqb (keyword_number word) (keyword_number found) (ap keyword_number (sym e))
 word_same found word false same differs =
-    other (keyword_number word) (keyword_number found) (λ e. differs refl (sym (keyword_number-injective word found e)))
+    ne_eqb (keyword_number word) (keyword_number found) (λ e. differs refl (sym (keyword_number-injective word found e)))
 
 pub symbol_same : (found symbol : Symbol) (t : Bool) → (t ≡ true → found ≡ symbol) → (t ≡ false → found ≢ symbol) → is_sign symbol (l.Symbol (symbol_number found)) ≡ t
-symbol_same found symbol true same differs = let e : found ≡ symbol = same refl in equal (symbol_number symbol) (symbol_number found) (ap symbol_number (sym e))
+symbol_same found symbol true same differs = let e : found ≡ symbol = same refl in eq-eqb (symbol_number symbol) (symbol_number found) (ap symbol_number (sym e))
 symbol_same found symbol false same differs =
-    other (symbol_number symbol) (symbol_number found) (λ e. differs refl (sym (symbol_number-injective symbol found e)))
+    ne_eqb (symbol_number symbol) (symbol_number found) (λ e. differs refl (sym (symbol_number-injective symbol found e)))

@@ -1,6 +1,5 @@
 -- What the parser's answer says of the tokens of a unit.
 use Rattle.std.specs.Prelude.{◌≡◌, ◌⊎◌, List, [], ◌∷◌, ◌++◌, map}
-use Rattle.cmm_rules.specs.Rules.{rule_number}
 use Rattle.cmm_rules.specs.declared.rule.Rule.TheVariants.{Syntax, TooDeep}
 use Rattle.cmm_lexer.specs.declared.piece.Lexeme.{Lexeme}
 use Rattle.cmm_lexer.specs.declared.token.Token.{Token}
@@ -32,5 +31,5 @@ places_of ts = map place_of ts.list ++ record { line = ts.line; column = ts.colu
 
 -- one rule names the token that no unit goes on with, the other the first that passes a limit on nesting
 abbrev pub IsFaultOf : List Lexeme → SyntaxFault → Type 0
-IsFaultOf tokens (At rule token) = ((rule ≡ rule_number Syntax) × IsUnexpected tokens token) ⊎ ((rule ≡ rule_number TooDeep) × IsTooDeep tokens token)
+IsFaultOf tokens (At rule token) = ((rule ≡ Syntax) × IsUnexpected tokens token) ⊎ ((rule ≡ TooDeep) × IsTooDeep tokens token)
 IsFaultOf tokens Memory = Unit {0}

@@ -9,11 +9,11 @@ use thiserror::Error;
 /// Why a unit has no syntax tree.
 #[derive(Debug, Drop, Error)]
 pub enum SyntaxFault {
-    /// It breaks this rule at this token, counted from 0: 10 where no unit begins with the tokens up to and including this one,
-    /// or, past the last, where the tokens are no whole unit; 11 where this token opens one bracket too many, or is one operator
-    /// too many of an outermost expression.
+    /// It breaks this rule at this token, counted from 0: `Rule::Syntax` where no unit begins with the tokens up to and including
+    /// this one, or, past the last, where the tokens are no whole unit; `Rule::TooDeep` where this token opens one bracket too many,
+    /// or is one operator too many of an outermost expression.
     #[error("rule {rule} at token {token}")]
-    At { rule: u8, token: u32 },
+    At { rule: Rule, token: u32 },
     #[error("out of memory")]
     Memory,
 }
@@ -56,11 +56,11 @@ impl From<Stop> for SyntaxFault {
     fn from(stop: Stop) -> SyntaxFault {
         match stop {
             Stop::Unexpected(token) => SyntaxFault::At {
-                rule: Rule::Syntax.number(),
+                rule: Rule::Syntax,
                 token,
             },
             Stop::TooDeep(token) => SyntaxFault::At {
-                rule: Rule::TooDeep.number(),
+                rule: Rule::TooDeep,
                 token,
             },
             Stop::Memory => SyntaxFault::Memory,

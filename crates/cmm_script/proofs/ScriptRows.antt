@@ -91,16 +91,16 @@ unfolding opened
 row_script = made-script (codes "# c\nat 1\n\nlist\nother\nvar 2\nstop\n") _ (lit≤ tt) refl
 
 -- a line of none of the forms
-row_jump : ScriptFaultAt (codes "at 1\nlist\njump 1") (At 80 3)
+row_jump : ScriptFaultAt (codes "at 1\nlist\njump 1") (At UnknownLine 3)
 unfolding opened
-row_jump = made-fault (codes "at 1\nlist\njump 1") (At 80 3) (lit≤ tt) (UnknownLine, refl, refl)
+row_jump = made-fault (codes "at 1\nlist\njump 1") (At UnknownLine 3) (lit≤ tt) refl
 
 -- a command before the first block
-row_no_block : ScriptFaultAt (codes "\nlist\nat 1") (At 80 2)
+row_no_block : ScriptFaultAt (codes "\nlist\nat 1") (At UnknownLine 2)
 unfolding opened
-row_no_block = made-fault (codes "\nlist\nat 1") (At 80 2) (lit≤ tt) (UnknownLine, refl, refl)
+row_no_block = made-fault (codes "\nlist\nat 1") (At UnknownLine 2) (lit≤ tt) refl
 
 -- two spellings of one code
-row_repeat : ScriptFaultAt (codes "at 1\nother\nat 0x01\njump") (At 81 3)
+row_repeat : ScriptFaultAt (codes "at 1\nother\nat 0x01\njump") (At RepeatedBlock 3)
 unfolding opened
-row_repeat = made-fault (codes "at 1\nother\nat 0x01\njump") (At 81 3) (lit≤ tt) (RepeatedBlock, refl, refl)
+row_repeat = made-fault (codes "at 1\nother\nat 0x01\njump") (At RepeatedBlock 3) (lit≤ tt) refl

@@ -8,7 +8,6 @@ use Rattle.cmm_script.specs.declared.fault.ScriptFault.TheVariants.{At, Memory}
 use Rattle.cmm_script.specs.declared.script.Block.{Block}
 use Rattle.cmm_script.specs.declared.script.Script.{Script}
 use Rattle.cmm_script.specs.Words.{said_in}
-use Rattle.cmm_rules.specs.Rules.{rule_number}
 use Rattle.cmm_script.specs.inside.Building.{blocks_after, Makes}
 use Rattle.cmm_script.specs.Spelling.{SpellsScript}
 use Rattle.cmm_script.specs.Faults.{IsFirstFault, ScriptFaultAt, IsScript, IsRefusal}
@@ -30,7 +29,7 @@ made-script bytes bs short e = record { short = short; blocks = comes-of bytes (
 -- what a fault that was made says of the text
 pub made-fault : (bytes : List ℕ) (e : ScriptFault) → length bytes ≤ 65536 → Makes (Err e) (blocks_after [] (said_in bytes)) → ScriptFaultAt bytes e
 made-fault bytes Memory short h = tt
-made-fault bytes (At r line) short (rule, number, h) = (rule, number, inr (short, comes-of bytes (Err (rule, line)) h))
+made-fault bytes (At rule line) short h = inr (short, comes-of bytes (Err (rule, line)) h)
 
 abbrev Made : Type 0
 Made = Result (List Block) (Rule × ℕ)
@@ -57,7 +56,7 @@ no-fault bytes s rule line e h = ok-err s.blocks rule line (same-made (Ok s.bloc
 
 pub script-fault : (bytes : List ℕ) (s : Script) (e : ScriptFault) → Makes (Err e) (blocks_after [] (said_in bytes)) → SpellsScript bytes s → IsScript s (Err e)
 script-fault bytes s Memory h spelled = tt
-script-fault bytes s (At r line) (rule, number, h) spelled = no-fault bytes s rule line h spelled
+script-fault bytes s (At rule line) h spelled = no-fault bytes s rule line h spelled
 
 -- where blocks are made there is no fault
 pub made-no-fault : (bytes : List ℕ) (bs : List Block) (rule : Rule) (line : ℕ) → length bytes ≤ 65536 → blocks_after [] (said_in bytes) ≡ Ok bs → IsFirstFault bytes rule line → ⊥
@@ -66,9 +65,8 @@ made-no-fault bytes bs rule line short e h = ok-err bs rule line (same-made (Ok 
 -- the fault that is made is the first
 pub fault-is : (bytes : List ℕ) (rule : Rule) (line : ℕ) (e : ScriptFault) → length bytes ≤ 65536 → Makes (Err e) (blocks_after [] (said_in bytes)) → IsFirstFault bytes rule line → IsRefusal rule line (Err e)
 fault-is bytes rule line Memory short h first = tt
-fault-is bytes rule line (At r n) short (other, number, h) first =
-    let both = err-parts other rule n line (same-made (Err (other, n)) (Err (rule, line)) (blocks_after [] (said_in bytes)) h (fault-made bytes rule line short first)) in
-    (number ∙ ap rule_number both.0, both.1)
+fault-is bytes rule line (At other n) short h first =
+    err-parts other rule n line (same-made (Err (other, n)) (Err (rule, line)) (blocks_after [] (said_in bytes)) h (fault-made bytes rule line short first))
 
 -- ---- laws
 

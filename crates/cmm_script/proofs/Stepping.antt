@@ -58,9 +58,9 @@ lines-more bs cs i lines line all (h, at) e so_far = rw add-one (sym (blocks_aft
 pub lines-broken : (bs left : List Block) (i : ℕ) (lines : List (List ℕ)) (line : List ℕ) (all : Result (List Block) (Rule × ℕ)) (e : ScriptFault) → (i < length lines) × (line ≡ get_or lines i line)
     → Leaves (Err e) (i + 1) left (with_words bs (i + 1) (words_in line)) → blocks_after bs (said_from (suc i) (drop i lines)) ≡ all → Makes (Err e) all
 lines-broken bs left i lines line all Memory (h, at) fault so_far = tt
-lines-broken bs left i lines line all (At r n) (h, at) (rule, number, here, e) so_far =
+lines-broken bs left i lines line all (At rule n) (h, at) (here, e) so_far =
     let there : suc i ≡ n = omega (arith, here) in
-    (rule, number, sym so_far ∙ blocks_after-at bs i lines line (Err rule) h at e ∙ ap (λ (k : ℕ). Err (rule, k)) there)
+    sym so_far ∙ blocks_after-at bs i lines line (Err rule) h at e ∙ ap (λ (k : ℕ). Err (rule, k)) there
 
 -- all lines are read
 pub lines-done : (bs : List Block) (i : ℕ) (lines : List (List ℕ)) (all : Result (List Block) (Rule × ℕ)) (cs : List Block) → cs ≡ bs → i ≡ length lines → blocks_after bs (said_from (suc i) (drop i lines)) ≡ all → all ≡ Ok cs

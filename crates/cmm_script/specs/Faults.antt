@@ -2,7 +2,6 @@
 use Rattle.std.specs.Prelude.{◌≡◌, ℕ, true, ◌<◌, ◌≤◌, ◌⊎◌, List, [], ◌∷◌, ◌++◌, length, Option, Result, Ok, Err}
 use Rattle.cmm_rules.specs.declared.rule.Rule.{Rule}
 use Rattle.cmm_rules.specs.declared.rule.Rule.TheVariants.{UnknownLine, RepeatedBlock, ScriptTooLong}
-use Rattle.cmm_rules.specs.Rules.{rule_number}
 use Rattle.cmm_script.specs.declared.fault.ScriptFault.{ScriptFault}
 use Rattle.cmm_script.specs.declared.fault.ScriptFault.TheVariants.{At, Memory}
 use Rattle.cmm_script.specs.declared.reader.TheConstants.{SCRIPT_LIMIT}
@@ -42,7 +41,7 @@ IsFirstFault bytes rule line =
 -- the fault of bytes that are no script is this one
 abbrev pub ScriptFaultAt : List ℕ → ScriptFault → Type 0
 ScriptFaultAt bytes Memory = Unit {0}
-ScriptFaultAt bytes (At r line) = (rule : Rule) × (r ≡ rule_number rule) × IsFirstFault bytes rule line
+ScriptFaultAt bytes (At rule line) = IsFirstFault bytes rule line
 
 -- an answer is this script, unless memory ran out
 abbrev pub IsScript : Script → Result Script ScriptFault → Type 0
@@ -54,4 +53,4 @@ IsScript s (Err (At r line)) = ⊥
 abbrev pub IsRefusal : Rule → ℕ → Result Script ScriptFault → Type 0
 IsRefusal rule line (Ok s) = ⊥
 IsRefusal rule line (Err Memory) = Unit {0}
-IsRefusal rule line (Err (At r n)) = (r ≡ rule_number rule) × (n ≡ line)
+IsRefusal rule line (Err (At r n)) = (r ≡ rule) × (n ≡ line)

@@ -2,17 +2,19 @@
 
 ghost use Rattle.std.specs.Prelude.{◌≡◌};
 
+use cmm_rules::Rule;
 use std::alloc::{AllocError, AllocFailed};
 use thiserror::Error;
 
 /// Why there is no script.
 #[derive(Debug, Drop, Error)]
 pub enum ScriptFault {
-    /// The rule of this number is broken at this line, counted from 1. 80: the line is of none of the forms, or it is a command before
-    /// the first block. 81: it begins a block whose code an earlier block has, or a second `other`. 82: the script is longer than
-    /// `SCRIPT_LIMIT`, at line 1. 82 is tested first; of the other rules the first line that breaks one is named.
+    /// They break this rule at this line, counted from 1: `Rule::UnknownLine` where the line is of none of the forms, or is a command
+    /// before the first block; `Rule::RepeatedBlock` where it begins a block whose code an earlier block has, or a second `other`;
+    /// `Rule::ScriptTooLong` where the script is longer than `SCRIPT_LIMIT`, at line 1. The length is tested first; of the other rules
+    /// the first line that breaks one is named.
     #[error("rule {rule} line {line}")]
-    At { rule: u8, line: u32 },
+    At { rule: Rule, line: u32 },
     #[error("out of memory")]
     Memory,
 }

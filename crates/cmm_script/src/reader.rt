@@ -4,7 +4,6 @@ ghost use Rattle.std.specs.Prelude.{◌≡◌, ◌≤◌, ℕ, [], length, map, 
 ghost use Rattle.cmm_script.specs.inside.Building.{Leaves, Makes, with_head, with_last, with_line, with_words, blocks_after};
 ghost use Rattle.cmm_script.specs.Faults.{ScriptFaultAt, IsFirstFault, IsScript, IsRefusal};
 ghost use Rattle.cmm_script.specs.inside.Reading.{line_of as line_in_words};
-ghost use Rattle.cmm_rules.specs.Rules.{rule_number};
 ghost use Rattle.cmm_rules.specs.declared.rule.Rule.{Rule};
 ghost use Rattle.cmm_script.specs.declared.fault.ScriptFault.{ScriptFault};
 ghost use Rattle.cmm_script.specs.declared.script.Script.{Script};
@@ -129,10 +128,7 @@ fn add_command(blocks: &mut Vec<Block>, number: u32, command: Command) -> Result
 
 /// A broken rule, at a line.
 fn fault(rule: Rule, line: u32) -> ScriptFault
-    ensures { result ≡ ScriptFault.At (rule_number rule) line }
+    ensures { result ≡ ScriptFault.At rule line }
 {
-    ScriptFault::At {
-        rule: rule.number(),
-        line,
-    }
+    ScriptFault::At { rule, line }
 }

@@ -1,5 +1,6 @@
 -- What is noted of declarations that don't count comes before what would be noted of their cycles.
 use Rattle.std.proofs.Common.{◌≡◌, ℕ, suc, ◌+◌, ◌<◌, Bool, true, false, not, inl, inr, List, [], ◌∷◌, ◌++◌, length, map, take, drop, get_or, Option, Some, None, option_map, refl, sym, ◌∙◌, ap, subst, append_assoc, arith}
+use Rattle.std.proofs.lemmas.Bool.{false_from_ne_true}
 use Rattle.std.specs.Prelude.{bytes_eq, flat_map, unwrap_or}
 use Rattle.std.proofs.lemmas.Slice.Eq.{bytes_eq-Decides}
 use Rattle.std.proofs.lemmas.Grind.{flat_map-append}
@@ -37,15 +38,11 @@ past_of s None h = absurd h
 past_of s (Some t) h = ap (λ b. chosen b s t) h
 
 -- the one that is chosen of two has none of them before it
-not_both : (b : Bool) → (b ≡ true → ⊥) → b ≡ false
-not_both true h = absurd (h refl)
-not_both false h = refl
-
 later_chosen : (s t u : Spot) → comes_before s t ≡ false → not_before s (chosen (comes_before u t) u t)
 later_chosen s t u h = by (comes_before u t) refl
   where
     by : (b : Bool) → comes_before u t ≡ b → not_before s (chosen b u t)
-    by true sooner_ = not_both (comes_before s u) (λ before. let e : true ≡ false = sym (spot_order.through s u t before sooner_) ∙ h in cc)
+    by true sooner_ = false_from_ne_true (comes_before s u) (λ before. let e : true ≡ false = sym (spot_order.through s u t before sooner_) ∙ h in cc)
     by false other = h
 
 later_all : (s : Spot) (best : Option Spot) (ss : List Spot) → not_before s best → not_before s (first_of best ss)
@@ -57,12 +54,12 @@ after_chosen : (s t u : Spot) → comes_before u s ≡ true → not_before s (ch
 after_chosen s t u first = by (comes_before u t) refl
   where
     by : (b : Bool) → comes_before u t ≡ b → not_before s (chosen b u t)
-    by true sooner_ = not_both (comes_before s u) (λ before. spot_order.itself s (spot_order.through s u s before first))
-    by false other = not_both (comes_before s t) (λ before. let e : true ≡ false = sym (spot_order.through u s t first before) ∙ other in cc)
+    by true sooner_ = false_from_ne_true (comes_before s u) (λ before. spot_order.itself s (spot_order.through s u s before first))
+    by false other = false_from_ne_true (comes_before s t) (λ before. let e : true ≡ false = sym (spot_order.through u s t first before) ∙ other in cc)
 
 -- a spot that is in the list comes before another
 after_one : (s u : Spot) (best : Option Spot) → comes_before u s ≡ true → not_before s (first_of best (u ∷ []))
-after_one s u None first = not_both (comes_before s u) (λ before. let h : not_before s (chosen (comes_before u u) u u) = after_chosen s u u first in itself h before)
+after_one s u None first = false_from_ne_true (comes_before s u) (λ before. let h : not_before s (chosen (comes_before u u) u u) = after_chosen s u u first in itself h before)
   where
     itself : not_before s (chosen (comes_before u u) u u) → comes_before s u ≡ true → ⊥
     itself h before = by (comes_before u u) h
@@ -177,7 +174,7 @@ past_is s (Some t) h = by (comes_before s t) refl h
     by true before e = let same : s ≡ t = ap (λ (o : Option Spot). unwrap_or o s) e in let f : true ≡ false = sym before ∙ ap (comes_before s) (sym same) ∙ itself in cc
       where
         itself : comes_before s s ≡ false
-        itself = not_both (comes_before s s) (spot_order.itself s)
+        itself = false_from_ne_true (comes_before s s) (spot_order.itself s)
     by false before e = refl
 
 pub noted_later : (token : ℕ) (best : Option Spot) (ss : List Spot) → IsNoted token best → IsNoted token (first_of best ss)

@@ -2,7 +2,7 @@
 use Rattle.std.proofs.Common.{◌≡◌, ℕ, ◌+◌, ◌<◌, Bool, true, false, ◌||◌, not, length, map, take, get_or, refl, ap, sym, ◌∙◌, List, [], ◌∷◌, ◌++◌, Option, Some, None, append_assoc, append-nil}
 use Rattle.std.specs.Prelude.{bytes_eq, flat_map}
 use Rattle.std.proofs.lemmas.Grind.{flat_map-append}
-use Rattle.std.proofs.Math.Bool.{or-false}
+use Rattle.std.proofs.Math.Bool.{or-false, or_assoc}
 use Rattle.cmm_ast.specs.declared.declaration.Export.{Export}
 use Rattle.cmm_rules.specs.declared.rule.Rule.TheVariants.{ExportedTwice}
 use Rattle.cmm_static_semantics.specs.declared.spot.Spot.{Spot}
@@ -16,13 +16,9 @@ use Rattle.cmm_static.specs.inside.Linked.{AreLinks, AreFound}
 use Rattle.cmm_symbols.specs.declared.index.Index.{Index}
 use Rattle.cmm_symbols.proofs.Shared.{first_of_append, found_push, mapped_next}
 
-or_assoc : (a b c : Bool) → (a || (b || c)) ≡ ((a || b) || c)
-or_assoc true b c = refl
-or_assoc false b c = refl
-
 among_push : (x : List ℕ) (ns : List (List ℕ)) (n : List ℕ) → is_among x (ns ++ n ∷ []) ≡ (is_among x ns || bytes_eq x n)
 among_push x [] n = or-false (bytes_eq x n)
-among_push x (m ∷ ns) n = ap (λ b. bytes_eq x m || b) (among_push x ns n) ∙ or_assoc (bytes_eq x m) (is_among x ns) (bytes_eq x n)
+among_push x (m ∷ ns) n = ap (λ b. bytes_eq x m || b) (among_push x ns n) ∙ sym (or_assoc (bytes_eq x m) (is_among x ns) (bytes_eq x n))
 
 there_else : {E : Type 0} (o : Option E) (b : Bool) (next : E) → is_there (or_else o b next) ≡ (is_there o || b)
 there_else (Some e) b next = refl

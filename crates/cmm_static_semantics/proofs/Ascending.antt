@@ -1,5 +1,6 @@
 -- Names in ascending order: the same names are among them, and there is one such order of them.
 use Rattle.std.proofs.Common.{◌≡◌, ℕ, refl, sym, ap, ◌∙◌, subst, Bool, true, false, ◌||◌, List, [], ◌∷◌, ◌++◌}
+use Rattle.std.proofs.Math.Bool.{or_assoc}
 use Rattle.std.specs.Prelude.{bytes_eq}
 use Rattle.std.specs.List.{AllByRecursion}
 use Rattle.std.specs.List.Sorted.{IsStrictlySortedBy}
@@ -53,13 +54,9 @@ among_put x name (n ∷ ns) = by (slice_cmp nat_cmp name n) refl (among_put x na
     by Equal is later = subst (λ (m : Name). is_among x (n ∷ ns) ≡ (bytes_eq x m || (bytes_eq x n || is_among x ns))) (sym (one_name name n is)) (first_again (bytes_eq x n) (is_among x ns))
     by Greater is later = ap (λ b. bytes_eq x n || b) later ∙ exchanged (bytes_eq x name) (bytes_eq x n) (is_among x ns)
 
-or_assoc : (a b c : Bool) → (a || (b || c)) ≡ ((a || b) || c)
-or_assoc true b c = refl
-or_assoc false b c = refl
-
 pub among_append : (x : Name) (xs ys : List Name) → is_among x (xs ++ ys) ≡ (is_among x xs || is_among x ys)
 among_append x [] ys = refl
-among_append x (n ∷ xs) ys = ap (λ b. bytes_eq x n || b) (among_append x xs ys) ∙ or_assoc (bytes_eq x n) (is_among x xs) (is_among x ys)
+among_append x (n ∷ xs) ys = ap (λ b. bytes_eq x n || b) (among_append x xs ys) ∙ sym (or_assoc (bytes_eq x n) (is_among x xs) (is_among x ys))
 
 pub among_in_order : (x : Name) (names : List Name) → is_among x (in_order names) ≡ is_among x names
 among_in_order x [] = refl

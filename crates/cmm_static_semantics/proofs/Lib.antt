@@ -7,3 +7,4 @@ mod LimitRows
 pub mod Alike
 pub mod Composing
 pub mod Ascending
+pub mod Inside

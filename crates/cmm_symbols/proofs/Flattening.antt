@@ -1,34 +1,21 @@
 -- What stands in a section, an item after the other.
-use Rattle.std.proofs.Common.{◌≡◌, ℕ, ◌+◌, ◌<◌, length, take, get_or, List, [], ◌∷◌, ◌++◌, refl, sym, ap, ◌∙◌, append_assoc}
+use Rattle.std.proofs.Common.{◌≡◌, ℕ, ◌+◌, ◌<◌, length, take, get_or, List, [], ◌∷◌, ◌++◌, sym, ap, ◌∙◌, append_assoc}
 use Rattle.std.proofs.lemmas.List.{map-append}
 use Rattle.std.specs.Prelude.{flat_map}
-use denote.Hole.Carrier as Carrier
 use Rattle.cmm_ast.specs.declared.expression.Expr.{Expr}
 use Rattle.cmm_ast.specs.declared.expression.Primary.{Primary}
-use Rattle.cmm_ast.specs.declared.unit.Item.{Item, Row_of-Item, end_of-Item, more_of-Item, items-the_row-Item, items_hidden-the_row-Item-0}
+use Rattle.cmm_ast.specs.declared.unit.Item.{Item}
 use Rattle.cmm_ast.specs.declared.unit.Item.TheVariants as items
-use Rattle.cmm_ast.specs.declared.unit.Item.TheBlock as Items
-use Rattle.cmm_static_semantics.specs.Items.{SpanTree, Within, within, item_within, items_within}
+use Rattle.cmm_static_semantics.specs.Items.{SpanTree, Within, item_within}
+use Rattle.cmm_static_semantics.proofs.Shared.{span_item_inside}
 use Rattle.cmm_symbols.specs.Shown.{whats}
 use Rattle.cmm_symbols.proofs.Firsts.{flat_plain}
 
-item_rows : (spans : List SpanTree) (n : _) (row : Row_of-Item n) → items_within spans row ≡ flat_map (item_within spans) (items-the_row-Item n row)
-item_rows spans n end_of-Item = refl
-item_rows spans n (more_of-Item {n = m} i rest) = ap (λ t. item_within spans i ++ t) (item_rows spans m rest)
-
-span_is : (spans : List SpanTree) (t : ℕ) (key : Primary) (value : Expr) (inside : List Item) →
-    item_within spans (items.Span t key value inside)
-    ≡ within spans (items.Span t key value inside) ∷ flat_map (item_within (record { key = key; value = value } ∷ spans)) inside
-unfolding Items.hidden-the_row-Item-0 Carrier.hidden
-span_is spans t key value inside = ap (λ xs. within spans (items.Span t key value inside) ∷ xs)
-    (item_rows (record { key = key; value = value } ∷ spans) _ (Items.hidden-the_row-Item-0 inside)
-    ∙ ap (flat_map (item_within (record { key = key; value = value } ∷ spans))) (items_hidden-the_row-Item-0 inside))
-
--- the same of what is known to be a span
+-- what stands in a span
 pub span_law : (spans : List SpanTree) (i : Item) (t : ℕ) (key : Primary) (value : Expr) (inside : List Item) → i ≡ items.Span t key value inside →
     whats (item_within spans i) ≡ i ∷ whats (flat_map (item_within (record { key = key; value = value } ∷ spans)) inside)
 span_law spans i t key value inside is =
-    ap (λ j. whats (item_within spans j)) is ∙ ap whats (span_is spans t key value inside)
+    ap (λ j. whats (item_within spans j)) is ∙ ap whats (span_item_inside spans t key value inside)
     ∙ ap (λ j. j ∷ whats (flat_map (item_within (record { key = key; value = value } ∷ spans)) inside)) (sym is)
 
 -- one item more

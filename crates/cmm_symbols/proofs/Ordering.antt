@@ -2,7 +2,7 @@
 use Rattle.std.proofs.Common.{◌≡◌, ℕ, ◌<◌, ◌==◌, Bool, true, false, ◌||◌, ◌&&◌, ◌⊎◌, inl, inr, List, [], ◌∷◌, ◌++◌, Option, Some, None, refl, sym, ◌∙◌, ap, arith}
 use Rattle.std.specs.Prelude.{nat_lt, flat_map}
 use Rattle.std.proofs.lemmas.Bool.Decides.{nat_tests}
-use Rattle.std.proofs.lemmas.Bool.{and_parts, or_cases, eqb-true, eq-eqb, ltb-true, lt-ltb}
+use Rattle.std.proofs.lemmas.Bool.{and_parts, or_cases, eqb-true, eq-eqb, ltb-true, lt-ltb, false_from_ne_true}
 use Rattle.cmm_rules.specs.declared.rule.Rule.{Rule}
 use Rattle.cmm_rules.specs.Rules.{rule_number}
 use Rattle.cmm_rules.proofs.Shared.{one_rule}
@@ -126,10 +126,6 @@ spot_order =
 
 -- ---- the first by an order
 
-not_true : (b : Bool) → (b ≡ true → ⊥) → b ≡ false
-not_true true h = absurd (h refl)
-not_true false h = refl
-
 both_ways : (b : Bool) → b ≡ true → b ≡ false → ⊥
 both_ways b t f = let e : true ≡ false = sym t ∙ f in cc
 
@@ -138,7 +134,7 @@ chosen b x y = elim b [ true ↦ Some x | false ↦ Some y ]
 
 -- none of three comes before the first, if the second and the third come before none before them
 past : {A : Type 0} (before : A → A → Bool) → IsOrder before → (a b c : A) → before b a ≡ false → before c b ≡ false → before c a ≡ false
-past before order a b c h i = not_true (before c a) (λ first. by first (order.three c b))
+past before order a b c h i = false_from_ne_true (before c a) (λ first. by first (order.three c b))
   where
     by : before c a ≡ true → Three before (λ x y. x ≡ y) c b → ⊥
     by first (inl sooner) = both_ways (before c b) sooner i
@@ -168,9 +164,9 @@ sooner_swapped before order (Some a) None = refl
 sooner_swapped before order (Some a) (Some b) = by (order.three a b)
   where
     by : Three before (λ x y. x ≡ y) a b → chosen (before b a) b a ≡ chosen (before a b) a b
-    by (inl first) = ap (λ w. chosen w b a) (not_true (before b a) (λ second. order.itself a (order.through a b a first second))) ∙ sym (ap (λ w. chosen w a b) first)
+    by (inl first) = ap (λ w. chosen w b a) (false_from_ne_true (before b a) (λ second. order.itself a (order.through a b a first second))) ∙ sym (ap (λ w. chosen w a b) first)
     by (inr (inl same)) = ap (λ x. chosen (before x a) x a) (sym same) ∙ ap (λ x. chosen (before a x) a x) same
-    by (inr (inr second)) = ap (λ w. chosen w b a) second ∙ sym (ap (λ w. chosen w a b) (not_true (before a b) (λ first. order.itself a (order.through a b a first second))))
+    by (inr (inr second)) = ap (λ w. chosen w b a) second ∙ sym (ap (λ w. chosen w a b) (false_from_ne_true (before a b) (λ first. order.itself a (order.through a b a first second))))
 
 -- what is first of more is named of what was first and what is first of that
 pub first_apart : {A : Type 0} (before : A → A → Bool) → IsOrder before → (best : Option A) (xs : List A) → first_by before best xs ≡ sooner_by before best (first_by before None xs)

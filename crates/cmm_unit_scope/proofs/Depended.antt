@@ -1,5 +1,6 @@
 -- A declaration that leads back to itself by numbers does so by names.
 use Rattle.std.proofs.Common.{◌≡◌, ℕ, suc, zero, ◌==◌, Bool, true, false, ◌||◌, List, [], ◌∷◌, ◌++◌, length, map, Option, Some, None, option_map, refl, sym, ◌∙◌, ap}
+use Rattle.std.proofs.Math.Bool.{or-false}
 use Rattle.std.specs.Prelude.{option_and_then, bytes_eq, nat_lt, unwrap_or}
 use Rattle.std.specs.List.{list_any, list_all}
 use Rattle.std.proofs.lemmas.Bool.{lt-ltb, eqb-true, eq-eqb}
@@ -104,10 +105,6 @@ nowhere : (count : ℕ) (ds : List (Declared Entry)) (x : List ℕ) → names_re
 nowhere zero ds x = refl
 nowhere (suc count) ds x = refl
 
-or_none : (b : Bool) → (b || false) ≡ b
-or_none true = refl
-or_none false = refl
-
 module _ (ds : List (Declared Entry)) (x : List ℕ) (i : ℕ) (is : number_in (numbering ds) x ≡ Some i) where
   not_same : (n : List ℕ) → number_in (numbering ds) n ≡ None → (b : Bool) → bytes_eq n x ≡ b → b ≡ false
   not_same n none true same = absurd (none_some i (sym (sym is ∙ ap (number_in (numbering ds)) (sym ((bytes_eq-Decides n x).0 same)) ∙ none)))
@@ -135,7 +132,7 @@ module _ (ds : List (Declared Entry)) (x : List ℕ) (i : ℕ) (is : number_in (
   one_name count later n None none =
       sym (rw (not_same n none (bytes_eq n x) refl, entry_numbered ds n, none, nowhere count ds x) refl)
   one_name count later n (Some j) number =
-      or_none (by_number count j)
+      or-false (by_number count j)
       ∙ ap (λ b. b || reaches (graph_of ds) count i (mentions (graph_of ds) j)) (same_number n j number (bytes_eq n x) (j == i) refl refl)
       ∙ ap (λ b. bytes_eq n x || b) (ap (reaches (graph_of ds) count i) (mentions_is (numbering ds) ds j) ∙ later (named_by (entry_at ds j))
       ∙ ap (λ e. names_reach count ds x (named_by e)) (sym (entry_numbered ds n ∙ ap (option_and_then (entry_at ds)) number)))

@@ -1,5 +1,6 @@
 -- Lists that loops fill, item by item.
 use Rattle.std.proofs.Common.{◌≡◌, ◌≢◌, ℕ, zero, suc, ◌+◌, ◌<◌, ◌≤◌, ◌==◌, Bool, true, false, ◌||◌, List, [], ◌∷◌, ◌++◌, length, map, get_or, take, set, replicate, Option, Some, None, refl, sym, ◌∙◌, ap, arith}
+use Rattle.std.proofs.Math.Bool.{or-true, or-false}
 use Rattle.std.specs.Prelude.{nat_lt}
 use Rattle.std.proofs.lemmas.Bool.{eqb-true, ltb-true}
 use Rattle.std.proofs.lemmas.Bool.Decides.{nat_tests}
@@ -18,14 +19,6 @@ use Rattle.cmm_unit_scope.specs.inside.Evaluating.{declared_at, flag_at, waits_f
 
 -- ---- marks
 
-or_true : (b : Bool) → (b || true) ≡ true
-or_true true = refl
-or_true false = refl
-
-or_false : (b : Bool) → (b || false) ≡ b
-or_false true = refl
-or_false false = refl
-
 pub no_marks : (n v : ℕ) → flag_at (replicate n false) v ≡ false
 no_marks n v = by (nat_lt v n) refl
   where
@@ -35,9 +28,9 @@ no_marks n v = by (nat_lt v n) refl
 
 marked : (flags : List Bool) (x v : ℕ) (before : Bool) → x < length flags → flag_at flags v ≡ before → (b : Bool) → (x == v) ≡ b → flag_at (set flags x true) v ≡ (before || b)
 marked flags x v before within same true e =
-    ap (λ n. flag_at (set flags x true) n) (sym (eqb-true x v e)) ∙ get_or-set_same flags x true false within ∙ sym (or_true before)
+    ap (λ n. flag_at (set flags x true) n) (sym (eqb-true x v e)) ∙ get_or-set_same flags x true false within ∙ sym (or-true before)
 marked flags x v before within same false e =
-    let ne : v ≢ x = grind (arith, nat_tests) in get_or-set_other flags x v true false ne ∙ same ∙ sym (or_false before)
+    let ne : v ≢ x = grind (arith, nat_tests) in get_or-set_other flags x v true false ne ∙ same ∙ sym (or-false before)
 
 pub mark_next : (flags : List Bool) (nodes : List ℕ) (k : ℕ) → k < length nodes → get_or nodes k 0 < length flags → ((v : ℕ) → flag_at flags v ≡ is_among v (take k nodes)) →
     (v : ℕ) → flag_at (set flags (get_or nodes k 0) true) v ≡ is_among v (take (k + 1) nodes)

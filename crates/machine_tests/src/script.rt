@@ -204,7 +204,7 @@ fn is_said(command: &Command, said: Said) -> bool {
 fn fault_of(alloc: Global, bytes: &[u8]) -> (u8, u32) {
     match parse_script(alloc, bytes) {
         Ok(_) => (0, 0),
-        Err(ScriptFault::At { rule, line }) => (rule, line),
+        Err(ScriptFault::At { rule, line }) => (rule.number(), line),
         Err(ScriptFault::Memory) => (255, 0),
     }
 }

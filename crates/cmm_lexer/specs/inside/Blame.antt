@@ -2,12 +2,10 @@
 use Rattle.std.specs.Prelude.{◌≡◌, ℕ}
 use Rattle.cmm_lexer.specs.declared.piece.Part.{Part}
 use Rattle.cmm_lexer.specs.declared.piece.Part.TheVariants.{Broken}
-use Rattle.cmm_rules.specs.declared.rule.Rule.{Rule}
 use Rattle.cmm_lexer.specs.declared.tokens.LexFault.{LexFault}
 use Rattle.cmm_lexer.specs.declared.tokens.LexFault.TheVariants.{At, Memory}
-use Rattle.cmm_rules.specs.Rules.{rule_number}
 
 -- the part breaks the rule of the fault, whose place is this line and column
 abbrev pub Blames : Part → ℕ → ℕ → LexFault → Type 0
 Blames part line column Memory = Unit {0}
-Blames part line column (At r l c) = (rule : Rule) × (part ≡ Broken rule) × (r ≡ rule_number rule) × (l ≡ line) × (c ≡ column)
+Blames part line column (At r l c) = (part ≡ Broken r) × (l ≡ line) × (c ≡ column)

@@ -14,7 +14,6 @@ use Rattle.cmm_ast.specs.declared.expression.Prefix.{Prefix}
 use Rattle.cmm_grammar_laws.specs.ExpressionReading.{type_name, width_in, prefix_in}
 use Rattle.cmm_grammar_laws.specs.PartReading.{is_width}
 use Rattle.cmm_grammar_laws.specs.StatementReading.{block}
-use Rattle.cmm_rules.specs.Rules.{rule_number}
 use Rattle.cmm_rules.specs.declared.rule.Rule.TheVariants as rules
 use Rattle.cmm_parser.specs.Faults.{lexemes}
 use Rattle.cmm_parser.specs.declared.fault.SyntaxFault.{SyntaxFault}
@@ -36,8 +35,8 @@ Answered answer (Err stop.Memory) after = Unit {0}
 
 -- the fault that a stop is
 abbrev pub fault_of : Stop → SyntaxFault
-fault_of (stop.Unexpected token) = faults.At (rule_number rules.Syntax) token
-fault_of (stop.TooDeep token) = faults.At (rule_number rules.TooDeep) token
+fault_of (stop.Unexpected token) = faults.At rules.Syntax token
+fault_of (stop.TooDeep token) = faults.At rules.TooDeep token
 fault_of stop.Memory = faults.Memory
 
 -- where something is read, whether it has a token or may be empty

@@ -2,7 +2,6 @@
 use Rattle.std.specs.Prelude.{◌≡◌, ℕ, true, false, if◌then◌else◌, List, [], ◌∷◌, ◌++◌, Option, Some, None, Result, Ok, Err}
 use Rattle.cmm_rules.specs.declared.rule.Rule.{Rule}
 use Rattle.cmm_rules.specs.declared.rule.Rule.TheVariants.{UnknownLine, RepeatedBlock}
-use Rattle.cmm_rules.specs.Rules.{rule_number}
 use Rattle.cmm_script.specs.declared.fault.ScriptFault.{ScriptFault}
 use Rattle.cmm_script.specs.declared.fault.ScriptFault.TheVariants.{At, Memory}
 use Rattle.cmm_script.specs.declared.line.Line.{Line}
@@ -55,10 +54,10 @@ blocks_after bs (l ∷ ls) = elim (with_line bs l.number (line_of l.words)) [ Er
 abbrev pub Leaves : Result (Unit {0}) ScriptFault → ℕ → List Block → Result (List Block) Rule → Type 0
 Leaves (Ok u) n left made = made ≡ Ok left
 Leaves (Err Memory) n left made = Unit {0}
-Leaves (Err (At r line)) n left made = (rule : Rule) × (r ≡ rule_number rule) × (line ≡ n) × (made ≡ Err rule)
+Leaves (Err (At rule line)) n left made = (line ≡ n) × (made ≡ Err rule)
 
 -- what a function returned about all lines
 abbrev pub Makes : Result (List Block) ScriptFault → Result (List Block) (Rule × ℕ) → Type 0
 Makes (Ok bs) made = made ≡ Ok bs
 Makes (Err Memory) made = Unit {0}
-Makes (Err (At r line)) made = (rule : Rule) × (r ≡ rule_number rule) × (made ≡ Err (rule, line))
+Makes (Err (At rule line)) made = made ≡ Err (rule, line)

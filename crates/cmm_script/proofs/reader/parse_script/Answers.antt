@@ -1,11 +1,10 @@
 use Rattle.std.proofs.Common.{arith, refl, inl}
 use Rattle.std.proofs.lemmas.Result.{err_from_is_err_and}
-use Rattle.cmm_rules.specs.declared.rule.Rule.TheVariants.{ScriptTooLong}
 use Rattle.cmm_script.proofs.Scripts.{made-script, made-fault, made-is, script-fault, made-no-fault, fault-is}
 use Rattle.cmm_script.proofs.reader.parse_script.Goals as goal
 
 pub returns-then-bytes-gt-SCRIPT_LIMIT-clause-err : goal.returns-then-bytes-gt-SCRIPT_LIMIT-clause-err
-returns-then-bytes-gt-SCRIPT_LIMIT-clause-err c = rw c.fault.ensures (ScriptTooLong, refl, inl (omega arith, refl, refl))
+returns-then-bytes-gt-SCRIPT_LIMIT-clause-err c = rw c.fault.ensures (inl (omega arith, refl, refl))
 
 pub returns-in_err-blocks-clause-only : goal.returns-in_err-blocks-clause-only
 returns-in_err-blocks-clause-only c =

@@ -1,5 +1,5 @@
--- What stands inside a statement, by its blocks as lists.
-use Rattle.std.proofs.Common.{◌≡◌, refl, sym, ap, ◌∙◌, List, ◌∷◌, ◌++◌, Option}
+-- What stands inside statements and items, by their blocks as lists.
+use Rattle.std.proofs.Common.{◌≡◌, ℕ, refl, sym, ap, ◌∙◌, List, ◌∷◌, ◌++◌, Option}
 use Rattle.std.specs.Prelude.{flat_map}
 use denote.Hole.Carrier as Carrier
 use Rattle.cmm_ast.specs.declared.expression.Expr.{Expr}
@@ -15,11 +15,16 @@ use Rattle.cmm_ast.specs.declared.statement.Span.{Span as SwitchSpan}
 use Rattle.cmm_ast.specs.declared.statement.Stmt.{Stmt}
 use Rattle.cmm_ast.specs.declared.statement.StmtForm.{Row_of-Arm, end_of-Arm, more_of-Arm, items-the_row-Arm, items_hidden-the_row-Arm-2}
 use Rattle.cmm_ast.specs.declared.statement.StmtForm.TheVariants as stmts
-use Rattle.cmm_static_semantics.specs.Items.{SpanTree, Within, parts_in, part_within, parts_inside, parts_of_arms, parts_otherwise, parts_row}
+use Rattle.cmm_ast.specs.declared.unit.Item.{Item, Row_of-Item, end_of-Item, more_of-Item, items-the_row-Item, items_hidden-the_row-Item-0}
+use Rattle.cmm_ast.specs.declared.unit.Item.TheVariants as items
+use Rattle.cmm_ast.specs.declared.unit.Item.TheBlock as Items
+use Rattle.cmm_static_semantics.specs.Items.{SpanTree, Within, within, item_within, items_within, parts_in, part_within, parts_inside, parts_of_arms, parts_otherwise, parts_row}
 
-unfoldable pub opened : Unit {0}
-unfolding OtherwiseForms.hidden-the_row-Part-0 OtherwiseForms.hidden-the_row-Stmt-1 OtherwiseForms.hidden-the_row-Arm-2 Carrier.hidden Carrier.roll
+unfoldable opened : Unit {0}
+unfolding OtherwiseForms.hidden-the_row-Part-0 OtherwiseForms.hidden-the_row-Stmt-1 OtherwiseForms.hidden-the_row-Arm-2 Items.hidden-the_row-Item-0 Carrier.hidden Carrier.roll
 opened = tt
+
+-- ---- statements
 
 part_rows : (spans : List SpanTree) (n : _) (row : Row_of-Part n) → parts_row spans row ≡ flat_map (part_within spans) (items-the_row-Part n row)
 part_rows spans n end_of-Part = refl
@@ -60,3 +65,17 @@ else_inside spans b = hidden_parts spans b.parts
 pub else_if_inside : (spans : List SpanTree) (s : Stmt) → parts_otherwise spans (otherwises.ElseIf s) ≡ part_within spans (parts.Stmt s)
 unfolding opened
 else_if_inside spans s = refl
+
+-- ---- items of a section
+
+item_rows : (spans : List SpanTree) (n : _) (row : Row_of-Item n) → items_within spans row ≡ flat_map (item_within spans) (items-the_row-Item n row)
+item_rows spans n end_of-Item = refl
+item_rows spans n (more_of-Item {n = m} i rest) = ap (λ t. item_within spans i ++ t) (item_rows spans m rest)
+
+pub span_item_inside : (spans : List SpanTree) (t : ℕ) (key : Primary) (value : Expr) (inside : List Item) →
+    item_within spans (items.Span t key value inside)
+    ≡ within spans (items.Span t key value inside) ∷ flat_map (item_within (record { key = key; value = value } ∷ spans)) inside
+unfolding opened
+span_item_inside spans t key value inside = ap (λ xs. within spans (items.Span t key value inside) ∷ xs)
+    (item_rows (record { key = key; value = value } ∷ spans) _ (Items.hidden-the_row-Item-0 inside)
+    ∙ ap (flat_map (item_within (record { key = key; value = value } ∷ spans))) (items_hidden-the_row-Item-0 inside))
