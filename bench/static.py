@@ -59,8 +59,7 @@ def units():
 
 def leading_to_cycle(count):
     """Constants of which each is the next, and the last is itself."""
-    short = [name(number)[1:] for number in range(count)]
-    return MAIN + "".join(f"const {mine}={of};" for mine, of in zip(short, [*short[1:], short[-1]]))
+    return subprocess.run([sys.executable, "tools/generated_unit.py", "--cycle", str(count)], stdout=subprocess.PIPE, check=True, text=True).stdout
 
 
 def tokens(unit):

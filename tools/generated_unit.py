@@ -1,8 +1,12 @@
 #!/usr/bin/env python3
 """The unit that `gen` makes, made a second time: `generated_unit.py NUMBER` prints its text,
 `generated_unit.py --sums NUMBER..` a row for each number: the text's length and its sum,
-which is (31 * sum + byte) modulo 2^32 over its bytes. The tests keep these rows."""
+which is (31 * sum + byte) modulo 2^32 over its bytes. The tests keep these rows.
+`generated_unit.py --cycle COUNT` prints another unit: constants, of which each is the next and the last is itself."""
 import sys
+
+# of these letters neither a reserved word of the language is made nor main
+LETTERS = "abcdefghijknopqr"
 
 BODIES = [
     "bits64 r; r = p{j}(x + bits64[t + {a}]); return (r);",
@@ -29,6 +33,16 @@ def unit(number):
     return "".join(line + "\n" for line in lines).encode()
 
 
+def name(number):
+    return "".join(LETTERS[number >> shift & 15] for shift in (12, 8, 4, 0))
+
+
+def cycle(count):
+    """A main and, in a line of their own, constants that all lead to the last one, which depends on itself: 16 bytes each."""
+    constants = [f"const {name(n)}={name(min(n + 1, count - 1))};" for n in range(count)]
+    return f"export main; main() {{ return (1); }}\n{''.join(constants)}\n".encode()
+
+
 def total(text):
     result = 0
     for byte in text:
@@ -40,5 +54,7 @@ if sys.argv[1] == "--sums":
     for word in sys.argv[2:]:
         text = unit(int(word))
         print(f"({word}, {len(text)}, {total(text)}),")
+elif sys.argv[1] == "--cycle":
+    sys.stdout.buffer.write(cycle(int(sys.argv[2])))
 else:
     sys.stdout.buffer.write(unit(int(sys.argv[1])))

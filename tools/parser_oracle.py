@@ -410,7 +410,7 @@ def answer(text, start="unit"):
     trees = ends.get(len(tokens), [])
     if len(trees) == 1:
         return trees[0]
-    return f"more trees than one: {len(trees)}" if trees else f"rule 10 at token {recognizer.furthest}"
+    return f"more trees than one: {len(trees)}" if trees else f"rule 10 syntax at token {recognizer.furthest}"
 
 
 if __name__ == "__main__":

@@ -19,6 +19,7 @@ A file has one of these after its name, and so has `then`; the paths of `from` b
     = "TEXT" * N + "TEXT"       these bytes, by the escapes \\n \\t \\r \\0 \\\\ \\" and \\xHH
     is NAME                     the text of a line `unit NAME` with `: TEXT` or `= ..`, of this paragraph or of an earlier one without words
     from PATH
+    by SCRIPT WORDS             what this script of tools/ prints
     image of a.cmm b.cmm        what the program builds of these files of the case; CHANGES may follow, each behind a comma:
                                 `first 0 .. 3 bytes` (a run for each length), `each byte xor ff` (a run for each byte), `at 64 00 00`, `24 has 00 01`
                                 (which those bytes must be already), `and 00` (at the end)
@@ -42,7 +43,8 @@ import subprocess
 import sys
 import tempfile
 
-ROWS = os.path.join(os.path.dirname(os.path.dirname(os.path.abspath(__file__))), "rows")
+TOOLS = os.path.dirname(os.path.abspath(__file__))
+ROWS = os.path.join(os.path.dirname(TOOLS), "rows")
 QUOTED = r'"(?:[^"\\]|\\.)*"'
 ESCAPES = {"n": 10, "t": 9, "r": 13, "0": 0, "\\": 92, '"': 34}
 USAGE, REFUSED, FILE_FAULT = 2, 3, 9
@@ -264,6 +266,9 @@ class Runner:
         if told.startswith("from "):
             with open(os.path.join(ROWS, told[5:]), "rb") as file:
                 return [file.read()]
+        if told.startswith("by "):
+            script, *words = shlex.split(told[3:])
+            return [subprocess.run([sys.executable, os.path.join(TOOLS, script), *words], stdout=subprocess.PIPE, check=True).stdout]
         if told.startswith("image of "):
             names, *changes = told[len("image of ") :].split(", ")
             found = [self.image_of(case, names.split())]
@@ -389,10 +394,13 @@ def main(program, *paths):
                 texts = runner.texts_of(case)
                 for files, then in runner.runs(case):
                     runs[pool.submit(runner.fault_of, case, texts, files, then)] = case
-            except (BadRow, KeyError) as why:
+            except (BadRow, KeyError, subprocess.TimeoutExpired) as why:
                 faults.setdefault(case.place, f"{case.title}: {why}")
         for run, case in runs.items():
-            fault = run.result()
+            try:
+                fault = run.result()
+            except subprocess.TimeoutExpired:
+                fault = f"no answer within {SECONDS} seconds"
             if fault:
                 faults.setdefault(case.place, f"{case.title}: {fault}" if case.title else fault)
     for place, fault in faults.items():

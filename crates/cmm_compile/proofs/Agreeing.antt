@@ -30,7 +30,7 @@ use Rattle.cmm_image.specs.ImageFormat.{is_in_code}
 use Rattle.cmm_image.specs.Formats.{AreBytes}
 use Rattle.cmm_image.specs.declared.parts.ImageParts.{ImageParts}
 use Rattle.cmm_select.specs.Laws.{SwitchesLead}
-use Rattle.cmm_emit_laws.specs.Shown.{IsFor}
+use Rattle.cmm_emit_laws.specs.Represented.{IsFor}
 use Rattle.cmm_located.specs.SameOrders.{HasFrames}
 use Rattle.cmm_allocate.specs.declared.procedure.ProcedurePlaces.{ProcedurePlaces}
 use Rattle.cmm_allocate.specs.Compiling.{compiled}
@@ -143,8 +143,7 @@ module _ (promises : Promises) (p : Program) (graphs : List Graph) (found : List
     is_for : IsFor s (map_of l)
     is_for = record {
       set = record { placed = is_placed; aligned = let whole = is_size.0 in omega (arith, whole) };
-      base = refl;
-      size = refl;
+      lies = record { low = omega arith; high = omega arith; narrow = let most = is_size.1 in omega (arith, most); aligned = refl };
       small = let most = is_size.1 in omega (arith, most);
       data_length = ap (λ (l : List ℕ). length l) initial;
       region =
@@ -163,6 +162,7 @@ module _ (promises : Promises) (p : Program) (graphs : List Graph) (found : List
       is_data = initial;
       bytes = bytes;
       is_for = is_for;
+      region = refl;
     }
 
     agree : (input : List ℕ) → All IsByte input →

@@ -39,7 +39,7 @@ fn know_rules(image: &Image)
 }
 
 /// A program with its image.
-#[derive(Debug, Drop)]
+#[derive(Drop)]
 pub struct Compiled {
     pub program: Program,
     pub image: Image,

@@ -5,7 +5,7 @@ use crate::number::NodeId;
 use cmm_items::Items;
 
 /// The graph of a procedure.
-#[derive(Debug, Drop)]
+#[derive(Drop)]
 pub struct Graph {
     /// How many variables the procedure has.
     pub variables: u32,

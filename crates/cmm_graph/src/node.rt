@@ -7,7 +7,7 @@ use cmm_program::{Range, Target};
 use cmm_words::Width;
 
 /// Where control may go on behind a call site. What an exit brings is taken by the CopyIn to which it leads.
-#[derive(Debug, Drop)]
+#[derive(Drop)]
 pub struct Exits {
     /// The CopyIn of the normal exit; none at a site that never returns.
     pub normal: Option<NodeId>,
@@ -20,14 +20,14 @@ pub struct Exits {
 }
 
 /// An arm of a switch: the node for the values in some ranges.
-#[derive(Debug, Drop)]
+#[derive(Drop)]
 pub struct Arm {
     pub ranges: Items<Range>,
     pub to: NodeId,
 }
 
 /// A foreign call.
-#[derive(Clone, Copy, Debug, PartialEq, Eq)]
+#[derive(Clone, Copy, PartialEq, Eq)]
 pub enum HostCall {
     /// Writes the low byte of a value to the output.
     PutByte(Operand),
@@ -36,7 +36,7 @@ pub enum HostCall {
 }
 
 /// A node.
-#[derive(Debug, Drop)]
+#[derive(Drop)]
 pub struct Node {
     /// The count of its tokens, of which each node has one at least. It bounds the instructions of its code.
     pub tokens: u32,
@@ -47,7 +47,7 @@ pub struct Node {
 ///
 /// Who leaves a procedure or a site names the values that it passes; there is no node before it that puts them
 /// somewhere. Who arrives takes them in an Entry or a CopyIn.
-#[derive(Debug, Drop)]
+#[derive(Drop)]
 pub enum NodeKind {
     /// A new activation begins: the formals take the arguments, and the other variables are 0.
     Entry {

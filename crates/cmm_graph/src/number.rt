@@ -2,7 +2,7 @@
 //! from 0.
 
 /// A node of a graph.
-#[derive(Clone, Copy, Debug, PartialEq, Eq)]
+#[derive(Clone, Copy, PartialEq, Eq)]
 pub struct NodeId {
     pub number: u32,
 }
@@ -20,25 +20,25 @@ pub struct Temporary {
 }
 
 /// A global register of the program.
-#[derive(Clone, Copy, Debug, PartialEq, Eq)]
+#[derive(Clone, Copy, PartialEq, Eq)]
 pub struct Register {
     pub number: u32,
 }
 
 /// A stackdata label of the procedure.
-#[derive(Clone, Copy, Debug, PartialEq, Eq)]
+#[derive(Clone, Copy, PartialEq, Eq)]
 pub struct StackLabel {
     pub number: u32,
 }
 
 /// A continuation of the procedure.
-#[derive(Clone, Copy, Debug, PartialEq, Eq)]
+#[derive(Clone, Copy, PartialEq, Eq)]
 pub struct ContinuationId {
     pub number: u32,
 }
 
 /// A call site of the procedure.
-#[derive(Clone, Copy, Debug, PartialEq, Eq)]
+#[derive(Clone, Copy, PartialEq, Eq)]
 pub struct SiteId {
     pub number: u32,
 }

@@ -9,7 +9,7 @@ use cmm_items::Items;
 use rv_table::memory_map::{CODE_BASE, DATA_BASE};
 
 /// What the numbers of a record are measured by.
-#[derive(Clone, Copy, Debug)]
+#[derive(Clone, Copy)]
 pub(crate) struct Bounds {
     /// In bytes.
     pub(crate) code_length: u64,
@@ -47,7 +47,7 @@ pub(crate) fn is_code_address(length: u64, address: u64) -> bool
 }
 
 /// The procedures of an image, which its sites name.
-#[derive(Debug, Drop)]
+#[derive(Drop)]
 pub(crate) struct Procedures {
     pub(crate) bounds: Bounds,
     pub(crate) rows: Items<ProcRow>,

@@ -17,14 +17,14 @@ pub enum ImageFault {
 }
 
 /// A rule that is broken, and how many bytes are left from the first byte of the field that breaks it.
-#[derive(Clone, Copy, Debug, PartialEq, Eq)]
+#[derive(Clone, Copy, PartialEq, Eq)]
 pub struct Broken {
     pub rule: Rule,
     pub left: usize,
 }
 
 /// Why a field could not be read.
-#[derive(Debug, Drop)]
+#[derive(Drop)]
 pub enum Unread {
     Breaks(Broken),
     Memory,

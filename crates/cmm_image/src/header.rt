@@ -22,7 +22,7 @@ pub(crate) const VERSION: u32 = 1;
 const PROCEDURE_COUNT_LIMIT: u32 = 65_535;
 
 /// The header: the lengths, addresses and counts of what follows.
-#[derive(Clone, Copy, Debug, PartialEq, Eq)]
+#[derive(Clone, Copy, PartialEq, Eq)]
 pub(crate) struct Header {
     /// In bytes.
     pub(crate) code_length: u64,
@@ -41,7 +41,7 @@ pub(crate) struct Header {
 }
 
 /// The counts of the records, and which procedure is main.
-#[derive(Clone, Copy, Debug, PartialEq, Eq)]
+#[derive(Clone, Copy, PartialEq, Eq)]
 pub(crate) struct RowCounts {
     pub(crate) procedures: u32,
     pub(crate) sites: u32,

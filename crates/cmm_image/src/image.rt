@@ -11,7 +11,7 @@ use std::marker::Model;
 
 /// What the compiler makes of a program, and what runs. Its parts keep every rule of the format, so that they have bytes, and nothing more
 /// is required of an image anywhere. Contracts see it as its parts.
-#[derive(Debug, Drop)]
+#[derive(Drop)]
 pub struct Image {
     parts: ImageParts,
 }

@@ -4,7 +4,7 @@ use crate::rows::{GlobalRow, LabelRow, ProcRow, SiteRow};
 use cmm_items::Items;
 
 /// The code, the data and the tables of an image, which may break the format's rules.
-#[derive(Debug, Drop)]
+#[derive(Drop)]
 pub struct ImageParts {
     /// The bytes of the code, from `CODE_BASE` on.
     pub code: Items<u8>,

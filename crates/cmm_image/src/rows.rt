@@ -4,15 +4,15 @@ use cmm_items::Items;
 use cmm_words::{Name, Width};
 
 /// The number of a variable of a procedure, formals first.
-#[derive(Clone, Copy, Debug, PartialEq, Eq)]
+#[derive(Clone, Copy, PartialEq, Eq)]
 pub struct VariableNumber(pub u16);
 
 /// The number of a continuation of a procedure, in textual order.
-#[derive(Clone, Copy, Debug, PartialEq, Eq)]
+#[derive(Clone, Copy, PartialEq, Eq)]
 pub struct ContinuationNumber(pub u16);
 
 /// A callee-saves register that a procedure saves at entry.
-#[derive(Clone, Copy, Debug, PartialEq, Eq)]
+#[derive(Clone, Copy, PartialEq, Eq)]
 pub struct SavedRegister {
     /// Its number: 9, or 18 to 27.
     pub register: u8,
@@ -21,14 +21,14 @@ pub struct SavedRegister {
 }
 
 /// A stackdata label of a procedure.
-#[derive(Clone, Copy, Debug, PartialEq, Eq)]
+#[derive(Clone, Copy, PartialEq, Eq)]
 pub struct StackLabelRow {
     /// How far into the frame it lies.
     pub offset: u32,
 }
 
 /// A variable of a procedure.
-#[derive(Debug, Drop)]
+#[derive(Drop)]
 pub struct VariableRow {
     pub width: Width,
     /// Whether it is declared `invariant`.
@@ -37,7 +37,7 @@ pub struct VariableRow {
 }
 
 /// A continuation of a procedure.
-#[derive(Debug, Drop)]
+#[derive(Drop)]
 pub struct ContinuationRow {
     /// How far into the frame its pair of code address and frame address lies: a multiple of 8.
     pub pair: u32,
@@ -48,7 +48,7 @@ pub struct ContinuationRow {
 }
 
 /// A procedure.
-#[derive(Debug, Drop)]
+#[derive(Drop)]
 pub struct ProcRow {
     /// The address of its code.
     pub code: u64,
@@ -67,7 +67,7 @@ pub struct ProcRow {
 }
 
 /// An unwind exit of a site.
-#[derive(Clone, Copy, Debug, PartialEq, Eq)]
+#[derive(Clone, Copy, PartialEq, Eq)]
 pub struct UnwindRow {
     pub continuation: ContinuationNumber,
     /// The address of the code at which unwinding goes on.
@@ -75,7 +75,7 @@ pub struct UnwindRow {
 }
 
 /// Where a variable is kept while its activation is suspended at a site.
-#[derive(Clone, Copy, Debug, PartialEq, Eq)]
+#[derive(Clone, Copy, PartialEq, Eq)]
 pub enum VariablePlace {
     /// Nowhere: no exit of the site leads to a read of it.
     Dead,
@@ -86,14 +86,14 @@ pub enum VariablePlace {
 }
 
 /// What the innermost span with a token gives the site.
-#[derive(Clone, Copy, Debug, PartialEq, Eq)]
+#[derive(Clone, Copy, PartialEq, Eq)]
 pub struct SpanRow {
     pub token: u64,
     pub value: u64,
 }
 
 /// A call site.
-#[derive(Debug, Drop)]
+#[derive(Drop)]
 pub struct SiteRow {
     /// The address behind its call, at which the first of its alternate exits stands.
     pub return_address: u64,
@@ -121,7 +121,7 @@ pub struct SiteRow {
 }
 
 /// An exported data label.
-#[derive(Debug, Drop)]
+#[derive(Drop)]
 pub struct LabelRow {
     /// Its link name.
     pub name: Name,
@@ -129,7 +129,7 @@ pub struct LabelRow {
 }
 
 /// A global register.
-#[derive(Debug, Drop)]
+#[derive(Drop)]
 pub struct GlobalRow {
     pub width: Width,
     pub name: Name,

@@ -66,7 +66,7 @@ impl Read<Procedures> for SiteRow {
 }
 
 /// The lists at the end of a site's record.
-#[derive(Debug, Drop)]
+#[derive(Drop)]
 pub(crate) struct SiteTail {
     pub(crate) returns: Items<ContinuationNumber>,
     pub(crate) unwinds: Items<UnwindRow>,

@@ -5,7 +5,7 @@ use cmm_run::Outcome;
 use cmm_static_semantics::Fault;
 
 /// What a call comes to, before its line is written.
-#[derive(Clone, Copy, Debug)]
+#[derive(Clone, Copy)]
 pub(crate) enum Ending<'a> {
     /// The words are none that the program takes.
     Usage,

@@ -9,7 +9,7 @@ use cmm_outside::{Failed, Sink, write_all};
 use cmm_report::{put_address, put_number};
 
 /// A part of a text.
-#[derive(Clone, Copy, Debug)]
+#[derive(Clone, Copy)]
 pub(crate) enum Part<'a> {
     Text(&'a [u8]),
     Number(u64),

@@ -13,7 +13,7 @@ use std::alloc::{AllocError, AllocFailed, Global};
 use thiserror::Error;
 
 /// The bytes of units, in their order: of all, or of those before the first that is longer than a unit may be.
-#[derive(Debug, Drop)]
+#[derive(Drop)]
 pub(crate) struct Sources {
     pub units: Items<Items<u8>>,
     /// Whether such a unit is behind these.

@@ -78,7 +78,7 @@ impl Status {
 }
 
 /// What a call comes to.
-#[derive(Debug, Drop)]
+#[derive(Drop)]
 pub struct Finish {
     pub status: Status,
     /// The image that was made and loaded to be run, if one was.

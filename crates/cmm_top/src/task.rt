@@ -9,7 +9,7 @@ use cmm_command::{Command, RunLimits};
 use cmm_items::Items;
 
 /// What words ask for. Files are named by at most 4,095 bytes.
-#[derive(Debug, Drop)]
+#[derive(Drop)]
 pub(crate) enum Task<'a> {
     /// To build the units in files of these names, one at least, and to run their image.
     Execute {

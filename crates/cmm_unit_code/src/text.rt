@@ -3,7 +3,7 @@
 use cmm_items::Items;
 
 /// The code of a program, as it stands in an image.
-#[derive(Debug, Drop)]
+#[derive(Drop)]
 pub struct Text {
     /// Its bytes, from `CODE_BASE` on.
     pub code: Items<u8>,

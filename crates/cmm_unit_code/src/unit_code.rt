@@ -4,7 +4,7 @@ use cmm_items::Items;
 use rv_asm::CodeFix;
 
 /// The code of a unit, which may stand anywhere: places in it are counted in bytes from its beginning.
-#[derive(Debug, Drop)]
+#[derive(Drop)]
 pub struct UnitCode {
     /// Its bytes, in which the numbers of symbols are 0.
     pub code: Items<u8>,
@@ -17,7 +17,7 @@ pub struct UnitCode {
 }
 
 /// The code of a program before it is joined.
-#[derive(Debug, Drop)]
+#[derive(Drop)]
 pub struct ProgramCode {
     /// That with which a run begins, and then that of each unit.
     pub units: Items<UnitCode>,
