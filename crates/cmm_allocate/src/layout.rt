@@ -85,7 +85,7 @@ fn lay_saved(
     Ok(Items::from_vec(saved))
 }
 
-/// So many pairs, 16 bytes each, from an offset on.
+/// The offsets of `count` pairs, 16 bytes each, from an offset on.
 fn lay_pairs(alloc: Global, count: u32, from: u32) -> Result<Items<u32>, AllocError>
     requires { from + 16 * count < 2 ^ 32 }
     ensures { IfOk result (λ pairs. pairs ≡ pairs_from from count) }

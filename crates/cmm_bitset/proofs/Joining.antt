@@ -56,7 +56,7 @@ joins_more old words others i new grew within new_is so_far = record {
       (eqb-true new (get_or words i 0)) (eqb-false new (get_or words i 0));
 }
 
--- the same of a word that was read twice
+-- one turn of the loop, which reads a word twice
 pub joins_read : (old words others : List ℕ) (i read again : ℕ) (grew : Bool) → i < length words
     → read ≡ get_or words i read → again ≡ get_or words i again → Joining old words others i grew
     → let new = bit_or read (get_or others i 0) in Joining old (set words i new) others (i + 1) (grew || not (new == again))

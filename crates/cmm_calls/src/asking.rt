@@ -11,7 +11,7 @@ use rv_asm::Asm;
 use rv_table::{Instr, Request};
 use std::alloc::AllocError;
 
-/// Ends a run at the limit of the stack. An error is want of memory, and then one of the instructions may be there.
+/// Ends a run at the limit of the stack.
 pub fn ask_limit(asm: &mut Asm) -> Result<(), AllocError>
     ensures asks { OnOk result (Adds 2 asm.old.parts asm.new.parts (λ x from to. AsksFor 1 (λ t. request.StackLimit) x from)) }
     ensures labels { asm.new.labels ≡ asm.old.labels }
@@ -21,7 +21,7 @@ pub fn ask_limit(asm: &mut Asm) -> Result<(), AllocError>
     Ok(())
 }
 
-/// Ends a run with the value in register 10. An error is want of memory, and then one of the instructions may be there.
+/// Ends a run with the value in register 10.
 pub fn ask_end(asm: &mut Asm) -> Result<(), AllocError>
     ensures asks { OnOk result (Adds 2 asm.old.parts asm.new.parts (λ x from to. AsksFor 1 (λ t. request.End (t.registers REQUEST_VALUE)) x from)) }
     ensures labels { asm.new.labels ≡ asm.old.labels }

@@ -20,8 +20,8 @@ use rv_asm::{Asm, Label};
 use rv_table::Instr;
 use std::alloc::AllocError;
 
-/// Calls: values go out, and control goes to a label. The site, a label that has no place yet, is placed at the return address. No operand
-/// may be a register to which an earlier value goes. An error is want of memory, and then some of the instructions may be there.
+/// Calls: values go out, and control goes to a label. The site, a label that has no place yet, is placed at the return address. No operand may be a
+/// register to which an earlier value goes.
 pub fn call(
     asm: &mut Asm,
     frame: &Frame,
@@ -45,9 +45,8 @@ pub fn call(
     Ok(())
 }
 
-/// Calls the procedure whose address an operand gives: values go out, and control goes there. The site, a label that has no place yet, is
-/// placed at the return address. No operand of the values may be a register to which an earlier value goes. An error is want of memory, and
-/// then some of the instructions may be there.
+/// Calls the procedure whose address an operand gives: values go out, and control goes there. The site, a label that has no place yet, is placed at
+/// the return address. No operand of the values may be a register to which an earlier value goes.
 pub fn call_by(
     asm: &mut Asm,
     frame: &Frame,
@@ -77,9 +76,8 @@ pub fn call_by(
     Ok(())
 }
 
-/// Calls the procedure whose address an operand gives in the caller's place: values go out, the frame is left, and control goes there. No
-/// operand of the values may be a register to which an earlier value goes. An error is want of memory, and then some of the instructions may
-/// be there.
+/// Calls the procedure whose address an operand gives in the caller's place: values go out, the frame is left, and control goes there. No operand of
+/// the values may be a register to which an earlier value goes.
 pub fn jump_by(
     asm: &mut Asm,
     frame: &Frame,
@@ -119,9 +117,8 @@ pub fn lay_exits(asm: &mut Asm, exits: &[Label]) -> Result<(), AllocError>
     Ok(())
 }
 
-/// Cuts: values go out, and control goes to the continuation whose pair has the address that an operand names. No register is restored. No
-/// operand of the values may be a register to which an earlier value goes. An error is want of memory, and then some of the instructions may
-/// be there.
+/// Cuts: values go out, and control goes to the continuation whose pair has the address that an operand names. No register is restored. No operand of
+/// the values may be a register to which an earlier value goes.
 pub fn cut(asm: &mut Asm, frame: &Frame, to: &Operand, values: &[Operand]) -> Result<(), AllocError>
     requires frame { CanBeMade frame.now }
     requires pair { is_operand frame.now to.now ≡ true }

@@ -20,9 +20,8 @@ use cmm_select::save;
 use rv_asm::{Asm, Label};
 use std::alloc::AllocError;
 
-/// Enters a procedure: where the stack has room, its frame is made, with the return address, the registers that it saves and the pair of
-/// each continuation, whose code begins at its landing, and then locals are made 0 in their places. Where the stack lacks room, control
-/// goes to `limit`. An error is want of memory, and then some of the instructions may be there.
+/// Enters a procedure: where the stack has room, its frame is made, with the return address, the registers that it saves and the pair of each
+/// continuation, whose code begins at its landing, and then locals are made 0 in their places. Where the stack lacks room, control goes to `limit`.
 pub fn enter(
     asm: &mut Asm,
     frame: &Frame,
@@ -44,8 +43,7 @@ pub fn enter(
     Ok(())
 }
 
-/// Begins a procedure: enters it, and then its formals take the values that came. No formal's place may be a register in which a later
-/// value comes. An error is want of memory, and then some of the instructions may be there.
+/// Begins a procedure: enters it, and then its formals take the values that came. No formal's place may be a register in which a later value comes.
 pub fn begin(
     asm: &mut Asm,
     frame: &Frame,

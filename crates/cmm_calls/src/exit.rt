@@ -20,8 +20,8 @@ use rv_asm::{Asm, Label};
 use rv_table::Instr;
 use std::alloc::AllocError;
 
-/// Leaves a frame: its return address comes back to register 1, each register that is saved to itself, and register 2 moves behind it. An
-/// address may wait in register 7. An error is want of memory, and then some of the instructions may be there.
+/// Leaves a frame: its return address comes back to register 1, each register that is saved to itself, and register 2 moves behind it. An address may
+/// wait in register 7.
 pub fn leave(asm: &mut Asm, frame: &Frame) -> Result<(), AllocError>
     requires { CanBeMade frame.now }
     ensures leaves { OnOk result (Adds (leave_cost frame.now) asm.old.parts asm.new.parts (LeavesFrame frame.now)) }
@@ -33,8 +33,8 @@ pub fn leave(asm: &mut Asm, frame: &Frame) -> Result<(), AllocError>
     Ok(())
 }
 
-/// Leaves a frame and goes back to an exit of the site that its return address names, which has one word for each alternate exit before
-/// the normal one. An error is want of memory, and then some of the instructions may be there.
+/// Leaves a frame and goes back to an exit of the site that its return address names, which has one word for each alternate exit before the normal
+/// one.
 pub fn leave_by(asm: &mut Asm, frame: &Frame, exit: u32) -> Result<(), AllocError>
     requires frame { CanBeMade frame.now }
     requires exit { exit < 512 }
@@ -46,8 +46,8 @@ pub fn leave_by(asm: &mut Asm, frame: &Frame, exit: u32) -> Result<(), AllocErro
     Ok(())
 }
 
-/// Returns values by an exit: they go out, the frame is left, and control goes back to the exit. No operand may be a register to which an
-/// earlier value goes. An error is want of memory, and then some of the instructions may be there.
+/// Returns values by an exit: they go out, the frame is left, and control goes back to the exit. No operand may be a register to which an earlier
+/// value goes.
 pub fn return_values(
     asm: &mut Asm,
     frame: &Frame,
@@ -68,8 +68,8 @@ pub fn return_values(
     Ok(())
 }
 
-/// Calls in the place of the caller: values go out, the frame is left, and control goes to a label. No operand may be a register to which an
-/// earlier value goes. An error is want of memory, and then some of the instructions may be there.
+/// Calls in the place of the caller: values go out, the frame is left, and control goes to a label. No operand may be a register to which an earlier
+/// value goes.
 pub fn jump(asm: &mut Asm, frame: &Frame, values: &[Operand], to: Label) -> Result<(), AllocError>
     requires frame { CanBeMade frame.now }
     requires operands { list_all (is_operand frame.now) values.now ≡ true }

@@ -20,8 +20,8 @@ use rv_asm::Asm;
 use rv_table::Instr;
 use std::alloc::AllocError;
 
-/// Brings values to where they travel, the first one first. No operand may be a register to which an earlier value
-/// goes. An address may wait in register 7. An error is want of memory, and then some of the instructions may be there.
+/// Brings values to where they travel, the first one first. No operand may be a register to which an earlier value goes. An address may wait in
+/// register 7.
 pub fn give(asm: &mut Asm, frame: &Frame, values: &[Operand]) -> Result<(), AllocError>
     requires frame { CanBeMade frame.now }
     requires operands { list_all (is_operand frame.now) values.now ≡ true }

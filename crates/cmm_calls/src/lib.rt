@@ -4,6 +4,7 @@
 //! `specs/Calls`), how many instructions it adds, how many are executed at most, and, where it has one, that the first asks for nothing but
 //! input. A frame is any that `lay_frame` of cmm_allocate gives, of less than 2 MiB; an offset in it may be past what an instruction reaches.
 //! Between two pieces registers 5 to 7 have nothing; within one, an address may wait in register 7 while values go out.
+//! An error of a function that appends code is want of memory, and then a part of the code may be there, unless its comment says otherwise.
 //!
 //! - `saved`: the registers that a procedure saves are saved, and restored.
 //! - `place`: places are made 0.

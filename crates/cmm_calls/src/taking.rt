@@ -21,8 +21,7 @@ use rv_asm::Asm;
 use rv_table::Instr;
 use std::alloc::AllocError;
 
-/// Takes the values that control brings, each to its place, the first one first. No place may be a register in which a later value
-/// comes. An error is want of memory, and then some of the instructions may be there.
+/// Takes the values that control brings, each to its place, the first one first. No place may be a register in which a later value comes.
 pub fn take(asm: &mut Asm, frame: &Frame, places: &[Location]) -> Result<(), AllocError>
     requires frame { CanBeMade frame.now }
     requires places { list_all (is_place frame.now) places.now ≡ true }

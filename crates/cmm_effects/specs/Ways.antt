@@ -11,7 +11,7 @@ use Rattle.cmm_effects.specs.Pieces.{BeginsQuietly}
 pub record Goes (least most : ℕ) (P : MemoryMap → State → Type 0) (there : State → ℕ) (Q : State → State → Type 0) (x : Code) (from : ℕ) : Type 0 where
   pub go : (s : State) → IsSound s → s.pc ≡ from → P x.map s → Reaches x.map least most s (λ t. (t.pc ≡ there s) × Q s t)
 
--- the same of one instruction or more, of which the first asks for nothing but input
+-- as `Goes`, by one instruction at least, of which the first asks for nothing but input
 pub record Turns (most : ℕ) (P : MemoryMap → State → Type 0) (there : State → ℕ) (Q : State → State → Type 0) (x : Code) (from : ℕ) : Type 0 where
   pub quiet : BeginsQuietly x from
   pub goes : Goes 1 most P there Q x from

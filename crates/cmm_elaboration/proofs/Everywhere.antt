@@ -36,7 +36,7 @@ module _ (P : Proc → Type 0) (each : (names : Senses) (unit : ℕ) (around : L
   all_units program unit (u ∷ us) =
       All-append P _ (procedures_from program (suc unit) us) (unit_all (unit_senses program u.entries) unit u.items) (all_units program (suc unit) us)
 
--- ---- the same of units that break no rule
+-- ---- units that break no rule
 
 -- a procedure of some units: those before its own, its own, and those behind it
 pub record Place (us : List NamedUnit) (earlier : List NamedUnit) (u : NamedUnit) (number : ℕ) : Type 0 where

@@ -20,7 +20,7 @@ use cmm_select::{
 use rv_asm::Asm;
 use std::alloc::AllocError;
 
-/// Assigns a right side, up to where control goes on. An error is want of memory, and then some of the instructions may be there.
+/// Assigns a right side, up to where control goes on.
 pub(crate) fn assign_body(
     asm: &mut Asm,
     context: &Context,

@@ -21,7 +21,7 @@ use cmm_select::stop;
 use rv_asm::{Asm, Label};
 use std::alloc::{AllocError, Global};
 
-/// Calls a procedure by its label. The site gets its place behind. An error is want of memory, and then some of the instructions may be there.
+/// Calls a procedure by its label. The site gets its place behind.
 fn call_label(
     asm: &mut Asm,
     alloc: Global,
@@ -46,8 +46,7 @@ fn call_label(
     Ok(())
 }
 
-/// Calls the procedure whose address an operand gives. The site gets its place behind. An error is want of memory, and then some of the instructions
-/// may be there.
+/// Calls the procedure whose address an operand gives. The site gets its place behind.
 fn call_operand(
     asm: &mut Asm,
     alloc: Global,
@@ -71,7 +70,7 @@ fn call_operand(
     Ok(())
 }
 
-/// Calls a procedure. The site gets its place behind. An error is want of memory, and then some of the instructions may be there.
+/// Calls a procedure. The site gets its place behind.
 fn call_callee(
     asm: &mut Asm,
     alloc: Global,
@@ -118,8 +117,8 @@ fn lay_landings(
     Ok(())
 }
 
-/// Leads from a site on: to the landings of the alternate exits, and by the normal one to where the code goes on. Where there is no normal exit, a run
-/// that takes it has gone wrong, and ends. An error is want of memory, and then some of the instructions may be there.
+/// Leads from a site on: to the landings of the alternate exits, and by the normal one to where the code goes on. Where there is no normal exit, a
+/// run that takes it has gone wrong, and ends.
 fn lead_back(
     asm: &mut Asm,
     alloc: Global,
@@ -142,7 +141,7 @@ fn lead_back(
     }
 }
 
-/// Calls a procedure, up to where control goes on by the normal exit. An error is want of memory, and then some of the instructions may be there.
+/// Calls a procedure, up to where control goes on by the normal exit.
 pub(crate) fn call_body(
     asm: &mut Asm,
     alloc: Global,

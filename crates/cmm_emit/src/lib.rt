@@ -5,7 +5,8 @@
 //! that the joined code, in an image with the data of the program, is all that `cmm_emit_laws` requires of a program's code, so that the image follows the
 //! program. The nodes of a graph name locals, procedures, labels and each other by numbers; here each number becomes what code has for it: a location, an
 //! offset of the frame, a label. A node's body is the code of `cmm_select` and `cmm_calls` for it, and ends where the node falls to: the successor that
-//! follows it in code, if nothing comes between.
+//! follows it in code, if nothing comes between. An error of a function that appends code is want of memory, and then a part of the code may be there, unless
+//! its comment says otherwise.
 //!
 //! - `program`: `lay_program`. `units`: the code of each unit. `finishing`: the bytes of a unit, and the places in them. `start`: the code with which a run
 //!   begins and ends.

@@ -71,8 +71,8 @@ fn lead_to(
     Ok(Some(node))
 }
 
-/// Lays a node, which has its place at the end of the code: its own code, and what leads on behind it. Answers the node that has its place behind
-/// it, if there is one. An error is want of memory, and then some of the instructions may be there.
+/// Lays a node, which has its place at the end of the code: its own code, and what leads on behind it. Answers the node that has its place behind it,
+/// if there is one.
 fn lay_node(
     asm: &mut Asm,
     alloc: Global,
@@ -103,8 +103,7 @@ fn lay_node(
     }
 }
 
-/// Lays the nodes that fall one to the next, from one that has its place at the end of the code. An error is want of memory, and then some of the
-/// instructions may be there.
+/// Lays the nodes that fall one to the next, from one that has its place at the end of the code.
 fn lay_chain(
     asm: &mut Asm,
     alloc: Global,
@@ -139,7 +138,7 @@ fn lay_chain(
     Ok(())
 }
 
-/// Lays a node that has no place yet, and those that fall behind it. An error is want of memory, and then some of the instructions may be there.
+/// Lays a node that has no place yet, and those that fall behind it.
 fn lay_from(
     asm: &mut Asm,
     alloc: Global,
@@ -177,9 +176,8 @@ fn lay_from(
     Ok(())
 }
 
-/// Lays the code of a procedure: each node of its graph behind its label, the first one first. Labels of nodes and of sites are made for it and have no
-/// place yet. Each node is laid once, so that all are at most as long as their costs say. An error is want of memory, and then some of the instructions
-/// may be there.
+/// Lays the code of a procedure: each node of its graph behind its label, the first one first. Labels of nodes and of sites are made for it and have
+/// no place yet. Each node is laid once, so that all are at most as long as their costs say.
 pub fn lay_nodes(
     asm: &mut Asm,
     alloc: Global,

@@ -11,8 +11,7 @@ use cmm_program::Program;
 use rv_asm::Asm;
 use std::alloc::{AllocError, Global};
 
-/// Lays the code of a procedure by its number in the unit, behind that of the procedures before it. An error is want of memory, and then some of the
-/// instructions may be there.
+/// Lays the code of a procedure by its number in the unit, behind that of the procedures before it.
 fn lay_procedure(
     asm: &mut Asm,
     alloc: Global,
@@ -36,7 +35,7 @@ fn lay_procedure(
     Ok(())
 }
 
-/// Lays the code of each procedure, in their order. An error is want of memory, and then some of the instructions may be there.
+/// Lays the code of each procedure, in their order.
 fn lay_procedures(
     asm: &mut Asm,
     alloc: Global,
@@ -56,7 +55,7 @@ fn lay_procedures(
     Ok(())
 }
 
-/// Lays the code of a unit. An error is want of memory, and then some of the instructions may be there.
+/// Lays the code of a unit.
 pub fn lay_code(
     asm: &mut Asm,
     alloc: Global,

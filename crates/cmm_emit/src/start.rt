@@ -34,7 +34,7 @@ pub fn close(asm: &mut Asm) -> Result<(), AllocError>
     Ok(())
 }
 
-/// Calls `main`, and ends the run with what it returns, at a label. An error is want of memory, and then some of the instructions may be there.
+/// Calls `main`, and ends the run with what it returns, at a label.
 fn lay_start(asm: &mut Asm, main: Label, last: Label) -> Result<(), AllocError>
     requires main { IsTarget asm.old.labels main }
     requires last { slice_get asm.old.labels last.number ≡ Some (Inner false) }
@@ -51,7 +51,7 @@ fn lay_start(asm: &mut Asm, main: Label, last: Label) -> Result<(), AllocError>
     Ok(())
 }
 
-/// Ends the run at the limit of the stack, at a label. An error is want of memory, and then some of the instructions may be there.
+/// Ends the run at the limit of the stack, at a label.
 pub fn lay_limit(asm: &mut Asm, limit: Label) -> Result<(), AllocError>
     requires { slice_get asm.old.labels limit.number ≡ Some (Inner false) }
     ensures placed { OnOk result ((back : List Part) × (asm.new.parts ≡ asm.old.parts ++ Place limit ∷ back)) }

@@ -19,8 +19,7 @@ use cmm_words::Constant;
 use rv_asm::{Asm, Label};
 use std::alloc::{AllocError, Global};
 
-/// Begins a procedure: its frame is made, and its formals take the values that came. An error is want of memory, and then some of the instructions
-/// may be there.
+/// Begins a procedure: its frame is made, and its formals take the values that came.
 pub(crate) fn entry_body(
     asm: &mut Asm,
     alloc: Global,
@@ -45,7 +44,7 @@ pub(crate) fn entry_body(
     Ok(())
 }
 
-/// Lands: the values that control brings come to what takes them. An error is want of memory, and then some of the instructions may be there.
+/// Lands: the values that control brings come to what takes them.
 pub(crate) fn copy_in_body(
     asm: &mut Asm,
     alloc: Global,
@@ -64,7 +63,7 @@ pub(crate) fn copy_in_body(
     Ok(())
 }
 
-/// Returns values by an exit. An error is want of memory, and then some of the instructions may be there.
+/// Returns values by an exit.
 pub(crate) fn return_body(
     asm: &mut Asm,
     alloc: Global,
@@ -100,7 +99,7 @@ pub(crate) fn named_label(context: &Context, targets: &Targets, callee: Operand)
     None
 }
 
-/// Goes to a procedure in the caller's place, by its label. An error is want of memory, and then some of the instructions may be there.
+/// Goes to a procedure in the caller's place, by its label.
 fn jump_to_label(
     asm: &mut Asm,
     alloc: Global,
@@ -121,8 +120,7 @@ fn jump_to_label(
     Ok(())
 }
 
-/// Goes to the procedure whose address an operand gives, in the caller's place. An error is want of memory, and then some of the instructions may be
-/// there.
+/// Goes to the procedure whose address an operand gives, in the caller's place.
 fn jump_to_operand(
     asm: &mut Asm,
     alloc: Global,
@@ -142,7 +140,7 @@ fn jump_to_operand(
     Ok(())
 }
 
-/// Goes to a procedure in the caller's place. An error is want of memory, and then some of the instructions may be there.
+/// Goes to a procedure in the caller's place.
 pub(crate) fn jump_body(
     asm: &mut Asm,
     alloc: Global,
@@ -168,7 +166,7 @@ pub(crate) fn jump_body(
     }
 }
 
-/// Cuts to a continuation. An error is want of memory, and then some of the instructions may be there.
+/// Cuts to a continuation.
 pub(crate) fn cut_body(
     asm: &mut Asm,
     alloc: Global,

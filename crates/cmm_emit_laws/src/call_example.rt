@@ -14,8 +14,7 @@ use rv_asm::{Asm, Label};
 use std::alloc::AllocError;
 
 /// The code of `main() { f(); return (7); }` and `f() { return (); }` with frames that have no pairs, behind that with which a run begins; at the
-/// label `limit` the run ends at the limit of the stack. The labels have ascending numbers. An error is want of memory, and then some of the
-/// instructions may be there.
+/// label `limit` the run ends at the limit of the stack. The labels have ascending numbers.
 pub fn call_once(
     asm: &mut Asm,
     frame: &Frame,

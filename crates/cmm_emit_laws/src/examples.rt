@@ -13,8 +13,8 @@ use cmm_select::{Operand, Source};
 use rv_asm::{Asm, Label};
 use std::alloc::AllocError;
 
-/// The code of `main() { return (7); }` with a frame that has no pairs, behind that with which a run begins; at the label `limit` the run ends at
-/// the limit of the stack. An error is want of memory, and then some of the instructions may be there.
+/// The code of `main() { return (7); }` with a frame that has no pairs, behind that with which a run begins; at the label `limit` the run ends at the
+/// limit of the stack.
 pub fn return_seven(
     asm: &mut Asm,
     frame: &Frame,

@@ -16,6 +16,8 @@
 //! - `specs/Laying`, `Placing`, `Naming`: what the layout of frames, finished bytes and graphs give of what is required.
 //! - `starting`: the code with which a run begins. `examples`, `call_example`: the code of small programs, with which what is required of code is met.
 //! - `laws`: that the image simulates the located machine, and follows it from its first state on.
+//!
+//! An error of a function that appends code is want of memory, and then a part of the code may be there.
 #![tactic(auto)]
 
 pub mod call_example;

@@ -9,7 +9,7 @@ use cmm_calls::ask_end;
 use rv_asm::{Asm, Label};
 use std::alloc::AllocError;
 
-/// Calls `main`, and ends the run with what it returns. An error is want of memory, and then some of the instructions may be there.
+/// Calls `main`, and ends the run with what it returns.
 pub fn start_run(asm: &mut Asm, main: Label) -> Result<(), AllocError>
     requires { IsTarget asm.old.labels main }
     ensures begins { OnOk result (Adds 4 asm.old.parts asm.new.parts (λ x from to. BeginsRun main x from)) }

@@ -183,7 +183,7 @@ node_laid a nodes node n pushed number = record {
   adds = omega (arith, ap all_tokens pushed, tokens-append a.nodes (node ∷ []));
 }
 
--- ---- the same of answers
+-- ---- answers
 
 pub if_ok : {A E : Type 0} {P Q : A → Type 0} (r : Result A E) → ((a : A) → P a → Q a) → IfOk r P → IfOk r Q
 if_ok (Ok a) other holds = other a holds

@@ -35,7 +35,7 @@ fn repeated(alloc: Global, node: NodeId, count: u32) -> Result<Items<NodeId>, Al
     Ok(nodes)
 }
 
-/// So many nodes, one behind the other.
+/// The numbers of `count` nodes, one behind the other.
 fn nodes_from(alloc: Global, first: u32, count: u32) -> Result<Items<NodeId>, AllocError>
     ensures { IfOk result (λ nodes. map (λ n. n.number) nodes ≡ range_with_len first count) }
 {

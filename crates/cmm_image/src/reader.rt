@@ -129,7 +129,7 @@ impl<'a> Reader<'a> {
         }
     }
 
-    /// So many bytes.
+    /// The next `count` bytes.
     pub(crate) fn bytes(&mut self, count: usize) -> Result<Items<u8>, Unread>
         ensures { Reads result (block_at count self.old.rest.now) self.new.rest.now }
     {

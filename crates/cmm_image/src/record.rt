@@ -28,7 +28,7 @@ pub(crate) trait Write {
         ensures { OnOk result (out.new.items ≡ out.old.items ++ spelled self.now) };
 }
 
-/// So many records, one after another.
+/// A list of `count` records, one after another.
 pub(crate) fn read_rows<C, R: Read<C>>(
     reader: &mut Reader<'_>,
     context: &C,

@@ -118,7 +118,7 @@ entered tokens count token count' all more has = record {
       ∙ ap (λ b. capped (elim b [ true ↦ different all | false ↦ suc (different all) ])) (has.member token);
 }
 
--- the same of a span by its key
+-- a span is entered by its key
 pub span_entered : (names : Senses) (tokens : List ℕ) (count token count' : ℕ) (rest : List ℕ) (key : Primary) → token ≡ number_or_zero names (of_primary key) →
     count' ≡ one_more (list_any (λ t. t == token) tokens) count → HasTokens tokens count rest →
     HasTokens (tokens ++ token ∷ []) count' (number_or_zero names (of_primary key) ∷ rest)

@@ -6,7 +6,7 @@
 //!
 //! - `limits`: the call `note_limits`. `variables`: the variables of a procedure. `stackdata`: its stackdata, and where that ends.
 //! - `sites`: its call sites. `span_tokens`: the tokens that have a span there.
-//! - `unit_variables`, `unit_spans`: the same of all procedures of a unit, added up.
+//! - `unit_variables`, `unit_spans`: the sums of these over all procedures of a unit.
 #![tactic(auto)]
 
 mod limits;

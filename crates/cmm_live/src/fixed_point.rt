@@ -18,7 +18,7 @@ use cmm_graph::{Graph, Node};
 use cmm_items::Items;
 use std::alloc::{AllocError, Global};
 
-/// So many empty sets of numbers below a size.
+/// A list of `count` empty sets of numbers below `size`.
 pub fn empty_sets(alloc: Global, count: usize, size: u32) -> Result<Vec<BitSet>, AllocError>
     ensures { IfOk result (λ sets. sets.items ≡ replicate count (replicate size false)) }
 {

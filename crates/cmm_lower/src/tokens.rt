@@ -16,7 +16,7 @@ fn part_length(part: &Part) -> u32
     }
 }
 
-/// So many tokens without those of the parts of a block.
+/// A count of tokens without those of the parts of a block.
 fn without_parts(tokens: u32, parts: &[Part]) -> u32
     ensures { result ≡ tokens - parts_length parts.now }
 {
@@ -27,7 +27,7 @@ fn without_parts(tokens: u32, parts: &[Part]) -> u32
     left
 }
 
-/// So many tokens without those in the blocks of some arms.
+/// A count of tokens without those in the blocks of some arms.
 fn without_arms(tokens: u32, arms: &[Arm]) -> u32
     ensures { result ≡ tokens - arms_length arms.now }
 {
@@ -38,7 +38,7 @@ fn without_arms(tokens: u32, arms: &[Arm]) -> u32
     left
 }
 
-/// So many tokens without those of what stands after the block of an `if`.
+/// A count of tokens without those of what stands after the block of an `if`.
 fn without_otherwise(tokens: u32, otherwise: &Otherwise) -> u32
     ensures { result ≡ tokens - meaning.otherwise_length otherwise.now }
 {
@@ -52,7 +52,7 @@ fn without_otherwise(tokens: u32, otherwise: &Otherwise) -> u32
     }
 }
 
-/// So many tokens without those in the blocks of a statement.
+/// A count of tokens without those in the blocks of a statement.
 fn without_blocks(tokens: u32, form: &StmtForm) -> u32
     ensures { result ≡ tokens - meaning.blocks_length form.now }
 {

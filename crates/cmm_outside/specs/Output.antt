@@ -6,7 +6,7 @@ use Rattle.cmm_outside.specs.Faults.{Rose}
 abbrev pub Appends : Option (List ℕ) → Option (List ℕ) → List ℕ → Type 0
 Appends before after bytes = IfSome before (λ taken. after ≡ Some (taken ++ bytes))
 
--- the same of some front of the bytes, which may be all of them or none
+-- a front of the bytes is appended, which may be all of them or none
 abbrev pub AppendsFront : Option (List ℕ) → Option (List ℕ) → List ℕ → Type 0
 AppendsFront before after bytes = (n : ℕ) × (n ≤ length bytes) × Appends before after (take n bytes)
 

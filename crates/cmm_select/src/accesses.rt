@@ -56,8 +56,7 @@ fn half(aligned: u32) -> Width
     }
 }
 
-/// Gives register 5 the word of a width at the address in it, which is a multiple of `aligned` bytes. An error is want of memory, and then
-/// some of the instructions may be there.
+/// Gives register 5 the word of a width at the address in it, which is a multiple of `aligned` bytes.
 pub fn load_word(asm: &mut Asm, width: Width, aligned: u32) -> Result<(), AllocError>
     ensures loads { OnOk result (Adds (3 * accesses width aligned - 2) asm.old.parts asm.new.parts (Leads (3 * accesses width aligned - 2) (λ m s. IsCellBy (widest width aligned) width (s.registers FIRST_SCRATCH) m) (Loads width))) }
     ensures labels { asm.new.labels ≡ asm.old.labels }
@@ -73,8 +72,7 @@ pub fn load_word(asm: &mut Asm, width: Width, aligned: u32) -> Result<(), AllocE
     Ok(())
 }
 
-/// Stores the low bytes of register 7, as many as a width has, at the address in register 5, which is a multiple of `aligned` bytes. An error
-/// is want of memory, and then some of the instructions may be there.
+/// Stores the low bytes of register 7, as many as a width has, at the address in register 5, which is a multiple of `aligned` bytes.
 pub fn store_word(asm: &mut Asm, width: Width, aligned: u32) -> Result<(), AllocError>
     ensures stores { OnOk result (Adds (2 * accesses width aligned - 1) asm.old.parts asm.new.parts (Leads (2 * accesses width aligned - 1) (λ m s. IsCellBy (widest width aligned) width (s.registers FIRST_SCRATCH) m) (λ s t. Writes (s.registers FIRST_SCRATCH) (bytes width) (s.registers SECOND_SCRATCH) s t))) }
     ensures labels { asm.new.labels ≡ asm.old.labels }

@@ -20,7 +20,7 @@ use cmm_words::{Cmp, Op1, Op2, Width};
 use rv_asm::{Asm, Label};
 use std::alloc::AllocError;
 
-/// Assigns an operand. An error is want of memory, and then some of the instructions may be there; so it is of every function here.
+/// Assigns an operand.
 pub fn assign_copy(asm: &mut Asm, from: &Operand, to: &Destination) -> Result<(), AllocError>
     requires operand { IsOperand asm.old.labels from.now }
     requires destination { IsDestination asm.old.labels to.now }

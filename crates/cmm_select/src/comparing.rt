@@ -17,8 +17,7 @@ use rv_asm::{Asm, Label};
 use rv_table::Instr;
 use std::alloc::AllocError;
 
-/// Goes to a label where a comparison holds of the words in registers 5 and 7, and on otherwise. An error is want of memory, and then
-/// some of the instructions may be there.
+/// Goes to a label where a comparison holds of the words in registers 5 and 7, and on otherwise.
 pub fn branch(asm: &mut Asm, comparison: Cmp, width: Width, to: Label) -> Result<(), AllocError>
     requires { IsInner asm.old.labels to }
     ensures chooses { OnOk result (Adds (2 * shifts_of width + 3) asm.old.parts asm.new.parts (Chooses (2 * shifts_of width + 3) comparison width to)) }
@@ -81,8 +80,7 @@ fn turned(comparison: Cmp) -> Option<Cmp>
     }
 }
 
-/// Gives register 5 the number 1 where a comparison holds of the words in registers 5 and 7, and 0 elsewhere. An error is want of
-/// memory, and then some of the instructions may be there.
+/// Gives register 5 the number 1 where a comparison holds of the words in registers 5 and 7, and 0 elsewhere.
 pub fn compare(asm: &mut Asm, comparison: Cmp, width: Width) -> Result<(), AllocError>
     ensures tells { OnOk result (Adds (2 * shifts_of width + 3) asm.old.parts asm.new.parts (Runs 0 (2 * shifts_of width + 3) (HaveWords width) (Tells comparison width))) }
     ensures labels { asm.new.labels ≡ asm.old.labels }

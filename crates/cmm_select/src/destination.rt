@@ -24,7 +24,7 @@ pub enum Destination {
     Register(Label),
 }
 
-/// Puts the number in register 5 where it is to be. An error is want of memory, and then some of the instructions may be there.
+/// Puts the number in register 5 where it is to be.
 pub fn put(asm: &mut Asm, to: &Destination) -> Result<(), AllocError>
     requires { IsDestination asm.old.labels to.now }
     ensures puts { OnOk result (Adds 4 asm.old.parts asm.new.parts (PutsFirst to.now)) }
@@ -42,8 +42,7 @@ pub fn put(asm: &mut Asm, to: &Destination) -> Result<(), AllocError>
     }
 }
 
-/// Puts what a register other than 6 has into a global register, whose offset in the region a label stands for. An error is want of memory, and then
-/// some of the instructions may be there.
+/// Puts what a register other than 6 has into a global register, whose offset in the region a label stands for.
 pub fn put_global(asm: &mut Asm, register: u8, of: Label) -> Result<(), AllocError>
     requires label { IsLabel asm.old.labels of }
     requires register { register < 32 }
@@ -60,7 +59,7 @@ pub fn put_global(asm: &mut Asm, register: u8, of: Label) -> Result<(), AllocErr
     Ok(())
 }
 
-/// Gives register 5 what a global register has. An error is want of memory, and then some of the instructions may be there.
+/// Gives register 5 what a global register has.
 pub fn read_global(asm: &mut Asm, of: Label) -> Result<(), AllocError>
     requires { IsLabel asm.old.labels of }
     ensures reads { OnOk result (Adds 4 asm.old.parts asm.new.parts (λ x. Leads 4 (CanReachGlobal (x.at of.number)) (λ s t. Sets FIRST_SCRATCH (global_at (x.at of.number) s) s t) x)) }

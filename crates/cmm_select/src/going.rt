@@ -20,8 +20,7 @@ use rv_asm::{Asm, Label};
 use rv_table::Instr;
 use std::alloc::AllocError;
 
-/// Goes to a label where a comparison holds of two operands, words of a width, and on otherwise. An error is want of memory, and then some
-/// of the instructions may be there.
+/// Goes to a label where a comparison holds of two operands, words of a width, and on otherwise.
 pub fn decide(
     asm: &mut Asm,
     comparison: Cmp,

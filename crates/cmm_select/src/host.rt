@@ -18,7 +18,7 @@ use rv_asm::Asm;
 use rv_table::{Instr, Request};
 use std::alloc::AllocError;
 
-/// Puts the low byte of an operand. An error is want of memory, and then some of the instructions may be there.
+/// Puts the low byte of an operand.
 pub fn put_byte(asm: &mut Asm, value: &Operand) -> Result<(), AllocError>
     requires { IsOperand asm.old.labels value.now }
     ensures requests { OnOk result (Adds (most_for value.now + 3) asm.old.parts asm.new.parts (λ x. Requests (most_for value.now + 2) 0 (CanBringOperand value.now) (λ s. PutByte (operand_at x.at value.now s % 256)) (λ u v. v ≡ u) x)) }
@@ -31,7 +31,7 @@ pub fn put_byte(asm: &mut Asm, value: &Operand) -> Result<(), AllocError>
     Ok(())
 }
 
-/// Takes the input's next byte, or all ones at its end. An error is want of memory, and then some of the instructions may be there.
+/// Takes the input's next byte, or all ones at its end.
 pub fn get_byte(asm: &mut Asm, to: &Destination) -> Result<(), AllocError>
     requires { IsDestination asm.old.labels to.now }
     ensures requests { OnOk result (Adds 7 asm.old.parts asm.new.parts (λ x. Requests 1 5 (CanPut x.at to.now) (λ s. GetByte) (λ u v. PutsTo x.at to.now (u.registers REQUEST_VALUE) u v) x)) }

@@ -5,6 +5,7 @@
 //! Between two nodes the values of locals are in their places: slots of the frame, callee-saves registers, other registers. Within a
 //! node, registers 5 to 7 are used: the first operand and the result are in 5, the second operand is in 7, and 6 helps. A node's code
 //! ends where control goes on, so a jump is added only where another node follows.
+//! An error of a function that appends code is want of memory, and then a part of the code may be there, unless its comment says otherwise.
 //!
 //! What nodes are made of:
 //!

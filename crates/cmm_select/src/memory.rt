@@ -14,8 +14,7 @@ use cmm_words::Width;
 use rv_asm::Asm;
 use std::alloc::AllocError;
 
-/// Assigns the word of a width at an address that is a multiple of `aligned` bytes. An error is want of memory, and then some of the instructions
-/// may be there.
+/// Assigns the word of a width at an address that is a multiple of `aligned` bytes.
 pub fn assign_loaded(
     asm: &mut Asm,
     width: Width,
@@ -34,8 +33,7 @@ pub fn assign_loaded(
     Ok(())
 }
 
-/// Stores the low bytes of an operand, as many as a width has, at an address that is a multiple of `aligned` bytes. An error is want of memory, and then
-/// some of the instructions may be there.
+/// Stores the low bytes of an operand, as many as a width has, at an address that is a multiple of `aligned` bytes.
 pub fn store(
     asm: &mut Asm,
     width: Width,

@@ -21,7 +21,7 @@ const SHORT: u64 = 0x100_0000_0000;
 /// Numbers below this are loaded by two instructions: 2^31 and half of what an immediate reaches below it.
 const LOW: u64 = 0x7FFF_F800;
 
-/// Gives register `rd`, a scratch register, a number. An error is want of memory, and then some of the instructions may be there.
+/// Gives register `rd`, a scratch register, a number.
 pub fn load_constant(asm: &mut Asm, number: u64, rd: u8) -> Result<(), AllocError>
     requires low { FIRST_SCRATCH ≤ rd }
     requires high { rd ≤ SECOND_SCRATCH }
@@ -59,8 +59,7 @@ fn load_rounded(asm: &mut Asm, number: u64, rd: u8, more: u32) -> Result<(), All
     Ok(())
 }
 
-/// Gives register `rd`, a scratch register, a number that an upper immediate and a lower one make up. An error is want of memory, and then some of the
-/// instructions may be there.
+/// Gives register `rd`, a scratch register, a number that an upper immediate and a lower one make up.
 pub fn load_low(asm: &mut Asm, number: u64, rd: u8) -> Result<(), AllocError>
     requires low { FIRST_SCRATCH ≤ rd }
     requires high { rd ≤ SECOND_SCRATCH }

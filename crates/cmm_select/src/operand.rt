@@ -21,8 +21,7 @@ pub enum Operand {
     Symbol { of: Label, plus: u64 },
 }
 
-/// Brings an operand into register `rd`, 5 or 7; register 6 may help. An error is want of memory, and then some of the instructions may be
-/// there.
+/// Brings an operand into register `rd`, 5 or 7; register 6 may help.
 pub fn bring_operand(asm: &mut Asm, from: &Operand, rd: u8) -> Result<(), AllocError>
     requires operand { IsOperand asm.old.labels from.now }
     requires low { FIRST_SCRATCH ≤ rd }
@@ -66,8 +65,7 @@ fn bring_symbol(asm: &mut Asm, of: Label, plus: u64, rd: u8) -> Result<(), Alloc
     Ok(())
 }
 
-/// Brings an operand into register 5 and another into register 7. An error is want of memory, and then some of the instructions may be
-/// there.
+/// Brings an operand into register 5 and another into register 7.
 pub fn bring_both(asm: &mut Asm, left: &Operand, right: &Operand) -> Result<(), AllocError>
     requires left { IsOperand asm.old.labels left.now }
     requires right { IsOperand asm.old.labels right.now }

@@ -18,8 +18,7 @@ use rv_asm::Asm;
 use rv_table::Instr;
 use std::alloc::AllocError;
 
-/// Cuts the number in register 5 to a width: its upper bits are shifted out. An error is want of memory, and then some of the
-/// instructions may be there.
+/// Cuts the number in register 5 to a width: its upper bits are shifted out.
 pub fn narrow(asm: &mut Asm, width: Width) -> Result<(), AllocError>
     ensures narrows { OnOk result (Adds (shifts_of width) asm.old.parts asm.new.parts (Runs 0 (shifts_of width) Always (Narrows width))) }
     ensures labels { asm.new.labels ≡ asm.old.labels }
@@ -41,8 +40,7 @@ pub fn narrow(asm: &mut Asm, width: Width) -> Result<(), AllocError>
     }
 }
 
-/// Gives the word in register `rd`, one of 5 to 7, its sign: copies of its top bit above it. An error is want of memory, and then some
-/// of the instructions may be there.
+/// Gives the word in register `rd`, one of 5 to 7, its sign: copies of its top bit above it.
 pub fn extend(asm: &mut Asm, width: Width, rd: u8) -> Result<(), AllocError>
     requires low { FIRST_SCRATCH ≤ rd }
     requires high { rd ≤ SECOND_SCRATCH }
@@ -150,8 +148,7 @@ enum Method {
     Remainder,
 }
 
-/// Gives register 5 what an operator gives on the words in registers 5 and 7; register 6 helps. An error is want of memory, and then
-/// some of the instructions may be there.
+/// Gives register 5 what an operator gives on the words in registers 5 and 7; register 6 helps.
 pub fn operate(asm: &mut Asm, operator: Op2, width: Width) -> Result<(), AllocError>
     ensures operates { OnOk result (Adds (3 * shifts_of width + 6) asm.old.parts asm.new.parts (Runs 0 (3 * shifts_of width + 6) (HaveWords width) (Operates operator width))) }
     ensures labels { asm.new.labels ≡ asm.old.labels }

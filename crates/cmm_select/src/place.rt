@@ -13,7 +13,7 @@ use rv_asm::Asm;
 use rv_table::Instr;
 use std::alloc::AllocError;
 
-/// Brings what a place has into register `rd`, a scratch register. An error is want of memory, and then some of the instructions may be there.
+/// Brings what a place has into register `rd`, a scratch register.
 pub fn read(asm: &mut Asm, from: Location, rd: u8) -> Result<(), AllocError>
     requires place { IsPlace from }
     requires low { FIRST_SCRATCH ≤ rd }
@@ -37,7 +37,7 @@ pub fn read(asm: &mut Asm, from: Location, rd: u8) -> Result<(), AllocError>
     }
 }
 
-/// Brings what a register other than `HELPER` has to a place. An error is want of memory, and then some of the instructions may be there.
+/// Brings what a register other than `HELPER` has to a place.
 pub fn write(asm: &mut Asm, register: u8, to: Location) -> Result<(), AllocError>
     requires place { IsPlace to }
     requires register { register < 32 }

@@ -25,7 +25,7 @@ pub enum Source {
     Address(u32),
 }
 
-/// Brings an operand into register `rd`, a scratch register. An error is want of memory, and then some of the instructions may be there.
+/// Brings an operand into register `rd`, a scratch register.
 pub fn bring(asm: &mut Asm, from: Source, rd: u8) -> Result<(), AllocError>
     requires source { IsSource from }
     requires low { FIRST_SCRATCH ≤ rd }

@@ -17,8 +17,7 @@ use rv_asm::{Asm, Label};
 use rv_table::Instr;
 use std::alloc::AllocError;
 
-/// Goes to the label of the first arm that is for an operand, by the labels of nodes, and on where none is. An error is want of memory, and
-/// then some of the instructions may be there.
+/// Goes to the label of the first arm that is for an operand, by the labels of nodes, and on where none is.
 pub fn switch(
     asm: &mut Asm,
     value: &Operand,

@@ -15,8 +15,7 @@ use rv_asm::Asm;
 use rv_table::Instr;
 use std::alloc::AllocError;
 
-/// Gives register 5 what an operator gives on the word in it. An error is want of memory, and then some of the instructions may be
-/// there.
+/// Gives register 5 what an operator gives on the word in it.
 pub fn operate_on_one(asm: &mut Asm, operator: Op1, width: Width) -> Result<(), AllocError>
     ensures operates { OnOk result (Adds (1 + shifts_of width) asm.old.parts asm.new.parts (Runs 0 (1 + shifts_of width) (HasWord width 5) (OperatesOnOne operator width))) }
     ensures labels { asm.new.labels ≡ asm.old.labels }
@@ -46,8 +45,7 @@ fn instruction(operator: Op1) -> Instr
     }
 }
 
-/// Gives register 5 the word in it with its sign, at another width. An error is want of memory, and then some of the instructions may be
-/// there.
+/// Gives register 5 the word in it with its sign, at another width.
 pub fn convert(asm: &mut Asm, from: Width, to: Width) -> Result<(), AllocError>
     ensures converts { OnOk result (Adds (shifts_of from + shifts_of to) asm.old.parts asm.new.parts (Runs 0 (shifts_of from + shifts_of to) (HasWord from 5) (Converts from to))) }
     ensures labels { asm.new.labels ≡ asm.old.labels }

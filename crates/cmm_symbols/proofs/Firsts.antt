@@ -38,7 +38,7 @@ pub noted_next : {A : Type 0} (f : A → List Spot) (best : Option Spot) (xs : L
     first_of (first_of best (flat_map f (take i xs))) (f x) ≡ first_of best (flat_map f (take (i + 1) xs))
 noted_next f best xs i x within is = sym (first_of_append best (flat_map f (take i xs)) (f x)) ∙ ap (first_of best) (sym (flat_plain f xs i x within is))
 
--- the same of an item that is a number or made of some
+-- the next item may be a number, or made of some
 pub noted_at : {A : Type 0} (f : A → List Spot) (best : Option Spot) (xs : List A) (i : ℕ) (d : A) → i < length xs →
     first_of (first_of best (flat_map f (take i xs))) (f (get_or xs i d)) ≡ first_of best (flat_map f (take (i + 1) xs))
 noted_at f best xs i d within =

@@ -10,9 +10,9 @@ use crate::width::Width;
 pub enum Constant {
     /// A word of this width.
     Number(u64, Width),
-    /// So many bytes past the code of a procedure.
+    /// The address of the code of a procedure, with `plus` bytes added.
     Code { proc: u32, plus: u64 },
-    /// So many bytes past a data label.
+    /// The address of a data label, with `plus` bytes added.
     Address { label: u32, plus: u64 },
 }
 

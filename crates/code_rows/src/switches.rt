@@ -53,7 +53,7 @@ fn arm(alloc: Global, number: u32) -> Result<Arm, AllocError>
     })
 }
 
-/// So many arms.
+/// A list of `count` arms.
 fn arms(alloc: Global, count: u32) -> Result<Vec<Arm>, AllocError>
     requires { count ≤ MOST }
     ensures to { IfOk result (λ arms. All (λ arm. arm.to.number < count) arms.items) }

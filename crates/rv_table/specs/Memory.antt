@@ -42,7 +42,7 @@ pub record LiesIn (r : Region) (m : MemoryMap) : Type 0 where
   pub low : region_base ≤ r.address
   pub high : top r ≤ region_base + m.region_length
   pub narrow : top r < 2 ^ 64
-  pub aligned : r.address % 16 ≡ 0
+  pub aligned : r.address % 8 ≡ 0
 
 -- an address is aligned, and a word from there on lies in the code
 abbrev pub is_fetchable : List ℕ → ℕ → Bool

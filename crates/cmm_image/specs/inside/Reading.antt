@@ -15,7 +15,7 @@ Sees view (Err Memory) front rest = Unit {0}
 abbrev pub Reads : {A : Type 0} → Result A Unread → Front A → List ℕ → Type 0
 Reads answer front rest = Sees (λ a. a) answer front rest
 
--- the same of a place of a variable, answered with the bytes after it
+-- as `Reads`, of a place of a variable, which is answered with the bytes after it
 abbrev pub Places : Result (VariablePlace × Bor (List ℕ)) Unread → Front VariablePlace → Type 0
 Places (Ok x) front = front ≡ Ok (x.0, x.1.now)
 Places (Err (Breaks b)) front = front ≡ Err b
