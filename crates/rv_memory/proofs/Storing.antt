@@ -1,12 +1,13 @@
 -- Stores and loads within one region are those of the whole memory.
-use Rattle.std.proofs.Common.{◌≡◌, ℕ, ◌+◌, ◌-◌, ◌<◌, ◌≤◌, List, length, slice_index, refl, sym, ◌∙◌, arith, rules, inl, inr, Some, None}
+use Rattle.std.proofs.Common.{◌≡◌, ℕ, ◌+◌, ◌-◌, ◌<◌, ◌≤◌, List, length, slice_index, refl, sym, ap, ◌∙◌, arith, rules, inl, inr, Some, None}
 use Rattle.std.proofs.Math.Path.{fun_ext}
 use Rattle.std.proofs.lemmas.Bool.{cases_lt}
 use Rattle.std.proofs.lemmas.Bool.Decides.{nat_tests}
 use Rattle.std.specs.Prelude.{nat_lt, nat_le, Bool, true, false}
-use Rattle.rv_table.specs.Memory.{stored, data_base, region_base}
+use Rattle.rv_table.specs.Memory.{loaded, stored, data_base, region_base}
 use Rattle.rv_memory.specs.Regions.{Regions, Fits, memory_of}
 use Rattle.rv_memory.specs.inside.Access.{offset_in, lies_in}
+use Rattle.rv_memory.proofs.LittleEndian.{loaded-ext}
 
 -- an access that begins so far into a region lies in it
 record Lies (base count address size at : ℕ) : Type 0 where
@@ -148,3 +149,39 @@ pub stored_in_region : (r : Regions) (bytes : List ℕ) (address at size value :
     memory_of (with_region r bytes) ≡ stored (memory_of r) address size value
 stored_in_region r bytes address at size value here written =
     fun_ext (stored_in_region-at r bytes address at size value (lies_of region_base (length r.region_bytes) address size at here) written)
+
+-- ---- words by their addresses
+
+pub word_stored_in_region : (r : Regions) (bytes : List ℕ) (address at size value : ℕ) → region_base + at ≡ address → at + size ≤ length r.region_bytes →
+    ((i : ℕ) → slice_index bytes i ≡ stored (slice_index r.region_bytes) at size value i) →
+    memory_of (with_region r bytes) ≡ stored (memory_of r) address size value
+word_stored_in_region r bytes address at size value begins ends written =
+    fun_ext (stored_in_region-at r bytes address at size value (record { begins = begins; ends = ends }) written)
+
+pub word_stored_in_data : (r : Regions) (bytes : List ℕ) (address at size value : ℕ) → Fits r → data_base + at ≡ address → at + size ≤ length r.data_bytes →
+    ((i : ℕ) → slice_index bytes i ≡ stored (slice_index r.data_bytes) at size value i) →
+    memory_of (with_data r bytes) ≡ stored (memory_of r) address size value
+word_stored_in_data r bytes address at size value fits begins ends written =
+    fun_ext (stored_in_data-at r bytes address at size value fits (record { begins = begins; ends = ends }) written)
+
+-- a number in the bytes of a part is one in the memory
+pub word_loaded_in_region : (r : Regions) (address at size : ℕ) → region_base + at ≡ address →
+    loaded (slice_index r.region_bytes) at size ≡ loaded (memory_of r) address size
+word_loaded_in_region r address at size begins =
+    loaded-ext (slice_index r.region_bytes) (memory_of r) at address size (λ i below. byte i)
+  where
+    byte : (i : ℕ) → slice_index r.region_bytes (at + i) ≡ memory_of r (address + i)
+    byte i =
+        let place : address + i - region_base ≡ at + i = omega arith in
+        sym (memory_of-region r (address + i) (omega arith) ∙ ap (slice_index r.region_bytes) place)
+
+pub word_loaded_in_data : (r : Regions) (address at size : ℕ) → Fits r → data_base + at ≡ address → at + size ≤ length r.data_bytes →
+    loaded (slice_index r.data_bytes) at size ≡ loaded (memory_of r) address size
+word_loaded_in_data r address at size fits begins ends =
+    loaded-ext (slice_index r.data_bytes) (memory_of r) at address size byte
+  where
+    byte : (i : ℕ) → i < size → slice_index r.data_bytes (at + i) ≡ memory_of r (address + i)
+    byte i below =
+        let most = fits.initial in
+        let place : address + i - data_base ≡ at + i = omega arith in
+        sym (memory_of-data r (address + i) (omega arith) (omega (arith, begins, ends, below, most)) ∙ ap (slice_index r.data_bytes) place)

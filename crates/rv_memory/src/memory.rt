@@ -1,5 +1,5 @@
 //! The memory and its calls.
-ghost use Rattle.std.specs.Prelude.{◌≡◌, ◌≤◌, ◌+◌, ◌*◌, ◌/◌, length, IfOk, Ok, Err, IsTrue, IsFalse};
+ghost use Rattle.std.specs.Prelude.{◌≡◌, ◌≤◌, ◌+◌, ◌*◌, ◌/◌, ◌%◌, length, IfOk, Ok, Err, IsTrue, IsFalse};
 ghost use Rattle.std.specs.Option.{ok_or};
 ghost use Rattle.rv_table.specs.Bounds.{is_size};
 ghost use Rattle.rv_table.specs.Memory.{code_base, data_base, fetched, is_accessible, loaded, stored, LiesIn, bottom as bottom_of, top as top_of};
@@ -99,6 +99,71 @@ impl Memory {
             Some(at) => Ok(read_word(&self.code, at)),
             None => Err(TrapKind::BadTarget),
         }
+    }
+
+    /// The number in the 8 bytes from an address of the stack on, aligned or not.
+    pub fn word(&self, address: u64) -> u64
+        requires low { bottom_of (region_of self.now) ≤ address }
+        requires high { address + 8 ≤ top_of (region_of self.now) }
+        ensures { result ≡ loaded (memory_of self.now) address 8 }
+    {
+        read(&self.region, (address - REGION_BASE) as usize, 8)
+    }
+
+    /// Writes a number to the 8 bytes from an address of the stack on, aligned or not.
+    pub fn set_word(&mut self, address: u64, value: u64)
+        requires low { bottom_of (region_of self.old) ≤ address }
+        requires high { address + 8 ≤ top_of (region_of self.old) }
+        ensures memory { memory_of self.new ≡ stored (memory_of self.old) address 8 value }
+        ensures map { map_of self.new ≡ map_of self.old }
+        ensures region { region_of self.new ≡ region_of self.old }
+    {
+        let at = (address - REGION_BASE) as usize;
+        write(&mut self.region, at, 8, value);
+    }
+
+    /// The number in the 8 bytes of data from an address on, which is a multiple of 8.
+    pub fn data_word(&self, address: u64) -> u64
+        requires aligned { address % 8 ≡ 0 }
+        requires low { data_base ≤ address }
+        requires high { address + 8 ≤ data_base + (map_of self.now).data_length }
+        ensures { result ≡ loaded (memory_of self.now) address 8 }
+    {
+        read(&self.data, (address - DATA_BASE) as usize, 8)
+    }
+
+    /// Writes a number to the 8 bytes of data from an address on, which is a multiple of 8.
+    pub fn set_data_word(&mut self, address: u64, value: u64)
+        requires aligned { address % 8 ≡ 0 }
+        requires low { data_base ≤ address }
+        requires high { address + 8 ≤ data_base + (map_of self.old).data_length }
+        ensures memory { memory_of self.new ≡ stored (memory_of self.old) address 8 value }
+        ensures map { map_of self.new ≡ map_of self.old }
+        ensures region { region_of self.new ≡ region_of self.old }
+    {
+        let at = (address - DATA_BASE) as usize;
+        write(&mut self.data, at, 8, value);
+    }
+
+    /// The bytes of the data, from `DATA_BASE` on.
+    pub fn data(&self) -> &[u8]
+        ensures { result.now ≡ self.now.data_bytes }
+    {
+        &self.data
+    }
+
+    /// The address after the last byte of the data.
+    pub fn data_end(&self) -> u64
+        ensures { result ≡ data_base + (map_of self.now).data_length }
+    {
+        DATA_BASE + self.data.len() as u64
+    }
+
+    /// The bytes of argument area, global registers and stack, from the region's address on.
+    pub fn region_bytes(&self) -> &[u8]
+        ensures { result.now ≡ self.now.region_bytes }
+    {
+        &self.region
     }
 
     /// How many whole words the code has.

@@ -1,19 +1,12 @@
 -- What one instruction does to registers and memory, and the event that it ends in.
 use Rattle.std.specs.Prelude.{ℕ}
-use Rattle.rv_memory.specs.Regions.{Regions, map_of, memory_of}
+use Rattle.rv_memory.specs.Regions.{Regions, map_of}
+pub use Rattle.rv_memory.specs.States.{state_with, state_of}
 use Rattle.rv_sim.specs.declared.event.Event.{Event}
 use Rattle.rv_sim.specs.declared.event.Event.TheVariants.{Next, Asks, Trap}
 use Rattle.rv_table.specs.declared.registers.Regs.{Regs}
 use Rattle.rv_table.specs.Machine as machine
 use Rattle.rv_table.specs.Machine.{State, Outcome, instruction_step}
-use Rattle.rv_table.specs.Registers.{registers_of}
-
--- the machine's state that registers and a memory are
-abbrev pub state_with : Regs → (ℕ → ℕ) → State
-state_with r memory = record { registers = registers_of r; pc = r.pc; memory = memory }
-
-abbrev pub state_of : Regs → Regions → State
-state_of r m = state_with r (memory_of m)
 
 -- what comes of the instruction that stands at pc
 abbrev pub outcome_of : Regs → Regions → Outcome
