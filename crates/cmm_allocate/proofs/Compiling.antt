@@ -1,9 +1,9 @@
 -- A program with its graphs and places is compiled, and can be shown to the client.
-use Rattle.std.proofs.Common.{◌≡◌, ℕ, zero, suc, ◌<◌, ◌≤◌, ◌==◌, nat_le, true, Option, Some, None, List, [], ◌∷◌, get_or, length, slice_get, refl, ap, sym, ◌∙◌, subst, arith}
+use Rattle.std.proofs.Common.{◌≡◌, ℕ, zero, suc, ◌<◌, ◌≤◌, ◌==◌, nat_le, nat_lt, true, Option, Some, None, List, [], ◌∷◌, get_or, length, slice_get, refl, ap, sym, ◌∙◌, subst, arith}
 use Rattle.std.proofs.lemmas.Bool.{and_parts, eqb-true}
 use Rattle.std.proofs.lemmas.Bool.Decides.{nat_tests}
 use Rattle.std.proofs.lemmas.Option.{same_Some, slice_get_within}
-use Rattle.std.specs.List.{AllZip, list_all}
+use Rattle.std.specs.List.{All, AllZip, list_all}
 use Rattle.rv_table.specs.Memory.{code_base}
 use Rattle.cmm_program.proofs.Shared.{all_get, list_all_get}
 use Rattle.cmm_program.specs.declared.procedure.Proc.{Proc}
@@ -38,6 +38,12 @@ use Rattle.cmm_located.specs.Relation.{Liveness}
 use Rattle.cmm_located.specs.Returning.{HasExits, HaveExits, IsInRange, ReturnsAreInRange}
 use Rattle.cmm_located.specs.RunningSteps.{IsCompiled}
 use Rattle.cmm_located.specs.ShownWalks.{KnowsLive}
+use Rattle.cmm_located.specs.Walkable.{HaveSites}
+use Rattle.cmm_graph.specs.declared.node.NodeKind.TheVariants as kind
+use Rattle.cmm_graph.specs.declared.node.NodeKind.TheVariants.{Stop}
+use Rattle.cmm_graph.specs.declared.number.SiteId.{SiteId}
+use Rattle.cmm_graph.specs.GraphControl.{kind_at}
+use Rattle.cmm_live.specs.Sites.{site_of}
 use Rattle.cmm_located.specs.Steps.{IsClosed}
 use Rattle.cmm_flow.specs.Flow.{HasTokens}
 use Rattle.cmm_flow.specs.Laws.{AnswersAreFlows, AnswersAreGraphs, AnswersHaveSites, AnswersWaitAtEach, AnswersWaitOnce}
@@ -262,6 +268,31 @@ module _ (are_graphs : AnswersAreGraphs) (closed : SetsAreClosed) (once : Answer
       let sets = of_procedure s.program at.procedure at.graph at.places.live flows (waits_once q at) at.has.live site v (site_exists at.procedure site v its) below in
       site_is s.program.procs graphs found q at site v ∙ (sets.tested ∙ its)
 
+  -- nodes wait at sites of their procedures
+  sites_are : HaveSites s c
+  sites_are q n site is waits =
+      let at = planned_at are_graphs s graphs found runs q is in
+      let range = range_at are_graphs s graphs found runs q at in
+      let kind : kind_at graphs q n ≡ elim (node_of at.graph n) as (λ _. NodeKind) [ Some node ↦ node.kind | None ↦ Stop ] =
+      ap (λ (o : Option Graph). elim (with_some o (λ g. node_of g n)) as (λ _. NodeKind) [ Some node ↦ node.kind | None ↦ Stop ]) at.is_graph in
+      (at.procedure, at.is_procedure, by at (have_sites s.program at.procedure at.graph range at.flow.flow) (node_of at.graph n) refl (ap site_of (sym kind) ∙ waits))
+    where
+      within_sites : (p : Proc) (k : ℕ) (x : Site) → slice_get p.sites k ≡ Some x → nat_lt k (length p.sites) ≡ true
+      within_sites p k x there = let less = slice_get_within p.sites k x there in grind (arith, nat_tests, less)
+
+      of_kind : (p : Proc) (g : Graph) (kind : NodeKind) → HasSite p g kind → site_of kind ≡ Some site → nat_lt site.number (length p.sites) ≡ true
+      of_kind p g (kind.Call k callee arguments exits) has e = let same : k ≡ site = same_Some k site e in
+          ap (λ (z : SiteId). nat_lt z.number (length p.sites)) (sym same) ∙ within_sites p k.number has.site has.is_site
+      of_kind p g (kind.Yield k values exits) has e = let same : k ≡ site = same_Some k site e in
+          ap (λ (z : SiteId). nat_lt z.number (length p.sites)) (sym same) ∙ within_sites p k.number has.site has.is_site
+      of_kind p g _ has e = absurd (cc)
+
+      by : (at : At q) → All (λ node. HasSite at.procedure at.graph node.kind) at.graph.nodes → (o : Option Node) → node_of at.graph n ≡ o →
+          site_of (elim o as (λ _. NodeKind) [ Some node ↦ node.kind | None ↦ Stop ]) ≡ Some site → nat_lt site.number (length at.procedure.sites) ≡ true
+      by at have (Some node) there e = of_kind at.procedure at.graph node.kind
+          (all_get (λ (node : Node). HasSite at.procedure at.graph node.kind) at.graph.nodes n.number node have there) e
+      by at have None there e = absurd (cc)
+
 pub places_are_compiled : AnswersAreGraphs → SetsAreClosed → AnswersWaitOnce → AnswersHaveSites → AnswersWaitAtEach → AnswersAreFlows → PlacesAreCompiled
 places_are_compiled are_graphs closed once have_sites wait_at_each are_flows s graphs found runs =
     are_compiled are_graphs closed once have_sites wait_at_each s graphs found runs
@@ -272,4 +303,5 @@ places_are_showable are_graphs closed once have_sites wait_at_each in_range of_p
   variables = variables are_graphs closed once have_sites wait_at_each s graphs found runs;
   live = knows_live are_graphs closed once have_sites wait_at_each s graphs found runs in_range of_procedure;
   apart = apart are_graphs closed once have_sites wait_at_each s graphs found runs;
+  sites = sites_are are_graphs closed once have_sites wait_at_each s graphs found runs;
 }

@@ -6,10 +6,13 @@ use Rattle.cmm_program.specs.declared.procedure.Proc.{Proc}
 use Rattle.cmm_program.specs.Frames.{procedure_at}
 use Rattle.cmm_program.specs.Liveness.{is_among, is_live_at}
 use Rattle.cmm_program.proofs.Shared.{opened, continuation}
-use Rattle.cmm_graph.specs.GraphControl.{graph_control}
+use Rattle.cmm_graph.specs.GraphControl.{graph_control, kind_at}
 use Rattle.cmm_graph.specs.GraphMachine.{graph_start}
 use Rattle.cmm_graph.specs.Laws.{OrderIsByReads, ValueIsByReads}
-use Rattle.cmm_graph.proofs.Shared.{n}
+use Rattle.std.specs.Prelude.{nat_lt}
+use Rattle.cmm_graph.specs.declared.number.SiteId.{SiteId}
+use Rattle.cmm_live.specs.Sites.{site_of}
+use Rattle.cmm_graph.proofs.Shared.{n, s}
 use Rattle.cmm_chain.specs.declared.frame.Location.TheVariants.{Saved}
 use Rattle.cmm_located.specs.Clients.{IsShowable}
 use Rattle.cmm_located.specs.Compiled.{Compiled}
@@ -75,8 +78,41 @@ live_apart (suc (suc zero)) zero v u is v_live u_live other = apart_among 2 v u 
 live_apart (suc (suc zero)) (suc site) v u is v_live u_live other = absurd (cc (v_live))
 live_apart (suc (suc (suc q))) site v u is v_live u_live other = absurd (past q is)
 
+sites_are : (q m : ℕ) (site : SiteId) → exiting.plan.is_procedure q ≡ true → site_of (kind_at exiting.graphs q (n m)) ≡ Some site →
+    (p : Proc) × (procedure_at row-setting q ≡ Some p) × (nat_lt site.number (length p.sites) ≡ true)
+sites_are zero zero site is waits = absurd (cc (waits))
+sites_are zero (suc zero) site is waits = absurd (cc (waits))
+sites_are zero (suc (suc zero)) site is waits = let same : s 0 ≡ site = cc (waits) in (main-proc, refl, subst (λ (x : SiteId). nat_lt x.number 1 ≡ true) same refl)
+sites_are zero (suc (suc (suc zero))) site is waits = absurd (cc (waits))
+sites_are zero (suc (suc (suc (suc zero)))) site is waits = absurd (cc (waits))
+sites_are zero (suc (suc (suc (suc (suc zero))))) site is waits = absurd (cc (waits))
+sites_are zero (suc (suc (suc (suc (suc (suc zero)))))) site is waits = absurd (cc (waits))
+sites_are zero (suc (suc (suc (suc (suc (suc (suc zero))))))) site is waits = absurd (cc (waits))
+sites_are zero (suc (suc (suc (suc (suc (suc (suc (suc m)))))))) site is waits = absurd (cc (waits))
+sites_are (suc zero) zero site is waits = absurd (cc (waits))
+sites_are (suc zero) (suc zero) site is waits = absurd (cc (waits))
+sites_are (suc zero) (suc (suc zero)) site is waits = let same : s 0 ≡ site = cc (waits) in (c-proc, refl, subst (λ (x : SiteId). nat_lt x.number 1 ≡ true) same refl)
+sites_are (suc zero) (suc (suc (suc zero))) site is waits = absurd (cc (waits))
+sites_are (suc zero) (suc (suc (suc (suc zero)))) site is waits = absurd (cc (waits))
+sites_are (suc zero) (suc (suc (suc (suc (suc zero))))) site is waits = absurd (cc (waits))
+sites_are (suc zero) (suc (suc (suc (suc (suc (suc zero)))))) site is waits = absurd (cc (waits))
+sites_are (suc zero) (suc (suc (suc (suc (suc (suc (suc zero))))))) site is waits = absurd (cc (waits))
+sites_are (suc zero) (suc (suc (suc (suc (suc (suc (suc (suc zero)))))))) site is waits = absurd (cc (waits))
+sites_are (suc zero) (suc (suc (suc (suc (suc (suc (suc (suc (suc m))))))))) site is waits = absurd (cc (waits))
+sites_are (suc (suc zero)) zero site is waits = absurd (cc (waits))
+sites_are (suc (suc zero)) (suc zero) site is waits = let same : s 0 ≡ site = cc (waits) in (d-proc, refl, subst (λ (x : SiteId). nat_lt x.number 1 ≡ true) same refl)
+sites_are (suc (suc zero)) (suc (suc zero)) site is waits = absurd (cc (waits))
+sites_are (suc (suc zero)) (suc (suc (suc zero))) site is waits = absurd (cc (waits))
+sites_are (suc (suc zero)) (suc (suc (suc (suc zero)))) site is waits = absurd (cc (waits))
+sites_are (suc (suc zero)) (suc (suc (suc (suc (suc zero))))) site is waits = absurd (cc (waits))
+sites_are (suc (suc zero)) (suc (suc (suc (suc (suc (suc zero)))))) site is waits = absurd (cc (waits))
+sites_are (suc (suc zero)) (suc (suc (suc (suc (suc (suc (suc zero))))))) site is waits = absurd (cc (waits))
+sites_are (suc (suc zero)) (suc (suc (suc (suc (suc (suc (suc (suc m)))))))) site is waits = absurd (cc (waits))
+sites_are (suc (suc (suc q))) m site is waits = absurd (past q is)
+
 exiting_is_showable : IsShowable row-setting exiting
 exiting_is_showable = record {
+  sites = λ q m site is waits. sites_are q m.number site is waits;
   variables = λ q p is. (exiting_is_compiled.entries q p is).variables;
   live = live_known;
   apart = live_apart;

@@ -7,6 +7,7 @@ pub mod Staying
 pub mod LeadingOn
 pub mod Entries
 pub mod Suspending
+pub mod Walkable
 pub mod Yields
 pub mod Calls
 pub mod GoingOn

@@ -53,7 +53,7 @@ module _ (by_reads : OrderIsByReads) (by_values : ValueIsByReads) (s : Setting) 
 
   running_leads : st.store.status ≡ Running → (leads : Bool) → leads_on (kind_of_youngest c st) ≡ leads → IsFollowed s c live (running_cost leads) st at
   running_leads is true leads = nodes_are_followed by_reads by_values s c live st at compiled.frames compiled.planned compiled.closed related is leads
-  running_leads is false leads = steps_are_followed by_reads by_values s c live most st at compiled related is
+  running_leads is false leads = steps_are_followed by_reads by_values s c live most st at compiled showable.live showable.sites related is
 
   step_leads : (status : Status) → st.store.status ≡ status → IsFollowed s c live (step_cost c most st) st at
   step_leads Running is = subst (λ n. IsFollowed s c live n st at) (cost_at Running is) (running_leads is (leads_on (kind_of_youngest c st)) refl)

@@ -14,7 +14,7 @@ use Rattle.cmm_program.specs.Exits.{Landing, Called, Instead, Back, Resumed}
 use Rattle.cmm_program.specs.Frames.{procedure_at, with_site, without}
 use Rattle.cmm_program.specs.State.{Setting, Activation, Store, Running, Ended, Stopped, Wrong}
 use Rattle.cmm_graph.specs.declared.number.NodeId.{NodeId}
-use Rattle.cmm_chain.specs.Contents.{Content, Number}
+use Rattle.cmm_chain.specs.Contents.{Content, Number, Unknown}
 use Rattle.cmm_chain.specs.Running.{Holdings, cut_at}
 use Rattle.cmm_chain.specs.Walks.{Element, put_at, shown_at, spot_of, unwound, walk_from}
 use Rattle.cmm_located.specs.Compiled.{Compiled, Located, site_exits, landing_in}
@@ -32,12 +32,13 @@ values_brought (Resumed k values) = values
 
 -- ---- what the locals of an activation are held in once the run goes on there
 
--- A return is to the youngest, an unwinding gives the registers back as the activation had them, and a cut restores none.
+-- A return is to the youngest, an unwinding gives the registers back as the activation had them, and a cut restores none. Of the return address
+-- nothing is known behind an unwinding or a cut.
 abbrev pub returned_to : Element → Holdings → Holdings
 returned_to e h = h
 
 abbrev pub unwound_to : Element → Holdings → Holdings
-unwound_to e h = unwound e.mark h
+unwound_to e h = let u = unwound e.mark h in record u { point = record u.point { back = Unknown } }
 
 abbrev pub cut_to : Element → Holdings → Holdings
 cut_to e h = cut_at e.mark.at h

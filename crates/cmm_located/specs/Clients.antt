@@ -10,6 +10,7 @@ use Rattle.cmm_located.specs.Relation.{Liveness, Related}
 use Rattle.cmm_located.specs.RunningSteps.{IsCompiled}
 use Rattle.cmm_located.specs.ShownWalks.{KnowsLive}
 use Rattle.cmm_located.specs.Steps.{IsFollowed}
+use Rattle.cmm_located.specs.Walkable.{HaveSites}
 
 -- locals that are live at one site have different places
 abbrev pub AreApart : Compiled → Type 0
@@ -21,6 +22,7 @@ pub record IsShowable (s : Setting) (c : Compiled) : Type 0 where
   pub variables : HasVariables s c
   pub live : KnowsLive s c
   pub apart : AreApart c
+  pub sites : HaveSites s c
 
 -- The client's answer is done over locations in at most two steps, the second at a CopyIn.
 abbrev pub ClientsAreFollowed : Type 0

@@ -1,5 +1,6 @@
 pub mod Layouts
 pub mod Compiled
+pub mod Walkable
 pub mod Nodes
 pub mod Answering
 pub mod LocatedMachine

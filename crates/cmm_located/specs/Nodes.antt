@@ -30,6 +30,7 @@ use Rattle.cmm_chain.specs.Contents.{Content, Number, ReturnTo, LandingOf, LastR
 use Rattle.cmm_chain.specs.Plans.{Plan}
 use Rattle.cmm_chain.specs.Running.{Holdings, held, put_in, entered, called, left, cut_at}
 use Rattle.cmm_located.specs.Compiled.{Compiled, Located, bare, place_of, site_exits, landing_in}
+use Rattle.cmm_located.specs.Walkable.{is_walkable}
 
 -- ---- locals in places
 
@@ -193,8 +194,9 @@ module _ (s : Setting) (c : Compiled) where
       given (procedure_from 0 address s.placement.rows) NotAProcedure (λ q.
       to_procedure q (record at.store { activations = with_site (Some site) at.store.activations }) (called at.procedure site at.holdings) (numbers words))
   done kind (order.Yield site values) at =
-      and_then (perform s (order.Yield site values) at.store) (λ transfer.
-      Ok (transferred kind transfer record at { holdings = called at.procedure site at.holdings }))
+      let h = called at.procedure site at.holdings in
+      provided (is_walkable s c h.contents (with_site (Some site) at.store.activations) h.point) WrongAlternates
+      (and_then (perform s (order.Yield site values) at.store) (λ transfer. Ok (transferred kind transfer record at { holdings = h })))
   done kind (order.Jump address words) at =
       given (procedure_from 0 address s.placement.rows) NotAProcedure (λ q.
       to_procedure q (without 1 at.store) (left c.plan at.procedure at.holdings) (numbers words))

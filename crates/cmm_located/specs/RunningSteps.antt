@@ -11,6 +11,8 @@ use Rattle.cmm_located.specs.Entering.{AreReady, HaveEntries, IsWithinMost}
 use Rattle.cmm_located.specs.Relation.{Liveness, Related}
 use Rattle.cmm_located.specs.Returning.{HaveExits, ReturnsAreInRange}
 use Rattle.cmm_located.specs.SameOrders.{HasFrames}
+use Rattle.cmm_located.specs.ShownWalks.{KnowsLive}
+use Rattle.cmm_located.specs.Walkable.{HaveSites}
 use Rattle.cmm_located.specs.Steps.{IsClosed, IsFollowed}
 
 -- the procedures of a program are compiled, for a liveness, into nodes of at most n tokens
@@ -30,4 +32,4 @@ pub record IsCompiled (s : Setting) (c : Compiled) (live : Liveness) (most : ℕ
 -- A step of an activation that runs is done over locations, at the cost of its node and of the node where it lands.
 abbrev pub StepsAreFollowed : Type 0
 StepsAreFollowed = (s : Setting) (c : Compiled) (live : Liveness) (most : ℕ) (st : State Position) (at : Located) → IsCompiled s c live most →
-    Related s c live st at → st.store.status ≡ Running → IsFollowed s c live (tokens_of_youngest c.graphs st + most) st at
+    KnowsLive s c → HaveSites s c → Related s c live st at → st.store.status ≡ Running → IsFollowed s c live (tokens_of_youngest c.graphs st + most) st at
