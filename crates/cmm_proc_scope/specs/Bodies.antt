@@ -7,7 +7,7 @@ use Rattle.cmm_proc_scope.specs.declared.body_types.BodyTypes.{BodyTypes}
 use Rattle.cmm_proc_scope.specs.declared.body_names.BodyNames.{BodyNames}
 
 abbrev pub scope_of_types : {N : Type 0} → (N → Senses) → BodyTypes N → Scope
-scope_of_types outer body = record { own = map own_declared body.own.table.declared; outer = outer body.outer.now }
+scope_of_types outer body = record { own = map own_declared body.own.now.table.declared; outer = outer body.outer.now }
 
 abbrev pub scope_of_body : {N : Type 0} → (N → Senses) → BodyNames N → Scope
 scope_of_body outer body = scope_of_types outer body.types

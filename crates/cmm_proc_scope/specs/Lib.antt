@@ -1,3 +1,4 @@
 pub mod Owned
 pub mod Bodies
+pub mod Procs
 pub mod inside

@@ -1,27 +1,18 @@
 //! What names mean in a procedure.
 
-ghost use Rattle.std.specs.Prelude.{◌≡◌, [], IfOk, IsTrue, OnOk};
+ghost use Rattle.std.specs.Prelude.{◌≡◌, IsTrue};
 ghost use Rattle.cmm_static_semantics.specs.Declarations as declarations;
-ghost use Rattle.cmm_static_semantics.specs.Declarations.{again, own_names, is_declared, number_in};
+ghost use Rattle.cmm_static_semantics.specs.Declarations.{is_declared, number_in};
 ghost use Rattle.cmm_static_semantics.specs.Scopes.{senses, types};
-ghost use Rattle.cmm_static_semantics.specs.Spots.{first_of};
-ghost use Rattle.cmm_static_semantics.specs.Statements.{scope_of};
 ghost use Rattle.cmm_proc_scope.specs.Bodies.{scope_of_body};
 ghost use Rattle.cmm_proc_scope.specs.Owned.{local_shown};
 ghost use Rattle.cmm_proc_scope.specs.inside.Numbering.{sense_by};
-ghost use Rattle.cmm_typing.specs.Fitting.{AreWords};
 
 use crate::body_types::BodyTypes;
-use crate::declaring::declared_in;
-use crate::numbering::numbered;
 use crate::own::{Local, Numbered};
-use crate::own_names::OwnNames;
-use cmm_ast::Proc;
-use cmm_static_semantics::{Sense, Spot};
-use cmm_symbols::Table;
+use cmm_static_semantics::Sense;
 use cmm_typing::Names;
 use cmm_words::Name;
-use std::alloc::{AllocError, Global};
 
 /// The names of a procedure, over those of its unit.
 #[derive(Drop)]
@@ -100,25 +91,4 @@ impl<'a, N: Names> Names for BodyNames<'a, N> {
             None => self.types.outer.sense(name),
         }
     }
-}
-
-/// The names of a procedure, over those of its unit. Each name that it declares again is noted: rule 20. Fails only for want of memory; a
-/// procedure that declares 2^32 names of a sort or more, which no memory has room for, fails so too.
-pub fn names_of<'a, N: Names>(
-    alloc: Global,
-    outer: &'a N,
-    proc: &'a Proc,
-    best: &mut Option<Spot>,
-) -> Result<BodyNames<'a, N>, AllocError>
-    ensures scope { IfOk result (λ body. scope_of_body N.senses body ≡ scope_of (N.senses outer.now) proc.now) }
-    ensures again { OnOk result (best.new ≡ first_of best.old (again [] (own_names proc.now))) }
-    ensures words { AreWords (N.senses outer.now) → IfOk result (λ body. AreWords (senses (scope_of_body N.senses body))) }
-    ensures type_words { AreWords (N.senses outer.now) → IfOk result (λ body. AreWords (types (scope_of_body N.senses body))) }
-{
-    let declared = declared_in(alloc, proc)?;
-    let own = numbered(alloc, declared.as_slice())?;
-    let table = Table::of(alloc, own, best)?;
-    let own = OwnNames { table };
-    let types = BodyTypes { own, outer };
-    Ok(BodyNames { types })
 }

@@ -19,7 +19,7 @@ use cmm_words::{Name, Width};
 /// The names of a unit that no name of a procedure hides.
 #[derive(Drop)]
 pub struct BodyTypes<'a, N> {
-    pub(crate) own: OwnNames<'a>,
+    pub(crate) own: &'a OwnNames<'a>,
     pub(crate) outer: &'a N,
 }
 

@@ -1,14 +1,14 @@
 //! What a procedure declares.
 
 ghost use Rattle.std.specs.Prelude.{◌≡◌, ◌++◌, map, flat_map, IfOk, OnOk};
-ghost use Rattle.cmm_static_semantics.specs.Declarations.{Variable, each_as, formal_name, local_names, own_names, part_names, room_names, stmt_names};
+ghost use Rattle.cmm_static_semantics.specs.Declarations.{Variable, each_as, formal_name, local_names, part_names, room_names, stmt_names};
 ghost use Rattle.cmm_symbols.specs.Shown.{piece_part};
 ghost use Rattle.cmm_proc_scope.specs.Owned.{local_declared};
 
 use crate::own::Local;
-use cmm_ast::{Formal, Ident, LocalForm, Proc, Room, RoomForm, StmtForm, TypeName};
+use cmm_ast::{Formal, Ident, LocalForm, Room, RoomForm, StmtForm, TypeName};
 use cmm_items::Items;
-use cmm_symbols::{Named, Piece, pieces_of};
+use cmm_symbols::{Named, Piece};
 use std::alloc::{AllocError, Global};
 
 fn add_formals<'a>(
@@ -135,16 +135,16 @@ fn add_pieces<'a>(
     Ok(())
 }
 
-/// What a procedure declares: its formals, and then what its body does, in textual order.
+/// What a procedure declares: its formals, and then what the pieces of its body do, in textual order.
 pub(crate) fn declared_in<'a>(
     alloc: Global,
-    proc: &'a Proc,
+    formals: &'a [Formal],
+    pieces: &[Piece<'a>],
 ) -> Result<Items<Named<'a, Local<'a>>>, AllocError>
-    ensures { IfOk result (λ declared. map local_declared declared ≡ own_names proc.now) }
+    ensures { IfOk result (λ declared. map local_declared declared ≡ map formal_name formals.now ++ flat_map part_names (map piece_part pieces.now)) }
 {
-    let pieces = pieces_of(alloc, &proc.body)?;
     let mut declared = Items::new(alloc);
-    add_formals(proc.formals.as_slice(), &mut declared)?;
-    add_pieces(pieces.as_slice(), &mut declared)?;
+    add_formals(formals, &mut declared)?;
+    add_pieces(pieces, &mut declared)?;
     Ok(declared)
 }
