@@ -9,6 +9,7 @@ use Rattle.rv_table.specs.declared.instruction.Instr.TheVariants.{Addi}
 use Rattle.rv_table.specs.Machine.{MemoryMap, State, steps}
 use Rattle.rv_table.specs.Registers.{with_register}
 use Rattle.rv_table.specs.Stands.{code_of}
+use Rattle.rv_asm.specs.Appending.{AddsWords, IsBehind}
 use Rattle.rv_asm.specs.Filling.{IsReached, filled}
 use Rattle.rv_asm.specs.Finishing.{Contains, GoesToCode, fix_symbols, symbols_of}
 use Rattle.rv_asm.specs.inside.Forms.{code_by, fixes_of, unfilled}
@@ -46,6 +47,20 @@ value symbol = elim (symbol == 7) [ true ↦ 0x11900 | false ↦ 0x1a8 ]
 
 abbrev words : List ℕ → List ℕ
 words ws = flat_map (to_le_bytes w32) ws
+
+-- the second place is behind the table, with the word of the jump behind it; and the table has three words
+behind_table : IsBehind (label 3) 1 parts
+behind_table = record {
+  front = Place (label 0) ∷ Single (Addi 10 10 (negsuc 0)) ∷ Branch Ne 10 0 (label 0) ∷ Call (label 1) ∷ Address 5 (label 2) ∷ [];
+  part = Table (label 0 ∷ label 3 ∷ []);
+  back = Jump (label 3) ∷ [];
+  is = refl;
+  long = omega arith;
+  room = omega arith;
+}
+
+table_words : AddsWords 3 (Call (label 1) ∷ []) (Call (label 1) ∷ Table (label 0 ∷ label 3 ∷ []) ∷ [])
+table_words = record { parts = Table (label 0 ∷ label 3 ∷ []) ∷ []; added = refl; room = omega arith }
 
 -- ---- its bytes
 abbrev bytes : List ℕ

@@ -15,6 +15,7 @@ mod Finished
 mod Emitting
 mod Singles
 mod Appending
+mod Behind
 mod Following
 pub mod Shared
 mod Places

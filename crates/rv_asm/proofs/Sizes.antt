@@ -4,7 +4,7 @@ use Rattle.std.specs.Prelude.{slice_get}
 use Rattle.std.proofs.Math.Seq.{take-suc}
 use Rattle.std.proofs.lemmas.Option.{slice_get_within, get_or_from_slice_get}
 use Rattle.rv_asm.specs.Assembly.{Fits}
-use Rattle.rv_asm.specs.Sizes.{all_longest, longest}
+use Rattle.rv_asm.specs.Sizes.{all_longest, all_shortest, longest}
 use Rattle.rv_asm.specs.inside.Forms.{all_instructions, entries, far_jumps, fix_of, fixes_of, instructions}
 use Rattle.rv_asm.specs.declared.part.Label.{Label}
 use Rattle.rv_asm.specs.declared.part.Meaning.{Meaning}
@@ -14,6 +14,10 @@ use Rattle.rv_asm.specs.declared.part.Part.TheVariants.{Single, Place, Branch, J
 pub longest-append : (ps qs : List Part) → all_longest (ps ++ qs) ≡ all_longest ps + all_longest qs
 longest-append [] qs = omega arith
 longest-append (p ∷ ps) qs = omega (arith, longest-append ps qs)
+
+pub shortest-append : (ps qs : List Part) → all_shortest (ps ++ qs) ≡ all_shortest ps + all_shortest qs
+shortest-append [] qs = omega arith
+shortest-append (p ∷ ps) qs = omega (arith, shortest-append ps qs)
 
 pub longest-take : (ps : List Part) (i : ℕ) → all_longest (take i ps) ≤ all_longest ps
 longest-take [] zero = omega arith
