@@ -7,5 +7,6 @@ mod ReadingRows
 mod MeaningLaws
 mod SearchLaws
 mod SiteLaws
+mod BoundLaws
 mod ImageRows
 pub mod Shared

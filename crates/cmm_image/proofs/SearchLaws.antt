@@ -8,8 +8,8 @@ use Rattle.cmm_image.specs.declared.rows.SiteRow.{SiteRow}
 use Rattle.cmm_image.specs.Formats.{AreRows}
 use Rattle.cmm_image.specs.ImageFormat.{site}
 use Rattle.cmm_image.specs.Images.{IsImage}
-use Rattle.cmm_image.specs.Sites.{returns_to, site_place}
-use Rattle.cmm_image.specs.inside.Ascending.{no_site, address_at, Ascend, Halves}
+use Rattle.cmm_image.specs.Sites.{no_site, returns_to, site_place}
+use Rattle.cmm_image.specs.inside.Ascending.{address_at, Ascend, Halves}
 
 -- ---- the order of sites
 

@@ -6,6 +6,7 @@ use Rattle.cmm_image.specs.declared.parts.ImageParts.{ImageParts}
 use Rattle.cmm_image.specs.Formats.{AreBytes}
 use Rattle.cmm_image.specs.ImageFormat.{procedure_at}
 use Rattle.cmm_image.specs.InFrames.{KeepsFrame}
+use Rattle.cmm_image.specs.Bounds.{BoundsRows}
 use Rattle.cmm_image.specs.Images.{IsImage, SpellsImage, IsFirstFault}
 
 -- bytes are an image, or they have a first fault
@@ -23,3 +24,7 @@ NoImageHasAFault = (bytes : List ℕ) (i : ImageParts) (rule : Rule) (offset : �
 -- each site of an image keeps inside the frame of its procedure
 abbrev pub SitesKeepFrames : Type 0
 SitesKeepFrames = (i : ImageParts) → IsImage i → All (λ s. KeepsFrame (procedure_at i.procs s.procedure) s) i.sites
+
+-- the rows of every image are bounded
+abbrev pub RowsAreBounded : Type 0
+RowsAreBounded = (i : ImageParts) → IsImage i → BoundsRows i

@@ -32,12 +32,17 @@ label_named i name = find (λ l. bytes_eq name l.name) i.labels
 abbrev pub may_poke : ℕ → ℕ → ℕ → Bool
 may_poke data_length address count = (address % 8 == 0) && nat_le data_base address && nat_le (address + count) (data_base + data_length)
 
-abbrev pub with_data : ImageParts → State → List ℕ → ℕ → List ℕ → Option State
-with_data i s name offset bytes = with_some (label_named i name) (λ l.
-    elim (may_poke (length i.initial) (l.address + offset) (length bytes)) [
+-- once bytes are written so far behind an exported label, in data of this length
+abbrev pub data_written : ℕ → ImageParts → State → List ℕ → ℕ → List ℕ → Option State
+data_written data_length i s name offset bytes = with_some (label_named i name) (λ l.
+    elim (may_poke data_length (l.address + offset) (length bytes)) [
       | true ↦ Some record s { memory = stored s.memory (l.address + offset) (length bytes) (number_of bytes) }
       | false ↦ None
     ])
+
+-- in the image's own
+abbrev pub with_data : ImageParts → State → List ℕ → ℕ → List ℕ → Option State
+with_data i s name offset bytes = data_written (length i.initial) i s name offset bytes
 
 -- ---- exits
 

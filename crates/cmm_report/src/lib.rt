@@ -1,8 +1,12 @@
 //! The parts of a line of the log, numbers, addresses and kinds, and the line of a yield.
 //!
 //! Each call writes its text to a sink whole, or answers that a write failed. Then the sink has taken a front of the text, and its
-//! count of faults rose: no call fails of itself. `specs/Texts` says what the texts are.
+//! count of faults rose: no call fails of itself. `specs/Texts` says what the texts are, and `specs/Parts` those of parts.
+//!
+//! - `parts`: `Part`, and texts that are made of parts.
 #![tactic(auto)]
+
+mod parts;
 
 ghost use Rattle.std.specs.Prelude.{◌≡◌, false, flat_map, decimal};
 ghost use Rattle.cmm_outside.specs.Output.{WritesAll};
@@ -12,6 +16,8 @@ ghost use Rattle.cmm_script.specs.Lines.{yield_line};
 
 use cmm_outside::{Failed, Sink, write_all};
 use itoa::Buffer;
+
+pub use parts::{Part, write_parts};
 
 /// Writes a number in decimal, without leading zeros.
 pub fn put_number<E: Sink>(to: &mut E, n: u64) -> Result<(), Failed>

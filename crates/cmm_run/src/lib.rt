@@ -6,7 +6,7 @@
 //! For now a script has no block, so the first yield of a run stops it.
 //!
 //! - `session`: `Session`, and `Limits`.
-//! - `outcome`: `Outcome`, what a run comes to, and `Torn`.
+//! - `outcome`: `Outcome`, what a run comes to.
 //! - `loaded`: what stays as it is in a run: the image with its code decoded, the script and the stack's size.
 //! - `machine`: what a run changes: registers, memory and the output that waits. `waiting`: that output.
 //! - `running`: the turns of a run. `requests`: what an ECALL asks for.
@@ -24,5 +24,6 @@ mod session;
 mod waiting;
 mod yielding;
 
-pub use outcome::{Outcome, Torn};
+pub use cmm_walk::Torn;
+pub use outcome::Outcome;
 pub use session::{Limits, Session};

@@ -1,14 +1,6 @@
 //! What a run comes to.
+use cmm_walk::Torn;
 use rv_table::Trap;
-
-/// Where the chain of frames of a stopped program breaks: no activation with this frame has this return address.
-#[derive(Clone, Copy, PartialEq, Eq)]
-pub struct Torn {
-    /// The address of the frame.
-    pub frame: u64,
-    /// The return address.
-    pub address: u64,
-}
 
 /// What a run comes to.
 #[derive(Clone, Copy, PartialEq, Eq)]

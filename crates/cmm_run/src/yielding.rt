@@ -10,12 +10,13 @@ ghost use Rattle.cmm_abi.specs.Regions.{value_place, values_in, word_at};
 ghost use Rattle.cmm_run.specs.inside.Yields.{Counts, StopsWith, YieldsTo, count_found, count_of, found_first, values_at};
 
 use crate::machine::Machine;
-use crate::outcome::{Outcome, Torn};
+use crate::outcome::Outcome;
 use cmm_abi::registers::{FIRST_VALUE, FRAME, RETURN_ADDRESS};
 use cmm_abi::values::IN_REGISTERS;
 use cmm_image::{Image, SiteRow};
 use cmm_outside::{Failed, Sink};
 use cmm_report::put_yield;
+use cmm_walk::Torn;
 use rv_memory::Memory;
 use rv_table::memory_map::ARGUMENT_WORDS;
 

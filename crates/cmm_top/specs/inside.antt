@@ -1,4 +1,3 @@
-pub mod Parts
 pub mod Ending
 pub mod Reading
 pub mod Tasks

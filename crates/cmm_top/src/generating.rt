@@ -13,7 +13,6 @@ ghost use Rattle.cmm_top.specs.Lines.{counts_lines, site_count};
 ghost use Rattle.cmm_top.specs.inside.Ending.{work_of};
 
 use crate::ending::Ending;
-use crate::parts::{Part, write_parts};
 use crate::session::{finish, load};
 use crate::units::refusal;
 use cmm_command::{RunLimits, USUAL_STACK, USUAL_STEPS};
@@ -22,6 +21,7 @@ use cmm_image::Image;
 use cmm_items::Items;
 use cmm_outside::{Failed, Sink, Source};
 use cmm_program::Program;
+use cmm_report::{Part, write_parts};
 use rv_memory::NoMemory;
 use std::alloc::{AllocError, Global};
 

@@ -9,7 +9,7 @@
 //! - `task`: what words ask for.
 //! - `executing`, `running`, `building`, `generating`: `exec`, `run`, `build` and `gen`.
 //! - `units`: units read from their files and built. `sources`: their bytes. `session`: an image that runs.
-//! - `ending`, `line`: what a call comes to, and the line that closes the log. `parts`: texts that are made of parts.
+//! - `ending`, `line`: what a call comes to, and the line that closes the log.
 //! - `status`: exit statuses, and `Finish`.
 #![tactic(auto)]
 
@@ -18,7 +18,6 @@ mod ending;
 mod executing;
 mod generating;
 mod line;
-mod parts;
 mod running;
 mod session;
 mod sources;

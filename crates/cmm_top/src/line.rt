@@ -6,9 +6,9 @@ ghost use Rattle.cmm_top.specs.inside.Ending.{Closes, line_of, status_at};
 ghost use Rattle.cmm_top.specs.Lines.{bad_image_line, outcome_line, refused_line};
 
 use crate::ending::Ending;
-use crate::parts::{Part, write_parts};
 use crate::status::Status;
 use cmm_outside::{Failed, Sink, write_all};
+use cmm_report::{Part, write_parts};
 use cmm_rules::Rule;
 use cmm_run::Outcome;
 use cmm_static_semantics::Fault;

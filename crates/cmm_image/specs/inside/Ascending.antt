@@ -1,23 +1,7 @@
 -- Sites in the order of their return addresses.
-use Rattle.std.specs.Prelude.{ℕ, ◌<◌, ◌≤◌, false, List, [], length, slice_index_or, None}
+use Rattle.std.specs.Prelude.{ℕ, ◌<◌, ◌≤◌, List, length, slice_index_or}
 use Rattle.cmm_image.specs.declared.rows.SiteRow.{SiteRow}
-
--- a site that no list has
-abbrev pub no_site : SiteRow
-no_site = record {
-  return_address = 0;
-  procedure = 0;
-  number = 0;
-  never_returns = false;
-  aborts = false;
-  yield_values = None;
-  results = [];
-  returns = [];
-  unwinds = [];
-  cuts = [];
-  variables = [];
-  spans = [];
-}
+use Rattle.cmm_image.specs.Sites.{no_site}
 
 -- the return address of the site at a place
 abbrev pub address_at : List SiteRow → ℕ → ℕ

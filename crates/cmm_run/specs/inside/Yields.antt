@@ -10,7 +10,8 @@ use Rattle.cmm_image_machine.specs.Frames.{Found, Activation, Nothing, Broken, f
 use Rattle.cmm_abi.specs.Regions.{Region, values_in}
 use Rattle.cmm_run.specs.declared.outcome.Outcome.{Outcome}
 use Rattle.cmm_run.specs.declared.outcome.Outcome.TheVariants as outcome
-use Rattle.cmm_run.specs.declared.outcome.Torn.{Torn}
+use Rattle.cmm_walk.specs.declared.chain.Torn.{Torn}
+use Rattle.cmm_walk.specs.Walking.{break_of}
 
 -- what stands at the first point of the chain
 abbrev pub found_first : ImageParts → Region → State → Found
@@ -34,9 +35,6 @@ values_found r s (Err b) = Err b
 
 abbrev pub values_at : ImageParts → Region → State → Result (List ℕ) Break
 values_at i r s = values_found r s (count_found (found_first i r s))
-
-abbrev pub break_of : Torn → Break
-break_of t = record { frame = t.frame; address = t.address }
 
 -- the answer is this count, or this break
 abbrev pub Counts : Result ℕ Break → Result ℕ Torn → Type 0

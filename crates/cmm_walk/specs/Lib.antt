@@ -1,0 +1,5 @@
+pub mod Activations
+pub mod Walking
+pub mod Shown
+pub mod Texts
+pub mod inside
