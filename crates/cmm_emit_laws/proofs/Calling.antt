@@ -1,6 +1,7 @@
 -- Control goes to a procedure: by a call, or by a tail call.
 use Rattle.std.proofs.Common.{◌≡◌, ◌⊎◌, inl, inr, ℕ, ◌%◌, ◌≤◌, ◌^◌, refl, sym, ◌∙◌, ap, subst, arith, false, List, map, Option, Some, None, IsTrue, slice_get}
 use Rattle.std.specs.Prelude.{◌==◌, ◌||◌, Ok, Err}
+use Rattle.std.proofs.lemmas.Bool.{or_parts}
 use Rattle.std.proofs.lemmas.Bool.Decides.{nat_tests}
 use Rattle.rv_table.specs.Bounds.{IsSound}
 use Rattle.rv_table.specs.Machine.{State}
@@ -146,7 +147,7 @@ module _ (s : Setting) (c : Compiled) (l : Launch) (f : Finished) (is_for : IsFo
         (values_are s c l f is_for at r body.activation body.older body.youngest body.same laid shown arguments code.operands ws code.are is_words) gives)
       where
         apart : (k : ℕ) → ((k == 1) || is_scratch k) ≡ false → (k == 1) ≡ false
-        apart k is = grind (arith, nat_tests, is)
+        apart k is = (or_parts (k == 1) (is_scratch k) is).0
 
     calls_to : (v : ℕ) → value callee ≡ Ok v → v % 4 ≡ 0 → Reaches (map_of l) 1 cost t (CalledAt v)
     calls_to v is_v aligned = by code.calls

@@ -49,6 +49,14 @@ puts_show y s m is_for ((place, n) ∷ rest) h store a older t t' youngest are p
 
 -- ---- values stay where they came while places are put in which none of them is
 
+-- a register in which values travel is no scratch register
+pub value_is_kept : (k : ℕ) → k < 8 → is_scratch (10 + k) ≡ false
+value_is_kept k early = grind (arith, nat_tests, early)
+
+-- and no callee-saves register
+saved_no_value : (r : ℕ) → is_callee_saves r ≡ true → nat_le 10 r && nat_lt r 18 ≡ false
+saved_no_value r is = grind (arith, nat_tests, is)
+
 module _ (y : Symbols) (s : Setting) (m : MemoryMap) (is_for : IsFor s m) (store : Store) (a : Activation) (older : List Activation) (youngest : store.activations ≡ a ∷ older)
     (count i : ℕ) (among : i < count) (few : i < 64) where
   module _ (h : Holdings) (t t' : State) (shows : IsRepresented y s h store [] t) where
@@ -69,7 +77,7 @@ module _ (y : Symbols) (s : Setting) (m : MemoryMap) (is_for : IsFor s m) (store
     value_stays (Slot offset) n is apart puts =
         let sits : Sits (stack_region s) store.memory (h.point.at + offset) = own_word_sits y s m is_for h store a older t t' youngest offset [] is shows in
         let low : bottom (stack_region s) ≤ t.registers 2 + offset = omega (arith, sits.low, shows.holdings.frame) in
-        below_same (λ early. puts.registers (10 + i) (grind (arith, nat_tests)))
+        below_same (λ early. puts.registers (10 + i) (value_is_kept i early))
         (λ b below. rw puts.memory (loaded-below t.memory (t.registers 2 + offset) 8 n b 8 (omega (arith, low, below))))
     value_stays (Saved r) n is apart puts = below_same (λ early. puts.1 (10 + i) (saved_apart r is early)) (λ b below. rw puts.2 refl)
     value_stays (Temp r) n is apart puts = below_same (λ early. puts.1 (10 + i) (temp_differs r is apart early)) (λ b below. rw puts.2 refl)
@@ -82,6 +90,10 @@ module _ (y : Symbols) (s : Setting) (m : MemoryMap) (is_for : IsFor s m) (store
       zeros_keep_values places (put_in place (Number 0) h) puts.0 t' are.1.1 both.1 puts.2
       (put_shows y s m is_for h store a older t puts.0 youngest place 0 are.0 are.1.0 puts.1 shows)
       ∙ value_stays h t puts.0 shows place 0 are.0 both.0 puts.1
+
+-- a register that carries no value is none to which values are given, however many they are
+none_given : (count r : ℕ) (scratch : Bool) → nat_le 10 r && nat_lt r 18 ≡ false → scratch ≡ false → ((nat_le 10 r && nat_lt r (10 + min count 8)) || scratch) ≡ false
+none_given count r scratch apart none = grind (arith, nat_tests, apart, none)
 
 none_past : (operands : List Operand) (i : ℕ) → slice_get operands i ≡ None → i < length operands → ⊥
 none_past [] i is less = omega arith
@@ -102,7 +114,7 @@ module _ (y : Symbols) (s : Setting) (m : MemoryMap) (is_for : IsFor s m) (h : H
   far k above = omega (arith, is_given.count, is_given.few)
 
   keeps : (r : ℕ) → nat_le 10 r && nat_lt r 18 ≡ false → is_scratch r ≡ false → t'.registers r ≡ t.registers r
-  keeps r apart scratch = gives.registers r (grind (arith, nat_tests, apart, scratch))
+  keeps r apart scratch = gives.registers r (none_given (length operands) r (is_scratch r) apart scratch)
 
   free : (k : ℕ) (low : Bool) → nat_lt k (stack_region s).address ≡ low → (area : Bool) → nat_lt k ((stack_region s).address + GLOBALS_OFFSET) ≡ area →
       (t'.memory k ≡ t.memory k) ⊎ (cell_at store.memory k ≡ Outside)
@@ -118,7 +130,7 @@ module _ (y : Symbols) (s : Setting) (m : MemoryMap) (is_for : IsFor s m) (h : H
       region = keeps 4 refl refl ∙ shows.holdings.region;
       back = shown_same y h.point.back (t.registers 1) (t'.registers 1) (λ known. keeps 1 refl refl) shows.holdings.back;
       kept = λ r is. shown_same y (h.point.kept r) (t.registers r) (t'.registers r)
-          (λ known. keeps r (grind (arith, nat_tests, is)) (callee_saves_is_kept r is)) (shows.holdings.kept r is);
+          (λ known. keeps r (saved_no_value r is) (callee_saves_is_kept r is)) (shows.holdings.kept r is);
       temps = λ r is. tt;
     };
     words = record {

@@ -52,7 +52,7 @@ use Rattle.cmm_emit_laws.specs.Standing.{IsInBody, IsYoungest, Stands, status_of
 
 -- ---- lists alike
 
-there_too : (xs : List ContinuationId) (ys : List Label) (i : ℕ) (x : ContinuationId) → slice_get xs i ≡ Some x → length ys ≡ length xs → (y : Label) × (slice_get ys i ≡ Some y)
+pub there_too : (xs : List ContinuationId) (ys : List Label) (i : ℕ) (x : ContinuationId) → slice_get xs i ≡ Some x → length ys ≡ length xs → (y : Label) × (slice_get ys i ≡ Some y)
 there_too [] ys i x is same = absurd (cc)
 there_too (first ∷ xs) [] i x is same = absurd (omega (arith, same))
 there_too (first ∷ xs) (y ∷ ys) zero x is same = (y, refl)

@@ -19,7 +19,19 @@ use Rattle.cmm_emit_laws.specs.Words.{Symbols, Represents}
 use Rattle.cmm_emit_laws.specs.Represented.{IsFor, IsRepresented, RepresentsHoldings, stack_region}
 use Rattle.cmm_emit_laws.proofs.WrittenWords.{shown_same}
 use Rattle.cmm_emit_laws.proofs.Frames.{ends_at_next, rooms_go, show_fewer}
+use Rattle.cmm_emit_laws.proofs.Carrying.{value_is_kept}
 use Rattle.cmm_emit_laws.proofs.Showing.{values_same}
+
+-- a register in which a value travels is no callee-saves register, and none of the first ten
+value_not_saved : (i : ℕ) → i < 8 → is_callee_saves (10 + i) ≡ false
+value_not_saved i less = grind (arith, nat_tests, less)
+
+value_differs : (i k : ℕ) → k < 10 → (10 + i == k) ≡ false
+value_differs i k low = grind (arith, nat_tests, low)
+
+-- a callee-saves register is none of the first nine
+saved_differs : (r k : ℕ) → is_callee_saves r ≡ true → k < 9 → (r == k) ≡ false
+saved_differs r k is low = grind (arith, nat_tests, is, low)
 
 module _ (y : Symbols) (s : Setting) (m : MemoryMap) (is_for : IsFor s m) where
   -- memory stays, and some of the youngest activations may go
@@ -62,7 +74,7 @@ module _ (y : Symbols) (s : Setting) (m : MemoryMap) (is_for : IsFor s m) where
         Represents y (elim o [ Some offset ↦ h.contents (h.point.at + offset) | None ↦ h.point.kept r ]) (t'.registers r)
     kept_at r is (Some offset) at = word_there offset (t'.registers r) (leaves.restored r offset at)
     kept_at r is None at = shown_same y (h.point.kept r) (t.registers r) (t'.registers r)
-        (λ known. still r (grind (arith, nat_tests, is)) (grind (arith, nat_tests, is)) (callee_saves_is_kept r is) (ap is_some at)) (shows.holdings.kept r is)
+        (λ known. still r (saved_differs r 1 is (omega arith)) (saved_differs r 2 is (omega arith)) (callee_saves_is_kept r is) (ap is_some at)) (shows.holdings.kept r is)
 
     pub left_shows : IsRepresented y s (record { point = behind plan h.contents q h.point; temps = none_known; contents = h.contents }) (without 1 store) carried t'
     left_shows = moved_shows h _ store carried 1 t t' shows leaves.memory refl
@@ -74,7 +86,7 @@ module _ (y : Symbols) (s : Setting) (m : MemoryMap) (is_for : IsFor s m) where
           kept = λ r is. kept_at r is (saved_at plan q r) refl;
           temps = λ r is. tt;
         })
-        (λ i less. still (10 + i) (grind (arith, nat_tests)) (grind (arith, nat_tests)) (grind (arith, nat_tests)) (not_saved (10 + i) (grind (arith, nat_tests))))
+        (λ i less. still (10 + i) (value_differs i 1 (omega arith)) (value_differs i 2 (omega arith)) (value_is_kept i less) (not_saved (10 + i) (value_not_saved i less)))
         (let here : frame_address s (drop 1 store.activations) ≡ frame_address s older = ap (λ (as_ : List Activation). frame_address s (drop 1 as_)) youngest in
         omega (arith, ends_at_next s m is_for store a older shows.stack youngest, here, shows.at, size))
 

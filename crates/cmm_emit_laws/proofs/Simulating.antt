@@ -48,7 +48,7 @@ use Rattle.cmm_emit_laws.proofs.Storing.{store_done}
 use Rattle.cmm_emit_laws.specs.Finished.{Finished}
 use Rattle.cmm_emit_laws.specs.Laws.{ImagesSimulateLocatedRuns, IsRepresentedIn, most_for_step}
 use Rattle.cmm_emit_laws.specs.NodeCode.{IsCodeOf}
-use Rattle.cmm_emit_laws.specs.ProgramCode.{IsCode, is_coded, names_registers}
+use Rattle.cmm_emit_laws.specs.ProgramCode.{IsCode, IsCodeAround, is_coded, names_registers}
 use Rattle.cmm_emit_laws.specs.Standing.{AreBare, IsInside, IsOfRun, Stands, outside_at, status_of}
 
 -- a running state steps by its node
@@ -68,7 +68,7 @@ step_is s c at z is = ap (λ (q : p.Status). elim q as (λ _. Located) [
 never_ended : {z : Status} {outcome : Outcome} → z ≡ Ended outcome → z ≡ Running → ⊥
 never_ended is going = absurd (cc)
 
-module _ (lead : SwitchesLead) (s : Setting) (c : Compiled) (l : Launch) (f : Finished) (code : IsCode s c l f) where
+module _ (lead : SwitchesLead) (s : Setting) (c : Compiled) (l : Launch) (f : Finished) (code : IsCodeAround s c l f) where
   pub first_tokens : (at : Located) → 1 ≤ tokens_at s c (record at { procedure = 0; node = record { number = 0 } })
   first_tokens at =
       let found = found_in c.graphs 0 (λ g. node_of g (record { number = 0 })) code.first code.is_first in
@@ -77,7 +77,9 @@ module _ (lead : SwitchesLead) (s : Setting) (c : Compiled) (l : Launch) (f : Fi
       let some : 1 ≤ code.first.tokens = (node_holds found.0 (record { number = 0 }) code.first (code.valid 0 found.0 found.1) found.2).0 in
       omega (arith, e, some)
 
-  module _ (at : Located) (t : State) (stands : Stands s c l f at t) (run : IsOfRun s c at) where
+  -- a step at a node that is no yield
+  module _ (at : Located) (t : State) (stands : Stands s c l f at t) (run : IsOfRun s c at) (coded : is_coded stands.node.kind ≡ true)
+      (piece_here : IsCodeOf s c l f at.procedure at.node stands.node.kind (32 * stands.node.tokens)) where
     found : (g : Graph) × (slice_get c.graphs at.procedure ≡ Some g) × (node_of g at.node ≡ Some stands.node)
     found = found_in c.graphs at.procedure (λ g. node_of g at.node) stands.node stands.there
 
@@ -141,9 +143,9 @@ module _ (lead : SwitchesLead) (s : Setting) (c : Compiled) (l : Launch) (f : Fi
     step_done : (r : Tried Located) → ran_at s c stands.node.kind at ≡ r → (located_machine s c).wrong (tried s c at r) ≡ false →
         IsDone s c l f at (32 * stands.node.tokens) t (tried s c at r)
     step_done (Ok next) is right =
-        node_done stands.node.kind kind_is (list_all_get (λ node. is_coded node.kind) found.0.nodes at.node.number stands.node (code.coded at.procedure found.0 found.1) found.2)
+        node_done stands.node.kind kind_is coded
         (list_all_get (λ node. names_registers s.program node.kind) found.0.nodes at.node.number stands.node (code.named at.procedure found.0 found.1) found.2)
-        stands.inside (node_holds found.0 at.node stands.node valid_here found.2).1 (code.nodes at.procedure at.node stands.node stands.there) next is
+        stands.inside (node_holds found.0 at.node stands.node valid_here found.2).1 piece_here next is
     step_done (Err error) is right = absurd (cc)
 
     steps_to : located_step s c at ≡ tried s c at (ran_at s c stands.node.kind at)
@@ -152,7 +154,7 @@ module _ (lead : SwitchesLead) (s : Setting) (c : Compiled) (l : Launch) (f : Fi
     done_here : (located_machine s c).wrong (located_step s c at) ≡ false → IsDone s c l f at (32 * stands.node.tokens) t (tried s c at (ran_at s c stands.node.kind at))
     done_here right = step_done (ran_at s c stands.node.kind at) refl (sym (ap (λ (z : Located). (located_machine s c).wrong z) steps_to) ∙ right)
 
-    keeps : (located_machine s c).wrong (located_step s c at) ≡ false → IsOfRun s c (located_step s c at)
+    pub keeps : (located_machine s c).wrong (located_step s c at) ≡ false → IsOfRun s c (located_step s c at)
     keeps right = record {
       tokens = subst (λ (z : Located). 1 ≤ tokens_at s c z) (sym steps_to) (done_here right).tokens;
       registers = ap (λ (z : Located). length z.store.registers) steps_to ∙ (done_here right).registers ∙ run.registers;
@@ -160,10 +162,33 @@ module _ (lead : SwitchesLead) (s : Setting) (c : Compiled) (l : Launch) (f : Fi
       are_bare = subst AreBare (sym steps_to) ((done_here right).are_bare run.are_bare);
     }
 
-    code_does : (located_machine s c).wrong (located_step s c at) ≡ false →
+    pub code_does : (located_machine s c).wrong (located_step s c at) ≡ false →
         IsDoneBy (located_machine s c) l outside_at (Stands s c l f) (IsOfRun s c) at (32 * tokens_at s c at) t
     code_does right =
         subst (λ (n : ℕ). IsDoneBy (located_machine s c) l outside_at (Stands s c l f) (IsOfRun s c) at (32 * n) t) (sym tokens_are) ((done_here right).by_code steps_to)
+
+-- ---- programs without yields
+
+pub code_around : (s : Setting) (c : Compiled) (l : Launch) (f : Finished) → IsCode s c l f → IsCodeAround s c l f
+code_around s c l f code = record {
+  is_for = code.is_for;
+  valid = code.valid;
+  named = code.named;
+  laid = code.laid;
+  sites = code.sites;
+  entries = code.entries;
+  landings = code.landings;
+  first = code.first;
+  is_first = code.is_first;
+  back_aligned = code.back_aligned;
+  back_fits = code.back_fits;
+}
+
+module _ (lead : SwitchesLead) (s : Setting) (c : Compiled) (l : Launch) (f : Finished) (code : IsCode s c l f) where
+  all_coded : (at : Located) (t : State) (stands : Stands s c l f at t) → is_coded stands.node.kind ≡ true
+  all_coded at t stands =
+      let found = found_in c.graphs at.procedure (λ g. node_of g at.node) stands.node stands.there in
+      list_all_get (λ node. is_coded node.kind) found.0.nodes at.node.number stands.node (code.coded at.procedure found.0 found.1) found.2
 
   -- the first instruction of a node asks for nothing but input
   level : (at : Located) (t : State) → Stands s c l f at t → but_input ((located_machine s c).asks at) ≡ but_input (asked_at l t (instruction_step (map_of l) t))
@@ -193,8 +218,10 @@ module _ (lead : SwitchesLead) (s : Setting) (c : Compiled) (l : Launch) (f : Fi
       Leads (image_machine l) (λ run. 1) (Passes (located_machine s c) (image_machine l) at) (IsRepresentedIn s c l f (located_step s c at)) 1 (most_for_step s c at) u
   step_leads at u is_shown right =
       image_leads (located_machine s c) l outside_at (Stands s c l f) (IsOfRun s c) (most_for_step s c) is_served at u is_shown right
-      (λ going. keeps at u.machine (is_shown.running going) is_shown.holds right)
-      (λ going. code_does at u.machine (is_shown.running going) is_shown.holds right)
+      (λ going. let stands = is_shown.running going in
+      keeps lead s c l f (code_around s c l f code) at u.machine stands is_shown.holds (all_coded at u.machine stands) (code.nodes at.procedure at.node stands.node stands.there) right)
+      (λ going. let stands = is_shown.running going in
+      code_does lead s c l f (code_around s c l f code) at u.machine stands is_shown.holds (all_coded at u.machine stands) (code.nodes at.procedure at.node stands.node stands.there) right)
 
 pub images_simulate_located_runs : SwitchesLead → ImagesSimulateLocatedRuns
 images_simulate_located_runs lead s c l f code = record {

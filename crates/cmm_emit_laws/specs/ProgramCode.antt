@@ -57,6 +57,25 @@ pub record IsLaidFor (s : Setting) (c : Compiled) (q : ℕ) : Type 0 where
 
 -- ---- the whole
 
+-- what is required beside the code of nodes
+pub record IsCodeAround (s : Setting) (c : Compiled) (l : Launch) (f : Finished) : Type 0 where
+  pub is_for : IsFor s (map_of l)
+  pub valid : (q : ℕ) (g : Graph) → slice_get c.graphs q ≡ Some g → IsValid g
+  pub named : (q : ℕ) (g : Graph) → slice_get c.graphs q ≡ Some g → list_all (λ node. names_registers s.program node.kind) g.nodes ≡ true
+  pub laid : (q : ℕ) (g : Graph) → slice_get c.graphs q ≡ Some g → IsLaidFor s c q
+  pub sites : (q site : ℕ) (exits : Exits) → site_exits c.graphs q site ≡ Some exits → SiteCode s c l f q site exits
+  -- where the placement has a procedure, its Entry begins
+  pub entries : (address q : ℕ) (n : NodeId) → procedure_from 0 address s.placement.rows ≡ Some q → in_graph c.graphs q (λ g. Some g.first) ≡ Some n →
+      (f.node_at q n ≡ address) × (address % 4 ≡ 0)
+  -- a continuation's code begins at its CopyIn
+  pub landings : (q k : ℕ) (n : NodeId) → landing_in c.graphs q k ≡ Some n → (f.node_at q n ≡ f.symbols.landing_of q k) × (f.symbols.landing_of q k % 4 ≡ 0)
+  -- the run ends at the first node of the first procedure, in name
+  pub first : Node
+  pub is_first : in_graph c.graphs 0 (λ g. node_of g (record { number = 0 })) ≡ Some first
+  pub back_aligned : f.symbols.last_return % 4 ≡ 0
+  pub back_fits : f.symbols.last_return < 2 ^ 64
+
+-- the same, and the code of each node of a program without yields
 pub record IsCode (s : Setting) (c : Compiled) (l : Launch) (f : Finished) : Type 0 where
   pub is_for : IsFor s (map_of l)
   pub coded : (q : ℕ) (g : Graph) → slice_get c.graphs q ≡ Some g → list_all (λ node. is_coded node.kind) g.nodes ≡ true
