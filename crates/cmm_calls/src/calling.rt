@@ -8,6 +8,7 @@ ghost use Rattle.cmm_effects.specs.Pieces.{Adds};
 ghost use Rattle.cmm_select.specs.Operands.{IsOperand, most_for};
 ghost use Rattle.cmm_calls.specs.Calls.{Calls, CallsBy, CutsTo, HasExits, JumpsBy};
 ghost use Rattle.cmm_calls.specs.Frames.{CanBeMade};
+ghost use Rattle.rv_asm.specs.Appending.{AddsWords, IsBehind};
 ghost use Rattle.cmm_calls.specs.Values.{are_given_first, is_operand, parting_cost};
 ghost use Rattle.cmm_calls.specs.inside.Pairs.{GoesToPair};
 
@@ -38,6 +39,7 @@ pub fn call(
     requires site { slice_get asm.old.labels site.number ≡ Some (Inner false) }
     ensures calls { OnOk result (Adds (12 * length values.now + 2) asm.old.parts asm.new.parts (Calls frame.now values.now to site)) }
     ensures placed { OnOk result (asm.new.labels ≡ slice_set asm.old.labels site.number (Inner true)) }
+    ensures behind { OnOk result (IsBehind site 0 asm.new.parts) }
 {
     give(asm, frame, values)?;
     asm.call(to)?;
@@ -64,6 +66,7 @@ pub fn call_by(
     requires site { slice_get asm.old.labels site.number ≡ Some (Inner false) }
     ensures calls { OnOk result (Adds (most_for to.now + (12 * length values.now + 1)) asm.old.parts asm.new.parts (CallsBy frame.now to.now values.now site)) }
     ensures placed { OnOk result (asm.new.labels ≡ slice_set asm.old.labels site.number (Inner true)) }
+    ensures behind { OnOk result (IsBehind site 0 asm.new.parts) }
 {
     bring_operand(asm, to, SECOND_SCRATCH)?;
     give(asm, frame, values)?;
@@ -111,6 +114,7 @@ pub fn lay_exits(asm: &mut Asm, exits: &[Label]) -> Result<(), AllocError>
     requires few { length exits.now ≤ table_limit }
     requires inner { All (IsInner asm.old.labels) exits.now }
     ensures exits { OnOk result (Adds (3 * length exits.now + 1) asm.old.parts asm.new.parts (HasExits exits.now)) }
+    ensures words { OnOk result (AddsWords (length exits.now + 1) asm.old.parts asm.new.parts) }
     ensures labels { asm.new.labels ≡ asm.old.labels }
 {
     asm.table(exits)?;
