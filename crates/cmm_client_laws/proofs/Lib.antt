@@ -1,0 +1,23 @@
+pub mod Lists
+pub mod Listing
+pub mod Finding
+pub mod Showing
+pub mod Whole
+pub mod Walkable
+pub mod Asking
+pub mod Sound
+pub mod Putting
+pub mod Setting
+pub mod Bringing
+pub mod Resuming
+pub mod Exits
+pub mod Poking
+pub mod Answering
+pub mod Clients
+pub mod Keeping
+pub mod Lines
+pub mod Fits
+pub mod Events
+pub mod Rows
+mod TableRows
+pub mod Shared

@@ -1,0 +1,9 @@
+pub mod Tables
+pub mod Rows
+pub mod Walked
+pub mod Asked
+pub mod Waiting
+pub mod Fits
+pub mod Keeping
+pub mod Lines
+pub mod Laws
