@@ -16,7 +16,6 @@ ghost use Rattle.cmm_script.specs.Lines.{yield_line};
 
 use cmm_outside::{Failed, Sink, write_all};
 use itoa::Buffer;
-
 pub use parts::{Part, write_parts};
 
 /// Writes a number in decimal, without leading zeros.

@@ -1,12 +1,12 @@
 -- What a call answers, by what was to be done.
-use Rattle.std.proofs.Common.{◌≡◌, ◌==◌, Bool, true, false, List, length, ℕ, Result, Ok, Err, Option, Some, None, refl, sym, ap, subst, ◌∙◌}
+use Rattle.std.proofs.Common.{◌≡◌, ◌==◌, Bool, true, false, List, length, ℕ, Result, Ok, Err, Option, Some, None, refl, sym, ap, subst}
 use Rattle.cmm_rules.specs.declared.rule.Rule.{Rule}
 use Rattle.cmm_rules.specs.declared.rule.Rule.TheVariants.{DoesNotFit, NoExit, OtherCount}
 use Rattle.cmm_words.specs.declared.width.Width.{Width}
 use Rattle.rv_table.specs.Machine.{State}
 use Rattle.cmm_script.specs.Lines.{resume_line}
 use Rattle.cmm_program.specs.Commands.{all_fit, Goes, Reply, Resumes, resumed}
-use Rattle.cmm_program.specs.Errors.{and_then, given, provided, with_some}
+use Rattle.cmm_program.specs.Errors.{provided, with_some}
 use Rattle.cmm_program.specs.Asking.{Cursor, Exit}
 use Rattle.cmm_image_machine.specs.Frames.{Element}
 use Rattle.cmm_resume.specs.declared.refusal.Refusal.{Refusal}

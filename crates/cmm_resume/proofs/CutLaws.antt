@@ -1,24 +1,21 @@
 -- A cut, from one activation to the next.
-use Rattle.std.proofs.Common.{◌≡◌, ℕ, suc, ◌+◌, ◌-◌, ◌<◌, ◌≤◌, Bool, true, false, cond, List, [], ◌∷◌, find, Result, Ok, Err, Option, Some, None, IfOk, IfSome, refl, sym, ap, subst, ◌∙◌, arith}
+use Rattle.std.proofs.Common.{◌≡◌, ℕ, Bool, true, false, cond, List, [], ◌∷◌, find, Ok, Err, Option, Some, None, refl, ap, ◌∙◌}
 use Rattle.cmm_rules.specs.declared.rule.Rule.{Rule}
 use Rattle.cmm_script.specs.Lines.{resume_line}
 use Rattle.cmm_program.specs.Errors.{with_some}
-use Rattle.rv_table.specs.Registers.{with_register}
 use Rattle.cmm_image.specs.declared.rows.ContinuationNumber.{ContinuationNumber}
 use Rattle.cmm_image.specs.declared.rows.ContinuationRow.{ContinuationRow}
-use Rattle.cmm_image.specs.ImageFormat.{procedure_at}
 use Rattle.cmm_resume.specs.Finding.{checked, continuation_widths}
 use Rattle.cmm_resume.proofs.Answering.{resumed_err, resumed_ok}
 use Rattle.rv_table.specs.Machine.{State}
-use Rattle.cmm_rules.specs.declared.rule.Rule.TheVariants.{NoCut}
 use Rattle.cmm_image.specs.declared.parts.ImageParts.{ImageParts}
 use Rattle.cmm_image.specs.Images.{IsImage}
 use Rattle.cmm_program.specs.Asking.{Chain, Exit}
-use Rattle.cmm_image_machine.specs.Changes.{at_pc, continuation_row, cut_exit, has_value, parameter_widths}
+use Rattle.cmm_image_machine.specs.Changes.{continuation_row, cut_exit, has_value, parameter_widths}
 use Rattle.cmm_program.specs.Commands.{Resumes, cut, cutting, resumed}
-use Rattle.cmm_image_machine.specs.Frames.{Element, Point, Found, Activation, Nothing, Broken, along, chain_from, chain_of, found_at, first_point, point_after}
+use Rattle.cmm_image_machine.specs.Frames.{Element, Activation, chain_from, found_at, first_point, point_after}
 use Rattle.cmm_image_machine.specs.Machine.{askable}
-use Rattle.cmm_abi.specs.Regions.{Region, top, with_values}
+use Rattle.cmm_abi.specs.Regions.{Region}
 use Rattle.cmm_image_machine.proofs.Shared.{chain_goes_on, images_keep_frames}
 use Rattle.cmm_resume.specs.Answering.{Change}
 use Rattle.cmm_resume.specs.Cuts.{gone}

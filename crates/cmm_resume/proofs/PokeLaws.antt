@@ -1,5 +1,5 @@
 -- Data is written where it may be, and an address past all of 64 bits is not in data.
-use Rattle.std.proofs.Common.{◌≡◌, ℕ, ◌+◌, ◌^◌, ◌<◌, ◌≤◌, ◌%◌, ◌==◌, ◌&&◌, nat_le, true, false, Bool, List, Ok, Option, Some, None, refl, sym, ap, subst, ◌∙◌, arith}
+use Rattle.std.proofs.Common.{◌≡◌, ℕ, ◌+◌, ◌^◌, ◌<◌, ◌≤◌, ◌%◌, true, false, Bool, List, Option, Some, None, refl, ap, subst, ◌∙◌, arith}
 use Rattle.std.specs.Option.{option_map, ok_or}
 use Rattle.std.proofs.Math.Nat.{mod-eq_of_lt}
 use Rattle.std.proofs.lemmas.Bool.Decides.{nat_tests}
@@ -62,7 +62,7 @@ place_lies i count offset address name is = at_label count offset address (label
 -- ---- what is written
 
 module _ (cursor : Cursor Element) (s : State) (offset : ℕ) where
-  abbrev written : ℕ → ℕ → State
+  abbrev pub written : ℕ → ℕ → State
   written value address = record s { memory = stored s.memory address 8 value }
 
   written_by : (value address : ℕ) (b : Bool) →

@@ -1,5 +1,5 @@
 -- Values that are put in their places, one after the other.
-use Rattle.std.proofs.Common.{◌≡◌, ℕ, zero, suc, ◌+◌, ◌<◌, List, [], ◌∷◌, ◌++◌, length, take, slice_get, Some, refl, sym, ap, ◌∙◌, arith, add-zero, add-one}
+use Rattle.std.proofs.Common.{◌≡◌, ℕ, zero, suc, ◌+◌, List, [], ◌∷◌, take, slice_get, Some, refl, ap, ◌∙◌, arith, add-zero, add-one}
 use Rattle.rv_table.specs.Machine.{State}
 use Rattle.cmm_abi.specs.Regions.{Region, value_place, with_values, with_values_from, with_word}
 

@@ -1,5 +1,5 @@
 -- A return, by what stands at the first point of the chain.
-use Rattle.std.proofs.Common.{◌≡◌, ℕ, List, Err, Ok, Option, [], ap, sym, ◌∙◌}
+use Rattle.std.proofs.Common.{◌≡◌, ℕ, List, Err, Ok, [], ap, sym, ◌∙◌}
 use Rattle.cmm_rules.specs.declared.rule.Rule.TheVariants.{NoActivation}
 use Rattle.rv_table.specs.Machine.{State}
 use Rattle.cmm_abi.specs.Regions.{Region}

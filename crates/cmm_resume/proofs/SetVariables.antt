@@ -1,5 +1,5 @@
 -- A variable is set where it may be.
-use Rattle.std.proofs.Common.{◌≡◌, ℕ, ◌^◌, ◌<◌, not, nat_lt, Bool, true, false, List, length, slice_get, Result, Ok, Err, Option, Some, None, refl, ap, ◌∙◌}
+use Rattle.std.proofs.Common.{◌≡◌, ℕ, ◌^◌, not, nat_lt, Bool, true, false, List, length, slice_get, Result, Ok, Option, Some, None, refl, ap, ◌∙◌}
 use Rattle.cmm_rules.specs.declared.rule.Rule.{Rule}
 use Rattle.cmm_rules.specs.declared.rule.Rule.TheVariants.{NoVariable, DeadVariable, DoesNotFit, InvariantVariable}
 use Rattle.cmm_words.specs.Widths.{bits}

@@ -1,17 +1,16 @@
 -- An unwind exit, by where it lands.
-use Rattle.std.proofs.Common.{◌≡◌, ℕ, List, slice_get, Result, Ok, Err, Option, Some, None, refl, sym, ap, subst, ◌∙◌}
+use Rattle.std.proofs.Common.{◌≡◌, ℕ, List, slice_get, Result, Ok, Err, Option, Some, None, refl, ap, ◌∙◌}
 use Rattle.cmm_rules.specs.declared.rule.Rule.{Rule}
 use Rattle.cmm_rules.specs.declared.rule.Rule.TheVariants.{NoExit}
 use Rattle.rv_table.specs.Machine.{State}
 use Rattle.cmm_script.specs.Lines.{resume_line}
 use Rattle.cmm_program.specs.Errors.{and_then, given, with_some}
 use Rattle.cmm_image.specs.declared.rows.ContinuationRow.{ContinuationRow}
-use Rattle.cmm_image.specs.declared.rows.ProcRow.{ProcRow}
 use Rattle.cmm_image.specs.declared.rows.UnwindRow.{UnwindRow}
-use Rattle.cmm_image_machine.specs.Changes.{at_pc, continuation_row, parameter_widths, unwind_exit, unwound}
+use Rattle.cmm_image_machine.specs.Changes.{continuation_row, parameter_widths, unwind_exit}
 use Rattle.cmm_program.specs.Commands.{Resumes, resumed}
 use Rattle.cmm_image_machine.specs.Frames.{Element}
-use Rattle.cmm_abi.specs.Regions.{Region, with_values}
+use Rattle.cmm_abi.specs.Regions.{Region}
 use Rattle.cmm_resume.specs.Answering.{Change}
 use Rattle.cmm_resume.specs.Finding.{checked, continuation_widths, landed, landing_of}
 use Rattle.cmm_resume.specs.Laws.{UnwindsAreFound}

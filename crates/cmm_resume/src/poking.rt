@@ -18,13 +18,7 @@ use rv_memory::Memory;
 use rv_table::memory_map::DATA_BASE;
 
 /// Writes the 8 bytes of a value at an exported data label, `offset` bytes further on.
-pub fn poke(
-    i: &Image,
-    m: &mut Memory,
-    label: &[u8],
-    offset: u64,
-    v: u64,
-) -> Result<(), Refusal>
+pub fn poke(i: &Image, m: &mut Memory, label: &[u8], offset: u64, v: u64) -> Result<(), Refusal>
     ensures pokes { (r : Regs) (cursor : Cursor Element) →
         Answers (poking_in (map_of m.old).data_length i.now cursor (state_of r m.old) label.now offset v) (state_of r m.old) (state_of r m.new) result }
     ensures map { map_of m.new ≡ map_of m.old }

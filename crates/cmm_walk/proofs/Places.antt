@@ -3,14 +3,13 @@ use Rattle.std.proofs.Common.{◌≡◌, ◌⊎◌, ℕ, zero, suc, ◌+◌, ◌
 use Rattle.std.proofs.lemmas.Bool.{cases_lt}
 use Rattle.std.proofs.Math.Path.{fun_ext}
 use Rattle.std.proofs.lemmas.Bool.Decides.{nat_tests}
-use Rattle.std.proofs.lemmas.Option.{slice_get_cases}
 use Rattle.cmm_image.specs.declared.parts.ImageParts.{ImageParts}
 use Rattle.cmm_image.specs.declared.rows.ProcRow.{ProcRow}
 use Rattle.cmm_image.specs.declared.rows.SavedRegister.{SavedRegister}
 use Rattle.cmm_image.specs.ImageFormat.{procedure_at}
 use Rattle.cmm_image.specs.Bounds.{BoundsProcedure}
 use Rattle.cmm_abi.specs.Registers.{is_callee_saves}
-use Rattle.cmm_image_machine.specs.Frames.{Element, places_before}
+use Rattle.cmm_image_machine.specs.Frames.{places_before}
 use Rattle.cmm_abi.specs.Regions as regions
 use Rattle.cmm_walk.specs.declared.activation.Activation.{Activation}
 use Rattle.cmm_walk.specs.declared.activation.Kept.{Kept}

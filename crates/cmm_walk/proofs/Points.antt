@@ -1,26 +1,24 @@
 -- What stands at a point, as it is looked for.
-use Rattle.std.proofs.Common.{◌≡◌, ℕ, zero, suc, ◌+◌, ◌<◌, ◌≤◌, ◌==◌, ◌&&◌, ◌%◌, nat_le, nat_lt, Bool, true, false, cond, IsTrue, IfSome, List, [], ◌∷◌, length, find, slice_get, slice_index_or, Option, Some, None, All, refl, sym, ap, subst, ◌∙◌, arith}
+use Rattle.std.proofs.Common.{◌≡◌, ℕ, suc, ◌+◌, ◌<◌, ◌≤◌, ◌==◌, ◌&&◌, ◌%◌, nat_le, nat_lt, Bool, true, false, cond, IsTrue, IfSome, List, [], ◌∷◌, length, find, slice_get, slice_index_or, Option, Some, None, refl, sym, ap, subst, ◌∙◌, arith}
 use Rattle.std.specs.List.{position_or_len}
 use Rattle.std.specs.Option.{option_and_then}
 use Rattle.std.proofs.lemmas.Bool.Decides.{nat_tests}
 use Rattle.cmm_image.specs.declared.parts.ImageParts.{ImageParts}
-use Rattle.cmm_image.specs.declared.rows.ProcRow.{ProcRow}
 use Rattle.cmm_image.specs.declared.rows.SiteRow.{SiteRow}
 use Rattle.cmm_image.specs.ImageFormat.{procedure_at}
 use Rattle.cmm_image.specs.Images.{IsImage}
 use Rattle.cmm_image.specs.declared.rows.SavedRegister.{SavedRegister}
 use Rattle.cmm_abi.specs.Registers.{is_callee_saves}
 use Rattle.cmm_image.specs.Sites.{returns_to, site_place}
-use Rattle.cmm_program.specs.Asking.{Break}
-use Rattle.cmm_image_machine.specs.Frames.{Element, Point, Found, Activation, Nothing, Broken, activation_at, break_at, found_at, is_end, is_frame, places_before, point_after, return_offset, site_at}
+use Rattle.cmm_image_machine.specs.Frames.{Point, Activation, Nothing, activation_at, break_at, found_at, is_end, is_frame, places_before, site_at}
 use Rattle.cmm_image_machine.specs.Laws.{FitsStack, IsInStack}
 use Rattle.cmm_abi.specs.Regions.{Region, Place, bottom, top, InMemory}
 use Rattle.cmm_walk.specs.declared.activation.Kept.{Kept}
 use Rattle.cmm_image_machine.proofs.Shared.{sites_are_found}
 use Rattle.cmm_walk.specs.declared.activation.Activation.{Activation as ActivationOf}
-use Rattle.cmm_walk.specs.Activations.{Fits, IsIn, SavedFit, element_of, places_of}
+use Rattle.cmm_walk.specs.Activations.{Fits, SavedFit, element_of, places_of}
 use Rattle.cmm_image.specs.Sites.{site_numbered}
-use Rattle.cmm_walk.proofs.Tables.{activation_keeps, site_is, site_keeps}
+use Rattle.cmm_walk.proofs.Tables.{activation_keeps, site_is}
 
 -- ---- by what the tests say
 

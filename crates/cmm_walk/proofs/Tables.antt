@@ -1,5 +1,5 @@
 -- What the tables of an image keep, row by row and by number.
-use Rattle.std.proofs.Common.{◌≡◌, ℕ, zero, suc, ◌<◌, ◌≤◌, ◌==◌, Bool, true, false, cond, IsTrue, List, [], ◌∷◌, find, length, slice_get, slice_index_or, Option, Some, None, All, refl, subst, arith}
+use Rattle.std.proofs.Common.{◌≡◌, ℕ, zero, suc, ◌<◌, ◌≤◌, ◌==◌, Bool, true, false, cond, IsTrue, List, [], ◌∷◌, find, length, slice_get, slice_index_or, Option, Some, refl, subst, arith}
 use Rattle.std.proofs.lemmas.Bool.Decides.{nat_tests}
 use Rattle.cmm_abi.specs.Registers.{is_callee_saves}
 use Rattle.cmm_image.specs.declared.parts.ImageParts.{ImageParts}
@@ -10,7 +10,7 @@ use Rattle.cmm_image.specs.Bounds.{BoundsProcedure, BoundsSite}
 use Rattle.cmm_image.specs.ImageFormat.{procedure_at}
 use Rattle.cmm_image.specs.Images.{IsImage}
 use Rattle.cmm_image.specs.InFrames.{KeepsFrame}
-use Rattle.cmm_image.specs.Sites.{no_site, or_no_site, site_numbered}
+use Rattle.cmm_image.specs.Sites.{no_site, site_numbered}
 use Rattle.cmm_image.proofs.Shared.{rows_are_bounded, sites_keep_frames}
 use Rattle.cmm_walk.specs.declared.activation.Activation.{Activation}
 use Rattle.cmm_walk.specs.Activations.{IsIn}

@@ -1,5 +1,5 @@
 -- The lines of variables, one after the other.
-use Rattle.std.proofs.Common.{◌≡◌, ℕ, zero, suc, ◌+◌, ◌<◌, ◌≤◌, List, [], ◌∷◌, ◌++◌, codes, decimal, flat_map, length, map, take, drop, slice_get, Result, Ok, Err, Option, Some, None, refl, sym, ap, subst, ◌∙◌, append_assoc, append-nil, add-zero, add-one, arith}
+use Rattle.std.proofs.Common.{◌≡◌, ℕ, zero, suc, ◌+◌, ◌<◌, List, [], ◌∷◌, ◌++◌, codes, decimal, flat_map, length, map, take, drop, slice_get, Ok, Option, Some, None, refl, sym, ap, subst, ◌∙◌, append_assoc, append-nil, add-zero, add-one, arith}
 use Rattle.std.proofs.lemmas.Option.{slice_get_cases}
 use Rattle.cmm_words.specs.Widths.{bits}
 use Rattle.cmm_script.specs.Walk.{Shown, activation_text, and, line, span_line, value_or_dead, variable_line, variable_lines}

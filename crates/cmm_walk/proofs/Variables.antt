@@ -1,25 +1,22 @@
 -- Variables as they are shown, by their numbers.
-use Rattle.std.proofs.Common.{◌≡◌, ℕ, zero, suc, ◌+◌, ◌<◌, ◌≤◌, ◌==◌, Bool, true, false, cond, IsTrue, List, [], ◌∷◌, find, length, map, slice_get, slice_index_or, Result, Ok, Err, Option, Some, None, All, refl, sym, ap, subst, ◌∙◌, arith}
+use Rattle.std.proofs.Common.{◌≡◌, ℕ, zero, suc, ◌+◌, ◌≤◌, ◌==◌, Bool, true, false, cond, List, [], ◌∷◌, find, length, map, slice_get, Ok, Err, Option, Some, None, All, refl, sym, ap, subst, ◌∙◌, arith}
 use Rattle.std.proofs.lemmas.Bool.Decides.{nat_tests}
 use Rattle.cmm_words.specs.Widths.{bits}
 use Rattle.cmm_script.specs.Walk.{Shown}
 use Rattle.rv_table.specs.Machine.{State}
 use Rattle.cmm_image.specs.declared.rows.SpanRow.{SpanRow}
 use Rattle.cmm_image.specs.declared.rows.VariablePlace.{VariablePlace}
-use Rattle.cmm_image.specs.declared.rows.VariablePlace.TheVariants.{Dead, Slot, Register}
-use Rattle.cmm_image.specs.Places.{IsPlace, leaves}
-use Rattle.cmm_abi.specs.Registers.{is_callee_saves}
+use Rattle.cmm_image.specs.declared.rows.VariablePlace.TheVariants.{Slot}
+use Rattle.cmm_image.specs.Places.{IsPlace}
 use Rattle.cmm_image.specs.declared.rows.VariableRow.{VariableRow}
 use Rattle.cmm_program.specs.Commands.{span_value}
 use Rattle.cmm_program.specs.Errors.{with_some}
 use Rattle.cmm_image_machine.specs.Frames.{Element}
 use Rattle.cmm_words.specs.Words.{low_bits}
-use Rattle.cmm_words.specs.declared.width.Width.{Width}
 use Rattle.cmm_abi.specs.Regions as regions
 use Rattle.cmm_abi.specs.Regions.{word_at}
 use Rattle.cmm_image_machine.specs.Walks.{place_in, value_at, variables_shown}
 use Rattle.cmm_walk.specs.declared.variable.NoVar.{NoVar}
-use Rattle.cmm_walk.specs.declared.variable.Var.{Var}
 use Rattle.cmm_walk.specs.declared.variable.Var.TheVariants as var
 use Rattle.cmm_walk.specs.Shown.{Shows}
 use Rattle.cmm_walk.proofs.Tables.{row_keeps}

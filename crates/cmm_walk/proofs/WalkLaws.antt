@@ -1,11 +1,11 @@
 -- The text of a walk, from one activation to the next.
-use Rattle.std.proofs.Common.{◌≡◌, ℕ, suc, ◌+◌, ◌<◌, ◌≤◌, List, [], ◌∷◌, ◌++◌, Result, Ok, Err, Option, Some, None, IfSome, codes, refl, sym, ap, subst, ◌∙◌, append_assoc, append-nil, add-one, arith}
+use Rattle.std.proofs.Common.{◌≡◌, ℕ, suc, ◌+◌, ◌≤◌, List, [], ◌++◌, Result, Ok, Err, Option, Some, None, IfSome, codes, refl, sym, ap, subst, ◌∙◌, append_assoc, append-nil, add-one, arith}
 use Rattle.rv_table.specs.Machine.{State}
 use Rattle.cmm_script.specs.Walk.{activation_text}
 use Rattle.cmm_image.specs.declared.parts.ImageParts.{ImageParts}
 use Rattle.cmm_image.specs.Images.{IsImage}
-use Rattle.cmm_program.specs.Asking.{Break, Chain}
-use Rattle.cmm_image_machine.specs.Frames.{Element, Found, Activation, Nothing, Broken, along, chain_from, chain_of, found_at, first_point, point_after, behind}
+use Rattle.cmm_program.specs.Asking.{Chain}
+use Rattle.cmm_image_machine.specs.Frames.{Element, Found, Activation, along, chain_from, chain_of, found_at, first_point, point_after}
 use Rattle.cmm_abi.specs.Regions.{Region}
 use Rattle.cmm_image_machine.specs.Walks.{element_shown}
 use Rattle.cmm_image_machine.proofs.Shared.{chain_goes_on, images_keep_frames}

@@ -115,7 +115,11 @@ fn kept_before(a: &Activation, procedure: &ProcRow, register: u8) -> Kept
     requires saved { All (λ s. s.offset ≤ procedure.now.frame) procedure.now.saved }
     ensures { result ≡ kept_behind a.now procedure.now register }
 {
-    match procedure.saved.iter().find(|saved| saved.register == register) {
+    match procedure
+        .saved
+        .iter()
+        .find(|saved| saved.register == register)
+    {
         Some(saved) => Kept::At(a.frame + u64::from(saved.offset)),
         None => a.saved[order_of(register)],
     }

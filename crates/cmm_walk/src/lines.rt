@@ -124,7 +124,12 @@ fn put_variable_of<E: Sink>(
 }
 
 /// Writes the line of a variable.
-fn put_variable<E: Sink>(to: &mut E, n: u32, row: &VariableRow, variable: &Var) -> Result<(), Failed>
+fn put_variable<E: Sink>(
+    to: &mut E,
+    n: u32,
+    row: &VariableRow,
+    variable: &Var,
+) -> Result<(), Failed>
     ensures { WritesAll E.taken E.faults to.old to.new (variable_text n (shown_of row.now variable.now)) result }
 {
     match *variable {

@@ -58,7 +58,9 @@ fn bytes_of(alloc: Global, digits: &[u8]) -> Result<Vec<u8>, AllocError> {
 
 fn byte_of(pair: &[u8]) -> u8 {
     match pair {
-        [high, low] => digit_of(*high).wrapping_mul(16).wrapping_add(digit_of(*low)),
+        [high, low] => digit_of(*high)
+            .wrapping_mul(16)
+            .wrapping_add(digit_of(*low)),
         _ => 0,
     }
 }

@@ -50,7 +50,10 @@ fn memory_of(alloc: Global, image: &Image, stack: u64) -> Result<Memory, NoMemor
     let parts = image.parts();
     let code = parts.code.as_slice();
     let data = parts.initial.as_slice();
-    if code.len() as u64 <= CODE_LENGTH_LIMIT && data.len() as u64 <= DATA_LENGTH_LIMIT && stack <= STACK_SIZE_LIMIT {
+    if code.len() as u64 <= CODE_LENGTH_LIMIT
+        && data.len() as u64 <= DATA_LENGTH_LIMIT
+        && stack <= STACK_SIZE_LIMIT
+    {
         Memory::new(alloc, code, data, stack)
     } else {
         Err(AllocError)

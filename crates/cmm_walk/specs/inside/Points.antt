@@ -1,5 +1,5 @@
 -- Points of a chain as they are kept while it is followed.
-use Rattle.std.specs.Prelude.{ℕ, ◌+◌, ◌==◌, find, slice_index_or, Option, Some, None}
+use Rattle.std.specs.Prelude.{ℕ, ◌+◌, ◌==◌, find, slice_index_or, Some, None}
 use Rattle.cmm_image.specs.declared.rows.ProcRow.{ProcRow}
 use Rattle.cmm_image_machine.specs.Frames as frames
 use Rattle.cmm_walk.specs.declared.activation.Activation.{Activation}

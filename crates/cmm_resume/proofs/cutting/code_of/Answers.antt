@@ -1,4 +1,4 @@
-use Rattle.std.proofs.Common.{◌≡◌, ℕ, Ok, sym, ap, ◌∙◌}
+use Rattle.std.proofs.Common.{ℕ, Ok, sym, ap, ◌∙◌}
 use Rattle.cmm_script.specs.Lines.{resume_line}
 use Rattle.cmm_program.specs.Commands.{Resumes}
 use Rattle.cmm_image.specs.declared.rows.ProcRow.{ProcRow}

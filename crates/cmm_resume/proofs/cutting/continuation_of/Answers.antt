@@ -1,4 +1,4 @@
-use Rattle.std.proofs.Common.{◌≡◌, ◌<◌, Ok, Option, Some, sym, ap, subst, ◌∙◌}
+use Rattle.std.proofs.Common.{◌<◌, Ok, Option, sym, ap, subst, ◌∙◌}
 use Rattle.rv_memory.specs.Regions.{memory_of}
 use Rattle.cmm_abi.specs.Regions.{top}
 use Rattle.cmm_walk.specs.declared.activation.Activation.{Activation}

@@ -1,4 +1,3 @@
-use Rattle.std.proofs.Common.{◌∙◌}
 use Rattle.rv_memory.specs.Regions.{region_of}
 use Rattle.rv_memory.specs.States.{state_of}
 use Rattle.cmm_script.specs.Lines.{resume_line}

@@ -1,4 +1,4 @@
-use Rattle.std.proofs.Common.{◌≡◌, ◌⊎◌, ◌+◌, ◌^◌, ◌≤◌, ◌<◌, length, None, inl, inr, sym, ap, ◌∙◌, arith}
+use Rattle.std.proofs.Common.{◌+◌, ◌^◌, ◌≤◌, length, inl, inr, sym, ◌∙◌}
 use Rattle.std.proofs.lemmas.Bool.{cases_lt}
 use Rattle.cmm_resume.proofs.PokeLaws.{none_over}
 use Rattle.cmm_resume.proofs.poking.word_behind.Goals as goal

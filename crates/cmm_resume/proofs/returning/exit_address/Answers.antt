@@ -1,4 +1,4 @@
-use Rattle.std.proofs.Common.{◌≡◌, ◌+◌, ◌*◌, ◌<◌, ◌≤◌, ℕ, List, Ok, sym, ap, ◌∙◌, arith}
+use Rattle.std.proofs.Common.{◌≡◌, ◌+◌, ◌*◌, ◌≤◌, ℕ, List, Ok, sym, ap, ◌∙◌, arith}
 use Rattle.rv_table.specs.Machine.{State}
 use Rattle.cmm_abi.specs.declared.registers.TheConstants.{RETURN_ADDRESS}
 use Rattle.cmm_abi.specs.Regions.{Region, with_values}

@@ -1,4 +1,4 @@
-use Rattle.std.proofs.Common.{ℕ, sym, ◌∙◌}
+use Rattle.std.proofs.Common.{ℕ}
 use Rattle.rv_memory.specs.Regions.{region_of}
 use Rattle.rv_memory.specs.States.{state_of}
 use Rattle.cmm_abi.specs.Regions.{with_values}

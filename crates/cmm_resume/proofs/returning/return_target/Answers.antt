@@ -1,4 +1,4 @@
-use Rattle.std.proofs.Common.{◌≡◌, Ok, Err, sym, subst, ap, ◌∙◌}
+use Rattle.std.proofs.Common.{sym, subst}
 use Rattle.rv_memory.specs.Regions.{region_of}
 use Rattle.rv_memory.specs.States.{state_of}
 use Rattle.cmm_abi.specs.Regions.{with_values}

@@ -1,13 +1,10 @@
-use Rattle.std.proofs.Common.{◌≡◌, ℕ, Result, Ok, sym, ap, ◌∙◌}
-use Rattle.cmm_rules.specs.declared.rule.Rule.{Rule}
+use Rattle.std.proofs.Common.{sym, ap, ◌∙◌}
 use Rattle.rv_memory.specs.Regions.{region_of}
 use Rattle.rv_memory.specs.States.{state_of}
 use Rattle.cmm_script.specs.Lines.{resume_line}
-use Rattle.cmm_program.specs.Commands.{Resumes, unwinding}
-use Rattle.cmm_program.specs.Errors.{and_then}
+use Rattle.cmm_program.specs.Commands.{unwinding}
 use Rattle.cmm_image_machine.specs.Machine.{askable}
 use Rattle.cmm_walk.specs.Activations.{element_of}
-use Rattle.cmm_resume.specs.Answering.{Change}
 use Rattle.cmm_resume.specs.Finding.{landed}
 use Rattle.cmm_resume.proofs.Answering.{refused_is, resumes_is}
 use Rattle.cmm_resume.proofs.Unwinds.{gone_on, unwinds_are_found}

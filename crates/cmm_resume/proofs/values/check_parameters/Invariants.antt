@@ -1,4 +1,4 @@
-use Rattle.std.proofs.Common.{◌≡◌, length, drop, map}
+use Rattle.std.proofs.Common.{◌≡◌, drop, map}
 use Rattle.cmm_program.specs.Commands.{all_fit}
 use Rattle.cmm_image_machine.specs.Changes.{variable_width}
 use Rattle.cmm_resume.proofs.values.check_parameters.Given as goal

@@ -1,4 +1,4 @@
-use Rattle.std.proofs.Common.{◌≡◌, length, drop}
+use Rattle.std.proofs.Common.{◌≡◌, drop}
 use Rattle.cmm_program.specs.Commands.{all_fit}
 use Rattle.cmm_resume.proofs.values.check_widths.Given as goal
 

@@ -1,4 +1,4 @@
-use Rattle.std.proofs.Common.{◌≡◌, take, get_or, sym, ap, ◌∙◌}
+use Rattle.std.proofs.Common.{get_or, sym, ap, ◌∙◌}
 use Rattle.rv_table.specs.Machine.{State}
 use Rattle.cmm_abi.specs.Regions.{Region, value_place, with_word}
 use Rattle.rv_memory.specs.Regions.{region_of}

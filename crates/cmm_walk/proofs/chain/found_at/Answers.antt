@@ -1,9 +1,9 @@
-use Rattle.std.proofs.Common.{◌≡◌, ◌+◌, ◌≤◌, ◌<◌, true, false, Some, None, refl, sym, ap, subst, ◌∙◌, arith}
+use Rattle.std.proofs.Common.{◌≡◌, true, false, sym, ap, subst, ◌∙◌, arith}
 use Rattle.cmm_image.specs.declared.parts.ImageParts.{ImageParts}
 use Rattle.cmm_image.specs.declared.rows.ProcRow.{ProcRow}
 use Rattle.cmm_image.specs.declared.rows.SiteRow.{SiteRow}
 use Rattle.cmm_image.specs.ImageFormat.{procedure_at}
-use Rattle.cmm_image_machine.specs.Frames.{is_end, is_frame}
+use Rattle.cmm_image_machine.specs.Frames.{is_frame}
 use Rattle.cmm_image.specs.Sites.{site_numbered}
 use Rattle.rv_memory.specs.Regions.{region_of}
 use Rattle.cmm_walk.specs.inside.Points.{point_of}

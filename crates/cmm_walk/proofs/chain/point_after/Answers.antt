@@ -1,4 +1,4 @@
-use Rattle.std.proofs.Common.{◌≡◌, ◌+◌, ◌≤◌, ◌<◌, length, refl, sym, ap, ◌∙◌, arith}
+use Rattle.std.proofs.Common.{◌≡◌, ◌+◌, ap, ◌∙◌, arith}
 use Rattle.rv_memory.specs.Regions.{memory_of, region_of}
 use Rattle.rv_table.specs.Machine.{loaded}
 use Rattle.cmm_image.specs.declared.rows.ProcRow.{ProcRow}

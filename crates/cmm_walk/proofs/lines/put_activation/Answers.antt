@@ -1,4 +1,4 @@
-use Rattle.std.proofs.Common.{◌≡◌, ◌++◌, flat_map, ℕ, List, refl, sym, ap, subst, ◌∙◌, append_assoc}
+use Rattle.std.proofs.Common.{◌++◌, flat_map, ℕ, List, sym, ap, subst, ◌∙◌, append_assoc}
 use Rattle.cmm_outside.specs.Output.{WritesAll}
 use Rattle.cmm_image.specs.declared.rows.SiteRow.{SiteRow}
 use Rattle.cmm_image.specs.declared.rows.SpanRow.{SpanRow}

@@ -1,11 +1,9 @@
 use Rattle.std.proofs.Common.{◌≡◌, slice_get, Some, option_copied, sym, ap, subst, ◌∙◌}
 use Rattle.cmm_outside.specs.Output.{WritesAll}
 use Rattle.cmm_script.specs.Walk.{Shown}
-use Rattle.cmm_image.specs.declared.rows.ProcRow.{ProcRow}
 use Rattle.cmm_image.specs.ImageFormat.{procedure_at}
 use Rattle.cmm_walk.specs.Activations.{element_of}
 use Rattle.rv_memory.specs.States.{state_of}
-use Rattle.cmm_walk.specs.Shown.{Shows}
 use Rattle.cmm_walk.proofs.Tables.{activation_keeps}
 use Rattle.cmm_walk.specs.inside.Lines.{variable_text}
 use Rattle.cmm_walk.proofs.VariableTexts.{shown_is}

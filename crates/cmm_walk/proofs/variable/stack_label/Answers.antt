@@ -1,4 +1,4 @@
-use Rattle.std.proofs.Common.{◌≡◌, ◌≤◌, slice_get, Some, sym, ◌∙◌, arith}
+use Rattle.std.proofs.Common.{◌≡◌, ◌≤◌, slice_get, Some, sym, arith}
 use Rattle.cmm_image.specs.ImageFormat.{procedure_at}
 use Rattle.cmm_image.specs.declared.rows.StackLabelRow.{StackLabelRow}
 use Rattle.cmm_walk.proofs.Tables.{procedure_bounds, row_keeps}

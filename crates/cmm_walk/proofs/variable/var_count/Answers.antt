@@ -1,4 +1,4 @@
-use Rattle.std.proofs.Common.{length, arith}
+use Rattle.std.proofs.Common.{arith}
 use Rattle.cmm_walk.proofs.Tables.{procedure_bounds}
 use Rattle.cmm_walk.proofs.variable.var_count.Goals as goal
 

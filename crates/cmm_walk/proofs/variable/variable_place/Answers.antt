@@ -1,4 +1,4 @@
-use Rattle.std.proofs.Common.{◌≡◌, ◌+◌, ◌≤◌, slice_get, Some, option_copied, sym, ap, subst, ◌∙◌, arith}
+use Rattle.std.proofs.Common.{◌≡◌, slice_get, Some, option_copied, sym, ap, subst, ◌∙◌, arith}
 use Rattle.cmm_image.specs.declared.rows.VariablePlace.TheVariants.{Slot, Register}
 use Rattle.cmm_image.specs.ImageFormat.{procedure_at}
 use Rattle.cmm_image_machine.specs.Laws.{IsInStack}

@@ -1,10 +1,10 @@
-use Rattle.std.proofs.Common.{◌≡◌, ◌<◌, Ok, Err, Option, refl, sym, ap, subst, ◌∙◌}
+use Rattle.std.proofs.Common.{◌<◌, Ok, Option, sym, subst}
 use Rattle.rv_memory.specs.Regions.{memory_of, region_of}
 use Rattle.cmm_abi.specs.Regions.{top}
 use Rattle.cmm_walk.specs.declared.activation.Activation.{Activation}
 use Rattle.rv_memory.specs.States.{state_of}
 use Rattle.cmm_walk.proofs.Steps.{left_of, nearer}
-use Rattle.cmm_walk.proofs.WalkLaws.{ends_err, ends_ok, fails, one_more, start, tears}
+use Rattle.cmm_walk.proofs.WalkLaws.{ends_err, fails, one_more, start, tears}
 use Rattle.cmm_walk.proofs.Writes.{written_ok}
 use Rattle.cmm_walk.proofs.walking.write_walk.Goals as goal
 
