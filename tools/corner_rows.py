@@ -1,10 +1,9 @@
 #!/usr/bin/env python3
-"""Prints the rows of crates/base_tests/src/words/corners.rt: each operator on corner operands at each width.
+"""Each operator on corner operands at each width, for code_rows.py.
 
 The values are those of Python's integers, by the table of operators of the C-- Language Specification 2.0: a word of
 w bits is a number below 2**w, its signed reading is less by 2**w where the top bit is set, and each result is taken
 modulo 2**w. Python's // rounds down; a quotient rounded toward zero is found from the absolute values.
-Run: python3 tools/corner_rows.py > crates/base_tests/src/words/corners.rt, and then rt fmt in crates/base_tests.
 """
 
 WIDTHS = (8, 16, 32, 64)
@@ -59,28 +58,3 @@ def operands(width):
         (most - 6, 2), (7, most - 1), (most - 6, most - 1), (7, 2), (6, most - 2), (7, 0), (top, 0),
         (top | 1, 0), (top | 1, 1), (top | 1, most), (top | 1, width - 1), (top | 1, width), (top | 1, width + 1), (top - 1, width), mixed,
     ]
-
-
-def numbers(values):
-    return " ".join(str(value) if value < 256 else f"0x{value:X}" for value in values)
-
-
-def main():
-    print("//! Made by tools/corner_rows.py, which has the operators over Python's integers.")
-    print()
-    print("use super::Row;")
-    print("use cmm_words::Width;")
-    print()
-    rows = [(w, a, b) for w in WIDTHS for a, b in operands(w)]
-    print(f"pub static ROWS: [Row; {len(rows)}] = rows! {{")
-    print("    // width, left, right: Com Neg: Add Sub Mul And Or Xor Shl Shrl Shra Rotl Rotr: Divu Modu Div Mod Quot Rem:")
-    print("    // 1 where Eq Ne Lt Le Gt Ge Ltu Leu Gtu Geu hold")
-    for width, a, b in rows:
-        one = [(1 << width) - 1 - a, -a % (1 << width)]
-        print(f"    W{width} {numbers([a, b])}: {numbers(one)}: {numbers(plain_values(width, a, b))}")
-        print(f"        : {numbers(division_values(width, a, b) or [])}: {numbers(map(int, comparisons(width, a, b)))};")
-    print("};")
-
-
-if __name__ == "__main__":
-    main()

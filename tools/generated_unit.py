@@ -1,7 +1,6 @@
 #!/usr/bin/env python3
-"""The unit that `gen` makes, made a second time: `generated_unit.py NUMBER` prints its text,
-`generated_unit.py --sums NUMBER..` a row for each number: the text's length and its sum,
-which is (31 * sum + byte) modulo 2^32 over its bytes. The tests keep these rows.
+"""The unit that `gen` makes, made a second time: `generated_unit.py NUMBER` prints its text. part_rows.py has the lengths and the sums of some, where a sum is
+(31 * sum + byte) modulo 2^32 over the bytes.
 `generated_unit.py --cycle COUNT` prints another unit: constants, of which each is the next and the last is itself."""
 import sys
 
@@ -50,11 +49,12 @@ def total(text):
     return result
 
 
-if sys.argv[1] == "--sums":
-    for word in sys.argv[2:]:
-        text = unit(int(word))
-        print(f"({word}, {len(text)}, {total(text)}),")
-elif sys.argv[1] == "--cycle":
-    sys.stdout.buffer.write(cycle(int(sys.argv[2])))
-else:
-    sys.stdout.buffer.write(unit(int(sys.argv[1])))
+def main(words):
+    if words[0] == "--cycle":
+        sys.stdout.buffer.write(cycle(int(words[1])))
+    else:
+        sys.stdout.buffer.write(unit(int(words[0])))
+
+
+if __name__ == "__main__":
+    main(sys.argv[1:])

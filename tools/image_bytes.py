@@ -1,9 +1,11 @@
 #!/usr/bin/env python3
-"""The bytes of an image with a field of every kind, written from the format's table with `struct`, and where each field begins.
+"""The bytes of an image with a field of every kind, written from the format's table with `struct`, and what is wrong with others like it.
 
-Usage: tools/image_bytes.py. It prints the tables `BYTES` and `FIELDS` of crates/back_tests/src/image.rt.
+    tools/image_bytes.py            prints the bytes
+    tools/image_bytes.py --rows     prints rows/fields.txt
 """
 import struct
+import sys
 
 fields = []
 out = bytearray()
@@ -109,12 +111,89 @@ number(1, 64)
 text(b"ab")
 
 
-def table(name, kind, values, per_line):
-    print(f"static {name}: [{kind}; {len(values)}] = [")
-    for start in range(0, len(values), per_line):
-        print("    " + ", ".join(str(v) for v in values[start:start + per_line]) + ",")
-    print("];")
+# One byte of the image and what it is set to, with the rule that is then broken and where the field begins that breaks it.
+CHANGES = [
+    # the header
+    (0, 68, 50, 0),
+    (4, 2, 51, 4),
+    (8, 23, 54, 8),
+    (19, 5, 54, 16),
+    (24, 2, 54, 24),
+    (32, 24, 54, 32),
+    (40, 0, 53, 40),
+    (53, 2, 53, 52),
+    (56, 2, 53, 56),
+    (60, 1, 53, 60),
+    (51, 255, 52, 337),
+    # procedures
+    (99, 0, 54, 97),
+    (125, 8, 53, 125),
+    (138, 72, 53, 138),
+    (141, 32, 54, 138),
+    (142, 60, 54, 142),
+    (142, 64, 54, 142),
+    (147, 10, 53, 147),
+    (148, 57, 54, 148),
+    (152, 9, 53, 152),
+    (158, 4, 53, 157),
+    (159, 9, 53, 159),
+    (160, 2, 53, 160),
+    (181, 65, 54, 181),
+    (187, 28, 54, 187),
+    (191, 24, 54, 191),
+    (200, 4, 53, 200),
+    # sites, labels and global registers
+    (199, 65, 53, 199),
+    (212, 0, 53, 212),
+    (220, 4, 53, 220),
+    (221, 65, 53, 221),
+    (223, 7, 53, 223),
+    (225, 4, 54, 225),
+    (225, 65, 53, 225),
+    (226, 1, 53, 226),
+    (244, 3, 53, 244),
+    (246, 57, 54, 245),
+    (251, 10, 53, 250),
+    (322, 63, 54, 319),
+    (327, 0, 53, 327),
+    (329, 10, 54, 329),
+    (337, 7, 53, 337),
+    (341, 1, 53, 341),
+]
+
+# The image begins with a word that is no instruction.
+ROWS = """# An image with a field of every kind, as tools/image_bytes.py writes it: as it is, with each byte changed, cut inside each of its fields, with a byte or a count
+# too many, and with one byte that breaks a rule of its field. `tools/image_bytes.py --rows` prints this file.
+
+case: the image as it is
+file i by image_bytes.py
+$ run i
+status: 8
+log: trap 1 at 0000000000010000*
+
+"""
 
 
-table("BYTES", "u8", list(out), 24)
-table("FIELDS", "usize", fields, 20)
+def paragraph(change, rule, at):
+    return f"file i by image_bytes.py, {change}\n$ run i\nstatus: 4\nlog: bad image {rule} at {at}\n\n"
+
+
+def print_rows():
+    text = ROWS
+    for change in ("is 00", "is ff", "xor 01", "xor 80"):
+        text += f"file i by image_bytes.py, each byte {change}\n$ run i --steps 10000 --stack 4096\n"
+        text += "any: 0 result *\nany: 4 bad image 5*\nany: 5 yield*\nany: 6 stack limit\nany: 7 step limit\nany: 8 trap *\nany: 15 torn *\n\n"
+    for start, end in zip(fields, fields[1:] + [len(out)]):
+        text += paragraph(f"first {start} .. {end - 1} bytes", 52, start)
+    text += paragraph("and 00", 55, len(out))
+    text += paragraph("first 318 .. 318 bytes, at 44 ff ff ff ff", 52, 318)
+    for at, value, rule, field_start in CHANGES:
+        text += paragraph(f"at {at} {value:02x}", rule, field_start)
+    print(text.rstrip("\n"))
+
+
+if __name__ == "__main__":
+    if sys.argv[1:] == ["--rows"]:
+        print_rows()
+    else:
+        sys.stdout.buffer.write(out)

@@ -16,6 +16,9 @@ BRANCHES = "beq bne blt bge bltu bgeu".split()
 LOADS = "lb lh lw ld lbu lhu lwu".split()
 STORES = "sb sh sw sd".split()
 
+# Where the simulator has the code. What counts from pc is moved there from the place that it had in the emulator.
+PC = 0x10000
+
 GREATEST = 2**63 - 1
 LEAST = 2**63
 ONES = 2**64 - 1
@@ -73,12 +76,8 @@ results: .skip {8 * count}
     return [n for (n,) in struct.iter_unpack("<Q", run(folder, TOOLS[3], "./e"))]
 
 
-def table(name, kind, rows):
-    return f"pub static {name}: [{kind}; {len(rows)}] = [\n" + "".join(f"    {r},\n" for r in rows) + "];\n"
-
-
-def hexes(row):
-    return "(" + ", ".join(f"{n:#x}" for n in row) + ")"
+def hexes(numbers):
+    return " ".join(f"{n:x}" for n in numbers)
 
 
 def bare(text):

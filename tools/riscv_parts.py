@@ -1,8 +1,8 @@
 #!/usr/bin/env python3
-"""Makes the table of parts that crates/rv_asm tries: their words by the GNU assembler and linker, with labels near and far. Before that
-it has QEMU run parts far apart, and stops where control does not come to where the label is.
+"""Makes the rows of parts of crates/rv_asm: their words by the GNU assembler and linker, with labels near and far. Before that it has QEMU run parts far apart, and
+stops where control does not come to where the label is.
 
-    tools/riscv_parts.py            writes crates/rv_asm/src/tests/parts.rt (run rt fmt in crates/rv_asm after)
+    tools/riscv_parts.py            writes crates/rv_asm/proofs/PartRows.antt (run rt fmt in crates/rv_asm after)
     tools/riscv_parts.py --check    compares what it makes with that file
 
 Where the assembler or the emulator is missing it says so and ends with status 0.
@@ -13,7 +13,7 @@ import struct
 import subprocess
 import sys
 
-from riscv_files import BRANCHES, TOOLS, run, table, write_or_compare
+from riscv_files import BRANCHES, TOOLS, run, write_or_compare
 
 # The first and a late place of code, and distances at the ends of a low part, of the words' own reach, and beyond.
 FIRST, LATE = 0x10000, 0x3FFF_0000
@@ -36,32 +36,22 @@ def linked(folder, text, place, address):
         return [w for (w,) in struct.iter_unpack("<I", f.read())]
 
 
-def words(found):
-    return "[" + ", ".join(f"{w:#010x}" for w in found) + "]"
-
-
-def pairs_of(folder, text):
-    return [f"({place:#x}, {address:#x}, {words(linked(folder, text, place, address))})" for place, address in PAIRS]
+def linked_pairs(folder, text):
+    return [(place, address, linked(folder, text, place, address)) for place, address in PAIRS]
 
 
 def branches(folder):
     """Each branch turned round over a far jump; to a label near and far."""
-    rows = []
     for name, comparison in COMPARISONS.items():
         for place, address in [PAIRS[0], PAIRS[1], PAIRS[5], PAIRS[10]]:
-            found = linked(folder, f"{OPPOSITE[name]} x10, x31, .+12\ntail label", place, address)
-            rows.append(f"(Cmp::{comparison}, {place:#x}, {address:#x}, {words(found)})")
-    return rows
+            yield comparison, place, address, linked(folder, f"{OPPOSITE[name]} x10, x31, .+12\ntail label", place, address)
 
 
 def tables(folder):
     """One word a label, a jump over the rest, and the far jumps."""
-    rows = []
     for count in TABLES:
         text = [f"jal x0, far{k}" for k in range(count)] + ["jal x0, on"] + [f"far{k}: tail label" for k in range(count)] + ["on:"]
-        found = linked(folder, "\n".join(text), LATE, FIRST)
-        rows.append((count, found))
-    return rows
+        yield count, linked(folder, "\n".join(text), LATE, FIRST)
 
 
 RUN = """.option norvc
@@ -120,24 +110,55 @@ def emulated(folder):
         sys.exit(f"QEMU came elsewhere: status {status}")
 
 
+HEAD = """-- The words of parts with labels near and far, as the GNU assembler and linker make them: made by tools/riscv_parts.py.
+use Rattle.std.proofs.Common.{◌≡◌, ℕ, refl}
+use Rattle.std.specs.Prelude.{List, [], ◌∷◌, true}
+use Rattle.std.specs.Int.{w32, to_le_bytes}
+use Rattle.std.specs.List.{flat_map}
+use Rattle.cmm_words.specs.declared.operators.Cmp.{Cmp}
+use Rattle.cmm_words.specs.declared.operators.Cmp.TheVariants.{Eq, Ne, Lt, Ge, Ltu, Geu}
+use Rattle.rv_table.specs.Stands.{code_of}
+use Rattle.rv_asm.specs.inside.Forms.{instructions, number_of, unfilled}
+use Rattle.rv_asm.specs.declared.part.Label.{Label}
+use Rattle.rv_asm.specs.declared.part.Meaning.{Meaning}
+use Rattle.rv_asm.specs.declared.part.Meaning.TheVariants.{Inner}
+use Rattle.rv_asm.specs.declared.part.Part.{Part}
+use Rattle.rv_asm.specs.declared.part.Part.TheVariants.{Branch, Jump, Call, Address, Table}
+
+abbrev words : List ℕ → List ℕ
+words ws = flat_map (to_le_bytes w32) ws
+
+abbrev l : Label
+l = record { number = 0 }
+
+-- the bytes of a part at an address whose label has a place
+abbrev made : Part → ℕ → ℕ → List ℕ
+made part place from = code_of (instructions (number_of (Inner true ∷ []) (place ∷ []) unfilled) (Inner true ∷ []) from part)
+
+abbrev branch : Cmp → Part
+branch c = Branch c 10 31 l
+"""
+
+
+def row(name, part, place, address, found):
+    told = " ∷ ".join(f"{w:#010x}" for w in found)
+    return f"\n{name} : made {part} {place:#x} {address:#x} ≡ words ({told} ∷ [])\n{name} = refl\n"
+
+
 def made_files(folder):
     emulated(folder)
-    two = "(u64, u64, [u32; 2])"
-    text = """//! The words of parts by the GNU assembler and linker, made by tools/riscv_parts.py.
-
-use cmm_words::Cmp;
-
-/// Jumps: the place of the label, the address of the part, and the words.
-"""
-    text += table("JUMPS", two, pairs_of(folder, "tail label")) + "\n/// Calls, likewise.\n"
-    text += table("CALLS", two, pairs_of(folder, "call label")) + "\n/// Addresses into register 31, likewise.\n"
-    text += table("ADDRESSES", two, pairs_of(folder, "la x31, label"))
-    text += "\n/// Branches on registers 10 and 31: the comparison, and the rest likewise.\n"
-    text += table("BRANCHES", "(Cmp, u64, u64, [u32; 3])", branches(folder))
+    text = HEAD
+    for name, part, spelled in [("jump", "(Jump l)", "tail label"), ("call", "(Call l)", "call label"), ("address", "(Address 31 l)", "la x31, label")]:
+        text += f"\n-- ---- {name}\n"
+        for number, (place, address, found) in enumerate(linked_pairs(folder, spelled), 1):
+            text += row(f"{name}_{number}", part, place, address, found)
+    text += "\n-- ---- branch\n"
+    for number, (comparison, place, address, found) in enumerate(branches(folder)):
+        text += row(f"branch_{comparison.lower()}_{number % 4 + 1}", f"(branch {comparison})", place, address, found)
+    text += "\n-- ---- tables of one label\n"
     for count, found in tables(folder):
-        text += f"\n/// A table at {FIRST:#x} of {count} times the label at {LATE:#x}.\n"
-        text += f"pub static TABLE_OF_{count}: [u32; {len(found)}] = {words(found)};\n"
-    return {"crates/rv_asm/src/tests/parts.rt": text}
+        text += row(f"table_of_{count}", f"(Table ({'l ∷ ' * count}[]))", LATE, FIRST, found)
+    return {"crates/rv_asm/proofs/PartRows.antt": text}
 
 
 sys.exit(write_or_compare(made_files))

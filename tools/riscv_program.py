@@ -1,16 +1,9 @@
 #!/usr/bin/env python3
-"""Makes the program that the tests of crates/rv_sim run: its bytes by the GNU assembler, the data that it leaves by QEMU.
-
-    tools/riscv_program.py            writes crates/run_tests/src/sim/program.rt (run rt fmt in crates/run_tests after)
-    tools/riscv_program.py --check    compares what it makes with that file
-
-Where the assembler or the emulator is missing it says so and ends with status 0.
-Debian and Ubuntu: apt-get install binutils-riscv64-linux-gnu qemu-user
-"""
+"""The row of crates/part_rows that runs a program: its words by the GNU assembler, the data that it leaves by QEMU. part_rows.py puts it there."""
 import os
-import sys
+import struct
 
-from riscv_files import TOOLS, run, write_or_compare
+from riscv_files import TOOLS, hexes, run
 
 # Code and data stand where the simulator has them. The end stores every register, and asks both machines to stop: the
 # simulator by number 5 in register 5, Linux by a write of the data to its standard output.
@@ -170,7 +163,7 @@ data: .skip {SIZE}
 """
 
 
-def made(folder):
+def cases(folder):
     with open(os.path.join(folder, "p.s"), "w") as f:
         f.write(source())
     run(folder, TOOLS[0], "-march=rv64im", "-o", "p.o", "p.s")
@@ -179,18 +172,5 @@ def made(folder):
     after = run(folder, TOOLS[3], "./p")
     with open(os.path.join(folder, "p.bin"), "rb") as f:
         code = f.read()
-    return f"""//! A program by the GNU assembler and the data that it leaves by QEMU, made by tools/riscv_program.py.
-
-/// Loops, calls and accesses of every size; then every register is stored from byte 1,024 of the data on, and an ECALL ends the run.
-pub static CODE: [u8; {len(code)}] = [{", ".join(str(b) for b in code)}];
-
-/// The data at the end. It begins as zeros.
-pub static AFTER: [u8; {len(after)}] = [{", ".join(str(b) for b in after)}];
-"""
-
-
-def made_files(folder):
-    return {"crates/run_tests/src/sim/program.rt": made(folder)}
-
-
-sys.exit(write_or_compare(made_files))
+    words = struct.unpack(f"<{len(code) // 4}I", code)
+    yield f"run {hexes(words)}", f"Asks(End(1)) {hexes(struct.unpack(f'<{SIZE // 8}Q', after))}"

@@ -1,20 +1,9 @@
 #!/usr/bin/env python3
-"""Makes the table of single steps that crates/rv_sim tries: words by the GNU assembler, what they do by QEMU.
-
-    tools/riscv_steps.py            writes crates/run_tests/src/sim/rows.rt (run rt fmt in crates/run_tests after)
-    tools/riscv_steps.py --check    compares what it makes with that file
-
-Where the assembler or the emulator is missing it says so and ends with status 0.
-Debian and Ubuntu: apt-get install binutils-riscv64-linux-gnu qemu-user
-"""
+"""The rows of crates/part_rows on single steps: words by the GNU assembler, what they do by QEMU. part_rows.py puts them there."""
 import itertools
-import sys
 
-from riscv_files import BRANCHES, GREATEST, IMMEDIATE, LEAST, LOADS, ONES, REGISTER, SHIFTS, STORES
-from riscv_files import assembled, emulated, table, write_or_compare
-
-# Where the simulator has the instruction. What counts from pc is moved there from the place that it had in the emulator.
-PC = 0x10000
+from riscv_files import BRANCHES, GREATEST, IMMEDIATE, LEAST, LOADS, ONES, PC, REGISTER, SHIFTS, STORES
+from riscv_files import assembled, emulated, hexes
 
 # The registers at the ends of their range are 0 and 31; register 1 is another one beside 31.
 PAIRS = [(0, 1), (1, ONES), (ONES, 1), (GREATEST, LEAST), (LEAST, ONES), (ONES, GREATEST)]
@@ -138,46 +127,8 @@ def accesses(folder):
         yield word, first, second, (d, value), (cell, holds, after)
 
 
-def number(n):
-    return str(n) if n < 32 else f"{n:#x}"
-
-
-def step_line(word, first, second, written, distance):
-    held = [f"{register} = {number(value)}" for register, value in (first, second, written)]
-    return f"step!({word:#x}: {held[0]}, {held[1]} => {held[2]}, {number(distance)})"
-
-
-def access_line(word, first, second, written, cell):
-    held = [f"{register} = {number(value)}" for register, value in (first, second, written)]
-    at, before, after = map(number, cell)
-    return f"access!({word:#x}: {held[0]}, {held[1]} => {held[2]}; {at}: {before} => {after})"
-
-
-def made_files(folder):
-    return {
-        "crates/run_tests/src/sim/rows.rt": f"""//! Single steps by the GNU assembler and QEMU, made by tools/riscv_steps.py.
-
-/// A register and its value.
-type Held = (u8, u64);
-
-macro_rules! step {{
-    ($word:tt: $a:tt = $x:tt, $b:tt = $y:tt => $d:tt = $value:tt, $distance:tt) => {{
-        ($word, ($a, $x), ($b, $y), ($d, $value), $distance)
-    }};
-}}
-
-macro_rules! access {{
-    ($word:tt: $a:tt = $x:tt, $b:tt = $y:tt => $d:tt = $value:tt; $at:tt: $before:tt => $after:tt) => {{
-        ($word, ($a, $x), ($b, $y), ($d, $value), ($at, $before, $after))
-    }};
-}}
-
-/// A word at {PC:#x}, the two registers that it reads, the one that it writes after it, and how far pc goes, modulo 2^64.
-{table("STEPS", "(u32, Held, Held, Held, u64)", [step_line(*line) for line in [*values(folder), *targets(folder)]])}
-/// The word of a load or a store, the two registers that it reads, the one that it writes after it, and an address with the number
-/// in its eight bytes before and after. Data and stack have {PAGE} bytes.
-{table("ACCESSES", "(u32, Held, Held, Held, (u64, u64, u64))", [access_line(*line) for line in accesses(folder)])}"""
-    }
-
-
-sys.exit(write_or_compare(made_files))
+def cases(folder):
+    for word, first, second, (written, value), distance in [*values(folder), *targets(folder)]:
+        yield f"step {hexes((word, *first, *second, written))}", hexes((value, distance))
+    for word, first, second, (written, value), (at, before, after) in accesses(folder):
+        yield f"access {hexes((word, *first, *second, written, at, before))}", hexes((value, after))

@@ -1,21 +1,14 @@
 #!/usr/bin/env python3
-"""Makes the outside vectors of crates/rv_code: words by the GNU assembler, results by QEMU.
-
-    tools/riscv_vectors.py            writes crates/back_tests/src/code/words.rt and results.rt (run rt fmt in crates/back_tests after)
-    tools/riscv_vectors.py --check    compares what it makes with those files
-
-Where the assembler or the emulator is missing it says so and ends with status 0.
-Debian and Ubuntu: apt-get install binutils-riscv64-linux-gnu qemu-user
-"""
+"""The rows of crates/part_rows on words of instructions and on their results: words by the GNU assembler, results by QEMU. part_rows.py puts them there."""
 import itertools
-import sys
 
-from riscv_files import BRANCHES, GREATEST, IMMEDIATE, LEAST, LOADS, ONES, REGISTER, SHIFTS, STORES
-from riscv_files import assembled, emulated, hexes, table, write_or_compare
+from riscv_files import BRANCHES, GREATEST, IMMEDIATE, LEAST, LOADS, ONES, PC, REGISTER, SHIFTS, STORES
+from riscv_files import assembled, emulated, hexes
 
 # Pairs of operands at the corners: zero, one, all ones, the least and the greatest, mixed signs, shifts past the width.
 PAIRS = [(0, 0), (1, ONES), (ONES, 1), (LEAST, ONES), (GREATEST, LEAST), (LEAST, 0), (7, 0xFFFF_FFFF_FFFF_FFFD)]
 PAIRS += [(0x0123_4567_89AB_CDEF, 65), (0xFFFF_FFFF_8000_0000, 0x1_FFFF_FFFF)]
+DATA = 0x40000000
 CORNERS = [0, 1, ONES, LEAST, GREATEST, 0x0123_4567_89AB_CDEF, 0xFFFF_FFFF_8000_0000]
 
 
@@ -125,49 +118,42 @@ def loads(folder):
 
 
 def instruction(name, operands):
-    """By the macros of the table's file, one for each set of fields."""
-    macro = {"rd rs1 rs2": "r", "rd rs1 imm": "i", "rs1 rs2 imm": "s", "rd imm": "u", "": ""}[" ".join(operands)]
-    shown = ", ".join([name.capitalize()] + [str(v) for v in operands.values()])
-    return f"{macro}!({shown})" if macro else f"Instr::{name.capitalize()}"
+    """An instruction as the program shows it."""
+    fields = ", ".join(f"{field}: {value}" for field, value in operands.items())
+    return name.capitalize() + (f" {{ {fields} }}" if fields else "")
 
 
-def words_file(folder):
+# Words that are no instruction of the table.
+RESERVED = {
+    0x00000000: "all zeros",
+    0x0000000F: "FENCE",
+    0x0000100F: "FENCE.I",
+    0xFFFFFFFF: "all ones",
+    0x00001067: "JALR with funct3 001",
+    0x00002063: "a branch with funct3 010",
+    0x00007003: "a load with funct3 111",
+    0x00004023: "a store with funct3 100",
+    0x04001013: "SLLI with a bit set above its amount",
+    0x0200101B: "SLLIW with an amount of 32",
+    0x40001033: "SLL with funct7 0100000",
+    0x04000033: "ADD with funct7 0000010",
+    0x0200103B: "funct3 001 of the word multiplications",
+    0x00200073: "URET",
+    0x000000F3: "ECALL with rd 1",
+}
+
+
+def cases(folder):
     spelled = list(spelled_words())
     words = assembled(folder, [text for text, _ in spelled])
-    lines = [f"({instruction(*i)}, {w:#010x})" for w, (_, i) in zip(words, spelled)]
-    macros = "\n".join(
-        f"macro_rules! {letter} {{\n    ($name:ident, {', '.join(f'${f}:expr' for f in fields)}) => {{\n"
-        f"        Instr::$name {{ {', '.join(f'{f}: ${f}' for f in fields)} }}\n    }};\n}}\n"
-        for letter, fields in [
-            ("r", ["rd", "rs1", "rs2"]),
-            ("i", ["rd", "rs1", "imm"]),
-            ("s", ["rs1", "rs2", "imm"]),
-            ("u", ["rd", "imm"]),
-        ]
-    )
-    return f"""//! Words by the GNU assembler, made by tools/riscv_vectors.py.
-use rv_table::Instr;
-
-{macros}
-/// Instructions at the ends of their operands' ranges, with their words.
-{table("WORDS", "(Instr, u32)", lines)}"""
-
-
-def results_file(folder):
-    return f"""//! Results by QEMU, made by tools/riscv_vectors.py.
-
-/// A word, what registers 10 and 11 hold, and what register 12 gets, at pc 0.
-{table("RESULTS", "(u32, u64, u64, u64)", [hexes(r) for r in results(folder)])}
-/// The word of a branch or jump, what registers 10 and 11 hold, and the link (0 if none is given) and the address where control
-/// goes, from pc on. Where a jump's target is a register's, register 10 counts from pc too.
-{table("JUMPS", "(u32, u64, u64, u64, u64)", [hexes(r) for r in jumps(folder)])}
-/// The word of a load, what memory holds from its address on, and what it gives.
-{table("LOADS", "(u32, u64, u64)", [hexes(r) for r in loads(folder)])}"""
-
-
-def made_files(folder):
-    tests = "crates/back_tests/src/code/"
-    return {tests + "words.rt": words_file(folder), tests + "results.rt": results_file(folder)}
-
-
-sys.exit(write_or_compare(made_files))
+    for word, (_, (name, operands)) in zip(words, spelled):
+        yield f"word {word:x}", f"{instruction(name, operands)} true"
+    yield from ((f"word {word:x}", "none") for word in RESERVED)
+    for word, a, b, value in results(folder):
+        # what auipc gives counts from pc, here as in the emulator
+        yield f"step {hexes((word, 10, a, 11, b, 12))}", hexes(((value + PC * (word % 128 == 0b0010111)) % 2**64, 4))
+    for word, a, b, link, goes in jumps(folder):
+        from_pc = a + PC * (word % 128 == 0b1100111)
+        yield f"step {hexes((word, 10, from_pc % 2**64, 11, b, 12))}", hexes((link and link + PC, goes))
+    for word, holds, value in loads(folder):
+        yield f"access {hexes((word, 10, DATA, 0, 0, 12, DATA, holds))}", hexes((value, holds))

@@ -19,9 +19,9 @@ A file has one of these after its name, and so has `then`; the paths of `from` b
     = "TEXT" * N + "TEXT"       these bytes, by the escapes \\n \\t \\r \\0 \\\\ \\" and \\xHH
     is NAME                     the text of a line `unit NAME` with `: TEXT` or `= ..`, of this paragraph or of an earlier one without words
     from PATH
-    by SCRIPT WORDS             what this script of tools/ prints
-    image of a.cmm b.cmm        what the program builds of these files of the case; CHANGES may follow, each behind a comma:
-                                `first 0 .. 3 bytes` (a run for each length), `each byte xor ff` (a run for each byte), `at 64 00 00`, `24 has 00 01`
+    by SCRIPT WORDS             what this script of tools/ prints; CHANGES may follow, each behind a comma
+    image of a.cmm b.cmm        what the program builds of these files of the case; CHANGES may follow too:
+                                `first 0 .. 3 bytes` (a run for each length), `each byte xor ff` or `each byte is 00` (a run for each byte), `at 64 00 00`, `24 has 00 01`
                                 (which those bytes must be already), `and 00` (at the end)
 
 `input fails`, `output fails` and `log fails` make that stream one that cannot be read or written. `any: 8 trap *` says one of more answers: with such lines
@@ -247,6 +247,7 @@ class Runner:
     def __init__(self, program):
         self.program = program
         self.image = functools.lru_cache(maxsize=None)(self.build)
+        self.printed = functools.lru_cache(maxsize=None)(printed)
 
     def build(self, *files):
         """The image of units in files of these names and texts."""
@@ -266,16 +267,13 @@ class Runner:
         if told.startswith("from "):
             with open(os.path.join(ROWS, told[5:]), "rb") as file:
                 return [file.read()]
-        if told.startswith("by "):
-            script, *words = shlex.split(told[3:])
-            return [subprocess.run([sys.executable, os.path.join(TOOLS, script), *words], stdout=subprocess.PIPE, check=True).stdout]
-        if told.startswith("image of "):
-            names, *changes = told[len("image of ") :].split(", ")
-            found = [self.image_of(case, names.split())]
-            for change in changes:
-                found = [it for image in found for it in changed(image, change)]
-            return found
-        return [plain(told)]
+        if not told.startswith(("by ", "image of ")):
+            return [plain(told)]
+        made, *changes = told.split(", ")
+        found = [self.printed(made[3:])] if made.startswith("by ") else [self.image_of(case, made[len("image of ") :].split())]
+        for change in changes:
+            found = [it for image in found for it in changed(image, change)]
+        return found
 
     def texts_of(self, case):
         """What stands for `$NAME` in a case."""
@@ -324,6 +322,12 @@ class Runner:
         return None if same else f"`run` of the image answers {again.status} {again.log} {again.output}"
 
 
+def printed(words):
+    """What a script of tools/ prints."""
+    script, *words = shlex.split(words)
+    return subprocess.run([sys.executable, os.path.join(TOOLS, script), *words], stdout=subprocess.PIPE, check=True).stdout
+
+
 def parts_of(words):
     """The names and the options of an `exec`."""
     names, options, at = [], [], 0
@@ -344,6 +348,8 @@ def changed(image, change):
     if match := re.fullmatch(r"each byte xor (\w\w)", change):
         bits = int(match[1], 16)
         return [image[:at] + bytes([byte ^ bits]) + image[at + 1 :] for at, byte in enumerate(image)]
+    if match := re.fullmatch(r"each byte is (\w\w)", change):
+        return [image[:at] + bytes.fromhex(match[1]) + image[at + 1 :] for at in range(len(image))]
     if match := re.fullmatch(r"at (\d+) ([\w ]+)", change):
         at, others = int(match[1]), bytes.fromhex(match[2])
         return [image[:at] + others + image[at + len(others) :]]

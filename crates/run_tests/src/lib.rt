@@ -1,9 +1,5 @@
-//! The tests of `rv_memory`, `rv_sim`, `cmm_report`: of what no clause says.
+//! The tests of `cmm_report`: of what no clause says, and no line of `part_rows`.
 #![tactic(auto)]
 
 #[cfg(test)]
-mod memory;
-#[cfg(test)]
 mod report;
-#[cfg(test)]
-mod sim;

@@ -20,3 +20,4 @@ mod Following
 pub mod Shared
 mod Places
 mod AsmRows
+mod PartRows

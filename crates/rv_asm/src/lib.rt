@@ -28,6 +28,3 @@ pub use asm::Asm;
 pub use filling::{CodeFix, fill};
 pub use finishing::Placed;
 pub use part::{Label, Meaning, Part};
-
-#[cfg(test)]
-mod tests;
