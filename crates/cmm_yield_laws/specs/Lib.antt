@@ -1,0 +1,5 @@
+pub mod Tested
+pub mod Yielding
+pub mod Standing
+pub mod WholeCode
+pub mod Laws
