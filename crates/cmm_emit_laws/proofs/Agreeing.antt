@@ -8,9 +8,9 @@ use Rattle.cmm_simulation.proofs.Prefixes.{within_trans}
 use Rattle.cmm_simulation.proofs.Runs.{right_until}
 use Rattle.cmm_simulation.proofs.Scaling.{follows_scaled}
 use Rattle.cmm_simulation.specs.Following.{Follows}
-use Rattle.cmm_simulation.specs.Machine.{Machine, Lasts}
+use Rattle.cmm_simulation.specs.Machine.{Machine, Lasts, Stands, after}
 use Rattle.cmm_simulation.specs.Observing.{Passes}
-use Rattle.cmm_simulation.specs.Seen.{Seen, Event, IsWithin}
+use Rattle.cmm_simulation.specs.Seen.{Seen, Event, IsWithin, but_input}
 use Rattle.cmm_simulation.specs.Simulation.{Leads}
 use Rattle.cmm_program.specs.declared.procedure.Proc.{Proc}
 use Rattle.cmm_program.specs.Control.{over}
@@ -38,12 +38,12 @@ use Rattle.cmm_located.specs.Compiled.{Compiled, Located, bare}
 use Rattle.cmm_located.specs.LocatedMachine.{located_machine, located_start, located_step, tokens_at, tried}
 use Rattle.cmm_located.specs.Nodes.{keeping, passed_to, ran_at, zeros_in}
 use Rattle.cmm_emit_laws.proofs.Beginning.{code_begins, entry, nothing_within, right_earlier, shown_follows, start_at, start_is}
-use Rattle.cmm_emit_laws.proofs.OnceBegun.{agrees_once_begun}
-use Rattle.cmm_emit_laws.proofs.Simulating.{step_leads}
+use Rattle.cmm_emit_laws.proofs.OnceBegun.{agrees_once_begun, stands_soon}
+use Rattle.cmm_emit_laws.proofs.Simulating.{code_around, step_leads}
 use Rattle.cmm_emit_laws.specs.Agreeing.{AgreesOnceBegun, Precedes}
 use Rattle.cmm_emit_laws.specs.Finished.{Finished}
 use Rattle.cmm_emit_laws.specs.Laws.{most_for_step}
-use Rattle.cmm_emit_laws.specs.ProgramCode.{IsCode}
+use Rattle.cmm_emit_laws.specs.ProgramCode.{IsCode, IsCodeAround}
 use Rattle.cmm_emit_laws.specs.Starting.{StartCode}
 
 -- ---- nothing is shown before the first statement of `main`
@@ -55,7 +55,7 @@ entry_asks : (s : Setting) (store : Store) (k : Keeping) (kind : NodeKind) → I
 entry_asks s store k (Entry formals next) is = refl
 entry_asks s store k kind is = let e : false ≡ true = grind (arith, is) in absurd (cc)
 
-module _ (s : Setting) (c : Compiled) (l : Launch) (f : Finished) (code : IsCode s c l f) (input : List ℕ) (is_bytes : All IsByte input) (begins : StartCode s c l f) where
+module _ (s : Setting) (c : Compiled) (l : Launch) (f : Finished) (code : IsCodeAround s c l f) (input : List ℕ) (is_bytes : All IsByte input) (begins : StartCode s c l f) where
   abbrev Start : Located
   Start = start_at s c l f code input is_bytes begins begins.first
 
@@ -101,20 +101,21 @@ module _ (s : Setting) (c : Compiled) (l : Launch) (f : Finished) (code : IsCode
       let found = entry s c l f code input is_bytes begins in
       (found.0, ap (λ (o : Option Node). elim o as (λ _. NodeKind) [ Some node ↦ node.kind | None ↦ Stop ]) found.1, found.2)
 
-  first_shows : (located_machine s c).seen (located_step s c (located_start s c input)) ≡ nothing
+  pub first_shows : (located_machine s c).seen (located_step s c (located_start s c input)) ≡ nothing
   first_shows =
       ap (λ (z : Located). (located_machine s c).seen (located_step s c z)) start_is_begun
       ∙ (ap (λ (kind : NodeKind). (located_machine s c).seen (tried s c Start (ran_at s c kind Start))) first_node.1
       ∙ entry_shows first_node.0.kind first_node.2)
 
-  first_asks : (located_machine s c).asks (located_start s c input) ≡ None
+  pub first_asks : (located_machine s c).asks (located_start s c input) ≡ None
   first_asks =
       ap (λ (z : Located). (located_machine s c).asks z) start_is_begun
       ∙ (ap (λ (kind : NodeKind). event_at s Running (shown s c Start) (act_of (keeping s c Start) kind)) first_node.1
       ∙ entry_asks s (shown s c Start) (keeping s c Start) first_node.0.kind first_node.2)
 
-  -- ---- a machine that is followed over locations, once `main` is entered
+-- ---- a machine that is followed over locations, once `main` is entered
 
+module _ (s : Setting) (c : Compiled) (l : Launch) (f : Finished) (code : IsCode s c l f) (input : List ℕ) (is_bytes : All IsByte input) (begins : StartCode s c l f) where
   module _ (lead : SwitchesLead) (images : ImagesLast) {S : Type 0} (A : Machine S ℕ Call Ending) (a : S) (cost : ℕ) (lasts : Lasts A)
       (follows : Follows A (λ _. cost) (located_machine s c) (tokens_at s c) a (located_step s c (located_start s c input)))
       (soon : begins.most + 32 * tokens_at s c (located_start s c input) ≤ 32 * cost) where
@@ -125,21 +126,22 @@ module _ (s : Setting) (c : Compiled) (l : Launch) (f : Finished) (code : IsCode
 
     precedes : A.wrong a ≡ false → (u : Run) → Passes (located_machine s c) (image_machine l) (located_start s c input) u → Precedes A (image_machine l) a u
     precedes right u p = record {
-      seen = within_trans (subst (λ (z : Seen ℕ). IsWithin ((image_machine l).seen ((image_machine l).step u)) z) first_shows p.seen) (nothing_within (A.seen a));
+      seen = within_trans (subst (λ (z : Seen ℕ). IsWithin ((image_machine l).seen ((image_machine l).step u)) z) (first_shows s c l f (code_around s c l f code) input is_bytes begins) p.seen) (nothing_within (A.seen a));
       asks = by ((image_machine l).asks u) refl;
       right = p.right (right_at_first right);
     }
       where
         by : (o : Option (Event Call Ending)) → (image_machine l).asks u ≡ o → o ≡ None
         by None is = refl
-        by (Some event) is = let asked = (p.asks event is).0 in let none = first_asks in absurd (cc)
+        by (Some event) is = let asked = (p.asks event is).0 in let none = first_asks s c l f (code_around s c l f code) input is_bytes begins in absurd (cc)
 
     begun_by : A.wrong a ≡ false →
-        Leads (image_machine l) (λ _. 1) (Precedes A (image_machine l) a) (Follows A (λ _. 32 * cost) (image_machine l) (λ _. 1) a) 0 (32 * cost) (first_run l input)
+        Leads (image_machine l) (λ _. 1) (Precedes A (image_machine l) a) (Follows A (λ _. 32 * cost) (image_machine l) (λ _. 1) a) 0
+        (begins.most + 32 * tokens_at s c (located_start s c input)) (first_run l input)
     begun_by right =
         weaker
-        (joined {l = 0} {m = begins.most} {n = 1} {o = most_for_step s c (located_start s c input)} {least = 0} {most = 32 * cost} (code_begins s c l f input code begins is_bytes)
-        (λ u is_shown. step_leads lead s c l f code (located_start s c input) u is_shown (right_at_first right)) (omega arith) soon)
+        (joined {l = 0} {m = begins.most} {n = 1} {o = most_for_step s c (located_start s c input)} {least = 0} {most = begins.most + 32 * tokens_at s c (located_start s c input)} (code_begins s c l f input code begins is_bytes)
+        (λ u is_shown. step_leads lead s c l f code (located_start s c input) u is_shown (right_at_first right)) (omega arith) (omega arith))
         (λ u p. precedes right u p)
         (λ u is_shown.
         follows_trans (follows_scaled {a' = λ _. 32 * cost} {b' = most_for_step s c} 32 (λ _. omega arith) (λ _. omega arith) follows)
@@ -152,7 +154,13 @@ module _ (s : Setting) (c : Compiled) (l : Launch) (f : Finished) (code : IsCode
         omega (arith, path.arrives.holds.tokens, soon)
 
     agrees : A.wrong a ≡ false → AgreesOnceBegun A (image_machine l) (32 * cost) a (first_run l input)
-    agrees right = agrees_once_begun lasts (images l) positive (begun_by right)
+    agrees right = agrees_once_begun lasts (images l) positive soon (begun_by right)
+
+    -- where it stands at an event, the image has stood at it by what it takes to begin, and 32 instructions for each token of its steps
+    pub image_stands_soon : (m : ℕ) → A.wrong (after A m a) ≡ false → (event : Event Call Ending) → but_input (A.asks (after A m a)) ≡ Some event →
+        (n : ℕ) × (n ≤ begins.most + 32 * tokens_at s c (located_start s c input) + 32 * cost * m) × Stands (image_machine l) event (A.seen (after A m a)) (after (image_machine l) n (first_run l input))
+    image_stands_soon m right =
+        stands_soon lasts (images l) positive soon (begun_by (right_until A lasts 0 m a (omega arith) right)) m right
 
     -- the image agrees with it, at 32 instructions for each token that a step of the machine costs over locations
     pub image_agrees : AgreesOnceBegun A (image_machine l) (32 * cost) a (first_run l input)

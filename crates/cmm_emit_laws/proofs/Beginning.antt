@@ -42,10 +42,10 @@ use Rattle.cmm_emit_laws.specs.StateLaws.{Begins}
 use Rattle.cmm_located.specs.Compiled.{Compiled, Located}
 use Rattle.cmm_located.specs.LocatedMachine.{located_machine, located_start, located_step, tokens_at}
 use Rattle.cmm_emit_laws.proofs.Landing.{first_holds, has_tokens, inside_entry}
-use Rattle.cmm_emit_laws.proofs.Simulating.{images_simulate_located_runs, step_is}
+use Rattle.cmm_emit_laws.proofs.Simulating.{code_around, images_simulate_located_runs, step_is}
 use Rattle.cmm_emit_laws.specs.Finished.{Finished}
 use Rattle.cmm_emit_laws.specs.Laws.{CodeBegins, ImagesFollowLocatedRuns, IsRepresentedIn, most_for_step}
-use Rattle.cmm_emit_laws.specs.ProgramCode.{IsCode}
+use Rattle.cmm_emit_laws.specs.ProgramCode.{IsCode, IsCodeAround}
 use Rattle.cmm_emit_laws.specs.Standing.{IsOfRun, Stands}
 use Rattle.cmm_emit_laws.specs.Starting.{StartCode}
 use Rattle.cmm_emit_laws.specs.Represented.{stack_region}
@@ -118,7 +118,7 @@ shown_follows lead s c l f code at u is_shown = record {
       (λ v p. p) ((images_simulate_located_runs lead s c l f code).level (after (located_machine s c) m at)) (omega arith) (λ n le. le);
 }
 
-module _ (s : Setting) (c : Compiled) (l : Launch) (f : Finished) (code : IsCode s c l f) (input : List ℕ) (is_bytes : All IsByte input) where
+module _ (s : Setting) (c : Compiled) (l : Launch) (f : Finished) (code : IsCodeAround s c l f) (input : List ℕ) (is_bytes : All IsByte input) where
   abbrev start : Located
   start = located_start s c input
 
@@ -224,7 +224,7 @@ module _ (s : Setting) (c : Compiled) (l : Launch) (f : Finished) (code : IsCode
         (λ u there. shown_first u there.0 there.1)
 
 pub code_begins : CodeBegins
-code_begins s c l f input code begins is_bytes = shown_at_start s c l f code input is_bytes begins
+code_begins s c l f input code begins is_bytes = shown_at_start s c l f (code_around s c l f code) input is_bytes begins
 
 pub images_follow_located_runs : SwitchesLead → ImagesFollowLocatedRuns
 images_follow_located_runs lead s c l f input code begins is_bytes =

@@ -6,19 +6,19 @@ use Rattle.cmm_simulation.proofs.Prefixes.{within_trans}
 use Rattle.cmm_simulation.proofs.Runs.{after-add, grows_until, over_until, right_until, spent-constant}
 use Rattle.cmm_simulation.specs.Agreement.{Does}
 use Rattle.cmm_simulation.specs.Following.{Follows}
-use Rattle.cmm_simulation.specs.Machine.{Machine, Lasts, after}
+use Rattle.cmm_simulation.specs.Machine.{Machine, Lasts, Stands, after}
 use Rattle.cmm_simulation.specs.Observing.{Level, Passes}
 use Rattle.cmm_simulation.specs.Seen.{Event, End, but_input}
 use Rattle.cmm_simulation.specs.Simulation.{Leads}
 use Rattle.cmm_emit_laws.specs.Agreeing.{AgreesOnceBegun, Precedes}
 
-module _ {S T L C E : Type 0} {A : Machine S L C E} {B : Machine T L C E} {factor : ℕ} {s : S} {t : T} (lasts : Lasts A) (lasts' : Lasts B) (positive : 1 ≤ factor)
-    (begins : Leads B (λ _. 1) (Precedes A B s) (Follows A (λ _. factor) B (λ _. 1) s) 0 factor t) where
+module _ {S T L C E : Type 0} {A : Machine S L C E} {B : Machine T L C E} {factor first : ℕ} {s : S} {t : T} (lasts : Lasts A) (lasts' : Lasts B) (positive : 1 ≤ factor)
+    (early : first ≤ factor) (begins : Leads B (λ _. 1) (Precedes A B s) (Follows A (λ _. factor) B (λ _. 1) s) 0 first t) where
   abbrev begun : T
   begun = after B begins.steps t
 
   few : begins.steps ≤ factor
-  few = omega (arith, begins.within, spent-constant B 1 begins.steps t)
+  few = omega (arith, early, begins.within, spent-constant B 1 begins.steps t)
 
   -- ---- what A has done, B does
 
@@ -45,6 +45,16 @@ module _ {S T L C E : Type 0} {A : Machine S L C E} {B : Machine T L C E} {facto
         ends = λ ending is. over_until B lasts' ending _ there.steps (factor * (m + 1)) t there.soon (grind arith, sym there.level.seen);
         stands = λ event is. (there.steps, there.soon, (grind arith, sym there.level.seen));
       }
+
+  -- where A stands at an event, B has stood at it by what it takes to begin and what the steps of A cost
+  pub stands_soon : (m : ℕ) → A.wrong (after A m s) ≡ false → (event : Event C E) → but_input (A.asks (after A m s)) ≡ Some event →
+      (n : ℕ) × (n ≤ first + factor * m) × Stands B event (A.seen (after A m s)) (after B n t)
+  stands_soon m right event is =
+      let path = begins.arrives.leads m right in
+      let level : Level A B (after A m s) (after B (begins.steps + path.steps) t) = rw (after-add B begins.steps path.steps t) path.arrives in
+      let within : begins.steps + path.steps ≤ first + factor * m =
+      omega (arith, begins.within, spent-constant B 1 begins.steps t, path.within, spent-constant A factor m s, spent-constant B 1 path.steps begun) in
+      (begins.steps + path.steps, within, (grind (arith, is, level), sym level.seen))
 
   -- ---- what B has done, A does
 

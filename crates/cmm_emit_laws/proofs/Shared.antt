@@ -10,4 +10,4 @@ pub use Rattle.cmm_emit_laws.proofs.StartingStates.{starts_are_shown}
 pub use Rattle.cmm_emit_laws.proofs.WrittenWords.{shown_same}
 pub use Rattle.cmm_emit_laws.proofs.SimulatedMachines.{image_is_level, image_is_quiet, image_leads, image_simulates}
 pub use Rattle.cmm_emit_laws.proofs.Placing.{appended_does, finished_code_stands, placed_alone}
-pub use Rattle.cmm_emit_laws.proofs.Agreeing.{image_agrees}
+pub use Rattle.cmm_emit_laws.proofs.Agreeing.{image_agrees, image_stands_soon}
