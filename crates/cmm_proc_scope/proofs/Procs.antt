@@ -121,19 +121,12 @@ begin_all left is e = subst (λ l. take (length (procs_of_items is)) l ≡ procs
 pub begin_as : (left : List Proc) (xs ys : List (Within Item)) → procs_of_items xs ≡ procs_of_items ys → BeginWith left xs → BeginWith left ys
 begin_as left xs ys same e = subst (λ ps. take (length ps) left ≡ ps) same e
 
-some_next : (left : List Proc) (p : Proc) → take (length (p ∷ [])) left ≡ p ∷ [] → 0 < length left
-some_next [] p e = cc
-some_next (q ∷ left) p e = omega arith
+-- where a procedure is next, it is the first that is left
+pub next_of_one : (left : List Proc) (is : List (Within Item)) (p : Proc) → procs_of_items is ≡ p ∷ [] → BeginWith left is → (rest : List Proc) × (left ≡ p ∷ rest)
+next_of_one [] is p one e = let f : take (length (p ∷ [])) [] ≡ p ∷ [] = subst (λ ps. take (length ps) [] ≡ ps) one e in cc
+next_of_one (q ∷ rest) is p one e =
+    let f : take (length (p ∷ [])) (q ∷ rest) ≡ p ∷ [] = subst (λ ps. take (length ps) (q ∷ rest) ≡ ps) one e in
+    let same : q ≡ p = cc in (rest, ap (λ r. r ∷ rest) same)
 
--- of a procedure that is next
-pub some_of_one : (left : List Proc) (is : List (Within Item)) (p : Proc) → procs_of_items is ≡ p ∷ [] → BeginWith left is → 0 < length left
-some_of_one left is p one e = some_next left p (subst (λ ps. take (length ps) left ≡ ps) one e)
-
-pub taken_of_one : (old new : List Proc) (is : List (Within Item)) (p q : Proc) → procs_of_items is ≡ p ∷ [] → BeginWith old is → old ≡ q ∷ new → q ≡ p
-taken_of_one old new is p q one e split =
-    let f : take (length (p ∷ [])) old ≡ p ∷ [] = subst (λ ps. take (length ps) old ≡ ps) one e in
-    let g : take (length (p ∷ [])) (q ∷ new) ≡ p ∷ [] = subst (λ l. take (length (p ∷ [])) l ≡ p ∷ []) split f in cc
-
-pub left_of_one : (old new : List Proc) (is : List (Within Item)) (p q : Proc) → procs_of_items is ≡ p ∷ [] → BeginWith old is → old ≡ q ∷ new → old ≡ procs_of_items is ++ new
-left_of_one old new is p q one e split =
-    split ∙ ap (λ r. r ∷ new) (taken_of_one old new is p q one e split) ∙ ap (λ ps. ps ++ new) (sym one)
+pub left_of_one : (old new rest : List Proc) (is : List (Within Item)) (p : Proc) → procs_of_items is ≡ p ∷ [] → old ≡ p ∷ rest → new ≡ rest → old ≡ procs_of_items is ++ new
+left_of_one old new rest is p one split same = split ∙ ap (λ r. p ∷ r) (sym same) ∙ ap (λ ps. ps ++ new) (sym one)

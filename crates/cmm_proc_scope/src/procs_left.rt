@@ -1,6 +1,6 @@
 //! The procedures that a walk over a unit has still to meet.
 
-ghost use Rattle.std.specs.Prelude.{◌≡◌, ◌∷◌, ◌<◌, length};
+ghost use Rattle.std.specs.Prelude.{◌≡◌, ◌∷◌, [], IfSome, IfNone};
 ghost use Rattle.cmm_static_semantics.specs.Items.{items_of};
 ghost use Rattle.cmm_proc_scope.specs.Procs.{procs_of_items};
 
@@ -37,13 +37,18 @@ impl<'a> ProcsLeft<'a> {
         }
     }
 
-    /// Takes the next one.
-    pub fn next(&mut self) -> &'a ProcNames<'a>
-        requires { 0 < length self.old }
-        ensures { self.old ≡ result.now ∷ self.new }
+    /// Takes the next one, if any is left.
+    pub fn next(&mut self) -> Option<&'a ProcNames<'a>>
+        ensures some { IfSome result (λ own. self.old ≡ own.now ∷ self.new) }
+        ensures none { IfNone result (self.old ≡ []) }
     {
         let procs = self.procs;
-        self.procs = &procs[1..];
-        &procs[0]
+        match procs {
+            [own, rest @ ..] => {
+                self.procs = rest;
+                Some(own)
+            }
+            [] => None,
+        }
     }
 }
