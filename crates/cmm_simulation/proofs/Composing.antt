@@ -1,11 +1,12 @@
 -- Simulations and followings compose, where what the steps of B cost when it follows is what they may cost when it is followed.
-use Rattle.std.proofs.Common.{ℕ, sym, ◌∙◌, arith}
+use Rattle.std.proofs.Common.{ℕ, suc, sym, ◌∙◌, arith}
 use Rattle.cmm_simulation.proofs.Paths.{weaker}
 use Rattle.cmm_simulation.proofs.Prefixes.{within_trans}
+use Rattle.cmm_simulation.proofs.Runs.{right_until}
 use Rattle.cmm_simulation.proofs.Simulations.{run_leads}
 use Rattle.cmm_simulation.specs.Following.{Follows}
-use Rattle.cmm_simulation.specs.Machine.{Machine, after}
-use Rattle.cmm_simulation.specs.Observing.{Passes}
+use Rattle.cmm_simulation.specs.Machine.{Machine, Lasts, after}
+use Rattle.cmm_simulation.specs.Observing.{Level, Passes}
 use Rattle.cmm_simulation.specs.Simulation.{Simulates, Through}
 
 module _ {S T U L C E : Type 0} {A : Machine S L C E} {B : Machine T L C E} {D : Machine U L C E} where
@@ -35,3 +36,18 @@ module _ {S T U L C E : Type 0} {A : Machine S L C E} {B : Machine T L C E} {D :
         (λ v p. let q = path.through p.0 p.1 in (q.0, q.1, passes_trans q.2 p.2)) (λ v level. grind (arith, path.arrives))
         path.enough (λ n le. omega (arith, path.within));
   }
+
+-- Following and then a simulation. What is passed on the way is right where the first machine is, so nothing is required of how long the second stays wrong.
+module _ {S T U L C E : Type 0} {A : Machine S L C E} {B : Machine T L C E} {D : Machine U L C E} {a : S → ℕ} {b : T → ℕ} {d : U → ℕ} {R : T → U → Type 0} where
+  pub follows_simulated : {s : S} {t : T} {u : U} → Lasts A → Follows A a B b s t → Simulates B b D d R → R t u → Follows A a D d s u
+  follows_simulated {s = s} {t = t} lasts first second start = record {
+    leads = λ m right.
+        let path = first.leads m right in
+        weaker
+        (run_leads second start path.steps (λ i less. let p = path.through i less in
+        (p.2.right (right_until A lasts (suc p.0) m s (omega (arith, p.1)) right), λ v passes. (p.0, p.1, passes_trans p.2 passes))))
+        (λ v p. p) (λ v related. levels path.arrives (second.level (after B path.steps t) v related)) path.enough (λ n le. omega (arith, le, path.within));
+  }
+    where
+      levels : {s : S} {t : T} {u : U} → Level A B s t → Level B D t u → Level A D s u
+      levels p q = record { seen = p.seen ∙ q.seen; asks = p.asks ∙ q.asks; wrong = p.wrong ∙ q.wrong }

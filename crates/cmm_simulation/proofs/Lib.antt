@@ -8,3 +8,4 @@ pub mod Runs
 pub mod Scaling
 pub mod Simulations
 pub mod SmallMachines
+pub mod Testing

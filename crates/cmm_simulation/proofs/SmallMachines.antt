@@ -1,5 +1,6 @@
 -- The small machines: what lasts in them, the two simulations, and what the theory makes of these.
-use Rattle.std.proofs.Common.{◌≡◌, refl, arith}
+use Rattle.std.proofs.Common.{◌≡◌, ℕ, zero, suc, ◌+◌, ◌-◌, ◌≤◌, nat_le, List, [], ◌∷◌, ◌++◌, length, Some, refl, sym, ◌∙◌, arith}
+use Rattle.std.proofs.lemmas.Bool.Decides.{nat_tests}
 use Rattle.std.specs.Prelude.{Bool, true, false}
 use Rattle.cmm_simulation.proofs.Agreements.{agrees_of_follows}
 use Rattle.cmm_simulation.proofs.Composing.{follows_trans, simulates_trans}
@@ -9,9 +10,11 @@ use Rattle.cmm_simulation.proofs.Prefixes.{prefix_more, prefix_refl}
 use Rattle.cmm_simulation.proofs.Runs.{one_end, right_until}
 use Rattle.cmm_simulation.proofs.Scaling.{follows_scaled, simulates_scaled}
 use Rattle.cmm_simulation.proofs.Simulations.{in_lock_step}
-use Rattle.cmm_simulation.specs.Examples.{UncheckedSimulates, TickingSimulates, TicksSimulate, TicksFollow, TicksAgree, EndsOnce}
-use Rattle.cmm_simulation.specs.Machine.{Machine, Lasts}
-use Rattle.cmm_simulation.specs.Reader.{reader, start}
+use Rattle.cmm_simulation.proofs.Testing.{follows_tested}
+use Rattle.cmm_simulation.specs.Examples.{UncheckedSimulates, TestedTicksFollow, TickingSimulates, TicksSimulate, TicksFollow, TicksAgree, EndsOnce, puts_at_most}
+use Rattle.cmm_simulation.specs.Machine.{Machine, Lasts, after}
+use Rattle.cmm_simulation.specs.Reader.{Reader, event_at, read_number, reader, start}
+use Rattle.cmm_simulation.specs.Seen.{Event, Input, Client, End}
 use Rattle.cmm_simulation.specs.Ticking.{ticking}
 
 -- what is seen of a reader only grows, and one that is over or wrong stays so
@@ -59,3 +62,42 @@ ticks_agree input =
 -- the reader ends once, as every machine that lasts
 pub ends_once : EndsOnce
 ends_once checks input first second m n = one_end (reader checks) (reader_lasts checks) first second m n (start input)
+
+-- ---- events that pass
+
+more_numbers : (output : List ℕ) (number : ℕ) → length (output ++ number ∷ []) ≡ suc (length output)
+more_numbers [] number = refl
+more_numbers (first ∷ output) number = omega (arith, more_numbers output number)
+
+-- numbers left and numbers put are as many as were given
+step_counts : (checks : Bool) (left : List ℕ) (r : Reader) → r.left ≡ left →
+    length (read_number checks left r).left + length (read_number checks left r).seen.output ≡ length left + length r.seen.output
+step_counts checks [] r is = grind (arith, is)
+step_counts true (zero ∷ left) r is = grind (arith, is)
+step_counts true (suc n ∷ left) r is = omega (arith, more_numbers r.seen.output (suc n - 1))
+step_counts false (zero ∷ left) r is = omega (arith, more_numbers r.seen.output 0)
+step_counts false (suc n ∷ left) r is = omega (arith, more_numbers r.seen.output (suc n - 1))
+
+counts : (checks : Bool) (input : List ℕ) (m : ℕ) →
+    let r = after (reader checks) m (start input) in length r.left + length r.seen.output ≡ length input
+counts checks input zero = omega arith
+counts checks input (suc m) =
+    let r = after (reader checks) m (start input) in step_counts checks r.left r refl ∙ counts checks input m
+
+at_most : (most : ℕ) (left : List ℕ) (r : Reader) (event : Event ℕ ℕ) → length r.seen.output ≤ most → event_at left r ≡ Some event →
+    puts_at_most most event ≡ true
+at_most most [] r (End count) le is =
+    let one : length r.seen.output ≡ count = cc (is) in grind (arith, nat_tests, le, one)
+at_most most [] r Input le is = refl
+at_most most [] r (Client call) le is = refl
+at_most most (number ∷ left) r Input le is = refl
+at_most most (number ∷ left) r (Client call) le is = refl
+at_most most (number ∷ left) r (End count) le is = absurd (cc (is))
+
+pub tested_ticks_follow : TestedTicksFollow
+tested_ticks_follow input =
+    follows_tested (reader true) (ticking (reader false)) (puts_at_most (length input)) refl (λ _. 2) (λ _. 1) (start input) (start input, false)
+    (reader_lasts true)
+    (λ m right event is. let r = after (reader true) m (start input) in
+    at_most (length input) r.left r event (omega (arith, counts true input m)) is)
+    (ticks_follow input)

@@ -1,11 +1,12 @@
 -- What the theory proves of the small machines.
-use Rattle.std.specs.Prelude.{◌≡◌, ℕ, List, Bool, true, false, Some}
+use Rattle.std.specs.Prelude.{◌≡◌, ℕ, List, length, nat_le, Bool, true, false, Some}
 use Rattle.cmm_simulation.specs.Agreement.{Agrees}
 use Rattle.cmm_simulation.specs.Following.{Follows}
 use Rattle.cmm_simulation.specs.Machine.{after}
 use Rattle.cmm_simulation.specs.Reader.{reader, start}
-use Rattle.cmm_simulation.specs.Seen.{End}
+use Rattle.cmm_simulation.specs.Seen.{Event, Input, Client, End}
 use Rattle.cmm_simulation.specs.Simulation.{Simulates, Through}
+use Rattle.cmm_simulation.specs.Tested.{tested}
 use Rattle.cmm_simulation.specs.Ticking.{ticking}
 
 -- in lock-step, the reader that does not check for 0 simulates the one that does, in the same states
@@ -33,3 +34,14 @@ abbrev pub EndsOnce : Type 0
 EndsOnce = (checks : Bool) (input : List ℕ) (first second m n : ℕ) →
     (reader checks).asks (after (reader checks) m (start input)) ≡ Some (End first) →
     (reader checks).asks (after (reader checks) n (start input)) ≡ Some (End second) → first ≡ second
+
+-- an event of a reader that has been given so many numbers: it is over once it has put no more
+abbrev pub puts_at_most : ℕ → Event ℕ ℕ → Bool
+puts_at_most most (End count) = nat_le count most
+puts_at_most most Input = true
+puts_at_most most (Client call) = true
+
+-- Every reader ends with a count of at most the numbers given, so the unchecked one done in ticks is right also where it is tested for that.
+abbrev pub TestedTicksFollow : Type 0
+TestedTicksFollow = (input : List ℕ) →
+    Follows (reader true) (λ _. 2) (tested (puts_at_most (length input)) (ticking (reader false))) (λ _. 1) (start input) (start input, false)

@@ -6,4 +6,5 @@ pub mod Observing
 pub mod Reader
 pub mod Seen
 pub mod Simulation
+pub mod Tested
 pub mod Ticking
