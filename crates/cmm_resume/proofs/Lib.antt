@@ -8,3 +8,4 @@ pub mod Unwinds
 pub mod ReturnLaws
 pub mod CutLaws
 pub mod PokeLaws
+mod ResumeRows

@@ -6,4 +6,5 @@ pub mod Steps
 pub mod Writes
 pub mod VariableTexts
 pub mod WalkLaws
+mod WalkRows
 pub mod Shared

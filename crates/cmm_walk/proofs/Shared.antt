@@ -4,3 +4,4 @@ pub use Rattle.cmm_walk.proofs.Points.{fits_stack, frame_lies, lies_inside, plac
 pub use Rattle.cmm_walk.proofs.Places.{order_small, register_again, register_saved}
 pub use Rattle.cmm_walk.proofs.Variables.{place_at, shown_at, slot_fits, variable_shown}
 pub use Rattle.cmm_walk.proofs.Steps.{left_of, nearer, returns_there}
+pub use Rattle.cmm_walk.proofs.WalkRows.{at_yield, leaf_activation, main_activation, region}

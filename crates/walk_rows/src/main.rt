@@ -20,17 +20,31 @@ use stopped::Stopped;
 fn main(rt: HostRuntime) -> io::Result<()> {
     let mut stopped: Option<Stopped> = None;
     for line in rt.lines(rt.alloc()) {
-        let line = line?;
-        match line.as_str().strip_prefix("image ") {
-            Some(digits) => stopped = image_of(rt.alloc(), digits)?,
-            None => {
-                println!(rt; "{}", line.as_str())?;
-                if let Some(it) = &mut stopped {
-                    print_call(&rt, it, line.as_str())?;
-                }
+        do_line(&rt, &mut stopped, line?.as_str())?;
+    }
+    Ok(())
+}
+
+/// Takes the image of a line, or prints what the line says and what comes of it.
+fn do_line(
+    rt: &(impl AllocGlobal + Print),
+    stopped: &mut Option<Stopped>,
+    line: &str,
+) -> io::Result<()> {
+    match line.strip_prefix("image ") {
+        Some(digits) => take_image(rt.alloc(), stopped, digits),
+        None => {
+            println!(rt; "{line}")?;
+            match stopped {
+                Some(it) => print_call(rt, it, line),
+                None => Ok(()),
             }
         }
     }
+}
+
+fn take_image(alloc: Global, stopped: &mut Option<Stopped>, digits: &str) -> io::Result<()> {
+    *stopped = image_of(alloc, digits)?;
     Ok(())
 }
 
