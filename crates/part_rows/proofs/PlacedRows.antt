@@ -1,12 +1,10 @@
 -- The program that tests of placements are made with: it is in range.
-use Rattle.std.proofs.Common.{◌≡◌, refl, sym, ap, ap₂, ◌∙◌, [], ◌∷◌, Result, Ok, Err, IfOk, arith}
-use Rattle.std.proofs.lemmas.List.Elements.{All-nil, All-cons}
-use Rattle.std.proofs.lemmas.Option.{same_Some}
+use Rattle.std.proofs.Common.{◌≡◌, refl, ap₂, ◌∙◌, [], ◌∷◌, Result, Ok, Err, IfOk}
 use Rattle.std.specs.declared.alloc.AllocError.{AllocError}
 use Rattle.cmm_program.specs.declared.statement.Form.TheVariants as f
 use Rattle.cmm_program.specs.declared.procedure.Proc.{Proc}
 use Rattle.cmm_program.specs.declared.program.Program.{Program}
-use Rattle.cmm_program.specs.InRange.{IsInRange, IsProcInRange}
+use Rattle.cmm_program.specs.InRange.{IsInRange}
 use Rattle.cmm_program.proofs.Shared.{opened, continuation, is, procedure, program, program_in_range, stack_bytes, stack_label}
 
 --     main() {}
