@@ -11,10 +11,9 @@ ghost use Rattle.cmm_typing.specs.Fitting.{AreWords};
 
 use crate::declaring::{note_formals, note_local};
 use crate::statement::note_statement;
-use cmm_ast::Proc;
-use cmm_proc_scope::{BodyNames, names_of};
+use cmm_proc_scope::{BodyNames, ProcNames};
 use cmm_static_semantics::Spot;
-use cmm_symbols::{Piece, pieces_of};
+use cmm_symbols::Piece;
 use cmm_typing::Names;
 use std::alloc::{AllocError, Global};
 
@@ -22,7 +21,7 @@ use std::alloc::{AllocError, Global};
 pub fn note_part<'a, N: Names>(
     alloc: Global,
     names: &BodyNames<'a, N>,
-    piece: Piece<'a>,
+    piece: Piece<'_>,
     best: &mut Option<Spot>,
 ) -> Result<(), AllocError>
     requires { AreWords (senses (scope_of_body N.senses names.now)) }
@@ -40,7 +39,7 @@ pub fn note_part<'a, N: Names>(
 fn note_parts<'a, N: Names>(
     alloc: Global,
     names: &BodyNames<'a, N>,
-    pieces: &[Piece<'a>],
+    pieces: &[Piece<'_>],
     best: &mut Option<Spot>,
 ) -> Result<(), AllocError>
     requires { AreWords (senses (scope_of_body N.senses names.now)) }
@@ -53,17 +52,17 @@ fn note_parts<'a, N: Names>(
 }
 
 /// Notes which rules a procedure breaks among the names of its unit, the limits on a whole procedure left out. Fails only for want of memory.
-pub fn note_procedure<'a, N: Names>(
+pub fn note_procedure<N: Names>(
     alloc: Global,
-    outer: &'a N,
-    proc: &'a Proc,
+    own: &ProcNames<'_>,
+    outer: &N,
     best: &mut Option<Spot>,
 ) -> Result<(), AllocError>
     requires { AreWords (N.senses outer.now) }
-    ensures { OnOk result (best.new ≡ first_of best.old (rules.proc_spots (N.senses outer.now) proc.now)) }
+    ensures { OnOk result (best.new ≡ first_of best.old (rules.proc_spots (N.senses outer.now) own.now)) }
 {
-    let names = names_of(alloc, outer, proc, best)?;
-    note_formals(&names, proc.formals.as_slice(), best);
-    let pieces = pieces_of(alloc, &proc.body)?;
-    note_parts(alloc, &names, pieces.as_slice(), best)
+    let names = own.within(outer);
+    own.note_repeated(best);
+    note_formals(&names, own.tree().formals.as_slice(), best);
+    note_parts(alloc, &names, own.pieces(), best)
 }

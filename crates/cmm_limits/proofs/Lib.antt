@@ -1,4 +1,3 @@
-pub mod NamedVariables
 pub mod Rooms
 pub mod Counts
 pub mod Spans

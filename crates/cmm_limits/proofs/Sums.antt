@@ -1,5 +1,5 @@
 -- Sums that are capped, and sums over the procedures of a unit.
-use Rattle.std.proofs.Common.{◌≡◌, ℕ, ◌+◌, ◌-◌, ◌^◌, ◌<◌, length, map, min, take, get_or, refl, sym, ap, ◌∙◌, arith, List, [], ◌∷◌, ◌++◌}
+use Rattle.std.proofs.Common.{◌≡◌, ℕ, ◌+◌, ◌-◌, ◌^◌, ◌<◌, length, min, take, get_or, refl, sym, ap, ◌∙◌, arith, List, [], ◌∷◌, ◌++◌}
 use Rattle.std.proofs.Math.Nat.{zero-add}
 use Rattle.std.specs.Prelude.{flat_map}
 use Rattle.cmm_ast.specs.declared.expression.Expr.{Expr}
@@ -7,17 +7,17 @@ use Rattle.cmm_ast.specs.declared.expression.Primary.{Primary}
 use Rattle.cmm_ast.specs.declared.procedure.Proc.{Proc}
 use Rattle.cmm_ast.specs.declared.unit.Item.{Item}
 use Rattle.cmm_ast.specs.declared.unit.Item.TheVariants as items
-use Rattle.cmm_static_semantics.specs.Declarations.{NamedUnit, sum_of}
-use Rattle.cmm_static_semantics.specs.Items.{SpanTree, Within, item_within, parts_in}
+use Rattle.cmm_ast.specs.declared.unit.Unit.{Unit as UnitTree}
+use Rattle.cmm_static_semantics.specs.Declarations.{NamedUnit}
+use Rattle.cmm_static_semantics.specs.Items.{SpanTree, Within, item_within, items_of, parts_in}
 use Rattle.cmm_static_semantics.specs.Limits.{over_procs, site_tokens, site_variables, tokens_of}
 use Rattle.cmm_static_semantics.specs.Senses.{Senses}
 use Rattle.cmm_static_semantics.specs.Statements.{scope_of}
 use Rattle.cmm_static_semantics.proofs.Shared.{span_item_inside}
-use Rattle.cmm_symbols.specs.Shown.{alone, thing_item, whats}
-use Rattle.cmm_symbols.specs.declared.thing.Thing.{Thing}
-use Rattle.cmm_symbols.proofs.Shared.{flat_plain, mapped_next, sum_is}
+use Rattle.cmm_symbols.proofs.Shared.{flat_plain, taken}
+use Rattle.cmm_proc_scope.specs.Procs.{item_procs, procs_of_items}
 use Rattle.cmm_limits.specs.Capped.{capped}
-use Rattle.cmm_limits.specs.inside.OfUnits.{item_variables, spans_in}
+use Rattle.cmm_limits.specs.inside.OfUnits.{proc_variables, procs_variables, spans_in}
 
 regrouped : (a b c : ℕ) → a + (b + c) ≡ (a + b) + c
 regrouped a b c = omega arith
@@ -26,15 +26,8 @@ procs_append : (count : List SpanTree → Proc → ℕ) (xs ys : List (Within It
 procs_append count [] ys = omega arith
 procs_append count (x ∷ xs) ys = ap (λ n. elim x.what [ items.Proc p ↦ count x.spans p | _ ↦ 0 ] + n) (procs_append count xs ys) ∙ regrouped _ (over_procs count xs) (over_procs count ys)
 
-sum_append : (count : Item → ℕ) (xs ys : List (Within Item)) → sum_of count (xs ++ ys) ≡ sum_of count xs + sum_of count ys
-sum_append count [] ys = omega arith
-sum_append count (x ∷ xs) ys = ap (λ n. count x.what + n) (sum_append count xs ys) ∙ regrouped (count x.what) (sum_of count xs) (sum_of count ys)
-
-one_sum : (count : Item → ℕ) (x : Within Item) → sum_of count (x ∷ []) ≡ count x.what
-one_sum count x = plain (count x.what)
-  where
-    plain : (n : ℕ) → n + 0 ≡ n
-    plain n = omega arith
+one_sum : (n : ℕ) → n ≡ n + 0
+one_sum n = omega arith
 
 -- ---- what is capped
 
@@ -56,12 +49,14 @@ pub spans_next : {A : Type 0} (names : Senses) (f : A → List (Within Item)) (x
 spans_next names f xs i x so_far more within is e g =
     capped_more (spans_in names) (procs_append _) (flat_map f (take i xs)) (f x) (flat_map f (take (i + 1) xs)) so_far more (flat_plain f xs i x within is) e g
 
-pub variables_next : (ts : List Thing) (i : ℕ) (t : Thing) (so_far more : ℕ) → i < length ts → t ≡ get_or ts i t →
-    so_far ≡ capped (sum_of item_variables (map alone (take i ts))) → more ≡ capped (item_variables (thing_item t)) →
-    capped (so_far + more) ≡ capped (sum_of item_variables (map alone (take (i + 1) ts)))
-variables_next ts i t so_far more within is e g =
-    capped_more (sum_of item_variables) (sum_append item_variables) (map alone (take i ts)) (alone t ∷ []) (map alone (take (i + 1) ts)) so_far more (mapped_next alone ts i t within is) e
-    (g ∙ ap capped (sym (one_sum item_variables (alone t))))
+procs_variables_append : (xs ys : List Proc) → procs_variables (xs ++ ys) ≡ procs_variables xs + procs_variables ys
+procs_variables_append [] ys = omega arith
+procs_variables_append (x ∷ xs) ys = ap (λ n. proc_variables x + n) (procs_variables_append xs ys) ∙ regrouped (proc_variables x) (procs_variables xs) (procs_variables ys)
+
+pub variables_next : (ps : List Proc) (i : ℕ) (p : Proc) (so_far more : ℕ) → i < length ps → p ≡ get_or ps i p →
+    so_far ≡ capped (procs_variables (take i ps)) → more ≡ capped (proc_variables p) → capped (so_far + more) ≡ capped (procs_variables (take (i + 1) ps))
+variables_next ps i p so_far more within is e g =
+    capped_more procs_variables procs_variables_append (take i ps) (p ∷ []) (take (i + 1) ps) so_far more (taken ps i p within is) e (g ∙ ap capped (one_sum (proc_variables p)))
 
 -- ---- the items of a section
 
@@ -83,15 +78,15 @@ proc_item names spans i p is = ap (λ j. spans_in names (item_within spans j)) i
 
 -- ---- a whole unit
 
-item_more : (x : Item) (a b : ℕ) → a ≡ b → item_variables x + a ≡ elim x [ items.Proc p ↦ item_variables (items.Proc p) | _ ↦ 0 ] + b
-item_more (items.Proc p) a b e = ap (λ n. item_variables (items.Proc p) + n) e
-item_more (items.Decl d) a b e = ap (λ n. 0 + n) e
-item_more (items.Datum d) a b e = ap (λ n. 0 + n) e
-item_more (items.Span' t key value size inside) a b e = ap (λ n. 0 + n) e
-
-variables_are : (is : List (Within Item)) → sum_of item_variables is ≡ over_procs (λ spans p. item_variables (items.Proc p)) is
+variables_are : (is : List (Within Item)) → procs_variables (procs_of_items is) ≡ over_procs (λ spans p. proc_variables p) is
 variables_are [] = refl
-variables_are (i ∷ is) = item_more i.what (sum_of item_variables is) (over_procs (λ spans p. item_variables (items.Proc p)) is) (variables_are is)
+variables_are (i ∷ is) = procs_variables_append (item_procs i.what) (procs_of_items is) ∙ item_more i.what (procs_variables (procs_of_items is)) (over_procs (λ spans p. proc_variables p) is) (variables_are is)
+  where
+    item_more : (x : Item) (a b : ℕ) → a ≡ b → procs_variables (item_procs x) + a ≡ elim x [ items.Proc p ↦ proc_variables p | _ ↦ 0 ] + b
+    item_more (items.Proc p) a b e = ap (λ n. n + a) (sym (one_sum (proc_variables p))) ∙ ap (λ n. proc_variables p + n) e
+    item_more (items.Decl d) a b e = ap (λ n. 0 + n) e
+    item_more (items.Datum d) a b e = ap (λ n. 0 + n) e
+    item_more (items.Span' t key value size inside) a b e = ap (λ n. 0 + n) e
 
-pub unit_variables : (names : Senses) (u : NamedUnit) (ts : List Thing) → map thing_item ts ≡ whats u.items → sum_of item_variables (map alone ts) ≡ site_variables names u
-unit_variables names u ts same = sum_is item_variables ts u.items same ∙ variables_are u.items
+pub unit_variables : (names : Senses) (u : NamedUnit) (tree : UnitTree) → u.items ≡ items_of tree → procs_variables (procs_of_items (items_of tree)) ≡ site_variables names u
+unit_variables names u tree is = variables_are (items_of tree) ∙ ap (over_procs (λ spans p. proc_variables p)) (sym is)

@@ -1,4 +1,3 @@
-pub mod VariableNames
 pub mod Ends
 pub mod InForce
 pub mod OfUnits

@@ -1,7 +1,7 @@
 //! The limits on a procedure.
 #![tactic(auto, using(cmm_symbols::proofs::Shared::first_of_append))]
 
-ghost use Rattle.std.specs.Prelude.{◌≡◌, ◌+◌, ◌-◌, nat_le, map, OnOk};
+ghost use Rattle.std.specs.Prelude.{◌≡◌, ◌+◌, ◌-◌, nat_le, map};
 ghost use Rattle.cmm_static_semantics.specs.Expressions.{past_limit};
 ghost use Rattle.cmm_static_semantics.specs.Limits as limits;
 ghost use Rattle.cmm_static_semantics.specs.Scopes.{senses};
@@ -12,16 +12,13 @@ ghost use Rattle.cmm_rules.specs.declared.rule.Rule.TheVariants.{Limit};
 ghost use Rattle.cmm_proc_scope.specs.Bodies.{scope_of_body};
 ghost use Rattle.cmm_typing.specs.Fitting.{AreWords};
 
-use crate::stackdata::{note_rooms, rooms_of};
-use crate::variables::variables_of;
+use crate::stackdata::note_rooms;
 use cmm_ast::{Ident, Proc};
-use cmm_items::Items;
-use cmm_proc_scope::BodyNames;
+use cmm_proc_scope::{BodyNames, ProcNames};
 use cmm_rules::Rule;
 use cmm_static_semantics::Spot;
-use cmm_symbols::{pieces_of, unless};
+use cmm_symbols::unless;
 use cmm_typing::Names;
-use std::alloc::{AllocError, Global};
 
 /// How many tokens a procedure may have, from its name to its closing brace.
 const TOKENS_LIMIT: u32 = 131_072;
@@ -40,8 +37,8 @@ fn note_tokens(proc: &Proc, best: &mut Option<Spot>)
     }
 }
 
-/// Notes the first name past the limit on variables: rule 40.
-fn note_past_limit(names: &Items<&Ident>, best: &mut Option<Spot>)
+/// Notes the first variable past the limit: rule 40.
+fn note_variables(names: &[&Ident], best: &mut Option<Spot>)
     ensures { best.new ≡ first_of best.old (past_limit Limit 1024 (λ i. i.token) (map (λ v. v.now) names.now)) }
 {
     match names.get(VARIABLES_LIMIT) {
@@ -50,31 +47,17 @@ fn note_past_limit(names: &Items<&Ident>, best: &mut Option<Spot>)
     }
 }
 
-/// Notes that a procedure has too many variables: rule 40.
-fn note_variables(alloc: Global, proc: &Proc, best: &mut Option<Spot>) -> Result<(), AllocError>
-    ensures { OnOk result (best.new ≡ first_of best.old (past_limit Limit 1024 (λ d. d.name.token) (limits.variables proc.now))) }
-{
-    let names = variables_of(alloc, proc)?;
-    note_past_limit(&names, best);
-    Ok(())
-}
-
-/// Notes what a procedure has past a limit, rule 40: tokens, variables and stackdata. Its names mean what `names` tells. Fails only for want
-/// of memory.
+/// Notes what a procedure has past a limit, rule 40: tokens, variables and stackdata. Its names mean what `names` tells.
 pub fn note_limits<'a, N: Names>(
-    alloc: Global,
+    own: &ProcNames<'_>,
     names: &BodyNames<'a, N>,
-    proc: &Proc,
     best: &mut Option<Spot>,
-) -> Result<(), AllocError>
+)
     requires { AreWords (senses (scope_of_body N.senses names.now)) }
-    ensures { OnOk result ((outer : Senses) → scope_of_body N.senses names.now ≡ scope_of outer proc.now →
-        best.new ≡ first_of best.old (limits.proc_limits outer proc.now)) }
+    ensures { (outer : Senses) → scope_of_body N.senses names.now ≡ scope_of outer own.now →
+        best.new ≡ first_of best.old (limits.proc_limits outer own.now) }
 {
-    note_tokens(proc, best);
-    note_variables(alloc, proc, best)?;
-    let pieces = pieces_of(alloc, &proc.body)?;
-    let rooms = rooms_of(alloc, pieces.as_slice())?;
-    note_rooms(names, rooms.as_slice(), best);
-    Ok(())
+    note_tokens(own.tree(), best);
+    note_variables(own.variables(), best);
+    note_rooms(names, own.rooms(), best);
 }

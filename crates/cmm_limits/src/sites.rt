@@ -1,13 +1,13 @@
 //! The call sites of a procedure.
 
-ghost use Rattle.std.specs.Prelude.{◌≡◌, ◌≤◌, length, map, IfOk};
+ghost use Rattle.std.specs.Prelude.{◌≡◌, ◌≤◌, length, map};
 ghost use Rattle.cmm_static_semantics.specs.Items.{parts_of};
 ghost use Rattle.cmm_static_semantics.specs.Limits as limits;
 ghost use Rattle.cmm_symbols.specs.Shown.{piece_part};
 
-use cmm_ast::{Proc, StmtForm};
-use cmm_symbols::{Piece, pieces_of};
-use std::alloc::{AllocError, Global};
+use cmm_ast::StmtForm;
+use cmm_proc_scope::ProcNames;
+use cmm_symbols::Piece;
 
 /// Whether a statement is a call site.
 pub(crate) fn is_site(form: &StmtForm) -> bool
@@ -50,10 +50,9 @@ fn sites_in<'a>(pieces: &[Piece<'a>]) -> u64
     count
 }
 
-/// How many call sites a procedure has. Fails only for want of memory.
-pub fn site_count(alloc: Global, proc: &Proc) -> Result<u64, AllocError>
-    ensures { IfOk result (λ count. count ≡ limits.site_count (parts_of proc.now.body)) }
+/// How many call sites a procedure has.
+pub fn site_count(own: &ProcNames<'_>) -> u64
+    ensures { result ≡ limits.site_count (parts_of own.now.body) }
 {
-    let pieces = pieces_of(alloc, &proc.body)?;
-    Ok(sites_in(pieces.as_slice()))
+    sites_in(own.pieces())
 }

@@ -1,27 +1,24 @@
 //! Where the stackdata of a procedure ends. What is broken takes no room.
 #![tactic(auto, using(cmm_symbols::proofs::Shared::first_of_append))]
 
-ghost use Rattle.std.specs.Prelude.{◌≡◌, ◌*◌, ◌<◌, ◌≤◌, ◌∷◌, ◌++◌, [], ℕ, nat_le, map, flat_map, IfOk, OnOk};
+ghost use Rattle.std.specs.Prelude.{◌≡◌, ◌*◌, ◌<◌, ◌≤◌, ◌∷◌, [], ℕ, nat_le, map};
 ghost use Rattle.std.specs.Option.{ForSome};
 ghost use Rattle.cmm_static_semantics.specs.Limits as limits;
 ghost use Rattle.cmm_static_semantics.specs.Scopes.{senses, types};
 ghost use Rattle.cmm_static_semantics.specs.Spots.{first_of, unless};
-ghost use Rattle.cmm_limits.specs.inside.Ends.{IsWithin, form_piece, rooms_in};
+ghost use Rattle.cmm_limits.specs.inside.Ends.{IsWithin, form_piece};
 ghost use Rattle.cmm_limits.specs.Rooms.{words_in};
-ghost use Rattle.cmm_symbols.specs.Shown.{piece_part};
 ghost use Rattle.cmm_program.specs.Layout.{aligned_up, end_of};
 ghost use Rattle.cmm_rules.specs.declared.rule.Rule.TheVariants.{Limit};
 ghost use Rattle.cmm_proc_scope.specs.Bodies.{scope_of_body};
 ghost use Rattle.cmm_typing.specs.Fitting.{AreWords};
 
-use cmm_ast::{Expr, Int, LocalForm, Room, RoomForm, TypeName};
-use cmm_items::Items;
+use cmm_ast::{Expr, Int, Room, RoomForm, TypeName};
 use cmm_proc_scope::BodyNames;
 use cmm_rules::Rule;
 use cmm_static_semantics::Spot;
-use cmm_symbols::{Piece, unless};
+use cmm_symbols::unless;
 use cmm_typing::{Names, is_alignment, number_of, width_of};
-use std::alloc::{AllocError, Global};
 
 /// The most bytes that the stackdata of a procedure may have, with its padding: 64 KiB.
 const STACKDATA_LIMIT: u64 = 0x1_0000;
@@ -113,45 +110,6 @@ fn after_any<'a, N: Names>(names: &BodyNames<'a, N>, room: &Room, place: Option<
         Some(place) => after_room(names, &room.form, place),
         None => None,
     }
-}
-
-fn add_each<'a>(rooms: &'a [Room], to: &mut Items<&'a Room>) -> Result<(), AllocError>
-    ensures { OnOk result (map (λ r. r.now) to.new ≡ map (λ r. r.now) to.old ++ rooms.now) }
-{
-    for room in rooms {
-        to.push(room)?;
-    }
-    Ok(())
-}
-
-fn add_local<'a>(form: &'a LocalForm, to: &mut Items<&'a Room>) -> Result<(), AllocError>
-    ensures { OnOk result (map (λ r. r.now) to.new ≡ map (λ r. r.now) to.old ++ rooms_in form.now) }
-{
-    match form {
-        LocalForm::Stackdata(rooms) => add_each(rooms.as_slice(), to),
-        LocalForm::Variables { .. } => Ok(()),
-    }
-}
-
-/// Adds the rooms that a piece of a body declares.
-fn add_declared<'a>(piece: Piece<'a>, to: &mut Items<&'a Room>) -> Result<(), AllocError>
-    ensures { OnOk result (map (λ r. r.now) to.new ≡ map (λ r. r.now) to.old ++ limits.local_rooms (piece_part piece.entry)) }
-{
-    match piece {
-        Piece::Local(local) => add_local(&local.form, to),
-        Piece::Stmt(_) => Ok(()),
-    }
-}
-
-/// The rooms of a procedure, in textual order.
-pub fn rooms_of<'a>(alloc: Global, pieces: &[Piece<'a>]) -> Result<Items<&'a Room>, AllocError>
-    ensures { IfOk result (λ rooms. map (λ r. r.now) rooms ≡ flat_map limits.local_rooms (map piece_part pieces.now)) }
-{
-    let mut rooms = Items::new(alloc);
-    for piece in pieces {
-        add_declared(*piece, &mut rooms)?;
-    }
-    Ok(rooms)
 }
 
 /// Notes each room that ends past the limit: rule 40.

@@ -1,9 +1,6 @@
 -- Where stackdata ends, unless that is past the limit.
-use Rattle.std.specs.Prelude.{ℕ, ◌≤◌, List, [], Option}
+use Rattle.std.specs.Prelude.{ℕ, ◌≤◌, Option}
 use Rattle.std.specs.Option.{SomeIff}
-use Rattle.cmm_ast.specs.declared.procedure.LocalForm.{LocalForm}
-use Rattle.cmm_ast.specs.declared.procedure.LocalForm.TheVariants as locals
-use Rattle.cmm_ast.specs.declared.procedure.Room.{Room}
 use Rattle.cmm_ast.specs.declared.procedure.RoomForm.{RoomForm}
 use Rattle.cmm_ast.specs.declared.procedure.RoomForm.TheVariants as rooms
 use Rattle.cmm_program.specs.Layout.{Piece}
@@ -20,7 +17,3 @@ abbrev pub form_piece : Scope → RoomForm → Piece
 form_piece s (rooms.Label name) = align_piece 1
 form_piece s (rooms.Align k) = align_piece k.value
 form_piece s (rooms.Data width count) = piece_of (bytes_of (types s) width) (words_in (senses s) count)
-
-abbrev pub rooms_in : LocalForm → List Room
-rooms_in (locals.Stackdata rs) = rs
-rooms_in (locals.Variables before width names) = []
