@@ -346,6 +346,30 @@ def kind_text(kind):
 
 GENERATED = [0, 7, 999, 1000, 123456, 999999999]
 
+# Lines of the unit for 7, counted from 1 and written by hand: the second generator has to make them too.
+LINES = {
+    1: "export main;",
+    3: "main() { bits64 r; r = p0(7); return (r); }",
+    4: "w(bits64 x, bits64 k) { cut to k(x); }",
+    5: "p0(bits64 x) { bits64 r; r = p1(x + bits64[t + 0]); return (r); }",
+    6: "p1(bits64 x) { jump p2(x + bits64[t + 8]); }",
+    7: "p2(bits64 x) { bits64 r; r = p3(x + bits64[t + 16]) also returns to k; return (r); continuation k(r): return (r); }",
+    8: "p3(bits64 x) { bits64 r; r = w(x + bits64[t + 24], k) also cuts to k; return <1/1> (r); continuation k(r): r = p4(r); return <0/1> (r); }",
+    1006: "p1001(bits64 x) { jump p1002(x + bits64[t + 8008]); }",
+    2004: "p1999(bits64 x) { bits64 r; r = w(x + bits64[t + 15992], k) also cuts to k; return <1/1> (r); continuation k(r): r = p2000(r); return <0/1> (r); }",
+    2005: "p2000(bits64 x) { return (x); }",
+}
+TABLE = ('section "data" { t: bits64 { 7, 8, 9, 10, 11, 12, ', "998, 999, 0, 1, 2", ", 998, 999, 0, 1, 2, 3, 4, 5, 6 }; }")
+
+
+def check_lines():
+    lines = generated_unit.unit(7).decode().split("\n")
+    front, inside, end = TABLE
+    is_table = lines[1].startswith(front) and inside in lines[1] and lines[1].endswith(end)
+    wrong = [number for number, line in LINES.items() if lines[number - 1] != line]
+    if wrong or not is_table or lines[2005:] != [""]:
+        sys.exit(f"generated_unit.py makes other lines: {wrong}")
+
 
 def generated_case(number):
     unit = generated_unit.unit(number)
@@ -668,6 +692,7 @@ def files():
 
 
 def main(words):
+    check_lines()
     differ = []
     for path, text in files():
         if words == ["--check"]:
