@@ -120,6 +120,7 @@ use Rattle.cmm_words.specs.declared.operators.Cmp.TheVariants.{Eq, Ne, Lt, Ge, L
 use Rattle.rv_table.specs.Stands.{code_of}
 use Rattle.rv_asm.specs.inside.Forms.{instructions, number_of, unfilled}
 use Rattle.rv_asm.specs.declared.part.Label.{Label}
+use Rattle.rv_asm.specs.declared.part.Meaning.{Meaning}
 use Rattle.rv_asm.specs.declared.part.Meaning.TheVariants.{Inner}
 use Rattle.rv_asm.specs.declared.part.Part.{Part}
 use Rattle.rv_asm.specs.declared.part.Part.TheVariants.{Branch, Jump, Call, Address, Table}
