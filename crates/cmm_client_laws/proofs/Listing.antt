@@ -1,4 +1,4 @@
--- What the walk over places lists depends on procedures and sites alone.
+-- What the walk over locations lists depends on procedures and sites alone.
 use Rattle.std.proofs.Common.{◌≡◌, ℕ, zero, suc, ◌+◌, ◌≤◌, Bool, List, [], ◌∷◌, length, refl, sym, ap, ◌∙◌, arith}
 use Rattle.cmm_chain.specs.Contents.{Content, ReturnTo, LastReturn, Contents}
 use Rattle.cmm_chain.specs.Plans.{Plan}

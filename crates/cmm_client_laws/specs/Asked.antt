@@ -46,7 +46,8 @@ module _ (s : Setting) (c : Compiled) (y : Symbols) (i : ImageParts) where
     Alternate : (p : Proc) (site : Site) (number n k : ℕ) → procedure_at s at.procedure ≡ Some p → slice_get p.sites number ≡ Some site →
         slice_get site.returns n ≡ Some k → landing_in c.graphs at.procedure k ≡ Some at.node → t.pc ≡ y.return_to at.procedure number + 4 * n → IsAtExit at t
     Normal : (p : Proc) (site : Site) (number : ℕ) (out : Exits) → procedure_at s at.procedure ≡ Some p → slice_get p.sites number ≡ Some site →
-        site_exits c.graphs at.procedure number ≡ Some out → out.normal ≡ Some at.node → t.pc ≡ y.return_to at.procedure number + 4 * length site.returns → IsAtExit at t
+        site_exits c.graphs at.procedure number ≡ Some out → out.normal ≡ Some at.node → t.pc ≡ y.return_to at.procedure number + 4 * length site.returns →
+        IsAtExit at t
     Landing : (k : ℕ) → landing_in c.graphs at.procedure k ≡ Some at.node → t.pc ≡ y.landing_of at.procedure k → IsAtExit at t
 
   -- the program goes on alike

@@ -49,7 +49,8 @@ pub record IsTold (s : Setting) (c : Compiled) (y : Symbols) (l : Launch) : Type
 
 -- what holds of a stopped program and of what represents it
 abbrev pub OfStopped : ((s : Setting) (c : Compiled) (y : Symbols) (l : Launch) → Located → rv.State → Type 0) → Type 0
-OfStopped P = (s : Setting) (c : Compiled) (y : Symbols) (l : Launch) (at : Located) (t : rv.State) → IsTold s c y l → IsStoppedAs s c y l.image at t → P s c y l at t
+OfStopped P = (s : Setting) (c : Compiled) (y : Symbols) (l : Launch) (at : Located) (t : rv.State) → IsTold s c y l → IsStoppedAs s c y l.image at t →
+    P s c y l at t
 
 -- ---- what the client is shown
 
@@ -90,7 +91,8 @@ EventsFit = (s : Setting) (st : State Todo) → IsSound s st → (event : Event 
 -- Where the test of a yield has passed, and the values of the walk fit, the stack is the chain of the activations, and what is live in each fits.
 abbrev pub FittingIsWalked : Type 0
 FittingIsWalked = (s : Setting) (c : Compiled) (at : Located) → is_walkable s c at.holdings.contents at.store.activations at.holdings.point ≡ true →
-    walk_fits (walk_of s (shown s c at)) ≡ true → at.holdings.temps ≡ none_known → (suspended : List Suspension) × IsWalked s c at.holdings at.store.activations suspended
+    walk_fits (walk_of s (shown s c at)) ≡ true → at.holdings.temps ≡ none_known →
+    (suspended : List Suspension) × IsWalked s c at.holdings at.store.activations suspended
 
 -- ---- tables
 

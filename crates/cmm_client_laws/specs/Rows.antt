@@ -57,7 +57,8 @@ pub record HaveSiteRows (s : Setting) (c : Compiled) (y : Symbols) (rows : List 
   pub each : (q n : ℕ) (p : Proc) (site : Site) → procedure_at s q ≡ Some p → slice_get p.sites n ≡ Some site →
       (k : ℕ) × (slice_get rows k ≡ Some (site_row s c y q n p site))
   pub few : (q n : ℕ) (p : Proc) (site : Site) → procedure_at s q ≡ Some p → slice_get p.sites n ≡ Some site → length site.results ≤ 64
-  pub cuts : (q n : ℕ) (p : Proc) (site : Site) → procedure_at s q ≡ Some p → slice_get p.sites n ≡ Some site → list_all (λ k. nat_lt k (length p.conts)) site.cuts ≡ true
+  pub cuts : (q n : ℕ) (p : Proc) (site : Site) → procedure_at s q ≡ Some p → slice_get p.sites n ≡ Some site →
+      list_all (λ k. nat_lt k (length p.conts)) site.cuts ≡ true
 
 -- ---- procedures, as cmm_link makes their rows
 

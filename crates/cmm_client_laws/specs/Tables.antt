@@ -71,7 +71,8 @@ pub record IsProcedureRow (p : Proc) (f : Frame) (y : Symbols) (q : ℕ) (row : 
   pub return_at : row.return_at ≡ Some f.return_at
   pub saved : row.saved ≡ map saved_row f.saved
   pub variables : row.variables ≡ map variable_row p.vars
-  pub continuations : (k : ℕ) (cont : Cont) → slice_get p.conts k ≡ Some cont → (c : ContinuationRow) × (slice_get row.continuations k ≡ Some c) × IsContinuationRow f y q k cont c
+  pub continuations : (k : ℕ) (cont : Cont) → slice_get p.conts k ≡ Some cont →
+      (c : ContinuationRow) × (slice_get row.continuations k ≡ Some c) × IsContinuationRow f y q k cont c
   pub no_more : (k : ℕ) → slice_get p.conts k ≡ None → slice_get row.continuations k ≡ None
 
 -- ---- sites

@@ -31,4 +31,5 @@ module _ (s : Setting) (c : Compiled) (y : Symbols) (i : ImageParts) where
   pub data IsClientDone (at : Located) (run : Run) : Type 0 where
     GoesOn : run.status ≡ Running → at.store.status ≡ program.Running → IsResumedAs s c y i at run.machine → at.store.log ≡ run.log → IsClientDone at run
     GoesWrong : (e : UncheckedError) → at.store.status ≡ program.Wrong e → IsClientDone at run
-    IsOver : run.status ≡ Ended program.Stopped → at.store.status ≡ program.Ended program.Stopped → IsStoppedAs s c y i at run.machine → at.store.log ≡ run.log → IsClientDone at run
+    IsOver : run.status ≡ Ended program.Stopped → at.store.status ≡ program.Ended program.Stopped → IsStoppedAs s c y i at run.machine →
+        at.store.log ≡ run.log → IsClientDone at run

@@ -12,8 +12,8 @@ use Rattle.cmm_machine_laws.specs.Observed.{Call, Ending, MachineLasts, machine_
 use Rattle.cmm_located.specs.LocatedMachine.{located_machine}
 use Rattle.cmm_client_laws.specs.Fits.{event_fits}
 use Rattle.cmm_client_laws.proofs.Events.{sound_events_fit}
-use Rattle.cmm_yield_laws.proofs.Testing.{follows_tested}
-use Rattle.cmm_yield_laws.specs.Tested.{tested}
+use Rattle.cmm_simulation.proofs.Testing.{follows_tested}
+use Rattle.cmm_simulation.specs.Tested.{tested}
 use Rattle.cmm_yield_laws.specs.Laws.{FittingRunsFollow}
 
 module _ (are_sound : StatesAreSound) (lasts : MachineLasts) (s : Setting) (set : IsSetUp s) (input : List ℕ) (bytes : All IsByte input) where

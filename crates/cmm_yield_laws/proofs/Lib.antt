@@ -1,5 +1,5 @@
-pub mod Testing
 pub mod Yields
 pub mod Served
 pub mod Simulating
 pub mod Composing
+pub mod Agreeing

@@ -39,7 +39,7 @@ use Rattle.cmm_emit_laws.specs.Finished.{Finished, code_of}
 use Rattle.cmm_emit_laws.specs.Laws.{most_for_step}
 use Rattle.cmm_emit_laws.specs.ProgramCode.{IsLaidFor, is_coded}
 use Rattle.cmm_emit_laws.specs.Standing.{IsInBody, IsInside, IsOfRun, Stands, outside_at, status_of}
-use Rattle.cmm_yield_laws.specs.Tested.{fails, tested}
+use Rattle.cmm_simulation.specs.Tested.{fails, tested}
 use Rattle.cmm_yield_laws.proofs.Served.{answer_is_of_run, event_is, waiting_done}
 use Rattle.cmm_yield_laws.proofs.Yields.{yield_done, yield_makes}
 use Rattle.cmm_yield_laws.specs.Laws.{ImagesSimulateYields, fitting_machine}

@@ -57,7 +57,7 @@ use Rattle.cmm_emit_laws.proofs.Operands.{operand_is}
 use Rattle.cmm_emit_laws.specs.Finished.{Finished}
 use Rattle.cmm_emit_laws.specs.ProgramCode.{IsLaidFor}
 use Rattle.cmm_emit_laws.specs.Standing.{IsInBody, IsOfRun, Stands, outside_at, status_of}
-use Rattle.cmm_yield_laws.specs.Tested.{fails}
+use Rattle.cmm_simulation.specs.Tested.{fails}
 use Rattle.cmm_yield_laws.specs.Standing.{StandsOrWaits}
 use Rattle.cmm_yield_laws.specs.Yielding.{AreNumbersOf, HaveYields, YieldCode}
 

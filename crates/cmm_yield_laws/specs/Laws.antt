@@ -1,24 +1,29 @@
 -- The image follows the located machine with its yields, wherever what an event shows fits its widths.
-use Rattle.std.specs.Prelude.{ℕ, List}
+use Rattle.std.specs.Prelude.{◌≡◌, ℕ, ◌+◌, ◌*◌, ◌≤◌, ◌++◌, false, List, Some}
 use Rattle.std.specs.List.{All}
 use Rattle.cmm_simulation.specs.Following.{Follows}
-use Rattle.cmm_simulation.specs.Machine.{Machine}
+use Rattle.cmm_simulation.specs.Machine.{Machine, after}
+use Rattle.cmm_simulation.specs.Seen.{Client, IsPrefix}
 use Rattle.cmm_simulation.specs.Simulation.{Simulates}
-use Rattle.cmm_yield_laws.specs.Tested.{tested}
+use Rattle.cmm_simulation.specs.Tested.{tested}
+use Rattle.cmm_script.specs.Lines.{yield_line}
+use Rattle.cmm_script.specs.Walk.{Activation}
 use Rattle.cmm_program.specs.Control.{State}
 use Rattle.cmm_program.specs.Machine.{start}
 use Rattle.cmm_program.specs.State.{Setting}
 use Rattle.cmm_program.specs.Todo.{Todo, todo_control}
 use Rattle.cmm_machine_laws.specs.Fitting.{IsByte, IsSetUp}
 use Rattle.cmm_machine_laws.specs.Observed.{Call, Ending, machine_of}
-use Rattle.cmm_image_machine.specs.Machine.{Launch, Run}
+use Rattle.cmm_image_machine.specs.Machine.{Launch, Run, first_run}
 use Rattle.cmm_image_machine.specs.Observed.{image_machine}
 use Rattle.cmm_located.specs.Compiled.{Compiled, Located}
-use Rattle.cmm_located.specs.LocatedMachine.{located_machine}
+use Rattle.cmm_located.specs.LocatedMachine.{located_machine, located_start, located_step, tokens_at}
+use Rattle.cmm_emit_laws.specs.Agreeing.{AgreesOnceBegun}
 use Rattle.cmm_emit_laws.specs.Finished.{Finished}
 use Rattle.cmm_emit_laws.specs.Laws.{most_for_step}
 use Rattle.cmm_emit_laws.specs.Serving.{IsRepresentedBy}
 use Rattle.cmm_emit_laws.specs.Standing.{IsOfRun, outside_at}
+use Rattle.cmm_emit_laws.specs.Starting.{StartCode}
 use Rattle.cmm_client_laws.specs.Fits.{event_fits}
 use Rattle.cmm_yield_laws.specs.Standing.{StandsOrWaits}
 use Rattle.cmm_yield_laws.specs.WholeCode.{IsWholeCode}
@@ -42,3 +47,25 @@ abbrev pub FittingRunsFollow : Type 0
 FittingRunsFollow = (s : Setting) → IsSetUp s → (c : Compiled) (input : List ℕ) → All IsByte input → (a : State Todo → ℕ) (b : Located → ℕ) (at : Located) →
     let machine = machine_of (todo_control s.program) s in
     Follows machine a (located_machine s c) b (start s input) at → Follows machine a (fitting_machine s c) b (start s input) at
+
+-- Where the located machine follows the C-- machine from behind its first step, the image agrees with the C-- machine, clients and all, at 32 instructions
+-- for each token that a step costs over locations.
+abbrev pub ImagesAgreeWithClients : Type 0
+ImagesAgreeWithClients = (s : Setting) → IsSetUp s → (c : Compiled) (l : Launch) (f : Finished) → IsWholeCode s c l f → (begins : StartCode s c l f) →
+    (input : List ℕ) → All IsByte input →
+    (cost : ℕ) → let machine = machine_of (todo_control s.program) s in let first = located_start s c input in
+    Follows machine (λ _. cost) (located_machine s c) (tokens_at s c) (start s input) (located_step s c first) → begins.most + 32 * tokens_at s c first ≤ 32 * cost →
+    AgreesOnceBegun machine (image_machine l) (32 * cost) (start s input) (first_run l input)
+
+-- And where the C-- machine waits for the client after m steps, the image has the line of the yield in its log once m + 1 steps are paid for, if the start
+-- leaves one instruction.
+abbrev pub LinesAreThere : Type 0
+LinesAreThere = (s : Setting) → IsSetUp s → (c : Compiled) (l : Launch) (f : Finished) → IsWholeCode s c l f → (begins : StartCode s c l f) →
+    (input : List ℕ) → All IsByte input →
+    (cost : ℕ) → let machine = machine_of (todo_control s.program) s in let first = located_start s c input in
+    Follows machine (λ _. cost) (located_machine s c) (tokens_at s c) (start s input) (located_step s c first) →
+    begins.most + 32 * tokens_at s c first + 1 ≤ 32 * cost →
+    (m : ℕ) → machine.wrong (after machine m (start s input)) ≡ false → (call : Call) (walk : List Activation) →
+    machine.asks (after machine m (start s input)) ≡ Some (Client call) →
+    call.walk ≡ Some walk →
+    IsPrefix ((machine.seen (after machine m (start s input))).log ++ yield_line call.values) (after (image_machine l) (32 * cost * (m + 1)) (first_run l input)).log

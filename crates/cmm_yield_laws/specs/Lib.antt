@@ -1,4 +1,3 @@
-pub mod Tested
 pub mod Yielding
 pub mod Standing
 pub mod WholeCode

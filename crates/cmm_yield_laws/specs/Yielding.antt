@@ -52,7 +52,8 @@ module _ (s : Setting) (c : Compiled) (l : Launch) (f : Finished) where
 
 -- a node that yields does so with as many values as its site says
 abbrev pub HaveYields : Setting → Compiled → Type 0
-HaveYields s c = (q : ℕ) (n : NodeId) (site : SiteId) (values : List Operand) (exits : Exits) (p : Proc) (here : Site) → kind_at c.graphs q n ≡ node.Yield site values exits →
+HaveYields s c = (q : ℕ) (n : NodeId) (site : SiteId) (values : List Operand) (exits : Exits) (p : Proc) (here : Site) →
+    kind_at c.graphs q n ≡ node.Yield site values exits →
     procedure_at s q ≡ Some p → slice_get p.sites site.number ≡ Some here → here.yield_values ≡ Some (length values)
 
 -- each site of a procedure has a node with its alternate exits

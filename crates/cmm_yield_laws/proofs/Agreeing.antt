@@ -1,0 +1,150 @@
+-- The image agrees with a machine that the located machine follows, with its yields and its client.
+use Rattle.std.proofs.Common.{◌≡◌, inl, ℕ, zero, suc, ◌+◌, ◌-◌, ◌*◌, ◌≤◌, ◌<◌, ◌++◌, false, List, Option, Some, None, refl, sym, ◌∙◌, ap, subst, arith}
+use Rattle.std.specs.List.{All}
+use Rattle.std.proofs.lemmas.Bool.{or_from, or_parts}
+use Rattle.cmm_simulation.proofs.Paths.{joined, weaker}
+use Rattle.cmm_simulation.proofs.Prefixes.{within_trans}
+use Rattle.cmm_simulation.proofs.Runs.{right_until}
+use Rattle.cmm_simulation.proofs.Scaling.{follows_scaled}
+use Rattle.cmm_simulation.specs.Following.{Follows}
+use Rattle.cmm_simulation.specs.Machine.{Machine, Lasts, after}
+use Rattle.cmm_simulation.specs.Observing.{Level, Passes}
+use Rattle.cmm_simulation.specs.Seen.{Seen, Event, Client, IsPrefix, IsWithin, but_input}
+use Rattle.cmm_simulation.specs.Simulation.{Leads}
+use Rattle.cmm_script.specs.Lines.{yield_line}
+use Rattle.cmm_script.specs.Walk.{Activation}
+use Rattle.cmm_program.specs.Machine.{start as start_of}
+use Rattle.cmm_program.specs.State.{Setting}
+use Rattle.cmm_program.specs.Todo.{todo_control}
+use Rattle.cmm_machine_laws.specs.Fitting.{IsByte, StatesAreSound}
+use Rattle.cmm_machine_laws.specs.Observed.{Call, Ending, MachineLasts, machine_of}
+use Rattle.cmm_select.specs.Laws.{SwitchesLead}
+use Rattle.cmm_image_machine.specs.Laws.{ImagesLast}
+use Rattle.cmm_image_machine.specs.Machine.{Launch, Run, first_run}
+use Rattle.cmm_image_machine.specs.Observed.{image_machine}
+use Rattle.cmm_located.specs.Compiled.{Compiled, Located}
+use Rattle.cmm_located.specs.LocatedMachine.{located_machine, located_start, located_step, tokens_at}
+use Rattle.cmm_emit_laws.proofs.Agreeing.{first_asks, first_shows}
+use Rattle.cmm_emit_laws.proofs.Beginning.{nothing_within, shown_at_start}
+use Rattle.cmm_emit_laws.proofs.OnceBegun.{agrees_once_begun, stands_soon}
+use Rattle.cmm_emit_laws.specs.Agreeing.{AgreesOnceBegun, Precedes}
+use Rattle.cmm_emit_laws.specs.Finished.{Finished}
+use Rattle.cmm_emit_laws.specs.Laws.{IsRepresentedIn, most_for_step}
+use Rattle.cmm_emit_laws.specs.Starting.{StartCode}
+use Rattle.cmm_client_laws.proofs.Lines.{lines_come_soon}
+use Rattle.cmm_client_laws.specs.Fits.{event_fits}
+use Rattle.cmm_yield_laws.proofs.Simulating.{images_simulate_yields}
+use Rattle.cmm_simulation.proofs.Composing.{follows_simulated}
+use Rattle.cmm_yield_laws.proofs.Composing.{fits_follow}
+use Rattle.cmm_yield_laws.specs.Laws.{ImagesAgreeWithClients, IsRepresentedWhole, LinesAreThere, fitting_machine}
+use Rattle.cmm_simulation.specs.Tested.{fails}
+use Rattle.cmm_yield_laws.specs.WholeCode.{IsWholeCode}
+
+module _ (lead : SwitchesLead) (images : ImagesLast) (s : Setting) (c : Compiled) (l : Launch) (f : Finished) (code : IsWholeCode s c l f) (input : List ℕ) (is_bytes : All IsByte input)
+    (begins : StartCode s c l f) where
+  abbrev start : Located
+  start = located_start s c input
+
+  -- ---- the start
+
+  starts : (u : Run) → IsRepresentedIn s c l f (located_start s c input) u → IsRepresentedWhole s c l f (located_start s c input) u
+  starts u shown = record {
+    outside = shown.outside;
+    right = or_from ((located_machine s c).wrong (located_start s c input)) (fails event_fits ((located_machine s c).asks (located_start s c input))) shown.right
+        (ap (λ (o : Option (Event Call Ending)). fails event_fits o) (first_asks s c l f code.around input is_bytes begins));
+    holds = shown.holds;
+    running = λ going. inl (shown.running going);
+    over = shown.over;
+  }
+
+  passed : (u : Run) → Passes (located_machine s c) (image_machine l) (located_start s c input) u → Passes (fitting_machine s c) (image_machine l) (located_start s c input) u
+  passed u p = record {
+    seen = p.seen;
+    asks = p.asks;
+    right = λ fine. p.right (or_parts ((located_machine s c).wrong (located_step s c (located_start s c input)))
+        (fails event_fits ((located_machine s c).asks (located_step s c (located_start s c input)))) fine).0;
+  }
+
+  pub whole_begins : Leads (image_machine l) (λ run. 1) (Passes (fitting_machine s c) (image_machine l) (located_start s c input))
+      (IsRepresentedWhole s c l f (located_start s c input)) 0 begins.most (first_run l input)
+  whole_begins = weaker (shown_at_start s c l f code.around input is_bytes begins) passed starts (omega arith) (λ n le. le)
+
+  -- ---- a machine that is followed over locations, once `main` is entered
+
+  module _ {S : Type 0} (A : Machine S ℕ Call Ending) (a : S) (cost : ℕ) (lasts : Lasts A)
+      (follows : Follows A (λ _. cost) (fitting_machine s c) (tokens_at s c) a (located_step s c (located_start s c input)))
+      (soon : begins.most + 32 * tokens_at s c (located_start s c input) ≤ 32 * cost) where
+    -- before the first step nothing is passed
+    right_at_first : A.wrong a ≡ false → (fitting_machine s c).wrong (located_step s c (located_start s c input)) ≡ false
+    right_at_first right =
+        let path = follows.leads 0 right in by path.steps path.through path.arrives
+      where
+        by : (n : ℕ) → ((k : ℕ) → k < n → (i : ℕ) × (i < 0) × Passes A (fitting_machine s c) (after A i a) (after (fitting_machine s c) k (located_step s c (located_start s c input)))) →
+            Level A (fitting_machine s c) a (after (fitting_machine s c) n (located_step s c (located_start s c input))) →
+            (fitting_machine s c).wrong (located_step s c (located_start s c input)) ≡ false
+        by zero through level = sym level.wrong ∙ right
+        by (suc n) through level = let none = through 0 (omega arith) in absurd (omega (arith, none.1))
+
+    precedes : A.wrong a ≡ false → (u : Run) → Passes (fitting_machine s c) (image_machine l) (located_start s c input) u → Precedes A (image_machine l) a u
+    precedes right u p = record {
+      seen = within_trans (subst (λ (z : Seen ℕ). IsWithin ((image_machine l).seen ((image_machine l).step u)) z) (first_shows s c l f code.around input is_bytes begins) p.seen)
+          (nothing_within (A.seen a));
+      asks = by ((image_machine l).asks u) refl;
+      right = p.right (right_at_first right);
+    }
+      where
+        by : (o : Option (Event Call Ending)) → (image_machine l).asks u ≡ o → o ≡ None
+        by None is = refl
+        by (Some event) is = let asked = (p.asks event is).0 in let none = first_asks s c l f code.around input is_bytes begins in absurd (cc)
+
+    begun_by : A.wrong a ≡ false →
+        Leads (image_machine l) (λ _. 1) (Precedes A (image_machine l) a) (Follows A (λ _. 32 * cost) (image_machine l) (λ _. 1) a) 0
+        (begins.most + 32 * tokens_at s c (located_start s c input)) (first_run l input)
+    begun_by right =
+        weaker
+        (joined {l = 0} {m = begins.most} {n = 1} {o = most_for_step s c (located_start s c input)} {least = 0} {most = begins.most + 32 * tokens_at s c (located_start s c input)}
+        whole_begins (λ u is_shown. (images_simulate_yields lead s c l f code).leads (located_start s c input) u is_shown (right_at_first right)) (omega arith) (omega arith))
+        (λ u p. precedes right u p)
+        (λ u is_shown.
+        follows_simulated lasts (follows_scaled {a' = λ _. 32 * cost} {b' = most_for_step s c} 32 (λ _. omega arith) (λ _. omega arith) follows)
+        (images_simulate_yields lead s c l f code) is_shown)
+        (omega arith) (λ n le. le)
+
+    positive : 1 ≤ 32 * cost
+    positive = let path = whole_begins in omega (arith, path.arrives.holds.tokens, soon)
+
+    agrees : A.wrong a ≡ false → AgreesOnceBegun A (image_machine l) (32 * cost) a (first_run l input)
+    agrees right = agrees_once_begun lasts (images l) positive soon (begun_by right)
+
+    -- the image agrees with it, at 32 instructions for each token that a step of the machine costs over locations
+    pub whole_agrees : AgreesOnceBegun A (image_machine l) (32 * cost) a (first_run l input)
+    whole_agrees = record {
+      down = λ m right. (agrees (right_until A lasts 0 m a (omega arith) right)).down m right;
+      up = λ n right. (agrees (right_until A lasts 0 (32 * cost * (n + 1)) a (omega arith) right)).up n right;
+      right = λ n right. (agrees (right_until A lasts 0 (32 * cost * (n + 1)) a (omega arith) right)).right n right;
+    }
+
+    -- Where it waits for the client, the line of the yield is in the image's log by the next step's cost, if the start leaves an instruction.
+    pub lines_are_there : begins.most + 32 * tokens_at s c (located_start s c input) + 1 ≤ 32 * cost → (m : ℕ) → A.wrong (after A m a) ≡ false → (call : Call) (walk : List Activation) →
+        A.asks (after A m a) ≡ Some (Client call) → call.walk ≡ Some walk →
+        IsPrefix ((A.seen (after A m a)).log ++ yield_line call.values) (after (image_machine l) (32 * cost * (m + 1)) (first_run l input)).log
+    lines_are_there spare m right call walk asks is_walk =
+        let there = stands_soon lasts (images l) positive soon (begun_by (right_until A lasts 0 m a (omega arith) right)) m right (Client call) (ap but_input asks) in
+        let bound : there.0 ≤ 32 * cost * (m + 1) - 1 = omega (arith, there.1, spare) in
+        let least : 1 ≤ 32 * cost * (m + 1) = omega (arith, positive) in
+        let last : 32 * cost * (m + 1) - 1 + 1 ≡ 32 * cost * (m + 1) = omega (arith, least) in
+        subst (λ (n : ℕ). IsPrefix ((A.seen (after A m a)).log ++ yield_line call.values) (after (image_machine l) n (first_run l input)).log) last
+        (lines_come_soon A (after A m a) l (first_run l input) (32 * cost * (m + 1) - 1) call walk is_walk (there.0, bound, there.2))
+
+-- ---- the C-- machine
+
+pub images_agree_with_clients : SwitchesLead → ImagesLast → StatesAreSound → MachineLasts → ImagesAgreeWithClients
+images_agree_with_clients lead images are_sound lasts s set c l f code begins input is_bytes cost follows soon =
+    whole_agrees lead images s c l f code input is_bytes begins (machine_of (todo_control s.program) s) (start_of s input) cost (lasts s)
+    (fits_follow are_sound lasts s set input is_bytes (λ _. cost) (located_machine s c) (tokens_at s c) (located_step s c (located_start s c input)) follows) soon
+
+pub lines_are_logged : SwitchesLead → ImagesLast → StatesAreSound → MachineLasts → LinesAreThere
+lines_are_logged lead images are_sound lasts s set c l f code begins input is_bytes cost follows spare m right call walk asks is_walk =
+    lines_are_there lead images s c l f code input is_bytes begins (machine_of (todo_control s.program) s) (start_of s input) cost (lasts s)
+    (fits_follow are_sound lasts s set input is_bytes (λ _. cost) (located_machine s c) (tokens_at s c) (located_step s c (located_start s c input)) follows) (omega (arith, spare)) spare m
+    right call walk asks is_walk
