@@ -11,12 +11,12 @@ ghost use Rattle.cmm_lower_parts.specs.Owned.{TakesVariables};
 ghost use Rattle.cmm_lower_parts.specs.inside.Numbers.{cont_by, form_conts, numbered, part_conts};
 ghost use Rattle.cmm_proc_scope.specs.Bodies.{scope_of_body};
 
-use cmm_ast::{Ident, Kinded, Proc, StmtForm};
+use cmm_ast::{Ident, Kinded, StmtForm};
 use cmm_items::Items;
-use cmm_proc_scope::BodyNames;
+use cmm_proc_scope::{BodyNames, ProcNames};
 use cmm_program::Cont;
 use cmm_static_semantics::Sense;
-use cmm_symbols::{Piece, pieces_of};
+use cmm_symbols::Piece;
 use cmm_typing::Names;
 use std::alloc::{AllocError, Global};
 
@@ -133,11 +133,10 @@ fn conts_in<'a, 'b, N: Names>(
 pub fn conts_of<'a, N: Names>(
     alloc: Global,
     names: &BodyNames<'a, N>,
-    proc: &Proc,
+    own: &ProcNames<'_>,
 ) -> Result<Items<Cont>, AllocError>
-    ensures { All (TakesVariables (scope_of_body N.senses names.now)) (parts_of proc.now.body) →
-        IfOk result (λ conts. conts ≡ flat_map (meaning.part_conts (scope_of_body N.senses names.now)) (parts_of proc.now.body)) }
+    ensures { All (TakesVariables (scope_of_body N.senses names.now)) (parts_of own.now.body) →
+        IfOk result (λ conts. conts ≡ flat_map (meaning.part_conts (scope_of_body N.senses names.now)) (parts_of own.now.body)) }
 {
-    let pieces = pieces_of(alloc, &proc.body)?;
-    conts_in(alloc, names, pieces.as_slice())
+    conts_in(alloc, names, own.pieces())
 }

@@ -11,13 +11,12 @@ ghost use Rattle.cmm_proc_scope.specs.Bodies.{scope_of_body};
 ghost use Rattle.cmm_typing.specs.Fitting.{AreWords};
 
 use crate::lengths::{alignment_of, length_of};
-use cmm_ast::{Proc, Room, RoomForm};
+use cmm_ast::{Room, RoomForm};
 use cmm_check_declarations::bytes_of;
 use cmm_items::Items;
-use cmm_limits::{rooms_of, words_in};
-use cmm_proc_scope::BodyNames;
+use cmm_limits::words_in;
+use cmm_proc_scope::{BodyNames, ProcNames};
 use cmm_program::StackItem;
-use cmm_symbols::pieces_of;
 use cmm_typing::Names;
 use std::alloc::{AllocError, Global};
 
@@ -83,16 +82,14 @@ fn from_behind<'a, N: Names>(
 pub fn stack_items<'a, N: Names>(
     alloc: Global,
     names: &BodyNames<'a, N>,
-    proc: &Proc,
+    own: &ProcNames<'_>,
 ) -> Result<Items<StackItem>, AllocError>
     requires { AreWords (senses (scope_of_body N.senses names.now)) }
-    ensures held { IfOk result (λ items. items ≡ map item_held (meaning.stack_items (scope_of_body N.senses names.now) (rooms_in proc.now))) }
-    ensures fitting { All (λ i. i.length < 2 ^ 32) (meaning.stack_items (scope_of_body N.senses names.now) (rooms_in proc.now)) →
-        IfOk result (λ items. items ≡ meaning.stack_items (scope_of_body N.senses names.now) (rooms_in proc.now)) }
+    ensures held { IfOk result (λ items. items ≡ map item_held (meaning.stack_items (scope_of_body N.senses names.now) (rooms_in own.now))) }
+    ensures fitting { All (λ i. i.length < 2 ^ 32) (meaning.stack_items (scope_of_body N.senses names.now) (rooms_in own.now)) →
+        IfOk result (λ items. items ≡ meaning.stack_items (scope_of_body N.senses names.now) (rooms_in own.now)) }
 {
-    let pieces = pieces_of(alloc, &proc.body)?;
-    let rooms = rooms_of(alloc, pieces.as_slice())?;
-    let mut items = from_behind(alloc, names, rooms.as_slice())?;
+    let mut items = from_behind(alloc, names, own.rooms())?;
     items.reverse();
     Ok(Items::from_vec(items))
 }

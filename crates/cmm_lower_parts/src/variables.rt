@@ -6,11 +6,11 @@ ghost use Rattle.cmm_symbols.specs.Shown.{piece_part};
 ghost use Rattle.cmm_proc_scope.specs.Bodies.{scope_of_body};
 
 use crate::constants::width_at;
-use cmm_ast::{Formal, Ident, LocalForm, Modifiers, Proc, TypeName};
+use cmm_ast::{Formal, Ident, LocalForm, Modifiers, TypeName};
 use cmm_items::Items;
-use cmm_proc_scope::BodyNames;
+use cmm_proc_scope::{BodyNames, ProcNames};
 use cmm_program::VarInfo;
-use cmm_symbols::{Piece, pieces_of};
+use cmm_symbols::Piece;
 use cmm_typing::Names;
 use cmm_words::Name;
 use std::alloc::{AllocError, Global};
@@ -140,13 +140,12 @@ fn add_pieces<'a, 'b, N: Names>(
 pub fn variable_infos<'a, N: Names>(
     alloc: Global,
     names: &BodyNames<'a, N>,
-    proc: &Proc,
+    own: &ProcNames<'_>,
 ) -> Result<Items<VarInfo>, AllocError>
-    ensures { IfOk result (λ infos. infos ≡ meaning.variable_infos (scope_of_body N.senses names.now) proc.now) }
+    ensures { IfOk result (λ infos. infos ≡ meaning.variable_infos (scope_of_body N.senses names.now) own.now) }
 {
     let mut infos = Items::new(alloc);
-    add_formals(alloc, names, proc.formals.as_slice(), &mut infos)?;
-    let pieces = pieces_of(alloc, &proc.body)?;
-    add_pieces(alloc, names, pieces.as_slice(), &mut infos)?;
+    add_formals(alloc, names, own.tree().formals.as_slice(), &mut infos)?;
+    add_pieces(alloc, names, own.pieces(), &mut infos)?;
     Ok(infos)
 }

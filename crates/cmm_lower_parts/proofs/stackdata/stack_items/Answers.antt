@@ -8,6 +8,6 @@ use Rattle.cmm_lower_parts.proofs.stackdata.stack_items.Goals as goal
 
 pub returns-clause-fitting : goal.returns-clause-fitting
 returns-clause-fitting g c = λ fit.
-    let items = stack_items (scope_of_body g.N.Names.senses c.args.names.now) (rooms_in c.args.proc.now) in
+    let items = stack_items (scope_of_body g.N.Names.senses c.args.names.now) (rooms_in c.args.own.now) in
     let held : c.from_vec.result ≡ map item_held items = search rules in
     held ∙ items_same items fit
