@@ -7,23 +7,21 @@ use Rattle.cmm_static_semantics.specs.Declarations.{NamedUnit, named_units}
 use Rattle.cmm_static_semantics.specs.Faults.{AreAccepted}
 use Rattle.cmm_static_semantics.specs.Linking.{Program, exports_of, program_of}
 use Rattle.cmm_static_semantics.specs.Scopes.{unit_senses}
-use Rattle.cmm_symbols.specs.Shown.{thing_item, whats}
 use Rattle.cmm_symbols.specs.declared.index.Index.{Index}
 use Rattle.cmm_typing.specs.Fitting.{AreWords}
 use Rattle.cmm_linkage.specs.Registers.{AreWidths}
 use Rattle.cmm_unit_scope.specs.Senses.{senses_of}
 use Rattle.cmm_checked.specs.declared.unit.CheckedUnit.{CheckedUnit}
 
--- of a unit of a program: its tree, what stands in it, what it exports and what its names mean
+-- of a unit of a program: its tree, what it exports and what its names mean
 pub record IsKnown (program : Program) (u : NamedUnit) (c : CheckedUnit) : Type 0 where
-  pub tree : c.tree.now ≡ u.tree
-  pub things : map thing_item c.things ≡ whats u.items
+  pub tree : c.flat ≡ u.tree
   pub exports : map (λ e. e.now) c.exports ≡ exports_of u
   pub senses : senses_of c.senses ≡ unit_senses program u.entries
   pub words : AreWords (senses_of c.senses)
 
 abbrev pub trees_in : List CheckedUnit → List UnitTree
-trees_in units = map (λ c. c.tree.now) units
+trees_in units = map (λ c. c.flat) units
 
 -- of all units of a program: that they are accepted, what each of them is, what they know of each other, and the widths of their registers
 pub record AreKnown (program : Program) (registers : Index (Option Width)) (trees : List UnitTree) (units : List CheckedUnit) : Type 0 where
