@@ -13,7 +13,7 @@ use Rattle.cmm_static_semantics.specs.Items.{Within, items_of}
 use Rattle.cmm_static_semantics.specs.Linking.{Program as Linked, exports_of}
 use Rattle.cmm_static_semantics.specs.Scopes.{unit_senses}
 use Rattle.cmm_static_semantics.specs.Senses.{Senses}
-use Rattle.cmm_symbols.specs.Shown.{thing_item, whats}
+use Rattle.cmm_symbols.specs.Shown.{whats}
 use Rattle.cmm_elaboration.specs.Data.{datums_among, item_datums, unit_labels}
 use Rattle.cmm_elaboration.specs.Meaning.{item_procedures, labels_from, procedures_from, unit_datums, unit_procedures}
 use Rattle.cmm_elaboration.proofs.Shared.{all_datums, datums_length}
@@ -57,58 +57,58 @@ datums_flat names (i ∷ is) = ap (λ t. item_datums names i.what ++ t) (datums_
 
 module _ (program : Linked) (before : List NamedUnit) (u : NamedUnit) (number : ℕ) (c : CheckedUnit) (fits : FitsBehind program before u) (known : IsKnown program u c)
     (number_is : number ≡ length before) where
-  items_are : u.items ≡ items_of c.tree.now
+  items_are : u.items ≡ items_of c.flat
   items_are = fits.items ∙ ap items_of (sym known.tree)
 
-  fitting : All (λ i. ItemFits (senses_of c.senses) i.what) (items_of c.tree.now)
+  fitting : All (λ i. ItemFits (senses_of c.senses) i.what) (items_of c.flat)
   fitting =
       subst (All (λ i. ItemFits (senses_of c.senses) i.what)) items_are
       (subst (λ (names : Senses). All (λ i. ItemFits names i.what) u.items) (sym known.senses) fits.procedures)
 
   procs_are : (old new : List Proc) → old ≡ procedures_from program 0 before →
-      (All (λ i. ItemFits (senses_of c.senses) i.what) (items_of c.tree.now) → new ≡ old ++ flat_map (item_procedures (senses_of c.senses) number) (items_of c.tree.now)) →
+      (All (λ i. ItemFits (senses_of c.senses) i.what) (items_of c.flat) → new ≡ old ++ flat_map (item_procedures (senses_of c.senses) number) (items_of c.flat)) →
       new ≡ procedures_from program 0 (before ++ u ∷ [])
   procs_are old new was added =
-      added fitting ∙ ap (λ t. t ++ flat_map (item_procedures (senses_of c.senses) number) (items_of c.tree.now)) was
-      ∙ ap (λ f. procedures_from program 0 before ++ flat_map (item_procedures f number) (items_of c.tree.now)) known.senses
+      added fitting ∙ ap (λ t. t ++ flat_map (item_procedures (senses_of c.senses) number) (items_of c.flat)) was
+      ∙ ap (λ f. procedures_from program 0 before ++ flat_map (item_procedures f number) (items_of c.flat)) known.senses
       ∙ ap (λ is. procedures_from program 0 before ++ flat_map (item_procedures (unit_senses program u.entries) number) is) (sym items_are)
       ∙ ap (λ n. procedures_from program 0 before ++ unit_procedures program n u) (number_is ∙ (let e : length before ≡ 0 + length before = omega arith in e))
       ∙ sym (procs_next program 0 before u)
 
-  data_of : flat_map (item_datums (senses_of c.senses)) (map thing_item c.things) ≡ unit_datums program u
+  data_of : flat_map (item_datums (senses_of c.senses)) (whats (items_of c.flat)) ≡ unit_datums program u
   data_of =
-      ap (flat_map (item_datums (senses_of c.senses))) known.things ∙ datums_flat (senses_of c.senses) u.items
+      ap (λ is. flat_map (item_datums (senses_of c.senses)) (whats is)) (sym items_are) ∙ datums_flat (senses_of c.senses) u.items
       ∙ ap (λ f. flat_map (λ i. item_datums f i.what) u.items) known.senses
 
   datums_are : (old new : List Datum) → old ≡ flat_map (unit_datums program) before →
-      (All IsShort (flat_map (item_datums (senses_of c.senses)) (map thing_item c.things)) → new ≡ old ++ flat_map (item_datums (senses_of c.senses)) (map thing_item c.things)) →
+      (All IsShort (flat_map (item_datums (senses_of c.senses)) (whats (items_of c.flat))) → new ≡ old ++ flat_map (item_datums (senses_of c.senses)) (whats (items_of c.flat))) →
       new ≡ flat_map (unit_datums program) (before ++ u ∷ [])
   datums_are old new was added =
-      added (subst (All IsShort) (sym data_of) fits.lengths) ∙ ap (λ t. t ++ flat_map (item_datums (senses_of c.senses)) (map thing_item c.things)) was
+      added (subst (All IsShort) (sym data_of) fits.lengths) ∙ ap (λ t. t ++ flat_map (item_datums (senses_of c.senses)) (whats (items_of c.flat))) was
       ∙ ap (λ t. flat_map (unit_datums program) before ++ t) data_of ∙ sym (datums_next program before u)
 
   labels_are : (old new : List Label) (datums : List Datum) (first : ℕ) → datums ≡ flat_map (unit_datums program) before → (length datums < 2 ^ 32 → first ≡ length datums) →
       old ≡ labels_from 0 before →
-      (first + datums_among (items_of c.tree.now) < 2 ^ 32 → new ≡ old ++ unit_labels (map (λ e. e.now) c.exports) first c.tree.now.parts) → new ≡ labels_from 0 (before ++ u ∷ [])
+      (first + datums_among (items_of c.flat) < 2 ^ 32 → new ≡ old ++ unit_labels (map (λ e. e.now) c.exports) first c.flat.parts) → new ≡ labels_from 0 (before ++ u ∷ [])
   labels_are old new datums first held counted was added =
       let long : length datums ≡ length (flat_map (unit_datums program) before) = ap length held in
       let bound : length (flat_map (unit_datums program) before) + datums_among u.items < 2 ^ 32 = fits.datums in
-      let among : datums_among (items_of c.tree.now) ≡ datums_among u.items = ap datums_among (sym items_are) in
+      let among : datums_among (items_of c.flat) ≡ datums_among u.items = ap datums_among (sym items_are) in
       let start : first ≡ length datums = counted (omega arith) in
       let at : first ≡ 0 + all_datums before = let e : length (flat_map (unit_datums program) before) ≡ all_datums before = datums_length program before in omega arith in
-      added (omega arith) ∙ ap (λ t. t ++ unit_labels (map (λ e. e.now) c.exports) first c.tree.now.parts) was
-      ∙ ap (λ n. labels_from 0 before ++ unit_labels (map (λ e. e.now) c.exports) n c.tree.now.parts) at
-      ∙ ap (λ es. labels_from 0 before ++ unit_labels es (0 + all_datums before) c.tree.now.parts) known.exports
+      added (omega arith) ∙ ap (λ t. t ++ unit_labels (map (λ e. e.now) c.exports) first c.flat.parts) was
+      ∙ ap (λ n. labels_from 0 before ++ unit_labels (map (λ e. e.now) c.exports) n c.flat.parts) at
+      ∙ ap (λ es. labels_from 0 before ++ unit_labels es (0 + all_datums before) c.flat.parts) known.exports
       ∙ ap (λ (t : UnitTree). labels_from 0 before ++ unit_labels (exports_of u) (0 + all_datums before) t.parts) known.tree
       ∙ sym (labels_next 0 before u)
 
   pub parts_next : (procs procs' : List Proc) (datums datums' : List Datum) (labels labels' : List Label) (first : ℕ) →
       AreParts program before (record { procs = procs; datums = datums; labels = labels }) →
-      (All (λ i. ItemFits (senses_of c.senses) i.what) (items_of c.tree.now) → procs' ≡ procs ++ flat_map (item_procedures (senses_of c.senses) number) (items_of c.tree.now)) →
-      (All IsShort (flat_map (item_datums (senses_of c.senses)) (map thing_item c.things)) →
-      datums' ≡ datums ++ flat_map (item_datums (senses_of c.senses)) (map thing_item c.things)) →
+      (All (λ i. ItemFits (senses_of c.senses) i.what) (items_of c.flat) → procs' ≡ procs ++ flat_map (item_procedures (senses_of c.senses) number) (items_of c.flat)) →
+      (All IsShort (flat_map (item_datums (senses_of c.senses)) (whats (items_of c.flat))) →
+      datums' ≡ datums ++ flat_map (item_datums (senses_of c.senses)) (whats (items_of c.flat))) →
       (length datums < 2 ^ 32 → first ≡ length datums) →
-      (first + datums_among (items_of c.tree.now) < 2 ^ 32 → labels' ≡ labels ++ unit_labels (map (λ e. e.now) c.exports) first c.tree.now.parts) →
+      (first + datums_among (items_of c.flat) < 2 ^ 32 → labels' ≡ labels ++ unit_labels (map (λ e. e.now) c.exports) first c.flat.parts) →
       AreParts program (before ++ u ∷ []) (record { procs = procs'; datums = datums'; labels = labels' })
   parts_next procs procs' datums datums' labels labels' first are more_procs more_datums counted more_labels = record {
     procs = procs_are procs procs' are.procs more_procs;

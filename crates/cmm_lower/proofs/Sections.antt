@@ -1,23 +1,22 @@
 -- The procedures of a section, item by item.
-use Rattle.std.proofs.Common.{◌≡◌, ℕ, suc, ◌+◌, ◌<◌, length, take, drop, get_or, refl, sym, ap, ◌∙◌, subst, List, [], ◌∷◌, ◌++◌, append-nil, append_assoc}
-use Rattle.std.specs.Prelude.{flat_map, map, Result, Ok, Err, OnOk}
+use Rattle.std.proofs.Common.{◌≡◌, ℕ, suc, ◌+◌, ◌<◌, length, take, drop, get_or, refl, sym, ap, ◌∙◌, subst, List, [], ◌∷◌, ◌++◌, append_assoc}
+use Rattle.std.specs.Prelude.{flat_map, map}
 use Rattle.std.specs.List.{All}
 use Rattle.std.proofs.Math.Seq.{drop-cons}
 use Rattle.std.proofs.lemmas.List.{take-append-drop}
 use Rattle.std.proofs.lemmas.List.Elements.{All-head, All-tail}
 use Rattle.std.proofs.lemmas.Grind.{flat_map-append}
-use denote.Hole.Carrier as Carrier
 use Rattle.cmm_ast.specs.declared.expression.Expr.{Expr}
 use Rattle.cmm_ast.specs.declared.expression.Primary.{Primary}
 use Rattle.cmm_ast.specs.declared.procedure.Proc.{Proc as ProcTree}
-use Rattle.cmm_ast.specs.declared.unit.Item.{Item, Row_of-Item, end_of-Item, more_of-Item, items-the_row-Item, items_hidden-the_row-Item-0}
+use Rattle.cmm_ast.specs.declared.unit.Item.{Item}
 use Rattle.cmm_ast.specs.declared.unit.Item.TheVariants as items
-use Rattle.cmm_ast.specs.declared.unit.Item.TheBlock as Items
 use Rattle.cmm_ast.specs.declared.unit.Section.{Section}
 use Rattle.cmm_ast.specs.declared.unit.TopLevel.{TopLevel}
 use Rattle.cmm_ast.specs.declared.unit.TopLevel.TheVariants as tops
 use Rattle.cmm_program.specs.declared.procedure.Proc.{Proc}
-use Rattle.cmm_static_semantics.specs.Items.{SpanTree, Within, within, item_within, items_within, top_items}
+use Rattle.cmm_static_semantics.specs.Items.{SpanTree, Within, within, item_within, top_items}
+use Rattle.cmm_static_semantics.proofs.Shared.{span_item_inside}
 use Rattle.cmm_static_semantics.specs.Senses.{Senses}
 use Rattle.cmm_elaboration.specs.Meaning.{item_procedures}
 use Rattle.cmm_elaboration.specs.Procedures.{procedure_of}
@@ -26,18 +25,6 @@ use Rattle.cmm_symbols.proofs.Shared.{flat_plain}
 use Rattle.cmm_typing.proofs.Shared.{all_left, all_right}
 use Rattle.cmm_lower.specs.Fitting.{ItemFits, ProcFits}
 use Rattle.cmm_lower.specs.inside.Sections.{ItemAdded, ItemsAdded}
-
-item_rows : (spans : List SpanTree) (n : _) (row : Row_of-Item n) → items_within spans row ≡ flat_map (item_within spans) (items-the_row-Item n row)
-item_rows spans n end_of-Item = refl
-item_rows spans n (more_of-Item {n = m} i rest) = ap (λ t. item_within spans i ++ t) (item_rows spans m rest)
-
-span_within : (spans : List SpanTree) (t : ℕ) (key : Primary) (value : Expr) (inside : List Item) →
-    item_within spans (items.Span t key value inside)
-    ≡ within spans (items.Span t key value inside) ∷ flat_map (item_within (record { key = key; value = value } ∷ spans)) inside
-unfolding Items.hidden-the_row-Item-0 Carrier.hidden
-span_within spans t key value inside = ap (λ xs. within spans (items.Span t key value inside) ∷ xs)
-    (item_rows (record { key = key; value = value } ∷ spans) _ (Items.hidden-the_row-Item-0 inside)
-    ∙ ap (flat_map (item_within (record { key = key; value = value } ∷ spans))) (items_hidden-the_row-Item-0 inside))
 
 module _ (names : Senses) (unit : ℕ) where
   abbrev made : Within Item → List Proc
@@ -50,7 +37,7 @@ module _ (names : Senses) (unit : ℕ) where
       x ≡ span_value names record { key = key; value = value } → inner ≡ with_span x around → ItemsAdded names unit inner inside inside old new →
       ItemAdded names unit around (items.Span t key value inside) old new
   span_is around inner x t key value inside old new is entered added spans force fit =
-      let tree : SpanTree = record { key = key; value = value } in let whole = span_within spans t key value inside in
+      let tree : SpanTree = record { key = key; value = value } in let whole = span_item_inside spans t key value inside in
       added (tree ∷ spans) (entered ∙ ap (λ y. with_span y around) is ∙ ap (with_span (span_value names tree)) force)
       (All-tail Fits (within spans (items.Span t key value inside)) (flat_map (item_within (tree ∷ spans)) inside) (subst (All Fits) whole fit))
       ∙ ap (λ ws. old ++ flat_map made ws) (sym whole)
@@ -68,34 +55,31 @@ module _ (names : Senses) (unit : ℕ) where
       ItemAdded names unit around (items.Proc p) old new
   proc_is around p old new added spans force fit = added spans force (All-head Fits (within spans (items.Proc p)) [] fit)
 
-  pub proc_added : {E : Type 0} (around : List SpanValue) (i : Item) (p : ProcTree) (old new : List Proc) (r : Result (Unit {0}) E) → i ≡ items.Proc p →
-      OnOk r ((spans : List SpanTree) → around ≡ innermost (map (span_value names) spans) → ProcFits names p → new ≡ old ++ procedure_of names unit spans p ∷ []) →
-      OnOk r (ItemAdded names unit around i old new)
-  proc_added around i p old new (Ok u) is added = subst (λ j. ItemAdded names unit around j old new) (sym is) (proc_is around p old new added)
-  proc_added around i p old new (Err e) is added = tt
+  pub proc_added : (around : List SpanValue) (i : Item) (p : ProcTree) (old new : List Proc) → i ≡ items.Proc p →
+      ((spans : List SpanTree) → around ≡ innermost (map (span_value names) spans) → ProcFits names p → new ≡ old ++ procedure_of names unit spans p ∷ []) →
+      ItemAdded names unit around i old new
+  proc_added around i p old new is added = subst (λ j. ItemAdded names unit around j old new) (sym is) (proc_is around p old new added)
 
   -- what stands in a section, or alone
   section_is : (section : Section) (old new : List Proc) → ItemsAdded names unit [] section.items section.items old new →
       All Fits (top_items (tops.Section section)) → new ≡ old ++ flat_map made (top_items (tops.Section section))
   section_is section old new added fit = added [] refl fit
 
-  pub section_added : {E : Type 0} (part : TopLevel) (section : Section) (xs : List Item) (old new : List Proc) (r : Result (Unit {0}) E) → part ≡ tops.Section section → xs ≡ section.items →
-      OnOk r (ItemsAdded names unit [] xs xs old new) → OnOk r (All Fits (top_items part) → new ≡ old ++ flat_map made (top_items part))
-  section_added part section xs old new (Ok u) is same added =
+  pub section_added : (part : TopLevel) (section : Section) (xs : List Item) (old new : List Proc) → part ≡ tops.Section section → xs ≡ section.items →
+      ItemsAdded names unit [] xs xs old new → All Fits (top_items part) → new ≡ old ++ flat_map made (top_items part)
+  section_added part section xs old new is same added =
       subst (λ q. All Fits (top_items q) → new ≡ old ++ flat_map made (top_items q)) (sym is)
       (section_is section old new (subst (λ ys. ItemsAdded names unit [] ys ys old new) same added))
-  section_added part section xs old new (Err e) is same added = tt
 
   alone_is : (p : ProcTree) (old new : List Proc) →
       ((spans : List SpanTree) → [] ≡ innermost (map (span_value names) spans) → ProcFits names p → new ≡ old ++ procedure_of names unit spans p ∷ []) →
       All Fits (top_items (tops.Proc p)) → new ≡ old ++ flat_map made (top_items (tops.Proc p))
   alone_is p old new added fit = added [] refl (All-head Fits (within [] (items.Proc p)) [] fit)
 
-  pub alone_added : {E : Type 0} (part : TopLevel) (p : ProcTree) (old new : List Proc) (r : Result (Unit {0}) E) → part ≡ tops.Proc p →
-      OnOk r ((spans : List SpanTree) → [] ≡ innermost (map (span_value names) spans) → ProcFits names p → new ≡ old ++ procedure_of names unit spans p ∷ []) →
-      OnOk r (All Fits (top_items part) → new ≡ old ++ flat_map made (top_items part))
-  alone_added part p old new (Ok u) is added = subst (λ q. All Fits (top_items q) → new ≡ old ++ flat_map made (top_items q)) (sym is) (alone_is p old new added)
-  alone_added part p old new (Err e) is added = tt
+  pub alone_added : (part : TopLevel) (p : ProcTree) (old new : List Proc) → part ≡ tops.Proc p →
+      ((spans : List SpanTree) → [] ≡ innermost (map (span_value names) spans) → ProcFits names p → new ≡ old ++ procedure_of names unit spans p ∷ []) →
+      All Fits (top_items part) → new ≡ old ++ flat_map made (top_items part)
+  alone_added part p old new is added = subst (λ q. All Fits (top_items q) → new ≡ old ++ flat_map made (top_items q)) (sym is) (alone_is p old new added)
 
   -- a turn of a loop that adds the procedures of each of some things
   pub part_next : {A : Type 0} (f : A → List (Within Item)) (all : List A) (i : ℕ) (x : A) (base old new : List Proc) → i < length all → x ≡ get_or all i x →

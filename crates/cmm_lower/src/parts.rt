@@ -42,8 +42,7 @@ impl Parts {
         }
     }
 
-    /// Those with one more unit, by its number. Fails only for want of memory; a procedure that declares 2^32 names of a sort or more, which no memory
-    /// has room for, fails so too.
+    /// Those with one more unit, by its number. Fails only for want of memory.
     pub(crate) fn with_unit(
         self,
         alloc: Global,
@@ -61,10 +60,10 @@ impl Parts {
         } = self;
         let names = &unit.senses;
         let first = next_datum(&datums);
-        add_procedures(alloc, names, number, unit.tree, &mut procs)?;
-        add_datums(alloc, names, unit.things.as_slice(), &mut datums)?;
+        add_procedures(alloc, names, number, &unit.flat, &mut procs)?;
+        add_datums(alloc, names, unit.flat.things(), &mut datums)?;
         let links = Links::of(alloc, unit.exports.as_slice())?;
-        add_labels(alloc, &links, unit.tree, first, &mut labels)?;
+        add_labels(alloc, &links, unit.flat.tree(), first, &mut labels)?;
         Ok(Parts {
             procs,
             datums,

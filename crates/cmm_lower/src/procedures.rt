@@ -9,10 +9,10 @@ ghost use Rattle.cmm_typing.specs.Fitting.{AreWords};
 
 use crate::bodies::statements_of;
 use crate::spans::SpanValue;
-use cmm_ast::{Formal, Proc as ProcTree};
+use cmm_ast::Formal;
 use cmm_items::Items;
 use cmm_lower_parts::{conts_of, stack_items, variable_infos};
-use cmm_proc_scope::names_of;
+use cmm_proc_scope::ProcNames;
 use cmm_program::Proc;
 use cmm_typing::Names;
 use std::alloc::{AllocError, Global};
@@ -24,21 +24,20 @@ fn formal_count(formals: &[Formal]) -> u32
     u32::try_from(formals.len()).unwrap_or(u32::MAX)
 }
 
-/// The procedure of a unit that a tree means, among the names of the unit, with the spans in force around it. Fails only for want of memory; a
-/// procedure that declares 2^32 names of a sort or more, which no memory has room for, fails so too.
-pub fn procedure_of<'a, N: Names>(
+/// The procedure of a unit that a tree means, among the names of the unit, with the spans in force around it. Fails only for want of memory.
+pub fn procedure_of<N: Names>(
     alloc: Global,
-    outer: &'a N,
+    outer: &N,
     unit: u32,
     around: &[SpanValue],
-    proc: &'a ProcTree,
+    own: &ProcNames<'_>,
 ) -> Result<Proc, AllocError>
     requires { AreWords (N.senses outer.now) }
     ensures { IfOk result (λ made. (spans : List SpanTree) → around.now ≡ innermost (map (span_value (N.senses outer.now)) spans) →
-        ProcFits (N.senses outer.now) proc.now → made ≡ meaning.procedure_of (N.senses outer.now) unit spans proc.now) }
+        ProcFits (N.senses outer.now) own.now → made ≡ meaning.procedure_of (N.senses outer.now) unit spans own.now) }
 {
-    let mut repeated = None;
-    let names = names_of(alloc, outer, proc, &mut repeated)?;
+    let names = own.within(outer);
+    let proc = own.tree();
     let mut sites = Items::new(alloc);
     let body = statements_of(
         alloc,
@@ -47,9 +46,9 @@ pub fn procedure_of<'a, N: Names>(
         around,
         &mut sites,
     )?;
-    let vars = variable_infos(alloc, &names, proc)?;
-    let stack = stack_items(alloc, &names, proc)?;
-    let conts = conts_of(alloc, &names, proc)?;
+    let vars = variable_infos(alloc, &names, own)?;
+    let stack = stack_items(alloc, &names, own)?;
+    let conts = conts_of(alloc, &names, own)?;
     let name = proc.name.name.clone()?;
     Ok(Proc {
         name,

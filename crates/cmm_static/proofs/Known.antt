@@ -83,7 +83,6 @@ each_known program (u ∷ us) (n ∷ ns) (s ∷ ss) flat known words = (here, ea
     here : IsKnown program u (checked_unit (n, s))
     here = record {
       tree = ap (λ (f : Flat). f.tree) same;
-      things = ap (λ (f : Flat). f.items) same;
       exports = ap (λ (f : Flat). f.exports) same;
       senses = means ∙ ap (λ (f : Flat). unit_senses program f.entries) same;
       words = All-head (λ (s : UnitSenses). AreWords (senses_of s)) s ss words;
@@ -108,7 +107,7 @@ pub all_known : (us : List UnitTree) (program : Program) (named : List UnitNames
 all_known us program named e checked few accepted flat knows known are = (
   trees,
   record {
-    few = subst (λ n. n < 2 ^ 32) (sym (ap length trees) ∙ length-map checked (λ c. c.tree.now)) few;
+    few = subst (λ n. n < 2 ^ 32) (sym (ap length trees) ∙ length-map checked (λ c. c.flat)) few;
     accepted = accepted;
     linkage = knows;
     each = each;

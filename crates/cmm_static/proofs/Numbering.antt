@@ -15,14 +15,14 @@ use Rattle.cmm_symbols.proofs.Shared.{entries_are, sum_is}
 use Rattle.cmm_static.specs.inside.Flat.{Flat, flat_unit, numbered_unit}
 
 -- a unit laid flat, from what stands in it
-pub flat_of : (p l : ℕ) (u : UnitTree) (ts : List Thing) (entries : List (Declared Entry)) (exports : List Export) → map thing_item ts ≡ whats (items_of u) →
-    entries ≡ entries_from p l (map alone ts) → exports ≡ flat_map item_exports (map thing_item ts) →
-    let f : Flat = record { tree = u; entries = entries; exports = exports; items = map thing_item ts } in f ≡ flat_unit (numbered_unit p l u)
-flat_of p l u ts entries exports items declared exported =
-    ap (λ (q : List (Declared Entry)). let f : Flat = record { tree = u; entries = q; exports = exports; items = map thing_item ts } in f) (declared ∙ entries_are p l ts (items_of u) items)
-    ∙ ap (λ (q : List Export). let f : Flat = record { tree = u; entries = entries_from p l (items_of u); exports = q; items = map thing_item ts } in f)
-    (exported ∙ ap (flat_map item_exports) items ∙ flat_map-map item_exports (λ w. w.what) (items_of u))
-    ∙ ap (λ q. let f : Flat = record { tree = u; entries = entries_from p l (items_of u); exports = (flat_unit (numbered_unit p l u)).exports; items = q } in f) items
+pub flat_of : (p l : ℕ) (u t : UnitTree) (ts es : List Thing) (entries : List (Declared Entry)) (exports : List Export) → t ≡ u → map thing_item ts ≡ whats (items_of t) →
+    map thing_item es ≡ whats (items_of t) → entries ≡ entries_from p l (map alone ts) → exports ≡ flat_map item_exports (map thing_item es) →
+    let f : Flat = record { tree = t; entries = entries; exports = exports; items = whats (items_of t) } in f ≡ flat_unit (numbered_unit p l u)
+flat_of p l u t ts es entries exports is stand listed declared exported =
+    ap (λ (q : List (Declared Entry)). let f : Flat = record { tree = t; entries = q; exports = exports; items = whats (items_of t) } in f) (declared ∙ entries_are p l ts (items_of t) stand)
+    ∙ ap (λ (q : List Export). let f : Flat = record { tree = t; entries = entries_from p l (items_of t); exports = q; items = whats (items_of t) } in f)
+    (exported ∙ ap (flat_map item_exports) listed ∙ flat_map-map item_exports (λ w. w.what) (items_of t))
+    ∙ ap (λ q. flat_unit (numbered_unit p l q)) is
 
 -- a turn of the loop: the units that are laid flat, and then the rest, are all
 pub units_next : (before : List Flat) (f : Flat) (whole : List Flat) (p l p' l' : ℕ) (ts : List Thing) (us : List UnitTree) (k : ℕ) (u : UnitTree) → k < length us → u ≡ get_or us k u →

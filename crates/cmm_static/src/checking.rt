@@ -48,7 +48,7 @@ fn names_of_all<'a>(alloc: Global, units: &'a [Unit]) -> Result<Items<UnitNames<
     let mut numbers = Numbers::first();
     for unit in units {
         let names = names_of(alloc, unit, numbers)?;
-        numbers = numbers.after(names.things.as_slice())?;
+        numbers = numbers.after(names.flat.things())?;
         named.push(names)?;
     }
     Ok(named)
@@ -147,15 +147,9 @@ fn with_senses<'a>(
 {
     let mut units = Items::new(alloc);
     for (names, senses) in named.into_vec().into_iter().zip(senses.into_vec()) {
-        let UnitNames {
-            tree,
-            things,
-            exports,
-            ..
-        } = names;
+        let UnitNames { flat, exports, .. } = names;
         units.push(CheckedUnit {
-            tree,
-            things,
+            flat,
             exports,
             senses,
         })?;

@@ -14,7 +14,8 @@ ghost use Rattle.cmm_typing.specs.Fitting.{AreWords};
 use cmm_ast::Unit;
 use cmm_check_declarations::end_of_data;
 use cmm_limits::{site_spans, site_variables};
-use cmm_symbols::{Numbers, Thing, things_of};
+use cmm_proc_scope::FlatUnit;
+use cmm_symbols::{Numbers, Thing};
 use cmm_typing::Names;
 use std::alloc::{AllocError, Global};
 
@@ -90,26 +91,26 @@ impl Sums {
     }
 
     /// Those with one more unit, whose names mean what `names` tells.
-    pub(crate) fn with_unit<'a, N: Names>(
+    pub(crate) fn with_unit<N: Names>(
         self,
         alloc: Global,
-        names: &'a N,
-        unit: &'a Unit,
+        names: &N,
+        flat: &FlatUnit<'_>,
     ) -> Result<Sums, AllocError>
         requires { AreWords (N.senses names.now) }
-        ensures { IfOk result (λ next. (program : Program) (before : List NamedUnit) (u : NamedUnit) → u.tree ≡ unit.now → u.items ≡ items_of unit.now →
+        ensures { IfOk result (λ next. (program : Program) (before : List NamedUnit) (u : NamedUnit) → u.tree ≡ flat.now → u.items ≡ items_of flat.now →
             N.senses names.now ≡ unit_senses program u.entries → AreSums program before self → AreSums program (before ++ u ∷ []) next) }
     {
-        let things = things_of(alloc, unit)?;
-        let procedures = proc_count(things.as_slice())?;
-        let variables = site_variables(alloc, unit)?;
-        let spans = site_spans(alloc, names, unit)?;
+        let things = flat.things();
+        let procedures = proc_count(things)?;
+        let variables = site_variables(flat);
+        let spans = site_spans(alloc, names, flat)?;
         Ok(Sums {
-            tokens: self.tokens.saturating_add(token_count(unit)),
+            tokens: self.tokens.saturating_add(token_count(flat.tree())),
             procedures: self.procedures.saturating_add(procedures),
             site_variables: self.site_variables.saturating_add(variables),
             site_spans: self.site_spans.saturating_add(spans),
-            data_end: end_after(names, things.as_slice(), self.data_end),
+            data_end: end_after(names, things, self.data_end),
         })
     }
 

@@ -1,6 +1,6 @@
 //! The first fault of one unit, and its names.
 
-ghost use Rattle.std.specs.Prelude.{◌≡◌, ◌++◌, ◌∷◌, [], None, List, ℕ, flat_map, map, IfOk, OnOk};
+ghost use Rattle.std.specs.Prelude.{◌≡◌, ◌++◌, ◌∷◌, [], None, List, ℕ, flat_map, IfOk, OnOk};
 ghost use Rattle.cmm_static_semantics.specs.Declarations.{NamedUnit};
 ghost use Rattle.cmm_static_semantics.specs.Faults.{item_procedure_spots};
 ghost use Rattle.cmm_static_semantics.specs.Items.{items_of};
@@ -8,7 +8,7 @@ ghost use Rattle.cmm_static_semantics.specs.Linking.{Program};
 ghost use Rattle.cmm_static_semantics.specs.Scopes.{unit_senses};
 ghost use Rattle.cmm_static_semantics.specs.Spots.{first_of};
 ghost use Rattle.cmm_linkage.specs.Exports.{exported_links};
-ghost use Rattle.cmm_symbols.specs.Shown.{thing_item};
+ghost use Rattle.cmm_symbols.specs.Shown.{whats};
 ghost use Rattle.cmm_static.specs.inside.Flat.{Flat, flat_links, flat_name_spots, flat_unit, numbered_unit, flat_spots};
 ghost use Rattle.cmm_static.specs.inside.Linked.{AreLinks};
 ghost use Rattle.cmm_static.specs.inside.Totals.{AreSums};
@@ -27,8 +27,9 @@ use crate::unit_names::UnitNames;
 use cmm_ast::Unit;
 use cmm_check_declarations::{note_entries, note_items};
 use cmm_linkage::{Linkage, registers_in};
+use cmm_proc_scope::FlatUnit;
 use cmm_static_semantics::Spot;
-use cmm_symbols::{Index, Numbers, Table, Thing, declared_in, exports_in, note_things, things_of};
+use cmm_symbols::{Index, Numbers, Table, declared_in, exports_in, note_things};
 use cmm_typing::Names;
 use cmm_unit_scope::{dependencies_of, senses_of_unit, types_of};
 use std::alloc::{AllocError, Global};
@@ -41,14 +42,13 @@ pub(crate) fn names_of<'a>(
 ) -> Result<UnitNames<'a>, AllocError>
     ensures { IfOk result (λ names. unit_flat names ≡ flat_unit (numbered_unit first.procedures first.labels unit.now)) }
 {
-    let things = things_of(alloc, unit)?;
-    let declared = declared_in(alloc, things.as_slice(), first)?;
-    let exports = exports_in(alloc, things.as_slice())?;
+    let flat = FlatUnit::of(alloc, unit)?;
+    let declared = declared_in(alloc, flat.things(), first)?;
+    let exports = exports_in(alloc, flat.things())?;
     let mut repeated = None;
     let table = Table::of(alloc, declared, &mut repeated)?;
     Ok(UnitNames {
-        tree: unit,
-        things,
+        flat,
         exports,
         table,
         repeated,
@@ -69,7 +69,7 @@ fn first_of_names<'a>(
     let mut best = unit.repeated;
     let declared = unit.table.declared.as_slice();
     let exports = unit.exports.as_slice();
-    let things = unit.things.as_slice();
+    let things = unit.flat.things();
     note_hosts(declared, &mut best);
     note_exports(&unit.table, exports, &mut best);
     note_twice(alloc, exports, links, &mut best)?;
@@ -80,21 +80,20 @@ fn first_of_names<'a>(
 }
 
 /// Notes the faults of the procedures of a unit, and adds what the limits over all units count of it to that of earlier units.
-fn note_and_count<'a, N: Names>(
+fn note_and_count<N: Names>(
     alloc: Global,
-    names: &'a N,
-    things: &[Thing<'a>],
-    tree: &'a Unit,
+    names: &N,
+    flat: &FlatUnit<'_>,
     best: &mut Option<Spot>,
     sums: &mut Sums,
 ) -> Result<(), AllocError>
     requires { AreWords (N.senses names.now) }
-    ensures best { OnOk result (best.new ≡ first_of best.old (flat_map (item_procedure_spots (N.senses names.now)) (map thing_item things.now))) }
-    ensures sums { OnOk result ((program : Program) (before : List NamedUnit) (u : NamedUnit) → u.tree ≡ tree.now → u.items ≡ items_of tree.now →
+    ensures best { OnOk result (best.new ≡ first_of best.old (flat_map (item_procedure_spots (N.senses names.now)) (whats (items_of flat.now)))) }
+    ensures sums { OnOk result ((program : Program) (before : List NamedUnit) (u : NamedUnit) → u.tree ≡ flat.now → u.items ≡ items_of flat.now →
         N.senses names.now ≡ unit_senses program u.entries → AreSums program before sums.old → AreSums program (before ++ u ∷ []) sums.new) }
 {
-    note_procedures(alloc, names, things, best)?;
-    *sums = sums.with_unit(alloc, names, tree)?;
+    note_procedures(alloc, names, flat.procs(), best)?;
+    *sums = sums.with_unit(alloc, names, flat)?;
     Ok(())
 }
 
@@ -110,7 +109,7 @@ pub(crate) fn first_broken<'a>(
 {
     let mut best = first_of_names(alloc, unit, linkage, &mut earlier.links)?;
     let declared = unit.table.declared.as_slice();
-    let things = unit.things.as_slice();
+    let things = unit.flat.things();
     let types = types_of(alloc, declared)?;
     let dependencies = dependencies_of(alloc, declared)?;
     let senses = senses_of_unit(alloc, linkage, declared, &types, &dependencies)?;
@@ -119,14 +118,7 @@ pub(crate) fn first_broken<'a>(
     let registers = registers_in(alloc, declared)?;
     note_registers(&types, registers.as_slice(), &earlier.registers, &mut best);
     note_cycles(alloc, &dependencies, declared, &mut best)?;
-    note_and_count(
-        alloc,
-        &senses,
-        things,
-        unit.tree,
-        &mut best,
-        &mut earlier.sums,
-    )?;
+    note_and_count(alloc, &senses, &unit.flat, &mut best, &mut earlier.sums)?;
     add_registers(alloc, &types, registers.as_slice(), &mut earlier.registers)?;
     earlier.senses.push(senses)?;
     Ok(best)

@@ -5,16 +5,16 @@ ghost use Rattle.cmm_static_semantics.specs.Declarations.{again};
 ghost use Rattle.cmm_static_semantics.specs.Spots.{first_of};
 ghost use Rattle.cmm_symbols.specs.Shown.{named};
 
-use cmm_ast::{Export, Unit};
+use cmm_ast::Export;
 use cmm_items::Items;
+use cmm_proc_scope::FlatUnit;
 use cmm_static_semantics::Spot;
-use cmm_symbols::{Entry, Table, Thing};
+use cmm_symbols::{Entry, Table};
 
 /// What stands in a unit, what it exports and what it declares.
 #[derive(Drop)]
 pub(crate) struct UnitNames<'a> {
-    pub tree: &'a Unit,
-    pub things: Items<Thing<'a>>,
+    pub flat: FlatUnit<'a>,
     pub exports: Items<&'a Export>,
     pub table: Table<'a, Entry<'a>>,
     /// The first name that is declared again.

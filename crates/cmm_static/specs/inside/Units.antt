@@ -2,6 +2,7 @@
 use Rattle.std.specs.Prelude.{◌≡◌, List, map}
 use Rattle.std.specs.List.{All}
 use Rattle.cmm_static_semantics.specs.Faults.{Placed}
+use Rattle.cmm_static_semantics.specs.Items.{items_of}
 use Rattle.cmm_static_semantics.specs.Linking.{Program}
 use Rattle.cmm_static_semantics.specs.Scopes.{unit_senses}
 use Rattle.cmm_static_semantics.specs.Senses.{Senses}
@@ -12,17 +13,17 @@ use Rattle.cmm_typing.specs.Fitting.{AreWords}
 use Rattle.cmm_static.specs.inside.Flat.{Flat, flat_named, links_before, widths_before}
 use Rattle.cmm_static.specs.inside.Totals.{AreSums}
 use Rattle.cmm_static.specs.inside.Linked.{AreLinks, AreFound}
-use Rattle.cmm_symbols.specs.Shown.{thing_item, shown}
+use Rattle.cmm_symbols.specs.Shown.{shown, whats}
 use Rattle.cmm_static.specs.declared.unit_names.UnitNames.{UnitNames}
 use Rattle.cmm_static.specs.declared.earlier.Earlier.{Earlier}
 use Rattle.cmm_static.specs.declared.checking.Broken.{Broken}
 
 abbrev pub unit_flat : UnitNames → Flat
-unit_flat u = record { tree = u.tree.now; entries = map shown u.table.declared; exports = map (λ e. e.now) u.exports; items = map thing_item u.things }
+unit_flat u = record { tree = u.flat; entries = map shown u.table.declared; exports = map (λ e. e.now) u.exports; items = whats (items_of u.flat) }
 
 -- a unit with what its names mean
 abbrev pub checked_unit : UnitNames × UnitSenses → CheckedUnit
-checked_unit u = record { tree = u.0.tree; things = u.0.things; exports = u.0.exports; senses = u.1 }
+checked_unit u = record { flat = u.0.flat; exports = u.0.exports; senses = u.1 }
 
 abbrev pub broken_placed : Broken → Placed
 broken_placed b = record { unit = b.unit; spot = b.spot }

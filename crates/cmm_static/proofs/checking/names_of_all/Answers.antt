@@ -1,4 +1,4 @@
-use Rattle.std.proofs.Common.{◌+◌, ◌++◌, ◌∷◌, ◌∙◌, [], map, ap, drop, refl}
+use Rattle.std.proofs.Common.{◌+◌, ◌++◌, ◌∷◌, ◌∙◌, [], map, ap, drop, sym}
 use Rattle.std.proofs.lemmas.List.{map-append}
 use Rattle.cmm_static_semantics.specs.Declarations.{units_from, named_units}
 use Rattle.cmm_static.specs.inside.Flat.{flat_unit}
@@ -14,6 +14,6 @@ loop-unit-preserved c =
     let next = c.in_ok-numbers.numbers in
     let names = c.in_ok-names.names in
     ap (λ t. t ++ map flat_unit (units_from next.procedures next.labels (drop (k + 1) us))) (ap (map unit_flat) c.in_ok-push.ensures.ok ∙ map-append unit_flat c.loop-unit.named (names ∷ []))
-    ∙ units_next (map unit_flat c.loop-unit.named) (unit_flat names) (map flat_unit (named_units us)) numbers.procedures numbers.labels next.procedures next.labels names.things us k c.unit-item.result
-    c.loop-unit-test.true c.unit-item.is c.in_ok-names.ensures refl
-    (rw c.as_slice.ensures at c.in_ok-numbers.ensures.procedures) (rw c.as_slice.ensures at c.in_ok-numbers.ensures.labels) c.loop-unit.invariant
+    ∙ units_next (map unit_flat c.loop-unit.named) (unit_flat names) (map flat_unit (named_units us)) numbers.procedures numbers.labels next.procedures next.labels c.things.result.now us k c.unit-item.result
+    c.loop-unit-test.true c.unit-item.is c.in_ok-names.ensures (sym c.things.ensures)
+    c.in_ok-numbers.ensures.procedures c.in_ok-numbers.ensures.labels c.loop-unit.invariant

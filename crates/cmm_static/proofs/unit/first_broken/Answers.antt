@@ -31,12 +31,12 @@ returns-clause-best c = λ before. λ earlier.
     (fun_ext (rw c.as_slice-declared.ensures at c.in_ok-types.ensures.widths))
     (c.in_ok-best.ensures.best (links_before before) earlier.links)
     (rw c.as_slice-declared.ensures at c.note_entries.ensures)
-    (rw c.as_slice-things.ensures at c.note_items.ensures)
+    (rw c.things-things.ensures at c.note_items.ensures)
     (c.note_registers.ensures (widths_before before) earlier.registers
     ∙ ap (λ (rs : List (Declared TypeName)). first_of c.note_items.new.best (flat_map (register_spots_by (widths_before before) w) rs))
     (ap (map register_shown) c.as_slice.ensures ∙ c.in_ok-registers.ensures ∙ ap (λ ds. registers_in (map shown ds)) c.as_slice-declared.ensures))
     (rw c.as_slice-declared.ensures at c.in_ok-note_cycles.ensures)
-    (rw c.as_slice-things.ensures at c.in_ok-note_and_count.ensures.best)
+    c.in_ok-note_and_count.ensures.best
 
 pub returns-clause-earlier : goal.returns-clause-earlier
 returns-clause-earlier c = λ before. λ earlier.

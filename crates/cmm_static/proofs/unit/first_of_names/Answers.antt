@@ -18,5 +18,5 @@ returns-clause-best c = λ before. λ links.
     (rw c.as_slice-exports.ensures at c.note_exports.ensures)
     (rw c.as_slice-exports.ensures at c.in_ok-note_twice.ensures.best before links)
     (rw c.as_slice-declared.ensures at c.note_imports.ensures)
-    (rw c.as_slice-things.ensures at c.note_targets.ensures)
-    (rw c.as_slice-things.ensures at c.in_ok-note_things.ensures)
+    (rw c.things-things.ensures at c.note_targets.ensures)
+    (rw c.things-things.ensures at c.in_ok-note_things.ensures)

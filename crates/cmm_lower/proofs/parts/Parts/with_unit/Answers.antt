@@ -1,9 +1,9 @@
 use Rattle.std.proofs.Common.{◌≡◌, ◌+◌, ◌<◌, ◌^◌, ◌++◌, map, subst}
 use Rattle.std.specs.Prelude.{flat_map}
 use Rattle.std.specs.List.{All}
+use Rattle.cmm_ast.specs.declared.unit.Unit.{Unit as UnitTree}
 use Rattle.cmm_static_semantics.specs.Items.{items_of}
 use Rattle.cmm_unit_scope.specs.Senses.{senses_of}
-use Rattle.cmm_symbols.specs.Shown.{thing_item}
 use Rattle.cmm_elaboration.specs.Data.{datums_among, item_datums, unit_labels}
 use Rattle.cmm_lower.proofs.Growing.{IsShort, parts_next}
 use Rattle.cmm_lower.proofs.parts.Parts.with_unit.Goals as goal
@@ -15,10 +15,11 @@ returns c program before u fits known number are =
     let first = c.next_datum-first.result in
     parts_next program before u c.args.number unit fits known number c.args.self.procs c.add_procedures.new.to c.args.self.datums c.add_datums.new.to
     c.args.self.labels c.add_labels.new.to first are c.in_ok-add_procedures.ensures
-    (subst (λ ts. All IsShort (flat_map (item_datums names) (map thing_item ts)) →
-    c.add_datums.new.to ≡ c.args.self.datums ++ flat_map (item_datums names) (map thing_item ts)) c.as_slice.ensures c.in_ok-add_datums.ensures.fitting)
+    (subst (λ is. All IsShort (flat_map (item_datums names) is) → c.add_datums.new.to ≡ c.args.self.datums ++ flat_map (item_datums names) is) c.things.ensures
+    c.in_ok-add_datums.ensures.fitting)
     c.next_datum-first.ensures
-    (subst (λ xs. first + datums_among (items_of unit.tree.now) < 2 ^ 32 → c.add_labels.new.to ≡ c.args.self.labels ++ unit_labels (map (λ e. e.now) xs) first unit.tree.now.parts)
-    c.as_slice-2.ensures
-    (subst (λ es. first + datums_among (items_of unit.tree.now) < 2 ^ 32 → c.add_labels.new.to ≡ c.args.self.labels ++ unit_labels (map (λ e. e.now) es.now) first unit.tree.now.parts)
-    c.in_ok-links.ensures c.in_ok-add_labels.ensures.fitting))
+    (subst (λ (t : UnitTree). first + datums_among (items_of t) < 2 ^ 32 → c.add_labels.new.to ≡ c.args.self.labels ++ unit_labels (map (λ e. e.now) unit.exports) first t.parts) c.tree.ensures
+    (subst (λ xs. first + datums_among (items_of c.tree.result.now) < 2 ^ 32 → c.add_labels.new.to ≡ c.args.self.labels ++ unit_labels (map (λ e. e.now) xs) first c.tree.result.now.parts)
+    c.as_slice.ensures
+    (subst (λ es. first + datums_among (items_of c.tree.result.now) < 2 ^ 32 → c.add_labels.new.to ≡ c.args.self.labels ++ unit_labels (map (λ e. e.now) es.now) first c.tree.result.now.parts)
+    c.in_ok-links.ensures c.in_ok-add_labels.ensures.fitting)))
