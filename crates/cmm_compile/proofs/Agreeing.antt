@@ -153,7 +153,7 @@ module _ (promises : Promises) (p : Program) (graphs : List Graph) (found : List
           omega (arith, end, most, same);
     }
 
-    runs : RunsProgram s graphs found l
+    runs : RunsProgram s graphs found t l
     runs = made.code s l record {
       program = refl;
       rows = made.rows;

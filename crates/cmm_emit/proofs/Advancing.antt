@@ -7,7 +7,7 @@ use Rattle.std.proofs.lemmas.List.{get_or-map, get_or_default, length-map, lengt
 use Rattle.std.proofs.lemmas.List.Sums.{sum_by_push}
 use Rattle.std.proofs.lemmas.Option.{get_or_from_slice_get, slice_get-get_or, slice_get_within}
 use Rattle.std.proofs.Math.Seq.{take-suc}
-use Rattle.rv_asm.proofs.Shared.{appends_weaker, codes_more, longest-append}
+use Rattle.rv_asm.proofs.Shared.{appends_weaker, codes_more, longest-append, shortest-append}
 use Rattle.rv_asm.specs.Appending.{Appends, Codes}
 use Rattle.rv_asm.specs.Assembly.{ArePlaced}
 use Rattle.rv_asm.specs.Assembly.{IsInner, IsLabel, IsTarget, is_inner, is_target, meaning}
@@ -24,17 +24,19 @@ use Rattle.cmm_bitset.specs.Sets.{has}
 use Rattle.cmm_program.specs.declared.procedure.Proc.{Proc}
 use Rattle.cmm_program.specs.declared.program.Program.{Program}
 use Rattle.cmm_graph.specs.declared.graph.Graph.{Graph}
+use Rattle.cmm_graph.specs.declared.node.Node.{Node}
 use Rattle.cmm_graph.specs.declared.number.NodeId.{NodeId}
 use Rattle.cmm_allocate.specs.declared.procedure.ProcedurePlaces.{ProcedurePlaces}
 use Rattle.cmm_emit.specs.declared.context.Context.{Context}
 use Rattle.cmm_emit.specs.Costs.{total_cost}
 use Rattle.cmm_emit.specs.LaidNodes.{AreLaid, AreUnplaced, HaveSites, IsOwn, PlacesOwn, StandsHere}
 use Rattle.cmm_emit.specs.Naming.{label_at}
-use Rattle.cmm_emit.specs.Standing.{IsReady}
+use Rattle.cmm_emit.proofs.NodeSites.{site_stays}
+use Rattle.cmm_emit.specs.Standing.{IsReady, SiteStands}
 use Rattle.cmm_emit.proofs.Belonging.{IsOne, there_at, entry_label, first_label_grows, length-entry_labels, one_of}
 use Rattle.cmm_emit.proofs.Numbering.{label_from, length-labels_from}
 use Rattle.cmm_emit.proofs.Owning.{length-with_own, own_before, own_behind, own_within}
-use Rattle.cmm_emit.proofs.Ordering.{order_more, shortest-append, split}
+use Rattle.cmm_emit.proofs.Ordering.{order_more, split}
 use Rattle.cmm_emit.specs.Contexts.{first_label}
 use Rattle.cmm_emit.specs.Labels.{labels_from}
 use Rattle.cmm_emit.specs.LaidProcedures.{CanAllBeLaid, HaveCodes, HaveLabels, tokens_of_first}
@@ -353,7 +355,8 @@ module _ (p : Program) (procs : List Proc) (graphs : List Graph) (found : List P
   -- ---- its code
 
   module _ (old mid new : List Part) (codes : HaveCodes procs graphs o n old) (placed : ArePlaced labels old) (added : Appends old mid (λ x from to. Unit {0}))
-      (code : (k : ℕ) → k < length g.nodes → Codes mid (label_at c.nodes k) (StandsHere c o.targets g k)) (closed : new ≡ mid ++ Single Ebreak ∷ [])
+      (code : (k : ℕ) → k < length g.nodes → Codes mid (label_at c.nodes k) (StandsHere c o.targets g k))
+      (stands : (k : ℕ) (node : Node) → slice_get g.nodes k ≡ Some node → SiteStands c node.kind mid) (closed : new ≡ mid ++ Single Ebreak ∷ [])
       (few : all_longest mid ≤ all_longest old + 4 * total_cost c o.targets g.nodes) where
     close : Appends mid new (λ x from to. Unit {0})
     close = appends_weaker (closing mid new closed) (λ x from to does. tt)
@@ -376,6 +379,18 @@ module _ (p : Program) (procs : List Proc) (graphs : List Graph) (found : List P
             let within_g : k < length g.nodes = subst (λ (z : Graph). k < length z.nodes) (sym is_g) inside in
             subst (λ (z : Graph). Codes new (label_at d.nodes k) (StandsHere d o.targets z k)) is_g
             (subst (λ (z : Context). Codes new (label_at z.nodes k) (StandsHere z o.targets g k)) is_c (codes_more (label_at c.nodes k) (code k within_g) close))
+
+    sites_then : (q : ℕ) (d : Context) (h : Graph) (k : ℕ) (node : Node) → q < n + 1 → slice_get o.contexts q ≡ Some d → slice_get graphs q ≡ Some h →
+        slice_get h.nodes k ≡ Some node → SiteStands d node.kind new
+    sites_then q d h k node less is also there = by (grind arith)
+      where
+        by : (q < n) ⊎ (q ≡ n) → SiteStands d node.kind new
+        by (inl before) = site_stays d node.kind (site_stays d node.kind (codes.sites q d h k node before is also there) added) close
+        by (inr same) =
+            let is_c : c ≡ d = some_same (sym one.is_context ∙ (ap (λ (z : ℕ). slice_get o.contexts z) (sym same) ∙ is)) in
+            let is_g : g ≡ h = some_same (sym one.is_graph ∙ (ap (λ (z : ℕ). slice_get graphs z) (sym same) ∙ also)) in
+            subst (λ (z : Context). SiteStands z node.kind new) is_c
+            (site_stays c node.kind (stands k node (subst (λ (z : Graph). slice_get z.nodes k ≡ Some node) (sym is_g) there)) close)
 
     abbrev entry : Label
     entry = label_at c.nodes g.first.number
@@ -422,6 +437,7 @@ module _ (p : Program) (procs : List Proc) (graphs : List Graph) (found : List P
     pub codes_next : HaveCodes procs graphs o (n + 1) new
     codes_next = record {
       nodes = nodes_then;
+      sites = sites_then;
       order = order_next;
       closed = inr (record { front = mid; last = Ebreak; is = closed });
       size = size_next;

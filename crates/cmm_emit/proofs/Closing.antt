@@ -56,6 +56,7 @@ module _ (p : Program) (procs : List Proc) (graphs : List Graph) (o : Outline) w
   pub none_laid : (parts : List Part) → parts ≡ [] → HaveCodes procs graphs o 0 parts
   none_laid parts none = record {
     nodes = λ q c g k less is also inside. absurd (omega (arith, less));
+    sites = λ q c g k node less is also there. absurd (omega (arith, less));
     order = tt;
     closed = inl none;
     size = omega (arith, ap all_longest none);

@@ -5,7 +5,7 @@ use Rattle.std.specs.List.{All}
 use Rattle.std.proofs.lemmas.Bool.{eqb-true}
 use Rattle.std.proofs.lemmas.Bool.Decides.{nat_tests}
 use Rattle.std.proofs.lemmas.List.{get_or-map, get_or_default, get_or_past, length-map}
-use Rattle.std.proofs.lemmas.Option.{get_or_from_slice_get, slice_get_within}
+use Rattle.std.proofs.lemmas.Option.{slice_get-get_or, get_or_from_slice_get, slice_get_within}
 use Rattle.rv_table.specs.Words.{sum}
 use Rattle.rv_table.specs.declared.request.Request.TheVariants.{End}
 use Rattle.rv_asm.proofs.Shared.{codes_do}
@@ -40,6 +40,7 @@ use Rattle.cmm_effects.specs.Requests.{AsksFor}
 use Rattle.cmm_emit_laws.specs.Finished.{Finished, code_of}
 use Rattle.cmm_emit_laws.specs.Placing.{FinishedCodeStands}
 use Rattle.cmm_unit_code.specs.Joined.{symbol_value}
+use Rattle.cmm_unit_code.specs.Texts.{address_in}
 use Rattle.cmm_unit_code.specs.declared.text.Text.{Text}
 use Rattle.cmm_unit_code.specs.declared.unit_code.UnitCode.{UnitCode}
 use Rattle.cmm_allocate.specs.declared.procedure.ProcedurePlaces.{ProcedurePlaces}
@@ -334,6 +335,12 @@ module _ (p : Program) (graphs : List Graph) (found : List ProcedurePlaces) (add
       pub site_fine : (m : ℕ) → m < length one.procedure.sites → (x_at (label_at c.sites m).number % 4 ≡ 0) × (x_at (label_at c.sites m).number ≤ 2 ^ 30)
       site_fine m less = (inner_fine (label_at c.sites m) (site_far m less)).1
 
+      pub node_place : (m : ℕ) → m < length g.nodes → x_at (label_at c.nodes m).number ≡ slice_index x.places (label_at c.nodes m).number + x.at
+      node_place m less = (inner_fine (label_at c.nodes m) (node_far m less)).0
+
+      pub site_is : (m : ℕ) → m < length one.procedure.sites → x_at (label_at c.sites m).number ≡ slice_index x.places (label_at c.sites m).number + x.at
+      site_is m less = (inner_fine (label_at c.sites m) (site_far m less)).0
+
       -- the label of a procedure is that of its first node
       pub entry_same : label_at o.entries k ≡ label_at c.nodes g.first.number
       entry_same = ap (λ (ls : List Label). label_at ls k) is.outline.entries ∙ entry_label o.contexts (own o graphs) k c g one.is_context one.is_graph
@@ -477,6 +484,30 @@ module _ (p : Program) (graphs : List Graph) (found : List ProcedurePlaces) (add
     -- it begins where the text says
     pub begins_at : get_or t.procedures q 0 ≡ at q (label_at this_context.nodes g.first.number).number
     begins_at = ap (λ (m : ℕ). get_or t.procedures m 0) (sym this.place) ∙ entry_is (unit q) this.is this.number g this.one
+
+    -- control comes back to a site where the text says
+    pub returns_there : (n : ℕ) → n < length this.one.procedure.sites → address_in t.sites q n ≡ Some (finished.symbols.return_to q n)
+    returns_there n less =
+        let l = label_at this_context.sites n in
+        let inside : n < length this_context.sites = omega (arith, less, sites_counted (unit q) this.is this.number g this.one) in
+        let there = this.is.sites this.number n this_context l this.one.is_context (slice_get-get_or this_context.sites n (record { number = 0 }) inside) in
+        let place : (unit q).at + slice_index (unit q).places l.number ≡ at q l.number = let is = site_is (unit q) this.is this.number g this.one n less in omega (arith, is) in
+        ap (λ (m : ℕ). address_in t.sites m n) (sym this.place) ∙ (there ∙ (ap Some place ∙ ap (λ (ls : List Label). Some (at q (label_at ls n).number)) (sym sites_are)))
+
+    -- and lands where it says
+    pub lands_there : (k : ℕ) (n : NodeId) → slice_get g.continuations k ≡ Some n → address_in t.landings q k ≡ Some (finished.symbols.landing_of q k)
+    lands_there k n is =
+        let l = label_at this_context.landings k in
+        let within_ = slice_get_within g.continuations k n is in
+        let inside : k < length this_context.landings = omega (arith, within_, landings_counted (unit q) this.is this.number g this.one) in
+        let there = this.is.lands this.number k this_context l this.one.is_context (slice_get-get_or this_context.landings k (record { number = 0 }) inside) in
+        let label : l ≡ label_at this_context.nodes n.number = landing_label (unit q) this.is this.number g this.one k n is in
+        let node : at q (label_at this_context.nodes n.number).number ≡ slice_index (unit q).places (label_at this_context.nodes n.number).number + (unit q).at =
+        node_place (unit q) this.is this.number g this.one n.number (lands_inside k n is) in
+        let same : at q l.number ≡ slice_index (unit q).places l.number + (unit q).at =
+        subst (λ (z : Label). at q z.number ≡ slice_index (unit q).places z.number + (unit q).at) (sym label) node in
+        let place : (unit q).at + slice_index (unit q).places l.number ≡ at q l.number = omega (arith, same) in
+        ap (λ (m : ℕ). address_in t.landings m k) (sym this.place) ∙ (there ∙ (ap Some place ∙ ap (λ (ls : List Label). Some (at q (label_at ls k).number)) (sym landings_are)))
 
 -- ---- in an image
 

@@ -97,6 +97,8 @@ module _ (p : Program) (graphs : List Graph) (found : List ProcedurePlaces) (fir
     procedures = subst (λ (ns : List ℕ). All (λ offset. offset ≤ size) ns) (sym is.finished.procedures) (places_within o.entries);
     landings = subst (λ (ns : List (List ℕ)). All (All (λ offset. offset ≤ size)) ns) (sym is.finished.landings)
         (All-map (All (λ offset. offset ≤ size)) (λ c. places_at places c.landings) o.contexts (λ k d less. places_within (get_or o.contexts k d).landings));
+    sites = subst (λ (ns : List (List ℕ)). All (All (λ offset. offset ≤ size)) ns) (sym is.finished.sites)
+        (All-map (All (λ offset. offset ≤ size)) (λ c. places_at places c.sites) o.contexts (λ k d less. places_within (get_or o.contexts k d).sites));
   }
 
   module _ (can : CanAllBeLaidIn p graphs found o) (graph_count : length graphs ≡ length p.procs)

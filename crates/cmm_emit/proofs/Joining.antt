@@ -8,6 +8,7 @@ use Rattle.rv_table.specs.Memory.{code_base}
 use Rattle.rv_asm.specs.Filling.{filled}
 use Rattle.rv_asm.specs.declared.part.Label.{Label}
 use Rattle.cmm_program.specs.declared.procedure.Proc.{Proc}
+use Rattle.cmm_program.specs.declared.procedure.Site.{Site}
 use Rattle.cmm_program.specs.declared.program.Program.{Program}
 use Rattle.cmm_program.specs.InRange.{IsInRange}
 use Rattle.cmm_program.specs.Layout.{label_addresses}
@@ -18,9 +19,9 @@ use Rattle.cmm_emit_laws.specs.Placing.{FinishedCodeStands}
 use Rattle.cmm_emit_laws.specs.Naming.{GraphsAreNamed}
 use Rattle.cmm_data.specs.Laws.{InRangeCanBeLaidOut, LabelsLieInData, LiesInData}
 use Rattle.cmm_flow.specs.Flow.{IsFlow}
-use Rattle.cmm_flow.specs.Laws.{AnswersAreGraphs, AnswersWaitOnce}
-use Rattle.cmm_unit_code.specs.Joined.{CanBeJoined, IsJoined, IsTextOf, IsWhole, joined_code, procedure_addresses}
-use Rattle.cmm_unit_code.specs.Texts.{IsText}
+use Rattle.cmm_flow.specs.Laws.{AnswersAreGraphs, AnswersHaveSites, AnswersWaitAtEach, AnswersWaitOnce}
+use Rattle.cmm_unit_code.specs.Joined.{CanBeJoined, IsJoined, IsTextOf, IsWhole, joined_code, landing_addresses, procedure_addresses, site_addresses}
+use Rattle.cmm_unit_code.specs.Texts.{IsText, address_in}
 use Rattle.cmm_unit_code.specs.declared.text.Text.{Text}
 use Rattle.cmm_unit_code.specs.declared.unit_code.ProgramCode.{ProgramCode}
 use Rattle.cmm_unit_code.specs.declared.unit_code.UnitCode.{UnitCode}
@@ -28,9 +29,14 @@ use Rattle.cmm_allocate.specs.declared.procedure.ProcedurePlaces.{ProcedurePlace
 use Rattle.cmm_allocate.specs.Laws.{RowsHaveFrames}
 use Rattle.cmm_allocate.specs.Places.{HavePlaces}
 use Rattle.cmm_emit.specs.Naming.{label_at}
-use Rattle.cmm_emit.proofs.Belonging.{length-entry_labels}
-use Rattle.cmm_emit.proofs.Coding.{finished}
-use Rattle.cmm_emit.proofs.Layable.{can_all_be_laid, coded_at, continuations_counted, found_counted, graph_of, graphs_counted, places_at, procedure_beside}
+use Rattle.cmm_emit.specs.declared.context.Context.{Context}
+use Rattle.cmm_emit.proofs.Belonging.{length-entry_labels, there_at}
+use Rattle.cmm_emit.proofs.Coding.{finished, here, lands_there, returns_there}
+use Rattle.cmm_emit.proofs.JoinedSites.{front_sites, map_there, moved, site_there, skip_sites}
+use Rattle.cmm_emit.specs.Finishing.{places_at as label_places}
+use Rattle.std.proofs.lemmas.Option.{slice_get_within}
+use Rattle.cmm_emit.proofs.Layable.{can_all_be_laid, coded_at, continuations_counted, flow_of, found_counted, graph_of, graphs_counted, places_at, procedure_beside, range_of}
+use Rattle.cmm_emit.proofs.SiteNodes.{IsWaited, waited}
 use Rattle.cmm_emit.proofs.Ranged.{all_whole, code_bounded, code_fits, filled_counted, is_text, last_low, procedure_count, procedures_aligned, procedures_low, size_fits}
 use Rattle.cmm_emit.proofs.Standing.{HasProcedure, IsJoint, IsLaid, Laid, StandAt, unit_of, value_in}
 use Rattle.cmm_emit.proofs.Whole.{AreGraphs, is_code, starts}
@@ -58,7 +64,7 @@ module _ (p : Program) (graphs : List Graph) (found : List ProcedurePlaces)
   laid_from first end at (u ∷ us) are = made first are.0 at u are.1 ∷ laid_from (first + are.0) end (at + length u.code) us are.2
 
   -- what is so far of the text, before the units from an address on
-  pub record IsBehind (first at : ℕ) (us : List UnitCode) : Type 0 where
+  pub record StandBehind (first at : ℕ) (us : List UnitCode) : Type 0 where
     pub front : List ℕ
     pub code : t.code ≡ front ++ joined_code value at us
     pub place : at ≡ code_base + length front
@@ -66,8 +72,14 @@ module _ (p : Program) (graphs : List Graph) (found : List ProcedurePlaces)
     pub earlier : List ℕ
     pub procedures : t.procedures ≡ earlier ++ procedure_addresses at us
     pub count : length earlier ≡ first
+    pub earlier_sites : List (List ℕ)
+    pub sites : t.sites ≡ earlier_sites ++ site_addresses at us
+    pub sites_count : length earlier_sites ≡ first
+    pub earlier_landings : List (List ℕ)
+    pub landings : t.landings ≡ earlier_landings ++ landing_addresses at us
+    pub landings_count : length earlier_landings ≡ first
 
-  module _ (first count at : ℕ) (u : UnitCode) (us : List UnitCode) (is : IsUnit p graphs found first count u) (behind : IsBehind first at (u ∷ us)) where
+  module _ (first count at : ℕ) (u : UnitCode) (us : List UnitCode) (is : IsUnit p graphs found first count u) (behind : StandBehind first at (u ∷ us)) where
     abbrev x : Laid
     x = made first count at u is
 
@@ -113,6 +125,48 @@ module _ (p : Program) (graphs : List Graph) (found : List ProcedurePlaces)
         ∙ (get_or_append_left (map moved u.procedures) (procedure_addresses (at + length u.code) us) 0 k (omega (arith, inside, here))
         ∙ (get_or-map moved u.procedures k 0 0 inside ∙ at_place))))
 
+    site : (k n : ℕ) (c : Context) (l : Label) → slice_get is.outline.contexts k ≡ Some c → slice_get c.sites n ≡ Some l →
+        address_in t.sites (is.outline.first + k) n ≡ Some (at + slice_index is.finished.places l.number)
+    site k n c l is_context is_label =
+        let places = is.finished.places in
+        let place = λ (z : Label). slice_index places z.number in
+        let own = map place c.sites in
+        let up = λ (offset : ℕ). at + offset in
+        let later = site_addresses (at + length u.code) us in
+        let number : is.outline.first + k ≡ length behind.earlier_sites + k = let count_ = behind.sites_count in let first_ = is.first_is in omega (arith, count_, first_) in
+        let there : slice_get u.sites k ≡ Some own =
+        subst (λ (ns : List (List ℕ)). slice_get ns k ≡ Some own) (sym is.finished.sites) (map_there (λ c. label_places places c.sites) is.outline.contexts k c is_context) in
+        let moved_there : slice_get (moved at u.sites) k ≡ Some (map up own) = map_there (λ offsets. map (λ offset. at + offset) offsets) u.sites k own there in
+        let address : slice_get (map up own) n ≡ Some (at + place l) = map_there up own n (place l) (map_there place c.sites n l is_label) in
+        ap (λ (ns : List (List ℕ)). address_in ns (is.outline.first + k) n) behind.sites
+        ∙ (ap (λ (m : ℕ). address_in (behind.earlier_sites ++ (moved at u.sites ++ later)) m n) number
+        ∙ (skip_sites behind.earlier_sites (moved at u.sites ++ later) k n
+        ∙ front_sites (moved at u.sites) later k n (at + place l) (site_there (moved at u.sites) k n (map up own) (at + place l) moved_there address)))
+
+    sites_counted : length u.sites ≡ length is.outline.contexts
+    sites_counted = ap (λ (ns : List (List ℕ)). length ns) is.finished.sites ∙ length-map is.outline.contexts (λ (c : Context). label_places is.finished.places c.sites)
+
+    land : (k n : ℕ) (c : Context) (l : Label) → slice_get is.outline.contexts k ≡ Some c → slice_get c.landings n ≡ Some l →
+        address_in t.landings (is.outline.first + k) n ≡ Some (at + slice_index is.finished.places l.number)
+    land k n c l is_context is_label =
+        let places = is.finished.places in
+        let place = λ (z : Label). slice_index places z.number in
+        let own = map place c.landings in
+        let up = λ (offset : ℕ). at + offset in
+        let later = landing_addresses (at + length u.code) us in
+        let number : is.outline.first + k ≡ length behind.earlier_landings + k = let count_ = behind.landings_count in let first_ = is.first_is in omega (arith, count_, first_) in
+        let there : slice_get u.landings k ≡ Some own =
+        subst (λ (ns : List (List ℕ)). slice_get ns k ≡ Some own) (sym is.finished.landings) (map_there (λ c. label_places places c.landings) is.outline.contexts k c is_context) in
+        let moved_there : slice_get (moved at u.landings) k ≡ Some (map up own) = map_there (λ offsets. map (λ offset. at + offset) offsets) u.landings k own there in
+        let address : slice_get (map up own) n ≡ Some (at + place l) = map_there up own n (place l) (map_there place c.landings n l is_label) in
+        ap (λ (ns : List (List ℕ)). address_in ns (is.outline.first + k) n) behind.landings
+        ∙ (ap (λ (m : ℕ). address_in (behind.earlier_landings ++ (moved at u.landings ++ later)) m n) number
+        ∙ (skip_sites behind.earlier_landings (moved at u.landings ++ later) k n
+        ∙ front_sites (moved at u.landings) later k n (at + place l) (site_there (moved at u.landings) k n (map up own) (at + place l) moved_there address)))
+
+    lands_counted : length u.landings ≡ length is.outline.contexts
+    lands_counted = ap (λ (ns : List (List ℕ)). length ns) is.finished.landings ∙ length-map is.outline.contexts (λ (c : Context). label_places is.finished.places c.landings)
+
     unit_laid : IsLaid p graphs found addresses t x
     unit_laid = record {
       outline = is.is_outline;
@@ -121,9 +175,11 @@ module _ (p : Program) (graphs : List Graph) (found : List ProcedurePlaces)
       done = is.finished.done;
       stands = record { front = behind.front; back = joined_code value (at + length u.code) us; is = behind.code; place = behind.place; aligned = behind.aligned; within = within };
       entries = entry;
+      sites = site;
+      lands = land;
     }
 
-    next_behind : IsBehind (first + count) (at + length u.code) us
+    next_behind : StandBehind (first + count) (at + length u.code) us
     next_behind = record {
       front = behind.front ++ filled value at u.fixes u.code;
       code = behind.code ∙ sym (append_assoc behind.front (filled value at u.fixes u.code) (joined_code value (at + length u.code) us));
@@ -135,10 +191,22 @@ module _ (p : Program) (graphs : List Graph) (found : List ProcedurePlaces)
           let before = behind.count in
           let contexts = is.count_is in
           omega (arith, before, contexts, procedures_counted, length-append behind.earlier (map (λ offset. at + offset) u.procedures), length-map u.procedures (λ offset. at + offset));
+      earlier_sites = behind.earlier_sites ++ moved at u.sites;
+      sites = behind.sites ∙ sym (append_assoc behind.earlier_sites (moved at u.sites) (site_addresses (at + length u.code) us));
+      sites_count =
+          let before = behind.sites_count in
+          let contexts = is.count_is in
+          omega (arith, before, contexts, sites_counted, length-append behind.earlier_sites (moved at u.sites), length-map u.sites (λ offsets. map (λ offset. at + offset) offsets));
+      earlier_landings = behind.earlier_landings ++ moved at u.landings;
+      landings = behind.landings ∙ sym (append_assoc behind.earlier_landings (moved at u.landings) (landing_addresses (at + length u.code) us));
+      landings_count =
+          let before = behind.landings_count in
+          let contexts = is.count_is in
+          omega (arith, before, contexts, lands_counted, length-append behind.earlier_landings (moved at u.landings), length-map u.landings (λ offsets. map (λ offset. at + offset) offsets));
     }
 
   -- the unit of each procedure
-  pub unit_there : (first end at : ℕ) (us : List UnitCode) (are : AreUnits p graphs found first end us) → IsBehind first at us → (q : ℕ) → first ≤ q → q < end →
+  pub unit_there : (first end at : ℕ) (us : List UnitCode) (are : AreUnits p graphs found first end us) → StandBehind first at us → (q : ℕ) → first ≤ q → q < end →
       IsLaid p graphs found addresses t (unit_of (laid_from first end at us are) q) × HasProcedure (unit_of (laid_from first end at us are) q) q
   unit_there first end at [] are behind q least less = absurd (omega (arith, least, less, are))
   unit_there first end at (u ∷ us) are behind q least less =
@@ -172,7 +240,7 @@ module _ (p : Program) (graphs : List Graph) (found : List ProcedurePlaces)
     start_filled : length (filled value code_base start.code.fixes start.code.code) ≡ length start.code.code
     start_filled = (filled_counted value code_base 0 start.code.fixes start.code.code is_start.done.apart).0
 
-    pub start_behind : IsBehind 0 (code_base + length start.code.code) us
+    pub start_behind : StandBehind 0 (code_base + length start.code.code) us
     start_behind = record {
       front = filled value code_base start.code.fixes start.code.code;
       code = joined.code;
@@ -183,6 +251,16 @@ module _ (p : Program) (graphs : List Graph) (found : List ProcedurePlaces)
           joined.procedures
           ∙ ap (λ (ns : List ℕ). map (λ offset. code_base + offset) ns ++ procedure_addresses (code_base + length start.code.code) us) is_start.procedures;
       count = refl;
+      earlier_sites = [];
+      sites =
+          joined.sites
+          ∙ ap (λ (ns : List (List ℕ)). map (λ offsets. map (λ offset. code_base + offset) offsets) ns ++ site_addresses (code_base + length start.code.code) us) is_start.sites;
+      sites_count = refl;
+      earlier_landings = [];
+      landings =
+          joined.landings
+          ∙ ap (λ (ns : List (List ℕ)). map (λ offsets. map (λ offset. code_base + offset) offsets) ns ++ landing_addresses (code_base + length start.code.code) us) is_start.landings;
+      landings_count = refl;
     }
 
     pub start_stands : StandAt value t code_base start.code
@@ -238,12 +316,28 @@ module _ (p : Program) (graphs : List Graph) (found : List ProcedurePlaces)
             code = is_code s graphs found addresses t known graphs_ l has.rows has.code stands laid_by frames has.is_for;
             begins = begins.0;
             few = begins.1;
+            returns = λ q n procedure is less.
+                let is_procedure : slice_get s.program.procs q ≡ Some procedure = is in
+                let inside = slice_get_within s.program.procs q procedure is in
+                let g = there_at graphs q (let count_ = known.graph_count in omega (arith, inside, count_)) in
+                let this = here s.program graphs found addresses t known q g.0 g.1 in
+                let own = this.is_procedure in
+                let same : this.one.procedure ≡ procedure = cc in
+                returns_there s.program graphs found addresses t known q g.0 this n (subst (λ (z : Proc). n < length z.sites) (sym same) less);
+            lands = λ q k procedure is less.
+                let inside = slice_get_within s.program.procs q procedure is in
+                let g = there_at graphs q (let count_ = known.graph_count in omega (arith, inside, count_)) in
+                let this = here s.program graphs found addresses t known q g.0 g.1 in
+                let many = known.continuations q procedure g.0 is g.1 in
+                let node = there_at (g.0).continuations k (omega (arith, less, many)) in
+                lands_there s.program graphs found addresses t known q g.0 this k node.0 node.1;
+            last = refl;
           }
 
 -- ---- a located program, with the codes of its units
 
 module _ (p : Program) (graphs : List Graph) (found : List ProcedurePlaces) (range : IsInRange p) (flows : AllZip IsFlow p.procs graphs)
-    (places : HavePlaces p.procs graphs found) (coded : CanBeCoded graphs) (answers : AnswersAreGraphs) (named : GraphsAreNamed) (made : FramesCanBeMade) (waits : AnswersWaitOnce)
+    (places : HavePlaces p.procs graphs found) (coded : CanBeCoded graphs) (answers : AnswersAreGraphs) (named : GraphsAreNamed) (made : FramesCanBeMade) (waits : AnswersWaitOnce) (each : AnswersWaitAtEach) (have : AnswersHaveSites)
     (short : AreShort p.procs graphs found) (start : Start) (is_start : IsStart p start)
     (codes : List UnitCode) (units : (us : List UnitCode) × (codes ≡ start.code ∷ us) × (length us ≤ 256) × AreUnits p graphs found 0 (length p.procs) us) where
   abbrev pub code : ProgramCode
@@ -258,6 +352,12 @@ module _ (p : Program) (graphs : List Graph) (found : List ProcedurePlaces) (ran
   continuations : (q : ℕ) (procedure : Proc) (g : Graph) → slice_get p.procs q ≡ Some procedure → slice_get graphs q ≡ Some g → length g.continuations ≡ length procedure.conts
   continuations = continuations_counted p graphs found range flows places coded answers named
 
+  waiting : (q : ℕ) (procedure : Proc) (g : Graph) → slice_get p.procs q ≡ Some procedure → slice_get graphs q ≡ Some g → (n : ℕ) (site : Site) →
+      slice_get procedure.sites n ≡ Some site → IsWaited g n site
+  waiting q procedure g is also n site there =
+      waited p procedure g each have (range_of p graphs found range flows places coded answers named q procedure is)
+      (flow_of p graphs found range flows places coded answers named q procedure g is also) n site there
+
   abbrev us : List UnitCode
   us = units.0
 
@@ -269,9 +369,9 @@ module _ (p : Program) (graphs : List Graph) (found : List ProcedurePlaces) (ran
 
   pub can_be_joined : CanBeJoined code
   can_be_joined = record {
-    whole = subst (All IsWhole) (sym units.1) (all_whole p graphs found range graph_count continuations can us few are start is_start);
+    whole = subst (All IsWhole) (sym units.1) (all_whole p graphs found range graph_count continuations waiting can us few are start is_start);
     room =
-        let fits = size_fits p graphs found range graph_count continuations can us few are start is_start in
+        let fits = size_fits p graphs found range graph_count continuations waiting can us few are start is_start in
         subst (λ (cs : List UnitCode). code_base + sum_by (λ u. length u.code) cs ≤ 2 ^ 30) (sym units.1) (omega (arith, fits));
     last = last_low p start is_start;
   }
@@ -281,10 +381,10 @@ module _ (p : Program) (graphs : List Graph) (found : List ProcedurePlaces) (ran
     joined = subst (λ (cs : List UnitCode). IsJoined (length p.globals) (label_addresses p) cs start.last t) units.1 is
 
     pub text_is : IsText p t
-    text_is = is_text p graphs found range graph_count continuations can us few are start is_start (label_addresses p) t joined
+    text_is = is_text p graphs found range graph_count continuations waiting can us few are start is_start (label_addresses p) t joined
 
     pub text_bounded : length t.code ≤ code_bound (sum_by (λ q. q.tokens) p.procs)
-    text_bounded = code_bounded p graphs found range graph_count continuations can us few are start is_start (label_addresses p) t joined
+    text_bounded = code_bounded p graphs found range graph_count continuations waiting can us few are start is_start (label_addresses p) t joined
 
     graphs_known : AreCovered graphs found → AreGraphs p graphs found
     graphs_known covered = record {
@@ -303,8 +403,8 @@ module _ (p : Program) (graphs : List Graph) (found : List ProcedurePlaces) (ran
     code_of_program covered lie layable stands laid_by frames =
         code_is p graphs found can (label_addresses p) t start is_start us joined are range graph_count
         (found_counted p graphs found range flows places coded answers named) refl (lie p (layable p range)) continuations
-        (procedure_count p graphs found range graph_count continuations can us few are start is_start (label_addresses p) t joined)
-        (procedures_aligned p graphs found range graph_count continuations can us few are start is_start (label_addresses p) t joined)
-        (procedures_low p graphs found range graph_count continuations can us few are start is_start (label_addresses p) t joined)
-        (code_fits p graphs found range graph_count continuations can us few are start is_start (label_addresses p) t joined)
+        (procedure_count p graphs found range graph_count continuations waiting can us few are start is_start (label_addresses p) t joined)
+        (procedures_aligned p graphs found range graph_count continuations waiting can us few are start is_start (label_addresses p) t joined)
+        (procedures_low p graphs found range graph_count continuations waiting can us few are start is_start (label_addresses p) t joined)
+        (code_fits p graphs found range graph_count continuations waiting can us few are start is_start (label_addresses p) t joined)
         (graphs_known covered) stands laid_by frames

@@ -1,3 +1,4 @@
+mod NodeSites
 mod Operands
 mod Bodies
 mod Assigning
@@ -19,12 +20,16 @@ mod WaitingNodes
 mod Fitting
 mod Procedures
 mod Addresses
+mod Returns
+mod SiteNodes
 mod Standing
 mod Symbols
 mod Coding
 mod Weakening
 mod Whole
 mod Inside
+mod UnitSites
+mod JoinedSites
 mod Ranged
 mod Advancing
 mod Counting

@@ -6,12 +6,6 @@ use Rattle.rv_asm.specs.declared.part.Part.{Part}
 use Rattle.rv_asm.specs.declared.part.Part.TheVariants.{Place}
 use Rattle.cmm_emit.specs.Orders.{AreInOrder}
 
--- ---- sizes
-
-pub shortest-append : (ps qs : List Part) → all_shortest (ps ++ qs) ≡ all_shortest ps + all_shortest qs
-shortest-append [] qs = omega arith
-shortest-append (p ∷ ps) qs = let rest = shortest-append ps qs in omega (arith, rest)
-
 -- the parts between two indexes have those between, at least
 pub between : (front piece back : List Part) (k : ℕ) → length front + length piece ≤ k →
     all_shortest piece ≤ all_shortest (drop (length front) (take k (front ++ (piece ++ back))))

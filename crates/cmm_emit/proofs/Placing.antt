@@ -12,8 +12,9 @@ use Rattle.cmm_graph.specs.declared.node.Node.{Node}
 use Rattle.cmm_graph.specs.declared.number.NodeId.{NodeId}
 use Rattle.cmm_emit.specs.declared.context.Context.{Context}
 use Rattle.cmm_emit.specs.declared.context.Targets.{Targets}
+use Rattle.cmm_emit.proofs.NodeSites.{stand_comes}
 use Rattle.cmm_emit.specs.Costs.{cost_of}
-use Rattle.cmm_emit.specs.LaidNodes.{AreLaid, CodesAlone, EndsAt, HaveCode, IsPending, SitesWait, StandsHere}
+use Rattle.cmm_emit.specs.LaidNodes.{AreLaid, CodesAlone, EndsAt, HaveCode, IsPending, SitesStand, SitesWait, StandsHere}
 use Rattle.cmm_emit.specs.Naming.{label_at}
 use Rattle.cmm_emit.specs.Standing.{HasCode, IsReady}
 
@@ -58,8 +59,8 @@ module _ (p : Context) (y : Targets) (g : Graph) where
 
   -- and then another has its place at the end
   pub place_comes : (labels : List Meaning) (old new : List Bool) (n : NodeId) (parts : List Part) → EndsAt p n old new parts → IsReady labels p y → AreLaid labels p new →
-      SitesWait p g labels new (Some n) → length old ≡ length p.nodes → HaveCode p y g old None parts → IsPending p y g labels new n parts
-  place_comes labels old new n parts ends ready laid waits size have = record {
+      SitesWait p g labels new (Some n) → length old ≡ length p.nodes → HaveCode p y g old None parts → SitesStand p g old None parts → IsPending p y g labels new n parts
+  place_comes labels old new n parts ends ready laid waits size have stand = record {
     ready = ready;
     laid = laid;
     waits = waits;
@@ -68,4 +69,5 @@ module _ (p : Context) (y : Targets) (g : Graph) where
     front = ends.front;
     ends = ends.is;
     have = λ k there differ. have k (sym (has-set_other old n.number k true differ) ∙ subst (λ (z : List Bool). has z k ≡ true) ends.placed there);
+    stand = rw ends.placed (stand_comes p g old n.number parts stand);
   }

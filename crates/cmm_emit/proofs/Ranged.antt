@@ -1,5 +1,5 @@
 -- The text of a program is in range.
-use Rattle.std.proofs.Common.{◌≡◌, ℕ, zero, suc, ◌+◌, ◌*◌, ◌%◌, ◌<◌, ◌≤◌, ◌^◌, refl, sym, ◌∙◌, ap, subst, arith, Bool, true, false, List, [], ◌∷◌, ◌++◌, length, length-append, length-drop, map, take, drop, get_or, Some, slice_get}
+use Rattle.std.proofs.Common.{◌≡◌, ◌⊎◌, inl, inr, ℕ, zero, suc, ◌+◌, ◌*◌, ◌%◌, ◌<◌, ◌≤◌, ◌^◌, refl, sym, ◌∙◌, ap, subst, arith, Bool, true, false, List, [], ◌∷◌, ◌++◌, length, length-append, length-drop, map, take, drop, get_or, Some, slice_get}
 use Rattle.std.specs.Prelude.{◌&&◌, ◌==◌, nat_le, nat_lt, sum_by}
 use Rattle.std.specs.List.{All, AllZip, list_all}
 use Rattle.std.proofs.lemmas.Bool.{and_parts, eq-eqb, eqb-true}
@@ -17,18 +17,22 @@ use Rattle.cmm_program.proofs.Shared.{list_all_get}
 use Rattle.cmm_program.specs.Bounds.{code_bound}
 use Rattle.cmm_program.specs.InRange.{IsInRange}
 use Rattle.cmm_program.specs.declared.procedure.Proc.{Proc}
+use Rattle.cmm_program.specs.declared.procedure.Site.{Site}
 use Rattle.cmm_program.specs.declared.program.Program.{Program}
 use Rattle.cmm_graph.specs.declared.graph.Graph.{Graph}
 use Rattle.cmm_image.specs.ImageFormat.{is_code_length, is_in_code}
-use Rattle.cmm_unit_code.specs.Joined.{IsJoined, IsWhole, joined_code, landing_addresses, procedure_addresses}
-use Rattle.cmm_unit_code.specs.Texts.{HasLandings, IsText, ascend_above}
+use Rattle.cmm_unit_code.specs.Joined.{IsJoined, IsWhole, joined_code, landing_addresses, procedure_addresses, site_addresses}
+use Rattle.cmm_unit_code.specs.Texts.{AreDistinct, HasLandings, HasSitesAt, IsSiteAt, IsText, address_in, ascend_above}
 use Rattle.cmm_unit_code.specs.declared.text.Text.{Text}
 use Rattle.cmm_unit_code.specs.declared.unit_code.UnitCode.{UnitCode}
 use Rattle.cmm_allocate.specs.declared.procedure.ProcedurePlaces.{ProcedurePlaces}
 use Rattle.cmm_emit.proofs.Addresses.{place_fine}
 use Rattle.cmm_emit.proofs.Inside.{IsInside, IsRanged, unit_ranged}
 use Rattle.cmm_emit.proofs.Named.{join}
+use Rattle.cmm_emit.proofs.JoinedSites.{distinct_both, in_one, is_moved}
 use Rattle.cmm_emit.proofs.Standing.{value_in}
+use Rattle.cmm_emit.proofs.UnitSites.{HasSitesIn, IsSited, IsSiteIn, unit_sited}
+use Rattle.cmm_emit.proofs.SiteNodes.{IsWaited}
 use Rattle.cmm_emit.specs.LaidProcedures.{CanAllBeLaidIn}
 use Rattle.cmm_emit.specs.Outlines.{share}
 use Rattle.cmm_emit.specs.Starts.{IsStart, start_labels}
@@ -124,6 +128,9 @@ pub record AreRanged (p : Program) (first : ℕ) (us : List UnitCode) : Type 0 w
   pub ascending : (at before : ℕ) → before < at → ascend_above before (procedure_addresses at us) ≡ true
   pub counts : (at : ℕ) → AllZip HasLandings (drop first p.procs) (landing_addresses at us)
   pub landings : (at n : ℕ) → at % 4 ≡ 0 → code_base ≤ at → at + size us ≤ code_base + n → list_all (list_all (is_in_code n)) (landing_addresses at us) ≡ true
+  pub sites : (at n : ℕ) → at % 4 ≡ 0 → code_base ≤ at → at + size us ≤ code_base + n → AllZip (HasSitesAt n) (drop first p.procs) (site_addresses at us)
+  pub above : (at q n a : ℕ) → address_in (site_addresses at us) q n ≡ Some a → at ≤ a
+  pub distinct : (at : ℕ) → AreDistinct (site_addresses at us)
 
 none_ranged : (p : Program) (first : ℕ) → first ≡ length p.procs → AreRanged p first []
 none_ranged p first is = record {
@@ -135,14 +142,34 @@ none_ranged p first is = record {
   ascending = λ at before less. refl;
   counts = λ at. subst (λ (qs : List Proc). AllZip HasLandings qs []) (sym (drop_all first p.procs (omega (arith, is)))) tt;
   landings = λ at n aligned low high. refl;
+  sites = λ at n aligned low high. subst (λ (qs : List Proc). AllZip (HasSitesAt n) qs []) (sym (drop_all first p.procs (omega (arith, is)))) tt;
+  above = λ at q n a there. absurd (cc);
+  distinct = λ at q r m n a here there. absurd (cc);
 }
 
-module _ (p : Program) (first count : ℕ) (u : UnitCode) (us : List UnitCode) (one : IsRanged p first count u) (rest : AreRanged p (first + count) us) where
+module _ (p : Program) (first count : ℕ) (u : UnitCode) (us : List UnitCode) (one : IsRanged p first count u) (sited : IsSited p first count u) (rest : AreRanged p (first + count) us) where
   abbrev own : ℕ → List ℕ
   own at = map (λ offset. at + offset) u.procedures
 
   abbrev cut : ℕ → List (List ℕ)
   cut at = map (λ offsets. map (λ offset. at + offset) offsets) u.landings
+
+  abbrev back : ℕ → List (List ℕ)
+  back at = map (λ offsets. map (λ offset. at + offset) offsets) u.sites
+
+  site_moved : (at n : ℕ) → at % 4 ≡ 0 → code_base ≤ at → at + length u.code ≤ code_base + n → (site : Site) (offset : ℕ) → IsSiteIn (length u.code) site offset →
+      IsSiteAt n site (at + offset)
+  site_moved at n aligned low high site offset is =
+      let four = is.0.0 in
+      let less = is.1 in (
+        inside_code at (length u.code) n aligned low high offset is.0,
+        in_code n (at + offset + 4 * length site.returns) (omega (arith, low)) (omega (arith, high, less)) (omega (arith, aligned, four)),
+      )
+
+  above_both : (at q n a : ℕ) → ((q < length (back at)) × (address_in (back at) q n ≡ Some a)) ⊎
+      ((r : ℕ) × (q ≡ length (back at) + r) × (address_in (site_addresses (at + length u.code) us) r n ≡ Some a)) → at ≤ a
+  above_both at q n a (inl own_) = let is = (is_moved at u.sites q n a own_.1).is in omega (arith, is)
+  above_both at q n a (inr later) = let least = rest.above (at + length u.code) later.0 n a later.2 in omega (arith, least)
 
   sizes : size (u ∷ us) ≡ length u.code + size us
   sizes = sum_by-cons (λ (v : UnitCode). length v.code) u us
@@ -182,6 +209,19 @@ module _ (p : Program) (first count : ℕ) (u : UnitCode) (us : List UnitCode) (
         (All-weaker (All (IsInside (length u.code))) (λ offsets. list_all (is_in_code n) (map (λ offset. at + offset) offsets) ≡ true)
         (all_inside at (length u.code) n aligned low (omega (arith, high, sizes))) u.landings one.landings)))
         (rest.landings (at + length u.code) n (omega (arith, aligned, four)) (omega (arith, low)) (omega (arith, high, sizes)));
+    sites = λ at n aligned low high.
+        let four = one.aligned in
+        zip_append (HasSitesAt n) count (drop first p.procs) (back at) (site_addresses (at + length u.code) us) few_left
+        (zip_map (HasSitesIn (length u.code)) (HasSitesAt n) (λ offsets. map (λ offset. at + offset) offsets)
+        (λ q offsets are. zip_map (IsSiteIn (length u.code)) (IsSiteAt n) (λ offset. at + offset) (site_moved at n aligned low (omega (arith, high, sizes))) q.sites offsets are)
+        (share first count p.procs) u.sites sited.sites)
+        (subst (λ (qs : List Proc). AllZip (HasSitesAt n) qs (site_addresses (at + length u.code) us)) (sym (drop-drop count first p.procs))
+        (rest.sites (at + length u.code) n (omega (arith, aligned, four)) (omega (arith, low)) (omega (arith, high, sizes))));
+    above = λ at q n a there. above_both at q n a (in_one (back at) (site_addresses (at + length u.code) us) q n a there);
+    distinct = λ at.
+        distinct_both at (at + length u.code) u.sites (site_addresses (at + length u.code) us) sited.distinct
+        (λ q n o there. let less = sited.below q n o there in omega (arith, less))
+        (rest.distinct (at + length u.code)) (rest.above (at + length u.code));
   }
     where
       few_left : count ≤ length (drop first p.procs)
@@ -194,6 +234,8 @@ start_whole p start is = record {
   apart = is.done.apart;
   procedures = subst (λ (ns : List ℕ). All (λ offset. offset ≤ length start.code.code) ns) (sym is.procedures) (All-nil (λ offset. offset ≤ length start.code.code));
   landings = subst (λ (ns : List (List ℕ)). All (All (λ offset. offset ≤ length start.code.code)) ns) (sym is.landings)
+      (All-nil (All (λ offset. offset ≤ length start.code.code)));
+  sites = subst (λ (ns : List (List ℕ)). All (All (λ offset. offset ≤ length start.code.code)) ns) (sym is.sites)
       (All-nil (All (λ offset. offset ≤ length start.code.code)));
 }
 
@@ -241,11 +283,15 @@ joined_counted value at (u ∷ us) whole =
 module _ (p : Program) (graphs : List Graph) (found : List ProcedurePlaces) (range : IsInRange p) (graph_count : length graphs ≡ length p.procs)
     (continuations : (q : ℕ) (procedure : Proc) (g : Graph) → slice_get p.procs q ≡ Some procedure → slice_get graphs q ≡ Some g →
     length g.continuations ≡ length procedure.conts)
+    (waiting : (q : ℕ) (procedure : Proc) (g : Graph) → slice_get p.procs q ≡ Some procedure → slice_get graphs q ≡ Some g → (n : ℕ) (site : Site) →
+    slice_get procedure.sites n ≡ Some site → IsWaited g n site)
     (can_of : (first count : ℕ) (u : UnitCode) (is : IsUnit p graphs found first count u) → CanAllBeLaidIn p graphs found is.outline) where
   are_ranged : (first : ℕ) (us : List UnitCode) → AreUnits p graphs found first (length p.procs) us → AreRanged p first us
   are_ranged first [] are = none_ranged p first are
   are_ranged first (u ∷ us) are =
-      one_more p first are.0 u us (unit_ranged p graphs found first are.0 u are.1 (can_of first are.0 u are.1) graph_count continuations) (are_ranged (first + are.0) us are.2)
+      one_more p first are.0 u us (unit_ranged p graphs found first are.0 u are.1 (can_of first are.0 u are.1) graph_count continuations)
+      (unit_sited p graphs found first are.0 u are.1 (can_of first are.0 u are.1) graph_count waiting)
+      (are_ranged (first + are.0) us are.2)
 
   module _ (units : List UnitCode) (few : length units ≤ 256) (are : AreUnits p graphs found 0 (length p.procs) units) (start : Start) (is_start : IsStart p start) where
     ranged : AreRanged p 0 units
@@ -306,6 +352,10 @@ module _ (p : Program) (graphs : List Graph) (found : List ProcedurePlaces) (ran
       landings_are =
           joined.landings
           ∙ ap (λ (ns : List (List ℕ)). map (λ offsets. map (λ offset. code_base + offset) offsets) ns ++ landing_addresses behind units) is_start.landings
+
+      sites_are : t.sites ≡ site_addresses behind units
+      sites_are =
+          joined.sites ∙ ap (λ (ns : List (List ℕ)). map (λ offsets. map (λ offset. code_base + offset) offsets) ns ++ site_addresses behind units) is_start.sites
 
       pub procedure_count : length t.procedures ≡ length p.procs
       procedure_count = ap (λ (ns : List ℕ). length ns) procedures_are ∙ omega (arith, ranged.procedure_count behind)
@@ -370,4 +420,7 @@ module _ (p : Program) (graphs : List Graph) (found : List ProcedurePlaces) (ran
         counts = subst (λ (ns : List (List ℕ)). AllZip HasLandings p.procs ns) (sym landings_are) (ranged.counts behind);
         landings = subst (λ (ns : List (List ℕ)). list_all (list_all (is_in_code (length t.code))) ns ≡ true) (sym landings_are)
             (ranged.landings behind (length t.code) behind_aligned (omega arith) behind_within);
+        sites = subst (λ (ns : List (List ℕ)). AllZip (HasSitesAt (length t.code)) p.procs ns) (sym sites_are)
+            (ranged.sites behind (length t.code) behind_aligned (omega arith) behind_within);
+        distinct = subst (λ (ns : List (List ℕ)). AreDistinct ns) (sym sites_are) (ranged.distinct behind);
       }

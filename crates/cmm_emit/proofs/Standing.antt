@@ -13,6 +13,9 @@ use Rattle.cmm_program.specs.Layout.{label_addresses}
 use Rattle.cmm_graph.specs.declared.graph.Graph.{Graph}
 use Rattle.cmm_data.specs.Laws.{LiesInData}
 use Rattle.cmm_unit_code.specs.Joined.{symbol_value}
+use Rattle.cmm_unit_code.specs.Texts.{address_in}
+use Rattle.rv_asm.specs.declared.part.Label.{Label}
+use Rattle.cmm_emit.specs.declared.context.Context.{Context}
 use Rattle.cmm_unit_code.specs.declared.text.Text.{Text}
 use Rattle.cmm_unit_code.specs.declared.unit_code.UnitCode.{UnitCode}
 use Rattle.cmm_allocate.specs.declared.procedure.ProcedurePlaces.{ProcedurePlaces}
@@ -37,7 +40,7 @@ abbrev no_outline : Outline
 no_outline = record { first = 0; contexts = []; entries = []; targets = record { procedures = []; data_labels = []; registers = []; limit = record { number = 0 } } }
 
 abbrev no_unit : Laid
-no_unit = record { at = 0; outline = no_outline; labels = []; parts = []; places = []; code = record { code = []; fixes = []; procedures = []; landings = [] } }
+no_unit = record { at = 0; outline = no_outline; labels = []; parts = []; places = []; code = record { code = []; fixes = []; procedures = []; landings = []; sites = [] } }
 
 -- the unit of a procedure, where each begins with the procedure behind the last of the one before
 abbrev pub unit_of : List Laid → ℕ → Laid
@@ -66,6 +69,10 @@ pub record IsLaid (p : Program) (graphs : List Graph) (found : List ProcedurePla
   pub stands : StandAt (value_in p addresses t) t x.at x.code
   pub entries : (k : ℕ) → k < length x.outline.contexts →
       get_or t.procedures (x.outline.first + k) 0 ≡ slice_index x.places (label_at x.outline.entries k).number + x.at
+  pub sites : (k n : ℕ) (c : Context) (l : Label) → slice_get x.outline.contexts k ≡ Some c → slice_get c.sites n ≡ Some l →
+      address_in t.sites (x.outline.first + k) n ≡ Some (x.at + slice_index x.places l.number)
+  pub lands : (k n : ℕ) (c : Context) (l : Label) → slice_get x.outline.contexts k ≡ Some c → slice_get c.landings n ≡ Some l →
+      address_in t.landings (x.outline.first + k) n ≡ Some (x.at + slice_index x.places l.number)
 
 -- the unit of a procedure has it
 pub record HasProcedure (x : Laid) (q : ℕ) : Type 0 where

@@ -31,3 +31,4 @@ pub record IsFinished (labels : List Meaning) (parts : List Part) (o : Outline) 
   pub done : AreFinished labels parts places u
   pub procedures : u.procedures ≡ places_at places o.entries
   pub landings : u.landings ≡ map (λ c. places_at places c.landings) o.contexts
+  pub sites : u.sites ≡ map (λ c. places_at places c.sites) o.contexts

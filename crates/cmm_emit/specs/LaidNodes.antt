@@ -22,7 +22,7 @@ use Rattle.cmm_emit.specs.declared.context.Context.{Context}
 use Rattle.cmm_emit.specs.declared.context.Targets.{Targets}
 use Rattle.cmm_emit.specs.Costs.{cost_of}
 use Rattle.cmm_emit.specs.Naming.{label_at}
-use Rattle.cmm_emit.specs.Standing.{CanWait, HasCode, IsContextOf, IsReady}
+use Rattle.cmm_emit.specs.Standing.{CanWait, HasCode, IsContextOf, IsReady, SiteStands}
 
 -- nodes have labels of their own, which are placed for just the nodes of a set
 pub record AreLaid (labels : List Meaning) (p : Context) (placed : List Bool) : Type 0 where
@@ -92,6 +92,15 @@ is_to_come placed None k = not (has placed k)
 abbrev pub SitesWait : Context → Graph → List Meaning → List Bool → Option NodeId → Type 0
 SitesWait p g labels placed next = (k : ℕ) (node : Node) → slice_get g.nodes k ≡ Some node → IsToCome placed next k → CanWait p node.kind labels
 
+-- the code of a node is there: the node has its place, and is not the one that is next
+abbrev pub HasCome : List Bool → Option NodeId → ℕ → Type 0
+HasCome placed (Some n) k = (has placed k ≡ true) × (k ≡ n.number → ⊥)
+HasCome placed None k = has placed k ≡ true
+
+-- the sites of such nodes stand behind the instructions by which these wait
+abbrev pub SitesStand : Context → Graph → List Bool → Option NodeId → List Part → Type 0
+SitesStand p g placed next parts = (k : ℕ) (node : Node) → slice_get g.nodes k ≡ Some node → HasCome placed next k → SiteStands p node.kind parts
+
 module _ (p : Context) (y : Targets) where
   -- the most instructions of those nodes of a list, numbered from one on, whose numbers pass a test
   abbrev pub cost_where : (ℕ → Bool) → ℕ → List Node → ℕ
@@ -126,3 +135,4 @@ module _ (p : Context) (y : Targets) (g : Graph) where
     pub front : List Part
     pub ends : parts ≡ front ++ Place (label_at p.nodes n.number) ∷ []
     pub have : HaveCode placed (Some n) parts
+    pub stand : SitesStand p g placed (Some n) parts

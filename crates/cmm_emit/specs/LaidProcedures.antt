@@ -12,6 +12,7 @@ use Rattle.rv_table.specs.declared.request.Request.TheVariants.{StackLimit}
 use Rattle.cmm_program.specs.declared.procedure.Proc.{Proc}
 use Rattle.cmm_program.specs.declared.program.Program.{Program}
 use Rattle.cmm_graph.specs.declared.graph.Graph.{Graph}
+use Rattle.cmm_graph.specs.declared.node.Node.{Node}
 use Rattle.cmm_effects.specs.Changes.{IsPlace}
 use Rattle.cmm_calls.specs.Frames.{CanBeMade}
 use Rattle.cmm_allocate.specs.declared.procedure.ProcedurePlaces.{ProcedurePlaces}
@@ -21,6 +22,7 @@ use Rattle.cmm_emit.specs.declared.context.Targets.{Targets}
 use Rattle.cmm_emit.specs.Costs.{total_cost}
 use Rattle.cmm_emit.specs.LaidNodes.{StandsHere, WaitApart}
 use Rattle.cmm_emit.specs.Naming.{has_kind, label_at}
+use Rattle.cmm_emit.specs.Standing.{SiteStands}
 use Rattle.cmm_emit.specs.Contexts.{first_label}
 use Rattle.cmm_emit.specs.Orders.{AreInOrder, IsClosed}
 use Rattle.cmm_emit.specs.Outlines.{IsOutlineIn, own, symbol_count, symbol_meaning}
@@ -79,6 +81,8 @@ tokens_of_first n procs = sum_by (λ q. q.tokens) (take n procs)
 pub record HaveCodes (procs : List Proc) (graphs : List Graph) (o : Outline) (n : ℕ) (parts : List Part) : Type 0 where
   pub nodes : (q : ℕ) (c : Context) (g : Graph) (k : ℕ) → q < n → slice_get o.contexts q ≡ Some c → slice_get graphs q ≡ Some g → k < length g.nodes →
       Codes parts (label_at c.nodes k) (StandsHere c o.targets g k)
+  pub sites : (q : ℕ) (c : Context) (g : Graph) (k : ℕ) (node : Node) → q < n → slice_get o.contexts q ≡ Some c → slice_get graphs q ≡ Some g →
+      slice_get g.nodes k ≡ Some node → SiteStands c node.kind parts
   pub order : AreInOrder (take n o.entries) parts
   pub closed : (parts ≡ []) ⊎ IsClosed parts
   pub size : all_longest parts ≤ 256 * tokens_of_first n procs

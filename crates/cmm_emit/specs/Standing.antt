@@ -14,13 +14,14 @@ use Rattle.cmm_graph.specs.declared.operand.Argument.{Argument}
 use Rattle.cmm_graph.specs.declared.operand.Operand.{Operand}
 use Rattle.cmm_graph.specs.declared.node.Exits.{Exits}
 use Rattle.cmm_graph.specs.declared.node.NodeKind.{NodeKind}
-use Rattle.cmm_graph.specs.declared.node.NodeKind.TheVariants.{Entry, CopyIn, Assign, Store, Branch, Switch, Call, Host, Goto}
+use Rattle.cmm_graph.specs.declared.node.NodeKind.TheVariants.{Entry, CopyIn, Assign, Store, Branch, Switch, Call, Host, Goto, Yield}
 use Rattle.cmm_live.specs.Sites.{site_of}
 use Rattle.rv_asm.specs.Assembly.{IsInner, IsLabel, IsTarget, table_limit}
 use Rattle.rv_asm.specs.Parts.{Code}
 use Rattle.rv_asm.specs.declared.part.Label.{Label}
 use Rattle.rv_asm.specs.declared.part.Meaning.{Meaning}
 use Rattle.rv_asm.specs.declared.part.Meaning.TheVariants.{Inner}
+use Rattle.rv_asm.specs.declared.part.Part.{Part}
 use Rattle.rv_table.specs.Words.{sum}
 use Rattle.rv_table.specs.declared.request.Request.TheVariants.{StackLimit, End}
 use Rattle.cmm_effects.specs.Changes.{IsPlace}
@@ -28,6 +29,7 @@ use Rattle.cmm_effects.specs.Pieces.{BeginsQuietly}
 use Rattle.cmm_select.specs.declared.destination.Destination.{Destination as CodeDestination}
 use Rattle.cmm_select.specs.Switches.{label_of}
 use Rattle.cmm_calls.specs.Calls.{HasExits}
+use Rattle.rv_asm.specs.Appending.{IsBehind}
 use Rattle.cmm_calls.specs.Frames.{CanBeMade}
 use Rattle.cmm_image_machine.specs.Machine.{Launch}
 use Rattle.cmm_emit_laws.specs.Represented.{AreLandings}
@@ -65,6 +67,12 @@ CanWait p kind labels = IfSome (site_of kind) (λ site. slice_get labels (site_l
 -- the labels once the code of a node is there: its site has its place
 abbrev pub labels_with : Context → NodeKind → List Meaning → List Meaning
 labels_with p kind labels = elim (site_of kind) [ Some site ↦ slice_set labels (site_label p site).number (Inner true) | None ↦ labels ]
+
+-- behind the instruction by which a node waits stands its site, with a word for each alternate exit and one more
+abbrev pub SiteStands : Context → NodeKind → List Part → Type 0
+SiteStands p (Call site callee arguments exits) parts = IsBehind (site_label p site) (length exits.returns + 1) parts
+SiteStands p (Yield site values exits) parts = IsBehind (site_label p site) (length exits.returns + 1) parts
+SiteStands p _ parts = Unit {0}
 
 -- ---- once it is finished
 

@@ -52,3 +52,4 @@ pub record IsStart (p : Program) (s : Start) : Type 0 where
   pub last : s.last ≡ slice_index places 1
   pub procedures : s.code.procedures ≡ []
   pub landings : s.code.landings ≡ []
+  pub sites : s.code.sites ≡ []

@@ -9,7 +9,7 @@ ghost use Rattle.cmm_graph.specs.declared.node.HostCall.TheVariants as host;
 ghost use Rattle.cmm_effects.specs.Pieces.{Adds};
 ghost use Rattle.cmm_emit.specs.Naming.{has_arm, has_both, has_call, has_kind, has_node, has_operand, has_target};
 ghost use Rattle.cmm_emit.specs.Costs.{branch_cost, cost_of, host_cost, jump_of, store_cost, switch_cost};
-ghost use Rattle.cmm_emit.specs.Standing.{CanWait, CodesNode, CodesWhole, IsReady, labels_with};
+ghost use Rattle.cmm_emit.specs.Standing.{CanWait, CodesNode, CodesWhole, IsReady, SiteStands, labels_with};
 
 use crate::assign::assign_body;
 use crate::calling::call_body;
@@ -174,6 +174,7 @@ pub(crate) fn body(
     requires waits { CanWait context.now kind.now asm.old.labels }
     ensures code { OnOk result (Adds (cost_of context.now targets.now kind.now - jump_of kind.now) asm.old.parts asm.new.parts (CodesWhole context.now targets.now kind.now)) }
     ensures labels { OnOk result (asm.new.labels ≡ labels_with context.now kind.now asm.old.labels) }
+    ensures stands { OnOk result (SiteStands context.now kind.now asm.new.parts) }
 {
     match kind {
         NodeKind::Entry { formals, .. } => {

@@ -6,6 +6,7 @@ ghost use Rattle.cmm_effects.specs.Pieces.{Adds};
 ghost use Rattle.rv_asm.specs.Assembly.{IsTarget};
 ghost use Rattle.rv_asm.specs.declared.part.Meaning.TheVariants.{Inner};
 ghost use Rattle.cmm_calls.specs.Calls.{HasExits};
+ghost use Rattle.rv_asm.specs.Appending.{AddsWords, IsBehind};
 ghost use Rattle.cmm_graph.specs.declared.node.NodeKind.TheVariants as kind;
 ghost use Rattle.cmm_graph.specs.declared.operand.Operand.{Operand as NodeOperand};
 ghost use Rattle.cmm_emit.specs.Costs.{call_cost, callee_cost};
@@ -39,6 +40,7 @@ fn call_label(
     requires waits { slice_get asm.old.labels (site_label context.now site).number ≡ Some (Inner false) }
     ensures code { (callee : NodeOperand) → IsNamed targets.now callee to → OnOk result (Adds (12 * length arguments.now + callee_cost) asm.old.parts asm.new.parts (CodesCall context.now targets.now site callee arguments.now)) }
     ensures labels { OnOk result (asm.new.labels ≡ slice_set asm.old.labels (site_label context.now site).number (Inner true)) }
+    ensures behind { OnOk result (IsBehind (site_label context.now site) 0 asm.new.parts) }
 {
     let operands = argument_operands(alloc, context, targets, arguments)?;
     let back = context.sites.as_slice()[site.number as usize];
@@ -62,6 +64,7 @@ fn call_operand(
     requires waits { slice_get asm.old.labels (site_label context.now site).number ≡ Some (Inner false) }
     ensures code { OnOk result (Adds (12 * length arguments.now + callee_cost) asm.old.parts asm.new.parts (CodesCall context.now targets.now site callee arguments.now)) }
     ensures labels { OnOk result (asm.new.labels ≡ slice_set asm.old.labels (site_label context.now site).number (Inner true)) }
+    ensures behind { OnOk result (IsBehind (site_label context.now site) 0 asm.new.parts) }
 {
     let operands = argument_operands(alloc, context, targets, arguments)?;
     let to = code_operand(context, targets, callee);
@@ -86,6 +89,7 @@ fn call_callee(
     requires waits { slice_get asm.old.labels (site_label context.now site).number ≡ Some (Inner false) }
     ensures code { OnOk result (Adds (12 * length arguments.now + callee_cost) asm.old.parts asm.new.parts (CodesCall context.now targets.now site callee arguments.now)) }
     ensures labels { OnOk result (asm.new.labels ≡ slice_set asm.old.labels (site_label context.now site).number (Inner true)) }
+    ensures behind { OnOk result (IsBehind (site_label context.now site) 0 asm.new.parts) }
 {
     match named_label(context, targets, callee) {
         Some(to) => {
@@ -110,6 +114,7 @@ fn lay_landings(
     requires ready { IsReady asm.old.labels context.now targets.now }
     requires exits { IsTrue (can_come_back context.now exits.now) }
     ensures exits { OnOk result (Adds (3 * length exits.now.returns + 1) asm.old.parts asm.new.parts (HasExits (landing_labels context.now exits.now.returns))) }
+    ensures words { OnOk result (AddsWords (length exits.now.returns + 1) asm.old.parts asm.new.parts) }
     ensures labels { asm.new.labels ≡ asm.old.labels }
 {
     let landings = landing_labels(alloc, context, exits.returns.as_slice())?;
@@ -129,6 +134,7 @@ fn lead_back(
     requires ready { IsReady asm.old.labels context.now targets.now }
     requires exits { IsTrue (can_come_back context.now exits.now) }
     ensures leads { OnOk result (Adds (3 * length exits.now.returns + 2) asm.old.parts asm.new.parts (LeadsBack context.now exits.now)) }
+    ensures words { OnOk result (AddsWords (length exits.now.returns + 1) asm.old.parts asm.new.parts) }
     ensures labels { asm.new.labels ≡ asm.old.labels }
 {
     lay_landings(asm, alloc, context, targets, exits)?;
@@ -157,6 +163,7 @@ pub(crate) fn call_body(
     requires waits { slice_get asm.old.labels (site_label context.now site).number ≡ Some (Inner false) }
     ensures code { OnOk result (Adds (call_cost context.now targets.now arguments.now exits.now) asm.old.parts asm.new.parts (CodesWhole context.now targets.now (kind.Call site callee arguments.now exits.now))) }
     ensures labels { OnOk result (asm.new.labels ≡ slice_set asm.old.labels (site_label context.now site).number (Inner true)) }
+    ensures behind { OnOk result (IsBehind (site_label context.now site) (length exits.now.returns + 1) asm.new.parts) }
 {
     call_callee(asm, alloc, context, targets, callee, arguments, site)?;
     lead_back(asm, alloc, context, targets, exits)?;

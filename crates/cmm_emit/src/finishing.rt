@@ -47,6 +47,21 @@ fn landings_of(
     Ok(found)
 }
 
+/// The places of the sites of each procedure. An error is want of memory.
+fn sites_of(
+    alloc: Global,
+    places: &[u64],
+    contexts: &[Context],
+) -> Result<Items<Items<u64>>, AllocError>
+    ensures { IfOk result (λ found. found ≡ map (λ c. places_at places.now c.sites) contexts.now) }
+{
+    let mut found = Items::new(alloc);
+    for context in contexts {
+        found.push(places_of(alloc, places, context.sites.as_slice())?)?;
+    }
+    Ok(found)
+}
+
 /// The code of a unit that was laid. An error is want of memory.
 pub fn finish_unit(alloc: Global, asm: Asm, outline: &Outline) -> Result<UnitCode, AllocError>
     requires room { all_longest asm.parts ≤ 2 ^ 30 }
@@ -56,10 +71,12 @@ pub fn finish_unit(alloc: Global, asm: Asm, outline: &Outline) -> Result<UnitCod
     let places = placed.places.as_slice();
     let procedures = places_of(alloc, places, outline.entries.as_slice())?;
     let landings = landings_of(alloc, places, outline.contexts.as_slice())?;
+    let sites = sites_of(alloc, places, outline.contexts.as_slice())?;
     Ok(UnitCode {
         code: placed.bytes,
         fixes: placed.fixes,
         procedures,
         landings,
+        sites,
     })
 }

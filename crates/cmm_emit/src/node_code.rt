@@ -3,18 +3,19 @@
 //! The code of a node is followed by that of the node to which it falls, if that has no place yet; else by a jump there. So a loop pays for one jump a
 //! turn at most, and each node stands once.
 
-ghost use Rattle.std.specs.Prelude.{◌≡◌, ℕ, OnOk, IfOk, IfNone, IfSome, IsTrue, Some, None, true, false, length, replicate, ◌+◌, ◌*◌, ◌<◌, ◌≤◌, ◌^◌};
+ghost use Rattle.std.specs.Prelude.{◌≡◌, ℕ, OnOk, IfOk, IfNone, IfSome, IsTrue, Some, None, true, false, length, replicate, slice_get, ◌+◌, ◌*◌, ◌<◌, ◌≤◌, ◌^◌};
 ghost use Rattle.std.specs.List.{list_all};
 ghost use Rattle.cmm_bitset.specs.Sets.{has};
 ghost use Rattle.rv_asm.specs.Appending.{Appends, Codes};
 ghost use Rattle.rv_asm.specs.Sizes.{all_longest};
 ghost use Rattle.cmm_effects.specs.Changes.{Keeps};
+ghost use Rattle.cmm_graph.specs.declared.node.Node.{Node as GraphNode};
 ghost use Rattle.cmm_effects.specs.Pieces.{Adds, Always};
 ghost use Rattle.cmm_effects.specs.Ways.{Goes};
 ghost use Rattle.cmm_emit.specs.Costs.{cost_of, jump_cost, total_cost};
-ghost use Rattle.cmm_emit.specs.LaidNodes.{PlacesOwn, AreLaid, AreUnplaced, CodesAlone, EndsAt, HaveCode, HaveSites, IsPending, SitesWait, StandsHere, WaitApart, labels_behind, size_with};
+ghost use Rattle.cmm_emit.specs.LaidNodes.{PlacesOwn, AreLaid, AreUnplaced, CodesAlone, EndsAt, HaveCode, HaveSites, IsPending, SitesStand, SitesWait, StandsHere, WaitApart, labels_behind, size_with};
 ghost use Rattle.cmm_emit.specs.Naming.{has_kind, has_node, label_at};
-ghost use Rattle.cmm_emit.specs.Standing.{CanWait, IsReady, falls_to, labels_with};
+ghost use Rattle.cmm_emit.specs.Standing.{CanWait, IsReady, SiteStands, falls_to, labels_with};
 
 use crate::body::body;
 use crate::context::{Context, Targets};
@@ -92,6 +93,7 @@ fn lay_node(
     ensures ends { IfOk result (λ there. IfSome there (λ n. EndsAt context.now n placed.old placed.new asm.new.parts)) }
     ensures stays { IfOk result (λ there. IfNone there (placed.new ≡ placed.old)) }
     ensures labels { IfOk result (λ there. asm.new.labels ≡ labels_behind context.now there (labels_with context.now kind.now asm.old.labels)) }
+    ensures stands { OnOk result (SiteStands context.now kind.now asm.new.parts) }
 {
     body(asm, alloc, context, targets, kind)?;
     match falls_to(kind) {
@@ -122,6 +124,7 @@ fn lay_chain(
     ensures laid { OnOk result (AreLaid asm.new.labels context.now placed.new) }
     ensures waits { OnOk result (SitesWait context.now graph.now asm.new.labels placed.new None) }
     ensures have { OnOk result (HaveCode context.now targets.now graph.now placed.new None asm.new.parts) }
+    ensures stand { OnOk result (SitesStand context.now graph.now placed.new None asm.new.parts) }
     ensures grows { OnOk result ((k : ℕ) → has placed.old k ≡ true → has placed.new k ≡ true) }
     ensures added { OnOk result (Appends asm.old.parts asm.new.parts (λ x from to. Unit {0})) }
     ensures places { OnOk result (PlacesOwn context.now asm.old.labels asm.new.labels) }
@@ -157,10 +160,12 @@ fn lay_from(
     requires first { IsTrue (has_node context.now first) }
     requires waits { SitesWait context.now graph.now asm.old.labels placed.old None }
     requires have { HaveCode context.now targets.now graph.now placed.old None asm.old.parts }
+    requires stand { SitesStand context.now graph.now placed.old None asm.old.parts }
     ensures ready { OnOk result (IsReady asm.new.labels context.now targets.now) }
     ensures laid { OnOk result (AreLaid asm.new.labels context.now placed.new) }
     ensures waits { OnOk result (SitesWait context.now graph.now asm.new.labels placed.new None) }
     ensures have { OnOk result (HaveCode context.now targets.now graph.now placed.new None asm.new.parts) }
+    ensures stand { OnOk result (SitesStand context.now graph.now placed.new None asm.new.parts) }
     ensures first { OnOk result (has placed.new first.number ≡ true) }
     ensures grows { OnOk result ((k : ℕ) → has placed.old k ≡ true → has placed.new k ≡ true) }
     ensures added { OnOk result (Appends asm.old.parts asm.new.parts (λ x from to. Unit {0})) }
@@ -196,6 +201,7 @@ pub fn lay_nodes(
     requires once { WaitApart graph.now }
     ensures ready { OnOk result (IsReady asm.new.labels context.now targets.now) }
     ensures code { OnOk result ((k : ℕ) → k < length graph.now.nodes → Codes asm.new.parts (label_at context.now.nodes k) (StandsHere context.now targets.now graph.now k)) }
+    ensures sites { OnOk result ((k : ℕ) (node : GraphNode) → slice_get graph.now.nodes k ≡ Some node → SiteStands context.now node.kind asm.new.parts) }
     ensures added { OnOk result (Appends asm.old.parts asm.new.parts (λ x from to. Unit {0})) }
     ensures places { OnOk result (PlacesOwn context.now asm.old.labels asm.new.labels) }
     ensures size { OnOk result (all_longest asm.new.parts ≤ all_longest asm.old.parts + 4 * total_cost context.now targets.now graph.now.nodes) }

@@ -90,6 +90,7 @@ pub fn start_code(alloc: Global, program: &Program) -> Result<Start, AllocError>
         fixes: placed.fixes,
         procedures: Items::new(alloc),
         landings: Items::new(alloc),
+        sites: Items::new(alloc),
     };
     Ok(Start { code, last })
 }

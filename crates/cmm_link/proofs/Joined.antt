@@ -8,7 +8,7 @@ use Rattle.std.proofs.lemmas.Option.{get_or_from_slice_get, slice_get_within}
 use Rattle.rv_table.specs.Memory.{code_base}
 use Rattle.rv_asm.specs.Filling.{filled}
 use Rattle.rv_asm.specs.declared.filling.CodeFix.{CodeFix}
-use Rattle.cmm_unit_code.specs.Joined.{IsWhole, joined_code, landing_addresses, procedure_addresses}
+use Rattle.cmm_unit_code.specs.Joined.{IsWhole, joined_code, landing_addresses, procedure_addresses, site_addresses}
 use Rattle.cmm_unit_code.specs.declared.unit_code.UnitCode.{UnitCode}
 
 -- the fixes before the next index
@@ -65,19 +65,25 @@ pub landings_more : (us : List UnitCode) (i at : ℕ) (u : UnitCode) (found next
     next ≡ landing_addresses code_base (take (i + 1) us)
 landings_more = more (λ at u. map (λ offsets. map (λ offset. at + offset) offsets) u.landings) landing_addresses (λ at. refl) (λ at u us. refl)
 
+pub sites_more : (us : List UnitCode) (i at : ℕ) (u : UnitCode) (found next : List (List ℕ)) → i < length us → u ≡ get_or us i u → at ≡ code_base + size (take i us) →
+    found ≡ site_addresses code_base (take i us) → next ≡ found ++ map (λ offsets. map (λ offset. at + offset) offsets) u.sites →
+    next ≡ site_addresses code_base (take (i + 1) us)
+sites_more = more (λ at u. map (λ offsets. map (λ offset. at + offset) offsets) u.sites) site_addresses (λ at. refl) (λ at u us. refl)
+
 pub code_pushed : (value : ℕ → ℕ) (us : List UnitCode) (u : UnitCode) →
     joined_code value code_base (us ++ u ∷ []) ≡ joined_code value code_base us ++ filled value (code_base + size us) u.fixes u.code
 code_pushed value = pushed (λ at u. filled value at u.fixes u.code) (joined_code value) (λ at. refl) (λ at u us. refl) code_base
 
--- landings in a unit that ends within n bytes have addresses there
-pub landings_within : (us : List UnitCode) (i at : ℕ) (u : UnitCode) → All IsWhole us → code_base + size us ≤ 2 ^ 30 → i < length us → u ≡ get_or us i u →
-    at ≡ code_base + size (take i us) → All (All (λ offset. at + offset ≤ 2 ^ 30)) u.landings
-landings_within us i at u whole room within is so_far =
-    let u_whole : IsWhole u = subst IsWhole (sym is) (whole i u within) in
+-- the landings, or the sites, of a unit that ends below a bound have addresses below it
+pub lists_within : (us : List UnitCode) (i at : ℕ) (u : UnitCode) → All IsWhole us → code_base + size us ≤ 2 ^ 30 → i < length us → u ≡ get_or us i u →
+    at ≡ code_base + size (take i us) → (lists : List (List ℕ)) → (IsWhole u → All (All (λ offset. offset ≤ length u.code)) lists) →
+    All (All (λ offset. at + offset ≤ 2 ^ 30)) lists
+lists_within us i at u whole room within is so_far lists of_whole =
     let fits : at + length u.code ≤ 2 ^ 30 =
     let less = sum_by-take-le (λ u. length u.code) us (i + 1) in
     let more = size_more us i at u within is so_far in
     omega (arith, less, more, room)
     in
     All-weaker (All (λ offset. offset ≤ length u.code)) (All (λ offset. at + offset ≤ 2 ^ 30))
-    (λ offsets. All-weaker (λ offset. offset ≤ length u.code) (λ offset. at + offset ≤ 2 ^ 30) (λ offset less. omega (arith, less, fits)) offsets) u.landings u_whole.landings
+    (λ offsets. All-weaker (λ offset. offset ≤ length u.code) (λ offset. at + offset ≤ 2 ^ 30) (λ offset less. omega (arith, less, fits)) offsets)
+    lists (of_whole (subst IsWhole (sym is) (whole i u within)))

@@ -21,6 +21,7 @@ first = record {
   fixes = record { place = 0; symbol = 4; relative = true } ∷ [];
   procedures = 0 ∷ [];
   landings = (8 ∷ []) ∷ [];
+  sites = (8 ∷ []) ∷ [];
 }
 
 abbrev second : UnitCode
@@ -29,6 +30,7 @@ second = record {
   fixes = record { place = 4; symbol = 1; relative = false } ∷ record { place = 12; symbol = 2; relative = true } ∷ [];
   procedures = 0 ∷ 4 ∷ [];
   landings = [] ∷ (12 ∷ []) ∷ [];
+  sites = [] ∷ (16 ∷ []) ∷ [];
 }
 
 -- f is 16 bytes behind the call in main, and main is 24 before the jump in f
@@ -39,10 +41,11 @@ joined = record {
   last = 0x10008;
   procedures = 0x10000 ∷ 0x1000c ∷ 0x10010 ∷ [];
   landings = (0x10008 ∷ []) ∷ [] ∷ (0x10018 ∷ []) ∷ [];
+  sites = (0x10008 ∷ []) ∷ [] ∷ (0x1001c ∷ []) ∷ [];
 }
 
 is_joined : IsJoined 1 (0x40000008 ∷ []) (first ∷ second ∷ []) 8 joined
-is_joined = record { procedures = refl; landings = refl; code = refl; start = refl; last = refl }
+is_joined = record { procedures = refl; landings = refl; sites = refl; code = refl; start = refl; last = refl }
 
 symbols : map (symbol_value 1 (0x40000008 ∷ []) joined.procedures) (0 ∷ 1 ∷ 2 ∷ 3 ∷ 4 ∷ 5 ∷ []) ≡ 448 ∷ 0x40000008 ∷ 0x10000 ∷ 0x1000c ∷ 0x10010 ∷ 0 ∷ []
 symbols = refl
@@ -66,6 +69,7 @@ first_whole = record {
   apart = (lit≤ tt, lit≤ tt);
   procedures = within 12 0 (lit≤ tt) [] (none 12);
   landings = landing_lists 12 (8 ∷ []) (within 12 8 (lit≤ tt) [] (none 12)) [] (no_lists 12);
+  sites = landing_lists 12 (8 ∷ []) (within 12 8 (lit≤ tt) [] (none 12)) [] (no_lists 12);
 }
 
 second_whole : IsWhole second
@@ -73,6 +77,7 @@ second_whole = record {
   apart = (lit≤ tt, (lit≤ tt, lit≤ tt));
   procedures = within 20 0 (lit≤ tt) (4 ∷ []) (within 20 4 (lit≤ tt) [] (none 20));
   landings = landing_lists 20 [] (none 20) ((12 ∷ []) ∷ []) (landing_lists 20 (12 ∷ []) (within 20 12 (lit≤ tt) [] (none 20)) [] (no_lists 20));
+  sites = landing_lists 20 [] (none 20) ((16 ∷ []) ∷ []) (landing_lists 20 (16 ∷ []) (within 20 16 (lit≤ tt) [] (none 20)) [] (no_lists 20));
 }
 
 whole : All IsWhole (first ∷ second ∷ [])

@@ -1,13 +1,16 @@
 -- A worked row: what is required of a program, its frames, its data and its code is met by a small one, and these are the rows of its image.
 --     export t as "u"; register bits32 g; section "data" { t: bits64 { main }; }
---     main() { bits64 x; return (x); continuation k(x): return (x); }
-use Rattle.std.proofs.Common.{◌≡◌, ℕ, false, IsTrue, List, [], ◌∷◌, None, Some, refl, ap, lit<, lit≤}
+--     main() { bits64 x; x = main(); x = main() also returns to k; return (x); continuation k(x): return (x); }
+use Rattle.std.proofs.Common.{◌≡◌, ℕ, zero, suc, false, IsTrue, List, [], ◌∷◌, None, Some, refl, ap, arith, lit<, lit≤}
+use Rattle.std.specs.Int.{w32, to_le_bytes}
+use Rattle.std.specs.List.{flat_map}
 use Rattle.std.proofs.lemmas.List.Elements.{All-cons, All-nil}
 use Rattle.cmm_words.specs.declared.constant.Constant.TheVariants.{Code}
 use Rattle.cmm_words.specs.declared.width.Width.TheVariants.{W32, W64}
 use Rattle.cmm_program.proofs.Shared.{opened}
-use Rattle.cmm_program.proofs.Shared.{datum, global, is, local, procedure, program, program_in_range}
+use Rattle.cmm_program.proofs.Shared.{call_site, code, datum, global, is, local, procedure, program, program_in_range}
 use Rattle.cmm_program.specs.declared.procedure.Proc.{Proc}
+use Rattle.cmm_program.specs.declared.procedure.Site.{Site}
 use Rattle.cmm_program.specs.declared.program.Label.{Label}
 use Rattle.cmm_program.specs.declared.program.Program.{Program}
 use Rattle.cmm_program.specs.declared.statement.Form.TheVariants as form
@@ -27,17 +30,26 @@ use Rattle.cmm_link.specs.Linked.{IsDataOf}
 use Rattle.cmm_link.specs.Placements.{place_row_of}
 use Rattle.cmm_link.specs.Rooms.{HasRoom}
 use Rattle.cmm_link.specs.Rows.{procedure_rows}
-use Rattle.cmm_unit_code.specs.Texts.{IsText}
+use Rattle.cmm_unit_code.specs.Texts.{AreDistinct, IsText, address_in}
 use Rattle.cmm_link.specs.inside.Kept.{kept_after}
 use Rattle.cmm_link.proofs.Images.{AreGiven}
 
 -- ---- the program
 
 abbrev body : List Statement
-body = is 5 (form.Return 0 0 (local 0 ∷ [])) ∷ is 6 (form.Continuation 0) ∷ is 5 (form.Return 0 0 (local 0 ∷ [])) ∷ []
+body =
+    is 6 (form.Call 0 (code 0) [])
+    ∷ is 10 (form.Call 1 (code 0) [])
+    ∷ is 5 (form.Return 0 0 (local 0 ∷ []))
+    ∷ is 6 (form.Continuation 0)
+    ∷ is 5 (form.Return 0 0 (local 0 ∷ []))
+    ∷ []
+
+abbrev sites : List Site
+sites = call_site (0 ∷ []) ∷ record (call_site (0 ∷ [])) { returns = 0 ∷ [] } ∷ []
 
 abbrev main : Proc
-main = record (procedure (109 ∷ []) 30 0 1 [] body) { conts = record { params = 0 ∷ [] } ∷ [] }
+main = record (procedure (109 ∷ []) 40 0 1 sites body) { conts = record { params = 0 ∷ [] } ∷ [] }
 
 abbrev table : Label
 table = record { name = 116 ∷ []; links = (117 ∷ []) ∷ []; datum = 0; at_end = false }
@@ -74,9 +86,34 @@ is_data : IsDataOf p laid
 unfolding opened
 is_data = record { addresses = refl; bytes = λ placement. refl; size = refl; apart = (lit≤ tt, lit≤ tt) }
 
--- two instructions that do nothing; a cut to the continuation lands at the second
+-- The run begins with the call of main, and has its end behind that. In main stand the first call, a word behind it, the second call, a word for its
+-- exit and one behind, and what stands for all the rest. A cut to the continuation lands there.
+abbrev words : List ℕ
+words = 0x008000ef ∷ 0x00000073 ∷ 0x000000ef ∷ 0x0040006f ∷ 0xff9ff0ef ∷ 0x0080006f ∷ 0x0040006f ∷ 0x00000013 ∷ []
+
 abbrev text : Text
-text = record { code = 19 ∷ 0 ∷ 0 ∷ 0 ∷ 19 ∷ 0 ∷ 0 ∷ 0 ∷ []; start = 65536; last = 65540; procedures = 65536 ∷ []; landings = (65540 ∷ []) ∷ [] }
+text = record {
+  code = flat_map (to_le_bytes w32) words;
+  start = 0x10000;
+  last = 0x10004;
+  procedures = 0x10008 ∷ [];
+  landings = (0x1001c ∷ []) ∷ [];
+  sites = (0x1000c ∷ 0x10014 ∷ []) ∷ [];
+}
+
+second_site : (address_in text.sites 0 1 ≡ Some 0x10014) × (address_in text.sites 0 2 ≡ None) × (address_in text.landings 0 0 ≡ Some 0x1001c)
+second_site = (refl, refl, refl)
+
+distinct_sites : AreDistinct text.sites
+distinct_sites zero zero zero zero address there also = (refl, refl)
+distinct_sites zero zero zero (suc zero) address there also = absurd (let same : ◌≡◌ {A = ℕ} 0x1000c 0x10014 = cc in omega (arith, same))
+distinct_sites zero zero zero (suc (suc n)) address there also = absurd (cc)
+distinct_sites zero zero (suc zero) zero address there also = absurd (let same : ◌≡◌ {A = ℕ} 0x1000c 0x10014 = cc in omega (arith, same))
+distinct_sites zero zero (suc zero) (suc zero) address there also = (refl, refl)
+distinct_sites zero zero (suc zero) (suc (suc n)) address there also = absurd (cc)
+distinct_sites zero zero (suc (suc m)) n address there also = absurd (cc)
+distinct_sites zero (suc r) m n address there also = absurd (cc)
+distinct_sites (suc q) r m n address there also = absurd (cc)
 
 is_text : IsText p text
 unfolding opened
@@ -89,6 +126,8 @@ is_text = record {
   ascending = refl;
   counts = (refl, tt);
   landings = refl;
+  sites = (((refl, refl), ((refl, refl), tt)), tt);
+  distinct = distinct_sites;
 }
 
 room : HasRoom p text
@@ -103,14 +142,14 @@ given = record { range = range; frames = (is_frame, tt); laid = is_data; text = 
 
 abbrev row : ProcRow
 row = record {
-  code = 65536;
+  code = 0x10008;
   name = 109 ∷ [];
   frame = 32;
   return_at = Some 8;
   saved = [];
   variables = record { width = W64; invariant = false; kind = [] } ∷ [];
   stack_labels = [];
-  continuations = record { pair = 16; code = 65540; parameters = record { 0 = 0 } ∷ [] } ∷ [];
+  continuations = record { pair = 16; code = 0x1001c; parameters = record { 0 = 0 } ∷ [] } ∷ [];
 }
 
 the_rows : procedure_rows p.procs places text.procedures text.landings ≡ row ∷ []

@@ -4,7 +4,7 @@ ghost use Rattle.std.specs.Prelude.{◌≡◌, ◌+◌, ◌<◌, ◌≤◌, ◌^
 ghost use Rattle.std.specs.List.{All};
 ghost use Rattle.rv_table.specs.Memory.{code_base};
 ghost use Rattle.rv_asm.specs.Filling.{AreApart, filled};
-ghost use Rattle.cmm_unit_code.specs.Joined.{IsJoined, IsWhole, joined_code, landing_addresses, procedure_addresses, symbol_value};
+ghost use Rattle.cmm_unit_code.specs.Joined.{IsJoined, IsWhole, joined_code, landing_addresses, procedure_addresses, site_addresses, symbol_value};
 
 use cmm_items::Items;
 use cmm_unit_code::{Text, UnitCode};
@@ -67,17 +67,17 @@ fn add_addresses(found: &mut Items<u64>, at: u64, offsets: &[u64]) -> Result<(),
     Ok(())
 }
 
-/// Adds the addresses of landings in code that stands at an address. An error is want of memory.
-fn add_landings(
+/// Adds the addresses of places of each procedure, its landings or its sites, in code that stands at an address. An error is want of memory.
+fn add_address_lists(
     alloc: Global,
     found: &mut Items<Items<u64>>,
     at: u64,
-    landings: &[Items<u64>],
+    lists: &[Items<u64>],
 ) -> Result<(), AllocError>
-    requires { All (All (λ offset. at + offset ≤ 2 ^ 30)) landings.now }
-    ensures { OnOk result (found.new ≡ found.old ++ map (λ offsets. map (λ offset. at + offset) offsets) landings.now) }
+    requires { All (All (λ offset. at + offset ≤ 2 ^ 30)) lists.now }
+    ensures { OnOk result (found.new ≡ found.old ++ map (λ offsets. map (λ offset. at + offset) offsets) lists.now) }
 {
-    for offsets in landings {
+    for offsets in lists {
         let mut moved = Items::new(alloc);
         add_addresses(&mut moved, at, offsets.as_slice())?;
         found.push(moved)?;
@@ -109,7 +109,22 @@ fn landing_addresses(alloc: Global, units: &[UnitCode]) -> Result<Items<Items<u6
     let mut found = Items::new(alloc);
     let mut at = CODE_BASE;
     for unit in units {
-        add_landings(alloc, &mut found, at, unit.landings.as_slice())?;
+        add_address_lists(alloc, &mut found, at, unit.landings.as_slice())?;
+        at += unit.code.len() as u64;
+    }
+    Ok(found)
+}
+
+/// Where control comes back to sites in units whose codes stand one behind another. An error is want of memory.
+fn site_addresses(alloc: Global, units: &[UnitCode]) -> Result<Items<Items<u64>>, AllocError>
+    requires whole { All IsWhole units.now }
+    requires room { code_base + sum_by (λ u. length u.code) units.now ≤ 2 ^ 30 }
+    ensures { IfOk result (λ found. found ≡ site_addresses code_base units.now) }
+{
+    let mut found = Items::new(alloc);
+    let mut at = CODE_BASE;
+    for unit in units {
+        add_address_lists(alloc, &mut found, at, unit.sites.as_slice())?;
         at += unit.code.len() as u64;
     }
     Ok(found)
@@ -164,6 +179,7 @@ pub(crate) fn join(
 {
     let procedures = procedure_addresses(alloc, units.as_slice())?;
     let landings = landing_addresses(alloc, units.as_slice())?;
+    let sites = site_addresses(alloc, units.as_slice())?;
     let code = joined_code(alloc, units, registers, addresses, procedures.as_slice())?;
     Ok(Text {
         code,
@@ -171,5 +187,6 @@ pub(crate) fn join(
         last: CODE_BASE + last,
         procedures,
         landings,
+        sites,
     })
 }

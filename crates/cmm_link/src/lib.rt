@@ -20,6 +20,7 @@ mod linking;
 mod names;
 mod procedures;
 mod shown;
+mod sites;
 
 pub use linking::link;
 pub use shown::placement;

@@ -32,17 +32,24 @@ abbrev pub landing_addresses : ℕ → List UnitCode → List (List ℕ)
 landing_addresses at [] = []
 landing_addresses at (u ∷ us) = map (λ offsets. map (λ offset. at + offset) offsets) u.landings ++ landing_addresses (at + length u.code) us
 
+-- where control comes back to sites in them
+abbrev pub site_addresses : ℕ → List UnitCode → List (List ℕ)
+site_addresses at [] = []
+site_addresses at (u ∷ us) = map (λ offsets. map (λ offset. at + offset) offsets) u.sites ++ site_addresses (at + length u.code) us
+
 -- a unit's code is whole: its fixes have two words each of their own, and each place is in it
 pub record IsWhole (u : UnitCode) : Type 0 where
   pub apart : AreApart 0 u.fixes (length u.code)
   pub procedures : All (λ offset. offset ≤ length u.code) u.procedures
   pub landings : All (All (λ offset. offset ≤ length u.code)) u.landings
+  pub sites : All (All (λ offset. offset ≤ length u.code)) u.sites
 
 -- Codes were joined to one text, from `code_base` on: they stand one behind another, and each symbol has its number. The call of main comes back behind so
 -- many bytes.
 pub record IsJoined (registers : ℕ) (addresses : List ℕ) (units : List UnitCode) (after_main : ℕ) (t : Text) : Type 0 where
   pub procedures : t.procedures ≡ procedure_addresses code_base units
   pub landings : t.landings ≡ landing_addresses code_base units
+  pub sites : t.sites ≡ site_addresses code_base units
   pub code : t.code ≡ joined_code (symbol_value registers addresses t.procedures) code_base units
   pub start : t.start ≡ code_base
   pub last : t.last ≡ code_base + after_main

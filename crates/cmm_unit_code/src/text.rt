@@ -15,4 +15,6 @@ pub struct Text {
     pub procedures: Items<u64>,
     /// Of each procedure, the address at which a cut to each of its continuations lands.
     pub landings: Items<Items<u64>>,
+    /// Of each procedure, the return address of each of its sites.
+    pub sites: Items<Items<u64>>,
 }

@@ -14,6 +14,8 @@ pub struct UnitCode {
     pub procedures: Items<u64>,
     /// Of each of its procedures, where a cut to each of its continuations lands.
     pub landings: Items<Items<u64>>,
+    /// Of each of its procedures, where control comes back to each of its sites.
+    pub sites: Items<Items<u64>>,
 }
 
 /// The code of a program before it is joined.

@@ -4,6 +4,7 @@ use Rattle.cmm_emit.proofs.Calls.{call_codes}
 use Rattle.cmm_emit.proofs.NodeLabels.{ready_kept}
 use Rattle.rv_asm.proofs.Shared.{kept_placed}
 use Rattle.cmm_emit.specs.Naming.{site_label}
+use Rattle.rv_asm.proofs.Shared.{behind_words}
 use Rattle.cmm_emit.proofs.calling.call_body.Goals as goal
 
 pub lead_back-requires-clause-ready : goal.lead_back-requires-clause-ready
@@ -16,3 +17,6 @@ pub returns-clause-code : goal.returns-clause-code
 returns-clause-code c =
     adds_weaker (adds_then c.in_ok-call_callee.ensures.code c.in_ok-lead_back.ensures.leads) (omega arith)
     (λ x from to does. call_codes c.args.context.now c.args.targets.now x from does.0 to c.args.site c.args.callee c.args.arguments.now c.args.exits.now c.requires.calls does.1 does.2)
+
+pub returns-clause-behind : goal.returns-clause-behind
+returns-clause-behind c = behind_words c.in_ok-call_callee.ensures.behind c.in_ok-lead_back.ensures.words

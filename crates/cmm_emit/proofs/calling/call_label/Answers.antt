@@ -20,3 +20,6 @@ returns-clause-code c callee named =
     let calls = rw (c.as_slice.ensures, c.as_slice-2.ensures, c.in_ok-operands.ensures) at c.in_ok-call.ensures.calls in
     adds_weaker calls (omega (arith, same))
     (λ x from to does. calls_label c.args.asm.now.labels p y c.requires.ready x from to c.args.site c.requires.site callee arguments c.args.to named c.requires.arguments c.requires.gives does)
+
+pub returns-clause-behind : goal.returns-clause-behind
+returns-clause-behind c = rw c.as_slice.ensures at c.in_ok-call.ensures.behind

@@ -25,3 +25,10 @@ returns-clause-exits c =
     let same : length (landing_labels p returns) ≡ length returns = landings_count p returns in
     let exits = rw (c.as_slice-2.ensures, c.in_ok-landings.ensures, c.as_slice.ensures) at c.in_ok-lay_exits.ensures.exits in
     adds_weaker exits (omega (arith, same)) (λ x from to does. does)
+
+pub returns-clause-words : goal.returns-clause-words
+returns-clause-words c =
+    let p = c.args.context.now in
+    let returns = c.args.exits.now.returns in
+    let same : length (landing_labels p returns) ≡ length returns = landings_count p returns in
+    rw same at (rw (c.as_slice-2.ensures, c.in_ok-landings.ensures, c.as_slice.ensures) at c.in_ok-lay_exits.ensures.words)

@@ -25,4 +25,7 @@ returns c =
       landings = c.in_ok-landings.ensures
           ∙ (ap (λ (ps : List ℕ). map (λ p. places_at ps p.landings) c.as_slice-2.result.now) c.as_slice-places.ensures
           ∙ ap (λ (cs : List Context). map (λ p. places_at placed.places p.landings) cs) c.as_slice-2.ensures);
+      sites = c.in_ok-sites.ensures
+          ∙ (ap (λ (ps : List ℕ). map (λ p. places_at ps p.sites) c.as_slice-3.result.now) c.as_slice-places.ensures
+          ∙ ap (λ (cs : List Context). map (λ p. places_at placed.places p.sites) cs) c.as_slice-3.ensures);
     }

@@ -8,9 +8,10 @@ use Rattle.cmm_program.proofs.Shared.{list_all_get}
 use Rattle.cmm_emit.proofs.Own.{own_node, own_none, own_then, own_with}
 use Rattle.cmm_bitset.proofs.Shared.{member_count-le}
 use Rattle.cmm_emit.proofs.Placing.{code_comes, member_stays, node_stands, one_member_more, place_comes, some_member}
+use Rattle.cmm_emit.proofs.NodeSites.{stand_laid}
 use Rattle.cmm_emit.proofs.Summing.{last_costs, next_costs, rest_costs}
 use Rattle.cmm_emit.proofs.WaitingSites.{waits_behind, waits_with}
-use Rattle.cmm_emit.specs.LaidNodes.{EndsAt, PlacesOwn, SitesWait}
+use Rattle.cmm_emit.specs.LaidNodes.{EndsAt, PlacesOwn, SitesStand, SitesWait}
 use Rattle.cmm_emit.specs.Naming.{has_kind, label_at}
 use Rattle.cmm_emit.specs.Standing.{labels_with}
 use Rattle.cmm_emit.proofs.node_code.lay_chain.Goals as goal
@@ -88,7 +89,8 @@ loop-preserved c =
     let there = slice_get_within c.loop.asm.labels (label_at p.nodes next.number).number (Inner (has old next.number)) (pending.laid.each next.number ends.within) in
     let waits : SitesWait p g c.lay_node.new.asm.labels c.lay_node.new.placed (Some next) =
     rw (labels, ends.placed) (waits_behind p y g c.requires.kinds c.requires.sites (labels_with p node.kind c.loop.asm.labels) old next ends.within ends.fresh sites_wait) in (
-      place_comes p y g c.lay_node.new.asm.labels old c.lay_node.new.placed next c.lay_node.new.asm.parts ends c.in_ok-next.ensures.ready c.in_ok-next.ensures.laid waits size have,
+      place_comes p y g c.lay_node.new.asm.labels old c.lay_node.new.placed next c.lay_node.new.asm.parts ends c.in_ok-next.ensures.ready c.in_ok-next.ensures.laid waits size have
+          (stand_laid p g old at node is pending.stand c.in_ok-next.ensures.code.appends c.in_ok-next.ensures.stands),
       λ k is. rw ends.placed (member_stays old next.number k within (c.loop.invariant.1 k is)),
       rw (ends.placed, one_member_more old next.number within ends.fresh) (omega (arith, c.loop.invariant.2)),
       appends_weaker (appends_then c.loop.invariant.3 appends) (λ x from to does. tt),
@@ -142,3 +144,20 @@ returns-in-None-clause-size c =
     let is = slice_get-get_or g.nodes at.number node inside ∙ ap Some same in
     let stays : c.lay_node.new.placed ≡ c.loop.placed = rw c.in-None.is at c.in_ok-next.ensures.stays in
     rw stays (omega (arith, c.loop.invariant.5, c.in_ok-next.ensures.code.few, last_costs p y g c.loop.placed at node is c.loop.invariant.0.member))
+
+pub returns-clause-stand : goal.returns-clause-stand
+returns-clause-stand c k node is come =
+    absurd (omega (arith, c.loop.invariant.2, member_count-le c.loop.placed, c.loop.invariant.0.laid.size, c.requires.size, c.loop-test.false, c.len-end.ensures))
+
+pub returns-in-None-clause-stand : goal.returns-in-None-clause-stand
+returns-in-None-clause-stand c =
+    let g = c.args.graph.now in
+    let at = c.loop.at in
+    let node = c.index-as_slice-at.result in
+    let inside : at.number < length g.nodes = omega (arith, c.loop.invariant.0.within, c.requires.size) in
+    let same : get_or g.nodes at.number node ≡ node = sym (rw c.as_slice.ensures at c.index-as_slice-at.is) in
+    let is = slice_get-get_or g.nodes at.number node inside ∙ ap Some same in
+    let stays : c.lay_node.new.placed ≡ c.loop.placed = rw c.in-None.is at c.in_ok-next.ensures.stays in
+    let stand : SitesStand c.args.context.now g c.loop.placed None c.lay_node.new.asm.parts =
+    stand_laid c.args.context.now g c.loop.placed at node is c.loop.invariant.0.stand c.in_ok-next.ensures.code.appends c.in_ok-next.ensures.stands in
+    rw stays stand

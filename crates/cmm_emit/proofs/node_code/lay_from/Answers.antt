@@ -11,6 +11,7 @@ use Rattle.cmm_bitset.specs.Sets.{has}
 use Rattle.cmm_emit.proofs.Own.{own_node, own_none, own_then}
 use Rattle.rv_asm.specs.declared.part.Part.TheVariants.{Place}
 use Rattle.cmm_emit.proofs.Placing.{place_comes}
+use Rattle.cmm_emit.proofs.NodeSites.{stand_more}
 use Rattle.cmm_emit.proofs.Summing.{place_costs}
 use Rattle.cmm_emit.proofs.WaitingSites.{waits_behind}
 use Rattle.cmm_emit.specs.LaidNodes.{AreLaid, SitesWait, cost_to_come}
@@ -36,6 +37,7 @@ lay_chain-requires-clause-pending c =
     place_comes p y c.args.graph.now c.place.new.self.labels old c.insert.new.self n c.place.new.self.parts
     (record { front = c.args.asm.now.parts; is = parts; within = within; fresh = fresh; placed = c.insert.ensures }) ready laid waits c.requires.laid.size
     (λ k there. rw parts (codes_more (label_at p.nodes k) (c.requires.have k there) (appends_one c.args.asm.now.parts (Place (label_at p.nodes n.number)))))
+    (rw parts (stand_more p c.args.graph.now old c.requires.stand (appends_one c.args.asm.now.parts (Place (label_at p.nodes n.number)))))
 
 pub returns-then-has-clause-added : goal.returns-then-has-clause-added
 returns-then-has-clause-added c = appends_weaker (appends_none c.args.asm.now.parts) (λ x from to is. tt)

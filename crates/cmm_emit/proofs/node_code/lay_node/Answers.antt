@@ -3,6 +3,7 @@ use Rattle.std.proofs.lemmas.Bool.Decides.{nat_tests}
 use Rattle.cmm_effects.proofs.Shared.{adds_then, adds_weaker}
 use Rattle.cmm_emit.proofs.NodeLabels.{laid_with, ready_with}
 use Rattle.cmm_emit.proofs.Leading.{falls_within, jump_fits, leads_nowhere, leads_on}
+use Rattle.cmm_emit.proofs.NodeSites.{site_stays}
 use Rattle.cmm_emit.proofs.node_code.lay_node.Goals as goal
 
 pub lead_to-requires-clause-ready : goal.lead_to-requires-clause-ready
@@ -45,3 +46,7 @@ returns-in-None-clause-code c =
 
 pub returns-in-None-clause-labels : goal.returns-in-None-clause-labels
 returns-in-None-clause-labels c = c.in_ok-body.ensures.labels
+
+pub returns-in_ok-there-in-Some-clause-stands : goal.returns-in_ok-there-in-Some-clause-stands
+returns-in_ok-there-in-Some-clause-stands c =
+    site_stays c.args.context.now c.args.kind.now c.in_ok-body.ensures.stands c.in_ok-there-in-Some.ensures.goes.appends

@@ -1,4 +1,5 @@
 use Rattle.std.proofs.Common.{None, arith, below_more}
+use Rattle.std.proofs.lemmas.Option.{slice_get_within}
 use Rattle.rv_asm.proofs.Shared.{appends_none, appends_then, appends_weaker}
 use Rattle.cmm_emit.proofs.Own.{own_none, own_then}
 use Rattle.cmm_emit.proofs.Summing.{come_few}
@@ -19,7 +20,7 @@ returns-clause-places c =
 pub loop-number-init : goal.loop-number-init
 loop-number-init c =
     let e = c.in_ok-lay_from.ensures in
-    (e.ready, e.laid, e.waits, e.have, λ k less. absurd (omega (arith, less)), appends_weaker (appends_none c.lay_from.new.asm.parts) (λ x from to is. tt), own_none c.args.context.now c.lay_from.new.asm.labels, omega arith)
+    (e.ready, e.laid, e.waits, e.have, λ k less. absurd (omega (arith, less)), appends_weaker (appends_none c.lay_from.new.asm.parts) (λ x from to is. tt), own_none c.args.context.now c.lay_from.new.asm.labels, omega arith, e.stand)
 
 pub loop-number-preserved : goal.loop-number-preserved
 loop-number-preserved c =
@@ -33,6 +34,7 @@ loop-number-preserved c =
       appends_weaker (appends_then inv.5 e.added) (λ x from to does. tt),
       own_then c.args.context.now c.lay_from.new.asm.labels c.loop-number.asm.labels c.lay_from-in-loop-number.new.asm.labels inv.6 e.places,
       omega (arith, e.size, inv.7),
+      e.stand,
     )
 
 pub returns-clause-code : goal.returns-clause-code
@@ -43,3 +45,11 @@ pub returns-clause-size : goal.returns-clause-size
 returns-clause-size c =
     let p = c.args.context.now in
     omega (arith, c.in_ok-lay_from.ensures.size, c.loop-number.invariant.7, come_few p c.args.targets.now c.in_ok-placed.placed None c.args.graph.now.nodes)
+
+pub lay_from-requires-in-loop-number-clause-stand : goal.lay_from-requires-in-loop-number-clause-stand
+lay_from-requires-in-loop-number-clause-stand c = c.loop-number.invariant.8
+
+pub returns-clause-sites : goal.returns-clause-sites
+returns-clause-sites c k node is =
+    c.loop-number.invariant.8 k node is
+    (c.loop-number.invariant.4 k (let less = slice_get_within c.args.graph.now.nodes k node is in omega (arith, less, c.loop-number-test.false, c.len-number-end.ensures)))

@@ -144,4 +144,4 @@ returns-clause-codes c =
     let one = one_read p c.args.graphs.now c.requires.outline.found o c.requires.outline.is_outline c.requires.outline.can c.args.number c.requires.number c.as_slice.result.now c.index-as_slice-number.result
     c.as_slice.ensures c.index-as_slice-number.is c.args.graphs.now g refl c.index-graphs-outline.is in
     codes_next p procs graphs found o c.requires.outline.is_outline c.requires.outline.can c.args.number g one c.args.asm.now.labels c.requires.labels c.args.asm.now.parts c.lay_nodes.new.asm.parts c.close.new.asm.parts c.requires.codes c.placed_labels.ensures c.in_ok-lay_nodes.ensures.added
-    c.in_ok-lay_nodes.ensures.code c.in_ok-close.ensures.parts c.in_ok-lay_nodes.ensures.size
+    c.in_ok-lay_nodes.ensures.code c.in_ok-lay_nodes.ensures.sites c.in_ok-close.ensures.parts c.in_ok-lay_nodes.ensures.size

@@ -36,7 +36,7 @@ returns c =
     record {
       parts = parts;
       places = placed.places;
-      done = subst (λ (ms : List Meaning). AreFinished ms parts placed.places (record { code = placed.bytes; fixes = placed.fixes; procedures = c.new.result; landings = c.new-2.result }))
+      done = subst (λ (ms : List Meaning). AreFinished ms parts placed.places (record { code = placed.bytes; fixes = placed.fixes; procedures = c.new.result; landings = c.new-2.result; sites = c.new-3.result }))
           (labels_are none one two new symbol main last is_none is_one is_two is_main is_last p is_symbol laid.labels) (record {
             runs = e.runs;
             have = e.places;
@@ -54,4 +54,5 @@ returns c =
           ∙ (ap (λ (ps : List ℕ). slice_index ps last.number) c.as_slice.ensures ∙ ap (λ (l : Label). slice_index placed.places l.number) behind);
       procedures = c.new.ensures;
       landings = c.new-2.ensures;
+      sites = c.new-3.ensures;
     }

@@ -1,13 +1,13 @@
 use Rattle.std.proofs.Common.{ℕ, ◌+◌, ◌≤◌, ◌^◌, ◌++◌, ◌∙◌, All, List, ap, map, subst, sym}
-use Rattle.cmm_link.proofs.Joined.{landings_more, landings_within, size_more}
+use Rattle.cmm_link.proofs.Joined.{landings_more, lists_within, size_more}
 use Rattle.cmm_link.proofs.joining.landing_addresses.Goals as goal
 
-pub add_landings-requires : goal.add_landings-requires
-add_landings-requires c =
-    let P : List (List ℕ) → Type 0 = λ landings. All (All (λ offset. c.loop-unit.at + offset ≤ 2 ^ 30)) landings in
+pub add_address_lists-requires : goal.add_address_lists-requires
+add_address_lists-requires c =
+    let P : List (List ℕ) → Type 0 = λ lists. All (All (λ offset. c.loop-unit.at + offset ≤ 2 ^ 30)) lists in
     subst P (sym c.as_slice.ensures)
-    (landings_within c.args.units.now c.loop-unit.unit-index c.loop-unit.at c.unit-item.result c.requires.whole c.requires.room c.loop-unit-test.true c.unit-item.is
-    c.loop-unit.invariant.at)
+    (lists_within c.args.units.now c.loop-unit.unit-index c.loop-unit.at c.unit-item.result c.requires.whole c.requires.room c.loop-unit-test.true c.unit-item.is
+    c.loop-unit.invariant.at c.unit-item.result.landings (λ whole. whole.landings))
 
 pub loop-unit-preserved : goal.loop-unit-preserved
 loop-unit-preserved c =
@@ -18,7 +18,7 @@ loop-unit-preserved c =
     let unit = c.unit-item.result in
     let so_far = c.loop-unit.invariant.at in
     record {
-      found = landings_more units i at unit found c.add_landings.new.found c.loop-unit-test.true c.unit-item.is so_far c.loop-unit.invariant.found
-          (c.in_ok-add_landings.ensures ∙ ap (λ landings. found ++ map (λ offsets. map (λ offset. at + offset) offsets) landings) c.as_slice.ensures);
+      found = landings_more units i at unit found c.add_address_lists.new.found c.loop-unit-test.true c.unit-item.is so_far c.loop-unit.invariant.found
+          (c.in_ok-add_address_lists.ensures ∙ ap (λ lists. found ++ map (λ offsets. map (λ offset. at + offset) offsets) lists) c.as_slice.ensures);
       at = ap (λ n. at + n) c.len.ensures ∙ size_more units i at unit c.loop-unit-test.true c.unit-item.is so_far;
     }

@@ -1,6 +1,0 @@
-use Rattle.std.proofs.Common.{◌≡◌, ◌+◌, ◌++◌, map, take}
-use Rattle.cmm_link.proofs.joining.add_landings.Given as goal
-
--- those of the procedures so far
-abbrev pub invariant-loop-offsets : goal.invariant-loop-offsets
-invariant-loop-offsets l = l.found ≡ l.initial.found ++ map (λ offsets. map (λ offset. l.at + offset) offsets) (take l.offsets-index l.landings)
