@@ -516,4 +516,5 @@ def main_call():
         sys.exit("walk_rows: stdin or stdout are not as tools/walk_rows.py writes them")
 
 
-main_call()
+if __name__ == "__main__":
+    main_call()
