@@ -8,7 +8,7 @@ use Rattle.cmm_program.specs.InRange.{IsInRange, IsProcInRange}
 use Rattle.cmm_graph.specs.declared.graph.Graph.{Graph}
 use Rattle.cmm_graph.specs.Counterpart.{AreGraphsOf, IsGraphOf}
 use Rattle.cmm_flow.specs.Flow.{AreCovered, IsBounded, IsFlow}
-use Rattle.cmm_flow.specs.Laws.{AnswersAreBounded, AnswersAreCovered, AnswersAreGraphs, AnswersAreQuiet, AnswersAreShort}
+use Rattle.cmm_flow.specs.Laws.{AnswersAreBounded, AnswersAreCovered, AnswersAreGraphs, AnswersAreShort, AnswersPassFew, AnswersYieldThere}
 use Rattle.cmm_flow.proofs.Landings.{answers_land}
 use Rattle.cmm_flow.proofs.SitesOfNodes.{answers_have_sites}
 
@@ -33,8 +33,11 @@ answers_are_short p q g range is = is.short p range
 pub answers_are_covered : AnswersAreCovered
 answers_are_covered p q g range is = is.covered p range (answers_have_sites p q g range is)
 
-pub answers_are_quiet : AnswersAreQuiet
-answers_are_quiet p q g range is waits = is.quiet p range waits (answers_have_sites p q g range is)
+pub answers_pass_few : AnswersPassFew
+answers_pass_few p q g range is = is.few p range (answers_have_sites p q g range is)
+
+pub answers_yield_there : AnswersYieldThere
+answers_yield_there p q g range is = is.yields p range
 
 all_graphs : (p : Program) (qs : List Proc) (graphs : List Graph) → All (IsProcInRange p) qs → AllZip IsFlow qs graphs → AllZip (IsGraphOf p) qs graphs
 all_graphs p [] [] range are = are

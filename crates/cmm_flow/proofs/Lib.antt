@@ -31,7 +31,7 @@ pub mod Least
 pub mod TokensWithin
 pub mod Enough
 pub mod Covered
-pub mod Quiet
+pub mod PassingFew
 pub mod Belongs
 pub mod FormsBelong
 pub mod Bounded

@@ -48,8 +48,7 @@ use Rattle.cmm_flow.proofs.LaidTokens.{span_tokens}
 use Rattle.cmm_flow.proofs.Laying.{and_both, both_pass, get_before, get_behind, stands_before, tokens-append, waiting_sites-append}
 use Rattle.cmm_flow.proofs.Marking.{lays_marked, ready_later, then_marked}
 use Rattle.cmm_flow.proofs.Marks.{follow_leads, front_list}
-use Rattle.cmm_flow.proofs.Quiet.{copies_quiet, entry_quiet, is_quiet_node, nodes_quiet, statements_quiet}
-use Rattle.cmm_flow.specs.Few.{proc_waits}
+use Rattle.cmm_flow.proofs.PassingFew.{copies_few, entry_few, is_few, nodes_few, nodes_yield, statements_few}
 use Rattle.cmm_flow.proofs.Ranged.{bounded, copies_belong, entry_belongs, names, nodes_ranged}
 use Rattle.cmm_flow.proofs.TokensTogether.{statements_sum}
 use Rattle.cmm_flow.proofs.TokensWithin.{form_within}
@@ -411,11 +410,11 @@ module _ (q : Proc) (labels : ℕ) (a b c : Builder) (g : Graph) (formals : List
       all_asked (has_enough q) refl refl (span_of (passes_own q (has_enough q)) q.body (statements_enough p q range)) (entry_enough p q range formals numbers)
       (copies_enough p q q.conts)
 
-  nodes_asked_quiet : map (λ (v : Variable). v.number) formals ≡ range_with_len 0 q.formals → (p : Program) → IsProcInRange p q → proc_waits q ≡ false →
-      AreAsked record { test = is_quiet_node q; graph = g } g.nodes
-  nodes_asked_quiet numbers p range waits =
-      all_asked (is_quiet_node q) refl refl (span_of (passes_own q (is_quiet_node q)) q.body (statements_quiet p q range waits))
-      (entry_quiet p q range waits formals numbers) (copies_quiet p q range waits)
+  nodes_asked_few : map (λ (v : Variable). v.number) formals ≡ range_with_len 0 q.formals → (p : Program) → IsProcInRange p q →
+      AreAsked record { test = is_few q; graph = g } g.nodes
+  nodes_asked_few numbers p range =
+      all_asked (is_few q) refl refl (span_of (passes_own q (is_few q)) q.body (statements_few p q range)) (entry_few p q range formals numbers)
+      (copies_few p q range)
 
   pub is_answered : map (λ (v : Variable). v.number) formals ≡ range_with_len 0 q.formals → IsFlow q g
   is_answered numbers = record {
@@ -426,7 +425,8 @@ module _ (q : Proc) (labels : ℕ) (a b c : Builder) (g : Graph) (formals : List
     nodes = λ p range sites. nodes_ranged p q g range (nodes_belong numbers p range) finished.temporaries finished.variables landings_many sites;
     short = gives_short;
     bounded = λ p range. bounded p q g range (nodes_belong numbers p range) finished.temporaries finished.variables landings_many;
-    quiet = λ p range waits sites. nodes_quiet q g (nodes_asked_quiet numbers p range waits) sites;
+    few = λ p range sites. nodes_few q g (nodes_asked_few numbers p range) sites;
+    yields = λ p range. nodes_yield q g (nodes_asked_few numbers p range);
     covered = λ p range sites. nodes_covered q g (nodes_enough numbers p range) sites;
     variables = finished.variables;
     formals = ap (λ o. with_some o (λ node. formals_of node.kind)) entry_there ∙ ap Some numbers;

@@ -18,7 +18,7 @@ use Rattle.cmm_graph.specs.Counterpart.{HasSite, formals_of, names_there, parame
 use Rattle.cmm_graph.specs.Paths.{landing_of, node_of}
 use Rattle.cmm_graph.specs.Ranges.{is_node}
 use Rattle.cmm_flow.specs.Code.{IsNode}
-use Rattle.cmm_flow.specs.Few.{AreQuiet, proc_waits}
+use Rattle.cmm_flow.specs.Few.{PassFew, YieldThere}
 use Rattle.cmm_flow.specs.Statements.{ListCode}
 use Rattle.cmm_flow.specs.Waiting.{WaitAtSites}
 
@@ -87,8 +87,8 @@ AreCovered q g = IsTrue (list_all (covers q.tokens) g.nodes)
 -- What `flow` answers: the flow of the procedure, where no node has more tokens than the procedure if that has tokens for its
 -- parts. The graph has the variables of the procedure, its Entry takes the arguments to the formals, and the CopyIn of each
 -- continuation takes the parameters. No more nodes wait at a site than statements have its number. Of a procedure in range its nodes name what is
--- there, its frame is bounded, it is short, and where those nodes that wait have the exits of their sites all are in range, and have tokens enough for what they do; if the
--- procedure does not wait for the client, they pass few values and none yields.
+-- there, its frame is bounded, it is short, they yield as many values as their sites say, and where those nodes that wait have the exits of their sites all are in range, pass
+-- few values, and have tokens enough for what they do.
 pub record IsFlow (q : Proc) (g : Graph) : Type 0 where
   pub flow : IsFlowOf q g
   pub tokens : CoversParts q → HasTokens q g
@@ -100,5 +100,6 @@ pub record IsFlow (q : Proc) (g : Graph) : Type 0 where
   pub nodes : (p : Program) → IsProcInRange p q → All (λ node. HasSite q g node.kind) g.nodes → IsTrue (list_all (is_node g) g.nodes)
   pub bounded : (p : Program) → IsProcInRange p q → IsBounded q g
   pub short : (p : Program) → IsProcInRange p q → IsShort q g
-  pub quiet : (p : Program) → IsProcInRange p q → proc_waits q ≡ false → All (λ node. HasSite q g node.kind) g.nodes → AreQuiet g
+  pub few : (p : Program) → IsProcInRange p q → All (λ node. HasSite q g node.kind) g.nodes → PassFew g
+  pub yields : (p : Program) → IsProcInRange p q → YieldThere q g
   pub covered : (p : Program) → IsProcInRange p q → All (λ node. HasSite q g node.kind) g.nodes → AreCovered q g

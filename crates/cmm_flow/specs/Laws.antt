@@ -19,7 +19,7 @@ use Rattle.cmm_graph.specs.Counterpart.{HasSite, IsGraphOf}
 use Rattle.cmm_graph.specs.GraphControl.{Position, graph_control, kind_here}
 use Rattle.cmm_graph.specs.GraphMachine.{graph_start, tokens_of_youngest}
 use Rattle.cmm_graph.specs.Ranges.{IsValid, is_node}
-use Rattle.cmm_flow.specs.Few.{AreQuiet, proc_waits}
+use Rattle.cmm_flow.specs.Few.{PassFew, YieldThere}
 use Rattle.cmm_flow.specs.Flow.{AreCovered, HasTokens, IsBounded, IsFlow, IsFlowOf, IsShort}
 use Rattle.cmm_flow.specs.Relation.{IsProgramCounted, SoundlyRelated, longest}
 use Rattle.cmm_flow.specs.Waiting.{IsWaitedAt, WaitOnce}
@@ -114,6 +114,10 @@ AnswersAreShort = (p : Program) (q : Proc) (g : Graph) → IsProcInRange p q →
 abbrev pub AnswersAreCovered : Type 0
 AnswersAreCovered = (p : Program) (q : Proc) (g : Graph) → IsProcInRange p q → IsFlow q g → AreCovered q g
 
--- And if the procedure does not wait for the client, they pass few values, and none yields.
-abbrev pub AnswersAreQuiet : Type 0
-AnswersAreQuiet = (p : Program) (q : Proc) (g : Graph) → IsProcInRange p q → IsFlow q g → proc_waits q ≡ false → AreQuiet g
+-- And they pass few values.
+abbrev pub AnswersPassFew : Type 0
+AnswersPassFew = (p : Program) (q : Proc) (g : Graph) → IsProcInRange p q → IsFlow q g → PassFew g
+
+-- And those that yield do so with as many values as their sites say.
+abbrev pub AnswersYieldThere : Type 0
+AnswersYieldThere = (p : Program) (q : Proc) (g : Graph) → IsProcInRange p q → IsFlow q g → YieldThere q g

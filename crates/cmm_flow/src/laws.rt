@@ -1,6 +1,6 @@
 //! The laws that join the C-- machine and the machine over graphs. Each is the contract of a function that does nothing.
 
-ghost use Rattle.cmm_flow.specs.Laws.{AnswersAreBounded, AnswersAreCovered, AnswersAreFlows, AnswersAreGraphs, AnswersAreQuiet, AnswersAreShort, AnswersHaveSites, AnswersLand, AnswersWaitAtEach, AnswersWaitOnce, FlowAgrees, FlowFollows, FlowFollowsAt, FlowSimulates, FlowSimulatesAt, RangeIsCounted};
+ghost use Rattle.cmm_flow.specs.Laws.{AnswersAreBounded, AnswersAreCovered, AnswersAreFlows, AnswersAreGraphs, AnswersAreShort, AnswersHaveSites, AnswersLand, AnswersPassFew, AnswersWaitAtEach, AnswersWaitOnce, AnswersYieldThere, FlowAgrees, FlowFollows, FlowFollowsAt, FlowSimulates, FlowSimulatesAt, RangeIsCounted};
 ghost use Rattle.cmm_flow.specs.Liveness.{AnswersAreInRange, CodeKeepsLiveness, SetsAreOfProcedure, SitesHaveNodes, SitesKeepLiveness};
 
 use cmm_machine_laws::values::{every_state_is_sound, expressions_fit};
@@ -77,10 +77,11 @@ pub fn answers_are_short()
     ensures { AnswersAreShort }
 {}
 
-/// The nodes of what `flow` answers for a procedure in range that does not wait for the client pass few values, and none yields.
-#[tactic(auto, using(crate::proofs::Graphs::answers_are_quiet))]
-pub fn answers_are_quiet()
-    ensures { AnswersAreQuiet }
+/// The nodes of what `flow` answers for a procedure in range pass few values, and those that yield do so with as many as their sites say.
+#[tactic(auto, using(crate::proofs::Graphs::answers_pass_few, crate::proofs::Graphs::answers_yield_there))]
+pub fn answers_pass_few()
+    ensures few { AnswersPassFew }
+    ensures yields { AnswersYieldThere }
 {}
 
 /// What `flow` answers for a procedure in range is all that the laws of liveness ask of a graph, with `answers_wait_once`.
