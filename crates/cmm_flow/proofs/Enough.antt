@@ -90,7 +90,7 @@ pub arguments_many : (base : ℕ) (es : List Expression) → length (arguments_o
 arguments_many base [] = refl
 arguments_many base (e ∷ es) = ap suc (arguments_many (suc base) es)
 
-operands_many : (base : ℕ) (es : List Expression) → length (operands_of base es) ≡ length es
+pub operands_many : (base : ℕ) (es : List Expression) → length (operands_of base es) ≡ length es
 operands_many base [] = refl
 operands_many base (e ∷ es) = ap suc (operands_many (suc base) es)
 

@@ -1,5 +1,5 @@
 -- A worked row: the graph of a small procedure, written by hand, is its flow, and the premises of the laws are built for its program.
-use Rattle.std.proofs.Common.{◌≡◌, ℕ, zero, suc, ◌<◌, IsTrue, false, List, [], ◌∷◌, refl, ap, arith, lit<, lit≤}
+use Rattle.std.proofs.Common.{◌≡◌, ℕ, zero, suc, ◌<◌, IsTrue, false, List, [], ◌∷◌, refl, arith, lit<, lit≤}
 use Rattle.std.proofs.lemmas.Bool.Decides.{nat_tests}
 use Rattle.std.proofs.lemmas.List.Elements.{All-nil, All-cons}
 use Rattle.std.specs.List.{list_all}
@@ -13,7 +13,7 @@ use Rattle.cmm_program.specs.declared.procedure.Proc.{Proc}
 use Rattle.cmm_program.specs.declared.statement.Form.TheVariants as form
 use Rattle.cmm_program.specs.declared.procedure.Target.TheVariants as target
 use Rattle.cmm_program.specs.declared.statement.Statement.{Statement}
-use Rattle.cmm_program.specs.InRange.{IsInRange, IsProcInRange}
+use Rattle.cmm_program.specs.InRange.{IsInRange}
 use Rattle.cmm_program.specs.State.{Done, Ended, Setting}
 use Rattle.cmm_machine_laws.specs.Fitting.{IsSetUp}
 use Rattle.cmm_program.specs.Bodies.{AtContinuation, AtLabel, body_statements, follow}

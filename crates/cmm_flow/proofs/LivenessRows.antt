@@ -2,7 +2,7 @@
 -- liveness are built for it, and both sides are worked out; and those of the law on what `flow` answers for a program in range.
 use Rattle.std.proofs.Common.{◌≡◌, ℕ, zero, suc, ◌<◌, ◌&&◌, nat_le, nat_lt, IsTrue, true, false, length, List, [], ◌∷◌, map, Some, Contains, refl, ap, sym, ◌∙◌, subst, arith, lit<, lit≤}
 use Rattle.std.proofs.lemmas.Bool.{and_parts}
-use Rattle.std.proofs.lemmas.List.Elements.{All-cons, All-from_recursion, All-nil}
+use Rattle.std.proofs.lemmas.List.Elements.{All-from_recursion}
 use Rattle.std.specs.List.{list_all}
 use Rattle.cmm_words.specs.declared.constant.Constant.TheVariants.{Code}
 use Rattle.cmm_words.specs.declared.width.Width.TheVariants.{W64}

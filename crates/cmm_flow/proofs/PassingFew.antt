@@ -1,11 +1,10 @@
 -- The nodes of a procedure in range pass few values, and those that yield do so with as many as their sites say.
-use Rattle.std.proofs.Common.{◌≡◌, ℕ, suc, ◌&&◌, ◌||◌, ◌==◌, nat_le, IsTrue, Bool, true, false, Option, Some, None, List, [], ◌∷◌, length, map, zero, slice_get, refl, sym, ap, ◌∙◌, subst}
+use Rattle.std.proofs.Common.{◌≡◌, ℕ, ◌+◌, ◌&&◌, ◌==◌, nat_le, IsTrue, Bool, true, false, Option, Some, None, List, [], ◌∷◌, length, map, slice_get, refl, sym, ap, ◌∙◌, subst}
 use Rattle.std.proofs.lemmas.Bool.{and_parts}
 use Rattle.std.proofs.lemmas.List.{length-map}
 use Rattle.std.proofs.lemmas.List.FromFn.{length-range_with_len}
 use Rattle.std.proofs.lemmas.Option.{get_or_from_slice_get, slice_get_within}
-use Rattle.std.specs.List.{All, list_all, list_any, range_with_len}
-use Rattle.std.specs.Prelude.{is_some}
+use Rattle.std.specs.List.{All, list_all, range_with_len}
 use Rattle.cmm_words.specs.Words.{is_division}
 use Rattle.cmm_words.specs.declared.width.Width.{Width}
 use Rattle.cmm_program.proofs.Shared.{list_all_get}
@@ -37,10 +36,11 @@ use Rattle.cmm_graph.specs.declared.node.Exits.{Exits}
 use Rattle.cmm_graph.specs.declared.number.SiteId.{SiteId}
 use Rattle.cmm_flow.specs.Few.{PassFew, YieldThere, passes_few, yields_there}
 use Rattle.cmm_flow.specs.Operands.{arguments_of, operands_of}
+use Rattle.cmm_flow.specs.Statements.{normal_tokens, operator_nodes, remaining}
 use Rattle.cmm_flow.specs.inside.Fronts.{copy_in}
 use Rattle.cmm_flow.specs.inside.Laying.{AreAsked, leads_on, passes}
 use Rattle.cmm_flow.specs.inside.LayingBlocks.{passes_own}
-use Rattle.cmm_flow.specs.inside.Nodes.{call_node, cut_node, goto, jump_node, nodes_of_exits, nodes_of_form, nodes_of_operand, nodes_of_operands, nodes_of_passing, normal_node, nowhere, put_node, return_node, stored, switch_node, unled, unled_kind}
+use Rattle.cmm_flow.specs.inside.Nodes.{call_node, cut_node, division, goto, jump_node, nodes_of_exits, nodes_of_form, nodes_of_guard, nodes_of_guard_if, nodes_of_operand, nodes_of_operands, nodes_of_passing, nodes_of_two, nodes_of_yield_one, normal_node, nowhere, put_node, return_node, stored, switch_node, unled, unled_kind, yield_node, yield_one, zero_test}
 use Rattle.cmm_flow.proofs.Covered.{returns_many}
 use Rattle.cmm_flow.proofs.Covering.{each_passes, list_all_more}
 use Rattle.cmm_flow.proofs.Enough.{arguments_many, operands_many, returns_at}

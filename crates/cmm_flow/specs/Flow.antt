@@ -1,6 +1,6 @@
 -- When a graph is the flow of a procedure: its nodes are the code of the body, and of what follows each label and each
 -- continuation.
-use Rattle.std.specs.Prelude.{◌≡◌, ℕ, ◌+◌, ◌*◌, ◌<◌, ◌≤◌, nat_le, nat_lt, false, IsTrue, List, length, map, sum_by, Some}
+use Rattle.std.specs.Prelude.{◌≡◌, ℕ, ◌+◌, ◌*◌, ◌<◌, ◌≤◌, nat_le, nat_lt, IsTrue, List, length, map, sum_by, Some}
 use Rattle.std.specs.List.{All, list_all, range_with_len}
 use Rattle.cmm_program.specs.declared.procedure.Proc.{Proc}
 use Rattle.cmm_program.specs.declared.procedure.Target.{Target}
