@@ -1,4 +1,3 @@
 pub mod Agreement
-pub mod Forms
 pub mod Refusing
 pub mod inside

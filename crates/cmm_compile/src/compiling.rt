@@ -4,10 +4,10 @@ ghost use Rattle.std.specs.Prelude.{◌<◌, ◌^◌, length, IfOk, IfErr};
 ghost use Rattle.cmm_front.specs.Programs.{IsProgramOf};
 ghost use Rattle.cmm_image.specs.Images.{IsImage};
 ghost use Rattle.cmm_compile.specs.Agreement.{Agree, AgreesWith};
-ghost use Rattle.cmm_compile.specs.Refusing.{IsFaultOf, IsRefused};
+ghost use Rattle.cmm_front.specs.Refusing.{IsFaultOf};
+ghost use Rattle.cmm_compile.specs.Refusing.{IsRefused};
 
 use crate::fault::BuildFault;
-use crate::form::waits;
 use crate::laws::passes_fit;
 use cmm_allocate::place_program;
 use cmm_data::lay_out;
@@ -19,17 +19,7 @@ use cmm_items::Items;
 use cmm_link::link;
 use cmm_live::liveness_of_all;
 use cmm_program::Program;
-use cmm_rules::Rule;
-use cmm_static_semantics::Fault;
 use std::alloc::Global;
-
-/// The fault of units that break no other rule, and of whose program no image is made yet.
-const NOT_BUILT: Fault = Fault {
-    rule: Rule::FormNotBuilt,
-    unit: 0,
-    line: 1,
-    column: 1,
-};
 
 /// An image keeps every rule of its format.
 fn know_rules(image: &Image)
@@ -46,8 +36,7 @@ pub struct Compiled {
 }
 
 /// The program of units, by the bytes of each, and its image, pass by pass: each takes what those before it made. The image agrees with the program: it does what the C-- machine does on it, and nothing else, unless the machine
-/// commits an unchecked error first. Units that break a rule are refused for the first, by phase, then by unit, place and number; where they break none, and no image is
-/// made of such programs yet, by the rule for that.
+/// commits an unchecked error first. Units that break a rule are refused for the first, by phase, then by unit, place and number.
 pub fn compile_program(alloc: Global, units: &[Items<u8>]) -> Result<Compiled, BuildFault>
     requires { length units.now < 2 ^ 32 }
     ensures ok { IfOk result (λ c. IsProgramOf units.now c.program × AgreesWith c.program c.image) }
@@ -56,9 +45,6 @@ pub fn compile_program(alloc: Global, units: &[Items<u8>]) -> Result<Compiled, B
 {
     passes_fit();
     let program = program_of(alloc, units)?;
-    if waits(&program) {
-        return Err(BuildFault::At(NOT_BUILT));
-    }
     let data = lay_out(alloc, &program)?;
     let graphs = flows(alloc, &program)?;
     let live = liveness_of_all(alloc, graphs.as_slice())?;

@@ -10,8 +10,7 @@ use thiserror::Error;
 /// Why units have no image.
 #[derive(Debug, Drop, Error)]
 pub enum BuildFault {
-    /// They break a rule: the first by phase, then by unit, place and number. Rule 90 is broken, at the beginning of the first unit, where they break no other and
-    /// their program waits for a client.
+    /// They break a rule: the first by phase, then by unit, place and number.
     #[error("rule {} in unit {}", .0.rule, .0.unit)]
     At(Fault),
     #[error("out of memory")]

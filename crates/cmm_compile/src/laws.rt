@@ -3,15 +3,7 @@
 ghost use Rattle.cmm_elaboration.specs.Laws.{ProceduresAscend};
 ghost use Rattle.cmm_data.specs.Laws.{InRangeCanBeLaidOut};
 ghost use Rattle.cmm_link.specs.Laws.{PlacesHaveFrames};
-ghost use Rattle.cmm_compile.specs.inside.Laws.{ImagesAgreeWithUnits, ProgramsAreCoded, ProgramsAreCovered, ProgramsAreShort};
-
-/// The nodes of a program that does not wait for a client are such that code is laid of them.
-#[tactic(auto, using(crate::proofs::Coding::programs_are_coded))]
-fn programs_are_coded()
-    ensures { ProgramsAreCoded }
-{
-    cmm_flow::laws::answers_are_quiet();
-}
+ghost use Rattle.cmm_compile.specs.inside.Laws.{ImagesAgreeWithUnits, ProgramsAreCovered, ProgramsAreShort};
 
 /// The code of the nodes of a located program has at most 32 instructions for each of their tokens.
 #[tactic(auto, using(crate::proofs::Covering::programs_are_covered))]
@@ -39,17 +31,19 @@ fn programs_are_short()
     cmm_emit::laws::graphs_are_short();
 }
 
-/// An image that is made of a program agrees with it.
+/// An image that is made of a program agrees with it, whatever its client does.
 fn images_agree_with_units()
     ensures { ImagesAgreeWithUnits }
 {
     cmm_data::laws::programs_in_range();
     cmm_data::laws::data_reaches_its_end();
-    cmm_machine_laws::runs::what_is_seen_lasts();
     cmm_allocate::laws::rows_are_placed();
+    cmm_allocate::laws::places_are_compiled();
     cmm_allocate::laws::located_runs_follow_programs();
-    cmm_select::laws::switches_lead();
-    cmm_image_machine::laws::images_last();
+    cmm_image_machine::laws::images_keep_frames();
+    cmm_link::laws::images_have_rows();
+    cmm_client_laws::laws::rows_are_tables();
+    cmm_yield_laws::laws::images_agree_with_clients();
 }
 
 /// Each pass answers what the passes behind it ask for, and the image of the last agrees with the program of the first.
@@ -57,7 +51,6 @@ pub(crate) fn passes_fit()
     ensures ascend { ProceduresAscend }
     ensures data { InRangeCanBeLaidOut }
     ensures frames { PlacesHaveFrames }
-    ensures coded { ProgramsAreCoded }
     ensures covered { ProgramsAreCovered }
     ensures short { ProgramsAreShort }
     ensures agree { ImagesAgreeWithUnits }
@@ -65,7 +58,6 @@ pub(crate) fn passes_fit()
     cmm_elaboration::laws::procedures_ascend();
     cmm_data::laws::programs_in_range();
     cmm_link::laws::places_have_frames();
-    programs_are_coded();
     programs_are_covered();
     programs_are_short();
     images_agree_with_units();

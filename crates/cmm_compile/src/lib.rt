@@ -1,11 +1,10 @@
 //! From the bytes of units to the image of their program.
 //!
-//! This is the only place that joins the passes. `compile` promises that the image agrees with the units, and `compile_program`, which gives the program too, that it agrees with this: run for any input, stack and count of
-//! instructions, it does what the C-- machine does on their program, and nothing else, within the step factor of the program. Units that are refused break a rule, or no
-//! image is made of their program yet: it waits for a client.
+//! This is the only place that joins the passes. `compile` promises that the image agrees with the units, and `compile_program`, which gives the program too, that it agrees with this: run for any script of the client, any input,
+//! stack and count of instructions, it does what the C-- machine does on their program, and nothing else, within the step factor of the program; every walk that the client is shown is the machine's walk. Units that are refused
+//! break a rule.
 //!
 //! - `compiling`: `compile` and `compile_program`, and the passes in their order.
-//! - `form`: of which programs no image is made yet.
 //! - `laws`: the theorems of the passes, composed.
 //! - `fault`: why units have no image.
 //!
@@ -14,7 +13,6 @@
 
 mod compiling;
 mod fault;
-mod form;
 mod laws;
 
 pub use compiling::{Compiled, compile, compile_program};

@@ -4,10 +4,10 @@ use Rattle.std.specs.Prelude.{◌⊎◌}
 use Rattle.cmm_static_semantics.specs.declared.fault.Fault.{Fault}
 use Rattle.cmm_compile.specs.declared.fault.BuildFault.{BuildFault}
 use Rattle.cmm_compile.specs.declared.fault.BuildFault.TheVariants as build
-use Rattle.cmm_compile.specs.Refusing.{IsFaultOf, IsRefused as IsRefusedBy, of_front}
+use Rattle.cmm_compile.specs.Refusing.{IsRefused as IsRefusedBy, of_front}
 use Rattle.cmm_front.specs.declared.fault.FrontFault.{FrontFault}
 use Rattle.cmm_front.specs.declared.fault.FrontFault.TheVariants.{At, Memory}
-use Rattle.cmm_front.specs.Refusing.{BreaksLexis, IsRefused as IsRefusedAtFront}
+use Rattle.cmm_front.specs.Refusing.{BreaksLexis, IsFaultOf, IsRefused as IsRefusedAtFront}
 use Rattle.cmm_outside.specs.Storage.{Contents}
 use Rattle.cmm_top.specs.Call.{Outside}
 use Rattle.cmm_top.specs.Units.{HasUnits, HaveNoImage, IsRefused}
@@ -17,7 +17,7 @@ use Rattle.cmm_top.specs.declared.ending.Ending.TheVariants as ending
 use Rattle.cmm_top.specs.inside.Ending.{Refuses, work_of}
 
 pub lexis_is : (units : List (List ℕ)) (e : FrontFault) → IsRefusedAtFront (BreaksLexis units) e → IsRefusedBy (IsFaultOf units) (of_front e)
-lexis_is units (At f) broken = inl (inl broken)
+lexis_is units (At f) broken = inl broken
 lexis_is units Memory broken = tt
 
 -- memory ran out, and nothing was done

@@ -3,7 +3,7 @@ use Rattle.std.specs.Prelude.{◌≡◌, ◌⊎◌, ℕ, List, [], ◌∷◌, co
 use Rattle.cmm_command.specs.declared.command.RunLimits.{RunLimits}
 use Rattle.cmm_command.specs.declared.command.TheConstants.{USUAL_STACK, USUAL_STEPS}
 use Rattle.cmm_compile.specs.Agreement.{AgreesWith}
-use Rattle.cmm_compile.specs.Refusing.{IsFaultOf}
+use Rattle.cmm_front.specs.Refusing.{IsFaultOf}
 use Rattle.cmm_front.specs.Programs.{IsProgramOf}
 use Rattle.cmm_generated.specs.Generated.{generated}
 use Rattle.cmm_image.specs.declared.parts.ImageParts.{ImageParts}

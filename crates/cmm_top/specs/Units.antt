@@ -2,7 +2,7 @@
 use Rattle.std.specs.Prelude.{◌≡◌, ◌⊎◌, ℕ, List, Contains, IfSome, slice_get, Option, Some, None}
 use Rattle.std.specs.List.{AllZip}
 use Rattle.cmm_static_semantics.specs.declared.fault.Fault.{Fault}
-use Rattle.cmm_compile.specs.Refusing.{IsFaultOf}
+use Rattle.cmm_front.specs.Refusing.{IsFaultOf}
 use Rattle.cmm_outside.specs.declared.storage.CallKind.TheVariants.{Read}
 use Rattle.cmm_outside.specs.Faults.{Rose}
 use Rattle.cmm_outside.specs.Storage.{Contents}

@@ -3,7 +3,8 @@
 ghost use Rattle.std.specs.Prelude.{◌≡◌, ◌≤◌, ◌<◌, ◌^◌, List, ℕ, length, map, None, IfOk, IfErr, OnOk};
 ghost use Rattle.std.specs.List.{All};
 ghost use Rattle.cmm_compile.specs.Agreement.{Agree};
-ghost use Rattle.cmm_compile.specs.Refusing.{IsFaultOf, IsRefused};
+ghost use Rattle.cmm_compile.specs.Refusing.{IsRefused};
+ghost use Rattle.cmm_front.specs.Refusing.{IsFaultOf};
 ghost use Rattle.cmm_outside.specs.declared.storage.TheConstants.{NAME_LIMIT};
 ghost use Rattle.cmm_run.specs.Outside.{Outside as Streams};
 ghost use Rattle.cmm_top.specs.Call.{standing};

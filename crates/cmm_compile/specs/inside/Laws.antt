@@ -1,7 +1,8 @@
 -- The theorems of the passes, composed.
-use Rattle.std.specs.Prelude.{◌≡◌, false, List}
+use Rattle.std.specs.Prelude.{◌≡◌, ◌≤◌, List, length, sum_by}
 use Rattle.std.specs.List.{AllZip}
 use Rattle.cmm_program.specs.declared.program.Program.{Program}
+use Rattle.cmm_program.specs.Bounds.{code_bound}
 use Rattle.cmm_program.specs.InRange.{IsInRange}
 use Rattle.cmm_program.specs.State.{Setting}
 use Rattle.cmm_graph.specs.declared.graph.Graph.{Graph}
@@ -15,17 +16,12 @@ use Rattle.cmm_allocate.specs.Placing.{placement_rows}
 use Rattle.cmm_image.specs.declared.parts.ImageParts.{ImageParts}
 use Rattle.cmm_image.specs.Images.{IsImage}
 use Rattle.cmm_unit_code.specs.declared.text.Text.{Text}
-use Rattle.cmm_link.specs.Linked.{IsImageOf}
+use Rattle.cmm_link.specs.Linked.{HaveFrames, IsImageOf}
 use Rattle.cmm_link.specs.Placements.{placement_of}
 use Rattle.cmm_unit_code.specs.Texts.{IsText}
-use Rattle.cmm_emit.specs.Premises.{AreCovered, AreShort, CanBeCoded}
+use Rattle.cmm_emit.specs.Premises.{AreCovered, AreShort}
 use Rattle.cmm_emit.specs.Texts.{IsCodeOfProgram}
 use Rattle.cmm_compile.specs.Agreement.{AgreesWith}
-use Rattle.cmm_compile.specs.Forms.{waits}
-
--- code is laid of the nodes of a program in range that does not wait for a client
-abbrev pub ProgramsAreCoded : Type 0
-ProgramsAreCoded = (p : Program) (graphs : List Graph) → IsInRange p → AllZip IsFlow p.procs graphs → waits p ≡ false → CanBeCoded graphs
 
 -- the nodes of a program in range have tokens enough for their code
 abbrev pub ProgramsAreCovered : Type 0
@@ -42,8 +38,10 @@ pub record IsMade (p : Program) (graphs : List Graph) (found : List ProcedurePla
   pub range : IsInRange p
   pub flows : AllZip IsFlow p.procs graphs
   pub places : HavePlaces p.procs graphs found
+  pub frames : HaveFrames p.procs found
   pub runs : (s : Setting) → s.program ≡ p → HasFrames s (compiled graphs found) → RunsOverPlaces s graphs found
   pub text : IsText p t
+  pub size : length t.code ≤ code_bound (sum_by (λ q. q.tokens) p.procs)
   pub code : IsCodeOfProgram p graphs found t
   pub is_image : IsImage i
   pub image : IsImageOf p found t i

@@ -36,10 +36,6 @@ pub lay_program-requires-clause-places : goal.lay_program-requires-clause-places
 lay_program-requires-clause-places c =
     rw (c.as_slice-3.ensures, c.as_slice-4.ensures) (rw c.as_slice-2.ensures at c.in_ok-places.ensures.places)
 
-pub lay_program-requires-clause-coded : goal.lay_program-requires-clause-coded
-lay_program-requires-clause-coded c =
-    rw c.as_slice-3.ensures (c.passes_fit.ensures.coded c.in_ok-program.program c.in_ok-graphs.graphs c.in_ok-program.ensures.ok.range c.in_ok-graphs.ensures.each (sym c.waits.ensures ∙ c.if-waits.false))
-
 pub lay_program-requires-clause-covered : goal.lay_program-requires-clause-covered
 lay_program-requires-clause-covered c =
     rw (c.as_slice-3.ensures, c.as_slice-4.ensures) (c.passes_fit.ensures.covered c.in_ok-program.program c.in_ok-graphs.graphs c.in_ok-places.places c.in_ok-program.ensures.ok.range c.in_ok-graphs.ensures.each (rw c.as_slice-2.ensures at c.in_ok-places.ensures.places))
@@ -79,6 +75,7 @@ returns-clause-ok c =
         places = rw c.as_slice-2.ensures at c.in_ok-places.ensures.places;
         runs = rw c.as_slice-2.ensures at c.in_ok-places.ensures.runs;
         text = c.in_ok-code.ensures.text t linked.1;
+        size = c.in_ok-code.ensures.size t linked.1;
         code = rw (c.as_slice-3.ensures, c.as_slice-4.ensures) at c.in_ok-code.ensures.code t linked.1;
         is_image = c.know_rules.ensures;
         image = rw c.as_slice-5.ensures at linked.2;

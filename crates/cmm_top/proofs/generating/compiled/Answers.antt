@@ -1,6 +1,7 @@
 use Rattle.std.proofs.Common.{List, ℕ, [], ◌∷◌, ◌∙◌, refl, subst}
 use Rattle.std.specs.Prelude.{codes}
-use Rattle.cmm_compile.specs.Refusing.{IsFaultOf, IsRefused}
+use Rattle.cmm_compile.specs.Refusing.{IsRefused}
+use Rattle.cmm_front.specs.Refusing.{IsFaultOf}
 use Rattle.cmm_generated.specs.Generated.{generated}
 use Rattle.cmm_top.proofs.Refusing.{is_refused}
 use Rattle.cmm_top.proofs.generating.compiled.Goals as goal

@@ -1,5 +1,6 @@
 use Rattle.std.proofs.Common.{Bor, List, ℕ, length, map}
-use Rattle.cmm_compile.specs.Refusing.{IsFaultOf, IsRefused}
+use Rattle.cmm_compile.specs.Refusing.{IsRefused}
+use Rattle.cmm_front.specs.Refusing.{IsFaultOf}
 use Rattle.cmm_top.specs.Call.{standing}
 use Rattle.cmm_top.specs.inside.Reading.{AreUnits}
 use Rattle.cmm_top.proofs.Reading.{same_outside, units_so}

@@ -1,6 +1,6 @@
 use Rattle.std.proofs.Common.{subst, sym, ◌∷◌, ◌++◌}
-use Rattle.cmm_front.specs.Refusing.{BreaksLexis, IsRefused as IsRefusedBy}
-use Rattle.cmm_compile.specs.Refusing.{IsFaultOf, IsRefused}
+use Rattle.cmm_front.specs.Refusing.{BreaksLexis, IsFaultOf, IsRefused as IsRefusedBy}
+use Rattle.cmm_compile.specs.Refusing.{IsRefused}
 use Rattle.cmm_top.proofs.Refusing.{lexis_is}
 use Rattle.cmm_top.proofs.Reading.{cut_is}
 use Rattle.cmm_top.proofs.units.image_of.Goals as goal
