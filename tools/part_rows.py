@@ -328,7 +328,7 @@ LONG_SCRIPTS = [r"\*10000#", r"\*10001#", r"\+0fffcjump", r"\+0fffcjump\n"]
 
 # ---- rules, names, numbers and kinds
 
-RULES = [("1", "1 bad byte, Lexical"), ("90", "90 form not built, Form"), ("38", "38 bad host call, Static"), ("39", "39 cycle, Static"), ("41", "none"), ("0", "none")]
+RULES = [("1", "1 bad byte, Lexical"), ("90", "none"), ("38", "38 bad host call, Static"), ("39", "39 cycle, Static"), ("41", "none"), ("0", "none")]
 WIDTHS = [(8, "0 255 256"), (16, "65535 65536"), (32, "4294967295 4294967296"), (64, "18446744073709551615"), (33, "0"), (0, "0")]
 NAMES = [b"main", b"", b'a "b\\\n\x7f\xff~']
 NUMBERS = [0, 10, 65536, 1311768467463790320, 2**64 - 1]

@@ -4,7 +4,7 @@ ghost use Rattle.std.specs.Prelude.{◌≡◌, ◌+◌, ◌≤◌, length};
 ghost use Rattle.cmm_data.specs.Filling.{fix_value, with_value};
 
 /// Eight bytes of data that wait for the address of a procedure.
-#[derive(Clone, Copy, Debug, PartialEq, Eq)]
+#[derive(Clone, Copy)]
 pub struct Fix {
     /// Where the bytes begin, counted from the first byte of data.
     pub place: u32,

@@ -16,7 +16,7 @@ use rv_table::memory_map::DATA_BASE;
 use std::alloc::{AllocError, Global};
 
 /// The data so far.
-#[derive(Debug, Drop)]
+#[derive(Drop)]
 pub struct Image {
     /// Its bytes, in which the addresses of procedures are 0.
     pub bytes: Vec<u8>,

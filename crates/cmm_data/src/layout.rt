@@ -16,7 +16,7 @@ use cmm_program::Program;
 use std::alloc::{AllocError, Global};
 
 /// The data of a program.
-#[derive(Debug, Drop)]
+#[derive(Drop)]
 pub struct DataImage {
     /// The bytes from the first address of data on, with the padding between. The addresses of procedures are 0.
     pub bytes: Items<u8>,

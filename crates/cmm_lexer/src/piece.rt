@@ -18,7 +18,7 @@ use cmm_rules::Rule;
 use std::alloc::{AllocError, Global};
 
 /// What a token is, with its spelling or its value.
-#[derive(Debug, Drop)]
+#[derive(Drop)]
 pub enum Lexeme {
     Name(Items<u8>),
     Int(u64),
@@ -36,7 +36,7 @@ pub enum Lexeme {
 }
 
 /// What a piece of a text is.
-#[derive(Debug, Drop)]
+#[derive(Drop)]
 pub enum Part {
     Skipped,
     Lexed(Lexeme),
@@ -44,7 +44,7 @@ pub enum Part {
 }
 
 /// A piece at the front of a text: how many bytes it takes, and what it is.
-#[derive(Debug, Drop)]
+#[derive(Drop)]
 pub struct Piece {
     pub len: usize,
     pub part: Part,

@@ -50,7 +50,7 @@ impl TokenKind {
 }
 
 /// A token of a unit.
-#[derive(Clone, Copy, Debug, PartialEq, Eq)]
+#[derive(Clone, Copy)]
 pub struct Token {
     pub kind: TokenKind,
     /// Where its first byte is, in bytes from the unit's start.

@@ -8,7 +8,7 @@ use cmm_items::Items;
 use std::alloc::{AllocError, Global};
 
 /// A number goes from one place to another. Places are numbers, each of which means what its user says.
-#[derive(Clone, Copy, Debug, PartialEq, Eq)]
+#[derive(Clone, Copy)]
 pub struct Move {
     pub to: u32,
     pub from: u32,

@@ -54,7 +54,6 @@ each_is_listed rule.NoYieldedValue = refl
 each_is_listed rule.UnknownLine = refl
 each_is_listed rule.RepeatedBlock = refl
 each_is_listed rule.ScriptTooLong = refl
-each_is_listed rule.FormNotBuilt = refl
 
 -- rules with one number are both the rule of it
 pub one_rule : OneRuleANumber
@@ -111,4 +110,3 @@ texts_are_lines rule.NoYieldedValue = refl
 texts_are_lines rule.UnknownLine = refl
 texts_are_lines rule.RepeatedBlock = refl
 texts_are_lines rule.ScriptTooLong = refl
-texts_are_lines rule.FormNotBuilt = refl

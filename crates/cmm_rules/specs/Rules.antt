@@ -55,7 +55,6 @@ rule_number rule.NoYieldedValue = 69
 rule_number rule.UnknownLine = 80
 rule_number rule.RepeatedBlock = 81
 rule_number rule.ScriptTooLong = 82
-rule_number rule.FormNotBuilt = 90
 
 -- what is wrong, in a few words
 abbrev pub rule_text : Rule → List ℕ
@@ -107,7 +106,6 @@ rule_text rule.NoYieldedValue = codes "no yielded value"
 rule_text rule.UnknownLine = codes "unknown line"
 rule_text rule.RepeatedBlock = codes "repeated block"
 rule_text rule.ScriptTooLong = codes "script too long"
-rule_text rule.FormNotBuilt = codes "form not built"
 
 -- when a rule is tested
 abbrev pub phase_of : Rule → Phase
@@ -159,7 +157,6 @@ phase_of rule.NoYieldedValue = phase.Client
 phase_of rule.UnknownLine = phase.Script
 phase_of rule.RepeatedBlock = phase.Script
 phase_of rule.ScriptTooLong = phase.Script
-phase_of rule.FormNotBuilt = phase.Form
 
 -- every rule
 unfoldable pub rules : List Rule
@@ -171,8 +168,7 @@ rules =
     ∷ rule.ExportedTwice ∷ rule.NoMain ∷ rule.OtherTarget ∷ rule.BadHostCall ∷ rule.Cycle ∷ rule.Limit ∷ rule.NotAnImage
     ∷ rule.OtherImageVersion ∷ rule.ImageIsCut ∷ rule.BadImageField ∷ rule.ImageOutOfRange ∷ rule.BytesAfterImage
     ∷ rule.ImageTooLong ∷ rule.NoActivation ∷ rule.NoVariable ∷ rule.DeadVariable ∷ rule.DoesNotFit ∷ rule.NoExit ∷ rule.OtherCount ∷ rule.InvariantVariable
-    ∷ rule.NoCut ∷ rule.NoPlace ∷ rule.NoYieldedValue ∷ rule.UnknownLine ∷ rule.RepeatedBlock ∷ rule.ScriptTooLong
-    ∷ rule.FormNotBuilt ∷ []
+    ∷ rule.NoCut ∷ rule.NoPlace ∷ rule.NoYieldedValue ∷ rule.UnknownLine ∷ rule.RepeatedBlock ∷ rule.ScriptTooLong ∷ []
 
 -- the rule of a number
 abbrev pub rule_of : ℕ → Option Rule

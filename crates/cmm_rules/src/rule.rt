@@ -117,11 +117,9 @@ pub enum Rule {
     RepeatedBlock,
     /// 82. A script has more than 65,536 bytes: at line 1.
     ScriptTooLong,
-    /// 90. A unit breaks no other rule, and is of no form that is built yet: at 1:1. The rule goes when the whole language is built.
-    FormNotBuilt,
 }
 
-/// When a rule is tested: of a unit the first three phases and the form one after another, each for all units before the next.
+/// When a rule is tested: of a unit the first three phases one after another, each for all units before the next.
 #[derive(Clone, Copy, Debug, PartialEq, Eq)]
 pub enum Phase {
     /// The form of tokens: rules 1 to 5.
@@ -130,8 +128,6 @@ pub enum Phase {
     Syntax,
     /// Names, widths, constants and limits: rules 20 to 40.
     Static,
-    /// What is not built yet: rule 90.
-    Form,
     /// The form of images: rules 50 to 56.
     Image,
     /// The form of scripts: rules 80 to 82.
@@ -141,7 +137,7 @@ pub enum Phase {
 }
 
 /// Every rule, in the order of the numbers.
-const RULES: [Rule; 49] = [
+const RULES: [Rule; 48] = [
     Rule::BadByte,
     Rule::OpenComment,
     Rule::OpenText,
@@ -190,7 +186,6 @@ const RULES: [Rule; 49] = [
     Rule::UnknownLine,
     Rule::RepeatedBlock,
     Rule::ScriptTooLong,
-    Rule::FormNotBuilt,
 ];
 
 impl Rule {
@@ -247,7 +242,6 @@ impl Rule {
             Rule::UnknownLine => 80,
             Rule::RepeatedBlock => 81,
             Rule::ScriptTooLong => 82,
-            Rule::FormNotBuilt => 90,
         }
     }
 
@@ -304,7 +298,6 @@ impl Rule {
             Rule::UnknownLine => "unknown line",
             Rule::RepeatedBlock => "repeated block",
             Rule::ScriptTooLong => "script too long",
-            Rule::FormNotBuilt => "form not built",
         }
     }
 
@@ -340,7 +333,6 @@ impl Rule {
             | Rule::BadHostCall
             | Rule::Cycle
             | Rule::Limit => Phase::Static,
-            Rule::FormNotBuilt => Phase::Form,
             Rule::NotAnImage
             | Rule::OtherImageVersion
             | Rule::ImageIsCut

@@ -40,7 +40,7 @@ impl<T: Drop> From<AllocFailed<T>> for ScriptFault {
 }
 
 /// Why words could not be read.
-#[derive(Debug, Drop)]
+#[derive(Drop)]
 pub enum Unread {
     /// They are of none of the forms.
     Form,

@@ -11,7 +11,7 @@ use cmm_items::Items;
 use std::alloc::Global;
 
 /// What a line says.
-#[derive(Debug, Drop)]
+#[derive(Drop)]
 pub enum Line {
     /// A block begins, whose code this is.
     Begins(Option<u64>),

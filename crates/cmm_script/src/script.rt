@@ -6,7 +6,7 @@ use cmm_items::Items;
 use std::alloc::Global;
 
 /// A number that a command is given.
-#[derive(Clone, Copy, Debug, PartialEq, Eq)]
+#[derive(Clone, Copy)]
 pub enum Value {
     Number(u64),
     /// A value of the yield, counted from 0.
@@ -14,7 +14,7 @@ pub enum Value {
 }
 
 /// What a client does at a yield. Its cursor stands at an activation, at first the youngest.
-#[derive(Debug, Drop)]
+#[derive(Drop)]
 pub enum Command {
     /// Writes the walk.
     List,
@@ -43,7 +43,7 @@ pub enum Command {
 }
 
 /// What is done at a yield.
-#[derive(Debug, Drop)]
+#[derive(Drop)]
 pub struct Block {
     /// The first value of the yields that the block answers, or none: it answers those that no other block does.
     pub code: Option<u64>,
@@ -53,7 +53,7 @@ pub struct Block {
 }
 
 /// A client script. No two of its blocks have the same code.
-#[derive(Debug, Drop)]
+#[derive(Drop)]
 pub struct Script {
     pub blocks: Items<Block>,
 }

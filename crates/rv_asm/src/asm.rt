@@ -17,7 +17,7 @@ use std::alloc::{AllocError, Global};
 use std::marker::Model;
 
 /// Code that is assembled, part by part. Contracts see it as the parts so far and the meanings of the labels.
-#[derive(Debug, Drop)]
+#[derive(Drop)]
 pub struct Asm {
     alloc: Global,
     /// The parts, and behind them room for the place of each label that has none yet.

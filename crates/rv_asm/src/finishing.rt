@@ -20,7 +20,7 @@ use std::alloc::{AllocError, Global};
 const LIMIT: u64 = 1 << 30;
 
 /// Finished code.
-#[derive(Debug, Drop)]
+#[derive(Drop)]
 pub struct Placed {
     /// The bytes of the code, in which the numbers of symbols are 0.
     pub bytes: Items<u8>,

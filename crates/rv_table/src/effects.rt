@@ -11,7 +11,7 @@ use crate::instruction::Instr;
 use crate::registers::Regs;
 
 /// What an instruction asks for, given registers and pc: all that is done to registers, pc and memory follows from it.
-#[derive(Clone, Copy, Debug, PartialEq, Eq)]
+#[derive(Clone, Copy)]
 pub enum Effect {
     /// Register `rd` gets `value`, and control goes on after the instruction.
     Set {

@@ -7,7 +7,7 @@ ghost use Rattle.rv_table.specs.Table.{IsValid};
 /// that is written, and `rs1` and `rs2` are those that are read. `imm` is the signed number of the format, in bytes for jumps,
 /// branches, loads and stores. For `Lui` and `Auipc` it is the upper 20 bits as a number from 0 to 1,048,575, and for a shift by an
 /// immediate its amount.
-#[derive(Clone, Copy, Debug, PartialEq, Eq)]
+#[derive(Clone, Copy, Debug)]
 pub enum Instr {
     /// The immediate over twelve zeros.
     Lui { rd: u8, imm: i32 },

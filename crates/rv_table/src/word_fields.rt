@@ -2,7 +2,7 @@
 
 /// A 32-bit word cut at bits 7, 12, 15, 20 and 25, as the R format of the RISC-V Instruction Set Manual, Volume I, "Base
 /// Instruction Formats", names the pieces. The other formats spread their immediate over the same pieces.
-#[derive(Clone, Copy, Debug, PartialEq, Eq)]
+#[derive(Clone, Copy)]
 pub struct Fields {
     /// Bits 6 to 0.
     pub opcode: u8,
