@@ -3,4 +3,5 @@ mod Stepping
 mod Forms
 mod Blocks
 mod Scripts
+mod Limits
 mod ScriptRows

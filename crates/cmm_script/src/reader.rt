@@ -7,6 +7,7 @@ ghost use Rattle.cmm_script.specs.inside.Reading.{line_of as line_in_words};
 ghost use Rattle.cmm_rules.specs.declared.rule.Rule.{Rule};
 ghost use Rattle.cmm_script.specs.declared.fault.ScriptFault.{ScriptFault};
 ghost use Rattle.cmm_script.specs.declared.script.Script.{Script};
+ghost use Rattle.cmm_script.specs.Limits.{HasFewValues};
 ghost use Rattle.cmm_script.specs.Spelling.{SpellsScript, has_code as has_code_in};
 ghost use Rattle.cmm_script.specs.Words.{words_in, said_in};
 
@@ -26,6 +27,8 @@ pub const SCRIPT_LIMIT: usize = 65_536;
 pub fn parse_script(alloc: Global, bytes: &[u8]) -> Result<Script, ScriptFault>
     // What is read is spelled so.
     ensures ok { IfOk result (SpellsScript bytes.now) }
+    // Its commands give few values.
+    ensures few { IfOk result HasFewValues }
     // What is spelled so is read, unless memory runs out.
     ensures only { (s : Script) → SpellsScript bytes.now s → IsScript s result }
     // A fault is the first of the bytes.

@@ -82,10 +82,10 @@ memory_of-region r k low =
 
 -- the regions with other bytes of data, and with another region
 abbrev with_data : Regions → List ℕ → Regions
-with_data r bytes = record { code_bytes = r.code_bytes; data_bytes = bytes; region_bytes = r.region_bytes }
+with_data r bytes = record { code_bytes = r.code_bytes; data_bytes = bytes; region_bytes = r.region_bytes; stack_size = r.stack_size }
 
 abbrev with_region : Regions → List ℕ → Regions
-with_region r bytes = record { code_bytes = r.code_bytes; data_bytes = r.data_bytes; region_bytes = bytes }
+with_region r bytes = record { code_bytes = r.code_bytes; data_bytes = r.data_bytes; region_bytes = bytes; stack_size = r.stack_size }
 
 -- a store in the data is one in the memory, address by address
 stored_in_data-at : (r : Regions) (bytes : List ℕ) (address at size value : ℕ) → Fits r →

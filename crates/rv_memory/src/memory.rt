@@ -3,7 +3,7 @@ ghost use Rattle.std.specs.Prelude.{◌≡◌, ◌≤◌, ◌+◌, ◌*◌, ◌/
 ghost use Rattle.std.specs.Option.{ok_or};
 ghost use Rattle.rv_table.specs.Bounds.{is_size};
 ghost use Rattle.rv_table.specs.Memory.{code_base, data_base, fetched, is_accessible, loaded, stored, LiesIn, bottom as bottom_of, top as top_of};
-ghost use Rattle.rv_memory.specs.Regions.{map_of, memory_of, region_of, started};
+ghost use Rattle.rv_memory.specs.Regions.{data_word_of, map_of, memory_of, region_of, started};
 
 use crate::numbers::{offset_in, read, read_word, write};
 use rv_table::TrapKind;
@@ -24,6 +24,8 @@ pub struct Memory {
     data: Vec<u8>,
     /// Argument area and global registers, and then the stack.
     region: Vec<u8>,
+    /// The bytes of the stack.
+    stack: u64,
 }
 
 impl Model for Memory {
@@ -31,9 +33,9 @@ impl Model for Memory {
 
     ghost Value = { Regions };
 
-    ghost view = { λ a. record { code_bytes = a.code.items; data_bytes = a.«data».items; region_bytes = a.region.items } };
+    ghost view = { λ a. record { code_bytes = a.code.items; data_bytes = a.«data».items; region_bytes = a.region.items; stack_size = a.stack } };
 
-    ghost invariant = { λ a. Fits (record { code_bytes = a.code.items; data_bytes = a.«data».items; region_bytes = a.region.items }) };
+    ghost invariant = { λ a. Fits (record { code_bytes = a.code.items; data_bytes = a.«data».items; region_bytes = a.region.items; stack_size = a.stack }) };
 }
 
 impl Memory {
@@ -48,6 +50,7 @@ impl Memory {
             code: code.to_vec(alloc)?,
             data: initial.to_vec(alloc)?,
             region: vec![in alloc; 0; (BELOW_STACK + stack) as usize]?,
+            stack,
         })
     }
 
@@ -122,14 +125,12 @@ impl Memory {
         write(&mut self.region, at, 8, value);
     }
 
-    /// The number in the 8 bytes of data from an address on, which is a multiple of 8.
-    pub fn data_word(&self, address: u64) -> u64
-        requires aligned { address % 8 ≡ 0 }
-        requires low { data_base ≤ address }
-        requires high { address + 8 ≤ data_base + (map_of self.now).data_length }
-        ensures { result ≡ loaded (memory_of self.now) address 8 }
+    /// The number in the 8 bytes from an address on, where that is a multiple of 8 and they lie wholly in the data.
+    pub fn data_word(&self, address: u64) -> Option<u64>
+        ensures { result ≡ data_word_of self.now address }
     {
-        read(&self.data, (address - DATA_BASE) as usize, 8)
+        let at = offset_in(DATA_BASE, &self.data, address, 8)?;
+        Some(read(&self.data, at, 8))
     }
 
     /// Writes a number to the 8 bytes of data from an address on, which is a multiple of 8.
@@ -195,6 +196,6 @@ impl Memory {
     pub fn top(&self) -> u64
         ensures { result ≡ top_of (region_of self.now) }
     {
-        REGION_BASE + self.region.len() as u64
+        self.base() + self.stack
     }
 }

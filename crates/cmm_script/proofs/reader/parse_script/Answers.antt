@@ -1,5 +1,6 @@
 use Rattle.std.proofs.Common.{arith, refl, inl}
 use Rattle.std.proofs.lemmas.Result.{err_from_is_err_and}
+use Rattle.cmm_script.proofs.Limits.{scripts_give_few}
 use Rattle.cmm_script.proofs.Scripts.{made-script, made-fault, made-is, script-fault, made-no-fault, fault-is}
 use Rattle.cmm_script.proofs.reader.parse_script.Goals as goal
 
@@ -29,3 +30,6 @@ returns-clause-only c = λ s h. made-is c.args.bytes.now c.in_ok-blocks.blocks s
 
 pub returns-clause-refused : goal.returns-clause-refused
 returns-clause-refused c = λ rule line h. made-no-fault c.args.bytes.now c.in_ok-blocks.blocks rule line (omega arith) c.in_ok-blocks.ensures h
+
+pub returns-clause-few : goal.returns-clause-few
+returns-clause-few c = scripts_give_few c.args.bytes.now _ (made-script c.args.bytes.now c.in_ok-blocks.blocks (omega arith) c.in_ok-blocks.ensures)

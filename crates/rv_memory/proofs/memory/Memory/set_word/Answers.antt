@@ -1,4 +1,4 @@
-use Rattle.std.proofs.Common.{◌+◌, ◌-◌, ◌≤◌, length, ◌∙◌, arith}
+use Rattle.std.proofs.Common.{◌-◌, arith}
 use Rattle.rv_table.specs.Memory.{region_base}
 use Rattle.rv_memory.specs.contracts.memory.Memory.{the_view}
 use Rattle.rv_memory.proofs.Storing.{word_stored_in_region}
