@@ -1,6 +1,6 @@
 -- The counts of a procedure's statements come to at most the procedure's own, where its unit derives some tokens: a statement has what stands between its
 -- ends, without what stands in the blocks inside it.
-use Rattle.std.proofs.Common.{◌≡◌, ℕ, ◌+◌, ◌-◌, ◌≤◌, refl, sym, ap, ◌∙◌, subst, Bool, true, List, [], ◌∷◌, ◌++◌, Some, None, arith}
+use Rattle.std.proofs.Common.{◌≡◌, ℕ, ◌+◌, ◌-◌, ◌≤◌, refl, sym, ap, subst, Bool, true, List, [], ◌∷◌, ◌++◌, Some, None, arith}
 use Rattle.std.specs.Prelude.{map, flat_map, nat_le, sum_by}
 use Rattle.std.specs.List.{list_all}
 use Rattle.std.proofs.lemmas.Bool.{le-leb, leb-true, and_from}
@@ -31,7 +31,6 @@ use Rattle.cmm_static_semantics.specs.Limits.{sites_of}
 use Rattle.cmm_static_semantics.specs.Scopes.{Scope, unit_senses}
 use Rattle.cmm_static_semantics.specs.Statements.{scope_of}
 use Rattle.cmm_elaboration.specs.Bodies.{part_length, row_length, arms_length, otherwise_length, blocks_length, counted, form_of, part_of}
-use Rattle.cmm_elaboration.specs.Procedures.{procedure_of}
 use Rattle.cmm_elaboration.specs.Laws.{AreDerived, BodiesAreCounted}
 use Rattle.cmm_elaboration.proofs.Everywhere.{all_read}
 use Rattle.cmm_elaboration.proofs.Flat.{flat_from, procedure_is}

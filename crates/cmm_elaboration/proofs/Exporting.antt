@@ -1,12 +1,10 @@
 -- A name is exported by a label of its unit at most, so labels have at most as many names to be exported under as units export.
-use Rattle.std.proofs.Common.{◌≡◌, ℕ, suc, ◌+◌, ◌≤◌, refl, sym, ap, ◌∙◌, subst, Bool, true, false, cond, List, [], ◌∷◌, ◌++◌, Option, Some, None, arith, length, length-append}
+use Rattle.std.proofs.Common.{◌≡◌, ℕ, ◌+◌, ◌≤◌, refl, sym, ap, ◌∙◌, subst, Bool, true, false, cond, List, [], ◌∷◌, ◌++◌, Option, Some, None, arith, length, length-append}
 use Rattle.std.specs.Prelude.{bytes_eq, filter, flat_map, map, sum_by}
 use Rattle.std.proofs.lemmas.Bool.Decides.{nat_tests}
-use Rattle.std.proofs.lemmas.List.{length-map}
 use Rattle.std.proofs.lemmas.List.Sums.{sum_by-append}
 use Rattle.std.proofs.lemmas.Slice.Eq.{bytes_eq-Decides}
 use Rattle.cmm_ast.specs.declared.declaration.Export.{Export}
-use Rattle.cmm_ast.specs.declared.token.Ident.{Ident}
 use Rattle.cmm_ast.specs.declared.unit.DatumForm.{DatumForm}
 use Rattle.cmm_ast.specs.declared.unit.DatumForm.TheVariants as data_forms
 use Rattle.cmm_ast.specs.declared.unit.Item.{Item}
@@ -16,10 +14,10 @@ use Rattle.cmm_ast.specs.declared.unit.Unit.{Unit as UnitTree}
 use Rattle.cmm_program.specs.declared.program.Label.{Label}
 use Rattle.cmm_static_semantics.specs.Faults.{AreAccepted, each_unit, name_spots}
 use Rattle.cmm_static_semantics.specs.Items.{Within, items_of, top_items}
-use Rattle.cmm_static_semantics.specs.Declarations.{Declared, Entry, NamedUnit, again, datum_entries, entries_from, found, item_entries, labels_in, named_units, procs_in, sum_of, units_from}
+use Rattle.cmm_static_semantics.specs.Declarations.{Declared, NamedUnit, again, datum_entries, entries_from, found, item_entries, labels_in, named_units, procs_in, sum_of, units_from}
 use Rattle.cmm_static_semantics.specs.Linking.{export_link, exports_of, item_exports}
 use Rattle.cmm_static_semantics.specs.Senses.{is_there}
-use Rattle.cmm_elaboration.specs.Data.{datums_among, datums_in, item_labels, label_at, links_of, section_labels, standing, unit_labels}
+use Rattle.cmm_elaboration.specs.Data.{datums_among, datums_in, item_labels, links_of, section_labels, unit_labels}
 use Rattle.cmm_elaboration.specs.Meaning.{labels_from}
 use Rattle.cmm_elaboration.proofs.Entries.{EachUnit, counted_in, sum_append}
 use Rattle.cmm_elaboration.proofs.Naming.{again_head, again_tail}

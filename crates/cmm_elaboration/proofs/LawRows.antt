@@ -7,12 +7,12 @@ use Rattle.std.proofs.lemmas.Bool.{ltb-true}
 use Rattle.cmm_lexer.specs.declared.piece.Lexeme.{Lexeme}
 use Rattle.cmm_lexer.specs.Laws.{AreBytes}
 use Rattle.cmm_lexer.specs.Lexing.{tokens_of}
-use Rattle.cmm_ast.specs.Derivation.{Derives}
+use Rattle.cmm_ast.specs.Derivation.{Derives, DerivesWithin}
 use Rattle.cmm_ast.specs.declared.unit.Unit.{Unit as UnitTree}
 use Rattle.cmm_program.specs.InRange.{below}
 use Rattle.cmm_static_semantics.specs.Faults.{AreAccepted}
 use Rattle.cmm_static_semantics.proofs.Shared.{unit_of}
-use Rattle.cmm_elaboration.specs.Laws.{AreRead, IsReadFromBytes, TextsAreBytes}
+use Rattle.cmm_elaboration.specs.Laws.{AreDerivedWithin, AreRead, IsReadFromBytes, TextsAreBytes}
 use Rattle.cmm_elaboration.proofs.Texts.{opened}
 
 abbrev sample : List UnitTree
@@ -45,6 +45,11 @@ row_places = refl
 row_read : AreRead (small ∷ [])
 row_read = All-cons (λ u. (tokens : List Lexeme) × (Derives tokens u × (length u.places ≡ suc (length tokens)))) small [] (lexemes, (row_derives, row_places))
     (All-nil (λ u. (tokens : List Lexeme) × (Derives tokens u × (length u.places ≡ suc (length tokens)))))
+
+row_within : AreDerivedWithin (small ∷ [])
+unfolding opened row_derives
+row_within = All-cons (λ u. (tokens : List Lexeme) × DerivesWithin tokens u) small [] (lexemes, record { derives = row_derives; within = refl })
+    (All-nil (λ u. (tokens : List Lexeme) × DerivesWithin tokens u))
 
 -- a unit that is read from bytes, with a text among its data
 abbrev source : List ℕ

@@ -47,6 +47,8 @@ pub mod Derived
 pub mod AllForms
 pub mod Steady
 pub mod SteadyUnits
+mod Nesting
+mod FewSpans
 pub mod Exporting
 pub mod Weighing
 pub mod BodyTokens

@@ -1,5 +1,5 @@
 -- A statement that takes some tokens counts, beside those of the blocks inside it, at least the tokens of its shortest text.
-use Rattle.std.proofs.Common.{◌≡◌, ℕ, zero, suc, ◌+◌, ◌-◌, ◌≤◌, refl, ap, ◌∙◌, Bool, true, false, List, [], ◌∷◌, ◌++◌, Option, Some, None, arith, length, length-append}
+use Rattle.std.proofs.Common.{◌≡◌, ℕ, zero, suc, ◌+◌, ◌≤◌, refl, ap, ◌∙◌, Bool, true, false, List, [], ◌∷◌, ◌++◌, Option, Some, None, arith, length, length-append}
 use Rattle.std.specs.Prelude.{map, flat_map, ◌||◌, sum_by}
 use Rattle.std.specs.List.{list_any}
 use Rattle.std.proofs.lemmas.List.{map-append}
@@ -35,7 +35,7 @@ use Rattle.cmm_elaboration.specs.Sites.{SpanValue, unwind_names, cut_names, is_a
 use Rattle.cmm_elaboration.proofs.Derived.{middle}
 use Rattle.cmm_elaboration.proofs.Steady.{next_token, steady_text, steady_comma, steady_optional}
 use Rattle.cmm_elaboration.proofs.Weighing.{taken_of}
-use Rattle.cmm_elaboration.proofs.Spent.{IsShort, enclosed_of, bound, grows, here_taken, name_costs, value_costs, value_in_costs, memory_costs, memory_strict, prim_strict, place_costs}
+use Rattle.cmm_elaboration.proofs.Spent.{IsShort, enclosed_of, bound, here_taken, name_costs, value_costs, value_in_costs, memory_costs, memory_strict, prim_strict, place_costs}
 
 -- ---- names and lists
 

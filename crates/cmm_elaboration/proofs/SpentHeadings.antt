@@ -1,5 +1,5 @@
 -- What stands before the statements of a procedure counts at least the tokens of its shortest text: its formals, its variables and its stackdata.
-use Rattle.std.proofs.Common.{◌≡◌, ℕ, zero, suc, ◌+◌, ◌-◌, ◌≤◌, refl, sym, ap, ◌∙◌, subst, Bool, true, false, List, [], ◌∷◌, ◌++◌, Option, Some, None, arith, length}
+use Rattle.std.proofs.Common.{◌≡◌, ℕ, zero, suc, ◌+◌, ◌≤◌, refl, sym, ap, ◌∙◌, subst, Bool, true, false, List, [], ◌∷◌, ◌++◌, Option, Some, None, arith, length}
 use Rattle.std.specs.Prelude.{map, not, ◌==◌, ◌&&◌, sum_by, bytes_eq}
 use Rattle.std.proofs.lemmas.List.Sums.{sum_by-cons}
 use Rattle.cmm_lexer.specs.declared.keyword.Keyword.TheVariants as word

@@ -44,7 +44,7 @@ use Rattle.cmm_program.specs.ExpressionTokens.{alone, callee as callee_level, ex
 use Rattle.cmm_program.specs.Tokens.{with_commas, names as name_tokens, bracketed, lvalue_tokens, when, site_tokens, result_tokens, at_site, else_tokens, case_tokens, own_tokens}
 use Rattle.cmm_static_semantics.specs.declared.judged.Typed.TheVariants as typed
 use Rattle.cmm_static_semantics.specs.declared.sense.Host.{Host}
-use Rattle.cmm_static_semantics.specs.declared.sense.Host.TheVariants.{Yield, PutByte, GetByte}
+use Rattle.cmm_static_semantics.specs.declared.sense.Host.TheVariants.{PutByte, GetByte}
 use Rattle.cmm_static_semantics.specs.Senses.{Senses}
 use Rattle.cmm_static_semantics.specs.Algebras.{expressions}
 use Rattle.cmm_static_semantics.specs.Typing.{expr_type, of_primary}

@@ -27,33 +27,58 @@ use Rattle.cmm_ast.specs.Taking.{Reading, Takes, ◌⨾◌, token, is_name, is_t
 use Rattle.cmm_ast.specs.ExpressionGrammar.{width_word, infix_symbol, prefix_symbol, unary_level, left_level, right_level, ident, text, int, type_form, type_name, number_of, aligned_by, level_of, binds, expr_form, operand, operand_list, more_operands, prim_form, memory, expr, prim, whole, whole_prim, whole_memory}
 use Rattle.cmm_elaboration.proofs.Derived.{middle}
 
--- from one reading to another, n tokens were taken from the front, and what is left is the end of what was
+-- from one reading to another, n tokens were taken from the front, and what is left is the end of what was; no bracket is closed that was
+-- open before, and no limit is passed at first that isn't at last
 pub record Moves (r s : Reading) : Type 0 where
   pub grows : r.taken ≤ s.taken
   pub kept : s.taken + length s.left ≡ r.taken + length r.left
   pub suffix : (front : List Lexeme) × (r.left ≡ front ++ s.left)
+  pub opens : r.open_brackets ≤ s.open_brackets
+  pub fits : s.over ≡ None → r.over ≡ None
 
 abbrev pub IsSteady : Takes → Type 0
 IsSteady p = (r s : Reading) → p r ≡ Some s → Moves r s
 
-stays : (r s : Reading) → s.taken ≡ r.taken → s.left ≡ r.left → Moves r s
-stays r s t l = record { grows = omega arith; kept = ap (λ n. n + length s.left) t ∙ ap (λ xs. r.taken + length xs) l; suffix = ([], sym l) }
+stays : (r s : Reading) → s.taken ≡ r.taken → s.left ≡ r.left → r.open_brackets ≤ s.open_brackets → (s.over ≡ None → r.over ≡ None) → Moves r s
+stays r s t l opens fits = record {
+  grows = omega arith;
+  kept = ap (λ n. n + length s.left) t ∙ ap (λ xs. r.taken + length xs) l;
+  suffix = ([], sym l);
+  opens = opens;
+  fits = fits;
+}
+
+-- nothing is taken
+same : (r : Reading) → Moves r r
+same r = stays r r refl refl (omega arith) (λ within. within)
+
+-- a limit that isn't passed at last wasn't before, and isn't by the last token
+pub fits_before : (over : Option ℕ) (test : Bool) (n : ℕ) → first_over over test n ≡ None → over ≡ None
+fits_before (Some k) test n is = is
+fits_before None test n is = refl
+
+pub fits_here : (over : Option ℕ) (test : Bool) (n : ℕ) → first_over over test n ≡ None → test ≡ false
+fits_here (Some k) test n is = let bad : Some k ≡ None = is in cc
+fits_here None true n is = let bad : Some n ≡ None = is in cc
+fits_here None false n is = refl
 
 pub after : (r m s : Reading) → Moves r m → Moves m s → Moves r s
 after r m s a b = record {
   grows = let h : r.taken ≤ m.taken = a.grows in let k : m.taken ≤ s.taken = b.grows in omega arith;
   kept = b.kept ∙ a.kept;
   suffix = (a.suffix.0 ++ b.suffix.0, a.suffix.1 ∙ ap (λ xs. a.suffix.0 ++ xs) b.suffix.1 ∙ sym (append_assoc a.suffix.0 b.suffix.0 s.left));
+  opens = let h : r.open_brackets ≤ m.open_brackets = a.opens in let k : m.open_brackets ≤ s.open_brackets = b.opens in omega arith;
+  fits = λ within. a.fits (b.fits within);
 }
 
-same_reading : (r s : Reading) → Some r ≡ Some s → r ≡ s
+pub same_reading : (r s : Reading) → Some r ≡ Some s → r ≡ s
 same_reading r s is = cc
 
 pub steady_then : (a b : Takes) → IsSteady a → IsSteady b → IsSteady (a ⨾ b)
 steady_then a b h k r s is = let m = middle (a r) b s is in after r m.at_ s (h r m.at_ m.first) (k m.at_ s m.next)
 
 pub steady_nothing : IsSteady nothing
-steady_nothing r s is = subst (Moves r) (same_reading r s is) (stays r r refl refl)
+steady_nothing r s is = subst (Moves r) (same_reading r s is) (same r)
 
 chosen : (b : Bool) (r m s : Reading) → ◌≡◌ {A = Option Reading} (elim b [ true ↦ Some m | false ↦ None ]) (Some s) → Moves r m → Moves r s
 chosen true r m s is h = subst (Moves r) (same_reading m s is) h
@@ -68,7 +93,13 @@ one_taken : (test : Lexeme → Bool) (left : List Lexeme) (r s : Reading) → r.
 one_taken test [] r s l is = let bad : None ≡ Some s = is in cc
 one_taken test (x ∷ xs) r s l is =
     chosen (test x) r record r { left = xs; taken = suc r.taken } s is
-    (record { grows = omega arith; kept = let e : length r.left ≡ suc (length xs) = ap length l in omega arith; suffix = (x ∷ [], l) })
+    (record {
+      grows = omega arith;
+      kept = let e : length r.left ≡ suc (length xs) = ap length l in omega arith;
+      suffix = (x ∷ [], l);
+      opens = omega arith;
+      fits = λ within. within;
+    })
 
 next_by : (test : Lexeme → Bool) (left : List Lexeme) (r s : Reading) →
     ◌≡◌ {A = Option Reading} (elim left [ [] ↦ None | x ∷ xs ↦ elim (test x) [ true ↦ Some record r { left = xs; taken = suc r.taken } | false ↦ None ] ]) (Some s) → s.taken ≡ suc r.taken
@@ -91,7 +122,7 @@ pub here_is : (n : ℕ) (r s : Reading) → here n r ≡ Some s → (n ≡ r.tak
 here_is n r s is = by_here (n == r.taken) n r s refl is
 
 pub steady_here : (n : ℕ) → IsSteady (here n)
-steady_here n r s is = chosen (n == r.taken) r r s is (stays r r refl refl)
+steady_here n r s is = chosen (n == r.taken) r r s is (same r)
 
 pub steady_keyword : (k : Keyword) → IsSteady (keyword k)
 steady_keyword k = steady_token (is_word k)
@@ -105,17 +136,22 @@ changed p f each r s h is = let m = middle (p r) (λ x. Some (f x)) s is in
 
 pub steady_opening : (p : Takes) → IsSteady p → IsSteady (opening p)
 steady_opening p h r s is =
-    changed p (λ m. record m { open_brackets = suc m.open_brackets; over = first_over m.over (nat_lt 200 (suc m.open_brackets)) r.taken }) (λ m. stays m _ refl refl) r s h is
+    changed p (λ m. record m { open_brackets = suc m.open_brackets; over = first_over m.over (nat_lt 200 (suc m.open_brackets)) r.taken })
+    (λ m. stays m _ refl refl (omega arith) (fits_before m.over (nat_lt 200 (suc m.open_brackets)) r.taken)) r s h is
 
 pub steady_enclosed : (p : Takes) → IsSteady p → IsSteady (enclosed p)
-steady_enclosed p h r s is = changed p (λ m. record m { open_brackets = r.open_brackets }) (λ m. stays m _ refl refl) r s h is
+steady_enclosed p h r s is =
+    let m = middle (p r) (λ x. Some record x { open_brackets = r.open_brackets }) s is in let moves = h r m.at_ m.first in
+    subst (Moves r) (same_reading record m.at_ { open_brackets = r.open_brackets } s m.next)
+    (record { grows = moves.grows; kept = moves.kept; suffix = moves.suffix; opens = omega arith; fits = moves.fits })
 
 steady_operator : (p : Takes) → IsSteady p → IsSteady (operator p)
 steady_operator p h r s is =
-    changed p (λ m. record m { operators = suc m.operators; over = first_over m.over (nat_lt 500 (suc m.operators)) r.taken }) (λ m. stays m _ refl refl) r s h is
+    changed p (λ m. record m { operators = suc m.operators; over = first_over m.over (nat_lt 500 (suc m.operators)) r.taken })
+    (λ m. stays m _ refl refl (omega arith) (fits_before m.over (nat_lt 500 (suc m.operators)) r.taken)) r s h is
 
 pub steady_outermost : (p : Takes) → IsSteady p → IsSteady (outermost p)
-steady_outermost p h r s is = let m = h record r { operators = 0 } s is in record { grows = m.grows; kept = m.kept; suffix = m.suffix }
+steady_outermost p h r s is = let m = h record r { operators = 0 } s is in record { grows = m.grows; kept = m.kept; suffix = m.suffix; opens = m.opens; fits = m.fits }
 
 steady_brackets : (opens : Symbol) (p : Takes) (closes : Symbol) → IsSteady p → IsSteady (in_brackets opens p closes)
 steady_brackets opens p closes h =
@@ -150,7 +186,7 @@ module _ {A : Type 0} (p : A → Takes) (each : (a : A) → IsSteady (p a)) wher
 
 maybe : (o : Option Reading) (r s : Reading) → ◌≡◌ {A = Option Reading} (elim o [ Some m ↦ Some m | None ↦ Some r ]) (Some s) → ((m : Reading) → o ≡ Some m → Moves r m) → Moves r s
 maybe (Some m) r s is h = subst (Moves r) (same_reading m s is) (h m refl)
-maybe None r s is h = subst (Moves r) (same_reading r s is) (stays r r refl refl)
+maybe None r s is h = subst (Moves r) (same_reading r s is) (same r)
 
 pub steady_comma : IsSteady may_comma
 steady_comma r s is = maybe (symbol sign.Comma r) r s is (λ m at_. steady_symbol sign.Comma r m at_)
@@ -193,7 +229,7 @@ pub steady_aligned : (i : Int) → IsSteady (aligned_by i)
 steady_aligned i r s is = aligned_from i (keyword Aligned r) r s is (λ m at_. steady_keyword Aligned r m at_)
 
 steady_binds : (level : ℕ) (form : ExprForm) → IsSteady (binds level form)
-steady_binds level form r s is = chosen (nat_le level (level_of form)) r r s is (stays r r refl refl)
+steady_binds level form r s is = chosen (nat_le level (level_of form)) r r s is (same r)
 
 mutual
   steady_form : (form : ExprForm) → IsSteady (expr_form form)

@@ -216,7 +216,7 @@ mutual
       (steady_then (braces (part_row body)) (otherwise_ otherwise) (steady_braces (part_row body) (steady_row _ body)) (steady_otherwise otherwise)))
   steady_chained form = λ r s is. let bad : None ≡ Some s = is in cc
 
-  steady_otherwise : (o : Otherwise) → IsSteady (otherwise_ o)
+  pub steady_otherwise : (o : Otherwise) → IsSteady (otherwise_ o)
   steady_otherwise NoElse = steady_nothing
   steady_otherwise (Else' _ body) = begins Else (braces (part_row body)) (steady_braces (part_row body) (steady_row _ body))
   steady_otherwise (ElseIf' _ (more_of-Stmt first past form rest)) =
@@ -224,17 +224,17 @@ mutual
       (steady_enclosed (here first ⨾ chained form ⨾ here past)
       (steady_then (here first) (chained form ⨾ here past) (steady_here first) (steady_then (chained form) (here past) (steady_chained form) (steady_here past))))
 
-  steady_part : (p : Part) → IsSteady (part_ p)
+  pub steady_part : (p : Part) → IsSteady (part_ p)
   steady_part (parts.Local l) =
       steady_then (here l.token) (local_form l.form ⨾ here l.past) (steady_here l.token) (steady_then (local_form l.form) (here l.past) (steady_local l.form) (steady_here l.past))
   steady_part (parts.Stmt' first past form) =
       steady_then (here first) (stmt_form form ⨾ here past) (steady_here first) (steady_then (stmt_form form) (here past) (steady_stmt form) (steady_here past))
 
-  steady_row : (n : _) (row : Row_of-Part n) → IsSteady (part_row row)
+  pub steady_row : (n : _) (row : Row_of-Part n) → IsSteady (part_row row)
   steady_row n end_of-Part = steady_nothing
   steady_row n (more_of-Part {n = m} p rest) = steady_then (part_ p) (part_row rest) (steady_part p) (steady_row m rest)
 
-  steady_arms : (n : _) (row : Row_of-Arm n) → IsSteady (arm_row row)
+  pub steady_arms : (n : _) (row : Row_of-Arm n) → IsSteady (arm_row row)
   steady_arms n end_of-Arm = steady_nothing
   steady_arms n (more_of-Arm {n = m} first what _ body rest) =
       steady_then (here first) (case what ⨾ braces (part_row body) ⨾ arm_row rest) (steady_here first)
@@ -334,7 +334,7 @@ mutual
       (steady_then (whole_prim key) (whole value ⨾ braces (item_row inner)) (steady_primary key)
       (steady_then (whole value) (braces (item_row inner)) (steady_whole value) (steady_braces (item_row inner) (steady_items _ inner)))))
 
-  steady_items : (n : _) (row : Row_of-Item n) → IsSteady (item_row row)
+  pub steady_items : (n : _) (row : Row_of-Item n) → IsSteady (item_row row)
   steady_items n end_of-Item = steady_nothing
   steady_items n (more_of-Item {n = m} i rest) = steady_then (item i) (item_row rest) (steady_item i) (steady_items m rest)
 

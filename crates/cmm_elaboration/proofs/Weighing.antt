@@ -29,7 +29,7 @@ use Rattle.cmm_ast.specs.UnitGrammar.{count, decl, decl_form, export_name, initi
 use Rattle.cmm_static_semantics.specs.Faults.{AreAccepted}
 use Rattle.cmm_static_semantics.specs.Items.{SpanTree, Within, item_within, items_within, top_items, items_of}
 use Rattle.cmm_static_semantics.specs.Declarations.{NamedUnit, named_units, units_from, procs_in, labels_in, sum_of}
-use Rattle.cmm_static_semantics.specs.Linking.{Program as Linked, decl_exports, item_exports, program_of}
+use Rattle.cmm_static_semantics.specs.Linking.{Program as Linked, decl_exports, program_of}
 use Rattle.cmm_static_semantics.specs.Limits.{over_units, over_procs, token_count}
 use Rattle.cmm_elaboration.specs.Data.{datums_in, datums_among}
 use Rattle.cmm_elaboration.specs.Meaning.{meaning_of}

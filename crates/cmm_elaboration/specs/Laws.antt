@@ -8,7 +8,7 @@ use Rattle.std.specs.Option.{is_some}
 use Rattle.cmm_lexer.specs.declared.piece.Lexeme.{Lexeme}
 use Rattle.cmm_lexer.specs.Laws.{AreBytes, IsOfBytes}
 use Rattle.cmm_lexer.specs.Lexing.{tokens_of}
-use Rattle.cmm_ast.specs.Derivation.{Derives}
+use Rattle.cmm_ast.specs.Derivation.{Derives, DerivesWithin}
 use Rattle.cmm_ast.specs.declared.unit.Unit.{Unit as UnitTree}
 use Rattle.cmm_words.specs.declared.width.Width.{Width}
 use Rattle.cmm_program.specs.declared.procedure.Proc.{Proc}
@@ -197,6 +197,14 @@ FormsAreInRange = (us : List UnitTree) → AreAccepted us → AreDerived us → 
 -- each unit derives some tokens, with a place for each of them and for its end
 abbrev pub AreRead : List UnitTree → Type 0
 AreRead us = All (λ u. (tokens : List Lexeme) × (Derives tokens u × (length u.places ≡ suc (length tokens)))) us
+
+-- each unit derives some tokens, none of which passes a limit on nesting
+abbrev pub AreDerivedWithin : List UnitTree → Type 0
+AreDerivedWithin us = All (λ u. (tokens : List Lexeme) × DerivesWithin tokens u) us
+
+-- at most 200 spans are in force at each call site, as each stands in a bracket of its own
+abbrev pub SpansAreFew : Type 0
+SpansAreFew = (us : List UnitTree) → AreDerivedWithin us → All (λ q. All (λ site. length site.spans ≤ 200) q.sites) (meaning_of us).procs
 
 -- the limits on sums that come from counting tokens
 pub record KeepsCounts (p : Program) : Type 0 where

@@ -1,5 +1,5 @@
 -- The room that a program takes in an image, by its tokens.
-use Rattle.std.specs.Prelude.{ℕ, ◌+◌, ◌*◌, ◌≤◌, List, length, sum_by}
+use Rattle.std.specs.Prelude.{◌+◌, ◌*◌, ◌≤◌, List, length, sum_by}
 use Rattle.cmm_ast.specs.declared.unit.Unit.{Unit as UnitTree}
 use Rattle.cmm_program.specs.declared.program.Program.{Program}
 use Rattle.cmm_static_semantics.specs.Faults.{AreAccepted}

@@ -1,6 +1,6 @@
 //! What holds of the program that units mean. Each law is the contract of a function that does nothing. Together they make a program in range.
 
-ghost use Rattle.cmm_elaboration.specs.Laws.{BodiesAreCounted, CountsAreKept, DataFits, DatumsAreInRange, FormsAreInRange, LabelsAreThere, LimitsAreKept, MarksAreInOrder, NamesAreShort, NamesAreThere, NamesAreWhole, ProceduresAscend, ProceduresHaveShortest, ProgramsAreInRange, RangesAreApart, ReadProgramsAreInRange, RegisterNamesAreShort, RegistersAscend, ScopesFit, SitesAreInOrder, SitesAreThere, StackdataFits, StartHasNoFormals, StatementsHaveShortest, StatementsKeepRules, TextsComeFromTokens, WaysAreThere, WidthsAreKept};
+ghost use Rattle.cmm_elaboration.specs.Laws.{BodiesAreCounted, CountsAreKept, DataFits, DatumsAreInRange, FormsAreInRange, LabelsAreThere, LimitsAreKept, MarksAreInOrder, NamesAreShort, NamesAreThere, NamesAreWhole, ProceduresAscend, ProceduresHaveShortest, ProgramsAreInRange, RangesAreApart, ReadProgramsAreInRange, RegisterNamesAreShort, RegistersAscend, ScopesFit, SitesAreInOrder, SitesAreThere, SpansAreFew, StackdataFits, StartHasNoFormals, StatementsHaveShortest, StatementsKeepRules, TextsComeFromTokens, WaysAreThere, WidthsAreKept};
 ghost use Rattle.cmm_elaboration.specs.Room.{RoomIsKept};
 
 /// In the program of any units, the call sites of a procedure stand in its body once each, in textual order, from number 0 on.
@@ -146,6 +146,11 @@ pub fn statements_have_shortest()
 /// In the program of accepted units that derive some tokens, each procedure counts at least the tokens of its shortest text, with its declarations.
 pub fn procedures_have_shortest()
     ensures { ProceduresHaveShortest }
+{}
+
+/// In the program of units that derive tokens within the limits on nesting, at most 200 spans are in force at each call site.
+pub fn spans_are_few()
+    ensures { SpansAreFew }
 {}
 
 /// In units that derive tokens of bytes, each text that data begins with is of bytes.

@@ -3,13 +3,15 @@ use Rattle.std.proofs.Common.{◌≡◌, ℕ, suc, ◌+◌, arith, List, [], ◌
 use Rattle.std.specs.List.{All, AllZip}
 use Rattle.std.proofs.lemmas.List.{length-append, length-map}
 use Rattle.std.proofs.lemmas.List.Elements.{All-cons, All-head, All-nil, All-tail}
+use Rattle.cmm_lexer.specs.declared.piece.Lexeme.{Lexeme}
+use Rattle.cmm_ast.specs.Derivation.{DerivesWithin}
 use Rattle.cmm_ast.specs.declared.unit.Unit.{Unit as UnitTree}
 use Rattle.cmm_lexer.specs.Laws.{AreBytes}
 use Rattle.cmm_lexer.specs.Lexing.{tokens_of}
 use Rattle.cmm_lexer.specs.Places.{line_at, column_at}
-use Rattle.cmm_elaboration.specs.Laws.{AreRead, IsReadFromBytes, TextsAreBytes}
+use Rattle.cmm_elaboration.specs.Laws.{AreDerivedWithin, AreRead, IsReadFromBytes, TextsAreBytes}
 use Rattle.cmm_elaboration.proofs.Shared.{are_read, read_texts_are_bytes}
-use Rattle.cmm_front.specs.Sources.{IsTreeOf, places_in}
+use Rattle.cmm_front.specs.Sources.{IsTreeOf, lexemes_in, places_in}
 
 places_count : (unit : List ℕ) → length (places_in unit) ≡ suc (length (tokens_of unit))
 places_count unit =
@@ -32,3 +34,11 @@ read_all (u ∷ us) (t ∷ ts) bytes are =
 -- what holds of trees that are read from bytes
 pub when_read : {A : Type 0} (units : List (List ℕ)) (trees : List UnitTree) → All AreBytes units → AllZip IsTreeOf units trees → (AreRead trees → TextsAreBytes trees → A) → A
 when_read units trees bytes are so = let read = read_all units trees bytes are in so (are_read trees read) (read_texts_are_bytes trees read)
+
+-- trees of units derive their tokens within the limits on nesting
+pub derived_within : (units : List (List ℕ)) (trees : List UnitTree) → AllZip IsTreeOf units trees → AreDerivedWithin trees
+derived_within [] [] are = All-nil (λ u. (tokens : List Lexeme) × DerivesWithin tokens u)
+derived_within [] (t ∷ ts) are = absurd are
+derived_within (u ∷ us) [] are = absurd are
+derived_within (u ∷ us) (t ∷ ts) are =
+    All-cons (λ u. (tokens : List Lexeme) × DerivesWithin tokens u) t ts (lexemes_in u, are.0.derives) (derived_within us ts are.1)

@@ -1,6 +1,6 @@
 //! The program of units.
 
-ghost use Rattle.std.specs.Prelude.{◌<◌, ◌^◌, length, map, IfOk, IfErr};
+ghost use Rattle.std.specs.Prelude.{◌<◌, ◌≤◌, ◌^◌, All, length, map, IfOk, IfErr};
 ghost use Rattle.std.specs.Cmp.Lexicographic.{slice_cmp};
 ghost use Rattle.std.specs.List.Sorted.{IsStrictlySortedBy};
 ghost use Rattle.std.specs.Ordering.{nat_cmp};
@@ -23,11 +23,14 @@ pub fn program_of(alloc: Global, units: &[Items<u8>]) -> Result<Program, FrontFa
     ensures ok { IfOk result (IsProgramOf units.now) }
     // Registers are numbered by their names, which ascend by bytes.
     ensures registers { IfOk result (λ p. IsStrictlySortedBy (slice_cmp nat_cmp) (map (λ g. g.name) p.globals)) }
+    // Each span in force at a call site stands in a bracket of its own, and at most 200 brackets are open.
+    ensures spans { IfOk result (λ p. All (λ q. All (λ site. length site.spans ≤ 200) q.sites) p.procs) }
     ensures err { IfErr result (IsRefused (IsFaultOf units.now)) }
     ensures named { 0 < length units.now → IfErr result (IsRefused (λ f. f.unit < length units.now)) }
 {
     cmm_elaboration::laws::registers_ascend();
     cmm_elaboration::laws::room_is_kept();
+    cmm_elaboration::laws::spans_are_few();
     let tokens = tokens_of(alloc, units)?;
     let trees = trees_of(alloc, tokens.as_slice())?;
     let checked = check_units(alloc, trees.as_slice())?;

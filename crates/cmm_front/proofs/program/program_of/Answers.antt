@@ -1,6 +1,6 @@
-use Rattle.std.proofs.Common.{◌≡◌, ◌<◌, ◌^◌, inl, inr, List, Some, length, map, subst, sym, ◌∙◌}
+use Rattle.std.proofs.Common.{◌≡◌, ◌<◌, ◌≤◌, ◌^◌, inl, inr, List, Some, length, map, subst, sym, ◌∙◌}
 use Rattle.std.specs.Cmp.Lexicographic.{slice_cmp}
-use Rattle.std.specs.List.{AllZip}
+use Rattle.std.specs.List.{All, AllZip}
 use Rattle.std.specs.List.Sorted.{IsStrictlySortedBy}
 use Rattle.std.specs.Ordering.{nat_cmp}
 use Rattle.cmm_static_semantics.specs.Faults.{AreAccepted, first_fault}
@@ -8,7 +8,7 @@ use Rattle.cmm_ast.specs.declared.unit.Unit.{Unit as UnitTree}
 use Rattle.cmm_elaboration.specs.Laws.{AreRead, TextsAreBytes}
 use Rattle.cmm_elaboration.specs.Meaning.{meaning_of}
 use Rattle.cmm_elaboration.specs.Room.{KeepsRoom}
-use Rattle.cmm_front.proofs.Meant.{when_read}
+use Rattle.cmm_front.proofs.Meant.{derived_within, when_read}
 use Rattle.cmm_lexer.specs.Lexing.{Lexes}
 use Rattle.cmm_program.specs.InRange.{IsInRange}
 use Rattle.cmm_program.specs.declared.program.Program.{Program}
@@ -93,3 +93,9 @@ pub returns-clause-registers : goal.returns-clause-registers
 returns-clause-registers c =
     let is : IsProgramOf c.args.units.now c.in_ok-program.program = returns-clause-ok c in
     subst (λ (p : Program). IsStrictlySortedBy (slice_cmp nat_cmp) (map (λ g. g.name) p.globals)) (sym is.is_program) (c.registers_ascend.ensures is.trees)
+
+pub returns-clause-spans : goal.returns-clause-spans
+returns-clause-spans c =
+    let is : IsProgramOf c.args.units.now c.in_ok-program.program = returns-clause-ok c in
+    subst (λ (p : Program). All (λ q. All (λ site. length site.spans ≤ 200) q.sites) p.procs) (sym is.is_program)
+    (c.spans_are_few.ensures is.trees (derived_within c.args.units.now is.trees is.are_trees))
