@@ -1,4 +1,5 @@
 pub mod Ascending
 pub mod Few
 pub mod Covering
+pub mod Knowing
 pub mod Agreeing

@@ -3,7 +3,7 @@
 ghost use Rattle.cmm_elaboration.specs.Laws.{ProceduresAscend};
 ghost use Rattle.cmm_data.specs.Laws.{InRangeCanBeLaidOut};
 ghost use Rattle.cmm_link.specs.Laws.{PlacesHaveFrames};
-ghost use Rattle.cmm_compile.specs.inside.Laws.{ImagesAgreeWithUnits, ProgramsAreCovered, ProgramsAreShort};
+ghost use Rattle.cmm_compile.specs.inside.Laws.{ImagesAgreeWithUnits, PlacesKnowLive, ProgramsAreCovered, ProgramsAreShort};
 
 /// The code of the nodes of a located program has at most 32 instructions for each of their tokens.
 #[tactic(auto, using(crate::proofs::Covering::programs_are_covered))]
@@ -31,6 +31,16 @@ fn programs_are_short()
     cmm_emit::laws::graphs_are_short();
 }
 
+/// The sets that places keep have just the variables that are live at the call sites of their procedures.
+#[tactic(auto, using(crate::proofs::Knowing::places_know_live))]
+fn places_know_live()
+    ensures { PlacesKnowLive }
+{
+    cmm_flow::laws::answers_keep_liveness();
+    cmm_flow::laws::answers_wait_once();
+    cmm_flow::laws::sites_keep_liveness();
+}
+
 /// An image that is made of a program agrees with it, whatever its client does.
 fn images_agree_with_units()
     ensures { ImagesAgreeWithUnits }
@@ -53,6 +63,7 @@ pub(crate) fn passes_fit()
     ensures frames { PlacesHaveFrames }
     ensures covered { ProgramsAreCovered }
     ensures short { ProgramsAreShort }
+    ensures live { PlacesKnowLive }
     ensures agree { ImagesAgreeWithUnits }
 {
     cmm_elaboration::laws::procedures_ascend();
@@ -60,5 +71,6 @@ pub(crate) fn passes_fit()
     cmm_link::laws::places_have_frames();
     programs_are_covered();
     programs_are_short();
+    places_know_live();
     images_agree_with_units();
 }

@@ -16,7 +16,7 @@ use Rattle.cmm_allocate.specs.Placing.{placement_rows}
 use Rattle.cmm_image.specs.declared.parts.ImageParts.{ImageParts}
 use Rattle.cmm_image.specs.Images.{IsImage}
 use Rattle.cmm_unit_code.specs.declared.text.Text.{Text}
-use Rattle.cmm_link.specs.Linked.{HaveFrames, IsImageOf}
+use Rattle.cmm_link.specs.Linked.{HaveFrames, IsImageOf, KnowLive}
 use Rattle.cmm_link.specs.Placements.{placement_of}
 use Rattle.cmm_unit_code.specs.Texts.{IsText}
 use Rattle.cmm_emit.specs.Premises.{AreCovered, AreShort}
@@ -32,6 +32,11 @@ ProgramsAreCovered = (p : Program) (graphs : List Graph) (found : List Procedure
 abbrev pub ProgramsAreShort : Type 0
 ProgramsAreShort = (p : Program) (graphs : List Graph) (found : List ProcedurePlaces) → IsInRange p → AllZip IsFlow p.procs graphs →
     HavePlaces p.procs graphs found → AreShort p.procs graphs found
+
+-- the sets of its places have just the variables that are live at its call sites
+abbrev pub PlacesKnowLive : Type 0
+PlacesKnowLive = (p : Program) (graphs : List Graph) (found : List ProcedurePlaces) → IsInRange p → AllZip IsFlow p.procs graphs →
+    HavePlaces p.procs graphs found → KnowLive p.procs found
 
 -- What the passes make of a program: its graphs, their places, code for these, and an image with that code.
 pub record IsMade (p : Program) (graphs : List Graph) (found : List ProcedurePlaces) (t : Text) (i : ImageParts) : Type 0 where

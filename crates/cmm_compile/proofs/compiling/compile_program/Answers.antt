@@ -4,7 +4,7 @@ use Rattle.std.specs.List.Sorted.{IsNonDecreasingBy}
 use Rattle.cmm_flow.specs.Flow.{IsFlow}
 use Rattle.cmm_program.specs.declared.program.Program.{Program}
 use Rattle.cmm_compile.proofs.Ascending.{sorted_ascend}
-use Rattle.cmm_compile.proofs.Few.{few_locals}
+use Rattle.cmm_compile.proofs.Few.{few_locals, few_spans}
 use Rattle.cmm_compile.proofs.compiling.compile_program.Goals as goal
 
 pub lay_out-requires : goal.lay_out-requires
@@ -54,6 +54,14 @@ link-requires-clause-frames c =
     rw c.as_slice-5.ensures
     (c.passes_fit.ensures.frames c.in_ok-program.program.procs c.in_ok-graphs.graphs c.in_ok-places.places (AllZip-long IsFlow c.in_ok-program.program.procs c.in_ok-graphs.graphs c.in_ok-graphs.ensures.each) (rw c.as_slice-2.ensures at c.in_ok-places.ensures.places))
 
+pub link-requires-clause-live : goal.link-requires-clause-live
+link-requires-clause-live c =
+    rw c.as_slice-5.ensures
+    (c.passes_fit.ensures.live c.in_ok-program.program c.in_ok-graphs.graphs c.in_ok-places.places c.in_ok-program.ensures.ok.range c.in_ok-graphs.ensures.each (rw c.as_slice-2.ensures at c.in_ok-places.ensures.places))
+
+pub link-requires-clause-spans : goal.link-requires-clause-spans
+link-requires-clause-spans c = few_spans c.in_ok-program.program.procs c.in_ok-program.ensures.spans
+
 pub link-requires-clause-globals : goal.link-requires-clause-globals
 link-requires-clause-globals c =
     sorted_ascend (map (λ g. g.name) c.in_ok-program.program.globals) c.in_ok-program.ensures.registers
@@ -73,6 +81,9 @@ returns-clause-ok c =
         range = c.in_ok-program.ensures.ok.range;
         flows = c.in_ok-graphs.ensures.each;
         places = rw c.as_slice-2.ensures at c.in_ok-places.ensures.places;
+        frames =
+            c.passes_fit.ensures.frames c.in_ok-program.program.procs c.in_ok-graphs.graphs c.in_ok-places.places
+                (AllZip-long IsFlow c.in_ok-program.program.procs c.in_ok-graphs.graphs c.in_ok-graphs.ensures.each) (rw c.as_slice-2.ensures at c.in_ok-places.ensures.places);
         runs = rw c.as_slice-2.ensures at c.in_ok-places.ensures.runs;
         text = c.in_ok-code.ensures.text t linked.1;
         size = c.in_ok-code.ensures.size t linked.1;
