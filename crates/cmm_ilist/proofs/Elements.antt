@@ -1,5 +1,5 @@
 -- Nodes in lists, and what stands before and behind them.
-use Rattle.std.proofs.Common.{◌≡◌, ◌≢◌, ◌⊎◌, inl, inr, ℕ, ◌==◌, ◌&&◌, ◌||◌, not, cond, Bool, true, false, filter, List, [], ◌∷◌, Option, Some, None, refl, sym, ◌∙◌, ap}
+use Rattle.std.proofs.Common.{◌≡◌, ◌≢◌, ◌⊎◌, inl, inr, ℕ, zero, suc, ◌==◌, ◌&&◌, ◌||◌, not, cond, Bool, true, false, filter, get_or, replicate, List, [], ◌∷◌, Option, Some, None, refl, sym, ◌∙◌, ap}
 use Rattle.std.proofs.lemmas.Bool.{and_parts, cases_Bool, cases_eq, eq-eqb, eqb-true, ne_eqb, or_cases}
 use Rattle.std.proofs.lemmas.Option.{same_Some}
 use Rattle.cmm_ilist.specs.NodeLists.{after_in, front_of, has, is_distinct, without}
@@ -9,6 +9,12 @@ use Rattle.cmm_ilist.specs.inside.Linked.{back_of, before_in}
 
 pub no_some : {x : ℕ} → None ≡ Some x → ⊥
 no_some e = cc (e)
+
+-- a list of one thing over and over has it everywhere, where that is the default too
+pub replicate_at : {A : Type 0} (a : A) (n k : ℕ) → get_or (replicate n a) k a ≡ a
+replicate_at a zero k = refl
+replicate_at a (suc n) zero = refl
+replicate_at a (suc n) (suc k) = replicate_at a n k
 
 pub has_here : (x : ℕ) (ys : List ℕ) → has x (x ∷ ys) ≡ true
 has_here x ys = ap (λ b. b || has x ys) (eq-eqb x x refl)

@@ -5,7 +5,7 @@ use Rattle.std.proofs.lemmas.List.{ext_get_or, get_or-set_other, get_or-set_same
 use Rattle.std.proofs.lemmas.Option.{same_Some}
 use Rattle.cmm_ilist.specs.NodeLists.{after_in, front_of, has, is_distinct, IsInNone, list_at, without}
 use Rattle.cmm_ilist.specs.inside.Linked.{AreLinked, Tables, back_of, before_in, entry, lists_of, nodes_from, set_unless, set_when}
-use Rattle.cmm_ilist.proofs.Elements.{after_here, after_is_in, after_skip, apart, before_is_in, distinct_first, distinct_rest, has_here, has_later, left_was, no_some, without_absent, without_distinct, without_has}
+use Rattle.cmm_ilist.proofs.Elements.{after_here, after_is_in, after_skip, apart, before_is_in, distinct_first, distinct_rest, has_here, has_later, left_was, no_some, replicate_at, without_absent, without_distinct, without_has}
 use Rattle.cmm_ilist.proofs.Counting.{few_below}
 use Rattle.cmm_ilist.proofs.Pushing.{after_earlier, after_last, after_new, back_is_new, back_is_there, before_new, before_old, front_of_more, front_of_one, has_end, has_pushed, has_still, pushed_distinct}
 use Rattle.cmm_ilist.proofs.Unlinking.{after_around, after_others, back_without_earlier, back_without_last, before_around, before_others, front_without_first, front_without_later}
@@ -92,16 +92,6 @@ are_linked t lists linked = subst (AreLinked t) (sym (lists_are t lists linked))
 
 -- ---- no nodes
 
-at_replicate : (n k : ℕ) → list_at (replicate n []) k ≡ []
-at_replicate zero k = refl
-at_replicate (suc n) zero = refl
-at_replicate (suc n) (suc k) = at_replicate n k
-
-none_at : (n k : ℕ) → entry (replicate n None) k ≡ None
-none_at zero k = refl
-none_at (suc n) zero = refl
-none_at (suc n) (suc k) = none_at n k
-
 abbrev no_links : ℕ → ℕ → Tables
 no_links n m = record { owner = replicate n None; before = replicate n None; after = replicate n None; first = replicate m None; last = replicate m None }
 
@@ -111,17 +101,17 @@ are_empty n m = record {
   afters = refl;
   firsts = length-replicate m None ∙ sym (length-replicate m []);
   lasts = length-replicate m None ∙ sym (length-replicate m []);
-  distinct = λ k. ap is_distinct (at_replicate m k);
+  distinct = λ k. ap is_distinct (replicate_at [] m k);
   owned = λ k x is. nowhere k x is;
-  owner = λ k x is. absurd (no_some (sym (none_at n x) ∙ is));
+  owner = λ k x is. absurd (no_some (sym (replicate_at None n x) ∙ is));
   before = λ k x is. nowhere k x is;
   after = λ k x is. nowhere k x is;
-  first = λ k below. none_at m k ∙ sym (ap front_of (at_replicate m k));
-  last = λ k below. none_at m k ∙ sym (ap (back_of None) (at_replicate m k));
+  first = λ k below. replicate_at None m k ∙ sym (ap front_of (replicate_at [] m k));
+  last = λ k below. replicate_at None m k ∙ sym (ap (back_of None) (replicate_at [] m k));
 }
   where
     nowhere : {A : Type 0} (k x : ℕ) → has x (list_at (replicate m []) k) ≡ true → A
-    nowhere k x is = let none : has x [] ≡ true = sym (ap (has x) (at_replicate m k)) ∙ is in absurd (cc (none))
+    nowhere k x is = let none : has x [] ≡ true = sym (ap (has x) (replicate_at [] m k)) ∙ is in absurd (cc (none))
 
 -- ---- a node goes
 
