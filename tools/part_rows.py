@@ -116,11 +116,80 @@ def moves_case(words):
     return str(places)
 
 
+def node_lists_case(words):
+    nodes, count, *words = words.split(" ")
+    lists, told = [[] for _ in range(int(count))], []
+    for word in words:
+        what, _, rest = word.partition(":")
+        *to, node = map(int, rest.split(","))
+        home = next((at for at, it in enumerate(lists) if node in it), None)
+        if what == "push" and home is None and to[0] < len(lists) and node < int(nodes):
+            lists[to[0]].append(node)
+        elif what == "unlink" and home is not None:
+            lists[home].remove(node)
+        elif what == "after":
+            behind = lists[home][lists[home].index(node) + 1 :] if home is not None else []
+            told.append(option(behind[0] if behind else None))
+        elif what == "of" and node < int(nodes):
+            told.append(option(home))
+    return " ".join(told + [" ".join(["[", *map(str, it), "]"]) for it in lists])
+
+
+def removal_order(near, colours, uses):
+    """Nodes as they leave a graph: one with few neighbours left, the longest waiting first; where there is none, that with the most of them for its uses, as they
+    stood when there was none for the first time."""
+    left = {node: len(it) for node, it in enumerate(near)}
+    low, order, stuck = [node for node in left if left[node] < colours], [], None
+    while left:
+        if not low and stuck is None:
+            stuck = sorted(left, key=lambda node: (left[node] * 2**32 // (uses.get(node, 0) + 1), node))
+        while not low and stuck[-1] not in left:
+            stuck.pop()
+        node = low.pop(0) if low else stuck.pop()
+        order.append(node)
+        del left[node]
+        for other in near[node]:
+            if other in left:
+                left[other] -= 1
+                low += [other] if left[other] == colours - 1 else []
+    return order
+
+
+def colour_case(words):
+    colours, count, *words = words.split(" ")
+    joined, told = [[] for _ in range(int(count))], {"uses": {}, "suits": {}}
+    for word in words:
+        if "-" in word:
+            a, b = map(int, word.split("-"))
+            joined[a].append(b)
+            joined[b].append(a)
+        elif word:
+            what, _, rest = word.partition(":")
+            node, number = map(int, rest.split(","))
+            told[what][node] = number
+    near, found = [list(dict.fromkeys(it)) for it in joined], {}
+    for node in reversed(removal_order(near, int(colours), told["uses"])):
+        free = [it for it in range(int(colours)) if it not in [found.get(other) for other in near[node]]]
+        suits = told["suits"].get(node)
+        found[node] = suits if suits in free else free[0] if free else None
+    return " ".join(f"{it}={option(found[node])}" for node, it in enumerate(joined))
+
+
 LISTS = ["push:10 push:20 push:30 push:40 first:11 append:50,60 pop get:1 get:5 last truncate:2 empty most", "empty pop last most get:0", "append:7,7 pop pop empty"]
 
 SETS = ["0", "1 insert:0", "64 insert:63 insert:0 insert:63", "65 insert:64 insert:1", "200 insert:199 insert:128 insert:127 insert:64"]
 SETS += ["130 insert:0 insert:129 join: join:129 join:0,64 join:63,64,128", "70 insert:5 insert:65 insert:69 remove:65 remove:66 has:5 has:65 has:69"]
 SETS += ["70 insert:5 insert:65 insert:69 clear", "70 insert:5 join:5,69 remove:5 has:5 has:69 clear has:69 join:64"]
+
+NODE_LISTS = ["1 1", "0 2", "2 1 push:0,0 push:0,1 push:0,0 push:1,1 push:0,2 after:0 after:1 of:0 of:2", "3 2 push:1,2 push:1,0 push:1,1 unlink:0 after:2 of:0 of:1"]
+NODE_LISTS += ["3 1 push:0,0 push:0,1 push:0,2 unlink:0 unlink:0 after:0 after:1 after:2", "3 1 push:0,0 push:0,1 push:0,2 unlink:2 push:0,2 unlink:1 push:0,1 after:2"]
+NODE_LISTS += ["4 3 push:0,3 push:1,2 push:0,1 unlink:3 push:1,3 unlink:2 push:2,2 of:3 of:2 after:3", "2 2 push:0,1 unlink:1 push:1,1 unlink:1 push:0,1 push:0,0 after:1"]
+
+TRIANGLE = "0-1 1-2 0-2"
+CHORDS = " ".join(f"{a}-{(a * 7 + step) % 23}" for a in range(1, 23) for step in (1, 5) if a * 7 % 23 + step != a and (a * 7 + step) % 23 != a)
+COLOURS = ["1 3", "0 2 0-1", "1 2 0-1", "2 2 0-1 0-1 1-0", f"3 4 {TRIANGLE} 2-3", f"2 4 {TRIANGLE} 2-3", f"3 4 {TRIANGLE} 2-3 suits:0,2 suits:3,2 suits:1,7 suits:2,1"]
+COLOURS += [f"2 3 {TRIANGLE} uses:0,5 uses:1,1 uses:2,9", f"2 3 {TRIANGLE} uses:0,5 uses:1,7 uses:2,3", "2 5 0-1 1-2 2-3 3-4 4-0 suits:2,1 suits:4,1", "2 4 0-1 1-2 2-3 3-0"]
+COLOURS += [f"{k} 23 {CHORDS} uses:3,2 uses:9,4 suits:5,1 suits:17,0" for k in (1, 2, 3, 4)]
 
 MOVES = ["", "1=1", "1=2 2=1", "1=2 2=3 3=4", "3=2 2=1 1=0", "1=2 2=3 3=1 0=2", "1=0 0=1 3=2 2=3 4=0", "1=2 1=3", "1=5"]
 
@@ -665,7 +734,8 @@ def emulated_cases():
 # ---- what is done with them
 
 def cases():
-    by_words = [("items", list_case, LISTS), ("set", set_case, SETS), ("moves", moves_case, MOVES), ("source", source_case, SOURCES), ("sink", memory_sink_case, SINKS)]
+    by_words = [("items", list_case, LISTS), ("set", set_case, SETS), ("moves", moves_case, MOVES), ("ilist", node_lists_case, NODE_LISTS), ("colour", colour_case, COLOURS)]
+    by_words += [("source", source_case, SOURCES), ("sink", memory_sink_case, SINKS)]
     for what, answer, words in by_words + [("lent", lent_case, LENT), ("lent_whole", lent_whole_case, LENT_WHOLE), ("files", files_case, FILES)]:
         yield from ((f"{what} {it}", answer(it)) for it in words)
     for what, told in (("peel", PEELED), ("rule", RULES)):

@@ -1,10 +1,11 @@
 -- Nodes are joined.
-use Rattle.std.proofs.Common.{◌≡◌, ◌≢◌, ◌⊎◌, inl, inr, ℕ, ◌<◌, ◌^◌, true, false, List, [], ◌∷◌, ◌++◌, length, get_or, set, take, replicate, Option, Some, None, sym, ◌∙◌, ap, subst, arith}
+use Rattle.std.proofs.Common.{◌≡◌, ◌≢◌, ◌⊎◌, inl, inr, ℕ, ◌<◌, ◌^◌, ◌==◌, ◌&&◌, ◌||◌, Bool, true, false, List, [], ◌∷◌, ◌++◌, length, get_or, set, take, replicate, Option, Some, None, refl, sym, ◌∙◌, ap, subst, arith}
 use Rattle.std.specs.Prelude.{MatchOption, OnErr, OnOk, Result, Ok, Err, is_err}
-use Rattle.std.proofs.lemmas.Bool.{cases_eq}
+use Rattle.std.proofs.lemmas.Bool.{and_from, and_parts, cases_eq, eq-eqb, eqb-true, or_cases, or_left, or_right}
 use Rattle.std.proofs.lemmas.List.{get_or_default, get_or-set_other, get_or-set_same, length-set, length-replicate, length_push, set-get_or, set-set, take-append-le, take_all}
 use Rattle.cmm_ilist.specs.NodeLists.{has}
 use Rattle.cmm_colour.specs.Graphs.{IsUndirected, adjacent, joined, row}
+use Rattle.cmm_colour.specs.Laws.{JoinsAreAdjacent}
 use Rattle.cmm_colour.proofs.Counting.{has_last_other}
 use Rattle.cmm_ilist.proofs.Shared.{has_end, replicate_at}
 
@@ -29,8 +30,8 @@ module _ (a b : ℕ) (g : List (List ℕ)) (low_a : a < length g) (low_b : b < l
   row_away : (v : ℕ) → (v ≡ a → ⊥) → (v ≡ b → ⊥) → row (joined a b g) v ≡ row g v
   row_away v not_a not_b = get_or-set_other (set g a (row g a ++ b ∷ [])) b v (row g b ++ a ∷ []) [] not_b ∙ get_or-set_other g a v (row g a ++ b ∷ []) [] not_a
 
-  size : length (joined a b g) ≡ length g
-  size = length-set (set g a (row g a ++ b ∷ [])) b (row g b ++ a ∷ []) ∙ length-set g a (row g a ++ b ∷ [])
+  pub size_joined : length (joined a b g) ≡ length g
+  size_joined = length-set (set g a (row g a ++ b ∷ [])) b (row g b ++ a ∷ []) ∙ length-set g a (row g a ++ b ∷ [])
 
   -- which are joined now
   abbrev Joins : ℕ → ℕ → Type 0
@@ -72,8 +73,8 @@ module _ (a b : ℕ) (g : List (List ℕ)) (low_a : a < length g) (low_b : b < l
 
   pub undirected_joined : IsUndirected g → IsUndirected (joined a b g)
   undirected_joined was = record {
-    few = subst (λ n. n < 2 ^ 32) (sym size) was.few;
-    within = λ v w is. subst (λ n. w < n) (sym size) (elim (joins v w is) [
+    few = subst (λ n. n < 2 ^ 32) (sym size_joined) was.few;
+    within = λ v w is. subst (λ n. w < n) (sym size_joined) (elim (joins v w is) [
       | inl old ↦ was.within v w old
       | inr new ↦ elim new [ inl p ↦ subst (λ n. n < length g) (sym p.1) low_b | inr p ↦ subst (λ n. n < length g) (sym p.1) low_a ]
     ]);
@@ -126,6 +127,43 @@ module _ (a b : ℕ) (g : List (List ℕ)) (low_a : a < length g) (low_b : b < l
 
         front : pc ≡ row g a
         front = by o popped
+
+-- two tests are the same where either passes if the other does
+pub same_test : (x y : Bool) → (x ≡ true → y ≡ true) → (y ≡ true → x ≡ true) → x ≡ y
+same_test true y to from = sym (to refl)
+same_test false true to from = from refl
+same_test false false to from = refl
+
+-- who is joined now, as a test
+pub joins_are_adjacent : JoinsAreAdjacent
+joins_are_adjacent g a b v w low_a low_b different = same_test (adjacent (joined a b g) v w) _ to from
+  where
+    pair : (x y z u : ℕ) → (x ≡ y) × (z ≡ u) → ((x == y) && (z == u)) ≡ true
+    pair x y z u p = and_from (x == y) (z == u) (eq-eqb x y p.0) (eq-eqb z u p.1)
+
+    to : adjacent (joined a b g) v w ≡ true → (adjacent g v w || (((v == a) && (w == b)) || ((v == b) && (w == a)))) ≡ true
+    to is = elim (joins a b g low_a low_b different v w is) [
+      | inl old ↦ or_left (adjacent g v w) _ old
+      | inr new ↦ or_right (adjacent g v w) _ (elim new [
+        | inl p ↦ or_left ((v == a) && (w == b)) _ (pair v a w b p)
+        | inr p ↦ or_right ((v == a) && (w == b)) _ (pair v b w a p)
+      ])
+    ]
+
+    here : (x y : ℕ) → adjacent (joined a b g) x y ≡ true → (v ≡ x) × (w ≡ y) → adjacent (joined a b g) v w ≡ true
+    here x y is p = ap (λ n. adjacent (joined a b g) n w) p.0 ∙ (ap (adjacent (joined a b g) x) p.1 ∙ is)
+
+    both : (x y z u : ℕ) → ((x == y) && (z == u)) ≡ true → (x ≡ y) × (z ≡ u)
+    both x y z u is = let p = and_parts (x == y) (z == u) is in (eqb-true x y p.0, eqb-true z u p.1)
+
+    from : (adjacent g v w || (((v == a) && (w == b)) || ((v == b) && (w == a)))) ≡ true → adjacent (joined a b g) v w ≡ true
+    from is = elim (or_cases (adjacent g v w) _ is) [
+      | inl old ↦ still a b g low_a low_b different v w old
+      | inr new ↦ elim (or_cases ((v == a) && (w == b)) _ new) [
+        | inl p ↦ here a b (first a b g low_a low_b different) (both v a w b p)
+        | inr p ↦ here b a (second a b g low_a low_b different) (both v b w a p)
+      ]
+    ]
 
 pub on_err : {T E P : Type 0} (r : Result T E) → is_err r ≡ true → OnErr r P → P
 on_err (Ok t) is p = absurd (cc (is))

@@ -7,3 +7,4 @@ pub mod Sorting
 pub mod Joining
 pub mod Coloured
 mod Rows
+pub mod Shared

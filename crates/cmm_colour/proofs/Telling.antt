@@ -2,8 +2,8 @@
 use Rattle.std.proofs.Common.{◌≡◌, ◌≢◌, inl, inr, ℕ, zero, suc, ◌+◌, ◌-◌, ◌<◌, ◌≤◌, ◌==◌, ◌||◌, not, Bool, true, false, List, [], ◌∷◌, ◌++◌, length, get_or, set, map, take, refl, sym, ◌∙◌, ap, subst, arith}
 use Rattle.std.proofs.lemmas.Bool.{cases_eq, eqb-true, eqb-false, or_cases, or_left, or_right}
 use Rattle.std.proofs.lemmas.List.{get_or-set_other, get_or-set_same, length-map, length-set, take_more}
-use Rattle.cmm_ilist.specs.NodeLists.{IsInNone, NodeLists, has, is_distinct, is_in_some, list_at, without}
-use Rattle.cmm_ilist.proofs.Shared.{apart, at_map, distinct_first, distinct_rest, has_skip, left_was, pushed_distinct, without_has, without_lacks, has_end}
+use Rattle.cmm_ilist.specs.NodeLists.{NodeLists, has, is_distinct, is_in_some, list_at, without}
+use Rattle.cmm_ilist.proofs.Shared.{apart, at_map, has_none, distinct_first, distinct_rest, has_skip, left_was, pushed_distinct, without_has, without_lacks, has_end}
 use Rattle.cmm_colour.specs.Graphs.{adjacent, row}
 use Rattle.cmm_colour.specs.inside.Removing.{AreSimple, IsLeft, IsTelling, degree_of, is_there, left_of, lowered_degrees, lowered_lists, moved, one_if}
 use Rattle.cmm_colour.proofs.Counting.{has_last_other, left_more}
@@ -262,5 +262,6 @@ there_in_some v (a ∷ b ∷ rest) n two there = elim (or_cases (has v a) (has v
   | inr second ↦ or_right (has v a) (has v b || is_in_some v rest) (or_left (has v b) (is_in_some v rest) second)
 ]
 
-pub free_without : (v : ℕ) (lists new : List (List ℕ)) → new ≡ map (without v) lists → IsInNone v new
-free_without v lists new is k = ap (λ (ls : List (List ℕ)). has v (list_at ls k)) is ∙ (ap (has v) (at_map v lists k) ∙ without_lacks v (list_at lists k))
+pub free_without : (v : ℕ) (lists new : List (List ℕ)) → new ≡ map (without v) lists → is_in_some v new ≡ false
+free_without v lists new is =
+    has_none v new (λ k. ap (λ (ls : List (List ℕ)). has v (list_at ls k)) is ∙ (ap (has v) (at_map v lists k) ∙ without_lacks v (list_at lists k)))

@@ -5,7 +5,8 @@
 //! the node goes that has the most conflicts for its uses. Colours are then chosen from the last node that went back to the first. So every
 //! node that peels gets a colour, and time is linear in the conflicts, but for one sort of the nodes that do not peel.
 //!
-//! - `conflicts`: conflicts of nodes. `colouring`: the call `colour`. `hints`: what else is known of nodes.
+//! - `conflicts`: conflicts of nodes. `colouring`: the call `colour`. `hints`: what else is known of nodes. `laws`: what
+//!   joining two nodes does.
 //! - `simple`: each neighbour of a node once. `worklists`: the lists of the nodes that are left. `candidates`: which of them goes where
 //!   nothing peels. `removing`: the order in which nodes are removed. `choosing`: the colour of each node, the last removed first.
 #![tactic(auto)]
@@ -15,6 +16,7 @@ mod choosing;
 mod colouring;
 mod conflicts;
 mod hints;
+pub mod laws;
 mod removing;
 mod simple;
 mod worklists;

@@ -1,11 +1,12 @@
 -- What the calls answer, by the tables.
-use Rattle.std.proofs.Common.{◌≡◌, ◌≢◌, inl, inr, ℕ, zero, suc, ◌<◌, true, List, [], ◌∷◌, ◌++◌, length, set, get_or, map, replicate, Option, Some, None, refl, sym, ◌∙◌, ap, subst, arith}
+use Rattle.std.proofs.Common.{◌≡◌, ◌≢◌, inl, inr, ℕ, zero, suc, ◌<◌, true, false, List, [], ◌∷◌, ◌++◌, length, set, get_or, map, replicate, is_some, Option, Some, None, refl, sym, ◌∙◌, ap, subst, arith}
 use Rattle.std.specs.Prelude.{◌↔◌, IfSome}
-use Rattle.std.proofs.lemmas.Bool.{or_cases}
+use Rattle.std.proofs.lemmas.Bool.{or_cases, or_left, or_right}
 use Rattle.std.proofs.lemmas.List.{get_or_default, length-replicate}
 use Rattle.cmm_ilist.specs.NodeLists.{AreApart, IsInNone, NodeLists, has, is_in_some, list_at, without}
 use Rattle.cmm_ilist.specs.inside.Linked.{AreLinked, Tables, entry, lists_of, set_unless, set_when}
 use Rattle.std.proofs.lemmas.Option.{same_Some}
+use Rattle.cmm_ilist.proofs.Elements.{lacks_of, no_some}
 use Rattle.cmm_ilist.proofs.Linked.{after_there, are_empty, are_pushed, are_unlinked, before_there, entry_within, lists_are}
 use Rattle.cmm_ilist.proofs.Pushing.{back_is_there}
 
@@ -31,6 +32,19 @@ pub record IsAt (t : Tables) (x k : ℕ) (b a : Option ℕ) : Type 0 where
   pub before : entry t.before x ≡ b
   pub after : entry t.after x ≡ a
 
+-- and one that is in a list of a number is in some
+pub has_some : (x : ℕ) (lists : List (List ℕ)) (k : ℕ) → has x (list_at lists k) ≡ true → is_in_some x lists ≡ true
+has_some x [] k there = absurd (cc (there))
+has_some x (xs ∷ rest) zero there = or_left (has x xs) (is_in_some x rest) there
+has_some x (xs ∷ rest) (suc k) there = or_right (has x xs) (is_in_some x rest) (has_some x rest k there)
+
+-- a node that is in no list is in none of a number
+pub none_has : (x : ℕ) (lists : List (List ℕ)) → is_in_some x lists ≡ false → IsInNone x lists
+none_has x lists none k = lacks_of (has x (list_at lists k)) (λ there. (let some = has_some x lists k there in cc (none, some)))
+
+pub has_none : (x : ℕ) (lists : List (List ℕ)) → IsInNone x lists → is_in_some x lists ≡ false
+has_none x lists none = lacks_of (is_in_some x lists) (λ there. (let r = some_has x lists there in let lacks = none r.0 in cc (lacks, r.1)))
+
 module _ (t : Tables) (lists : List (List ℕ)) (linked : AreLinked t lists) where
   pub node_within : (x k : ℕ) → has x (list_at lists k) ≡ true → x < length t.owner
   node_within x k is = entry_within t.owner x k (linked.owned k x is)
@@ -55,6 +69,10 @@ module _ (t : Tables) (lists : List (List ℕ)) (linked : AreLinked t lists) whe
   -- the list of a node
   pub owner_tells : (x : ℕ) (o : Option ℕ) → entry t.owner x ≡ o → (k : ℕ) → (o ≡ Some k) ↔ (has x (list_at lists k) ≡ true)
   owner_tells x o is k = (λ some. linked.owner k x (is ∙ some), λ there. sym is ∙ linked.owned k x there)
+
+  pub owner_is_some : (x : ℕ) (o : Option ℕ) → entry t.owner x ≡ o → is_some o ≡ is_in_some x lists
+  owner_is_some x None is = sym (has_none x lists (λ k. lacks_of (has x (list_at lists k)) (λ there. no_some (sym is ∙ linked.owned k x there))))
+  owner_is_some x (Some k) is = sym (has_some x lists k (linked.owner k x is))
 
   -- each node stands in one list, once
   pub are_apart : AreApart (record { nodes = length t.owner; lists = lists })

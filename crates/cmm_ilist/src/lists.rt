@@ -1,7 +1,7 @@
 //! Lists whose links are numbers in tables.
 
-ghost use Rattle.std.specs.Prelude.{◌≡◌, ◌↔◌, ◌<◌, ◌++◌, ◌∷◌, [], ℕ, Some, true, IfOk, length, replicate, map, slice_set};
-ghost use Rattle.cmm_ilist.specs.NodeLists.{AreApart, IsInNone, after_in, front_of, has, is_in_some, list_at, without};
+ghost use Rattle.std.specs.Prelude.{◌≡◌, ◌↔◌, ◌<◌, ◌++◌, ◌∷◌, [], ℕ, Some, true, false, IfOk, is_some, length, replicate, map, slice_set};
+ghost use Rattle.cmm_ilist.specs.NodeLists.{AreApart, after_in, front_of, has, is_in_some, list_at, without};
 
 use crate::linking::{no_entries, set_either};
 use std::alloc::{AllocError, Global};
@@ -60,6 +60,13 @@ impl Lists {
         self.owner.len()
     }
 
+    /// How many lists there are.
+    pub fn list_count(&self) -> usize
+        ensures { result ≡ length self.now.lists }
+    {
+        self.first.len()
+    }
+
     /// The first node of a list, if it is not empty.
     pub fn front(&self, list: u32) -> Option<u32>
         requires { list < length self.now.lists }
@@ -79,7 +86,8 @@ impl Lists {
     /// The list in which a node is, if it is in one.
     pub fn list_of(&self, node: u32) -> Option<u32>
         requires { node < self.now.nodes }
-        ensures { (k : ℕ) → (result ≡ Some k) ↔ (has node (list_at self.now.lists k) ≡ true) }
+        ensures list { (k : ℕ) → (result ≡ Some k) ↔ (has node (list_at self.now.lists k) ≡ true) }
+        ensures some { is_some result ≡ is_in_some node self.now.lists }
     {
         self.owner[node as usize]
     }
@@ -88,7 +96,7 @@ impl Lists {
     pub fn push_back(&mut self, list: u32, node: u32)
         requires list { list < length self.old.lists }
         requires node { node < self.old.nodes }
-        requires free { IsInNone node self.old.lists }
+        requires free { is_in_some node self.old.lists ≡ false }
         ensures nodes { self.new.nodes ≡ self.old.nodes }
         ensures lists { self.new.lists ≡ slice_set self.old.lists list (list_at self.old.lists list ++ node ∷ []) }
     {

@@ -1,5 +1,6 @@
 //! What the lines of the input try.
 
+use crate::colours::{print_colours, print_lists};
 use crate::fakes::{print_lent, print_lent_whole, print_sink, print_source};
 use crate::files::print_files;
 use crate::lists::{print_items, print_moves, print_peeled, print_set};
@@ -18,6 +19,8 @@ pub fn print_case(rt: &(impl AllocGlobal + Print), what: &str, rest: &str) -> io
         "set" => print_set(rt, rest),
         "moves" => print_moves(rt, rest),
         "peel" => print_peeled(rt, rest),
+        "ilist" => print_lists(rt, rest),
+        "colour" => print_colours(rt, rest),
         "rule" => print_rule(rt, rest),
         "width" => print_width(rt, rest),
         "name" => print_name(rt, rest),

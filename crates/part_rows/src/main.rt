@@ -5,12 +5,13 @@
 //!
 //! - `cases`: what the lines of the input try.
 //! - `text`: the bytes and the numbers that a case spells.
-//! - `lists`: lists, sets, moves and graphs. `readings`: tokens, scripts, rules and what is written of values.
+//! - `lists`: lists, sets, moves and graphs. `colours`: lists of nodes, and colours of conflicts. `readings`: tokens, scripts, rules and what is written of values.
 //! - `fakes`, `files`: streams and files in memory. `placements`: where a program of two procedures may stand.
 //! - `steps`: words of instructions, single steps, and accesses of memory.
 #![tactic(auto)]
 
 mod cases;
+mod colours;
 mod fakes;
 mod files;
 mod lists;

@@ -1,7 +1,7 @@
 use Rattle.std.proofs.Common.{◌<◌, ◌++◌, ◌∷◌, [], length, sym, ap, ◌∙◌, subst, arith, refl, List, ℕ, set, Option, None}
-use Rattle.cmm_ilist.specs.NodeLists.{NodeLists, has, list_at}
+use Rattle.cmm_ilist.specs.NodeLists.{NodeLists, is_in_some, list_at}
 use Rattle.cmm_ilist.specs.inside.Linked.{lists_of}
-use Rattle.cmm_ilist.proofs.Answering.{end_within, entry_read, pushed_new}
+use Rattle.cmm_ilist.proofs.Answering.{end_within, entry_read, none_has, pushed_new}
 use Rattle.cmm_ilist.proofs.Linked.{are_linked, lists_are}
 use Rattle.cmm_ilist.proofs.lists.Lists.push_back.Goals as goal
 
@@ -11,7 +11,7 @@ set_either-requires-clause-node c =
     let count = ap (λ (v : NodeLists). v.nodes) c.self.view_is in
     let below : c.args.list < length (lists_of (length c.self.inside.owner.items) c.self.inside.after.items c.self.inside.first.items) = subst (λ (ls : List (List ℕ)). c.args.list < length ls) (sym is) c.requires.list in
     end_within _ _ c.self.invariant c.args.node c.args.list (subst (λ n. c.args.node < n) (sym count) c.requires.node) below
-    (λ k. ap (λ (ls : List (List ℕ)). has c.args.node (list_at ls k)) is ∙ c.requires.free k)
+    (none_has c.args.node _ (ap (is_in_some c.args.node) is ∙ c.requires.free))
     c.index-end.result.now (entry_read c.self.inside.last.items c.args.list c.index-end.result.now (omega (arith, below, c.self.invariant.lasts)) c.index-end.ensures)
 
 pub invariant_of-self : goal.invariant_of-self
@@ -20,7 +20,7 @@ invariant_of-self c =
     let count = ap (λ (v : NodeLists). v.nodes) c.self.view_is in
     let below : c.args.list < length (lists_of (length c.self.inside.owner.items) c.self.inside.after.items c.self.inside.first.items) = subst (λ (ls : List (List ℕ)). c.args.list < length ls) (sym is) c.requires.list in
     are_linked _ _ (pushed_new _ _ c.self.invariant c.args.node c.args.list (subst (λ n. c.args.node < n) (sym count) c.requires.node) below
-    (λ k. ap (λ (ls : List (List ℕ)). has c.args.node (list_at ls k)) is ∙ c.requires.free k)
+    (none_has c.args.node _ (ap (is_in_some c.args.node) is ∙ c.requires.free))
     c.index-end.result.now (entry_read c.self.inside.last.items c.args.list c.index-end.result.now (omega (arith, below, c.self.invariant.lasts)) c.index-end.ensures)
     _ _ _ _ _ refl refl (ap (λ (t : List (Option ℕ)). set t c.args.node None) c.set_either.ensures.nodes) c.set_either.ensures.lists refl)
 
@@ -30,7 +30,7 @@ returns-clause-lists c =
     let count = ap (λ (v : NodeLists). v.nodes) c.self.view_is in
     let below : c.args.list < length (lists_of (length c.self.inside.owner.items) c.self.inside.after.items c.self.inside.first.items) = subst (λ (ls : List (List ℕ)). c.args.list < length ls) (sym is) c.requires.list in
     lists_are _ _ (pushed_new _ _ c.self.invariant c.args.node c.args.list (subst (λ n. c.args.node < n) (sym count) c.requires.node) below
-    (λ k. ap (λ (ls : List (List ℕ)). has c.args.node (list_at ls k)) is ∙ c.requires.free k)
+    (none_has c.args.node _ (ap (is_in_some c.args.node) is ∙ c.requires.free))
     c.index-end.result.now (entry_read c.self.inside.last.items c.args.list c.index-end.result.now (omega (arith, below, c.self.invariant.lasts)) c.index-end.ensures)
     _ _ _ _ _ refl refl (ap (λ (t : List (Option ℕ)). set t c.args.node None) c.set_either.ensures.nodes) c.set_either.ensures.lists refl)
     ∙ ap (λ (ls : List (List ℕ)). set ls c.args.list (list_at ls c.args.list ++ c.args.node ∷ [])) is
