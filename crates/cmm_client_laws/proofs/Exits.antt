@@ -39,7 +39,8 @@ use Rattle.cmm_located.specs.Compiled.{Compiled, Located, site_exits}
 use Rattle.cmm_located.specs.SameOrders.{HasFrames}
 use Rattle.cmm_machine_laws.specs.Alike.{ExitsAlike}
 use Rattle.cmm_client_laws.specs.Asked.{AreAs, GoesOnAs, IsActivationAs, Alternate, Normal, Landing as AtLanding, IsStoppedAs}
-use Rattle.cmm_client_laws.specs.Tables.{HaveTables, IsSiteRow, IsUnwindRow, continuation_number}
+use Rattle.cmm_tables.specs.SiteRows.{continuation_number}
+use Rattle.cmm_client_laws.specs.Tables.{HaveTables, IsSiteRow, IsUnwindRow}
 use Rattle.cmm_client_laws.specs.Walked.{IsGhostOf, back_of, marked, place_of, shown_plan}
 use Rattle.cmm_client_laws.proofs.Asking.{Known, known, lists, row_of_site}
 use Rattle.cmm_client_laws.proofs.Bringing.{fit_words}

@@ -26,7 +26,8 @@ use Rattle.cmm_abi.specs.Regions.{Place, Region, InMemory, bottom, top}
 use Rattle.cmm_image_machine.proofs.Shared.{chain_goes_on}
 use Rattle.cmm_emit_laws.specs.Words.{Symbols, Represents, RepresentsWords}
 use Rattle.cmm_located.specs.Compiled.{Compiled}
-use Rattle.cmm_client_laws.specs.Tables.{HaveTables, IsProcedureRow, saved_row}
+use Rattle.cmm_tables.specs.ProcedureRows.{saved_row}
+use Rattle.cmm_client_laws.specs.Tables.{HaveTables, IsProcedureRow}
 use Rattle.cmm_client_laws.specs.Walked.{AreFoundAs, IsFoundAs, IsGhostOf, back_of, mark_to, marked, place_of, shown_plan}
 use Rattle.cmm_client_laws.proofs.Listing.{back_is}
 

@@ -16,7 +16,6 @@ use Rattle.cmm_program.specs.declared.procedure.Cont.{Cont}
 use Rattle.cmm_program.specs.declared.procedure.Proc.{Proc}
 use Rattle.cmm_chain.specs.declared.frame.Frame.{Frame}
 use Rattle.cmm_image.specs.declared.rows.ContinuationRow.{ContinuationRow}
-use Rattle.cmm_image.specs.declared.rows.StackLabelRow.{StackLabelRow}
 use Rattle.cmm_image.specs.declared.rows.VariableNumber.{VariableNumber}
 use Rattle.cmm_program.specs.declared.procedure.Site.{Site}
 use Rattle.cmm_program.specs.Frames.{procedure_at}
@@ -26,7 +25,9 @@ use Rattle.cmm_image.specs.declared.rows.SiteRow.{SiteRow}
 use Rattle.cmm_image_machine.specs.Frames.{site_at}
 use Rattle.cmm_emit_laws.specs.Words.{Symbols}
 use Rattle.cmm_located.specs.Compiled.{Compiled}
-use Rattle.cmm_client_laws.specs.Rows.{HaveLabelRows, HaveRows, HaveSiteRows, continuation_row, continuation_rows, parameter_row, procedure_row, rows_ascend, site_row, unwind_row}
+use Rattle.cmm_tables.specs.ProcedureRows.{continuation_row, continuation_rows, parameter_row, procedure_row}
+use Rattle.cmm_tables.specs.SiteRows.{continuation_number, unwind_row}
+use Rattle.cmm_client_laws.specs.Rows.{HaveLabelRows, HaveRows, HaveSiteRows, rows_ascend, site_row}
 use Rattle.cmm_client_laws.specs.Tables.{HaveTables, IsContinuationRow, IsLabelRow, IsProcedureRow, IsSiteRow, IsUnwindRow}
 
 -- in ascending rows those behind are above
@@ -63,7 +64,7 @@ row_found (first ∷ rows) before (suc k) row ascend is =
     let differ : (first.return_address == row.return_address) ≡ false = grind (arith, nat_tests, more) in
     behind_found (λ s. s.return_address == row.return_address) first rows differ ∙ row_found rows first.return_address k row both.1 is
 
-unwinds_are : (y : Symbols) (q : ℕ) (ks : List ℕ) → AllZip (λ k u. IsUnwindRow y q k u) ks (map (unwind_row y q) ks)
+unwinds_are : (y : Symbols) (q : ℕ) (ks : List ℕ) → AllZip (λ k u. IsUnwindRow y q k u) ks (map (unwind_row (λ k. y.landing_of q k)) (map continuation_number ks))
 unwinds_are y q [] = tt
 unwinds_are y q (k ∷ ks) = (record { continuation = refl; landing = refl }, unwinds_are y q ks)
 
@@ -133,10 +134,10 @@ none_behind (cont ∷ conts) (pair ∷ pairs) (landing ∷ landings) zero is = a
 none_behind (cont ∷ conts) (pair ∷ pairs) (landing ∷ landings) (suc k) is = none_behind conts pairs landings k is
 
 -- so the row of a procedure says what is asked of it
-pub procedure_is_told : (p : Proc) (f : Frame) (y : Symbols) (q code : ℕ) (landings : List ℕ) (labels : List StackLabelRow) → length f.pairs ≡ length p.conts → length landings ≡ length p.conts →
+pub procedure_is_told : (p : Proc) (f : Frame) (y : Symbols) (q code : ℕ) (landings : List ℕ) → length f.pairs ≡ length p.conts → length landings ≡ length p.conts →
     ((k : ℕ) → k < length p.conts → y.landing_of q k ≡ slice_index_or landings k 0) → ((k : ℕ) (cont : Cont) → slice_get p.conts k ≡ Some cont → length cont.params ≤ 64) →
-    IsProcedureRow p f y q (procedure_row p f code landings labels)
-procedure_is_told p f y q code landings labels many also lands few = record {
+    IsProcedureRow p f y q (procedure_row p f code landings)
+procedure_is_told p f y q code landings many also lands few = record {
   name = refl;
   frame = refl;
   return_at = refl;

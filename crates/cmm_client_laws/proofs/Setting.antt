@@ -44,7 +44,8 @@ use Rattle.cmm_located.specs.Compiled.{Compiled, Located}
 use Rattle.cmm_located.specs.ShownWalks.{KnowsLive}
 use Rattle.cmm_machine_laws.specs.Alike.{StayAlike}
 use Rattle.cmm_client_laws.specs.Asked.{AreAs, GoesOnAs, IsActivationAs, IsStoppedAs}
-use Rattle.cmm_client_laws.specs.Tables.{HaveTables, place_while}
+use Rattle.cmm_tables.specs.SiteRows.{place_while}
+use Rattle.cmm_client_laws.specs.Tables.{HaveTables}
 use Rattle.cmm_client_laws.specs.Walked.{IsGhostOf, IsWalked, live_at, marked, place_of, shown_plan}
 use Rattle.cmm_client_laws.proofs.Asking.{Known, known, lists, row_of_site}
 use Rattle.cmm_client_laws.proofs.Lists.{get_map}

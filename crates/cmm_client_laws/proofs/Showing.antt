@@ -48,7 +48,9 @@ use Rattle.cmm_emit_laws.specs.Words.{Symbols, Represents, RepresentsWords}
 use Rattle.cmm_emit_laws.specs.Represented.{RepresentsHoldings, stack_region}
 use Rattle.cmm_located.specs.Answering.{activation_of, number_shown}
 use Rattle.cmm_located.specs.Compiled.{Compiled, Located}
-use Rattle.cmm_client_laws.specs.Tables.{HaveTables, IsProcedureRow, IsSiteRow, place_while, span_row, variable_row}
+use Rattle.cmm_tables.specs.ProcedureRows.{variable_row}
+use Rattle.cmm_tables.specs.SiteRows.{place_while, span_row}
+use Rattle.cmm_client_laws.specs.Tables.{HaveTables, IsProcedureRow, IsSiteRow}
 use Rattle.cmm_client_laws.specs.Walked.{IsFoundAs, IsGhostOf, back_of, live_at, mark_to, marked, place_of, shown_plan}
 
 abbrev walk_record : List ℕ → ℕ → List Spanned → List Shown → walk.Activation
@@ -132,7 +134,7 @@ span_shown span = record { token = span.token; value = span.value }
 abbrev span_of : Setting → ℕ × Constant → Spanned
 span_of s span = record { token = span.0; value = constant_value s.program s.placement span.1 }
 
-spans_same : (s : Setting) (spans : List (ℕ × Constant)) → map span_shown (map (span_row s) spans) ≡ map (span_of s) spans
+spans_same : (s : Setting) (spans : List (ℕ × Constant)) → map span_shown (map (span_row (constant_value s.program s.placement)) spans) ≡ map (span_of s) spans
 spans_same s [] = refl
 spans_same s (span ∷ spans) = ap (λ (l : List Spanned). span_of s span ∷ l) (spans_same s spans)
 

@@ -41,7 +41,8 @@ use Rattle.cmm_emit_laws.specs.Represented.{stack_region}
 use Rattle.cmm_emit_laws.specs.Words.{Symbols}
 use Rattle.cmm_located.specs.Compiled.{Compiled}
 use Rattle.cmm_client_laws.specs.Rows.{HaveLabelRows, HaveRows, site_row}
-use Rattle.cmm_client_laws.specs.Tables.{HaveTables, IsProcedureRow, saved_row, variable_row}
+use Rattle.cmm_tables.specs.ProcedureRows.{saved_row, variable_row}
+use Rattle.cmm_client_laws.specs.Tables.{HaveTables, IsProcedureRow}
 use Rattle.cmm_client_laws.proofs.Rows.{finds_that, procedure_is_told, tables_are_told}
 
 -- ---- images
@@ -259,9 +260,9 @@ exits_rows = record {
   where
     procedures : (q : ℕ) (p : Proc) → procedure_at exits q ≡ Some p → IsProcedureRow p (exits_placed.plan.frame q) symbols q (row_at exits_image.procs q)
     procedures zero p is = subst (λ (z : Proc). IsProcedureRow z (exits_placed.plan.frame 0) symbols 0 (row_at exits_image.procs 0)) (some_is is)
-        (procedure_is_told main-proc (exits_placed.plan.frame 0) symbols 0 0x10010 (0x10030 ∷ 0x10040 ∷ []) [] refl refl main_lands main_few)
+        (procedure_is_told main-proc (exits_placed.plan.frame 0) symbols 0 0x10010 (0x10030 ∷ 0x10040 ∷ []) refl refl main_lands main_few)
     procedures (suc zero) p is = subst (λ (z : Proc). IsProcedureRow z (exits_placed.plan.frame 1) symbols 1 (row_at exits_image.procs 1)) (some_is is)
-        (procedure_is_told c-proc (exits_placed.plan.frame 1) symbols 1 0x10100 (0x10130 ∷ []) [] refl refl c_lands c_few)
+        (procedure_is_told c-proc (exits_placed.plan.frame 1) symbols 1 0x10100 (0x10130 ∷ []) refl refl c_lands c_few)
     procedures (suc (suc q)) p is = absurd (cc (is))
 
     each : (q n : ℕ) (p : Proc) (site : Site) → procedure_at exits q ≡ Some p → slice_get p.sites n ≡ Some site → HasRow exits exits_placed exits_image q n p site

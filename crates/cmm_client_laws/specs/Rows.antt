@@ -1,50 +1,27 @@
 -- The site rows of a program, as the tables of its image are to have them.
-use Rattle.std.specs.Prelude.{◌≡◌, ◌≤◌, nat_lt, ℕ, true, Bool, ◌&&◌, List, [], ◌∷◌, map, length, slice_get, Some}
-use Rattle.std.specs.List.{list_all, range_with_len, zip}
-use Rattle.cmm_program.specs.declared.procedure.Cont.{Cont}
-use Rattle.cmm_chain.specs.declared.frame.Frame.{Frame}
-use Rattle.cmm_image.specs.declared.rows.ContinuationRow.{ContinuationRow}
+use Rattle.std.specs.Prelude.{◌≡◌, ◌≤◌, nat_lt, ℕ, true, Bool, ◌&&◌, List, [], ◌∷◌, length, slice_get, Some}
+use Rattle.std.specs.List.{list_all}
 use Rattle.cmm_image.specs.declared.parts.ImageParts.{ImageParts}
 use Rattle.cmm_image.specs.declared.rows.LabelRow.{LabelRow}
-use Rattle.cmm_image.specs.declared.rows.ProcRow.{ProcRow}
 use Rattle.cmm_image.specs.ImageFormat.{procedure_at as row_at}
 use Rattle.cmm_program.specs.declared.program.Label.{Label}
 use Rattle.cmm_program.specs.declared.program.Program.{Program}
 use Rattle.cmm_program.specs.Client.{linked_label}
-use Rattle.cmm_program.specs.Layout.{data_bytes, label_address}
-use Rattle.cmm_image.specs.declared.rows.StackLabelRow.{StackLabelRow}
-use Rattle.cmm_image.specs.declared.rows.VariableNumber.{VariableNumber}
+use Rattle.cmm_program.specs.Layout.{constant_value, data_bytes, label_address}
 use Rattle.cmm_program.specs.declared.procedure.Proc.{Proc}
 use Rattle.cmm_program.specs.declared.procedure.Site.{Site}
 use Rattle.cmm_program.specs.Frames.{procedure_at}
-use Rattle.cmm_program.specs.Liveness.{is_live_at}
-use Rattle.cmm_program.specs.Orders.{target_width}
 use Rattle.cmm_program.specs.State.{Setting}
 use Rattle.cmm_image.specs.declared.rows.SiteRow.{SiteRow}
-use Rattle.cmm_image.specs.declared.rows.UnwindRow.{UnwindRow}
 use Rattle.cmm_emit_laws.specs.Words.{Symbols}
 use Rattle.cmm_located.specs.Compiled.{Compiled}
-use Rattle.cmm_client_laws.specs.Tables.{IsProcedureRow, continuation_number, place_while, saved_row, span_row, variable_row}
-
-abbrev pub unwind_row : Symbols → ℕ → ℕ → UnwindRow
-unwind_row y q k = record { continuation = continuation_number k; landing = y.landing_of q k }
+use Rattle.cmm_tables.specs.SiteRows.{placed_site, unplaced_site}
+use Rattle.cmm_client_laws.specs.Tables.{IsProcedureRow}
 
 -- a site of a procedure, by its number
 abbrev pub site_row : Setting → Compiled → Symbols → ℕ → ℕ → Proc → Site → SiteRow
-site_row s c y q n p site = record {
-  return_address = y.return_to q n;
-  procedure = q;
-  number = n;
-  never_returns = site.never;
-  aborts = site.aborts;
-  yield_values = site.yield_values;
-  results = map target_width site.results;
-  returns = map continuation_number site.returns;
-  unwinds = map (unwind_row y q) site.unwinds;
-  cuts = map continuation_number site.cuts;
-  variables = map (λ v. place_while (is_live_at p n v) (c.plan.place q v)) (range_with_len 0 (length p.vars));
-  spans = map (span_row s) site.spans;
-}
+site_row s c y q n p site =
+    placed_site (λ k. y.landing_of q k) (constant_value s.program s.placement) (y.return_to q n) (unplaced_site p (λ v. c.plan.place q v) q n site)
 
 -- each return address is above the one before
 abbrev pub rows_ascend : ℕ → List SiteRow → Bool
@@ -59,29 +36,6 @@ pub record HaveSiteRows (s : Setting) (c : Compiled) (y : Symbols) (rows : List 
   pub few : (q n : ℕ) (p : Proc) (site : Site) → procedure_at s q ≡ Some p → slice_get p.sites n ≡ Some site → length site.results ≤ 64
   pub cuts : (q n : ℕ) (p : Proc) (site : Site) → procedure_at s q ≡ Some p → slice_get p.sites n ≡ Some site →
       list_all (λ k. nat_lt k (length p.conts)) site.cuts ≡ true
-
--- ---- procedures, as cmm_link makes their rows
-
-abbrev pub parameter_row : ℕ → VariableNumber
-parameter_row v = record { 0 = v }
-
-abbrev pub continuation_row : Cont × (ℕ × ℕ) → ContinuationRow
-continuation_row of = record { pair = of.1.0; code = of.1.1; parameters = map parameter_row of.0.params }
-
-abbrev pub continuation_rows : List Cont → List ℕ → List ℕ → List ContinuationRow
-continuation_rows conts pairs landings = map continuation_row (zip conts (zip pairs landings))
-
-abbrev pub procedure_row : Proc → Frame → ℕ → List ℕ → List StackLabelRow → ProcRow
-procedure_row q f code landings labels = record {
-  code = code;
-  name = q.name;
-  frame = f.size;
-  return_at = Some f.return_at;
-  saved = map saved_row f.saved;
-  variables = map variable_row q.vars;
-  stack_labels = labels;
-  continuations = continuation_rows q.conts f.pairs landings;
-}
 
 -- ---- data labels
 

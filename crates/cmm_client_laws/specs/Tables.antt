@@ -1,11 +1,9 @@
 -- What the tables of an image tell of the procedures and the sites of a program, as they are compiled.
-use Rattle.std.specs.Prelude.{List, Option, nat_lt, ◌≡◌, ℕ, ◌≤◌, Bool, true, map, length, slice_get, slice_index_or, Some, None}
+use Rattle.std.specs.Prelude.{List, Option, nat_lt, ◌≡◌, ℕ, ◌≤◌, true, map, length, slice_get, slice_index_or, Some, None}
 use Rattle.std.specs.List.{AllZip, list_all, range_with_len}
-use Rattle.cmm_words.specs.declared.constant.Constant.{Constant}
 use Rattle.cmm_program.specs.declared.procedure.Cont.{Cont}
 use Rattle.cmm_program.specs.declared.procedure.Proc.{Proc}
 use Rattle.cmm_program.specs.declared.procedure.Site.{Site}
-use Rattle.cmm_program.specs.declared.procedure.VarInfo.{VarInfo}
 use Rattle.cmm_program.specs.Frames.{procedure_at}
 use Rattle.cmm_program.specs.declared.program.Label.{Label}
 use Rattle.cmm_program.specs.declared.program.Program.{Program}
@@ -17,44 +15,18 @@ use Rattle.cmm_program.specs.Liveness.{is_live_at}
 use Rattle.cmm_program.specs.Orders.{target_width}
 use Rattle.cmm_program.specs.State.{Setting}
 use Rattle.cmm_chain.specs.declared.frame.Frame.{Frame}
-use Rattle.cmm_chain.specs.declared.frame.Location.{Location}
-use Rattle.cmm_chain.specs.declared.frame.Location.TheVariants as location
 use Rattle.cmm_image.specs.declared.parts.ImageParts.{ImageParts}
-use Rattle.cmm_image.specs.declared.rows.ContinuationNumber.{ContinuationNumber}
 use Rattle.cmm_image.specs.declared.rows.ContinuationRow.{ContinuationRow}
 use Rattle.cmm_image.specs.declared.rows.ProcRow.{ProcRow}
-use Rattle.cmm_image.specs.declared.rows.SavedRegister.{SavedRegister}
 use Rattle.cmm_image.specs.declared.rows.SiteRow.{SiteRow}
-use Rattle.cmm_image.specs.declared.rows.SpanRow.{SpanRow}
 use Rattle.cmm_image.specs.declared.rows.UnwindRow.{UnwindRow}
-use Rattle.cmm_image.specs.declared.rows.VariablePlace.{VariablePlace}
-use Rattle.cmm_image.specs.declared.rows.VariablePlace.TheVariants as place
-use Rattle.cmm_image.specs.declared.rows.VariableRow.{VariableRow}
 use Rattle.cmm_image.specs.ImageFormat.{procedure_at as row_at}
 use Rattle.cmm_image_machine.specs.Frames.{site_at}
 use Rattle.cmm_image_machine.specs.Laws.{KeepFrames}
 use Rattle.cmm_emit_laws.specs.Words.{Symbols}
 use Rattle.cmm_located.specs.Compiled.{Compiled}
-
--- ---- parts of rows
-
-abbrev pub saved_row : ℕ × ℕ → SavedRegister
-saved_row saved = record { register = saved.0; offset = saved.1 }
-
-abbrev pub variable_row : VarInfo → VariableRow
-variable_row v = record { width = v.width; invariant = v.invariant; kind = v.kind }
-
-abbrev pub continuation_number : ℕ → ContinuationNumber
-continuation_number k = record { 0 = k }
-
-abbrev pub span_row : Setting → ℕ × Constant → SpanRow
-span_row s span = record { token = span.0; value = constant_value s.program s.placement span.1 }
-
--- where a variable is while its activation waits, if it is live; one that is lies in a slot or in a callee-saves register
-abbrev pub place_while : Bool → Location → VariablePlace
-place_while true (location.Slot offset) = place.Slot offset
-place_while true (location.Saved r) = place.Register r
-place_while _ _ = place.Dead
+use Rattle.cmm_tables.specs.ProcedureRows.{saved_row, variable_row}
+use Rattle.cmm_tables.specs.SiteRows.{continuation_number, place_while, span_row}
 
 -- ---- procedures
 
@@ -93,7 +65,7 @@ pub record IsSiteRow (s : Setting) (c : Compiled) (y : Symbols) (q n : ℕ) (p :
   pub cuts : row.cuts ≡ map continuation_number site.cuts
   pub cuts_there : list_all (λ k. nat_lt k (length p.conts)) site.cuts ≡ true
   pub variables : row.variables ≡ map (λ v. place_while (is_live_at p n v) (c.plan.place q v)) (range_with_len 0 (length p.vars))
-  pub spans : row.spans ≡ map (span_row s) site.spans
+  pub spans : row.spans ≡ map (span_row (constant_value s.program s.placement)) site.spans
 
 -- ---- labels
 

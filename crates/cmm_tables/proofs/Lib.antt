@@ -1,0 +1,3 @@
+mod Listed
+pub mod Shared
+mod SiteExamples

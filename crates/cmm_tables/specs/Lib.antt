@@ -1,0 +1,3 @@
+pub mod ProcedureRows
+pub mod SiteRows
+pub mod Premises
