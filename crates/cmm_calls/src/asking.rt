@@ -1,9 +1,10 @@
-//! The end of a run is requested.
+//! The end of a run is requested, or the client is called.
 
 ghost use Rattle.std.specs.Prelude.{◌≡◌, OnOk};
 ghost use Rattle.rv_table.specs.declared.request.Request.TheVariants as request;
 ghost use Rattle.cmm_effects.specs.Pieces.{Adds};
 ghost use Rattle.cmm_effects.specs.Requests.{AsksFor};
+ghost use Rattle.cmm_calls.specs.Calls.{CallsClient};
 
 use cmm_abi::registers::REQUEST_VALUE;
 use cmm_select::choose;
@@ -27,6 +28,16 @@ pub fn ask_end(asm: &mut Asm) -> Result<(), AllocError>
     ensures labels { asm.new.labels ≡ asm.old.labels }
 {
     asm.emit(choose(Request::End(0)))?;
+    asm.emit(Instr::Ecall)?;
+    Ok(())
+}
+
+/// Calls the client. Nothing but scratch registers is changed on the way.
+pub fn ask_client(asm: &mut Asm) -> Result<(), AllocError>
+    ensures asks { OnOk result (Adds 2 asm.old.parts asm.new.parts (λ x from to. CallsClient 1 x from)) }
+    ensures labels { asm.new.labels ≡ asm.old.labels }
+{
+    asm.emit(choose(Request::Yield))?;
     asm.emit(Instr::Ecall)?;
     Ok(())
 }

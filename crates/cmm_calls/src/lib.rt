@@ -1,4 +1,4 @@
-//! The code by which frames come and go, and by which a run ends.
+//! The code by which frames come and go, by which a run ends, and by which the client is called.
 //!
 //! Each function appends code to an assembler, and its contract says what that changes of a machine state (`specs/Frames`, `specs/Values`,
 //! `specs/Calls`), how many instructions it adds, how many are executed at most, and, where it has one, that the first asks for nothing but
@@ -15,7 +15,7 @@
 //! - `copying`: values that control brings come to places and to global registers.
 //! - `giving`: values go out to where they travel.
 //! - `calling`: control goes to another procedure, or is cut to a continuation.
-//! - `asking`: the end of the run is requested.
+//! - `asking`: the end of the run is requested, or the client is called.
 #![tactic(auto)]
 
 mod asking;
@@ -29,7 +29,7 @@ mod room;
 mod saved;
 mod taking;
 
-pub use asking::{ask_end, ask_limit};
+pub use asking::{ask_client, ask_end, ask_limit};
 pub use calling::{call, call_by, cut, jump_by, lay_exits};
 pub use copying::copy_in;
 pub use entry::{begin, enter};

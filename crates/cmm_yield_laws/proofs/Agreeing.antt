@@ -40,7 +40,7 @@ use Rattle.cmm_yield_laws.specs.Laws.{ImagesAgreeWithClients, IsRepresentedWhole
 use Rattle.cmm_simulation.specs.Tested.{fails}
 use Rattle.cmm_yield_laws.specs.WholeCode.{IsWholeCode}
 
-module _ (lead : SwitchesLead) (images : ImagesLast) (s : Setting) (c : Compiled) (l : Launch) (f : Finished) (code : IsWholeCode s c l f) (input : List ℕ) (is_bytes : All IsByte input)
+module _ (lead : SwitchesLead) (images : ImagesLast) (s : Setting) (c : Compiled) (l : Launch) (f : Finished) (whole : IsWholeCode s c l f) (input : List ℕ) (is_bytes : All IsByte input)
     (begins : StartCode s c l f) where
   abbrev start : Located
   start = located_start s c input
@@ -51,7 +51,7 @@ module _ (lead : SwitchesLead) (images : ImagesLast) (s : Setting) (c : Compiled
   starts u shown = record {
     outside = shown.outside;
     right = or_from ((located_machine s c).wrong (located_start s c input)) (fails event_fits ((located_machine s c).asks (located_start s c input))) shown.right
-        (ap (λ (o : Option (Event Call Ending)). fails event_fits o) (first_asks s c l f code.around input is_bytes begins));
+        (ap (λ (o : Option (Event Call Ending)). fails event_fits o) (first_asks s c l f whole.code.around input is_bytes begins));
     holds = shown.holds;
     running = λ going. inl (shown.running going);
     over = shown.over;
@@ -67,7 +67,7 @@ module _ (lead : SwitchesLead) (images : ImagesLast) (s : Setting) (c : Compiled
 
   pub whole_begins : Leads (image_machine l) (λ run. 1) (Passes (fitting_machine s c) (image_machine l) (located_start s c input))
       (IsRepresentedWhole s c l f (located_start s c input)) 0 begins.most (first_run l input)
-  whole_begins = weaker (shown_at_start s c l f code.around input is_bytes begins) passed starts (omega arith) (λ n le. le)
+  whole_begins = weaker (shown_at_start s c l f whole.code.around input is_bytes begins) passed starts (omega arith) (λ n le. le)
 
   -- ---- a machine that is followed over locations, once `main` is entered
 
@@ -87,7 +87,7 @@ module _ (lead : SwitchesLead) (images : ImagesLast) (s : Setting) (c : Compiled
 
     precedes : A.wrong a ≡ false → (u : Run) → Passes (fitting_machine s c) (image_machine l) (located_start s c input) u → Precedes A (image_machine l) a u
     precedes right u p = record {
-      seen = within_trans (subst (λ (z : Seen ℕ). IsWithin ((image_machine l).seen ((image_machine l).step u)) z) (first_shows s c l f code.around input is_bytes begins) p.seen)
+      seen = within_trans (subst (λ (z : Seen ℕ). IsWithin ((image_machine l).seen ((image_machine l).step u)) z) (first_shows s c l f whole.code.around input is_bytes begins) p.seen)
           (nothing_within (A.seen a));
       asks = by ((image_machine l).asks u) refl;
       right = p.right (right_at_first right);
@@ -95,7 +95,7 @@ module _ (lead : SwitchesLead) (images : ImagesLast) (s : Setting) (c : Compiled
       where
         by : (o : Option (Event Call Ending)) → (image_machine l).asks u ≡ o → o ≡ None
         by None is = refl
-        by (Some event) is = let asked = (p.asks event is).0 in let none = first_asks s c l f code.around input is_bytes begins in absurd (cc)
+        by (Some event) is = let asked = (p.asks event is).0 in let none = first_asks s c l f whole.code.around input is_bytes begins in absurd (cc)
 
     begun_by : A.wrong a ≡ false →
         Leads (image_machine l) (λ _. 1) (Precedes A (image_machine l) a) (Follows A (λ _. 32 * cost) (image_machine l) (λ _. 1) a) 0
@@ -103,11 +103,11 @@ module _ (lead : SwitchesLead) (images : ImagesLast) (s : Setting) (c : Compiled
     begun_by right =
         weaker
         (joined {l = 0} {m = begins.most} {n = 1} {o = most_for_step s c (located_start s c input)} {least = 0} {most = begins.most + 32 * tokens_at s c (located_start s c input)}
-        whole_begins (λ u is_shown. (images_simulate_yields lead s c l f code).leads (located_start s c input) u is_shown (right_at_first right)) (omega arith) (omega arith))
+        whole_begins (λ u is_shown. (images_simulate_yields lead s c l f whole).leads (located_start s c input) u is_shown (right_at_first right)) (omega arith) (omega arith))
         (λ u p. precedes right u p)
         (λ u is_shown.
         follows_simulated lasts (follows_scaled {a' = λ _. 32 * cost} {b' = most_for_step s c} 32 (λ _. omega arith) (λ _. omega arith) follows)
-        (images_simulate_yields lead s c l f code) is_shown)
+        (images_simulate_yields lead s c l f whole) is_shown)
         (omega arith) (λ n le. le)
 
     positive : 1 ≤ 32 * cost

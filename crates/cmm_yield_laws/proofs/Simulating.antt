@@ -80,7 +80,7 @@ done_tested A passes l outside_of P H a cost t (Silently same reaches) = Silentl
 done_tested A passes l outside_of P H a cost t (Asking before later r enough reaches) =
     Asking before later r enough (reaches_weaker reaches (omega arith) (omega arith) (λ u there. asked_tested A passes l outside_of P H a later r u there))
 
-module _ (lead : SwitchesLead) (s : Setting) (c : Compiled) (l : Launch) (f : Finished) (code : IsWholeCode s c l f) where
+module _ (lead : SwitchesLead) (s : Setting) (c : Compiled) (l : Launch) (f : Finished) (whole : IsWholeCode s c l f) where
   kind_here : (at : Located) (t : State) (stands : Stands s c l f at t) → kind_at c.graphs at.procedure at.node ≡ stands.node.kind
   kind_here at t stands = ap (λ (o : Option Node). elim o as (λ _. NodeKind) [ Some node ↦ node.kind | None ↦ Stop ]) stands.there
 
@@ -133,13 +133,13 @@ module _ (lead : SwitchesLead) (s : Setting) (c : Compiled) (l : Launch) (f : Fi
 
     laid_here : IsLaidFor s c at.procedure
     laid_here =
-        let found = found_in c.graphs at.procedure (λ g. node_of g at.node) stands.node stands.there in code.around.laid at.procedure found.0 found.1
+        let found = found_in c.graphs at.procedure (λ g. node_of g at.node) stands.node stands.there in whole.code.around.laid at.procedure found.0 found.1
 
     yield_by_code : fails event_fits ((located_machine s c).asks (located_step s c at)) ≡ false →
         IsDoneBy (located_machine s c) l outside_at (StandsOrWaits s c l f) (IsOfRun s c) at (most_for_step s c at) t
     yield_by_code fit =
-        let made = yield_done s c l f code.around.is_for code.values at t stands body laid_here site values exits here (32 * stands.node.tokens)
-        (code.yields at.procedure at.node stands.node site values exits stands.there is) ran.0 ran.1 ran.2 fit in
+        let made = yield_done s c l f whole.code.around.is_for whole.code.values at t stands body laid_here site values exits here (32 * stands.node.tokens)
+        (whole.code.yields at.procedure at.node stands.node site values exits stands.there is) ran.0 ran.1 ran.2 fit in
         subst (λ (n : ℕ). IsDoneBy (located_machine s c) l outside_at (StandsOrWaits s c l f) (IsOfRun s c) at (32 * n) t) (sym (tokens_here at t stands)) made
 
     yield_is_of_run : IsOfRun s c (located_step s c at)
@@ -159,8 +159,8 @@ module _ (lead : SwitchesLead) (s : Setting) (c : Compiled) (l : Launch) (f : Fi
     where
       by : (is_coded stands.node.kind ≡ true) ⊎ IsYieldNode stands.node.kind → BeginsQuietly (code_of l f at.procedure) (f.node_at at.procedure at.node)
       by (inl other) =
-          code_is_quiet s c l f at.procedure at.node stands.node.kind (32 * stands.node.tokens) (code.nodes at.procedure at.node stands.node stands.there other)
-      by (inr yield) = (code.yields at.procedure at.node stands.node yield.0 yield.1 yield.2 stands.there yield.3).quiet
+          code_is_quiet s c l f at.procedure at.node stands.node.kind (32 * stands.node.tokens) (whole.code.nodes at.procedure at.node stands.node stands.there other)
+      by (inr yield) = (whole.code.yields at.procedure at.node stands.node yield.0 yield.1 yield.2 stands.there yield.3).quiet
 
   -- ---- all
 
@@ -171,7 +171,7 @@ module _ (lead : SwitchesLead) (s : Setting) (c : Compiled) (l : Launch) (f : Fi
       ∙ sym (quiet_asks l f at.procedure (f.node_at at.procedure at.node) t (quiet_here at t stands) stands.pc)
   level_both at t (inr waits) =
       ap (λ (o : Option (Event Call Ending)). but_input o)
-      (event_is s c l f code.around code.told code.exits at t waits (Client (call_at l t)) refl)
+      (event_is s c l f whole.code.around whole.told whole.code.exits at t waits (Client (call_at l t)) refl)
       ∙ sym (ap (λ o. but_input (asked_at l t o)) waits.asks)
 
   over_by : (at : Located) (z : p.Status) → at.store.status ≡ z → (located_machine s c).wrong at ≡ false → (status_of at.store.status ≡ Running → ⊥) →
@@ -183,23 +183,23 @@ module _ (lead : SwitchesLead) (s : Setting) (c : Compiled) (l : Launch) (f : Fi
       let e : (located_machine s c).wrong at ≡ true = ap (λ (z : p.Status). elim z as (λ _. Bool) [ p.Wrong error ↦ true | _ ↦ false ]) is in absurd (cc)
 
   keeps_both : (at : Located) (t : State) → IsOfRun s c at → StandsOrWaits s c l f at t → (located_machine s c).wrong (located_step s c at) ≡ false → IsOfRun s c (located_step s c at)
-  keeps_both at t run (inr waits) right = answer_is_of_run s c l f code.around code.told code.exits at t waits run right
+  keeps_both at t run (inr waits) right = answer_is_of_run s c l f whole.code.around whole.told whole.code.exits at t waits run right
   keeps_both at t run (inl stands) right = by (which stands.node.kind)
     where
       by : (is_coded stands.node.kind ≡ true) ⊎ IsYieldNode stands.node.kind → IsOfRun s c (located_step s c at)
-      by (inl other) = keeps lead s c l f code.around at t stands run other (code.nodes at.procedure at.node stands.node stands.there other) right
+      by (inl other) = keeps lead s c l f whole.code.around at t stands run other (whole.code.nodes at.procedure at.node stands.node stands.there other) right
       by (inr yield) = yield_is_of_run at t stands run yield.0 yield.1 yield.2 yield.3 right
 
   done_both : (at : Located) (t : State) → IsOfRun s c at → StandsOrWaits s c l f at t → (located_machine s c).wrong (located_step s c at) ≡ false →
       fails event_fits ((located_machine s c).asks (located_step s c at)) ≡ false →
       IsDoneBy (located_machine s c) l outside_at (StandsOrWaits s c l f) (IsOfRun s c) at (most_for_step s c at) t
   done_both at t run (inr waits) right fit =
-      waiting_done s c l f code.around code.told code.exits at t waits right (most_for_step s c at) (omega (arith, run.tokens))
+      waiting_done s c l f whole.code.around whole.told whole.code.exits at t waits right (most_for_step s c at) (omega (arith, run.tokens))
   done_both at t run (inl stands) right fit = by (which stands.node.kind)
     where
       by : (is_coded stands.node.kind ≡ true) ⊎ IsYieldNode stands.node.kind → IsDoneBy (located_machine s c) l outside_at (StandsOrWaits s c l f) (IsOfRun s c) at (most_for_step s c at) t
       by (inl other) = done_more (located_machine s c) l outside_at (Stands s c l f) (StandsOrWaits s c l f) (IsOfRun s c) (λ a u there. inl there) at (most_for_step s c at) t
-          (code_does lead s c l f code.around at t stands run other (code.nodes at.procedure at.node stands.node stands.there other) right)
+          (code_does lead s c l f whole.code.around at t stands run other (whole.code.nodes at.procedure at.node stands.node stands.there other) right)
       by (inr yield) = yield_by_code at t stands run yield.0 yield.1 yield.2 yield.3 right fit
 
   served : IsServed (fitting_machine s c) l outside_at (StandsOrWaits s c l f) (IsOfRun s c) (most_for_step s c)

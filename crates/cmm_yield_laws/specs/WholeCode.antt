@@ -17,7 +17,8 @@ use Rattle.cmm_emit_laws.specs.ProgramCode.{IsCodeAround, is_coded}
 use Rattle.cmm_client_laws.specs.Laws.{IsTold}
 use Rattle.cmm_yield_laws.specs.Yielding.{HaveSiteExits, HaveYields, YieldCode}
 
-pub record IsWholeCode (s : Setting) (c : Compiled) (l : Launch) (f : Finished) : Type 0 where
+-- the code alone
+pub record IsYieldingCode (s : Setting) (c : Compiled) (l : Launch) (f : Finished) : Type 0 where
   pub around : IsCodeAround s c l f
   -- the code of each node: of those that do not yield, and of those that do
   pub nodes : (q : ℕ) (n : NodeId) (here : Node) → in_graph c.graphs q (λ g. node_of g n) ≡ Some here → is_coded here.kind ≡ true →
@@ -27,5 +28,8 @@ pub record IsWholeCode (s : Setting) (c : Compiled) (l : Launch) (f : Finished) 
   -- sites yield what their nodes do, and have their exits
   pub values : HaveYields s c
   pub exits : HaveSiteExits s c
-  -- and the tables tell of the program
+
+-- and the tables tell of the program
+pub record IsWholeCode (s : Setting) (c : Compiled) (l : Launch) (f : Finished) : Type 0 where
+  pub code : IsYieldingCode s c l f
   pub told : IsTold s c f.symbols l

@@ -1,11 +1,6 @@
 -- What is required of the code of a yield.
 use Rattle.std.specs.Prelude.{◌≡◌, ℕ, ◌+◌, ◌*◌, ◌≤◌, List, [], ◌∷◌, length, slice_get, Some}
-use Rattle.rv_asm.specs.Parts.{Code}
-use Rattle.rv_asm.specs.Reaching.{Reaches}
 use Rattle.rv_asm.specs.declared.part.Label.{Label}
-use Rattle.rv_table.specs.Bounds.{IsSound}
-use Rattle.rv_table.specs.Machine.{State, Asks, instruction_step}
-use Rattle.rv_table.specs.declared.request.Request.TheVariants.{Yield}
 use Rattle.cmm_program.specs.declared.procedure.Proc.{Proc}
 use Rattle.cmm_program.specs.declared.procedure.Site.{Site}
 use Rattle.cmm_program.specs.Frames.{procedure_at}
@@ -17,18 +12,13 @@ use Rattle.cmm_graph.specs.declared.number.SiteId.{SiteId}
 use Rattle.cmm_graph.specs.declared.operand.Operand.{Operand}
 use Rattle.cmm_graph.specs.Counterpart.{numbers_of}
 use Rattle.cmm_graph.specs.GraphControl.{kind_at}
-use Rattle.cmm_effects.specs.Changes.{Keeps}
 use Rattle.cmm_effects.specs.Pieces.{BeginsQuietly}
-use Rattle.cmm_calls.specs.Calls.{Calls}
+use Rattle.cmm_calls.specs.Calls.{Calls, CallsClient}
 use Rattle.cmm_select.specs.declared.operand.Operand.{Operand as CodeOperand}
 use Rattle.cmm_image_machine.specs.Machine.{Launch}
 use Rattle.cmm_located.specs.Compiled.{Compiled, site_exits}
 use Rattle.cmm_emit_laws.specs.Finished.{Finished, code_of}
 use Rattle.cmm_emit_laws.specs.NodeCode.{IsOperandOf}
-
--- From every sound state at an address, n instructions at most lead to an ECALL that calls the client, and change nothing but scratch registers.
-pub record CallsClient (most : ℕ) (x : Code) (from : ℕ) : Type 0 where
-  pub go : (u : State) → IsSound u → u.pc ≡ from → Reaches x.map 0 most u (λ t. Keeps u t × (instruction_step x.map t ≡ Asks Yield))
 
 module _ (s : Setting) (c : Compiled) (l : Launch) (f : Finished) where
   abbrev pub AreNumbersOf : ℕ → List Operand → List CodeOperand → Type 0
