@@ -98,7 +98,8 @@ answer = record {
   nodes = λ p range sites. refl;
   bounded = λ p range. lit≤ tt;
   short = λ p range. lit≤ tt;
-  quiet = λ p range waits sites. refl;
+  few = λ p range sites. refl;
+  yields = λ p range. refl;
   covered = λ p range sites. refl;
 }
 
