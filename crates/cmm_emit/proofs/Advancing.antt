@@ -10,12 +10,12 @@ use Rattle.std.proofs.Math.Seq.{take-suc}
 use Rattle.rv_asm.proofs.Shared.{appends_weaker, codes_more, longest-append, shortest-append}
 use Rattle.rv_asm.specs.Appending.{Appends, Codes}
 use Rattle.rv_asm.specs.Assembly.{ArePlaced}
-use Rattle.rv_asm.specs.Assembly.{IsInner, IsLabel, IsTarget, is_inner, is_target, meaning}
+use Rattle.rv_asm.specs.Assembly.{IsInner, IsLabel, IsTarget, is_inner, is_target}
 use Rattle.rv_asm.specs.Parts.{Code}
 use Rattle.rv_asm.specs.Sizes.{all_longest, all_shortest}
 use Rattle.rv_asm.specs.declared.part.Label.{Label}
 use Rattle.rv_asm.specs.declared.part.Meaning.{Meaning}
-use Rattle.rv_asm.specs.declared.part.Meaning.TheVariants.{Inner, Outer}
+use Rattle.rv_asm.specs.declared.part.Meaning.TheVariants.{Inner}
 use Rattle.rv_asm.specs.declared.part.Part.{Part}
 use Rattle.rv_asm.specs.declared.part.Part.TheVariants.{Place, Single}
 use Rattle.rv_table.specs.declared.instruction.Instr.TheVariants.{Ebreak}
@@ -31,6 +31,7 @@ use Rattle.cmm_emit.specs.declared.context.Context.{Context}
 use Rattle.cmm_emit.specs.Costs.{total_cost}
 use Rattle.cmm_emit.specs.LaidNodes.{AreLaid, AreUnplaced, HaveSites, IsOwn, PlacesOwn, StandsHere}
 use Rattle.cmm_emit.specs.Naming.{label_at}
+use Rattle.cmm_emit.proofs.NodeLabels.{inner_target}
 use Rattle.cmm_emit.proofs.NodeSites.{site_stays}
 use Rattle.cmm_emit.specs.Standing.{IsReady, SiteStands}
 use Rattle.cmm_emit.proofs.Belonging.{IsOne, there_at, entry_label, first_label_grows, length-entry_labels, one_of}
@@ -41,7 +42,7 @@ use Rattle.cmm_emit.specs.Contexts.{first_label}
 use Rattle.cmm_emit.specs.Labels.{labels_from}
 use Rattle.cmm_emit.specs.LaidProcedures.{CanAllBeLaid, HaveCodes, HaveLabels, tokens_of_first}
 use Rattle.cmm_emit.specs.Orders.{AreInOrder}
-use Rattle.cmm_emit.specs.Outlines.{IsOutline, number_symbols, symbol_count, symbol_meaning, with_own}
+use Rattle.cmm_emit.specs.Outlines.{IsOutline, first_own, number_symbols, symbol_count, symbol_meaning, with_own}
 use Rattle.cmm_emit.specs.declared.outline.Outline.{Outline}
 
 -- ---- numbers of labels
@@ -102,7 +103,7 @@ module _ (p : Program) (procs : List Proc) (graphs : List Graph) (found : List P
   c = one.context
 
   abbrev base : ℕ
-  base = symbol_count p + 1
+  base = first_own p
 
   abbrev first : ℕ
   first = first_label base procs graphs n
@@ -233,13 +234,6 @@ module _ (p : Program) (procs : List Proc) (graphs : List Graph) (found : List P
       subst (IsInner labels) (sym same)
       (inner_number (label_at other.context.nodes first_node) (omega (arith, number, base_)) (omega (arith, number, follow, later, total, first_in)))
 
-  inner_target : (l : Label) → IsInner labels l → IsTarget labels l
-  inner_target l is = (is.0, by (meaning labels l) is.1)
-    where
-      by : (m : Meaning) → is_inner m ≡ true → is_target m ≡ true
-      by (Inner placed) e = refl
-      by (Outer symbol relative) e = absurd (cc)
-
   -- the symbols of all procedures
   abbrev others : List Label
   others = labels_from (number_symbols p) (length p.procs)
@@ -272,7 +266,7 @@ module _ (p : Program) (procs : List Proc) (graphs : List Graph) (found : List P
           let is : o.first + rest ≡ k = omega (arith, least) in
           let in_own : rest < length o.entries = omega (arith, least, inside) in
           subst (λ (m : ℕ). IsTarget labels (label_at (with_own o.first o.entries others) m)) is
-          (subst (IsTarget labels) (sym (own_within o.first o.entries others fits rest in_own)) (inner_target (label_at o.entries rest) (entry_inner rest in_own)))
+          (subst (IsTarget labels) (sym (own_within o.first o.entries others fits rest in_own)) (inner_target labels (label_at o.entries rest) (entry_inner rest in_own)))
 
       then : o.first ≤ k → (k < o.first + length o.entries) ⊎ (o.first + length o.entries ≤ k) → IsTarget labels (label_at (with_own o.first o.entries others) k)
       then least (inl inside) = own least inside
@@ -307,6 +301,9 @@ module _ (p : Program) (procs : List Proc) (graphs : List Graph) (found : List P
     limit =
         let number = ap (λ (z : Label). z.number) outline.limit in
         inner_number o.targets.limit (omega (arith, number)) (omega (arith, number, far, within));
+    client =
+        let number = ap (λ (z : Label). z.number) outline.client in
+        inner_number o.targets.client (omega (arith, number)) (omega (arith, number, far, within));
   }
 
   -- ---- once it is laid
@@ -347,6 +344,7 @@ module _ (p : Program) (procs : List Proc) (graphs : List Graph) (found : List P
       count = places.count ∙ have.count;
       symbols = λ k less. stays k (λ own. omega (arith, own.0, less, far)) ∙ have.symbols k less;
       limit = stays (symbol_count p) (λ own. omega (arith, own.0, far)) ∙ have.limit;
+      client = stays (symbol_count p + 1) (λ own. omega (arith, own.0, far)) ∙ have.client;
       inner = still_inner;
       fresh = λ k least less.
           stays k (λ own. omega (arith, own.1, least, next)) ∙ have.fresh k (omega (arith, least, next)) (let count = places.count in omega (arith, less, count));

@@ -10,7 +10,7 @@ use Rattle.cmm_emit.specs.declared.context.Context.{Context}
 use Rattle.cmm_emit.specs.Naming.{label_at}
 use Rattle.cmm_emit.specs.Contexts.{IsMadeFor, entry_labels, first_label}
 use Rattle.cmm_emit.specs.LaidProcedures.{CanAllBeLaid, CanBeLaid}
-use Rattle.cmm_emit.specs.Outlines.{IsOutline, share, symbol_count}
+use Rattle.cmm_emit.specs.Outlines.{IsOutline, first_own, share}
 use Rattle.cmm_emit.specs.declared.outline.Outline.{Outline}
 
 -- ---- labels of contexts
@@ -75,7 +75,7 @@ pub record IsOne (p : Program) (procs : List Proc) (graphs : List Graph) (found 
   pub is_found : slice_get found q ≡ Some places
   pub context : Context
   pub is_context : slice_get o.contexts q ≡ Some context
-  pub made : IsMadeFor procedure g places (first_label (symbol_count p + 1) procs graphs q) context
+  pub made : IsMadeFor procedure g places (first_label (first_own p) procs graphs q) context
   pub can : CanBeLaid o.targets context g
 
 -- by its context

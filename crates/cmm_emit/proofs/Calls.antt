@@ -13,22 +13,25 @@ use Rattle.cmm_graph.specs.declared.number.SiteId.{SiteId}
 use Rattle.cmm_graph.specs.declared.operand.Argument.{Argument}
 use Rattle.cmm_graph.specs.declared.operand.Operand.{Operand}
 use Rattle.cmm_graph.specs.declared.node.Exits.{Exits}
-use Rattle.cmm_graph.specs.declared.node.NodeKind.TheVariants.{Call}
+use Rattle.cmm_graph.specs.declared.node.NodeKind.TheVariants.{Call, Yield}
 use Rattle.rv_asm.specs.Assembly.{IsInner}
 use Rattle.rv_asm.specs.Parts.{Code}
 use Rattle.rv_asm.specs.declared.part.Label.{Label}
 use Rattle.rv_asm.specs.declared.part.Meaning.{Meaning}
 use Rattle.cmm_effects.specs.Pieces.{BeginsQuietly}
 use Rattle.cmm_calls.specs.Calls.{Calls, CallsBy, HasExits}
-use Rattle.cmm_emit_laws.specs.Finished.{code_of}
-use Rattle.cmm_emit_laws.specs.NodeCode.{GoesOn, IsLabelOf}
+use Rattle.cmm_program.specs.State.{Setting}
+use Rattle.cmm_image_machine.specs.Machine.{Launch}
+use Rattle.cmm_located.specs.Compiled.{Compiled}
+use Rattle.cmm_emit_laws.specs.Finished.{Finished, code_of}
+use Rattle.cmm_emit_laws.specs.NodeCode.{GoesOn, IsLabelOf, SiteCode}
 use Rattle.cmm_emit.proofs.Bodies.{few_for, moved}
-use Rattle.cmm_emit.proofs.Operands.{operand_is_of, operands_are_of}
+use Rattle.cmm_emit.proofs.Operands.{operand_is_of, operands_are_of, values_are_of}
 use Rattle.cmm_emit.specs.declared.context.Context.{Context}
 use Rattle.cmm_emit.specs.declared.context.Targets.{Targets}
-use Rattle.cmm_emit.specs.Naming.{IsNamed, argument_operand, argument_operands, can_call, can_come_back, can_give, can_go_to, code_operand, has_argument, has_landing, has_site, label_at, landing_labels, site_label}
+use Rattle.cmm_emit.specs.Naming.{IsNamed, argument_operand, argument_operands, can_call, can_come_back, can_give, can_go_to, can_send, can_yield, code_operand, code_operands, has_argument, has_landing, has_site, label_at, landing_labels, site_label}
 use Rattle.cmm_emit.specs.Costs.{cost_of}
-use Rattle.cmm_emit.specs.Standing.{CodesCall, CodesSite, CodesWhole, GoesOnTo, IsReady, IsSiteOf, LeadsBack}
+use Rattle.cmm_emit.specs.Standing.{CodesCall, CodesWhole, CodesYield, GoesOnTo, IsContextOf, IsReady, IsSiteOf, LeadsBack}
 use Rattle.cmm_emit_laws.specs.Represented.{stack_region}
 
 module _ (labels : List Meaning) (p : Context) (y : Targets) (ready : IsReady labels p y) (x : Code) (from to : ℕ) (site : SiteId) (there : IsTrue (has_site p site)) where
@@ -87,6 +90,26 @@ module _ (labels : List Meaning) (p : Context) (y : Targets) (ready : IsReady la
     },
   )
 
+  pub yields_values : (values : List Operand) → IsTrue (can_send p y values) → Calls p.frame (code_operands p y values) y.client (site_label p site) x from to →
+      CodesYield p y site values x from to
+  yields_values values sends calls = (
+    calls.stands,
+    λ s c l f q n most is-x of at enough. record {
+      operands = code_operands p y values;
+      are = values_are_of labels p y ready s c l f q of values (grind (arith, sends));
+      few_values = grind (arith, nat_tests, sends);
+      quiet = moved (λ z a. BeginsQuietly z a) is-x at (calls.turns (stack_region s)).quiet;
+      back = site_label p site;
+      is_back = (of.sites site.number within).stands;
+      stub = y.client;
+      on = to;
+      calls = subst (λ (fr : Frame). Calls fr (code_operands p y values) y.client (site_label p site) (code_of l f q) (f.node_at q n) to) (sym of.frame)
+          (moved (λ z a. Calls p.frame (code_operands p y values) y.client (site_label p site) z a to) is-x at calls);
+      client = of.client;
+      few = (let same : length (code_operands p y values) ≡ length values = length-map values (code_operand p y) in omega (arith, same, enough));
+    },
+  )
+
 -- the landings of continuations are places in the code
 pub inner_landings : (labels : List Meaning) (p : Context) (y : Targets) → IsReady labels p y → (ks : List ContinuationId) → IsTrue (list_all (has_landing p) ks) →
     All (IsInner labels) (landing_labels p ks)
@@ -109,9 +132,10 @@ landing_is p ks i k label is got =
     cc
 
 module _ (p : Context) (y : Targets) (x : Code) (mid to : ℕ) (site : SiteId) (there : IsTrue (has_site p site)) where
-  pub site_codes : (callee : Operand) (arguments : List Argument) (exits : Exits) → IsTrue (can_come_back p exits) → x.at (site_label p site).number ≡ mid →
-      LeadsBack p exits x mid to → CodesSite p y (Call site callee arguments exits) x mid to
-  site_codes callee arguments exits can placed back s c l f q is-x of goes = record {
+  site_codes : (exits : Exits) → IsTrue (can_come_back p exits) → x.at (site_label p site).number ≡ mid → LeadsBack p exits x mid to →
+      (s : Setting) (c : Compiled) (l : Launch) (f : Finished) (q : ℕ) → x ≡ code_of l f q → IsContextOf s c l f q p y → GoesOnTo s c l f q exits.normal to →
+      SiteCode s c l f q site.number exits
+  site_codes exits can placed back s c l f q is-x of goes = record {
     labels = landing_labels p exits.returns;
     on = back.0;
     table = subst (λ a. HasExits (landing_labels p exits.returns) (code_of l f q) a back.0) stands
@@ -146,5 +170,13 @@ pub call_codes : (p : Context) (y : Targets) (x : Code) (from mid to : ℕ) (sit
     CodesWhole p y (Call site callee arguments exits) x from to
 call_codes p y x from mid to site callee arguments exits can call back = (
   λ s c l f q n is-x of at goes. call.1 s c l f q n (cost_of p y (Call site callee arguments exits)) is-x of at (omega arith),
-  site_codes p y x mid to site (grind (arith, can)) callee arguments exits (grind (arith, can)) call.0 back,
+  site_codes p y x mid to site (grind (arith, can)) exits (grind (arith, can)) call.0 back,
+)
+
+-- a yield, and what leads on from its site
+pub yield_codes : (p : Context) (y : Targets) (x : Code) (from mid to : ℕ) (site : SiteId) (values : List Operand) (exits : Exits) →
+    IsTrue (can_yield p y site values exits) → CodesYield p y site values x from mid → LeadsBack p exits x mid to → CodesWhole p y (Yield site values exits) x from to
+yield_codes p y x from mid to site values exits can yields back = (
+  λ s c l f q n is-x of at goes. yields.1 s c l f q n (cost_of p y (Yield site values exits)) is-x of at (omega arith),
+  site_codes p y x mid to site (grind (arith, can)) exits (grind (arith, can)) yields.0 back,
 )

@@ -1,9 +1,10 @@
 -- The code of a whole unit, with its end.
-use Rattle.std.proofs.Common.{◌≡◌, ◌≢◌, ◌⊎◌, inl, inr, ℕ, zero, suc, ◌+◌, ◌<◌, ◌≤◌, refl, sym, ◌∙◌, ap, subst, arith, true, false, List, [], ◌∷◌, ◌++◌, get_or, length, length-set, set, Some, slice_get}
+use Rattle.std.proofs.Common.{◌≡◌, ◌≢◌, ◌⊎◌, inl, inr, ℕ, zero, suc, ◌+◌, ◌<◌, ◌≤◌, refl, sym, ◌∙◌, ap, subst, arith, true, false, List, [], ◌∷◌, ◌++◌, append_assoc, get_or, length, length-set, set, Some, slice_get}
 use Rattle.std.specs.Prelude.{IsTrue, sum_by}
 use Rattle.std.proofs.lemmas.List.{take_all}
 use Rattle.std.proofs.lemmas.Option.{get_or_from_slice_get, slice_get-get_or, slice_get_within}
-use Rattle.rv_asm.specs.Appending.{Codes}
+use Rattle.rv_asm.proofs.Shared.{codes_more}
+use Rattle.rv_asm.specs.Appending.{Appends, Codes}
 use Rattle.rv_asm.specs.Assembly.{is_inner}
 use Rattle.rv_asm.specs.Sizes.{all_longest}
 use Rattle.rv_asm.specs.declared.part.Label.{Label}
@@ -17,6 +18,7 @@ use Rattle.cmm_program.specs.declared.program.Program.{Program}
 use Rattle.cmm_graph.specs.declared.graph.Graph.{Graph}
 use Rattle.cmm_allocate.specs.declared.procedure.ProcedurePlaces.{ProcedurePlaces}
 use Rattle.cmm_effects.specs.Requests.{AsksFor}
+use Rattle.cmm_calls.specs.Calls.{CallsClient}
 use Rattle.cmm_emit.specs.declared.context.Context.{Context}
 use Rattle.cmm_emit.proofs.Belonging.{IsOne, one_with, share_at, there_at}
 use Rattle.cmm_emit.specs.LaidProcedures.{CanAllBeLaidIn, HaveCodes, HaveLabels, IsWhole, tokens_of_first}
@@ -63,30 +65,68 @@ module _ (p : Program) (procs : List Proc) (graphs : List Graph) (o : Outline) w
   }
 
   module _ (found : List ProcedurePlaces) (outline : IsOutline p procs graphs found o) where
-    pub is_whole : (labels new : List Meaning) (front parts : List Part) → HaveLabels p procs graphs (length o.contexts) labels → HaveCodes procs graphs o (length o.contexts) front →
-        new ≡ set labels o.targets.limit.number (Inner true) → (back : List Part) × (parts ≡ front ++ Place o.targets.limit ∷ back) →
-        Codes parts o.targets.limit (λ x from to. AsksFor 1 (λ t. StackLimit) x from) → all_longest parts ≤ all_longest front + 8 → IsWhole p procs graphs o new parts
-    is_whole labels new front parts have codes is behind limits few =
-        let number : o.targets.limit.number ≡ symbol_count p = ap (λ (z : Label). z.number) outline.limit in
-        let less = slice_get_within labels (symbol_count p) (Inner false) have.limit in
-        let now : new ≡ set labels (symbol_count p) (Inner true) = is ∙ ap (λ (n : ℕ). set labels n (Inner true)) number in
-        let count = length-set labels (symbol_count p) (Inner true) in
+    module _ (labels : List Meaning) (have : HaveLabels p procs graphs (length o.contexts) labels) where
+      abbrev limit : ℕ
+      limit = symbol_count p
+
+      abbrev client : ℕ
+      client = symbol_count p + 1
+
+      -- once the limit has its place, the call of the client has none yet
+      pub client_waits : (new : List Meaning) → new ≡ set labels o.targets.limit.number (Inner true) → slice_get new o.targets.client.number ≡ Some (Inner false)
+      client_waits new is =
+          let here = ap (λ (z : Label). z.number) outline.limit in
+          let there = ap (λ (z : Label). z.number) outline.client in
+          ap (λ (ms : List Meaning). slice_get ms o.targets.client.number) (is ∙ ap (λ (n : ℕ). set labels n (Inner true)) here)
+          ∙ (ap (λ (n : ℕ). slice_get (set labels limit (Inner true)) n) there ∙ (set_elsewhere labels limit client (Inner true) (λ e. omega (arith, e)) ∙ have.client))
+
+      abbrev placed : List Meaning
+      placed = set (set labels limit (Inner true)) client (Inner true)
+
+      placed_counted : length placed ≡ length labels
+      placed_counted = length-set (set labels limit (Inner true)) client (Inner true) ∙ length-set labels limit (Inner true)
+
+      -- then both have theirs
+      both_placed : (mid new : List Meaning) → mid ≡ set labels o.targets.limit.number (Inner true) → new ≡ set mid o.targets.client.number (Inner true) → new ≡ placed
+      both_placed mid new is also =
+          also ∙ (ap (λ (n : ℕ). set mid n (Inner true)) (ap (λ (z : Label). z.number) outline.client)
+          ∙ ap (λ (ms : List Meaning). set ms client (Inner true)) (is ∙ ap (λ (n : ℕ). set labels n (Inner true)) (ap (λ (z : Label). z.number) outline.limit)))
+
+      symbols_stay : (k : ℕ) → k < symbol_count p → slice_get placed k ≡ slice_get labels k
+      symbols_stay k inside =
+          set_elsewhere (set labels limit (Inner true)) client k (Inner true) (λ e. omega (arith, e, inside)) ∙ set_elsewhere labels limit k (Inner true) (λ e. omega (arith, e, inside))
+
+      still_inner : (k : ℕ) → symbol_count p ≤ k → k < length labels → IsTrue (is_inner (get_or placed k (Inner false)))
+      still_inner k least inside =
+          let counted = length-set labels limit (Inner true) in
+          set_inner (set labels limit (Inner true)) client k (omega (arith, counted, slice_get_within labels client (Inner false) have.client)) (omega (arith, counted, inside))
+          (set_inner labels limit k (slice_get_within labels limit (Inner false) have.limit) inside (have.inner k least inside))
+
+    pub is_whole : (labels mid new : List Meaning) (front middle parts : List Part) → HaveLabels p procs graphs (length o.contexts) labels → HaveCodes procs graphs o (length o.contexts) front →
+        mid ≡ set labels o.targets.limit.number (Inner true) → new ≡ set mid o.targets.client.number (Inner true) →
+        (back : List Part) × (middle ≡ front ++ Place o.targets.limit ∷ back) → Appends middle parts (λ x from to. Unit {0}) →
+        Codes middle o.targets.limit (λ x from to. AsksFor 1 (λ t. StackLimit) x from) → Codes parts o.targets.client (λ x from to. CallsClient 1 x from) →
+        all_longest middle ≤ all_longest front + 8 → all_longest parts ≤ all_longest middle + 8 → IsWhole p procs graphs o new parts
+    is_whole labels mid new front middle parts have codes is also behind more limits calls few few_more =
+        let now = both_placed labels have mid new is also in
+        let counted = placed_counted labels have in
         record {
-          count = ap (λ (ms : List Meaning). length ms) now ∙ (count ∙ have.count);
-          symbols = λ k inside. ap (λ (ms : List Meaning). slice_get ms k) now ∙ (set_elsewhere labels (symbol_count p) k (Inner true) (λ e. omega (arith, e, inside)) ∙ have.symbols k inside);
+          count = ap (λ (ms : List Meaning). length ms) now ∙ (counted ∙ have.count);
+          symbols = λ k inside. ap (λ (ms : List Meaning). slice_get ms k) now ∙ (symbols_stay labels have k inside ∙ have.symbols k inside);
           inner = λ k least inside.
-              let within : k < length labels = let size = ap (λ (ms : List Meaning). length ms) now in omega (arith, inside, size, count) in
-              subst (λ (ms : List Meaning). IsTrue (is_inner (get_or ms k (Inner false)))) (sym now) (set_inner labels (symbol_count p) k less within (have.inner k least within));
+              let within : k < length labels = let size = ap (λ (ms : List Meaning). length ms) now in omega (arith, inside, size, counted) in
+              subst (λ (ms : List Meaning). IsTrue (is_inner (get_or ms k (Inner false)))) (sym now) (still_inner labels have k least within);
           front = front;
           codes = subst (λ (n : ℕ). HaveCodes procs graphs o n front) outline.contexts.count codes;
-          back = behind.0;
-          is = behind.1;
-          limits = limits;
+          back = behind.0 ++ more.parts;
+          is = more.added ∙ (ap (λ (ps : List Part). ps ++ more.parts) behind.1 ∙ append_assoc front (Place o.targets.limit ∷ behind.0) more.parts);
+          limits = codes_more o.targets.limit limits more;
+          client = calls;
           size =
               let before = codes.size in
               let all : tokens_of_first (length o.contexts) procs ≡ sum_by (λ q. q.tokens) procs =
               ap (λ (qs : List Proc). sum_by (λ q. q.tokens) qs) (take_all (length o.contexts) procs (let count = outline.contexts.count in omega (arith, count))) in
-              omega (arith, before, few, all);
+              omega (arith, before, few, few_more, all);
         }
 
 -- what a share has, its list has later

@@ -59,7 +59,7 @@ use Rattle.cmm_emit.proofs.Symbols.{AreMeant, fixes_reached, inner_stands, symbo
 use Rattle.cmm_emit.specs.Contexts.{first_label}
 use Rattle.cmm_emit.specs.Finishing.{AreFinished}
 use Rattle.cmm_emit.specs.Labels.{labels_from}
-use Rattle.cmm_emit.specs.Outlines.{number_symbols, own, symbol_count, with_own}
+use Rattle.cmm_emit.specs.Outlines.{first_own, number_symbols, own, symbol_count, with_own}
 use Rattle.cmm_emit.specs.declared.outline.Outline.{Outline}
 use Rattle.rv_table.specs.Machine.{Region}
 use Rattle.cmm_abi.specs.Regions.{global_address}
@@ -288,10 +288,10 @@ module _ (p : Program) (graphs : List Graph) (found : List ProcedurePlaces) (add
       c = one.context
 
       abbrev first : ℕ
-      first = first_label (symbol_count p + 1) (own o p.procs) (own o graphs) k
+      first = first_label (first_own p) (own o p.procs) (own o graphs) k
 
       first_far : symbol_count p ≤ first
-      first_far = let grows = first_label_grows (symbol_count p + 1) (own o p.procs) (own o graphs) k in omega (arith, grows)
+      first_far = let grows = first_label_grows (first_own p) (own o p.procs) (own o graphs) k in omega (arith, grows)
 
       pub nodes_counted : length c.nodes ≡ length g.nodes
       nodes_counted = ap (λ (ls : List Label). length ls) one.made.nodes ∙ length-labels_from first (length g.nodes)
@@ -632,6 +632,7 @@ module _ (s : Setting) (graphs : List Graph) (found : List ProcedurePlaces) (add
             fits = let few = fine.1 in omega (arith, few);
           };
       limit = (codes_do y.limit this.is.whole.limits x this_unit.at (this_unit.at + length this_unit.code.code) parts_stand).1;
+      client = (codes_do y.client this.is.whole.client x this_unit.at (this_unit.at + length this_unit.code.code) parts_stand).1;
       end_asked = ends;
     }
       where

@@ -64,7 +64,7 @@ pub record IsRanged (p : Program) (first count : ℕ) (u : UnitCode) : Type 0 wh
   pub within : first + count ≤ length p.procs
   pub whole : IsWhole u
   pub aligned : length u.code % 4 ≡ 0
-  pub few : length u.code ≤ 256 * sum_by (λ q. q.tokens) (share first count p.procs) + 8
+  pub few : length u.code ≤ 256 * sum_by (λ q. q.tokens) (share first count p.procs) + 16
   pub procedure_count : length u.procedures ≡ count
   pub procedures : All (IsInside (length u.code)) u.procedures
   pub ascending : (at before : ℕ) → before < at → ascend_above before (map (λ offset. at + offset) u.procedures) ≡ true
@@ -202,7 +202,7 @@ module _ (p : Program) (graphs : List Graph) (found : List ProcedurePlaces) (fir
       within = let at = is.first_is in let many = is.count_is in omega (arith, at, many, within);
       whole = unit_whole;
       aligned = is.finished.done.whole;
-      few = subst (λ (qs : List Proc). size ≤ 256 * sum_by (λ q. q.tokens) qs + 8) own_share
+      few = subst (λ (qs : List Proc). size ≤ 256 * sum_by (λ q. q.tokens) qs + 16) own_share
           (let done = is.finished.done.few in let most = is.whole.size in omega (arith, done, most));
       procedure_count = ap (λ (ns : List ℕ). length ns) is.finished.procedures ∙ (length-map o.entries place_of ∙ (entries_counted ∙ is.count_is));
       procedures = subst (λ (ns : List ℕ). All (IsInside size) ns) (sym is.finished.procedures)

@@ -19,7 +19,7 @@ use Rattle.cmm_emit_laws.specs.Placing.{FinishedCodeStands}
 use Rattle.cmm_emit_laws.specs.Naming.{GraphsAreNamed}
 use Rattle.cmm_data.specs.Laws.{InRangeCanBeLaidOut, LabelsLieInData, LiesInData}
 use Rattle.cmm_flow.specs.Flow.{IsFlow}
-use Rattle.cmm_flow.specs.Laws.{AnswersAreGraphs, AnswersHaveSites, AnswersWaitAtEach, AnswersWaitOnce}
+use Rattle.cmm_flow.specs.Laws.{AnswersAreGraphs, AnswersHaveSites, AnswersPassFew, AnswersWaitAtEach, AnswersWaitOnce, AnswersYieldThere}
 use Rattle.cmm_unit_code.specs.Joined.{CanBeJoined, IsJoined, IsTextOf, IsWhole, joined_code, landing_addresses, procedure_addresses, site_addresses}
 use Rattle.cmm_unit_code.specs.Texts.{IsText, address_in}
 use Rattle.cmm_unit_code.specs.declared.text.Text.{Text}
@@ -35,7 +35,7 @@ use Rattle.cmm_emit.proofs.Coding.{finished, here, lands_there, returns_there}
 use Rattle.cmm_emit.proofs.JoinedSites.{front_sites, map_there, moved, site_there, skip_sites}
 use Rattle.cmm_emit.specs.Finishing.{places_at as label_places}
 use Rattle.std.proofs.lemmas.Option.{slice_get_within}
-use Rattle.cmm_emit.proofs.Layable.{can_all_be_laid, coded_at, continuations_counted, flow_of, found_counted, graph_of, graphs_counted, places_at, procedure_beside, range_of}
+use Rattle.cmm_emit.proofs.Layable.{can_all_be_laid, continuations_counted, flow_of, found_counted, graph_of, graphs_counted, places_at, procedure_beside, range_of}
 use Rattle.cmm_emit.proofs.SiteNodes.{IsWaited, waited}
 use Rattle.cmm_emit.proofs.Ranged.{all_whole, code_bounded, code_fits, filled_counted, is_text, last_low, procedure_count, procedures_aligned, procedures_low, size_fits}
 use Rattle.cmm_emit.proofs.Standing.{HasProcedure, IsJoint, IsLaid, Laid, StandAt, unit_of, value_in}
@@ -43,7 +43,7 @@ use Rattle.cmm_emit.proofs.Whole.{AreGraphs, is_code, starts}
 use Rattle.cmm_emit.specs.LaidProcedures.{CanAllBeLaidIn}
 use Rattle.cmm_emit.specs.Starts.{IsStart}
 use Rattle.cmm_emit.specs.Outlines.{own}
-use Rattle.cmm_emit.specs.Premises.{AreCovered, AreShort, CanBeCoded}
+use Rattle.cmm_emit.specs.Premises.{AreCovered, AreShort}
 use Rattle.cmm_emit.specs.Texts.{IsCodeOfProgram}
 use Rattle.cmm_emit.specs.Units.{AreUnits, IsUnit}
 use Rattle.cmm_emit.specs.declared.start.Start.{Start}
@@ -337,26 +337,26 @@ module _ (p : Program) (graphs : List Graph) (found : List ProcedurePlaces)
 -- ---- a located program, with the codes of its units
 
 module _ (p : Program) (graphs : List Graph) (found : List ProcedurePlaces) (range : IsInRange p) (flows : AllZip IsFlow p.procs graphs)
-    (places : HavePlaces p.procs graphs found) (coded : CanBeCoded graphs) (answers : AnswersAreGraphs) (named : GraphsAreNamed) (made : FramesCanBeMade) (waits : AnswersWaitOnce) (each : AnswersWaitAtEach) (have : AnswersHaveSites)
+    (places : HavePlaces p.procs graphs found) (passes : AnswersPassFew) (yields : AnswersYieldThere) (answers : AnswersAreGraphs) (named : GraphsAreNamed) (made : FramesCanBeMade) (waits : AnswersWaitOnce) (each : AnswersWaitAtEach) (have : AnswersHaveSites)
     (short : AreShort p.procs graphs found) (start : Start) (is_start : IsStart p start)
     (codes : List UnitCode) (units : (us : List UnitCode) × (codes ≡ start.code ∷ us) × (length us ≤ 256) × AreUnits p graphs found 0 (length p.procs) us) where
   abbrev pub code : ProgramCode
   code = record { units = codes; last = start.last }
 
   graph_count : length graphs ≡ length p.procs
-  graph_count = graphs_counted p graphs found range flows places coded answers named
+  graph_count = graphs_counted p graphs found range flows places passes answers named
 
   can : (first count : ℕ) (u : UnitCode) (is : IsUnit p graphs found first count u) → CanAllBeLaidIn p graphs found is.outline
-  can first count u is = can_all_be_laid p graphs found range flows places coded answers named is.outline is.is_outline made waits short
+  can first count u is = can_all_be_laid p graphs found range flows places passes answers named is.outline is.is_outline made waits short
 
   continuations : (q : ℕ) (procedure : Proc) (g : Graph) → slice_get p.procs q ≡ Some procedure → slice_get graphs q ≡ Some g → length g.continuations ≡ length procedure.conts
-  continuations = continuations_counted p graphs found range flows places coded answers named
+  continuations = continuations_counted p graphs found range flows places passes answers named
 
   waiting : (q : ℕ) (procedure : Proc) (g : Graph) → slice_get p.procs q ≡ Some procedure → slice_get graphs q ≡ Some g → (n : ℕ) (site : Site) →
       slice_get procedure.sites n ≡ Some site → IsWaited g n site
   waiting q procedure g is also n site there =
-      waited p procedure g each have (range_of p graphs found range flows places coded answers named q procedure is)
-      (flow_of p graphs found range flows places coded answers named q procedure g is also) n site there
+      waited p procedure g each have (range_of p graphs found range flows places passes answers named q procedure is)
+      (flow_of p graphs found range flows places passes answers named q procedure g is also) n site there
 
   abbrev us : List UnitCode
   us = units.0
@@ -389,12 +389,17 @@ module _ (p : Program) (graphs : List Graph) (found : List ProcedurePlaces) (ran
     graphs_known : AreCovered graphs found → AreGraphs p graphs found
     graphs_known covered = record {
       valid = λ n g is.
-          let q = procedure_beside p graphs found range flows places coded answers named n g is in
-          (graph_of p graphs found range flows places coded answers named n q.0 g q.1 is).valid;
+          let q = procedure_beside p graphs found range flows places passes answers named n g is in
+          (graph_of p graphs found range flows places passes answers named n q.0 g q.1 is).valid;
       named = λ n g is.
-          let q = procedure_beside p graphs found range flows places coded answers named n g is in
-          (named p q.0 g (graph_of p graphs found range flows places coded answers named n q.0 g q.1 is)).named;
-      coded = coded_at p graphs found range flows places coded answers named;
+          let q = procedure_beside p graphs found range flows places passes answers named n g is in
+          (named p q.0 g (graph_of p graphs found range flows places passes answers named n q.0 g q.1 is)).named;
+      yields = λ n q g is also.
+          yields p q g (range_of p graphs found range flows places passes answers named n q is) (flow_of p graphs found range flows places passes answers named n q g is also);
+      sites = λ n q g is also.
+          have p q g (range_of p graphs found range flows places passes answers named n q is) (flow_of p graphs found range flows places passes answers named n q g is also);
+      waited = λ n q g site is also less.
+          each p q g site (range_of p graphs found range flows places passes answers named n q is) (flow_of p graphs found range flows places passes answers named n q g is also) less;
       covered = covered;
       places = λ n q g k is also there. places_at p.procs graphs found n q g k places is also there;
     }
@@ -402,7 +407,7 @@ module _ (p : Program) (graphs : List Graph) (found : List ProcedurePlaces) (ran
     pub code_of_program : AreCovered graphs found → LabelsLieInData → InRangeCanBeLaidOut → FinishedCodeStands → ProceduresAreLaid → RowsHaveFrames → IsCodeOfProgram p graphs found t
     code_of_program covered lie layable stands laid_by frames =
         code_is p graphs found can (label_addresses p) t start is_start us joined are range graph_count
-        (found_counted p graphs found range flows places coded answers named) refl (lie p (layable p range)) continuations
+        (found_counted p graphs found range flows places passes answers named) refl (lie p (layable p range)) continuations
         (procedure_count p graphs found range graph_count continuations waiting can us few are start is_start (label_addresses p) t joined)
         (procedures_aligned p graphs found range graph_count continuations waiting can us few are start is_start (label_addresses p) t joined)
         (procedures_low p graphs found range graph_count continuations waiting can us few are start is_start (label_addresses p) t joined)

@@ -1,7 +1,7 @@
 -- What is known of a located program, and that so a unit of it can be laid.
-use Rattle.std.proofs.Common.{◌≡◌, ℕ, zero, suc, ◌+◌, ◌*◌, ◌<◌, ◌≤◌, ◌^◌, refl, sym, ◌∙◌, ap, subst, arith, true, List, [], ◌∷◌, length, map, drop, Option, Some, slice_get}
-use Rattle.std.specs.Prelude.{IsTrue, sum_by}
-use Rattle.std.specs.List.{AllZip, list_all}
+use Rattle.std.proofs.Common.{◌≡◌, ℕ, zero, suc, ◌+◌, ◌*◌, ◌<◌, ◌≤◌, ◌^◌, refl, sym, ◌∙◌, ap, subst, arith, List, [], ◌∷◌, length, map, drop, Option, Some, slice_get}
+use Rattle.std.specs.Prelude.{sum_by}
+use Rattle.std.specs.List.{AllZip}
 use Rattle.std.proofs.lemmas.List.{length-map}
 use Rattle.std.proofs.lemmas.List.Sums.{sum_by-take-drop, sum_by-take-le}
 use Rattle.std.proofs.lemmas.Option.{slice_get_within}
@@ -17,7 +17,7 @@ use Rattle.cmm_graph.specs.Counterpart.{IsGraphOf, parameter_targets, taken_at}
 use Rattle.cmm_emit_laws.specs.Laying.{FramesCanBeMade}
 use Rattle.cmm_emit_laws.specs.Naming.{GraphsAreNamed}
 use Rattle.cmm_flow.specs.Flow.{IsFlow}
-use Rattle.cmm_flow.specs.Laws.{AnswersAreGraphs, AnswersWaitOnce}
+use Rattle.cmm_flow.specs.Laws.{AnswersAreGraphs, AnswersPassFew, AnswersWaitOnce}
 use Rattle.cmm_allocate.specs.declared.procedure.ProcedurePlaces.{ProcedurePlaces}
 use Rattle.cmm_allocate.specs.Places.{HasPlaces, HavePlaces}
 use Rattle.cmm_emit.specs.declared.context.Context.{Context}
@@ -30,8 +30,8 @@ use Rattle.cmm_emit.proofs.Procedures.{can_be_laid}
 use Rattle.cmm_emit.specs.Contexts.{first_label, place_in}
 use Rattle.cmm_emit.specs.Labels.{labels_from}
 use Rattle.cmm_emit.specs.LaidProcedures.{CanAllBeLaidIn}
-use Rattle.cmm_emit.specs.Outlines.{IsOutlineIn, number_symbols, own, share, symbol_count}
-use Rattle.cmm_emit.specs.Premises.{AreShort, CanBeCoded, can_be_coded}
+use Rattle.cmm_emit.specs.Outlines.{IsOutlineIn, first_own, number_symbols, own, share}
+use Rattle.cmm_emit.specs.Premises.{AreShort}
 use Rattle.cmm_emit.specs.declared.outline.Outline.{Outline}
 
 -- ---- lists side by side
@@ -90,7 +90,7 @@ share_tokens first count procs =
 -- ---- a located program
 
 module _ (p : Program) (graphs : List Graph) (found : List ProcedurePlaces) (range : IsInRange p) (flows : AllZip IsFlow p.procs graphs)
-    (places : HavePlaces p.procs graphs found) (coded : CanBeCoded graphs) (answers : AnswersAreGraphs) (named : GraphsAreNamed) where
+    (places : HavePlaces p.procs graphs found) (passes : AnswersPassFew) (answers : AnswersAreGraphs) (named : GraphsAreNamed) where
   pub graphs_counted : length graphs ≡ length p.procs
   graphs_counted = zip_counted IsFlow p.procs graphs flows
 
@@ -112,9 +112,6 @@ module _ (p : Program) (graphs : List Graph) (found : List ProcedurePlaces) (ran
   pub found_beside : (n : ℕ) (g : Graph) → slice_get graphs n ≡ Some g → (k : ProcedurePlaces) × (slice_get found n ≡ Some k)
   found_beside n g is = there_at found n (let less = slice_get_within graphs n g is in omega (arith, less, graphs_counted, found_counted))
 
-  pub coded_at : (n : ℕ) (g : Graph) → slice_get graphs n ≡ Some g → list_all (λ node. can_be_coded node.kind) g.nodes ≡ true
-  coded_at n g is = all_get (λ g. IsTrue (list_all (λ node. can_be_coded node.kind) g.nodes)) graphs n g coded is
-
   pub continuations_counted : (n : ℕ) (q : Proc) (g : Graph) → slice_get p.procs n ≡ Some q → slice_get graphs n ≡ Some g → length g.continuations ≡ length q.conts
   continuations_counted n q g is also =
       sym (length-map g.continuations (taken_at g))
@@ -124,14 +121,14 @@ module _ (p : Program) (graphs : List Graph) (found : List ProcedurePlaces) (ran
   labels_of short n q g is also =
       let k = found_beside n g also in
       let c : Context = record { variables = 0; places = (k.0).locals; zeroed = map (place_in k.0) (k.0).zeroed; frame = (k.0).frame; landings = []; nodes = []; sites = [] } in
-      let y : Targets = record { procedures = []; data_labels = []; registers = []; limit = record { number = 0 } } in
+      let y : Targets = record { procedures = []; data_labels = []; registers = []; limit = record { number = 0 }; client = record { number = 0 } } in
       omega (arith, short n q g k.0 is also k.1 c y refl refl refl, nodes_cost c y g.nodes, sites_few p q (range_of n q is))
 
   -- ---- a unit of it
 
   -- all its labels have numbers of 32 bits
   pub labels_fit : AreShort p.procs graphs found → length p.labels ≤ 1000000 → (first count : ℕ) → first + count ≤ length p.procs →
-      first_label (symbol_count p + 1) (share first count p.procs) (share first count graphs) count ≤ 2 ^ 32
+      first_label (first_own p) (share first count p.procs) (share first count graphs) count ≤ 2 ^ 32
   labels_fit short few first count within =
       let tokens = range.tokens in
       let registers = range.registers in
@@ -142,7 +139,7 @@ module _ (p : Program) (graphs : List Graph) (found : List ProcedurePlaces) (ran
       in
       omega (
         arith,
-        first_label_few (symbol_count p + 1) (share first count p.procs) (share first count graphs) count each,
+        first_label_few (first_own p) (share first count p.procs) (share first count graphs) count each,
         share_tokens first count p.procs,
         tokens,
         registers,
@@ -191,13 +188,13 @@ module _ (p : Program) (graphs : List Graph) (found : List ProcedurePlaces) (ran
           let there = share_in o.first count graphs n g beside also in
           let q = procedure_beside m g there in
           let k = found_beside m g there in
-          can_be_laid p q.0 g k.0 (first_label (symbol_count p + 1) (own o p.procs) (own o graphs) n) c o.targets (range_of m q.0 q.1) (graph_of m q.0 g q.1 there)
+          can_be_laid p q.0 g k.0 (first_label (first_own p) (own o p.procs) (own o graphs) n) c o.targets (range_of m q.0 q.1) (graph_of m q.0 g q.1 there)
           (places_at p.procs graphs found m q.0 g k.0 places q.1 there k.1)
           (outline.contexts.each n q.0 g k.0 c (at_procedure n q.0 less q.1) also (at_found n k.0 less k.1) is)
           procedures_counted
           (sym (ap (λ (ls : List Label). length ls) outline.data_labels ∙ length-labels_from (length p.globals) (length p.labels)))
           (sym (ap (λ (ls : List Label). length ls) outline.registers ∙ length-labels_from 0 (length p.globals)))
-          (named p q.0 g (graph_of m q.0 g q.1 there)).named (coded_at m g there) made (waits p q.0 g (range_of m q.0 q.1) (flow_of m q.0 g q.1 there));
+          (named p q.0 g (graph_of m q.0 g q.1 there)).named (passes p q.0 g (range_of m q.0 q.1) (flow_of m q.0 g q.1 there)) made (waits p q.0 g (range_of m q.0 q.1) (flow_of m q.0 g q.1 there));
       short = λ n q c g is is_context also.
           let less = slice_get_within o.contexts n c is_context in
           let m = o.first + n in

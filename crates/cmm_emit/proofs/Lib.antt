@@ -26,6 +26,7 @@ mod Standing
 mod Symbols
 mod Coding
 mod Weakening
+mod YieldSites
 mod Whole
 mod Inside
 mod UnitSites
@@ -39,4 +40,5 @@ mod Joining
 mod Making
 mod Meant
 mod SmallRows
+mod YieldRows
 mod Closing

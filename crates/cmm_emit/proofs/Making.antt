@@ -109,9 +109,9 @@ symbols_more_counted relative old new count is =
 pub one_more_counted : (old new : List Meaning) → new ≡ old ++ Inner false ∷ [] → length new ≡ length old + 1
 one_more_counted old new is = ap (λ (ms : List Meaning). length ms) is ∙ length-append old (Inner false ∷ [])
 
-module _ (g d m t : ℕ) (l0 l1 l2 l3 l4 l5 : List Meaning) (e0 : l0 ≡ []) (e1 : l1 ≡ l0 ++ symbol_labels false (length l0) g)
+module _ (g d m t : ℕ) (l0 l1 l2 l3 l4 l5 l6 : List Meaning) (e0 : l0 ≡ []) (e1 : l1 ≡ l0 ++ symbol_labels false (length l0) g)
     (e2 : l2 ≡ l1 ++ symbol_labels false (length l1) d) (e3 : l3 ≡ l2 ++ symbol_labels true (length l2) m)
-    (e4 : l4 ≡ l3 ++ Inner false ∷ []) (e5 : l5 ≡ l4 ++ replicate t (Inner false)) where
+    (e4 : l4 ≡ l3 ++ Inner false ∷ []) (e5 : l5 ≡ l4 ++ Inner false ∷ []) (e6 : l6 ≡ l5 ++ replicate t (Inner false)) where
   first_is : l1 ≡ symbol_labels false 0 g
   first_is = e1 ∙ ap (λ (ms : List Meaning). ms ++ symbol_labels false (length ms) g) e0
 
@@ -134,13 +134,17 @@ module _ (g d m t : ℕ) (l0 l1 l2 l3 l4 l5 : List Meaning) (e0 : l0 ≡ []) (e1
   third_counted = symbols_more_counted true l2 l3 m e3 ∙ ap (λ (n : ℕ). n + m) second_counted
 
   pub fourth_counted : length l4 ≡ g + d + m + 1
-  fourth_counted = ap (λ (ms : List Meaning). length ms) e4 ∙ (length-append l3 (Inner false ∷ []) ∙ ap (λ (n : ℕ). n + 1) third_counted)
+  fourth_counted = one_more_counted l3 l4 e4 ∙ ap (λ (n : ℕ). n + 1) third_counted
 
-  pub outline_labels : l5 ≡ symbol_labels false 0 (g + d) ++ (symbol_labels true (g + d) m ++ replicate (1 + t) (Inner false))
+  pub fifth_counted : length l5 ≡ g + d + m + 2
+  fifth_counted = omega (arith, one_more_counted l4 l5 e5, fourth_counted)
+
+  pub outline_labels : l6 ≡ symbol_labels false 0 (g + d) ++ (symbol_labels true (g + d) m ++ replicate (2 + t) (Inner false))
   outline_labels =
       let inner = replicate t (Inner false) in
-      let one : replicate (1 + t) (Inner false) ≡ Inner false ∷ inner = let n : 1 + t ≡ suc t = omega arith in rw n refl in
-      e5 ∙ (ap (λ (ms : List Meaning). ms ++ inner) (e4 ∙ ap (λ (ms : List Meaning). ms ++ Inner false ∷ []) third_is)
-      ∙ (append_assoc (symbol_labels false 0 (g + d) ++ symbol_labels true (g + d) m) (Inner false ∷ []) inner
-      ∙ (append_assoc (symbol_labels false 0 (g + d)) (symbol_labels true (g + d) m) (Inner false ∷ inner)
-      ∙ ap (λ (ms : List Meaning). symbol_labels false 0 (g + d) ++ (symbol_labels true (g + d) m ++ ms)) (sym one))))
+      let both : replicate (2 + t) (Inner false) ≡ Inner false ∷ Inner false ∷ inner = let n : 2 + t ≡ suc (suc t) = omega arith in rw n refl in
+      e6 ∙ (ap (λ (ms : List Meaning). ms ++ inner) (e5 ∙ ap (λ (ms : List Meaning). ms ++ Inner false ∷ []) (e4 ∙ ap (λ (ms : List Meaning). ms ++ Inner false ∷ []) third_is))
+      ∙ (append_assoc ((symbol_labels false 0 (g + d) ++ symbol_labels true (g + d) m) ++ Inner false ∷ []) (Inner false ∷ []) inner
+      ∙ (append_assoc (symbol_labels false 0 (g + d) ++ symbol_labels true (g + d) m) (Inner false ∷ []) (Inner false ∷ inner)
+      ∙ (append_assoc (symbol_labels false 0 (g + d)) (symbol_labels true (g + d) m) (Inner false ∷ Inner false ∷ inner)
+      ∙ ap (λ (ms : List Meaning). symbol_labels false 0 (g + d) ++ (symbol_labels true (g + d) m ++ ms)) (sym both)))))

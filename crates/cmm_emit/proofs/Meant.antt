@@ -16,7 +16,7 @@ use Rattle.cmm_emit.proofs.Numbering.{inner_at, length-symbol_labels, symbol_at}
 use Rattle.cmm_emit.specs.Contexts.{first_label}
 use Rattle.cmm_emit.specs.Labels.{symbol_labels}
 use Rattle.cmm_emit.specs.LaidProcedures.{HaveLabels, HaveLabelsIn}
-use Rattle.cmm_emit.specs.Outlines.{number_symbols, share, symbol_count}
+use Rattle.cmm_emit.specs.Outlines.{first_own, number_symbols, share, symbol_count}
 use Rattle.cmm_emit.specs.declared.outline.Outline.{Outline}
 
 left_at : {A : Type 0} (xs ys : List A) (n : ℕ) → n < length xs → slice_get (xs ++ ys) n ≡ slice_get xs n
@@ -31,12 +31,12 @@ right_at (x ∷ xs) ys (suc n) less = let e : suc n - suc (length xs) ≡ n - le
 
 module _ (p : Program) (procs : List Proc) (graphs : List Graph) (count : ℕ) (counted : length procs ≡ count) (labels : List Meaning)
     (is : labels ≡ symbol_labels false 0 (number_symbols p)
-    ++ (symbol_labels true (number_symbols p) (length p.procs) ++ replicate (first_label 1 procs graphs count) (Inner false))) where
+    ++ (symbol_labels true (number_symbols p) (length p.procs) ++ replicate (first_label 2 procs graphs count) (Inner false))) where
   abbrev numbers : ℕ
   numbers = number_symbols p
 
   abbrev total : ℕ
-  total = first_label 1 procs graphs count
+  total = first_label 2 procs graphs count
 
   abbrev left : List Meaning
   left = symbol_labels false 0 numbers
@@ -56,8 +56,8 @@ module _ (p : Program) (procs : List Proc) (graphs : List Graph) (count : ℕ) (
   right_counted : length right ≡ total
   right_counted = length-replicate total (Inner false)
 
-  grows : 1 ≤ total
-  grows = first_label_grows 1 procs graphs count
+  grows : 2 ≤ total
+  grows = first_label_grows 2 procs graphs count
 
   labels_counted : length labels ≡ symbol_count p + total
   labels_counted =
@@ -98,11 +98,12 @@ module _ (p : Program) (procs : List Proc) (graphs : List Graph) (count : ℕ) (
 
   pub have_labels : HaveLabels p procs graphs 0 labels
   have_labels = record {
-    count = labels_counted ∙ (sym (first_label_shift (symbol_count p) 1 procs graphs count) ∙ ap (λ (n : ℕ). first_label (symbol_count p + 1) procs graphs n) (sym counted));
+    count = labels_counted ∙ (sym (first_label_shift (symbol_count p) 2 procs graphs count) ∙ ap (λ (n : ℕ). first_label (first_own p) procs graphs n) (sym counted));
     symbols = λ k less. symbol_is k less (nat_le numbers k) refl;
     limit = free (symbol_count p) (omega arith) (omega (arith, grows));
+    client = free (symbol_count p + 1) (omega arith) (omega (arith, grows));
     inner = λ k least less. ap is_inner (get_or_from_slice_get labels k (Inner false) (Inner false) (free k least (omega (arith, less, labels_counted))));
-    fresh = λ k least less. free k (let base = first_none (symbol_count p + 1) procs graphs in omega (arith, least, base)) (omega (arith, less, labels_counted));
+    fresh = λ k least less. free k (let base = first_none (first_own p) procs graphs in omega (arith, least, base)) (omega (arith, less, labels_counted));
   }
 
 -- of the outline of a unit

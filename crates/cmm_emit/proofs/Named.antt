@@ -1,5 +1,5 @@
 -- What nodes name is there.
-use Rattle.std.proofs.Common.{◌≡◌, ℕ, zero, suc, ◌+◌, ◌<◌, ◌≤◌, ◌^◌, refl, sym, ◌∙◌, ap, subst, arith, Bool, true, false, List, [], ◌∷◌, length, map, get_or, Option, Some, None}
+use Rattle.std.proofs.Common.{◌≡◌, ℕ, zero, suc, ◌+◌, ◌<◌, ◌≤◌, ◌^◌, refl, sym, ◌∙◌, ap, subst, arith, Bool, true, false, List, [], ◌∷◌, length, map, get_or, Option, Some, None, slice_get}
 use Rattle.std.specs.Prelude.{◌&&◌, nat_le, nat_lt, is_some}
 use Rattle.std.specs.List.{list_all, range_with_len}
 use Rattle.std.proofs.lemmas.List.{length-map}
@@ -17,6 +17,7 @@ use Rattle.cmm_chain.specs.declared.frame.Frame.{Frame}
 use Rattle.cmm_chain.specs.declared.frame.Location.{Location}
 use Rattle.cmm_chain.specs.declared.frame.Location.TheVariants.{Slot, Saved, Temp}
 use Rattle.cmm_program.specs.declared.procedure.Proc.{Proc}
+use Rattle.cmm_program.specs.declared.procedure.Site.{Site}
 use Rattle.cmm_program.specs.declared.procedure.Target.{Target}
 use Rattle.cmm_program.specs.declared.procedure.Target.TheVariants as target
 use Rattle.cmm_program.specs.declared.program.Program.{Program}
@@ -30,6 +31,7 @@ use Rattle.cmm_graph.specs.declared.node.Node.{Node}
 use Rattle.cmm_graph.specs.declared.node.NodeKind.{NodeKind}
 use Rattle.cmm_graph.specs.declared.node.NodeKind.TheVariants.{Entry, CopyIn, Assign, Store, Branch, Switch, Call, Yield, Jump, Cut, Return, Host, Goto, Stop}
 use Rattle.cmm_graph.specs.declared.number.NodeId.{NodeId}
+use Rattle.cmm_graph.specs.declared.number.SiteId.{SiteId}
 use Rattle.cmm_graph.specs.declared.number.Variable.{Variable}
 use Rattle.cmm_graph.specs.declared.operand.Argument.{Argument}
 use Rattle.cmm_graph.specs.declared.operand.Destination.{Destination}
@@ -48,11 +50,11 @@ use Rattle.cmm_select.specs.declared.operand.Operand.TheVariants.{Held}
 use Rattle.cmm_select.specs.declared.source.Source.TheVariants.{Place}
 use Rattle.cmm_calls.specs.Copying.{are_copied_first, is_copied_first, is_destination as is_code_destination}
 use Rattle.cmm_calls.specs.Values.{are_given_first, are_taken_first, is_given_first, is_operand as is_code_operand, is_taken_first}
-use Rattle.cmm_emit_laws.specs.ProgramCode.{is_coded, names_register}
+use Rattle.cmm_emit_laws.specs.ProgramCode.{names_register}
 use Rattle.cmm_allocate.specs.Slots.{slot_of, slots}
 use Rattle.cmm_emit.specs.declared.context.Context.{Context}
 use Rattle.cmm_emit.specs.declared.context.Targets.{Targets}
-use Rattle.cmm_emit.specs.Naming.{argument_operand, argument_operands, can_begin, can_come_back, can_copy, can_give, can_go_to, can_land, can_take, code_operand, constant_operand, has_argument, has_arm, has_both, has_constant, has_destination, has_kind, has_landing, has_local, has_node, has_operand, has_rvalue, has_site, has_target, local_number, place, target_destination, target_destinations, variable_places}
+use Rattle.cmm_emit.specs.Naming.{argument_operand, argument_operands, can_begin, can_come_back, can_copy, can_give, can_go_to, can_land, can_send, can_take, code_operand, code_operands, constant_operand, has_argument, has_arm, has_both, has_constant, has_destination, has_kind, has_landing, has_local, has_node, has_operand, has_rvalue, has_site, has_target, local_number, place, target_destination, target_destinations, variable_places}
 use Rattle.cmm_flow.specs.Few.{passes_few}
 
 -- ---- tests
@@ -239,6 +241,32 @@ module _ (p : Program) (q : Proc) (g : Graph) (c : Context) (y : Targets) (has :
       (join (has_operand c y to && is_code_operand c.frame (code_operand c y to)) (list_all (has_argument c y) args)
       (join (has_operand c y to) (is_code_operand c.frame (code_operand c y to)) (operand_there to is both.0) (operand_fine to is both.0)) pass.0) pass.1
 
+  -- ---- values
+
+  values_there : (vs : List Operand) → list_all (is_operand g) vs ≡ true → list_all (names_operand p q) vs ≡ true →
+      (list_all (has_operand c y) vs ≡ true) × (list_all (is_code_operand c.frame) (code_operands c y vs) ≡ true)
+  values_there [] are named = (refl, refl)
+  values_there (o ∷ os) are named =
+      let first = and_parts (is_operand g o) (list_all (is_operand g) os) are in
+      let second = and_parts (names_operand p q o) (list_all (names_operand p q) os) named in
+      let rest = values_there os first.1 second.1 in (
+        join (has_operand c y o) (list_all (has_operand c y) os) (operand_there o first.0 second.0) rest.0,
+        join (is_code_operand c.frame (code_operand c y o)) (list_all (is_code_operand c.frame) (code_operands c y os)) (operand_fine o first.0 second.0) rest.1,
+      )
+
+  values_given : (i : ℕ) (vs : List Operand) → are_given_first i (code_operands c y vs) ≡ true
+  values_given i [] = refl
+  values_given i (o ∷ os) = join (is_given_first i (code_operand c y o)) (are_given_first (suc i) (code_operands c y os)) (operand_given i o) (values_given (suc i) os)
+
+  sends : (vs : List Operand) → list_all (is_operand g) vs ≡ true → list_all (names_operand p q) vs ≡ true → nat_le (length vs) 64 ≡ true → can_send c y vs ≡ true
+  sends vs are named few =
+      let there = values_there vs are named in
+      let out = code_operands c y vs in
+      let count : nat_le (length out) 64 ≡ true = subst (λ (n : ℕ). nat_le n 64 ≡ true) (sym (length-map vs (code_operand c y))) few in
+      join (list_all (has_operand c y) vs) (can_give c y out) there.0
+      (join (nat_le (length out) 64 && list_all (is_code_operand c.frame) out) (are_given_first 0 out)
+      (join (nat_le (length out) 64) (list_all (is_code_operand c.frame) out) count there.1) (values_given 0 vs))
+
   -- ---- what takes values
 
   target_there : (t : Target) → is_target g t ≡ true → names_register p t ≡ true → has_target c y t ≡ true
@@ -318,6 +346,11 @@ module _ (p : Program) (q : Proc) (g : Graph) (c : Context) (y : Targets) (has :
           grind (arith, nat_tests, less)
       by None there e = absurd (cc)
 
+  site_there : (n : SiteId) (site : Site) → slice_get q.sites n.number ≡ Some site → has_site c n ≡ true
+  site_there n site is =
+      let less : n.number < length c.sites = omega (arith, slice_get_within q.sites n.number site is, has.sites) in
+      grind (arith, nat_tests, less)
+
   arm_there : (arm : Arm) → is_arm g arm ≡ true → has_arm c y arm ≡ true
   arm_there arm is = node_there is_step arm.to is
 
@@ -367,7 +400,6 @@ module _ (p : Program) (q : Proc) (g : Graph) (c : Context) (y : Targets) (has :
     pub targets : list_all (names_register p) (targets kind) ≡ true
     pub registers : reads_registers p kind ≡ true
     pub few : passes_few kind ≡ true
-    pub coded : is_coded kind ≡ true
     pub site : HasSite q g kind
 
   next_there : (first : Bool) (next : NodeId) → (first && leads_to g is_step next) ≡ true → (first ≡ true) × (has_node c next ≡ true)
@@ -405,11 +437,14 @@ module _ (p : Program) (q : Proc) (g : Graph) (c : Context) (y : Targets) (has :
       let both = and_parts (is_operand g callee && list_all (is_argument g) arguments) (are_exits g exits) fine.valid in
       let parts = and_parts (is_operand g callee) (list_all (is_argument g) arguments) both.0 in
       let few = and_parts (nat_le (length arguments) 64) (nat_le (length exits.returns) 64) fine.few in
-      let less : site.number < length c.sites = omega (arith, slice_get_within q.sites site.number fine.site.site fine.site.is_site, has.sites) in
-      let there : has_site c site ≡ true = grind (arith, nat_tests, less) in
       join (has_site c site && can_go_to c y callee arguments) (can_come_back c exits)
-      (join (has_site c site) (can_go_to c y callee arguments) there (can_go callee arguments parts.0 parts.1 fine.operands few.0)) (comes_back exits both.1 few.1)
-  kind_there (Yield site values exits) fine = absurd (let no = fine.coded in cc)
+      (join (has_site c site) (can_go_to c y callee arguments) (site_there site fine.site.site fine.site.is_site) (can_go callee arguments parts.0 parts.1 fine.operands few.0))
+      (comes_back exits both.1 few.1)
+  kind_there (Yield site values exits) fine =
+      let both = and_parts (list_all (is_operand g) values) (are_exits g exits) fine.valid in
+      let few = and_parts (nat_le (length values) 64) (nat_le (length exits.returns) 64) fine.few in
+      join (has_site c site && can_send c y values) (can_come_back c exits)
+      (join (has_site c site) (can_send c y values) (site_there site fine.site.site fine.site.is_site) (sends values both.0 fine.operands few.0)) (comes_back exits both.1 few.1)
   kind_there (Jump callee arguments) fine =
       let parts = and_parts (is_operand g callee) (list_all (is_argument g) arguments) fine.valid in
       can_go callee arguments parts.0 parts.1 fine.operands fine.few

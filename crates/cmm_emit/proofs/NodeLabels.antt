@@ -4,10 +4,10 @@ use Rattle.std.proofs.lemmas.Bool.Decides.{nat_tests}
 use Rattle.std.proofs.lemmas.List.{get_or-set_other, get_or-set_same}
 use Rattle.std.proofs.lemmas.Option.{get_or_from_slice_get, slice_get-get_or, slice_get_within}
 use Rattle.rv_asm.proofs.Shared.{AreKept, fits_kept, kept_placed}
-use Rattle.rv_asm.specs.Assembly.{IsInner, IsLabel, IsTarget}
+use Rattle.rv_asm.specs.Assembly.{IsInner, IsLabel, IsTarget, is_inner, is_target, meaning}
 use Rattle.rv_asm.specs.declared.part.Label.{Label}
 use Rattle.rv_asm.specs.declared.part.Meaning.{Meaning}
-use Rattle.rv_asm.specs.declared.part.Meaning.TheVariants.{Inner}
+use Rattle.rv_asm.specs.declared.part.Meaning.TheVariants.{Inner, Outer}
 use Rattle.rv_asm.specs.declared.part.Part.TheVariants.{Jump as JumpPart, Place}
 use Rattle.cmm_bitset.proofs.Shared.{has-set_other, has-set_same}
 use Rattle.cmm_bitset.specs.Sets.{has}
@@ -22,6 +22,14 @@ use Rattle.cmm_emit.specs.Naming.{has_kind, label_at, site_label}
 use Rattle.cmm_emit.specs.Standing.{CanWait, IsReady, labels_with}
 
 -- ---- labels that are kept stay ready
+
+-- control can go to a place in the code
+pub inner_target : (labels : List Meaning) (l : Label) → IsInner labels l → IsTarget labels l
+inner_target labels l is = (is.0, inner_is_target (meaning labels l) is.1)
+  where
+    inner_is_target : (m : Meaning) → IsTrue (is_inner m) → IsTrue (is_target m)
+    inner_is_target (Inner placed) is = refl
+    inner_is_target (Outer symbol relative) is = absurd (cc (is))
 
 module _ {old new : List Meaning} (kept : AreKept old new) where
   label_kept : (l : Label) → IsLabel old l → IsLabel new l
@@ -47,6 +55,7 @@ module _ {old new : List Meaning} (kept : AreKept old new) where
     registers = λ i d h. label_kept (get_or y.registers i d) (ready.registers i d h);
     few_registers = ready.few_registers;
     limit = inner_kept y.limit ready.limit;
+    client = inner_kept y.client ready.client;
   }
 
 -- ---- a node is placed
@@ -99,7 +108,8 @@ get_other xs n m w v differ is =
 pub waits_within : (p : Context) (y : Targets) (kind : NodeKind) (site : SiteId) → IsTrue (has_kind p y kind) → site_of kind ≡ Some site → site.number < length p.sites
 waits_within p y (Call at callee arguments exits) site has waits =
     let same : at ≡ site = cc in subst (λ (z : SiteId). z.number < length p.sites) same (grind (arith, nat_tests, has))
-waits_within p y (Yield at values exits) site has waits = absurd (cc)
+waits_within p y (Yield at values exits) site has waits =
+    let same : at ≡ site = cc in subst (λ (z : SiteId). z.number < length p.sites) same (grind (arith, nat_tests, has))
 waits_within p y (Entry formals next) site has waits = absurd (cc)
 waits_within p y (CopyIn to next) site has waits = absurd (cc)
 waits_within p y (Assign to value next) site has waits = absurd (cc)

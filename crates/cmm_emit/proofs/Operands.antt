@@ -30,9 +30,10 @@ use Rattle.cmm_image_machine.specs.Machine.{Launch}
 use Rattle.cmm_located.specs.Compiled.{Compiled, place_of}
 use Rattle.cmm_emit_laws.specs.Finished.{Finished}
 use Rattle.cmm_emit_laws.specs.NodeCode.{AreOperandsOf, AreTargetsOf, IsDestinationOf, IsOperandOf, IsTargetOf}
+use Rattle.cmm_yield_laws.specs.Yielding.{AreNumbersOf}
 use Rattle.cmm_emit.specs.declared.context.Context.{Context}
 use Rattle.cmm_emit.specs.declared.context.Targets.{Targets}
-use Rattle.cmm_emit.specs.Naming.{IsNamed, argument_operand, argument_operands, code_destination, code_operand, has_argument, has_destination, has_local, has_operand, has_target, label_at, local_number, place, target_destination, target_destinations}
+use Rattle.cmm_emit.specs.Naming.{IsNamed, argument_operand, argument_operands, code_destination, code_operand, code_operands, has_argument, has_destination, has_local, has_operand, has_target, label_at, local_number, place, target_destination, target_destinations}
 use Rattle.cmm_emit.specs.Standing.{IsContextOf, IsReady}
 use Rattle.rv_table.specs.declared.memory_map.TheConstants.{GLOBALS_OFFSET}
 
@@ -62,6 +63,11 @@ module _ (labels : List Meaning) (p : Context) (y : Targets) (ready : IsReady la
   operands_are_ready (argument ∷ arguments) all =
       All-cons (IsOperand labels) (argument_operand p y argument) (argument_operands p y arguments)
       (operand_is_ready argument.value (grind (arith, all))) (operands_are_ready arguments (grind (arith, all)))
+
+  pub values_are_ready : (values : List Operand) → IsTrue (list_all (has_operand p y) values) → All (IsOperand labels) (code_operands p y values)
+  values_are_ready [] all = All-nil (IsOperand labels)
+  values_are_ready (o ∷ os) all =
+      All-cons (IsOperand labels) (code_operand p y o) (code_operands p y os) (operand_is_ready o (grind (arith, all))) (values_are_ready os (grind (arith, all)))
 
   pub target_is_ready : (t : Target) → IsTrue (has_target p y t) → IsDestination labels (target_destination p y t)
   target_is_ready (target.Variable number width) there = place_is_ready (local.Variable (record { number = number })) there
@@ -112,6 +118,10 @@ module _ (labels : List Meaning) (p : Context) (y : Targets) (ready : IsReady la
   operands_are_of [] all = tt
   operands_are_of (argument ∷ arguments) all =
       (operand_is_of argument.value (grind (arith, all)), operands_are_of arguments (grind (arith, all)))
+
+  pub values_are_of : (values : List Operand) → IsTrue (list_all (has_operand p y) values) → AreNumbersOf s c l f q values (code_operands p y values)
+  values_are_of [] all = tt
+  values_are_of (o ∷ os) all = (operand_is_of o (grind (arith, all)), values_are_of os (grind (arith, all)))
 
   pub target_is_of : (t : Target) → IsTrue (has_target p y t) → IsTargetOf s c l f q t (target_destination p y t)
   target_is_of (target.Variable number width) there = ap into.Place (sym (place_is_of (local.Variable (record { number = number })) there))

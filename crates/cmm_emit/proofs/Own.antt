@@ -12,7 +12,7 @@ use Rattle.cmm_graph.specs.declared.node.NodeKind.TheVariants.{Entry, CopyIn, As
 use Rattle.cmm_emit.specs.declared.context.Context.{Context}
 use Rattle.cmm_emit.specs.declared.context.Targets.{Targets}
 use Rattle.cmm_emit.specs.LaidNodes.{IsOwn, PlacesOwn}
-use Rattle.cmm_emit.specs.Naming.{can_come_back, can_go_to, has_kind, has_site, label_at, site_label}
+use Rattle.cmm_emit.specs.Naming.{can_come_back, can_go_to, can_send, has_kind, has_site, label_at, site_label}
 use Rattle.cmm_emit.specs.Standing.{CanWait, labels_with}
 
 set_there : {A : Type 0} (xs : List A) (n : ℕ) (x : A) → n < length xs → slice_get (set xs n x) n ≡ Some x
@@ -62,7 +62,11 @@ module _ (p : Context) where
       let one = and_parts (has_site p site) (can_go_to p y callee arguments) two.0 in
       let less : site.number < length p.sites = grind (arith, nat_tests, one.0) in
       own_site labels site less waits
-  own_with y (Yield site values exits) labels has waits = absurd (cc)
+  own_with y (Yield site values exits) labels has waits =
+      let two = and_parts (has_site p site && can_send p y values) (can_come_back p exits) has in
+      let one = and_parts (has_site p site) (can_send p y values) two.0 in
+      let less : site.number < length p.sites = grind (arith, nat_tests, one.0) in
+      own_site labels site less waits
   own_with y (Entry formals next) labels has waits = own_none labels
   own_with y (CopyIn to next) labels has waits = own_none labels
   own_with y (Assign to value next) labels has waits = own_none labels

@@ -31,7 +31,7 @@ use Rattle.cmm_live.specs.Exact.{AreLiveSets, set_at}
 use Rattle.cmm_live.specs.Locals.{local_count}
 use Rattle.cmm_calls.specs.Values.{is_taken_first}
 use Rattle.cmm_emit_laws.specs.Laying.{FramesCanBeMade}
-use Rattle.cmm_emit_laws.specs.ProgramCode.{is_coded, names_register, names_registers}
+use Rattle.cmm_emit_laws.specs.ProgramCode.{names_register, names_registers}
 use Rattle.cmm_allocate.specs.declared.procedure.ProcedurePlaces.{ProcedurePlaces}
 use Rattle.cmm_allocate.specs.Compiling.{no_place}
 use Rattle.cmm_allocate.specs.Places.{HasPlaces}
@@ -52,8 +52,7 @@ use Rattle.cmm_emit.proofs.Named.{Has, join, kind_there, all_at, is_slot, slot_t
 use Rattle.cmm_emit.proofs.WaitingNodes.{waits_apart}
 use Rattle.cmm_emit.specs.Contexts.{IsMadeFor, place_in}
 use Rattle.cmm_emit.specs.LaidProcedures.{CanBeLaid}
-use Rattle.cmm_flow.specs.Few.{passes_few}
-use Rattle.cmm_emit.specs.Premises.{can_be_coded}
+use Rattle.cmm_flow.specs.Few.{PassFew, passes_few}
 
 -- ---- what is made 0 has slots
 
@@ -167,7 +166,7 @@ module _ (p : Program) (q : Proc) (g : Graph) (k : ProcedurePlaces) (first : ℕ
   }
 
   -- each node names what is there
-  module _ (named : list_all (λ node. names_registers p node.kind) g.nodes ≡ true) (coded : list_all (λ node. can_be_coded node.kind) g.nodes ≡ true) where
+  module _ (named : list_all (λ node. names_registers p node.kind) g.nodes ≡ true) (few : PassFew g) where
     fine : (n : ℕ) (node : Node) → slice_get g.nodes n ≡ Some node → has_kind c y node.kind ≡ true
     fine n node is =
         let valid = (and_parts (nat_lt 0 node.tokens) (is_kind g node.kind) (list_all_get (is_node g) g.nodes n node graph.valid.nodes is)).1 in
@@ -175,14 +174,12 @@ module _ (p : Program) (q : Proc) (g : Graph) (k : ProcedurePlaces) (first : ℕ
         let two = and_parts (list_all (names_operand p q) (operands node.kind) && list_all (is_target p q) (targets node.kind)) (reads_registers p node.kind) names in
         let one = and_parts (list_all (names_operand p q) (operands node.kind)) (list_all (is_target p q) (targets node.kind)) two.0 in
         let there = and_parts (list_all (names_register p) (targets node.kind)) (reads_registers p node.kind) (list_all_get (λ node. names_registers p node.kind) g.nodes n node named is) in
-        let may = and_parts (is_coded node.kind) (passes_few node.kind) (list_all_get (λ node. can_be_coded node.kind) g.nodes n node coded is) in
         kind_there p q g c y context_has node.kind (record {
           valid = valid;
           operands = one.0;
           targets = there.0;
           registers = two.1;
-          few = may.1;
-          coded = may.0;
+          few = list_all_get (λ node. passes_few node.kind) g.nodes n node few is;
           site = all_get (λ node. HasSite q g node.kind) g.nodes n node graph.sites is;
         })
 

@@ -122,7 +122,7 @@ tokens qs = sum_by (λ q. q.tokens) qs
 pub record AreRanged (p : Program) (first : ℕ) (us : List UnitCode) : Type 0 where
   pub whole : All IsWhole us
   pub aligned : size us % 4 ≡ 0
-  pub few : size us ≤ 256 * tokens (drop first p.procs) + 8 * length us
+  pub few : size us ≤ 256 * tokens (drop first p.procs) + 16 * length us
   pub procedure_count : (at : ℕ) → length (procedure_addresses at us) + first ≡ length p.procs
   pub procedures : (at n : ℕ) → at % 4 ≡ 0 → code_base ≤ at → at + size us ≤ code_base + n → list_all (is_in_code n) (procedure_addresses at us) ≡ true
   pub ascending : (at before : ℕ) → before < at → ascend_above before (procedure_addresses at us) ≡ true

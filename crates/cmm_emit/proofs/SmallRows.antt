@@ -1,9 +1,6 @@
 -- A worked row: what is required beside the answers of `place_program` holds of a program with a call, and the site of the call stands behind it.
 --     main() { f(); return (7); }    f() { return (); }
 use Rattle.std.proofs.Common.{◌≡◌, ℕ, zero, suc, true, refl, sym, subst, arith, List, [], ◌∷◌, None, Some, slice_get}
-use Rattle.std.specs.Prelude.{IsTrue}
-use Rattle.std.specs.List.{list_all}
-use Rattle.std.proofs.lemmas.List.Elements.{All-cons, All-nil}
 use Rattle.rv_asm.specs.Appending.{IsBehind}
 use Rattle.rv_asm.specs.declared.part.Label.{Label}
 use Rattle.rv_asm.specs.declared.part.Part.{Part}
@@ -16,7 +13,7 @@ use Rattle.cmm_graph.specs.declared.node.NodeKind.TheVariants.{Call, CopyIn, Ent
 use Rattle.cmm_allocate.specs.declared.procedure.ProcedurePlaces.{ProcedurePlaces}
 use Rattle.cmm_emit.specs.declared.context.Context.{Context}
 use Rattle.cmm_emit.specs.LaidNodes.{SitesStand}
-use Rattle.cmm_emit.specs.Premises.{AreCovered, CanBeCoded, IsCovered, can_be_coded}
+use Rattle.cmm_emit.specs.Premises.{AreCovered, IsCovered}
 use Rattle.cmm_emit.specs.Standing.{SiteStands}
 
 abbrev main-graph : Graph
@@ -32,12 +29,6 @@ small-places = record {
   live = record { before = []; sites = []; cuts = [] };
   zeroed = [];
 }
-
-abbrev CanBeCodedOne : Graph → Type 0
-CanBeCodedOne g = IsTrue (list_all (λ node. can_be_coded node.kind) g.nodes)
-
-coded : CanBeCoded (main-graph ∷ callee-graph ∷ [])
-coded = All-cons CanBeCodedOne main-graph (callee-graph ∷ []) refl (All-cons CanBeCodedOne callee-graph [] refl (All-nil CanBeCodedOne))
 
 main_covered : (k : ℕ) (node : Node) → slice_get main-graph.nodes k ≡ Some node → IsCovered small-places node
 main_covered zero node is =

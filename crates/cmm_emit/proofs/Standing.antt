@@ -37,7 +37,7 @@ pub record Laid : Type 0 where
   pub code : UnitCode
 
 abbrev no_outline : Outline
-no_outline = record { first = 0; contexts = []; entries = []; targets = record { procedures = []; data_labels = []; registers = []; limit = record { number = 0 } } }
+no_outline = record { first = 0; contexts = []; entries = []; targets = record { procedures = []; data_labels = []; registers = []; limit = record { number = 0 }; client = record { number = 0 } } }
 
 abbrev no_unit : Laid
 no_unit = record { at = 0; outline = no_outline; labels = []; parts = []; places = []; code = record { code = []; fixes = []; procedures = []; landings = []; sites = [] } }

@@ -28,7 +28,7 @@ use Rattle.cmm_emit.proofs.SiteNodes.{IsWaited}
 use Rattle.cmm_emit.specs.Contexts.{first_label}
 use Rattle.cmm_emit.specs.Finishing.{places_at}
 use Rattle.cmm_emit.specs.LaidProcedures.{CanAllBeLaidIn}
-use Rattle.cmm_emit.specs.Outlines.{own, share, symbol_count}
+use Rattle.cmm_emit.specs.Outlines.{first_own, own, share}
 use Rattle.cmm_emit.specs.Units.{IsUnit}
 use Rattle.cmm_emit.specs.declared.outline.Outline.{Outline}
 
@@ -95,7 +95,7 @@ module _ (p : Program) (graphs : List Graph) (found : List ProcedurePlaces) (fir
   have = is.finished.done.have
 
   abbrev base : ℕ
-  base = symbol_count p + 1
+  base = first_own p
 
   contexts_counted : length procs ≡ length o.contexts
   contexts_counted = sym is.is_outline.contexts.count

@@ -1,11 +1,11 @@
 -- So the image runs the program, and the text is in range.
-use Rattle.std.proofs.Common.{◌≡◌, ◌⊎◌, inl, inr, ℕ, zero, suc, ◌+◌, ◌*◌, ◌-◌, ◌%◌, ◌<◌, ◌≤◌, ◌^◌, refl, sym, ◌∙◌, ap, subst, arith, Bool, true, false, List, [], ◌∷◌, cond, length, get_or, Option, Some, None, slice_get}
-use Rattle.std.specs.Prelude.{Contains, find, is_some, nat_lt, slice_index}
+use Rattle.std.proofs.Common.{◌≡◌, ◌⊎◌, inl, inr, ℕ, zero, suc, ◌+◌, ◌*◌, ◌-◌, ◌%◌, ◌<◌, ◌≤◌, ◌^◌, refl, sym, ◌∙◌, ap, subst, arith, Bool, true, false, List, length, get_or, Option, Some, None, slice_get}
+use Rattle.std.specs.Prelude.{◌==◌, Contains, find, is_some, nat_lt, slice_index}
 use Rattle.std.specs.List.{All, list_all}
-use Rattle.std.proofs.lemmas.Bool.{and_parts, eqb-true}
+use Rattle.std.proofs.lemmas.Bool.{eqb-true}
 use Rattle.std.proofs.lemmas.Bool.Decides.{nat_tests}
 use Rattle.std.proofs.lemmas.List.{get_or_default, get_or_past}
-use Rattle.std.proofs.lemmas.Option.{slice_get_within}
+use Rattle.std.proofs.lemmas.Option.{same_Some, slice_get_within}
 use Rattle.rv_table.specs.Memory.{code_base}
 use Rattle.rv_asm.proofs.Shared.{Stand-append, codes_do}
 use Rattle.rv_asm.specs.Assembly.{Fits, meaning}
@@ -33,6 +33,8 @@ use Rattle.cmm_graph.specs.declared.node.Node.{Node}
 use Rattle.cmm_graph.specs.declared.node.NodeKind.{NodeKind}
 use Rattle.cmm_graph.specs.declared.node.NodeKind.TheVariants.{Entry, CopyIn, Assign, Store, Branch, Switch, Call, Yield, Jump, Cut, Return, Host, Goto, Stop}
 use Rattle.cmm_graph.specs.declared.number.NodeId.{NodeId}
+use Rattle.cmm_graph.specs.declared.number.SiteId.{SiteId}
+use Rattle.cmm_graph.specs.Counterpart.{HasSite}
 use Rattle.cmm_graph.specs.GraphControl.{in_graph}
 use Rattle.cmm_graph.specs.Paths.{landing_of, node_of}
 use Rattle.cmm_graph.specs.Ranges.{IsValid}
@@ -45,9 +47,9 @@ use Rattle.cmm_emit_laws.specs.Laying.{IsLaidOut, ProceduresAreLaid}
 use Rattle.cmm_effects.specs.Changes.{PutsRegister}
 use Rattle.cmm_effects.specs.Pieces.{Always}
 use Rattle.cmm_effects.specs.Ways.{Goes}
-use Rattle.cmm_emit_laws.specs.NodeCode.{IsCodeOf, SiteCode}
+use Rattle.cmm_emit_laws.specs.NodeCode.{SiteCode}
 use Rattle.cmm_emit_laws.specs.Placing.{FinishedCodeStands}
-use Rattle.cmm_emit_laws.specs.ProgramCode.{IsCode, is_coded, names_registers}
+use Rattle.cmm_emit_laws.specs.ProgramCode.{IsCodeAround, names_registers}
 use Rattle.cmm_emit_laws.specs.Starting.{StartCode}
 use Rattle.cmm_unit_code.specs.declared.text.Text.{Text}
 use Rattle.cmm_allocate.specs.declared.procedure.ProcedurePlaces.{ProcedurePlaces}
@@ -57,7 +59,7 @@ use Rattle.cmm_allocate.specs.Places.{HasPlaces}
 use Rattle.cmm_allocate.specs.Placing.{placement_rows}
 use Rattle.cmm_emit.specs.Costs.{cost_of}
 use Rattle.cmm_emit.specs.Naming.{label_at}
-use Rattle.cmm_emit.specs.Standing.{HasCode, IsSiteCodeOf}
+use Rattle.cmm_emit.specs.Standing.{HasCode, IsNodeCode, IsSiteCodeOf}
 use Rattle.cmm_located.specs.Layouts.{IsFrameOf}
 use Rattle.cmm_program.specs.Layout.{data_bytes}
 use Rattle.cmm_emit_laws.specs.Represented.{IsFor, stack_region}
@@ -65,29 +67,24 @@ use Rattle.cmm_emit.proofs.Addresses.{place_fine}
 use Rattle.cmm_emit.proofs.Belonging.{there_at}
 use Rattle.cmm_emit.proofs.Coding.{IsHere, aligned, begins_at, context_is, does, finished, here, lands, lands_inside, no_row, node_fits, node_is, of_procedure, row_found, row_of_procedure, stand_at}
 use Rattle.cmm_emit.proofs.Standing.{IsJoint, unit_of, value_in}
-use Rattle.cmm_emit.proofs.Named.{all_so}
-use Rattle.cmm_emit.proofs.Weakening.{code_within}
-use Rattle.cmm_flow.specs.Few.{passes_few}
-use Rattle.cmm_emit.specs.Premises.{AreCovered, can_be_coded}
+use Rattle.cmm_emit.proofs.Weakening.{code_alone, code_within}
+use Rattle.cmm_emit.proofs.YieldSites.{exits_at, finds, found_at, waits_there, yields_as_many}
+use Rattle.cmm_flow.specs.Few.{YieldThere, yields_there}
+use Rattle.cmm_flow.specs.Waiting.{IsWaitedAt}
+use Rattle.cmm_yield_laws.specs.WholeCode.{IsYieldingCode}
+use Rattle.cmm_yield_laws.specs.Yielding.{HaveSiteExits, HaveYields}
+use Rattle.cmm_emit.specs.Premises.{AreCovered}
 use Rattle.cmm_emit.specs.Outlines.{number_symbols}
 use Rattle.cmm_emit.specs.Starts.{last_label, start_labels}
-
--- a node that is found in a list is at an index, and passes
-found_at : {A : Type 0} (test : A → Bool) (xs : List A) (x : A) → find test xs ≡ Some x → (k : ℕ) × (slice_get xs k ≡ Some x) × (test x ≡ true)
-found_at test [] x is = absurd (cc)
-found_at {A = A} test (y ∷ xs) x is = by (test y) refl (λ e. found_at test xs x e) is
-  where
-    by : (b : Bool) → test y ≡ b → (find test xs ≡ Some x → (k : ℕ) × (slice_get xs k ≡ Some x) × (test x ≡ true)) → cond b (Some y) (find test xs) ≡ Some x →
-        (k : ℕ) × (slice_get (y ∷ xs) k ≡ Some x) × (test x ≡ true)
-    by true passes later e = let one : y ≡ x = cc in (0, e, subst (λ (z : A). test z ≡ true) one passes)
-    by false fails later e = let rest = later e in (suc rest.0, rest.1, rest.2)
 
 -- ---- what is known of the graphs
 
 pub record AreGraphs (p : Program) (graphs : List Graph) (found : List ProcedurePlaces) : Type 0 where
   pub valid : (q : ℕ) (g : Graph) → slice_get graphs q ≡ Some g → IsValid g
   pub named : (q : ℕ) (g : Graph) → slice_get graphs q ≡ Some g → list_all (λ node. names_registers p node.kind) g.nodes ≡ true
-  pub coded : (q : ℕ) (g : Graph) → slice_get graphs q ≡ Some g → list_all (λ node. can_be_coded node.kind) g.nodes ≡ true
+  pub yields : (q : ℕ) (procedure : Proc) (g : Graph) → slice_get p.procs q ≡ Some procedure → slice_get graphs q ≡ Some g → YieldThere procedure g
+  pub sites : (q : ℕ) (procedure : Proc) (g : Graph) → slice_get p.procs q ≡ Some procedure → slice_get graphs q ≡ Some g → All (λ node. HasSite procedure g node.kind) g.nodes
+  pub waited : (q : ℕ) (procedure : Proc) (g : Graph) (site : ℕ) → slice_get p.procs q ≡ Some procedure → slice_get graphs q ≡ Some g → site < length procedure.sites → IsWaitedAt g site
   pub covered : AreCovered graphs found
   pub places : (q : ℕ) (procedure : Proc) (g : Graph) (k : ProcedurePlaces) → slice_get p.procs q ≡ Some procedure → slice_get graphs q ≡ Some g →
       slice_get found q ≡ Some k → HasPlaces procedure g k
@@ -207,7 +204,7 @@ module _ (s : Setting) (graphs : List Graph) (found : List ProcedurePlaces) (add
       let stood = does s graphs found addresses t known l rows code_is stands q g this (label_at this.one.context.nodes n) codes in
       stood.1 node is s c l f q refl (context_is s graphs found addresses t known l rows code_is stands q g this (ends q)) (node_is s.program graphs found addresses t known q g this n)
 
-  node_code : (q : ℕ) (n : NodeId) (node : Node) → in_graph graphs q (λ g. node_of g n) ≡ Some node → IsCodeOf s c l f q n node.kind (32 * node.tokens)
+  node_code : (q : ℕ) (n : NodeId) (node : Node) → in_graph graphs q (λ g. node_of g n) ≡ Some node → IsNodeCode s c l f q n node.kind (32 * node.tokens)
   node_code q n node is =
       let there = found_graph q (λ g. node_of g n) node is in
       let at = in_it q there.0 (λ g. node_of g n) node there.1 is in
@@ -217,32 +214,31 @@ module _ (s : Setting) (graphs : List Graph) (found : List ProcedurePlaces) (add
       let few = graphs_are.covered q there.0 this.one.places n.number node there.1 this.is_found at this.one.context y made.frame made.places made.zeroed in
       code_within s c l f q n (cost_of this.one.context y node.kind) (32 * node.tokens) few node.kind (whole_code q n.number there.0 node there.1 at).node
 
+  at_site : (q site : ℕ) (at : SiteId) (exits others : Exits) → (at.number == site) ≡ true → Some others ≡ Some exits → SiteCode s c l f q at.number others → SiteCode s c l f q site exits
+  at_site q site at exits others waits has code =
+      subst (λ (z : Exits). SiteCode s c l f q site z) (same_Some others exits has) (subst (λ (z : ℕ). SiteCode s c l f q z others) (eqb-true at.number site waits) code)
+
   -- the code of a site is that behind the node that waits there
-  at_kind : (q site : ℕ) (exits : Exits) (kind : NodeKind) → waits_at site kind ≡ true → exits_of kind ≡ Some exits → IsSiteCodeOf s c l f q kind → is_coded kind ≡ true →
-      SiteCode s c l f q site exits
-  at_kind q site exits (Call at callee arguments others) waits has code coded =
-      let one_ : others ≡ exits = cc in
-      let number : at.number ≡ site = eqb-true at.number site waits in
-      subst (λ (z : Exits). SiteCode s c l f q site z) one_ (subst (λ (z : ℕ). SiteCode s c l f q z others) number code)
-  at_kind q site exits (Yield at values others) waits has code coded = absurd (cc)
-  at_kind q site exits (Entry formals next) waits has code coded = absurd (cc)
-  at_kind q site exits (CopyIn to next) waits has code coded = absurd (cc)
-  at_kind q site exits (Assign to value next) waits has code coded = absurd (cc)
-  at_kind q site exits (Store width aligned address value next) waits has code coded = absurd (cc)
-  at_kind q site exits (Branch test then_ otherwise) waits has code coded = absurd (cc)
-  at_kind q site exits (Switch value arms otherwise) waits has code coded = absurd (cc)
-  at_kind q site exits (Jump callee arguments) waits has code coded = absurd (cc)
-  at_kind q site exits (Cut to arguments own) waits has code coded = absurd (cc)
-  at_kind q site exits (Return exit alternates results) waits has code coded = absurd (cc)
-  at_kind q site exits (Host call next) waits has code coded = absurd (cc)
-  at_kind q site exits (Goto next) waits has code coded = absurd (cc)
-  at_kind q site exits Stop waits has code coded = absurd (cc)
+  at_kind : (q site : ℕ) (exits : Exits) (kind : NodeKind) → waits_at site kind ≡ true → exits_of kind ≡ Some exits → IsSiteCodeOf s c l f q kind → SiteCode s c l f q site exits
+  at_kind q site exits (Call at callee arguments others) waits has code = at_site q site at exits others waits has code
+  at_kind q site exits (Yield at values others) waits has code = at_site q site at exits others waits has code
+  at_kind q site exits (Entry formals next) waits has code = absurd (cc)
+  at_kind q site exits (CopyIn to next) waits has code = absurd (cc)
+  at_kind q site exits (Assign to value next) waits has code = absurd (cc)
+  at_kind q site exits (Store width aligned address value next) waits has code = absurd (cc)
+  at_kind q site exits (Branch test then_ otherwise) waits has code = absurd (cc)
+  at_kind q site exits (Switch value arms otherwise) waits has code = absurd (cc)
+  at_kind q site exits (Jump callee arguments) waits has code = absurd (cc)
+  at_kind q site exits (Cut to arguments own) waits has code = absurd (cc)
+  at_kind q site exits (Return exit alternates results) waits has code = absurd (cc)
+  at_kind q site exits (Host call next) waits has code = absurd (cc)
+  at_kind q site exits (Goto next) waits has code = absurd (cc)
+  at_kind q site exits Stop waits has code = absurd (cc)
 
   at_node : (q site : ℕ) (exits : Exits) (g : Graph) (there : slice_get graphs q ≡ Some g) (k : ℕ) (node : Node) → slice_get g.nodes k ≡ Some node →
       waits_at site node.kind ≡ true → exits_of node.kind ≡ Some exits → SiteCode s c l f q site exits
   at_node q site exits g there k node at waits has =
       at_kind q site exits node.kind waits has (whole_code q k g node there at).site
-      (and_parts (is_coded node.kind) (passes_few node.kind) (list_all_get (λ node. can_be_coded node.kind) g.nodes k node (graphs_are.coded q g there) at)).0
 
   site_code : (q site : ℕ) (exits : Exits) → site_exits graphs q site ≡ Some exits → SiteCode s c l f q site exits
   site_code q site exits is =
@@ -256,6 +252,36 @@ module _ (s : Setting) (graphs : List Graph) (found : List ProcedurePlaces) (add
           let at = found_at (λ (node : Node). waits_at site node.kind) g.nodes node e in
           at_node q site exits g there at.0 node at.1 at.2 has
       by g there None e has = absurd (cc)
+
+  -- ---- what sites yield, and their exits
+
+  values_are : HaveYields s c
+  values_are q n at values exits procedure site is is_procedure is_site = by (in_graph graphs q (λ g. node_of g n)) refl is
+    where
+      by : (o : Option Node) → in_graph graphs q (λ g. node_of g n) ≡ o → elim o as (λ _. NodeKind) [ Some node ↦ node.kind | None ↦ Stop ] ≡ Yield at values exits →
+          site.yield_values ≡ Some (length values)
+      by (Some node) there kind =
+          let g = found_graph q (λ g. node_of g n) node there in
+          let here = in_it q g.0 (λ g. node_of g n) node g.1 there in
+          let yields = list_all_get (λ node. yields_there procedure node.kind) (g.0).nodes n.number node (graphs_are.yields q procedure g.0 is_procedure g.1) here in
+          yields_as_many procedure at values exits site is_site (subst (λ (z : NodeKind). yields_there procedure z ≡ true) kind yields)
+      by None there kind = absurd (cc (kind))
+
+  exits_are : HaveSiteExits s c
+  exits_are q number procedure site is_procedure is_site =
+      let within = slice_get_within s.program.procs q procedure is_procedure in
+      let g = there_at graphs q (let count = known.graph_count in omega (arith, within, count)) in
+      let at = graphs_are.waited q procedure g.0 number is_procedure g.1 (slice_get_within procedure.sites number site is_site) in
+      let test = λ (node : Node). waits_at number node.kind in
+      let first = finds test (g.0).nodes (at.at).number at.node at.is_there (waits_there number (at.node).kind at.waits) in
+      let found_ = found_at test (g.0).nodes first.0 first.1 in
+      let has = all_get (λ (node : Node). HasSite procedure g.0 node.kind) (g.0).nodes found_.0 first.0 (graphs_are.sites q procedure g.0 is_procedure g.1) found_.1 in
+      let its = exits_at procedure g.0 number site is_site (first.0).kind found_.2 has in (
+        its.exits,
+        ap (λ (o : Option Graph). with_some o (λ (g : Graph). with_some (find test g.nodes) (λ node. exits_of node.kind))) g.1
+            ∙ (ap (λ (o : Option Node). with_some o (λ node. exits_of node.kind)) first.1 ∙ its.is_exits),
+        its.returns,
+      )
 
   -- ---- where procedures begin
 
@@ -307,14 +333,12 @@ module _ (s : Setting) (graphs : List Graph) (found : List ProcedurePlaces) (add
       let room = known.room in
       (subst (λ (a : ℕ). a % 4 ≡ 0) (sym same) (omega (arith, four)), omega (arith, same, most, within, room))
 
-  pub is_code : IsFor s (map_of l) → IsCode s c l f
-  is_code is_for = record {
+  code_around : IsFor s (map_of l) → IsCodeAround s c l f
+  code_around is_for = record {
     is_for = is_for;
-    coded = λ q g is. all_so (λ node. can_be_coded node.kind) (λ node. is_coded node.kind) g.nodes (λ node may. (and_parts (is_coded node.kind) (passes_few node.kind) may).0) (graphs_are.coded q g is);
     valid = graphs_are.valid;
     named = graphs_are.named;
     laid = λ q g is. laid_by s c q (laid_out q g is);
-    nodes = node_code;
     sites = site_code;
     entries = entry_at;
     landings = landing_at;
@@ -322,6 +346,15 @@ module _ (s : Setting) (graphs : List Graph) (found : List ProcedurePlaces) (add
     is_first = first_node.1;
     back_aligned = last_fine.0;
     back_fits = let few = last_fine.1 in omega (arith, few);
+  }
+
+  pub is_code : IsFor s (map_of l) → IsYieldingCode s c l f
+  is_code is_for = record {
+    around = code_around is_for;
+    nodes = λ q n node there coded. code_alone s c l f q n (32 * node.tokens) node.kind coded (node_code q n node there);
+    yields = λ q n node site values exits there is. subst (λ (kind : NodeKind). IsNodeCode s c l f q n kind (32 * node.tokens)) is (node_code q n node there);
+    values = values_are;
+    exits = exits_are;
   }
 
   pub starts : stack_region s ≡ region_of l → l.image.start ≡ t.start → l.image.initial ≡ data_bytes s.program s.placement → All IsByte l.image.initial → (begins : StartCode s c l f) × (begins.most ≤ 2)

@@ -14,7 +14,7 @@ use Rattle.cmm_graph.specs.declared.node.HostCall.{HostCall}
 use Rattle.cmm_graph.specs.declared.node.HostCall.TheVariants as host
 use Rattle.cmm_graph.specs.declared.node.Node.{Node}
 use Rattle.cmm_graph.specs.declared.node.NodeKind.{NodeKind}
-use Rattle.cmm_graph.specs.declared.node.NodeKind.TheVariants.{Entry, CopyIn, Assign, Store, Branch, Switch, Call, Jump, Cut, Return, Host, Goto, Stop}
+use Rattle.cmm_graph.specs.declared.node.NodeKind.TheVariants.{Entry, CopyIn, Assign, Store, Branch, Switch, Call, Yield, Jump, Cut, Return, Host, Goto, Stop}
 use Rattle.cmm_select.specs.Memory.{accesses}
 use Rattle.cmm_select.specs.Operands.{most_for}
 use Rattle.cmm_select.specs.Operators.{shifts_of}
@@ -87,6 +87,10 @@ module _ (p : Context) (y : Targets) where
   abbrev pub call_cost : List Argument → Exits → ℕ
   call_cost arguments exits = 12 * length arguments + callee_cost + (3 * length exits.returns + 2)
 
+  -- with one that leads to the ECALL which calls the client
+  abbrev pub yield_cost : List Operand → Exits → ℕ
+  yield_cost values exits = 12 * length values + 3 + (3 * length exits.returns + 2)
+
   abbrev pub cut_cost : Operand → List Argument → ℕ
   cut_cost to arguments = operand_cost to + (12 * length arguments + 3)
 
@@ -99,12 +103,13 @@ module _ (p : Context) (y : Targets) where
   cost_of (Branch test then_ otherwise) = branch_cost test + jump_cost
   cost_of (Switch value arms otherwise) = switch_cost value arms + jump_cost
   cost_of (Call site callee arguments exits) = call_cost arguments exits + jump_cost
+  cost_of (Yield site values exits) = yield_cost values exits + jump_cost
   cost_of (Jump callee arguments) = jump_to_cost arguments
   cost_of (Cut to arguments own) = cut_cost to arguments
   cost_of (Return exit alternates results) = return_cost results + 3
   cost_of (Host call next) = host_cost call + jump_cost
   cost_of (Goto next) = 1 + jump_cost
-  cost_of _ = 1
+  cost_of Stop = 1
 
   -- of several nodes together
   abbrev pub total_cost : List Node → ℕ

@@ -17,6 +17,7 @@ use Rattle.cmm_effects.specs.Changes.{IsPlace}
 use Rattle.cmm_calls.specs.Frames.{CanBeMade}
 use Rattle.cmm_allocate.specs.declared.procedure.ProcedurePlaces.{ProcedurePlaces}
 use Rattle.cmm_effects.specs.Requests.{AsksFor}
+use Rattle.cmm_calls.specs.Calls.{CallsClient}
 use Rattle.cmm_emit.specs.declared.context.Context.{Context}
 use Rattle.cmm_emit.specs.declared.context.Targets.{Targets}
 use Rattle.cmm_emit.specs.Costs.{total_cost}
@@ -25,7 +26,7 @@ use Rattle.cmm_emit.specs.Naming.{has_kind, label_at}
 use Rattle.cmm_emit.specs.Standing.{SiteStands}
 use Rattle.cmm_emit.specs.Contexts.{first_label}
 use Rattle.cmm_emit.specs.Orders.{AreInOrder, IsClosed}
-use Rattle.cmm_emit.specs.Outlines.{IsOutlineIn, own, symbol_count, symbol_meaning}
+use Rattle.cmm_emit.specs.Outlines.{IsOutlineIn, first_own, own, symbol_count, symbol_meaning}
 use Rattle.cmm_emit.specs.declared.outline.Outline.{Outline}
 
 -- ---- before
@@ -62,13 +63,14 @@ pub record HasOutline (p : Program) (graphs : List Graph) (o : Outline) : Type 0
 
 -- ---- while n procedures are laid
 
--- what labels mean then: those of the other procedures and of the limit have no place yet
+-- what labels mean then: those of the other procedures, of the limit and of the call of the client have no place yet
 pub record HaveLabels (p : Program) (procs : List Proc) (graphs : List Graph) (n : ℕ) (labels : List Meaning) : Type 0 where
-  pub count : length labels ≡ first_label (symbol_count p + 1) procs graphs (length procs)
+  pub count : length labels ≡ first_label (first_own p) procs graphs (length procs)
   pub symbols : (k : ℕ) → k < symbol_count p → slice_get labels k ≡ Some (symbol_meaning p k)
   pub limit : slice_get labels (symbol_count p) ≡ Some (Inner false)
+  pub client : slice_get labels (symbol_count p + 1) ≡ Some (Inner false)
   pub inner : (k : ℕ) → symbol_count p ≤ k → k < length labels → IsTrue (is_inner (slice_index_or labels k (Inner false)))
-  pub fresh : (k : ℕ) → first_label (symbol_count p + 1) procs graphs n ≤ k → k < length labels → slice_get labels k ≡ Some (Inner false)
+  pub fresh : (k : ℕ) → first_label (first_own p) procs graphs n ≤ k → k < length labels → slice_get labels k ≡ Some (Inner false)
 
 abbrev pub HaveLabelsIn : Program → List Graph → Outline → ℕ → List Meaning → Type 0
 HaveLabelsIn p graphs o n labels = HaveLabels p (own o p.procs) (own o graphs) n labels
@@ -92,9 +94,9 @@ HaveCodesIn p graphs o n parts = HaveCodes (own o p.procs) (own o graphs) o n pa
 
 -- ---- the whole
 
--- behind all procedures, the run ends at the limit of the stack; and there is no more of it than tokens allow
+-- behind all procedures, the run ends at the limit of the stack, and the client is called; and there is no more of it than tokens allow
 pub record IsWhole (p : Program) (procs : List Proc) (graphs : List Graph) (o : Outline) (labels : List Meaning) (parts : List Part) : Type 0 where
-  pub count : length labels ≡ first_label (symbol_count p + 1) procs graphs (length procs)
+  pub count : length labels ≡ first_label (first_own p) procs graphs (length procs)
   pub symbols : (k : ℕ) → k < symbol_count p → slice_get labels k ≡ Some (symbol_meaning p k)
   pub inner : (k : ℕ) → symbol_count p ≤ k → k < length labels → IsTrue (is_inner (slice_index_or labels k (Inner false)))
   pub front : List Part
@@ -102,7 +104,8 @@ pub record IsWhole (p : Program) (procs : List Proc) (graphs : List Graph) (o : 
   pub back : List Part
   pub is : parts ≡ front ++ Place o.targets.limit ∷ back
   pub limits : Codes parts o.targets.limit (λ x from to. AsksFor 1 (λ t. StackLimit) x from)
-  pub size : all_longest parts ≤ 256 * sum_by (λ q. q.tokens) procs + 8
+  pub client : Codes parts o.targets.client (λ x from to. CallsClient 1 x from)
+  pub size : all_longest parts ≤ 256 * sum_by (λ q. q.tokens) procs + 16
 
 abbrev pub IsWholeIn : Program → List Graph → Outline → List Meaning → List Part → Type 0
 IsWholeIn p graphs o labels parts = IsWhole p (own o p.procs) (own o graphs) o labels parts

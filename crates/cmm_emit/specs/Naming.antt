@@ -1,5 +1,5 @@
 -- What code has for what nodes name: places of the activation, offsets of its frame, and labels.
-use Rattle.std.specs.Prelude.{◌≡◌, ℕ, ◌+◌, ◌<◌, ◌^◌, ◌&&◌, nat_le, nat_lt, Bool, true, false, List, length, map, slice_index_or, Some, None}
+use Rattle.std.specs.Prelude.{◌≡◌, ℕ, ◌+◌, ◌<◌, ◌^◌, ◌&&◌, nat_le, nat_lt, Bool, true, List, length, map, slice_index_or, Some, None}
 use Rattle.std.specs.List.{list_all}
 use Rattle.cmm_words.specs.declared.constant.Constant.{Constant}
 use Rattle.cmm_words.specs.declared.constant.Constant.TheVariants as constant
@@ -27,7 +27,7 @@ use Rattle.cmm_graph.specs.declared.node.Exits.{Exits}
 use Rattle.cmm_graph.specs.declared.node.HostCall.{HostCall}
 use Rattle.cmm_graph.specs.declared.node.HostCall.TheVariants as host
 use Rattle.cmm_graph.specs.declared.node.NodeKind.{NodeKind}
-use Rattle.cmm_graph.specs.declared.node.NodeKind.TheVariants.{Entry, CopyIn, Assign, Store, Branch, Switch, Call, Jump, Cut, Return, Host, Goto, Stop}
+use Rattle.cmm_graph.specs.declared.node.NodeKind.TheVariants.{Entry, CopyIn, Assign, Store, Branch, Switch, Call, Yield, Jump, Cut, Return, Host, Goto, Stop}
 use Rattle.rv_asm.specs.Assembly.{table_limit}
 use Rattle.rv_asm.specs.declared.part.Label.{Label}
 use Rattle.cmm_select.specs.declared.destination.Destination.{Destination as CodeDestination}
@@ -181,7 +181,10 @@ module _ (p : Context) (y : Targets) where
   has_call (host.PutByte value) = has_operand value
   has_call (host.GetByte to) = has_target to
 
-  -- ---- nodes, of the kinds that are done so far: all but yields
+  -- ---- nodes
+
+  abbrev pub code_operands : List Operand → List CodeOperand
+  code_operands values = map code_operand values
 
   abbrev pub argument_operands : List Argument → List CodeOperand
   argument_operands arguments = map argument_operand arguments
@@ -199,6 +202,14 @@ module _ (p : Context) (y : Targets) where
   abbrev pub can_call : SiteId → Operand → List Argument → Exits → Bool
   can_call site callee arguments exits = has_site p site && can_go_to callee arguments && can_come_back p exits
 
+  -- values of operands go out
+  abbrev pub can_send : List Operand → Bool
+  can_send values = list_all has_operand values && can_give (code_operands values)
+
+  -- values are yielded, and the activation comes back to a site
+  abbrev pub can_yield : SiteId → List Operand → Exits → Bool
+  can_yield site values exits = has_site p site && can_send values && can_come_back p exits
+
   abbrev pub can_return : ℕ → List Argument → Bool
   can_return exit results = list_all has_argument results && can_give (argument_operands results) && nat_lt exit 512
 
@@ -210,10 +221,10 @@ module _ (p : Context) (y : Targets) where
   has_kind (Branch test then_ otherwise) = has_both test && has_node p then_ && has_node p otherwise
   has_kind (Switch value arms otherwise) = has_operand value && list_all has_arm arms && has_node p otherwise
   has_kind (Call site callee arguments exits) = can_call site callee arguments exits
+  has_kind (Yield site values exits) = can_yield site values exits
   has_kind (Jump callee arguments) = can_go_to callee arguments
   has_kind (Cut to arguments own) = can_go_to to arguments
   has_kind (Return exit alternates results) = can_return exit results
   has_kind (Host call next) = has_call call && has_node p next
   has_kind (Goto next) = has_node p next
   has_kind Stop = true
-  has_kind _ = false

@@ -19,6 +19,10 @@ number_symbols p = length p.globals + length p.labels
 abbrev pub symbol_count : Program → ℕ
 symbol_count p = number_symbols p + length p.procs
 
+-- Then come a unit's own: those of the stack's limit and of the call of the client, and from here on those of its procedures.
+abbrev pub first_own : Program → ℕ
+first_own p = symbol_count p + 2
+
 -- what the label of a symbol means
 abbrev pub symbol_meaning : Program → ℕ → Meaning
 symbol_meaning p n = Outer n (nat_le (number_symbols p) n)
@@ -41,7 +45,8 @@ pub record IsOutline (p : Program) (procs : List Proc) (graphs : List Graph) (fo
   pub registers : o.targets.registers ≡ labels_from 0 (length p.globals)
   pub data_labels : o.targets.data_labels ≡ labels_from (length p.globals) (length p.labels)
   pub limit : o.targets.limit ≡ record { number = symbol_count p }
-  pub contexts : AreMade (symbol_count p + 1) procs graphs found o.contexts
+  pub client : o.targets.client ≡ record { number = symbol_count p + 1 }
+  pub contexts : AreMade (first_own p) procs graphs found o.contexts
   pub entries : o.entries ≡ entry_labels o.contexts graphs
   pub procedures : o.targets.procedures ≡ with_own o.first o.entries (labels_from (number_symbols p) (length p.procs))
 

@@ -1,24 +1,13 @@
 -- Of which located programs the code is laid.
-use Rattle.std.specs.Prelude.{◌≡◌, ℕ, ◌+◌, ◌*◌, ◌≤◌, ◌&&◌, Bool, IsTrue, List, map, slice_get, Some}
-use Rattle.std.specs.List.{All, list_all}
+use Rattle.std.specs.Prelude.{◌≡◌, ℕ, ◌+◌, ◌*◌, ◌≤◌, List, map, slice_get, Some}
 use Rattle.cmm_program.specs.declared.procedure.Proc.{Proc}
 use Rattle.cmm_graph.specs.declared.graph.Graph.{Graph}
 use Rattle.cmm_graph.specs.declared.node.Node.{Node}
-use Rattle.cmm_graph.specs.declared.node.NodeKind.{NodeKind}
-use Rattle.cmm_flow.specs.Few.{passes_few}
-use Rattle.cmm_emit_laws.specs.ProgramCode.{is_coded}
 use Rattle.cmm_emit.specs.Costs.{cost_of, total_cost}
 use Rattle.cmm_emit.specs.declared.context.Context.{Context}
 use Rattle.cmm_emit.specs.declared.context.Targets.{Targets}
 use Rattle.cmm_allocate.specs.declared.procedure.ProcedurePlaces.{ProcedurePlaces}
 use Rattle.cmm_emit.specs.Contexts.{place_in}
-
--- it is one that is coded so far, all but yields, and passes few values
-abbrev pub can_be_coded : NodeKind → Bool
-can_be_coded kind = is_coded kind && passes_few kind
-
-abbrev pub CanBeCoded : List Graph → Type 0
-CanBeCoded graphs = All (λ g. IsTrue (list_all (λ node. can_be_coded node.kind) g.nodes)) graphs
 
 -- the code of a node has at most 32 instructions for each of its tokens, whatever numbers its labels have
 abbrev pub IsCovered : ProcedurePlaces → Node → Type 0

@@ -28,7 +28,7 @@ use Rattle.cmm_effects.specs.Changes.{IsPlace}
 use Rattle.cmm_effects.specs.Pieces.{BeginsQuietly}
 use Rattle.cmm_select.specs.declared.destination.Destination.{Destination as CodeDestination}
 use Rattle.cmm_select.specs.Switches.{label_of}
-use Rattle.cmm_calls.specs.Calls.{HasExits}
+use Rattle.cmm_calls.specs.Calls.{CallsClient, HasExits}
 use Rattle.rv_asm.specs.Appending.{IsBehind}
 use Rattle.cmm_calls.specs.Frames.{CanBeMade}
 use Rattle.cmm_image_machine.specs.Machine.{Launch}
@@ -37,6 +37,7 @@ use Rattle.cmm_located.specs.Compiled.{Compiled, landing_in, number_in}
 use Rattle.cmm_effects.specs.Requests.{AsksFor}
 use Rattle.cmm_emit_laws.specs.Finished.{Finished, code_of}
 use Rattle.cmm_emit_laws.specs.NodeCode.{CallCode, GoesOn, IsCodeOf, IsPutInto, SiteCode, IsRegister}
+use Rattle.cmm_yield_laws.specs.Yielding.{YieldCode}
 use Rattle.cmm_emit.specs.declared.context.Context.{Context}
 use Rattle.cmm_emit.specs.declared.context.Targets.{Targets}
 use Rattle.cmm_emit.specs.Costs.{callee_cost, cost_of, rvalue_cost}
@@ -59,6 +60,7 @@ pub record IsReady (labels : List Meaning) (p : Context) (y : Targets) : Type 0 
   pub registers : All (IsLabel labels) y.registers
   pub few_registers : length y.registers ≤ 256
   pub limit : IsInner labels y.limit
+  pub client : IsInner labels y.client
 
 -- the site at which a node is to wait, if it is to, has no place yet
 abbrev pub CanWait : Context → NodeKind → List Meaning → Type 0
@@ -100,20 +102,27 @@ module _ (s : Setting) (c : Compiled) (l : Launch) (f : Finished) (q : ℕ) wher
     pub landed : (k : ℕ) (n : NodeId) → k < length p.landings → landing_in c.graphs q k ≡ Some n → f.labels q (label_at p.landings k).number ≡ f.node_at q n
     pub sites : (k : ℕ) → k < length p.sites → IsSiteOf k (label_at p.sites k)
     pub limit : AsksFor 1 (λ t. StackLimit) (code_of l f q) (f.labels q y.limit.number)
+    pub client : CallsClient 1 (code_of l f q) (f.labels q y.client.number)
     pub end_asked : AsksFor 1 (λ t. End (t.registers REQUEST_VALUE)) (code_of l f q) f.symbols.last_return
 
   -- control goes on at a node from an address, if there is one
   abbrev pub GoesOnTo : Option NodeId → ℕ → Type 0
   GoesOnTo next from = IfSome next (λ n. GoesOn s c l f q n from)
 
+  -- the code of a node within n instructions
+  abbrev pub IsNodeCode : NodeId → NodeKind → ℕ → Type 0
+  IsNodeCode n (Yield site values exits) most = YieldCode s c l f q n site.number values most
+  IsNodeCode n kind most = IsCodeOf s c l f q n kind most
+
   -- the code behind the site at which a node waits, if it does
   abbrev pub IsSiteCodeOf : NodeKind → Type 0
   IsSiteCodeOf (Call site callee arguments exits) = SiteCode s c l f q site.number exits
+  IsSiteCodeOf (Yield site values exits) = SiteCode s c l f q site.number exits
   IsSiteCodeOf _ = Unit {0}
 
   -- the code of a node within n instructions, with that behind its site
   pub record HasCode (n : NodeId) (kind : NodeKind) (most : ℕ) : Type 0 where
-    pub node : IsCodeOf s c l f q n kind most
+    pub node : IsNodeCode n kind most
     pub site : IsSiteCodeOf kind
 
 -- the node to which a node falls: the one that may follow it in code
@@ -125,6 +134,7 @@ falls_to (Store width aligned address value next) = Some next
 falls_to (Branch test then_ otherwise) = Some otherwise
 falls_to (Switch value arms otherwise) = Some otherwise
 falls_to (Call site callee arguments exits) = exits.normal
+falls_to (Yield site values exits) = exits.normal
 falls_to (Host call next) = Some next
 falls_to (Goto next) = Some next
 falls_to _ = None
@@ -139,7 +149,7 @@ PutsValue p y value into x from to =
 abbrev pub CodesNode : Context → Targets → NodeKind → Code → ℕ → ℕ → Type 0
 CodesNode p y kind x from to =
     (s : Setting) (c : Compiled) (l : Launch) (f : Finished) (q : ℕ) (n : NodeId) → x ≡ code_of l f q → IsContextOf s c l f q p y →
-    f.node_at q n ≡ from → GoesOnTo s c l f q (falls_to kind) to → IsCodeOf s c l f q n kind (cost_of p y kind)
+    f.node_at q n ≡ from → GoesOnTo s c l f q (falls_to kind) to → IsNodeCode s c l f q n kind (cost_of p y kind)
 
 -- the code of a call up to its site, to which control comes back
 abbrev pub CodesCall : Context → Targets → SiteId → Operand → List Argument → Code → ℕ → ℕ → Type 0
@@ -147,6 +157,13 @@ CodesCall p y site callee arguments x from to =
     (x.at (site_label p site).number ≡ to)
     × ((s : Setting) (c : Compiled) (l : Launch) (f : Finished) (q : ℕ) (n : NodeId) (most : ℕ) → x ≡ code_of l f q → IsContextOf s c l f q p y →
     f.node_at q n ≡ from → 12 * length arguments + callee_cost ≤ most → CallCode s c l f q n site.number callee arguments most)
+
+-- the code of a yield up to its site, to which control comes back
+abbrev pub CodesYield : Context → Targets → SiteId → List Operand → Code → ℕ → ℕ → Type 0
+CodesYield p y site values x from to =
+    (x.at (site_label p site).number ≡ to)
+    × ((s : Setting) (c : Compiled) (l : Launch) (f : Finished) (q : ℕ) (n : NodeId) (most : ℕ) → x ≡ code_of l f q → IsContextOf s c l f q p y →
+    f.node_at q n ≡ from → 12 * length values + 3 ≤ most → YieldCode s c l f q n site.number values most)
 
 -- behind it each alternate exit leads to its landing, and the normal one, if there is one, goes on
 abbrev pub LeadsBack : Context → Exits → Code → ℕ → ℕ → Type 0

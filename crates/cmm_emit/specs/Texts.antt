@@ -10,8 +10,8 @@ use Rattle.cmm_graph.specs.declared.graph.Graph.{Graph}
 use Rattle.cmm_image_machine.specs.Machine.{Launch, map_of, region_of}
 use Rattle.cmm_emit_laws.specs.Represented.{IsFor, stack_region}
 use Rattle.cmm_emit_laws.specs.Finished.{Finished}
-use Rattle.cmm_emit_laws.specs.ProgramCode.{IsCode}
 use Rattle.cmm_emit_laws.specs.Starting.{StartCode}
+use Rattle.cmm_yield_laws.specs.WholeCode.{IsYieldingCode}
 use Rattle.cmm_unit_code.specs.Texts.{address_in}
 use Rattle.cmm_unit_code.specs.declared.text.Text.{Text}
 use Rattle.cmm_allocate.specs.Compiling.{compiled}
@@ -34,7 +34,7 @@ pub record HasText (p : Program) (found : List ProcedurePlaces) (t : Text) (s : 
 -- run at the addresses that the text has for them.
 pub record RunsProgram (s : Setting) (graphs : List Graph) (found : List ProcedurePlaces) (t : Text) (l : Launch) : Type 0 where
   pub finished : Finished
-  pub code : IsCode s (compiled graphs found) l finished
+  pub code : IsYieldingCode s (compiled graphs found) l finished
   pub begins : StartCode s (compiled graphs found) l finished
   pub few : begins.most ≤ 2
   pub returns : (q n : ℕ) (procedure : Proc) → slice_get s.program.procs q ≡ Some procedure → n < length procedure.sites →

@@ -16,6 +16,7 @@ use crate::calling::call_body;
 use crate::context::{Context, Targets};
 use crate::operand::{code_operand, target_destination};
 use crate::transfer::{copy_in_body, cut_body, entry_body, jump_body, return_body};
+use crate::yielding::yield_body;
 use cmm_graph::{Arm, Comparison, HostCall, NodeId, NodeKind, Operand};
 use cmm_program::Target;
 use cmm_select::{decide, get_byte, go_on, put_byte, stop, store, switch};
@@ -225,6 +226,22 @@ pub(crate) fn body(
             )?;
             Ok(())
         }
+        NodeKind::Yield {
+            site,
+            values,
+            exits,
+        } => {
+            yield_body(
+                asm,
+                alloc,
+                context,
+                targets,
+                *site,
+                values.as_slice(),
+                exits,
+            )?;
+            Ok(())
+        }
         NodeKind::Jump { callee, arguments } => {
             jump_body(asm, alloc, context, targets, *callee, arguments.as_slice())?;
             Ok(())
@@ -249,6 +266,5 @@ pub(crate) fn body(
             stop_body(asm, context, targets)?;
             Ok(())
         }
-        _ => Ok(()),
     }
 }

@@ -1,4 +1,4 @@
-//! The code of calls, and of the exits by which they come back.
+//! The code of calls, and of the exits by which control comes back to a site.
 
 ghost use Rattle.std.specs.Prelude.{◌≡◌, ◌+◌, ◌*◌, IsTrue, OnOk, Some, false, length, slice_get, slice_set, true};
 ghost use Rattle.std.specs.List.{list_all};
@@ -124,7 +124,7 @@ fn lay_landings(
 
 /// Leads from a site on: to the landings of the alternate exits, and by the normal one to where the code goes on. Where there is no normal exit, a
 /// run that takes it has gone wrong, and ends.
-fn lead_back(
+pub(crate) fn lead_back(
     asm: &mut Asm,
     alloc: Global,
     context: &Context,

@@ -33,4 +33,6 @@ pub struct Targets {
     pub registers: Items<Label>,
     /// Where a run is ended for want of room in the stack.
     pub limit: Label,
+    /// Where the client is called.
+    pub client: Label,
 }

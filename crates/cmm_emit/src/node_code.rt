@@ -37,6 +37,7 @@ pub(crate) fn falls_to(kind: &NodeKind) -> Option<NodeId>
         NodeKind::Branch { otherwise, .. } => Some(*otherwise),
         NodeKind::Switch { otherwise, .. } => Some(*otherwise),
         NodeKind::Call { exits, .. } => exits.normal,
+        NodeKind::Yield { exits, .. } => exits.normal,
         NodeKind::Host { next, .. } => Some(*next),
         NodeKind::Goto { next } => Some(*next),
         _ => None,

@@ -3,7 +3,7 @@
 ghost use Rattle.std.specs.Prelude.{◌≡◌, IsTrue, IfOk};
 ghost use Rattle.std.specs.List.{list_all};
 ghost use Rattle.cmm_graph.specs.declared.operand.Local.TheVariants as local;
-ghost use Rattle.cmm_emit.specs.Naming.{argument_operands, code_destination, code_operand, constant_operand, has_argument, has_constant, has_destination, has_landing, has_local, has_operand, has_target, landing_labels, place, target_destination, target_destinations, variable_places};
+ghost use Rattle.cmm_emit.specs.Naming.{argument_operands, code_destination, code_operand, code_operands, constant_operand, has_argument, has_constant, has_destination, has_landing, has_local, has_operand, has_target, landing_labels, place, target_destination, target_destinations, variable_places};
 
 use crate::context::{Context, Targets};
 use cmm_chain::Location;
@@ -127,6 +127,23 @@ pub(crate) fn argument_operands(
     let mut operands = Items::new(alloc);
     for argument in arguments {
         operands.push(code_operand(context, targets, argument.value))?;
+    }
+    Ok(operands)
+}
+
+/// What code has for several operands.
+pub(crate) fn code_operands(
+    alloc: Global,
+    context: &Context,
+    targets: &Targets,
+    values: &[Operand],
+) -> Result<Items<CodeOperand>, AllocError>
+    requires { IsTrue (list_all (has_operand context.now targets.now) values.now) }
+    ensures { IfOk result (λ operands. operands ≡ code_operands context.now targets.now values.now) }
+{
+    let mut operands = Items::new(alloc);
+    for value in values {
+        operands.push(code_operand(context, targets, *value))?;
     }
     Ok(operands)
 }

@@ -4,7 +4,7 @@ ghost use Rattle.std.specs.Prelude.{◌≡◌, ◌+◌, ◌≤◌, ◌^◌, ◌+
 ghost use Rattle.rv_asm.specs.declared.part.Meaning.TheVariants.{Inner};
 ghost use Rattle.cmm_emit.specs.Contexts.{first_label};
 ghost use Rattle.cmm_emit.specs.Labels.{symbol_labels};
-ghost use Rattle.cmm_emit.specs.Outlines.{IsOutlineIn, number_symbols, share, symbol_count, with_own};
+ghost use Rattle.cmm_emit.specs.Outlines.{IsOutlineIn, first_own, number_symbols, share, with_own};
 
 use crate::context::{Context, Targets};
 use crate::contexts::{contexts, entry_labels};
@@ -45,7 +45,7 @@ fn with_own(
 }
 
 /// Makes the labels of a unit that has `count` procedures of a program, from one on: first those of global registers, of data and of all procedures, as symbols; then that of
-/// the stack's limit, and those of each of its own procedures. An error is want of memory.
+/// the stack's limit, that of the call of the client, and those of each of its own procedures. An error is want of memory.
 pub fn make_outline(
     asm: &mut Asm,
     alloc: Global,
@@ -59,19 +59,20 @@ pub fn make_outline(
     requires graphs { length graphs.now ≡ length program.now.procs }
     requires places { length places.now ≡ length program.now.procs }
     requires within { first + count ≤ length program.now.procs }
-    requires few { first_label (symbol_count program.now + 1) (share first count program.now.procs) (share first count graphs.now) count ≤ 2 ^ 32 }
+    requires few { first_label (first_own program.now) (share first count program.now.procs) (share first count graphs.now) count ≤ 2 ^ 32 }
     ensures made { IfOk result (λ o. IsOutlineIn program.now graphs.now places.now o) }
     ensures first { IfOk result (λ o. o.first ≡ first) }
     ensures count { IfOk result (λ o. length o.contexts ≡ count) }
     ensures labels { OnOk result (asm.new.labels ≡ symbol_labels false 0 (number_symbols program.now)
         ++ (symbol_labels true (number_symbols program.now) (length program.now.procs)
-        ++ replicate (first_label 1 (share first count program.now.procs) (share first count graphs.now) count) (Inner false))) }
+        ++ replicate (first_label 2 (share first count program.now.procs) (share first count graphs.now) count) (Inner false))) }
     ensures parts { asm.new.parts ≡ asm.old.parts }
 {
     let registers = symbols(asm, alloc, program.globals.len(), false)?;
     let data_labels = symbols(asm, alloc, program.labels.len(), false)?;
     let others = symbols(asm, alloc, program.procs.len(), true)?;
     let limit = label(asm)?;
+    let client = label(asm)?;
     let end = first + count;
     let own_graphs = &graphs[first..end];
     let contexts = contexts(
@@ -88,6 +89,7 @@ pub fn make_outline(
         data_labels,
         registers,
         limit,
+        client,
     };
     Ok(Outline {
         first,

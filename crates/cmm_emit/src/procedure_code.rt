@@ -1,11 +1,11 @@
-//! The code of a unit's procedures, and behind it that with which a run ends for want of room in the stack.
+//! The code of a unit's procedures, behind it that with which a run ends for want of room in the stack, and that by which it calls the client.
 
 ghost use Rattle.std.specs.Prelude.{◌≡◌, ◌+◌, ◌<◌, [], length, OnOk};
 ghost use Rattle.cmm_emit.specs.LaidProcedures.{HasOutline, HaveCodesIn, HaveLabelsIn, IsWholeIn};
 
 use crate::node_code::lay_nodes;
 use crate::outline::Outline;
-use crate::start::{close, lay_limit};
+use crate::start::{close, lay_client, lay_limit};
 use cmm_graph::Graph;
 use cmm_program::Program;
 use rv_asm::Asm;
@@ -70,5 +70,6 @@ pub fn lay_code(
 {
     lay_procedures(asm, alloc, program, graphs, outline)?;
     lay_limit(asm, outline.targets.limit)?;
+    lay_client(asm, outline.targets.client)?;
     Ok(())
 }

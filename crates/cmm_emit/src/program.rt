@@ -10,7 +10,7 @@ ghost use Rattle.cmm_unit_code.specs.Joined.{CanBeJoined, IsTextOf};
 ghost use Rattle.cmm_unit_code.specs.Texts.{IsText};
 ghost use Rattle.cmm_unit_code.specs.declared.text.Text.{Text};
 ghost use Rattle.cmm_allocate.specs.Places.{HavePlaces};
-ghost use Rattle.cmm_emit.specs.Premises.{AreCovered, AreShort, CanBeCoded};
+ghost use Rattle.cmm_emit.specs.Premises.{AreCovered, AreShort};
 ghost use Rattle.cmm_emit.specs.Texts.{IsCodeOfProgram};
 
 use crate::start::start_code;
@@ -33,7 +33,6 @@ pub fn lay_program(
     requires ascending { IsNonDecreasingBy (λ q. q.unit) program.now.procs }
     requires flows { AllZip IsFlow program.now.procs graphs.now }
     requires places { HavePlaces program.now.procs graphs.now places.now }
-    requires coded { CanBeCoded graphs.now }
     requires covered { AreCovered graphs.now places.now }
     requires short { AreShort program.now.procs graphs.now places.now }
     requires labels { length program.now.labels ≤ 1000000 }
@@ -45,6 +44,7 @@ pub fn lay_program(
     cmm_data::laws::programs_in_range();
     cmm_data::laws::labels_in_data();
     cmm_flow::laws::answers_are_graphs();
+    cmm_flow::laws::answers_pass_few();
     cmm_flow::laws::answers_wait_once();
     cmm_allocate::laws::rows_are_placed();
     cmm_emit_laws::laws::graphs_are_named();

@@ -1,4 +1,4 @@
-//! The code with which a run begins, and with which it ends for want of room in the stack.
+//! The code with which a run begins, that with which it ends for want of room in the stack, and that by which it calls the client.
 
 ghost use Rattle.std.specs.Prelude.{◌≡◌, ◌+◌, ◌≤◌, List, [], ◌∷◌, ◌++◌, Some, true, false, length, slice_get, slice_set, IfOk, OnOk};
 ghost use Rattle.rv_asm.specs.Appending.{Appends, Codes};
@@ -10,13 +10,14 @@ ghost use Rattle.rv_asm.specs.declared.part.Meaning.TheVariants.{Inner};
 ghost use Rattle.rv_table.specs.declared.instruction.Instr.TheVariants.{Ebreak};
 ghost use Rattle.rv_table.specs.declared.request.Request.TheVariants as request;
 ghost use Rattle.cmm_effects.specs.Requests.{AsksFor};
+ghost use Rattle.cmm_calls.specs.Calls.{CallsClient};
 ghost use Rattle.cmm_abi.specs.declared.registers.TheConstants.{REQUEST_VALUE};
 ghost use Rattle.cmm_program.specs.InRange.{IsInRange};
 ghost use Rattle.cmm_emit.specs.Starts.{CallsMain, IsStart};
 ghost use Rattle.cmm_emit.specs.Orders.{IsClosed};
 
 use crate::finishing::place;
-use cmm_calls::{ask_end, ask_limit};
+use cmm_calls::{ask_client, ask_end, ask_limit};
 use cmm_items::Items;
 use cmm_program::Program;
 use cmm_unit_code::UnitCode;
@@ -61,6 +62,19 @@ pub fn lay_limit(asm: &mut Asm, limit: Label) -> Result<(), AllocError>
 {
     asm.place(limit);
     ask_limit(asm)?;
+    Ok(())
+}
+
+/// Calls the client, at a label.
+pub fn lay_client(asm: &mut Asm, client: Label) -> Result<(), AllocError>
+    requires { slice_get asm.old.labels client.number ≡ Some (Inner false) }
+    ensures placed { OnOk result (Appends asm.old.parts asm.new.parts (λ x from to. Unit {0})) }
+    ensures calls { OnOk result (Codes asm.new.parts client (λ x from to. CallsClient 1 x from)) }
+    ensures size { OnOk result (all_longest asm.new.parts ≤ all_longest asm.old.parts + 8) }
+    ensures labels { OnOk result (asm.new.labels ≡ slice_set asm.old.labels client.number (Inner true)) }
+{
+    asm.place(client);
+    ask_client(asm)?;
     Ok(())
 }
 

@@ -7,7 +7,7 @@ ghost use Rattle.cmm_program.specs.InRange.{IsInRange};
 ghost use Rattle.cmm_flow.specs.Flow.{IsFlow};
 ghost use Rattle.cmm_unit_code.specs.declared.unit_code.UnitCode.{UnitCode as CodeOfUnit};
 ghost use Rattle.cmm_allocate.specs.Places.{HavePlaces};
-ghost use Rattle.cmm_emit.specs.Premises.{AreShort, CanBeCoded};
+ghost use Rattle.cmm_emit.specs.Premises.{AreShort};
 ghost use Rattle.cmm_emit.specs.Units.{AreUnits, IsUnit, IsUnitEnd};
 
 use crate::finishing::finish_unit;
@@ -33,13 +33,13 @@ fn unit_code(
     requires range { IsInRange program.now }
     requires flows { AllZip IsFlow program.now.procs graphs.now }
     requires places { HavePlaces program.now.procs graphs.now places.now }
-    requires coded { CanBeCoded graphs.now }
     requires short { AreShort program.now.procs graphs.now places.now }
     requires labels { length program.now.labels ≤ 1000000 }
     requires within { first + count ≤ length program.now.procs }
     ensures { IfOk result (IsUnit program.now graphs.now places.now first count) }
 {
     cmm_flow::laws::answers_are_graphs();
+    cmm_flow::laws::answers_pass_few();
     cmm_flow::laws::answers_wait_once();
     cmm_emit_laws::laws::graphs_are_named();
     cmm_emit_laws::laws::frames_are_laid();
@@ -76,7 +76,6 @@ pub fn unit_codes(
     requires ascending { IsNonDecreasingBy (λ q. q.unit) program.now.procs }
     requires flows { AllZip IsFlow program.now.procs graphs.now }
     requires places { HavePlaces program.now.procs graphs.now places.now }
-    requires coded { CanBeCoded graphs.now }
     requires short { AreShort program.now.procs graphs.now places.now }
     requires labels { length program.now.labels ≤ 1000000 }
     ensures { IfOk result (λ codes. (units : List CodeOfUnit) × (codes ≡ start ∷ units) × (length units ≤ 256)

@@ -105,3 +105,17 @@ returns-in_ok-goto_body-in-Goto-clause-labels c = rw c.in-Goto.is c.in_ok-goto_b
 
 pub returns-in_ok-stop_body-in-Stop-clause-labels : goal.returns-in_ok-stop_body-in-Stop-clause-labels
 returns-in_ok-stop_body-in-Stop-clause-labels c = rw c.in-Stop.is c.in_ok-stop_body-in-Stop.ensures.labels
+
+pub yield_body-requires-clause-yields : goal.yield_body-requires-clause-yields
+yield_body-requires-clause-yields c = rw c.as_slice-in-Yield.ensures (rw c.in-Yield.is at c.requires.kind)
+
+pub yield_body-requires-clause-waits : goal.yield_body-requires-clause-waits
+yield_body-requires-clause-waits c = rw c.in-Yield.is at c.requires.waits
+
+pub returns-in_ok-yield_body-in-Yield-clause-code : goal.returns-in_ok-yield_body-in-Yield-clause-code
+returns-in_ok-yield_body-in-Yield-clause-code c =
+    let code = rw c.as_slice-in-Yield.ensures at c.in_ok-yield_body-in-Yield.ensures.code in
+    rw c.in-Yield.is (adds_weaker code (omega arith) (λ x from to does. does))
+
+pub returns-in_ok-yield_body-in-Yield-clause-labels : goal.returns-in_ok-yield_body-in-Yield-clause-labels
+returns-in_ok-yield_body-in-Yield-clause-labels c = rw c.in-Yield.is c.in_ok-yield_body-in-Yield.ensures.labels
