@@ -1,4 +1,4 @@
--- Worked rows, worked out by hand: paths of a graph with every kind of exit, conflicts of a loop and of straight code, and peeling.
+-- Worked rows, worked out by hand: paths of a graph with every kind of exit, and conflicts of a loop and of straight code.
 use Rattle.std.proofs.Common.{◌≡◌, ℕ, refl, ap, Bool, true, false, List, [], ◌∷◌, Some, map, arith}
 use Rattle.std.proofs.Common.{inl, inr}
 use Rattle.std.specs.Prelude.{◌==◌, ◌&&◌, ◌||◌, Contains}
@@ -27,7 +27,6 @@ use Rattle.cmm_live.specs.declared.live_sets.LiveSets.{LiveSets}
 use Rattle.cmm_live.specs.Locals.{local_number}
 use Rattle.cmm_live.specs.Sites.{IsLiveAt, IsLiveOnCut}
 use Rattle.cmm_live.specs.Conflicts.{conflicts}
-use Rattle.cmm_live.specs.Peeling.{Peels, is_peeling}
 
 -- ---- a notation
 
@@ -162,24 +161,3 @@ cut_is_live = record {
       | inl none ↦ absurd (omega (arith, none.1))
       | inr same ↦ let number : ◌≡◌ {A = ℕ} 4 3 = ap (local_number calling) same in absurd (omega arith)
     ]
-
--- ---- peeling: a triangle, and a fourth node beside one of its corners
-
-abbrev edge : ℕ → ℕ → Bool
-edge a b = ((a == 0) && (b == 1)) || (((a == 1) && (b == 2)) || (((a == 0) && (b == 2)) || ((a == 2) && (b == 3))))
-
-abbrev adjacent : ℕ → ℕ → Bool
-adjacent a b = edge a b || edge b a
-
-beside_peels : Peels 4 adjacent 2 3
-beside_peels = record { earlier = []; peeling = refl }
-
--- the corner has three neighbours, and two once the fourth node has gone
-corner_peels : Peels 4 adjacent 3 2
-corner_peels = record { earlier = 3 ∷ []; peeling = refl }
-
-corner_not_first : is_peeling 4 adjacent 3 [] (2 ∷ []) ≡ false
-corner_not_first = refl
-
-triangle_stays : is_peeling 4 adjacent 2 [] (3 ∷ 2 ∷ []) ≡ false
-triangle_stays = refl

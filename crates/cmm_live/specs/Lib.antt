@@ -2,6 +2,5 @@ pub mod Locals
 pub mod Sites
 pub mod Exact
 pub mod Conflicts
-pub mod Peeling
 pub mod Laws
 pub mod inside
