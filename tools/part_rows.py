@@ -309,9 +309,9 @@ def number_in(word, limit=2**64):
 
 def value_in(word):
     if re.fullmatch(rb"\$[0-9]+", word) and int(word[1:]) < 64:
-        return f"Yielded({int(word[1:])})"
+        return f"${int(word[1:])}"
     number = number_in(word)
-    return None if number is None else f"Number({number})"
+    return None if number is None else str(number)
 
 
 def operand_in(sort, word):
@@ -337,8 +337,7 @@ def command_in(words):
     values = [value_in(word) for word in rest]
     if None in operands + values:
         return None
-    operands += [f"[{', '.join(values)}]"] if "*" in sorts else []
-    return keyword.capitalize() + (f"({', '.join(operands)})" if operands else "")
+    return " ".join([keyword, *operands, *values])
 
 
 def head_in(words):
@@ -358,17 +357,15 @@ def script_case(text):
             continue
         code = head_in(words)
         if code is not None:
-            if any(code == other for other, _, _ in blocks):
+            if any(code == other for other, _ in blocks):
                 return f"rule 81 repeated block line {line}"
-            blocks.append((code, [], []))
+            blocks.append((code, []))
             continue
         command = command_in(words)
         if command is None or not blocks:
             return f"rule 80 unknown line line {line}"
-        blocks[-1][1].append(command)
-        blocks[-1][2].append(line)
-    shown = [f"Block {{ code: {option(None if code == 'other' else code)}, commands: [{', '.join(commands)}], lines: {lines} }}" for code, commands, lines in blocks]
-    return f"[{', '.join(shown)}]"
+        blocks[-1][1].append(f"{line}:{command}")
+    return " ".join(word for code, commands in blocks for word in ["other" if code == "other" else f"at {code}", *commands]) or "no block"
 
 
 COMMANDS = [

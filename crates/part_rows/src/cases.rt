@@ -6,9 +6,9 @@ use crate::files::print_files;
 use crate::lists::{print_items, print_moves, print_peeled, print_set};
 use crate::placements::print_placement;
 use crate::readings::{
-    print_generated, print_kind, print_name, print_number, print_rule, print_script, print_tokens,
-    print_width,
+    print_generated, print_kind, print_name, print_number, print_rule, print_tokens, print_width,
 };
+use crate::scripts::print_script;
 use crate::steps::{print_access, print_fetch, print_memory, print_run, print_step, print_word};
 use std::io;
 

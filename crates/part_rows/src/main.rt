@@ -5,7 +5,7 @@
 //!
 //! - `cases`: what the lines of the input try.
 //! - `text`: the bytes and the numbers that a case spells.
-//! - `lists`: lists, sets, moves and graphs. `colours`: lists of nodes, and colours of conflicts. `readings`: tokens, scripts, rules and what is written of values.
+//! - `lists`: lists, sets, moves and graphs. `colours`: lists of nodes, and colours of conflicts. `readings`: tokens, rules and what is written of values. `scripts`: what is read of a script.
 //! - `fakes`, `files`: streams and files in memory. `placements`: where a program of two procedures may stand.
 //! - `steps`: words of instructions, single steps, and accesses of memory.
 #![tactic(auto)]
@@ -17,6 +17,7 @@ mod files;
 mod lists;
 mod placements;
 mod readings;
+mod scripts;
 mod steps;
 mod text;
 

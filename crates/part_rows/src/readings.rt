@@ -1,4 +1,4 @@
-//! Tokens, scripts and rules, and what is written of values.
+//! Tokens and rules, and what is written of values.
 
 use crate::text::{bytes_of, number_of, small_of};
 use cmm_generated::generate;
@@ -6,7 +6,6 @@ use cmm_lexer::{TokenKind, Tokens, lex};
 use cmm_outside::MemSink;
 use cmm_report::{put_address, put_kind, put_number};
 use cmm_rules::Rule;
-use cmm_script::parse_script;
 use cmm_words::{Constant, Name, Quoted, Width};
 use std::io;
 
@@ -35,15 +34,6 @@ fn print_list(rt: &impl Print, tokens: &Tokens) -> io::Result<()> {
         }
     }
     print!(rt; " {}:{}", tokens.line, tokens.column)
-}
-
-/// Prints the blocks of a script, or the rule that it breaks first, and the line.
-pub fn print_script(rt: &(impl AllocGlobal + Print), text: &str) -> io::Result<()> {
-    let bytes = bytes_of(rt.alloc(), text)?;
-    match parse_script(rt.alloc(), &bytes) {
-        Ok(script) => print!(rt; " {:?}", script.blocks),
-        Err(fault) => print!(rt; " {fault}"),
-    }
 }
 
 /// Prints the rule with a number, and what phase it is of.
