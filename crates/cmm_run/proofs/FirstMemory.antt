@@ -40,10 +40,7 @@ map_is l m is =
     ap regions.map_of is ∙ ap (λ (n : ℕ). record { code = l.image.code; data_length = length l.image.initial; region_length = n }) count
 
 pub region_is : (l : Launch) (m : Regions) → m ≡ started l.image.code l.image.initial l.stack_size → regions.region_of m ≡ region_of l
-region_is l m is =
-    let zeros : List ℕ = replicate (BELOW_STACK + l.stack_size) 0 in
-    let count : length zeros - BELOW_STACK ≡ l.stack_size = omega (arith, length-replicate {A = ℕ} (BELOW_STACK + l.stack_size) 0) in
-    ap regions.region_of is ∙ ap (λ (n : ℕ). record { address = region_base; stack_size = n }) count
+region_is l m is = ap regions.region_of is
 
 -- a machine is ready with the first registers and the first memory
 pub is_ready : (l : Launch) (machine : Machine) → length l.image.initial ≤ DATA_LENGTH_LIMIT →
