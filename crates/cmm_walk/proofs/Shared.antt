@@ -4,4 +4,6 @@ pub use Rattle.cmm_walk.proofs.Points.{fits_stack, frame_lies, lies_inside, plac
 pub use Rattle.cmm_walk.proofs.Places.{order_small, register_again, register_saved}
 pub use Rattle.cmm_walk.proofs.Variables.{place_at, shown_at, slot_fits, variable_shown}
 pub use Rattle.cmm_walk.proofs.Steps.{left_of, nearer, returns_there}
+pub use Rattle.cmm_walk.proofs.WalkLaws.{begins, nothing_more, rest_of}
+pub use Rattle.cmm_walk.proofs.Writes.{joined, written_ok, written_then}
 pub use Rattle.cmm_walk.proofs.WalkRows.{at_yield, leaf_activation, main_activation, region}

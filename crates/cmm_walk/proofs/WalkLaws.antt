@@ -22,7 +22,7 @@ use Rattle.cmm_walk.specs.declared.walking.WalkError.TheVariants as walk_error
 use Rattle.cmm_walk.specs.Texts.{WritesWalk, chain_text}
 use Rattle.cmm_walk.proofs.Writes.{joined}
 
-nothing_more : (told : Option (List ℕ)) → Appends told told []
+pub nothing_more : (told : Option (List ℕ)) → Appends told told []
 nothing_more None = tt
 nothing_more (Some xs) = ap Some (sym (append-nil xs))
 
