@@ -1,177 +1,122 @@
--- A yield that no block answers.
-use Rattle.std.proofs.Common.{◌≡◌, ℕ, ◌+◌, List, [], ◌∷◌, ◌++◌, Option, Some, None, Result, Ok, Err, refl, ap, sym, ◌∙◌, subst, append-nil}
+-- A yield, and the client's answer to it.
+use Rattle.std.proofs.Common.{◌≡◌, ℕ, ◌+◌, List, [], ◌++◌, Option, Some, None, Result, Ok, Err, refl, ap, sym, ◌∙◌, subst}
 use Rattle.rv_table.specs.declared.request.Request.TheVariants.{Yield}
 use Rattle.rv_table.specs.Machine as rv
 use Rattle.rv_table.specs.Machine.{State, instruction_step}
 use Rattle.rv_sim.specs.Stepping.{state_of}
-use Rattle.cmm_outside.specs.Output.{Appends, AppendsFront}
+use Rattle.cmm_outside.specs.Output.{Appends, AppendsFront, WritesAll}
+use Rattle.cmm_outside.specs.declared.Failed.{Failed}
 use Rattle.cmm_report.proofs.Shared.{appends_then, appends_then_front}
-use Rattle.cmm_script.specs.declared.script.Command.{Command}
-use Rattle.cmm_script.specs.declared.script.Script.{Script}
-use Rattle.cmm_script.specs.Lines.{yield_line}
-use Rattle.cmm_program.specs.Commands.{commands_for}
-use Rattle.cmm_program.specs.State as c
-use Rattle.cmm_program.specs.Asking.{Break, Chain, at_youngest}
+use Rattle.cmm_program.specs.Commands as client
+use Rattle.cmm_program.specs.Commands.{Answer}
 use Rattle.cmm_image_machine.specs.Changes.{at_pc}
-use Rattle.cmm_program.specs.Commands.{answer_of}
-use Rattle.cmm_image_machine.specs.Frames.{Element, Point, Found, Activation, Nothing, Broken, along, chain_from, chain_of, first_point, point_after}
-use Rattle.cmm_image_machine.specs.Laws.{KeepFrames}
 use Rattle.cmm_image_machine.specs.Machine as image
-use Rattle.cmm_image_machine.specs.Machine.{Launch, Run, Running, Ended, map_of, region_of, askable, yielded_at, left, yields, yielded, goes_on, step}
-use Rattle.cmm_abi.specs.Regions.{Region, values_in}
-use Rattle.cmm_image_machine.proofs.Shared.{chain_goes_on}
+use Rattle.cmm_image_machine.specs.Machine.{Launch, Run, map_of, region_of, goes_on, step}
+use Rattle.cmm_walk.specs.Walking.{break_of}
+use Rattle.cmm_client.specs.declared.yielding.Left.{Left}
+use Rattle.cmm_client.specs.declared.yielding.Left.TheVariants as left
+use Rattle.cmm_client.specs.Yields.{IsLeft, at_yield, run_behind}
+use Rattle.cmm_client.proofs.Shared.{yields_are_answers}
 use Rattle.cmm_run.specs.declared.machine.Machine.{Machine}
 use Rattle.cmm_run.specs.declared.outcome.Outcome.{Outcome}
 use Rattle.cmm_run.specs.declared.outcome.Outcome.TheVariants as outcome
 use Rattle.cmm_run.specs.Outside.{Outside}
 use Rattle.cmm_run.specs.Runs.{ShowsFront}
 use Rattle.cmm_run.specs.inside.Turns.{IsAt, IsOver, Turns}
-use Rattle.cmm_run.specs.inside.Yields.{StopsWith, YieldsTo, count_found, count_of, found_first, values_at, values_found}
-use Rattle.cmm_run.proofs.Moving.{moves_end}
+use Rattle.cmm_run.specs.inside.Yields.{AnswersWith, ending_of}
+use Rattle.cmm_run.proofs.Moving.{moved, moves_end}
 use Rattle.cmm_run.proofs.Turning.{step_is, whole_front}
 
--- ---- what the definition does
+-- ---- what the client's answer comes to
 
-no_commands : (values : List ℕ) (script : Script) → script.blocks ≡ [] → commands_for values script ≡ []
-no_commands values script none = rw none refl
+module _ {Sink : Type 0} (taken : Sink → Option (List ℕ)) (faults : Sink → ℕ) (old new : Sink) (after : State) where
+  left_by : (text : List ℕ) (to : client.Left State State) (l : Left) → WritesAll {Answer = Left} {Error = Failed} taken faults old new text (Ok l) → IsLeft to l after →
+      AnswersWith (record { text = text; left = to }) after taken faults old new (ending_of l)
+  left_by text (client.Running s) left.Running writes is = (ap client.Running (sym is), writes.ok, writes.no_fault)
+  left_by text (client.Running s) left.Stopped writes is = absurd is
+  left_by text (client.Running s) (left.Torn t) writes is = absurd is
+  left_by text (client.Stopped s) left.Running writes is = absurd is
+  left_by text (client.Stopped s) left.Stopped writes is = (ap client.Stopped (sym is), writes.ok, writes.no_fault)
+  left_by text (client.Stopped s) (left.Torn t) writes is = absurd is
+  left_by text (client.Torn b s) left.Running writes is = absurd is
+  left_by text (client.Torn b s) left.Stopped writes is = absurd is
+  left_by text (client.Torn b s) (left.Torn t) writes is = (λ i. client.Torn (is.0 i) (sym is.1 i), writes.ok, writes.no_fault)
 
--- the line is logged, and the run stopped
-abbrev stopped : List ℕ → Run → Run
-stopped values run = record run { log = run.log ++ yield_line values ++ []; status = Ended c.Stopped }
-
-yields_stop : (l : Launch) (values : List ℕ) (run : Run) → l.script.blocks ≡ [] → yields l values run ≡ stopped values run
-yields_stop l values run none =
-    let k = askable l.image (region_of l) in
-    ap (λ (commands : List Command). let a = answer_of k values [] (at_youngest (k.running run.machine)) run.machine commands in
-    left a.left record run { log = run.log ++ yield_line values ++ a.text }) (no_commands values l.script none)
-
-yielded_by : (r : Region) (s : State) (e : Element) (older : List Element) (o : Option ℕ) → e.site.yield_values ≡ o →
-    yielded_at r s (e ∷ older) ≡ values_in r s (count_of e.site.yield_values)
-yielded_by r s e older (Some count) is = rw is refl
-yielded_by r s e older None is = rw is refl
-
--- the values that were found are those of the definition
-stops_by : (l : Launch) (run : Run) (on : Point → Chain Element) (values : List ℕ) (f : Found) → l.script.blocks ≡ [] →
-    values_found (region_of l) run.machine (count_found f) ≡ Ok values → yielded l (along on run.machine.memory f) run ≡ stopped values run
-stops_by l run on values (Activation e) none is =
-    let older = (on (point_after run.machine.memory e)).activations in
-    let same : values_in (region_of l) run.machine (count_of e.site.yield_values) ≡ values = cc is in
-    yields_stop l (yielded_at (region_of l) run.machine (e ∷ older)) run none
-    ∙ ap (λ (vs : List ℕ). stopped vs run) (yielded_by (region_of l) run.machine e older e.site.yield_values refl ∙ same)
-stops_by l run on values Nothing none is =
-    let same : ◌≡◌ {A = List ℕ} [] values = cc is in
-    yields_stop l [] run none ∙ ap (λ (vs : List ℕ). stopped vs run) same
-stops_by l run on values (Broken b) none is = absurd (cc is)
-
-tears_by : (l : Launch) (run : Run) (on : Point → Chain Element) (b : Break) (f : Found) →
-    values_found (region_of l) run.machine (count_found f) ≡ Err b → yielded l (along on run.machine.memory f) run ≡ record run { status = image.Torn b }
-tears_by l run on b (Activation e) is = absurd (cc is)
-tears_by l run on b Nothing is = absurd (cc is)
-tears_by l run on b (Broken d) is = let same : d ≡ b = cc is in ap (λ (e : Break). record run { status = image.Torn e }) same
-
-chain_is : (l : Launch) (s : State) → KeepFrames l.image →
-    chain_of l.image (region_of l) s ≡ along (chain_from l.image (region_of l) s.memory) s.memory (found_first l.image (region_of l) s)
-chain_is l s frames = chain_goes_on l.image (region_of l) s.memory (first_point s) frames
-
-pub stops : (l : Launch) (run : Run) (values : List ℕ) → l.script.blocks ≡ [] → KeepFrames l.image → values_at l.image (region_of l) run.machine ≡ Ok values →
-    yielded l (chain_of l.image (region_of l) run.machine) run ≡ stopped values run
-stops l run values none frames is =
-    ap (λ (chain : Chain Element). yielded l chain run) (chain_is l run.machine frames)
-    ∙ stops_by l run (chain_from l.image (region_of l) run.machine.memory) values (found_first l.image (region_of l) run.machine) none is
-
-pub tears : (l : Launch) (run : Run) (b : Break) → KeepFrames l.image → values_at l.image (region_of l) run.machine ≡ Err b →
-    yielded l (chain_of l.image (region_of l) run.machine) run ≡ record run { status = image.Torn b }
-tears l run b frames is =
-    ap (λ (chain : Chain Element). yielded l chain run) (chain_is l run.machine frames)
-    ∙ tears_by l run (chain_from l.image (region_of l) run.machine.memory) b (found_first l.image (region_of l) run.machine) is
+  -- the client leaves the program
+  pub leaves : (answer : Answer State State) (result : Result Left Failed) (l : Left) (o : Option Outcome) → result ≡ Ok l → WritesAll taken faults old new answer.text result →
+      IsLeft answer.left l after → o ≡ ending_of l → AnswersWith answer after taken faults old new o
+  leaves answer result l o was writes is ends =
+      subst (λ (x : Option Outcome). AnswersWith answer after taken faults old new x) (sym ends)
+      (left_by answer.text answer.left l (subst (λ (x : Result Left Failed). WritesAll taken faults old new answer.text x) was writes) is)
 
 -- ---- the turn
 
--- what stood outside is as it was, but for the log
-record OnlyLog (before after : Outside) : Type 0 where
-  input : after.input ≡ before.input
-  output : after.output ≡ before.output
+-- the text of an answer is in the log, however it leaves the program
+logged : (to : client.Left State State) (run : Run) → (image.left to run).log ≡ run.log
+logged (client.Running s) run = refl
+logged (client.Stopped s) run = refl
+logged (client.Torn b s) run = refl
 
-module _ (l : Launch) (start before after : Outside) (machine next : Machine) (run : Run) (at : IsAt machine start before run)
-    (asks : instruction_step (map_of l) run.machine ≡ rv.Asks Yield)
-    (none_waits : machine.waiting ≡ [])
-    (state : state_of next.regs next.memory ≡ at_pc (machine.regs.pc + 4) (state_of machine.regs machine.memory)) (frames : KeepFrames l.image)
-    (only : OnlyLog before after) where
-  here : state_of next.regs next.memory ≡ (goes_on run).machine
-  here = state ∙ sym (ap (λ (s : State). at_pc (s.pc + 4) s) at.machine_is)
+put_out : (to : client.Left State State) (run : Run) → (image.left to run).output ≡ run.output
+put_out (client.Running s) run = refl
+put_out (client.Stopped s) run = refl
+put_out (client.Torn b s) run = refl
 
+module _ {Sink : Type 0} (taken : Sink → Option (List ℕ)) (faults : Sink → ℕ) (old new : Sink) (l : Launch) (start before after : Outside) (machine next : Machine) (run : Run)
+    (at : IsAt machine start before run) (none_waits : machine.waiting ≡ []) (none_waits_then : next.waiting ≡ [])
+    (was : before.log ≡ taken old) (is_now : after.log ≡ taken new) (input : after.input ≡ before.input) (output : after.output ≡ before.output) where
   output_shown : Appends start.output after.output run.output
-  output_shown = subst (λ (told : Option (List ℕ)). Appends start.output told run.output) (sym only.output)
+  output_shown = subst (λ (told : Option (List ℕ)). Appends start.output told run.output) (sym output)
       (moves_end start.output before.output run.output machine.waiting none_waits at.written.output)
 
-  stop_step : (values : List ℕ) → l.script.blocks ≡ [] → values_at l.image (region_of l) (state_of next.regs next.memory) ≡ Ok values → step l run ≡ stopped values (goes_on run)
-  stop_step values none found =
-      step_is l run (rv.Asks Yield) at.running asks ∙ stops l (goes_on run) values none frames (ap (values_at l.image (region_of l)) (sym here) ∙ found)
+  log_shown : (text : List ℕ) → Appends (taken old) (taken new) text → Appends start.log after.log (run.log ++ text)
+  log_shown text log = appends_then start.log before.log after.log run.log text at.written.log (rw (was, is_now) log)
 
-  tear_step : (b : Break) → values_at l.image (region_of l) (state_of next.regs next.memory) ≡ Err b → step l run ≡ record (goes_on run) { status = image.Torn b }
-  tear_step b found = step_is l run (rv.Asks Yield) at.running asks ∙ tears l (goes_on run) b frames (ap (values_at l.image (region_of l)) (sym here) ∙ found)
+  behind : List ℕ → client.Left State State → Run
+  behind text to = image.left to record (goes_on run) { log = run.log ++ text }
 
-  stop_turn : (values : List ℕ) → step l run ≡ stopped values (goes_on run) → Appends before.log after.log (yield_line values) →
-      IsOver start after (step l run) outcome.Stopped
-  stop_turn values is log = subst (λ (r : Run). IsOver start after r outcome.Stopped) (sym is) record {
-    over = λ e. absurd (cc e);
-    ends = record {
-      answer = refl;
-      shows = record {
-        input = only.input ∙ at.written.input;
-        output = output_shown;
-        log = rw (append-nil (run.log ++ yield_line values)) (appends_then start.log before.log after.log run.log (yield_line values) at.written.log log);
-      };
-    };
-  }
+  turn_by : (text : List ℕ) (to : client.Left State State) (o : Option Outcome) → step l run ≡ behind text to →
+      AnswersWith (record { text = text; left = to }) (state_of next.regs next.memory) taken faults old new o → Turns l start after next run o
+  unfolding behind
+  turn_by text to None is answers =
+      subst (λ (r : Run). IsAt next start after r) (sym (is ∙ ap (behind text) answers.0)) record {
+        running = at.running;
+        machine_is = refl;
+        written = record {
+          input = input ∙ at.written.input;
+          output = moved start.output after.output run.output next.waiting none_waits_then output_shown;
+          log = log_shown text answers.1;
+        };
+      }
+  turn_by text to (Some outcome.Stopped) is answers =
+      subst (λ (r : Run). IsOver start after r outcome.Stopped) (sym (is ∙ ap (behind text) answers.0)) record {
+        over = λ e. absurd (cc e);
+        ends = record { answer = refl; shows = record { input = input ∙ at.written.input; output = output_shown; log = log_shown text answers.1 } };
+      }
+  turn_by text to (Some (outcome.Torn t)) is answers =
+      subst (λ (r : Run). IsOver start after r (outcome.Torn t)) (sym (is ∙ ap (behind text) answers.0)) record {
+        over = λ e. absurd (cc e);
+        ends = record { answer = refl; shows = record { input = input ∙ at.written.input; output = output_shown; log = log_shown text answers.1 } };
+      }
+  turn_by text to (Some outcome.OutputFault) is answers =
+      let here : Run = record (goes_on run) { log = run.log ++ text } in record {
+        output = subst (AppendsFront start.output after.output) (sym (ap (λ (r : Run). r.output) is ∙ put_out to here)) (whole_front start.output after.output run.output output_shown);
+        log = subst (AppendsFront start.log after.log) (sym (ap (λ (r : Run). r.log) is ∙ logged to here))
+            (appends_then_front start.log before.log after.log run.log text at.written.log (rw (was, is_now) answers.0));
+      }
+  turn_by text to (Some (outcome.Done value)) is answers = absurd answers
+  turn_by text to (Some outcome.StackLimit) is answers = absurd answers
+  turn_by text to (Some outcome.StepLimit) is answers = absurd answers
+  turn_by text to (Some (outcome.Trap t)) is answers = absurd answers
+  turn_by text to (Some outcome.InputFault) is answers = absurd answers
 
-  fail_turn : (values : List ℕ) → step l run ≡ stopped values (goes_on run) → AppendsFront before.log after.log (yield_line values) →
-      ShowsFront start after (step l run)
-  fail_turn values is log = subst (ShowsFront start after) (sym is) record {
-    output = whole_front start.output after.output run.output output_shown;
-    log = rw (append-nil (run.log ++ yield_line values)) (appends_then_front start.log before.log after.log run.log (yield_line values) at.written.log log);
-  }
-
-  tear_turn : (b : Break) → step l run ≡ record (goes_on run) { status = image.Torn b } → after.log ≡ before.log →
-      IsOver start after (step l run) (outcome.Torn record { frame = b.frame; address = b.address })
-  tear_turn b is log = subst (λ (r : Run). IsOver start after r (outcome.Torn record { frame = b.frame; address = b.address })) (sym is) record {
-    over = λ e. absurd (cc e);
-    ends = record {
-      answer = refl;
-      shows = record {
-        input = only.input ∙ at.written.input;
-        output = output_shown;
-        log = subst (λ (told : Option (List ℕ)). Appends start.log told run.log) (sym log) at.written.log;
-      };
-    };
-  }
-
-  stops_with : {Sink : Type 0} (taken : Sink → Option (List ℕ)) (faults : Sink → ℕ) (old new : Sink) (values : List ℕ) (o : Outcome) →
-      step l run ≡ stopped values (goes_on run) → before.log ≡ taken old → after.log ≡ taken new → StopsWith values taken faults old new o →
-      Turns l start after next run (Some o)
-  stops_with taken faults old new values outcome.Stopped is was log s = stop_turn values is (rw (was, log) s.0)
-  stops_with taken faults old new values outcome.OutputFault is was log s = fail_turn values is (rw (was, log) s.0)
-  stops_with taken faults old new values (outcome.Done value) is was log s = absurd s
-  stops_with taken faults old new values outcome.StackLimit is was log s = absurd s
-  stops_with taken faults old new values outcome.StepLimit is was log s = absurd s
-  stops_with taken faults old new values (outcome.Trap t) is was log s = absurd s
-  stops_with taken faults old new values outcome.InputFault is was log s = absurd s
-  stops_with taken faults old new values (outcome.Torn t) is was log s = absurd s
-
-  yields_to : {Sink : Type 0} (taken : Sink → Option (List ℕ)) (faults : Sink → ℕ) (old new : Sink) (found : Result (List ℕ) Break) (o : Outcome) →
-      l.script.blocks ≡ [] → values_at l.image (region_of l) (state_of next.regs next.memory) ≡ found → before.log ≡ taken old → after.log ≡ taken new →
-      YieldsTo found taken faults old new o → Turns l start after next run (Some o)
-  yields_to taken faults old new (Ok values) o none found was log to = stops_with taken faults old new values o (stop_step values none found) was log to
-  yields_to taken faults old new (Err b) o none found was log to =
-      subst (λ (a : Outcome). Turns l start after next run (Some a)) (sym to.0)
-      (tear_turn b (tear_step b found) (log ∙ ap taken to.1 ∙ sym was))
-
-pub yield_turn : {Sink : Type 0} (taken : Sink → Option (List ℕ)) (faults : Sink → ℕ) (old new : Sink) (l : Launch) (start before after : Outside)
-    (machine next : Machine) (run : Run) (o : Outcome) → l.script.blocks ≡ [] → KeepFrames l.image → IsAt machine start before run → machine.waiting ≡ [] →
-    instruction_step (map_of l) run.machine ≡ rv.Asks Yield →
-    state_of next.regs next.memory ≡ at_pc (machine.regs.pc + 4) (state_of machine.regs machine.memory) →
-    before.log ≡ taken old → after.log ≡ taken new → after.input ≡ before.input → after.output ≡ before.output →
-    YieldsTo (values_at l.image (region_of l) (state_of next.regs next.memory)) taken faults old new o → Turns l start after next run (Some o)
-yield_turn taken faults old new l start before after machine next run o none frames at waits asks state was log input output to =
-    yields_to l start before after machine next run at asks waits state frames (record { input = input; output = output }) taken faults old new
-    (values_at l.image (region_of l) (state_of next.regs next.memory)) o none refl was log to
+  -- registers and memory are those of the machine once it went on, and the client's answer is given
+  pub yield_turn : (s : State) (o : Option Outcome) → instruction_step (map_of l) run.machine ≡ rv.Asks Yield → s ≡ at_pc (machine.regs.pc + 4) (state_of machine.regs machine.memory) →
+      AnswersWith (at_yield l.image (region_of l) l.script s) (state_of next.regs next.memory) taken faults old new o → Turns l start after next run o
+  unfolding behind
+  yield_turn s o asks state answers =
+      let here : (goes_on run).machine ≡ s = ap (λ (t : State). at_pc (t.pc + 4) t) at.machine_is ∙ sym state in
+      let answer = at_yield l.image (region_of l) l.script s in
+      turn_by answer.text answer.left o
+      (step_is l run (rv.Asks Yield) at.running asks ∙ yields_are_answers l (goes_on run)
+      ∙ ap (λ (t : State). run_behind (at_yield l.image (region_of l) l.script t) (goes_on run)) here) answers

@@ -1,9 +1,12 @@
 -- Worked rows: what small runs come to.
-use Rattle.std.proofs.Common.{◌≡◌, ℕ, List, [], ◌∷◌, ◌++◌, Some, inl, refl, subst, pos, lit<, lit≤}
-use Rattle.std.specs.Prelude.{codes}
+use Rattle.std.proofs.Common.{◌≡◌, ℕ, List, [], ◌∷◌, ◌++◌, Some, None, inl, inr, refl, subst, pos, lit<, lit≤}
+use Rattle.std.specs.Prelude.{codes, flat_map}
 use Rattle.std.specs.Fmt as Fmt
 use Rattle.rv_table.specs.declared.instruction.Instr.TheVariants.{Addi, Ecall}
 use Rattle.rv_table.specs.declared.trap.TrapKind.TheVariants.{BadTarget}
+use Rattle.cmm_script.specs.declared.script.Command.TheVariants.{Next, Return, Set, Stop}
+use Rattle.cmm_script.specs.declared.script.Value.TheVariants.{Number}
+use Rattle.cmm_script.specs.Walk.{line}
 use Rattle.cmm_image.specs.declared.parts.ImageParts.{ImageParts}
 use Rattle.cmm_image_machine.specs.Machine.{Launch}
 use Rattle.cmm_image_machine.proofs.Shared.{bare, yielding}
@@ -34,6 +37,28 @@ stops :
 unfolding Fmt.digits
 stops = runs (quiet yielding) 300 (9 ∷ []) _ _ Stopped refl (record { input = refl; output = refl; log = refl })
     (record { answer = refl; shows = record { input = refl; output = refl; log = refl } })
+
+-- the block of 20 gives main's first variable 50 where leaf has saved it, and lets leaf return: 7 + 407 + 50
+abbrev answered : Launch
+answered = record {
+  image = yielding;
+  script = record {
+    blocks = record { code = None; commands = Stop ∷ []; lines = [] } ∷ record { code = Some 20; commands = Next ∷ Set 0 (Number 50) ∷ Return 1 [] ∷ Stop ∷ []; lines = [] } ∷ [];
+  };
+  stack_size = 4096;
+}
+
+goes_on :
+    Runs answered 300 (outside [] [] []) (outside [] [] (flat_map line (codes "yield 20 7" ∷ codes "at main site 0" ∷ codes "ok" ∷ codes "resume" ∷ []))) (Done 464)
+unfolding Fmt.digits
+goes_on = runs answered 300 [] _ _ (Done 464) refl (record { input = refl; output = refl; log = refl })
+    (record { answer = refl; shows = record { input = refl; output = refl; log = refl } })
+
+-- the log fails behind the first 5 bytes of the yield's line
+logs_a_front : Runs answered 300 (outside [] [] []) record (outside [] [] (codes "yield")) { log_faults = 1 } OutputFault
+unfolding Fmt.digits
+logs_a_front = runs answered 300 [] _ _ OutputFault refl (record { input = refl; output = inr (refl, inl (lit< tt)) })
+    (record { output = (0, lit≤ tt, refl); log = (5, lit≤ tt, refl) })
 
 -- it puts A, takes a byte, and ends with it
 abbrev taking : Launch

@@ -1,9 +1,9 @@
 //! What stays as it is in a run.
-ghost use Rattle.std.specs.Prelude.{◌≡◌, ◌≤◌, ◌+◌, [], IfOk};
+ghost use Rattle.std.specs.Prelude.{◌≡◌, ◌≤◌, ◌+◌, IfOk};
 ghost use Rattle.rv_sim.specs.Standing.{found_at};
 ghost use Rattle.rv_table.specs.Memory.{data_base};
 ghost use Rattle.rv_table.specs.Table.{IsValid};
-ghost use Rattle.rv_table.specs.declared.memory_map.TheConstants.{STACK_SIZE_LIMIT};
+ghost use Rattle.cmm_script.specs.Limits.{HasFewValues};
 ghost use Rattle.cmm_run.specs.inside.Loading.{IsLoaded};
 
 use cmm_image::Image;
@@ -12,7 +12,7 @@ use rv_sim::Decoded;
 use rv_table::{Instr, TrapKind};
 use std::marker::Model;
 
-/// An image with its code decoded, a script without a block, and the size of the stack in bytes.
+/// An image with its code decoded, a script, and the size of the stack in bytes.
 #[derive(Drop)]
 pub struct Loaded {
     image: Image,
@@ -57,11 +57,17 @@ impl Loaded {
 
     /// The image.
     pub fn image(&self) -> &Image
-        ensures same { result.now ≡ self.now.image }
-        ensures no_block { self.now.script.blocks ≡ [] }
-        ensures stack { self.now.stack_size ≤ STACK_SIZE_LIMIT }
+        ensures { result.now ≡ self.now.image }
     {
         &self.image
+    }
+
+    /// The script. Its commands give few values.
+    pub fn script(&self) -> &Script
+        ensures same { result.now ≡ self.now.script }
+        ensures few { HasFewValues self.now.script }
+    {
+        &self.script
     }
 
     /// The image, given away.

@@ -55,7 +55,7 @@ pub fn answer<I: Source, O: Sink, E: Sink>(
         Request::Yield => match machine.waiting.flush(out) {
             Ok(()) => {
                 go_on(&mut machine.regs);
-                Some(yields(loaded.image(), machine, log))
+                yields(loaded, machine, log)
             }
             Err(Failed) => Some(Outcome::OutputFault),
         },

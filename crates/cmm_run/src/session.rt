@@ -1,6 +1,7 @@
 //! Sessions.
-ghost use Rattle.std.specs.Prelude.{◌≡◌, ◌≤◌, [], ℕ, None, Some, IfOk};
+ghost use Rattle.std.specs.Prelude.{◌≡◌, ◌≤◌, ◌%◌, ℕ, None, Some, IfOk};
 ghost use Rattle.rv_memory.specs.Regions.{started};
+ghost use Rattle.cmm_script.specs.Limits.{HasFewValues};
 ghost use Rattle.cmm_run.specs.Outside.{outside_of};
 ghost use Rattle.cmm_run.specs.Runs.{Runs};
 ghost use Rattle.cmm_run.specs.declared.outcome.Outcome.{Outcome as OutcomeOf};
@@ -22,7 +23,7 @@ use std::marker::Model;
 /// The limits of a run.
 #[derive(Clone, Copy, PartialEq, Eq)]
 pub struct Limits {
-    /// The bytes of the stack.
+    /// The bytes of the stack, a multiple of 16.
     pub stack: u64,
     /// How many instructions may be executed.
     pub steps: u64,
@@ -58,8 +59,9 @@ impl Session {
         script: Script,
         limits: Limits,
     ) -> Result<Session, NoMemory>
-        requires no_block { script.blocks ≡ [] }
+        requires few { HasFewValues script }
         requires stack { limits.stack ≤ STACK_SIZE_LIMIT }
+        requires aligned { limits.stack % 16 ≡ 0 }
         ensures { IfOk result (λ s. s ≡ record {
           launch = record { image = image; script = script; stack_size = limits.stack };
           steps = limits.steps;

@@ -1,18 +1,20 @@
 -- What a session keeps of what it loaded.
-use Rattle.std.specs.Prelude.{◌≡◌, ◌≤◌, [], List, Option}
+use Rattle.std.specs.Prelude.{◌≡◌, ◌%◌, ◌≤◌, [], List, Option}
 use Rattle.rv_memory.specs.Regions as regions
 use Rattle.rv_sim.specs.Standing.{IsTableOf}
 use Rattle.rv_sim.specs.Stepping.{state_of}
 use Rattle.rv_table.specs.declared.instruction.Instr.{Instr}
 use Rattle.rv_table.specs.declared.memory_map.TheConstants.{STACK_SIZE_LIMIT}
+use Rattle.cmm_script.specs.Limits.{HasFewValues}
 use Rattle.cmm_image_machine.specs.Machine.{Launch, map_of, region_of, first_run}
 use Rattle.cmm_run.specs.declared.machine.Machine.{Machine}
 
--- the code is decoded, the script has no block, and the stack is within its limit
+-- the code is decoded, the script's commands give few values, and the stack is within its limit and a multiple of 16
 pub record IsLoaded (l : Launch) (table : List (Option Instr)) : Type 0 where
   pub decoded : IsTableOf l.image.code table
-  pub no_block : l.script.blocks ≡ []
+  pub few : HasFewValues l.script
   pub stack : l.stack_size ≤ STACK_SIZE_LIMIT
+  pub aligned : l.stack_size % 16 ≡ 0
 
 -- registers and memory are those where a run begins, and no output waits
 pub record IsReady (l : Launch) (machine : Machine) : Type 0 where

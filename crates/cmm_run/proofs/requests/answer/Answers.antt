@@ -2,13 +2,12 @@ use Rattle.std.proofs.Common.{ℕ, List, Result, refl, ap, ◌∙◌, subst}
 use Rattle.rv_memory.specs.Regions.{memory_of}
 use Rattle.rv_sim.specs.Stepping.{state_of}
 use Rattle.rv_table.specs.Machine.{Asks}
-use Rattle.cmm_program.specs.Asking.{Break}
-use Rattle.cmm_image.specs.Images.{IsImage}
-use Rattle.cmm_image_machine.proofs.Shared.{images_keep_frames}
 use Rattle.cmm_run.specs.declared.machine.Machine.{Machine}
 use Rattle.cmm_run.specs.Outside.{Outside, outside_of}
 use Rattle.cmm_run.specs.inside.Turns.{IsAt}
-use Rattle.cmm_run.specs.inside.Yields.{YieldsTo, values_at}
+use Rattle.cmm_abi.specs.Regions.{Region}
+use Rattle.cmm_client.specs.Yields.{at_yield}
+use Rattle.cmm_run.specs.inside.Yields.{AnswersWith}
 use Rattle.cmm_run.proofs.AtYields.{yield_turn}
 use Rattle.cmm_run.proofs.Turning.{end_turn, limit_turn, put_turn, take_turn, write_fails, written_at}
 use Rattle.cmm_run.proofs.requests.answer.Goals as goal
@@ -37,19 +36,19 @@ returns-in-Err-flush-clause-turns g c start run at asks =
 
 pub returns-in-Ok-flush-2-clause-turns : goal.returns-in-Ok-flush-2-clause-turns
 returns-in-Ok-flush-2-clause-turns g c start run at asks =
+    let l = c.args.loaded.now in
     let machine = c.args.machine.now in
     let flushed : Machine = record { regs = machine.regs; memory = machine.memory; waiting = c.flush-in-Yield.new.self } in
-    let next : Machine = record { regs = c.go_on-in-Ok-flush-2.new.r; memory = machine.memory; waiting = c.flush-in-Yield.new.self } in
+    let s = state_of c.go_on-in-Ok-flush-2.new.r machine.memory in
     let mid : Outside =
     outside_of g.I.Source.left g.I.Source.faults g.O.Sink.taken g.O.Sink.faults g.E.Sink.taken g.E.Sink.faults c.args.input.now c.flush-in-Yield.new.out c.args.log.now in
     let here : IsAt flushed start mid run =
     written_at start _ mid machine flushed run at refl refl c.flush-in-Yield.ensures.empty refl c.in-Ok-flush-2.ensures.writes.ok refl in
-    let kept : IsImage c.args.loaded.now.image = subst IsImage c.image.ensures.same c.yields.ensures.kept in
-    yield_turn g.E.Sink.taken g.E.Sink.faults c.args.log.now c.yields.new.log c.args.loaded.now start mid _ flushed next run c.yields.result c.image.ensures.no_block
-    (images_keep_frames c.args.loaded.now.image kept) here c.flush-in-Yield.ensures.empty (asks ∙ ap Asks c.in-Yield.is)
-    (c.go_on-in-Ok-flush-2.ensures (memory_of machine.memory)) refl refl refl refl
-    (subst (λ (found : Result (List ℕ) Break). YieldsTo found g.E.Sink.taken g.E.Sink.faults c.args.log.now c.yields.new.log c.yields.result)
-    (λ i. values_at (c.image.ensures.same i) (c.requires.region i) (state_of next.regs next.memory)) c.yields.ensures.yields)
+    yield_turn g.E.Sink.taken g.E.Sink.faults c.args.log.now c.yields.new.log l start mid _ flushed c.yields.new.machine run here c.flush-in-Yield.ensures.empty
+    (c.yields.ensures.waiting ∙ c.flush-in-Yield.ensures.empty) refl refl refl refl s c.yields.result (asks ∙ ap Asks c.in-Yield.is)
+    (c.go_on-in-Ok-flush-2.ensures (memory_of machine.memory))
+    (subst (λ (q : Region). AnswersWith (at_yield l.image q l.script s) (state_of c.yields.new.machine.regs c.yields.new.machine.memory) g.E.Sink.taken g.E.Sink.faults c.args.log.now c.yields.new.log c.yields.result)
+    c.requires.region c.yields.ensures.answers)
 
 pub returns-in-Err-flush-2-clause-turns : goal.returns-in-Err-flush-2-clause-turns
 returns-in-Err-flush-2-clause-turns g c start run at asks =

@@ -7,7 +7,7 @@ use Rattle.cmm_image_machine.specs.Machine.{Launch}
 use Rattle.cmm_run.specs.declared.machine.Machine.{Machine}
 use Rattle.cmm_run.specs.inside.Loading.{IsReady}
 use Rattle.cmm_run.proofs.FirstMemory.{is_ready}
-use Rattle.cmm_run.proofs.ImageBounds.{data_is_short}
+use Rattle.cmm_image.proofs.Shared.{rows_are_bounded}
 use Rattle.cmm_run.proofs.session.Session.load.Goals as goal
 
 pub invariant_of-result : goal.invariant_of-result
@@ -15,7 +15,7 @@ invariant_of-result c _ =
     let l : Launch = record { image = c.args.image; script = c.args.script; stack_size = c.args.limits.stack } in
     let machine : Machine = record { regs = c.first_registers-regs.result; memory = c.in_ok-memory.memory; waiting = c.in_ok-waiting.waiting } in
     subst (λ (launch : Launch). IsReady launch machine) (sym c.new-3.ensures)
-    (is_ready l machine (data_is_short l.image c.parts.ensures.kept)
+    (is_ready l machine (rows_are_bounded l.image c.parts.ensures.kept).initial
     (λ bytes. c.first_registers-regs.ensures bytes
     ∙ ap (λ (i : ImageParts). at_pc i.start (start (region_of machine.memory) bytes)) c.parts.ensures.same)
     c.in_ok-memory.ensures c.in_ok-waiting.ensures)
