@@ -21,13 +21,13 @@ use Rattle.cmm_live.specs.Conflicts.{Conflicts, AreLiveAtSite, AreLiveAfterWrite
 use Rattle.cmm_live.specs.Laws.{SetsDecideConflicts}
 use Rattle.cmm_live.proofs.Gathering.{live_of, member_of}
 
-same_from : (a b : Local) → is_same a b ≡ true → a ≡ b
+pub same_from : (a b : Local) → is_same a b ≡ true → a ≡ b
 same_from (local.Variable v) (local.Variable w) e = ap (λ n. local.Variable (record { number = n })) (eqb-true v.number w.number e)
 same_from (local.Variable v) (local.Temporary t) e = absurd (false≢true e)
 same_from (local.Temporary t) (local.Variable v) e = absurd (false≢true e)
 same_from (local.Temporary t) (local.Temporary u) e = ap (λ n. local.Temporary (record { number = n })) (eqb-true t.number u.number e)
 
-same_itself : (a : Local) → is_same a a ≡ true
+pub same_itself : (a : Local) → is_same a a ≡ true
 same_itself (local.Variable v) = eq-eqb v.number v.number refl
 same_itself (local.Temporary t) = eq-eqb t.number t.number refl
 

@@ -6,4 +6,7 @@ pub mod Growing
 pub mod Turns
 pub mod Gathering
 pub mod Conflicting
+pub mod Interfering
+pub mod Pairing
+pub mod ConflictGraphs
 mod Rows

@@ -1,7 +1,7 @@
--- Worked rows, worked out by hand: paths of a graph with every kind of exit, and conflicts of a loop and of straight code.
+-- Worked rows, worked out by hand: paths of a graph with every kind of exit, conflicts of a loop and of straight code, and pairs by sets.
 use Rattle.std.proofs.Common.{◌≡◌, ℕ, refl, ap, Bool, true, false, List, [], ◌∷◌, Some, map, arith}
 use Rattle.std.proofs.Common.{inl, inr}
-use Rattle.std.specs.Prelude.{◌==◌, ◌&&◌, ◌||◌, Contains}
+use Rattle.std.specs.Prelude.{Contains}
 use Rattle.std.proofs.lemmas.List.Elements.{Contains-push_cases}
 use Rattle.cmm_words.specs.declared.width.Width.TheVariants.{W64}
 use Rattle.cmm_words.specs.declared.operators.Op2.TheVariants.{Add, Mul}
@@ -27,6 +27,8 @@ use Rattle.cmm_live.specs.declared.live_sets.LiveSets.{LiveSets}
 use Rattle.cmm_live.specs.Locals.{local_number}
 use Rattle.cmm_live.specs.Sites.{IsLiveAt, IsLiveOnCut}
 use Rattle.cmm_live.specs.Conflicts.{conflicts}
+use Rattle.cmm_live.specs.Exact.{set_at}
+use Rattle.cmm_live.specs.inside.Interfering.{is_one_of, is_other, is_pair, row_has}
 
 -- ---- a notation
 
@@ -161,3 +163,24 @@ cut_is_live = record {
       | inl none ↦ absurd (omega (arith, none.1))
       | inr same ↦ let number : ◌≡◌ {A = ℕ} 4 3 = ap (local_number calling) same in absurd (omega arith)
     ]
+
+-- ---- pairs, by sets of four locals: 0 is live with 1 and 2, and 3 is live where 1 is written
+
+abbrev four : List (List Bool)
+four = (true ∷ true ∷ true ∷ false ∷ []) ∷ (false ∷ false ∷ false ∷ true ∷ []) ∷ (true ∷ false ∷ false ∷ false ∷ []) ∷ (false ∷ false ∷ false ∷ false ∷ []) ∷ []
+
+-- all but 2
+abbrev three : List Bool
+three = true ∷ true ∷ false ∷ true ∷ []
+
+row_has-four : ◌≡◌ {A = List Bool} (row_has four 0 2 ∷ row_has four 1 3 ∷ row_has four 3 1 ∷ row_has four 4 0 ∷ []) (true ∷ true ∷ false ∷ false ∷ [])
+row_has-four = refl
+
+is_other-four : ◌≡◌ {A = List Bool} (map (is_other three (set_at four 0) 0) (0 ∷ 1 ∷ 2 ∷ 3 ∷ [])) (false ∷ true ∷ false ∷ false ∷ [])
+is_other-four = refl
+
+is_pair-four : ◌≡◌ {A = List Bool} (is_pair three four 0 1 ∷ is_pair three four 0 2 ∷ is_pair three four 2 0 ∷ is_pair three four 1 3 ∷ []) (true ∷ false ∷ false ∷ true ∷ [])
+is_pair-four = refl
+
+is_one_of-three : ◌≡◌ {A = List Bool} (is_one_of (2 ∷ 0 ∷ []) 0 ∷ is_one_of (2 ∷ 0 ∷ []) 1 ∷ []) (true ∷ false ∷ [])
+is_one_of-three = refl

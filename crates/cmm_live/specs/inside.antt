@@ -4,3 +4,4 @@ pub mod Edges
 pub mod Worklists
 pub mod Closing
 pub mod Gathering
+pub mod Interfering
