@@ -12,10 +12,10 @@ use Rattle.cmm_allocate.specs.declared.procedure.ProcedurePlaces.{ProcedurePlace
 use Rattle.cmm_allocate.specs.Placing.{placement_rows}
 use Rattle.cmm_link.specs.Linked.{HaveFrames}
 
-abbrev no_row : PlaceRow
+abbrev pub no_row : PlaceRow
 no_row = record { code = 0; frame = 0; pairs = []; stack = [] }
 
-code_at : (places : List ProcedurePlaces) (codes : List ℕ) (q : ℕ) → length codes ≡ length places → (slice_index_or (placement_rows places codes) q no_row).code ≡ slice_index codes q
+pub code_at : (places : List ProcedurePlaces) (codes : List ℕ) (q : ℕ) → length codes ≡ length places → (slice_index_or (placement_rows places codes) q no_row).code ≡ slice_index codes q
 code_at [] [] q same = refl
 code_at [] (code ∷ codes) q same = absurd (omega (arith, same))
 code_at (k ∷ places) [] q same = absurd (omega (arith, same))

@@ -1,9 +1,9 @@
--- The rows of labels that are kept of sorted ones are just the exported names, in order.
+-- The rows of labels that are kept of sorted ones have just the exported names, in order.
 use Rattle.std.proofs.Common.{◌≡◌, ℕ, suc, ◌+◌, ◌≤◌, ◌++◌, ◌⊎◌, inl, inr, true, false, Option, Some, None, All, Contains, List, [], ◌∷◌, length, refl, ap, sym, ◌∙◌, subst, arith, Ordering}
 use Rattle.std.proofs.lemmas.Bool.{and_from, cond-false, cond-true, cond_both}
 use Rattle.std.proofs.lemmas.Cmp.{nat_list_cmp_total}
 use Rattle.std.proofs.lemmas.List.Elements.{All-cons, All-head, All-nil, All-tail, All-weaker, Contains-append_right}
-use Rattle.std.proofs.lemmas.List.Sorted.{All-permutation, Contains-permutation, IsPermutation-sym}
+use Rattle.std.proofs.lemmas.List.Sorted.{All-permutation, IsPermutation-sym}
 use Rattle.std.specs.Cmp.Lexicographic.{slice_cmp}
 use Rattle.std.specs.List.Sorted.{IsPermutation}
 use Rattle.std.proofs.lemmas.Map.Text.{is_eq-slice_cmp}
@@ -12,7 +12,7 @@ use Rattle.std.specs.declared.cmp.Ordering.TheVariants.{Less, Equal, Greater}
 use Rattle.std.specs.Ordering.{is_eq, is_lt, nat_cmp, ordering_reverse}
 use Rattle.cmm_image.specs.declared.rows.LabelRow.{LabelRow}
 use Rattle.cmm_image.specs.ImageFormat.{is_after}
-use Rattle.cmm_link.specs.Labels.{AreLabelsOf, ascend_after, label_names}
+use Rattle.cmm_link.specs.Labels.{ascend_after, label_names}
 use Rattle.std.specs.Option.{option_map}
 use Rattle.std.specs.Prelude.{◌-◌, slice_get}
 use Rattle.std.proofs.lemmas.List.{append_assoc, length-append}
@@ -20,7 +20,7 @@ use Rattle.cmm_link.specs.inside.Kept.{AreSorted, kept_after, last_name}
 
 -- ---- order
 
-kept_ascend : (before : Option (List ℕ)) (rows : List LabelRow) → ascend_after before (label_names (kept_after before rows)) ≡ true
+pub kept_ascend : (before : Option (List ℕ)) (rows : List LabelRow) → ascend_after before (label_names (kept_after before rows)) ≡ true
 kept_ascend before [] = refl
 kept_ascend before (row ∷ rows) =
     let behind = kept_ascend (Some row.name) rows in
@@ -29,25 +29,13 @@ kept_ascend before (row ∷ rows) =
     cond_both (is_after before row.name) (row ∷ kept_after (Some row.name) rows) (kept_after before rows) P
     (λ is. and_from (is_after before row.name) _ is behind) (λ is. left)
 
--- ---- a kept row stands among the rows
+-- ---- elements
 
 contains_first : {A : Type 0} (x : A) (xs : List A) → Contains (x ∷ xs) x
 contains_first x xs = (0, omega arith, refl)
 
 contains_rest : {A : Type 0} (y : A) (xs : List A) (x : A) → Contains xs x → Contains (y ∷ xs) x
 contains_rest y xs x among = Contains-append_right (y ∷ []) xs x among
-
-wider : (row : LabelRow) (rows kept : List LabelRow) → All (Contains rows) kept → All (Contains (row ∷ rows)) kept
-wider row rows kept among = All-weaker (Contains rows) (Contains (row ∷ rows)) (contains_rest row rows) kept among
-
-kept_among : (before : Option (List ℕ)) (rows : List LabelRow) → All (Contains rows) (kept_after before rows)
-kept_among before [] = All-nil (Contains [])
-kept_among before (row ∷ rows) =
-    let among = kept_among (Some row.name) rows in
-    let left = kept_among before rows in
-    cond_both (is_after before row.name) (row ∷ kept_after (Some row.name) rows) (kept_after before rows) (All (Contains (row ∷ rows)))
-    (λ is. All-cons (Contains (row ∷ rows)) row (kept_after (Some row.name) rows) (contains_first row rows) (wider row rows (kept_after (Some row.name) rows) among))
-    (λ is. wider row rows (kept_after before rows) left)
 
 -- ---- each name is kept once
 
@@ -65,15 +53,15 @@ same_name a b first second =
     (bytes_eq-Decides a b).0 (sym (is_eq-slice_cmp a b) ∙ tied)
 
 -- no name is before the one before it
-abbrev IsNotBefore : Option (List ℕ) → List ℕ → Type 0
+abbrev pub IsNotBefore : Option (List ℕ) → List ℕ → Type 0
 IsNotBefore None name = Unit {0}
 IsNotBefore (Some before) name = is_lt (slice_cmp nat_cmp name before) ≡ false
 
-abbrev Ordered : Option (List ℕ) → List LabelRow → Type 0
+abbrev pub Ordered : Option (List ℕ) → List LabelRow → Type 0
 Ordered before [] = Unit {0}
 Ordered before (row ∷ rows) = IsNotBefore before row.name × Ordered (Some row.name) rows
 
-same_before : (before : Option (List ℕ)) (name : List ℕ) → is_after before name ≡ false → IsNotBefore before name → before ≡ Some name
+pub same_before : (before : Option (List ℕ)) (name : List ℕ) → is_after before name ≡ false → IsNotBefore before name → before ≡ Some name
 same_before None name after not_before = absurd (cc (after))
 same_before (Some b) name after not_before = ap (λ (n : List ℕ). Some n) (same_name b name after not_before)
 
@@ -111,21 +99,16 @@ ordered_behind : (row : LabelRow) (rows : List LabelRow) → AreSorted (row ∷ 
 ordered_behind row [] sorted = tt
 ordered_behind row (s ∷ ss) sorted = (sorted 0 row (omega arith) (omega arith), ordered_behind s ss (later row s ss sorted))
 
-ordered : (rows : List LabelRow) → AreSorted rows → Ordered None rows
+pub ordered : (rows : List LabelRow) → AreSorted rows → Ordered None rows
 ordered [] sorted = tt
 ordered (row ∷ rows) sorted = (tt, ordered_behind row rows sorted)
 
-pub labels_of_sorted : (exported sorted : List LabelRow) → IsPermutation exported sorted → AreSorted sorted → AreLabelsOf exported (kept_after None sorted)
-labels_of_sorted exported sorted moved up = record {
-  each =
-      All-weaker (Contains sorted) (Contains exported) (λ row. Contains-permutation sorted exported row (IsPermutation-sym exported sorted moved)) (kept_after None sorted)
-      (kept_among None sorted);
-  every =
-      let P : LabelRow → Type 0 = λ row. Contains (label_names (kept_after None sorted)) row.name in
-      All-permutation P sorted exported (IsPermutation-sym exported sorted moved)
-      (All-weaker (IsKept None (kept_after None sorted)) P only sorted (kept_every None sorted (ordered sorted up)));
-  ascending = kept_ascend None sorted;
-}
+pub kept_has_each : (exported sorted : List LabelRow) → IsPermutation exported sorted → AreSorted sorted →
+    All (λ export. Contains (label_names (kept_after None sorted)) export.name) exported
+kept_has_each exported sorted moved up =
+    let P : LabelRow → Type 0 = λ row. Contains (label_names (kept_after None sorted)) row.name in
+    All-permutation P sorted exported (IsPermutation-sym exported sorted moved)
+    (All-weaker (IsKept None (kept_after None sorted)) P only sorted (kept_every None sorted (ordered sorted up)))
   where
     only : (row : LabelRow) → IsKept None (kept_after None sorted) row → Contains (label_names (kept_after None sorted)) row.name
     only row (inl among) = among

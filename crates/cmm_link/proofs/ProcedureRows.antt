@@ -23,7 +23,7 @@ use Rattle.cmm_image.specs.declared.rows.VariableNumber.{VariableNumber}
 use Rattle.cmm_image.specs.declared.rows.VariableRow.{VariableRow}
 use Rattle.cmm_image.specs.Formats.{AreRows}
 use Rattle.cmm_image.specs.ImageFormat.{continuation, is_in_code, one_if, procedure, stack_label, variable, variable_number, width}
-use Rattle.cmm_link.specs.Rows.{continuation_row, continuation_rows, parameter, procedure_row, saved_row, stack_label_row, variable_row}
+use Rattle.cmm_tables.specs.ProcedureRows.{continuation_row, continuation_rows, parameter_row, procedure_row, saved_row, stack_label_row, variable_row}
 use Rattle.cmm_link.specs.inside.Named.{HasByteKind, IsNamed}
 use Rattle.cmm_link.proofs.Frames.{Fits, frame_fits}
 use Rattle.cmm_link.proofs.SavedRows.{saved_few, saved_rows_hold}
@@ -75,11 +75,11 @@ address_small length address room is =
     omega (arith, room, ltb-true address (CODE_BASE + length) inside.1)
 
 parameters_hold : (count : ℕ) (previous : Option VariableNumber) (params : List ℕ) → count ≤ 1024 → list_all (below count) params ≡ true →
-    AreRows (λ previous. (variable_number count previous).Holds) previous (map parameter params)
+    AreRows (λ previous. (variable_number count previous).Holds) previous (map parameter_row params)
 parameters_hold count previous [] few are = tt
 parameters_hold count previous (v ∷ vs) few are =
     let both = and_parts (nat_lt v count) (list_all (below count) vs) are in
-    ((omega (arith, few, ltb-true v count both.0), (both.0, tt)), parameters_hold count (Some (parameter v)) vs few both.1)
+    ((omega (arith, few, ltb-true v count both.0), (both.0, tt)), parameters_hold count (Some (parameter_row v)) vs few both.1)
 
 module _ (code_length size count : ℕ) (room : code_length ≤ CODE_LENGTH_LIMIT) (small : size < 2 ^ 31) (few : count ≤ 1024) where
   abbrev is_valid : Cont → Bool
@@ -93,7 +93,7 @@ module _ (code_length size count : ℕ) (room : code_length ≤ CODE_LENGTH_LIMI
   continuation_holds previous c pair landing valid inside address =
       let both = and_parts (at_most_64 c.params) (list_all (below count) c.params) valid in
       let most : length c.params ≤ 64 = leb-true (length c.params) 64 both.0 in
-      let as_many : length (map parameter c.params) ≡ length c.params = length-map c.params parameter in (
+      let as_many : length (map parameter_row c.params) ≡ length c.params = length-map c.params parameter_row in (
         (omega (arith, pair_small pair inside), (inside, tt)),
         (
           (omega (arith, address_small code_length landing room address), (address, tt)),

@@ -13,7 +13,8 @@ use Rattle.cmm_image.specs.Formats.{AreRows}
 use Rattle.cmm_image.specs.ImageFormat.{is_above, is_in_code, procedure}
 use Rattle.cmm_allocate.specs.declared.procedure.ProcedurePlaces.{ProcedurePlaces}
 use Rattle.cmm_link.specs.Linked.{HaveFrames}
-use Rattle.cmm_link.specs.Rows.{procedure_row, procedure_rows}
+use Rattle.cmm_link.specs.Rows.{procedure_rows}
+use Rattle.cmm_tables.specs.ProcedureRows.{procedure_row}
 use Rattle.cmm_unit_code.specs.Texts.{HasLandings, ascend_above}
 use Rattle.cmm_link.specs.inside.Named.{IsNamed}
 use Rattle.cmm_link.proofs.ProcedureRows.{row_holds}

@@ -12,7 +12,7 @@ use Rattle.cmm_image.specs.declared.rows.SavedRegister.{SavedRegister}
 use Rattle.cmm_image.specs.Formats.{AreRows}
 use Rattle.cmm_image.specs.ImageFormat.{is_above, saved_register}
 use Rattle.cmm_image.specs.Places.{leaves}
-use Rattle.cmm_link.specs.Rows.{saved_row}
+use Rattle.cmm_tables.specs.ProcedureRows.{saved_row}
 
 -- registers that may be saved, each above the one before
 abbrev AreSaves : Option ℕ → List ℕ → Type 0

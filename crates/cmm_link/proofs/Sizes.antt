@@ -24,14 +24,18 @@ use Rattle.cmm_image.proofs.Shared.{length-number_bytes}
 use Rattle.cmm_located.specs.Layouts.{IsFrameOf}
 use Rattle.cmm_allocate.specs.declared.procedure.ProcedurePlaces.{ProcedurePlaces}
 use Rattle.cmm_link.specs.Linked.{HaveFrames}
-use Rattle.cmm_link.specs.Rows.{procedure_row, procedure_rows, stack_label_row, variable_row}
+use Rattle.cmm_link.specs.Rows.{procedure_rows}
+use Rattle.cmm_tables.specs.ProcedureRows.{procedure_row, stack_label_row, variable_row}
 use Rattle.cmm_link.proofs.Frames.{frame_fits}
 use Rattle.cmm_link.proofs.ProcedureRows.{continuations_few, saved_short}
+use Rattle.cmm_link.proofs.SiteTokens.{site_measure}
 use Rattle.cmm_link.proofs.Tokens.{tokens_of_parts}
+use Rattle.cmm_unit_code.specs.Texts.{HasLandings}
+use Rattle.std.specs.List.{AllZip}
 
 -- ---- fields
 
-number_then : (width n : ℕ) (rest : List ℕ) → length (number_bytes width n ++ rest) ≡ width + length rest
+pub number_then : (width n : ℕ) (rest : List ℕ) → length (number_bytes width n ++ rest) ≡ width + length rest
 number_then width n rest = omega (arith, length-append (number_bytes width n) rest, length-number_bytes width n)
 
 text_long : (text : List ℕ) → length (text_bytes text) ≡ 1 + length text
@@ -131,7 +135,7 @@ module _ (p : Program) (code_length : ℕ) where
   -- the row of a procedure in range is bounded by its tokens
   row_long : (previous : Option ProcRow) (q : Proc) (k : ProcedurePlaces) (code : ℕ) (landings : List ℕ) → IsProcInRange p q → IsFrameOf q k.locals k.frame →
       (procedure code_length previous).Holds (procedure_row q k.frame code landings) →
-      length ((procedure code_length None).spelled (procedure_row q k.frame code landings)) ≤ 334 + 129 * q.tokens
+      length ((procedure code_length None).spelled (procedure_row q k.frame code landings)) + 129 * sum_by site_measure q.sites ≤ 334 + 129 * q.tokens
   row_long previous q k code landings range laid holds =
       omega (
         arith,
@@ -145,20 +149,22 @@ module _ (p : Program) (code_length : ℕ) where
       )
 
   pub table_long : (previous : Option ProcRow) (procs : List Proc) (places : List ProcedurePlaces) (codes : List ℕ) (landings : List (List ℕ)) → All (IsProcInRange p) procs →
-      HaveFrames procs places → AreRows (λ previous. (procedure code_length previous).Holds) previous (procedure_rows procs places codes landings) →
-      length (flat_map (procedure code_length None).spelled (procedure_rows procs places codes landings)) ≤ 334 * length procs + 129 * sum_by (λ q. q.tokens) procs
-  table_long previous [] places codes landings range frames rows = omega arith
-  table_long previous (q ∷ procs) [] codes landings range frames rows = omega arith
-  table_long previous (q ∷ procs) (k ∷ places) [] landings range frames rows = omega arith
-  table_long previous (q ∷ procs) (k ∷ places) (code ∷ codes) [] range frames rows = omega arith
-  table_long previous (q ∷ procs) (k ∷ places) (code ∷ codes) (ls ∷ landings) range frames rows =
+      length codes ≡ length procs → AllZip HasLandings procs landings → HaveFrames procs places → AreRows (λ previous. (procedure code_length previous).Holds) previous (procedure_rows procs places codes landings) →
+      length (flat_map (procedure code_length None).spelled (procedure_rows procs places codes landings)) + 129 * sum_by (λ q. sum_by site_measure q.sites) procs
+      ≤ 334 * length procs + 129 * sum_by (λ q. q.tokens) procs
+  table_long previous [] places codes landings range same landed frames rows = omega arith
+  table_long previous (q ∷ procs) [] codes landings range same landed frames rows = elim frames [ ]
+  table_long previous (q ∷ procs) (k ∷ places) [] landings range same landed frames rows = absurd (omega (arith, same))
+  table_long previous (q ∷ procs) (k ∷ places) (code ∷ codes) [] range same landed frames rows = elim landed [ ]
+  table_long previous (q ∷ procs) (k ∷ places) (code ∷ codes) (ls ∷ landings) range same landed frames rows =
       let row = procedure_row q k.frame code ls in
       omega (
         arith,
         length-append ((procedure code_length None).spelled row) (flat_map (procedure code_length None).spelled (procedure_rows procs places codes landings)),
         row_long previous q k code ls (All-head (IsProcInRange p) q procs range) frames.0 rows.0,
-        table_long (Some row) procs places codes landings (All-tail (IsProcInRange p) q procs range) frames.1 rows.1,
+        table_long (Some row) procs places codes landings (All-tail (IsProcInRange p) q procs range) (omega (arith, same)) landed.1 frames.1 rows.1,
         sum_by-cons (λ (q : Proc). q.tokens) q procs,
+        sum_by-cons (λ (q : Proc). sum_by site_measure q.sites) q procs,
       )
 
 -- ---- labels, global registers, and the header

@@ -1,7 +1,7 @@
 -- A worked row: what is required of a program, its frames, its data and its code is met by a small one, and these are the rows of its image.
 --     export t as "u"; register bits32 g; section "data" { t: bits64 { main }; }
---     main() { bits64 x; x = main(); x = main() also returns to k; return (x); continuation k(x): return (x); }
-use Rattle.std.proofs.Common.{◌≡◌, ℕ, zero, suc, false, IsTrue, List, [], ◌∷◌, None, Some, refl, ap, arith, lit<, lit≤}
+--     main() { bits64 x; x = main(); span 5 main + 4 { x = main() also returns to k also unwinds to k; } return (x); continuation k(x): return (x); }
+use Rattle.std.proofs.Common.{◌≡◌, ◌<◌, ◌^◌, All, length, ℕ, zero, suc, false, IsTrue, List, [], ◌∷◌, None, Some, refl, arith, lit<, lit≤}
 use Rattle.std.specs.Int.{w32, to_le_bytes}
 use Rattle.std.specs.List.{flat_map}
 use Rattle.std.proofs.lemmas.List.Elements.{All-cons, All-nil}
@@ -15,21 +15,27 @@ use Rattle.cmm_program.specs.declared.program.Label.{Label}
 use Rattle.cmm_program.specs.declared.program.Program.{Program}
 use Rattle.cmm_program.specs.declared.statement.Form.TheVariants as form
 use Rattle.cmm_program.specs.declared.statement.Statement.{Statement}
-use Rattle.cmm_program.specs.InRange.{IsInRange, IsProcInRange}
+use Rattle.cmm_program.specs.InRange.{IsInRange}
 use Rattle.cmm_chain.specs.declared.frame.Frame.{Frame}
 use Rattle.cmm_chain.specs.declared.frame.Location.TheVariants.{Slot}
 use Rattle.cmm_located.specs.Layouts.{IsFrameOf}
 use Rattle.cmm_data.specs.declared.layout.DataImage.{DataImage}
 use Rattle.cmm_image.specs.declared.rows.LabelRow.{LabelRow}
 use Rattle.cmm_image.specs.declared.rows.ProcRow.{ProcRow}
+use Rattle.cmm_image.specs.declared.rows.SiteRow.{SiteRow}
+use Rattle.cmm_image.specs.declared.rows.VariablePlace.TheVariants.{Dead}
+use Rattle.std.proofs.lemmas.List.Sorted.{IsPermutation-refl}
+use Rattle.std.specs.Prelude.{slice_index_or}
 use Rattle.cmm_allocate.specs.declared.procedure.ProcedurePlaces.{ProcedurePlaces}
 use Rattle.cmm_allocate.specs.Placing.{placement_rows}
 use Rattle.cmm_unit_code.specs.declared.text.Text.{Text}
-use Rattle.cmm_link.specs.Labels.{exports, names_ascend}
-use Rattle.cmm_link.specs.Linked.{IsDataOf}
+use Rattle.cmm_link.specs.Labels.{exports, names_ascend, row_named}
+use Rattle.cmm_link.specs.Linked.{AreSitesOf, HaveFewSpans, IsDataOf}
 use Rattle.cmm_link.specs.Placements.{place_row_of}
 use Rattle.cmm_link.specs.Rooms.{HasRoom}
-use Rattle.cmm_link.specs.Rows.{procedure_rows}
+use Rattle.cmm_link.specs.Rows.{procedure_rows, site_rows}
+use Rattle.cmm_link.specs.inside.Values.{value_at}
+use Rattle.cmm_tables.specs.Premises.{AreExactSets}
 use Rattle.cmm_unit_code.specs.Texts.{AreDistinct, IsText, address_in}
 use Rattle.cmm_link.specs.inside.Kept.{kept_after}
 use Rattle.cmm_link.proofs.Images.{AreGiven}
@@ -39,17 +45,17 @@ use Rattle.cmm_link.proofs.Images.{AreGiven}
 abbrev body : List Statement
 body =
     is 6 (form.Call 0 (code 0) [])
-    ∷ is 10 (form.Call 1 (code 0) [])
+    ∷ is 14 (form.Call 1 (code 0) [])
     ∷ is 5 (form.Return 0 0 (local 0 ∷ []))
     ∷ is 6 (form.Continuation 0)
     ∷ is 5 (form.Return 0 0 (local 0 ∷ []))
     ∷ []
 
 abbrev sites : List Site
-sites = call_site (0 ∷ []) ∷ record (call_site (0 ∷ [])) { returns = 0 ∷ [] } ∷ []
+sites = call_site (0 ∷ []) ∷ record (call_site (0 ∷ [])) { returns = 0 ∷ []; unwinds = 0 ∷ []; spans = (5, Code 0 4) ∷ [] } ∷ []
 
 abbrev main : Proc
-main = record (procedure (109 ∷ []) 40 0 1 sites body) { conts = record { params = 0 ∷ [] } ∷ [] }
+main = record (procedure (109 ∷ []) 50 0 1 sites body) { conts = record { params = 0 ∷ [] } ∷ [] }
 
 abbrev table : Label
 table = record { name = 116 ∷ []; links = (117 ∷ []) ∷ []; datum = 0; at_end = false }
@@ -67,7 +73,7 @@ abbrev frame : Frame
 frame = record { size = 32; return_at = 8; saved = []; pairs = 16 ∷ []; stack = [] }
 
 abbrev places : List ProcedurePlaces
-places = record { locals = Slot 0 ∷ []; frame = frame; live = record { before = []; sites = []; cuts = [] }; zeroed = [] } ∷ []
+places = record { locals = Slot 0 ∷ []; frame = frame; live = record { before = []; sites = (false ∷ []) ∷ (false ∷ []) ∷ []; cuts = [] }; zeroed = [] } ∷ []
 
 is_frame : IsFrameOf main (Slot 0 ∷ []) frame
 unfolding opened
@@ -78,6 +84,24 @@ is_frame = record {
   registers = refl;
   clear = refl;
 }
+
+-- what is written by each exit is live at no site
+are_exact : AreExactSets main ((false ∷ []) ∷ (false ∷ []) ∷ [])
+unfolding opened
+are_exact zero zero less low = refl
+are_exact (suc zero) zero less low = refl
+are_exact (suc (suc n)) v less low = absurd (omega (arith, less))
+are_exact zero (suc v) less low = absurd (omega (arith, low))
+are_exact (suc zero) (suc v) less low = absurd (omega (arith, low))
+
+few_spans : HaveFewSpans p.procs
+unfolding opened
+few_spans =
+    let few : Site → Type 0 = λ site. length site.spans < 2 ^ 16 in
+    All-cons (λ (q : Proc). All few q.sites) main []
+    (All-cons few (slice_index_or sites 0 (call_site [])) (slice_index_or sites 1 (call_site []) ∷ []) (lit< tt)
+    (All-cons few (slice_index_or sites 1 (call_site [])) [] (lit< tt) (All-nil few)))
+    (All-nil (λ (q : Proc). All few q.sites))
 
 abbrev laid : DataImage
 laid = record { bytes = 0 ∷ 0 ∷ 0 ∷ 0 ∷ 0 ∷ 0 ∷ 0 ∷ 0 ∷ []; addresses = 0x40000000 ∷ []; fixes = record { place = 0; procedure = 0; plus = 0 } ∷ [] }
@@ -136,7 +160,7 @@ room = record { code = lit≤ tt; tokens = lit≤ tt }
 
 given : AreGiven p places laid text
 unfolding opened
-given = record { range = range; frames = (is_frame, tt); laid = is_data; text = is_text; room = room; globals = refl }
+given = record { range = range; frames = (is_frame, tt); laid = is_data; text = is_text; spans = few_spans; room = room; globals = refl }
 
 -- ---- the rows of its image
 
@@ -156,6 +180,37 @@ the_rows : procedure_rows p.procs places text.procedures text.landings ≡ row �
 unfolding opened
 the_rows = refl
 
+abbrev site_row : ℕ → ℕ → SiteRow
+site_row address number = record {
+  return_address = address;
+  procedure = 0;
+  number = number;
+  never_returns = false;
+  aborts = false;
+  yield_values = None;
+  results = W64 ∷ [];
+  returns = [];
+  unwinds = [];
+  cuts = [];
+  variables = Dead ∷ [];
+  spans = [];
+}
+
+-- the second site is unwound to where the continuation is landed, and its span has the address of main and 4
+abbrev second_row : SiteRow
+second_row = record (site_row 0x10014 1) {
+  returns = record { 0 = 0 } ∷ [];
+  unwinds = record { continuation = record { 0 = 0 }; landing = 0x1001c } ∷ [];
+  spans = record { token = 5; value = 0x1000c } ∷ [];
+}
+
+the_sites : site_rows (value_at text.procedures laid.addresses) p.procs places text.landings text.sites ≡ site_row 0x1000c 0 ∷ second_row ∷ []
+unfolding opened
+the_sites = refl
+
+sites_ascend : AreSitesOf (site_row 0x1000c 0 ∷ second_row ∷ []) (site_row 0x1000c 0 ∷ second_row ∷ [])
+sites_ascend = record { same = IsPermutation-refl (site_row 0x1000c 0 ∷ second_row ∷ []); ascending = refl }
+
 the_exports : exports p ≡ record { name = 117 ∷ []; address = 0x40000000 } ∷ []
 unfolding opened
 the_exports = refl
@@ -172,6 +227,10 @@ named letter address = record { name = letter ∷ []; address = address }
 -- of two rows with one name the first is kept
 once : kept_after None (named 97 1 ∷ named 97 2 ∷ named 98 3 ∷ []) ≡ named 97 1 ∷ named 98 3 ∷ []
 once = refl
+
+-- a client finds the first as well
+the_first : row_named (named 98 3 ∷ named 97 1 ∷ named 97 2 ∷ []) (97 ∷ []) ≡ Some (named 97 1)
+the_first = refl
 
 ascend : IsTrue (names_ascend ((97 ∷ []) ∷ (97 ∷ 0 ∷ []) ∷ (98 ∷ []) ∷ []))
 ascend = refl

@@ -1,20 +1,21 @@
--- The parts of a procedure in range by its tokens: each variable and each stackdata label has two at least, and each continuation five.
-use Rattle.std.proofs.Common.{◌≡◌, ℕ, ◌+◌, ◌*◌, ◌≤◌, ◌==◌, Bool, true, false, flat_map, List, [], ◌∷◌, drop, length, take, refl, arith}
+-- The parts of a procedure in range by its tokens: each variable and each stackdata label has two at least, each continuation five, and each site three.
+use Rattle.std.proofs.Common.{◌≡◌, ℕ, ◌+◌, ◌*◌, ◌≤◌, ◌==◌, ◌<◌, zero, suc, Bool, true, false, filter, flat_map, List, [], ◌∷◌, drop, length, take, slice_get, Some, refl, ap, arith}
+use Rattle.std.proofs.lemmas.Option.{same_Some}
+use Rattle.cmm_link.proofs.SiteTokens.{each_tested, mark_least, measure_at, site_measure, sites_among, times, total, total_both}
 use Rattle.std.proofs.lemmas.Bool.{and_parts, eqb-true}
 use Rattle.std.proofs.lemmas.List.{length-append, length-drop, length-take}
 use Rattle.std.proofs.lemmas.List.Sums.{sum_by-cons}
 use Rattle.std.specs.Prelude.{sum_by}
 use Rattle.cmm_program.specs.declared.procedure.Proc.{Proc}
+use Rattle.cmm_program.specs.declared.procedure.Site.{Site}
 use Rattle.cmm_program.specs.declared.procedure.StackItem.{StackItem}
 use Rattle.cmm_program.specs.declared.procedure.VarInfo.{VarInfo}
 use Rattle.cmm_program.specs.declared.program.Program.{Program}
-use Rattle.cmm_program.specs.declared.statement.Form.{Form}
-use Rattle.cmm_program.specs.declared.statement.Form.TheVariants.{Continuation}
 use Rattle.cmm_program.specs.declared.statement.Statement.{Statement}
 use Rattle.cmm_program.specs.Bodies.{body_statements}
 use Rattle.cmm_program.specs.InRange.{IsProcInRange}
 use Rattle.cmm_program.specs.Layout.{aligned_up, stackdata_labels, stackdata_labels_from}
-use Rattle.cmm_program.specs.Numbering.{body_numbers, continuation_number}
+use Rattle.cmm_program.specs.Numbering.{body_numbers, continuation_number, site_number}
 use Rattle.cmm_program.specs.Tokens.{before_name, item_tokens, local_tokens, own_tokens, stackdata_tokens, with_commas}
 
 -- ---- variables
@@ -62,7 +63,7 @@ stackdata_least : (items : List StackItem) → 2 * length (stackdata_labels item
 stackdata_least [] = omega arith
 stackdata_least (i ∷ is) = omega (arith, labels_least 0 (i ∷ is))
 
--- ---- continuations
+-- ---- continuations and sites
 
 module _ (q : Proc) where
   abbrev own : Statement → ℕ
@@ -71,18 +72,34 @@ module _ (q : Proc) where
   abbrev marked : List Statement → List ℕ
   marked ss = flat_map (λ (s : Statement). continuation_number s.form) ss
 
-  mark_least : (f : Form) → 5 * length (continuation_number f) ≤ own_tokens q f
-  mark_least (Continuation n) = omega arith
-  mark_least f = omega arith
+  abbrev sited : List Statement → List ℕ
+  sited ss = flat_map (λ (s : Statement). site_number s.form) ss
 
-  marks_least : (ss : List Statement) → 5 * length (marked ss) ≤ sum_by own ss
+  marks_least : (ss : List Statement) → 5 * length (marked ss) + total (measure_at q.sites) (sited ss) ≤ sum_by own ss
   marks_least [] = omega arith
   marks_least (s ∷ ss) =
-      omega (arith, sum_by-cons own s ss, mark_least s.form, marks_least ss, length-append (continuation_number s.form) (marked ss))
+      omega (
+        arith,
+        sum_by-cons own s ss,
+        mark_least q s.form,
+        marks_least ss,
+        length-append (continuation_number s.form) (marked ss),
+        total_both (measure_at q.sites) (site_number s.form) (sited ss),
+      )
+
+-- each site has a statement
+pub site_stands : (p : Program) (q : Proc) → IsProcInRange p q → (n : ℕ) → n < length q.sites → 1 ≤ times n (body_numbers site_number q)
+site_stands p q range n less =
+    let both = and_parts (length (body_numbers site_number q) == length q.sites) _ range.sites_numbered in
+    let once : times n (body_numbers site_number q) ≡ 1 =
+    eqb-true (times n (body_numbers site_number q)) 1
+    (each_tested (λ n. length (filter (λ m. m == n) (body_numbers site_number q)) == 1) 0 (length q.sites) n both.1 (omega arith) (omega (arith, less))) in
+    omega (arith, once)
 
 -- ---- all
 
-pub tokens_of_parts : (p : Program) (q : Proc) → IsProcInRange p q → 2 * length q.vars + 2 * length (stackdata_labels q.stack) + 5 * length q.conts + 5 ≤ q.tokens
+pub tokens_of_parts : (p : Program) (q : Proc) → IsProcInRange p q →
+    2 * length q.vars + 2 * length (stackdata_labels q.stack) + 5 * length q.conts + sum_by site_measure q.sites + 5 ≤ q.tokens
 tokens_of_parts p q range =
     let both = and_parts (length (body_numbers continuation_number q) == length q.conts) _ range.continuations_numbered in
     let many : length (marked q (body_statements q)) ≡ length q.conts = eqb-true (length (body_numbers continuation_number q)) (length q.conts) both.0 in
@@ -98,4 +115,17 @@ tokens_of_parts p q range =
       length-drop q.formals q.vars,
       stackdata_least q.stack,
       marks_least q (body_statements q),
+      sites_among q.sites (sited q (body_statements q)) (site_stands p q range),
     )
+
+pub sites_counted : (sites : List Site) → 3 * length sites ≤ sum_by site_measure sites
+sites_counted [] = omega arith
+sites_counted (s ∷ sites) = omega (arith, sum_by-cons site_measure s sites, sites_counted sites)
+
+-- what one site has, all have
+pub site_within : (sites : List Site) (n : ℕ) (s : Site) → slice_get sites n ≡ Some s → site_measure s ≤ sum_by site_measure sites
+site_within [] n s is = absurd (cc)
+site_within (t ∷ sites) zero s is =
+    let same : site_measure t ≡ site_measure s = ap site_measure (same_Some t s is) in
+    omega (arith, sum_by-cons site_measure t sites, same)
+site_within (t ∷ sites) (suc n) s is = omega (arith, sum_by-cons site_measure t sites, site_within sites n s is)

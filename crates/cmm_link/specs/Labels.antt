@@ -1,5 +1,5 @@
 -- The data labels that a program exports, and their rows in an image.
-use Rattle.std.specs.Prelude.{ℕ, ◌&&◌, Bool, true, IsTrue, List, [], ◌∷◌, map, flat_map, Option, Some, None}
+use Rattle.std.specs.Prelude.{◌≡◌, ℕ, ◌&&◌, Bool, bytes_eq, find, true, IsTrue, List, [], ◌∷◌, map, flat_map, Option, Some, None}
 use Rattle.std.specs.List.{All, Contains, zip}
 use Rattle.cmm_program.specs.declared.program.Label.{Label}
 use Rattle.cmm_program.specs.declared.program.Program.{Program}
@@ -28,8 +28,12 @@ ascend_after before (name ∷ names) = is_after before name && ascend_after (Som
 abbrev pub names_ascend : List (List ℕ) → Bool
 names_ascend names = ascend_after None names
 
--- The rows have just the exported names, in ascending order, each with the address of a label that is exported under it.
+-- the first row of a name
+abbrev pub row_named : List LabelRow → List ℕ → Option LabelRow
+row_named rows name = find (λ row. bytes_eq name row.name) rows
+
+-- The rows have just the exported names, in ascending order, each with the address of the first label that is exported under it.
 pub record AreLabelsOf (exported rows : List LabelRow) : Type 0 where
-  pub each : All (Contains exported) rows
+  pub first : All (λ row. row_named exported row.name ≡ Some row) rows
   pub every : All (λ export. Contains (label_names rows) export.name) exported
   pub ascending : IsTrue (names_ascend (label_names rows))

@@ -1,61 +1,38 @@
--- The rows that the tables of an image have for procedures and global registers of a program.
-use Rattle.std.specs.Prelude.{ℕ, List, map, Some}
-use Rattle.std.specs.List.{zip}
-use Rattle.cmm_program.specs.declared.procedure.Cont.{Cont}
+-- The rows that the tables of an image have for procedures, sites and global registers of a program.
+use Rattle.std.specs.Prelude.{ℕ, List, flat_map, map, slice_index}
+use Rattle.std.specs.List.{enumerate_from, zip}
+use Rattle.cmm_words.specs.declared.constant.Constant.{Constant}
 use Rattle.cmm_program.specs.declared.procedure.Proc.{Proc}
-use Rattle.cmm_program.specs.declared.procedure.VarInfo.{VarInfo}
 use Rattle.cmm_program.specs.declared.program.Global.{Global}
-use Rattle.cmm_chain.specs.declared.frame.Frame.{Frame}
-use Rattle.cmm_image.specs.declared.rows.ContinuationRow.{ContinuationRow}
 use Rattle.cmm_image.specs.declared.rows.GlobalRow.{GlobalRow}
 use Rattle.cmm_image.specs.declared.rows.ProcRow.{ProcRow}
-use Rattle.cmm_image.specs.declared.rows.SavedRegister.{SavedRegister}
-use Rattle.cmm_image.specs.declared.rows.StackLabelRow.{StackLabelRow}
-use Rattle.cmm_image.specs.declared.rows.VariableNumber.{VariableNumber}
-use Rattle.cmm_image.specs.declared.rows.VariableRow.{VariableRow}
+use Rattle.cmm_image.specs.declared.rows.SiteRow.{SiteRow}
 use Rattle.cmm_allocate.specs.declared.procedure.ProcedurePlaces.{ProcedurePlaces}
-
--- ---- parts of procedures
-
-abbrev pub saved_row : ℕ × ℕ → SavedRegister
-saved_row saved = record { register = saved.0; offset = saved.1 }
-
-abbrev pub variable_row : VarInfo → VariableRow
-variable_row v = record { width = v.width; invariant = v.invariant; kind = v.kind }
-
-abbrev pub stack_label_row : ℕ → StackLabelRow
-stack_label_row offset = record { offset = offset }
-
-abbrev pub parameter : ℕ → VariableNumber
-parameter v = record { 0 = v }
-
--- a continuation, the offset of its pair, and the address at which a cut to it lands
-abbrev pub continuation_row : Cont × (ℕ × ℕ) → ContinuationRow
-continuation_row of = record { pair = of.1.0; code = of.1.1; parameters = map parameter of.0.params }
-
-abbrev pub continuation_rows : List Cont → List ℕ → List ℕ → List ContinuationRow
-continuation_rows conts pairs landings = map continuation_row (zip conts (zip pairs landings))
+use Rattle.cmm_tables.specs.ProcedureRows.{procedure_row}
+use Rattle.cmm_tables.specs.SiteRows.{local_place, placed_site, unplaced_sites}
 
 -- ---- procedures
-
--- a procedure with its frame, the address of its code, and those of the landings of its continuations
-abbrev pub procedure_row : Proc → Frame → ℕ → List ℕ → ProcRow
-procedure_row q f code landings = record {
-  code = code;
-  name = q.name;
-  frame = f.size;
-  return_at = Some f.return_at;
-  saved = map saved_row f.saved;
-  variables = map variable_row q.vars;
-  stack_labels = map stack_label_row f.stack;
-  continuations = continuation_rows q.conts f.pairs landings;
-}
 
 abbrev pub placed_procedure : Proc × (ProcedurePlaces × (ℕ × List ℕ)) → ProcRow
 placed_procedure of = procedure_row of.0 of.1.0.frame of.1.1.0 of.1.1.1
 
 abbrev pub procedure_rows : List Proc → List ProcedurePlaces → List ℕ → List (List ℕ) → List ProcRow
 procedure_rows procs places codes landings = map placed_procedure (zip procs (zip places (zip codes landings)))
+
+-- ---- sites
+
+-- The rows of a procedure's sites, by its number: control comes back to them at these addresses. Continuations of the procedure have these landings, and
+-- constants come to these numbers.
+abbrev pub sites_of : (Constant → ℕ) → ℕ → Proc → ProcedurePlaces → List ℕ → List ℕ → List SiteRow
+sites_of value q p k landings addresses =
+    map (λ of. placed_site (λ k. slice_index landings k) value of.1 of.0) (zip (unplaced_sites p (local_place k.locals) q) addresses)
+
+abbrev pub placed_sites : (Constant → ℕ) → ℕ × (Proc × (ProcedurePlaces × (List ℕ × List ℕ))) → List SiteRow
+placed_sites value of = sites_of value of.0 of.1.0 of.1.1.0 of.1.1.1.0 of.1.1.1.1
+
+-- those of all procedures, one procedure after another
+abbrev pub site_rows : (Constant → ℕ) → List Proc → List ProcedurePlaces → List (List ℕ) → List (List ℕ) → List SiteRow
+site_rows value procs places landings addresses = flat_map (placed_sites value) (enumerate_from 0 (zip procs (zip places (zip landings addresses))))
 
 -- ---- global registers
 

@@ -8,12 +8,12 @@ use crate::names::know_bytes;
 use cmm_data::{DataImage, Fix, fill};
 use cmm_items::Items;
 
-/// The address of the code of a procedure; 0 for a number that none has.
-fn code_of(codes: &[u64], procedure: u32) -> u64
-    ensures { result ≡ slice_index codes.now procedure }
+/// The address that stands at a number; 0 for a number at which none stands.
+pub(crate) fn address_of(addresses: &[u64], number: u32) -> u64
+    ensures { result ≡ slice_index addresses.now number }
 {
-    match codes.get(procedure as usize) {
-        Some(code) => *code,
+    match addresses.get(number as usize) {
+        Some(address) => *address,
         None => 0,
     }
 }
@@ -26,7 +26,7 @@ fn fill_all(bytes: &mut Vec<u8>, fixes: &[Fix], codes: &[u64])
 {
     cmm_data::laws::fixes_in_turn();
     for fix in fixes {
-        fill(bytes, *fix, code_of(codes, fix.procedure));
+        fill(bytes, *fix, address_of(codes, fix.procedure));
     }
 }
 

@@ -2,10 +2,10 @@
 
 ghost use Rattle.std.specs.Prelude.{◌≡◌, ◌≤◌, ◌++◌, length, map, None, IfOk, OnOk};
 ghost use Rattle.std.specs.List.{All};
-ghost use Rattle.std.specs.List.Sorted.{IsPermutation};
+ghost use Rattle.std.specs.List.Sorted.{IsPermutation, IsStableBy};
 ghost use Rattle.cmm_image.specs.ImageFormat.{is_after};
 ghost use Rattle.cmm_link.specs.Labels.{AreLabelsOf, exports_at};
-ghost use Rattle.cmm_link.specs.inside.Kept.{AreSorted, kept_after, last_name};
+ghost use Rattle.cmm_link.specs.inside.Kept.{AreSorted, has_lower_name, kept_after, last_name};
 ghost use Rattle.cmm_link.specs.inside.Named.{IsNamedLabel};
 
 use crate::names::copy;
@@ -41,10 +41,11 @@ fn exported(alloc: Global, labels: &[Label], addresses: &[u64]) -> Result<Vec<La
     Ok(rows)
 }
 
-/// Sorts rows by their names.
+/// Sorts rows by their names. Those of one name stay in their order.
 fn sort_by_name(rows: &mut Vec<LabelRow>) -> Result<(), AllocError>
     ensures same { IsPermutation rows.old.items rows.new.items }
     ensures sorted { OnOk result (AreSorted rows.new.items) }
+    ensures stable { OnOk result (IsStableBy has_lower_name rows.old.items rows.new.items) }
 {
     rows.sort_by(|a, b| a.name.cmp(&b.name))?;
     Ok(())
@@ -60,7 +61,7 @@ fn follows(rows: &Items<LabelRow>, name: &Name) -> bool
     }
 }
 
-/// The rows without those whose name stands before.
+/// The rows of sorted ones without those whose name stands before: the first of each name.
 fn each_once(alloc: Global, rows: Vec<LabelRow>) -> Result<Items<LabelRow>, AllocError>
     ensures { IfOk result (λ kept. kept ≡ kept_after None rows.items) }
 {

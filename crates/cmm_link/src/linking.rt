@@ -5,7 +5,7 @@ ghost use Rattle.cmm_program.specs.InRange.{IsInRange};
 ghost use Rattle.cmm_allocate.specs.Placing.{placement_rows};
 ghost use Rattle.cmm_unit_code.specs.Joined.{CanBeJoined, IsTextOf};
 ghost use Rattle.cmm_link.specs.Labels.{names_ascend};
-ghost use Rattle.cmm_link.specs.Linked.{HaveFrames, IsDataOf, IsImageOf};
+ghost use Rattle.cmm_link.specs.Linked.{HaveFewSpans, HaveFrames, IsDataOf, IsImageOf, KnowLive};
 ghost use Rattle.cmm_link.specs.Placements.{placement_of};
 ghost use Rattle.cmm_link.specs.Rooms.{HasRoom};
 ghost use Rattle.cmm_unit_code.specs.Texts.{IsText};
@@ -18,10 +18,10 @@ use crate::joining::join;
 use crate::labels::label_rows;
 use crate::names::know_bytes;
 use crate::procedures::procedure_rows;
+use crate::sites::site_rows;
 use cmm_allocate::ProcedurePlaces;
 use cmm_data::DataImage;
 use cmm_image::{Image, ImageParts};
-use cmm_items::Items;
 use cmm_program::Program;
 use cmm_unit_code::{ProgramCode, Text};
 use std::alloc::{AllocError, Global};
@@ -35,7 +35,10 @@ fn parts(
     text: Text,
 ) -> Result<ImageParts, AllocError>
     requires range { IsInRange program.now }
+    requires frames { HaveFrames program.now.procs places.now }
+    requires live { KnowLive program.now.procs places.now }
     requires laid { IsDataOf program.now laid }
+    requires text { IsText program.now text }
     ensures { IfOk result (λ parts. AreMade program.now places.now laid text parts) }
 {
     let labels = label_rows(alloc, program.labels.as_slice(), laid.addresses.as_slice())?;
@@ -45,6 +48,13 @@ fn parts(
         places,
         text.procedures.as_slice(),
         text.landings.as_slice(),
+    )?;
+    let sites = site_rows(
+        alloc,
+        program.procs.as_slice(),
+        places,
+        &text,
+        laid.addresses.as_slice(),
     )?;
     let globals = global_rows(alloc, program.globals.as_slice())?;
     let initial = filled_data(laid, text.procedures.as_slice());
@@ -56,7 +66,7 @@ fn parts(
         last: text.last,
         main: program.main,
         procs,
-        sites: Items::new(alloc),
+        sites,
         labels,
         globals,
     })
@@ -72,8 +82,10 @@ fn image_of(
 ) -> Result<Image, AllocError>
     requires range { IsInRange program.now }
     requires frames { HaveFrames program.now.procs places.now }
+    requires live { KnowLive program.now.procs places.now }
     requires laid { IsDataOf program.now laid }
     requires text { IsText program.now text }
+    requires spans { HaveFewSpans program.now.procs }
     requires room { HasRoom program.now text }
     requires globals { IsTrue (names_ascend (map (λ g. g.name) program.now.globals)) }
     ensures image { IfOk result (λ image. IsImageOf program.now places.now text image) }
@@ -86,7 +98,7 @@ fn image_of(
 }
 
 /// The image of a program in range, whose procedures have these places, whose data is laid out so, and whose units have this code: they are joined to one text, in which each symbol has its
-/// number. The image has no sites: they are read where a program yields, and code of this form never does. An error is want of memory.
+/// number. The sets of the procedures' sites have just the variables that are live there. An error is want of memory.
 pub fn link(
     alloc: Global,
     program: &Program,
@@ -96,6 +108,8 @@ pub fn link(
 ) -> Result<Image, AllocError>
     requires range { IsInRange program.now }
     requires frames { HaveFrames program.now.procs places.now }
+    requires live { KnowLive program.now.procs places.now }
+    requires spans { HaveFewSpans program.now.procs }
     requires laid { IsDataOf program.now laid }
     requires code { CanBeJoined code }
     requires text { (t : JoinedText) → IsTextOf program.now code t → IsText program.now t }

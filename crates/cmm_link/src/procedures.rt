@@ -3,7 +3,8 @@
 ghost use Rattle.std.specs.Prelude.{◌≡◌, ◌<◌, ◌^◌, map, IfOk};
 ghost use Rattle.std.specs.List.{All};
 ghost use Rattle.cmm_link.specs.inside.Named.{AreShort, HasByteKind, HasShortParameters, IsNamed};
-ghost use Rattle.cmm_link.specs.Rows.{continuation_rows, parameter, procedure_row, procedure_rows, saved_row, stack_label_row, variable_row};
+ghost use Rattle.cmm_link.specs.Rows.{procedure_rows};
+ghost use Rattle.cmm_tables.specs.ProcedureRows.{continuation_rows, parameter_row, procedure_row, saved_row, stack_label_row, variable_row};
 
 use crate::names::copy;
 use cmm_allocate::ProcedurePlaces;
@@ -59,7 +60,7 @@ fn stack_labels(alloc: Global, offsets: &[u32]) -> Result<Items<StackLabelRow>, 
 /// The parameters of a continuation.
 fn parameters(alloc: Global, params: &[u32]) -> Result<Items<VariableNumber>, AllocError>
     requires { All (λ v. v < 2 ^ 16) params.now }
-    ensures { IfOk result (λ rows. rows ≡ map parameter params.now) }
+    ensures { IfOk result (λ rows. rows ≡ map parameter_row params.now) }
 {
     let mut rows = Items::new(alloc);
     for v in params {

@@ -1,5 +1,5 @@
 -- What is known of the parts of an image as they are made.
-use Rattle.std.specs.Prelude.{◌≡◌, ◌≤◌, [], List, length, map, slice_index}
+use Rattle.std.specs.Prelude.{◌≡◌, ◌≤◌, List, length, map, slice_index}
 use Rattle.std.specs.List.{All}
 use Rattle.cmm_program.specs.declared.program.Program.{Program}
 use Rattle.cmm_data.specs.declared.layout.DataImage.{DataImage}
@@ -9,8 +9,10 @@ use Rattle.cmm_image.specs.Formats.{AreBytes}
 use Rattle.cmm_allocate.specs.declared.procedure.ProcedurePlaces.{ProcedurePlaces}
 use Rattle.cmm_unit_code.specs.declared.text.Text.{Text}
 use Rattle.cmm_link.specs.Labels.{AreLabelsOf, exports}
-use Rattle.cmm_link.specs.Rows.{global_row, procedure_rows}
-use Rattle.cmm_link.specs.inside.Named.{IsNamed, IsNamedGlobal, IsNamedLabel}
+use Rattle.cmm_link.specs.Linked.{AreSitesOf}
+use Rattle.cmm_link.specs.Rows.{global_row, procedure_rows, site_rows}
+use Rattle.cmm_link.specs.inside.Named.{HasSmallSpans, IsNamed, IsNamedGlobal, IsNamedLabel}
+use Rattle.cmm_link.specs.inside.Values.{value_at}
 
 pub record AreMade (p : Program) (places : List ProcedurePlaces) (d : DataImage) (t : Text) (i : ImageParts) : Type 0 where
   pub code : i.code ≡ t.code
@@ -20,10 +22,11 @@ pub record AreMade (p : Program) (places : List ProcedurePlaces) (d : DataImage)
   pub initial : i.initial ≡ filled (λ q. slice_index t.procedures q) d.fixes d.bytes
   pub size : length i.initial ≡ length d.bytes
   pub procedures : i.procs ≡ procedure_rows p.procs places t.procedures t.landings
-  pub sites : i.sites ≡ []
+  pub sites : AreSitesOf (site_rows (value_at t.procedures d.addresses) p.procs places t.landings t.sites) i.sites
   pub labels : AreLabelsOf (exports p) i.labels
   pub few : length i.labels ≤ length (exports p)
   pub globals : i.globals ≡ map global_row p.globals
+  pub small_spans : All HasSmallSpans i.sites
   -- bytes are bytes
   pub code_bytes : AreBytes i.code
   pub data_bytes : AreBytes i.initial

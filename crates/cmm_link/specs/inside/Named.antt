@@ -6,6 +6,8 @@ use Rattle.cmm_program.specs.declared.procedure.Proc.{Proc}
 use Rattle.cmm_image.specs.declared.rows.GlobalRow.{GlobalRow}
 use Rattle.cmm_image.specs.declared.rows.LabelRow.{LabelRow}
 use Rattle.cmm_image.specs.declared.rows.ProcRow.{ProcRow}
+use Rattle.cmm_image.specs.declared.rows.SiteRow.{SiteRow}
+use Rattle.cmm_image.specs.declared.rows.SpanRow.{SpanRow}
 use Rattle.cmm_image.specs.declared.rows.VariableRow.{VariableRow}
 use Rattle.cmm_image.specs.Formats.{AreBytes}
 
@@ -29,3 +31,11 @@ IsNamedLabel l = AreBytes l.name
 
 abbrev pub IsNamedGlobal : GlobalRow → Type 0
 IsNamedGlobal g = AreBytes g.name
+
+-- tokens and values of spans are words
+pub record IsSmallSpan (s : SpanRow) : Type 0 where
+  pub token : s.token < 2 ^ 64
+  pub value : s.value < 2 ^ 64
+
+abbrev pub HasSmallSpans : SiteRow → Type 0
+HasSmallSpans s = All IsSmallSpan s.spans

@@ -5,13 +5,14 @@ use Rattle.cmm_image.specs.declared.rows.LabelRow.{LabelRow}
 use Rattle.cmm_link.specs.Labels.{AreLabelsOf, exports_at}
 use Rattle.cmm_link.specs.inside.Kept.{kept_after}
 use Rattle.cmm_link.specs.inside.Named.{IsNamedLabel}
-use Rattle.cmm_link.proofs.KeptLabels.{kept_all, kept_few, labels_of_sorted}
+use Rattle.cmm_link.proofs.FirstLabels.{labels_of_sorted}
+use Rattle.cmm_link.proofs.KeptLabels.{kept_all, kept_few}
 use Rattle.cmm_link.proofs.labels.label_rows.Goals as goal
 
 pub returns-clause-rows : goal.returns-clause-rows
 returns-clause-rows c =
     let sorted = c.sort_by_name.new.rows.items in
-    let are = labels_of_sorted c.in_ok-rows.rows.items sorted c.sort_by_name.ensures.same c.in_ok-sort_by_name.ensures.sorted in
+    let are = labels_of_sorted c.in_ok-rows.rows.items sorted c.sort_by_name.ensures.same c.in_ok-sort_by_name.ensures.stable c.in_ok-sort_by_name.ensures.sorted in
     let exported = exports_at c.args.labels.now c.args.addresses.now in
     let of_program : AreLabelsOf exported (kept_after None sorted) = subst (λ (rows : List LabelRow). AreLabelsOf rows (kept_after None sorted)) c.in_ok-rows.ensures.rows are in
     IfOk-weaker c.each_once.result (λ kept. kept ≡ kept_after None sorted) (AreLabelsOf exported) (λ kept same. subst (AreLabelsOf exported) (sym same) of_program) c.each_once.ensures

@@ -11,6 +11,7 @@ new-requires c =
       frames = c.requires.frames;
       laid = c.requires.laid;
       text = c.requires.text;
+      spans = c.requires.spans;
       room = c.requires.room;
       globals = c.requires.globals;
     } in

@@ -2,7 +2,7 @@ use Rattle.std.proofs.Common.{map, ap, ◌∙◌, sym}
 use Rattle.std.proofs.lemmas.Iterator.{YieldsList-from_slice, YieldsList-from_zip}
 use Rattle.std.proofs.lemmas.Iterator.Consumers.{YieldsList-end}
 use Rattle.std.proofs.lemmas.Simd.{map-map}
-use Rattle.cmm_link.specs.Rows.{continuation_row}
+use Rattle.cmm_tables.specs.ProcedureRows.{continuation_row}
 use Rattle.cmm_link.proofs.procedures.continuations.Goals as goal
 
 pub returns : goal.returns

@@ -1,5 +1,5 @@
 use Rattle.std.proofs.Common.{◌≡◌, map}
-use Rattle.cmm_link.specs.Rows.{continuation_row}
+use Rattle.cmm_tables.specs.ProcedureRows.{continuation_row}
 use Rattle.cmm_link.proofs.procedures.continuations.Given as goal
 
 abbrev pub invariant-loop-cont : goal.invariant-loop-cont

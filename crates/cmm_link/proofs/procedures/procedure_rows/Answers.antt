@@ -3,7 +3,8 @@ use Rattle.std.proofs.lemmas.Iterator.{YieldsList-from_slice, YieldsList-from_zi
 use Rattle.std.proofs.lemmas.Iterator.Consumers.{YieldsList-end}
 use Rattle.std.proofs.lemmas.List.Elements.{All-push}
 use Rattle.std.proofs.lemmas.Simd.{map-map}
-use Rattle.cmm_link.specs.Rows.{placed_procedure, procedure_row}
+use Rattle.cmm_link.specs.Rows.{placed_procedure}
+use Rattle.cmm_tables.specs.ProcedureRows.{procedure_row}
 use Rattle.cmm_link.specs.inside.Named.{IsNamed}
 use Rattle.cmm_link.proofs.Exports.{map_pushed}
 use Rattle.cmm_link.proofs.procedures.procedure_rows.Goals as goal

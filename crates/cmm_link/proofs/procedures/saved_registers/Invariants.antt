@@ -1,5 +1,5 @@
 use Rattle.std.proofs.Common.{◌≡◌, map, take}
-use Rattle.cmm_link.specs.Rows.{saved_row}
+use Rattle.cmm_tables.specs.ProcedureRows.{saved_row}
 use Rattle.cmm_link.proofs.procedures.saved_registers.Given as goal
 
 abbrev pub invariant-loop-register : goal.invariant-loop-register
