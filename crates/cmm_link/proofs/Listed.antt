@@ -1,11 +1,12 @@
 -- Elements of lists that are made of others, one by one.
-use Rattle.std.proofs.Common.{◌≡◌, ℕ, zero, suc, ◌+◌, ◌<◌, ◌≤◌, All, Contains, Some, List, [], ◌∷◌, ◌++◌, length, flat_map, map, slice_get, take, refl, sym, ap, ◌∙◌, subst, arith}
+use Rattle.std.proofs.Common.{◌≡◌, ℕ, zero, suc, ◌+◌, ◌<◌, All, Contains, Some, List, [], ◌∷◌, ◌++◌, length, flat_map, map, slice_get, take, refl, sym, ap, ◌∙◌, subst, arith}
 use Rattle.std.proofs.lemmas.List.Elements.{All-append, All-cons, All-nil, Contains-append_left, Contains-append_right}
-use Rattle.std.proofs.lemmas.Option.{same_Some, slice_get_within, get_or_from_slice_get}
+use Rattle.std.proofs.lemmas.Option.{slice_get-map, same_Some, slice_get_within, get_or_from_slice_get}
 use Rattle.std.proofs.lemmas.List.{append_assoc}
 use Rattle.cmm_tables.proofs.Shared.{enumerated_more}
 use Rattle.cmm_link.proofs.Exports.{flat_pushed, map_pushed}
 use Rattle.std.specs.List.{AllZip, enumerate_from, zip}
+use Rattle.std.specs.Option.{option_map}
 use Rattle.std.specs.Prelude.{slice_index}
 
 -- ---- what stands at an index
@@ -39,9 +40,7 @@ enumerated_get n (a ∷ xs) (suc i) of is =
     let rest = enumerated_get (n + 1) xs i of is in let next : n + 1 + i ≡ n + suc i = omega arith in (rest.0 ∙ next, rest.1)
 
 pub map_get : {A B : Type 0} (f : A → B) (xs : List A) (i : ℕ) (x : A) → slice_get xs i ≡ Some x → slice_get (map f xs) i ≡ Some (f x)
-map_get f [] i x is = absurd (cc)
-map_get {B = B} f (a ∷ xs) zero x is = ap (λ (a : _). Some (f a)) (same_Some a x is)
-map_get f (a ∷ xs) (suc i) x is = map_get f xs i x is
+map_get f xs i x is = slice_get-map f xs i ∙ ap (option_map f) is
 
 pub mapped_get : {A B : Type 0} (f : A → B) (xs : List A) (i : ℕ) (y : B) → slice_get (map f xs) i ≡ Some y → (x : A) × (slice_get xs i ≡ Some x) × (f x ≡ y)
 mapped_get f [] i y is = absurd (cc)
@@ -61,12 +60,6 @@ there_at R [] ys i x all is = absurd (cc)
 there_at R (a ∷ xs) [] i x all is = elim all [ ]
 there_at {A = A} R (a ∷ xs) (b ∷ ys) zero x all is = (b, refl, subst (λ (a : A). R a b) (same_Some a x is) all.0)
 there_at R (a ∷ xs) (b ∷ ys) (suc i) x all is = there_at R xs ys i x all.1 is
-
-pub as_long : {A B : Type 0} (R : A → B → Type 0) (xs : List A) (ys : List B) → AllZip R xs ys → length ys ≡ length xs
-as_long R [] [] all = refl
-as_long R [] (y ∷ ys) all = elim all [ ]
-as_long R (x ∷ xs) [] all = elim all [ ]
-as_long R (x ∷ xs) (y ∷ ys) all = ap (λ (n : ℕ). suc n) (as_long R xs ys all.1)
 
 pub get_there : {A : Type 0} (xs : List A) (i : ℕ) → i < length xs → (x : A) × (slice_get xs i ≡ Some x)
 get_there [] i less = absurd (omega arith)
@@ -103,11 +96,6 @@ flat_contains {A = A} f (a ∷ xs) zero x y is among =
 flat_contains f (a ∷ xs) (suc i) x y is among = Contains-append_right (f a) (flat_map f xs) y (flat_contains f xs i x y is among)
 
 -- ---- lists that are made one by one
-
-pub zip_short : {A B : Type 0} (xs : List A) (ys : List B) → length (zip xs ys) ≤ length xs
-zip_short [] ys = omega arith
-zip_short (x ∷ xs) [] = omega arith
-zip_short (x ∷ xs) (y ∷ ys) = omega (arith, zip_short xs ys)
 
 pub flat_more : {A B : Type 0} (f : ℕ × A → List B) (i : ℕ) (xs : List A) (x : A) → slice_get xs i ≡ Some x →
     flat_map f (enumerate_from 0 (take i xs)) ++ f (i, x) ≡ flat_map f (enumerate_from 0 (take (i + 1) xs))

@@ -1,10 +1,13 @@
 -- The sites of a procedure by its tokens: each has three at least, and two more for each continuation to which it is unwound or cut.
-use Rattle.std.proofs.Common.{◌≡◌, ◌⊎◌, inl, inr, ℕ, zero, suc, ◌+◌, ◌*◌, ◌<◌, ◌≤◌, ◌==◌, nat_le, Bool, true, false, Option, Some, None, cond, filter, List, [], ◌∷◌, ◌++◌, length, slice_get, refl, ap, subst, arith}
-use Rattle.std.proofs.lemmas.Bool.{and_parts, eqb-true}
+use Rattle.std.proofs.Common.{◌∙◌, ◌≡◌, ℕ, zero, suc, ◌+◌, ◌*◌, ◌<◌, ◌≤◌, ◌==◌, nat_le, Bool, true, false, Option, Some, None, cond, filter, List, [], ◌∷◌, ◌++◌, length, slice_get, refl, ap, subst, arith}
+use Rattle.std.proofs.lemmas.Bool.{eqb-true}
 use Rattle.std.proofs.lemmas.Bool.Decides.{nat_tests}
 use Rattle.std.proofs.lemmas.List.Sums.{sum_by-cons}
 use Rattle.std.specs.List.{list_all, range_with_len}
+use Rattle.std.proofs.lemmas.List.FromFn.{get_or-range_with_len, length-range_with_len}
+use Rattle.std.proofs.lemmas.Option.{slice_get-get_or}
 use Rattle.std.specs.Prelude.{sum_by}
+use Rattle.cmm_program.proofs.Shared.{list_all_get}
 use Rattle.cmm_program.specs.declared.procedure.Proc.{Proc}
 use Rattle.cmm_program.specs.declared.procedure.Site.{Site}
 use Rattle.cmm_program.specs.declared.statement.Form.{Form}
@@ -131,15 +134,11 @@ mark_least q f = omega arith
 
 -- ---- numbers that are tested
 
-pub each_tested : (test : ℕ → Bool) (from count n : ℕ) → list_all test (range_with_len from count) ≡ true → from ≤ n → n < from + count → test n ≡ true
-each_tested test from zero n all low high = absurd (omega (arith, low, high))
-each_tested test from (suc count) n all low high =
-    let both = and_parts (test from) (list_all test (range_with_len (from + 1) count)) all in
-    by both.0 (λ low. each_tested test (from + 1) count n both.1 low (omega (arith, high))) (cases from n)
-  where
-    cases : (i j : ℕ) → (i ≡ j) ⊎ ((i ≡ j) → ⊥)
-    cases i j = grind (arith, nat_tests)
+range_get : (count n : ℕ) → n < count → slice_get (range_with_len 0 count) n ≡ Some n
+range_get count n less =
+    let inside : n < length (range_with_len 0 count) = omega (arith, less, length-range_with_len 0 count) in
+    let none : 0 + n ≡ n = omega arith in
+    slice_get-get_or (range_with_len 0 count) n n inside ∙ ap Some (get_or-range_with_len 0 count n n less ∙ none)
 
-    by : test from ≡ true → (from + 1 ≤ n → test n ≡ true) → (from ≡ n) ⊎ (from ≡ n → ⊥) → test n ≡ true
-    by here later (inl same) = subst (λ (n : ℕ). test n ≡ true) same here
-    by here later (inr other) = later (omega (arith, low, other))
+pub each_tested : (test : ℕ → Bool) (count n : ℕ) → list_all test (range_with_len 0 count) ≡ true → n < count → test n ≡ true
+each_tested test count n all less = list_all_get test (range_with_len 0 count) n n all (range_get count n less)

@@ -93,7 +93,7 @@ site_stands p q range n less =
     let both = and_parts (length (body_numbers site_number q) == length q.sites) _ range.sites_numbered in
     let once : times n (body_numbers site_number q) ≡ 1 =
     eqb-true (times n (body_numbers site_number q)) 1
-    (each_tested (λ n. length (filter (λ m. m == n) (body_numbers site_number q)) == 1) 0 (length q.sites) n both.1 (omega arith) (omega (arith, less))) in
+    (each_tested (λ n. length (filter (λ m. m == n) (body_numbers site_number q)) == 1) (length q.sites) n both.1 less) in
     omega (arith, once)
 
 -- ---- all

@@ -1,3 +1,3 @@
 mod Listed
 pub mod Shared
-mod SiteExamples
+mod UnplacedRows

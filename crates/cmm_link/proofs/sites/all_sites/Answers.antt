@@ -12,19 +12,20 @@ use Rattle.cmm_tables.specs.Premises.{AreExactSets}
 use Rattle.cmm_tables.specs.SiteRows.{local_place, placed_site, unplaced_sites}
 use Rattle.cmm_link.specs.Rows.{placed_sites, sites_of}
 use Rattle.cmm_link.specs.inside.Values.{value_at}
-use Rattle.cmm_link.proofs.Listed.{as_long, both_at, flat_more, zip_get, zip_short}
+use Rattle.std.proofs.lemmas.Slice.Zip.{AllZip-long, length-zip}
+use Rattle.cmm_link.proofs.Listed.{both_at, flat_more, zip_get}
 use Rattle.cmm_link.proofs.sites.all_sites.Goals as goal
 
 pub bounds-places-number : goal.bounds-places-number
 bounds-places-number c =
     let less = c.loop-number-test.true in
-    omega (arith, less, as_long (λ (q : Proc) (k : ProcedurePlaces). AreExactSets q k.live.sites) c.args.procs.now c.args.places.now c.requires.live)
+    omega (arith, less, AllZip-long (λ (q : Proc) (k : ProcedurePlaces). AreExactSets q k.live.sites) c.args.procs.now c.args.places.now c.requires.live)
 
 pub site_rows-requires-clause-live : goal.site_rows-requires-clause-live
 site_rows-requires-clause-live c =
     let i = c.loop-number.number in
     let less = c.loop-number-test.true in
-    let count = as_long (λ (q : Proc) (k : ProcedurePlaces). AreExactSets q k.live.sites) c.args.procs.now c.args.places.now c.requires.live in
+    let count = AllZip-long (λ (q : Proc) (k : ProcedurePlaces). AreExactSets q k.live.sites) c.args.procs.now c.args.places.now c.requires.live in
     let p : slice_get c.args.procs.now i ≡ Some c.index-procs-number.result = slice_get-get_or c.args.procs.now i c.index-procs-number.result less ∙ ap Some (sym c.index-procs-number.is) in
     let k : slice_get c.args.places.now i ≡ Some c.index-places-number.result =
     slice_get-get_or c.args.places.now i c.index-places-number.result (omega (arith, less, count)) ∙ ap Some (sym c.index-places-number.is) in
@@ -35,7 +36,7 @@ pub loop-number-preserved : goal.loop-number-preserved
 loop-number-preserved c =
     let i = c.loop-number.number in
     let less = c.loop-number-test.true in
-    let count = as_long (λ (q : Proc) (k : ProcedurePlaces). AreExactSets q k.live.sites) c.args.procs.now c.args.places.now c.requires.live in
+    let count = AllZip-long (λ (q : Proc) (k : ProcedurePlaces). AreExactSets q k.live.sites) c.args.procs.now c.args.places.now c.requires.live in
     let landed = c.requires.landings in
     let sited = c.requires.sites in
     let p : slice_get c.args.procs.now i ≡ Some c.index-procs-number.result = slice_get-get_or c.args.procs.now i c.index-procs-number.result less ∙ ap Some (sym c.index-procs-number.is) in
@@ -71,6 +72,6 @@ pub returns-clause-rows : goal.returns-clause-rows
 returns-clause-rows c =
     let rest = zip c.args.places.now (zip c.args.text.now.landings c.args.text.now.sites) in
     let past = c.loop-number-test.false in
-    let whole = take_all c.loop-number.number (zip c.args.procs.now rest) (omega (arith, past, zip_short c.args.procs.now rest)) in
+    let whole = take_all c.loop-number.number (zip c.args.procs.now rest) (omega (arith, past, length-zip c.args.procs.now rest)) in
     c.loop-number.invariant.0
     ∙ ap (λ xs. flat_map (placed_sites (value_at c.args.text.now.procedures c.args.labels.now)) (enumerate_from 0 xs)) whole
