@@ -188,16 +188,8 @@ module _ (promises : Promises) (p : Program) (graphs : List Graph) (found : List
     tables : HaveTables s c runs.finished.symbols i
     tables =
         promises.tables s c runs.finished.symbols i (promises.keep i made.is_image)
-        (promises.rows s graphs found t runs.finished.symbols i record {
-          range = made.range;
-          rows = made.rows;
-          frames = made.frames;
-          text = made.text;
-          image = made.image;
-          returns = runs.returns;
-          lands = runs.lands;
-          last = runs.last;
-        })
+        (promises.rows s graphs found t i runs.finished.symbols made.range made.frames made.text made.image made.rows
+        record { returns = runs.returns; lands = runs.lands; last = runs.last })
 
     told : IsTold s c runs.finished.symbols l
     told =
