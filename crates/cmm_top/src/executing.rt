@@ -2,9 +2,9 @@
 
 ghost use Rattle.std.specs.Prelude.{◌≡◌, ◌≤◌, ◌<◌, length, map};
 ghost use Rattle.std.specs.List.{All};
+ghost use Rattle.cmm_compile.specs.Agreement.{IsStackSize};
 ghost use Rattle.cmm_outside.specs.declared.storage.TheConstants.{NAME_LIMIT};
 ghost use Rattle.cmm_run.specs.Outside.{outside_of};
-ghost use Rattle.rv_table.specs.declared.memory_map.TheConstants.{STACK_SIZE_LIMIT};
 ghost use Rattle.cmm_top.specs.Call.{standing};
 ghost use Rattle.cmm_top.specs.Executing.{Executes};
 ghost use Rattle.cmm_top.specs.inside.Ending.{work_of};
@@ -30,7 +30,7 @@ pub(crate) fn exec<'a, F: Files, I: Source, O: Sink, E: Sink>(
 ) -> (Ending<'a>, Option<Image>)
     requires short { All (λ name. length name.now ≤ NAME_LIMIT) names.now }
     requires some { 0 < length names.now }
-    requires stack { limits.stack ≤ STACK_SIZE_LIMIT }
+    requires stack { IsStackSize limits.stack }
     ensures { Executes (map (λ name. name.now) names.now) limits (work_of result.0 result.1
         (standing F.contents F.faults F.last_failed files.old (outside_of I.left I.faults O.taken O.faults E.taken E.faults input.old out.old log.old))
         (standing F.contents F.faults F.last_failed files.new (outside_of I.left I.faults O.taken O.faults E.taken E.faults input.new out.new log.new))) }

@@ -1,11 +1,11 @@
 //! `run`: an image is read and runs.
 
 ghost use Rattle.std.specs.Prelude.{◌≡◌, ◌≤◌, length, None, IfOk, IfErr, OnOk};
+ghost use Rattle.cmm_compile.specs.Agreement.{IsStackSize};
 ghost use Rattle.cmm_image.specs.Images.{SpellsImage};
 ghost use Rattle.cmm_outside.specs.Storage.{HasFile};
 ghost use Rattle.cmm_outside.specs.declared.storage.TheConstants.{NAME_LIMIT};
 ghost use Rattle.cmm_run.specs.Outside.{Outside as Streams, outside_of};
-ghost use Rattle.rv_table.specs.declared.memory_map.TheConstants.{STACK_SIZE_LIMIT};
 ghost use Rattle.cmm_top.specs.Call.{standing};
 ghost use Rattle.cmm_top.specs.Running.{HoldsNoImage, RunsFile};
 ghost use Rattle.cmm_top.specs.inside.Ending.{IsNotRead, work_of};
@@ -68,7 +68,7 @@ pub(crate) fn run<'a, F: Files, I: Source, O: Sink, E: Sink>(
     log: &mut E,
 ) -> Ending<'a>
     requires short { length name.now ≤ NAME_LIMIT }
-    requires stack { limits.stack ≤ STACK_SIZE_LIMIT }
+    requires stack { IsStackSize limits.stack }
     ensures { RunsFile name.now limits (work_of result None
         (standing F.contents F.faults F.last_failed files.old (outside_of I.left I.faults O.taken O.faults E.taken E.faults input.old out.old log.old))
         (standing F.contents F.faults F.last_failed files.new (outside_of I.left I.faults O.taken O.faults E.taken E.faults input.new out.new log.new))) }

@@ -1,10 +1,9 @@
 //! Sessions that run an image without a script.
 
 ghost use Rattle.std.specs.Prelude.{◌≡◌, ◌≤◌, None, IfOk, OnErr};
-ghost use Rattle.cmm_compile.specs.Agreement.{launch_of};
+ghost use Rattle.cmm_compile.specs.Agreement.{IsStackSize, launch_of};
 ghost use Rattle.cmm_run.specs.Outside.{outside_of};
 ghost use Rattle.cmm_run.specs.Runs.{Runs};
-ghost use Rattle.rv_table.specs.declared.memory_map.TheConstants.{STACK_SIZE_LIMIT};
 ghost use Rattle.cmm_top.specs.Script.{no_script};
 
 use cmm_command::RunLimits;
@@ -17,7 +16,7 @@ use std::alloc::Global;
 
 /// A session of an image that has not run. It takes all the memory of its run.
 pub(crate) fn load(alloc: Global, image: Image, limits: RunLimits) -> Result<Session, NoMemory>
-    requires { limits.stack ≤ STACK_SIZE_LIMIT }
+    requires { IsStackSize limits.stack }
     ensures { IfOk result (λ s. s ≡ record { launch = launch_of image no_script limits.stack; steps = limits.steps; answer = None }) }
 {
     let limits = Limits {
@@ -54,7 +53,7 @@ pub(crate) fn run_image<I: Source, O: Sink, E: Sink>(
     out: &mut O,
     log: &mut E,
 ) -> Result<(Outcome, Image), NoMemory>
-    requires { limits.stack ≤ STACK_SIZE_LIMIT }
+    requires { IsStackSize limits.stack }
     ensures image { IfOk result (λ ran. ran.1 ≡ image) }
     ensures runs { IfOk result (λ ran. Runs (launch_of image no_script limits.stack) limits.steps
         (outside_of I.left I.faults O.taken O.faults E.taken E.faults input.old out.old log.old)

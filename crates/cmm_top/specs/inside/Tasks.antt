@@ -2,7 +2,7 @@
 use Rattle.std.specs.Prelude.{◌≡◌, ◌≤◌, ◌<◌, ℕ, List, length, map, Option, Some, None}
 use Rattle.std.specs.List.{All}
 use Rattle.cmm_command.specs.Laws.{IsName}
-use Rattle.rv_table.specs.declared.memory_map.TheConstants.{STACK_SIZE_LIMIT}
+use Rattle.cmm_compile.specs.Agreement.{IsStackSize}
 use Rattle.cmm_top.specs.declared.task.Task.{Task as TaskAsked}
 use Rattle.cmm_top.specs.declared.task.Task.TheVariants as asked
 use Rattle.cmm_top.specs.Words.{Task, execute, run, build, generate}
@@ -19,9 +19,9 @@ IsAsked None None = Unit {0}
 IsAsked (Some task) (Some is) = task ≡ plain_task is
 IsAsked _ _ = ⊥
 
--- names are short enough, and so is the stack
+-- names are short enough, and the stack has a size that one may have
 abbrev pub CanBeDone : Task → Type 0
-CanBeDone (execute names limits) = All IsName names × (0 < length names) × (limits.stack ≤ STACK_SIZE_LIMIT)
-CanBeDone (run name limits) = IsName name × (limits.stack ≤ STACK_SIZE_LIMIT)
+CanBeDone (execute names limits) = All IsName names × (0 < length names) × IsStackSize limits.stack
+CanBeDone (run name limits) = IsName name × IsStackSize limits.stack
 CanBeDone (build names name) = All IsName names × (0 < length names) × IsName name
 CanBeDone (generate number) = Unit {0}
