@@ -13,6 +13,7 @@ use Rattle.cmm_simulation.specs.Seen.{Client, IsPrefix}
 use Rattle.cmm_script.specs.declared.script.Script.{Script}
 use Rattle.cmm_script.specs.Lines.{yield_line}
 use Rattle.cmm_script.specs.Walk.{Activation}
+use Rattle.cmm_program.specs.declared.placement.PlaceRow.{PlaceRow}
 use Rattle.cmm_program.specs.declared.procedure.Proc.{Proc}
 use Rattle.cmm_program.specs.declared.program.Program.{Program}
 use Rattle.cmm_program.specs.Bounds.{code_bound, longest, step_factor}
