@@ -1,5 +1,5 @@
 -- The sets that places keep for call sites have just the variables that are live there.
-use Rattle.std.proofs.Common.{◌<◌, ℕ, List, [], ◌∷◌, length}
+use Rattle.std.proofs.Common.{List, [], ◌∷◌}
 use Rattle.std.proofs.lemmas.List.Elements.{All-head, All-tail}
 use Rattle.std.specs.Prelude.{All}
 use Rattle.std.specs.List.{AllZip}

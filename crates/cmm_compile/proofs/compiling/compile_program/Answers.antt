@@ -1,4 +1,4 @@
-use Rattle.std.proofs.Common.{◌∙◌, arith, map, subst, sym}
+use Rattle.std.proofs.Common.{arith, map, subst, sym}
 use Rattle.std.proofs.lemmas.Slice.Zip.{AllZip-long}
 use Rattle.std.specs.List.Sorted.{IsNonDecreasingBy}
 use Rattle.cmm_flow.specs.Flow.{IsFlow}
@@ -83,7 +83,7 @@ returns-clause-ok c =
         places = rw c.as_slice-2.ensures at c.in_ok-places.ensures.places;
         frames =
             c.passes_fit.ensures.frames c.in_ok-program.program.procs c.in_ok-graphs.graphs c.in_ok-places.places
-                (AllZip-long IsFlow c.in_ok-program.program.procs c.in_ok-graphs.graphs c.in_ok-graphs.ensures.each) (rw c.as_slice-2.ensures at c.in_ok-places.ensures.places);
+            (AllZip-long IsFlow c.in_ok-program.program.procs c.in_ok-graphs.graphs c.in_ok-graphs.ensures.each) (rw c.as_slice-2.ensures at c.in_ok-places.ensures.places);
         runs = rw c.as_slice-2.ensures at c.in_ok-places.ensures.runs;
         text = c.in_ok-code.ensures.text t linked.1;
         size = c.in_ok-code.ensures.size t linked.1;
