@@ -1,5 +1,5 @@
 -- Tasks as the code has them.
-use Rattle.std.specs.Prelude.{◌≡◌, ◌≤◌, ◌<◌, ℕ, List, length, map, Option, Some, None}
+use Rattle.std.specs.Prelude.{◌≡◌, ◌<◌, length, map, Option, Some, None}
 use Rattle.std.specs.List.{All}
 use Rattle.cmm_command.specs.Laws.{IsName}
 use Rattle.cmm_compile.specs.Agreement.{IsStackSize}
