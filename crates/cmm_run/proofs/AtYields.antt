@@ -62,9 +62,9 @@ put_out (client.Running s) run = refl
 put_out (client.Stopped s) run = refl
 put_out (client.Torn b s) run = refl
 
-module _ {Sink : Type 0} (taken : Sink → Option (List ℕ)) (faults : Sink → ℕ) (old new : Sink) (l : Launch) (start before after : Outside) (machine next : Machine) (run : Run)
-    (at : IsAt machine start before run) (none_waits : machine.waiting ≡ []) (none_waits_then : next.waiting ≡ [])
-    (was : before.log ≡ taken old) (is_now : after.log ≡ taken new) (input : after.input ≡ before.input) (output : after.output ≡ before.output) where
+module _ {Sink : Type 0} (taken : Sink → Option (List ℕ)) (faults : Sink → ℕ) (old new : Sink) (l : Launch) (start before after : Outside) (machine next : Machine) (rest : List ℕ) (run : Run)
+    (at : IsAt machine start before rest run) (none_waits : machine.waiting ≡ []) (none_waits_then : next.waiting ≡ [])
+    (was : before.log ≡ taken old) (is_now : after.log ≡ taken new) (output : after.output ≡ before.output) where
   output_shown : Appends start.output after.output run.output
   output_shown = subst (λ (told : Option (List ℕ)). Appends start.output told run.output) (sym output)
       (moves_end start.output before.output run.output machine.waiting none_waits at.written.output)
@@ -76,27 +76,26 @@ module _ {Sink : Type 0} (taken : Sink → Option (List ℕ)) (faults : Sink →
   behind text to = image.left to record (goes_on run) { log = run.log ++ text }
 
   turn_by : (text : List ℕ) (to : client.Left State State) (o : Option Outcome) → step l run ≡ behind text to →
-      AnswersWith (record { text = text; left = to }) (state_of next.regs next.memory) taken faults old new o → Turns l start after next run o
+      AnswersWith (record { text = text; left = to }) (state_of next.regs next.memory) taken faults old new o → Turns l start after next rest run o
   unfolding behind
   turn_by text to None is answers =
-      subst (λ (r : Run). IsAt next start after r) (sym (is ∙ ap (behind text) answers.0)) record {
+      subst (λ (r : Run). IsAt next start after rest r) (sym (is ∙ ap (behind text) answers.0)) record {
         running = at.running;
         machine_is = refl;
-        written = record {
-          input = input ∙ at.written.input;
-          output = moved start.output after.output run.output next.waiting none_waits_then output_shown;
-          log = log_shown text answers.1;
-        };
+        input = at.input;
+        written = record { output = moved start.output after.output run.output next.waiting none_waits_then output_shown; log = log_shown text answers.1 };
       }
   turn_by text to (Some outcome.Stopped) is answers =
-      subst (λ (r : Run). IsOver start after r outcome.Stopped) (sym (is ∙ ap (behind text) answers.0)) record {
-        over = λ e. absurd (cc e);
-        ends = record { answer = refl; shows = record { input = input ∙ at.written.input; output = output_shown; log = log_shown text answers.1 } };
-      }
+      subst (λ (r : Run). IsOver start after rest r outcome.Stopped × (r.machine ≡ state_of next.regs next.memory)) (sym (is ∙ ap (behind text) answers.0)) (
+        record { over = λ e. absurd (cc e); answer = refl; input = at.input; shown = record { output = output_shown; log = log_shown text answers.1 } },
+        refl,
+      )
   turn_by text to (Some (outcome.Torn t)) is answers =
-      subst (λ (r : Run). IsOver start after r (outcome.Torn t)) (sym (is ∙ ap (behind text) answers.0)) record {
+      subst (λ (r : Run). IsOver start after rest r (outcome.Torn t)) (sym (is ∙ ap (behind text) answers.0)) record {
         over = λ e. absurd (cc e);
-        ends = record { answer = refl; shows = record { input = input ∙ at.written.input; output = output_shown; log = log_shown text answers.1 } };
+        answer = refl;
+        input = at.input;
+        shown = record { output = output_shown; log = log_shown text answers.1 };
       }
   turn_by text to (Some outcome.OutputFault) is answers =
       let here : Run = record (goes_on run) { log = run.log ++ text } in record {
@@ -112,7 +111,7 @@ module _ {Sink : Type 0} (taken : Sink → Option (List ℕ)) (faults : Sink →
 
   -- registers and memory are those of the machine once it went on, and the client's answer is given
   pub yield_turn : (s : State) (o : Option Outcome) → instruction_step (map_of l) run.machine ≡ rv.Asks Yield → s ≡ at_pc (machine.regs.pc + 4) (state_of machine.regs machine.memory) →
-      AnswersWith (at_yield l.image (region_of l) l.script s) (state_of next.regs next.memory) taken faults old new o → Turns l start after next run o
+      AnswersWith (at_yield l.image (region_of l) l.script s) (state_of next.regs next.memory) taken faults old new o → Turns l start after next rest run o
   unfolding behind
   yield_turn s o asks state answers =
       let here : (goes_on run).machine ≡ s = ap (λ (t : State). at_pc (t.pc + 4) t) at.machine_is ∙ sym state in

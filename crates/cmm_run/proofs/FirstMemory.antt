@@ -45,8 +45,9 @@ region_is l m is = ap regions.region_of is
 -- a machine is ready with the first registers and the first memory
 pub is_ready : (l : Launch) (machine : Machine) → length l.image.initial ≤ DATA_LENGTH_LIMIT →
     ((bytes : ℕ → ℕ) → state_with machine.regs bytes ≡ at_pc l.image.start (start (regions.region_of machine.memory) bytes)) →
-    machine.memory ≡ started l.image.code l.image.initial l.stack_size → machine.waiting ≡ [] → IsReady l machine
-is_ready l machine short registers memory none =
+    machine.memory ≡ started l.image.code l.image.initial l.stack_size → machine.waiting ≡ [] → machine.input_ended ≡ false →
+    IsReady l machine
+is_ready l machine short registers memory none has_input =
     let region = region_is l machine.memory memory in
     let bytes : first_memory l.image ≡ memory_of machine.memory = first_memory_is l.image l.stack_size short ∙ ap memory_of (sym memory) in
     record {
@@ -54,4 +55,5 @@ is_ready l machine short registers memory none =
       region = region;
       first = (λ i. at_pc l.image.start (start (sym region i) (bytes i))) ∙ sym (registers (memory_of machine.memory));
       none_waits = none;
+      has_input = has_input;
     }

@@ -1,5 +1,6 @@
 -- What a run comes to: what it writes, takes and answers.
-use Rattle.std.specs.Prelude.{◌≡◌, ℕ, ◌<◌, List, Some}
+use Rattle.std.specs.Prelude.{◌≡◌, ℕ, ◌<◌, List, IfSome, Some, None}
+use Rattle.std.specs.List.{All}
 use Rattle.rv_table.specs.declared.request.Request.TheVariants.{GetByte}
 use Rattle.rv_table.specs.Machine as rv
 use Rattle.rv_table.specs.Machine.{instruction_step}
@@ -20,9 +21,9 @@ answer_of (Ended c.StackLimit) = StackLimit
 answer_of (Trapped kind pc) = Trap record { kind = kind; pc = pc }
 answer_of (image.Torn b) = Torn record { frame = b.frame; address = b.address }
 
--- Between these, output and log got all that a run has written, and the input has left what the run has.
+-- Between these, output and log got all that a run has written, and the input, where it tells its bytes, has left what the run has.
 pub record Shows (before after : Outside) (run : Run) : Type 0 where
-  pub input : after.input ≡ Some run.input
+  pub input : IfSome before.input (λ _. after.input ≡ Some run.input)
   pub output : Appends before.output after.output run.output
   pub log : Appends before.log after.log run.log
 
@@ -65,8 +66,12 @@ Fails before after StepLimit = NoneFailed before after
 Fails before after (Trap t) = NoneFailed before after
 Fails before after (Torn t) = NoneFailed before after
 
--- A run of an image within n instructions has this outcome.
-pub record Runs (l : Launch) (steps : ℕ) (before after : Outside) (outcome : Outcome) : Type 0 where
+-- A run of an image within n instructions has this outcome: it is what the definition says of some input. That is the input that there is, where it tells its
+-- bytes; another one, as a terminal, has given just the bytes of this input that the run took. A run that the client stopped stands in this state.
+pub record Runs (l : Launch) (steps : ℕ) (before after : Outside) (outcome : Outcome) (machine : rv.State) : Type 0 where
   pub fails : Fails before after outcome
-  -- of the input that there is, where it tells its bytes
-  pub comes : (input : List ℕ) → before.input ≡ Some input → Comes l steps input before after outcome
+  pub input : List ℕ
+  pub told : IfSome before.input (λ left. left ≡ input)
+  pub bytes : before.input ≡ None → All (λ byte. byte < 256) input
+  pub comes : Comes l steps input before after outcome
+  pub stopped : outcome ≡ Stopped → (image_after l input steps).machine ≡ machine

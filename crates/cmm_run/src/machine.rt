@@ -10,12 +10,14 @@ use cmm_abi::registers::{FRAME, REGION};
 use rv_memory::Memory;
 use rv_table::Regs;
 
-/// What a run changes: registers, pc and memory, and the output that it has put and not written yet.
+/// What a run changes: registers, pc and memory, the output that it has put and not written yet, and whether its input has ended. An input that has ended
+/// stays so: a terminal may give bytes again, which no list of bytes that a program reads in a row would explain.
 #[derive(Drop)]
 pub struct Machine {
     pub regs: Regs,
     pub memory: Memory,
     pub waiting: Waiting,
+    pub input_ended: bool,
 }
 
 /// The registers where a run begins at an address, in this memory.

@@ -1,15 +1,14 @@
 //! What an ECALL asks for.
-ghost use Rattle.std.specs.Prelude.{◌≡◌, ◌+◌, ◌<◌, ◌^◌, ℕ, List, [], ◌∷◌, drop, Some, IfOk, OnErr, OnOk};
+ghost use Rattle.std.specs.Prelude.{◌≡◌, ◌+◌, ◌<◌, ◌^◌, ℕ, IfOk, OnErr, OnOk};
 ghost use Rattle.rv_memory.specs.Regions.{map_of as memory_map_of, region_of as memory_region_of};
 ghost use Rattle.rv_sim.specs.Stepping.{state_of, state_with};
 ghost use Rattle.rv_table.specs.Machine.{Asks, instruction_step, with_set};
 ghost use Rattle.cmm_outside.specs.Faults.{Rose};
-ghost use Rattle.cmm_program.specs.Performing.{next_byte};
 ghost use Rattle.cmm_image_machine.specs.Changes.{at_pc};
-ghost use Rattle.cmm_image_machine.specs.Machine.{Run, map_of, region_of};
-ghost use Rattle.cmm_run.specs.Outside.{Outside, outside_of};
-ghost use Rattle.cmm_run.specs.inside.Takes.{TakeFails, Takes};
-ghost use Rattle.cmm_run.specs.inside.Turns.{IsAt, TurnFails, Turns};
+ghost use Rattle.cmm_image_machine.specs.Machine.{map_of, region_of};
+ghost use Rattle.cmm_run.specs.Outside.{outside_of};
+ghost use Rattle.cmm_run.specs.inside.Takes.{GivesNext, HasAsked, TakeFails};
+ghost use Rattle.cmm_run.specs.inside.Turns.{HasTurned, TurnFails};
 
 use crate::loaded::Loaded;
 use crate::machine::Machine;
@@ -35,10 +34,9 @@ pub fn answer<I: Source, O: Sink, E: Sink>(
     ensures region { memory_region_of machine.new.memory ≡ region_of loaded.now }
     ensures fails { TurnFails (outside_of I.left I.faults O.taken O.faults E.taken E.faults input.old out.old log.old)
         (outside_of I.left I.faults O.taken O.faults E.taken E.faults input.new out.new log.new) result }
-    ensures turns { (start : Outside) (run : Run) →
-        IsAt machine.old start (outside_of I.left I.faults O.taken O.faults E.taken E.faults input.old out.old log.old) run →
-        instruction_step (map_of loaded.now) run.machine ≡ Asks request →
-        Turns loaded.now start (outside_of I.left I.faults O.taken O.faults E.taken E.faults input.new out.new log.new) machine.new run result }
+    ensures turns { HasTurned loaded.now (outside_of I.left I.faults O.taken O.faults E.taken E.faults input.old out.old log.old)
+        (outside_of I.left I.faults O.taken O.faults E.taken E.faults input.new out.new log.new) machine.old machine.new result
+        (λ run. instruction_step (map_of loaded.now) run.machine ≡ Asks request) }
 {
     match request {
         Request::PutByte(byte) => match machine.waiting.put(byte, out) {
@@ -64,18 +62,27 @@ pub fn answer<I: Source, O: Sink, E: Sink>(
     }
 }
 
-/// Gives the register for it the next byte of the input.
+/// Gives the register for it the next byte of the input, or all ones where the input has ended, once and for all.
 fn get_byte<I: Source>(machine: &mut Machine, input: &mut I) -> Option<Outcome>
     requires { machine.old.regs.pc + 4 < 2 ^ 64 }
     ensures memory { machine.new.memory ≡ machine.old.memory }
     ensures waiting { machine.new.waiting ≡ machine.old.waiting }
-    ensures takes { (left : List ℕ) → I.left input.old ≡ Some left →
-        Takes (state_of machine.old.regs machine.old.memory) (state_of machine.new.regs machine.new.memory) left (I.left input.new) result }
+    ensures asked { HasAsked (state_of machine.old.regs machine.old.memory) (state_of machine.new.regs machine.new.memory)
+        (I.left input.old) (I.left input.new) machine.old.input_ended machine.new.input_ended result }
     ensures fails { TakeFails (I.faults input.old) (I.faults input.new) result }
 {
+    if machine.input_ended {
+        receive(&mut machine.regs, u64::MAX);
+        return None;
+    }
     match next_byte(input) {
-        Ok(byte) => {
-            receive(&mut machine.regs, byte);
+        Ok(Some(byte)) => {
+            receive(&mut machine.regs, u64::from(byte));
+            None
+        }
+        Ok(None) => {
+            machine.input_ended = true;
+            receive(&mut machine.regs, u64::MAX);
             None
         }
         Err(Failed) => Some(Outcome::InputFault),
@@ -99,17 +106,17 @@ fn receive(r: &mut Regs, value: u64)
     go_on(r);
 }
 
-/// Takes the next byte of the input, or gives all ones at its end.
-fn next_byte<I: Source>(input: &mut I) -> Result<u64, Failed>
-    ensures ok { (left : List ℕ) → I.left input.old ≡ Some left → IfOk result (λ byte. (byte ≡ next_byte left) × (I.left input.new ≡ Some (drop 1 left))) }
+/// Takes the next byte of the input, or none at its end.
+fn next_byte<I: Source>(input: &mut I) -> Result<Option<u8>, Failed>
+    ensures ok { IfOk result (GivesNext (I.left input.old) (I.left input.new)) }
     ensures err { OnErr result (I.left input.new ≡ I.left input.old) }
     ensures no_fault { OnOk result (I.faults input.new ≡ I.faults input.old) }
     ensures fault { OnErr result (Rose (I.faults input.old) (I.faults input.new)) }
 {
     let mut byte = [0; 1];
     if input.read(&mut byte)? == 0 {
-        Ok(u64::MAX)
-    } else {
-        Ok(u64::from(byte[0]))
+        return Ok(None);
     }
+    let [value] = byte;
+    Ok(Some(value))
 }

@@ -1,11 +1,12 @@
 //! The turns of a run.
 ghost use Rattle.std.specs.Prelude.{◌≡◌};
 ghost use Rattle.rv_memory.specs.Regions.{map_of as memory_map_of, region_of as memory_region_of};
-ghost use Rattle.cmm_image_machine.specs.Machine.{Run, map_of, region_of};
-ghost use Rattle.cmm_run.specs.Outside.{Outside, outside_of};
+ghost use Rattle.rv_sim.specs.Stepping.{state_of};
+ghost use Rattle.cmm_image_machine.specs.Machine.{map_of, region_of};
+ghost use Rattle.cmm_run.specs.Outside.{outside_of};
 ghost use Rattle.cmm_run.specs.Runs.{Runs};
 ghost use Rattle.cmm_run.specs.inside.Loading.{IsReady};
-ghost use Rattle.cmm_run.specs.inside.Turns.{IsAt, TurnFails, Turns};
+ghost use Rattle.cmm_run.specs.inside.Turns.{HasTurned, TurnFails};
 
 use crate::loaded::Loaded;
 use crate::machine::Machine;
@@ -25,8 +26,10 @@ pub fn run<I: Source, O: Sink, E: Sink>(
     log: &mut E,
 ) -> Outcome
     requires { IsReady loaded.now machine.old }
-    ensures { Runs loaded.now steps (outside_of I.left I.faults O.taken O.faults E.taken E.faults input.old out.old log.old)
-        (outside_of I.left I.faults O.taken O.faults E.taken E.faults input.new out.new log.new) result }
+    ensures map { memory_map_of machine.new.memory ≡ map_of loaded.now }
+    ensures region { memory_region_of machine.new.memory ≡ region_of loaded.now }
+    ensures runs { Runs loaded.now steps (outside_of I.left I.faults O.taken O.faults E.taken E.faults input.old out.old log.old)
+        (outside_of I.left I.faults O.taken O.faults E.taken E.faults input.new out.new log.new) result (state_of machine.new.regs machine.new.memory) }
 {
     for _ in 0..steps {
         if let Some(outcome) = turn(loaded, machine, input, out, log) {
@@ -50,9 +53,8 @@ fn turn<I: Source, O: Sink, E: Sink>(
     ensures region { memory_region_of machine.new.memory ≡ region_of loaded.now }
     ensures fails { TurnFails (outside_of I.left I.faults O.taken O.faults E.taken E.faults input.old out.old log.old)
         (outside_of I.left I.faults O.taken O.faults E.taken E.faults input.new out.new log.new) result }
-    ensures turns { (start : Outside) (run : Run) →
-        IsAt machine.old start (outside_of I.left I.faults O.taken O.faults E.taken E.faults input.old out.old log.old) run →
-        Turns loaded.now start (outside_of I.left I.faults O.taken O.faults E.taken E.faults input.new out.new log.new) machine.new run result }
+    ensures turns { HasTurned loaded.now (outside_of I.left I.faults O.taken O.faults E.taken E.faults input.old out.old log.old)
+        (outside_of I.left I.faults O.taken O.faults E.taken E.faults input.new out.new log.new) machine.old machine.new result (λ run. Unit {0}) }
 {
     let pc = machine.regs.pc;
     let instruction = match loaded.at(pc) {

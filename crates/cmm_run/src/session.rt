@@ -1,6 +1,7 @@
 //! Sessions.
 ghost use Rattle.std.specs.Prelude.{◌≡◌, ◌≤◌, ◌%◌, ℕ, None, Some, IfOk};
 ghost use Rattle.rv_memory.specs.Regions.{started};
+ghost use Rattle.rv_sim.specs.Stepping.{state_of};
 ghost use Rattle.cmm_script.specs.Limits.{HasFewValues};
 ghost use Rattle.cmm_run.specs.Outside.{outside_of};
 ghost use Rattle.cmm_run.specs.Runs.{Runs};
@@ -41,14 +42,14 @@ pub struct Session {
 impl Model for Session {
     ghost use Rattle.std.specs.Prelude.{◌≡◌, None};
     ghost use Rattle.cmm_run.specs.Sessions.{SessionState};
-    ghost use Rattle.cmm_run.specs.inside.Loading.{IsReady};
+    ghost use Rattle.cmm_run.specs.inside.Loading.{IsOfRun, IsReady};
 
     ghost Value = { SessionState };
 
-    ghost view = { λ s. record { launch = s.loaded; steps = s.steps; answer = s.answer } };
+    ghost view = { λ s. record { launch = s.loaded; steps = s.steps; answer = s.answer; regs = s.machine.regs; memory = s.machine.memory } };
 
     // what has not run stands where a run begins
-    ghost invariant = { λ s. s.answer ≡ None → IsReady s.loaded s.machine };
+    ghost invariant = { λ s. IsOfRun s.loaded s.machine.memory × (s.answer ≡ None → IsReady s.loaded s.machine) };
 }
 
 impl Session {
@@ -62,11 +63,9 @@ impl Session {
         requires few { HasFewValues script }
         requires stack { limits.stack ≤ STACK_SIZE_LIMIT }
         requires aligned { limits.stack % 16 ≡ 0 }
-        ensures { IfOk result (λ s. s ≡ record {
-          launch = record { image = image; script = script; stack_size = limits.stack };
-          steps = limits.steps;
-          answer = None;
-        }) }
+        ensures launch { IfOk result (λ s. s.launch ≡ record { image = image; script = script; stack_size = limits.stack }) }
+        ensures steps { IfOk result (λ s. s.steps ≡ limits.steps) }
+        ensures fresh { IfOk result (λ s. s.answer ≡ None) }
     {
         let memory = memory_for(alloc, &image, limits.stack)?;
         let table = Decoded::new(alloc, &memory)?;
@@ -78,6 +77,7 @@ impl Session {
                 regs,
                 memory,
                 waiting,
+                input_ended: false,
             },
             steps: limits.steps,
             answer: None,
@@ -93,10 +93,12 @@ impl Session {
     ) -> Outcome
         ensures first { self.old.answer ≡ None → Runs self.old.launch self.old.steps
             (outside_of I.left I.faults O.taken O.faults E.taken E.faults input.old out.old log.old)
-            (outside_of I.left I.faults O.taken O.faults E.taken E.faults input.new out.new log.new) result }
+            (outside_of I.left I.faults O.taken O.faults E.taken E.faults input.new out.new log.new) result (state_of self.new.regs self.new.memory) }
         ensures again { (outcome : OutcomeOf) → self.old.answer ≡ Some outcome →
-            (result ≡ outcome) × (input.new ≡ input.old) × (out.new ≡ out.old) × (log.new ≡ log.old) }
-        ensures kept { self.new ≡ record self.old { answer = Some result } }
+            (result ≡ outcome) × (self.new ≡ self.old) × (input.new ≡ input.old) × (out.new ≡ out.old) × (log.new ≡ log.old) }
+        ensures answer { self.new.answer ≡ Some result }
+        ensures launch { self.new.launch ≡ self.old.launch }
+        ensures steps { self.new.steps ≡ self.old.steps }
     {
         if let Some(outcome) = self.answer {
             return outcome;

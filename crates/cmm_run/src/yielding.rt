@@ -19,6 +19,7 @@ pub fn yields<E: Sink>(loaded: &Loaded, machine: &mut Machine, log: &mut E) -> O
     ensures map { map_of machine.new.memory ≡ map_of machine.old.memory }
     ensures region { region_of machine.new.memory ≡ region_of machine.old.memory }
     ensures waiting { machine.new.waiting ≡ machine.old.waiting }
+    ensures input { machine.new.input_ended ≡ machine.old.input_ended }
 {
     match answer_yield(
         loaded.image(),

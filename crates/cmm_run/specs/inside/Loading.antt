@@ -1,6 +1,7 @@
 -- What a session keeps of what it loaded.
-use Rattle.std.specs.Prelude.{◌≡◌, ◌%◌, ◌≤◌, [], List, Option}
+use Rattle.std.specs.Prelude.{◌≡◌, ◌%◌, ◌≤◌, [], false, List, Option}
 use Rattle.rv_memory.specs.Regions as regions
+use Rattle.rv_memory.specs.Regions.{Regions}
 use Rattle.rv_sim.specs.Standing.{IsTableOf}
 use Rattle.rv_sim.specs.Stepping.{state_of}
 use Rattle.rv_table.specs.declared.instruction.Instr.{Instr}
@@ -16,9 +17,15 @@ pub record IsLoaded (l : Launch) (table : List (Option Instr)) : Type 0 where
   pub stack : l.stack_size ≤ STACK_SIZE_LIMIT
   pub aligned : l.stack_size % 16 ≡ 0
 
--- registers and memory are those where a run begins, and no output waits
+-- the memory is one of the run's: its code, and data and region of its lengths
+pub record IsOfRun (l : Launch) (memory : Regions) : Type 0 where
+  pub map : regions.map_of memory ≡ map_of l
+  pub region : regions.region_of memory ≡ region_of l
+
+-- registers and memory are those where a run begins, no output waits, and the input has not ended
 pub record IsReady (l : Launch) (machine : Machine) : Type 0 where
   pub map : regions.map_of machine.memory ≡ map_of l
   pub region : regions.region_of machine.memory ≡ region_of l
   pub first : (first_run l []).machine ≡ state_of machine.regs machine.memory
   pub none_waits : machine.waiting ≡ []
+  pub has_input : machine.input_ended ≡ false
