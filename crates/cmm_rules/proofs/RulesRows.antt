@@ -1,6 +1,6 @@
 -- Worked rows: numbers, texts and phases as messages show them.
 use Rattle.std.proofs.Common.{◌≡◌, ◌++◌, Some, None, refl, codes, decimal}
-use Rattle.cmm_rules.specs.declared.rule.Rule.TheVariants.{Syntax, ArmsOverlap, Limit, NoCut, ScriptTooLong}
+use Rattle.cmm_rules.specs.declared.rule.Rule.TheVariants.{Syntax, ArmsOverlap, Limit, NoCut, NotASnapshot, ScriptTooLong}
 use Rattle.cmm_rules.specs.declared.rule.Phase.TheVariants as phase
 use Rattle.cmm_rules.specs.Rules.{rules, rule_of, rule_text, phase_of, shown}
 
@@ -29,6 +29,9 @@ static_limit = refl
 
 client_cut : phase_of NoCut ≡ phase.Client
 client_cut = refl
+
+snapshot_front : phase_of NotASnapshot ≡ phase.Snapshot
+snapshot_front = refl
 
 script_length : phase_of ScriptTooLong ≡ phase.Script
 script_length = refl

@@ -52,6 +52,12 @@ rule_number rule.InvariantVariable = 66
 rule_number rule.NoCut = 67
 rule_number rule.NoPlace = 68
 rule_number rule.NoYieldedValue = 69
+rule_number rule.SnapshotIsCut = 70
+rule_number rule.OtherImageHeader = 71
+rule_number rule.BadSnapshotField = 72
+rule_number rule.SnapshotTooLong = 73
+rule_number rule.BytesAfterSnapshot = 74
+rule_number rule.NotASnapshot = 75
 rule_number rule.UnknownLine = 80
 rule_number rule.RepeatedBlock = 81
 rule_number rule.ScriptTooLong = 82
@@ -103,6 +109,12 @@ rule_text rule.InvariantVariable = codes "invariant variable"
 rule_text rule.NoCut = codes "no cut"
 rule_text rule.NoPlace = codes "no place"
 rule_text rule.NoYieldedValue = codes "no yielded value"
+rule_text rule.SnapshotIsCut = codes "snapshot is cut"
+rule_text rule.OtherImageHeader = codes "other image header"
+rule_text rule.BadSnapshotField = codes "bad snapshot field"
+rule_text rule.SnapshotTooLong = codes "snapshot too long"
+rule_text rule.BytesAfterSnapshot = codes "bytes after snapshot"
+rule_text rule.NotASnapshot = codes "not a snapshot"
 rule_text rule.UnknownLine = codes "unknown line"
 rule_text rule.RepeatedBlock = codes "repeated block"
 rule_text rule.ScriptTooLong = codes "script too long"
@@ -154,6 +166,12 @@ phase_of rule.InvariantVariable = phase.Client
 phase_of rule.NoCut = phase.Client
 phase_of rule.NoPlace = phase.Client
 phase_of rule.NoYieldedValue = phase.Client
+phase_of rule.SnapshotIsCut = phase.Snapshot
+phase_of rule.OtherImageHeader = phase.Snapshot
+phase_of rule.BadSnapshotField = phase.Snapshot
+phase_of rule.SnapshotTooLong = phase.Snapshot
+phase_of rule.BytesAfterSnapshot = phase.Snapshot
+phase_of rule.NotASnapshot = phase.Snapshot
 phase_of rule.UnknownLine = phase.Script
 phase_of rule.RepeatedBlock = phase.Script
 phase_of rule.ScriptTooLong = phase.Script
@@ -168,7 +186,8 @@ rules =
     ∷ rule.ExportedTwice ∷ rule.NoMain ∷ rule.OtherTarget ∷ rule.BadHostCall ∷ rule.Cycle ∷ rule.Limit ∷ rule.NotAnImage
     ∷ rule.OtherImageVersion ∷ rule.ImageIsCut ∷ rule.BadImageField ∷ rule.ImageOutOfRange ∷ rule.BytesAfterImage
     ∷ rule.ImageTooLong ∷ rule.NoActivation ∷ rule.NoVariable ∷ rule.DeadVariable ∷ rule.DoesNotFit ∷ rule.NoExit ∷ rule.OtherCount ∷ rule.InvariantVariable
-    ∷ rule.NoCut ∷ rule.NoPlace ∷ rule.NoYieldedValue ∷ rule.UnknownLine ∷ rule.RepeatedBlock ∷ rule.ScriptTooLong ∷ []
+    ∷ rule.NoCut ∷ rule.NoPlace ∷ rule.NoYieldedValue ∷ rule.SnapshotIsCut ∷ rule.OtherImageHeader ∷ rule.BadSnapshotField
+    ∷ rule.SnapshotTooLong ∷ rule.BytesAfterSnapshot ∷ rule.NotASnapshot ∷ rule.UnknownLine ∷ rule.RepeatedBlock ∷ rule.ScriptTooLong ∷ []
 
 -- the rule of a number
 abbrev pub rule_of : ℕ → Option Rule

@@ -6,7 +6,7 @@ ghost use Rattle.cmm_rules.specs.Rules.{rule_number, rule_text, phase_of, rule_o
 use std::fmt;
 
 /// A rule, with the place that a message names where it is broken, as `LINE:COLUMN` of a unit, as the offset of a byte
-/// of an image, or as a line of a script. A command
+/// of an image or a snapshot, or as a line of a script. A command
 /// that a client's rule refuses has no place.
 #[derive(Clone, Copy, Debug, PartialEq, Eq)]
 pub enum Rule {
@@ -111,6 +111,18 @@ pub enum Rule {
     NoPlace,
     /// 69. The yield has no value of this number.
     NoYieldedValue,
+    /// 70. The bytes of a snapshot end inside a field: at the field.
+    SnapshotIsCut,
+    /// 71. A snapshot has the header of another image: at that, which is 8.
+    OtherImageHeader,
+    /// 72. The size of the stack in a snapshot is no multiple of 16 or above 268,435,456, or its register 0 is not 0: at the field.
+    BadSnapshotField,
+    /// 73. A snapshot has more than 536,870,912 bytes: at the first byte too many.
+    SnapshotTooLong,
+    /// 74. Bytes follow the region in a snapshot: at the first of them.
+    BytesAfterSnapshot,
+    /// 75. The bytes do not begin with `CMMS` and version 1: at 0, or at the version.
+    NotASnapshot,
     /// 80. A line of a script is of none of the forms, or a command stands before the first block: at the line.
     UnknownLine,
     /// 81. A block of a script has the code of an earlier one, or is a second `other`: at its first line.
@@ -130,6 +142,8 @@ pub enum Phase {
     Static,
     /// The form of images: rules 50 to 56.
     Image,
+    /// The form of snapshots: rules 70 to 75.
+    Snapshot,
     /// The form of scripts: rules 80 to 82.
     Script,
     /// What a command of a client asks: rules 60 to 69.
@@ -137,7 +151,7 @@ pub enum Phase {
 }
 
 /// Every rule, in the order of the numbers.
-const RULES: [Rule; 48] = [
+const RULES: [Rule; 54] = [
     Rule::BadByte,
     Rule::OpenComment,
     Rule::OpenText,
@@ -183,6 +197,12 @@ const RULES: [Rule; 48] = [
     Rule::NoCut,
     Rule::NoPlace,
     Rule::NoYieldedValue,
+    Rule::SnapshotIsCut,
+    Rule::OtherImageHeader,
+    Rule::BadSnapshotField,
+    Rule::SnapshotTooLong,
+    Rule::BytesAfterSnapshot,
+    Rule::NotASnapshot,
     Rule::UnknownLine,
     Rule::RepeatedBlock,
     Rule::ScriptTooLong,
@@ -239,6 +259,12 @@ impl Rule {
             Rule::NoCut => 67,
             Rule::NoPlace => 68,
             Rule::NoYieldedValue => 69,
+            Rule::SnapshotIsCut => 70,
+            Rule::OtherImageHeader => 71,
+            Rule::BadSnapshotField => 72,
+            Rule::SnapshotTooLong => 73,
+            Rule::BytesAfterSnapshot => 74,
+            Rule::NotASnapshot => 75,
             Rule::UnknownLine => 80,
             Rule::RepeatedBlock => 81,
             Rule::ScriptTooLong => 82,
@@ -295,6 +321,12 @@ impl Rule {
             Rule::NoCut => "no cut",
             Rule::NoPlace => "no place",
             Rule::NoYieldedValue => "no yielded value",
+            Rule::SnapshotIsCut => "snapshot is cut",
+            Rule::OtherImageHeader => "other image header",
+            Rule::BadSnapshotField => "bad snapshot field",
+            Rule::SnapshotTooLong => "snapshot too long",
+            Rule::BytesAfterSnapshot => "bytes after snapshot",
+            Rule::NotASnapshot => "not a snapshot",
             Rule::UnknownLine => "unknown line",
             Rule::RepeatedBlock => "repeated block",
             Rule::ScriptTooLong => "script too long",
@@ -340,6 +372,12 @@ impl Rule {
             | Rule::ImageOutOfRange
             | Rule::BytesAfterImage
             | Rule::ImageTooLong => Phase::Image,
+            Rule::SnapshotIsCut
+            | Rule::OtherImageHeader
+            | Rule::BadSnapshotField
+            | Rule::SnapshotTooLong
+            | Rule::BytesAfterSnapshot
+            | Rule::NotASnapshot => Phase::Snapshot,
             Rule::UnknownLine | Rule::RepeatedBlock | Rule::ScriptTooLong => Phase::Script,
             Rule::NoActivation
             | Rule::NoVariable
