@@ -3,7 +3,7 @@ ghost use Rattle.std.specs.Prelude.{◌≡◌, ◌≤◌, ◌+◌, ◌*◌, ◌/
 ghost use Rattle.std.specs.Option.{ok_or};
 ghost use Rattle.rv_table.specs.Bounds.{is_size};
 ghost use Rattle.rv_table.specs.Memory.{code_base, data_base, fetched, is_accessible, loaded, stored, LiesIn, bottom as bottom_of, top as top_of};
-ghost use Rattle.rv_memory.specs.Regions.{data_word_of, map_of, memory_of, region_of, started};
+ghost use Rattle.rv_memory.specs.Regions.{data_word_of, map_of, memory_of, region_of, restored, started};
 
 use crate::numbers::{offset_in, read, read_word, write};
 use rv_table::TrapKind;
@@ -51,6 +51,23 @@ impl Memory {
             data: initial.to_vec(alloc)?,
             region: vec![in alloc; 0; (BELOW_STACK + stack) as usize]?,
             stack,
+        })
+    }
+
+    /// A memory with this code, this data, and these bytes of the region, as a run left them. What is behind argument area and global
+    /// registers is the stack.
+    pub fn restored(alloc: Global, code: &[u8], initial: &[u8], region: &[u8]) -> Result<Memory, NoMemory>
+        requires code { length code.now ≤ CODE_LENGTH_LIMIT }
+        requires initial { length initial.now ≤ DATA_LENGTH_LIMIT }
+        requires low { BELOW_STACK ≤ length region.now }
+        requires high { length region.now ≤ BELOW_STACK + STACK_SIZE_LIMIT }
+        ensures { IfOk result (λ m. m ≡ restored code.now initial.now region.now) }
+    {
+        Ok(Memory {
+            code: code.to_vec(alloc)?,
+            data: initial.to_vec(alloc)?,
+            region: region.to_vec(alloc)?,
+            stack: region.len() as u64 - BELOW_STACK,
         })
     }
 
