@@ -317,8 +317,9 @@ class Runner:
             return None if same and built.files == files else f"`build` answers {built.status} {built.log}"
         if (built.status, built.log, built.output) != (0, b"", b"") or made is None or built.files != files:
             return f"`build` answers {built.status} {built.log}"
-        again = call(self.program, ["run", *options, "--", "image"], {"image": made}, given)
-        same = (again.status, again.log, again.output, again.files) == (answer.status, answer.log, answer.output, {"image": made})
+        beside = {"image": made, **{name: content for name, content in files.items() if name not in names}}
+        again = call(self.program, ["run", *options, "--", "image"], beside, given)
+        same = (again.status, again.log, again.output, again.files) == (answer.status, answer.log, answer.output, beside)
         return None if same else f"`run` of the image answers {again.status} {again.log} {again.output}"
 
 
@@ -334,7 +335,7 @@ def parts_of(words):
     while at < len(words):
         if words[at] == "--":
             return names + words[at + 1 :], options
-        value = words[at] in ("--steps", "--stack")
+        value = words[at] in ("--client", "--steps", "--stack")
         (options if words[at].startswith("-") else names).extend(words[at : at + 1 + value])
         at += 1 + value
     return names, options
