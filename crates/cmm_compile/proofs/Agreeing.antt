@@ -33,7 +33,7 @@ use Rattle.cmm_graph.specs.declared.graph.Graph.{Graph}
 use Rattle.cmm_flow.specs.Flow.{IsFlow}
 use Rattle.cmm_flow.specs.Relation as flow
 use Rattle.cmm_image.specs.ImageFormat.{is_in_code}
-use Rattle.cmm_image.specs.Formats.{AreBytes}
+use Rattle.cmm_format.specs.Formats.{AreBytes}
 use Rattle.cmm_image.specs.declared.parts.ImageParts.{ImageParts}
 use Rattle.cmm_located.specs.Compiled.{Compiled}
 use Rattle.cmm_located.specs.Layouts.{row_with}

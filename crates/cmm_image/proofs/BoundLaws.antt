@@ -8,7 +8,7 @@ use Rattle.cmm_image.specs.declared.rows.ProcRow.{ProcRow}
 use Rattle.cmm_image.specs.declared.rows.SavedRegister.{SavedRegister}
 use Rattle.cmm_image.specs.declared.rows.SiteRow.{SiteRow}
 use Rattle.cmm_image.specs.declared.rows.StackLabelRow.{StackLabelRow}
-use Rattle.cmm_image.specs.Formats.{AreRows, HoldsOptional}
+use Rattle.cmm_format.specs.Formats.{AreRows, HoldsOptional}
 use Rattle.cmm_image.specs.ImageFormat.{continuation, formed, is_code_length, is_in_code, procedure, saved_register, site, stack_label}
 use Rattle.cmm_image.specs.Bounds.{BoundsProcedure, BoundsSite}
 use Rattle.cmm_image.specs.Laws.{RowsAreBounded}

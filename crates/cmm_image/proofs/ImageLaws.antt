@@ -25,8 +25,8 @@ use Rattle.cmm_image.specs.declared.rows.GlobalRow.{GlobalRow}
 use Rattle.cmm_abi.specs.Registers.{is_callee_saves}
 use Rattle.cmm_image.specs.Places.{leaves}
 use Rattle.cmm_image.specs.ImageFormat.{formed, within, in_code, is_in_data, above, after, is_width, width_of, width, one_if, magic, is_code_length, is_procedure_count, HeaderFields, header_of, header_fields, counts, header, saved_register, variable, stack_label, variable_number, is_pair, continuation, no_return, is_return_offset, procedure_of, procedure_fields, procedure, has_sites, continuation_number, unwind, span, flags_of, flags_number, flags, exits_in_code, site_lists, procedure_at, site_of_fields, site_fields, site, label, global, image_of, image_fields, image}
-use Rattle.cmm_image.proofs.FieldLaws.{IsExact, number-exact, block-exact, text-exact, when-exact, optional-exact}
-use Rattle.cmm_image.proofs.TableLaws.{then-exact, as-exact, rows-exact, counted-exact}
+use Rattle.cmm_format.proofs.Shared.{IsExact, number-exact, block-exact, text-exact, when-exact, optional-exact}
+use Rattle.cmm_format.proofs.Shared.{then-exact, as-exact, rows-exact, counted-exact}
 use Rattle.cmm_image.proofs.PlaceLaws.{place-exact}
 
 -- ---- fields that stand for other values
@@ -49,7 +49,7 @@ width-back : (n : ℕ) → IsTrue (is_width n) → bits (width_of n) ≡ n
 width-back n h = width-among n (nat_eq n 8) (nat_eq n 16) (nat_eq n 32) (nat_eq n 64) (eqb-true n 8) (eqb-true n 16) (eqb-true n 32) (eqb-true n 64) h
 
 width-exact : IsExact width
-width-exact = as-exact width_of bits (when-exact (formed is_width ∷ []) (number-exact 1)) (λ w holds. width-there w) (λ n holds. width-back n holds.1.0)
+width-exact = as-exact width_of bits (when-exact (formed is_width ∷ []) (number-exact _ 1)) (λ w holds. width-there w) (λ n holds. width-back n holds.1.0)
 
 flag-there : (b : Bool) → nat_eq (one_if b) 1 ≡ b
 flag-there true = refl
@@ -74,81 +74,81 @@ flags-back (suc (suc (suc zero))) h = refl
 flags-back (suc (suc (suc (suc n)))) h = absurd (grind (arith, nat_tests))
 
 flags-exact : IsExact flags
-flags-exact = as-exact flags_of flags_number (when-exact (formed (λ n. nat_lt n 4) ∷ []) (number-exact 1)) (λ f holds. flags-there f) (λ n holds. flags-back n holds.1.0)
+flags-exact = as-exact flags_of flags_number (when-exact (formed (λ n. nat_lt n 4) ∷ []) (number-exact _ 1)) (λ f holds. flags-there f) (λ n holds. flags-back n holds.1.0)
 
 -- ---- procedures
 
 saved_register-exact : (frame : ℕ) (previous : Option SavedRegister) → IsExact (saved_register frame previous)
 saved_register-exact frame previous = as-exact (λ x. record { register = x.0; offset = x.1 }) (λ s. (s.register, s.offset))
-    (then-exact (when-exact (formed is_callee_saves ∷ above (option_map (λ s. s.register) previous) ∷ []) (number-exact 1)) λ (register : ℕ).
-    when-exact (within (leaves 8 frame) ∷ []) (number-exact 4))
+    (then-exact (when-exact (formed is_callee_saves ∷ above (option_map (λ s. s.register) previous) ∷ []) (number-exact _ 1)) λ (register : ℕ).
+    when-exact (within (leaves 8 frame) ∷ []) (number-exact _ 4))
     (λ b holds. refl) (λ a holds. refl)
 
 variable-exact : (previous : Option VariableRow) → IsExact (variable previous)
 variable-exact previous = as-exact (λ x. record { width = x.0; invariant = x.1.0; kind = x.1.1 }) (λ v. (v.width, (v.invariant, v.kind)))
     (then-exact width-exact λ (width : Width).
-    then-exact (as-exact (λ n. nat_eq n 1) one_if (when-exact (formed (λ n. nat_le n 1) ∷ []) (number-exact 1)) (λ b holds. flag-there b) (λ n holds. flag-back n holds.1.0)) λ (invariant : Bool).
-    text-exact)
+    then-exact (as-exact (λ n. nat_eq n 1) one_if (when-exact (formed (λ n. nat_le n 1) ∷ []) (number-exact _ 1)) (λ b holds. flag-there b) (λ n holds. flag-back n holds.1.0)) λ (invariant : Bool).
+    (text-exact _))
     (λ b holds. refl) (λ a holds. refl)
 
 stack_label-exact : (frame : ℕ) (previous : Option StackLabelRow) → IsExact (stack_label frame previous)
-stack_label-exact frame previous = as-exact (λ n. record { offset = n }) (λ l. l.offset) (when-exact (within (λ n. nat_le n frame) ∷ []) (number-exact 4)) (λ b holds. refl) (λ a holds. refl)
+stack_label-exact frame previous = as-exact (λ n. record { offset = n }) (λ l. l.offset) (when-exact (within (λ n. nat_le n frame) ∷ []) (number-exact _ 4)) (λ b holds. refl) (λ a holds. refl)
 
 variable_number-exact : (count : ℕ) (previous : Option VariableNumber) → IsExact (variable_number count previous)
-variable_number-exact count previous = as-exact (λ n. record { 0 = n }) (λ v. v.0) (when-exact (formed (λ n. nat_lt n count) ∷ []) (number-exact 2)) (λ b holds. refl) (λ a holds. refl)
+variable_number-exact count previous = as-exact (λ n. record { 0 = n }) (λ v. v.0) (when-exact (formed (λ n. nat_lt n count) ∷ []) (number-exact _ 2)) (λ b holds. refl) (λ a holds. refl)
 
 continuation-exact : (length frame variables : ℕ) (previous : Option ContinuationRow) → IsExact (continuation length frame variables previous)
 continuation-exact length frame variables previous = as-exact (λ x. record { pair = x.0; code = x.1.0; parameters = x.1.1 }) (λ c. (c.pair, (c.code, c.parameters)))
-    (then-exact (when-exact (within (is_pair frame) ∷ []) (number-exact 4)) λ (pair : ℕ).
-    then-exact (when-exact (in_code length ∷ []) (number-exact 8)) λ (code : ℕ).
-    counted-exact (when-exact (formed (λ n. nat_le n 64) ∷ []) (number-exact 1)) (variable_number-exact variables) (λ p a. refl))
+    (then-exact (when-exact (within (is_pair frame) ∷ []) (number-exact _ 4)) λ (pair : ℕ).
+    then-exact (when-exact (in_code length ∷ []) (number-exact _ 8)) λ (code : ℕ).
+    counted-exact (when-exact (formed (λ n. nat_le n 64) ∷ []) (number-exact _ 1)) (variable_number-exact variables) (λ p a. refl))
     (λ b holds. refl) (λ a holds. refl)
 
 procedure-exact : (code_length : ℕ) (previous : Option ProcRow) → IsExact (procedure code_length previous)
 procedure-exact code_length previous = as-exact procedure_of procedure_fields
-    (then-exact (when-exact (above (option_map (λ p. p.code) previous) ∷ in_code code_length ∷ []) (number-exact 8)) λ (code : ℕ).
-    then-exact text-exact λ (name : List ℕ).
-    then-exact (when-exact (formed (λ n. nat_eq (n % 16) 0) ∷ within (λ n. nat_le n 0x10000000) ∷ []) (number-exact 4)) λ (frame : ℕ).
-    then-exact (optional-exact 4 no_return (within (is_return_offset frame) ∷ []) (omega arith)) λ (return_at : Option ℕ).
-    then-exact (counted-exact (number-exact 1) (saved_register-exact frame) (λ p a. refl)) λ (saved : List SavedRegister).
-    then-exact (counted-exact (when-exact (formed (λ n. nat_le n 1024) ∷ []) (number-exact 2)) variable-exact (λ p a. refl)) λ (variables : List VariableRow).
-    then-exact (counted-exact (number-exact 2) (stack_label-exact frame) (λ p a. refl)) λ (stack_labels : List StackLabelRow).
-    counted-exact (number-exact 2) (continuation-exact code_length frame (length variables)) (λ p a. refl))
+    (then-exact (when-exact (above (option_map (λ p. p.code) previous) ∷ in_code code_length ∷ []) (number-exact _ 8)) λ (code : ℕ).
+    then-exact (text-exact _) λ (name : List ℕ).
+    then-exact (when-exact (formed (λ n. nat_eq (n % 16) 0) ∷ within (λ n. nat_le n 0x10000000) ∷ []) (number-exact _ 4)) λ (frame : ℕ).
+    then-exact (optional-exact _ 4 no_return (within (is_return_offset frame) ∷ []) (omega arith)) λ (return_at : Option ℕ).
+    then-exact (counted-exact (number-exact _ 1) (saved_register-exact frame) (λ p a. refl)) λ (saved : List SavedRegister).
+    then-exact (counted-exact (when-exact (formed (λ n. nat_le n 1024) ∷ []) (number-exact _ 2)) variable-exact (λ p a. refl)) λ (variables : List VariableRow).
+    then-exact (counted-exact (number-exact _ 2) (stack_label-exact frame) (λ p a. refl)) λ (stack_labels : List StackLabelRow).
+    counted-exact (number-exact _ 2) (continuation-exact code_length frame (length variables)) (λ p a. refl))
     (λ b holds. refl) (λ a holds. refl)
 
 -- ---- sites
 
 continuation_number-exact : (count : ℕ) (previous : Option ContinuationNumber) → IsExact (continuation_number count previous)
-continuation_number-exact count previous = as-exact (λ n. record { 0 = n }) (λ c. c.0) (when-exact (formed (λ n. nat_lt n count) ∷ []) (number-exact 2)) (λ b holds. refl) (λ a holds. refl)
+continuation_number-exact count previous = as-exact (λ n. record { 0 = n }) (λ c. c.0) (when-exact (formed (λ n. nat_lt n count) ∷ []) (number-exact _ 2)) (λ b holds. refl) (λ a holds. refl)
 
 unwind-exact : (code_length count : ℕ) (previous : Option UnwindRow) → IsExact (unwind code_length count previous)
 unwind-exact code_length count previous = as-exact (λ x. record { continuation = x.0; landing = x.1 }) (λ u. (u.continuation, u.landing))
     (then-exact (continuation_number-exact count None) λ (continuation : ContinuationNumber).
-    when-exact (in_code code_length ∷ []) (number-exact 8))
+    when-exact (in_code code_length ∷ []) (number-exact _ 8))
     (λ b holds. refl) (λ a holds. refl)
 
 span-exact : (previous : Option SpanRow) → IsExact (span previous)
 span-exact previous = as-exact (λ x. record { token = x.0; value = x.1 }) (λ s. (s.token, s.value))
-    (then-exact (when-exact (above (option_map (λ s. s.token) previous) ∷ []) (number-exact 8)) λ (token : ℕ).
-    number-exact 8)
+    (then-exact (when-exact (above (option_map (λ s. s.token) previous) ∷ []) (number-exact _ 8)) λ (token : ℕ).
+    number-exact _ 8)
     (λ b holds. refl) (λ a holds. refl)
 
 site_lists-exact : (code_length frame variables continuations return_address : ℕ) → IsExact (site_lists code_length frame variables continuations return_address)
 site_lists-exact code_length frame variables continuations return_address =
-    then-exact (counted-exact (when-exact (formed (λ n. nat_le n 64) ∷ within (exits_in_code code_length return_address) ∷ []) (number-exact 1)) (continuation_number-exact continuations) (λ p a. refl)) λ (returns : List ContinuationNumber).
-    then-exact (counted-exact (number-exact 2) (unwind-exact code_length continuations) (λ p a. refl)) λ (unwinds : List UnwindRow).
-    then-exact (counted-exact (number-exact 2) (continuation_number-exact continuations) (λ p a. refl)) λ (cuts : List ContinuationNumber).
+    then-exact (counted-exact (when-exact (formed (λ n. nat_le n 64) ∷ within (exits_in_code code_length return_address) ∷ []) (number-exact _ 1)) (continuation_number-exact continuations) (λ p a. refl)) λ (returns : List ContinuationNumber).
+    then-exact (counted-exact (number-exact _ 2) (unwind-exact code_length continuations) (λ p a. refl)) λ (unwinds : List UnwindRow).
+    then-exact (counted-exact (number-exact _ 2) (continuation_number-exact continuations) (λ p a. refl)) λ (cuts : List ContinuationNumber).
     then-exact (rows-exact (place-exact frame) (λ p a. refl) variables) λ (variables : List VariablePlace).
-    counted-exact (number-exact 2) span-exact (λ p a. refl)
+    counted-exact (number-exact _ 2) span-exact (λ p a. refl)
 
 site-exact : (code_length : ℕ) (procedures : List ProcRow) (previous : Option SiteRow) → IsExact (site code_length procedures previous)
 site-exact code_length procedures previous = as-exact site_of_fields site_fields
-    (then-exact (when-exact (above (option_map (λ s. s.return_address) previous) ∷ in_code code_length ∷ []) (number-exact 8)) λ (return_address : ℕ).
-    then-exact (when-exact (formed (has_sites procedures) ∷ []) (number-exact 4)) λ (procedure : ℕ).
-    then-exact (number-exact 4) λ (number : ℕ).
+    (then-exact (when-exact (above (option_map (λ s. s.return_address) previous) ∷ in_code code_length ∷ []) (number-exact _ 8)) λ (return_address : ℕ).
+    then-exact (when-exact (formed (has_sites procedures) ∷ []) (number-exact _ 4)) λ (procedure : ℕ).
+    then-exact (number-exact _ 4) λ (number : ℕ).
     then-exact flags-exact λ (flags : Bool × Bool).
-    then-exact (optional-exact 1 255 (formed (λ n. nat_le n 64) ∷ []) (omega arith)) λ (yield_values : Option ℕ).
-    then-exact (counted-exact {each = λ previous. width} (when-exact (formed (λ n. nat_le n 64) ∷ []) (number-exact 1)) (λ p. width-exact) (λ p a. refl)) λ (results : List Width).
+    then-exact (optional-exact _ 1 255 (formed (λ n. nat_le n 64) ∷ []) (omega arith)) λ (yield_values : Option ℕ).
+    then-exact (counted-exact {each = λ previous. width} (when-exact (formed (λ n. nat_le n 64) ∷ []) (number-exact _ 1)) (λ p. width-exact) (λ p a. refl)) λ (results : List Width).
     site_lists-exact code_length (procedure_at procedures procedure).frame (length (procedure_at procedures procedure).variables) (length (procedure_at procedures procedure).continuations) return_address)
     (λ b holds. refl) (λ a holds. refl)
 
@@ -156,26 +156,26 @@ site-exact code_length procedures previous = as-exact site_of_fields site_fields
 
 label-exact : (data_length : ℕ) (previous : Option LabelRow) → IsExact (label data_length previous)
 label-exact data_length previous = as-exact (λ x. record { name = x.0; address = x.1 }) (λ l. (l.name, l.address))
-    (then-exact (when-exact (after (option_map (λ l. l.name) previous) ∷ []) text-exact) λ (name : List ℕ).
-    when-exact (within (is_in_data data_length) ∷ []) (number-exact 8))
+    (then-exact (when-exact (after (option_map (λ l. l.name) previous) ∷ []) (text-exact _)) λ (name : List ℕ).
+    when-exact (within (is_in_data data_length) ∷ []) (number-exact _ 8))
     (λ b holds. refl) (λ a holds. refl)
 
 global-exact : (previous : Option GlobalRow) → IsExact (global previous)
 global-exact previous = as-exact (λ x. record { width = x.0; name = x.1 }) (λ g. (g.width, g.name))
     (then-exact width-exact λ (width : Width).
-    when-exact (after (option_map (λ g. g.name) previous) ∷ []) text-exact)
+    when-exact (after (option_map (λ g. g.name) previous) ∷ []) (text-exact _))
     (λ b holds. refl) (λ a holds. refl)
 
 -- ---- the whole
 
 counts-exact : IsExact counts
 counts-exact =
-    then-exact (when-exact (formed is_procedure_count ∷ []) (number-exact 4)) λ (procedures : ℕ).
-    then-exact (number-exact 4) λ (sites : ℕ).
-    then-exact (number-exact 4) λ (labels : ℕ).
-    then-exact (when-exact (formed (λ n. nat_le n GLOBAL_COUNT_LIMIT) ∷ []) (number-exact 4)) λ (globals : ℕ).
-    then-exact (when-exact (formed (λ n. nat_lt n procedures) ∷ []) (number-exact 4)) λ (main : ℕ).
-    when-exact (formed (λ n. nat_eq n 0) ∷ []) (number-exact 4)
+    then-exact (when-exact (formed is_procedure_count ∷ []) (number-exact _ 4)) λ (procedures : ℕ).
+    then-exact (number-exact _ 4) λ (sites : ℕ).
+    then-exact (number-exact _ 4) λ (labels : ℕ).
+    then-exact (when-exact (formed (λ n. nat_le n GLOBAL_COUNT_LIMIT) ∷ []) (number-exact _ 4)) λ (globals : ℕ).
+    then-exact (when-exact (formed (λ n. nat_lt n procedures) ∷ []) (number-exact _ 4)) λ (main : ℕ).
+    when-exact (formed (λ n. nat_eq n 0) ∷ []) (number-exact _ 4)
 
 -- the fields of a header that it need not keep are always the same
 header-same : (front version code initial start last procedures sites labels globals main nothing : ℕ) → front ≡ magic → version ≡ 1 → nothing ≡ 0
@@ -184,12 +184,12 @@ header-same front version code initial start last procedures sites labels global
 
 header-exact : IsExact header
 header-exact = as-exact header_of header_fields
-    (then-exact (when-exact (record { rule = NotAnImage; holds = λ n. nat_eq n magic } ∷ []) (number-exact 4)) λ (front : ℕ).
-    then-exact (when-exact (record { rule = OtherImageVersion; holds = λ n. nat_eq n 1 } ∷ []) (number-exact 4)) λ (version : ℕ).
-    then-exact (when-exact (within is_code_length ∷ []) (number-exact 8)) λ (code_length : ℕ).
-    then-exact (when-exact (within (λ n. nat_le n DATA_LENGTH_LIMIT) ∷ []) (number-exact 8)) λ (data_length : ℕ).
-    then-exact (when-exact (in_code code_length ∷ []) (number-exact 8)) λ (start : ℕ).
-    then-exact (when-exact (in_code code_length ∷ []) (number-exact 8)) λ (last : ℕ).
+    (then-exact (when-exact (record { rule = NotAnImage; holds = λ n. nat_eq n magic } ∷ []) (number-exact _ 4)) λ (front : ℕ).
+    then-exact (when-exact (record { rule = OtherImageVersion; holds = λ n. nat_eq n 1 } ∷ []) (number-exact _ 4)) λ (version : ℕ).
+    then-exact (when-exact (within is_code_length ∷ []) (number-exact _ 8)) λ (code_length : ℕ).
+    then-exact (when-exact (within (λ n. nat_le n DATA_LENGTH_LIMIT) ∷ []) (number-exact _ 8)) λ (data_length : ℕ).
+    then-exact (when-exact (in_code code_length ∷ []) (number-exact _ 8)) λ (start : ℕ).
+    then-exact (when-exact (in_code code_length ∷ []) (number-exact _ 8)) λ (last : ℕ).
     counts-exact)
     (λ b holds. refl)
     (λ a holds. header-same a.0 a.1.0 a.1.1.0 a.1.1.1.0 a.1.1.1.1.0 a.1.1.1.1.1.0 a.1.1.1.1.1.1.0 a.1.1.1.1.1.1.1.0 a.1.1.1.1.1.1.1.1.0 a.1.1.1.1.1.1.1.1.1.0 a.1.1.1.1.1.1.1.1.1.1.0 a.1.1.1.1.1.1.1.1.1.1.1
@@ -204,8 +204,8 @@ image-same h code initial procs sites labels globals a b c d e f = rw (a, b, c, 
 pub image-exact : IsExact image
 image-exact = as-exact image_of image_fields
     (then-exact header-exact λ (h : Header).
-    then-exact (block-exact h.code_length) λ (code : List ℕ).
-    then-exact (block-exact h.data_length) λ (initial : List ℕ).
+    then-exact (block-exact _ h.code_length) λ (code : List ℕ).
+    then-exact (block-exact _ h.data_length) λ (initial : List ℕ).
     then-exact (rows-exact (procedure-exact h.code_length) (λ p a. refl) h.procedures) λ (procedures : List ProcRow).
     then-exact (rows-exact (site-exact h.code_length procedures) (λ p a. refl) h.sites) λ (sites : List SiteRow).
     then-exact (rows-exact (label-exact h.data_length) (λ p a. refl) h.labels) λ (labels : List LabelRow).

@@ -3,9 +3,10 @@ use Rattle.std.proofs.Common.{◌≡◌, ℕ, List, [], ◌∷◌, ◌++◌, tak
 use Rattle.cmm_rules.specs.declared.rule.Rule.TheVariants.{ImageIsCut, BadImageField, BytesAfterImage, NotAnImage}
 use Rattle.cmm_image.specs.declared.parts.ImageParts.{ImageParts}
 use Rattle.cmm_image.specs.declared.rows.VariablePlace.TheVariants.{Slot, Register}
-use Rattle.cmm_image.specs.Formats.{number_at, number_bytes, block_at, text_at, text_bytes}
+use Rattle.cmm_format.specs.Formats.{number_at, number_bytes, block_at, text_at, text_bytes}
 use Rattle.cmm_image.specs.Places.{place_at}
 use Rattle.cmm_image.specs.ImageFormat.{image}
+use Rattle.cmm_format.specs.Wholes.{whole_in}
 use Rattle.cmm_image.specs.Images.{image_in}
 
 -- 0x434d4d49, version 1, four bytes of code, no data, the start and the last at 0x10000, one procedure, which is main
@@ -34,7 +35,7 @@ small = record {
 }
 
 small_is_read : image_in (front ++ body) ≡ Ok small
-unfolding front body small image_in number_at block_at text_at
+unfolding front body small whole_in number_at block_at text_at
 small_is_read = refl
 
 small_is_spelled : image.spelled small ≡ front ++ body
@@ -43,24 +44,24 @@ small_is_spelled = refl
 
 -- the last two bytes are one field, at 91
 small_is_cut : image_in (front ++ take 28 body) ≡ Err (record { rule = ImageIsCut; left = 1 })
-unfolding front body image_in number_at block_at text_at
+unfolding front body whole_in number_at block_at text_at
 small_is_cut = refl
 
 one_too_many : image_in (front ++ body ++ (0 ∷ [])) ≡ Err (record { rule = BytesAfterImage; left = 1 })
-unfolding front body image_in number_at block_at text_at
+unfolding front body whole_in number_at block_at text_at
 one_too_many = refl
 
 -- the frame's size is 8
 bad_frame : image_in (front ++ take 14 body ++ (8 ∷ drop 15 body)) ≡ Err (record { rule = BadImageField; left = 15 })
-unfolding front body image_in number_at block_at text_at
+unfolding front body whole_in number_at block_at text_at
 bad_frame = refl
 
 nothing : image_in [] ≡ Err (record { rule = ImageIsCut; left = 0 })
-unfolding image_in number_at
+unfolding whole_in number_at
 nothing = refl
 
 other_front : image_in (0 ∷ drop 1 (front ++ body)) ≡ Err (record { rule = NotAnImage; left = 93 })
-unfolding front body image_in number_at block_at text_at
+unfolding front body whole_in number_at block_at text_at
 other_front = refl
 
 slot : place_at 32 (1 ∷ 24 ∷ 0 ∷ 0 ∷ 0 ∷ 7 ∷ []) ≡ Ok (Slot 24, 7 ∷ [])

@@ -1,9 +1,7 @@
-mod FieldLaws
-mod TableLaws
 mod PlaceLaws
 mod ImageLaws
+mod HeaderLaws
 mod ReadLaws
-mod ReadingRows
 mod MeaningLaws
 mod SearchLaws
 mod SiteLaws

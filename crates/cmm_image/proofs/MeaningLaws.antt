@@ -2,9 +2,9 @@
 use Rattle.std.proofs.Common.{◌≡◌, ℕ, ◌-◌, List, length, Result, Ok, Err, refl, inl, inr}
 use Rattle.std.specs.Prelude.{◌⊎◌}
 use Rattle.cmm_rules.specs.declared.rule.Rule.{Rule}
-use Rattle.cmm_image.specs.declared.fault.Broken.{Broken}
+use Rattle.cmm_format.specs.declared.fault.Broken.{Broken}
 use Rattle.cmm_image.specs.declared.parts.ImageParts.{ImageParts}
-use Rattle.cmm_image.specs.Formats.{AreBytes}
+use Rattle.cmm_format.specs.Formats.{AreBytes}
 use Rattle.cmm_image.specs.Images.{SpellsImage, IsFirstFault, image_in}
 use Rattle.cmm_image.specs.Laws.{EachMeansOneThing, ImagesAreOne, NoImageHasAFault}
 use Rattle.cmm_image.proofs.ReadLaws.{spelled-so, read-so, no_fault}

@@ -5,10 +5,10 @@ use Rattle.byteorder.specs.Endian.{little_number}
 use Rattle.cmm_image.specs.declared.rows.VariablePlace.{VariablePlace}
 use Rattle.cmm_image.specs.declared.rows.VariablePlace.TheVariants.{Dead, Slot, Register}
 use Rattle.cmm_rules.specs.declared.rule.Rule.TheVariants.{ImageIsCut, BadImageField, ImageOutOfRange}
-use Rattle.cmm_image.specs.Formats.{Front, AreBytes, breaks, number_bytes, number_at}
+use Rattle.cmm_format.specs.Formats.{Front, AreBytes, breaks, number_bytes, number_at}
 use Rattle.cmm_abi.specs.Registers.{is_callee_saves}
 use Rattle.cmm_image.specs.Places.{leaves, place_bytes, IsPlace, slot_at, register_at, place_at, variable_place}
-use Rattle.cmm_image.proofs.FieldLaws.{IsExact, ok_is, passed, not_cut, number-exact, AreBytes-tail, chosen_true, chosen_false}
+use Rattle.cmm_format.proofs.Shared.{IsExact, ok_is, passed, not_cut, number-exact, AreBytes-tail, chosen_true, chosen_false}
 
 abbrev Placed : ℕ → List ℕ → VariablePlace × List ℕ → Type 0
 Placed frame bytes x = (bytes ≡ place_bytes x.0 ++ x.1) × IsPlace frame x.0 × AreBytes x.1
@@ -20,8 +20,8 @@ slot-taken frame bytes rest x fits is e =
     let g = not_cut (nat_lt (length rest) 4) (breaks ImageIsCut bytes) read x e in
     let h = passed (leaves 8 frame (little_number 4 rest)) (breaks ImageOutOfRange bytes) (Ok (Slot (little_number 4 rest), drop 4 rest)) x g.1 in
     let made : VariablePlace × List ℕ = (Slot (little_number 4 rest), drop 4 rest) in
-    let at : number_at 4 rest ≡ Ok (little_number 4 rest, drop 4 rest) = chosen_false {A = Front ℕ} (nat_lt (length rest) 4) (Err (breaks ImageIsCut rest)) (Ok (little_number 4 rest, drop 4 rest)) g.0 in
-    let t = (number-exact 4).taken rest (little_number 4 rest) (drop 4 rest) fits at in
+    let at : number_at ImageIsCut 4 rest ≡ Ok (little_number 4 rest, drop 4 rest) = chosen_false {A = Front ℕ} (nat_lt (length rest) 4) (Err (breaks ImageIsCut rest)) (Ok (little_number 4 rest, drop 4 rest)) g.0 in
+    let t = (number-exact ImageIsCut 4).taken rest (little_number 4 rest) (drop 4 rest) fits at in
     subst (Placed frame bytes) (ok_is made x h.1) (is ∙ ap (λ (r : List ℕ). 1 ∷ r) t.0, (t.1, h.0), t.2)
 
 register-taken : (frame : ℕ) (bytes rest : List ℕ) (x : VariablePlace × List ℕ) → AreBytes rest → bytes ≡ 2 ∷ rest → register_at bytes rest ≡ Ok x → Placed frame bytes x
@@ -46,7 +46,7 @@ place-taken frame (suc (suc zero) ∷ bytes) p rest fits e = register-taken fram
 place-taken frame (suc (suc (suc n)) ∷ bytes) p rest fits e = absurd cc
 
 -- a number that is read is not cut
-long : (bytes : List ℕ) (n : ℕ) (rest : List ℕ) → number_at 4 bytes ≡ Ok (n, rest) → (nat_lt (length bytes) 4 ≡ false) × (little_number 4 bytes ≡ n) × (drop 4 bytes ≡ rest)
+long : (bytes : List ℕ) (n : ℕ) (rest : List ℕ) → number_at ImageIsCut 4 bytes ≡ Ok (n, rest) → (nat_lt (length bytes) 4 ≡ false) × (little_number 4 bytes ≡ n) × (drop 4 bytes ≡ rest)
 unfolding number_at
 long bytes n rest e =
     let g = not_cut (nat_lt (length bytes) 4) (breaks ImageIsCut bytes) (Ok (little_number 4 bytes, drop 4 bytes)) (n, rest) e in
@@ -56,7 +56,7 @@ long bytes n rest e =
 saved_register-fits : (n : ℕ) → IsTrue (is_callee_saves n) → n < 256
 saved_register-fits n h = grind (arith, nat_tests)
 
-slot-again : (frame offset : ℕ) (r rest : List ℕ) → number_at 4 r ≡ Ok (offset, rest) → IsTrue (leaves 8 frame offset) → slot_at frame (1 ∷ r) r ≡ Ok (Slot offset, rest)
+slot-again : (frame offset : ℕ) (r rest : List ℕ) → number_at ImageIsCut 4 r ≡ Ok (offset, rest) → IsTrue (leaves 8 frame offset) → slot_at frame (1 ∷ r) r ≡ Ok (Slot offset, rest)
 slot-again frame offset r rest e holds =
     let l = long r offset rest e in
     let inside : leaves 8 frame (little_number 4 r) ≡ true = rw l.1 holds in
@@ -75,7 +75,7 @@ register-again frame n rest holds =
 place-again : (frame : ℕ) (p : VariablePlace) (rest : List ℕ) → IsPlace frame p → place_at frame (place_bytes p ++ rest) ≡ Ok (p, rest)
 unfolding place_at
 place-again frame Dead rest holds = refl
-place-again frame (Slot offset) rest holds = slot-again frame offset (number_bytes 4 offset ++ rest) rest ((number-exact 4).again offset rest holds.0) holds.1
+place-again frame (Slot offset) rest holds = slot-again frame offset (number_bytes 4 offset ++ rest) rest ((number-exact ImageIsCut 4).again offset rest holds.0) holds.1
 place-again frame (Register n) rest holds = register-again frame n rest holds
 
 pub place-exact : (frame : ℕ) (previous : Option VariablePlace) → IsExact (variable_place frame previous)

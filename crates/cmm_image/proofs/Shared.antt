@@ -1,4 +1,5 @@
 -- The lemmas that proofs of other crates may cite.
 pub use Rattle.cmm_image.proofs.SiteLaws.{sites_keep_frames}
 pub use Rattle.cmm_image.proofs.BoundLaws.{rows_are_bounded}
-pub use Rattle.cmm_image.proofs.FieldLaws.{length-number_bytes}
+pub use Rattle.cmm_image.proofs.ReadLaws.{long_is_refused}
+pub use Rattle.cmm_image.proofs.HeaderLaws.{header_long}

@@ -5,7 +5,7 @@ use Rattle.cmm_image.specs.declared.rows.ProcRow.{ProcRow}
 use Rattle.cmm_image.specs.declared.rows.SavedRegister.{SavedRegister}
 use Rattle.cmm_image.specs.declared.rows.SiteRow.{SiteRow}
 use Rattle.cmm_image.specs.declared.rows.VariablePlace.{VariablePlace}
-use Rattle.cmm_image.specs.Formats.{AreRows, HoldsOptional}
+use Rattle.cmm_format.specs.Formats.{AreRows, HoldsOptional}
 use Rattle.cmm_image.specs.ImageFormat.{within, is_return_offset, no_return, saved_register, procedure, procedure_at, has_sites, site}
 use Rattle.cmm_image.specs.Places.{IsPlace, leaves, variable_place}
 use Rattle.cmm_image.specs.InFrames.{KeepsFrame}

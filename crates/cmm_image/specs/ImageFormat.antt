@@ -3,7 +3,7 @@ use Rattle.std.specs.Prelude.{ℕ, ◌+◌, ◌*◌, ◌%◌, ◌==◌, ◌&&◌
 use Rattle.std.specs.Option.{option_map}
 use Rattle.std.specs.Cmp.Lexicographic.{slice_cmp}
 use Rattle.std.specs.Ordering.{nat_cmp, is_lt}
-use Rattle.cmm_rules.specs.declared.rule.Rule.TheVariants.{NotAnImage, OtherImageVersion, BadImageField, ImageOutOfRange}
+use Rattle.cmm_rules.specs.declared.rule.Rule.TheVariants.{NotAnImage, ImageIsCut, OtherImageVersion, BadImageField, ImageOutOfRange}
 use Rattle.cmm_words.specs.declared.width.Width.{Width}
 use Rattle.cmm_words.specs.declared.width.Width.TheVariants.{W8, W16, W32, W64}
 use Rattle.cmm_words.specs.Widths.{bits}
@@ -23,23 +23,23 @@ use Rattle.cmm_image.specs.declared.rows.SpanRow.{SpanRow}
 use Rattle.cmm_image.specs.declared.rows.SiteRow.{SiteRow}
 use Rattle.cmm_image.specs.declared.rows.LabelRow.{LabelRow}
 use Rattle.cmm_image.specs.declared.rows.GlobalRow.{GlobalRow}
-use Rattle.cmm_image.specs.Formats.{Format, Condition, number, block, text, ◌when◌, ◌▸◌, as_, optional, rows, counted}
+use Rattle.cmm_format.specs.Formats.{Format, Condition, number, block, text, ◌when◌, ◌▸◌, as_, optional, rows, counted}
 use Rattle.cmm_abi.specs.Registers.{is_callee_saves}
 use Rattle.cmm_image.specs.Places.{variable_place, leaves}
 
 -- ---- numbers
 
 abbrev pub u8 : Format ℕ
-u8 = number 1
+u8 = number ImageIsCut 1
 
 abbrev pub u16 : Format ℕ
-u16 = number 2
+u16 = number ImageIsCut 2
 
 abbrev pub u32 : Format ℕ
-u32 = number 4
+u32 = number ImageIsCut 4
 
 abbrev pub u64 : Format ℕ
-u64 = number 8
+u64 = number ImageIsCut 8
 
 -- ---- conditions
 
@@ -158,7 +158,7 @@ abbrev pub variable : Option VariableRow → Format VariableRow
 variable previous = as_ (λ x. record { width = x.0; invariant = x.1.0; kind = x.1.1 }) (λ v. (v.width, (v.invariant, v.kind))) (
     width
     ▸ λ width. as_ (λ n. n == 1) one_if (u8 when (formed (λ n. nat_le n 1) ∷ []))
-    ▸ λ invariant. text
+    ▸ λ invariant. text ImageIsCut
     )
 
 abbrev pub stack_label : ℕ → Option StackLabelRow → Format StackLabelRow
@@ -205,9 +205,9 @@ procedure_fields p = (p.code, (p.name, (p.frame, (p.return_at, (p.saved, (p.vari
 abbrev pub procedure : ℕ → Option ProcRow → Format ProcRow
 procedure code_length previous = as_ procedure_of procedure_fields (
     u64 when (above (option_map (λ p. p.code) previous) ∷ in_code code_length ∷ [])
-    ▸ λ code. text
+    ▸ λ code. text ImageIsCut
     ▸ λ name. u32 when (formed (λ n. n % 16 == 0) ∷ within (λ n. nat_le n 0x10000000) ∷ [])
-    ▸ λ frame. optional 4 no_return (within (is_return_offset frame) ∷ [])
+    ▸ λ frame. optional ImageIsCut 4 no_return (within (is_return_offset frame) ∷ [])
     ▸ λ return_at. counted u8 (saved_register frame)
     ▸ λ saved. counted (u16 when (formed (λ n. nat_le n 1024) ∷ [])) variable
     ▸ λ variables. counted u16 (stack_label frame)
@@ -303,7 +303,7 @@ site code_length procedures previous = as_ site_of_fields site_fields (
     ▸ λ return_address. u32 when (formed (has_sites procedures) ∷ [])
     ▸ λ procedure. u32
     ▸ λ number. flags
-    ▸ λ flags. optional 1 255 (formed (λ n. nat_le n 64) ∷ [])
+    ▸ λ flags. optional ImageIsCut 1 255 (formed (λ n. nat_le n 64) ∷ [])
     ▸ λ yield_values. counted (u8 when (formed (λ n. nat_le n 64) ∷ [])) (λ previous. width)
     ▸ λ results. site_lists_in code_length (procedure_at procedures procedure) return_address
     )
@@ -312,14 +312,14 @@ site code_length procedures previous = as_ site_of_fields site_fields (
 
 abbrev pub label : ℕ → Option LabelRow → Format LabelRow
 label data_length previous = as_ (λ x. record { name = x.0; address = x.1 }) (λ l. (l.name, l.address)) (
-    text when (after (option_map (λ l. l.name) previous) ∷ [])
+    text ImageIsCut when (after (option_map (λ l. l.name) previous) ∷ [])
     ▸ λ name. u64 when (within (is_in_data data_length) ∷ [])
     )
 
 abbrev pub global : Option GlobalRow → Format GlobalRow
 global previous = as_ (λ x. record { width = x.0; name = x.1 }) (λ g. (g.width, g.name)) (
     width
-    ▸ λ width. text when (after (option_map (λ g. g.name) previous) ∷ [])
+    ▸ λ width. text ImageIsCut when (after (option_map (λ g. g.name) previous) ∷ [])
     )
 
 -- ---- the whole
@@ -354,14 +354,18 @@ image_header i = record {
   main = i.main;
 }
 
+-- the 64 bytes with which the image begins
+abbrev pub header_bytes : ImageParts → List ℕ
+header_bytes i = header.spelled (image_header i)
+
 abbrev pub image_fields : ImageParts → ImageFields
 image_fields i = (image_header i, (i.code, (i.initial, (i.procs, (i.sites, (i.labels, i.globals))))))
 
 abbrev pub image : Format ImageParts
 image = as_ image_of image_fields (
     header
-    ▸ λ h. block h.code_length
-    ▸ λ code. block h.data_length
+    ▸ λ h. block ImageIsCut h.code_length
+    ▸ λ code. block ImageIsCut h.data_length
     ▸ λ initial. rows (procedure h.code_length) h.procedures
     ▸ λ procedures. rows (site h.code_length procedures) h.sites
     ▸ λ sites. rows (label h.data_length) h.labels

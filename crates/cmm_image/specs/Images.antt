@@ -1,13 +1,13 @@
 -- Which bytes spell an image, and which field is named of bytes that spell none.
-use Rattle.std.specs.Prelude.{◌≡◌, ℕ, ◌≤◌, ◌-◌, nat_lt, true, false, List, [], ◌∷◌, length, Result, Ok, Err}
+use Rattle.std.specs.Prelude.{◌≡◌, ℕ, ◌≤◌, List, length, Result, Ok, Err}
 use Rattle.cmm_rules.specs.declared.rule.Rule.{Rule}
 use Rattle.cmm_rules.specs.declared.rule.Rule.TheVariants.{BytesAfterImage, ImageTooLong}
-use Rattle.cmm_image.specs.declared.fault.Broken.{Broken}
+use Rattle.cmm_format.specs.declared.fault.Broken.{Broken}
 use Rattle.cmm_image.specs.declared.fault.ImageFault.{ImageFault}
 use Rattle.cmm_image.specs.declared.fault.ImageFault.TheVariants.{At, Memory}
 use Rattle.cmm_image.specs.declared.parts.ImageParts.{ImageParts}
 use Rattle.cmm_image.specs.declared.reading.TheConstants.{IMAGE_LIMIT}
-use Rattle.cmm_image.specs.Formats.{◌>>=◌, breaks}
+use Rattle.cmm_format.specs.Wholes.{Ends, whole_in, IsFirstBroken}
 use Rattle.cmm_image.specs.ImageFormat.{image}
 
 -- an image keeps the conditions of all fields, and is not too long
@@ -20,24 +20,17 @@ pub record SpellsImage (bytes : List ℕ) (i : ImageParts) : Type 0 where
   pub is_image : IsImage i
   pub spelled : bytes ≡ image.spelled i
 
--- an image, and what follows it: nothing may
-abbrev pub ended : ImageParts × List ℕ → Result ImageParts Broken
-ended (i, []) = Ok i
-ended (i, b ∷ bytes) = Err (breaks BytesAfterImage (b ∷ bytes))
+-- what is asked of all the bytes
+abbrev pub image_ends : Ends
+image_ends = record { limit = IMAGE_LIMIT; too_long = ImageTooLong; followed = BytesAfterImage }
 
 -- the image that all of the bytes are, or the first field that breaks a rule
-unfoldable pub image_in : List ℕ → Result ImageParts Broken
-image_in bytes = elim (nat_lt IMAGE_LIMIT (length bytes)) [
-  | true ↦ Err (record { rule = ImageTooLong; left = length bytes - IMAGE_LIMIT })
-  | false ↦ image.at bytes >>= ended
-]
+abbrev pub image_in : List ℕ → Result ImageParts Broken
+image_in = whole_in image image_ends
 
 -- the first field that breaks a rule begins at this offset
-pub record IsFirstFault (bytes : List ℕ) (rule : Rule) (offset : ℕ) : Type 0 where
-  pub broken : Broken
-  pub first : image_in bytes ≡ Err broken
-  pub rule_is : rule ≡ broken.rule
-  pub offset_is : offset ≡ length bytes - broken.left
+abbrev pub IsFirstFault : List ℕ → Rule → ℕ → Type 0
+IsFirstFault = IsFirstBroken image image_ends
 
 -- what is said to be wrong is the first fault
 abbrev pub ImageFaultAt : List ℕ → ImageFault → Type 0

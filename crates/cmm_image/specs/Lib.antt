@@ -1,4 +1,3 @@
-pub mod Formats
 pub mod Places
 pub mod ImageFormat
 pub mod Images

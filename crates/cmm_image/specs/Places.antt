@@ -5,7 +5,7 @@ use Rattle.cmm_abi.specs.Registers.{is_callee_saves}
 use Rattle.cmm_rules.specs.declared.rule.Rule.TheVariants.{ImageIsCut, BadImageField, ImageOutOfRange}
 use Rattle.cmm_image.specs.declared.rows.VariablePlace.{VariablePlace}
 use Rattle.cmm_image.specs.declared.rows.VariablePlace.TheVariants.{Dead, Slot, Register}
-use Rattle.cmm_image.specs.Formats.{Format, Front, breaks, number_bytes}
+use Rattle.cmm_format.specs.Formats.{Format, Front, breaks, number_bytes}
 
 -- n bytes from an offset on lie in the frame
 abbrev pub leaves : ℕ → ℕ → ℕ → Bool

@@ -2,13 +2,12 @@
 
 ghost use Rattle.std.specs.Prelude.{◌≡◌, ◌∷◌, []};
 ghost use Rattle.cmm_image.specs.ImageFormat.{header, counts, in_code, is_code_length as is_length_of_code, is_procedure_count as is_count_of_procedures, u64};
-ghost use Rattle.cmm_image.specs.Formats.{◌when◌};
-ghost use Rattle.cmm_image.specs.inside.Reading.{Reads, Sees};
+ghost use Rattle.cmm_format.specs.Formats.{◌when◌};
+ghost use Rattle.cmm_format.specs.Reading.{Reads, Sees};
 ghost use Rattle.cmm_image.specs.inside.Wholes.{counts_seen};
 
 use crate::bounds::is_code_address;
-use crate::fault::Unread;
-use crate::reader::{Reader, require};
+use cmm_format::{Reader, Unread, require};
 use cmm_rules::Rule;
 use rv_table::memory_map::{CODE_LENGTH_LIMIT, DATA_LENGTH_LIMIT, GLOBAL_COUNT_LIMIT};
 
@@ -55,16 +54,16 @@ pub(crate) fn read_header(reader: &mut Reader<'_>) -> Result<Header, Unread>
     ensures { Reads result (header.at reader.old.rest.now) reader.new.rest.now }
 {
     let field = reader.left();
-    let magic = reader.u32()?;
+    let magic = reader.u32(Rule::ImageIsCut)?;
     require(magic == MAGIC, Rule::NotAnImage, field)?;
     let field = reader.left();
-    let version = reader.u32()?;
+    let version = reader.u32(Rule::ImageIsCut)?;
     require(version == VERSION, Rule::OtherImageVersion, field)?;
     let field = reader.left();
-    let code_length = reader.u64()?;
+    let code_length = reader.u64(Rule::ImageIsCut)?;
     require(is_code_length(code_length), Rule::ImageOutOfRange, field)?;
     let field = reader.left();
-    let data_length = reader.u64()?;
+    let data_length = reader.u64(Rule::ImageIsCut)?;
     require(
         data_length <= DATA_LENGTH_LIMIT,
         Rule::ImageOutOfRange,
@@ -98,7 +97,7 @@ fn code_address(reader: &mut Reader<'_>, length: u64) -> Result<u64, Unread>
     ensures { Reads result ((u64 when (in_code length ∷ [])).at reader.old.rest.now) reader.new.rest.now }
 {
     let field = reader.left();
-    let address = reader.u64()?;
+    let address = reader.u64(Rule::ImageIsCut)?;
     require(
         is_code_address(length, address),
         Rule::ImageOutOfRange,
@@ -112,22 +111,22 @@ fn row_counts(reader: &mut Reader<'_>) -> Result<RowCounts, Unread>
     ensures { Sees counts_seen result (counts.at reader.old.rest.now) reader.new.rest.now }
 {
     let field = reader.left();
-    let procedures = reader.u32()?;
+    let procedures = reader.u32(Rule::ImageIsCut)?;
     require(is_procedure_count(procedures), Rule::BadImageField, field)?;
-    let sites = reader.u32()?;
-    let labels = reader.u32()?;
+    let sites = reader.u32(Rule::ImageIsCut)?;
+    let labels = reader.u32(Rule::ImageIsCut)?;
     let field = reader.left();
-    let globals = reader.u32()?;
+    let globals = reader.u32(Rule::ImageIsCut)?;
     require(
         u64::from(globals) <= GLOBAL_COUNT_LIMIT,
         Rule::BadImageField,
         field,
     )?;
     let field = reader.left();
-    let main = reader.u32()?;
+    let main = reader.u32(Rule::ImageIsCut)?;
     require(main < procedures, Rule::BadImageField, field)?;
     let field = reader.left();
-    let reserved = reader.u32()?;
+    let reserved = reader.u32(Rule::ImageIsCut)?;
     require(reserved == 0, Rule::BadImageField, field)?;
     Ok(RowCounts {
         procedures,

@@ -6,34 +6,32 @@
 //!
 //! - `image`: `Image`, whose parts keep every rule of the format. `parts`, `rows`: its parts, and the rows of its tables. `search`: where a site
 //!   is among them.
-//! - `reading`, `fault`: `read_image`, and why there is no image. `writing`: `write_image`.
-//! - `reader`, `record`: fields at the front of bytes, and records, one after another. `bounds`: what their numbers are measured by.
+//! - `reading`, `fault`: `read_image`, and why there is no image. `writing`: `write_image`, `write_header`.
+//! - `bounds`: what the numbers of records are measured by. `widths`: widths as they are read.
 //! - `header`, `procedure`, `procedure_parts`, `site`, `site_parts`, `symbols`: the records as they are read.
-//! - `fields`, `row_bytes`: fields and records as they are written.
+//! - `row_bytes`: the records as they are written.
 //! - `laws`: what bytes are, an image or a first fault.
 //!
-//! The format is one table, `specs/ImageFormat`, a line a field; `specs/Formats` and `specs/Places` have the kinds of field, and `specs/Images`
+//! The format is one table, `specs/ImageFormat`, a line a field, over the kinds of field of `cmm_format` and `specs/Places`; `specs/Images`
 //! says which bytes are an image and which field is named of others.
 #![tactic(auto)]
 
 mod bounds;
 mod fault;
-mod fields;
 mod header;
 mod image;
 pub mod laws;
 mod parts;
 mod procedure;
 mod procedure_parts;
-mod reader;
 mod reading;
-mod record;
 mod row_bytes;
 mod rows;
 mod search;
 mod site;
 mod site_parts;
 mod symbols;
+mod widths;
 mod writing;
 
 pub use fault::ImageFault;
@@ -44,4 +42,4 @@ pub use rows::{
     ContinuationNumber, ContinuationRow, GlobalRow, LabelRow, ProcRow, SavedRegister, SiteRow,
     SpanRow, StackLabelRow, UnwindRow, VariableNumber, VariablePlace, VariableRow,
 };
-pub use writing::write_image;
+pub use writing::{write_header, write_image};

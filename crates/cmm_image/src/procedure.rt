@@ -2,18 +2,17 @@
 
 ghost use Rattle.std.specs.Prelude.{◌≡◌, ◌==◌, ◌%◌, [], ◌∷◌, None, nat_le, nat_lt, length, option_copied};
 ghost use Rattle.std.specs.Option.{option_map};
-ghost use Rattle.cmm_image.specs.Formats.{counted_at, optional, ◌when◌};
+ghost use Rattle.cmm_rules.specs.declared.rule.Rule.TheVariants.{ImageIsCut};
+ghost use Rattle.cmm_format.specs.Formats.{counted_at, optional, ◌when◌};
 ghost use Rattle.cmm_image.specs.ImageFormat.{procedure, saved_register, variable, stack_label, continuation, variable_number, width, u16, u32, u8, formed, within, is_above, no_return, is_return_offset};
-ghost use Rattle.cmm_image.specs.inside.Reading.{Reads};
+ghost use Rattle.cmm_format.specs.Reading.{Reads};
 
 use crate::bounds::Bounds;
-use crate::fault::Unread;
 use crate::procedure_parts::leaves;
-use crate::reader::{Reader, require};
-use crate::record::{Read, read_rows, read_rows8, read_rows16};
 use crate::rows::{
     ContinuationRow, ProcRow, SavedRegister, StackLabelRow, VariableNumber, VariableRow,
 };
+use cmm_format::{Read, Reader, Unread, read_rows, read_rows8, read_rows16, require};
 use cmm_items::Items;
 use cmm_rules::Rule;
 use cmm_words::Width;
@@ -36,16 +35,16 @@ impl Read<Bounds> for ProcRow {
         previous: Option<&ProcRow>,
     ) -> Result<ProcRow, Unread> {
         let field = reader.left();
-        let code = reader.u64()?;
+        let code = reader.u64(Rule::ImageIsCut)?;
         require(is_code_above(previous, code), Rule::BadImageField, field)?;
         require(bounds.is_in_code(code), Rule::ImageOutOfRange, field)?;
-        let name = reader.name()?;
+        let name = reader.name(Rule::ImageIsCut)?;
         let frame = frame_size(reader)?;
         let return_at = return_offset(reader, frame)?;
         let bounds = Bounds { frame, ..*bounds };
-        let saved = read_rows8(reader, &bounds)?;
+        let saved = read_rows8(reader, Rule::ImageIsCut, &bounds)?;
         let variables = variables(reader, &bounds)?;
-        let stack_labels = read_rows16(reader, &bounds)?;
+        let stack_labels = read_rows16(reader, Rule::ImageIsCut, &bounds)?;
         let continuations = continuations(reader, &bounds, &variables)?;
         Ok(ProcRow {
             code,
@@ -74,17 +73,17 @@ fn frame_size(reader: &mut Reader<'_>) -> Result<u32, Unread>
     ensures { Reads result ((u32 when (formed (λ n. n % 16 == 0) ∷ within (λ n. nat_le n 0x10000000) ∷ [])).at reader.old.rest.now) reader.new.rest.now }
 {
     let field = reader.left();
-    let frame = reader.u32()?;
+    let frame = reader.u32(Rule::ImageIsCut)?;
     require(frame % 16 == 0, Rule::BadImageField, field)?;
     require(frame <= FRAME_LIMIT, Rule::ImageOutOfRange, field)?;
     Ok(frame)
 }
 
 fn return_offset(reader: &mut Reader<'_>, frame: u32) -> Result<Option<u32>, Unread>
-    ensures { Reads result ((optional 4 no_return (within (is_return_offset frame) ∷ [])).at reader.old.rest.now) reader.new.rest.now }
+    ensures { Reads result ((optional ImageIsCut 4 no_return (within (is_return_offset frame) ∷ [])).at reader.old.rest.now) reader.new.rest.now }
 {
     let field = reader.left();
-    let offset = reader.u32()?;
+    let offset = reader.u32(Rule::ImageIsCut)?;
     if offset == NO_RETURN {
         return Ok(None);
     }
@@ -100,7 +99,7 @@ fn variables(reader: &mut Reader<'_>, bounds: &Bounds) -> Result<Items<VariableR
     ensures { Reads result (counted_at (u16 when (formed (λ n. nat_le n 1024) ∷ [])).at (λ previous. (variable previous).at) reader.old.rest.now) reader.new.rest.now }
 {
     let field = reader.left();
-    let count = reader.u16()?;
+    let count = reader.u16(Rule::ImageIsCut)?;
     require(count <= VARIABLE_COUNT_LIMIT, Rule::BadImageField, field)?;
     read_rows(reader, bounds, usize::from(count))
 }
@@ -117,5 +116,5 @@ fn continuations(
         variables: variables.len(),
         ..*bounds
     };
-    read_rows16(reader, &bounds)
+    read_rows16(reader, Rule::ImageIsCut, &bounds)
 }

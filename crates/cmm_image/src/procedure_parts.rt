@@ -2,17 +2,16 @@
 
 ghost use Rattle.std.specs.Prelude.{◌≡◌, ◌==◌, ◌∷◌, [], nat_le, option_copied};
 ghost use Rattle.std.specs.Option.{option_map};
-ghost use Rattle.cmm_image.specs.Formats.{counted_at, ◌when◌};
+ghost use Rattle.cmm_format.specs.Formats.{counted_at, ◌when◌};
 ghost use Rattle.cmm_image.specs.ImageFormat.{saved_register, variable, stack_label, continuation, variable_number, is_pair as is_pair_offset, is_above, u8, formed};
 ghost use Rattle.cmm_image.specs.Places.{leaves as leaves_in};
-ghost use Rattle.cmm_image.specs.inside.Reading.{Reads};
+ghost use Rattle.cmm_format.specs.Reading.{Reads};
 
 use crate::bounds::Bounds;
-use crate::fault::Unread;
-use crate::reader::{Reader, require};
-use crate::record::{Read, read_rows};
 use crate::rows::{ContinuationRow, SavedRegister, StackLabelRow, VariableNumber, VariableRow};
+use crate::widths::read_width;
 use cmm_abi::registers::is_callee_saves;
+use cmm_format::{Read, Reader, Unread, read_rows, require};
 use cmm_items::Items;
 use cmm_rules::Rule;
 
@@ -28,7 +27,7 @@ impl Read<Bounds> for SavedRegister {
         previous: Option<&SavedRegister>,
     ) -> Result<SavedRegister, Unread> {
         let field = reader.left();
-        let register = reader.u8()?;
+        let register = reader.u8(Rule::ImageIsCut)?;
         require(is_callee_saves(register), Rule::BadImageField, field)?;
         require(
             is_register_above(previous, register),
@@ -36,7 +35,7 @@ impl Read<Bounds> for SavedRegister {
             field,
         )?;
         let field = reader.left();
-        let offset = reader.u32()?;
+        let offset = reader.u32(Rule::ImageIsCut)?;
         require(
             leaves(8, bounds.frame, offset),
             Rule::ImageOutOfRange,
@@ -71,11 +70,11 @@ impl Read<Bounds> for VariableRow {
         _bounds: &Bounds,
         _previous: Option<&VariableRow>,
     ) -> Result<VariableRow, Unread> {
-        let width = reader.width()?;
+        let width = read_width(reader)?;
         let field = reader.left();
-        let invariant = reader.u8()?;
+        let invariant = reader.u8(Rule::ImageIsCut)?;
         require(invariant <= 1, Rule::BadImageField, field)?;
-        let kind = reader.name()?;
+        let kind = reader.name(Rule::ImageIsCut)?;
         Ok(VariableRow {
             width,
             invariant: invariant == 1,
@@ -93,7 +92,7 @@ impl Read<Bounds> for StackLabelRow {
         _previous: Option<&StackLabelRow>,
     ) -> Result<StackLabelRow, Unread> {
         let field = reader.left();
-        let offset = reader.u32()?;
+        let offset = reader.u32(Rule::ImageIsCut)?;
         require(offset <= bounds.frame, Rule::ImageOutOfRange, field)?;
         Ok(StackLabelRow { offset })
     }
@@ -108,7 +107,7 @@ impl Read<Bounds> for VariableNumber {
         _previous: Option<&VariableNumber>,
     ) -> Result<VariableNumber, Unread> {
         let field = reader.left();
-        let number = reader.u16()?;
+        let number = reader.u16(Rule::ImageIsCut)?;
         require(
             usize::from(number) < bounds.variables,
             Rule::BadImageField,
@@ -127,13 +126,13 @@ impl Read<Bounds> for ContinuationRow {
         _previous: Option<&ContinuationRow>,
     ) -> Result<ContinuationRow, Unread> {
         let field = reader.left();
-        let pair = reader.u32()?;
+        let pair = reader.u32(Rule::ImageIsCut)?;
         require(is_pair(bounds.frame, pair), Rule::ImageOutOfRange, field)?;
         let field = reader.left();
-        let code = reader.u64()?;
+        let code = reader.u64(Rule::ImageIsCut)?;
         require(bounds.is_in_code(code), Rule::ImageOutOfRange, field)?;
         let field = reader.left();
-        let count = reader.u8()?;
+        let count = reader.u8(Rule::ImageIsCut)?;
         require(count <= VALUE_COUNT_LIMIT, Rule::BadImageField, field)?;
         let parameters = read_rows(reader, bounds, usize::from(count))?;
         Ok(ContinuationRow {

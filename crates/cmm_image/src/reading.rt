@@ -3,18 +3,17 @@
 ghost use Rattle.std.specs.Prelude.{◌≡◌, ℕ, IfOk, IfErr};
 ghost use Rattle.cmm_image.specs.ImageFormat.{image};
 ghost use Rattle.cmm_image.specs.Images.{SpellsImage, IsFirstFault, ImageFaultAt, IsImageRead, IsRefusal, image_in};
-ghost use Rattle.cmm_image.specs.inside.Reading.{Reads};
-ghost use Rattle.cmm_image.specs.inside.Wholes.{Gives, fault_of};
+ghost use Rattle.cmm_format.specs.Reading.{Gives, Reads};
+ghost use Rattle.cmm_image.specs.inside.Wholes.{fault_of};
 ghost use Rattle.cmm_image.specs.declared.parts.ImageParts.{ImageParts};
 ghost use Rattle.cmm_rules.specs.declared.rule.Rule.{Rule};
 
 use crate::bounds::{Bounds, Procedures};
-use crate::fault::{ImageFault, Unread};
+use crate::fault::ImageFault;
 use crate::header::read_header;
 use crate::image::Image;
 use crate::parts::ImageParts;
-use crate::reader::{Reader, broken};
-use crate::record::read_rows;
+use cmm_format::{Reader, Unread, broken, read_rows};
 use cmm_rules::Rule;
 use std::alloc::Global;
 
@@ -53,7 +52,7 @@ fn fault(length: usize, why: Unread) -> ImageFault
 }
 
 /// The parts of the image that all of the bytes are.
-#[tactic(auto, unfolding(crate::specs::Images::image_in))]
+#[tactic(auto, unfolding(cmm_format::specs::Wholes::whole_in))]
 fn parts_of(alloc: Global, bytes: &[u8]) -> Result<ImageParts, Unread>
     ensures { Gives result (image_in bytes.now) }
 {
@@ -73,8 +72,8 @@ fn front_parts(reader: &mut Reader<'_>) -> Result<ImageParts, Unread>
     ensures { Reads result (image.at reader.old.rest.now) reader.new.rest.now }
 {
     let header = read_header(reader)?;
-    let code = reader.bytes(header.code_length as usize)?;
-    let initial = reader.bytes(header.data_length as usize)?;
+    let code = reader.bytes(Rule::ImageIsCut, header.code_length as usize)?;
+    let initial = reader.bytes(Rule::ImageIsCut, header.data_length as usize)?;
     let bounds = Bounds {
         code_length: header.code_length,
         data_length: header.data_length,

@@ -1,21 +1,21 @@
 //! The bytes of records.
 
 ghost use Rattle.std.specs.Prelude.{◌≡◌, ◌++◌, None, [], OnOk};
-ghost use Rattle.cmm_image.specs.ImageFormat.{saved_register, variable, stack_label, variable_number, continuation, procedure, continuation_number, unwind, span, site, label, global, width, one_if, flags_number, no_return};
-ghost use Rattle.cmm_image.specs.Formats.{optional_number};
+ghost use Rattle.cmm_image.specs.ImageFormat.{saved_register, variable, stack_label, variable_number, continuation, procedure, continuation_number, unwind, span, site, label, global, width, one_if, flags_number, no_return, u8};
+ghost use Rattle.cmm_format.specs.Formats.{counted, optional_number};
 ghost use Rattle.cmm_image.specs.Places.{place_bytes};
 ghost use Rattle.cmm_image.specs.inside.Spellings.{procedure_lists, site_row_lists};
 
-use crate::fields::{
-    put_name, put_rows8, put_rows16, put_u8, put_u16, put_u32, put_u64, put_width,
-};
 use crate::procedure::NO_RETURN;
-use crate::record::{Write, write_rows};
 use crate::rows::{
     ContinuationNumber, ContinuationRow, GlobalRow, LabelRow, ProcRow, SavedRegister, SiteRow,
     SpanRow, StackLabelRow, UnwindRow, VariableNumber, VariablePlace, VariableRow,
 };
 use crate::site::NO_YIELD;
+use cmm_format::{
+    Write, put_name, put_rows8, put_rows16, put_u8, put_u16, put_u32, put_u64, put_width,
+    write_rows,
+};
 use cmm_words::Width;
 use std::alloc::AllocError;
 
@@ -103,14 +103,6 @@ fn or_no_return(offset: Option<u32>) -> u32
     }
 }
 
-impl Write for Width {
-    ghost spelled = { width.spelled };
-
-    fn write(&self, out: &mut Vec<u8>) -> Result<(), AllocError> {
-        put_width(out, *self)
-    }
-}
-
 impl Write for ContinuationNumber {
     ghost spelled = { (continuation_number 0 None).spelled };
 
@@ -173,12 +165,19 @@ impl Write for SiteRow {
 fn put_site_lists(out: &mut Vec<u8>, row: &SiteRow) -> Result<(), AllocError>
     ensures { OnOk result (out.new.items ≡ out.old.items ++ site_row_lists row.now) }
 {
-    put_rows8(out, row.results.as_slice())?;
+    put_results(out, row.results.as_slice())?;
     put_rows8(out, row.returns.as_slice())?;
     put_rows16(out, row.unwinds.as_slice())?;
     put_rows16(out, row.cuts.as_slice())?;
     write_rows(out, row.variables.as_slice())?;
     put_rows16(out, row.spans.as_slice())
+}
+
+/// The widths of a site's results, behind their count.
+fn put_results(out: &mut Vec<u8>, results: &[Width]) -> Result<(), AllocError>
+    ensures { OnOk result (out.new.items ≡ out.old.items ++ (counted u8 (λ previous. width)).spelled results.now) }
+{
+    put_rows8(out, results)
 }
 
 /// Bit 0 for a site that never returns, bit 1 for one that aborts.

@@ -2,17 +2,16 @@
 
 ghost use Rattle.std.specs.Prelude.{◌≡◌, ◌==◌, ◌+◌, ◌*◌, ◌<◌, ◌^◌, ◌∷◌, [], nat_le, nat_lt, Some, None, option_copied, IsTrue};
 ghost use Rattle.std.specs.Option.{option_map};
-ghost use Rattle.cmm_image.specs.Formats.{counted_at, optional, ◌when◌};
+ghost use Rattle.cmm_rules.specs.declared.rule.Rule.TheVariants.{ImageIsCut};
+ghost use Rattle.cmm_format.specs.Formats.{counted_at, optional, ◌when◌};
 ghost use Rattle.cmm_image.specs.ImageFormat.{site, site_lists, has_sites, procedure_at, continuation_number, exits_in_code, is_in_code, is_above, flags, u8, u32, formed, within, width};
-ghost use Rattle.cmm_image.specs.inside.Reading.{Reads, Sees};
+ghost use Rattle.cmm_format.specs.Reading.{Reads, Sees};
 ghost use Rattle.cmm_image.specs.inside.Wholes.{lists_seen};
 
 use crate::bounds::{Bounds, Procedures};
-use crate::fault::Unread;
 use crate::procedure_parts::VALUE_COUNT_LIMIT;
-use crate::reader::{Reader, broken, require};
-use crate::record::{Read, read_rows, read_rows8, read_rows16};
 use crate::rows::{ContinuationNumber, ProcRow, SiteRow, SpanRow, UnwindRow, VariablePlace};
+use cmm_format::{Read, Reader, Unread, broken, read_rows, read_rows8, read_rows16, require};
 use cmm_items::Items;
 use cmm_rules::Rule;
 use cmm_words::Width;
@@ -30,7 +29,7 @@ impl Read<Procedures> for SiteRow {
         previous: Option<&SiteRow>,
     ) -> Result<SiteRow, Unread> {
         let field = reader.left();
-        let return_address = reader.u64()?;
+        let return_address = reader.u64(Rule::ImageIsCut)?;
         require(
             is_return_above(previous, return_address),
             Rule::BadImageField,
@@ -42,7 +41,7 @@ impl Read<Procedures> for SiteRow {
             field,
         )?;
         let procedure = procedure_number(reader, procedures)?;
-        let number = reader.u32()?;
+        let number = reader.u32(Rule::ImageIsCut)?;
         let (never_returns, aborts) = exit_flags(reader)?;
         let yield_values = yield_values(reader)?;
         let bounds = procedures.of(procedure);
@@ -81,10 +80,10 @@ fn tail(reader: &mut Reader<'_>, bounds: &Bounds, return_address: u64) -> Result
     ensures { Sees lists_seen result ((site_lists bounds.now.code_length bounds.now.frame bounds.now.variables bounds.now.continuations return_address).at reader.old.rest.now) reader.new.rest.now }
 {
     let returns = returns(reader, bounds, return_address)?;
-    let unwinds = read_rows16(reader, bounds)?;
-    let cuts = read_rows16(reader, bounds)?;
+    let unwinds = read_rows16(reader, Rule::ImageIsCut, bounds)?;
+    let cuts = read_rows16(reader, Rule::ImageIsCut, bounds)?;
     let variables = read_rows(reader, bounds, bounds.variables)?;
-    let spans = read_rows16(reader, bounds)?;
+    let spans = read_rows16(reader, Rule::ImageIsCut, bounds)?;
     Ok(SiteTail {
         returns,
         unwinds,
@@ -109,7 +108,7 @@ fn procedure_number(reader: &mut Reader<'_>, procedures: &Procedures) -> Result<
     ensures { Reads result ((u32 when (formed (has_sites procedures.now.rows) ∷ [])).at reader.old.rest.now) reader.new.rest.now }
 {
     let field = reader.left();
-    let number = reader.u32()?;
+    let number = reader.u32(Rule::ImageIsCut)?;
     require(procedures.has_sites(number), Rule::BadImageField, field)?;
     Ok(number)
 }
@@ -119,17 +118,17 @@ fn exit_flags(reader: &mut Reader<'_>) -> Result<(bool, bool), Unread>
     ensures { Reads result (flags.at reader.old.rest.now) reader.new.rest.now }
 {
     let field = reader.left();
-    let flags = reader.u8()?;
+    let flags = reader.u8(Rule::ImageIsCut)?;
     require(flags < 4, Rule::BadImageField, field)?;
     Ok((flags % 2 == 1, 2 <= flags))
 }
 
 /// How many values a site yields, if it is a yield.
 fn yield_values(reader: &mut Reader<'_>) -> Result<Option<u8>, Unread>
-    ensures { Reads result ((optional 1 255 (formed (λ n. nat_le n 64) ∷ [])).at reader.old.rest.now) reader.new.rest.now }
+    ensures { Reads result ((optional ImageIsCut 1 255 (formed (λ n. nat_le n 64) ∷ [])).at reader.old.rest.now) reader.new.rest.now }
 {
     let field = reader.left();
-    let count = reader.u8()?;
+    let count = reader.u8(Rule::ImageIsCut)?;
     if count == NO_YIELD {
         return Ok(None);
     }
@@ -142,7 +141,7 @@ fn results(reader: &mut Reader<'_>, bounds: &Bounds) -> Result<Items<Width>, Unr
     ensures { Reads result (counted_at (u8 when (formed (λ n. nat_le n 64) ∷ [])).at (λ previous. width.at) reader.old.rest.now) reader.new.rest.now }
 {
     let field = reader.left();
-    let count = reader.u8()?;
+    let count = reader.u8(Rule::ImageIsCut)?;
     require(count <= VALUE_COUNT_LIMIT, Rule::BadImageField, field)?;
     read_rows(reader, bounds, usize::from(count))
 }
@@ -157,7 +156,7 @@ fn returns(
     ensures { Reads result (counted_at (u8 when (formed (λ n. nat_le n 64) ∷ within (exits_in_code bounds.now.code_length return_address) ∷ [])).at (λ previous. (continuation_number bounds.now.continuations previous).at) reader.old.rest.now) reader.new.rest.now }
 {
     let field = reader.left();
-    let count = reader.u8()?;
+    let count = reader.u8(Rule::ImageIsCut)?;
     require(count <= VALUE_COUNT_LIMIT, Rule::BadImageField, field)?;
     require(
         is_return_in_code(bounds, return_address, count),

@@ -4,30 +4,17 @@ ghost use Rattle.std.specs.Prelude.{◌≡◌, ℕ, List, length, option_copied}
 ghost use Rattle.std.specs.Option.{option_map};
 ghost use Rattle.cmm_image.specs.ImageFormat.{continuation_number, unwind, span, width, is_above};
 ghost use Rattle.cmm_image.specs.Places.{variable_place, slot_at, register_at};
-ghost use Rattle.cmm_image.specs.inside.Reading.{Reads, Places};
+ghost use Rattle.cmm_format.specs.Reading.{Reads};
+ghost use Rattle.cmm_image.specs.inside.Reading.{Places};
 
 use crate::bounds::Bounds;
-use crate::fault::Unread;
 use crate::procedure_parts::leaves;
-use crate::reader::{Reader, broken, require};
-use crate::record::Read;
 use crate::rows::{ContinuationNumber, SpanRow, UnwindRow, VariablePlace};
 use byteorder::{ByteOrder, LittleEndian};
 use cmm_abi::registers::is_callee_saves;
+use cmm_format::{Read, Reader, Unread, broken, require};
 use cmm_rules::Rule;
 use cmm_words::Width;
-
-impl Read<Bounds> for Width {
-    ghost at = { λ bounds previous. width.at };
-
-    fn read(
-        reader: &mut Reader<'_>,
-        _bounds: &Bounds,
-        _previous: Option<&Width>,
-    ) -> Result<Width, Unread> {
-        reader.width()
-    }
-}
 
 impl Read<Bounds> for ContinuationNumber {
     ghost at = { λ bounds previous. (continuation_number bounds.continuations previous).at };
@@ -38,7 +25,7 @@ impl Read<Bounds> for ContinuationNumber {
         _previous: Option<&ContinuationNumber>,
     ) -> Result<ContinuationNumber, Unread> {
         let field = reader.left();
-        let number = reader.u16()?;
+        let number = reader.u16(Rule::ImageIsCut)?;
         require(
             usize::from(number) < bounds.continuations,
             Rule::BadImageField,
@@ -58,7 +45,7 @@ impl Read<Bounds> for UnwindRow {
     ) -> Result<UnwindRow, Unread> {
         let continuation = ContinuationNumber::read(reader, bounds, None)?;
         let field = reader.left();
-        let landing = reader.u64()?;
+        let landing = reader.u64(Rule::ImageIsCut)?;
         require(bounds.is_in_code(landing), Rule::ImageOutOfRange, field)?;
         Ok(UnwindRow {
             continuation,
@@ -76,9 +63,9 @@ impl Read<Bounds> for SpanRow {
         previous: Option<&SpanRow>,
     ) -> Result<SpanRow, Unread> {
         let field = reader.left();
-        let token = reader.u64()?;
+        let token = reader.u64(Rule::ImageIsCut)?;
         require(is_token_above(previous, token), Rule::BadImageField, field)?;
-        let value = reader.u64()?;
+        let value = reader.u64(Rule::ImageIsCut)?;
         Ok(SpanRow { token, value })
     }
 }

@@ -5,10 +5,9 @@ ghost use Rattle.std.specs.Option.{option_map};
 ghost use Rattle.cmm_image.specs.ImageFormat.{label, global, is_after};
 
 use crate::bounds::Bounds;
-use crate::fault::Unread;
-use crate::reader::{Reader, require};
-use crate::record::Read;
 use crate::rows::{GlobalRow, LabelRow};
+use crate::widths::read_width;
+use cmm_format::{Read, Reader, Unread, require};
 use cmm_rules::Rule;
 use cmm_words::Name;
 
@@ -21,10 +20,10 @@ impl Read<Bounds> for LabelRow {
         previous: Option<&LabelRow>,
     ) -> Result<LabelRow, Unread> {
         let field = reader.left();
-        let name = reader.name()?;
+        let name = reader.name(Rule::ImageIsCut)?;
         require(is_label_after(previous, &name), Rule::BadImageField, field)?;
         let field = reader.left();
-        let address = reader.u64()?;
+        let address = reader.u64(Rule::ImageIsCut)?;
         require(bounds.is_in_data(address), Rule::ImageOutOfRange, field)?;
         Ok(LabelRow { name, address })
     }
@@ -48,9 +47,9 @@ impl Read<Bounds> for GlobalRow {
         _bounds: &Bounds,
         previous: Option<&GlobalRow>,
     ) -> Result<GlobalRow, Unread> {
-        let width = reader.width()?;
+        let width = read_width(reader)?;
         let field = reader.left();
-        let name = reader.name()?;
+        let name = reader.name(Rule::ImageIsCut)?;
         require(is_global_after(previous, &name), Rule::BadImageField, field)?;
         Ok(GlobalRow { width, name })
     }

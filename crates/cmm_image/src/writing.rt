@@ -1,15 +1,14 @@
-//! `write_image`: the bytes of an image.
+//! `write_image`: the bytes of an image, and `write_header`: those of its header.
 
 ghost use Rattle.std.specs.Prelude.{◌≡◌, ◌++◌, OnOk, IfOk};
-ghost use Rattle.cmm_image.specs.ImageFormat.{counts, header, image, image_header};
+ghost use Rattle.cmm_image.specs.ImageFormat.{counts, header, header_bytes, image, image_header};
 ghost use Rattle.cmm_image.specs.Images.{SpellsImage};
 ghost use Rattle.cmm_image.specs.inside.Spellings.{counts_of, image_body, image_records};
 
-use crate::fields::{put_count32, put_u32, put_u64};
 use crate::header::{MAGIC, VERSION};
 use crate::image::Image;
 use crate::parts::ImageParts;
-use crate::record::write_rows;
+use cmm_format::{put_count32, put_u32, put_u64, write_rows};
 use std::alloc::{AllocError, Global};
 
 /// The bytes that spell an image.
@@ -18,6 +17,15 @@ pub fn write_image(alloc: Global, image: &Image) -> Result<Vec<u8>, AllocError>
 {
     let mut out = Vec::new(alloc);
     put_image(&mut out, image.parts())?;
+    Ok(out)
+}
+
+/// The 64 bytes with which the bytes of an image begin: its header.
+pub fn write_header(alloc: Global, image: &Image) -> Result<Vec<u8>, AllocError>
+    ensures { IfOk result (λ bytes. bytes.items ≡ header_bytes image.now) }
+{
+    let mut out = Vec::new(alloc);
+    put_header(&mut out, image.parts())?;
     Ok(out)
 }
 

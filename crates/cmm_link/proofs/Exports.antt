@@ -15,7 +15,7 @@ use Rattle.cmm_program.specs.InRange.{is_label, is_name}
 use Rattle.cmm_data.specs.Laws.{LiesInData}
 use Rattle.cmm_image.specs.declared.rows.GlobalRow.{GlobalRow}
 use Rattle.cmm_image.specs.declared.rows.LabelRow.{LabelRow}
-use Rattle.cmm_image.specs.Formats.{AreRows}
+use Rattle.cmm_format.specs.Formats.{AreRows}
 use Rattle.cmm_image.specs.ImageFormat.{global, is_after, is_in_data, label}
 use Rattle.cmm_link.specs.Labels.{ascend_after, exports_at, label_exports, label_names}
 use Rattle.cmm_link.specs.Rows.{global_row}

@@ -23,9 +23,10 @@ use Rattle.cmm_image.specs.declared.rows.GlobalRow.{GlobalRow}
 use Rattle.cmm_image.specs.declared.rows.LabelRow.{LabelRow}
 use Rattle.cmm_image.specs.declared.rows.ProcRow.{ProcRow}
 use Rattle.cmm_image.specs.declared.rows.SiteRow.{SiteRow}
-use Rattle.cmm_image.specs.Formats.{AreBytes, AreRows}
+use Rattle.cmm_format.specs.Formats.{AreBytes, AreRows}
 use Rattle.cmm_image.specs.ImageFormat.{global, header, image, image_header, is_code_length, label, procedure, site}
 use Rattle.cmm_image.specs.Images.{IsImage}
+use Rattle.cmm_image.proofs.Shared.{header_long}
 use Rattle.cmm_allocate.specs.declared.procedure.ProcedurePlaces.{ProcedurePlaces}
 use Rattle.cmm_unit_code.specs.declared.text.Text.{Text}
 use Rattle.cmm_link.specs.Labels.{AreLabelsOf, exports, names_ascend, row_named}
@@ -47,7 +48,7 @@ use Rattle.cmm_link.proofs.SiteSizes.{row_cost, rows_cost, rows_few}
 use Rattle.cmm_link.proofs.SiteTable.{IsRow, rows_are}
 use Rattle.cmm_link.proofs.SiteTokens.{site_measure}
 use Rattle.cmm_link.proofs.SitesHold.{row_holds, sites_hold, sites_long}
-use Rattle.cmm_link.proofs.Sizes.{globals_long, header_long, labels_long, table_long}
+use Rattle.cmm_link.proofs.Sizes.{globals_long, labels_long, table_long}
 
 -- what is required of what they are made from
 pub record AreGiven (p : Program) (places : List ProcedurePlaces) (d : DataImage) (t : Text) : Type 0 where

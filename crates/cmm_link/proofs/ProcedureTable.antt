@@ -9,7 +9,7 @@ use Rattle.cmm_program.specs.declared.procedure.Proc.{Proc}
 use Rattle.cmm_program.specs.declared.program.Program.{Program}
 use Rattle.cmm_program.specs.InRange.{IsProcInRange}
 use Rattle.cmm_image.specs.declared.rows.ProcRow.{ProcRow}
-use Rattle.cmm_image.specs.Formats.{AreRows}
+use Rattle.cmm_format.specs.Formats.{AreRows}
 use Rattle.cmm_image.specs.ImageFormat.{is_above, is_in_code, procedure}
 use Rattle.cmm_allocate.specs.declared.procedure.ProcedurePlaces.{ProcedurePlaces}
 use Rattle.cmm_link.specs.Linked.{HaveFrames}

@@ -9,7 +9,7 @@ use Rattle.cmm_chain.proofs.Shared.{callee_saves_is_written}
 use Rattle.cmm_chain.specs.Plans.{is_word_in, saved_offsets}
 use Rattle.cmm_abi.specs.Registers.{callee_saves, is_callee_saves}
 use Rattle.cmm_image.specs.declared.rows.SavedRegister.{SavedRegister}
-use Rattle.cmm_image.specs.Formats.{AreRows}
+use Rattle.cmm_format.specs.Formats.{AreRows}
 use Rattle.cmm_image.specs.ImageFormat.{is_above, saved_register}
 use Rattle.cmm_image.specs.Places.{leaves}
 use Rattle.cmm_tables.specs.ProcedureRows.{saved_row}

@@ -21,7 +21,7 @@ use Rattle.cmm_image.specs.declared.rows.SpanRow.{SpanRow}
 use Rattle.cmm_image.specs.declared.rows.ContinuationNumber.{ContinuationNumber}
 use Rattle.cmm_image.specs.declared.rows.UnwindRow.{UnwindRow}
 use Rattle.cmm_image.specs.declared.rows.VariablePlace.{VariablePlace}
-use Rattle.cmm_image.specs.Formats.{AreRows}
+use Rattle.cmm_format.specs.Formats.{AreRows}
 use Rattle.cmm_image.specs.ImageFormat as image
 use Rattle.cmm_image.specs.ImageFormat.{flags, is_above, is_in_code, span, unwind, width}
 use Rattle.cmm_image.specs.Places.{IsPlace, variable_place}

@@ -14,11 +14,11 @@ use Rattle.cmm_image.specs.declared.rows.ProcRow.{ProcRow}
 use Rattle.cmm_image.specs.declared.rows.SiteRow.{SiteRow}
 use Rattle.cmm_image.specs.declared.rows.VariablePlace.{VariablePlace}
 use Rattle.cmm_image.specs.declared.rows.VariablePlace.TheVariants.{Dead, Slot, Register}
-use Rattle.cmm_image.specs.Formats.{number_bytes, optional_number}
+use Rattle.cmm_format.specs.Formats.{number_bytes, optional_number}
 use Rattle.cmm_image.specs.ImageFormat as image
 use Rattle.cmm_image.specs.ImageFormat.{flags_number, procedure_at, site, span, unwind, width}
 use Rattle.cmm_image.specs.Places.{place_bytes, variable_place}
-use Rattle.cmm_image.proofs.Shared.{length-number_bytes}
+use Rattle.cmm_format.proofs.Shared.{length-number_bytes}
 use Rattle.cmm_allocate.specs.declared.procedure.ProcedurePlaces.{ProcedurePlaces}
 use Rattle.cmm_tables.specs.declared.unplaced.UnplacedSite.{UnplacedSite}
 use Rattle.cmm_tables.specs.SiteRows.{continuation_number, local_place, place_while, placed_site, span_row, unplaced_site, unwind_row}

@@ -17,7 +17,7 @@ use Rattle.cmm_program.specs.Numbering.{site_number}
 use Rattle.cmm_program.specs.Tokens.{own_tokens}
 use Rattle.cmm_program.specs.Typing.{is_target}
 use Rattle.cmm_program.proofs.Shared.{list_all_get}
-use Rattle.cmm_image.specs.Formats.{HoldsOptional}
+use Rattle.cmm_format.specs.Formats.{HoldsOptional}
 use Rattle.cmm_image.specs.ImageFormat.{formed}
 use Rattle.cmm_link.proofs.SiteTokens.{times}
 use Rattle.cmm_link.proofs.Tokens.{site_stands}

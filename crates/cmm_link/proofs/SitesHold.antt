@@ -23,7 +23,7 @@ use Rattle.cmm_located.specs.Layouts.{IsFrameOf}
 use Rattle.cmm_image.specs.declared.rows.ProcRow.{ProcRow}
 use Rattle.cmm_image.specs.declared.rows.SiteRow.{SiteRow}
 use Rattle.cmm_image.specs.declared.rows.VariablePlace.{VariablePlace}
-use Rattle.cmm_image.specs.Formats.{AreRows}
+use Rattle.cmm_format.specs.Formats.{AreRows}
 use Rattle.cmm_image.specs.ImageFormat.{SiteLists, exits_in_code, has_sites, is_above, is_in_code, or_none, procedure_at, site, site_lists, site_lists_in}
 use Rattle.cmm_allocate.specs.declared.procedure.ProcedurePlaces.{ProcedurePlaces}
 use Rattle.cmm_tables.specs.ProcedureRows.{continuation_rows, procedure_row, variable_row}

@@ -18,9 +18,9 @@ use Rattle.cmm_image.specs.declared.rows.SavedRegister.{SavedRegister}
 use Rattle.cmm_image.specs.declared.rows.StackLabelRow.{StackLabelRow}
 use Rattle.cmm_image.specs.declared.rows.VariableNumber.{VariableNumber}
 use Rattle.cmm_image.specs.declared.rows.VariableRow.{VariableRow}
-use Rattle.cmm_image.specs.Formats.{AreRows, number_bytes, optional_number, text_bytes}
-use Rattle.cmm_image.specs.ImageFormat.{continuation, global, header, image_header, label, no_return, one_if, procedure, saved_register, stack_label, variable, variable_number}
-use Rattle.cmm_image.proofs.Shared.{length-number_bytes}
+use Rattle.cmm_format.specs.Formats.{AreRows, number_bytes, optional_number, text_bytes}
+use Rattle.cmm_image.specs.ImageFormat.{continuation, global, header, label, no_return, one_if, procedure, saved_register, stack_label, variable, variable_number}
+use Rattle.cmm_format.proofs.Shared.{length-number_bytes}
 use Rattle.cmm_located.specs.Layouts.{IsFrameOf}
 use Rattle.cmm_allocate.specs.declared.procedure.ProcedurePlaces.{ProcedurePlaces}
 use Rattle.cmm_link.specs.Linked.{HaveFrames}
@@ -181,6 +181,3 @@ labels_long data_length labels are = rows_long (λ previous. (label data_length 
 
 pub globals_long : (globals : List GlobalRow) → AreRows (λ previous. (global previous).Holds) None globals → length (flat_map (global None).spelled globals) ≤ 257 * length globals
 globals_long globals are = rows_long (λ previous. (global previous).Holds) (global None).spelled 257 global_long None globals are
-
-pub header_long : (i : ImageParts) → length (header.spelled (image_header i)) ≡ 64
-header_long i = simp (number_then, length-number_bytes)

@@ -2,7 +2,7 @@
 
 ghost use Rattle.std.specs.Prelude.{◌≡◌, slice_index, length};
 ghost use Rattle.cmm_data.specs.Filling.{AreApart, filled};
-ghost use Rattle.cmm_image.specs.Formats.{AreBytes};
+ghost use Rattle.cmm_format.specs.Formats.{AreBytes};
 
 use crate::names::know_bytes;
 use cmm_data::{DataImage, Fix, fill};

@@ -1,7 +1,7 @@
 //! Names that are copied, and their bytes.
 
 ghost use Rattle.std.specs.Prelude.{◌≡◌, IfOk};
-ghost use Rattle.cmm_image.specs.Formats.{AreBytes};
+ghost use Rattle.cmm_format.specs.Formats.{AreBytes};
 
 use cmm_words::Name;
 use std::alloc::AllocError;

@@ -3,7 +3,7 @@ use Rattle.std.specs.Prelude.{ℕ, List, [], ◌++◌, flat_map, length, None}
 use Rattle.cmm_image.specs.declared.parts.ImageParts.{ImageParts}
 use Rattle.cmm_image.specs.declared.rows.ProcRow.{ProcRow}
 use Rattle.cmm_image.specs.declared.rows.SiteRow.{SiteRow}
-use Rattle.cmm_image.specs.Formats.{counted}
+use Rattle.cmm_format.specs.Formats.{counted}
 use Rattle.cmm_image.specs.ImageFormat.{Counts, saved_register, variable, stack_label, continuation, width, site_lists, procedure, site, label, global, u8, u16}
 
 abbrev pub procedure_lists : ProcRow → List ℕ

@@ -1,22 +1,16 @@
--- What readings of several fields answer, and a reading of all bytes.
+-- What readings of several fields answer.
 use Rattle.std.specs.Prelude.{◌≡◌, ℕ, ◌-◌, length, Result, Ok, Err}
 use Rattle.cmm_image.specs.declared.rows.ProcRow.{ProcRow}
 use Rattle.cmm_image.specs.declared.bounds.Bounds.{Bounds}
 use Rattle.cmm_image.specs.declared.header.RowCounts.{RowCounts}
 use Rattle.cmm_image.specs.declared.site.SiteTail.{SiteTail}
-use Rattle.cmm_image.specs.declared.fault.Broken.{Broken}
+use Rattle.cmm_format.specs.declared.fault.Broken.{Broken}
 use Rattle.cmm_image.specs.declared.fault.ImageFault.{ImageFault}
 use Rattle.cmm_image.specs.declared.fault.ImageFault.TheVariants.{At}
 use Rattle.cmm_image.specs.declared.fault.ImageFault.TheVariants as image_fault
-use Rattle.cmm_image.specs.declared.fault.Unread.{Unread}
-use Rattle.cmm_image.specs.declared.fault.Unread.TheVariants.{Breaks, Memory}
+use Rattle.cmm_format.specs.declared.fault.Unread.{Unread}
+use Rattle.cmm_format.specs.declared.fault.Unread.TheVariants.{Breaks, Memory}
 use Rattle.cmm_image.specs.ImageFormat.{Counts, SiteLists}
-
--- What a reading of all bytes answered is what they are, unless memory ran out.
-abbrev pub Gives : {A : Type 0} → Result A Unread → Result A Broken → Type 0
-Gives (Ok a) read = read ≡ Ok a
-Gives (Err (Breaks b)) read = read ≡ Err b
-Gives (Err Memory) read = Unit {0}
 
 -- the counts of a header, as its format has them
 abbrev pub counts_seen : RowCounts → Counts

@@ -5,7 +5,7 @@ use Rattle.cmm_program.specs.declared.program.Program.{Program}
 use Rattle.cmm_data.specs.declared.layout.DataImage.{DataImage}
 use Rattle.cmm_data.specs.Filling.{filled}
 use Rattle.cmm_image.specs.declared.parts.ImageParts.{ImageParts}
-use Rattle.cmm_image.specs.Formats.{AreBytes}
+use Rattle.cmm_format.specs.Formats.{AreBytes}
 use Rattle.cmm_allocate.specs.declared.procedure.ProcedurePlaces.{ProcedurePlaces}
 use Rattle.cmm_unit_code.specs.declared.text.Text.{Text}
 use Rattle.cmm_link.specs.Labels.{AreLabelsOf, exports}

@@ -9,7 +9,7 @@ use Rattle.cmm_image.specs.declared.rows.ProcRow.{ProcRow}
 use Rattle.cmm_image.specs.declared.rows.SiteRow.{SiteRow}
 use Rattle.cmm_image.specs.declared.rows.SpanRow.{SpanRow}
 use Rattle.cmm_image.specs.declared.rows.VariableRow.{VariableRow}
-use Rattle.cmm_image.specs.Formats.{AreBytes}
+use Rattle.cmm_format.specs.Formats.{AreBytes}
 
 -- the parameters of a continuation have numbers that rows have room for
 abbrev pub HasShortParameters : Cont → Type 0

@@ -7,7 +7,8 @@ use Rattle.cmm_outside.specs.Faults.{Rose}
 use Rattle.cmm_outside.specs.declared.storage.CallKind.TheVariants.{Read}
 use Rattle.cmm_rules.specs.declared.rule.Rule.TheVariants.{ImageTooLong}
 use Rattle.cmm_top.specs.Call.{standing}
-use Rattle.cmm_top.proofs.ImageFaults.{long_is_refused, none_failed}
+use Rattle.cmm_image.proofs.Shared.{long_is_refused}
+use Rattle.cmm_top.proofs.ImageFaults.{none_failed}
 use Rattle.cmm_top.proofs.Reading.{file_so, same_outside}
 use Rattle.cmm_top.proofs.running.image_in.Goals as goal
 

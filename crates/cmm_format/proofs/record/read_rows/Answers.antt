@@ -1,7 +1,7 @@
 use Rattle.std.proofs.Common.{◌≡◌, ◌++◌, ◌∷◌, [], option_copied, rules}
 use Rattle.std.proofs.lemmas.Result.{err_from_is_err_and}
-use Rattle.cmm_image.proofs.ReadingRows.{last_of, last_of-push, goes_on, ends}
-use Rattle.cmm_image.proofs.record.read_rows.Goals as goal
+use Rattle.cmm_format.proofs.ReadingRows.{last_of, last_of-push, goes_on, ends}
+use Rattle.cmm_format.proofs.record.read_rows.Goals as goal
 
 pub returns-in_err-row : goal.returns-in_err-row
 returns-in_err-row g c =

@@ -1,7 +1,7 @@
 use Rattle.std.proofs.Common.{◌≡◌, ◌-◌, None}
-use Rattle.cmm_image.specs.Formats.{rows_at}
-use Rattle.cmm_image.proofs.ReadingRows.{with_front, last_of}
-use Rattle.cmm_image.proofs.record.read_rows.Given as goal
+use Rattle.cmm_format.specs.Formats.{rows_at}
+use Rattle.cmm_format.proofs.ReadingRows.{with_front, last_of}
+use Rattle.cmm_format.proofs.record.read_rows.Given as goal
 
 -- the rows so far, and those that are left, are all
 abbrev pub invariant-loop : goal.invariant-loop

@@ -2,7 +2,7 @@
 
 ghost use Rattle.std.specs.Prelude.{◌≡◌, ◌++◌, length, flat_map, OnOk};
 ghost use Rattle.cmm_words.specs.Widths.{bits};
-ghost use Rattle.cmm_image.specs.Formats.{number_bytes, text_bytes, optional_number};
+ghost use Rattle.cmm_format.specs.Formats.{number_bytes, text_bytes};
 
 use crate::record::{Write, write_rows};
 use cmm_words::{Name, Width};
@@ -10,7 +10,7 @@ use std::alloc::AllocError;
 
 /// A number of one byte.
 #[tactic(auto, unfolding(crate::specs::Formats::number_bytes))]
-pub(crate) fn put_u8(out: &mut Vec<u8>, number: u8) -> Result<(), AllocError>
+pub fn put_u8(out: &mut Vec<u8>, number: u8) -> Result<(), AllocError>
     ensures { OnOk result (out.new.items ≡ out.old.items ++ number_bytes 1 number) }
 {
     out.extend_from_slice(&number.to_le_bytes())
@@ -18,7 +18,7 @@ pub(crate) fn put_u8(out: &mut Vec<u8>, number: u8) -> Result<(), AllocError>
 
 /// A number of two bytes.
 #[tactic(auto, unfolding(crate::specs::Formats::number_bytes))]
-pub(crate) fn put_u16(out: &mut Vec<u8>, number: u16) -> Result<(), AllocError>
+pub fn put_u16(out: &mut Vec<u8>, number: u16) -> Result<(), AllocError>
     ensures { OnOk result (out.new.items ≡ out.old.items ++ number_bytes 2 number) }
 {
     out.extend_from_slice(&number.to_le_bytes())
@@ -26,7 +26,7 @@ pub(crate) fn put_u16(out: &mut Vec<u8>, number: u16) -> Result<(), AllocError>
 
 /// A number of four bytes.
 #[tactic(auto, unfolding(crate::specs::Formats::number_bytes))]
-pub(crate) fn put_u32(out: &mut Vec<u8>, number: u32) -> Result<(), AllocError>
+pub fn put_u32(out: &mut Vec<u8>, number: u32) -> Result<(), AllocError>
     ensures { OnOk result (out.new.items ≡ out.old.items ++ number_bytes 4 number) }
 {
     out.extend_from_slice(&number.to_le_bytes())
@@ -34,7 +34,7 @@ pub(crate) fn put_u32(out: &mut Vec<u8>, number: u32) -> Result<(), AllocError>
 
 /// A number of eight bytes.
 #[tactic(auto, unfolding(crate::specs::Formats::number_bytes))]
-pub(crate) fn put_u64(out: &mut Vec<u8>, number: u64) -> Result<(), AllocError>
+pub fn put_u64(out: &mut Vec<u8>, number: u64) -> Result<(), AllocError>
     ensures { OnOk result (out.new.items ≡ out.old.items ++ number_bytes 8 number) }
 {
     out.extend_from_slice(&number.to_le_bytes())
@@ -42,7 +42,7 @@ pub(crate) fn put_u64(out: &mut Vec<u8>, number: u64) -> Result<(), AllocError>
 
 /// The low byte of a count.
 #[tactic(auto, unfolding(crate::specs::Formats::number_bytes))]
-pub(crate) fn put_count8(out: &mut Vec<u8>, count: usize) -> Result<(), AllocError>
+pub fn put_count8(out: &mut Vec<u8>, count: usize) -> Result<(), AllocError>
     ensures { OnOk result (out.new.items ≡ out.old.items ++ number_bytes 1 count) }
 {
     out.extend_from_slice(&count.to_le_bytes()[..1])
@@ -50,7 +50,7 @@ pub(crate) fn put_count8(out: &mut Vec<u8>, count: usize) -> Result<(), AllocErr
 
 /// The low two bytes of a count.
 #[tactic(auto, unfolding(crate::specs::Formats::number_bytes))]
-pub(crate) fn put_count16(out: &mut Vec<u8>, count: usize) -> Result<(), AllocError>
+pub fn put_count16(out: &mut Vec<u8>, count: usize) -> Result<(), AllocError>
     ensures { OnOk result (out.new.items ≡ out.old.items ++ number_bytes 2 count) }
 {
     out.extend_from_slice(&count.to_le_bytes()[..2])
@@ -58,7 +58,7 @@ pub(crate) fn put_count16(out: &mut Vec<u8>, count: usize) -> Result<(), AllocEr
 
 /// The low four bytes of a count.
 #[tactic(auto, unfolding(crate::specs::Formats::number_bytes))]
-pub(crate) fn put_count32(out: &mut Vec<u8>, count: usize) -> Result<(), AllocError>
+pub fn put_count32(out: &mut Vec<u8>, count: usize) -> Result<(), AllocError>
     ensures { OnOk result (out.new.items ≡ out.old.items ++ number_bytes 4 count) }
 {
     out.extend_from_slice(&count.to_le_bytes()[..4])
@@ -66,7 +66,7 @@ pub(crate) fn put_count32(out: &mut Vec<u8>, count: usize) -> Result<(), AllocEr
 
 /// A name, behind the count of its bytes.
 #[tactic(auto, unfolding(crate::specs::Formats::text_bytes))]
-pub(crate) fn put_name(out: &mut Vec<u8>, name: &Name) -> Result<(), AllocError>
+pub fn put_name(out: &mut Vec<u8>, name: &Name) -> Result<(), AllocError>
     ensures { OnOk result (out.new.items ≡ out.old.items ++ text_bytes name.now) }
 {
     put_count8(out, name.as_bytes().len())?;
@@ -74,8 +74,7 @@ pub(crate) fn put_name(out: &mut Vec<u8>, name: &Name) -> Result<(), AllocError>
 }
 
 /// A width, as its number of bits.
-#[tactic(auto, unfolding(crate::specs::Formats::number_bytes))]
-pub(crate) fn put_width(out: &mut Vec<u8>, width: Width) -> Result<(), AllocError>
+pub fn put_width(out: &mut Vec<u8>, width: Width) -> Result<(), AllocError>
     ensures { OnOk result (out.new.items ≡ out.old.items ++ number_bytes 1 (bits width)) }
 {
     put_u8(
@@ -89,8 +88,16 @@ pub(crate) fn put_width(out: &mut Vec<u8>, width: Width) -> Result<(), AllocErro
     )
 }
 
+impl Write for Width {
+    ghost spelled = { λ w. number_bytes 1 (bits w) };
+
+    fn write(&self, out: &mut Vec<u8>) -> Result<(), AllocError> {
+        put_width(out, *self)
+    }
+}
+
 /// Records, behind their count in one byte.
-pub(crate) fn put_rows8<R: Write>(out: &mut Vec<u8>, rows: &[R]) -> Result<(), AllocError>
+pub fn put_rows8<R: Write>(out: &mut Vec<u8>, rows: &[R]) -> Result<(), AllocError>
     ensures { OnOk result (out.new.items ≡ out.old.items ++ (number_bytes 1 (length rows.now) ++ flat_map R.spelled rows.now)) }
 {
     put_count8(out, rows.len())?;
@@ -98,7 +105,7 @@ pub(crate) fn put_rows8<R: Write>(out: &mut Vec<u8>, rows: &[R]) -> Result<(), A
 }
 
 /// Records, behind their count in two bytes.
-pub(crate) fn put_rows16<R: Write>(out: &mut Vec<u8>, rows: &[R]) -> Result<(), AllocError>
+pub fn put_rows16<R: Write>(out: &mut Vec<u8>, rows: &[R]) -> Result<(), AllocError>
     ensures { OnOk result (out.new.items ≡ out.old.items ++ (number_bytes 2 (length rows.now) ++ flat_map R.spelled rows.now)) }
 {
     put_count16(out, rows.len())?;

@@ -2,8 +2,7 @@
 use Rattle.std.specs.Prelude.{◌≡◌, ℕ, zero, suc, ◌<◌, ◌^◌, nat_lt, Bool, true, false, IsTrue, nat_eq, List, [], ◌∷◌, ◌++◌, length, take, drop, flat_map, slice_index, Option, Some, None, Result, Ok, Err}
 use Rattle.byteorder.specs.Endian.{little_bytes, little_number}
 use Rattle.cmm_rules.specs.declared.rule.Rule.{Rule}
-use Rattle.cmm_rules.specs.declared.rule.Rule.TheVariants.{ImageIsCut}
-use Rattle.cmm_image.specs.declared.fault.Broken.{Broken}
+use Rattle.cmm_format.specs.declared.fault.Broken.{Broken}
 
 -- what stands at the front of bytes: a value and the bytes after it, or the first field that breaks a rule
 abbrev pub Front : Type 0 → Type 0
@@ -27,44 +26,44 @@ breaks rule bytes = record { rule = rule; left = length bytes }
 abbrev pub AreBytes : List ℕ → Type 0
 AreBytes bytes = (i : ℕ) → slice_index bytes i < 256
 
--- ---- kinds of field
+-- ---- kinds of field: each names the rule that is broken where the bytes end inside it
 
 unfoldable pub number_bytes : ℕ → ℕ → List ℕ
 number_bytes width n = little_bytes width n
 
-unfoldable pub number_at : ℕ → List ℕ → Front ℕ
-number_at width bytes = elim (nat_lt (length bytes) width) [
-  | true ↦ Err (breaks ImageIsCut bytes)
+unfoldable pub number_at : Rule → ℕ → List ℕ → Front ℕ
+number_at cut width bytes = elim (nat_lt (length bytes) width) [
+  | true ↦ Err (breaks cut bytes)
   | false ↦ Ok (little_number width bytes, drop width bytes)
 ]
 
 -- a number of n bytes, the lowest first
-abbrev pub number : ℕ → Format ℕ
-number width = record { spelled = number_bytes width; Holds = λ n. n < 256 ^ width; at = number_at width }
+abbrev pub number : Rule → ℕ → Format ℕ
+number cut width = record { spelled = number_bytes width; Holds = λ n. n < 256 ^ width; at = number_at cut width }
 
-unfoldable pub block_at : ℕ → List ℕ → Front (List ℕ)
-block_at count bytes = elim (nat_lt (length bytes) count) [
-  | true ↦ Err (breaks ImageIsCut bytes)
+unfoldable pub block_at : Rule → ℕ → List ℕ → Front (List ℕ)
+block_at cut count bytes = elim (nat_lt (length bytes) count) [
+  | true ↦ Err (breaks cut bytes)
   | false ↦ Ok (take count bytes, drop count bytes)
 ]
 
 -- n bytes
-abbrev pub block : ℕ → Format (List ℕ)
-block count = record { spelled = λ text. text; Holds = λ text. (length text ≡ count) × AreBytes text; at = block_at count }
+abbrev pub block : Rule → ℕ → Format (List ℕ)
+block cut count = record { spelled = λ text. text; Holds = λ text. (length text ≡ count) × AreBytes text; at = block_at cut count }
 
 unfoldable pub text_bytes : List ℕ → List ℕ
 text_bytes text = number_bytes 1 (length text) ++ text
 
-unfoldable pub text_at : List ℕ → Front (List ℕ)
-text_at [] = Err (breaks ImageIsCut [])
-text_at (count ∷ rest) = elim (nat_lt (length rest) count) [
-  | true ↦ Err (breaks ImageIsCut (count ∷ rest))
+unfoldable pub text_at : Rule → List ℕ → Front (List ℕ)
+text_at cut [] = Err (breaks cut [])
+text_at cut (count ∷ rest) = elim (nat_lt (length rest) count) [
+  | true ↦ Err (breaks cut (count ∷ rest))
   | false ↦ Ok (take count rest, drop count rest)
 ]
 
 -- a count of one byte, and n bytes
-abbrev pub text : Format (List ℕ)
-text = record { spelled = text_bytes; Holds = λ t. (length t < 256) × AreBytes t; at = text_at }
+abbrev pub text : Rule → Format (List ℕ)
+text cut = record { spelled = text_bytes; Holds = λ t. (length t < 256) × AreBytes t; at = text_at cut }
 
 -- ---- rules of a field
 
@@ -108,11 +107,11 @@ unless_mark mark cs bytes x = elim (nat_eq x.0 mark) [
   | false ↦ judged cs bytes x >>= λ y. Ok (Some y.0, y.1)
 ]
 
-abbrev pub optional : ℕ → ℕ → List (Condition ℕ) → Format (Option ℕ)
-optional width mark cs = record {
+abbrev pub optional : Rule → ℕ → ℕ → List (Condition ℕ) → Format (Option ℕ)
+optional cut width mark cs = record {
   spelled = λ o. number_bytes width (optional_number mark o);
   Holds = HoldsOptional width mark cs;
-  at = λ bytes. number_at width bytes >>= unless_mark mark cs bytes;
+  at = λ bytes. number_at cut width bytes >>= unless_mark mark cs bytes;
 }
 
 -- values of another type, which stand for those of a format

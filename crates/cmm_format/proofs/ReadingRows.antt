@@ -2,10 +2,10 @@
 use Rattle.std.proofs.Common.{◌≡◌, ℕ, suc, ◌-◌, ◌+◌, ◌≤◌, ◌<◌, List, [], ◌∷◌, ◌++◌, length, slice_get, Option, Some, Ok, Err, refl, sym, ap, ◌∙◌, append_assoc, arith}
 use Rattle.std.proofs.lemmas.List.{append-nil, length-append, get_or_at}
 use Rattle.std.proofs.lemmas.Option.{slice_get-get_or}
-use Rattle.cmm_image.specs.declared.fault.Unread.{Unread}
-use Rattle.cmm_image.specs.declared.fault.Unread.TheVariants.{Breaks, Memory}
-use Rattle.cmm_image.specs.Formats.{◌>>=◌, Front, rows_at}
-use Rattle.cmm_image.specs.inside.Reading.{Reads}
+use Rattle.cmm_format.specs.declared.fault.Unread.{Unread}
+use Rattle.cmm_format.specs.declared.fault.Unread.TheVariants.{Breaks, Memory}
+use Rattle.cmm_format.specs.Formats.{◌>>=◌, Front, rows_at}
+use Rattle.cmm_format.specs.Reading.{Reads}
 
 -- what was read before, and what is still read
 abbrev pub with_front : {A : Type 0} → List A → Front (List A) → Front (List A)

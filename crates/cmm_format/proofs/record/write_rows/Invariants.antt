@@ -1,6 +1,6 @@
 use Rattle.std.proofs.Common.{◌≡◌, ◌++◌, take}
 use Rattle.std.specs.List.{flat_map}
-use Rattle.cmm_image.proofs.record.write_rows.Given as goal
+use Rattle.cmm_format.proofs.record.write_rows.Given as goal
 
 abbrev pub invariant-loop-row : goal.invariant-loop-row
 invariant-loop-row g l = l.out.items ≡ l.fn.out.items ++ flat_map g.R.Write.spelled (take l.row-index l.rows)

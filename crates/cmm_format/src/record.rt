@@ -1,16 +1,17 @@
 //! What is read and written alike, record after record.
 
 ghost use Rattle.std.specs.Prelude.{◌≡◌, ℕ, ◌++◌, List, Option, None, OnOk, option_copied, flat_map};
-ghost use Rattle.cmm_image.specs.Formats.{Front, rows_at, counted_at, number_at};
-ghost use Rattle.cmm_image.specs.inside.Reading.{Reads};
+ghost use Rattle.cmm_format.specs.Formats.{Front, rows_at, counted_at, number_at};
+ghost use Rattle.cmm_format.specs.Reading.{Reads};
 
 use crate::fault::Unread;
 use crate::reader::Reader;
 use cmm_items::Items;
+use cmm_rules::Rule;
 use std::alloc::AllocError;
 
-/// A record whose bytes may depend on what stands before it in the image.
-pub(crate) trait Read<C>: Sized + Drop {
+/// A record whose bytes may depend on what stands before it.
+pub trait Read<C>: Sized + Drop {
     /// What stands at the front of bytes, behind what came before and the record before.
     ghost at: { C → Option Self → List ℕ → Front Self };
 
@@ -20,7 +21,7 @@ pub(crate) trait Read<C>: Sized + Drop {
 }
 
 /// A record that has bytes.
-pub(crate) trait Write {
+pub trait Write {
     ghost spelled: { Self → List ℕ };
 
     /// Adds the record's bytes.
@@ -29,7 +30,7 @@ pub(crate) trait Write {
 }
 
 /// A list of `count` records, one after another.
-pub(crate) fn read_rows<C, R: Read<C>>(
+pub fn read_rows<C, R: Read<C>>(
     reader: &mut Reader<'_>,
     context: &C,
     count: usize,
@@ -45,29 +46,31 @@ pub(crate) fn read_rows<C, R: Read<C>>(
 }
 
 /// A count of one byte, and as many records.
-pub(crate) fn read_rows8<C, R: Read<C>>(
+pub fn read_rows8<C, R: Read<C>>(
     reader: &mut Reader<'_>,
+    cut: Rule,
     context: &C,
 ) -> Result<Items<R>, Unread>
-    ensures { Reads result (counted_at (number_at 1) (R.at context.now) reader.old.rest.now) reader.new.rest.now }
+    ensures { Reads result (counted_at (number_at cut 1) (R.at context.now) reader.old.rest.now) reader.new.rest.now }
 {
-    let count = reader.u8()?;
+    let count = reader.u8(cut)?;
     read_rows(reader, context, usize::from(count))
 }
 
 /// A count of two bytes, and as many records.
-pub(crate) fn read_rows16<C, R: Read<C>>(
+pub fn read_rows16<C, R: Read<C>>(
     reader: &mut Reader<'_>,
+    cut: Rule,
     context: &C,
 ) -> Result<Items<R>, Unread>
-    ensures { Reads result (counted_at (number_at 2) (R.at context.now) reader.old.rest.now) reader.new.rest.now }
+    ensures { Reads result (counted_at (number_at cut 2) (R.at context.now) reader.old.rest.now) reader.new.rest.now }
 {
-    let count = reader.u16()?;
+    let count = reader.u16(cut)?;
     read_rows(reader, context, usize::from(count))
 }
 
 /// The bytes of records, one after another.
-pub(crate) fn write_rows<R: Write>(out: &mut Vec<u8>, rows: &[R]) -> Result<(), AllocError>
+pub fn write_rows<R: Write>(out: &mut Vec<u8>, rows: &[R]) -> Result<(), AllocError>
     ensures { OnOk result (out.new.items ≡ out.old.items ++ flat_map R.spelled rows.now) }
 {
     for row in rows {

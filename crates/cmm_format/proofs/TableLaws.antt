@@ -1,8 +1,8 @@
 -- Tables of fields, and rows: what is read is spelled so, and what is spelled so is read.
 use Rattle.std.proofs.Common.{◌≡◌, ℕ, zero, suc, List, [], ◌∷◌, ◌++◌, length, Option, Some, None, Ok, refl, sym, ap, subst, ◌∙◌, append_assoc, arith}
 use Rattle.std.specs.List.{flat_map}
-use Rattle.cmm_image.specs.Formats.{◌>>=◌, Format, AreBytes, as_, ◌▸◌, rows_at, AreRows, rows, counted}
-use Rattle.cmm_image.proofs.FieldLaws.{IsExact, bind_ok, ok_is}
+use Rattle.cmm_format.specs.Formats.{◌>>=◌, Format, AreBytes, as_, ◌▸◌, rows_at, AreRows, rows, counted}
+use Rattle.cmm_format.proofs.FieldLaws.{IsExact, bind_ok, ok_is}
 
 pub then-exact : {A B : Type 0} {F : Format A} {G : A → Format B} → IsExact F → ((a : A) → IsExact (G a)) → IsExact (F ▸ G)
 then-exact {A = A} {B = B} {F = F} {G = G} f g = record {

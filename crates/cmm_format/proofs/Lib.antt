@@ -1,0 +1,5 @@
+mod FieldLaws
+mod TableLaws
+mod ReadingRows
+mod WholeLaws
+pub mod Shared
