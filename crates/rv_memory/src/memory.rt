@@ -56,7 +56,12 @@ impl Memory {
 
     /// A memory with this code, this data, and these bytes of the region, as a run left them. What is behind argument area and global
     /// registers is the stack.
-    pub fn restored(alloc: Global, code: &[u8], initial: &[u8], region: &[u8]) -> Result<Memory, NoMemory>
+    pub fn restored(
+        alloc: Global,
+        code: &[u8],
+        initial: &[u8],
+        region: &[u8],
+    ) -> Result<Memory, NoMemory>
         requires code { length code.now ≤ CODE_LENGTH_LIMIT }
         requires initial { length initial.now ≤ DATA_LENGTH_LIMIT }
         requires low { BELOW_STACK ≤ length region.now }
