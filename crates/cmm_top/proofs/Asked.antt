@@ -1,6 +1,7 @@
 -- What words ask for.
-use Rattle.std.proofs.Common.{◌≡◌, ℕ, ◌<◌, ◌≤◌, Bor, List, [], ◌∷◌, map, length, Option, Some, None, refl, ap, subst, ◌∙◌, arith}
+use Rattle.std.proofs.Common.{◌≡◌, ℕ, ◌<◌, ◌≤◌, Bor, List, [], ◌∷◌, map, length, Option, Some, None, IfSome, refl, ap, subst, ◌∙◌, arith}
 use Rattle.std.specs.List.{All}
+use Rattle.std.specs.Option.{option_map}
 use Rattle.std.proofs.lemmas.List.{length-map}
 use Rattle.std.proofs.lemmas.List.Elements.{All-cons, All-head, All-nil, All-tail}
 use Rattle.cmm_command.specs.Laws.{CommandsAreInRange, IsName}
@@ -22,16 +23,14 @@ none_is (Some t) is = absurd is
 -- what words ask for is in range
 pub can_be_done : CommandsAreInRange → (words : List (List ℕ)) (m : Meaning) (t : Task) → meaning_of words ≡ Some m → task_in m ≡ Some t → CanBeDone t
 can_be_done law words (meaning.exec [] client limits) t is asks = absurd cc
-can_be_done law words (meaning.exec (name ∷ names) None limits) t is asks =
-    let range = law words (meaning.exec (name ∷ names) None limits) is in
-    let same : execute (name ∷ names) limits ≡ t = cc in
-    let some : 0 < length (name ∷ names) = omega arith in subst CanBeDone same (range.0, some, (range.2.whole, range.2.stack))
-can_be_done law words (meaning.exec (name ∷ names) (Some client) limits) t is asks = absurd cc
-can_be_done law words (meaning.run image None limits None) t is asks =
-    let range = law words (meaning.run image None limits None) is in
-    let same : run image limits ≡ t = cc in subst CanBeDone same (range.0, (range.2.whole, range.2.stack))
-can_be_done law words (meaning.run image None limits (Some save)) t is asks = absurd cc
-can_be_done law words (meaning.run image (Some client) limits save) t is asks = absurd cc
+can_be_done law words (meaning.exec (name ∷ names) client limits) t is asks =
+    let range = law words (meaning.exec (name ∷ names) client limits) is in
+    let same : execute (name ∷ names) client limits ≡ t = cc in
+    let some : 0 < length (name ∷ names) = omega arith in subst CanBeDone same (range.0, some, range.1, (range.2.whole, range.2.stack))
+can_be_done law words (meaning.run image client limits None) t is asks =
+    let range = law words (meaning.run image client limits None) is in
+    let same : run image client limits ≡ t = cc in subst CanBeDone same (range.0, range.1, (range.2.whole, range.2.stack))
+can_be_done law words (meaning.run image client limits (Some save)) t is asks = absurd cc
 can_be_done law words (meaning.build [] image) t is asks = absurd cc
 can_be_done law words (meaning.build (name ∷ names) image) t is asks =
     let range = law words (meaning.build (name ∷ names) image) is in
@@ -54,3 +53,8 @@ short_names (n ∷ ns) are =
 
 pub some_names : (names : List (Bor (List ℕ))) → 0 < length (map (λ name. name.now) names) → 0 < length names
 some_names names some = subst (λ n. 0 < n) (length-map names (λ name. name.now)) some
+
+-- and the name of a file that may not be named
+pub short_name : (name : Option (Bor (List ℕ))) → IfSome (option_map (λ n. n.now) name) IsName → IfSome name (λ n. length n.now ≤ NAME_LIMIT)
+short_name None is = tt
+short_name (Some n) is = is

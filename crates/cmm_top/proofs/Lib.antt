@@ -1,6 +1,6 @@
-pub mod Reading
+pub mod FilesRead
 pub mod Refusing
-pub mod ImageFaults
 pub mod Counting
 pub mod Asked
 pub mod Closing
+pub mod Preparing

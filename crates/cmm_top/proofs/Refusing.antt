@@ -10,7 +10,8 @@ use Rattle.cmm_front.specs.declared.fault.FrontFault.TheVariants.{At, Memory}
 use Rattle.cmm_front.specs.Refusing.{BreaksLexis, IsFaultOf, IsRefused as IsRefusedAtFront}
 use Rattle.cmm_outside.specs.Storage.{Contents}
 use Rattle.cmm_top.specs.Call.{Outside}
-use Rattle.cmm_top.specs.Units.{HasUnits, HaveNoImage, IsRefused}
+use Rattle.cmm_top.specs.Files.{HasUnits}
+use Rattle.cmm_top.specs.Units.{IsRefused}
 use Rattle.cmm_top.specs.Work.{RanOutOfMemory}
 use Rattle.cmm_top.specs.declared.ending.Ending.{Ending}
 use Rattle.cmm_top.specs.declared.ending.Ending.TheVariants as ending
@@ -38,6 +39,7 @@ is_refused names HasFault before after (build.At f) (ending.Refused name g) same
     }
 is_refused names HasFault before after (build.At f) ending.Usage same refuses has = absurd refuses
 is_refused names HasFault before after (build.At f) (ending.BadImage rule offset) same refuses has = absurd refuses
+is_refused names HasFault before after (build.At f) (ending.BadScript rule line) same refuses has = absurd refuses
 is_refused names HasFault before after (build.At f) (ending.FileFault name) same refuses has = absurd refuses
 is_refused names HasFault before after (build.At f) ending.OutputFault same refuses has = absurd refuses
 is_refused names HasFault before after (build.At f) ending.OutOfMemory same refuses has = absurd refuses
@@ -47,22 +49,14 @@ is_refused names HasFault before after build.Memory ending.OutOfMemory same refu
 is_refused names HasFault before after build.Memory ending.Usage same refuses has = absurd refuses
 is_refused names HasFault before after build.Memory (ending.Refused name g) same refuses has = absurd refuses
 is_refused names HasFault before after build.Memory (ending.BadImage rule offset) same refuses has = absurd refuses
+is_refused names HasFault before after build.Memory (ending.BadScript rule line) same refuses has = absurd refuses
 is_refused names HasFault before after build.Memory (ending.FileFault name) same refuses has = absurd refuses
 is_refused names HasFault before after build.Memory ending.OutputFault same refuses has = absurd refuses
 is_refused names HasFault before after build.Memory ending.Built same refuses has = absurd refuses
 is_refused names HasFault before after build.Memory (ending.Ran outcome) same refuses has = absurd refuses
 
 -- a fault that the units have in the files
-fault_in : (contents : Option Contents) (names : List (List ℕ)) (fault : BuildFault) → HasUnits contents names (λ units. IsRefusedBy (IsFaultOf units) fault) →
+pub fault_in : (contents : Option Contents) (names : List (List ℕ)) (fault : BuildFault) → HasUnits contents names (λ units. IsRefusedBy (IsFaultOf units) fault) →
     IsRefusedBy (λ f. HasUnits contents names (λ units. IsFaultOf units f)) fault
 fault_in contents names (build.At f) has = has
 fault_in contents names build.Memory has = tt
-
--- units in files that are refused have no image
-pub have_no_image : (names : List (List ℕ)) (before after : Outside) (fault : BuildFault) (end : Ending) → after ≡ before → Refuses names fault end →
-    HasUnits before.files names (λ units. IsRefusedBy (IsFaultOf units) fault) → HaveNoImage names (work_of end None before after)
-have_no_image names before after fault end same refuses has =
-    elim (is_refused names (λ f. HasUnits before.files names (λ units. IsFaultOf units f)) before after fault end same refuses (fault_in before.files names fault has)) [
-      | inl refused ↦ inl refused
-      | inr memory ↦ inr (inr memory)
-    ]

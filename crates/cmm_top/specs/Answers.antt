@@ -14,8 +14,8 @@ use Rattle.cmm_top.specs.Words.{Task, execute, run, build, generate, task_of}
 use Rattle.cmm_top.specs.Work.{DoesNothing, Ends, RanOutOfMemory, Work}
 
 abbrev pub Does : Task → Work → Type 0
-Does (execute names limits) w = Executes names limits w
-Does (run name limits) w = RunsFile name limits w
+Does (execute names client limits) w = Executes names client limits w
+Does (run name client limits) w = RunsFile name client limits w
 Does (build names name) w = Builds names name w
 Does (generate number) w = Generates number w
 

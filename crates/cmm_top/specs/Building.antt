@@ -7,7 +7,8 @@ use Rattle.cmm_outside.specs.Faults.{Rose}
 use Rattle.cmm_outside.specs.Storage.{Contents, StopsWriting, Writes}
 use Rattle.cmm_top.specs.declared.status.Status.TheVariants.{Done, FileFault}
 use Rattle.cmm_top.specs.Lines.{file_fault_line}
-use Rattle.cmm_top.specs.Units.{HasUnits, HaveNoImage}
+use Rattle.cmm_top.specs.Files.{HasUnits}
+use Rattle.cmm_top.specs.Units.{HaveNoImage}
 use Rattle.cmm_top.specs.Work.{Ends, Work}
 
 -- these bytes are those of an image that agrees with the units
@@ -38,4 +39,4 @@ pub record FailsToWrite (names : List (List ℕ)) (name : List ℕ) (w : Work) :
   pub ends : Ends w (file_fault_line name) FileFault
 
 abbrev pub Builds : List (List ℕ) → List ℕ → Work → Type 0
-Builds names name w = HasBuilt names name w ⊎ (FailsToWrite names name w ⊎ HaveNoImage names w)
+Builds names name w = HasBuilt names name w ⊎ (FailsToWrite names name w ⊎ HaveNoImage names names w)

@@ -14,7 +14,7 @@ use Rattle.cmm_top.specs.declared.status.Status.TheVariants.{OutputFault}
 use Rattle.cmm_top.specs.Call.{SameButLog}
 use Rattle.cmm_top.specs.Lines.{counts_lines}
 use Rattle.cmm_top.specs.Units.{IsRefused}
-use Rattle.cmm_top.specs.Work.{Ends, Ran, RanOutOfMemory, Work}
+use Rattle.cmm_top.specs.Work.{Ends, Ran, RanOutOfMemory, Work, no_script}
 
 -- how far the run goes: as one does for which nothing is said
 abbrev pub usual_limits : RunLimits
@@ -33,7 +33,7 @@ pub record HasRun (number : ℕ) (w : Work) : Type 0 where
   pub loaded : IsLoaded number program image w
   pub told : Option (List ℕ)
   pub counts : Appends w.before.streams.log told (counts_lines program)
-  pub ran : Ran w (record w.before.streams { log = told }) image usual_limits
+  pub ran : Ran w (record w.before.streams { log = told }) image no_script usual_limits
 
 -- the log failed where it was to get the counts, and nothing was run
 pub record FailsToCount (number : ℕ) (w : Work) : Type 0 where

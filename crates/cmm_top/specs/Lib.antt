@@ -1,8 +1,9 @@
 pub mod Call
 pub mod Status
 pub mod Lines
-pub mod Script
 pub mod Work
+pub mod Files
+pub mod Script
 pub mod Units
 pub mod Executing
 pub mod Running

@@ -21,6 +21,10 @@ refused_line name fault =
 abbrev pub bad_image_line : Rule → ℕ → List ℕ
 bad_image_line rule offset = codes "bad image " ++ (decimal (rule_number rule) ++ (codes " at " ++ (decimal offset ++ codes "\n")))
 
+-- a file that holds no script of a client, by the rule that its bytes break first, and in which line
+abbrev pub bad_script_line : Rule → ℕ → List ℕ
+bad_script_line rule line = codes "bad script " ++ (decimal (rule_number rule) ++ (codes " line " ++ (decimal line ++ codes "\n")))
+
 abbrev pub file_fault_line : List ℕ → List ℕ
 file_fault_line name = codes "file fault " ++ (name ++ codes "\n")
 

@@ -1,4 +1,4 @@
--- What the words of the command line ask for, so far: a task without a client, which saves nothing.
+-- What the words of the command line ask for, so far: a task that saves nothing.
 use Rattle.std.specs.Prelude.{ℕ, List, [], ◌∷◌, map, Option, Some, None, String, string_bytes}
 use Rattle.std.specs.Global.{Global}
 use Rattle.cmm_command.specs.Meaning.{Meaning, meaning_of}
@@ -9,20 +9,18 @@ use Rattle.cmm_command.specs.declared.command.RunLimits.{RunLimits}
 abbrev pub texts : List (String Global) → List (List ℕ)
 texts words = map string_bytes words
 
--- Units are in files of these names, one at least, and an image is in the file of one.
+-- Units are in files of these names, one at least, an image is in the file of one, and the script of a client, if there is one, in the file of one.
 pub data Task : Type 0 where
-  execute : List (List ℕ) → RunLimits → Task
-  run : List ℕ → RunLimits → Task
+  execute : List (List ℕ) → Option (List ℕ) → RunLimits → Task
+  run : List ℕ → Option (List ℕ) → RunLimits → Task
   build : List (List ℕ) → List ℕ → Task
   generate : ℕ → Task
 
 abbrev pub task_in : Meaning → Option Task
 task_in (meaning.exec [] client limits) = None
-task_in (meaning.exec (name ∷ names) None limits) = Some (execute (name ∷ names) limits)
-task_in (meaning.exec (name ∷ names) (Some client) limits) = None
-task_in (meaning.run image None limits None) = Some (run image limits)
-task_in (meaning.run image None limits (Some save)) = None
-task_in (meaning.run image (Some client) limits save) = None
+task_in (meaning.exec (name ∷ names) client limits) = Some (execute (name ∷ names) client limits)
+task_in (meaning.run image client limits None) = Some (run image client limits)
+task_in (meaning.run image client limits (Some save)) = None
 task_in (meaning.build [] image) = None
 task_in (meaning.build (name ∷ names) image) = Some (build (name ∷ names) image)
 task_in (meaning.walk image snapshot) = None

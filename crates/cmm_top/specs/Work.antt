@@ -1,12 +1,13 @@
 -- What a call does, all but the line that it ends with.
-use Rattle.std.specs.Prelude.{◌≡◌, ℕ, List, Option, None}
+use Rattle.std.specs.Prelude.{◌≡◌, ℕ, List, [], Option, None}
 use Rattle.cmm_command.specs.declared.command.RunLimits.{RunLimits}
 use Rattle.cmm_compile.specs.Agreement.{launch_of}
 use Rattle.cmm_image.specs.declared.parts.ImageParts.{ImageParts}
 use Rattle.cmm_run.specs.declared.outcome.Outcome.{Outcome}
 use Rattle.cmm_run.specs.Outside.{Outside as Streams}
 use Rattle.cmm_run.specs.Runs.{Runs}
-use Rattle.cmm_top.specs.Script.{no_script}
+use Rattle.cmm_script.specs.declared.script.Script.{Script}
+use Rattle.rv_table.specs.Machine.{State}
 use Rattle.cmm_top.specs.declared.status.Status.{Status}
 use Rattle.cmm_top.specs.declared.status.Status.TheVariants.{Memory}
 use Rattle.cmm_top.specs.Call.{Outside, SameFiles}
@@ -37,9 +38,15 @@ pub record RanOutOfMemory (w : Work) : Type 0 where
   pub nothing : DoesNothing w
   pub ends : Ends w memory_line Memory
 
--- An image has run, from where the streams stood so, as the definition of an image says, with no script: what was written and taken, and what it came to.
-pub record Ran (w : Work) (start : Streams) (image : ImageParts) (limits : RunLimits) : Type 0 where
+-- the script without a block, at which each yield stops the run
+abbrev pub no_script : Script
+no_script = record { blocks = [] }
+
+-- An image has run with a script, from where the streams stood so, as the definition of an image says: what was written and taken, and what it came to. Where the
+-- client stopped it, its registers and its memory stood so.
+pub record Ran (w : Work) (start : Streams) (image : ImageParts) (script : Script) (limits : RunLimits) : Type 0 where
   pub files : SameFiles w.before w.after
   pub outcome : Outcome
-  pub runs : Runs (launch_of image no_script limits.stack) limits.steps start w.after.streams outcome
+  pub machine : State
+  pub runs : Runs (launch_of image script limits.stack) limits.steps start w.after.streams outcome machine
   pub ends : Ends w (outcome_line outcome) (status_of outcome)

@@ -1,5 +1,6 @@
 //! What a call comes to, before its line is written.
 
+use crate::reading::ReadFault;
 use cmm_rules::Rule;
 use cmm_run::Outcome;
 use cmm_static_semantics::Fault;
@@ -13,6 +14,8 @@ pub(crate) enum Ending<'a> {
     Refused(&'a str, Fault),
     /// The bytes of a file are no image: this rule is broken at the field that begins at this offset.
     BadImage { rule: Rule, offset: u64 },
+    /// The bytes of a file are no script: this rule is broken in this line.
+    BadScript { rule: Rule, line: u32 },
     /// A call on the file of this name failed.
     FileFault(&'a str),
     /// A call on the log failed.
@@ -23,4 +26,17 @@ pub(crate) enum Ending<'a> {
     Built,
     /// An image has run.
     Ran(Outcome),
+}
+
+impl<'a> From<ReadFault<'a>> for Ending<'a> {
+    ghost use Rattle.cmm_top.specs.inside.Ending.{IsUnread};
+
+    ghost from_gives = { IsUnread };
+
+    fn from(fault: ReadFault<'a>) -> Ending<'a> {
+        match fault {
+            ReadFault::Failed(name) => Ending::FileFault(name),
+            ReadFault::Memory => Ending::OutOfMemory,
+        }
+    }
 }

@@ -13,7 +13,7 @@ ghost use Rattle.cmm_top.specs.Lines.{counts_lines, site_count};
 ghost use Rattle.cmm_top.specs.inside.Ending.{work_of};
 
 use crate::ending::Ending;
-use crate::session::{finish, load};
+use crate::session::{Prepared, load};
 use crate::units::refusal;
 use cmm_command::{RunLimits, USUAL_STACK, USUAL_STEPS};
 use cmm_compile::{Compiled, compile_program};
@@ -22,6 +22,7 @@ use cmm_items::Items;
 use cmm_outside::{Failed, Sink, Source};
 use cmm_program::Program;
 use cmm_report::{Part, write_parts};
+use cmm_script::Script;
 use rv_memory::NoMemory;
 use std::alloc::{AllocError, Global};
 
@@ -102,13 +103,17 @@ pub(crate) fn generate<I: Source, O: Sink, E: Sink>(
         Ok(compiled) => compiled,
         Err(ending) => return (ending, None),
     };
-    let session = match load(alloc, image, LIMITS) {
+    let prepared = Prepared {
+        image,
+        script: Script::empty(alloc),
+    };
+    let mut session = match load(alloc, prepared, LIMITS) {
         Ok(session) => session,
         Err(NoMemory) => return (Ending::OutOfMemory, None),
     };
     let Ok(()) = put_counts(&program, log) else {
         return (Ending::OutputFault, Some(session.into_image()));
     };
-    let (outcome, image) = finish(session, input, out, log);
-    (Ending::Ran(outcome), Some(image))
+    let outcome = session.run(input, out, log);
+    (Ending::Ran(outcome), Some(session.into_image()))
 }

@@ -8,16 +8,19 @@
 //! - `top`: `cmm_main`.
 //! - `task`: what words ask for.
 //! - `executing`, `running`, `building`, `generating`: `exec`, `run`, `build` and `gen`.
-//! - `units`: units read from their files and built. `sources`: their bytes. `session`: an image that runs.
+//! - `reading`: files that are read. `sources`: the bytes of units, `units`: their image. `client`: the script of a client.
+//! - `session`: an image that runs.
 //! - `ending`, `line`: what a call comes to, and the line that closes the log.
 //! - `status`: exit statuses, and `Finish`.
 #![tactic(auto)]
 
 mod building;
+mod client;
 mod ending;
 mod executing;
 mod generating;
 mod line;
+mod reading;
 mod running;
 mod session;
 mod sources;

@@ -3,7 +3,7 @@
 ghost use Rattle.std.specs.Prelude.{◌≡◌};
 ghost use Rattle.cmm_outside.specs.Output.{WritesAll};
 ghost use Rattle.cmm_top.specs.inside.Ending.{Closes, line_of, status_at};
-ghost use Rattle.cmm_top.specs.Lines.{bad_image_line, outcome_line, refused_line};
+ghost use Rattle.cmm_top.specs.Lines.{bad_image_line, bad_script_line, outcome_line, refused_line};
 
 use crate::ending::Ending;
 use crate::status::Status;
@@ -30,6 +30,7 @@ fn status_of(ending: &Ending) -> Status
         Ending::Usage => Status::Usage,
         Ending::Refused(..) => Status::Refused,
         Ending::BadImage { .. } => Status::BadImage,
+        Ending::BadScript { .. } => Status::BadScript,
         Ending::FileFault(_) => Status::FileFault,
         Ending::OutputFault => Status::OutputFault,
         Ending::OutOfMemory => Status::Memory,
@@ -46,6 +47,7 @@ fn write_line<E: Sink>(ending: &Ending, log: &mut E) -> Result<(), Failed>
         Ending::Usage => write_all(log, b"usage\n"),
         Ending::Refused(name, fault) => write_fault(fault, name, log),
         Ending::BadImage { rule, offset } => write_image_fault(rule, offset, log),
+        Ending::BadScript { rule, line } => write_script_fault(rule, line, log),
         Ending::FileFault(name) => write_parts(
             log,
             &[
@@ -92,6 +94,22 @@ fn write_image_fault<E: Sink>(rule: Rule, offset: u64, log: &mut E) -> Result<()
             Part::Number(u64::from(rule.number())),
             Part::Text(b" at "),
             Part::Number(offset),
+            Part::Text(b"\n"),
+        ],
+    )
+}
+
+/// Writes the line of bytes that are no script.
+fn write_script_fault<E: Sink>(rule: Rule, line: u32, log: &mut E) -> Result<(), Failed>
+    ensures { WritesAll E.taken E.faults log.old log.new (bad_script_line rule line) result }
+{
+    write_parts(
+        log,
+        &[
+            Part::Text(b"bad script "),
+            Part::Number(u64::from(rule.number())),
+            Part::Text(b" line "),
+            Part::Number(u64::from(line)),
             Part::Text(b"\n"),
         ],
     )

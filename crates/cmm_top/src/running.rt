@@ -1,66 +1,83 @@
 //! `run`: an image is read and runs.
 
-ghost use Rattle.std.specs.Prelude.{◌≡◌, ◌≤◌, length, None, IfOk, IfErr, OnOk};
+ghost use Rattle.std.specs.Prelude.{◌≡◌, ◌≤◌, ℕ, List, length, None, IfOk, IfErr, IfSome, OnOk};
+ghost use Rattle.std.specs.Option.{option_map};
 ghost use Rattle.cmm_compile.specs.Agreement.{IsStackSize};
 ghost use Rattle.cmm_image.specs.Images.{SpellsImage};
-ghost use Rattle.cmm_outside.specs.Storage.{HasFile};
+ghost use Rattle.cmm_image.specs.declared.reading.TheConstants.{IMAGE_LIMIT};
 ghost use Rattle.cmm_outside.specs.declared.storage.TheConstants.{NAME_LIMIT};
 ghost use Rattle.cmm_run.specs.Outside.{Outside as Streams, outside_of};
+ghost use Rattle.cmm_script.specs.Limits.{HasFewValues};
 ghost use Rattle.cmm_top.specs.Call.{standing};
-ghost use Rattle.cmm_top.specs.Running.{HoldsNoImage, RunsFile};
-ghost use Rattle.cmm_top.specs.inside.Ending.{IsNotRead, work_of};
+ghost use Rattle.cmm_top.specs.Files.{HasBytes};
+ghost use Rattle.cmm_top.specs.Running.{CannotRun, RunsFile};
+ghost use Rattle.cmm_top.specs.Script.{HasScript};
+ghost use Rattle.cmm_top.specs.inside.Ending.{IsNotImage, work_of};
+ghost use Rattle.cmm_top.specs.inside.Reading.{IsFileOf};
 
+use crate::client::{client_in, script_of};
 use crate::ending::Ending;
-use crate::session::run_image;
+use crate::reading::{FileBytes, bytes_in};
+use crate::session::{Prepared, run_image};
 use cmm_command::RunLimits;
 use cmm_image::{IMAGE_LIMIT, Image, ImageFault, read_image};
-use cmm_outside::{FileError, Files, Sink, Source, read_file};
+use cmm_outside::{Files, Sink, Source};
 use cmm_rules::Rule;
 use rv_memory::NoMemory;
 use std::alloc::Global;
 
-/// What the call comes to where there is no image in bytes.
-fn refusal<'a>(fault: ImageFault) -> Ending<'a>
-    ensures { IsNotRead fault result }
+/// The image in a file as it was read. The error is what the call comes to where there is none.
+fn image_of(alloc: Global, read: &FileBytes) -> Result<Image, Ending<'static>>
+    ensures ok { (bytes : List ℕ) → IsFileOf IMAGE_LIMIT bytes read.now → IfOk result (SpellsImage bytes) }
+    ensures err { (bytes : List ℕ) → IsFileOf IMAGE_LIMIT bytes read.now → IfErr result (IsNotImage bytes) }
 {
-    match fault {
-        ImageFault::At { rule, offset } => Ending::BadImage { rule, offset },
-        ImageFault::Memory => Ending::OutOfMemory,
+    let bytes = match read {
+        FileBytes::Whole(bytes) => bytes,
+        FileBytes::TooLong => {
+            return Err(Ending::BadImage {
+                rule: Rule::ImageTooLong,
+                offset: IMAGE_LIMIT as u64,
+            });
+        }
+    };
+    match read_image(alloc, bytes) {
+        Ok(image) => Ok(image),
+        Err(ImageFault::At { rule, offset }) => Err(Ending::BadImage { rule, offset }),
+        Err(ImageFault::Memory) => Err(Ending::OutOfMemory),
     }
 }
 
-/// The image in the file of this name. The error is what the call comes to where there is none: nothing was done then but to read.
-fn image_in<'a, F: Files>(alloc: Global, files: &mut F, name: &'a str) -> Result<Image, Ending<'a>>
-    requires { length name.now ≤ NAME_LIMIT }
-    ensures ok { IfOk result (λ image. HasFile (F.contents files.old) name.now (λ bytes. SpellsImage bytes image)) }
-    ensures err { (streams : Streams) → IfErr result (λ ending. HoldsNoImage name.now (work_of ending None
+/// The image in the file of this name, and the client's script. The error is what the call comes to where there is none: nothing was done then but to read.
+fn prepare<'a, F: Files>(
+    alloc: Global,
+    name: &'a str,
+    client: Option<&'a str>,
+    files: &mut F,
+) -> Result<Prepared, Ending<'a>>
+    requires short { length name.now ≤ NAME_LIMIT }
+    requires client { IfSome client (λ name. length name.now ≤ NAME_LIMIT) }
+    ensures spelled { IfOk result (λ p. HasBytes (F.contents files.old) name.now (λ bytes. SpellsImage bytes p.image)) }
+    ensures script { IfOk result (λ p. HasScript (F.contents files.old) (option_map (λ name. name.now) client.entry) p.script) }
+    ensures few { IfOk result (λ p. HasFewValues p.script) }
+    ensures err { (streams : Streams) → IfErr result (λ ending. CannotRun name.now (option_map (λ name. name.now) client.entry) (work_of ending None
         (standing F.contents F.faults F.last_failed files.old streams)
         (standing F.contents F.faults F.last_failed files.new streams))) }
     ensures same { F.contents files.new ≡ F.contents files.old }
     ensures no_fault { OnOk result (F.faults files.new ≡ F.faults files.old) }
     ensures no_failed_call { OnOk result (F.last_failed files.new ≡ F.last_failed files.old) }
 {
-    let bytes = match read_file(alloc, files, name, IMAGE_LIMIT as u64) {
-        Ok(bytes) => bytes,
-        Err(FileError::TooLong) => {
-            return Err(Ending::BadImage {
-                rule: Rule::ImageTooLong,
-                offset: IMAGE_LIMIT as u64,
-            });
-        }
-        Err(FileError::Failed) => return Err(Ending::FileFault(name)),
-        Err(FileError::Memory) => return Err(Ending::OutOfMemory),
-    };
-    match read_image(alloc, &bytes) {
-        Ok(image) => Ok(image),
-        Err(fault) => Err(refusal(fault)),
-    }
+    let bytes = bytes_in(alloc, files, name, IMAGE_LIMIT as u64)?;
+    let read = client_in(alloc, files, client)?;
+    let image = image_of(alloc, &bytes)?;
+    let script = script_of(alloc, &read)?;
+    Ok(Prepared { image, script })
 }
 
-/// What the image in the file of this name comes to: it is read and run.
+/// What the image in the file of this name comes to: it is read and run, with the client's script in another file.
 pub(crate) fn run<'a, F: Files, I: Source, O: Sink, E: Sink>(
     alloc: Global,
     name: &'a str,
+    client: Option<&'a str>,
     limits: RunLimits,
     files: &mut F,
     input: &mut I,
@@ -68,16 +85,17 @@ pub(crate) fn run<'a, F: Files, I: Source, O: Sink, E: Sink>(
     log: &mut E,
 ) -> Ending<'a>
     requires short { length name.now ≤ NAME_LIMIT }
+    requires client { IfSome client (λ name. length name.now ≤ NAME_LIMIT) }
     requires stack { IsStackSize limits.stack }
-    ensures { RunsFile name.now limits (work_of result None
+    ensures { RunsFile name.now (option_map (λ name. name.now) client.entry) limits (work_of result None
         (standing F.contents F.faults F.last_failed files.old (outside_of I.left I.faults O.taken O.faults E.taken E.faults input.old out.old log.old))
         (standing F.contents F.faults F.last_failed files.new (outside_of I.left I.faults O.taken O.faults E.taken E.faults input.new out.new log.new))) }
 {
-    let image = match image_in(alloc, files, name) {
-        Ok(image) => image,
+    let prepared = match prepare(alloc, name, client, files) {
+        Ok(prepared) => prepared,
         Err(ending) => return ending,
     };
-    match run_image(alloc, image, limits, input, out, log) {
+    match run_image(alloc, prepared, limits, input, out, log) {
         Ok((outcome, _)) => Ending::Ran(outcome),
         Err(NoMemory) => Ending::OutOfMemory,
     }

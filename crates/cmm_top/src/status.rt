@@ -32,6 +32,8 @@ pub enum Status {
     OutputFault,
     /// Memory ran out.
     Memory,
+    /// The file of the client holds no script.
+    BadScript,
     /// The chain of frames breaks.
     Torn,
 }
@@ -56,6 +58,7 @@ impl Status {
             Status::InputFault => 10,
             Status::OutputFault => 11,
             Status::Memory => 12,
+            Status::BadScript => 14,
             Status::Torn => 15,
         }
     }

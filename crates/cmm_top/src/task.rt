@@ -11,14 +11,16 @@ use cmm_items::Items;
 /// What words ask for. Files are named by at most 4,095 bytes.
 #[derive(Drop)]
 pub(crate) enum Task<'a> {
-    /// To build the units in files of these names, one at least, and to run their image.
+    /// To build the units in files of these names, one at least, and to run their image, with the client's script in a file.
     Execute {
         units: Items<&'a str>,
+        client: Option<&'a str>,
         limits: RunLimits,
     },
-    /// To run the image in a file.
+    /// To run the image in a file, with the client's script in another.
     Run {
         image: &'a str,
+        client: Option<&'a str>,
         limits: RunLimits,
     },
     /// To build the units in files of these names, one at least, and to write their image to a file.
@@ -32,7 +34,7 @@ pub(crate) enum Task<'a> {
     },
 }
 
-/// What a command asks for, so far: a task without a client, which saves nothing.
+/// What a command asks for, so far: a task that saves nothing.
 pub(crate) fn task_in<'a>(command: Command<'a>) -> Option<Task<'a>>
     ensures { IsAsked (task_meant (plain command.entry)) result }
 {
@@ -42,10 +44,14 @@ pub(crate) fn task_in<'a>(command: Command<'a>) -> Option<Task<'a>>
             client,
             limits,
         } => {
-            if client.is_some() || units.is_empty() {
+            if units.is_empty() {
                 return None;
             }
-            Some(Task::Execute { units, limits })
+            Some(Task::Execute {
+                units,
+                client,
+                limits,
+            })
         }
         Command::Run {
             image,
@@ -53,10 +59,14 @@ pub(crate) fn task_in<'a>(command: Command<'a>) -> Option<Task<'a>>
             limits,
             save,
         } => {
-            if client.is_some() || save.is_some() {
+            if save.is_some() {
                 return None;
             }
-            Some(Task::Run { image, limits })
+            Some(Task::Run {
+                image,
+                client,
+                limits,
+            })
         }
         Command::Build { units, image } => {
             if units.is_empty() {

@@ -37,11 +37,20 @@ fn done<'a, F: Files, I: Source, O: Sink, E: Sink>(
         (standing F.contents F.faults F.last_failed files.new (outside_of I.left I.faults O.taken O.faults E.taken E.faults input.new out.new log.new))) }
 {
     match task {
-        Task::Execute { units, limits } => {
-            exec(alloc, units.as_slice(), *limits, files, input, out, log)
+        Task::Execute {
+            units,
+            client,
+            limits,
+        } => {
+            let names = units.as_slice();
+            exec(alloc, names, *client, *limits, files, input, out, log)
         }
-        Task::Run { image, limits } => {
-            let ending = run(alloc, *image, *limits, files, input, out, log);
+        Task::Run {
+            image,
+            client,
+            limits,
+        } => {
+            let ending = run(alloc, *image, *client, *limits, files, input, out, log);
             (ending, None)
         }
         Task::Build { units, image } => {
@@ -81,8 +90,8 @@ fn ended<'a, F: Files, I: Source, O: Sink, E: Sink>(
 /// Does what the words of the command line ask for. The words are those after the program's name.
 ///
 /// - `build UNIT .. -o IMAGE` builds the units in files and writes their image to a file.
-/// - `run IMAGE` runs the image in a file.
-/// - `exec UNIT ..` builds the units in files and runs their image.
+/// - `run IMAGE` runs the image in a file, and answers its yields as the script of `--client` says.
+/// - `exec UNIT ..` builds the units in files and runs their image in the same way.
 /// - `gen NUMBER` builds the unit of a number, tells the counts of its program and runs its image.
 pub fn cmm_main<F: Files, I: Source, O: Sink, E: Sink>(
     alloc: Global,

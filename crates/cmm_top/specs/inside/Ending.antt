@@ -1,18 +1,25 @@
 -- What the private parts of the top call come to, before a line is written and after.
 use Rattle.std.specs.Prelude.{◌≡◌, ◌⊎◌, ℕ, List, [], slice_get, Option, Some}
+use Rattle.cmm_compile.specs.Refusing.{IsRefused}
 use Rattle.cmm_compile.specs.declared.fault.BuildFault.{BuildFault}
 use Rattle.cmm_compile.specs.declared.fault.BuildFault.TheVariants as build_fault
-use Rattle.cmm_image.specs.declared.fault.ImageFault.{ImageFault}
-use Rattle.cmm_image.specs.declared.fault.ImageFault.TheVariants as image_fault
+use Rattle.cmm_front.specs.Refusing.{IsFaultOf}
+use Rattle.cmm_image.specs.Images.{IsFirstFault as IsFirstImageFault}
 use Rattle.cmm_image.specs.declared.parts.ImageParts.{ImageParts}
 use Rattle.cmm_outside.specs.Faults.{Rose}
 use Rattle.cmm_outside.specs.Output.{Appends, AppendsFront}
+use Rattle.cmm_rules.specs.declared.rule.Rule.TheVariants.{ScriptTooLong}
+use Rattle.cmm_script.specs.Faults.{IsFirstFault}
 use Rattle.cmm_top.specs.declared.ending.Ending.{Ending}
-use Rattle.cmm_top.specs.declared.ending.Ending.TheVariants.{Usage, Refused, BadImage, FileFault, OutputFault, OutOfMemory, Built, Ran}
+use Rattle.cmm_top.specs.declared.ending.Ending.TheVariants.{Usage, Refused, BadImage, BadScript, FileFault, OutputFault, OutOfMemory, Built, Ran}
+use Rattle.cmm_top.specs.declared.reading.FileBytes.{FileBytes}
+use Rattle.cmm_top.specs.declared.reading.FileBytes.TheVariants.{Whole, TooLong}
+use Rattle.cmm_top.specs.declared.reading.ReadFault.{ReadFault}
+use Rattle.cmm_top.specs.declared.reading.ReadFault.TheVariants as read_fault
 use Rattle.cmm_top.specs.declared.status.Status.{Status}
 use Rattle.cmm_top.specs.declared.status.Status.TheVariants as status
 use Rattle.cmm_top.specs.Call.{Outside}
-use Rattle.cmm_top.specs.Lines.{bad_image_line, file_fault_line, memory_line, outcome_line, refused_line, usage_line}
+use Rattle.cmm_top.specs.Lines.{bad_image_line, bad_script_line, file_fault_line, memory_line, outcome_line, refused_line, usage_line}
 use Rattle.cmm_top.specs.Status.{status_of}
 use Rattle.cmm_top.specs.Work.{Work}
 
@@ -20,6 +27,7 @@ abbrev pub line_of : Ending → List ℕ
 line_of Usage = usage_line
 line_of (Refused name fault) = refused_line name.now fault
 line_of (BadImage rule offset) = bad_image_line rule offset
+line_of (BadScript rule line) = bad_script_line rule line
 line_of (FileFault name) = file_fault_line name.now
 line_of OutputFault = []
 line_of OutOfMemory = memory_line
@@ -30,6 +38,7 @@ abbrev pub status_at : Ending → Status
 status_at Usage = status.Usage
 status_at (Refused name fault) = status.Refused
 status_at (BadImage rule offset) = status.BadImage
+status_at (BadScript rule line) = status.BadScript
 status_at (FileFault name) = status.FileFault
 status_at OutputFault = status.OutputFault
 status_at OutOfMemory = status.Memory
@@ -47,9 +56,28 @@ Refuses names build_fault.Memory OutOfMemory = Unit {0}
 Refuses names _ _ = ⊥
 
 -- why there is no image in bytes
-abbrev pub IsNotRead : ImageFault → Ending → Type 0
-IsNotRead (image_fault.At rule offset) ending = ending ≡ BadImage rule offset
-IsNotRead image_fault.Memory ending = ending ≡ OutOfMemory
+abbrev pub IsNotImage : List ℕ → Ending → Type 0
+IsNotImage bytes (BadImage rule offset) = IsFirstImageFault bytes rule offset
+IsNotImage bytes OutOfMemory = Unit {0}
+IsNotImage bytes _ = ⊥
+
+-- why files were not read
+abbrev pub IsUnread : ReadFault → Ending → Type 0
+IsUnread (read_fault.Failed name) ending = ending ≡ FileFault name
+IsUnread read_fault.Memory ending = ending ≡ OutOfMemory
+
+-- why these units, which are in files of these names, have no image
+pub record LackImage (names units : List (List ℕ)) (ending : Ending) : Type 0 where
+  pub fault : BuildFault
+  pub refuses : Refuses names fault ending
+  pub cause : IsRefused (IsFaultOf units) fault
+
+-- why there is no script in what was read
+abbrev pub IsRefusedScript : Option FileBytes → Ending → Type 0
+IsRefusedScript (Some (Whole read)) (BadScript rule line) = IsFirstFault read.items rule line
+IsRefusedScript (Some TooLong) (BadScript rule line) = (rule ≡ ScriptTooLong) × (line ≡ 1)
+IsRefusedScript read OutOfMemory = Unit {0}
+IsRefusedScript _ _ = ⊥
 
 -- The line was written, and the status is the ending's; or the log failed, a front of the line was written, and the status says that.
 abbrev pub Closes : Ending → Option (List ℕ) → Option (List ℕ) → ℕ → ℕ → Status → Type 0

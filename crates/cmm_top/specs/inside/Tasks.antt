@@ -1,6 +1,7 @@
 -- Tasks as the code has them.
-use Rattle.std.specs.Prelude.{◌≡◌, ◌<◌, length, map, Option, Some, None}
+use Rattle.std.specs.Prelude.{◌≡◌, ◌<◌, length, map, IfSome, Option, Some, None}
 use Rattle.std.specs.List.{All}
+use Rattle.std.specs.Option.{option_map}
 use Rattle.cmm_command.specs.Laws.{IsName}
 use Rattle.cmm_compile.specs.Agreement.{IsStackSize}
 use Rattle.cmm_top.specs.declared.task.Task.{Task as TaskAsked}
@@ -8,8 +9,8 @@ use Rattle.cmm_top.specs.declared.task.Task.TheVariants as asked
 use Rattle.cmm_top.specs.Words.{Task, execute, run, build, generate}
 
 abbrev pub plain_task : TaskAsked → Task
-plain_task (asked.Execute units limits) = execute (map (λ name. name.now) units) limits
-plain_task (asked.Run image limits) = run image.now limits
+plain_task (asked.Execute units client limits) = execute (map (λ name. name.now) units) (option_map (λ name. name.now) client) limits
+plain_task (asked.Run image client limits) = run image.now (option_map (λ name. name.now) client) limits
 plain_task (asked.Build units image) = build (map (λ name. name.now) units) image.now
 plain_task (asked.Generate number) = generate number
 
@@ -21,7 +22,7 @@ IsAsked _ _ = ⊥
 
 -- names are short enough, and the stack has a size that one may have
 abbrev pub CanBeDone : Task → Type 0
-CanBeDone (execute names limits) = All IsName names × (0 < length names) × IsStackSize limits.stack
-CanBeDone (run name limits) = IsName name × IsStackSize limits.stack
+CanBeDone (execute names client limits) = All IsName names × (0 < length names) × IfSome client IsName × IsStackSize limits.stack
+CanBeDone (run name client limits) = IsName name × IfSome client IsName × IsStackSize limits.stack
 CanBeDone (build names name) = All IsName names × (0 < length names) × IsName name
 CanBeDone (generate number) = Unit {0}

@@ -1,16 +1,23 @@
-use Rattle.std.proofs.Common.{Some, ap, inl, refl}
+use Rattle.std.proofs.Common.{Some, ap, inl, refl, ◌∙◌}
+use Rattle.rv_sim.specs.Stepping.{state_of}
+use Rattle.cmm_image_machine.specs.Machine.{Launch}
 use Rattle.cmm_top.proofs.executing.exec.Goals as goal
 
 pub returns-in-Ok-run_image : goal.returns-in-Ok-run_image
 returns-in-Ok-run_image g c =
+    let ran = c.in-Ok-run_image.ensures.runs in
+    let read = c.in-Ok.ensures in
     inl record {
-      image = c.in-Ok.image;
-      is_image = ap Some c.in-Ok-run_image.ensures.image;
-      agrees = c.in-Ok.ensures.ok;
+      image = c.in-Ok.prepared.image;
+      is_image = ap Some (c.into_image.ensures ∙ ap (λ (l : Launch). l.image) ran.launch);
+      agrees = read.agrees;
+      script = c.in-Ok.prepared.script;
+      has_script = read.script;
       ran = record {
-        files = record { files = c.in-Ok.ensures.same; file_faults = c.in-Ok.ensures.no_fault; last_failed = c.in-Ok.ensures.no_failed_call };
+        files = record { files = read.same; file_faults = read.no_fault; last_failed = read.no_failed_call };
         outcome = c.in-Ok-run_image.outcome;
-        runs = c.in-Ok-run_image.ensures.runs;
+        machine = state_of c.in-Ok-run_image.session.regs c.in-Ok-run_image.session.memory;
+        runs = ran.runs;
         ends = record { line = refl; status = refl };
       };
     }

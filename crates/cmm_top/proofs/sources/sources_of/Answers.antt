@@ -1,9 +1,10 @@
 use Rattle.std.specs.Prelude.{slice_index_or}
 use Rattle.std.proofs.lemmas.List.{map_more}
 use Rattle.std.proofs.Common.{ℕ, [], Bor, List, map, take, subst, sym, ◌∙◌}
-use Rattle.cmm_outside.specs.Storage.{HasFile}
-use Rattle.cmm_top.specs.inside.Reading.{AreRead, IsUnitIn}
-use Rattle.cmm_top.proofs.Reading.{more_read}
+use Rattle.cmm_lexer.specs.declared.tokens.TheConstants.{UNIT_LIMIT}
+use Rattle.cmm_top.specs.Files.{HasBytes}
+use Rattle.cmm_top.specs.inside.Reading.{AreRead, IsFileOf}
+use Rattle.cmm_top.proofs.FilesRead.{more_read}
 use Rattle.cmm_top.proofs.sources.sources_of.Goals as goal
 
 pub loop-name-preserved : goal.loop-name-preserved
@@ -11,12 +12,13 @@ loop-name-preserved g c =
     let contents = g.F.Files.contents c.args.files.now in
     let k = c.loop-name.name-index in
     let names = c.args.names.now in
-    let nothing : Bor (List ℕ) = record { ref_ptr = (0, 0); now = [] } in (
+    let nothing : Bor (List ℕ) = record { ref_ptr = (0, 0); now = [] } in
+    let unit = c.in_ok-unit.unit in (
       subst (λ ns. AreRead contents ns c.add.new.self) (sym (map_more (λ name. name.now) names k nothing c.loop-name-test.true))
-          (more_read contents (map (λ name. name.now) (take k names)) (slice_index_or names k nothing).now c.in_ok-bytes.bytes c.loop-name.sources c.add.new.self c.loop-name.invariant.0
-          (subst (λ told. HasFile told (slice_index_or names k nothing).now (λ unit. IsUnitIn unit c.in_ok-bytes.bytes)) c.loop-name.invariant.1 c.in_ok-bytes.ensures.ok) c.in_ok-add.ensures.units),
-      c.unit_in.ensures.same ∙ c.loop-name.invariant.1,
-      c.in_ok-bytes.ensures.fault.0 ∙ c.loop-name.invariant.2,
-      c.in_ok-bytes.ensures.fault.1 ∙ c.loop-name.invariant.3,
+          (more_read contents (map (λ name. name.now) (take k names)) (slice_index_or names k nothing).now unit c.loop-name.sources c.add.new.self c.loop-name.invariant.0
+          (subst (λ told. HasBytes told (slice_index_or names k nothing).now (λ bytes. IsFileOf UNIT_LIMIT bytes unit)) c.loop-name.invariant.1 c.in_ok-unit.ensures.ok) c.in_ok-add.ensures.units),
+      c.bytes_in.ensures.same ∙ c.loop-name.invariant.1,
+      c.in_ok-unit.ensures.fault.0 ∙ c.loop-name.invariant.2,
+      c.in_ok-unit.ensures.fault.1 ∙ c.loop-name.invariant.3,
       c.in_ok-add.ensures.within k c.loop-name.invariant.4,
     )

@@ -1,16 +1,35 @@
 use Rattle.std.proofs.Common.{◌≤◌, Bor, List, ℕ, ap, length, subst, sym}
 use Rattle.std.specs.List.{All}
 use Rattle.cmm_outside.specs.declared.storage.TheConstants.{NAME_LIMIT}
+use Rattle.cmm_run.specs.Outside.{outside_of}
+use Rattle.cmm_top.specs.Answers.{Does}
+use Rattle.cmm_top.specs.Call.{standing}
+use Rattle.cmm_top.specs.declared.task.Task.{Task}
+use Rattle.cmm_top.specs.inside.Ending.{work_of}
 use Rattle.cmm_top.specs.inside.Tasks.{CanBeDone, plain_task}
-use Rattle.cmm_top.proofs.Asked.{short_names}
+use Rattle.cmm_top.proofs.Asked.{short_name, short_names}
 use Rattle.cmm_top.proofs.top.done.Goals as goal
 
 pub exec-requires-clause-short : goal.exec-requires-clause-short
 exec-requires-clause-short g c =
     let can = subst CanBeDone (ap plain_task c.in-Execute.is) c.requires in
-    subst (λ (names : List (Bor (List ℕ))). All (λ name. length name.now ≤ NAME_LIMIT) names) (sym c.as_slice.ensures) (short_names c.in-Execute.units can.0)
+    subst (λ (names : List (Bor (List ℕ))). All (λ name. length name.now ≤ NAME_LIMIT) names) (sym c.as_slice-names.ensures) (short_names c.in-Execute.units can.0)
 
 pub build-ending-requires-clause-short : goal.build-ending-requires-clause-short
 build-ending-requires-clause-short g c =
     let can = subst CanBeDone (ap plain_task c.in-Build.is) c.requires in
-    subst (λ (names : List (Bor (List ℕ))). All (λ name. length name.now ≤ NAME_LIMIT) names) (sym c.as_slice-in-Build.ensures) (short_names c.in-Build.units can.0)
+    subst (λ (names : List (Bor (List ℕ))). All (λ name. length name.now ≤ NAME_LIMIT) names) (sym c.as_slice.ensures) (short_names c.in-Build.units can.0)
+
+pub exec-requires-clause-client : goal.exec-requires-clause-client
+exec-requires-clause-client g c = let can = subst CanBeDone (ap plain_task c.in-Execute.is) c.requires in short_name c.in-Execute.client can.2
+
+pub run-ending-requires-clause-client : goal.run-ending-requires-clause-client
+run-ending-requires-clause-client g c = let can = subst CanBeDone (ap plain_task c.in-Run.is) c.requires in short_name c.in-Run.client can.1
+
+pub returns-in-Generate : goal.returns-in-Generate
+returns-in-Generate g c =
+    let streams = outside_of g.I.Source.left g.I.Source.faults g.O.Sink.taken g.O.Sink.faults g.E.Sink.taken g.E.Sink.faults in
+    let stands = standing g.F.Files.contents g.F.Files.faults g.F.Files.last_failed c.args.files.now in
+    subst (λ (t : Task). Does (plain_task t) (work_of c.generate.result.0 c.generate.result.1 (stands (streams c.args.input.now c.args.out.now c.args.log.now))
+    (stands (streams c.generate.new.input c.generate.new.out c.generate.new.log)))) (sym c.in-Generate.is)
+    (c.generate.ensures (g.F.Files.contents c.args.files.now) (g.F.Files.faults c.args.files.now) (g.F.Files.last_failed c.args.files.now))

@@ -2,7 +2,7 @@ use Rattle.std.proofs.Common.{subst, sym, ◌∷◌, ◌++◌}
 use Rattle.cmm_front.specs.Refusing.{BreaksLexis, IsFaultOf, IsRefused as IsRefusedBy}
 use Rattle.cmm_compile.specs.Refusing.{IsRefused}
 use Rattle.cmm_top.proofs.Refusing.{lexis_is}
-use Rattle.cmm_top.proofs.Reading.{cut_is}
+use Rattle.cmm_top.proofs.FilesRead.{cut_is}
 use Rattle.cmm_top.proofs.units.image_of.Goals as goal
 
 pub returns-then-sources-clause-err : goal.returns-then-sources-clause-err

@@ -1,4 +1,4 @@
-use Rattle.cmm_top.proofs.Reading.{still_cut}
+use Rattle.cmm_top.proofs.FilesRead.{still_cut}
 use Rattle.cmm_top.proofs.sources.Sources.add.Goals as goal
 
 pub returns-then-self-clause-units : goal.returns-then-self-clause-units

@@ -1,15 +1,14 @@
--- Units that are read one after another.
-use Rattle.std.proofs.Common.{◌≡◌, ℕ, Option, Some, None, List, [], ◌∷◌, ◌++◌, ◌<◌, Bool, true, false, length, ap, sym, ◌∙◌, subst}
-use Rattle.std.specs.Global.{Global}
-use Rattle.std.specs.Prelude.{Vec}
-use Rattle.std.proofs.lemmas.List.{append_assoc}
+-- Files that are read one after another.
+use Rattle.std.proofs.Common.{◌≡◌, ℕ, suc, Option, Some, None, IfSome, List, [], ◌∷◌, ◌++◌, ◌<◌, Bool, true, false, length, replicate, ap, refl, sym, ◌∙◌, subst, arith}
+use Rattle.std.proofs.lemmas.List.{append_assoc, length-replicate}
 use Rattle.cmm_lexer.specs.declared.tokens.TheConstants.{UNIT_LIMIT}
-use Rattle.cmm_top.specs.declared.sources.Sources.{Sources}
 use Rattle.cmm_outside.specs.Storage.{Contents, FailedCall, HasFile}
 use Rattle.cmm_run.specs.Outside.{Outside as Streams}
+use Rattle.cmm_top.specs.declared.reading.FileBytes.{FileBytes}
+use Rattle.cmm_top.specs.declared.sources.Sources.{Sources}
 use Rattle.cmm_top.specs.Call.{Outside}
-use Rattle.cmm_top.specs.Units.{HasUnits, Hold}
-use Rattle.cmm_top.specs.inside.Reading.{AreRead, AreUnits, IsUnitIn}
+use Rattle.cmm_top.specs.Files.{HasBytes, HasUnits, Hold}
+use Rattle.cmm_top.specs.inside.Reading.{AreRead, AreUnits, IsFileOf}
 
 -- a unit behind those that were read is too long
 pub record IsCut (units : List (List ℕ)) (s : Sources) : Type 0 where
@@ -37,7 +36,27 @@ still_cut units unit s cut are =
     let is : units ++ unit ∷ [] ≡ s.units ++ c.unit ∷ (c.rest ++ unit ∷ []) = ap (λ us. us ++ unit ∷ []) c.is ∙ append_assoc s.units (c.unit ∷ c.rest) (unit ∷ []) in
     subst (At (units ++ unit ∷ []) s.units) (sym cut) (c.unit, (c.rest ++ unit ∷ []), is, c.more)
 
--- ---- with the files
+-- ---- a file
+
+-- there are lists longer than any number
+longer : (n : ℕ) → (bytes : List ℕ) × (n < length bytes)
+longer n = (replicate (suc n) 0, subst (λ m. n < m) (sym (length-replicate (suc n) 0)) (omega arith))
+
+-- a file that tells nothing may hold the bytes that were read
+pub has_whole : (contents : Option Contents) (name read : List ℕ) → HasFile contents name (λ file. read ≡ file) → HasBytes contents name (λ bytes. read ≡ bytes)
+has_whole None name read has = (read, tt, refl)
+has_whole (Some files) name read has = has
+
+-- and one that is too long some that are
+pub has_more : (contents : Option Contents) (name : List ℕ) (limit : ℕ) → HasFile contents name (λ file. limit < length file) → HasBytes contents name (λ bytes. limit < length bytes)
+has_more None name limit has = let (bytes, long) = longer limit in (bytes, tt, long)
+has_more (Some files) name limit has = has
+
+-- what holds of a file may be weaker
+pub bytes_so : (contents : Option Contents) (name : List ℕ) (P Q : List ℕ → Type 0) → ((bytes : List ℕ) → P bytes → Q bytes) → HasBytes contents name P → HasBytes contents name Q
+bytes_so contents name P Q so (bytes, there, holds) = (bytes, there, so bytes holds)
+
+-- ---- units
 
 one_more : (files : Contents) (names units : List (List ℕ)) (name unit : List ℕ) → Hold files names units → files name ≡ Some unit → Hold files (names ++ name ∷ []) (units ++ unit ∷ [])
 one_more files [] [] name unit hold is = (is, tt)
@@ -45,24 +64,22 @@ one_more files [] (u ∷ us) name unit hold is = absurd hold
 one_more files (n ∷ ns) [] name unit hold is = absurd hold
 one_more files (n ∷ ns) (u ∷ us) name unit hold is = (hold.0, one_more files ns us name unit hold.1 is)
 
+hold_more : (contents : Option Contents) (names units : List (List ℕ)) (name unit : List ℕ) → IfSome contents (λ files. Hold files names units) →
+    IfSome contents (λ files. files name ≡ Some unit) → IfSome contents (λ files. Hold files (names ++ name ∷ []) (units ++ unit ∷ []))
+hold_more None names units name unit hold is = tt
+hold_more (Some files) names units name unit hold is = one_more files names units name unit hold is
+
 -- one unit more was read
-pub more_read : (contents : Option Contents) (names : List (List ℕ)) (name : List ℕ) (bytes : Option (Vec ℕ Global)) (s t : Sources) → AreRead contents names s →
-    HasFile contents name (λ unit. IsUnitIn unit bytes) → ((units : List (List ℕ)) (unit : List ℕ) → IsUnitIn unit bytes → AreUnits units s → AreUnits (units ++ unit ∷ []) t) →
-    AreRead contents (names ++ name ∷ []) t
-more_read None names name bytes s t read has adds = tt
-more_read (Some files) names name bytes s t (units, hold, are) (unit, there, is) adds =
-    (units ++ unit ∷ [], one_more files names units name unit hold there, adds units unit is are)
+pub more_read : (contents : Option Contents) (names : List (List ℕ)) (name : List ℕ) (read : FileBytes) (s t : Sources) → AreRead contents names s →
+    HasBytes contents name (λ bytes. IsFileOf UNIT_LIMIT bytes read) →
+    ((units : List (List ℕ)) (unit : List ℕ) → IsFileOf UNIT_LIMIT unit read → AreUnits units s → AreUnits (units ++ unit ∷ []) t) → AreRead contents (names ++ name ∷ []) t
+more_read contents names name read s t (units, hold, are) (unit, there, is) adds =
+    (units ++ unit ∷ [], hold_more contents names units name unit hold there, adds units unit is are)
 
 -- what holds of the units may be weaker
 pub units_so : (contents : Option Contents) (names : List (List ℕ)) (P Q : List (List ℕ) → Type 0) → ((units : List (List ℕ)) → P units → Q units) → HasUnits contents names P →
     HasUnits contents names Q
-units_so None names P Q so has = tt
-units_so (Some files) names P Q so (units, hold, holds) = (units, hold, so units holds)
-
--- what holds of a file may be weaker
-pub file_so : (contents : Option Contents) (name : List ℕ) (P Q : List ℕ → Type 0) → ((file : List ℕ) → P file → Q file) → HasFile contents name P → HasFile contents name Q
-file_so None name P Q so has = tt
-file_so (Some files) name P Q so (file, there, holds) = (file, there, so file holds)
+units_so contents names P Q so (units, hold, holds) = (units, hold, so units holds)
 
 -- ---- what stands outside
 
