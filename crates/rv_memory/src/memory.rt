@@ -3,7 +3,7 @@ ghost use Rattle.std.specs.Prelude.{◌≡◌, ◌≤◌, ◌+◌, ◌*◌, ◌/
 ghost use Rattle.std.specs.Option.{ok_or};
 ghost use Rattle.rv_table.specs.Bounds.{is_size};
 ghost use Rattle.rv_table.specs.Memory.{code_base, data_base, fetched, is_accessible, loaded, stored, LiesIn, bottom as bottom_of, top as top_of};
-ghost use Rattle.rv_memory.specs.Regions.{data_word_of, map_of, memory_of, region_of, restored, started};
+ghost use Rattle.rv_memory.specs.Regions.{Fits, data_word_of, map_of, memory_of, region_of, restored, started};
 
 use crate::numbers::{offset_in, read, read_word, write};
 use rv_table::TrapKind;
@@ -184,7 +184,8 @@ impl Memory {
 
     /// The bytes of argument area, global registers and stack, from the region's address on.
     pub fn region_bytes(&self) -> &[u8]
-        ensures { result.now ≡ self.now.region_bytes }
+        ensures same { result.now ≡ self.now.region_bytes }
+        ensures kept { Fits self.now }
     {
         &self.region
     }

@@ -1,0 +1,6 @@
+mod SnapshotLaws
+mod ReadLaws
+mod StateLaws
+mod TakingLaws
+mod WritingLaws
+mod SnapshotRows
