@@ -70,23 +70,23 @@ cut_of_one Neg complement negative = negative
 
 module _ (x : Code) (from mid to m n : ℕ) where
   -- an operator of 64 bits, and a cut
-  pub cut_operates_on_one : (o : Op1) (w : Width) → IsCut1 o → Runs 0 m Always (OperatesOnOne o W64) x from mid → Runs 0 n Always (Narrows w) x mid to →
+  pub cut_operates_on_one : (o : Op1) (w : Width) → IsCut1 o → Runs 0 m Always (OperatesOnOne o W64) x from mid → Runs 0 n Always (Narrows w 5) x mid to →
       Runs 0 (m + n) (HasWord w 5) (OperatesOnOne o w) x from to
   cut_operates_on_one o w cut first second =
       runs_weaker {k = 0} (runs_then first second (λ s t sound also p q. tt)) (omega arith) (omega arith) (λ s sound word. tt)
       (λ s u sound word both. record {
         given = both.2.given ∙ ap (low_bits w) both.1.given ∙ sym (cut w (s.registers 5) word);
-        keeps = keeps_then s both.0 u both.1.keeps both.2.keeps;
+        keeps = keeps_then s both.0 u both.1.keeps (set_keeps 5 (low_bits w (both.0.registers 5)) both.0 u refl both.2);
       })
 
   -- ---- a word with its sign at another width: with its sign at 64 bits, and a cut
-  pub extended_cut : (v w : Width) → Runs 0 m (HasWord v 5) (Extends v 5) x from mid → Runs 0 n Always (Narrows w) x mid to →
+  pub extended_cut : (v w : Width) → Runs 0 m (HasWord v 5) (Extends v 5) x from mid → Runs 0 n Always (Narrows w 5) x mid to →
       Runs 0 (m + n) (HasWord v 5) (Converts v w) x from to
   extended_cut v w first second =
       runs_weaker {k = 0} (runs_then first second (λ s t sound also p q. tt)) (omega arith) (omega arith) (λ s sound word. word)
       (λ s u sound word both. record {
         given = both.2.given ∙ ap (low_bits w) both.1.given ∙ low_of_wrapped w (word_signed (bits v) (s.registers 5));
-        keeps = keeps_then s both.0 u (set_keeps 5 (sign_extended v W64 (s.registers 5)) s both.0 refl both.1) both.2.keeps;
+        keeps = keeps_then s both.0 u (set_keeps 5 (sign_extended v W64 (s.registers 5)) s both.0 refl both.1) (set_keeps 5 (low_bits w (both.0.registers 5)) both.0 u refl both.2);
       })
     where
       low_of_wrapped : (w : Width) (z : ℤ) → low_bits w (wrapped 64 z) ≡ wrapped (bits w) z

@@ -20,6 +20,7 @@ mod Operands
 mod Keeping
 mod Symbols
 mod Both
+mod InPlace
 mod Putting
 mod Loading
 mod Turning

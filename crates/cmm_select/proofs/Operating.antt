@@ -10,11 +10,13 @@ use Rattle.cmm_words.specs.declared.width.Width.{Width}
 use Rattle.cmm_words.specs.declared.width.Width.TheVariants.{W64}
 use Rattle.rv_asm.specs.Parts.{Code}
 use Rattle.rv_table.specs.Machine.{State}
-use Rattle.cmm_effects.proofs.Shared.{keeps_then, runs_then, runs_weaker, set_keeps}
+use Rattle.cmm_effects.proofs.Shared.{keeps_then, leads_then, leads_weaker, runs_then, runs_weaker, set_keeps}
 use Rattle.cmm_effects.specs.Changes.{Keeps}
-use Rattle.cmm_effects.specs.Pieces.{Always, Runs}
+use Rattle.cmm_effects.specs.Pieces.{Always, Leads, Runs}
+use Rattle.cmm_select.proofs.InPlace.{beside_then, set_beside}
 use Rattle.cmm_select.proofs.Rotating.{OperatesUncut}
 use Rattle.cmm_select.specs.Operators.{Extends, HasWord, HaveWords, Narrows, Operates}
+use Rattle.cmm_select.specs.inside.InPlace.{HaveWordsIn, IsValue, Makes}
 use Rattle.cmm_select.specs.inside.Wide.{is_plain, is_shift, is_signed}
 
 -- where a value is cut from one of 64 bits, there is that one
@@ -23,20 +25,37 @@ wide_value w (Some u) v is = (u, refl, cc)
 wide_value w None v is = absurd (cc)
 
 module _ (x : Code) (from mid to n k : ℕ) (o : Op2) (w : Width) where
-  pub cut_operates : IsCut2 o → Runs 0 n Always (Operates o W64) x from mid → Runs 0 k Always (Narrows w) x mid to →
+  pub cut_operates : IsCut2 o → Runs 0 n Always (Operates o W64) x from mid → Runs 0 k Always (Narrows w 5) x mid to →
       Runs 0 (n + k) (HaveWords w) (Operates o w) x from to
   cut_operates cut first second =
       runs_weaker (runs_then first second (λ s t sound also p q. tt)) (omega arith) (omega arith) (λ s sound words. tt)
       (λ s u sound words both. record {
         given = λ v is. cut_value s both.0 u v words both.1 both.2 is;
-        keeps = keeps_then s both.0 u both.1.keeps both.2.keeps;
+        keeps = keeps_then s both.0 u both.1.keeps (set_keeps 5 (low_bits w (both.0.registers 5)) both.0 u refl both.2);
       })
     where
-      cut_value : (s t u : State) (v : ℕ) → HaveWords w x.map s → Operates o W64 s t → Narrows w t u → value2 o w (s.registers 5) (s.registers 7) ≡ Some v →
+      cut_value : (s t u : State) (v : ℕ) → HaveWords w x.map s → Operates o W64 s t → Narrows w 5 t u → value2 o w (s.registers 5) (s.registers 7) ≡ Some v →
           u.registers 5 ≡ v
       cut_value s t u v words operates narrows is =
           let wide = wide_value w (value2 o W64 (s.registers 5) (s.registers 7)) v (sym (cut w (s.registers 5) (s.registers 7) words.0 words.1) ∙ is) in
           narrows.given ∙ ap (low_bits w) (operates.given wide.0 wide.1) ∙ wide.2
+
+-- an operator on two registers
+pub cut_makes : (x : Code) (from mid to n k rd a b : ℕ) (o : Op2) (w : Width) → IsCut2 o →
+    Leads n Always (λ s t. Makes rd (IsValue o W64 (s.registers a) (s.registers b)) s t) x from mid → Runs 0 k Always (Narrows w rd) x mid to →
+    Leads (n + k) (HaveWordsIn w a b) (λ s t. Makes rd (IsValue o w (s.registers a) (s.registers b)) s t) x from to
+cut_makes x from mid to n k rd a b o w cut first second =
+    leads_weaker (leads_then first second (λ s t sound also p q. tt)) (omega arith) (λ s sound words. tt)
+    (λ s u sound words both. record {
+      given = λ v is. cut_value s both.0 u v words both.1 both.2 is;
+      keeps = beside_then rd s both.0 u both.1.keeps (set_beside rd (low_bits w (both.0.registers rd)) both.0 u both.2);
+    })
+  where
+    cut_value : (s t u : State) (v : ℕ) → HaveWordsIn w a b x.map s → Makes rd (IsValue o W64 (s.registers a) (s.registers b)) s t → Narrows w rd t u →
+        value2 o w (s.registers a) (s.registers b) ≡ Some v → u.registers rd ≡ v
+    cut_value s t u v words makes narrows is =
+        let wide = wide_value w (value2 o W64 (s.registers a) (s.registers b)) v (sym (cut w (s.registers a) (s.registers b) words.0 words.1) ∙ is) in
+        narrows.given ∙ ap (low_bits w) (makes.given wide.0 wide.1) ∙ wide.2
 
 -- both words with their sign
 pub record Signs (w : Width) (s t : State) : Type 0 where
@@ -65,15 +84,15 @@ module _ (x : Code) (w : Width) where
       }
 
   pub signed_operates : (from one two to m n k : ℕ) (o : Op2) → IsCutOfExtended o → Runs 0 m (HaveWords w) (Signs w) x from one →
-      Runs 0 n Always (Operates o W64) x one two → Runs 0 k Always (Narrows w) x two to → Runs 0 (m + (n + k)) (HaveWords w) (Operates o w) x from to
+      Runs 0 n Always (Operates o W64) x one two → Runs 0 k Always (Narrows w 5) x two to → Runs 0 (m + (n + k)) (HaveWords w) (Operates o w) x from to
   signed_operates from one two to m n k o cut first second third =
       runs_weaker (runs_then first (runs_then second third (λ s t sound also p q. tt)) (λ s t sound also p q. tt)) (omega arith) (omega arith) (λ s sound words. words)
       (λ s u sound words all. record {
         given = λ v is. cut_value s all.0 all.2.0 u v words all.1 all.2.1 all.2.2 is;
-        keeps = keeps_then s all.0 u all.1.keeps (keeps_then all.0 all.2.0 u all.2.1.keeps all.2.2.keeps);
+        keeps = keeps_then s all.0 u all.1.keeps (keeps_then all.0 all.2.0 u all.2.1.keeps (set_keeps 5 (low_bits w (all.2.0.registers 5)) all.2.0 u refl all.2.2));
       })
     where
-      cut_value : (s r t u : State) (v : ℕ) → HaveWords w x.map s → Signs w s r → Operates o W64 r t → Narrows w t u →
+      cut_value : (s r t u : State) (v : ℕ) → HaveWords w x.map s → Signs w s r → Operates o W64 r t → Narrows w 5 t u →
           value2 o w (s.registers 5) (s.registers 7) ≡ Some v → u.registers 5 ≡ v
       cut_value s r t u v words signs operates narrows is =
           let a = sign_extended w W64 (s.registers 5) in
@@ -110,17 +129,17 @@ signed_cut _ is quot rem = absurd (cc)
 
 -- an operator whose value is only to be cut, and one that takes its first word with its sign
 module _ (x : Code) (w : Width) where
-  pub uncut_operates : (from mid to n k : ℕ) (o : Op2) → Runs 0 n (HaveWords w) (OperatesUncut o w) x from mid → Runs 0 k Always (Narrows w) x mid to →
+  pub uncut_operates : (from mid to n k : ℕ) (o : Op2) → Runs 0 n (HaveWords w) (OperatesUncut o w) x from mid → Runs 0 k Always (Narrows w 5) x mid to →
       Runs 0 (n + k) (HaveWords w) (Operates o w) x from to
   uncut_operates from mid to n k o first second =
       runs_weaker (runs_then first second (λ s t sound also p q. tt)) (omega arith) (omega arith) (λ s sound words. words)
       (λ s u sound words both. record {
         given = λ v is. both.2.given ∙ both.1.given v is;
-        keeps = keeps_then s both.0 u both.1.keeps both.2.keeps;
+        keeps = keeps_then s both.0 u both.1.keeps (set_keeps 5 (low_bits w (both.0.registers 5)) both.0 u refl both.2);
       })
 
   pub first_operates : (from one two to m n k : ℕ) (o : Op2) → IsCutOfExtendedFirst o → Runs 0 m (HasWord w 5) (Extends w 5) x from one →
-      Runs 0 n Always (Operates o W64) x one two → Runs 0 k Always (Narrows w) x two to → Runs 0 (m + (n + k)) (HaveWords w) (Operates o w) x from to
+      Runs 0 n Always (Operates o W64) x one two → Runs 0 k Always (Narrows w 5) x two to → Runs 0 (m + (n + k)) (HaveWords w) (Operates o w) x from to
   first_operates from one two to m n k o cut first second third =
       runs_weaker
       (runs_then (runs_weaker {R = HaveWords w} {S = Extends w 5} {b = m} {k = 0} first (omega arith) (omega arith) (λ s sound words. words.0) (λ s t sound words extends. extends))
@@ -128,10 +147,10 @@ module _ (x : Code) (w : Width) where
       (omega arith) (omega arith) (λ s sound words. words)
       (λ s u sound words all. record {
         given = λ v is. cut_value s all.0 all.2.0 u v words all.1 all.2.1 all.2.2 is;
-        keeps = keeps_then s all.0 u (set_keeps 5 (sign_extended w W64 (s.registers 5)) s all.0 refl all.1) (keeps_then all.0 all.2.0 u all.2.1.keeps all.2.2.keeps);
+        keeps = keeps_then s all.0 u (set_keeps 5 (sign_extended w W64 (s.registers 5)) s all.0 refl all.1) (keeps_then all.0 all.2.0 u all.2.1.keeps (set_keeps 5 (low_bits w (all.2.0.registers 5)) all.2.0 u refl all.2.2));
       })
     where
-      cut_value : (s r t u : State) (v : ℕ) → HaveWords w x.map s → Extends w 5 s r → Operates o W64 r t → Narrows w t u →
+      cut_value : (s r t u : State) (v : ℕ) → HaveWords w x.map s → Extends w 5 s r → Operates o W64 r t → Narrows w 5 t u →
           value2 o w (s.registers 5) (s.registers 7) ≡ Some v → u.registers 5 ≡ v
       cut_value s r t u v words extends operates narrows is =
           let a = sign_extended w W64 (s.registers 5) in

@@ -12,6 +12,7 @@ use Rattle.rv_table.specs.Machine.{MemoryMap, State}
 use Rattle.cmm_effects.proofs.Shared.{keeps_then, leads_then, leads_weaker, runs_of}
 use Rattle.cmm_effects.specs.Changes.{Keeps}
 use Rattle.cmm_effects.specs.Pieces.{Leads, Runs}
+use Rattle.cmm_select.proofs.InPlace.{both_finished}
 use Rattle.cmm_select.proofs.Keeping.{brings_keeps, put_after, put_as, still_put}
 use Rattle.cmm_select.specs.Assignments.{Assigns, AssignsBinary, AssignsComparison, AssignsOne, Copies}
 use Rattle.cmm_select.specs.Comparisons.{Tells}
@@ -20,6 +21,7 @@ use Rattle.cmm_select.specs.Operands.{AreWords, Brings, BringsBoth, BringsOperan
 use Rattle.cmm_select.specs.Operators.{HasWord, HaveWords, Operates}
 use Rattle.cmm_select.specs.declared.destination.Destination.{Destination}
 use Rattle.cmm_select.specs.declared.operand.Operand.{Operand}
+use Rattle.cmm_select.specs.inside.InPlace.{Finishes, HaveWordsIn, IsValue, LocatesBoth, Makes, target_of}
 
 module _ (x : Code) {Q : State → State → Type 0} {n : ℕ} where
   -- something is in register 5, and then it is put
@@ -94,6 +96,15 @@ module _ (x : Code) (to : Destination) (from end : ℕ) where
               (ap (λ (a : ℕ). value2 op w a (t.registers 7)) has.first ∙ ap (λ (b : ℕ). value2 op w (operand_at x.at left s) b) has.second ∙ h);
           puts = puts;
         }
+
+    pub assigns_in_place : (op : Op2) (rd a b : ℕ) → rd ≡ target_of to →
+        Then (LocatesBoth left right a b)
+        (Then (λ x. Leads n (HaveWordsIn w a b) (λ s t. Makes rd (IsValue op w (s.registers a) (s.registers b)) s t) x) (Finishes to)) x from end →
+        AssignsBinary (most_for left + most_for right + n + 4) op w left right to x from end
+    assigns_in_place op rd a b is does =
+        leads_weaker (both_finished x (IsValue op w) w left right to is does.1 does.2.1 does.2.2) (omega arith)
+        (λ s sound can. ((can.brings, can.words), can.reaches))
+        (λ s u sound can all. record { number = all.0; given = all.1; puts = all.2 })
 
     pub assigns_comparison : (c : Cmp) → Then (BringsBoth left right) (Then (Runs 0 n (HaveWords w) (Tells c w)) (PutsFirst to)) x from end →
         AssignsComparison (most_for left + most_for right + n + 4) c w left right to x from end

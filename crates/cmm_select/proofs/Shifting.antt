@@ -111,8 +111,8 @@ module _ (x : Code) (from to : ℕ) where
                 (keeps_then t u w (set_keeps 5 (f (t.registers 5) (t.registers 7)) t u refl second) (set_keeps 5 (product (u.registers 5) (u.registers 6)) u w refl third));
           }
 
-  pub does_shift : (o : Op2) → IsTrue (is_shift o) → Then (One (Sltiu 6 7 (pos 64))) (Then (One (direct o)) (One (Mul 5 5 6))) x from to →
+  pub does_shift : (o : Op2) → IsTrue (is_shift o) → Then (One (Sltiu 6 7 (pos 64))) (Then (One (direct o 5 5 7)) (One (Mul 5 5 6))) x from to →
       Leads 3 Always (Operates o W64) x from to
-  does_shift op.Shl is does = shifts op.Shl (direct op.Shl) (λ a b. shifted_left a (b % 64)) shl_row (λ r pc. refl) does
-  does_shift op.Shrl is does = shifts op.Shrl (direct op.Shrl) (λ a b. shifted_right a (b % 64)) shrl_row (λ r pc. refl) does
+  does_shift op.Shl is does = shifts op.Shl (direct op.Shl 5 5 7) (λ a b. shifted_left a (b % 64)) shl_row (λ r pc. refl) does
+  does_shift op.Shrl is does = shifts op.Shrl (direct op.Shrl 5 5 7) (λ a b. shifted_right a (b % 64)) shrl_row (λ r pc. refl) does
   does_shift _ is does = absurd (cc)

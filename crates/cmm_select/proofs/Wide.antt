@@ -1,5 +1,5 @@
 -- Operators of 64 bits, each in its row of the instruction table.
-use Rattle.std.proofs.Common.{◌≡◌, ℕ, ◌+◌, ◌-◌, ◌/◌, ◌%◌, ◌<◌, ◌^◌, refl, sym, ◌∙◌, ap, arith, ℤ, pos, negsuc, ◌-ℤ◌, int_div, int_rem, Some, None, Option}
+use Rattle.std.proofs.Common.{◌≡◌, ◌≢◌, ℕ, ◌+◌, ◌-◌, ◌/◌, ◌%◌, ◌<◌, ◌^◌, refl, sym, ◌∙◌, ap, arith, ℤ, pos, negsuc, ◌-ℤ◌, int_div, int_rem, Some, None, Option}
 use Rattle.std.specs.Prelude.{Bool, true, false, ◌==◌, IsTrue, if◌then◌else◌, bit_and, bit_or, bit_xor}
 use Rattle.std.proofs.lemmas.Bool.Decides.{nat_tests}
 use Rattle.std.proofs.lemmas.Int.{ints, quot-rem}
@@ -10,17 +10,21 @@ use Rattle.cmm_words.specs.Integers.{signed as word_signed, wrapped, quotient_to
 use Rattle.cmm_words.specs.Words.{divided, value2}
 use Rattle.cmm_words.specs.declared.operators.Op2.{Op2}
 use Rattle.cmm_words.specs.declared.operators.Op2.TheVariants as op
+use Rattle.cmm_words.specs.declared.width.Width.{Width}
 use Rattle.cmm_words.specs.declared.width.Width.TheVariants.{W64}
 use Rattle.rv_asm.specs.Parts.{Code}
 use Rattle.rv_table.specs.Row.{row}
 use Rattle.rv_table.specs.Words.{difference, modulo, product, quotient, quotient_unsigned, remainder, remainder_unsigned, sign_extended, signed, sum}
 use Rattle.rv_table.specs.declared.effects.Effect.TheVariants.{Set}
 use Rattle.rv_table.specs.declared.instruction.Instr.{Instr}
-use Rattle.cmm_effects.proofs.Shared.{leads_set, leads_weaker, set_keeps}
+use Rattle.cmm_effects.proofs.Shared.{leads_set, leads_weaker}
 use Rattle.cmm_effects.specs.Pieces.{Always, Leads}
+use Rattle.rv_table.specs.Machine.{State}
+use Rattle.cmm_select.proofs.InPlace.{beside_scratch, set_beside}
 use Rattle.cmm_select.proofs.Places.{One}
 use Rattle.cmm_select.proofs.Sums.{sign_extended_64}
 use Rattle.cmm_select.specs.Operators.{Operates}
+use Rattle.cmm_select.specs.inside.InPlace.{IsValue, Makes}
 use Rattle.cmm_select.specs.inside.Wide.{direct, is_plain, is_signed}
 
 -- f gives an operator's value on words of 64 bits, where there is one
@@ -123,30 +127,41 @@ rem_row a b v first second is =
     rw (remainder, test)
     (ap (sign_extended 64) word ∙ sign_extended_64 (wrapped 64 (int_rem x y)) (wrapped-below 64 (int_rem x y)) ∙ ap (wrapped 64) (sym (rest_is x y)) ∙ both.1)
 
--- ---- one instruction on registers 5 and 7
+-- ---- one instruction on two registers
 
-module _ (x : Code) (from to : ℕ) where
-  does_row : (o : Op2) (i : Instr) (f : ℕ → ℕ → ℕ) → Gives o f → ((r : ℕ → ℕ) (pc : ℕ) → row r pc i ≡ Set 5 (f (r 5) (r 7))) →
-      One i x from to → Leads 1 Always (Operates o W64) x from to
+-- the result in register 5 of the words in registers 5 and 7
+pub makes_operates : (o : Op2) (w : Width) (s t : State) → Makes 5 (IsValue o w (s.registers 5) (s.registers 7)) s t → Operates o w s t
+makes_operates o w s t makes = record { given = makes.given; keeps = beside_scratch 5 s t refl makes.keeps }
+
+module _ (x : Code) (from to rd a b : ℕ) (written : rd ≢ 0) where
+  does_row : (o : Op2) (i : Instr) (f : ℕ → ℕ → ℕ) → Gives o f → ((r : ℕ → ℕ) (pc : ℕ) → row r pc i ≡ Set rd (f (r a) (r b))) →
+      One i x from to → Leads 1 Always (λ s t. Makes rd (IsValue o W64 (s.registers a) (s.registers b)) s t) x from to
   does_row o i f gives is does =
-      leads_weaker (leads_set x i from to 5 (λ r. f (r 5) (r 7)) (omega arith) is does) (omega arith) (λ s sound p. tt)
+      leads_weaker (leads_set x i from to rd (λ r. f (r a) (r b)) written is does) (omega arith) (λ s sound p. tt)
       (λ s t sound p sets. record {
-        given = λ v has. sets.given ∙ gives (s.registers 5) (s.registers 7) v (sound.registers 5) (sound.registers 7) has;
-        keeps = set_keeps 5 (f (s.registers 5) (s.registers 7)) s t refl sets;
+        given = λ v has. sets.given ∙ gives (s.registers a) (s.registers b) v (sound.registers a) (sound.registers b) has;
+        keeps = set_beside rd (f (s.registers a) (s.registers b)) s t sets;
       })
 
-  pub does_plain : (o : Op2) → IsTrue (is_plain o) → One (direct o) x from to → Leads 1 Always (Operates o W64) x from to
-  does_plain op.Add is does = does_row op.Add (direct op.Add) sum add_row (λ r pc. refl) does
-  does_plain op.Sub is does = does_row op.Sub (direct op.Sub) difference sub_row (λ r pc. refl) does
-  does_plain op.Mul is does = does_row op.Mul (direct op.Mul) product mul_row (λ r pc. refl) does
-  does_plain op.And is does = does_row op.And (direct op.And) bit_and and_row (λ r pc. refl) does
-  does_plain op.Or is does = does_row op.Or (direct op.Or) bit_or or_row (λ r pc. refl) does
-  does_plain op.Xor is does = does_row op.Xor (direct op.Xor) bit_xor xor_row (λ r pc. refl) does
-  does_plain op.Divu is does = does_row op.Divu (direct op.Divu) (quotient_unsigned 64) divu_row (λ r pc. refl) does
-  does_plain op.Modu is does = does_row op.Modu (direct op.Modu) (remainder_unsigned 64) modu_row (λ r pc. refl) does
+  pub does_plain : (o : Op2) → IsTrue (is_plain o) → One (direct o rd a b) x from to →
+      Leads 1 Always (λ s t. Makes rd (IsValue o W64 (s.registers a) (s.registers b)) s t) x from to
+  does_plain op.Add is does = does_row op.Add (direct op.Add rd a b) sum add_row (λ r pc. refl) does
+  does_plain op.Sub is does = does_row op.Sub (direct op.Sub rd a b) difference sub_row (λ r pc. refl) does
+  does_plain op.Mul is does = does_row op.Mul (direct op.Mul rd a b) product mul_row (λ r pc. refl) does
+  does_plain op.And is does = does_row op.And (direct op.And rd a b) bit_and and_row (λ r pc. refl) does
+  does_plain op.Or is does = does_row op.Or (direct op.Or rd a b) bit_or or_row (λ r pc. refl) does
+  does_plain op.Xor is does = does_row op.Xor (direct op.Xor rd a b) bit_xor xor_row (λ r pc. refl) does
+  does_plain op.Divu is does = does_row op.Divu (direct op.Divu rd a b) (quotient_unsigned 64) divu_row (λ r pc. refl) does
+  does_plain op.Modu is does = does_row op.Modu (direct op.Modu rd a b) (remainder_unsigned 64) modu_row (λ r pc. refl) does
   does_plain _ is does = absurd (cc)
 
-  pub does_signed : (o : Op2) → IsTrue (is_signed o) → One (direct o) x from to → Leads 1 Always (Operates o W64) x from to
-  does_signed op.Quot is does = does_row op.Quot (direct op.Quot) (quotient 64) quot_row (λ r pc. refl) does
-  does_signed op.Rem is does = does_row op.Rem (direct op.Rem) (remainder 64) rem_row (λ r pc. refl) does
+  pub does_signed : (o : Op2) → IsTrue (is_signed o) → One (direct o rd a b) x from to →
+      Leads 1 Always (λ s t. Makes rd (IsValue o W64 (s.registers a) (s.registers b)) s t) x from to
+  does_signed op.Quot is does = does_row op.Quot (direct op.Quot rd a b) (quotient 64) quot_row (λ r pc. refl) does
+  does_signed op.Rem is does = does_row op.Rem (direct op.Rem rd a b) (remainder 64) rem_row (λ r pc. refl) does
   does_signed _ is does = absurd (cc)
+
+-- in register 5, of the words in registers 5 and 7
+pub operates_leads : (x : Code) (from to n : ℕ) (o : Op2) → Leads n Always (λ s t. Makes 5 (IsValue o W64 (s.registers 5) (s.registers 7)) s t) x from to →
+    Leads n Always (Operates o W64) x from to
+operates_leads x from to n o leads = leads_weaker leads (omega arith) (λ s sound p. tt) (λ s t sound p makes. makes_operates o W64 s t makes)

@@ -10,7 +10,7 @@ use Rattle.rv_asm.specs.Appending.{Then}
 use Rattle.rv_asm.specs.Parts.{Code}
 use Rattle.rv_table.specs.Words.{modulo, shifted_left, shifted_right, shifted_right_signed}
 use Rattle.rv_table.specs.declared.instruction.Instr.TheVariants.{Slli, Srai, Srli}
-use Rattle.cmm_effects.proofs.Shared.{leads_set, leads_then, leads_weaker, runs_none, runs_of, runs_weaker, set_keeps, keeps_same}
+use Rattle.cmm_effects.proofs.Shared.{leads_set, leads_then, leads_weaker, runs_none, runs_of, runs_weaker}
 use Rattle.cmm_effects.specs.Changes.{Sets}
 use Rattle.cmm_effects.specs.Pieces.{Always, Runs}
 use Rattle.cmm_select.proofs.Places.{One, same_set, set_as}
@@ -49,27 +49,24 @@ module _ (x : Code) (from to rd k : ℕ) (written : rd ≢ 0) (small : k < 64) w
 
 -- ---- cuts
 
-cut_by : (w : Width) (k : ℕ) → ((a : ℕ) → shifted_right (shifted_left a k) k ≡ low_bits w a) → (x : Code) (from to : ℕ) →
-    Runs 0 2 Always (λ s t. Sets 5 (shifted_right (shifted_left (s.registers 5) k) k) s t) x from to → Runs 0 2 Always (Narrows w) x from to
-cut_by w k is x from to runs =
+cut_by : (w : Width) (k rd : ℕ) → ((a : ℕ) → shifted_right (shifted_left a k) k ≡ low_bits w a) → (x : Code) (from to : ℕ) →
+    Runs 0 2 Always (λ s t. Sets rd (shifted_right (shifted_left (s.registers rd) k) k) s t) x from to → Runs 0 2 Always (Narrows w rd) x from to
+cut_by w k rd is x from to runs =
     runs_weaker runs (omega arith) (omega arith) (λ s sound p. tt)
-    (λ s t sound p sets. record {
-      given = sets.given ∙ is (s.registers 5);
-      keeps = set_keeps 5 (shifted_right (shifted_left (s.registers 5) k) k) s t refl sets;
-    })
+    (λ s t sound p sets. set_as rd (shifted_right (shifted_left (s.registers rd) k) k) (low_bits w (s.registers rd)) s t (is (s.registers rd)) sets)
 
-module _ (x : Code) (from to : ℕ) where
-  pub cuts_8 : Runs 0 2 Always (λ s t. Sets 5 (shifted_right (shifted_left (s.registers 5) 56) 56) s t) x from to → Runs 0 2 Always (Narrows W8) x from to
-  cuts_8 runs = cut_by W8 56 (λ a. omega arith) x from to runs
+module _ (x : Code) (rd from to : ℕ) where
+  pub cuts_8 : Runs 0 2 Always (λ s t. Sets rd (shifted_right (shifted_left (s.registers rd) 56) 56) s t) x from to → Runs 0 2 Always (Narrows W8 rd) x from to
+  cuts_8 runs = cut_by W8 56 rd (λ a. omega arith) x from to runs
 
-  pub cuts_16 : Runs 0 2 Always (λ s t. Sets 5 (shifted_right (shifted_left (s.registers 5) 48) 48) s t) x from to → Runs 0 2 Always (Narrows W16) x from to
-  cuts_16 runs = cut_by W16 48 (λ a. omega arith) x from to runs
+  pub cuts_16 : Runs 0 2 Always (λ s t. Sets rd (shifted_right (shifted_left (s.registers rd) 48) 48) s t) x from to → Runs 0 2 Always (Narrows W16 rd) x from to
+  cuts_16 runs = cut_by W16 48 rd (λ a. omega arith) x from to runs
 
-  pub cuts_32 : Runs 0 2 Always (λ s t. Sets 5 (shifted_right (shifted_left (s.registers 5) 32) 32) s t) x from to → Runs 0 2 Always (Narrows W32) x from to
-  cuts_32 runs = cut_by W32 32 (λ a. omega arith) x from to runs
+  pub cuts_32 : Runs 0 2 Always (λ s t. Sets rd (shifted_right (shifted_left (s.registers rd) 32) 32) s t) x from to → Runs 0 2 Always (Narrows W32 rd) x from to
+  cuts_32 runs = cut_by W32 32 rd (λ a. omega arith) x from to runs
 
-  pub cuts_none : from ≡ to → Runs 0 0 Always (Narrows W64) x from to
-  cuts_none is = runs_none is (λ s sound p. record { given = whole (s.registers 5) (sound.registers 5); keeps = keeps_same s })
+  pub cuts_none : from ≡ to → Runs 0 0 Always (Narrows W64 rd) x from to
+  cuts_none is = runs_none is (λ s sound p. record { given = whole (s.registers rd) (sound.registers rd); others = λ r h. refl; memory = refl })
     where
       whole : (a : ℕ) → a < 2 ^ 64 → a ≡ low_bits W64 a
       whole a h = omega arith

@@ -23,10 +23,9 @@ pub record Operates (op : Op2) (w : Width) (s t : State) : Type 0 where
   pub given : (v : ℕ) → value2 op w (s.registers FIRST_SCRATCH) (s.registers SECOND_SCRATCH) ≡ Some v → t.registers FIRST_SCRATCH ≡ v
   pub keeps : Keeps s t
 
--- the number in register 5 is cut to a width
-pub record Narrows (w : Width) (s t : State) : Type 0 where
-  pub given : t.registers FIRST_SCRATCH ≡ low_bits w (s.registers FIRST_SCRATCH)
-  pub keeps : Keeps s t
+-- the number in a register is cut to a width
+abbrev pub Narrows : Width → ℕ → State → State → Type 0
+Narrows w r s t = Sets r (low_bits w (s.registers r)) s t
 
 -- the word in a register gets its sign
 abbrev pub Extends : Width → ℕ → State → State → Type 0

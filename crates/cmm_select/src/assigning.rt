@@ -1,6 +1,6 @@
 //! Assignments to places and to global registers.
 
-ghost use Rattle.std.specs.Prelude.{◌≡◌, ◌+◌, ◌*◌, OnOk};
+ghost use Rattle.std.specs.Prelude.{◌≡◌, ◌+◌, ◌*◌, IsTrue, OnOk};
 ghost use Rattle.cmm_words.specs.Words.{low_bits, sign_extended, value1};
 ghost use Rattle.rv_asm.specs.Assembly.{IsLabel};
 ghost use Rattle.cmm_effects.specs.Accesses.{global_at};
@@ -9,11 +9,13 @@ ghost use Rattle.cmm_select.specs.Assignments.{AssignsBinary, AssignsComparison,
 ghost use Rattle.cmm_select.specs.Destinations.{IsDestination, PutsTo};
 ghost use Rattle.cmm_select.specs.Operands.{IsOperand, most_for};
 ghost use Rattle.cmm_select.specs.Operators.{shifts_of};
+ghost use Rattle.cmm_select.specs.inside.Wide.{is_plain};
 
 use crate::comparing::compare;
 use crate::destination::{Destination, put, read_global};
+use crate::in_place::{finish, locate_both, target};
 use crate::operand::{Operand, bring_both, bring_operand};
-use crate::operator::{narrow, operate};
+use crate::operator::{is_plain, narrow, operate, plain};
 use crate::unary::{convert, operate_on_one};
 use cmm_abi::registers::FIRST_SCRATCH;
 use cmm_words::{Cmp, Op1, Op2, Width};
@@ -96,7 +98,7 @@ pub fn assign_low(
     ensures labels { asm.new.labels ≡ asm.old.labels }
 {
     bring_operand(asm, operand, FIRST_SCRATCH)?;
-    narrow(asm, width)?;
+    narrow(asm, width, FIRST_SCRATCH)?;
     put(asm, to)?;
     Ok(())
 }
@@ -116,9 +118,35 @@ pub fn assign_binary(
     ensures assigns { OnOk result (Adds (most_for left.now + most_for right.now + 3 * shifts_of width + 10) asm.old.parts asm.new.parts (AssignsBinary (most_for left.now + most_for right.now + 3 * shifts_of width + 10) operator width left.now right.now to.now)) }
     ensures labels { asm.new.labels ≡ asm.old.labels }
 {
+    if is_plain(operator) {
+        assign_plain(asm, operator, width, left, right, to)?;
+        return Ok(());
+    }
     bring_both(asm, left, right)?;
     operate(asm, operator, width)?;
     put(asm, to)?;
+    Ok(())
+}
+
+/// Assigns what an operator gives that one instruction does on words as they are.
+fn assign_plain(
+    asm: &mut Asm,
+    operator: Op2,
+    width: Width,
+    left: &Operand,
+    right: &Operand,
+    to: &Destination,
+) -> Result<(), AllocError>
+    requires plain { IsTrue (is_plain operator) }
+    requires left { IsOperand asm.old.labels left.now }
+    requires right { IsOperand asm.old.labels right.now }
+    requires destination { IsDestination asm.old.labels to.now }
+    ensures assigns { OnOk result (Adds (most_for left.now + most_for right.now + shifts_of width + 5) asm.old.parts asm.new.parts (AssignsBinary (most_for left.now + most_for right.now + shifts_of width + 5) operator width left.now right.now to.now)) }
+    ensures labels { asm.new.labels ≡ asm.old.labels }
+{
+    let from = locate_both(asm, left, right)?;
+    plain(asm, operator, width, target(to), from.first, from.second)?;
+    finish(asm, to)?;
     Ok(())
 }
 

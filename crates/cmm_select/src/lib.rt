@@ -3,8 +3,10 @@
 //! The code of a node is appended to an assembler, and its contract says what it changes of a machine state (`specs/Changes` of
 //! cmm_effects), how many instructions it adds, how many are executed at most, and that the first of them asks for nothing but input.
 //! Between two nodes the values of locals are in their places: slots of the frame, callee-saves registers, other registers. Within a
-//! node, registers 5 to 7 are used: the first operand and the result are in 5, the second operand is in 7, and 6 helps. A node's code
-//! ends where control goes on, so a jump is added only where another node follows.
+//! node, registers 5 to 7 are spare: what is in no register is brought there, the first operand into 5 and the second into 7, and 6 helps.
+//! An operand that is in a register is read there, 0 is register 0, and a result is made in the register of its destination, or else in 5,
+//! from which it is put there. Code of several instructions that changes its operands has them in 5 and 7, and its result in 5. A node's
+//! code ends where control goes on, so a jump is added only where another node follows.
 //! An error of a function that appends code is want of memory, and then a part of the code may be there, unless its comment says otherwise.
 //!
 //! What nodes are made of:
@@ -15,6 +17,7 @@
 //! - `source`: a register gets what a place has, a number or an address of the frame.
 //! - `operand`: a register gets an operand, which may name a label too; two registers get two.
 //! - `destination`: register 5 is put into a place or a global register.
+//! - `in_place`: the registers in which operands are, and those in which results are made.
 //! - `cell`, `accesses`: a word of memory is loaded or stored, at a multiple of its size, or of less.
 //! - `operator`: register 5 gets what an operator gives on the words in registers 5 and 7.
 //! - `comparing`: control goes by a comparison of these words, or register 5 gets what it tells.
@@ -38,6 +41,7 @@ mod comparing;
 mod destination;
 mod going;
 mod host;
+mod in_place;
 pub mod laws;
 mod memory;
 mod number;
@@ -62,7 +66,7 @@ pub use host::{choose, get_byte, put_byte};
 pub use memory::{assign_loaded, store};
 pub use number::{load_constant, load_low};
 pub use operand::{Operand, bring_both, bring_operand};
-pub use operator::{extend, narrow, operate};
+pub use operator::{extend, operate};
 pub use place::{copy, read, write};
 pub use source::{Source, bring};
 pub use switching::switch;

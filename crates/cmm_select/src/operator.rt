@@ -9,6 +9,7 @@ ghost use Rattle.rv_table.specs.declared.instruction.Instr.TheVariants.{Addi, An
 ghost use Rattle.cmm_effects.specs.Changes.{Sets};
 ghost use Rattle.cmm_effects.specs.Pieces.{Adds, Always, Leads, Runs};
 ghost use Rattle.cmm_select.specs.Operators.{Extends, HasWord, HaveWords, Narrows, Operates, shifts_of};
+ghost use Rattle.cmm_select.specs.inside.InPlace.{HaveWordsIn, IsTarget, IsValue, Makes};
 ghost use Rattle.cmm_select.specs.inside.Wide.{direct, is_plain, is_shift, is_signed, method_of};
 
 use cmm_abi::registers::{FIRST_SCRATCH, HELPER, SECOND_SCRATCH, ZERO};
@@ -18,22 +19,23 @@ use rv_asm::Asm;
 use rv_table::Instr;
 use std::alloc::AllocError;
 
-/// Cuts the number in register 5 to a width: its upper bits are shifted out.
-pub fn narrow(asm: &mut Asm, width: Width) -> Result<(), AllocError>
-    ensures narrows { OnOk result (Adds (shifts_of width) asm.old.parts asm.new.parts (Runs 0 (shifts_of width) Always (Narrows width))) }
+/// Cuts the number in register `rd` to a width: its upper bits are shifted out.
+pub(crate) fn narrow(asm: &mut Asm, width: Width, rd: u8) -> Result<(), AllocError>
+    requires { IsTarget rd }
+    ensures narrows { OnOk result (Adds (shifts_of width) asm.old.parts asm.new.parts (Runs 0 (shifts_of width) Always (Narrows width rd))) }
     ensures labels { asm.new.labels ≡ asm.old.labels }
 {
     match width {
         Width::W8 => {
-            shift_out(asm, 56)?;
+            shift_out(asm, rd, 56)?;
             Ok(())
         }
         Width::W16 => {
-            shift_out(asm, 48)?;
+            shift_out(asm, rd, 48)?;
             Ok(())
         }
         Width::W32 => {
-            shift_out(asm, 32)?;
+            shift_out(asm, rd, 32)?;
             Ok(())
         }
         Width::W64 => Ok(()),
@@ -64,14 +66,15 @@ pub fn extend(asm: &mut Asm, width: Width, rd: u8) -> Result<(), AllocError>
     }
 }
 
-/// Shifts register 5 to the left, and back with zeros.
-fn shift_out(asm: &mut Asm, amount: u8) -> Result<(), AllocError>
-    requires { amount < 64 }
-    ensures shifts { OnOk result (Adds 2 asm.old.parts asm.new.parts (Runs 0 2 Always (λ s t. Sets FIRST_SCRATCH (shifted_right (shifted_left (s.registers FIRST_SCRATCH) amount) amount) s t))) }
+/// Shifts register `rd` to the left, and back with zeros.
+fn shift_out(asm: &mut Asm, rd: u8, amount: u8) -> Result<(), AllocError>
+    requires amount { amount < 64 }
+    requires register { IsTarget rd }
+    ensures shifts { OnOk result (Adds 2 asm.old.parts asm.new.parts (Runs 0 2 Always (λ s t. Sets rd (shifted_right (shifted_left (s.registers rd) amount) amount) s t))) }
     ensures labels { asm.new.labels ≡ asm.old.labels }
 {
-    asm.emit(shift_left(FIRST_SCRATCH, amount))?;
-    asm.emit(shift_right(FIRST_SCRATCH, amount))?;
+    asm.emit(shift_left(rd, amount))?;
+    asm.emit(shift_right(rd, amount))?;
     Ok(())
 }
 
@@ -155,7 +158,8 @@ pub fn operate(asm: &mut Asm, operator: Op2, width: Width) -> Result<(), AllocEr
 {
     match method_for(operator) {
         Method::Plain => {
-            plain(asm, operator, width)?;
+            let (rd, first, second) = (FIRST_SCRATCH, FIRST_SCRATCH, SECOND_SCRATCH);
+            plain(asm, operator, width, rd, first, second)?;
             Ok(())
         }
         Method::Shift => {
@@ -189,6 +193,13 @@ pub fn operate(asm: &mut Asm, operator: Op2, width: Width) -> Result<(), AllocEr
     }
 }
 
+/// Whether one instruction does an operator on any words of 64 bits, at a width on words as they are.
+pub(crate) fn is_plain(operator: Op2) -> bool
+    ensures { result ≡ is_plain operator }
+{
+    matches!(method_for(operator), Method::Plain)
+}
+
 /// How the operator is done.
 fn method_for(operator: Op2) -> Method
     ensures { result ≡ method_of operator }
@@ -205,15 +216,25 @@ fn method_for(operator: Op2) -> Method
     }
 }
 
-/// The operator of 64 bits in one instruction, and a cut.
-fn plain(asm: &mut Asm, operator: Op2, width: Width) -> Result<(), AllocError>
-    requires { IsTrue (is_plain operator) }
-    ensures operates { OnOk result (Adds (1 + shifts_of width) asm.old.parts asm.new.parts (Runs 0 (1 + shifts_of width) (HaveWords width) (Operates operator width))) }
+/// The operator of 64 bits in one instruction on two registers, and a cut.
+pub(crate) fn plain(
+    asm: &mut Asm,
+    operator: Op2,
+    width: Width,
+    rd: u8,
+    first: u8,
+    second: u8,
+) -> Result<(), AllocError>
+    requires plain { IsTrue (is_plain operator) }
+    requires register { IsTarget rd }
+    requires first { first < 32 }
+    requires second { second < 32 }
+    ensures operates { OnOk result (Adds (1 + shifts_of width) asm.old.parts asm.new.parts (Leads (1 + shifts_of width) (HaveWordsIn width first second) (λ s t. Makes rd (IsValue operator width (s.registers first) (s.registers second)) s t))) }
     ensures labels { asm.new.labels ≡ asm.old.labels }
 {
     wide_operators();
-    asm.emit(instruction(operator))?;
-    narrow(asm, width)?;
+    asm.emit(instruction(operator, rd, first, second))?;
+    narrow(asm, width, rd)?;
     Ok(())
 }
 
@@ -229,13 +250,13 @@ fn shift(asm: &mut Asm, operator: Op2, width: Width) -> Result<(), AllocError>
         rs1: SECOND_SCRATCH,
         imm: 64,
     })?;
-    asm.emit(instruction(operator))?;
+    asm.emit(instruction(operator, FIRST_SCRATCH, FIRST_SCRATCH, SECOND_SCRATCH))?;
     asm.emit(Instr::Mul {
         rd: FIRST_SCRATCH,
         rs1: FIRST_SCRATCH,
         rs2: HELPER,
     })?;
-    narrow(asm, width)?;
+    narrow(asm, width, FIRST_SCRATCH)?;
     Ok(())
 }
 
@@ -248,17 +269,19 @@ fn signed(asm: &mut Asm, operator: Op2, width: Width) -> Result<(), AllocError>
     wide_operators();
     extend(asm, width, FIRST_SCRATCH)?;
     extend(asm, width, SECOND_SCRATCH)?;
-    asm.emit(instruction(operator))?;
-    narrow(asm, width)?;
+    asm.emit(instruction(operator, FIRST_SCRATCH, FIRST_SCRATCH, SECOND_SCRATCH))?;
+    narrow(asm, width, FIRST_SCRATCH)?;
     Ok(())
 }
 
-/// The instruction of an operator of 64 bits.
-fn instruction(operator: Op2) -> Instr
-    ensures is { result ≡ direct operator }
+/// The instruction of an operator of 64 bits on two registers.
+fn instruction(operator: Op2, rd: u8, rs1: u8, rs2: u8) -> Instr
+    requires to { rd < 32 }
+    requires first { rs1 < 32 }
+    requires second { rs2 < 32 }
+    ensures is { result ≡ direct operator rd rs1 rs2 }
     ensures valid { IsValid result }
 {
-    let (rd, rs1, rs2) = (FIRST_SCRATCH, FIRST_SCRATCH, SECOND_SCRATCH);
     match operator {
         Op2::Sub => Instr::Sub { rd, rs1, rs2 },
         Op2::Mul => Instr::Mul { rd, rs1, rs2 },
@@ -283,7 +306,7 @@ fn shift_signed(asm: &mut Asm, width: Width) -> Result<(), AllocError>
     wide_operators();
     extend(asm, width, FIRST_SCRATCH)?;
     shift_copies(asm)?;
-    narrow(asm, width)?;
+    narrow(asm, width, FIRST_SCRATCH)?;
     Ok(())
 }
 
@@ -324,7 +347,7 @@ fn divide_down(asm: &mut Asm, width: Width) -> Result<(), AllocError>
     extend(asm, width, FIRST_SCRATCH)?;
     extend(asm, width, SECOND_SCRATCH)?;
     quotient_down(asm)?;
-    narrow(asm, width)?;
+    narrow(asm, width, FIRST_SCRATCH)?;
     Ok(())
 }
 
@@ -371,7 +394,7 @@ fn modulo_down(asm: &mut Asm, width: Width) -> Result<(), AllocError>
     extend(asm, width, FIRST_SCRATCH)?;
     extend(asm, width, SECOND_SCRATCH)?;
     remainder_down(asm)?;
-    narrow(asm, width)?;
+    narrow(asm, width, FIRST_SCRATCH)?;
     Ok(())
 }
 
@@ -437,7 +460,7 @@ fn rotate_left(asm: &mut Asm, width: Width) -> Result<(), AllocError>
         rs1: HELPER,
         rs2: FIRST_SCRATCH,
     })?;
-    narrow(asm, width)?;
+    narrow(asm, width, FIRST_SCRATCH)?;
     Ok(())
 }
 
@@ -469,7 +492,7 @@ fn rotate_right(asm: &mut Asm, width: Width) -> Result<(), AllocError>
         rs1: FIRST_SCRATCH,
         rs2: HELPER,
     })?;
-    narrow(asm, width)?;
+    narrow(asm, width, FIRST_SCRATCH)?;
     Ok(())
 }
 

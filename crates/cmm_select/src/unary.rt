@@ -22,7 +22,7 @@ pub fn operate_on_one(asm: &mut Asm, operator: Op1, width: Width) -> Result<(), 
 {
     wide_operators();
     asm.emit(instruction(operator))?;
-    narrow(asm, width)?;
+    narrow(asm, width, FIRST_SCRATCH)?;
     Ok(())
 }
 
@@ -51,6 +51,6 @@ pub fn convert(asm: &mut Asm, from: Width, to: Width) -> Result<(), AllocError>
     ensures labels { asm.new.labels ≡ asm.old.labels }
 {
     extend(asm, from, FIRST_SCRATCH)?;
-    narrow(asm, to)?;
+    narrow(asm, to, FIRST_SCRATCH)?;
     Ok(())
 }

@@ -1,5 +1,5 @@
 -- The instructions of operators at 64 bits: RISC-V ISA Volume I, "Integer Register-Register Operations" and the M extension.
-use Rattle.std.specs.Prelude.{Bool, true, false}
+use Rattle.std.specs.Prelude.{ℕ, Bool, true, false}
 use Rattle.cmm_words.specs.declared.operators.Op2.{Op2}
 use Rattle.cmm_words.specs.declared.operators.Op2.TheVariants as op
 use Rattle.cmm_select.specs.declared.operator.Method.{Method}
@@ -31,21 +31,21 @@ is_shift op.Shl = true
 is_shift op.Shrl = true
 is_shift _ = false
 
--- that instruction
-abbrev pub direct : Op2 → Instr
-direct op.Add = Add 5 5 7
-direct op.Sub = Sub 5 5 7
-direct op.Mul = Mul 5 5 7
-direct op.And = And 5 5 7
-direct op.Or = Or 5 5 7
-direct op.Xor = Xor 5 5 7
-direct op.Shl = Sll 5 5 7
-direct op.Shrl = Srl 5 5 7
-direct op.Divu = Divu 5 5 7
-direct op.Modu = Remu 5 5 7
-direct op.Quot = Div 5 5 7
-direct op.Rem = Rem 5 5 7
-direct _ = Add 5 5 7
+-- that instruction, on the words in two registers
+abbrev pub direct : Op2 → ℕ → ℕ → ℕ → Instr
+direct op.Add rd a b = Add rd a b
+direct op.Sub rd a b = Sub rd a b
+direct op.Mul rd a b = Mul rd a b
+direct op.And rd a b = And rd a b
+direct op.Or rd a b = Or rd a b
+direct op.Xor rd a b = Xor rd a b
+direct op.Shl rd a b = Sll rd a b
+direct op.Shrl rd a b = Srl rd a b
+direct op.Divu rd a b = Divu rd a b
+direct op.Modu rd a b = Remu rd a b
+direct op.Quot rd a b = Div rd a b
+direct op.Rem rd a b = Rem rd a b
+direct _ rd a b = Add rd a b
 
 -- how an operator is done
 abbrev pub method_of : Op2 → Method

@@ -11,3 +11,8 @@ returns-clause-assigns c =
     (λ x from end does. leads_weaker
     (assigns_binary x c.args.to.now from end w c.args.left.now c.args.right.now (3 * shifts_of w + 6) c.args.operator does)
     (omega arith) (λ s sound can. can) (λ s t sound can assigned. assigned))
+
+pub returns-then-is_plain-clause-assigns : goal.returns-then-is_plain-clause-assigns
+returns-then-is_plain-clause-assigns c =
+    adds_weaker c.in_ok-assign_plain.ensures.assigns (omega arith)
+    (λ x from end assigns. leads_weaker assigns (omega arith) (λ s sound can. can) (λ s t sound can assigned. assigned))

@@ -1,15 +1,18 @@
 use Rattle.std.proofs.Common.{◌∙◌, sym, arith}
-use Rattle.cmm_effects.proofs.Shared.{adds_weaker, runs_weaker}
+use Rattle.cmm_effects.proofs.Shared.{adds_weaker, runs_of, runs_weaker}
 use Rattle.cmm_select.proofs.Methods.{by_copies, by_left, by_plain, by_quotient, by_remainder, by_right, by_shift, by_signed}
+use Rattle.cmm_select.proofs.Wide.{makes_operates}
 use Rattle.cmm_select.proofs.operator.operate.Goals as goal
 
-pub plain-requires : goal.plain-requires
-plain-requires c = by_plain c.args.operator (sym c.method_for.ensures ∙ c.in-Plain.is)
+pub plain-requires-clause-plain : goal.plain-requires-clause-plain
+plain-requires-clause-plain c = by_plain c.args.operator (sym c.method_for.ensures ∙ c.in-Plain.is)
 
 pub returns-in_ok-plain-in-Plain-clause-operates : goal.returns-in_ok-plain-in-Plain-clause-operates
 returns-in_ok-plain-in-Plain-clause-operates c =
+    let o = c.args.operator in
+    let w = c.args.width in
     adds_weaker c.in_ok-plain-in-Plain.ensures.operates (omega arith)
-    (λ x from to runs. runs_weaker runs (omega arith) (omega arith) (λ s sound words. words) (λ s t sound words operates. operates))
+    (λ x from to leads. runs_weaker (runs_of leads) (omega arith) (omega arith) (λ s sound words. words) (λ s t sound words makes. makes_operates o w s t makes))
 
 pub shift-requires : goal.shift-requires
 shift-requires c = by_shift c.args.operator (sym c.method_for.ensures ∙ c.in-Shift.is)

@@ -1,7 +1,7 @@
-use Rattle.std.proofs.Common.{arith}
-use Rattle.cmm_effects.proofs.Shared.{adds_one, adds_then, adds_weaker, runs_of}
+use Rattle.std.proofs.Common.{◌≢◌, arith}
+use Rattle.cmm_effects.proofs.Shared.{adds_one, adds_then, adds_weaker}
 use Rattle.cmm_effects.specs.Pieces.{Adds}
-use Rattle.cmm_select.proofs.Operating.{cut_operates, plain_cut}
+use Rattle.cmm_select.proofs.Operating.{cut_makes, plain_cut}
 use Rattle.cmm_select.proofs.Places.{One}
 use Rattle.cmm_select.proofs.Wide.{does_plain}
 use Rattle.cmm_select.specs.Operators.{shifts_of}
@@ -12,10 +12,14 @@ pub returns-clause-operates : goal.returns-clause-operates
 returns-clause-operates c =
     let o = c.args.operator in
     let w = c.args.width in
+    let rd = c.args.rd in
+    let a = c.args.first in
+    let b = c.args.second in
     let l = c.wide_operators.ensures in
-    let first : Adds 1 c.args.asm.now.parts c.emit.new.self.parts (One (direct o)) =
-    rw (c.in_ok-emit.ensures.parts, c.instruction.ensures.is) (adds_one c.args.asm.now.parts (direct o))
+    let first : Adds 1 c.args.asm.now.parts c.emit.new.self.parts (One (direct o rd a b)) =
+    rw (c.in_ok-emit.ensures.parts, c.instruction.ensures.is) (adds_one c.args.asm.now.parts (direct o rd a b))
     in
+    let written : rd ≢ 0 = (λ e. omega (arith, e, c.requires.register.0)) in
     adds_weaker (adds_then first c.in_ok-narrow.ensures.narrows) (omega arith)
-    (λ x from to does. cut_operates x from does.0 to 1 (shifts_of w) o w (plain_cut o c.requires l.add l.sub l.mul l.and l.or l.xor l.divu l.modu)
-    (runs_of (does_plain x from does.0 o c.requires does.1)) does.2)
+    (λ x from to does. cut_makes x from does.0 to 1 (shifts_of w) rd a b o w (plain_cut o c.requires.plain l.add l.sub l.mul l.and l.or l.xor l.divu l.modu)
+    (does_plain x from does.0 rd a b written o c.requires.plain does.1) does.2)

@@ -18,9 +18,9 @@ returns-clause-operates c =
     let l = c.wide_operators.ensures in
     let old = c.args.asm.now.parts in
     let one = old ++ Single (Sltiu 6 7 (pos 64)) ∷ [] in
-    let first : Adds 3 old c.emit-3.new.self.parts (Then (One (Sltiu 6 7 (pos 64))) (Then (One (direct o)) (One (Mul 5 5 6)))) =
+    let first : Adds 3 old c.emit-3.new.self.parts (Then (One (Sltiu 6 7 (pos 64))) (Then (One (direct o 5 5 7)) (One (Mul 5 5 6)))) =
     rw (c.in_ok-emit-3.ensures.parts, c.in_ok-emit-2.ensures.parts, c.in_ok-emit.ensures.parts, c.instruction.ensures.is)
-    (adds_weaker (adds_then (adds_one old (Sltiu 6 7 (pos 64))) (adds_then (adds_one one (direct o)) (adds_one (one ++ Single (direct o) ∷ []) (Mul 5 5 6)))) (omega arith) (λ x from to does. does))
+    (adds_weaker (adds_then (adds_one old (Sltiu 6 7 (pos 64))) (adds_then (adds_one one (direct o 5 5 7)) (adds_one (one ++ Single (direct o 5 5 7) ∷ []) (Mul 5 5 6)))) (omega arith) (λ x from to does. does))
     in
     adds_weaker (adds_then first c.in_ok-narrow.ensures.narrows) (omega arith)
     (λ x from to does. cut_operates x from does.0 to 3 (shifts_of w) o w (shift_cut o c.requires l.shl l.shrl)
