@@ -8,9 +8,9 @@ use Rattle.cmm_words.specs.Laws.{IsWide, IsWideOfExtended}
 use Rattle.cmm_words.specs.Words.{holds, sign_extended}
 use Rattle.cmm_words.specs.declared.operators.Cmp.{Cmp}
 use Rattle.cmm_words.specs.declared.operators.Cmp.TheVariants.{Eq, Ne, Lt, Le, Gt, Ge, Ltu, Leu, Gtu, Geu}
+use Rattle.cmm_words.specs.Widths.{IsWord}
 use Rattle.cmm_words.specs.declared.width.Width.{Width}
-use Rattle.cmm_words.specs.declared.width.Width.TheVariants.{W64}
-use Rattle.rv_asm.proofs.Shared.{reaches_then}
+use Rattle.cmm_words.specs.declared.width.Width.TheVariants.{W8, W16, W32, W64}
 use Rattle.rv_asm.specs.Assembly.{has_branch}
 use Rattle.rv_asm.specs.Parts.{Code, Does, GoesTo, taken, way}
 use Rattle.rv_asm.specs.declared.part.Label.{Label}
@@ -18,15 +18,18 @@ use Rattle.rv_asm.specs.declared.part.Part.TheVariants.{Branch}
 use Rattle.rv_table.specs.Bounds.{IsSound}
 use Rattle.rv_table.specs.Machine.{State}
 use Rattle.rv_table.specs.Words.{is_less, signed}
-use Rattle.cmm_effects.proofs.Shared.{keeps_same, keeps_then, reaches_more, reaches_sound, runs_none, runs_weaker}
-use Rattle.cmm_abi.specs.Registers.{is_scratch}
+use Rattle.cmm_effects.proofs.Shared.{goes_keeps, keeps_then, leads_then, leads_weaker, quiet_if_runs, reaches_more}
 use Rattle.cmm_effects.specs.Changes.{Keeps}
 use Rattle.cmm_effects.specs.Pieces.{Runs}
+use Rattle.cmm_select.proofs.InPlace.{passes_of, passes_weaker}
 use Rattle.cmm_select.proofs.Operating.{Signs}
 use Rattle.cmm_select.proofs.Wide.{signed_same}
-use Rattle.cmm_select.specs.Comparisons.{Chooses}
-use Rattle.cmm_select.specs.Operators.{HaveWords}
-use Rattle.cmm_select.specs.inside.Comparing.{Readies, compares_integers, turned_of}
+use Rattle.cmm_select.specs.Going.{CanDecide}
+use Rattle.cmm_select.specs.Operands.{BringsBoth, HasBoth, most_for, operand_at}
+use Rattle.cmm_select.specs.Operators.{HaveWords, shifts_of}
+use Rattle.cmm_select.specs.declared.operand.Operand.{Operand}
+use Rattle.cmm_select.specs.inside.Comparing.{BranchesIn, Readies, ReadiesBoth, compares_integers, needs_signs, turned_of}
+use Rattle.cmm_select.specs.inside.InPlace.{LocatesBoth}
 
 -- ---- what a branch tells of two words
 
@@ -75,38 +78,25 @@ turned_branches _ o is = absurd (cc)
 
 -- ---- a branch, where it stands
 
-goes_keeps : (address : ℕ) (s t : State) → GoesTo address s t → Keeps s t
-goes_keeps address s t goes = record { registers = λ r is. goes.registers r (λ e. six r e is); memory = goes.memory }
-  where
-    six : (r : ℕ) → r ≡ 6 → is_scratch r ≡ false → ⊥
-    six r e h = let g : is_scratch 6 ≡ false = subst (λ (k : ℕ). is_scratch k ≡ false) e h in absurd (cc)
-
-module _ (x : Code) (l : Label) (from to : ℕ) where
-  branch_chooses : (c o : Cmp) (a b : ℕ) → ((s : State) → IsSound s → taken o (s.registers a) (s.registers b) ≡ holds c W64 (s.registers 5) (s.registers 7)) →
-      Does x (Branch o a b l) from to → Chooses 3 c W64 l x from to
-  branch_chooses c o a b is does = record {
-    go = λ s sound at words.
-        reaches_more (does s at)
-        (λ t goes. (goes.pc ∙ ap (λ (h : Bool). way h (x.at l.number) to) (is s sound), goes_keeps (way (taken o (s.registers a) (s.registers b)) (x.at l.number) to) s t goes));
+module _ (x : Code) (l : Label) (from to a b : ℕ) where
+  branch_turns : (c o : Cmp) (p q : ℕ) → ((s : State) → IsSound s → taken o (s.registers p) (s.registers q) ≡ holds c W64 (s.registers a) (s.registers b)) →
+      Does x (Branch o p q l) from to → BranchesIn c a b l x from to
+  branch_turns c o p q is does = record {
+    quiet = quiet_if_runs x from 1 3 (λ s t. GoesTo (way (taken o (s.registers p) (s.registers q)) (x.at l.number) to) s t) (omega arith) does;
+    goes = record {
+      go = λ s sound at always.
+          reaches_more (does s at)
+          (λ t goes. (goes.pc ∙ ap (λ (h : Bool). way h (x.at l.number) to) (is s sound), goes_keeps (way (taken o (s.registers p) (s.registers q)) (x.at l.number) to) s t goes));
+    };
   }
 
-  pub straight_chooses : (c : Cmp) → turned_of c ≡ None → Does x (Branch c 5 7 l) from to → Chooses 3 c W64 l x from to
-  straight_chooses c is does =
-      branch_chooses c c 5 7 (λ s sound. straight_taken c is (s.registers 5) (s.registers 7) (sound.registers 5) (sound.registers 7)) does
+  pub straight_branch : (c : Cmp) → turned_of c ≡ None → Does x (Branch c a b l) from to → BranchesIn c a b l x from to
+  straight_branch c is does =
+      branch_turns c c a b (λ s sound. straight_taken c is (s.registers a) (s.registers b) (sound.registers a) (sound.registers b)) does
 
-  pub turned_chooses : (c o : Cmp) → turned_of c ≡ Some o → Does x (Branch o 7 5 l) from to → Chooses 3 c W64 l x from to
-  turned_chooses c o is does =
-      branch_chooses c o 7 5 (λ s sound. turned_taken c o is (s.registers 5) (s.registers 7) (sound.registers 5) (sound.registers 7)) does
-
-  -- words are made ready, and then the branch at 64 bits
-  pub ready_chooses : (c : Cmp) (w : Width) (mid m n : ℕ) → Runs 0 m (HaveWords w) (Readies c w) x from mid → Chooses n c W64 l x mid to →
-      Chooses (m + n) c w l x from to
-  ready_chooses c w mid m n first second = record {
-    go = λ s sound at words.
-        reaches_then (reaches_sound (first.go s sound at words) sound)
-        (λ t there. reaches_more (second.go t there.1 there.0.0 (there.1.registers 5, there.1.registers 7))
-        (λ u arrived. (arrived.0 ∙ ap (λ (h : Bool). way h (x.at l.number) to) there.0.1.same, keeps_then s t u there.0.1.keeps arrived.1)));
-  }
+  pub turned_branch : (c o : Cmp) → turned_of c ≡ Some o → Does x (Branch o b a l) from to → BranchesIn c a b l x from to
+  turned_branch c o is does =
+      branch_turns c o b a (λ s sound. turned_taken c o is (s.registers a) (s.registers b) (sound.registers a) (sound.registers b)) does
 
 -- ---- words made ready for a comparison at 64 bits
 
@@ -126,16 +116,47 @@ with_their_sign Gt is lt le gt ge = gt
 with_their_sign Ge is lt le gt ge = ge
 with_their_sign _ is lt le gt ge = absurd (cc)
 
-module _ (x : Code) (c : Cmp) (w : Width) (from to most : ℕ) where
-  pub are_ready : IsWide c → from ≡ to → Runs 0 most (HaveWords w) (Readies c w) x from to
-  are_ready wide is =
-      runs_none is (λ s sound words. record { same = sym (wide w (s.registers 5) (s.registers 7) words.0 words.1); keeps = keeps_same s })
+pub needs_none : (c : Cmp) (w : Width) → needs_signs c w ≡ false → IsWide Eq → IsWide Ne → IsWide Ltu → IsWide Leu → IsWide Gtu → IsWide Geu → (a b : ℕ) → IsWord w a → IsWord w b →
+    holds c W64 a b ≡ holds c w a b
+needs_none c W64 is eq ne ltu leu gtu geu a b h g = refl
+needs_none c W8 is eq ne ltu leu gtu geu a b h g = sym (as_they_are c is eq ne ltu leu gtu geu W8 a b h g)
+needs_none c W16 is eq ne ltu leu gtu geu a b h g = sym (as_they_are c is eq ne ltu leu gtu geu W16 a b h g)
+needs_none c W32 is eq ne ltu leu gtu geu a b h g = sym (as_they_are c is eq ne ltu leu gtu geu W32 a b h g)
 
-  pub signs_ready : IsWideOfExtended c → Runs 0 most (HaveWords w) (Signs w) x from to → Runs 0 most (HaveWords w) (Readies c w) x from to
-  signs_ready wide runs =
-      runs_weaker {k = 0} runs (omega arith) (omega arith) (λ s sound words. words)
-      (λ s t sound words signs. record {
-        same = ap (λ (n : ℕ). holds c W64 n (t.registers 7)) signs.left ∙ ap (holds c W64 (sign_extended w W64 (s.registers 5))) signs.right
-            ∙ sym (wide w (s.registers 5) (s.registers 7) words.0 words.1);
-        keeps = signs.keeps;
+pub needs_both : (c : Cmp) (w : Width) → needs_signs c w ≡ true → compares_integers c ≡ true
+needs_both c W64 is = absurd (cc (is))
+needs_both c W8 is = is
+needs_both c W16 is = is
+needs_both c W32 is = is
+
+module _ (x : Code) (c : Cmp) (w : Width) (left right : Operand) (from to : ℕ) where
+  pub located_ready : (a b : ℕ) → ((m n : ℕ) → IsWord w m → IsWord w n → holds c W64 m n ≡ holds c w m n) → LocatesBoth left right a b x from to →
+      ReadiesBoth c w left right a b x from to
+  located_ready a b wide located =
+      passes_weaker located (omega arith) (λ s sound can. can.brings)
+      (λ s t sound can are. record {
+        same = ap (λ (n : ℕ). holds c W64 n (t.registers b)) are.first
+            ∙ (ap (holds c W64 (operand_at x.at left s)) are.second ∙ wide (operand_at x.at left s) (operand_at x.at right s) can.words.0 can.words.1);
+        keeps = are.keeps;
       })
+
+  pub signed_ready : (mid : ℕ) → IsWideOfExtended c → BringsBoth left right x from mid → Runs 0 (shifts_of w + shifts_of w) (HaveWords w) (Signs w) x mid to →
+      ReadiesBoth c w left right 5 7 x from to
+  signed_ready mid wide first second =
+      passes_of (leads_weaker
+      (leads_then
+      (leads_weaker {R = CanDecide x.at w left right} {S = HasBoth x.at left right} {b = most_for left + most_for right} first (omega arith) (λ s sound can. can.brings) (λ s t sound can has. has))
+      second
+      (λ s t sound also can has. (subst (λ (k : ℕ). IsWord w k) (sym has.first) can.words.0, subst (λ (k : ℕ). IsWord w k) (sym has.second) can.words.1)))
+      (omega arith) (λ s sound can. can)
+      (λ s u sound can both. same s both.0 u can both.1 both.2))
+    where
+      same : (s t u : State) → CanDecide x.at w left right x.map s → HasBoth x.at left right s t → Signs w t u → Readies x.at c w left right 5 7 s u
+      same s t u can has signs =
+          let m = operand_at x.at left s in
+          let n = operand_at x.at right s in
+          record {
+            same = ap (λ (k : ℕ). holds c W64 k (u.registers 7)) (signs.left ∙ ap (sign_extended w W64) has.first)
+                ∙ (ap (holds c W64 (sign_extended w W64 m)) (signs.right ∙ ap (sign_extended w W64) has.second) ∙ sym (wide w m n can.words.0 can.words.1));
+            keeps = keeps_then s t u has.keeps signs.keeps;
+          }

@@ -9,14 +9,16 @@ use Rattle.cmm_words.specs.Widths.{IsWord}
 use Rattle.cmm_words.specs.declared.width.Width.{Width}
 use Rattle.cmm_chain.proofs.Shared.{callee_saves_is_kept, callee_saves_is_written, temporary_is_kept, temporary_is_written}
 use Rattle.cmm_chain.specs.declared.frame.Location.TheVariants.{Slot, Saved, Temp}
+use Rattle.rv_asm.proofs.Shared.{reaches_then, reaches_weaker}
 use Rattle.rv_asm.specs.Appending.{Then}
 use Rattle.rv_asm.specs.Parts.{Code}
 use Rattle.rv_asm.specs.declared.part.Meaning.{Meaning}
 use Rattle.rv_table.specs.Bounds.{IsSound}
 use Rattle.rv_table.specs.Machine.{MemoryMap, State}
-use Rattle.cmm_effects.proofs.Shared.{keeps_then, kept_is_reachable, leads_then, leads_weaker, runs_none, runs_of, runs_then, runs_weaker}
+use Rattle.cmm_effects.proofs.Shared.{keeps_then, kept_is_reachable, leads_then, leads_weaker, reaches_more, reaches_sound, runs_none, runs_of, runs_then, runs_weaker}
 use Rattle.cmm_effects.specs.Changes.{Keeps, KeepsBut, PutsRegister, Sets}
 use Rattle.cmm_effects.specs.Pieces.{BeginsQuietly, Leads, Runs}
+use Rattle.cmm_effects.specs.Ways.{Turns}
 use Rattle.cmm_select.proofs.Keeping.{operand_as_before, put_after, still_brought, still_put}
 use Rattle.cmm_select.specs.Destinations.{CanPut, IsDestination, PutsFirst, PutsTo}
 use Rattle.cmm_select.specs.Operands.{AreWords, BringsBoth, BringsOperand, CanBringBoth, CanBringOperand, IsOperand, most_for, operand_at}
@@ -52,6 +54,22 @@ module _ {x : Code} {from mid to : ℕ} {P R : MemoryMap → State → Type 0} {
       by (inl same) (inl also) = inl (same ∙ also)
       by (inl same) (inr quiet) = inr (subst (λ (n : ℕ). BeginsQuietly x n) (sym same) quiet)
       by (inr quiet) second = inr quiet
+
+-- a piece, and then one that goes some way
+pub passes_turns : {x : Code} {from mid a b : ℕ} {P R : MemoryMap → State → Type 0} {Q S : State → State → Type 0} {there : State → ℕ} → Passes a P Q x from mid →
+    Turns b R there S x mid → ((s t : State) → IsSound s → IsSound t → P x.map s → Q s t → R x.map t) → (far : State → ℕ) →
+    ((s t : State) → P x.map s → Q s t → there t ≡ far s) → Turns (a + b) P far (λ s u. (t : State) × Q s t × S t u) x from
+passes_turns {x = x} first second meets far same = record {
+  quiet = after_empty x first.begins second.quiet;
+  goes = record {
+    go = λ s sound at p.
+        reaches_weaker
+        (reaches_then (reaches_sound (first.runs.go s sound at p) sound)
+        (λ t there. reaches_more (second.goes.go t there.1 there.0.0 (meets s t sound there.1 p there.0.1))
+        (λ u arrived. (arrived.0 ∙ same s t p there.0.1, (t, there.0.1, arrived.1)))))
+        (omega arith) (omega arith) (λ u arrived. arrived);
+  };
+}
 
 pub passes_weaker : {x : Code} {from to : ℕ} {P R : MemoryMap → State → Type 0} {Q S : State → State → Type 0} {a b : ℕ} → Passes a P Q x from to → a ≤ b →
     ((s : State) → IsSound s → R x.map s → P x.map s) → ((s t : State) → IsSound s → R x.map s → Q s t → S s t) → Passes b R S x from to

@@ -1,27 +1,29 @@
 -- Operands are brought, something is done with them, and the number in register 5 is put somewhere.
-use Rattle.std.proofs.Common.{◌≡◌, ℕ, ◌+◌, refl, sym, ◌∙◌, ap, subst, arith}
-use Rattle.std.specs.Prelude.{if◌then◌else◌}
+use Rattle.std.proofs.Common.{◌≡◌, ℕ, ◌+◌, ◌*◌, refl, sym, ◌∙◌, ap, subst, arith}
+use Rattle.std.specs.Prelude.{Bool, if◌then◌else◌}
 use Rattle.cmm_words.specs.Widths.{IsWord}
 use Rattle.cmm_words.specs.Words.{holds, value2}
 use Rattle.cmm_words.specs.declared.operators.Cmp.{Cmp}
 use Rattle.cmm_words.specs.declared.operators.Op2.{Op2}
 use Rattle.cmm_words.specs.declared.width.Width.{Width}
+use Rattle.cmm_words.specs.declared.width.Width.TheVariants.{W64}
 use Rattle.rv_asm.specs.Appending.{Then}
 use Rattle.rv_asm.specs.Parts.{Code}
 use Rattle.rv_table.specs.Machine.{MemoryMap, State}
 use Rattle.cmm_effects.proofs.Shared.{keeps_then, leads_then, leads_weaker, runs_of}
 use Rattle.cmm_effects.specs.Changes.{Keeps}
 use Rattle.cmm_effects.specs.Pieces.{Leads, Runs}
-use Rattle.cmm_select.proofs.InPlace.{both_finished}
+use Rattle.cmm_select.proofs.InPlace.{beside_then, both_finished, keeps_beside, passes_leads, then_finished}
 use Rattle.cmm_select.proofs.Keeping.{brings_keeps, put_after, put_as, still_put}
 use Rattle.cmm_select.specs.Assignments.{Assigns, AssignsBinary, AssignsComparison, AssignsOne, Copies}
-use Rattle.cmm_select.specs.Comparisons.{Tells}
 use Rattle.cmm_select.specs.Destinations.{CanPut, PutsFirst, PutsTo}
 use Rattle.cmm_select.specs.Operands.{AreWords, Brings, BringsBoth, BringsOperand, CanBringBoth, CanBringOperand, HasBoth, most_for, operand_at}
-use Rattle.cmm_select.specs.Operators.{HasWord, HaveWords, Operates}
+use Rattle.cmm_select.specs.Going.{CanDecide}
+use Rattle.cmm_select.specs.Operators.{HasWord, HaveWords, Operates, shifts_of}
 use Rattle.cmm_select.specs.declared.destination.Destination.{Destination}
 use Rattle.cmm_select.specs.declared.operand.Operand.{Operand}
-use Rattle.cmm_select.specs.inside.InPlace.{Finishes, HaveWordsIn, IsValue, LocatesBoth, Makes, target_of}
+use Rattle.cmm_select.specs.inside.Comparing.{Readies, ReadiesBoth, TellsIn}
+use Rattle.cmm_select.specs.inside.InPlace.{Finishes, HaveWordsIn, IsValue, LocatesBoth, Makes, Tells01, target_of}
 
 module _ (x : Code) {Q : State → State → Type 0} {n : ℕ} where
   -- something is in register 5, and then it is put
@@ -106,18 +108,20 @@ module _ (x : Code) (to : Destination) (from end : ℕ) where
         (λ s sound can. ((can.brings, can.words), can.reaches))
         (λ s u sound can all. record { number = all.0; given = all.1; puts = all.2 })
 
-    pub assigns_comparison : (c : Cmp) → Then (BringsBoth left right) (Then (Runs 0 n (HaveWords w) (Tells c w)) (PutsFirst to)) x from end →
-        AssignsComparison (most_for left + most_for right + n + 4) c w left right to x from end
-    assigns_comparison c does =
+    pub assigns_comparison : (c : Cmp) (rd a b : ℕ) → rd ≡ target_of to → Then (ReadiesBoth c w left right a b) (Then (TellsIn n c rd a b) (Finishes to)) x from end →
+        AssignsComparison (most_for left + most_for right + 2 * shifts_of w + n + 4) c w left right to x from end
+    assigns_comparison c rd a b is does =
         leads_weaker
-        (then_put x to (both_then x w left right does.1 does.2.1) (λ s u both. keeps_then s both.0 u both.1.keeps both.2.keeps) does.2.2)
-        (omega arith) (λ s sound can. ((can.brings, can.words), can.reaches))
-        (λ s e sound can all. told s all.1.0 all.0 e all.1.1 all.1.2 all.2)
+        (then_finished x (λ s k. k ≡ (if holds c w (operand_at x.at left s) (operand_at x.at right s) then 1 else 0)) to
+        (subst (λ (r : ℕ). Leads (most_for left + most_for right + 2 * shifts_of w + n) (CanDecide x.at w left right) (λ s t. Makes r (λ k. k ≡ (if holds c w (operand_at x.at left s) (operand_at x.at right s) then 1 else 0)) s t) x from does.2.0) is
+        (leads_weaker (passes_leads does.1 does.2.1 (λ s t sound also can readies. tt)) (omega arith) (λ s sound can. can) (λ s u sound can both. told s both.0 u both.1 both.2)))
+        does.2.2)
+        (omega arith) (λ s sound can. (record { brings = can.brings; words = can.words }, can.reaches))
+        (λ s u sound can all. put_as x.at to all.0 (if holds c w (operand_at x.at left s) (operand_at x.at right s) then 1 else 0) s u all.1 all.2)
       where
-        told : (s t u e : State) → HasBoth x.at left right s t → Tells c w t u → PutsTo x.at to (u.registers 5) s e →
-            PutsTo x.at to (if holds c w (operand_at x.at left s) (operand_at x.at right s) then 1 else 0) s e
-        told s t u e has tells puts =
-            put_as x.at to (u.registers 5) (if holds c w (operand_at x.at left s) (operand_at x.at right s) then 1 else 0) s e
-            (tells.given
-            ∙ ap (λ (a : ℕ). if holds c w a (t.registers 7) then 1 else 0) has.first
-            ∙ ap (λ (b : ℕ). if holds c w (operand_at x.at left s) b then 1 else 0) has.second) puts
+        told : (s t u : State) → Readies x.at c w left right a b s t → Makes rd (Tells01 c W64 (t.registers a) (t.registers b)) t u →
+            Makes rd (λ k. k ≡ (if holds c w (operand_at x.at left s) (operand_at x.at right s) then 1 else 0)) s u
+        told s t u readies makes = record {
+          given = makes.given ∙ ap (λ (h : Bool). if h then 1 else 0) readies.same;
+          keeps = beside_then rd s t u (keeps_beside rd s t readies.keeps) makes.keeps;
+        }

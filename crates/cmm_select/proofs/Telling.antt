@@ -6,7 +6,6 @@ use Rattle.cmm_words.specs.Integers.{signed as word_signed}
 use Rattle.cmm_words.specs.Words.{holds}
 use Rattle.cmm_words.specs.declared.operators.Cmp.{Cmp}
 use Rattle.cmm_words.specs.declared.operators.Cmp.TheVariants.{Eq, Ne, Lt, Le, Gt, Ge, Ltu, Leu, Gtu, Geu}
-use Rattle.cmm_words.specs.declared.width.Width.{Width}
 use Rattle.cmm_words.specs.declared.width.Width.TheVariants.{W64}
 use Rattle.rv_asm.specs.Appending.{Then}
 use Rattle.rv_asm.specs.Parts.{Code}
@@ -15,13 +14,11 @@ use Rattle.rv_table.specs.Words.{difference, flag, is_less, modulo}
 use Rattle.rv_table.specs.declared.effects.Effect.TheVariants.{Set}
 use Rattle.rv_table.specs.declared.instruction.Instr.{Instr}
 use Rattle.rv_table.specs.declared.instruction.Instr.TheVariants.{Sltiu, Sub, Xori}
-use Rattle.cmm_effects.proofs.Shared.{keeps_then, leads_set, leads_then, runs_of, runs_then, runs_weaker, set_keeps}
-use Rattle.cmm_effects.specs.Pieces.{Always, Runs}
+use Rattle.cmm_effects.proofs.Shared.{leads_set, leads_then, leads_weaker, runs_of}
 use Rattle.cmm_select.proofs.Deciding.{less_same, not_below, not_less}
+use Rattle.cmm_select.proofs.InPlace.{beside_then, set_beside}
 use Rattle.cmm_select.proofs.Places.{One}
-use Rattle.cmm_select.specs.Comparisons.{Tells}
-use Rattle.cmm_select.specs.Operators.{HaveWords}
-use Rattle.cmm_select.specs.inside.Comparing.{Readies, contrary_of, less_of}
+use Rattle.cmm_select.specs.inside.Comparing.{TellsIn, contrary_of, less_of}
 
 contrary_holds : (c o : Cmp) → contrary_of c ≡ Some o → (a b : ℕ) → not (holds o W64 a b) ≡ holds c W64 a b
 contrary_holds Ne o is a b = let e : Eq ≡ o = cc in subst (λ (k : Cmp). not (holds k W64 a b) ≡ holds Ne W64 a b) e refl
@@ -46,60 +43,50 @@ flag_turned false = refl
 same_by_difference : (a b : ℕ) → a < 2 ^ 64 → b < 2 ^ 64 → nat_lt (difference a b) (modulo 64 (pos 1)) ≡ (a == b)
 same_by_difference a b h g = grind (arith, nat_tests)
 
-module _ (x : Code) (from to : ℕ) where
-  tells_by : (c : Cmp) (i : Instr) (test : ℕ → ℕ → Bool) → ((a b : ℕ) → a < 2 ^ 64 → b < 2 ^ 64 → test a b ≡ holds c W64 a b) →
-      ((r : ℕ → ℕ) (pc : ℕ) → row r pc i ≡ Set 5 (flag (test (r 5) (r 7)))) → One i x from to → Runs 0 2 Always (Tells c W64) x from to
+module _ (x : Code) (from to rd a b : ℕ) (written : rd ≢ 0) where
+  tells_by : (c : Cmp) (i : Instr) (test : ℕ → ℕ → Bool) → ((m n : ℕ) → m < 2 ^ 64 → n < 2 ^ 64 → test m n ≡ holds c W64 m n) →
+      ((r : ℕ → ℕ) (pc : ℕ) → row r pc i ≡ Set rd (flag (test (r a) (r b)))) → One i x from to → TellsIn 2 c rd a b x from to
   tells_by c i test holds_so is does =
-      runs_weaker {k = 0} (leads_set x i from to 5 (λ r. flag (test (r 5) (r 7))) (omega arith) is does).runs (omega arith) (omega arith) (λ s sound p. tt)
+      leads_weaker (leads_set x i from to rd (λ r. flag (test (r a) (r b))) written is does) (omega arith) (λ s sound p. tt)
       (λ s t sound p sets. record {
-        given = sets.given ∙ ap flag (holds_so (s.registers 5) (s.registers 7) (sound.registers 5) (sound.registers 7));
-        keeps = set_keeps 5 (flag (test (s.registers 5) (s.registers 7))) s t refl sets;
+        given = sets.given ∙ ap flag (holds_so (s.registers a) (s.registers b) (sound.registers a) (sound.registers b));
+        keeps = set_beside rd (flag (test (s.registers a) (s.registers b))) s t sets;
       })
 
   -- one word is less than the other
-  pub tells_less : (c : Cmp) → contrary_of c ≡ None → c ≢ Eq → One (less_of c) x from to → Runs 0 2 Always (Tells c W64) x from to
-  tells_less Lt is other does = tells_by Lt (less_of Lt) is_less less_same (λ r pc. refl) does
-  tells_less Gt is other does = tells_by Gt (less_of Gt) (λ a b. is_less b a) (λ a b h g. less_same b a g h) (λ r pc. refl) does
-  tells_less Ltu is other does = tells_by Ltu (less_of Ltu) nat_lt (λ a b h g. refl) (λ r pc. refl) does
-  tells_less Gtu is other does = tells_by Gtu (less_of Gtu) (λ a b. nat_lt b a) (λ a b h g. refl) (λ r pc. refl) does
+  pub tells_less : (c : Cmp) → contrary_of c ≡ None → c ≢ Eq → One (less_of c rd a b) x from to → TellsIn 2 c rd a b x from to
+  tells_less Lt is other does = tells_by Lt (less_of Lt rd a b) is_less less_same (λ r pc. refl) does
+  tells_less Gt is other does = tells_by Gt (less_of Gt rd a b) (λ m n. is_less n m) (λ m n h g. less_same n m g h) (λ r pc. refl) does
+  tells_less Ltu is other does = tells_by Ltu (less_of Ltu rd a b) nat_lt (λ m n h g. refl) (λ r pc. refl) does
+  tells_less Gtu is other does = tells_by Gtu (less_of Gtu rd a b) (λ m n. nat_lt n m) (λ m n h g. refl) (λ r pc. refl) does
   tells_less Eq is other does = absurd (other refl)
   tells_less _ is other does = absurd (cc)
 
   -- their difference is less than 1
-  pub tells_same : Then (One (Sub 5 5 7)) (One (Sltiu 5 5 (pos 1))) x from to → Runs 0 2 Always (Tells Eq W64) x from to
+  pub tells_same : Then (One (Sub rd a b)) (One (Sltiu rd rd (pos 1))) x from to → TellsIn 2 Eq rd a b x from to
   tells_same does =
-      runs_weaker {k = 0}
+      leads_weaker
       (leads_then
-      (leads_set x (Sub 5 5 7) from does.0 5 (λ r. difference (r 5) (r 7)) (omega arith) (λ r pc. refl) does.1)
-      (runs_of (leads_set x (Sltiu 5 5 (pos 1)) does.0 to 5 (λ r. flag (nat_lt (r 5) (modulo 64 (pos 1)))) (omega arith) (λ r pc. refl) does.2))
-      (λ s t sound also p q. tt)).runs
-      (omega arith) (omega arith) (λ s sound p. tt)
+      (leads_set x (Sub rd a b) from does.0 rd (λ r. difference (r a) (r b)) written (λ r pc. refl) does.1)
+      (runs_of (leads_set x (Sltiu rd rd (pos 1)) does.0 to rd (λ r. flag (nat_lt (r rd) (modulo 64 (pos 1)))) written (λ r pc. refl) does.2))
+      (λ s t sound also p q. tt))
+      (omega arith) (λ s sound p. tt)
       (λ s u sound p both. record {
         given = both.2.given ∙ ap (λ (n : ℕ). flag (nat_lt n (modulo 64 (pos 1)))) both.1.given
-            ∙ ap flag (same_by_difference (s.registers 5) (s.registers 7) (sound.registers 5) (sound.registers 7));
-        keeps = keeps_then s both.0 u (set_keeps 5 (difference (s.registers 5) (s.registers 7)) s both.0 refl both.1)
-            (set_keeps 5 (flag (nat_lt (both.0.registers 5) (modulo 64 (pos 1)))) both.0 u refl both.2);
+            ∙ ap flag (same_by_difference (s.registers a) (s.registers b) (sound.registers a) (sound.registers b));
+        keeps = beside_then rd s both.0 u (set_beside rd (difference (s.registers a) (s.registers b)) s both.0 both.1)
+            (set_beside rd (flag (nat_lt (both.0.registers rd) (modulo 64 (pos 1)))) both.0 u both.2);
       })
 
-  pub tells_contrary : (c o : Cmp) → contrary_of c ≡ Some o → Then (Runs 0 2 Always (Tells o W64)) (One (Xori 5 5 (pos 1))) x from to →
-      Runs 0 3 Always (Tells c W64) x from to
+  pub tells_contrary : (c o : Cmp) → contrary_of c ≡ Some o → Then (TellsIn 2 o rd a b) (One (Xori rd rd (pos 1))) x from to → TellsIn 3 c rd a b x from to
   tells_contrary c o is does =
-      runs_weaker {k = 0}
-      (runs_then does.1
-      (runs_of (leads_set x (Xori 5 5 (pos 1)) does.0 to 5 (λ r. bit_xor (r 5) (modulo 64 (pos 1))) (omega arith) (λ r pc. refl) does.2))
+      leads_weaker
+      (leads_then does.1
+      (runs_of (leads_set x (Xori rd rd (pos 1)) does.0 to rd (λ r. bit_xor (r rd) (modulo 64 (pos 1))) written (λ r pc. refl) does.2))
       (λ s t sound also p q. tt))
-      (omega arith) (omega arith) (λ s sound p. tt)
+      (omega arith) (λ s sound p. tt)
       (λ s u sound p both. record {
-        given = both.2.given ∙ ap (λ (n : ℕ). bit_xor n (modulo 64 (pos 1))) both.1.given ∙ flag_turned (holds o W64 (s.registers 5) (s.registers 7))
-            ∙ ap flag (contrary_holds c o is (s.registers 5) (s.registers 7));
-        keeps = keeps_then s both.0 u both.1.keeps (set_keeps 5 (bit_xor (both.0.registers 5) (modulo 64 (pos 1))) both.0 u refl both.2);
-      })
-
-  pub ready_tells : (c : Cmp) (w : Width) (mid m n : ℕ) → Runs 0 m (HaveWords w) (Readies c w) x from mid → Runs 0 n Always (Tells c W64) x mid to →
-      Runs 0 (m + n) (HaveWords w) (Tells c w) x from to
-  ready_tells c w mid m n first second =
-      runs_weaker {k = 0} (runs_then first second (λ s t sound also p q. tt)) (omega arith) (omega arith) (λ s sound words. words)
-      (λ s u sound words both. record {
-        given = both.2.given ∙ ap flag both.1.same;
-        keeps = keeps_then s both.0 u both.1.keeps both.2.keeps;
+        given = both.2.given ∙ ap (λ (n : ℕ). bit_xor n (modulo 64 (pos 1))) both.1.given ∙ flag_turned (holds o W64 (s.registers a) (s.registers b))
+            ∙ ap flag (contrary_holds c o is (s.registers a) (s.registers b));
+        keeps = beside_then rd s both.0 u both.1.keeps (set_beside rd (bit_xor (both.0.registers rd) (modulo 64 (pos 1))) both.0 u both.2);
       })

@@ -1,6 +1,5 @@
 pub mod Operators
 pub mod Cells
-pub mod Comparisons
 pub mod Unary
 pub mod Sources
 pub mod Operands

@@ -11,7 +11,7 @@ ghost use Rattle.cmm_select.specs.Operands.{IsOperand, most_for};
 ghost use Rattle.cmm_select.specs.Operators.{shifts_of};
 ghost use Rattle.cmm_select.specs.inside.Wide.{is_plain};
 
-use crate::comparing::compare;
+use crate::comparing::{compare, ready};
 use crate::destination::{Destination, put, read_global};
 use crate::in_place::{finish, locate_both, target};
 use crate::operand::{Operand, bring_both, bring_operand};
@@ -165,8 +165,8 @@ pub fn assign_comparison(
     ensures assigns { OnOk result (Adds (most_for left.now + most_for right.now + 2 * shifts_of width + 7) asm.old.parts asm.new.parts (AssignsComparison (most_for left.now + most_for right.now + 2 * shifts_of width + 7) comparison width left.now right.now to.now)) }
     ensures labels { asm.new.labels ≡ asm.old.labels }
 {
-    bring_both(asm, left, right)?;
-    compare(asm, comparison, width)?;
-    put(asm, to)?;
+    let from = ready(asm, comparison, width, left, right)?;
+    compare(asm, comparison, target(to), from.first, from.second)?;
+    finish(asm, to)?;
     Ok(())
 }

@@ -1,14 +1,17 @@
-//! Comparisons of the words in registers 5 and 7.
+//! Comparisons of the words in two registers.
 
-ghost use Rattle.std.specs.Prelude.{◌≡◌, ◌+◌, ◌*◌, None, OnOk};
-ghost use Rattle.cmm_words.specs.declared.width.Width.TheVariants.{W64};
+ghost use Rattle.std.specs.Prelude.{◌≡◌, ◌+◌, ◌*◌, ◌<◌, None, IfOk, OnOk};
 ghost use Rattle.rv_asm.specs.Assembly.{IsInner};
 ghost use Rattle.rv_table.specs.Table.{IsValid};
-ghost use Rattle.cmm_effects.specs.Pieces.{Adds, Always, Runs};
-ghost use Rattle.cmm_select.specs.Comparisons.{Chooses, Tells};
-ghost use Rattle.cmm_select.specs.Operators.{HaveWords, shifts_of};
-ghost use Rattle.cmm_select.specs.inside.Comparing.{Readies, compares_integers, contrary_of, less_of, turned_of};
+ghost use Rattle.cmm_words.specs.declared.operators.Cmp.TheVariants.{Eq};
+ghost use Rattle.cmm_effects.specs.Pieces.{Adds};
+ghost use Rattle.cmm_select.specs.Operands.{IsOperand, most_for};
+ghost use Rattle.cmm_select.specs.Operators.{shifts_of};
+ghost use Rattle.cmm_select.specs.inside.Comparing.{BranchesIn, ReadiesBoth, TellsIn, compares_integers, contrary_of, less_of, needs_signs, turned_of};
+ghost use Rattle.cmm_select.specs.inside.InPlace.{IsTarget};
 
+use crate::in_place::{Pair, locate_both};
+use crate::operand::{Operand, bring_both};
 use crate::operator::extend;
 use cmm_abi::registers::{FIRST_SCRATCH, SECOND_SCRATCH};
 use cmm_words::laws::wide_comparisons;
@@ -17,29 +20,44 @@ use rv_asm::{Asm, Label};
 use rv_table::Instr;
 use std::alloc::AllocError;
 
-/// Goes to a label where a comparison holds of the words in registers 5 and 7, and on otherwise.
-pub fn branch(asm: &mut Asm, comparison: Cmp, width: Width, to: Label) -> Result<(), AllocError>
-    requires { IsInner asm.old.labels to }
-    ensures chooses { OnOk result (Adds (2 * shifts_of width + 3) asm.old.parts asm.new.parts (Chooses (2 * shifts_of width + 3) comparison width to)) }
-    ensures labels { asm.new.labels ≡ asm.old.labels }
-{
-    give_signs(asm, comparison, width)?;
-    branch_wide(asm, comparison, to)?;
-    Ok(())
-}
-
-/// Gives both words their sign where the comparison is one of signed words, so that it holds of them at 64 bits as it did at the width.
-fn give_signs(asm: &mut Asm, comparison: Cmp, width: Width) -> Result<(), AllocError>
-    ensures readies { OnOk result (Adds (2 * shifts_of width) asm.old.parts asm.new.parts (Runs 0 (2 * shifts_of width) (HaveWords width) (Readies comparison width))) }
+/// The registers of two operands, so that a comparison holds of the words in them at 64 bits where it holds of the operands at a width: words
+/// that need their sign get it in registers 5 and 7, since a place has zeros above a word.
+pub(crate) fn ready(
+    asm: &mut Asm,
+    comparison: Cmp,
+    width: Width,
+    left: &Operand,
+    right: &Operand,
+) -> Result<Pair, AllocError>
+    requires left { IsOperand asm.old.labels left.now }
+    requires right { IsOperand asm.old.labels right.now }
+    ensures readies { IfOk result (λ pair. Adds (most_for left.now + most_for right.now + 2 * shifts_of width) asm.old.parts asm.new.parts (ReadiesBoth comparison width left.now right.now pair.first pair.second)) }
+    ensures first { IfOk result (λ pair. pair.first < 32) }
+    ensures second { IfOk result (λ pair. pair.second < 32) }
     ensures labels { asm.new.labels ≡ asm.old.labels }
 {
     wide_comparisons();
-    if !is_signed(comparison) {
-        return Ok(());
+    if needs_signs(comparison, width) {
+        bring_both(asm, left, right)?;
+        extend(asm, width, FIRST_SCRATCH)?;
+        extend(asm, width, SECOND_SCRATCH)?;
+        return Ok(Pair {
+            first: FIRST_SCRATCH,
+            second: SECOND_SCRATCH,
+        });
     }
-    extend(asm, width, FIRST_SCRATCH)?;
-    extend(asm, width, SECOND_SCRATCH)?;
-    Ok(())
+    let pair = locate_both(asm, left, right)?;
+    Ok(pair)
+}
+
+/// Whether a comparison at a width is made of words with their sign.
+fn needs_signs(comparison: Cmp, width: Width) -> bool
+    ensures { result ≡ needs_signs comparison width }
+{
+    match width {
+        Width::W64 => false,
+        _ => is_signed(comparison),
+    }
 }
 
 /// Whether a comparison is one of signed words.
@@ -49,19 +67,27 @@ fn is_signed(comparison: Cmp) -> bool
     matches!(comparison, Cmp::Lt | Cmp::Le | Cmp::Gt | Cmp::Ge)
 }
 
-/// The branch at 64 bits.
-fn branch_wide(asm: &mut Asm, comparison: Cmp, to: Label) -> Result<(), AllocError>
-    requires { IsInner asm.old.labels to }
-    ensures chooses { OnOk result (Adds 3 asm.old.parts asm.new.parts (Chooses 3 comparison W64 to)) }
+/// Goes to a label where a comparison holds at 64 bits of the words in two registers, and on otherwise.
+pub(crate) fn branch(
+    asm: &mut Asm,
+    comparison: Cmp,
+    first: u8,
+    second: u8,
+    to: Label,
+) -> Result<(), AllocError>
+    requires first { first < 32 }
+    requires second { second < 32 }
+    requires label { IsInner asm.old.labels to }
+    ensures branches { OnOk result (Adds 3 asm.old.parts asm.new.parts (BranchesIn comparison first second to)) }
     ensures labels { asm.new.labels ≡ asm.old.labels }
 {
     match turned(comparison) {
         Some(other) => {
-            asm.branch(other, SECOND_SCRATCH, FIRST_SCRATCH, to)?;
+            asm.branch(other, second, first, to)?;
             Ok(())
         }
         None => {
-            asm.branch(comparison, FIRST_SCRATCH, SECOND_SCRATCH, to)?;
+            asm.branch(comparison, first, second, to)?;
             Ok(())
         }
     }
@@ -80,33 +106,32 @@ fn turned(comparison: Cmp) -> Option<Cmp>
     }
 }
 
-/// Gives register 5 the number 1 where a comparison holds of the words in registers 5 and 7, and 0 elsewhere.
-pub fn compare(asm: &mut Asm, comparison: Cmp, width: Width) -> Result<(), AllocError>
-    ensures tells { OnOk result (Adds (2 * shifts_of width + 3) asm.old.parts asm.new.parts (Runs 0 (2 * shifts_of width + 3) (HaveWords width) (Tells comparison width))) }
-    ensures labels { asm.new.labels ≡ asm.old.labels }
-{
-    give_signs(asm, comparison, width)?;
-    compare_wide(asm, comparison)?;
-    Ok(())
-}
-
-/// The same at 64 bits.
-fn compare_wide(asm: &mut Asm, comparison: Cmp) -> Result<(), AllocError>
-    ensures tells { OnOk result (Adds 3 asm.old.parts asm.new.parts (Runs 0 3 Always (Tells comparison W64))) }
+/// Gives register `rd` the number 1 where a comparison holds at 64 bits of the words in two registers, and 0 elsewhere.
+pub(crate) fn compare(
+    asm: &mut Asm,
+    comparison: Cmp,
+    rd: u8,
+    first: u8,
+    second: u8,
+) -> Result<(), AllocError>
+    requires register { IsTarget rd }
+    requires first { first < 32 }
+    requires second { second < 32 }
+    ensures tells { OnOk result (Adds 3 asm.old.parts asm.new.parts (TellsIn 3 comparison rd first second)) }
     ensures labels { asm.new.labels ≡ asm.old.labels }
 {
     match contrary(comparison) {
         Some(other) => {
-            compare_directly(asm, other)?;
+            compare_directly(asm, other, rd, first, second)?;
             asm.emit(Instr::Xori {
-                rd: FIRST_SCRATCH,
-                rs1: FIRST_SCRATCH,
+                rd,
+                rs1: rd,
                 imm: 1,
             })?;
             Ok(())
         }
         None => {
-            compare_directly(asm, comparison)?;
+            compare_directly(asm, comparison, rd, first, second)?;
             Ok(())
         }
     }
@@ -127,67 +152,77 @@ fn contrary(comparison: Cmp) -> Option<Cmp>
 }
 
 /// A comparison whether words are the same, or one is less than the other.
-fn compare_directly(asm: &mut Asm, comparison: Cmp) -> Result<(), AllocError>
-    requires { contrary_of comparison ≡ None }
-    ensures tells { OnOk result (Adds 2 asm.old.parts asm.new.parts (Runs 0 2 Always (Tells comparison W64))) }
+fn compare_directly(
+    asm: &mut Asm,
+    comparison: Cmp,
+    rd: u8,
+    first: u8,
+    second: u8,
+) -> Result<(), AllocError>
+    requires direct { contrary_of comparison ≡ None }
+    requires register { IsTarget rd }
+    requires first { first < 32 }
+    requires second { second < 32 }
+    ensures tells { OnOk result (Adds 2 asm.old.parts asm.new.parts (TellsIn 2 comparison rd first second)) }
     ensures labels { asm.new.labels ≡ asm.old.labels }
 {
     match comparison {
         Cmp::Eq => {
-            equal(asm)?;
+            equal(asm, rd, first, second)?;
             Ok(())
         }
         _ => {
-            asm.emit(less(comparison))?;
+            asm.emit(less(comparison, rd, first, second))?;
             Ok(())
         }
     }
 }
 
 /// Whether words are the same: whether their difference is below 1.
-fn equal(asm: &mut Asm) -> Result<(), AllocError>
-    ensures tells { OnOk result (Adds 2 asm.old.parts asm.new.parts (Runs 0 2 Always (Tells Cmp.Eq W64))) }
+fn equal(asm: &mut Asm, rd: u8, rs1: u8, rs2: u8) -> Result<(), AllocError>
+    requires register { IsTarget rd }
+    requires first { rs1 < 32 }
+    requires second { rs2 < 32 }
+    ensures tells { OnOk result (Adds 2 asm.old.parts asm.new.parts (TellsIn 2 Eq rd rs1 rs2)) }
     ensures labels { asm.new.labels ≡ asm.old.labels }
 {
-    asm.emit(Instr::Sub {
-        rd: FIRST_SCRATCH,
-        rs1: FIRST_SCRATCH,
-        rs2: SECOND_SCRATCH,
-    })?;
+    asm.emit(Instr::Sub { rd, rs1, rs2 })?;
     asm.emit(Instr::Sltiu {
-        rd: FIRST_SCRATCH,
-        rs1: FIRST_SCRATCH,
+        rd,
+        rs1: rd,
         imm: 1,
     })?;
     Ok(())
 }
 
 /// The instruction that tells whether one word is less than the other.
-fn less(comparison: Cmp) -> Instr
-    ensures is { result ≡ less_of comparison }
+fn less(comparison: Cmp, rd: u8, first: u8, second: u8) -> Instr
+    requires register { rd < 32 }
+    requires first { first < 32 }
+    requires second { second < 32 }
+    ensures is { result ≡ less_of comparison rd first second }
     ensures valid { IsValid result }
 {
-    let rd = FIRST_SCRATCH;
     match comparison {
         Cmp::Lt => Instr::Slt {
             rd,
-            rs1: FIRST_SCRATCH,
-            rs2: SECOND_SCRATCH,
+            rs1: first,
+            rs2: second,
         },
         Cmp::Gt => Instr::Slt {
             rd,
-            rs1: SECOND_SCRATCH,
-            rs2: FIRST_SCRATCH,
+            rs1: second,
+            rs2: first,
         },
         Cmp::Gtu => Instr::Sltu {
             rd,
-            rs1: SECOND_SCRATCH,
-            rs2: FIRST_SCRATCH,
+            rs1: second,
+            rs2: first,
         },
         _ => Instr::Sltu {
             rd,
-            rs1: FIRST_SCRATCH,
-            rs2: SECOND_SCRATCH,
+            rs1: first,
+            rs2: second,
         },
     }
 }

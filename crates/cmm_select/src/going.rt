@@ -11,8 +11,8 @@ ghost use Rattle.cmm_select.specs.Going.{Decides};
 ghost use Rattle.cmm_select.specs.Operands.{IsOperand, most_for};
 ghost use Rattle.cmm_select.specs.Operators.{shifts_of};
 
-use crate::comparing::branch;
-use crate::operand::{Operand, bring_both};
+use crate::comparing::{branch, ready};
+use crate::operand::Operand;
 use crate::place::add_to;
 use cmm_abi::registers::{FIRST_SCRATCH, ZERO};
 use cmm_words::{Cmp, Width};
@@ -35,8 +35,8 @@ pub fn decide(
     ensures decides { OnOk result (Adds (most_for left.now + most_for right.now + (2 * shifts_of width + 3)) asm.old.parts asm.new.parts (Decides (most_for left.now + most_for right.now + (2 * shifts_of width + 3)) comparison width left.now right.now to)) }
     ensures labels { asm.new.labels ≡ asm.old.labels }
 {
-    bring_both(asm, left, right)?;
-    branch(asm, comparison, width, to)?;
+    let from = ready(asm, comparison, width, left, right)?;
+    branch(asm, comparison, from.first, from.second, to)?;
     Ok(())
 }
 

@@ -59,7 +59,6 @@ pub use assigning::{
     assign_unary,
 };
 pub use cell::{load_cell, store_cell};
-pub use comparing::{branch, compare};
 pub use destination::{Destination, put, put_global, read_global};
 pub use going::{decide, go_on, go_to, stop};
 pub use host::{choose, get_byte, put_byte};

@@ -1,11 +1,22 @@
-use Rattle.std.proofs.Common.{◌*◌, arith}
-use Rattle.cmm_effects.proofs.Shared.{adds_then, adds_weaker}
-use Rattle.cmm_select.proofs.Deciding.{ready_chooses}
-use Rattle.cmm_select.specs.Operators.{shifts_of}
+use Rattle.std.proofs.Common.{◌∙◌, sym, arith}
+use Rattle.cmm_effects.proofs.Shared.{adds_part, adds_weaker}
+use Rattle.cmm_select.proofs.Deciding.{straight_branch, turned_branch}
+use Rattle.rv_asm.specs.declared.part.Part.TheVariants.{Branch}
 use Rattle.cmm_select.proofs.comparing.branch.Goals as goal
 
-pub returns-clause-chooses : goal.returns-clause-chooses
-returns-clause-chooses c =
-    let w = c.args.width in
-    adds_weaker (adds_then c.in_ok-give_signs.ensures.readies c.in_ok-branch_wide.ensures.chooses) (omega arith)
-    (λ x from to does. ready_chooses x c.args.to from to c.args.comparison w does.0 (2 * shifts_of w) 3 does.1 does.2)
+pub returns-in_ok-branch-in-Some-clause-branches : goal.returns-in_ok-branch-in-Some-clause-branches
+returns-in_ok-branch-in-Some-clause-branches c =
+    let o = c.in-Some.other in
+    let a = c.args.first in
+    let b = c.args.second in
+    rw c.in_ok-branch-in-Some.ensures.parts
+    (adds_weaker (adds_part c.args.asm.now.parts (Branch o b a c.args.to) 3 (omega arith)) (omega arith)
+    (λ x from to does. turned_branch x c.args.to from to a b c.args.comparison o (sym c.turned.ensures ∙ c.in-Some.is) does))
+
+pub returns-in_ok-branch-in-None-clause-branches : goal.returns-in_ok-branch-in-None-clause-branches
+returns-in_ok-branch-in-None-clause-branches c =
+    let a = c.args.first in
+    let b = c.args.second in
+    rw c.in_ok-branch-in-None.ensures.parts
+    (adds_weaker (adds_part c.args.asm.now.parts (Branch c.args.comparison a b c.args.to) 3 (omega arith)) (omega arith)
+    (λ x from to does. straight_branch x c.args.to from to a b c.args.comparison (sym c.turned.ensures ∙ c.in-None.is) does))

@@ -1,11 +1,28 @@
-use Rattle.std.proofs.Common.{◌*◌, arith}
-use Rattle.cmm_effects.proofs.Shared.{adds_then, adds_weaker}
-use Rattle.cmm_select.proofs.Telling.{ready_tells}
-use Rattle.cmm_select.specs.Operators.{shifts_of}
+use Rattle.std.proofs.Common.{◌≢◌, ◌∙◌, sym, arith, pos}
+use Rattle.cmm_effects.proofs.Shared.{adds_one, adds_then, adds_weaker, leads_weaker}
+use Rattle.cmm_effects.specs.Pieces.{Adds}
+use Rattle.cmm_select.proofs.Places.{One}
+use Rattle.cmm_select.proofs.Telling.{contrary_is_plain, tells_contrary}
+use Rattle.rv_table.specs.declared.instruction.Instr.TheVariants.{Xori}
 use Rattle.cmm_select.proofs.comparing.compare.Goals as goal
 
-pub returns-clause-tells : goal.returns-clause-tells
-returns-clause-tells c =
-    let w = c.args.width in
-    adds_weaker (adds_then c.in_ok-give_signs.ensures.readies c.in_ok-compare_wide.ensures.tells) (omega arith)
-    (λ x from to does. ready_tells x from to c.args.comparison w does.0 (2 * shifts_of w) 3 does.1 does.2)
+pub compare_directly-requires-clause-direct : goal.compare_directly-requires-clause-direct
+compare_directly-requires-clause-direct c = contrary_is_plain c.args.comparison c.in-Some.other (sym c.contrary.ensures ∙ c.in-Some.is)
+
+pub returns-in_ok-emit-in-Some-clause-tells : goal.returns-in_ok-emit-in-Some-clause-tells
+returns-in_ok-emit-in-Some-clause-tells c =
+    let o = c.in-Some.other in
+    let rd = c.args.rd in
+    let mid = c.compare_directly.new.asm.parts in
+    let second : Adds 1 mid c.emit.new.self.parts (One (Xori rd rd (pos 1))) = rw c.in_ok-emit-in-Some.ensures.parts (adds_one mid (Xori rd rd (pos 1))) in
+    let written : rd ≢ 0 = (λ e. omega (arith, e, c.requires.register.0)) in
+    adds_weaker (adds_then c.in_ok-compare_directly-in-Some.ensures.tells second) (omega arith)
+    (λ x from to does. tells_contrary x from to rd c.args.first c.args.second written c.args.comparison o (sym c.contrary.ensures ∙ c.in-Some.is) does)
+
+pub compare_directly-requires-in-None-clause-direct : goal.compare_directly-requires-in-None-clause-direct
+compare_directly-requires-in-None-clause-direct c = sym c.contrary.ensures ∙ c.in-None.is
+
+pub returns-in_ok-compare_directly-in-None-clause-tells : goal.returns-in_ok-compare_directly-in-None-clause-tells
+returns-in_ok-compare_directly-in-None-clause-tells c =
+    adds_weaker c.in_ok-compare_directly-in-None.ensures.tells (omega arith)
+    (λ x from to leads. leads_weaker leads (omega arith) (λ s sound p. tt) (λ s t sound p tells. tells))

@@ -10,5 +10,5 @@ returns-in_ok-equal-in-Eq-clause-tells c = rw c.in-Eq.is c.in_ok-equal-in-Eq.ens
 pub returns-in_ok-emit-in_default-clause-tells : goal.returns-in_ok-emit-in_default-clause-tells
 returns-in_ok-emit-in_default-clause-tells c =
     rw (c.in_ok-emit-in_default.ensures.parts, c.less.ensures.is)
-    (adds_weaker (adds_one c.args.asm.now.parts (less_of c.args.comparison)) (omega arith)
-    (λ x from to does. tells_less x from to c.args.comparison c.requires c.in_default.not-Eq does))
+    (adds_weaker (adds_one c.args.asm.now.parts (less_of c.args.comparison c.args.rd c.args.first c.args.second)) (omega arith)
+    (λ x from to does. tells_less x from to c.args.rd c.args.first c.args.second (λ e. omega (arith, e, c.requires.register.0)) c.args.comparison c.requires.direct c.in_default.not-Eq does))

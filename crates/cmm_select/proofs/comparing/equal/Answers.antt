@@ -8,6 +8,8 @@ use Rattle.cmm_select.proofs.comparing.equal.Goals as goal
 pub returns-clause-tells : goal.returns-clause-tells
 returns-clause-tells c =
     let old = c.args.asm.now.parts in
+    let rd = c.args.rd in
+    let i = Sub rd c.args.rs1 c.args.rs2 in
     rw (c.in_ok-emit-2.ensures.parts, c.in_ok-emit.ensures.parts)
-    (adds_weaker (adds_then (adds_one old (Sub 5 5 7)) (adds_one (old ++ Single (Sub 5 5 7) ∷ []) (Sltiu 5 5 (pos 1)))) (omega arith)
-    (λ x from to does. tells_same x from to does))
+    (adds_weaker (adds_then (adds_one old i) (adds_one (old ++ Single i ∷ []) (Sltiu rd rd (pos 1)))) (omega arith)
+    (λ x from to does. tells_same x from to rd c.args.rs1 c.args.rs2 (λ e. omega (arith, e, c.requires.register.0)) does))
