@@ -141,17 +141,17 @@ module _ (x : Code) (p : Width) (o : ℕ) (near : o < 2048) where
       (λ s t sound can wrote. (wrote.0, wrote.1 ∙ ap (λ (a : ℕ). stored s.memory a (bytes p) (s.registers 7)) (there s can)))
 
 module _ (x : Code) (o : ℕ) (near : o < 2048) (from to : ℕ) where
-  pub loads_part : (p : Width) (rd : ℕ) → rd ≢ 0 → One (load_part p rd o) x from to → LoadsPart x p o near rd from to
-  loads_part W8 rd written does = loads_by x W8 o near rd from to (load_part W8 rd o) false written (λ r pc. refl) (λ s a sound. refl) does
-  loads_part W16 rd written does = loads_by x W16 o near rd from to (load_part W16 rd o) false written (λ r pc. refl) (λ s a sound. refl) does
-  loads_part W32 rd written does = loads_by x W32 o near rd from to (load_part W32 rd o) false written (λ r pc. refl) (λ s a sound. refl) does
-  loads_part W64 rd written does = loads_by x W64 o near rd from to (load_part W64 rd o) true written (λ r pc. refl) (λ s a sound. loaded_whole s.memory a sound.memory) does
+  pub loads_part : (p : Width) (rd : ℕ) → rd ≢ 0 → One (load_part p rd 5 o) x from to → LoadsPart x p o near rd from to
+  loads_part W8 rd written does = loads_by x W8 o near rd from to (load_part W8 rd 5 o) false written (λ r pc. refl) (λ s a sound. refl) does
+  loads_part W16 rd written does = loads_by x W16 o near rd from to (load_part W16 rd 5 o) false written (λ r pc. refl) (λ s a sound. refl) does
+  loads_part W32 rd written does = loads_by x W32 o near rd from to (load_part W32 rd 5 o) false written (λ r pc. refl) (λ s a sound. refl) does
+  loads_part W64 rd written does = loads_by x W64 o near rd from to (load_part W64 rd 5 o) true written (λ r pc. refl) (λ s a sound. loaded_whole s.memory a sound.memory) does
 
-  pub stores_part : (p : Width) → One (store_part p o) x from to → StoresPart x p o near from to
-  stores_part W8 does = stores_by x W8 o near from to (store_part W8 o) (λ r pc. refl) does
-  stores_part W16 does = stores_by x W16 o near from to (store_part W16 o) (λ r pc. refl) does
-  stores_part W32 does = stores_by x W32 o near from to (store_part W32 o) (λ r pc. refl) does
-  stores_part W64 does = stores_by x W64 o near from to (store_part W64 o) (λ r pc. refl) does
+  pub stores_part : (p : Width) → One (store_part p 5 7 o) x from to → StoresPart x p o near from to
+  stores_part W8 does = stores_by x W8 o near from to (store_part W8 5 7 o) (λ r pc. refl) does
+  stores_part W16 does = stores_by x W16 o near from to (store_part W16 5 7 o) (λ r pc. refl) does
+  stores_part W32 does = stores_by x W32 o near from to (store_part W32 5 7 o) (λ r pc. refl) does
+  stores_part W64 does = stores_by x W64 o near from to (store_part W64 5 7 o) (λ r pc. refl) does
 
 module _ (x : Code) (from to : ℕ) where
   pub shifts_up : (p : Width) → bytes p < 8 → One (shift_up p) x from to → Leads 1 Always (λ s t. Sets 7 (shifted_left (s.registers 7) (8 * bytes p)) s t) x from to
@@ -183,7 +183,7 @@ second_false false b h = h
 second_false true b h = absurd (cc)
 
 module _ (x : Code) (p : Width) (o rd from to : ℕ) (near : o < 2048) (half : bytes p < 8) (written : rd ≢ 0) where
-  pub joins : Then (One (shift_up p)) (Then (One (load_part p 6 o)) (One (Add rd 7 6))) x from to → Leads 3 (CanAccess p o 1) (Joins p o rd) x from to
+  pub joins : Then (One (shift_up p)) (Then (One (load_part p 6 5 o)) (One (Add rd 7 6))) x from to → Leads 3 (CanAccess p o 1) (Joins p o rd) x from to
   joins does =
       leads_weaker
       (leads_then
@@ -319,7 +319,7 @@ no_seven r h = by (r == 7) refl
 -- ---- stores, one after another
 
 module _ (x : Code) (p : Width) (o from to : ℕ) (near : o < 2048) where
-  pub scatters_one : One (store_part p o) x from to → Leads 1 (CanAccess p o 1) (Scatters p o 1) x from to
+  pub scatters_one : One (store_part p 5 7 o) x from to → Leads 1 (CanAccess p o 1) (Scatters p o 1) x from to
   scatters_one does =
       leads_weaker (stores_part x o near from to p does) (omega arith) (λ s sound can. can)
       (λ s t sound can wrote. record {
@@ -340,7 +340,7 @@ module _ (x : Code) (p : Width) (o from to : ℕ) (near : o < 2048) where
   Shifted s t = Sets 7 (shifted_right (s.registers 7) (8 * bytes p)) s t
 
   pub scatters_more : (k : ℕ) → bytes p < 8 → 0 < k →
-      Then (One (store_part p o)) (Then (One (shift_down p)) (Leads (2 * k - 1) (CanAccess p (o + bytes p) k) (Scatters p (o + bytes p) k))) x from to →
+      Then (One (store_part p 5 7 o)) (Then (One (shift_down p)) (Leads (2 * k - 1) (CanAccess p (o + bytes p) k) (Scatters p (o + bytes p) k))) x from to →
       Leads (2 * suc k - 1) (CanAccess p o (suc k)) (Scatters p o (suc k)) x from to
   scatters_more k half some does =
       leads_weaker
@@ -430,13 +430,13 @@ pub less_than_eight : (k b : ℕ) → 0 < k → suc k * b ≤ 8 → b < 8
 less_than_eight zero b some h = absurd (omega arith)
 less_than_eight (suc j) b some h = omega (arith, suc-mul (suc j) b, suc-mul j b)
 
-pub cell_alone : (p w : Width) (m : MemoryMap) (s : State) → p ≡ w → 0 < bytes w / bytes p → IsCellBy p w (s.registers 5) m → IsCell w m s
-cell_alone p w m s same some cell =
-    let e : s.registers 5 + 0 * bytes p ≡ s.registers 5 = omega arith in
-    subst (λ (q : Width). IsTrue (is_accessible m (s.registers 5) (bytes q))) same
-    (subst (λ (a : ℕ). IsTrue (is_accessible m a (bytes p))) e (cell.accessible 0 some))
+pub cell_alone : (p w : Width) (m : MemoryMap) (a : ℕ) → p ≡ w → 0 < bytes w / bytes p → IsCellBy p w a m → IsCell w m a
+cell_alone p w m a same some cell =
+    let e : a + 0 * bytes p ≡ a = omega arith in
+    subst (λ (q : Width). IsTrue (is_accessible m a (bytes q))) same
+    (subst (λ (k : ℕ). IsTrue (is_accessible m k (bytes p))) e (cell.accessible 0 some))
 
-pub gathers_one : (x : Code) (p : Width) (o from to : ℕ) → o < 2048 → One (load_part p 7 o) x from to → Leads 1 (CanAccess p o 1) (Gathers p o 1) x from to
+pub gathers_one : (x : Code) (p : Width) (o from to : ℕ) → o < 2048 → One (load_part p 7 5 o) x from to → Leads 1 (CanAccess p o 1) (Gathers p o 1) x from to
 gathers_one x p o from to near does =
     leads_weaker (loads_part x o near from to p 7 (omega arith) does) (omega arith) (λ s sound can. can)
     (λ s t sound can sets. record {

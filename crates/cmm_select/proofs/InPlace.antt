@@ -252,6 +252,34 @@ module _ (x : Code) where
         keeps = beside_then rd s both.0 u (keeps_beside rd s both.0 both.1.keeps) both.2.keeps;
       })
 
+  -- a number is made of one operand and memory
+  pub one_makes : (Is : (ℕ → ℕ) → ℕ → ℕ → Type 0) (Fits : MemoryMap → ℕ → Type 0) {n from mid end rd r : ℕ} (a : Operand) → LocatesOperand a 5 r x from mid →
+      Leads n (λ m s. Fits m (s.registers r)) (λ s t. Makes rd (Is s.memory (s.registers r)) s t) x mid end →
+      Leads (most_for a + n) (λ m s. CanBringOperand a m s × Fits m (operand_at x.at a s)) (λ s t. Makes rd (Is s.memory (operand_at x.at a s)) s t) x from end
+  one_makes Is Fits {rd = rd} {r = r} a first second =
+      leads_weaker
+      (passes_leads
+      (passes_weaker {R = λ m s. CanBringOperand a m s × Fits m (operand_at x.at a s)} {S = Locates x.at a 5 r} {b = most_for a} first (omega arith) (λ s sound p. p.0) (λ s t sound p q. q))
+      second
+      (λ s t sound also p located. subst (λ (k : ℕ). Fits x.map k) (sym located.given) p.1))
+      (omega arith) (λ s sound p. p)
+      (λ s u sound p both. record {
+        given = subst (λ (m : ℕ → ℕ). Is m (operand_at x.at a s) (u.registers rd)) both.1.memory
+            (subst (λ (k : ℕ). Is both.0.memory k (u.registers rd)) both.1.given both.2.given);
+        keeps = beside_then rd s both.0 u (keeps_beside rd s both.0 (locates_keeps x.at a 5 r s both.0 refl both.1)) both.2.keeps;
+      })
+
+  -- in the register of a destination, and then it is there
+  pub one_finished : (Is : (ℕ → ℕ) → ℕ → ℕ → Type 0) (Fits : MemoryMap → ℕ → Type 0) {n from mid more end rd r : ℕ} (a : Operand) (to : Destination) → rd ≡ target_of to →
+      LocatesOperand a 5 r x from mid → Leads n (λ m s. Fits m (s.registers r)) (λ s t. Makes rd (Is s.memory (s.registers r)) s t) x mid more → Finishes to x more end →
+      Leads (most_for a + n + 4) (λ m s. (CanBringOperand a m s × Fits m (operand_at x.at a s)) × CanPut x.at to m s)
+      (λ s u. (k : ℕ) × Is s.memory (operand_at x.at a s) k × PutsTo x.at to k s u) x from end
+  one_finished Is Fits {n = n} {mid = mid} {more = more} {rd = rd} {r = r} a to is first second third =
+      then_finished (λ s. Is s.memory (operand_at x.at a s)) to
+      (one_makes Is Fits a first
+      (subst (λ (k : ℕ). Leads n (λ m s. Fits m (s.registers r)) (λ s t. Makes k (Is s.memory (s.registers r)) s t) x mid more) is second))
+      third
+
   -- a number is made of two operands in the register of a destination, and then it is there
   pub both_finished : (Is : ℕ → ℕ → ℕ → Type 0) {n rd from mid more end a b : ℕ} (w : Width) (left right : Operand) (to : Destination) → rd ≡ target_of to →
       LocatesBoth left right a b x from mid → Leads n (HaveWordsIn w a b) (λ s t. Makes rd (Is (s.registers a) (s.registers b)) s t) x mid more →

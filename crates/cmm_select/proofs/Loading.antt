@@ -1,5 +1,5 @@
 -- Words of memory at operands' addresses.
-use Rattle.std.proofs.Common.{ℕ, ◌+◌, refl, sym, ◌∙◌, ap, subst, arith}
+use Rattle.std.proofs.Common.{◌≡◌, ℕ, ◌+◌, refl, sym, ◌∙◌, ap, subst, arith}
 use Rattle.cmm_words.specs.Widths.{bytes}
 use Rattle.cmm_words.specs.declared.width.Width.{Width}
 use Rattle.rv_asm.specs.Appending.{Then}
@@ -8,14 +8,17 @@ use Rattle.rv_table.specs.Machine.{MemoryMap, State, loaded, stored}
 use Rattle.cmm_effects.proofs.Shared.{keeps_then, leads_then, leads_weaker, runs_of}
 use Rattle.cmm_effects.specs.Changes.{Writes}
 use Rattle.cmm_effects.specs.Pieces.{Leads}
+use Rattle.cmm_select.proofs.Gathering.{cell_alone, parts}
+use Rattle.cmm_select.proofs.InPlace.{one_finished, passes_leads, passes_weaker}
 use Rattle.cmm_select.proofs.Keeping.{brings_keeps, put_as}
 use Rattle.cmm_select.proofs.Putting.{then_put}
-use Rattle.cmm_select.specs.Cells.{Loads}
+use Rattle.cmm_select.specs.Cells.{IsCell, IsLoaded, Loads}
 use Rattle.cmm_select.specs.Destinations.{PutsFirst, PutsTo}
-use Rattle.cmm_select.specs.Memory.{AssignsLoaded, CanStore, IsCellBy, StoresWord, access_of}
+use Rattle.cmm_select.specs.Memory.{AssignsLoaded, CanStore, IsCellBy, StoresWord, access_of, accesses}
 use Rattle.cmm_select.specs.Operands.{Brings, BringsBoth, BringsOperand, CanBringOperand, HasBoth, most_for, operand_at}
 use Rattle.cmm_select.specs.declared.destination.Destination.{Destination}
 use Rattle.cmm_select.specs.declared.operand.Operand.{Operand}
+use Rattle.cmm_select.specs.inside.InPlace.{AreIn, Finishes, LocatesBoth, LocatesOperand, Makes, target_of}
 
 module _ (x : Code) (w : Width) (aligned : ℕ) (a : Operand) (n : ℕ) where
   -- the word may be loaded and stored at a register's address
@@ -75,3 +78,39 @@ module _ (x : Code) (w : Width) (aligned : ℕ) (a : Operand) (n : ℕ) where
             ∙ ap (λ (k : ℕ). stored s.memory k (bytes w) (t.registers 7)) has.first
             ∙ ap (stored s.memory (operand_at x.at a s) (bytes w)) has.second;
       }
+
+  -- by one access, where the operands are
+  module _ (one : accesses w aligned ≡ 1) where
+    alone : (k : ℕ) (m : MemoryMap) → IsCellBy (access_of w aligned) w k m → IsCell w m k
+    alone k m cell = let made = parts w aligned in cell_alone (access_of w aligned) w m k (made.single one) made.some cell
+
+    pub assigns_cell : (to : Destination) (from end rd base : ℕ) → rd ≡ target_of to →
+        Then (LocatesOperand a 5 base) (Then (λ x. Leads 1 (λ m s. IsCell w m (s.registers base)) (λ s t. Makes rd (IsLoaded w s.memory (s.registers base)) s t) x) (Finishes to)) x from end →
+        AssignsLoaded (most_for a + 1 + 4) w aligned a to x from end
+    assigns_cell to from end rd base is does =
+        leads_weaker (one_finished x (IsLoaded w) (IsCell w) a to is does.1 does.2.1 does.2.2) (omega arith)
+        (λ s sound can. ((can.brings, alone (operand_at x.at a s) x.map can.cell), can.reaches))
+        (λ s u sound can all. put_as x.at to all.0 (loaded s.memory (operand_at x.at a s) (bytes w)) s u all.1 all.2)
+
+    pub stores_at : (v : Operand) (from end base r : ℕ) →
+        Then (LocatesBoth a v base r) (λ x. Leads 1 (λ m s. IsCell w m (s.registers base)) (λ s t. Writes (s.registers base) (bytes w) (s.registers r) s t) x) x from end →
+        StoresWord (most_for a + most_for v + 1) w aligned a v x from end
+    stores_at v from end base r does =
+        leads_weaker
+        (passes_leads
+        (passes_weaker {R = CanStore x.at w aligned a v} {S = AreIn x.at a v base r} {b = most_for a + most_for v} does.1 (omega arith) (λ s sound can. can.brings) (λ s t sound can are. are))
+        does.2
+        (λ s t sound also can are. subst (λ (k : ℕ). IsCell w x.map k) (sym are.first) (alone (operand_at x.at a s) x.map can.cell)))
+        (omega arith) (λ s sound can. can)
+        (λ s u sound can both. written_at s both.0 u both.1 both.2)
+      where
+        written_at : (s t u : State) → AreIn x.at a v base r s t → Writes (t.registers base) (bytes w) (t.registers r) t u →
+            Writes (operand_at x.at a s) (bytes w) (operand_at x.at v s) s u
+        written_at s t u are writes = record {
+          registers = λ k h. writes.registers k h ∙ are.keeps.registers k h;
+          memory =
+              writes.memory
+              ∙ ap (λ (m : ℕ → ℕ). stored m (t.registers base) (bytes w) (t.registers r)) are.keeps.memory
+              ∙ ap (λ (k : ℕ). stored s.memory k (bytes w) (t.registers r)) are.first
+              ∙ ap (stored s.memory (operand_at x.at a s) (bytes w)) are.second;
+        }

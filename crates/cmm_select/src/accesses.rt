@@ -1,6 +1,6 @@
 //! Words of memory, at addresses that are multiples of their size or of less: in several accesses then.
 
-ghost use Rattle.std.specs.Prelude.{◌≡◌, ◌+◌, ◌-◌, ◌*◌, ◌<◌, ◌≤◌, OnOk};
+ghost use Rattle.std.specs.Prelude.{◌≡◌, ◌≢◌, ◌==◌, ◌+◌, ◌-◌, ◌*◌, ◌<◌, ◌≤◌, OnOk};
 ghost use Rattle.cmm_words.specs.Widths.{bytes};
 ghost use Rattle.rv_table.specs.Table.{IsValid};
 ghost use Rattle.cmm_effects.specs.Changes.{Writes};
@@ -9,7 +9,7 @@ ghost use Rattle.cmm_select.specs.Cells.{Loads};
 ghost use Rattle.cmm_select.specs.Memory.{IsCellBy, access_of as widest, access_of_half, access_of_word, accesses};
 ghost use Rattle.cmm_select.specs.inside.Gathering.{CanAccess, Gathers, Joins, Scatters, shift_down as shifted_down, shift_up as shifted_up};
 
-use crate::cell::{load_cell, load_part, store_part};
+use crate::cell::{load_part, store_part};
 use cmm_abi::registers::{FIRST_SCRATCH, HELPER, SECOND_SCRATCH};
 use cmm_words::Width;
 use rv_asm::Asm;
@@ -56,24 +56,28 @@ fn half(aligned: u32) -> Width
     }
 }
 
-/// Gives register 5 the word of a width at the address in it, which is a multiple of `aligned` bytes.
-pub fn load_word(asm: &mut Asm, width: Width, aligned: u32) -> Result<(), AllocError>
+/// Whether one access suffices for a word at such an address.
+pub(crate) fn is_whole(width: Width, aligned: u32) -> bool
+    ensures { result ≡ (accesses width aligned == 1) }
+{
+    width.bytes() / access_of(width, aligned).bytes() == 1
+}
+
+/// Gives register 5 the word of a width at the address in it, which is a multiple of `aligned` bytes, by several accesses.
+pub(crate) fn load_word(asm: &mut Asm, width: Width, aligned: u32) -> Result<(), AllocError>
+    requires { accesses width aligned ≢ 1 }
     ensures loads { OnOk result (Adds (3 * accesses width aligned - 2) asm.old.parts asm.new.parts (Leads (3 * accesses width aligned - 2) (λ m s. IsCellBy (widest width aligned) width (s.registers FIRST_SCRATCH) m) (Loads width))) }
     ensures labels { asm.new.labels ≡ asm.old.labels }
 {
     let access = access_of(width, aligned);
     let count = (width.bytes() / access.bytes()) as u32;
-    if count == 1 {
-        load_cell(asm, width)?;
-        return Ok(());
-    }
     gather(asm, access, access.bytes() as u32, count - 1)?;
     join(asm, access, 0, FIRST_SCRATCH)?;
     Ok(())
 }
 
 /// Stores the low bytes of register 7, as many as a width has, at the address in register 5, which is a multiple of `aligned` bytes.
-pub fn store_word(asm: &mut Asm, width: Width, aligned: u32) -> Result<(), AllocError>
+pub(crate) fn store_word(asm: &mut Asm, width: Width, aligned: u32) -> Result<(), AllocError>
     ensures stores { OnOk result (Adds (2 * accesses width aligned - 1) asm.old.parts asm.new.parts (Leads (2 * accesses width aligned - 1) (λ m s. IsCellBy (widest width aligned) width (s.registers FIRST_SCRATCH) m) (λ s t. Writes (s.registers FIRST_SCRATCH) (bytes width) (s.registers SECOND_SCRATCH) s t))) }
     ensures labels { asm.new.labels ≡ asm.old.labels }
 {
@@ -90,7 +94,7 @@ fn gather(asm: &mut Asm, access: Width, offset: u32, count: u32) -> Result<(), A
     ensures labels { asm.new.labels ≡ asm.old.labels }
 {
     if count == 1 {
-        asm.emit(load_part(access, SECOND_SCRATCH, offset))?;
+        asm.emit(load_part(access, SECOND_SCRATCH, FIRST_SCRATCH, offset))?;
         return Ok(());
     }
     gather(asm, access, offset + access.bytes() as u32, count - 1)?;
@@ -108,7 +112,7 @@ fn join(asm: &mut Asm, access: Width, offset: u32, rd: u8) -> Result<(), AllocEr
     ensures labels { asm.new.labels ≡ asm.old.labels }
 {
     asm.emit(shift_up(access))?;
-    asm.emit(load_part(access, HELPER, offset))?;
+    asm.emit(load_part(access, HELPER, FIRST_SCRATCH, offset))?;
     asm.emit(Instr::Add {
         rd,
         rs1: SECOND_SCRATCH,
@@ -124,7 +128,7 @@ fn scatter(asm: &mut Asm, access: Width, offset: u32, count: u32) -> Result<(), 
     ensures scatters { OnOk result (Adds (2 * count - 1) asm.old.parts asm.new.parts (Leads (2 * count - 1) (CanAccess access offset count) (Scatters access offset count))) }
     ensures labels { asm.new.labels ≡ asm.old.labels }
 {
-    asm.emit(store_part(access, offset))?;
+    asm.emit(store_part(access, FIRST_SCRATCH, SECOND_SCRATCH, offset))?;
     if count == 1 {
         return Ok(());
     }

@@ -53,12 +53,10 @@ mod switching;
 mod unary;
 mod word;
 
-pub use accesses::{load_word, store_word};
 pub use assigning::{
     assign_binary, assign_comparison, assign_copy, assign_extended, assign_global, assign_low,
     assign_unary,
 };
-pub use cell::{load_cell, store_cell};
 pub use destination::{Destination, put, put_global, read_global};
 pub use going::{decide, go_on, go_to, stop};
 pub use host::{choose, get_byte, put_byte};

@@ -6,8 +6,10 @@ ghost use Rattle.cmm_select.specs.Destinations.{IsDestination};
 ghost use Rattle.cmm_select.specs.Memory.{AssignsLoaded, StoresWord, accesses};
 ghost use Rattle.cmm_select.specs.Operands.{IsOperand, most_for};
 
-use crate::accesses::{load_word, store_word};
+use crate::accesses::{is_whole, load_word, store_word};
+use crate::cell::{load_cell, store_cell};
 use crate::destination::{Destination, put};
+use crate::in_place::{finish, locate, locate_both, target};
 use crate::operand::{Operand, bring_both, bring_operand};
 use cmm_abi::registers::FIRST_SCRATCH;
 use cmm_words::Width;
@@ -27,6 +29,12 @@ pub fn assign_loaded(
     ensures assigns { OnOk result (Adds (most_for address.now + (3 * accesses width aligned - 2) + 4) asm.old.parts asm.new.parts (AssignsLoaded (most_for address.now + (3 * accesses width aligned - 2) + 4) width aligned address.now to.now)) }
     ensures labels { asm.new.labels ≡ asm.old.labels }
 {
+    if is_whole(width, aligned) {
+        let base = locate(asm, address, FIRST_SCRATCH)?;
+        load_cell(asm, width, target(to), base)?;
+        finish(asm, to)?;
+        return Ok(());
+    }
     bring_operand(asm, address, FIRST_SCRATCH)?;
     load_word(asm, width, aligned)?;
     put(asm, to)?;
@@ -46,6 +54,11 @@ pub fn store(
     ensures stores { OnOk result (Adds (most_for address.now + most_for value.now + (2 * accesses width aligned - 1)) asm.old.parts asm.new.parts (StoresWord (most_for address.now + most_for value.now + (2 * accesses width aligned - 1)) width aligned address.now value.now)) }
     ensures labels { asm.new.labels ≡ asm.old.labels }
 {
+    if is_whole(width, aligned) {
+        let pair = locate_both(asm, address, value)?;
+        store_cell(asm, width, pair.first, pair.second)?;
+        return Ok(());
+    }
     bring_both(asm, address, value)?;
     store_word(asm, width, aligned)?;
     Ok(())

@@ -11,7 +11,7 @@ returns-then-count-eq1-clause-gathers t c =
     let o = c.args.offset in
     gathers_as c.args.asm.now.parts c.emit.new.self.parts p o c.args.count 1 (sym c.if-count-eq1.true)
     (rw (c.in_ok-emit.ensures.parts, c.load_part.ensures.is)
-    (adds_weaker (adds_one c.args.asm.now.parts (load_part p 7 o)) (omega arith) (λ x from to does. gathers_one x p o from to (omega (arith, c.requires.within)) does)))
+    (adds_weaker (adds_one c.args.asm.now.parts (load_part p 7 5 o)) (omega arith) (λ x from to does. gathers_one x p o from to (omega (arith, c.requires.within)) does)))
 
 pub returns-clause-gathers : goal.returns-clause-gathers
 returns-clause-gathers t c =

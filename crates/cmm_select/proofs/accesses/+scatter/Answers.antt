@@ -14,7 +14,7 @@ returns-then-count-eq1-clause-scatters t c =
     let o = c.args.offset in
     scatters_as c.args.asm.now.parts c.emit.new.self.parts p o c.args.count 1 (sym c.if-count-eq1.true)
     (rw (c.in_ok-emit.ensures.parts, c.store_part.ensures.is)
-    (adds_weaker (adds_one c.args.asm.now.parts (store_part p o)) (omega arith) (λ x from to does. scatters_one x p o from to (omega (arith, c.requires.within)) does)))
+    (adds_weaker (adds_one c.args.asm.now.parts (store_part p 5 7 o)) (omega arith) (λ x from to does. scatters_one x p o from to (omega (arith, c.requires.within)) does)))
 
 pub returns-clause-scatters : goal.returns-clause-scatters
 returns-clause-scatters t c =
@@ -27,7 +27,7 @@ returns-clause-scatters t c =
     let within : o + suc k * bytes p ≤ 8 = subst (λ (j : ℕ). o + j * bytes p ≤ 8) (sym e) c.requires.within in
     let half : bytes p < 8 = less_than_eight k (bytes p) some (omega (arith, within)) in
     let one = c.emit.new.self.parts in
-    let first : Adds 1 c.args.asm.now.parts one (One (store_part p o)) = rw (c.in_ok-emit.ensures.parts, c.store_part.ensures.is) (adds_one c.args.asm.now.parts (store_part p o)) in
+    let first : Adds 1 c.args.asm.now.parts one (One (store_part p 5 7 o)) = rw (c.in_ok-emit.ensures.parts, c.store_part.ensures.is) (adds_one c.args.asm.now.parts (store_part p 5 7 o)) in
     let second : Adds 1 one c.emit-2.new.self.parts (One (shift_down p)) = rw (c.in_ok-emit-2.ensures.parts, c.shift_down.ensures.is) (adds_one one (shift_down p)) in
     let third = rw c.bytes.ensures at c.in_ok-scatter.ensures.scatters in
     scatters_as c.args.asm.now.parts c.scatter.new.asm.parts p o n (suc k) e

@@ -13,7 +13,7 @@ returns-clause-joins c =
     let p = c.args.access in
     let o = c.args.offset in
     let one = also old (shift_up p) in
-    let two = also one (load_part p 6 o) in
+    let two = also one (load_part p 6 5 o) in
     rw (c.in_ok-emit-3.ensures.parts, c.in_ok-emit-2.ensures.parts, c.in_ok-emit.ensures.parts, c.shift_up.ensures.is, c.load_part.ensures.is)
-    (adds_weaker (adds_then (adds_one old (shift_up p)) (adds_then (adds_one one (load_part p 6 o)) (adds_one two (Add c.args.rd 7 6)))) (omega arith)
+    (adds_weaker (adds_then (adds_one old (shift_up p)) (adds_then (adds_one one (load_part p 6 5 o)) (adds_one two (Add c.args.rd 7 6)))) (omega arith)
     (λ x from to does. joins x p o c.args.rd from to c.requires.near c.requires.access (omega (arith, c.requires.low)) does))

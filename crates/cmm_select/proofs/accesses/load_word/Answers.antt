@@ -1,18 +1,9 @@
 use Rattle.std.proofs.Common.{◌≡◌, ℕ, suc, ◌-◌, ◌*◌, ◌/◌, ◌<◌, ◌∙◌, refl, ap, arith}
 use Rattle.cmm_words.specs.Widths.{bytes}
 use Rattle.cmm_effects.proofs.Shared.{adds_then, adds_weaker, leads_weaker}
-use Rattle.cmm_select.proofs.Gathering.{cell_alone, eight_bytes, loads_joined, parts}
+use Rattle.cmm_select.proofs.Gathering.{eight_bytes, loads_joined, parts}
 use Rattle.cmm_select.specs.Memory.{access_of}
 use Rattle.cmm_select.proofs.accesses.load_word.Goals as goal
-
-pub returns-then-count-eq1-clause-loads : goal.returns-then-count-eq1-clause-loads
-returns-then-count-eq1-clause-loads c =
-    let w = c.args.width in
-    let p = access_of w c.args.aligned in
-    let made = parts w c.args.aligned in
-    let one : bytes w / bytes p ≡ 1 = rw (c.bytes.ensures, c.bytes-2.ensures, c.access_of-access.ensures) at c.if-count-eq1.true in
-    adds_weaker c.in_ok-load_cell.ensures.loads (omega (arith, one))
-    (λ x from to leads. leads_weaker leads (omega (arith, one)) (λ s sound cell. cell_alone p w x.map s (made.single one) made.some cell) (λ s t sound cell loads. loads))
 
 pub returns-clause-loads : goal.returns-clause-loads
 returns-clause-loads c =
@@ -21,9 +12,8 @@ returns-clause-loads c =
     let made = parts w c.args.aligned in
     let n = bytes w / bytes p in
     let k = n - 1 in
-    let count : c.bytes.result / c.bytes-2.result ≡ n = rw (c.bytes.ensures, c.bytes-2.ensures, c.access_of-access.ensures) refl in
     let e : suc k ≡ n = omega (arith, made.some) in
-    let some : 0 < k = omega (arith, made.some, count, c.if-count-eq1.false) in
+    let some : 0 < k = omega (arith, made.some, c.requires) in
     let all : suc k * bytes p ≡ bytes w = ap (λ (j : ℕ). j * bytes p) e ∙ made.all in
     let first = rw (c.bytes-3.ensures, c.bytes.ensures, c.bytes-2.ensures, c.access_of-access.ensures) at c.in_ok-gather.ensures.gathers in
     let last = rw c.access_of-access.ensures at c.in_ok-join.ensures.joins in
