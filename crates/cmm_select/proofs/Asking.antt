@@ -21,7 +21,7 @@ use Rattle.cmm_select.proofs.Keeping.{put_as}
 use Rattle.cmm_select.proofs.Places.{One}
 use Rattle.cmm_select.proofs.Putting.{then_put}
 use Rattle.cmm_select.proofs.Sums.{plus_none}
-use Rattle.cmm_select.specs.Destinations.{CanPut, PutsFirst, PutsTo}
+use Rattle.cmm_select.specs.Destinations.{CanPut, PutsFrom, PutsTo}
 use Rattle.cmm_select.specs.Operands.{Brings, BringsOperand, CanBringOperand, most_for, operand_at}
 use Rattle.cmm_select.specs.declared.destination.Destination.{Destination}
 use Rattle.cmm_select.specs.declared.destination.Destination.TheVariants as destination
@@ -121,18 +121,7 @@ module _ (x : Code) where
         let none : s.registers 0 ≡ 0 = sym (sets.others 0 refl) ∙ sound.zero in
         gets_byte t.registers (sets.given ∙ first_number (s.registers 0) 2 none (omega arith))
 
-    -- behind the request, the byte is put
-    puts_taken : (behind mid end : ℕ) → One (Addi 5 10 (pos 0)) x behind mid → PutsFirst to x mid end →
-        Leads 5 (CanPut x.at to) (λ u v. PutsTo x.at to (u.registers 10) u v) x behind end
-    puts_taken behind mid end first puts =
-        leads_weaker
-        (then_put x to (leads_set x (Addi 5 10 (pos 0)) behind mid 5 (λ g. sum (g 10) (modulo 64 (pos 0))) (omega arith) (λ g pc. refl) first)
-        (λ s t sets. set_keeps 5 (sum (s.registers 10) (modulo 64 (pos 0))) s t refl sets) puts)
-        (omega arith) (λ s sound can. (tt, can))
-        (λ s v sound can all.
-        put_as x.at to (all.0.registers 5) (s.registers 10) s v (all.1.given ∙ plus_none (s.registers 10) (sound.registers 10)) all.2)
-
-    pub asks_to_get : (from end : ℕ) → Then (One (Addi 5 0 (pos 2))) (Then (One Ecall) (Then (One (Addi 5 10 (pos 0))) (PutsFirst to))) x from end →
+    pub asks_to_get : (from end : ℕ) → Then (One (Addi 5 0 (pos 2))) (Then (One Ecall) (PutsFrom 10 to)) x from end →
         Requests 1 5 (CanPut x.at to) (λ s. GetByte) (λ u v. PutsTo x.at to (u.registers 10) u v) x from end
     asks_to_get from end does =
         requests_then (λ s. GetByte)
@@ -152,5 +141,5 @@ module _ (x : Code) where
             let two : u.registers 2 ≡ s.registers 2 = ap (λ (v : State). v.registers 2) is ∙ sets.others 2 refl in
             let four : u.registers 4 ≡ s.registers 4 = ap (λ (v : State). v.registers 4) is ∙ sets.others 4 refl in
             let good : IsSound u = subst (λ (v : State). IsSound v) (sym is) (sound_taken t n fits sound) in
-            reaches_weaker ((puts_taken does.2.0 does.2.2.0 end does.2.2.1 does.2.2.2).runs.go u good at (still_reached to x.map s u two four can))
+            reaches_weaker (does.2.2.runs.go u good at (still_reached to x.map s u two four can))
             (omega arith) (omega arith) (λ v arrived. arrived)

@@ -1,11 +1,11 @@
 -- Operators with one operand, and words with their sign at another width.
-use Rattle.std.proofs.Common.{◌≡◌, ℕ, zero, suc, ◌+◌, ◌-◌, ◌*◌, ◌/◌, ◌%◌, ◌<◌, ◌^◌, refl, sym, ◌∙◌, ap, arith, ℤ, pos, negsuc, bit_xor}
+use Rattle.std.proofs.Common.{◌≡◌, ◌≢◌, ℕ, zero, suc, ◌+◌, ◌-◌, ◌*◌, ◌/◌, ◌%◌, ◌<◌, ◌^◌, refl, sym, ◌∙◌, ap, arith, ℤ, pos, negsuc, bit_xor}
 use Rattle.std.proofs.lemmas.Bool.Decides.{nat_tests}
 use Rattle.std.proofs.lemmas.Int.{ints}
 use Rattle.std.proofs.lemmas.Nat.{xor_block, pow_pos}
 use Rattle.cmm_words.specs.Integers.{signed as word_signed, wrapped}
 use Rattle.cmm_words.specs.Laws.{IsCut1}
-use Rattle.cmm_words.specs.Widths.{bits}
+use Rattle.cmm_words.specs.Widths.{IsWord, bits}
 use Rattle.cmm_words.specs.Words.{low_bits, sign_extended, value1}
 use Rattle.cmm_words.specs.declared.operators.Op1.{Op1}
 use Rattle.cmm_words.specs.declared.operators.Op1.TheVariants.{Com, Neg}
@@ -16,12 +16,16 @@ use Rattle.rv_table.specs.Row.{row}
 use Rattle.rv_table.specs.Words.{difference, modulo}
 use Rattle.rv_table.specs.declared.effects.Effect.TheVariants.{Set}
 use Rattle.rv_table.specs.declared.instruction.Instr.{Instr}
-use Rattle.cmm_effects.proofs.Shared.{keeps_then, leads_set, runs_then, runs_weaker, set_keeps}
-use Rattle.cmm_effects.specs.Pieces.{Always, Runs}
+use Rattle.cmm_effects.proofs.Shared.{leads_set, leads_then, leads_weaker}
+use Rattle.cmm_effects.specs.Changes.{Sets}
+use Rattle.cmm_effects.specs.Pieces.{Always, Leads, Runs}
+use Rattle.cmm_select.proofs.InPlace.{beside_then, set_beside}
 use Rattle.cmm_select.proofs.Places.{One}
-use Rattle.cmm_select.specs.Operators.{Extends, HasWord, Narrows}
-use Rattle.cmm_select.specs.Unary.{Converts, OperatesOnOne}
+use Rattle.cmm_select.proofs.Widths.{extended_64}
+use Rattle.cmm_select.specs.Operators.{HasWord, Narrows}
+use Rattle.cmm_select.specs.Unary.{IsValueOfOne}
 use Rattle.cmm_select.specs.inside.Complements.{direct_of_one}
+use Rattle.cmm_select.specs.inside.InPlace.{Makes}
 
 -- ---- operators with one operand at 64 bits
 
@@ -50,51 +54,59 @@ com_row z a none h = with_ones 64 a h
 neg_row : (z a : ℕ) → z ≡ 0 → a < 2 ^ 64 → difference z a ≡ value1 Neg W64 a
 neg_row z a none h = grind (arith, ints, nat_tests)
 
-module _ (x : Code) (from to : ℕ) where
-  does_one : (o : Op1) (i : Instr) (f : ℕ → ℕ → ℕ) → ((z a : ℕ) → z ≡ 0 → a < 2 ^ 64 → f z a ≡ value1 o W64 a) →
-      ((r : ℕ → ℕ) (pc : ℕ) → row r pc i ≡ Set 5 (f (r 0) (r 5))) → One i x from to → Runs 0 1 Always (OperatesOnOne o W64) x from to
-  does_one o i f gives is does =
-      runs_weaker {k = 0} (leads_set x i from to 5 (λ r. f (r 0) (r 5)) (omega arith) is does).runs (omega arith) (omega arith) (λ s sound p. tt)
-      (λ s t sound p sets. record {
-        given = sets.given ∙ gives (s.registers 0) (s.registers 5) sound.zero (sound.registers 5);
-        keeps = set_keeps 5 (f (s.registers 0) (s.registers 5)) s t refl sets;
-      })
+low_of_wrapped : (w : Width) (z : ℤ) → low_bits w (wrapped 64 z) ≡ wrapped (bits w) z
+low_of_wrapped W8 (pos k) = omega arith
+low_of_wrapped W8 (negsuc k) = omega arith
+low_of_wrapped W16 (pos k) = omega arith
+low_of_wrapped W16 (negsuc k) = omega arith
+low_of_wrapped W32 (pos k) = omega arith
+low_of_wrapped W32 (negsuc k) = omega arith
+low_of_wrapped W64 (pos k) = omega arith
+low_of_wrapped W64 (negsuc k) = omega arith
 
-  pub does_direct : (o : Op1) → One (direct_of_one o) x from to → Runs 0 1 Always (OperatesOnOne o W64) x from to
-  does_direct Com does = does_one Com (direct_of_one Com) (λ z a. bit_xor a (modulo 64 (negsuc 0))) com_row (λ r pc. refl) does
-  does_direct Neg does = does_one Neg (direct_of_one Neg) difference neg_row (λ r pc. refl) does
+does_one : (x : Code) (from to rd a : ℕ) (o : Op1) (i : Instr) (f : ℕ → ℕ → ℕ) → rd ≢ 0 → ((z n : ℕ) → z ≡ 0 → n < 2 ^ 64 → f z n ≡ value1 o W64 n) →
+    ((r : ℕ → ℕ) (pc : ℕ) → row r pc i ≡ Set rd (f (r 0) (r a))) → One i x from to → Leads 1 Always (λ s t. Makes rd (IsValueOfOne o W64 (s.registers a)) s t) x from to
+does_one x from to rd a o i f written gives is does =
+    leads_weaker (leads_set x i from to rd (λ r. f (r 0) (r a)) written is does) (omega arith) (λ s sound p. tt)
+    (λ s t sound p sets. record {
+      given = sets.given ∙ gives (s.registers 0) (s.registers a) sound.zero (sound.registers a);
+      keeps = set_beside rd (f (s.registers 0) (s.registers a)) s t sets;
+    })
+
+pub does_direct : (x : Code) (from to rd a : ℕ) → rd ≢ 0 → (o : Op1) → One (direct_of_one o rd a) x from to →
+    Leads 1 Always (λ s t. Makes rd (IsValueOfOne o W64 (s.registers a)) s t) x from to
+does_direct x from to rd a written Com does = does_one x from to rd a Com (direct_of_one Com rd a) (λ z n. bit_xor n (modulo 64 (negsuc 0))) written com_row (λ r pc. refl) does
+does_direct x from to rd a written Neg does = does_one x from to rd a Neg (direct_of_one Neg rd a) difference written neg_row (λ r pc. refl) does
 
 pub cut_of_one : (o : Op1) → IsCut1 Com → IsCut1 Neg → IsCut1 o
 cut_of_one Com complement negative = complement
 cut_of_one Neg complement negative = negative
 
-module _ (x : Code) (from mid to m n : ℕ) where
+module _ (x : Code) (from mid to rd a m n : ℕ) where
   -- an operator of 64 bits, and a cut
-  pub cut_operates_on_one : (o : Op1) (w : Width) → IsCut1 o → Runs 0 m Always (OperatesOnOne o W64) x from mid → Runs 0 n Always (Narrows w 5) x mid to →
-      Runs 0 (m + n) (HasWord w 5) (OperatesOnOne o w) x from to
-  cut_operates_on_one o w cut first second =
-      runs_weaker {k = 0} (runs_then first second (λ s t sound also p q. tt)) (omega arith) (omega arith) (λ s sound word. tt)
+  pub cut_makes_one : (o : Op1) (w : Width) → IsCut1 o → Leads m Always (λ s t. Makes rd (IsValueOfOne o W64 (s.registers a)) s t) x from mid →
+      Runs 0 n Always (Narrows w rd) x mid to → Leads (m + n) (HasWord w a) (λ s t. Makes rd (IsValueOfOne o w (s.registers a)) s t) x from to
+  cut_makes_one o w cut first second =
+      leads_weaker (leads_then first second (λ s t sound also p q. tt)) (omega arith) (λ s sound word. tt)
       (λ s u sound word both. record {
-        given = both.2.given ∙ ap (low_bits w) both.1.given ∙ sym (cut w (s.registers 5) word);
-        keeps = keeps_then s both.0 u both.1.keeps (set_keeps 5 (low_bits w (both.0.registers 5)) both.0 u refl both.2);
+        given = both.2.given ∙ ap (low_bits w) both.1.given ∙ sym (cut w (s.registers a) word);
+        keeps = beside_then rd s both.0 u both.1.keeps (set_beside rd (low_bits w (both.0.registers rd)) both.0 u both.2);
       })
 
   -- ---- a word with its sign at another width: with its sign at 64 bits, and a cut
-  pub extended_cut : (v w : Width) → Runs 0 m (HasWord v 5) (Extends v 5) x from mid → Runs 0 n Always (Narrows w 5) x mid to →
-      Runs 0 (m + n) (HasWord v 5) (Converts v w) x from to
+  pub extended_cut : (v w : Width) → Leads m (HasWord v a) (λ s t. Sets rd (sign_extended v W64 (s.registers a)) s t) x from mid → Runs 0 n Always (Narrows w rd) x mid to →
+      Leads (m + n) (HasWord v a) (λ s t. Makes rd (λ k. k ≡ sign_extended v w (s.registers a)) s t) x from to
   extended_cut v w first second =
-      runs_weaker {k = 0} (runs_then first second (λ s t sound also p q. tt)) (omega arith) (omega arith) (λ s sound word. word)
+      leads_weaker (leads_then first second (λ s t sound also p q. tt)) (omega arith) (λ s sound word. word)
       (λ s u sound word both. record {
-        given = both.2.given ∙ ap (low_bits w) both.1.given ∙ low_of_wrapped w (word_signed (bits v) (s.registers 5));
-        keeps = keeps_then s both.0 u (set_keeps 5 (sign_extended v W64 (s.registers 5)) s both.0 refl both.1) (set_keeps 5 (low_bits w (both.0.registers 5)) both.0 u refl both.2);
+        given = both.2.given ∙ ap (low_bits w) both.1.given ∙ low_of_wrapped w (word_signed (bits v) (s.registers a));
+        keeps = beside_then rd s both.0 u (set_beside rd (sign_extended v W64 (s.registers a)) s both.0 both.1) (set_beside rd (low_bits w (both.0.registers rd)) both.0 u both.2);
       })
-    where
-      low_of_wrapped : (w : Width) (z : ℤ) → low_bits w (wrapped 64 z) ≡ wrapped (bits w) z
-      low_of_wrapped W8 (pos k) = omega arith
-      low_of_wrapped W8 (negsuc k) = omega arith
-      low_of_wrapped W16 (pos k) = omega arith
-      low_of_wrapped W16 (negsuc k) = omega arith
-      low_of_wrapped W32 (pos k) = omega arith
-      low_of_wrapped W32 (negsuc k) = omega arith
-      low_of_wrapped W64 (pos k) = omega arith
-      low_of_wrapped W64 (negsuc k) = omega arith
+
+-- at 64 bits a word has its sign
+pub sign_cut : (w : Width) (a : ℕ) → IsWord W64 a → low_bits w a ≡ sign_extended W64 w a
+sign_cut w a word = ap (low_bits w) (extended_64 a word) ∙ low_of_wrapped w (word_signed (bits W64) a)
+
+-- and all its bits are low ones
+pub whole_cut : (a : ℕ) → IsWord W64 a → a ≡ low_bits W64 a
+whole_cut a word = omega arith

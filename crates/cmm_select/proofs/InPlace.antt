@@ -7,7 +7,7 @@ use Rattle.std.proofs.lemmas.Option.{same_Some}
 use Rattle.cmm_abi.specs.Registers.{is_scratch}
 use Rattle.cmm_words.specs.Widths.{IsWord}
 use Rattle.cmm_words.specs.declared.width.Width.{Width}
-use Rattle.cmm_chain.proofs.Shared.{callee_saves_is_kept, callee_saves_is_written, temporary_is_kept, temporary_is_written}
+use Rattle.cmm_chain.proofs.Shared.{callee_saves_is_apart, callee_saves_is_kept, callee_saves_is_written, temporary_is_kept, temporary_is_written}
 use Rattle.cmm_chain.specs.declared.frame.Location.TheVariants.{Slot, Saved, Temp}
 use Rattle.rv_asm.proofs.Shared.{reaches_then, reaches_weaker}
 use Rattle.rv_asm.specs.Appending.{Then}
@@ -20,8 +20,8 @@ use Rattle.cmm_effects.specs.Changes.{Keeps, KeepsBut, PutsRegister, Sets}
 use Rattle.cmm_effects.specs.Pieces.{BeginsQuietly, Leads, Runs}
 use Rattle.cmm_effects.specs.Ways.{Turns}
 use Rattle.cmm_select.proofs.Keeping.{operand_as_before, put_after, still_brought, still_put}
-use Rattle.cmm_select.specs.Destinations.{CanPut, IsDestination, PutsFirst, PutsTo}
-use Rattle.cmm_select.specs.Operands.{AreWords, BringsBoth, BringsOperand, CanBringBoth, CanBringOperand, IsOperand, most_for, operand_at}
+use Rattle.cmm_select.specs.Destinations.{CanPut, IsDestination, PutsFrom, PutsTo}
+use Rattle.cmm_select.specs.Operands.{AreWords, Brings, BringsOperand, CanBringBoth, CanBringOperand, IsOperand, most_for, operand_at}
 use Rattle.cmm_select.specs.declared.destination.Destination.{Destination}
 use Rattle.cmm_select.specs.declared.destination.Destination.TheVariants as destination
 use Rattle.cmm_select.specs.declared.operand.Operand.{Operand}
@@ -81,7 +81,7 @@ passes_of leads = record { begins = inr leads.quiet; runs = runs_of leads }
 -- ---- operands that are in registers
 
 -- it is in it
-home_has : (at : ℕ → ℕ) (a : Operand) (r : ℕ) (s : State) → s.registers 0 ≡ 0 → home_of a ≡ Some r → s.registers r ≡ operand_at at a s
+pub home_has : (at : ℕ → ℕ) (a : Operand) (r : ℕ) (s : State) → s.registers 0 ≡ 0 → home_of a ≡ Some r → s.registers r ≡ operand_at at a s
 home_has at (Held (Place (Slot o))) r s none is = absurd (cc (is))
 home_has at (Held (Place (Saved k))) r s none is = ap (λ n. s.registers n) (sym (same_Some k r is))
 home_has at (Held (Place (Temp k))) r s none is = ap (λ n. s.registers n) (sym (same_Some k r is))
@@ -117,6 +117,11 @@ located_home a spare r x from to is same = record {
 pub located_brought : (a : Operand) (spare : ℕ) (x : Code) (from to : ℕ) → BringsOperand a spare x from to → LocatesOperand a spare spare x from to
 located_brought a spare x from to brings =
     passes_weaker (passes_of brings) (omega arith) (λ s sound p. p) (λ s t sound p q. record { given = q.given; others = q.others; memory = q.memory })
+
+-- so it may be read while register 6 helps
+pub home_other : (labels : List Meaning) (a : Operand) (r : ℕ) → IsOperand labels a → home_of a ≡ Some r → r ≢ 6
+home_other labels a r good is e =
+    let g : is_scratch 6 ≡ false = subst (λ (n : ℕ). is_scratch n ≡ false) e (home_is labels a r good is).0 in absurd (cc)
 
 pub home_small : (spare r : ℕ) → spare < 32 → IsHome spare r → r < 32
 home_small spare r small (inl same) = subst (λ n. n < 32) (sym same) small
@@ -177,6 +182,19 @@ second_false false d h = h
 pub set_beside : (rd n : ℕ) (s t : State) → Sets rd n s t → KeepsBeside rd s t
 set_beside rd n s t sets = record { registers = λ k is. sets.others k (first_false (k == rd) (is_scratch k) is); memory = sets.memory }
 
+pub brings_beside : (rd n : ℕ) (s t : State) → Brings rd n s t → KeepsBeside rd s t
+brings_beside rd n s t brings = record { registers = λ k is. brings.others k (by k (k == rd) refl is); memory = brings.memory }
+  where
+    by : (k : ℕ) (one : Bool) → (k == rd) ≡ one → (one || is_scratch k) ≡ false → (one || (k == 6)) ≡ false
+    by k true e is = absurd (cc (is))
+    by k false e is = other k (k == 6) refl is
+      where
+        other : (k : ℕ) (six : Bool) → (k == 6) ≡ six → is_scratch k ≡ false → six ≡ false
+        other k false e is = refl
+        other k true e is =
+            let same : k ≡ 6 = grind (arith, nat_tests) in
+            let g : is_scratch 6 ≡ false = subst (λ (n : ℕ). is_scratch n ≡ false) same is in absurd (cc)
+
 pub keeps_beside : (rd : ℕ) (s t : State) → Keeps s t → KeepsBeside rd s t
 keeps_beside rd s t keeps = record { registers = λ k is. keeps.registers k (second_false (k == rd) (is_scratch k) is); memory = keeps.memory }
 
@@ -195,10 +213,10 @@ beside_scratch rd s t scratch keeps = record { registers = λ k is. keeps.regist
 
 -- a register that a destination has may be written
 pub target_is : (labels : List Meaning) (to : Destination) → IsDestination labels to → IsTarget (target_of to)
-target_is labels (destination.Place (Slot k)) good = (omega arith, omega arith)
-target_is labels (destination.Place (Saved k)) good = let is = callee_saves_is_written k good in (omega (arith, is.0), is.1)
-target_is labels (destination.Place (Temp k)) good = let is = temporary_is_written k good in (omega (arith, is.0), is.1)
-target_is labels (destination.Register l) good = (omega arith, omega arith)
+target_is labels (destination.Place (Slot k)) good = (omega arith, omega arith, λ e. omega (arith, e))
+target_is labels (destination.Place (Saved k)) good = (grind (arith, nat_tests, good), (callee_saves_is_written k good).1, callee_saves_is_apart k 6 (omega arith) good)
+target_is labels (destination.Place (Temp k)) good = (grind (arith, nat_tests, good), (temporary_is_written k good).1, λ e. grind (arith, nat_tests, good, e))
+target_is labels (destination.Register l) good = (omega arith, omega arith, λ e. omega (arith, e))
 
 module _ (x : Code) where
   -- it is there, or it is put there from register 5
@@ -208,7 +226,7 @@ module _ (x : Code) where
   finishes_there (destination.Place (Temp r)) from end other same = runs_none same (λ t sound p s keeps. (refl, keeps.registers, keeps.memory))
   finishes_there (destination.Register l) from end other same = absurd (other refl)
 
-  pub finishes_put : (to : Destination) (from end : ℕ) → target_of to ≡ 5 → PutsFirst to x from end → Finishes to x from end
+  pub finishes_put : (to : Destination) (from end : ℕ) → target_of to ≡ 5 → PutsFrom 5 to x from end → Finishes to x from end
   finishes_put to from end is puts =
       runs_weaker {k = 0} (runs_of puts) (omega arith) (omega arith) (λ t sound can. can)
       (λ t u sound can put s keeps. subst (λ (n : ℕ). PutsTo x.at to (t.registers n) s u) (sym is)

@@ -13,7 +13,7 @@ use Rattle.cmm_select.proofs.InPlace.{one_finished, passes_leads, passes_weaker}
 use Rattle.cmm_select.proofs.Keeping.{brings_keeps, put_as}
 use Rattle.cmm_select.proofs.Putting.{then_put}
 use Rattle.cmm_select.specs.Cells.{IsCell, IsLoaded, Loads}
-use Rattle.cmm_select.specs.Destinations.{PutsFirst, PutsTo}
+use Rattle.cmm_select.specs.Destinations.{PutsFrom, PutsTo}
 use Rattle.cmm_select.specs.Memory.{AssignsLoaded, CanStore, IsCellBy, StoresWord, access_of, accesses}
 use Rattle.cmm_select.specs.Operands.{Brings, BringsBoth, BringsOperand, CanBringOperand, HasBoth, most_for, operand_at}
 use Rattle.cmm_select.specs.declared.destination.Destination.{Destination}
@@ -39,7 +39,7 @@ module _ (x : Code) (w : Width) (aligned : ℕ) (a : Operand) (n : ℕ) where
       (runs_of second)
       (λ s t sound also can brings. subst (λ (k : ℕ). IsCellBy (access_of w aligned) w k x.map) (sym brings.given) can.1)
 
-  pub assigns_loaded : (to : Destination) (from end : ℕ) → Then (BringsOperand a 5) (Then (Leads n IsThere (Loads w)) (PutsFirst to)) x from end →
+  pub assigns_loaded : (to : Destination) (from end : ℕ) → Then (BringsOperand a 5) (Then (Leads n IsThere (Loads w)) (PutsFrom 5 to)) x from end →
       AssignsLoaded (most_for a + n + 4) w aligned a to x from end
   assigns_loaded to from end does =
       leads_weaker

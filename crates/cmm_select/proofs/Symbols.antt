@@ -110,28 +110,28 @@ module _ (x : Code) (from to : ℕ) (l : Label) where
       IsTrue (is_accessible x.map (sum (t.registers rd) (modulo 64 (pos 0))) 8)
   reached rd s t can sets = subst (λ (a : ℕ). IsTrue (is_accessible x.map a 8)) (sym (there rd s t can sets)) can.1
 
-  pub loads_global : Then (Leads 3 Always (λ s t. Sets 5 (sum (x.at l.number) (s.registers 4)) s t)) (One (Ld 5 5 (pos 0))) x from to →
-      Leads 4 (CanReachGlobal (x.at l.number)) (λ s t. Sets 5 (global_at (x.at l.number) s) s t) x from to
-  loads_global does =
+  pub loads_global : (rd : ℕ) → rd ≢ 0 → Then (Leads 3 Always (λ s t. Sets rd (sum (x.at l.number) (s.registers 4)) s t)) (One (Ld rd rd (pos 0))) x from to →
+      Leads 4 (CanReachGlobal (x.at l.number)) (λ s t. Sets rd (global_at (x.at l.number) s) s t) x from to
+  loads_global rd written does =
       leads_weaker
       (leads_then
-      (leads_weaker {R = CanReachGlobal (x.at l.number)} {S = λ s t. Sets 5 (sum (x.at l.number) (s.registers 4)) s t} {b = 3} does.1 (omega arith) (λ s sound can. tt) (λ s t sound can sets. sets))
-      (runs_of (leads_load x (Ld 5 5 (pos 0)) does.0 to 5 8 true (λ g. sum (g 5) (modulo 64 (pos 0))) (omega arith) (λ g pc. refl) does.2))
-      (λ s t sound also can sets. reached 5 s t can sets))
+      (leads_weaker {R = CanReachGlobal (x.at l.number)} {S = λ s t. Sets rd (sum (x.at l.number) (s.registers 4)) s t} {b = 3} does.1 (omega arith) (λ s sound can. tt) (λ s t sound can sets. sets))
+      (runs_of (leads_load x (Ld rd rd (pos 0)) does.0 to rd 8 true (λ g. sum (g rd) (modulo 64 (pos 0))) written (λ g pc. refl) does.2))
+      (λ s t sound also can sets. reached rd s t can sets))
       (omega arith) (λ s sound can. can)
       (λ s w sound can both. loaded_there s both.0 w can both.1 both.2 (bytes s both.0 sound both.1))
     where
-      bytes : (s t : State) → IsSound s → Sets 5 (sum (x.at l.number) (s.registers 4)) s t → (a : ℕ) → t.memory a < 2 ^ 8
+      bytes : (s t : State) → IsSound s → Sets rd (sum (x.at l.number) (s.registers 4)) s t → (a : ℕ) → t.memory a < 2 ^ 8
       bytes s t sound sets a = subst (λ (m : ℕ → ℕ). m a < 2 ^ 8) (sym sets.memory) (sound.memory a)
 
-      loaded_there : (s t w : State) → CanReachGlobal (x.at l.number) x.map s → Sets 5 (sum (x.at l.number) (s.registers 4)) s t →
-          Sets 5 (extended true 8 (loaded t.memory (sum (t.registers 5) (modulo 64 (pos 0))) 8)) t w → ((a : ℕ) → t.memory a < 2 ^ 8) →
-          Sets 5 (global_at (x.at l.number) s) s w
+      loaded_there : (s t w : State) → CanReachGlobal (x.at l.number) x.map s → Sets rd (sum (x.at l.number) (s.registers 4)) s t →
+          Sets rd (extended true 8 (loaded t.memory (sum (t.registers rd) (modulo 64 (pos 0))) 8)) t w → ((a : ℕ) → t.memory a < 2 ^ 8) →
+          Sets rd (global_at (x.at l.number) s) s w
       loaded_there s t w can first second small =
-          same_set 5 (sum (x.at l.number) (s.registers 4)) (global_at (x.at l.number) s) s t w first
-          (set_as 5 (extended true 8 (loaded t.memory (sum (t.registers 5) (modulo 64 (pos 0))) 8)) (global_at (x.at l.number) s) t w
-          (loaded_whole t.memory (sum (t.registers 5) (modulo 64 (pos 0))) small
-          ∙ ap (λ (a : ℕ). loaded t.memory a 8) (there 5 s t can first)
+          same_set rd (sum (x.at l.number) (s.registers 4)) (global_at (x.at l.number) s) s t w first
+          (set_as rd (extended true 8 (loaded t.memory (sum (t.registers rd) (modulo 64 (pos 0))) 8)) (global_at (x.at l.number) s) t w
+          (loaded_whole t.memory (sum (t.registers rd) (modulo 64 (pos 0))) small
+          ∙ ap (λ (a : ℕ). loaded t.memory a 8) (there rd s t can first)
           ∙ ap (λ (m : ℕ → ℕ). loaded m (s.registers 4 + x.at l.number) 8) first.memory) second)
 
   pub stores_global : (k : ℕ) → k ≢ 6 → Then (Leads 3 Always (λ s t. Sets 6 (sum (x.at l.number) (s.registers 4)) s t)) (One (Sd 6 k (pos 0))) x from to →

@@ -9,67 +9,93 @@ use Rattle.cmm_words.specs.declared.width.Width.TheVariants.{W8, W16, W32, W64}
 use Rattle.rv_asm.specs.Appending.{Then}
 use Rattle.rv_asm.specs.Parts.{Code}
 use Rattle.rv_table.specs.Words.{modulo, shifted_left, shifted_right, shifted_right_signed}
-use Rattle.rv_table.specs.declared.instruction.Instr.TheVariants.{Slli, Srai, Srli}
-use Rattle.cmm_effects.proofs.Shared.{leads_set, leads_then, leads_weaker, runs_none, runs_of, runs_weaker}
+use Rattle.rv_table.specs.declared.instruction.Instr.TheVariants.{Addi, Slli, Srai, Srli}
+use Rattle.cmm_effects.proofs.Shared.{leads_set, leads_then, leads_weaker, runs_none, runs_of}
 use Rattle.cmm_effects.specs.Changes.{Sets}
-use Rattle.cmm_effects.specs.Pieces.{Always, Runs}
-use Rattle.cmm_select.proofs.Places.{One, same_set, set_as}
-use Rattle.cmm_select.specs.Operators.{Extends, HasWord, Narrows}
+use Rattle.cmm_effects.specs.Pieces.{Always, Leads, Runs}
+use Rattle.cmm_select.proofs.Places.{One, copies, same_set, set_as}
+use Rattle.cmm_select.specs.Operators.{Extends, HasWord, Narrows, shifts_of}
 
 -- the amount of a shift fits six bits
 amount_is : (k : ℕ) → k < 64 → modulo 6 (pos k) ≡ k
 amount_is k h = omega arith
 
-module _ (x : Code) (from to rd k : ℕ) (written : rd ≢ 0) (small : k < 64) where
+module _ (x : Code) (from to rd r k : ℕ) (written : rd ≢ 0) (small : k < 64) where
   -- to the left, and back
-  pub shifts_out : Then (One (Slli rd rd (pos k))) (One (Srli rd rd (pos k))) x from to →
-      Runs 0 2 Always (λ s t. Sets rd (shifted_right (shifted_left (s.registers rd) k) k) s t) x from to
+  pub shifts_out : Then (One (Slli rd r (pos k))) (One (Srli rd rd (pos k))) x from to →
+      Leads 2 Always (λ s t. Sets rd (shifted_right (shifted_left (s.registers r) k) k) s t) x from to
   shifts_out does =
-      runs_of (leads_weaker
+      leads_weaker
       (leads_then
-      (leads_set x (Slli rd rd (pos k)) from does.0 rd (λ g. shifted_left (g rd) k) written (λ g pc. rw (amount_is k small) refl) does.1)
+      (leads_set x (Slli rd r (pos k)) from does.0 rd (λ g. shifted_left (g r) k) written (λ g pc. rw (amount_is k small) refl) does.1)
       (runs_of (leads_set x (Srli rd rd (pos k)) does.0 to rd (λ g. shifted_right (g rd) k) written (λ g pc. rw (amount_is k small) refl) does.2))
       (λ s t sound also p q. tt))
       (omega arith) (λ s sound p. tt)
-      (λ s u sound p both. same_set rd (shifted_left (s.registers rd) k) (shifted_right (shifted_left (s.registers rd) k) k) s both.0 u both.1
-      (set_as rd (shifted_right (both.0.registers rd) k) (shifted_right (shifted_left (s.registers rd) k) k) both.0 u (ap (λ (n : ℕ). shifted_right n k) both.1.given) both.2)))
+      (λ s u sound p both. same_set rd (shifted_left (s.registers r) k) (shifted_right (shifted_left (s.registers r) k) k) s both.0 u both.1
+      (set_as rd (shifted_right (both.0.registers rd) k) (shifted_right (shifted_left (s.registers r) k) k) both.0 u (ap (λ (n : ℕ). shifted_right n k) both.1.given) both.2))
 
   -- and back with copies of the top bit
-  pub shifts_back : Then (One (Slli rd rd (pos k))) (One (Srai rd rd (pos k))) x from to →
-      Runs 0 2 Always (λ s t. Sets rd (shifted_right_signed 64 (shifted_left (s.registers rd) k) k) s t) x from to
+  pub shifts_back : Then (One (Slli rd r (pos k))) (One (Srai rd rd (pos k))) x from to →
+      Leads 2 Always (λ s t. Sets rd (shifted_right_signed 64 (shifted_left (s.registers r) k) k) s t) x from to
   shifts_back does =
-      runs_of (leads_weaker
+      leads_weaker
       (leads_then
-      (leads_set x (Slli rd rd (pos k)) from does.0 rd (λ g. shifted_left (g rd) k) written (λ g pc. rw (amount_is k small) refl) does.1)
+      (leads_set x (Slli rd r (pos k)) from does.0 rd (λ g. shifted_left (g r) k) written (λ g pc. rw (amount_is k small) refl) does.1)
       (runs_of (leads_set x (Srai rd rd (pos k)) does.0 to rd (λ g. shifted_right_signed 64 (g rd) k) written (λ g pc. rw (amount_is k small) refl) does.2))
       (λ s t sound also p q. tt))
       (omega arith) (λ s sound p. tt)
-      (λ s u sound p both. same_set rd (shifted_left (s.registers rd) k) (shifted_right_signed 64 (shifted_left (s.registers rd) k) k) s both.0 u both.1
-      (set_as rd (shifted_right_signed 64 (both.0.registers rd) k) (shifted_right_signed 64 (shifted_left (s.registers rd) k) k) both.0 u (ap (λ (n : ℕ). shifted_right_signed 64 n k) both.1.given) both.2)))
+      (λ s u sound p both. same_set rd (shifted_left (s.registers r) k) (shifted_right_signed 64 (shifted_left (s.registers r) k) k) s both.0 u both.1
+      (set_as rd (shifted_right_signed 64 (both.0.registers rd) k) (shifted_right_signed 64 (shifted_left (s.registers r) k) k) both.0 u (ap (λ (n : ℕ). shifted_right_signed 64 n k) both.1.given) both.2))
+
+-- two shifts do both, at less than 64 bits
+pub two_shifts : (w : Width) → w ≢ W64 → shifts_of w ≡ 2
+two_shifts W8 other = refl
+two_shifts W16 other = refl
+two_shifts W32 other = refl
+two_shifts W64 other = absurd (other refl)
 
 -- ---- cuts
 
-cut_by : (w : Width) (k rd : ℕ) → ((a : ℕ) → shifted_right (shifted_left a k) k ≡ low_bits w a) → (x : Code) (from to : ℕ) →
-    Runs 0 2 Always (λ s t. Sets rd (shifted_right (shifted_left (s.registers rd) k) k) s t) x from to → Runs 0 2 Always (Narrows w rd) x from to
-cut_by w k rd is x from to runs =
-    runs_weaker runs (omega arith) (omega arith) (λ s sound p. tt)
-    (λ s t sound p sets. set_as rd (shifted_right (shifted_left (s.registers rd) k) k) (low_bits w (s.registers rd)) s t (is (s.registers rd)) sets)
+cut_8 : (a : ℕ) → shifted_right (shifted_left a 56) 56 ≡ low_bits W8 a
+cut_8 a = omega arith
 
-module _ (x : Code) (rd from to : ℕ) where
-  pub cuts_8 : Runs 0 2 Always (λ s t. Sets rd (shifted_right (shifted_left (s.registers rd) 56) 56) s t) x from to → Runs 0 2 Always (Narrows W8 rd) x from to
-  cuts_8 runs = cut_by W8 56 rd (λ a. omega arith) x from to runs
+cut_16 : (a : ℕ) → shifted_right (shifted_left a 48) 48 ≡ low_bits W16 a
+cut_16 a = omega arith
 
-  pub cuts_16 : Runs 0 2 Always (λ s t. Sets rd (shifted_right (shifted_left (s.registers rd) 48) 48) s t) x from to → Runs 0 2 Always (Narrows W16 rd) x from to
-  cuts_16 runs = cut_by W16 48 rd (λ a. omega arith) x from to runs
+cut_32 : (a : ℕ) → shifted_right (shifted_left a 32) 32 ≡ low_bits W32 a
+cut_32 a = omega arith
 
-  pub cuts_32 : Runs 0 2 Always (λ s t. Sets rd (shifted_right (shifted_left (s.registers rd) 32) 32) s t) x from to → Runs 0 2 Always (Narrows W32 rd) x from to
-  cuts_32 runs = cut_by W32 32 rd (λ a. omega arith) x from to runs
+cut_64 : (a : ℕ) → a < 2 ^ 64 → a ≡ low_bits W64 a
+cut_64 a h = omega arith
 
-  pub cuts_none : from ≡ to → Runs 0 0 Always (Narrows W64 rd) x from to
-  cuts_none is = runs_none is (λ s sound p. record { given = whole (s.registers rd) (sound.registers rd); others = λ r h. refl; memory = refl })
-    where
-      whole : (a : ℕ) → a < 2 ^ 64 → a ≡ low_bits W64 a
-      whole a h = omega arith
+-- a register gets the low bits of another
+abbrev pub Cuts : Width → ℕ → ℕ → Code → ℕ → ℕ → Type 0
+Cuts w rd r x = Leads 2 Always (λ s t. Sets rd (low_bits w (s.registers r)) s t) x
+
+-- by a shift out and back, or by a copy
+cuts_by : (x : Code) (from to rd r : ℕ) (w : Width) (k : ℕ) → ((a : ℕ) → shifted_right (shifted_left a k) k ≡ low_bits w a) →
+    Leads 2 Always (λ s t. Sets rd (shifted_right (shifted_left (s.registers r) k) k) s t) x from to → Cuts w rd r x from to
+cuts_by x from to rd r w k is leads =
+    leads_weaker leads (omega arith) (λ s sound p. tt)
+    (λ s t sound p sets. set_as rd (shifted_right (shifted_left (s.registers r) k) k) (low_bits w (s.registers r)) s t (is (s.registers r)) sets)
+
+module _ (x : Code) (from to rd r : ℕ) where
+  pub cuts_8 : Leads 2 Always (λ s t. Sets rd (shifted_right (shifted_left (s.registers r) 56) 56) s t) x from to → Cuts W8 rd r x from to
+  cuts_8 leads = cuts_by x from to rd r W8 56 cut_8 leads
+
+  pub cuts_16 : Leads 2 Always (λ s t. Sets rd (shifted_right (shifted_left (s.registers r) 48) 48) s t) x from to → Cuts W16 rd r x from to
+  cuts_16 leads = cuts_by x from to rd r W16 48 cut_16 leads
+
+  pub cuts_32 : Leads 2 Always (λ s t. Sets rd (shifted_right (shifted_left (s.registers r) 32) 32) s t) x from to → Cuts W32 rd r x from to
+  cuts_32 leads = cuts_by x from to rd r W32 32 cut_32 leads
+
+  pub cuts_64 : rd ≢ 0 → One (Addi rd r (pos 0)) x from to → Cuts W64 rd r x from to
+  cuts_64 written does =
+      leads_weaker (copies x rd r from to written does) (omega arith) (λ s sound p. tt)
+      (λ s t sound p sets. set_as rd (s.registers r) (low_bits W64 (s.registers r)) s t (cut_64 (s.registers r) (sound.registers r)) sets)
+
+pub cuts_none : (x : Code) (rd from to : ℕ) → from ≡ to → Runs 0 0 Always (Narrows W64 rd) x from to
+cuts_none x rd from to is = runs_none is (λ s sound p. record { given = cut_64 (s.registers rd) (sound.registers rd); others = λ r h. refl; memory = refl })
 
 -- ---- words with their sign
 
@@ -82,24 +108,33 @@ extended_16 a h = grind (arith, ints, nat_tests)
 extended_32 : (a : ℕ) → IsWord W32 a → shifted_right_signed 64 (shifted_left a 32) 32 ≡ sign_extended W32 W64 a
 extended_32 a h = grind (arith, ints, nat_tests)
 
-extended_64 : (a : ℕ) → IsWord W64 a → a ≡ sign_extended W64 W64 a
+pub extended_64 : (a : ℕ) → IsWord W64 a → a ≡ sign_extended W64 W64 a
 extended_64 a h = grind (arith, ints, nat_tests)
 
-extend_by : (w : Width) (k rd : ℕ) → ((a : ℕ) → IsWord w a → shifted_right_signed 64 (shifted_left a k) k ≡ sign_extended w W64 a) → (x : Code) (from to : ℕ) →
-    Runs 0 2 Always (λ s t. Sets rd (shifted_right_signed 64 (shifted_left (s.registers rd) k) k) s t) x from to → Runs 0 2 (HasWord w rd) (Extends w rd) x from to
-extend_by w k rd is x from to runs =
-    runs_weaker runs (omega arith) (omega arith) (λ s sound word. tt)
-    (λ s t sound word sets. set_as rd (shifted_right_signed 64 (shifted_left (s.registers rd) k) k) (sign_extended w W64 (s.registers rd)) s t (is (s.registers rd) word) sets)
+-- a register gets a word of another with its sign
+abbrev pub SignsFrom : Width → ℕ → ℕ → Code → ℕ → ℕ → Type 0
+SignsFrom w rd r x = Leads 2 (HasWord w r) (λ s t. Sets rd (sign_extended w W64 (s.registers r)) s t) x
 
-module _ (x : Code) (rd from to : ℕ) where
-  pub extends_8 : Runs 0 2 Always (λ s t. Sets rd (shifted_right_signed 64 (shifted_left (s.registers rd) 56) 56) s t) x from to → Runs 0 2 (HasWord W8 rd) (Extends W8 rd) x from to
-  extends_8 runs = extend_by W8 56 rd extended_8 x from to runs
+extends_by : (x : Code) (from to rd r : ℕ) (w : Width) (k : ℕ) → ((a : ℕ) → IsWord w a → shifted_right_signed 64 (shifted_left a k) k ≡ sign_extended w W64 a) →
+    Leads 2 Always (λ s t. Sets rd (shifted_right_signed 64 (shifted_left (s.registers r) k) k) s t) x from to → SignsFrom w rd r x from to
+extends_by x from to rd r w k is leads =
+    leads_weaker leads (omega arith) (λ s sound word. tt)
+    (λ s t sound word sets. set_as rd (shifted_right_signed 64 (shifted_left (s.registers r) k) k) (sign_extended w W64 (s.registers r)) s t (is (s.registers r) word) sets)
 
-  pub extends_16 : Runs 0 2 Always (λ s t. Sets rd (shifted_right_signed 64 (shifted_left (s.registers rd) 48) 48) s t) x from to → Runs 0 2 (HasWord W16 rd) (Extends W16 rd) x from to
-  extends_16 runs = extend_by W16 48 rd extended_16 x from to runs
+module _ (x : Code) (from to rd r : ℕ) where
+  pub extends_8 : Leads 2 Always (λ s t. Sets rd (shifted_right_signed 64 (shifted_left (s.registers r) 56) 56) s t) x from to → SignsFrom W8 rd r x from to
+  extends_8 leads = extends_by x from to rd r W8 56 extended_8 leads
 
-  pub extends_32 : Runs 0 2 Always (λ s t. Sets rd (shifted_right_signed 64 (shifted_left (s.registers rd) 32) 32) s t) x from to → Runs 0 2 (HasWord W32 rd) (Extends W32 rd) x from to
-  extends_32 runs = extend_by W32 32 rd extended_32 x from to runs
+  pub extends_16 : Leads 2 Always (λ s t. Sets rd (shifted_right_signed 64 (shifted_left (s.registers r) 48) 48) s t) x from to → SignsFrom W16 rd r x from to
+  extends_16 leads = extends_by x from to rd r W16 48 extended_16 leads
 
-  pub extends_none : from ≡ to → Runs 0 0 (HasWord W64 rd) (Extends W64 rd) x from to
-  extends_none is = runs_none is (λ s sound word. record { given = extended_64 (s.registers rd) word; others = λ r h. refl; memory = refl })
+  pub extends_32 : Leads 2 Always (λ s t. Sets rd (shifted_right_signed 64 (shifted_left (s.registers r) 32) 32) s t) x from to → SignsFrom W32 rd r x from to
+  extends_32 leads = extends_by x from to rd r W32 32 extended_32 leads
+
+  pub extends_64 : rd ≢ 0 → One (Addi rd r (pos 0)) x from to → SignsFrom W64 rd r x from to
+  extends_64 written does =
+      leads_weaker (copies x rd r from to written does) (omega arith) (λ s sound word. tt)
+      (λ s t sound word sets. set_as rd (s.registers r) (sign_extended W64 W64 (s.registers r)) s t (extended_64 (s.registers r) word) sets)
+
+pub extends_none : (x : Code) (rd from to : ℕ) → from ≡ to → Runs 0 0 (HasWord W64 rd) (Extends W64 rd) x from to
+extends_none x rd from to is = runs_none is (λ s sound word. record { given = extended_64 (s.registers rd) word; others = λ r h. refl; memory = refl })

@@ -1,6 +1,5 @@
 -- Where numbers are put: places of the activation, and global registers, in code whose labels stand for these numbers.
 use Rattle.std.specs.Prelude.{ℕ, List}
-use Rattle.cmm_abi.specs.declared.registers.TheConstants.{FIRST_SCRATCH}
 use Rattle.rv_asm.specs.Assembly.{IsLabel}
 use Rattle.rv_asm.specs.Parts.{Code}
 use Rattle.rv_asm.specs.declared.part.Meaning.{Meaning}
@@ -26,6 +25,6 @@ abbrev pub PutsTo : (ℕ → ℕ) → Destination → ℕ → State → State �
 PutsTo at (Place p) n s t = Puts p n s t
 PutsTo at (Register l) n s t = PutsGlobal (at l.number) n s t
 
--- the number in register 5 is put there
-abbrev pub PutsFirst : Destination → Code → ℕ → ℕ → Type 0
-PutsFirst to x = Leads 4 (CanPut x.at to) (λ s t. PutsTo x.at to (s.registers FIRST_SCRATCH) s t) x
+-- the number in a register is put there
+abbrev pub PutsFrom : ℕ → Destination → Code → ℕ → ℕ → Type 0
+PutsFrom r to x = Leads 4 (CanPut x.at to) (λ s t. PutsTo x.at to (s.registers r) s t) x

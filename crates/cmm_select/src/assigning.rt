@@ -13,10 +13,10 @@ ghost use Rattle.cmm_select.specs.inside.Wide.{is_plain};
 
 use crate::comparing::{compare, ready};
 use crate::destination::{Destination, put, read_global};
-use crate::in_place::{finish, locate_both, target};
+use crate::in_place::{finish, home_of, locate, locate_both, target};
 use crate::operand::{Operand, bring_both, bring_operand};
-use crate::operator::{is_plain, narrow, operate, plain};
-use crate::unary::{convert, operate_on_one};
+use crate::operator::{cut, is_plain, narrow, operate, plain, sign};
+use crate::unary::operate_on_one;
 use cmm_abi::registers::FIRST_SCRATCH;
 use cmm_words::{Cmp, Op1, Op2, Width};
 use rv_asm::{Asm, Label};
@@ -29,9 +29,17 @@ pub fn assign_copy(asm: &mut Asm, from: &Operand, to: &Destination) -> Result<()
     ensures copies { OnOk result (Adds (most_for from.now + 4) asm.old.parts asm.new.parts (Copies (most_for from.now + 4) from.now to.now)) }
     ensures labels { asm.new.labels ≡ asm.old.labels }
 {
-    bring_operand(asm, from, FIRST_SCRATCH)?;
-    put(asm, to)?;
-    Ok(())
+    match home_of(from) {
+        Some(register) => {
+            put(asm, register, to)?;
+            Ok(())
+        }
+        None => {
+            bring_operand(asm, from, target(to))?;
+            finish(asm, to)?;
+            Ok(())
+        }
+    }
 }
 
 /// Assigns what a global register has, whose offset in the region a label stands for.
@@ -41,8 +49,8 @@ pub fn assign_global(asm: &mut Asm, from: Label, to: &Destination) -> Result<(),
     ensures copies { OnOk result (Adds 8 asm.old.parts asm.new.parts (λ x. Leads 8 (CanCopyGlobal x.at (x.at from.number) to.now) (λ s t. PutsTo x.at to.now (global_at (x.at from.number) s) s t) x)) }
     ensures labels { asm.new.labels ≡ asm.old.labels }
 {
-    read_global(asm, from)?;
-    put(asm, to)?;
+    read_global(asm, from, target(to))?;
+    finish(asm, to)?;
     Ok(())
 }
 
@@ -59,9 +67,9 @@ pub fn assign_unary(
     ensures assigns { OnOk result (Adds (most_for operand.now + shifts_of width + 5) asm.old.parts asm.new.parts (AssignsOne (most_for operand.now + shifts_of width + 5) width (value1 operator width) operand.now to.now)) }
     ensures labels { asm.new.labels ≡ asm.old.labels }
 {
-    bring_operand(asm, operand, FIRST_SCRATCH)?;
-    operate_on_one(asm, operator, width)?;
-    put(asm, to)?;
+    let source = locate(asm, operand, FIRST_SCRATCH)?;
+    operate_on_one(asm, operator, width, target(to), source)?;
+    finish(asm, to)?;
     Ok(())
 }
 
@@ -78,10 +86,20 @@ pub fn assign_extended(
     ensures assigns { OnOk result (Adds (most_for operand.now + shifts_of from + shifts_of width + 4) asm.old.parts asm.new.parts (AssignsOne (most_for operand.now + shifts_of from + shifts_of width + 4) from (sign_extended from width) operand.now to.now)) }
     ensures labels { asm.new.labels ≡ asm.old.labels }
 {
-    bring_operand(asm, operand, FIRST_SCRATCH)?;
-    convert(asm, from, width)?;
-    put(asm, to)?;
-    Ok(())
+    match from {
+        Width::W64 => {
+            assign_low(asm, from, width, operand, to)?;
+            Ok(())
+        }
+        _ => {
+            let source = locate(asm, operand, FIRST_SCRATCH)?;
+            let rd = target(to);
+            sign(asm, from, rd, source)?;
+            narrow(asm, width, rd)?;
+            finish(asm, to)?;
+            Ok(())
+        }
+    }
 }
 
 /// Assigns the low bits of a word of the width `from`, as many as another width has.
@@ -97,10 +115,18 @@ pub fn assign_low(
     ensures assigns { OnOk result (Adds (most_for operand.now + shifts_of width + 4) asm.old.parts asm.new.parts (AssignsOne (most_for operand.now + shifts_of width + 4) from (low_bits width) operand.now to.now)) }
     ensures labels { asm.new.labels ≡ asm.old.labels }
 {
-    bring_operand(asm, operand, FIRST_SCRATCH)?;
-    narrow(asm, width, FIRST_SCRATCH)?;
-    put(asm, to)?;
-    Ok(())
+    match width {
+        Width::W64 => {
+            assign_copy(asm, operand, to)?;
+            Ok(())
+        }
+        _ => {
+            let source = locate(asm, operand, FIRST_SCRATCH)?;
+            cut(asm, width, target(to), source)?;
+            finish(asm, to)?;
+            Ok(())
+        }
+    }
 }
 
 /// Assigns what an operator gives on two words of a width.
@@ -124,7 +150,7 @@ pub fn assign_binary(
     }
     bring_both(asm, left, right)?;
     operate(asm, operator, width)?;
-    put(asm, to)?;
+    put(asm, FIRST_SCRATCH, to)?;
     Ok(())
 }
 

@@ -6,10 +6,11 @@ ghost use Rattle.rv_table.specs.Words.{sum};
 ghost use Rattle.cmm_effects.specs.Accesses.{CanReachGlobal, PutsGlobal, global_at};
 ghost use Rattle.cmm_effects.specs.Changes.{Sets};
 ghost use Rattle.cmm_effects.specs.Pieces.{Adds, Always, Leads};
-ghost use Rattle.cmm_select.specs.Destinations.{IsDestination, PutsFirst};
+ghost use Rattle.cmm_select.specs.Destinations.{IsDestination, PutsFrom};
+ghost use Rattle.cmm_select.specs.inside.InPlace.{IsTarget};
 
 use crate::place::write;
-use cmm_abi::registers::{FIRST_SCRATCH, HELPER, REGION, SECOND_SCRATCH};
+use cmm_abi::registers::{FIRST_SCRATCH, HELPER, REGION};
 use cmm_chain::Location;
 use rv_asm::{Asm, Label};
 use rv_table::Instr;
@@ -24,19 +25,21 @@ pub enum Destination {
     Register(Label),
 }
 
-/// Puts the number in register 5 where it is to be.
-pub fn put(asm: &mut Asm, to: &Destination) -> Result<(), AllocError>
-    requires { IsDestination asm.old.labels to.now }
-    ensures puts { OnOk result (Adds 4 asm.old.parts asm.new.parts (PutsFirst to.now)) }
+/// Puts what a register other than 6 has where it is to be.
+pub(crate) fn put(asm: &mut Asm, register: u8, to: &Destination) -> Result<(), AllocError>
+    requires destination { IsDestination asm.old.labels to.now }
+    requires register { register < 32 }
+    requires other { register ≢ HELPER }
+    ensures puts { OnOk result (Adds 4 asm.old.parts asm.new.parts (PutsFrom register to.now)) }
     ensures labels { asm.new.labels ≡ asm.old.labels }
 {
     match *to {
         Destination::Place(place) => {
-            write(asm, FIRST_SCRATCH, place)?;
+            write(asm, register, place)?;
             Ok(())
         }
         Destination::Register(of) => {
-            put_global(asm, FIRST_SCRATCH, of)?;
+            put_global(asm, register, of)?;
             Ok(())
         }
     }
@@ -59,16 +62,17 @@ pub fn put_global(asm: &mut Asm, register: u8, of: Label) -> Result<(), AllocErr
     Ok(())
 }
 
-/// Gives register 5 what a global register has.
-pub fn read_global(asm: &mut Asm, of: Label) -> Result<(), AllocError>
-    requires { IsLabel asm.old.labels of }
-    ensures reads { OnOk result (Adds 4 asm.old.parts asm.new.parts (λ x. Leads 4 (CanReachGlobal (x.at of.number)) (λ s t. Sets FIRST_SCRATCH (global_at (x.at of.number) s) s t) x)) }
+/// Gives register `rd` what a global register has.
+pub(crate) fn read_global(asm: &mut Asm, of: Label, rd: u8) -> Result<(), AllocError>
+    requires label { IsLabel asm.old.labels of }
+    requires register { IsTarget rd }
+    ensures reads { OnOk result (Adds 4 asm.old.parts asm.new.parts (λ x. Leads 4 (CanReachGlobal (x.at of.number)) (λ s t. Sets rd (global_at (x.at of.number) s) s t) x)) }
     ensures labels { asm.new.labels ≡ asm.old.labels }
 {
-    find_global(asm, of, FIRST_SCRATCH)?;
+    find_global(asm, of, rd)?;
     asm.emit(Instr::Ld {
-        rd: FIRST_SCRATCH,
-        rs1: FIRST_SCRATCH,
+        rd,
+        rs1: rd,
         imm: 0,
     })?;
     Ok(())
@@ -78,7 +82,7 @@ pub fn read_global(asm: &mut Asm, of: Label) -> Result<(), AllocError>
 fn find_global(asm: &mut Asm, of: Label, rd: u8) -> Result<(), AllocError>
     requires label { IsLabel asm.old.labels of }
     requires low { FIRST_SCRATCH ≤ rd }
-    requires high { rd ≤ SECOND_SCRATCH }
+    requires high { rd < 32 }
     ensures sets { OnOk result (Adds 3 asm.old.parts asm.new.parts (λ x. Leads 3 Always (λ s t. Sets rd (sum (x.at of.number) (s.registers REGION)) s t) x)) }
     ensures labels { asm.new.labels ≡ asm.old.labels }
 {

@@ -39,8 +39,7 @@ pub fn get_byte(asm: &mut Asm, to: &Destination) -> Result<(), AllocError>
 {
     asm.emit(choose(Request::GetByte))?;
     asm.emit(Instr::Ecall)?;
-    asm.emit(copy(FIRST_SCRATCH, REQUEST_VALUE))?;
-    put(asm, to)?;
+    put(asm, REQUEST_VALUE, to)?;
     Ok(())
 }
 

@@ -23,7 +23,7 @@ pub(crate) struct Pair {
 }
 
 /// The register in which an operand is, if it is in one: that of its place, or the one that has 0.
-fn home_of(from: &Operand) -> Option<u8>
+pub(crate) fn home_of(from: &Operand) -> Option<u8>
     ensures { result ≡ home_of from.now }
 {
     let Operand::Held(source) = *from else {
@@ -50,6 +50,7 @@ pub(crate) fn locate(asm: &mut Asm, from: &Operand, spare: u8) -> Result<u8, All
     requires beside { spare ≢ HELPER }
     ensures locates { IfOk result (λ r. Adds (most_for from.now) asm.old.parts asm.new.parts (LocatesOperand from.now spare r)) }
     ensures home { IfOk result (IsHome spare) }
+    ensures register { IfOk result (λ r. r < 32) }
     ensures labels { asm.new.labels ≡ asm.old.labels }
 {
     match home_of(from) {
@@ -103,6 +104,6 @@ pub(crate) fn finish(asm: &mut Asm, to: &Destination) -> Result<(), AllocError>
     if target(to) != FIRST_SCRATCH {
         return Ok(());
     }
-    put(asm, to)?;
+    put(asm, FIRST_SCRATCH, to)?;
     Ok(())
 }

@@ -57,15 +57,14 @@ pub use assigning::{
     assign_binary, assign_comparison, assign_copy, assign_extended, assign_global, assign_low,
     assign_unary,
 };
-pub use destination::{Destination, put, put_global, read_global};
+pub use destination::{Destination, put_global};
 pub use going::{decide, go_on, go_to, stop};
 pub use host::{choose, get_byte, put_byte};
 pub use memory::{assign_loaded, store};
 pub use number::{load_constant, load_low};
 pub use operand::{Operand, bring_both, bring_operand};
-pub use operator::{extend, operate};
+pub use operator::operate;
 pub use place::{copy, read, write};
 pub use source::{Source, bring};
 pub use switching::switch;
-pub use unary::{convert, operate_on_one};
 pub use word::{NEAR, restore, save};

@@ -37,7 +37,7 @@ pub fn assign_loaded(
     }
     bring_operand(asm, address, FIRST_SCRATCH)?;
     load_word(asm, width, aligned)?;
-    put(asm, to)?;
+    put(asm, FIRST_SCRATCH, to)?;
     Ok(())
 }
 

@@ -10,7 +10,7 @@ ghost use Rattle.cmm_select.specs.Operands.{most_for_number};
 
 use crate::place::add_to;
 use crate::word::NEAR;
-use cmm_abi::registers::{FIRST_SCRATCH, SECOND_SCRATCH, ZERO};
+use cmm_abi::registers::{FIRST_SCRATCH, ZERO};
 use rv_asm::Asm;
 use rv_table::Instr;
 use std::alloc::AllocError;
@@ -21,10 +21,10 @@ const SHORT: u64 = 0x100_0000_0000;
 /// Numbers below this are loaded by two instructions: 2^31 and half of what an immediate reaches below it.
 const LOW: u64 = 0x7FFF_F800;
 
-/// Gives register `rd`, a scratch register, a number.
+/// Gives register `rd`, a number.
 pub fn load_constant(asm: &mut Asm, number: u64, rd: u8) -> Result<(), AllocError>
     requires low { FIRST_SCRATCH ≤ rd }
-    requires high { rd ≤ SECOND_SCRATCH }
+    requires high { rd < 32 }
     ensures sets { OnOk result (Adds (most_for_number number) asm.old.parts asm.new.parts (Leads (most_for_number number) Always (λ s t. Sets rd number s t))) }
     ensures labels { asm.new.labels ≡ asm.old.labels }
 {
@@ -40,7 +40,7 @@ pub fn load_constant(asm: &mut Asm, number: u64, rd: u8) -> Result<(), AllocErro
 /// rounded. `more` is how many pieces there are at most behind the first, which has 28 bits.
 fn load_rounded(asm: &mut Asm, number: u64, rd: u8, more: u32) -> Result<(), AllocError>
     requires low { FIRST_SCRATCH ≤ rd }
-    requires high { rd ≤ SECOND_SCRATCH }
+    requires high { rd < 32 }
     requires pieces { number ≤ 2 ^ (28 + 12 * more) }
     ensures sets { OnOk result (Adds (2 + 2 * more) asm.old.parts asm.new.parts (Leads (2 + 2 * more) Always (λ s t. Sets rd number s t))) }
     ensures labels { asm.new.labels ≡ asm.old.labels }
@@ -59,10 +59,10 @@ fn load_rounded(asm: &mut Asm, number: u64, rd: u8, more: u32) -> Result<(), All
     Ok(())
 }
 
-/// Gives register `rd`, a scratch register, a number that an upper immediate and a lower one make up.
+/// Gives register `rd`, a number that an upper immediate and a lower one make up.
 pub fn load_low(asm: &mut Asm, number: u64, rd: u8) -> Result<(), AllocError>
     requires low { FIRST_SCRATCH ≤ rd }
-    requires high { rd ≤ SECOND_SCRATCH }
+    requires high { rd < 32 }
     requires near { number + 2048 < 2 ^ 31 }
     ensures sets { OnOk result (Adds 2 asm.old.parts asm.new.parts (Leads 2 Always (λ s t. Sets rd number s t))) }
     ensures labels { asm.new.labels ≡ asm.old.labels }

@@ -21,11 +21,11 @@ pub enum Operand {
     Symbol { of: Label, plus: u64 },
 }
 
-/// Brings an operand into register `rd`, 5 or 7; register 6 may help.
+/// Brings an operand into register `rd`, 5 or more and not 6, which may help.
 pub fn bring_operand(asm: &mut Asm, from: &Operand, rd: u8) -> Result<(), AllocError>
     requires operand { IsOperand asm.old.labels from.now }
     requires low { FIRST_SCRATCH ≤ rd }
-    requires high { rd ≤ SECOND_SCRATCH }
+    requires high { rd < 32 }
     requires beside { rd ≢ HELPER }
     ensures brings { OnOk result (Adds (most_for from.now) asm.old.parts asm.new.parts (BringsOperand from.now rd)) }
     ensures labels { asm.new.labels ≡ asm.old.labels }
@@ -46,7 +46,7 @@ pub fn bring_operand(asm: &mut Asm, from: &Operand, rd: u8) -> Result<(), AllocE
 fn bring_symbol(asm: &mut Asm, of: Label, plus: u64, rd: u8) -> Result<(), AllocError>
     requires label { IsLabel asm.old.labels of }
     requires low { FIRST_SCRATCH ≤ rd }
-    requires high { rd ≤ SECOND_SCRATCH }
+    requires high { rd < 32 }
     requires beside { rd ≢ HELPER }
     ensures brings { OnOk result (Adds 11 asm.old.parts asm.new.parts (BringsOperand (Operand.Symbol of plus) rd)) }
     ensures labels { asm.new.labels ≡ asm.old.labels }

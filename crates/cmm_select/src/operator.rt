@@ -2,6 +2,7 @@
 
 ghost use Rattle.std.specs.Prelude.{◌≡◌, ◌+◌, ◌-◌, ◌*◌, ◌<◌, ◌≤◌, pos, negsuc, IsTrue, OnOk};
 ghost use Rattle.cmm_words.specs.Widths.{bits};
+ghost use Rattle.cmm_words.specs.Words.{low_bits, sign_extended};
 ghost use Rattle.cmm_words.specs.declared.width.Width.TheVariants.{W64};
 ghost use Rattle.rv_table.specs.Table.{IsValid};
 ghost use Rattle.rv_table.specs.Words.{shifted_left, shifted_right, shifted_right_signed};
@@ -12,6 +13,7 @@ ghost use Rattle.cmm_select.specs.Operators.{Extends, HasWord, HaveWords, Narrow
 ghost use Rattle.cmm_select.specs.inside.InPlace.{HaveWordsIn, IsTarget, IsValue, Makes};
 ghost use Rattle.cmm_select.specs.inside.Wide.{direct, is_plain, is_shift, is_signed, method_of};
 
+use crate::place::copy;
 use cmm_abi::registers::{FIRST_SCRATCH, HELPER, SECOND_SCRATCH, ZERO};
 use cmm_words::laws::{divisions_by_each_other, wide_operators};
 use cmm_words::{Op2, Width};
@@ -26,80 +28,119 @@ pub(crate) fn narrow(asm: &mut Asm, width: Width, rd: u8) -> Result<(), AllocErr
     ensures labels { asm.new.labels ≡ asm.old.labels }
 {
     match width {
-        Width::W8 => {
-            shift_out(asm, rd, 56)?;
-            Ok(())
-        }
-        Width::W16 => {
-            shift_out(asm, rd, 48)?;
-            Ok(())
-        }
-        Width::W32 => {
-            shift_out(asm, rd, 32)?;
-            Ok(())
-        }
         Width::W64 => Ok(()),
+        _ => {
+            cut(asm, width, rd, rd)?;
+            Ok(())
+        }
     }
 }
 
-/// Gives the word in register `rd`, one of 5 to 7, its sign: copies of its top bit above it.
-pub fn extend(asm: &mut Asm, width: Width, rd: u8) -> Result<(), AllocError>
-    requires low { FIRST_SCRATCH ≤ rd }
-    requires high { rd ≤ SECOND_SCRATCH }
-    ensures extends { OnOk result (Adds (shifts_of width) asm.old.parts asm.new.parts (Runs 0 (shifts_of width) (HasWord width rd) (Extends width rd))) }
+/// Gives register `rd` the low bits of the number in register `from`, as many as a width has.
+pub(crate) fn cut(asm: &mut Asm, width: Width, rd: u8, from: u8) -> Result<(), AllocError>
+    requires register { IsTarget rd }
+    requires from { from < 32 }
+    ensures cuts { OnOk result (Adds 2 asm.old.parts asm.new.parts (Leads 2 Always (λ s t. Sets rd (low_bits width (s.registers from)) s t))) }
     ensures labels { asm.new.labels ≡ asm.old.labels }
 {
     match width {
         Width::W8 => {
-            shift_back(asm, rd, 56)?;
+            shift_out(asm, rd, from, 56)?;
             Ok(())
         }
         Width::W16 => {
-            shift_back(asm, rd, 48)?;
+            shift_out(asm, rd, from, 48)?;
             Ok(())
         }
         Width::W32 => {
-            shift_back(asm, rd, 32)?;
+            shift_out(asm, rd, from, 32)?;
             Ok(())
         }
-        Width::W64 => Ok(()),
+        Width::W64 => {
+            asm.emit(copy(rd, from))?;
+            Ok(())
+        }
     }
 }
 
-/// Shifts register `rd` to the left, and back with zeros.
-fn shift_out(asm: &mut Asm, rd: u8, amount: u8) -> Result<(), AllocError>
-    requires amount { amount < 64 }
-    requires register { IsTarget rd }
-    ensures shifts { OnOk result (Adds 2 asm.old.parts asm.new.parts (Runs 0 2 Always (λ s t. Sets rd (shifted_right (shifted_left (s.registers rd) amount) amount) s t))) }
+/// Gives the word in register `rd` its sign: copies of its top bit above it.
+pub(crate) fn extend(asm: &mut Asm, width: Width, rd: u8) -> Result<(), AllocError>
+    requires { IsTarget rd }
+    ensures extends { OnOk result (Adds (shifts_of width) asm.old.parts asm.new.parts (Runs 0 (shifts_of width) (HasWord width rd) (Extends width rd))) }
     ensures labels { asm.new.labels ≡ asm.old.labels }
 {
-    asm.emit(shift_left(rd, amount))?;
+    match width {
+        Width::W64 => Ok(()),
+        _ => {
+            sign(asm, width, rd, rd)?;
+            Ok(())
+        }
+    }
+}
+
+/// Gives register `rd` the word in register `from` with its sign.
+pub(crate) fn sign(asm: &mut Asm, width: Width, rd: u8, from: u8) -> Result<(), AllocError>
+    requires register { IsTarget rd }
+    requires from { from < 32 }
+    ensures extends { OnOk result (Adds 2 asm.old.parts asm.new.parts (Leads 2 (HasWord width from) (λ s t. Sets rd (sign_extended width W64 (s.registers from)) s t))) }
+    ensures labels { asm.new.labels ≡ asm.old.labels }
+{
+    match width {
+        Width::W8 => {
+            shift_back(asm, rd, from, 56)?;
+            Ok(())
+        }
+        Width::W16 => {
+            shift_back(asm, rd, from, 48)?;
+            Ok(())
+        }
+        Width::W32 => {
+            shift_back(asm, rd, from, 32)?;
+            Ok(())
+        }
+        Width::W64 => {
+            asm.emit(copy(rd, from))?;
+            Ok(())
+        }
+    }
+}
+
+/// Shifts what register `from` has to the left, and back with zeros.
+fn shift_out(asm: &mut Asm, rd: u8, from: u8, amount: u8) -> Result<(), AllocError>
+    requires amount { amount < 64 }
+    requires register { IsTarget rd }
+    requires from { from < 32 }
+    ensures shifts { OnOk result (Adds 2 asm.old.parts asm.new.parts (Leads 2 Always (λ s t. Sets rd (shifted_right (shifted_left (s.registers from) amount) amount) s t))) }
+    ensures labels { asm.new.labels ≡ asm.old.labels }
+{
+    asm.emit(shift_left(rd, from, amount))?;
     asm.emit(shift_right(rd, amount))?;
     Ok(())
 }
 
-/// Shifts register `rd` to the left, and back with copies of the top bit.
-fn shift_back(asm: &mut Asm, rd: u8, amount: u8) -> Result<(), AllocError>
+/// Shifts what register `from` has to the left, and back with copies of the top bit.
+fn shift_back(asm: &mut Asm, rd: u8, from: u8, amount: u8) -> Result<(), AllocError>
     requires amount { amount < 64 }
-    requires low { FIRST_SCRATCH ≤ rd }
-    requires high { rd ≤ SECOND_SCRATCH }
-    ensures shifts { OnOk result (Adds 2 asm.old.parts asm.new.parts (Runs 0 2 Always (λ s t. Sets rd (shifted_right_signed 64 (shifted_left (s.registers rd) amount) amount) s t))) }
+    requires register { IsTarget rd }
+    requires from { from < 32 }
+    ensures shifts { OnOk result (Adds 2 asm.old.parts asm.new.parts (Leads 2 Always (λ s t. Sets rd (shifted_right_signed 64 (shifted_left (s.registers from) amount) amount) s t))) }
     ensures labels { asm.new.labels ≡ asm.old.labels }
 {
-    asm.emit(shift_left(rd, amount))?;
+    asm.emit(shift_left(rd, from, amount))?;
     asm.emit(shift_right_signed(rd, amount))?;
     Ok(())
 }
 
-fn shift_left(rd: u8, amount: u8) -> Instr
+fn shift_left(rd: u8, rs1: u8, amount: u8) -> Instr
     requires register { rd < 32 }
+    requires from { rs1 < 32 }
     requires amount { amount < 64 }
-    ensures is { result ≡ Slli rd rd (pos amount) }
+    ensures is { result ≡ Slli rd rs1 (pos amount) }
     ensures valid { IsValid result }
 {
     Instr::Slli {
         rd,
-        rs1: rd,
+        rs1,
         imm: i32::from(amount),
     }
 }

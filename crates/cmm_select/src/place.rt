@@ -7,17 +7,17 @@ ghost use Rattle.cmm_effects.specs.Changes.{CanReach, IsPlace, Puts, Sets, read_
 ghost use Rattle.cmm_effects.specs.Pieces.{Adds, Leads};
 
 use crate::word::{NEAR, restore, save};
-use cmm_abi::registers::{FIRST_SCRATCH, HELPER, SECOND_SCRATCH};
+use cmm_abi::registers::{FIRST_SCRATCH, HELPER};
 use cmm_chain::Location;
 use rv_asm::Asm;
 use rv_table::Instr;
 use std::alloc::AllocError;
 
-/// Brings what a place has into register `rd`, a scratch register.
+/// Brings what a place has into register `rd`.
 pub fn read(asm: &mut Asm, from: Location, rd: u8) -> Result<(), AllocError>
     requires place { IsPlace from }
     requires low { FIRST_SCRATCH ≤ rd }
-    requires high { rd ≤ SECOND_SCRATCH }
+    requires high { rd < 32 }
     ensures reads { OnOk result (Adds 3 asm.old.parts asm.new.parts (Leads 3 (CanReach from) (λ s t. Sets rd (read_at from s) s t))) }
     ensures labels { asm.new.labels ≡ asm.old.labels }
 {

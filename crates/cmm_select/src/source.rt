@@ -9,7 +9,7 @@ ghost use Rattle.cmm_select.specs.Sources.{CanBring, IsSource, brought};
 use crate::number::{add_rest, load_constant};
 use crate::place::{add_to, read};
 use crate::word::{NEAR, approach};
-use cmm_abi::registers::{FIRST_SCRATCH, FRAME, SECOND_SCRATCH};
+use cmm_abi::registers::{FIRST_SCRATCH, FRAME};
 use cmm_chain::Location;
 use rv_asm::Asm;
 use std::alloc::AllocError;
@@ -25,11 +25,11 @@ pub enum Source {
     Address(u32),
 }
 
-/// Brings an operand into register `rd`, a scratch register.
+/// Brings an operand into register `rd`.
 pub fn bring(asm: &mut Asm, from: Source, rd: u8) -> Result<(), AllocError>
     requires source { IsSource from }
     requires low { FIRST_SCRATCH ≤ rd }
-    requires high { rd ≤ SECOND_SCRATCH }
+    requires high { rd < 32 }
     ensures brings { OnOk result (Adds (most_for_source from) asm.old.parts asm.new.parts (Leads (most_for_source from) (CanBring from) (λ s t. Sets rd (brought from s) s t))) }
     ensures labels { asm.new.labels ≡ asm.old.labels }
 {
@@ -53,7 +53,7 @@ pub fn bring(asm: &mut Asm, from: Source, rd: u8) -> Result<(), AllocError>
 pub(crate) fn address(asm: &mut Asm, offset: u32, rd: u8) -> Result<(), AllocError>
     requires frame { offset < 2 ^ 21 }
     requires low { FIRST_SCRATCH ≤ rd }
-    requires high { rd ≤ SECOND_SCRATCH }
+    requires high { rd < 32 }
     ensures brings { OnOk result (Adds 4 asm.old.parts asm.new.parts (Leads 4 (CanBring (Source.Address offset)) (λ s t. Sets rd (brought (Source.Address offset) s) s t))) }
     ensures labels { asm.new.labels ≡ asm.old.labels }
 {

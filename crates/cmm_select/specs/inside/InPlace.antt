@@ -1,5 +1,5 @@
 -- Operands where they are, and results where they are to be.
-use Rattle.std.specs.Prelude.{◌≡◌, ◌⊎◌, ℕ, ◌+◌, ◌<◌, ◌==◌, ◌||◌, Bool, true, false, Option, Some, None, if◌then◌else◌}
+use Rattle.std.specs.Prelude.{◌≡◌, ◌≢◌, ◌⊎◌, ℕ, ◌+◌, ◌<◌, ◌≤◌, ◌==◌, ◌||◌, Bool, true, false, Option, Some, None, if◌then◌else◌}
 use Rattle.cmm_abi.specs.Registers.{is_scratch}
 use Rattle.cmm_abi.specs.declared.registers.TheConstants.{FIRST_SCRATCH, HELPER, SECOND_SCRATCH, ZERO}
 use Rattle.cmm_words.specs.Widths.{IsWord}
@@ -39,9 +39,9 @@ target_of _ = FIRST_SCRATCH
 abbrev pub IsHome : ℕ → ℕ → Type 0
 IsHome spare r = (r ≡ spare) ⊎ ((is_scratch r ≡ false) × (r < 32))
 
--- one in which a number may be made
+-- one in which a number may be made: none that has one meaning wherever code runs, and not the one that helps
 abbrev pub IsTarget : ℕ → Type 0
-IsTarget r = (0 < r) × (r < 32)
+IsTarget r = (FIRST_SCRATCH ≤ r) × (r < 32) × (r ≢ HELPER)
 
 -- ---- operands
 

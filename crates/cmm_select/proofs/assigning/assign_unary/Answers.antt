@@ -7,7 +7,7 @@ use Rattle.cmm_select.proofs.assigning.assign_unary.Goals as goal
 pub returns-clause-assigns : goal.returns-clause-assigns
 returns-clause-assigns c =
     let w = c.args.width in
-    adds_weaker (adds_then c.in_ok-bring_operand.ensures.brings (adds_then c.in_ok-operate_on_one.ensures.operates c.in_ok-put.ensures.puts)) (omega arith)
+    adds_weaker (adds_then c.in_ok-source.ensures.locates (adds_then c.in_ok-operate_on_one.ensures.operates c.in_ok-finish.ensures.finishes)) (omega arith)
     (λ x from end does. leads_weaker
-    (assigns_one x c.args.to.now from end w (value1 c.args.operator w) c.args.operand.now (λ s t q. q.given) (λ s t q. q.keeps) does)
+    (assigns_one x c.args.to.now from end w (value1 c.args.operator w) c.args.operand.now c.target.result c.in_ok-source.source c.target.ensures.is does)
     (omega arith) (λ s sound can. can) (λ s t sound can puts. puts))

@@ -7,5 +7,5 @@ use Rattle.cmm_select.proofs.destination.read_global.Goals as goal
 pub returns-clause-reads : goal.returns-clause-reads
 returns-clause-reads c =
     rw c.in_ok-emit.ensures.parts
-    (adds_weaker (adds_then c.in_ok-find_global.ensures.sets (adds_one c.find_global.new.asm.parts (Ld 5 5 (pos 0)))) (omega arith)
-    (λ x from to does. loads_global x from to c.args.of does))
+    (adds_weaker (adds_then c.in_ok-find_global.ensures.sets (adds_one c.find_global.new.asm.parts (Ld c.args.rd c.args.rd (pos 0)))) (omega arith)
+    (λ x from to does. loads_global x from to c.args.of c.args.rd (λ e. omega (arith, e, c.requires.register.0)) does))

@@ -4,7 +4,7 @@ use Rattle.cmm_effects.proofs.Shared.{adds_one, adds_then, adds_weaker}
 use Rattle.cmm_effects.specs.Pieces.{Adds}
 use Rattle.cmm_select.proofs.Asking.{asks_to_get}
 use Rattle.cmm_select.proofs.Chains.{also}
-use Rattle.cmm_select.proofs.Places.{One}
+use Rattle.cmm_select.specs.Destinations.{PutsFrom}
 use Rattle.cmm_select.proofs.host.get_byte.Goals as goal
 
 pub returns-clause-requests : goal.returns-clause-requests
@@ -12,10 +12,8 @@ returns-clause-requests c =
     let old = c.args.asm.now.parts in
     let one = also old (Addi 5 0 (pos 2)) in
     let two = also one Ecall in
-    let mid = c.emit-3.new.self.parts in
-    let third : Adds 1 two mid (One (Addi 5 10 (pos 0))) =
-    rw (c.in_ok-emit-3.ensures.parts, c.in_ok-emit-2.ensures.parts, c.in_ok-emit.ensures.parts, c.copy.ensures.is, c.choose.ensures.is) (adds_one two (Addi 5 10 (pos 0)))
+    let third : Adds 4 two c.put.new.asm.parts (PutsFrom 10 c.args.to.now) =
+    rw (c.in_ok-emit-2.ensures.parts, c.in_ok-emit.ensures.parts, c.choose.ensures.is) at c.in_ok-put.ensures.puts
     in
-    adds_weaker
-    (adds_then (adds_one old (Addi 5 0 (pos 2))) (adds_then (adds_one one Ecall) (adds_then third c.in_ok-put.ensures.puts))) (omega arith)
+    adds_weaker (adds_then (adds_one old (Addi 5 0 (pos 2))) (adds_then (adds_one one Ecall) third)) (omega arith)
     (λ x from end does. asks_to_get x c.args.to.now from end does)

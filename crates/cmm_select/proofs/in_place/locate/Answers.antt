@@ -11,3 +11,7 @@ returns-in-Some-clause-locates c =
 pub returns-in-Some-clause-home : goal.returns-in-Some-clause-home
 returns-in-Some-clause-home c =
     inr (home_is c.args.asm.now.labels c.args.from.now c.in-Some.register c.requires.operand (sym c.home_of.ensures ∙ c.in-Some.is))
+
+pub returns-in-Some-clause-register : goal.returns-in-Some-clause-register
+returns-in-Some-clause-register c =
+    (home_is c.args.asm.now.labels c.args.from.now c.in-Some.register c.requires.operand (sym c.home_of.ensures ∙ c.in-Some.is)).1

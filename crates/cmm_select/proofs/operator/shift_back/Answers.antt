@@ -9,7 +9,8 @@ pub returns-clause-shifts : goal.returns-clause-shifts
 returns-clause-shifts c =
     let k = c.args.amount in
     let rd = c.args.rd in
+    let r = c.args.from in
     let old = c.args.asm.now.parts in
     rw (c.in_ok-emit-2.ensures.parts, c.in_ok-emit.ensures.parts, c.shift_left.ensures.is, c.shift_right_signed.ensures.is)
-    (adds_weaker (adds_then (adds_one old (Slli rd rd (pos k))) (adds_one (old ++ Single (Slli rd rd (pos k)) ∷ []) (Srai rd rd (pos k)))) (omega arith)
-    (λ x from to does. shifts_back x from to rd k (omega (arith, c.requires.low)) c.requires.amount does))
+    (adds_weaker (adds_then (adds_one old (Slli rd r (pos k))) (adds_one (old ++ Single (Slli rd r (pos k)) ∷ []) (Srai rd rd (pos k)))) (omega arith)
+    (λ x from to does. shifts_back x from to rd r k (λ e. omega (arith, e, c.requires.register.0)) c.requires.amount does))
