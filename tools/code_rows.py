@@ -160,6 +160,8 @@ OWN = {
     **{name: (1, 7) for name in "Quot Rem".split()},
     **{name: (5, 11) for name in "Div Mod".split()},
 }
+# done on operands where they are
+IN_PLACE = set("Add Sub Mul And Or Xor Divu Modu".split())
 TOLD = {"Eq": 2, "Ne": 3, "Lt": 1, "Gt": 1, "Le": 2, "Ge": 2, "Ltu": 1, "Gtu": 1, "Leu": 2, "Geu": 2}
 BRANCH = 3
 
@@ -170,26 +172,29 @@ def accesses(width, aligned):
 
 
 def counts(width, place):
-    """Each node with its instructions, where so many read the place of an operand or write that of the destination."""
+    """Each node with its instructions, where so many read the place of an operand or write that of the destination: none at a register, which
+    is used where it is, but by nodes that change their operands."""
     narrow = width < 64
-    shifts = 4 if narrow else 0
-    yield "copy", 2 * place
+    moved = max(place, 1)
+    copy = 2 * place or 1
+    yield "copy", copy
     for name in BINARY:
-        yield name, 3 * place + OWN[name][narrow]
+        yield name, 3 * (place if name in IN_PLACE else moved) + OWN[name][narrow]
     for name in COMPARISONS:
-        signs = shifts if name in ("Lt", "Le", "Gt", "Ge") else 0
-        yield name, 3 * place + TOLD[name] + signs, 2 * place + BRANCH + signs
+        signed = narrow and name in ("Lt", "Le", "Gt", "Ge")
+        read = 2 * moved + 4 if signed else 2 * place
+        yield name, read + TOLD[name] + place, read + BRANCH
     for name in UNARY:
         yield name, 2 * place + OWN[name][narrow]
-    yield "extended", 2 * place + (2 if narrow else 0)
-    yield "low", 2 * place + (2 if narrow else 0)
-    yield "load", *(2 * place + 3 * accesses(width, aligned) - 2 for aligned in (8, 1))
-    yield "store", *(2 * place + 2 * accesses(width, aligned) - 1 for aligned in (8, 1))
+    yield "extended", 2 * place + 2 if narrow else copy
+    yield "low", 2 * place + 2 if narrow else copy
+    yield "load", *(2 * (place if n == 1 else moved) + 3 * n - 2 for n in (accesses(width, 8), accesses(width, 1)))
+    yield "store", *(2 * (place if n == 1 else moved) + 2 * n - 1 for n in (accesses(width, 8), accesses(width, 1)))
 
 
 def count_cases():
     for width in WIDTHS:
-        rows = [list(counts(width, place)) for place in (1, 1, 3)]
+        rows = [list(counts(width, place)) for place in (0, 1, 3)]
         yield f"count {width:x}", " ".join(
             " ".join([each[0][0]] + [str(row[k]) for k in range(1, len(each[0])) for row in each]) for each in zip(*rows)
         )
@@ -245,12 +250,11 @@ def compare_with_qemu(program):
 # ---- the tables of docs/PERFORMANCE.md
 
 def table_rows(width):
-    """Each node with its instructions on registers and near slots, and on far slots."""
-    for name, *near in counts(width, 1):
-        far = next(row[1:] for row in counts(width, 3) if row[0] == name)
+    """Each node with its instructions on registers, on near slots, and on far slots."""
+    for (name, *held), (_, *near), (_, *far) in zip(counts(width, 0), counts(width, 1), counts(width, 3)):
         labels = {"load": ["load, aligned", "load, by bytes"], "store": ["store, aligned", "store, by bytes"]}
         kinds = labels.get(name) or ([name] if len(near) == 1 else [f"{name} told", f"{name} branch"])
-        yield from zip(kinds, zip(near, far))
+        yield from zip(kinds, zip(held, near, far))
 
 
 def print_table():
@@ -264,7 +268,7 @@ def print_table():
     print("| node | " + " | ".join(f"{w} bits" for w in WIDTHS) + " |")
     print("|---|" + "---|" * len(WIDTHS))
     for found, names in groups.items():
-        print("| " + ", ".join(names) + " | " + " | ".join(f"{near}, {far}" for near, far in found) + " |")
+        print("| " + ", ".join(names) + " | " + " | ".join(", ".join(map(str, count)) for count in found) + " |")
     return 0
 
 

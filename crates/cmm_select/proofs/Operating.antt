@@ -16,7 +16,7 @@ use Rattle.cmm_effects.specs.Pieces.{Always, Leads, Runs}
 use Rattle.cmm_select.proofs.InPlace.{beside_then, set_beside}
 use Rattle.cmm_select.proofs.Rotating.{OperatesUncut}
 use Rattle.cmm_select.specs.Operators.{Extends, HasWord, HaveWords, Narrows, Operates}
-use Rattle.cmm_select.specs.inside.InPlace.{HaveWordsIn, IsValue, Makes}
+use Rattle.cmm_select.specs.inside.InPlace.{IsValue, Makes}
 use Rattle.cmm_select.specs.inside.Wide.{is_plain, is_shift, is_signed}
 
 -- where a value is cut from one of 64 bits, there is that one
@@ -40,21 +40,21 @@ module _ (x : Code) (from mid to n k : ℕ) (o : Op2) (w : Width) where
           let wide = wide_value w (value2 o W64 (s.registers 5) (s.registers 7)) v (sym (cut w (s.registers 5) (s.registers 7) words.0 words.1) ∙ is) in
           narrows.given ∙ ap (low_bits w) (operates.given wide.0 wide.1) ∙ wide.2
 
--- an operator on two registers
-pub cut_makes : (x : Code) (from mid to n k rd a b : ℕ) (o : Op2) (w : Width) → IsCut2 o →
-    Leads n Always (λ s t. Makes rd (IsValue o W64 (s.registers a) (s.registers b)) s t) x from mid → Runs 0 k Always (Narrows w rd) x mid to →
-    Leads (n + k) (HaveWordsIn w a b) (λ s t. Makes rd (IsValue o w (s.registers a) (s.registers b)) s t) x from to
-cut_makes x from mid to n k rd a b o w cut first second =
+-- an operator on what two functions give
+pub cut_makes : (f g : State → ℕ) (x : Code) (from mid to n k rd : ℕ) (o : Op2) (w : Width) → IsCut2 o →
+    Leads n Always (λ s t. Makes rd (IsValue o W64 (f s) (g s)) s t) x from mid → Runs 0 k Always (Narrows w rd) x mid to →
+    Leads (n + k) (λ m s. IsWord w (f s) × IsWord w (g s)) (λ s t. Makes rd (IsValue o w (f s) (g s)) s t) x from to
+cut_makes f g x from mid to n k rd o w cut first second =
     leads_weaker (leads_then first second (λ s t sound also p q. tt)) (omega arith) (λ s sound words. tt)
     (λ s u sound words both. record {
       given = λ v is. cut_value s both.0 u v words both.1 both.2 is;
       keeps = beside_then rd s both.0 u both.1.keeps (set_beside rd (low_bits w (both.0.registers rd)) both.0 u both.2);
     })
   where
-    cut_value : (s t u : State) (v : ℕ) → HaveWordsIn w a b x.map s → Makes rd (IsValue o W64 (s.registers a) (s.registers b)) s t → Narrows w rd t u →
-        value2 o w (s.registers a) (s.registers b) ≡ Some v → u.registers rd ≡ v
+    cut_value : (s t u : State) (v : ℕ) → IsWord w (f s) × IsWord w (g s) → Makes rd (IsValue o W64 (f s) (g s)) s t → Narrows w rd t u →
+        value2 o w (f s) (g s) ≡ Some v → u.registers rd ≡ v
     cut_value s t u v words makes narrows is =
-        let wide = wide_value w (value2 o W64 (s.registers a) (s.registers b)) v (sym (cut w (s.registers a) (s.registers b) words.0 words.1) ∙ is) in
+        let wide = wide_value w (value2 o W64 (f s) (g s)) v (sym (cut w (f s) (g s) words.0 words.1) ∙ is) in
         narrows.given ∙ ap (low_bits w) (makes.given wide.0 wide.1) ∙ wide.2
 
 -- both words with their sign

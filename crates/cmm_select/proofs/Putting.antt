@@ -24,6 +24,8 @@ use Rattle.cmm_select.specs.Going.{CanDecide}
 use Rattle.cmm_select.specs.Operators.{HasWord, HaveWords, Narrows, Operates, shifts_of}
 use Rattle.cmm_select.specs.declared.destination.Destination.{Destination}
 use Rattle.cmm_select.specs.declared.operand.Operand.{Operand}
+use Rattle.cmm_select.specs.declared.operand.Operand.TheVariants.{Held}
+use Rattle.cmm_select.specs.declared.source.Source.TheVariants.{Number}
 use Rattle.cmm_select.specs.inside.Comparing.{Readies, ReadiesBoth, TellsIn}
 use Rattle.cmm_select.specs.inside.InPlace.{Finishes, HaveWordsIn, IsValue, LocatesBoth, LocatesOperand, Makes, Tells01, home_of, target_of}
 
@@ -159,6 +161,20 @@ module _ (x : Code) (to : Destination) (from end : ℕ) where
         leads_weaker (both_finished x (IsValue op w) w left right to is does.1 does.2.1 does.2.2) (omega arith)
         (λ s sound can. ((can.brings, can.words), can.reaches))
         (λ s u sound can all. record { number = all.0; given = all.1; puts = all.2 })
+
+    pub assigns_small : (op : Op2) (rd r k : ℕ) → rd ≡ target_of to → right ≡ Held (Number k) →
+        Then (LocatesOperand left 5 r)
+        (Then (λ x. Leads n (λ m s. IsWord w (s.registers r) × IsWord w k) (λ s t. Makes rd (IsValue op w (s.registers r) k) s t) x) (Finishes to)) x from end →
+        AssignsBinary (most_for left + n + 4) op w left right to x from end
+    assigns_small op rd r k is same does =
+        let number : (s : State) → operand_at x.at right s ≡ k = (λ s. ap (λ (a : Operand). operand_at x.at a s) same) in
+        leads_weaker (one_finished x (λ m a. IsValue op w a k) (λ m a. IsWord w a × IsWord w k) left to is does.1 does.2.1 does.2.2) (omega arith)
+        (λ s sound can. ((can.brings.brings_left, (can.words.0, subst (λ (a : ℕ). IsWord w a) (number s) can.words.1)), can.reaches))
+        (λ s u sound can all. record {
+          number = all.0;
+          given = λ v has. all.1 v (ap (λ (a : ℕ). value2 op w (operand_at x.at left s) a) (sym (number s)) ∙ has);
+          puts = all.2;
+        })
 
     pub assigns_comparison : (c : Cmp) (rd a b : ℕ) → rd ≡ target_of to → Then (ReadiesBoth c w left right a b) (Then (TellsIn n c rd a b) (Finishes to)) x from end →
         AssignsComparison (most_for left + most_for right + 2 * shifts_of w + n + 4) c w left right to x from end

@@ -45,7 +45,7 @@ modulo_same k (negsuc n) = refl
 
 -- ---- sums and products
 
-wrapped_difference : (a b : ℕ) (z : ℤ) → pos a -ℤ pos b ≡ z → b < 2 ^ 64 → wrapped 64 z ≡ (a + (2 ^ 64 - b)) % 2 ^ 64
+pub wrapped_difference : (a b : ℕ) (z : ℤ) → pos a -ℤ pos b ≡ z → b < 2 ^ 64 → wrapped 64 z ≡ (a + (2 ^ 64 - b)) % 2 ^ 64
 wrapped_difference a b (pos n) h small = let e : a ≡ b + n = omega (arith, ints, h) in omega arith
 wrapped_difference a b (negsuc n) h small = let e : b ≡ a + (n + 1) = omega (arith, ints, h) in omega arith
 
@@ -58,13 +58,13 @@ sub_row a b v first second is = sym (wrapped_difference a b (pos a -ℤ pos b) r
 mul_row : Gives op.Mul product
 mul_row a b v first second is = some_same (product a b) v is
 
-and_row : Gives op.And bit_and
+pub and_row : Gives op.And bit_and
 and_row a b v first second is = some_same (bit_and a b) v is
 
-or_row : Gives op.Or bit_or
+pub or_row : Gives op.Or bit_or
 or_row a b v first second is = some_same (bit_or a b) v is
 
-xor_row : Gives op.Xor bit_xor
+pub xor_row : Gives op.Xor bit_xor
 xor_row a b v first second is = some_same (bit_xor a b) v is
 
 -- ---- divisions

@@ -1,6 +1,6 @@
 //! Assignments to places and to global registers.
 
-ghost use Rattle.std.specs.Prelude.{◌≡◌, ◌+◌, ◌*◌, IsTrue, OnOk};
+ghost use Rattle.std.specs.Prelude.{◌≡◌, ◌+◌, ◌*◌, ◌<◌, IsTrue, OnOk};
 ghost use Rattle.cmm_words.specs.Words.{low_bits, sign_extended, value1};
 ghost use Rattle.rv_asm.specs.Assembly.{IsLabel};
 ghost use Rattle.cmm_effects.specs.Accesses.{global_at};
@@ -9,10 +9,14 @@ ghost use Rattle.cmm_select.specs.Assignments.{AssignsBinary, AssignsComparison,
 ghost use Rattle.cmm_select.specs.Destinations.{IsDestination, PutsTo};
 ghost use Rattle.cmm_select.specs.Operands.{IsOperand, most_for};
 ghost use Rattle.cmm_select.specs.Operators.{shifts_of};
+ghost use Rattle.cmm_select.specs.declared.operand.Operand.TheVariants.{Held};
+ghost use Rattle.cmm_select.specs.declared.source.Source.TheVariants.{Number};
+ghost use Rattle.cmm_select.specs.inside.Immediates.{limit_of};
 ghost use Rattle.cmm_select.specs.inside.Wide.{is_plain};
 
 use crate::comparing::{compare, ready};
 use crate::destination::{Destination, put, read_global};
+use crate::immediates::{operate_with, small};
 use crate::in_place::{finish, home_of, locate, locate_both, target};
 use crate::operand::{Operand, bring_both, bring_operand};
 use crate::operator::{cut, is_plain, narrow, operate, plain, sign};
@@ -144,6 +148,10 @@ pub fn assign_binary(
     ensures assigns { OnOk result (Adds (most_for left.now + most_for right.now + 3 * shifts_of width + 10) asm.old.parts asm.new.parts (AssignsBinary (most_for left.now + most_for right.now + 3 * shifts_of width + 10) operator width left.now right.now to.now)) }
     ensures labels { asm.new.labels ≡ asm.old.labels }
 {
+    if let Some(number) = small(operator, right) {
+        assign_small(asm, operator, width, left, number, to)?;
+        return Ok(());
+    }
     if is_plain(operator) {
         assign_plain(asm, operator, width, left, right, to)?;
         return Ok(());
@@ -151,6 +159,27 @@ pub fn assign_binary(
     bring_both(asm, left, right)?;
     operate(asm, operator, width)?;
     put(asm, FIRST_SCRATCH, to)?;
+    Ok(())
+}
+
+/// Assigns what an operator gives on a word and a number that an instruction of it holds.
+fn assign_small(
+    asm: &mut Asm,
+    operator: Op2,
+    width: Width,
+    left: &Operand,
+    number: u64,
+    to: &Destination,
+) -> Result<(), AllocError>
+    requires small { number < limit_of operator }
+    requires left { IsOperand asm.old.labels left.now }
+    requires destination { IsDestination asm.old.labels to.now }
+    ensures assigns { OnOk result (Adds (most_for left.now + shifts_of width + 5) asm.old.parts asm.new.parts (AssignsBinary (most_for left.now + shifts_of width + 5) operator width left.now (Held (Number number)) to.now)) }
+    ensures labels { asm.new.labels ≡ asm.old.labels }
+{
+    let source = locate(asm, left, FIRST_SCRATCH)?;
+    operate_with(asm, operator, width, target(to), source, number)?;
+    finish(asm, to)?;
     Ok(())
 }
 

@@ -1,5 +1,6 @@
-use Rattle.std.proofs.Common.{◌+◌, ◌*◌, arith}
+use Rattle.std.proofs.Common.{◌+◌, ◌*◌, ◌∙◌, sym, arith}
 use Rattle.cmm_effects.proofs.Shared.{adds_then, adds_weaker, leads_weaker}
+use Rattle.cmm_select.proofs.SmallNumbers.{small_is}
 use Rattle.cmm_select.proofs.Putting.{assigns_binary}
 use Rattle.cmm_select.specs.Operators.{shifts_of}
 use Rattle.cmm_select.proofs.assigning.assign_binary.Goals as goal
@@ -16,3 +17,13 @@ pub returns-then-is_plain-clause-assigns : goal.returns-then-is_plain-clause-ass
 returns-then-is_plain-clause-assigns c =
     adds_weaker c.in_ok-assign_plain.ensures.assigns (omega arith)
     (λ x from end assigns. leads_weaker assigns (omega arith) (λ s sound can. can) (λ s t sound can assigned. assigned))
+
+pub assign_small-requires-clause-small : goal.assign_small-requires-clause-small
+assign_small-requires-clause-small c = (small_is c.args.operator c.args.right.now c.in-Some.number (sym c.small.ensures ∙ c.in-Some.is)).1
+
+pub returns-in-Some-clause-assigns : goal.returns-in-Some-clause-assigns
+returns-in-Some-clause-assigns c =
+    let is = small_is c.args.operator c.args.right.now c.in-Some.number (sym c.small.ensures ∙ c.in-Some.is) in
+    rw is.0
+    (adds_weaker c.in_ok-assign_small.ensures.assigns (omega arith)
+    (λ x from end assigns. leads_weaker assigns (omega arith) (λ s sound can. can) (λ s t sound can assigned. assigned)))
