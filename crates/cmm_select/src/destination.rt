@@ -17,7 +17,7 @@ use rv_table::Instr;
 use std::alloc::AllocError;
 
 /// Where a number is put.
-#[derive(Clone, Copy, Debug, PartialEq, Eq)]
+#[derive(Clone, Copy)]
 pub enum Destination {
     /// A place of the activation.
     Place(Location),

@@ -13,7 +13,7 @@ use rv_table::Instr;
 use std::alloc::AllocError;
 
 /// What a node needs, as a word.
-#[derive(Clone, Copy, Debug, PartialEq, Eq)]
+#[derive(Clone, Copy)]
 pub enum Operand {
     /// What the activation has, or a number.
     Held(Source),

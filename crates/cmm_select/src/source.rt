@@ -15,7 +15,7 @@ use rv_asm::Asm;
 use std::alloc::AllocError;
 
 /// Where an operand comes from.
-#[derive(Clone, Copy, Debug, PartialEq, Eq)]
+#[derive(Clone, Copy)]
 pub enum Source {
     /// What a place has.
     Place(Location),
