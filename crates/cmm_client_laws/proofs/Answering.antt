@@ -35,10 +35,10 @@ use Rattle.cmm_client_laws.proofs.Setting.{set_alike}
 use Rattle.cmm_client_laws.proofs.Showing.{AllSpots, suspended_here}
 use Rattle.cmm_client_laws.proofs.Whole.{all_found, shows_each, spots_each}
 
-module _ (s : Setting) (c : Compiled) (y : Symbols) (i : ImageParts) (tables : HaveTables s c y i) (planned : IsPlanned c.plan) (m : MemoryMap) (is_for : IsFor s m)
+module _ (s : Setting) (c : Compiled) (y : Symbols) (rest : ℕ → ℕ) (i : ImageParts) (tables : HaveTables s c y i) (planned : IsPlanned c.plan) (m : MemoryMap) (is_for : IsFor s m)
     (frames : HasFrames s c) (apart : AreApart c) (knows : KnowsLive s c) where
   -- the first activation of a chain is the youngest
-  module _ (at : Located) (t : State) (same : IsStoppedAs s c y i at t) where
+  module _ (at : Located) (t : State) (same : IsStoppedAs s c y rest i at t) where
     first_is : (es : List chain.Element) (xs : List Element) (activations : List Activation) (suspended : List Suspension) → AllZip (IsGhostOf s) activations suspended →
         AllZip (ShowsSuspension (shown_plan s c) at.holdings) suspended es → AllZip (IsFoundAs i y) es xs → AllSpots es → (a : client.Located) (older : List client.Located) →
         all_located s 0 (map (activation_of s c at) es) ≡ a ∷ older → a.younger ≡ 0
@@ -61,27 +61,27 @@ module _ (s : Setting) (c : Compiled) (y : Symbols) (i : ImageParts) (tables : H
     youngest_is : (a : client.Located) (older : List client.Located) → (chain_behind s 0 (shown s c at)).activations ≡ a ∷ older → a.younger ≡ 0
     youngest_is a older is =
         first_is _ (chain_of i (stack_region s) t).activations at.store.activations same.suspended same.walked.ghosts
-        (shows_each s c y i tables planned m is_for at [] t same.suspended same.walked same.shown)
-        (all_found s c y i tables planned m is_for at [] t same.suspended same.walked same.shown).each
-        (spots_each s c y i tables planned m is_for at [] t same.suspended same.walked same.shown) a older
-        (ap (λ (es : List chain.Element). all_located s 0 (map (activation_of s c at) es)) (sym (lists s c y i tables planned m is_for at t same)) ∙ is)
+        (shows_each s c y rest i tables planned m is_for at [] t same.suspended same.walked same.shown)
+        (all_found s c y rest i tables planned m is_for at [] t same.suspended same.walked same.shown).each
+        (spots_each s c y rest i tables planned m is_for at [] t same.suspended same.walked same.shown) a older
+        (ap (λ (es : List chain.Element). all_located s 0 (map (activation_of s c at) es)) (sym (lists s c y rest i tables planned m is_for at t same)) ∙ is)
 
   -- they are asked alike
-  pub asked_alike : AreAlike (IsStoppedAs s c y i) (AreAs s c y i) (GoesOnAs s c y i) (places_askable s c) (askable i (stack_region s))
+  pub asked_alike : AreAlike (IsStoppedAs s c y rest i) (AreAs s c y i) (GoesOnAs s c y rest i) (places_askable s c) (askable i (stack_region s))
   asked_alike = record {
-    chain = λ at t same. chains_alike s c y i tables planned m is_for at t same;
-    running = λ at t same. chains_alike s c y i tables planned m is_for at t same;
-    older = λ at t a x same is. older_alike s c y i tables planned m is_for at t same a x is;
-    shown = λ at t a x same is. shown_alike s c y i tables planned m is_for at t same a x is;
-    set = λ at t a x n value v old same is shows valued fits. set_alike s c y i tables planned m is_for apart knows at t same a x n value v old is shows valued fits;
-    poked = λ at t name offset bytes are same. pokes_alike s c y i tables m is_for at t same name offset bytes are;
-    returned = λ at t a x older others n same is first also. returns_alike s c y i tables planned m is_for frames at t same a x is (youngest_is at t same a older first) n;
-    unwound = λ at t a x n same is. unwinds_alike s c y i tables planned m is_for frames at t same a x is n;
-    cut = λ at t a x value same is. cuts_alike s c y i tables planned m is_for frames at t same a x is value;
+    chain = λ at t same. chains_alike s c y rest i tables planned m is_for at t same;
+    running = λ at t same. chains_alike s c y rest i tables planned m is_for at t same;
+    older = λ at t a x same is. older_alike s c y rest i tables planned m is_for at t same a x is;
+    shown = λ at t a x same is. shown_alike s c y rest i tables planned m is_for at t same a x is;
+    set = λ at t a x n value v old same is shows valued fits. set_alike s c y rest i tables planned m is_for apart knows at t same a x n value v old is shows valued fits;
+    poked = λ at t name offset bytes are same. pokes_alike s c y rest i tables m is_for at t same name offset bytes are;
+    returned = λ at t a x older others n same is first also. returns_alike s c y rest i tables planned m is_for frames at t same a x is (youngest_is at t same a older first) n;
+    unwound = λ at t a x n same is. unwinds_alike s c y rest i tables planned m is_for frames at t same a x is n;
+    cut = λ at t a x value same is. cuts_alike s c y rest i tables planned m is_for frames at t same a x is value;
   }
 
   -- and so they answer a yield alike
-  pub answers_alike : (script : Script) (yielded : List ℕ) (at : Located) (t : State) → IsStoppedAs s c y i at t →
-      AnswersAlike (IsStoppedAs s c y i) (AreAs s c y i) (GoesOnAs s c y i) (answer_to (places_askable s c) script yielded at) (answer_to (askable i (stack_region s)) script yielded t)
+  pub answers_alike : (script : Script) (yielded : List ℕ) (at : Located) (t : State) → IsStoppedAs s c y rest i at t →
+      AnswersAlike (IsStoppedAs s c y rest i) (AreAs s c y i) (GoesOnAs s c y rest i) (answer_to (places_askable s c) script yielded at) (answer_to (askable i (stack_region s)) script yielded t)
   answers_alike script yielded at t same =
-      answers_are_alike (IsStoppedAs s c y i) (AreAs s c y i) (GoesOnAs s c y i) (places_askable s c) (askable i (stack_region s)) asked_alike script yielded at t same
+      answers_are_alike (IsStoppedAs s c y rest i) (AreAs s c y i) (GoesOnAs s c y rest i) (places_askable s c) (askable i (stack_region s)) asked_alike script yielded at t same

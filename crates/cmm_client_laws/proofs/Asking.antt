@@ -21,7 +21,7 @@ use Rattle.cmm_image_machine.specs.Frames.{Element, chain_of, older_than}
 use Rattle.cmm_image_machine.specs.Walks.{element_shown}
 use Rattle.cmm_emit_laws.specs.Words.{Symbols}
 use Rattle.cmm_emit_laws.specs.Represented.{IsFor, stack_region}
-use Rattle.cmm_emit_laws.proofs.Regions.{bottom_is, top_is}
+use Rattle.cmm_emit_laws.proofs.Shared.{bottom_is, top_is}
 use Rattle.cmm_located.specs.Answering.{activation_of, listed, shown}
 use Rattle.cmm_located.specs.Compiled.{Compiled, Located}
 use Rattle.cmm_machine_laws.specs.Alike.{ChainsAlike}
@@ -43,13 +43,13 @@ spots_drop zero es all = all
 spots_drop (suc k) [] all = tt
 spots_drop (suc k) (e ∷ es) all = spots_drop k es all.1
 
-module _ (s : Setting) (c : Compiled) (y : Symbols) (i : ImageParts) (tables : HaveTables s c y i) (planned : IsPlanned c.plan) (m : MemoryMap) (is_for : IsFor s m) where
-  module _ (at : Located) (t : State) (same : IsStoppedAs s c y i at t) where
+module _ (s : Setting) (c : Compiled) (y : Symbols) (rest : ℕ → ℕ) (i : ImageParts) (tables : HaveTables s c y i) (planned : IsPlanned c.plan) (m : MemoryMap) (is_for : IsFor s m) where
+  module _ (at : Located) (t : State) (same : IsStoppedAs s c y rest i at t) where
     abbrev marks : List chain.Element
     marks = marked c.plan same.suspended (first_mark at.holdings.point)
 
     pub lists : listed s c at ≡ marked c.plan same.suspended (first_mark at.holdings.point)
-    lists = listed_is s c y i tables planned m is_for at [] t same.suspended same.walked same.shown
+    lists = listed_is s c y rest i tables planned m is_for at [] t same.suspended same.walked same.shown
 
     -- the suspension of an activation, and all that is known of it
     pub record Known (a : client.Located) (x : Element) (e : chain.Element) : Type 0 where
@@ -69,10 +69,10 @@ module _ (s : Setting) (c : Compiled) (y : Symbols) (i : ImageParts) (tables : H
         let there : slice_get (marked c.plan same.suspended (first_mark at.holdings.point)) a.younger ≡ Some is.element =
         ap (λ (es : List chain.Element). slice_get es a.younger) (sym lists) ∙ is.is_listed in
         let shows = zip_left (ShowsSuspension (shown_plan s c) at.holdings) a.younger same.suspended (marked c.plan same.suspended (first_mark at.holdings.point)) is.element
-        (shows_each s c y i tables planned m is_for at [] t same.suspended same.walked same.shown) there in
+        (shows_each s c y rest i tables planned m is_for at [] t same.suspended same.walked same.shown) there in
         let ghost = zip_left (IsGhostOf s) a.younger at.store.activations same.suspended shows.0 same.walked.ghosts shows.1 in
         let spots = spots_get a.younger (marked c.plan same.suspended (first_mark at.holdings.point)) is.element
-        (spots_each s c y i tables planned m is_for at [] t same.suspended same.walked same.shown) there in
+        (spots_each s c y rest i tables planned m is_for at [] t same.suspended same.walked same.shown) there in
         let proc : ghost.2.proc ≡ a.procedure = same_Some ghost.2.proc a.procedure (sym ghost.2.is_procedure ∙ ap (procedure_at s) (sym shows.2.procedure) ∙ is.procedure) in
         let site : ghost.2.site ≡ a.site =
         same_Some ghost.2.site a.site (sym ghost.2.is_site ∙ ap (λ (p : Proc). slice_get p.sites shows.0.site) proc ∙ ap (λ (n : ℕ). slice_get a.procedure.sites n) (sym shows.2.site) ∙ is.site) in
@@ -159,17 +159,17 @@ module _ (s : Setting) (c : Compiled) (y : Symbols) (i : ImageParts) (tables : H
     all_alike (e ∷ es) (x ∷ xs) (a ∷ activations) [] k there ghosts shows found spots = absurd ghosts
     all_alike (e ∷ es) (x ∷ xs) [] (p ∷ suspended) k there ghosts shows found spots = absurd ghosts
 
-    pub chains_alike : ChainsAlike (IsStoppedAs s c y i) (AreAs s c y i) (GoesOnAs s c y i) at t (chain_behind s 0 (shown s c at)) (chain_of i (stack_region s) t)
+    pub chains_alike : ChainsAlike (IsStoppedAs s c y rest i) (AreAs s c y i) (GoesOnAs s c y rest i) at t (chain_behind s 0 (shown s c at)) (chain_of i (stack_region s) t)
     chains_alike =
-        let found = all_found s c y i tables planned m is_for at [] t same.suspended same.walked same.shown in
+        let found = all_found s c y rest i tables planned m is_for at [] t same.suspended same.walked same.shown in
         record {
           whole = refl;
           also = found.whole;
           each = subst (λ (es : List chain.Element). AllZip (IsActivationAs s c y i at) (all_located s 0 (map (activation_of s c at) es)) (chain_of i (stack_region s) t).activations) (sym lists)
               (all_alike marks (chain_of i (stack_region s) t).activations at.store.activations same.suspended 0
               (λ j e is. let none : j ≡ 0 + j = omega arith in ap (λ (n : ℕ). slice_get (listed s c at) n) (sym none) ∙ ap (λ (es : List chain.Element). slice_get es j) lists ∙ is)
-              same.walked.ghosts (shows_each s c y i tables planned m is_for at [] t same.suspended same.walked same.shown) found.each
-              (spots_each s c y i tables planned m is_for at [] t same.suspended same.walked same.shown));
+              same.walked.ghosts (shows_each s c y rest i tables planned m is_for at [] t same.suspended same.walked same.shown) found.each
+              (spots_each s c y rest i tables planned m is_for at [] t same.suspended same.walked same.shown));
         }
 
     drop_get : {A : Type 0} (k j : ℕ) (xs : List A) → slice_get (drop k xs) j ≡ slice_get xs (k + j)
@@ -178,7 +178,7 @@ module _ (s : Setting) (c : Compiled) (y : Symbols) (i : ImageParts) (tables : H
     drop_get (suc k) j (z ∷ xs) = let same : suc (k + j) ≡ suc k + j = omega arith in drop_get k j xs ∙ ap (λ (n : ℕ). slice_get (z ∷ xs) n) same
 
     pub older_alike : (a : client.Located) (x : Element) → IsActivationAs s c y i at a x →
-        ChainsAlike (IsStoppedAs s c y i) (AreAs s c y i) (GoesOnAs s c y i) at t (chain_behind s (suc a.younger) (shown s c at)) (older_than i (stack_region s) t x)
+        ChainsAlike (IsStoppedAs s c y rest i) (AreAs s c y i) (GoesOnAs s c y rest i) at t (chain_behind s (suc a.younger) (shown s c at)) (older_than i (stack_region s) t x)
     older_alike a x is =
         let k = suc a.younger in
         let there = (known a x is).marked_there in
@@ -195,6 +195,6 @@ module _ (s : Setting) (c : Compiled) (y : Symbols) (i : ImageParts) (tables : H
               (all_alike (drop k marks) (older_than i (stack_region s) t x).activations (drop k at.store.activations) (drop k same.suspended) k
               (λ j e is. ap (λ (es : List chain.Element). slice_get es (k + j)) lists ∙ sym (drop_get k j marks) ∙ is)
               (zip_drop (IsGhostOf s) k at.store.activations same.suspended same.walked.ghosts)
-              (zip_drop (ShowsSuspension (shown_plan s c) at.holdings) k same.suspended marks (shows_each s c y i tables planned m is_for at [] t same.suspended same.walked same.shown)) found.each
-              (spots_drop k marks (spots_each s c y i tables planned m is_for at [] t same.suspended same.walked same.shown)));
+              (zip_drop (ShowsSuspension (shown_plan s c) at.holdings) k same.suspended marks (shows_each s c y rest i tables planned m is_for at [] t same.suspended same.walked same.shown)) found.each
+              (spots_drop k marks (spots_each s c y rest i tables planned m is_for at [] t same.suspended same.walked same.shown)));
         }

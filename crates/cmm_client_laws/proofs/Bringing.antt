@@ -23,8 +23,7 @@ use Rattle.cmm_select.specs.declared.source.Source.TheVariants.{Number}
 use Rattle.cmm_abi.specs.Regions.{Place, InRegister, InMemory, value_place, with_values, with_values_from, with_word, word_at}
 use Rattle.cmm_emit_laws.specs.Words.{Symbols}
 use Rattle.cmm_emit_laws.specs.Represented.{IsFor, IsRepresented, stack_region}
-use Rattle.cmm_emit_laws.proofs.Carrying.{given_shows}
-use Rattle.cmm_emit_laws.proofs.WrittenWords.{same_word}
+use Rattle.cmm_emit_laws.proofs.Shared.{given_shows, same_word}
 use Rattle.cmm_client_laws.proofs.Lists.{AreWords}
 use Rattle.cmm_client_laws.proofs.Putting.{other_is}
 use Rattle.cmm_client_laws.proofs.Setting.{word_fits}
@@ -193,11 +192,11 @@ module _ (w : Region) where
           ap (λ (n : ℕ). nat_le 10 r && nat_lt r (10 + min n 8)) same ∙ apart
 
 -- what is shown once the values are brought
-pub brought_shows : (y : Symbols) (s : Setting) (m : MemoryMap) → IsFor s m → (h : Holdings) (store : Store) (values : List ℕ) (t : State) → AreWords values → length values ≤ 64 →
-    h.temps ≡ none_known → IsRepresented y s h store [] t → IsRepresented y s h store values (with_values (stack_region s) values t)
-brought_shows y s m is_for h store values t words few temps is_shown =
+pub brought_shows : (y : Symbols) (rest : ℕ → ℕ) (s : Setting) (m : MemoryMap) → IsFor s m → (h : Holdings) (store : Store) (values : List ℕ) (t : State) → AreWords values → length values ≤ 64 →
+    h.temps ≡ none_known → IsRepresented y rest s h store [] t → IsRepresented y rest s h store values (with_values (stack_region s) values t)
+brought_shows y rest s m is_for h store values t words few temps is_shown =
     let count : length (map (λ v. Held (Number v)) values) ≡ length values = length-map values (λ v. Held (Number v)) in
-    let shows = given_shows y s m is_for h store values (λ n. 0) (map (λ v. Held (Number v)) values) t (with_values (stack_region s) values t) (gives (stack_region s) values t words)
+    let shows = given_shows y rest s m is_for h store values (λ n. 0) (map (λ v. Held (Number v)) values) t (with_values (stack_region s) values t) (gives (stack_region s) values t words)
     (record { few = few; count = count; have = λ k a is. ap (λ (o : Operand). operand_at (λ n. 0) o t) (given_number (stack_region s) values k a is).1 }) is_shown in
     let same : record h { temps = none_known } ≡ h = ap (λ (temps : Contents). record h { temps = temps }) (sym temps) in
-    subst (λ (k : Holdings). IsRepresented y s k store values (with_values (stack_region s) values t)) same shows
+    subst (λ (k : Holdings). IsRepresented y rest s k store values (with_values (stack_region s) values t)) same shows

@@ -26,7 +26,7 @@ use Rattle.cmm_image_machine.specs.Observed.{call_at}
 use Rattle.cmm_image_machine.specs.Walks.{chain_walk}
 use Rattle.cmm_emit_laws.specs.Words.{Symbols, RepresentsValues}
 use Rattle.cmm_emit_laws.specs.Represented.{IsFor, IsRepresented, stack_region}
-use Rattle.cmm_emit_laws.proofs.Carrying.{forget_values}
+use Rattle.cmm_emit_laws.proofs.Shared.{forget_values, outside_shows}
 use Rattle.cmm_located.specs.Answering.{answered_at, left_at, listed, logged_as, places_askable, shown}
 use Rattle.cmm_located.specs.Clients.{AreApart}
 use Rattle.cmm_located.specs.Compiled.{Compiled, Located}
@@ -37,7 +37,7 @@ use Rattle.cmm_client_laws.specs.Tables.{HaveTables}
 use Rattle.cmm_client_laws.specs.Waiting.{IsClientDone, IsWaitingAs}
 use Rattle.cmm_client_laws.specs.Walked.{AreFoundAs, IsFoundAs, IsGhostOf, mark_to, back_of, marked, shown_plan}
 use Rattle.cmm_client_laws.proofs.Answering.{answers_alike}
-use Rattle.cmm_client_laws.proofs.Resuming.{pc_shows}
+use Rattle.cmm_client_laws.proofs.Resuming.{log_shows, pc_shows}
 use Rattle.cmm_client_laws.proofs.Sound.{sound_pc}
 use Rattle.cmm_client_laws.proofs.Showing.{AllSpots, site_row}
 use Rattle.cmm_client_laws.proofs.Whole.{all_found, listed_is, shows_each, spots_each, walk_is}
@@ -67,23 +67,15 @@ pc_values w vs t pc shows = (shows.0, λ i less. by (value_place w i) ∙ shows.
 
 -- ---- neither the log nor the status is represented
 
-module _ (s : Setting) (c : Compiled) (y : Symbols) (l : Launch) (tables : HaveTables s c y l.image) (planned : IsPlanned c.plan) (is_for : IsFor s (map_of l))
+module _ (s : Setting) (c : Compiled) (y : Symbols) (rest : ℕ → ℕ) (l : Launch) (tables : HaveTables s c y l.image) (planned : IsPlanned c.plan) (is_for : IsFor s (map_of l))
     (region : stack_region s ≡ region_of l) (frames : HasFrames s c) (apart : AreApart c) (knows : KnowsLive s c) (scripts : l.script ≡ s.script) where
-  stopped_too : (at : Located) (t : State) (log : List ℕ) (status : program.Status) → IsStoppedAs s c y l.image at t →
-      IsStoppedAs s c y l.image (record at { store = record at.store { log = log; status = status } }) t
+  stopped_too : (at : Located) (t : State) (log : List ℕ) (status : program.Status) → IsStoppedAs s c y rest l.image at t →
+      IsStoppedAs s c y rest l.image (record at { store = record at.store { log = log; status = status } }) t
   stopped_too at t log status same = record {
     suspended = same.suspended;
     walked = same.walked;
     sound = same.sound;
-    shown = record {
-      holdings = same.shown.holdings;
-      words = same.shown.words;
-      cells = same.shown.cells;
-      registers = same.shown.registers;
-      values = same.shown.values;
-      stack = same.shown.stack;
-      at = same.shown.at;
-    };
+    shown = outside_shows y rest s at.holdings at.store [] t at.store.input at.store.taken at.store.output log status same.shown;
   }
 
   exit_too : (at : Located) (t : State) (log : List ℕ) → IsAtExit s c y l.image at t → IsAtExit s c y l.image (logged_as log at) t
@@ -91,36 +83,28 @@ module _ (s : Setting) (c : Compiled) (y : Symbols) (l : Launch) (tables : HaveT
   exit_too at t log (IsAtExit.Normal p site number out a b d e f) = IsAtExit.Normal p site number out a b d e f
   exit_too at t log (IsAtExit.Landing k a b) = IsAtExit.Landing k a b
 
-  resumed_too : (at : Located) (t : State) (log : List ℕ) → IsResumedAs s c y l.image at t → IsResumedAs s c y l.image (logged_as log at) t
+  resumed_too : (at : Located) (t : State) (log : List ℕ) → IsResumedAs s c y rest l.image at t → IsResumedAs s c y rest l.image (logged_as log at) t
   resumed_too at t log same = record {
     activation = same.activation;
     older = same.older;
     youngest = same.youngest;
     same = same.same;
     sound = same.sound;
-    shown = record {
-      holdings = same.shown.holdings;
-      words = same.shown.words;
-      cells = same.shown.cells;
-      registers = same.shown.registers;
-      values = same.shown.values;
-      stack = same.shown.stack;
-      at = same.shown.at;
-    };
+    shown = log_shows y rest s at.holdings at.store at.carried t log same.shown;
     control = exit_too at t log same.control;
   }
 
-  module _ (values : List ℕ) (at : Located) (run : Run) (waits : IsWaitingAs s c y l.image values at run.machine) where
-    same : IsStoppedAs s c y l.image at (at_pc (run.machine.pc + 4) run.machine)
+  module _ (values : List ℕ) (at : Located) (run : Run) (waits : IsWaitingAs s c y rest l.image values at run.machine) where
+    same : IsStoppedAs s c y rest l.image at (at_pc (run.machine.pc + 4) run.machine)
     same = record {
       suspended = waits.youngest ∷ waits.older;
       walked = waits.walked;
       sound = sound_pc run.machine (run.machine.pc + 4) waits.sound;
-      shown = pc_shows y s at.holdings at.store [] run.machine (run.machine.pc + 4) (forget_values y s at.holdings at.store values run.machine waits.shown);
+      shown = pc_shows y rest s at.holdings at.store [] run.machine (run.machine.pc + 4) (forget_values y rest s at.holdings at.store values run.machine waits.shown);
     }
 
-    abbrev shown_here : IsRepresented y s at.holdings at.store [] (at_pc (run.machine.pc + 4) run.machine)
-    shown_here = pc_shows y s at.holdings at.store [] run.machine (run.machine.pc + 4) (forget_values y s at.holdings at.store values run.machine waits.shown)
+    abbrev shown_here : IsRepresented y rest s at.holdings at.store [] (at_pc (run.machine.pc + 4) run.machine)
+    shown_here = pc_shows y rest s at.holdings at.store [] run.machine (run.machine.pc + 4) (forget_values y rest s at.holdings at.store values run.machine waits.shown)
 
     abbrev first_element : chain.Element
     first_element = record { procedure = waits.youngest.procedure; site = waits.youngest.site; mark = first_mark at.holdings.point }
@@ -130,13 +114,13 @@ module _ (s : Setting) (c : Compiled) (y : Symbols) (l : Launch) (tables : HaveT
 
     found : AreFoundAs l.image y (first_element ∷ older_elements) (chain_of l.image (region_of l) (at_pc (run.machine.pc + 4) run.machine))
     found = subst (λ (w : Region). AreFoundAs l.image y (first_element ∷ older_elements) (chain_of l.image w (at_pc (run.machine.pc + 4) run.machine))) region
-        (all_found s c y l.image tables planned (map_of l) is_for at [] (at_pc (run.machine.pc + 4) run.machine) (waits.youngest ∷ waits.older) waits.walked shown_here)
+        (all_found s c y rest l.image tables planned (map_of l) is_for at [] (at_pc (run.machine.pc + 4) run.machine) (waits.youngest ∷ waits.older) waits.walked shown_here)
 
     shows : AllZip (ShowsSuspension (shown_plan s c) at.holdings) (waits.youngest ∷ waits.older) (first_element ∷ older_elements)
-    shows = shows_each s c y l.image tables planned (map_of l) is_for at [] (at_pc (run.machine.pc + 4) run.machine) (waits.youngest ∷ waits.older) waits.walked shown_here
+    shows = shows_each s c y rest l.image tables planned (map_of l) is_for at [] (at_pc (run.machine.pc + 4) run.machine) (waits.youngest ∷ waits.older) waits.walked shown_here
 
     spots : AllSpots (first_element ∷ older_elements)
-    spots = spots_each s c y l.image tables planned (map_of l) is_for at [] (at_pc (run.machine.pc + 4) run.machine) (waits.youngest ∷ waits.older) waits.walked shown_here
+    spots = spots_each s c y rest l.image tables planned (map_of l) is_for at [] (at_pc (run.machine.pc + 4) run.machine) (waits.youngest ∷ waits.older) waits.walked shown_here
 
     -- the values that the youngest activation's site yields
     given_there : (t : State) → RepresentsValues (stack_region s) values t → (a : Activation) (x : Element) (others : List Element) → IsGhostOf s a waits.youngest →
@@ -152,12 +136,12 @@ module _ (s : Setting) (c : Compiled) (y : Symbols) (l : Launch) (tables : HaveT
 
     pub call_is : call_at l run.machine ≡ record { values = values; walk = Some (walk_of s (shown s c at)) }
     call_is =
-        let shown_now = forget_values y s at.holdings at.store values run.machine waits.shown in
+        let shown_now = forget_values y rest s at.holdings at.store values run.machine waits.shown in
         let walks : chain_walk l.image (region_of l) run.machine ≡ Some (walk_of s (shown s c at)) =
         subst (λ (w : Region). chain_walk l.image w run.machine ≡ Some (walk_of s (shown s c at))) region
-        (walk_is s c y l.image tables planned (map_of l) is_for at [] run.machine (waits.youngest ∷ waits.older) waits.walked shown_now) in
+        (walk_is s c y rest l.image tables planned (map_of l) is_for at [] run.machine (waits.youngest ∷ waits.older) waits.walked shown_now) in
         let all = subst (λ (w : Region). AreFoundAs l.image y (first_element ∷ older_elements) (chain_of l.image w run.machine)) region
-        (all_found s c y l.image tables planned (map_of l) is_for at [] run.machine (waits.youngest ∷ waits.older) waits.walked shown_now) in
+        (all_found s c y rest l.image tables planned (map_of l) is_for at [] run.machine (waits.youngest ∷ waits.older) waits.walked shown_now) in
         ap (λ (w : Option (List walk.Activation)). call_of (yielded_at (region_of l) run.machine (chain_of l.image (region_of l) run.machine).activations) w) walks
         ∙ ap (λ (vs : List ℕ). call_of vs (Some (walk_of s (shown s c at)))) (by at.store.activations (chain_of l.image (region_of l) run.machine).activations waits.walked.ghosts all.each)
       where
@@ -182,15 +166,15 @@ module _ (s : Setting) (c : Compiled) (y : Symbols) (l : Launch) (tables : HaveT
           ∙ ap (λ (w : List ℕ). run.log ++ yield_line values ++ w) alike
 
       abbrev Alike : Left Located Located → Left State State → Type 0
-      Alike x z = LeftAlike (IsStoppedAs s c y l.image) (AreAs s c y l.image) (GoesOnAs s c y l.image) x z
+      Alike x z = LeftAlike (IsStoppedAs s c y rest l.image) (AreAs s c y l.image) (GoesOnAs s c y rest l.image) x z
 
-      goes_on : (text other : List ℕ) → text ≡ other → (r : Located) (u : State) → GoesOnAs s c y l.image r u →
-          IsClientDone s c y l.image (left_at s c at.store.log record { text = text; left = client.Running r }) (left (client.Running u) (with_text other))
+      goes_on : (text other : List ℕ) → text ≡ other → (r : Located) (u : State) → GoesOnAs s c y rest l.image r u →
+          IsClientDone s c y rest l.image (left_at s c at.store.log record { text = text; left = client.Running r }) (left (client.Running u) (with_text other))
       goes_on text other alike r u (inl wrong) = IsClientDone.GoesWrong wrong.0 wrong.1
       goes_on text other alike r u (inr on) = IsClientDone.GoesOn going on.0 (resumed_too r u (at.store.log ++ text) on.1) (after_line text other alike)
 
       finish : (text other : List ℕ) → text ≡ other → (x : Left Located Located) (z : Left State State) → Alike x z →
-          IsClientDone s c y l.image (left_at s c at.store.log record { text = text; left = x }) (left z (with_text other))
+          IsClientDone s c y rest l.image (left_at s c at.store.log record { text = text; left = x }) (left z (with_text other))
       finish text other alike (client.Running r) (client.Running u) both = goes_on text other alike r u both
       finish text other alike (client.Stopped r) (client.Stopped u) both =
           IsClientDone.IsOver refl refl (stopped_too r u (at.store.log ++ text) (program.Ended program.Stopped) both) (after_line text other alike)
@@ -200,42 +184,42 @@ module _ (s : Setting) (c : Compiled) (y : Symbols) (l : Launch) (tables : HaveT
       finish text other alike (client.Stopped r) (client.Torn b u) both = absurd both
       finish text other alike (client.Torn b r) z both = absurd both
 
-      answered_here : IsClientDone s c y l.image (answered_at s c values at) (yields l values (record run { machine = at_pc (run.machine.pc + 4) run.machine }))
+      answered_here : IsClientDone s c y rest l.image (answered_at s c values at) (yields l values (record run { machine = at_pc (run.machine.pc + 4) run.machine }))
       answered_here =
-          let same_region = subst (λ (w : Region). AnswersAlike (IsStoppedAs s c y l.image) (AreAs s c y l.image) (GoesOnAs s c y l.image) (answer_to (places_askable s c) s.script values at)
+          let same_region = subst (λ (w : Region). AnswersAlike (IsStoppedAs s c y rest l.image) (AreAs s c y l.image) (GoesOnAs s c y rest l.image) (answer_to (places_askable s c) s.script values at)
           (answer_to (askable l.image w) s.script values (at_pc (run.machine.pc + 4) run.machine))) region
-          (answers_alike s c y l.image tables planned (map_of l) is_for frames apart knows s.script values at (at_pc (run.machine.pc + 4) run.machine) same) in
-          let both = subst (λ (script : Script). AnswersAlike (IsStoppedAs s c y l.image) (AreAs s c y l.image) (GoesOnAs s c y l.image) (answer_to (places_askable s c) s.script values at)
+          (answers_alike s c y rest l.image tables planned (map_of l) is_for frames apart knows s.script values at (at_pc (run.machine.pc + 4) run.machine) same) in
+          let both = subst (λ (script : Script). AnswersAlike (IsStoppedAs s c y rest l.image) (AreAs s c y l.image) (GoesOnAs s c y rest l.image) (answer_to (places_askable s c) s.script values at)
           (answer_to (askable l.image (region_of l)) script values (at_pc (run.machine.pc + 4) run.machine))) (sym scripts) same_region in
           finish (answer_to (places_askable s c) s.script values at).text (answer_to (askable l.image (region_of l)) l.script values (at_pc (run.machine.pc + 4) run.machine)).text both.text
           (answer_to (places_askable s c) s.script values at).left (answer_to (askable l.image (region_of l)) l.script values (at_pc (run.machine.pc + 4) run.machine)).left both.left
 
       by_chain : (activations : List Activation) (xs : List Element) (broken : Option Break) → AllZip (IsGhostOf s) activations (waits.youngest ∷ waits.older) →
           AllZip (IsFoundAs l.image y) (first_element ∷ older_elements) xs →
-          IsClientDone s c y l.image (answered_at s c values at)
+          IsClientDone s c y rest l.image (answered_at s c values at)
           (yielded l (record { activations = xs; broken = broken }) (record run { machine = at_pc (run.machine.pc + 4) run.machine }))
       by_chain (a ∷ activations) (x ∷ others) broken ghosts all =
           let got = given_there (at_pc (run.machine.pc + 4) run.machine) (pc_values (stack_region s) values run.machine (run.machine.pc + 4) waits.shown.values) a x others ghosts.0 all.0 in
-          subst (λ (vs : List ℕ). IsClientDone s c y l.image (answered_at s c values at) (yields l vs (record run { machine = at_pc (run.machine.pc + 4) run.machine }))) (sym got) answered_here
+          subst (λ (vs : List ℕ). IsClientDone s c y rest l.image (answered_at s c values at) (yields l vs (record run { machine = at_pc (run.machine.pc + 4) run.machine }))) (sym got) answered_here
       by_chain (a ∷ activations) [] broken ghosts all = absurd all
       by_chain [] xs broken ghosts all = absurd ghosts
 
       -- the yield, and the client's answer
-      pub client_done : IsClientDone s c y l.image (answered_at s c values at) (requested l run Yield)
+      pub client_done : IsClientDone s c y rest l.image (answered_at s c values at) (requested l run Yield)
       client_done =
           let chain_here = chain_of l.image (region_of l) (at_pc (run.machine.pc + 4) run.machine) in
           by_chain at.store.activations chain_here.activations chain_here.broken waits.walked.ghosts found.each
 
   -- once the client has stopped the run, its walk is that of the image
-  pub ending_is : (at : Located) (t : State) → IsStoppedAs s c y l.image at t → chain_walk l.image (region_of l) t ≡ Some (walk_of s (shown s c at))
+  pub ending_is : (at : Located) (t : State) → IsStoppedAs s c y rest l.image at t → chain_walk l.image (region_of l) t ≡ Some (walk_of s (shown s c at))
   ending_is at t same =
       subst (λ (w : Region). chain_walk l.image w t ≡ Some (walk_of s (shown s c at))) region
-      (walk_is s c y l.image tables planned (map_of l) is_for at [] t same.suspended same.walked same.shown)
+      (walk_is s c y rest l.image tables planned (map_of l) is_for at [] t same.suspended same.walked same.shown)
 
   -- and the chain of its tables is that of the activations
-  pub chain_there : (at : Located) (t : State) → IsStoppedAs s c y l.image at t → AreFoundAs l.image y (listed s c at) (chain_of l.image (region_of l) t)
+  pub chain_there : (at : Located) (t : State) → IsStoppedAs s c y rest l.image at t → AreFoundAs l.image y (listed s c at) (chain_of l.image (region_of l) t)
   chain_there at t same =
       subst (λ (w : Region). AreFoundAs l.image y (listed s c at) (chain_of l.image w t)) region
       (subst (λ (es : List chain.Element). AreFoundAs l.image y es (chain_of l.image (stack_region s) t))
-      (sym (listed_is s c y l.image tables planned (map_of l) is_for at [] t same.suspended same.walked same.shown))
-      (all_found s c y l.image tables planned (map_of l) is_for at [] t same.suspended same.walked same.shown))
+      (sym (listed_is s c y rest l.image tables planned (map_of l) is_for at [] t same.suspended same.walked same.shown))
+      (all_found s c y rest l.image tables planned (map_of l) is_for at [] t same.suspended same.walked same.shown))

@@ -90,19 +90,19 @@ found_keeps p keep (x ∷ xs) v all is =
     by true is there here rest = let e : Some x ≡ Some v = rw is at there in let one : x ≡ v = same_Some x v e in subst (λ z. keep z ≡ true) one here
     by false is there here rest = rest (rw is at there)
 
-module _ (s : Setting) (c : Compiled) (y : Symbols) (i : ImageParts) (tables : HaveTables s c y i) (planned : IsPlanned c.plan) (m : MemoryMap) (is_for : IsFor s m)
-    (frames : HasFrames s c) (at : Located) (t : State) (same : IsStoppedAs s c y i at t) (a : client.Located) (x : Element) (is : IsActivationAs s c y i at a x) where
-  abbrev here : Known s c y i tables planned m is_for at t same a x is.element
-  here = known s c y i tables planned m is_for at t same a x is
+module _ (s : Setting) (c : Compiled) (y : Symbols) (rest : ℕ → ℕ) (i : ImageParts) (tables : HaveTables s c y i) (planned : IsPlanned c.plan) (m : MemoryMap) (is_for : IsFor s m)
+    (frames : HasFrames s c) (at : Located) (t : State) (same : IsStoppedAs s c y rest i at t) (a : client.Located) (x : Element) (is : IsActivationAs s c y i at a x) where
+  abbrev here : Known s c y rest i tables planned m is_for at t same a x is.element
+  here = known s c y rest i tables planned m is_for at t same a x is
 
   row : IsSiteRow s c y here.suspension.procedure here.suspension.site a.procedure a.site x.site
-  row = row_of_site s c y i tables planned m is_for at t same a x is
+  row = row_of_site s c y rest i tables planned m is_for at t same a x is
 
   abbrev Alike : Option (Exit Located) → Option (Exit State) → Type 0
-  Alike e f = ExitsAlike (IsStoppedAs s c y i) (AreAs s c y i) (GoesOnAs s c y i) e f
+  Alike e f = ExitsAlike (IsStoppedAs s c y rest i) (AreAs s c y i) (GoesOnAs s c y rest i) e f
 
   frame_small : x.frame < 2 ^ 64
-  frame_small = omega (arith, is.found.frame, lies s c y i tables planned m is_for frames at t same a x is, is_for.small)
+  frame_small = omega (arith, is.found.frame, lies s c y rest i tables planned m is_for frames at t same a x is, is_for.small)
 
   -- ---- unwindings
 
@@ -112,11 +112,11 @@ module _ (s : Setting) (c : Compiled) (y : Symbols) (i : ImageParts) (tables : H
   unwound_value : (k : ℕ) → k < 8 → image.unwound x t (10 + k) ≡ t.registers (10 + k)
   unwound_value k less = grind (arith, nat_tests, less)
 
-  unwinding_comes : Comes s c y i tables planned m is_for frames at t same a x is unwound_to (record t { registers = image.unwound x t })
+  unwinding_comes : Comes s c y rest i tables planned m is_for frames at t same a x is unwound_to (record t { registers = image.unwound x t })
   unwinding_comes = record {
     contents = refl;
     temps = refl;
-    point = lies s c y i tables planned m is_for frames at t same a x is;
+    point = lies s c y rest i tables planned m is_for frames at t same a x is;
     sound = sound_unwound x t frame_small same.sound;
     memory = refl;
     holdings = record {
@@ -139,18 +139,18 @@ module _ (s : Setting) (c : Compiled) (y : Symbols) (i : ImageParts) (tables : H
       by : ZipAt (λ k u. IsUnwindRow y here.suspension.procedure k u) a.site.unwinds x.site.unwinds n → Alike ((places_askable s c).unwind_exit at a n) (image.unwind_exit (stack_region s) t x n)
       by (Neither none also) = rw (none, also) tt
       by (Each k u there also is_row) =
-          let exits = continuation_exits s c y i tables planned m is_for frames at t same a x is unwound_to u.continuation.0 (record t { registers = image.unwound x t }) (λ row. u.landing)
+          let exits = continuation_exits s c y rest i tables planned m is_for frames at t same a x is unwound_to u.continuation.0 (record t { registers = image.unwound x t }) (λ row. u.landing)
           unwinding_comes (λ row values node there code leads.
           AtLanding u.continuation.0 leads (is_row.landing ∙ ap (λ (q : ℕ). y.landing_of q k) (sym here.shows.procedure) ∙ ap (λ (j : ℕ). y.landing_of is.element.procedure j) (sym is_row.continuation))) in
           rw (there, also, ← is_row.continuation) exits
 
   -- ---- cuts
 
-  cutting_comes : Comes s c y i tables planned m is_for frames at t same a x is cut_to (record t { registers = with_register t.registers 2 x.frame })
+  cutting_comes : Comes s c y rest i tables planned m is_for frames at t same a x is cut_to (record t { registers = with_register t.registers 2 x.frame })
   cutting_comes = record {
     contents = refl;
     temps = refl;
-    point = lies s c y i tables planned m is_for frames at t same a x is;
+    point = lies s c y rest i tables planned m is_for frames at t same a x is;
     sound = sound_register t 2 x.frame frame_small same.sound;
     memory = refl;
     holdings = record {
@@ -190,12 +190,12 @@ module _ (s : Setting) (c : Compiled) (y : Symbols) (i : ImageParts) (tables : H
       let k = a.younger in
       let marks = marked c.plan same.suspended (first_mark at.holdings.point) in
       let all : drop k (shown s c at).activations ≡ map (activation_of s c at) (drop k (marked c.plan same.suspended (first_mark at.holdings.point))) =
-      drop_map (activation_of s c at) k (listed s c at) ∙ ap (λ (es : List chain.Element). map (activation_of s c at) (drop k es)) (lists s c y i tables planned m is_for at t same) in
+      drop_map (activation_of s c at) k (listed s c at) ∙ ap (λ (es : List chain.Element). map (activation_of s c at) (drop k es)) (lists s c y rest i tables planned m is_for at t same) in
       let sizes = same_sizes (drop k at.store.activations) (drop k same.suspended) (drop k (marked c.plan same.suspended (first_mark at.holdings.point)))
       (zip_drop (IsGhostOf s) k at.store.activations same.suspended same.walked.ghosts)
       (zip_drop (ShowsSuspension (shown_plan s c) at.holdings) k same.suspended (marked c.plan same.suspended (first_mark at.holdings.point))
-      (shows_each s c y i tables planned m is_for at [] t same.suspended same.walked same.shown)) in
-      ap (frame_address s) all ∙ ap (λ (n : ℕ). stack_top s - n) sizes ∙ sym (lies s c y i tables planned m is_for frames at t same a x is)
+      (shows_each s c y rest i tables planned m is_for at [] t same.suspended same.walked same.shown)) in
+      ap (frame_address s) all ∙ ap (λ (n : ℕ). stack_top s - n) sizes ∙ sym (lies s c y rest i tables planned m is_for frames at t same a x is)
 
   exists : c.plan.is_procedure here.suspension.procedure ≡ true
   exists = chain_exists (shown_plan s c) (stack_top s) at.holdings.contents same.suspended at.holdings.point a.younger here.suspension same.walked.chain here.is_there
@@ -207,9 +207,9 @@ module _ (s : Setting) (c : Compiled) (y : Symbols) (i : ImageParts) (tables : H
 
   pair_same : (to k : ℕ) → nat_lt k (length a.procedure.conts) ≡ true →
       has_value x to (continuation_number k) ≡ (continuation_value s (drop a.younger (shown s c at).activations) k == to)
-  pair_same to k inside = by (continuation_alike s c y i tables planned m is_for frames at t same a x is k)
+  pair_same to k inside = by (continuation_alike s c y rest i tables planned m is_for frames at t same a x is k)
     where
-      by : ContinuationAlike s c y i tables planned m is_for frames at t same a x is k → has_value x to (continuation_number k) ≡ (continuation_value s (drop a.younger (shown s c at).activations) k == to)
+      by : ContinuationAlike s c y rest i tables planned m is_for frames at t same a x is k → has_value x to (continuation_number k) ≡ (continuation_value s (drop a.younger (shown s c at).activations) k == to)
       by (NoContinuation none also) = absurd (none_there a.procedure.conts k none inside)
       by (HasContinuation cont row there also is_row) =
           let first : has_value x to (continuation_number k) ≡ (x.frame + row.pair == to) =
@@ -238,7 +238,7 @@ module _ (s : Setting) (c : Compiled) (y : Symbols) (i : ImageParts) (tables : H
           rw (none, also) tt
       by (Some k) there found =
           let also : find (has_value x to) x.site.cuts ≡ Some (continuation_number k) = found ∙ ap (λ (o : Option ℕ). with_some o (λ k. Some (continuation_number k))) there in
-          let exits = continuation_exits s c y i tables planned m is_for frames at t same a x is cut_to k (record t { registers = with_register t.registers 2 x.frame }) (λ row. row.code)
+          let exits = continuation_exits s c y rest i tables planned m is_for frames at t same a x is cut_to k (record t { registers = with_register t.registers 2 x.frame }) (λ row. row.code)
           cutting_comes (λ row values node there code leads. AtLanding k leads code) in
           rw (there, also) exits
 
@@ -261,7 +261,7 @@ module _ (s : Setting) (c : Compiled) (y : Symbols) (i : ImageParts) (tables : H
         let first : t.registers 1 ≡ y.return_to here.suspension.procedure here.suspension.site = shows in
         first ∙ ap (λ (q : ℕ). y.return_to q here.suspension.site) (sym here.shows.procedure) ∙ ap (λ (n : ℕ). y.return_to is.element.procedure n) (sym here.shows.site)
 
-    returning_comes : Comes s c y i tables planned m is_for frames at t same a x is returned_to t
+    returning_comes : Comes s c y rest i tables planned m is_for frames at t same a x is returned_to t
     returning_comes = record {
       contents = refl;
       temps = same.walked.temps;
@@ -287,7 +287,7 @@ module _ (s : Setting) (c : Compiled) (y : Symbols) (i : ImageParts) (tables : H
         Alike (exit_over s c returned_to at a (exits.continuation_exit a.procedure k))
         (with_some (with_some (slice_get x.procedure.continuations k) (λ c. Some (parameter_widths x.procedure c))) (λ widths. Some (back_with n widths)))
     alternate n k there =
-        let out = continuation_exits s c y i tables planned m is_for frames at t same a x is returned_to k t (λ row. t.registers 1 + 4 * n) returning_comes
+        let out = continuation_exits s c y rest i tables planned m is_for frames at t same a x is returned_to k t (λ row. t.registers 1 + 4 * n) returning_comes
         (λ row values node found code leads. Alternate a.procedure a.site is.element.site n k is.procedure is.site there leads (ap (λ (r : ℕ). r + 4 * n) return_address)) in
         subst (λ (o : Option (Exit State)). Alike (exit_over s c returned_to at a (exits.continuation_exit a.procedure k)) o)
         (sym (then_again (slice_get x.procedure.continuations k) (parameter_widths x.procedure) (back_with n))) out
@@ -297,7 +297,7 @@ module _ (s : Setting) (c : Compiled) (y : Symbols) (i : ImageParts) (tables : H
       sym row.results,
       λ values count fit.
           let few : length values ≤ 64 = let many = length-map a.site.results target_width in omega (arith, count, many, row.few) in
-          resumes s c y i tables planned m is_for frames at t same a x is returned_to (Back values) t (t.registers 1 + 4 * n) returning_comes
+          resumes s c y rest i tables planned m is_for frames at t same a x is returned_to (Back values) t (t.registers 1 + 4 * n) returning_comes
           (fit_words (map target_width a.site.results) values count fit) few
           (λ node leads.
           let out = some_by (site_exits c.graphs is.element.procedure is.element.site) (λ (e : Exits). e.normal) node leads in

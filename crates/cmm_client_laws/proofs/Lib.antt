@@ -13,6 +13,7 @@ pub mod Resuming
 pub mod Exits
 pub mod Poking
 pub mod Answering
+pub mod Alone
 pub mod Clients
 pub mod Keeping
 pub mod Lines

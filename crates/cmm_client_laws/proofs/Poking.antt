@@ -1,5 +1,5 @@
 -- The client writes data, over locations and in the image.
-use Rattle.std.proofs.Common.{◌≡◌, ℕ, ◌+◌, ◌-◌, ◌*◌, ◌/◌, ◌%◌, ◌^◌, ◌<◌, ◌==◌, ◌&&◌, Bool, true, false, All, List, [], ◌∷◌, length, Option, Some, None, refl, sym, ap, ◌∙◌, subst, arith}
+use Rattle.std.proofs.Common.{◌≡◌, ℕ, ◌+◌, ◌-◌, ◌*◌, ◌/◌, ◌%◌, ◌^◌, ◌<◌, ◌≤◌, ◌==◌, ◌&&◌, Bool, true, false, All, List, [], ◌∷◌, length, Option, Some, None, refl, sym, ap, ◌∙◌, subst, arith}
 use Rattle.std.specs.Prelude.{nat_le, nat_lt, slice_index_or}
 use Rattle.std.proofs.lemmas.Bool.Decides.{nat_tests}
 use Rattle.rv_table.specs.Machine.{MemoryMap, State, data_base, stored}
@@ -21,28 +21,15 @@ use Rattle.cmm_image_machine.specs.Changes as image
 use Rattle.cmm_image_machine.specs.Changes.{label_named}
 use Rattle.cmm_emit_laws.specs.Words.{Symbols}
 use Rattle.cmm_emit_laws.specs.Represented.{IsFor, IsRepresented}
-use Rattle.cmm_emit_laws.proofs.Showing.{store_shows}
+use Rattle.cmm_emit_laws.proofs.Shared.{data_is_written}
 use Rattle.cmm_located.specs.Answering.{places_askable}
 use Rattle.cmm_located.specs.Compiled.{Compiled, Located}
 use Rattle.cmm_client_laws.specs.Asked.{AreAs, GoesOnAs, IsStoppedAs}
 use Rattle.cmm_client_laws.specs.Tables.{HaveTables, IsLabelRow}
 use Rattle.cmm_client_laws.proofs.Sound.{sound_memory}
 
-there_in : (o : Option ℕ) → is_there (cell_of o) ≡ true
-there_in (Some byte) = refl
-there_in None = refl
-
--- where no byte is written, memory is as it was
-none_stored : (bytes : ℕ → ℕ) (address n : ℕ) → stored bytes address 0 n ≡ bytes
-none_stored bytes address n = λ i. λ k. at k (nat_le address k && nat_lt k (address + 0)) refl i
-  where
-    at : (k : ℕ) (b : Bool) → (nat_le address k && nat_lt k (address + 0)) ≡ b →
-        elim b as (λ _. ℕ) [ true ↦ n / 2 ^ (8 * (k - address)) % 256 | false ↦ bytes k ] ≡ bytes k
-    at k false out = refl
-    at k true both = absurd (grind (arith, nat_tests, both))
-
-module _ (s : Setting) (c : Compiled) (y : Symbols) (i : ImageParts) (tables : HaveTables s c y i) (m : MemoryMap) (is_for : IsFor s m)
-    (at : Located) (t : State) (same : IsStoppedAs s c y i at t) where
+module _ (s : Setting) (c : Compiled) (y : Symbols) (rest : ℕ → ℕ) (i : ImageParts) (tables : HaveTables s c y i) (m : MemoryMap) (is_for : IsFor s m)
+    (at : Located) (t : State) (same : IsStoppedAs s c y rest i at t) where
   begins : at.store.memory.data_room.address ≡ data_base
   begins = ap (λ (e : Extent). e.address) same.shown.stack.data_room
 
@@ -54,32 +41,24 @@ module _ (s : Setting) (c : Compiled) (y : Symbols) (i : ImageParts) (tables : H
       ap (λ (n : ℕ). (address % 8 == 0) && nat_le n address && nat_le (address + count) (n + length at.store.memory.data_room.cells)) begins
       ∙ ap (λ (n : ℕ). (address % 8 == 0) && nat_le data_base address && nat_le (address + count) (data_base + n)) bytes
 
-  inside : (address count k : ℕ) → program.may_poke at.store.memory.data_room address count ≡ true → k < count → is_there (cell_at at.store.memory (address + k)) ≡ true
-  inside address count k may less =
-      let within : is_in at.store.memory.data_room (address + k) ≡ true = by at.store.memory.data_room may in
-      ap (λ (b : Bool). is_there (elim b as (λ _. Cell) [
-        | true ↦ cell_of (slice_index_or at.store.memory.data_room.cells (address + k - at.store.memory.data_room.address) None)
-        | false ↦ cell_in at.store.memory.rooms (address + k)
-      ])) within ∙ there_in (slice_index_or at.store.memory.data_room.cells (address + k - at.store.memory.data_room.address) None)
-    where
-      by : (r : Room) → program.may_poke r address count ≡ true → is_in r (address + k) ≡ true
-      by r may = grind (arith, nat_tests, may, less)
+  -- what may be poked lies in data
+  low_of : (r : Room) (address count : ℕ) → program.may_poke r address count ≡ true → r.address ≤ address
+  low_of r address count may = grind (arith, nat_tests, may)
 
-  -- some bytes are written
-  written : (address : ℕ) (written : List ℕ) → All IsByte written → program.may_poke at.store.memory.data_room address (length written) ≡ true →
-      IsRepresented y s at.holdings (record at.store { memory = with_bytes at.store.memory address written }) []
-      (record t { memory = stored t.memory address (length written) (number_of written) })
-  written address [] are may =
-      subst (λ (memory : ℕ → ℕ). IsRepresented y s at.holdings at.store [] (record t { memory = memory })) (sym (none_stored t.memory address 0)) same.shown
-  written address (byte ∷ rest) are may =
-      let all : List ℕ = byte ∷ rest in
-      subst (λ (those : List ℕ). IsRepresented y s at.holdings (record at.store { memory = with_bytes at.store.memory address those }) []
-      (record t { memory = stored t.memory address (length (byte ∷ rest)) (number_of (byte ∷ rest)) })) (bytes_of_spelled (byte ∷ rest) are)
-      (store_shows y s m is_for at.holdings at.store t (record t { memory = stored t.memory address (length (byte ∷ rest)) (number_of (byte ∷ rest)) }) address (length (byte ∷ rest))
-      (number_of (byte ∷ rest)) (omega arith) (λ k less. inside address (length (byte ∷ rest)) k may less) (record { registers = λ r is. refl; memory = refl }) same.shown)
+  high_of : (r : Room) (address count : ℕ) → program.may_poke r address count ≡ true → address + count ≤ r.address + length r.cells
+  high_of r address count may = grind (arith, nat_tests, may)
+
+  written : (address : ℕ) (those : List ℕ) → All IsByte those → program.may_poke at.store.memory.data_room address (length those) ≡ true →
+      IsRepresented y rest s at.holdings (record at.store { memory = with_bytes at.store.memory address those }) []
+      (record t { memory = stored t.memory address (length those) (number_of those) })
+  written address those are may =
+      let low = low_of at.store.memory.data_room address (length those) may in
+      let high = high_of at.store.memory.data_room address (length those) may in
+      let size : length at.store.memory.data_room.cells ≡ m.data_length = ap (λ (e : Extent). e.length) same.shown.stack.data_room ∙ sym is_for.data_length in
+      data_is_written y rest s m is_for at.holdings at.store t address those are (omega (arith, low, begins)) (omega (arith, high, begins, size)) same.shown
 
   after_poke : (address : ℕ) (those : List ℕ) → All IsByte those → program.may_poke at.store.memory.data_room address (length those) ≡ true →
-      StayAlike (IsStoppedAs s c y i) (AreAs s c y i) (GoesOnAs s c y i) at t (record at { store = record at.store { memory = with_bytes at.store.memory address those } })
+      StayAlike (IsStoppedAs s c y rest i) (AreAs s c y i) (GoesOnAs s c y rest i) at t (record at { store = record at.store { memory = with_bytes at.store.memory address those } })
       (record t { memory = stored t.memory address (length those) (number_of those) })
   after_poke address those are may = record {
     same = record {
@@ -99,7 +78,7 @@ module _ (s : Setting) (c : Compiled) (y : Symbols) (i : ImageParts) (tables : H
   }
 
   abbrev Alike : Option Located → Option State → Type 0
-  Alike x z = ChangesAlike (IsStoppedAs s c y i) (AreAs s c y i) (GoesOnAs s c y i) at t x z
+  Alike x z = ChangesAlike (IsStoppedAs s c y rest i) (AreAs s c y i) (GoesOnAs s c y rest i) at t x z
 
   -- over locations, and in the image, where a test says whether bytes may be written
   abbrev located_poke : ℕ → List ℕ → Bool → Option Located

@@ -12,8 +12,7 @@ use Rattle.cmm_chain.specs.Walks.{Spot, content_at, put_at}
 use Rattle.cmm_abi.specs.Regions.{with_word}
 use Rattle.cmm_emit_laws.specs.Words.{Symbols, Represents, Sits, is_known}
 use Rattle.cmm_emit_laws.specs.Represented.{IsRepresented, stack_region}
-use Rattle.cmm_emit_laws.proofs.Showing.{registers_same, values_same}
-use Rattle.cmm_emit_laws.proofs.WrittenWords.{below_stays, cells_stay, shown_same, word_written}
+use Rattle.cmm_emit_laws.proofs.Shared.{below_stays, cells_stay, registers_same, rest_stays, shown_same, values_same, word_written}
 use Rattle.cmm_client_laws.specs.Walked.{place_of}
 use Rattle.cmm_client_laws.proofs.Showing.{IsSpot}
 
@@ -35,9 +34,9 @@ value_apart r i saved low = grind (arith, nat_tests, saved, low)
 temporary_apart : (r k : ℕ) → is_callee_saves r ≡ true → is_temporary k ≡ true → (k == r) ≡ false
 temporary_apart r k saved temporary = grind (arith, nat_tests, saved, temporary)
 
-module _ (y : Symbols) (s : Setting) (h : Holdings) (store : Store) (carried : List ℕ) (t : State) (is_shown : IsRepresented y s h store carried t) (x : ℕ) where
+module _ (y : Symbols) (rest : ℕ → ℕ) (s : Setting) (h : Holdings) (store : Store) (carried : List ℕ) (t : State) (is_shown : IsRepresented y rest s h store carried t) (x : ℕ) where
   in_stack : (a : ℕ) → x < 2 ^ 64 → is_known (h.contents a) ≡ true →
-      IsRepresented y s (put_at (chain.InStack a) (Number x) h) store carried (record t { memory = stored t.memory a 8 x })
+      IsRepresented y rest s (put_at (chain.InStack a) (Number x) h) store carried (record t { memory = stored t.memory a 8 x })
   in_stack a small known =
       let sits : Sits (stack_region s) store.memory a = is_shown.words.sits a known in record {
         holdings = record {
@@ -51,6 +50,7 @@ module _ (y : Symbols) (s : Setting) (h : Holdings) (store : Store) (carried : L
         words = word_written y (stack_region s) store.memory a x sits h.contents t.memory (Number x) refl small is_shown.words;
         cells = cells_stay y (stack_region s) store.memory a x sits t.memory is_shown.cells;
         registers = registers_same (stack_region s) store.registers t.memory (stored t.memory a 8 x) (λ b less low. below_stays y (stack_region s) store.memory a x sits t.memory b less) is_shown.registers;
+        elsewhere = rest_stays rest (stack_region s) store.memory.data_room t.memory a 8 x (omega (arith, sits.low)) sits.high is_shown.elsewhere;
         values = values_same (stack_region s) carried t (record t { memory = stored t.memory a 8 x }) (λ k less. refl)
             (λ b less low. below_stays y (stack_region s) store.memory a x sits t.memory b less) is_shown.values;
         stack = is_shown.stack;
@@ -58,7 +58,7 @@ module _ (y : Symbols) (s : Setting) (h : Holdings) (store : Store) (carried : L
       }
 
   in_register : (r : ℕ) → is_callee_saves r ≡ true →
-      IsRepresented y s (put_at (chain.InRegister r) (Number x) h) store carried (record t { registers = with_register t.registers r x })
+      IsRepresented y rest s (put_at (chain.InRegister r) (Number x) h) store carried (record t { registers = with_register t.registers r x })
   in_register r saved = record {
     holdings = record {
       zero = other_is t.registers r x 0 (low_apart r 0 saved (omega arith)) ∙ is_shown.holdings.zero;
@@ -72,6 +72,7 @@ module _ (y : Symbols) (s : Setting) (h : Holdings) (store : Store) (carried : L
     words = is_shown.words;
     cells = is_shown.cells;
     registers = is_shown.registers;
+    elsewhere = is_shown.elsewhere;
     values = values_same (stack_region s) carried t (record t { registers = with_register t.registers r x }) (λ k less. other_is t.registers r x (10 + k) (value_apart r k saved less))
         (λ b less low. refl) is_shown.values;
     stack = is_shown.stack;
@@ -83,6 +84,6 @@ module _ (y : Symbols) (s : Setting) (h : Holdings) (store : Store) (carried : L
       kept_at k is false differs = shown_same y (h.point.kept k) (t.registers k) (with_register t.registers r x k) (λ known. other_is t.registers r x k differs) (is_shown.holdings.kept k is)
 
   -- a number is put where something that is known stands
-  pub spot_shows : (spot : Spot) → IsSpot spot → x < 2 ^ 64 → is_known (content_at h spot) ≡ true → IsRepresented y s (put_at spot (Number x) h) store carried (with_word (place_of spot) x t)
+  pub spot_shows : (spot : Spot) → IsSpot spot → x < 2 ^ 64 → is_known (content_at h spot) ≡ true → IsRepresented y rest s (put_at spot (Number x) h) store carried (with_word (place_of spot) x t)
   spot_shows (chain.InRegister r) is small known = in_register r is
   spot_shows (chain.InStack a) is small known = in_stack a small known

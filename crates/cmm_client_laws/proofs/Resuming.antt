@@ -41,8 +41,7 @@ use Rattle.cmm_image_machine.specs.Frames.{Element}
 use Rattle.cmm_abi.specs.Regions.{with_values}
 use Rattle.cmm_emit_laws.specs.Words.{Symbols}
 use Rattle.cmm_emit_laws.specs.Represented.{IsFor, IsRepresented, RepresentsHoldings, stack_region}
-use Rattle.cmm_emit_laws.proofs.Leaving.{moved_shows}
-use Rattle.cmm_emit_laws.proofs.Resiting.{resited_shows}
+use Rattle.cmm_emit_laws.proofs.Shared.{moved_shows, outside_shows, resited_shows}
 use Rattle.cmm_located.specs.Answering.{come_back, exit_over, landing_node, no_landing, resumed_by, values_brought}
 use Rattle.cmm_located.specs.Compiled.{Compiled, Located, landing_in}
 use Rattle.cmm_located.specs.SameOrders.{HasFrames}
@@ -78,29 +77,22 @@ same_widths p row (v ∷ vs) is =
 
 -- ---- what is shown does not depend on where control is
 
-pub pc_shows : (y : Symbols) (s : Setting) (h : Holdings) (store : Store) (carried : List ℕ) (t : State) (pc : ℕ) → IsRepresented y s h store carried t →
-    IsRepresented y s h store carried (at_pc pc t)
-pc_shows y s h store carried t pc shows = record {
+pub pc_shows : (y : Symbols) (rest : ℕ → ℕ) (s : Setting) (h : Holdings) (store : Store) (carried : List ℕ) (t : State) (pc : ℕ) → IsRepresented y rest s h store carried t →
+    IsRepresented y rest s h store carried (at_pc pc t)
+pc_shows y rest s h store carried t pc shows = record {
   holdings = shows.holdings;
   words = shows.words;
   cells = shows.cells;
   registers = shows.registers;
+  elsewhere = shows.elsewhere;
   values = shows.values;
   stack = shows.stack;
   at = shows.at;
 }
 
-pub log_shows : (y : Symbols) (s : Setting) (h : Holdings) (store : Store) (carried : List ℕ) (t : State) (log : List ℕ) → IsRepresented y s h store carried t →
-    IsRepresented y s h (record store { log = log }) carried t
-log_shows y s h store carried t log shows = record {
-  holdings = shows.holdings;
-  words = shows.words;
-  cells = shows.cells;
-  registers = shows.registers;
-  values = shows.values;
-  stack = shows.stack;
-  at = shows.at;
-}
+pub log_shows : (y : Symbols) (rest : ℕ → ℕ) (s : Setting) (h : Holdings) (store : Store) (carried : List ℕ) (t : State) (log : List ℕ) → IsRepresented y rest s h store carried t →
+    IsRepresented y rest s h (record store { log = log }) carried t
+log_shows y rest s h store carried t log shows = outside_shows y rest s h store carried t store.input store.taken store.output log store.status shows
 
 -- ---- where frames lie
 
@@ -131,10 +123,10 @@ pub some_by : {A B : Type 0} (o : Option A) (f : A → Option B) (z : B) → wit
 some_by (Some x) f z is = (x, refl, is)
 some_by None f z is = absurd (cc)
 
-module _ (s : Setting) (c : Compiled) (y : Symbols) (i : ImageParts) (tables : HaveTables s c y i) (planned : IsPlanned c.plan) (m : MemoryMap) (is_for : IsFor s m)
-    (frames : HasFrames s c) (at : Located) (t : State) (same : IsStoppedAs s c y i at t) (a : client.Located) (x : Element) (is : IsActivationAs s c y i at a x) where
-  abbrev here : Known s c y i tables planned m is_for at t same a x is.element
-  here = known s c y i tables planned m is_for at t same a x is
+module _ (s : Setting) (c : Compiled) (y : Symbols) (rest : ℕ → ℕ) (i : ImageParts) (tables : HaveTables s c y i) (planned : IsPlanned c.plan) (m : MemoryMap) (is_for : IsFor s m)
+    (frames : HasFrames s c) (at : Located) (t : State) (same : IsStoppedAs s c y rest i at t) (a : client.Located) (x : Element) (is : IsActivationAs s c y i at a x) where
+  abbrev here : Known s c y rest i tables planned m is_for at t same a x is.element
+  here = known s c y rest i tables planned m is_for at t same a x is
 
   pub lies : is.element.mark.at ≡ frame_address s (drop a.younger at.store.activations)
   lies = mark_lies s c frames a.younger at.store.activations same.suspended (stack_top s) at.holdings.contents at.holdings.point (first_mark at.holdings.point) is.element
@@ -162,20 +154,20 @@ module _ (s : Setting) (c : Compiled) (y : Symbols) (i : ImageParts) (tables : H
   }
 
   landed_shows : (come : chain.Element → Holdings → Holdings) (landing : Landing) (n : NodeId) (u : State) (pc : ℕ) → Comes come u → AreWords (values_brought landing) → length (values_brought landing) ≤ 64 →
-      IsRepresented y s (landed come landing n).holdings (landed come landing n).store (landed come landing n).carried (at_pc pc (with_values (stack_region s) (values_brought landing) u))
+      IsRepresented y rest s (landed come landing n).holdings (landed come landing n).store (landed come landing n).carried (at_pc pc (with_values (stack_region s) (values_brought landing) u))
   landed_shows come landing n u pc comes words few =
-      let moved : IsRepresented y s (come is.element at.holdings) (without a.younger at.store) [] u =
-      moved_shows y s m is_for at.holdings (come is.element at.holdings) at.store [] a.younger t u same.shown comes.memory comes.contents comes.holdings comes.values comes.point in
-      let resited = resited_shows y s (come is.element at.holdings) (without a.younger at.store) [] u None program.Running moved in
-      pc_shows y s (come is.element at.holdings) (landed come landing n).store (values_brought landing) (with_values (stack_region s) (values_brought landing) u) pc
-      (brought_shows y s m is_for (come is.element at.holdings) (landed come landing n).store (values_brought landing) u words few comes.temps resited)
+      let moved : IsRepresented y rest s (come is.element at.holdings) (without a.younger at.store) [] u =
+      moved_shows y rest s m is_for at.holdings (come is.element at.holdings) at.store [] a.younger t u same.shown comes.memory comes.contents comes.holdings comes.values comes.point in
+      let resited = resited_shows y rest s (come is.element at.holdings) (without a.younger at.store) [] u None program.Running moved in
+      pc_shows y rest s (come is.element at.holdings) (landed come landing n).store (values_brought landing) (with_values (stack_region s) (values_brought landing) u) pc
+      (brought_shows y rest s m is_for (come is.element at.holdings) (landed come landing n).store (values_brought landing) u words few comes.temps resited)
 
   pub resumes : (come : chain.Element → Holdings → Holdings) (landing : Landing) (u : State) (pc : ℕ) → Comes come u → AreWords (values_brought landing) → length (values_brought landing) ≤ 64 →
       ((n : NodeId) → landing_node s c is.element.procedure is.element.site landing ≡ Some n →
       IsAtExit s c y i (landed come landing n) (at_pc pc (with_values (stack_region s) (values_brought landing) u))) →
-      GoesOnAs s c y i (resumed_by s c come a.younger landing at) (at_pc pc (with_values (stack_region s) (values_brought landing) u))
+      GoesOnAs s c y rest i (resumed_by s c come a.younger landing at) (at_pc pc (with_values (stack_region s) (values_brought landing) u))
   resumes come landing u pc comes words few control =
-      subst (λ (z : Located). GoesOnAs s c y i z (at_pc pc (with_values (stack_region s) (values_brought landing) u))) (sym unfolded)
+      subst (λ (z : Located). GoesOnAs s c y rest i z (at_pc pc (with_values (stack_region s) (values_brought landing) u))) (sym unfolded)
       (by (landing_node s c is.element.procedure is.element.site landing) refl)
     where
       unfolded : resumed_by s c come a.younger landing at ≡ elim (landing_node s c is.element.procedure is.element.site landing) as (λ _. Located) [
@@ -185,7 +177,7 @@ module _ (s : Setting) (c : Compiled) (y : Symbols) (i : ImageParts) (tables : H
       unfolded = ap (λ (o : Option chain.Element). elim o as (λ _. Located) [ Some e ↦ come_back s c come a.younger landing e at | None ↦ no_landing s c at ]) is.is_listed
 
       by : (o : Option NodeId) → landing_node s c is.element.procedure is.element.site landing ≡ o →
-          GoesOnAs s c y i (elim o as (λ _. Located) [ Some n ↦ landed come landing n | None ↦ no_landing s c at ]) (at_pc pc (with_values (stack_region s) (values_brought landing) u))
+          GoesOnAs s c y rest i (elim o as (λ _. Located) [ Some n ↦ landed come landing n | None ↦ no_landing s c at ]) (at_pc pc (with_values (stack_region s) (values_brought landing) u))
       by (Some n) there = inr (
         refl,
         record {
@@ -211,7 +203,7 @@ module _ (s : Setting) (c : Compiled) (y : Symbols) (i : ImageParts) (tables : H
   continuation_alike k = by (slice_get a.procedure.conts k) refl
     where
       row : IsProcedureRow a.procedure (c.plan.frame here.suspension.procedure) y here.suspension.procedure x.procedure
-      row = proc_row s c y i tables planned m is_for at t same a x is
+      row = proc_row s c y rest i tables planned m is_for at t same a x is
 
       by : (o : Option Cont) → slice_get a.procedure.conts k ≡ o → ContinuationAlike k
       by (Some cont) there = let found = row.continuations k cont there in HasContinuation cont found.0 there found.1 found.2
@@ -220,7 +212,7 @@ module _ (s : Setting) (c : Compiled) (y : Symbols) (i : ImageParts) (tables : H
   widths_alike : (k : ℕ) (cont : Cont) (row : ContinuationRow) → IsContinuationRow (c.plan.frame here.suspension.procedure) y here.suspension.procedure k cont row →
       map (exits.variable_width a.procedure) cont.params ≡ parameter_widths x.procedure row
   widths_alike k cont row is_row =
-      let proc : IsProcedureRow a.procedure (c.plan.frame here.suspension.procedure) y here.suspension.procedure x.procedure = proc_row s c y i tables planned m is_for at t same a x is in
+      let proc : IsProcedureRow a.procedure (c.plan.frame here.suspension.procedure) y here.suspension.procedure x.procedure = proc_row s c y rest i tables planned m is_for at t same a x is in
       ap (λ (vs : List ℕ). map (exits.variable_width a.procedure) vs) (sym is_row.parameters) ∙ sym (same_widths a.procedure x.procedure row.parameters proc.variables)
 
   -- an exit to it, over locations and in the image
@@ -228,7 +220,7 @@ module _ (s : Setting) (c : Compiled) (y : Symbols) (i : ImageParts) (tables : H
       ((row : ContinuationRow) (values : List ℕ) (n : NodeId) → slice_get x.procedure.continuations k ≡ Some row → row.code ≡ y.landing_of is.element.procedure k →
       landing_in c.graphs is.element.procedure k ≡ Some n →
       IsAtExit s c y i (landed come (Resumed k values) n) (at_pc (pc row) (with_values (stack_region s) values u))) →
-      ExitsAlike (IsStoppedAs s c y i) (AreAs s c y i) (GoesOnAs s c y i) (exit_over s c come at a (exits.continuation_exit a.procedure k))
+      ExitsAlike (IsStoppedAs s c y rest i) (AreAs s c y i) (GoesOnAs s c y rest i) (exit_over s c come at a (exits.continuation_exit a.procedure k))
       (with_some (slice_get x.procedure.continuations k) (λ row.
       let out : Exit State = record { widths = parameter_widths x.procedure row; resumed = λ values. at_pc (pc row) (with_values (stack_region s) values u) } in Some out))
   continuation_exits come k u pc comes control = by (continuation_alike k)
@@ -239,7 +231,7 @@ module _ (s : Setting) (c : Compiled) (y : Symbols) (i : ImageParts) (tables : H
       out : ContinuationRow → Exit State
       out row = record { widths = parameter_widths x.procedure row; resumed = λ values. at_pc (pc row) (with_values (stack_region s) values u) }
 
-      by : ContinuationAlike k → ExitsAlike (IsStoppedAs s c y i) (AreAs s c y i) (GoesOnAs s c y i) (exit_over s c come at a (exits.continuation_exit a.procedure k))
+      by : ContinuationAlike k → ExitsAlike (IsStoppedAs s c y rest i) (AreAs s c y i) (GoesOnAs s c y rest i) (exit_over s c come at a (exits.continuation_exit a.procedure k))
           (with_some (slice_get x.procedure.continuations k) (λ row.
           let out : Exit State = record { widths = parameter_widths x.procedure row; resumed = λ values. at_pc (pc row) (with_values (stack_region s) values u) } in Some out))
       by (NoContinuation none also) = rw (none, also) tt
@@ -247,7 +239,7 @@ module _ (s : Setting) (c : Compiled) (y : Symbols) (i : ImageParts) (tables : H
           let same_code : row.code ≡ y.landing_of is.element.procedure k = is_row.code ∙ ap (λ (q : ℕ). y.landing_of q k) (sym here.shows.procedure) in
           let both : (map (exits.variable_width a.procedure) cont.params ≡ parameter_widths x.procedure row)
           × ((values : List ℕ) → length (map (exits.variable_width a.procedure) cont.params) ≡ length values → all_fit (map (exits.variable_width a.procedure) cont.params) values ≡ true →
-          GoesOnAs s c y i (resumed_by s c come a.younger (Resumed k values) at) (at_pc (pc row) (with_values (stack_region s) values u))) = (
+          GoesOnAs s c y rest i (resumed_by s c come a.younger (Resumed k values) at) (at_pc (pc row) (with_values (stack_region s) values u))) = (
             widths_alike k cont row is_row,
             λ values count fit.
                 let few : length values ≤ 64 = let many = length-map cont.params (exits.variable_width a.procedure) in omega (arith, count, many, is_row.few) in

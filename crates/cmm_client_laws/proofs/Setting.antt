@@ -159,12 +159,12 @@ chain_exists plan top contents [] p k t is there = absurd (cc)
 chain_exists plan top contents (u ∷ older) p zero t is there = let same : u ≡ t = same_Some u t there in ap (λ (z : Suspension). plan.is_procedure z.procedure) (sym same) ∙ is.0.exists
 chain_exists plan top contents (u ∷ older) p (suc k) t is there = chain_exists plan top contents older _ k t is.1 there
 
-module _ (s : Setting) (c : Compiled) (y : Symbols) (i : ImageParts) (tables : HaveTables s c y i) (planned : IsPlanned c.plan) (m : MemoryMap) (is_for : IsFor s m)
-    (apart : AreApart c) (knows : KnowsLive s c) (at : Located) (t : State) (same : IsStoppedAs s c y i at t) where
+module _ (s : Setting) (c : Compiled) (y : Symbols) (rest : ℕ → ℕ) (i : ImageParts) (tables : HaveTables s c y i) (planned : IsPlanned c.plan) (m : MemoryMap) (is_for : IsFor s m)
+    (apart : AreApart c) (knows : KnowsLive s c) (at : Located) (t : State) (same : IsStoppedAs s c y rest i at t) where
   module _ (a : client.Located) (x : Element) (is : IsActivationAs s c y i at a x) (n value : ℕ) (info : VarInfo) (is_info : slice_get a.procedure.vars n ≡ Some info)
       (live : is_live_at a.procedure a.number n ≡ true) (fits : value < 2 ^ bits info.width) where
-    abbrev there : Known s c y i tables planned m is_for at t same a x is.element
-    there = known s c y i tables planned m is_for at t same a x is
+    abbrev there : Known s c y rest i tables planned m is_for at t same a x is.element
+    there = known s c y rest i tables planned m is_for at t same a x is
 
     abbrev q : ℕ
     q = there.suspension.procedure
@@ -198,7 +198,7 @@ module _ (s : Setting) (c : Compiled) (y : Symbols) (i : ImageParts) (tables : H
     -- and in the image
     image_set : image.with_variable t x n value ≡ with_word (place_of found_spot.0) value t
     image_set =
-        let row = row_of_site s c y i tables planned m is_for at t same a x is in
+        let row = row_of_site s c y rest i tables planned m is_for at t same a x is in
         let none : 0 + n ≡ n = omega arith in
         let variable : slice_get x.site.variables n ≡ Some (place_while true (c.plan.place there.suspension.procedure n)) =
         ap (λ (places : List VariablePlace). slice_get places n) row.variables
@@ -242,10 +242,10 @@ module _ (s : Setting) (c : Compiled) (y : Symbols) (i : ImageParts) (tables : H
     known_spot : is_known (content_at at.holdings found_spot.0) ≡ true
     known_spot = ap is_known found_spot.2
 
-    shown_after : IsRepresented y s (put_at found_spot.0 (Number value) at.holdings) at.store [] (with_word (place_of found_spot.0) value t)
-    shown_after = spot_shows y s at.holdings at.store [] t same.shown value found_spot.0 in_place.0 (word_fits info.width value fits) known_spot
+    shown_after : IsRepresented y rest s (put_at found_spot.0 (Number value) at.holdings) at.store [] (with_word (place_of found_spot.0) value t)
+    shown_after = spot_shows y rest s at.holdings at.store [] t same.shown value found_spot.0 in_place.0 (word_fits info.width value fits) known_spot
 
-    stopped_after : IsStoppedAs s c y i (record at { holdings = put_at found_spot.0 (Number value) at.holdings }) (with_word (place_of found_spot.0) value t)
+    stopped_after : IsStoppedAs s c y rest i (record at { holdings = put_at found_spot.0 (Number value) at.holdings }) (with_word (place_of found_spot.0) value t)
     stopped_after = record {
       suspended = with_value a.younger n value same.suspended;
       walked = walked_after;
@@ -256,16 +256,16 @@ module _ (s : Setting) (c : Compiled) (y : Symbols) (i : ImageParts) (tables : H
     listed_after : listed s c (record at { holdings = put_at found_spot.0 (Number value) at.holdings }) ≡ listed s c at
     unfolding stopped_after
     listed_after =
-        lists s c y i tables planned m is_for (record at { holdings = put_at found_spot.0 (Number value) at.holdings }) (with_word (place_of found_spot.0) value t) stopped_after
+        lists s c y rest i tables planned m is_for (record at { holdings = put_at found_spot.0 (Number value) at.holdings }) (with_word (place_of found_spot.0) value t) stopped_after
         ∙ marked_with_value c.plan a.younger n value same.suspended (first_mark (put_at found_spot.0 (Number value) at.holdings).point)
         ∙ ap (marked c.plan same.suspended) (same_first found_spot.0 (Number value) at.holdings)
-        ∙ sym (lists s c y i tables planned m is_for at t same)
+        ∙ sym (lists s c y rest i tables planned m is_for at t same)
 
     -- both are stopped as before
-    pub set_stays : StayAlike (IsStoppedAs s c y i) (AreAs s c y i) (GoesOnAs s c y i) at t (set_number s c a.younger n value at) (image.with_variable t x n value)
+    pub set_stays : StayAlike (IsStoppedAs s c y rest i) (AreAs s c y i) (GoesOnAs s c y rest i) at t (set_number s c a.younger n value at) (image.with_variable t x n value)
     set_stays =
-        subst (λ (z : Located). StayAlike (IsStoppedAs s c y i) (AreAs s c y i) (GoesOnAs s c y i) at t z (image.with_variable t x n value)) (sym places_set)
-        (subst (λ (z : State). StayAlike (IsStoppedAs s c y i) (AreAs s c y i) (GoesOnAs s c y i) at t (record at { holdings = put_at found_spot.0 (Number value) at.holdings }) z) (sym image_set)
+        subst (λ (z : Located). StayAlike (IsStoppedAs s c y rest i) (AreAs s c y i) (GoesOnAs s c y rest i) at t z (image.with_variable t x n value)) (sym places_set)
+        (subst (λ (z : State). StayAlike (IsStoppedAs s c y rest i) (AreAs s c y i) (GoesOnAs s c y rest i) at t (record at { holdings = put_at found_spot.0 (Number value) at.holdings }) z) (sym image_set)
         (record {
           same = stopped_after;
           each = λ b z as_. record {
@@ -280,7 +280,7 @@ module _ (s : Setting) (c : Compiled) (y : Symbols) (i : ImageParts) (tables : H
 
   pub set_alike : (a : client.Located) (x : Element) (n value : ℕ) (v : Shown) (old : ℕ) → IsActivationAs s c y i at a x →
       slice_get (located_shown s (shown s c at) a).variables n ≡ Some v → v.value ≡ Some old → value < 2 ^ v.width →
-      StayAlike (IsStoppedAs s c y i) (AreAs s c y i) (GoesOnAs s c y i) at t (set_number s c a.younger n value at) (image.with_variable t x n value)
+      StayAlike (IsStoppedAs s c y rest i) (AreAs s c y i) (GoesOnAs s c y rest i) at t (set_number s c a.younger n value at) (image.with_variable t x n value)
   set_alike a x n value v old is shows valued fits =
       let values : List ℕ = values_at (drop a.younger (shown s c at).activations) in
       let got = get_shown a.procedure a.number values 0 n a.procedure.vars v shows in

@@ -18,7 +18,7 @@ use Rattle.cmm_abi.specs.Regions.{bottom}
 use Rattle.cmm_image_machine.specs.Walks.{chain_walk, element_shown}
 use Rattle.cmm_emit_laws.specs.Words.{Symbols}
 use Rattle.cmm_emit_laws.specs.Represented.{IsFor, IsRepresented, stack_region}
-use Rattle.cmm_emit_laws.proofs.Regions.{bottom_is, top_is}
+use Rattle.cmm_emit_laws.proofs.Shared.{bottom_is, top_is}
 use Rattle.cmm_located.specs.Answering.{activation_of, listed, shown}
 use Rattle.cmm_located.specs.Compiled.{Compiled, Located}
 use Rattle.cmm_client_laws.specs.Tables.{HaveTables}
@@ -33,9 +33,9 @@ as_many s (a ∷ activations) (t ∷ suspended) ghosts = let rest = as_many s ac
 as_many s [] (t ∷ suspended) ghosts = absurd ghosts
 as_many s (a ∷ activations) [] ghosts = absurd ghosts
 
-module _ (s : Setting) (c : Compiled) (y : Symbols) (i : ImageParts) (tables : HaveTables s c y i) (planned : IsPlanned c.plan) (m : MemoryMap) (is_for : IsFor s m)
+module _ (s : Setting) (c : Compiled) (y : Symbols) (rest : ℕ → ℕ) (i : ImageParts) (tables : HaveTables s c y i) (planned : IsPlanned c.plan) (m : MemoryMap) (is_for : IsFor s m)
     (at : Located) (carried : List ℕ) (t : State) (suspended : List Suspension) (walked : IsWalked s c at.holdings at.store.activations suspended)
-    (is_shown : IsRepresented y s at.holdings at.store carried t) where
+    (is_shown : IsRepresented y rest s at.holdings at.store carried t) where
   abbrev marks : List chain.Element
   marks = marked c.plan suspended (first_mark at.holdings.point)
 

@@ -21,13 +21,6 @@ use Rattle.cmm_located.specs.Compiled.{Compiled, Located, landing_in, site_exits
 use Rattle.cmm_client_laws.specs.Walked.{IsFoundAs, IsWalked}
 
 module _ (s : Setting) (c : Compiled) (y : Symbols) (i : ImageParts) where
-  -- a stopped program is represented, and its activations are found along the stack
-  pub record IsStoppedAs (at : Located) (t : State) : Type 0 where
-    pub suspended : List Suspension
-    pub walked : IsWalked s c at.holdings at.store.activations suspended
-    pub shown : IsRepresented y s at.holdings at.store [] t
-    pub sound : IsSound t
-
   -- a located activation, and one that the tables find
   pub record IsActivationAs (at : Located) (a : client.Located) (x : Element) : Type 0 where
     pub element : chain.Element
@@ -50,6 +43,15 @@ module _ (s : Setting) (c : Compiled) (y : Symbols) (i : ImageParts) where
         IsAtExit at t
     Landing : (k : ℕ) → landing_in c.graphs at.procedure k ≡ Some at.node → t.pc ≡ y.landing_of at.procedure k → IsAtExit at t
 
+-- elsewhere, memory is the rest
+module _ (s : Setting) (c : Compiled) (y : Symbols) (rest : ℕ → ℕ) (i : ImageParts) where
+  -- a stopped program is represented, and its activations are found along the stack
+  pub record IsStoppedAs (at : Located) (t : State) : Type 0 where
+    pub suspended : List Suspension
+    pub walked : IsWalked s c at.holdings at.store.activations suspended
+    pub shown : IsRepresented y rest s at.holdings at.store [] t
+    pub sound : IsSound t
+
   -- the program goes on alike
   pub record IsResumedAs (at : Located) (t : State) : Type 0 where
     pub activation : program.Activation
@@ -57,8 +59,8 @@ module _ (s : Setting) (c : Compiled) (y : Symbols) (i : ImageParts) where
     pub youngest : at.store.activations ≡ activation ∷ older
     pub same : activation.procedure ≡ at.procedure
     pub sound : IsSound t
-    pub shown : IsRepresented y s at.holdings at.store at.carried t
-    pub control : IsAtExit at t
+    pub shown : IsRepresented y rest s at.holdings at.store at.carried t
+    pub control : IsAtExit s c y i at t
 
   -- or it is wrong to go on
   abbrev pub GoesOnAs : Located → State → Type 0

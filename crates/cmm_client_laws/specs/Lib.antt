@@ -2,6 +2,7 @@ pub mod Tables
 pub mod Rows
 pub mod Walked
 pub mod Asked
+pub mod Alone
 pub mod Waiting
 pub mod Fits
 pub mod Keeping

@@ -15,13 +15,14 @@ use Rattle.cmm_located.specs.Compiled.{Compiled, Located}
 use Rattle.cmm_client_laws.specs.Asked.{IsResumedAs, IsStoppedAs}
 use Rattle.cmm_client_laws.specs.Walked.{IsGhostOf, IsWalked}
 
-module _ (s : Setting) (c : Compiled) (y : Symbols) (i : ImageParts) where
+-- elsewhere, memory is the rest
+module _ (s : Setting) (c : Compiled) (y : Symbols) (rest : ℕ → ℕ) (i : ImageParts) where
   -- the youngest activation waits at a site that yields so many values, which have come to where values travel; the log ends with their line
   pub record IsWaitingAs (values : List ℕ) (at : Located) (t : State) : Type 0 where
     pub youngest : Suspension
     pub older : List Suspension
     pub walked : IsWalked s c at.holdings at.store.activations (youngest ∷ older)
-    pub shown : IsRepresented y s at.holdings at.store values t
+    pub shown : IsRepresented y rest s at.holdings at.store values t
     pub sound : IsSound t
     pub yields : (a : program.Activation) (g : IsGhostOf s a youngest) → g.site.yield_values ≡ Some (length values)
     pub front : List ℕ
@@ -29,7 +30,7 @@ module _ (s : Setting) (c : Compiled) (y : Symbols) (i : ImageParts) where
 
   -- the client is done, over locations and in the image: the program goes on, unless it is wrong to, or is stopped
   pub data IsClientDone (at : Located) (run : Run) : Type 0 where
-    GoesOn : run.status ≡ Running → at.store.status ≡ program.Running → IsResumedAs s c y i at run.machine → at.store.log ≡ run.log → IsClientDone at run
+    GoesOn : run.status ≡ Running → at.store.status ≡ program.Running → IsResumedAs s c y rest i at run.machine → at.store.log ≡ run.log → IsClientDone at run
     GoesWrong : (e : UncheckedError) → at.store.status ≡ program.Wrong e → IsClientDone at run
-    IsOver : run.status ≡ Ended program.Stopped → at.store.status ≡ program.Ended program.Stopped → IsStoppedAs s c y i at run.machine →
+    IsOver : run.status ≡ Ended program.Stopped → at.store.status ≡ program.Ended program.Stopped → IsStoppedAs s c y rest i at run.machine →
         at.store.log ≡ run.log → IsClientDone at run

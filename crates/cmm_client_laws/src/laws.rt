@@ -1,11 +1,23 @@
 //! Laws of the client's answer. Each is the contract of a function that does nothing.
-ghost use Rattle.cmm_client_laws.specs.Laws.{AnswersAreDone, AnswersKeep, CallsAreSame, ChainsAreFound, EventsFit, FittingIsWalked, RowsAreTables, WalksAreSame};
+ghost use Rattle.cmm_client_laws.specs.Alone.{ChainsAreStopped, StoppedAreChains};
+ghost use Rattle.cmm_client_laws.specs.Laws.{AnswersAreDone, AnswersKeep, CallsAreSame, ChainsAreFound, CommandsAreAlike, EventsFit, FittingIsWalked, RowsAreTables, WalksAreSame};
 ghost use Rattle.cmm_client_laws.specs.Lines.{LinesAreWritten};
 
 /// The tables find just the activations of a stopped program, and their walk is that of the located machine.
 pub fn stacks_are_shown()
     ensures chains { ChainsAreFound }
     ensures walks { WalksAreSame }
+{}
+
+/// A stopped program and the image are asked alike, question by question and command by command, in any region.
+pub fn commands_are_alike()
+    ensures { CommandsAreAlike }
+{}
+
+/// The chain of some activations is asked alike with no store round it: it is a stopped program on its own, and every stopped program has one.
+pub fn chains_stand_alone()
+    ensures stopped { ChainsAreStopped }
+    ensures chains { StoppedAreChains }
 {}
 
 /// What the client is shown at a yield is the same over locations and in the image.

@@ -7,6 +7,7 @@
 //!
 //! - `specs/Tables`: what is required of the tables of an image. `specs/Rows`: the rows that meet it.
 //! - `specs/Walked`: a stack that is the chain of all activations, and an activation that the tables find. `specs/Asked`: which states are asked alike.
+//! - `specs/Alone`: the chain of some activations, with no store round it.
 //! - `specs/Waiting`: a state that waits for the client, and what the answer comes to. `specs/Keeping`: what the answer leaves as it was.
 //! - `specs/Fits`: the test of events by which values are known to fit their widths.
 //! - `specs/Laws`, `laws`: what holds of all of these.

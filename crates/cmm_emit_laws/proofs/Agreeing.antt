@@ -31,7 +31,7 @@ use Rattle.cmm_graph.specs.Ranges.{is_entry}
 use Rattle.cmm_chain.specs.Running.{Holdings, entered}
 use Rattle.cmm_select.specs.Laws.{SwitchesLead}
 use Rattle.cmm_image_machine.specs.Laws.{ImagesLast}
-use Rattle.cmm_image_machine.specs.Machine.{Launch, Run, first_run}
+use Rattle.cmm_image_machine.specs.Machine.{Launch, Run, first_memory, first_run}
 use Rattle.cmm_image_machine.specs.Observed.{image_machine}
 use Rattle.cmm_located.specs.Answering.{shown}
 use Rattle.cmm_located.specs.Compiled.{Compiled, Located, bare}
@@ -141,11 +141,11 @@ module _ (s : Setting) (c : Compiled) (l : Launch) (f : Finished) (code : IsCode
     begun_by right =
         weaker
         (joined {l = 0} {m = begins.most} {n = 1} {o = most_for_step s c (located_start s c input)} {least = 0} {most = begins.most + 32 * tokens_at s c (located_start s c input)} (code_begins s c l f input code begins is_bytes)
-        (λ u is_shown. step_leads lead s c l f code (located_start s c input) u is_shown (right_at_first right)) (omega arith) (omega arith))
+        (λ u is_shown. step_leads lead s c l f (first_memory l.image) code (located_start s c input) u is_shown (right_at_first right)) (omega arith) (omega arith))
         (λ u p. precedes right u p)
         (λ u is_shown.
         follows_trans (follows_scaled {a' = λ _. 32 * cost} {b' = most_for_step s c} 32 (λ _. omega arith) (λ _. omega arith) follows)
-        (shown_follows lead s c l f code (located_step s c (located_start s c input)) u is_shown))
+        (shown_follows lead s c l f code (first_memory l.image) (located_step s c (located_start s c input)) u is_shown))
         (omega arith) (λ n le. le)
 
     positive : 1 ≤ 32 * cost

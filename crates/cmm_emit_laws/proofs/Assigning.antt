@@ -58,7 +58,7 @@ use Rattle.cmm_emit_laws.specs.NodeCode.{AssignCode, IsOperandOf, IsPutInto, IsR
 use Rattle.cmm_emit_laws.specs.ProgramCode.{names_register, names_registers}
 use Rattle.cmm_emit_laws.specs.Standing.{IsInBody, Stands}
 
-module _ (s : Setting) (c : Compiled) (l : Launch) (f : Finished) (is_for : IsFor s (map_of l)) (at : Located) (t : State) (stands : Stands s c l f at t)
+module _ (s : Setting) (c : Compiled) (l : Launch) (f : Finished) (rest : ℕ → ℕ) (is_for : IsFor s (map_of l)) (at : Located) (t : State) (stands : Stands s c l f rest at t)
     (body : IsInBody at) (g : Graph) (is_graph : slice_get c.graphs at.procedure ≡ Some g) (valid : IsValid g)
     (places : (v : ℕ) → IsPlaceOf s body.activation (c.plan.place at.procedure v)) where
   abbrev value : Operand → Tried ℕ
@@ -68,10 +68,10 @@ module _ (s : Setting) (c : Compiled) (l : Launch) (f : Finished) (is_for : IsFo
   word w o = operand_word (keeping s c at).held w o (reads_at s c at)
 
   brought : (o : Operand) (a : CodeOperand) (x : ℕ) → IsOperandOf s c l f at.procedure o a → value o ≡ Ok x → (operand_at (f.labels at.procedure) a t ≡ x) × CanBringOperand a (map_of l) t
-  brought o a x is is_x = operand_is s c l f is_for at t body.activation body.older body.youngest places stands.shown o a x is is_x
+  brought o a x is is_x = operand_is s c l f rest is_for at t body.activation body.older body.youngest places stands.shown o a x is is_x
 
-  shown_here : IsRepresented f.symbols s at.holdings at.store [] t
-  shown_here = forget_values f.symbols s at.holdings at.store at.carried t stands.shown
+  shown_here : IsRepresented f.symbols rest s at.holdings at.store [] t
+  shown_here = forget_values f.symbols rest s at.holdings at.store at.carried t stands.shown
 
   module _ (to : CodeDestination) (reached : CanPut (f.labels at.procedure) to (map_of l) t) (count on v : ℕ) where
     abbrev ArePut : State → Type 0
@@ -144,11 +144,11 @@ module _ (s : Setting) (c : Compiled) (l : Launch) (f : Finished) (is_for : IsFo
         slice_index_or at.store.registers r.number 0 ≡ v → Reaches (map_of l) 1 count t ArePut
     read r label is within code e =
         reaches_more (code.runs.go t stands.sound stands.pc (record {
-          reads = global_reached s c l f is_for at.procedure at.holdings at.store body.activation body.older body.youngest places t shown_here r.number label is within;
+          reads = global_reached s c l f rest is_for at.procedure at.holdings at.store body.activation body.older body.youngest places t shown_here r.number label is within;
           reaches = reached;
         }))
         (λ u there. put_as u (global_at (f.labels at.procedure label.number) t)
-        (global_is_read s c l f is_for at.procedure at.holdings at.store body.activation body.older body.youngest places t shown_here r.number label is within ∙ e) there)
+        (global_is_read s c l f rest is_for at.procedure at.holdings at.store body.activation body.older body.youngest places t shown_here r.number label is within ∙ e) there)
 
     -- a word is loaded
     load : (width : Width) (aligned : ℕ) (o : Operand) (a : CodeOperand) → IsOperandOf s c l f at.procedure o a → is_alignment aligned ≡ true →
@@ -212,31 +212,31 @@ module _ (s : Setting) (c : Compiled) (l : Launch) (f : Finished) (is_for : IsFo
 
     assigned : (d : Destination) (right : Rvalue) (next : NodeId) (cost v : ℕ) (code : AssignCode s c l f at.procedure at.node d right next cost) →
         v < 2 ^ 64 → IsTrue (is_rvalue g right) → IsTrue (leads_to g is_step next) → list_all (names_register s.program) (targets_of_destination d) ≡ true →
-        names_rvalue s.program right ≡ true → found_value (keeping s c at).held right (reads_at s c at) ≡ Ok v → IsDone s c l f at cost t (record (taken d v) { node = next })
+        names_rvalue s.program right ≡ true → found_value (keeping s c at).held right (reads_at s c at) ≡ Ok v → IsDone s c l f rest at cost t (record (taken d v) { node = next })
     assigned d right next cost v code small fine leads named reads e =
-        silently s c l f at cost t (record (taken d v) { node = next }) (tokens_there s c l f (taken d v) g is_graph valid next leads) refl
+        silently s c l f rest at cost t (record (taken d v) { node = next }) (tokens_there s c l f rest (taken d v) g is_graph valid next leads) refl
         (count_with d v at.store.registers) (λ b. b)
-        (reaches_more (reaches_sound {Q = λ u. (u.pc ≡ f.node_at at.procedure next) × IsRepresented f.symbols s (taken d v).holdings (store_with d v) at.carried u}
+        (reaches_more (reaches_sound {Q = λ u. (u.pc ≡ f.node_at at.procedure next) × IsRepresented f.symbols rest s (taken d v).holdings (store_with d v) at.carried u}
         (reaches_weaker
         (reaches_then (reaches_sound (puts code.into reached code.count code.on v right code.puts fine reads kept e) stands.sound)
         (λ u there. reaches_more (code.goes_on.go u there.1 there.0.0 tt)
-        (λ w last. (last.0, kept_shown f s l is_for (taken d v).holdings (store_with d v) at.carried u w last.1 (shown_put u there.0.1)))))
+        (λ w last. (last.0, kept_shown f rest s l is_for (taken d v).holdings (store_with d v) at.carried u w last.1 (shown_put u there.0.1)))))
         (omega arith) (omega (arith, code.few)) (λ w last. last))
         stands.sound)
-        (λ w last. stands_there s c l f (taken d v) g is_graph valid next leads w stands.running
+        (λ w last. stands_there s c l f rest (taken d v) g is_graph valid next leads w stands.running
         (record { activation = body.activation; older = body.older; youngest = body.youngest; same = body.same; carried = body.carried }) last.0.1 last.0.0 last.1))
       where
         reached : CanPut (f.labels at.procedure) code.into (map_of l) t
-        reached = can_put s c l f is_for at.procedure at.holdings at.store body.activation body.older body.youngest places t shown_here kept d code.into code.is_into named
+        reached = can_put s c l f rest is_for at.procedure at.holdings at.store body.activation body.older body.youngest places t shown_here kept d code.into code.is_into named
 
-        shown_put : (u : State) → PutsTo (f.labels at.procedure) code.into v t u → IsRepresented f.symbols s (taken d v).holdings (store_with d v) at.carried u
+        shown_put : (u : State) → PutsTo (f.labels at.procedure) code.into v t u → IsRepresented f.symbols rest s (taken d v).holdings (store_with d v) at.carried u
         shown_put u there =
-            subst (λ (xs : List ℕ). IsRepresented f.symbols s (taken d v).holdings (store_with d v) xs u) (sym body.carried)
-            (put_shown s c l f is_for at.procedure at.holdings at.store body.activation body.older body.youngest places t shown_here kept v small u d code.into code.is_into named there)
+            subst (λ (xs : List ℕ). IsRepresented f.symbols rest s (taken d v).holdings (store_with d v) xs u) (sym body.carried)
+            (put_shown s c l f rest is_for at.procedure at.holdings at.store body.activation body.older body.youngest places t shown_here kept v small u d code.into code.is_into named there)
 
     pub assign_done : (d : Destination) (right : Rvalue) (next : NodeId) (cost : ℕ) (after : Located) → AssignCode s c l f at.procedure at.node d right next cost →
         IsTrue (is_kind g (Assign d right next)) → names_registers s.program (Assign d right next) ≡ true →
-        ran_at s c (Assign d right next) at ≡ Ok after → IsDone s c l f at cost t after
+        ran_at s c (Assign d right next) at ≡ Ok after → IsDone s c l f rest at cost t after
     assign_done d right next cost after code fine named is = chosen (rvalue_value (keeping s c at).held right (reads_at s c at)) refl (by d is)
       where
         both : IsTrue (is_destination g d && is_rvalue g right) × IsTrue (leads_to g is_step next)
@@ -246,10 +246,10 @@ module _ (s : Setting) (c : Compiled) (l : Launch) (f : Finished) (is_for : IsFo
         names = and_parts (list_all (names_register s.program) (targets_of_destination d)) (names_rvalue s.program right) named
 
         chosen : (r : Tried ℕ) → rvalue_value (keeping s c at).held right (reads_at s c at) ≡ r →
-            and_then r (λ v. Ok (record (taken d v) { node = next })) ≡ Ok after → IsDone s c l f at cost t after
+            and_then r (λ v. Ok (record (taken d v) { node = next })) ≡ Ok after → IsDone s c l f rest at cost t after
         chosen (Ok v) is_v e =
             let known = word_is W64 (found_value (keeping s c at).held right (reads_at s c at)) v is_v in
-            subst (λ (z : Located). IsDone s c l f at cost t z) (place_is e)
+            subst (λ (z : Located). IsDone s c l f rest at cost t z) (place_is e)
             (assigned d right next cost v code known.1 (and_parts (is_destination g d) (is_rvalue g right) both.0).1 both.1 names.0 names.1 known.0)
         chosen (Err error) is_v e = absurd (cc)
 

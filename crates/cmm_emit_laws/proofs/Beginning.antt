@@ -109,13 +109,13 @@ right_earlier s c at m (suc n) less right =
     by false is rest = rest (grind (arith, nat_tests, is, less))
 
 -- what represents a state follows the run from there on
-pub shown_follows : (lead : SwitchesLead) (s : Setting) (c : Compiled) (l : Launch) (f : Finished) → IsCode s c l f → (at : Located) (u : Run) → IsRepresentedIn s c l f at u →
+pub shown_follows : (lead : SwitchesLead) (s : Setting) (c : Compiled) (l : Launch) (f : Finished) → IsCode s c l f → (rest : ℕ → ℕ) (at : Located) (u : Run) → IsRepresentedIn s c l f rest at u →
     Follows (located_machine s c) (most_for_step s c) (image_machine l) (λ run. 1) at u
-shown_follows lead s c l f code at u is_shown = record {
+shown_follows lead s c l f code rest at u is_shown = record {
   leads = λ m right.
       weaker
-      (run_leads (images_simulate_located_runs lead s c l f code) is_shown m (λ i less. (right_earlier s c at (suc i) m (omega arith) right, λ v passes. (i, less, passes))))
-      (λ v p. p) ((images_simulate_located_runs lead s c l f code).level (after (located_machine s c) m at)) (omega arith) (λ n le. le);
+      (run_leads (images_simulate_located_runs lead s c l f code rest) is_shown m (λ i less. (right_earlier s c at (suc i) m (omega arith) right, λ v passes. (i, less, passes))))
+      (λ v p. p) ((images_simulate_located_runs lead s c l f code rest).level (after (located_machine s c) m at)) (omega arith) (λ n le. le);
 }
 
 module _ (s : Setting) (c : Compiled) (l : Launch) (f : Finished) (code : IsCodeAround s c l f) (input : List ℕ) (is_bytes : All IsByte input) where
@@ -180,13 +180,13 @@ module _ (s : Setting) (c : Compiled) (l : Launch) (f : Finished) (code : IsCode
     pub entry : (node : Node) × (in_graph c.graphs s.program.main (λ g. node_of g begins.first) ≡ Some node) × IsTrue (is_entry node.kind)
     entry = first_holds c.graphs s.program.main (code.valid s.program.main) begins.first begins.is_first
 
-    stands_first : (u : State) → u.pc ≡ f.node_at s.program.main begins.first → PutsRegister 1 f.symbols.last_return begun u → IsSound u → Stands s c l f (start_at begins.first) u
+    stands_first : (u : State) → u.pc ≡ f.node_at s.program.main begins.first → PutsRegister 1 f.symbols.last_return begun u → IsSound u → Stands s c l f (first_memory l.image) (start_at begins.first) u
     stands_first u pc puts sound = record {
       running = refl;
       node = entry.0;
       there = entry.1;
       inside = inside_entry entry.0.kind entry.2 (start_at begins.first);
-      shown = starts_are_shown f.symbols s (map_of l) input u code.is_for (begins_so u puts);
+      shown = starts_are_shown f.symbols (first_memory l.image) s (map_of l) input u code.is_for (begins_so u puts) (λ a lacks out. ap (λ (memory : ℕ → ℕ). memory a) puts.2);
       pc = pc;
       sound = sound;
     }
@@ -206,20 +206,21 @@ module _ (s : Setting) (c : Compiled) (l : Launch) (f : Finished) (code : IsCode
     first_outside = record { input = input; taken = []; output = []; log = []; status = Running }
 
     shown_first : (u : State) → (u.pc ≡ f.node_at s.program.main begins.first) × PutsRegister 1 f.symbols.last_return begun u → IsSound u →
-        IsRepresentedIn s c l f start (run_with first_outside u)
+        IsRepresentedIn s c l f (first_memory l.image) start (run_with first_outside u)
     shown_first u there sound = record {
       outside = refl;
       right = refl;
       holds = first_of_run;
-      running = λ going. subst (λ (z : Located). Stands s c l f z u) (sym start_is) (stands_first u there.0 there.1 sound);
+      running = λ going. subst (λ (z : Located). Stands s c l f (first_memory l.image) z u) (sym start_is) (stands_first u there.0 there.1 sound);
       over = λ outcome ended. absurd (cc);
     }
 
-    pub shown_at_start : Leads (image_machine l) (λ run. 1) (Passes (located_machine s c) (image_machine l) start) (IsRepresentedIn s c l f start) 0 begins.most (first_run l input)
+    pub shown_at_start : Leads (image_machine l) (λ run. 1) (Passes (located_machine s c) (image_machine l) start)
+        (IsRepresentedIn s c l f (first_memory l.image) start) 0 begins.most (first_run l input)
     shown_at_start =
         leads_of (located_machine s c) (image_machine l) (map_of l) (run_with first_outside) (seen_outside first_outside) (image_is_quiet l first_outside refl) start
         (nothing_within ((located_machine s c).seen (located_step s c start)))
-        0 begins.most begun (λ u. ((u.pc ≡ f.node_at s.program.main begins.first) × PutsRegister 1 f.symbols.last_return begun u) × IsSound u) (IsRepresentedIn s c l f start)
+        0 begins.most begun (λ u. ((u.pc ≡ f.node_at s.program.main begins.first) × PutsRegister 1 f.symbols.last_return begun u) × IsSound u) (IsRepresentedIn s c l f (first_memory l.image) start)
         (reaches_sound (begins.calls.go begun begun_sound refl tt) begun_sound)
         (λ u there. shown_first u there.0 there.1)
 
@@ -228,5 +229,5 @@ code_begins s c l f input code begins is_bytes = shown_at_start s c l f (code_ar
 
 pub images_follow_located_runs : SwitchesLead → ImagesFollowLocatedRuns
 images_follow_located_runs lead s c l f input code begins is_bytes =
-    weaker (code_begins s c l f input code begins is_bytes) (λ v passes. passes) (λ v is_shown. shown_follows lead s c l f code (located_start s c input) v is_shown)
+    weaker (code_begins s c l f input code begins is_bytes) (λ v passes. passes) (λ v is_shown. shown_follows lead s c l f code (first_memory l.image) (located_start s c input) v is_shown)
     (omega arith) (λ n le. le)

@@ -17,7 +17,7 @@ use Rattle.cmm_effects.specs.Requests.{AsksFor}
 use Rattle.cmm_emit_laws.specs.Starting.{BeginsRun}
 
 -- where a label is placed, control goes on
-placed_at : (x : Code) (l : Label) (from to : ℕ) → Does x (Place l) from to → to ≡ x.at l.number
+pub placed_at : (x : Code) (l : Label) (from to : ℕ) → Does x (Place l) from to → to ≡ x.at l.number
 placed_at x l from to place = place.0 ∙ sym place.1
 
 pub calls_once : (f : Frame) (main callee site behind limit : Label) (x : Code) (from to : ℕ) →

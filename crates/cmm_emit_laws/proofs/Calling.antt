@@ -65,11 +65,11 @@ brings_keeps n t u brings = record { registers = λ r is. brings.others r (apart
     apart : (r : ℕ) → is_scratch r ≡ false → ((r == 7) || (r == 6)) ≡ false
     apart r is = grind (arith, nat_tests, is)
 
-module _ (s : Setting) (c : Compiled) (l : Launch) (f : Finished) (is_for : IsFor s (map_of l)) (valid : (q : ℕ) (g : Graph) → slice_get c.graphs q ≡ Some g → IsValid g)
+module _ (s : Setting) (c : Compiled) (l : Launch) (f : Finished) (rest : ℕ → ℕ) (is_for : IsFor s (map_of l)) (valid : (q : ℕ) (g : Graph) → slice_get c.graphs q ≡ Some g → IsValid g)
     (entries : (address q : ℕ) (n : NodeId) → procedure_from 0 address s.placement.rows ≡ Some q → in_graph c.graphs q (λ g. Some g.first) ≡ Some n →
-    (f.node_at q n ≡ address) × (address % 4 ≡ 0)) (at : Located) (t : State) (stands : Stands s c l f at t) (body : IsInBody at) (laid : IsLaidFor s c at.procedure) where
+    (f.node_at q n ≡ address) × (address % 4 ≡ 0)) (at : Located) (t : State) (stands : Stands s c l f rest at t) (body : IsInBody at) (laid : IsLaidFor s c at.procedure) where
   framed : HasFrame (stack_region s) (c.plan.frame at.procedure).size (map_of l) t
-  framed = framed_inside s c l f is_for at t stands body laid
+  framed = framed_inside s c l f rest is_for at t stands body laid
 
   abbrev value : Operand → Tried ℕ
   value o = operand_value (keeping s c at).held o (reads_at s c at)
@@ -92,7 +92,7 @@ module _ (s : Setting) (c : Compiled) (l : Launch) (f : Finished) (is_for : IsFo
         let some : 1 ≤ entry.0.tokens = has_tokens c.graphs q (valid q) n entry.0 entry.1 in
         omega (arith, e, some)
 
-    stands_entering : (u : State) → store.status ≡ p.Running → u.pc ≡ f.node_at q n → IsRepresented f.symbols s h store (numbers ws) u → IsSound u → Stands s c l f entering u
+    stands_entering : (u : State) → store.status ≡ p.Running → u.pc ≡ f.node_at q n → IsRepresented f.symbols rest s h store (numbers ws) u → IsSound u → Stands s c l f rest entering u
     stands_entering u running pc shown sound = record {
       running = running;
       node = entry.0;
@@ -106,13 +106,13 @@ module _ (s : Setting) (c : Compiled) (l : Launch) (f : Finished) (is_for : IsFo
   -- where the located machine goes to a procedure, and code does
   goes_by : (store : Store) (h : Holdings) (ws : List Word) (cost v : ℕ) →
       ((q : ℕ) → procedure_from 0 v s.placement.rows ≡ Some q → (n : NodeId) → (first : in_graph c.graphs q (λ g. Some g.first) ≡ Some n) →
-      IsDone s c l f at cost t (entering store h ws q n first)) → (after : Located) → (o : Option ℕ) → procedure_from 0 v s.placement.rows ≡ o →
-      if_given o NotAProcedure (λ q. to_procedure s c q store h (numbers ws)) ≡ Ok after → IsDone s c l f at cost t after
+      IsDone s c l f rest at cost t (entering store h ws q n first)) → (after : Located) → (o : Option ℕ) → procedure_from 0 v s.placement.rows ≡ o →
+      if_given o NotAProcedure (λ q. to_procedure s c q store h (numbers ws)) ≡ Ok after → IsDone s c l f rest at cost t after
   goes_by store h ws cost v goes after (Some q) from e = by (in_graph c.graphs q (λ g. Some g.first)) refl e
     where
       by : (o : Option NodeId) → in_graph c.graphs q (λ g. Some g.first) ≡ o →
-          if_given o NotAProcedure (λ n. Ok (record { store = store; holdings = h; procedure = q; node = n; carried = numbers ws })) ≡ Ok after → IsDone s c l f at cost t after
-      by (Some n) first e' = subst (λ (z : Located). IsDone s c l f at cost t z) (place_is e') (goes q from n first)
+          if_given o NotAProcedure (λ n. Ok (record { store = store; holdings = h; procedure = q; node = n; carried = numbers ws })) ≡ Ok after → IsDone s c l f rest at cost t after
+      by (Some n) first e' = subst (λ (z : Located). IsDone s c l f rest at cost t z) (place_is e') (goes q from n first)
       by None first e' = absurd (cc)
   goes_by store h ws cost v goes after None from e = absurd (cc)
 
@@ -125,26 +125,26 @@ module _ (s : Setting) (c : Compiled) (l : Launch) (f : Finished) (is_for : IsFo
 
   callee_is : (callee : Operand) (to : CodeOperand) (v : ℕ) → IsOperandOf s c l f at.procedure callee to → value callee ≡ Ok v → operand_at (f.labels at.procedure) to t ≡ v
   callee_is callee to v is e =
-      (operand_is s c l f is_for at t body.activation body.older body.youngest (λ k. laid.places body.activation k body.same) stands.shown callee to v is e).0
+      (operand_is s c l f rest is_for at t body.activation body.older body.youngest (λ k. laid.places body.activation k body.same) stands.shown callee to v is e).0
 
   -- what is shown once the address is in register 7
-  brought_shown : (n : ℕ) (u : State) → Brings 7 n t u → IsRepresented f.symbols s at.holdings at.store at.carried u
-  brought_shown n u brings = kept_shown f s l is_for at.holdings at.store at.carried t u (brings_keeps n t u brings) stands.shown
+  brought_shown : (n : ℕ) (u : State) → Brings 7 n t u → IsRepresented f.symbols rest s at.holdings at.store at.carried u
+  brought_shown n u brings = kept_shown f rest s l is_for at.holdings at.store at.carried t u (brings_keeps n t u brings) stands.shown
 
   -- ---- calls
 
   module _ (site : ℕ) (callee : Operand) (arguments : List Argument) (cost : ℕ) (code : CallCode s c l f at.procedure at.node site callee arguments cost) (ws : List Word)
       (is_words : words arguments ≡ Ok ws) where
     abbrev CalledAt : ℕ → State → Type 0
-    CalledAt v u = (u.pc ≡ v) × IsRepresented f.symbols s (called at.procedure site at.holdings) at.store (numbers ws) u
+    CalledAt v u = (u.pc ≡ v) × IsRepresented f.symbols rest s (called at.procedure site at.holdings) at.store (numbers ws) u
 
     -- values have gone out, and the return address is set
-    linked : (r w u : State) (link : ℕ) → IsRepresented f.symbols s at.holdings at.store at.carried r → Gives (stack_region s) (f.labels at.procedure) code.operands r w → Sets 1 link w u →
-        link ≡ f.symbols.return_to at.procedure site → IsRepresented f.symbols s (called at.procedure site at.holdings) at.store (numbers ws) u
+    linked : (r w u : State) (link : ℕ) → IsRepresented f.symbols rest s at.holdings at.store at.carried r → Gives (stack_region s) (f.labels at.procedure) code.operands r w → Sets 1 link w u →
+        link ≡ f.symbols.return_to at.procedure site → IsRepresented f.symbols rest s (called at.procedure site at.holdings) at.store (numbers ws) u
     linked r w u link shown gives sets is_link =
-        called_shows f.symbols s (map_of l) is_for _ at.store (numbers ws) w u at.procedure site (sets.given ∙ is_link) sets.memory (λ k is. sets.others k (apart k is))
-        (given s c l f is_for at r body.activation body.older body.youngest body.same laid shown code.operands ws w code.few_values
-        (values_are s c l f is_for at r body.activation body.older body.youngest body.same laid shown arguments code.operands ws code.are is_words) gives)
+        called_shows f.symbols rest s (map_of l) is_for _ at.store (numbers ws) w u at.procedure site (sets.given ∙ is_link) sets.memory (λ k is. sets.others k (apart k is))
+        (given s c l f rest is_for at r body.activation body.older body.youngest body.same laid shown code.operands ws w code.few_values
+        (values_are s c l f rest is_for at r body.activation body.older body.youngest body.same laid shown arguments code.operands ws code.are is_words) gives)
       where
         apart : (k : ℕ) → ((k == 1) || is_scratch k) ≡ false → (k == 1) ≡ false
         apart k is = (or_parts (k == 1) (is_scratch k) is).0
@@ -173,21 +173,21 @@ module _ (s : Setting) (c : Compiled) (l : Launch) (f : Finished) (is_for : IsFo
     store_called = record at.store { activations = with_site (Some site) at.store.activations }
 
     entered_done : (v : ℕ) → value callee ≡ Ok v → (q : ℕ) → procedure_from 0 v s.placement.rows ≡ Some q → (n : NodeId) → (first : in_graph c.graphs q (λ g. Some g.first) ≡ Some n) →
-        IsDone s c l f at cost t (entering store_called (called at.procedure site at.holdings) ws q n first)
+        IsDone s c l f rest at cost t (entering store_called (called at.procedure site at.holdings) ws q n first)
     entered_done v is_v q from n first =
         let there_is = entries v q n from first in
-        silently s c l f at cost t (entering store_called (called at.procedure site at.holdings) ws q n first)
+        silently s c l f rest at cost t (entering store_called (called at.procedure site at.holdings) ws q n first)
         (entry_tokens store_called (called at.procedure site at.holdings) ws q n first) refl refl (resited_are_bare (Some site) at.store.activations)
         (reaches_more (reaches_sound (calls_to v is_v there_is.1) stands.sound)
         (λ u there. stands_entering store_called (called at.procedure site at.holdings) ws q n first u stands.running (there.0.0 ∙ sym there_is.0)
-        (resited_shows f.symbols s (called at.procedure site at.holdings) at.store (numbers ws) u (Some site) at.store.status there.0.1) there.1))
+        (resited_shows f.symbols rest s (called at.procedure site at.holdings) at.store (numbers ws) u (Some site) at.store.status there.0.1) there.1))
 
   pub call_done : (site : SiteId) (callee : Operand) (arguments : List Argument) (exits : Exits) (cost : ℕ) (after : Located) → CallCode s c l f at.procedure at.node site.number callee arguments cost →
-      ran_at s c (Call site callee arguments exits) at ≡ Ok after → IsDone s c l f at cost t after
+      ran_at s c (Call site callee arguments exits) at ≡ Ok after → IsDone s c l f rest at cost t after
   call_done site callee arguments exits cost after code is = by (value callee) refl (words arguments) refl is
     where
       by : (v : Tried ℕ) → value callee ≡ v → (found : Tried (List Word)) → words arguments ≡ found →
-          and_then (and_then v (λ to. and_then found (λ ws. Ok (order.Call site.number to ws)))) (λ o. done s c (Call site callee arguments exits) o at) ≡ Ok after → IsDone s c l f at cost t after
+          and_then (and_then v (λ to. and_then found (λ ws. Ok (order.Call site.number to ws)))) (λ o. done s c (Call site callee arguments exits) o at) ≡ Ok after → IsDone s c l f rest at cost t after
       by (Ok v) is_v (Ok ws) is_ws e =
           goes_by (store_called site.number callee arguments cost code ws is_ws) (called at.procedure site.number at.holdings) ws cost v
           (λ q from n first. entered_done site.number callee arguments cost code ws is_ws v is_v q from n first) after (procedure_from 0 v s.placement.rows) refl e
@@ -200,18 +200,18 @@ module _ (s : Setting) (c : Compiled) (l : Launch) (f : Finished) (is_for : IsFo
     abbrev holdings_left : Holdings
     holdings_left = left c.plan at.procedure at.holdings
 
-    gone : (r u : State) → IsRepresented f.symbols s at.holdings at.store at.carried r → GivesAndLeaves (stack_region s) (f.labels at.procedure) (c.plan.frame at.procedure) code.operands r u →
-        IsRepresented f.symbols s holdings_left (without 1 at.store) (numbers ws) u
+    gone : (r u : State) → IsRepresented f.symbols rest s at.holdings at.store at.carried r → GivesAndLeaves (stack_region s) (f.labels at.procedure) (c.plan.frame at.procedure) code.operands r u →
+        IsRepresented f.symbols rest s holdings_left (without 1 at.store) (numbers ws) u
     gone r u shown parts =
-        parted s c l f is_for at r body.activation body.older body.youngest body.same laid shown code.operands ws u code.few_values
-        (values_are s c l f is_for at r body.activation body.older body.youngest body.same laid shown arguments code.operands ws code.are is_words) parts
+        parted s c l f rest is_for at r body.activation body.older body.youngest body.same laid shown code.operands ws u code.few_values
+        (values_are s c l f rest is_for at r body.activation body.older body.youngest body.same laid shown arguments code.operands ws code.are is_words) parts
 
-    jumps_to : (v : ℕ) → value callee ≡ Ok v → v % 4 ≡ 0 → Reaches (map_of l) 1 cost t (λ u. (u.pc ≡ v) × IsRepresented f.symbols s holdings_left (without 1 at.store) (numbers ws) u)
+    jumps_to : (v : ℕ) → value callee ≡ Ok v → v % 4 ≡ 0 → Reaches (map_of l) 1 cost t (λ u. (u.pc ≡ v) × IsRepresented f.symbols rest s holdings_left (without 1 at.store) (numbers ws) u)
     jumps_to v is_v aligned = by code.jumps
       where
         by : ((to : Label) × IsLabelOf s c l f at.procedure callee to × JumpsTo (c.plan.frame at.procedure) code.operands to (code_of l f at.procedure) (f.node_at at.procedure at.node))
             ⊎ ((to : CodeOperand) × IsOperandOf s c l f at.procedure callee to × ((most_for to ≤ 11) × JumpsBy (c.plan.frame at.procedure) to code.operands (code_of l f at.procedure) (f.node_at at.procedure at.node))) →
-            Reaches (map_of l) 1 cost t (λ u. (u.pc ≡ v) × IsRepresented f.symbols s holdings_left (without 1 at.store) (numbers ws) u)
+            Reaches (map_of l) 1 cost t (λ u. (u.pc ≡ v) × IsRepresented f.symbols rest s holdings_left (without 1 at.store) (numbers ws) u)
         by (inl (to, is, jumps)) =
             reaches_weaker ((jumps (stack_region s)).goes.go t stands.sound stands.pc (record { stack = framed; region = stands.shown.holdings.region })) (omega arith) (omega (arith, code.few))
             (λ u there. (there.0 ∙ label_is callee to v is is_v, gone t u stands.shown there.1))
@@ -223,20 +223,20 @@ module _ (s : Setting) (c : Compiled) (l : Launch) (f : Finished) (is_for : IsFo
             (λ u there. (there.0 ∙ same, gone there.1.0 u (brought_shown _ there.1.0 there.1.1) there.1.2))
 
     jumped_done : (v : ℕ) → value callee ≡ Ok v → (q : ℕ) → procedure_from 0 v s.placement.rows ≡ Some q → (n : NodeId) → (first : in_graph c.graphs q (λ g. Some g.first) ≡ Some n) →
-        IsDone s c l f at cost t (entering (without 1 at.store) holdings_left ws q n first)
+        IsDone s c l f rest at cost t (entering (without 1 at.store) holdings_left ws q n first)
     jumped_done v is_v q from n first =
         let there_is = entries v q n from first in
-        silently s c l f at cost t (entering (without 1 at.store) holdings_left ws q n first)
+        silently s c l f rest at cost t (entering (without 1 at.store) holdings_left ws q n first)
         (entry_tokens (without 1 at.store) holdings_left ws q n first) refl refl (dropped_are_bare 1 at.store.activations)
         (reaches_more (reaches_sound (jumps_to v is_v there_is.1) stands.sound)
         (λ u there. stands_entering (without 1 at.store) holdings_left ws q n first u stands.running (there.0.0 ∙ sym there_is.0) there.0.1 there.1))
 
   pub jump_done : (callee : Operand) (arguments : List Argument) (cost : ℕ) (after : Located) → JumpCode s c l f at.procedure at.node callee arguments cost →
-      ran_at s c (Jump callee arguments) at ≡ Ok after → IsDone s c l f at cost t after
+      ran_at s c (Jump callee arguments) at ≡ Ok after → IsDone s c l f rest at cost t after
   jump_done callee arguments cost after code is = by (value callee) refl (words arguments) refl is
     where
       by : (v : Tried ℕ) → value callee ≡ v → (found : Tried (List Word)) → words arguments ≡ found →
-          and_then (and_then v (λ to. and_then found (λ ws. Ok (order.Jump to ws)))) (λ o. done s c (Jump callee arguments) o at) ≡ Ok after → IsDone s c l f at cost t after
+          and_then (and_then v (λ to. and_then found (λ ws. Ok (order.Jump to ws)))) (λ o. done s c (Jump callee arguments) o at) ≡ Ok after → IsDone s c l f rest at cost t after
       by (Ok v) is_v (Ok ws) is_ws e =
           goes_by (without 1 at.store) (left c.plan at.procedure at.holdings) ws cost v (λ q from n first. jumped_done callee arguments cost code ws is_ws v is_v q from n first)
           after (procedure_from 0 v s.placement.rows) refl e

@@ -13,7 +13,7 @@ use Rattle.cmm_chain.specs.Running.{Holdings, none_known, put_in}
 use Rattle.cmm_program.specs.Memory.{Outside, cell_at, rooms_of}
 use Rattle.cmm_program.specs.State.{Setting, Activation, Store}
 use Rattle.rv_table.proofs.Shared.{loaded-below}
-use Rattle.rv_table.specs.Machine.{MemoryMap, State, loaded, bottom}
+use Rattle.rv_table.specs.Machine.{MemoryMap, State, loaded, bottom, top}
 use Rattle.cmm_effects.specs.Changes.{Puts}
 use Rattle.cmm_calls.specs.Frames.{PutsEach, zeros}
 use Rattle.cmm_calls.specs.Values.{Gives, is_taken_first}
@@ -28,24 +28,25 @@ use Rattle.rv_table.specs.declared.memory_map.TheConstants.{GLOBALS_OFFSET}
 use Rattle.cmm_emit_laws.proofs.Regions.{value_same}
 
 -- values that were brought are done with
-pub forget_values : (y : Symbols) (s : Setting) (h : Holdings) (store : Store) (carried : List ℕ) (t : State) → IsRepresented y s h store carried t → IsRepresented y s h store [] t
-forget_values y s h store carried t shows = record {
+pub forget_values : (y : Symbols) (rest : ℕ → ℕ) (s : Setting) (h : Holdings) (store : Store) (carried : List ℕ) (t : State) → IsRepresented y rest s h store carried t → IsRepresented y rest s h store [] t
+forget_values y rest s h store carried t shows = record {
   holdings = shows.holdings;
   words = shows.words;
   cells = shows.cells;
   registers = shows.registers;
+  elsewhere = shows.elsewhere;
   values = no_values (stack_region s) t;
   stack = shows.stack;
   at = shows.at;
 }
 
 -- numbers are put into places, one after the other
-pub puts_show : (y : Symbols) (s : Setting) (m : MemoryMap) → IsFor s m → (list : List (Location × ℕ)) (h : Holdings) (store : Store) (a : Activation) (older : List Activation) (t t' : State) →
-    store.activations ≡ a ∷ older → ArePlacesOf s a list → PutsEach list t t' → IsRepresented y s h store [] t → IsRepresented y s (put_each list h) store [] t'
-puts_show y s m is_for [] h store a older t t' youngest are puts shows = subst (λ (u : State). IsRepresented y s h store [] u) puts shows
-puts_show y s m is_for ((place, n) ∷ rest) h store a older t t' youngest are puts shows =
-    puts_show y s m is_for rest (put_in place (Number n) h) store a older puts.0 t' youngest are.1.1 puts.2
-    (put_shows y s m is_for h store a older t puts.0 youngest place n are.0 are.1.0 puts.1 shows)
+pub puts_show : (y : Symbols) (rest : ℕ → ℕ) (s : Setting) (m : MemoryMap) → IsFor s m → (list : List (Location × ℕ)) (h : Holdings) (store : Store) (a : Activation) (older : List Activation) (t t' : State) →
+    store.activations ≡ a ∷ older → ArePlacesOf s a list → PutsEach list t t' → IsRepresented y rest s h store [] t → IsRepresented y rest s (put_each list h) store [] t'
+puts_show y rest s m is_for [] h store a older t t' youngest are puts shows = subst (λ (u : State). IsRepresented y rest s h store [] u) puts shows
+puts_show y rest s m is_for ((place, n) ∷ places) h store a older t t' youngest are puts shows =
+    puts_show y rest s m is_for places (put_in place (Number n) h) store a older puts.0 t' youngest are.1.1 puts.2
+    (put_shows y rest s m is_for h store a older t puts.0 youngest place n are.0 are.1.0 puts.1 shows)
 
 -- ---- values stay where they came while places are put in which none of them is
 
@@ -57,9 +58,9 @@ value_is_kept k early = grind (arith, nat_tests, early)
 saved_no_value : (r : ℕ) → is_callee_saves r ≡ true → nat_le 10 r && nat_lt r 18 ≡ false
 saved_no_value r is = grind (arith, nat_tests, is)
 
-module _ (y : Symbols) (s : Setting) (m : MemoryMap) (is_for : IsFor s m) (store : Store) (a : Activation) (older : List Activation) (youngest : store.activations ≡ a ∷ older)
+module _ (y : Symbols) (rest : ℕ → ℕ) (s : Setting) (m : MemoryMap) (is_for : IsFor s m) (store : Store) (a : Activation) (older : List Activation) (youngest : store.activations ≡ a ∷ older)
     (count i : ℕ) (among : i < count) (few : i < 64) where
-  module _ (h : Holdings) (t t' : State) (shows : IsRepresented y s h store [] t) where
+  module _ (h : Holdings) (t t' : State) (shows : IsRepresented y rest s h store [] t) where
     below_same : (i < 8 → t'.registers (10 + i) ≡ t.registers (10 + i)) → ((b : ℕ) → b + 8 ≤ bottom (stack_region s) → loaded t'.memory b 8 ≡ loaded t.memory b 8) →
         word_at t' (value_place (stack_region s) i) ≡ word_at t (value_place (stack_region s) i)
     below_same registers below = value_same (stack_region s) t t' i registers (λ far. below ((stack_region s).address + 8 * (i - 8)) (omega arith))
@@ -75,7 +76,7 @@ module _ (y : Symbols) (s : Setting) (m : MemoryMap) (is_for : IsFor s m) (store
 
     value_stays : (place : Location) (n : ℕ) → IsPlaceOf s a place → is_taken_first count 0 place ≡ true → Puts place n t t' → word_at t' (value_place (stack_region s) i) ≡ word_at t (value_place (stack_region s) i)
     value_stays (Slot offset) n is apart puts =
-        let sits : Sits (stack_region s) store.memory (h.point.at + offset) = own_word_sits y s m is_for h store a older t t' youngest offset [] is shows in
+        let sits : Sits (stack_region s) store.memory (h.point.at + offset) = own_word_sits y rest s m is_for h store a older t t' youngest offset [] is shows in
         let low : bottom (stack_region s) ≤ t.registers 2 + offset = omega (arith, sits.low, shows.holdings.frame) in
         below_same (λ early. puts.registers (10 + i) (value_is_kept i early))
         (λ b below. rw puts.memory (loaded-below t.memory (t.registers 2 + offset) 8 n b 8 (omega (arith, low, below))))
@@ -83,12 +84,12 @@ module _ (y : Symbols) (s : Setting) (m : MemoryMap) (is_for : IsFor s m) (store
     value_stays (Temp r) n is apart puts = below_same (λ early. puts.1 (10 + i) (temp_differs r is apart early)) (λ b below. rw puts.2 refl)
 
   pub zeros_keep_values : (places : List Location) (h : Holdings) (t t' : State) → ArePlacesOf s a (zeros places) → list_all (is_taken_first count 0) places ≡ true →
-      PutsEach (zeros places) t t' → IsRepresented y s h store [] t → word_at t' (value_place (stack_region s) i) ≡ word_at t (value_place (stack_region s) i)
+      PutsEach (zeros places) t t' → IsRepresented y rest s h store [] t → word_at t' (value_place (stack_region s) i) ≡ word_at t (value_place (stack_region s) i)
   zeros_keep_values [] h t t' are apart puts shows = ap (λ (u : State). word_at u (value_place (stack_region s) i)) (sym puts)
   zeros_keep_values (place ∷ places) h t t' are apart puts shows =
       let both = and_parts (is_taken_first count 0 place) (list_all (is_taken_first count 0) places) apart in
       zeros_keep_values places (put_in place (Number 0) h) puts.0 t' are.1.1 both.1 puts.2
-      (put_shows y s m is_for h store a older t puts.0 youngest place 0 are.0 are.1.0 puts.1 shows)
+      (put_shows y rest s m is_for h store a older t puts.0 youngest place 0 are.0 are.1.0 puts.1 shows)
       ∙ value_stays h t puts.0 shows place 0 are.0 both.0 puts.1
 
 -- a register that carries no value is none to which values are given, however many they are
@@ -108,8 +109,8 @@ loaded_same bytes bytes' a (suc n) same =
     loaded_same bytes bytes' (a + 1) n (λ i less. subst (λ (k : ℕ). bytes' k ≡ bytes k) (omega arith) (same (suc i) (omega arith))) in
     omega (arith, first, rest)
 
-module _ (y : Symbols) (s : Setting) (m : MemoryMap) (is_for : IsFor s m) (h : Holdings) (store : Store) (values : List ℕ) (address_of : ℕ → ℕ) (operands : List Operand) (t t' : State)
-    (gives : Gives (stack_region s) address_of operands t t') (is_given : IsGiven address_of operands values t) (shows : IsRepresented y s h store [] t) where
+module _ (y : Symbols) (rest : ℕ → ℕ) (s : Setting) (m : MemoryMap) (is_for : IsFor s m) (h : Holdings) (store : Store) (values : List ℕ) (address_of : ℕ → ℕ) (operands : List Operand) (t t' : State)
+    (gives : Gives (stack_region s) address_of operands t t') (is_given : IsGiven address_of operands values t) (shows : IsRepresented y rest s h store [] t) where
   far : (k : ℕ) → (stack_region s).address + GLOBALS_OFFSET ≤ k → (stack_region s).address + 8 * (length operands - 8) ≤ k
   far k above = omega (arith, is_given.count, is_given.few)
 
@@ -122,7 +123,11 @@ module _ (y : Symbols) (s : Setting) (m : MemoryMap) (is_for : IsFor s m) (h : H
   free k false low false top = inl (gives.memory k (inr (far k (grind (arith, nat_tests)))))
   free k false low true top = inr (region_free s m is_for store shows.stack k (grind (arith, nat_tests)) (grind (arith, nat_tests)))
 
-  pub given_shows : IsRepresented y s (record h { temps = none_known }) store values t'
+  outer : (k : ℕ) → (k < (stack_region s).address) ⊎ (top (stack_region s) ≤ k) → (k < (stack_region s).address) ⊎ ((stack_region s).address + 8 * (length operands - 8) ≤ k)
+  outer k (inl low) = inl low
+  outer k (inr high) = inr (far k (omega (arith, high)))
+
+  pub given_shows : IsRepresented y rest s (record h { temps = none_known }) store values t'
   given_shows = record {
     holdings = record {
       zero = keeps 0 refl refl ∙ shows.holdings.zero;
@@ -144,6 +149,7 @@ module _ (y : Symbols) (s : Setting) (m : MemoryMap) (is_for : IsFor s m) (h : H
       λ r less. loaded_same t.memory t'.memory (global_address (stack_region s) r) 8 (λ i under. gives.memory (global_address (stack_region s) r + i) (inr (far (global_address (stack_region s) r + i) (omega arith))))
           ∙ shows.registers.1 r less,
     );
+    elsewhere = λ b lacks out. gives.memory b (outer b out) ∙ shows.elsewhere b lacks out;
     values = (is_given.few, λ i less. given_at i less (slice_get operands i) refl);
     stack = shows.stack;
     at = shows.at;

@@ -40,7 +40,7 @@ use Rattle.cmm_emit_laws.specs.Standing.{IsYoungest, Stands}
 
 -- ---- values are put where targets are
 
-module _ (s : Setting) (c : Compiled) (l : Launch) (f : Finished) (is_for : IsFor s (map_of l)) (q : ℕ) (g : Graph) (is_graph : slice_get c.graphs q ≡ Some g)
+module _ (s : Setting) (c : Compiled) (l : Launch) (f : Finished) (rest : ℕ → ℕ) (is_for : IsFor s (map_of l)) (q : ℕ) (g : Graph) (is_graph : slice_get c.graphs q ≡ Some g)
     (a : Activation) (older : List Activation) (places : (v : ℕ) → IsPlaceOf s a (c.plan.place q v)) where
   -- the place of a variable
   place_is : (number : ℕ) → place_of c q (local.Variable (record { number = number })) ≡ c.plan.place q number
@@ -63,28 +63,28 @@ module _ (s : Setting) (c : Compiled) (l : Launch) (f : Finished) (is_for : IsFo
 
   targets_show : (to : List Target) (ds : List CodeDestination) (values : List ℕ) (h : Holdings) (store : Store) (t u : State) → store.activations ≡ a ∷ older →
       length store.registers ≡ length s.program.globals → AreTargetsOf s c l f q to ds → list_all (names_register s.program) to ≡ true →
-      ((i : ℕ) → i < length values → slice_index_or values i 0 < 2 ^ 64) → PutsEachTo (f.labels q) (pairs ds values) t u → IsRepresented f.symbols s h store [] t →
-      IsRepresented f.symbols s (taken c.plan q to values h) (record store { registers = registers_after to values store.registers }) [] u
-  targets_show [] [] values h store t u youngest count are named fit puts shown = subst (λ (z : State). IsRepresented f.symbols s h store [] z) puts shown
+      ((i : ℕ) → i < length values → slice_index_or values i 0 < 2 ^ 64) → PutsEachTo (f.labels q) (pairs ds values) t u → IsRepresented f.symbols rest s h store [] t →
+      IsRepresented f.symbols rest s (taken c.plan q to values h) (record store { registers = registers_after to values store.registers }) [] u
+  targets_show [] [] values h store t u youngest count are named fit puts shown = subst (λ (z : State). IsRepresented f.symbols rest s h store [] z) puts shown
   targets_show [] (d ∷ ds) values h store t u youngest count are named fit puts shown = absurd are
-  targets_show (to ∷ rest) [] values h store t u youngest count are named fit puts shown = absurd are
-  targets_show (to ∷ rest) (d ∷ ds) [] h store t u youngest count are named fit puts shown = subst (λ (z : State). IsRepresented f.symbols s h store [] z) puts shown
-  targets_show (target.Variable number width ∷ rest) (d ∷ ds) (value ∷ values) h store t u youngest count are named fit puts shown =
-      let both = and_parts true (list_all (names_register s.program) rest) named in
-      let first = put_shown s c l f is_for q h store a older youngest places t shown count value (fit 0 (omega arith)) puts.0
+  targets_show (to ∷ others) [] values h store t u youngest count are named fit puts shown = absurd are
+  targets_show (to ∷ others) (d ∷ ds) [] h store t u youngest count are named fit puts shown = subst (λ (z : State). IsRepresented f.symbols rest s h store [] z) puts shown
+  targets_show (target.Variable number width ∷ others) (d ∷ ds) (value ∷ values) h store t u youngest count are named fit puts shown =
+      let both = and_parts true (list_all (names_register s.program) others) named in
+      let first = put_shown s c l f rest is_for q h store a older youngest places t shown count value (fit 0 (omega arith)) puts.0
       (destination.Target (target.Variable number width)) d are.0 refl puts.1 in
-      targets_show rest ds values (put_in (c.plan.place q number) (Number value) h) store puts.0 u youngest count are.1 both.1 (λ i less. fit (suc i) (omega (arith, less))) puts.2
-      (subst (λ (place : Location). IsRepresented f.symbols s (put_in place (Number value) h) store [] puts.0) (place_is number) first)
-  targets_show (target.Register number width ∷ rest) (d ∷ ds) (value ∷ values) h store t u youngest count are named fit puts shown =
-      let both = and_parts (nat_lt number (length s.program.globals)) (list_all (names_register s.program) rest) named in
-      let first = put_shown s c l f is_for q h store a older youngest places t shown count value (fit 0 (omega arith)) puts.0
+      targets_show others ds values (put_in (c.plan.place q number) (Number value) h) store puts.0 u youngest count are.1 both.1 (λ i less. fit (suc i) (omega (arith, less))) puts.2
+      (subst (λ (place : Location). IsRepresented f.symbols rest s (put_in place (Number value) h) store [] puts.0) (place_is number) first)
+  targets_show (target.Register number width ∷ others) (d ∷ ds) (value ∷ values) h store t u youngest count are named fit puts shown =
+      let both = and_parts (nat_lt number (length s.program.globals)) (list_all (names_register s.program) others) named in
+      let first = put_shown s c l f rest is_for q h store a older youngest places t shown count value (fit 0 (omega arith)) puts.0
       (destination.Target (target.Register number width)) d are.0 (alone_named (target.Register number width) both.0) puts.1 in
-      targets_show rest ds values h (record store { registers = slice_set store.registers number value }) puts.0 u youngest
+      targets_show others ds values h (record store { registers = slice_set store.registers number value }) puts.0 u youngest
       (length-set store.registers number value ∙ count) are.1 both.1 (λ i less. fit (suc i) (omega (arith, less))) puts.2 first
 
 -- ---- the node
 
-module _ (s : Setting) (c : Compiled) (l : Launch) (f : Finished) (is_for : IsFor s (map_of l)) (at : Located) (t : State) (stands : Stands s c l f at t)
+module _ (s : Setting) (c : Compiled) (l : Launch) (f : Finished) (rest : ℕ → ℕ) (is_for : IsFor s (map_of l)) (at : Located) (t : State) (stands : Stands s c l f rest at t)
     (only : IsYoungest at) (g : Graph) (is_graph : slice_get c.graphs at.procedure ≡ Some g) (valid : IsValid g)
     (places : (v : ℕ) → IsPlaceOf s only.activation (c.plan.place at.procedure v)) (framed : HasFrame (stack_region s) (c.plan.frame at.procedure).size (map_of l) t)
     (to : List Target) (next : NodeId) (cost : ℕ) (after : Located) (code : CopyInCode s c l f at.procedure at.node to next cost)
@@ -99,33 +99,33 @@ module _ (s : Setting) (c : Compiled) (l : Launch) (f : Finished) (is_for : IsFo
   abbrev copied : Located
   copied = record { store = store_copied; holdings = taken c.plan at.procedure to at.carried at.holdings; procedure = at.procedure; node = next; carried = [] }
 
-  copied_shown : length to ≤ length at.carried → (u : State) → PutsEachTo (f.labels at.procedure) (values_to (stack_region s) 0 code.destinations t) t u → IsRepresented f.symbols s copied.holdings store_copied [] u
+  copied_shown : length to ≤ length at.carried → (u : State) → PutsEachTo (f.labels at.procedure) (values_to (stack_region s) 0 code.destinations t) t u → IsRepresented f.symbols rest s copied.holdings store_copied [] u
   copied_shown enough u puts =
       let count : length code.destinations ≡ length to =
-      length_targets s c l f is_for at.procedure g is_graph only.activation only.older places to code.destinations code.are in
+      length_targets s c l f rest is_for at.procedure g is_graph only.activation only.older places to code.destinations code.are in
       let same : values_to (stack_region s) 0 code.destinations t ≡ pairs code.destinations at.carried =
       come_to_destinations (stack_region s) code.destinations at.carried t (omega (arith, count, enough)) (λ i less. stands.shown.values.1 i (omega (arith, less, count, enough))) in
-      targets_show s c l f is_for at.procedure g is_graph only.activation only.older places to code.destinations at.carried at.holdings at.store t u only.youngest kept code.are
+      targets_show s c l f rest is_for at.procedure g is_graph only.activation only.older places to code.destinations at.carried at.holdings at.store t u only.youngest kept code.are
       (and_parts (list_all (names_register s.program) to) true named).0 (values_fit (stack_region s) at.carried t stands.sound stands.shown.values)
       (subst (λ (list : List (CodeDestination × ℕ)). PutsEachTo (f.labels at.procedure) list t u) same puts)
-      (forget_values f.symbols s at.holdings at.store at.carried t stands.shown)
+      (forget_values f.symbols rest s at.holdings at.store at.carried t stands.shown)
 
-  copied_done : length to ≤ length at.carried → IsDone s c l f at cost t copied
+  copied_done : length to ≤ length at.carried → IsDone s c l f rest at cost t copied
   copied_done enough =
-      silently s c l f at cost t copied (tokens_there s c l f copied g is_graph valid next leads) refl
-      (count_after s c l f is_for at.procedure g is_graph only.activation only.older places to at.carried at.store.registers) (λ b. b)
+      silently s c l f rest at cost t copied (tokens_there s c l f rest copied g is_graph valid next leads) refl
+      (count_after s c l f rest is_for at.procedure g is_graph only.activation only.older places to at.carried at.store.registers) (λ b. b)
       (reaches_more (reaches_sound ((code.turns (stack_region s)).goes.go t stands.sound stands.pc (record { stack = framed; region = stands.shown.holdings.region })) stands.sound)
-      (λ w there. stands_there s c l f copied g is_graph valid next leads w stands.running
+      (λ w there. stands_there s c l f rest copied g is_graph valid next leads w stands.running
       (record { activation = only.activation; older = only.older; youngest = only.youngest; same = only.same; carried = refl }) (settled w there.0.1) there.0.0 there.1))
     where
-      settled : (w : State) → (u : State) × PutsEachTo (f.labels at.procedure) (values_to (stack_region s) 0 code.destinations t) t u × Keeps u w → IsRepresented f.symbols s copied.holdings store_copied [] w
-      settled w (u, puts, keeps) = kept_shown f s l is_for copied.holdings store_copied [] u w keeps (copied_shown enough u puts)
+      settled : (w : State) → (u : State) × PutsEachTo (f.labels at.procedure) (values_to (stack_region s) 0 code.destinations t) t u × Keeps u w → IsRepresented f.symbols rest s copied.holdings store_copied [] w
+      settled w (u, puts, keeps) = kept_shown f rest s l is_for copied.holdings store_copied [] u w keeps (copied_shown enough u puts)
 
-  pub copy_done : ran_at s c (CopyIn to next) at ≡ Ok after → IsDone s c l f at cost t after
+  pub copy_done : ran_at s c (CopyIn to next) at ≡ Ok after → IsDone s c l f rest at cost t after
   copy_done is = by (nat_le (length to) (length at.carried)) refl is
     where
-      by : (test : Bool) → nat_le (length to) (length at.carried) ≡ test → provided test WrongValues (Ok copied) ≡ Ok after → IsDone s c l f at cost t after
+      by : (test : Bool) → nat_le (length to) (length at.carried) ≡ test → provided test WrongValues (Ok copied) ≡ Ok after → IsDone s c l f rest at cost t after
       by true many e =
           let same : copied ≡ after = cc in
-          subst (λ (z : Located). IsDone s c l f at cost t z) same (copied_done (grind (arith, nat_tests, many)))
+          subst (λ (z : Located). IsDone s c l f rest at cost t z) same (copied_done (grind (arith, nat_tests, many)))
       by false few e = absurd (cc)

@@ -76,11 +76,11 @@ found_among s younger own value (a ∷ older) found is =
         let rest = again e in
         (suc rest.0, rest.1 ∙ omega arith, rest.2, rest.3, rest.4, rest.5)
 
-module _ (s : Setting) (c : Compiled) (l : Launch) (f : Finished) (is_for : IsFor s (map_of l)) (valid : (q : ℕ) (g : Graph) → slice_get c.graphs q ≡ Some g → IsValid g)
+module _ (s : Setting) (c : Compiled) (l : Launch) (f : Finished) (rest : ℕ → ℕ) (is_for : IsFor s (map_of l)) (valid : (q : ℕ) (g : Graph) → slice_get c.graphs q ≡ Some g → IsValid g)
     (landings : (q k : ℕ) (n : NodeId) → landing_in c.graphs q k ≡ Some n → (f.node_at q n ≡ f.symbols.landing_of q k) × (f.symbols.landing_of q k % 4 ≡ 0))
-    (at : Located) (t : State) (stands : Stands s c l f at t) (body : IsInBody at) (laid : IsLaidFor s c at.procedure) where
+    (at : Located) (t : State) (stands : Stands s c l f rest at t) (body : IsInBody at) (laid : IsLaidFor s c at.procedure) where
   framed : HasFrame (stack_region s) (c.plan.frame at.procedure).size (map_of l) t
-  framed = framed_inside s c l f is_for at t stands body laid
+  framed = framed_inside s c l f rest is_for at t stands body laid
 
   abbrev value : Operand → Tried ℕ
   value o = operand_value (keeping s c at).held o (reads_at s c at)
@@ -93,7 +93,7 @@ module _ (s : Setting) (c : Compiled) (l : Launch) (f : Finished) (is_for : IsFo
       (first : at.holdings.contents v ≡ LandingOf q k) (second : at.holdings.contents (v + 8) ≡ Number frame)
       (pair : is_pair_of s c found at.store.activations q k frame ≡ true) (n : NodeId) (lands : landing_in c.graphs q k ≡ Some n) where
     pair_is : operand_at (f.labels at.procedure) code.pair t ≡ v
-    pair_is = (operand_is s c l f is_for at t body.activation body.older body.youngest (λ i. laid.places body.activation i body.same) stands.shown to code.pair v code.is_pair is_v).0
+    pair_is = (operand_is s c l f rest is_for at t body.activation body.older body.youngest (λ i. laid.places body.activation i body.same) stands.shown to code.pair v code.is_pair is_v).0
 
     -- ---- the pair
 
@@ -151,30 +151,30 @@ module _ (s : Setting) (c : Compiled) (l : Launch) (f : Finished) (is_for : IsFo
 
     -- ---- what is shown
 
-    moved : (u : State) → GivesAndMoves (stack_region s) (f.labels at.procedure) code.pair code.operands t u → IsRepresented f.symbols s (cut_at frame at.holdings) (without found.younger at.store) (numbers ws) u
+    moved : (u : State) → GivesAndMoves (stack_region s) (f.labels at.procedure) code.pair code.operands t u → IsRepresented f.symbols rest s (cut_at frame at.holdings) (without found.younger at.store) (numbers ws) u
     moved u (r, brings, (w, gives, moves)) =
-        let shown_r : IsRepresented f.symbols s at.holdings at.store at.carried r = kept_shown f s l is_for at.holdings at.store at.carried t r (brings_keeps _ t r brings) stands.shown in
-        let shown_w : IsRepresented f.symbols s (record at.holdings { temps = none_known }) at.store (numbers ws) w =
-        given s c l f is_for at r body.activation body.older body.youngest body.same laid shown_r code.operands ws w code.few_values
-        (values_are s c l f is_for at r body.activation body.older body.youngest body.same laid shown_r arguments code.operands ws code.are is_words) gives in
+        let shown_r : IsRepresented f.symbols rest s at.holdings at.store at.carried r = kept_shown f rest s l is_for at.holdings at.store at.carried t r (brings_keeps _ t r brings) stands.shown in
+        let shown_w : IsRepresented f.symbols rest s (record at.holdings { temps = none_known }) at.store (numbers ws) w =
+        given s c l f rest is_for at r body.activation body.older body.youngest body.same laid shown_r code.operands ws w code.few_values
+        (values_are s c l f rest is_for at r body.activation body.older body.youngest body.same laid shown_r arguments code.operands ws code.are is_words) gives in
         let frame_is : loaded w.memory (v + 8) 8 ≡ frame = subst (λ (content : Content). Represents f.symbols content (loaded w.memory (v + 8) 8)) second (shown_w.words.shown (v + 8)) in
-        cut_shows f.symbols s (map_of l) is_for (record at.holdings { temps = none_known }) at.store (numbers ws) w u frame found.younger
+        cut_shows f.symbols rest s (map_of l) is_for (record at.holdings { temps = none_known }) at.store (numbers ws) w u frame found.younger
         (moves.frame ∙ ap (λ (z : ℕ). loaded w.memory (z + 8) 8) pair_is ∙ frame_is) moves.memory (λ i is. moves.registers i (or_parts (i == 1) ((i == 2) || is_scratch i) is).1) parts.1 shown_w
 
-    stands_cut : (u : State) → u.pc ≡ f.node_at q n → GivesAndMoves (stack_region s) (f.labels at.procedure) code.pair code.operands t u → IsSound u → Stands s c l f cut_there u
+    stands_cut : (u : State) → u.pc ≡ f.node_at q n → GivesAndMoves (stack_region s) (f.labels at.procedure) code.pair code.operands t u → IsSound u → Stands s c l f rest cut_there u
     stands_cut u pc gone sound = record {
       running = refl;
       node = landing.0;
       there = landing.1;
       inside = inside_copy landing.0.kind landing.2 cut_there youngest;
-      shown = resited_shows f.symbols s (cut_at frame at.holdings) (without found.younger at.store) (numbers ws) u None p.Running (moved u gone);
+      shown = resited_shows f.symbols rest s (cut_at frame at.holdings) (without found.younger at.store) (numbers ws) u None p.Running (moved u gone);
       pc = pc;
       sound = sound;
     }
 
-    was_cut : IsDone s c l f at cost t cut_there
+    was_cut : IsDone s c l f rest at cost t cut_there
     was_cut =
-        silently s c l f at cost t cut_there some_tokens (ap (outside_with at) (sym stands.running)) refl
+        silently s c l f rest at cost t cut_there some_tokens (ap (outside_with at) (sym stands.running)) refl
         (λ are. resited_are_bare None (drop found.younger at.store.activations) (dropped_are_bare found.younger at.store.activations are))
         (reaches_more
         (reaches_sound
@@ -193,19 +193,19 @@ module _ (s : Setting) (c : Compiled) (l : Launch) (f : Finished) (is_for : IsFo
       (is_words : words arguments ≡ Ok ws) (found : Found) (own : List ℕ) (is_found : cut_among s 0 own v at.store.activations ≡ Some found) (after : Located) where
     by_node : (q k frame : ℕ) → at.holdings.contents v ≡ LandingOf q k → at.holdings.contents (v + 8) ≡ Number frame → is_pair_of s c found at.store.activations q k frame ≡ true →
         (o : Option NodeId) → landing_in c.graphs q k ≡ o →
-        to_landing s c NoSuchCut o q (without found.younger at.store) (cut_at frame at.holdings) (numbers ws) ≡ Ok after → IsDone s c l f at cost t after
+        to_landing s c NoSuchCut o q (without found.younger at.store) (cut_at frame at.holdings) (numbers ws) ≡ Ok after → IsDone s c l f rest at cost t after
     by_node q k frame first second pair (Some n) lands e =
-        subst (λ (z : Located). IsDone s c l f at cost t z) (place_is e) (was_cut to arguments cost code v is_v ws is_words found own is_found q k frame first second pair n lands)
+        subst (λ (z : Located). IsDone s c l f rest at cost t z) (place_is e) (was_cut to arguments cost code v is_v ws is_words found own is_found q k frame first second pair n lands)
     by_node q k frame first second pair None lands e = absurd (cc)
 
     by_test : (q k frame : ℕ) → at.holdings.contents v ≡ LandingOf q k → at.holdings.contents (v + 8) ≡ Number frame → (test : Bool) → is_pair_of s c found at.store.activations q k frame ≡ test →
         provided test NoSuchCut (to_landing s c NoSuchCut (landing_in c.graphs q k) q (without found.younger at.store) (cut_at frame at.holdings) (numbers ws)) ≡ Ok after →
-        IsDone s c l f at cost t after
+        IsDone s c l f rest at cost t after
     by_test q k frame first second true pair e = by_node q k frame first second pair (landing_in c.graphs q k) refl e
     by_test q k frame first second false pair e = absurd (cc)
 
     by_words : (first second : Content) → at.holdings.contents v ≡ first → at.holdings.contents (v + 8) ≡ second → to_pair s c first second found (numbers ws) at ≡ Ok after →
-        IsDone s c l f at cost t after
+        IsDone s c l f rest at cost t after
     by_words (LandingOf q k) (Number frame) is_first is_second e = by_test q k frame is_first is_second (is_pair_of s c found at.store.activations q k frame) refl e
     by_words (LandingOf q k) Unknown is_first is_second e = absurd (cc)
     by_words (LandingOf q k) (ReturnTo p' site) is_first is_second e = absurd (cc)
@@ -217,18 +217,18 @@ module _ (s : Setting) (c : Compiled) (l : Launch) (f : Finished) (is_for : IsFo
     by_words LastReturn second is_first is_second e = absurd (cc)
 
   pub cut_done : (to : Operand) (arguments : List Argument) (own : List ContinuationId) (cost : ℕ) (after : Located) → CutCode s c l f at.procedure at.node to arguments cost →
-      ran_at s c (Cut to arguments own) at ≡ Ok after → IsDone s c l f at cost t after
+      ran_at s c (Cut to arguments own) at ≡ Ok after → IsDone s c l f rest at cost t after
   cut_done to arguments own cost after code is = by (value to) refl (words arguments) refl is
     where
       by_found : (v : ℕ) → value to ≡ Ok v → (ws : List Word) → words arguments ≡ Ok ws → (o : Option Found) → cut_among s 0 (map (λ k. k.number) own) v at.store.activations ≡ o →
-          if_given o NoSuchCut (λ found. to_pair s c (at.holdings.contents v) (at.holdings.contents (v + 8)) found (numbers ws) at) ≡ Ok after → IsDone s c l f at cost t after
+          if_given o NoSuchCut (λ found. to_pair s c (at.holdings.contents v) (at.holdings.contents (v + 8)) found (numbers ws) at) ≡ Ok after → IsDone s c l f rest at cost t after
       by_found v is_v ws is_ws (Some found) is_found e =
           by_words to arguments cost code v is_v ws is_ws found (map (λ k. k.number) own) is_found after (at.holdings.contents v) (at.holdings.contents (v + 8)) refl refl e
       by_found v is_v ws is_ws None is_found e = absurd (cc)
 
       by : (v : Tried ℕ) → value to ≡ v → (found : Tried (List Word)) → words arguments ≡ found →
           and_then (and_then v (λ k. and_then found (λ ws. Ok (order.Cut k ws (map (λ k. k.number) own))))) (λ o. done s c (Cut to arguments own) o at) ≡ Ok after →
-          IsDone s c l f at cost t after
+          IsDone s c l f rest at cost t after
       by (Ok v) is_v (Ok ws) is_ws e = by_found v is_v ws is_ws (cut_among s 0 (map (λ k. k.number) own) v at.store.activations) refl e
       by (Ok v) is_v (Err error) is_ws e = absurd (cc)
       by (Err error) is_v found is_ws e = absurd (cc)

@@ -29,30 +29,30 @@ use Rattle.cmm_emit_laws.specs.Finished.{Finished}
 use Rattle.cmm_emit_laws.specs.Standing.{AreBare, IsInBody, IsOfRun, Stands, outside_at}
 
 -- nothing is changed but scratch registers
-pub kept_shown : (f : Finished) (s : Setting) (l : Launch) → IsFor s (map_of l) → (h : Holdings) (store : Store) (carried : List ℕ) (t u : State) → Keeps t u →
-    IsRepresented f.symbols s h store carried t → IsRepresented f.symbols s h store carried u
-kept_shown f s l is_for h store carried t u keeps shown =
-    moved_shows f.symbols s (map_of l) is_for h h store carried 0 t u shown keeps.memory refl
+pub kept_shown : (f : Finished) (rest : ℕ → ℕ) (s : Setting) (l : Launch) → IsFor s (map_of l) → (h : Holdings) (store : Store) (carried : List ℕ) (t u : State) → Keeps t u →
+    IsRepresented f.symbols rest s h store carried t → IsRepresented f.symbols rest s h store carried u
+kept_shown f rest s l is_for h store carried t u keeps shown =
+    moved_shows f.symbols rest s (map_of l) is_for h h store carried 0 t u shown keeps.memory refl
     (holdings_same f.symbols (stack_region s) h t.registers u.registers keeps.registers shown.holdings)
     (λ i less. keeps.registers (10 + i) (grind (arith, nat_tests, less))) shown.at
 
-module _ (s : Setting) (c : Compiled) (l : Launch) (f : Finished) where
+module _ (s : Setting) (c : Compiled) (l : Launch) (f : Finished) (rest : ℕ → ℕ) where
   -- a step to a state is done, which stands at a node
   pub record IsDone (at : Located) (cost : ℕ) (t : State) (after : Located) : Type 0 where
     pub tokens : 1 ≤ tokens_at s c after
     pub registers : length after.store.registers ≡ length at.store.registers
     pub bytes : All IsByte at.store.input → All IsByte after.store.input
     pub are_bare : AreBare at → AreBare after
-    pub by_code : located_step s c at ≡ after → IsDoneBy (located_machine s c) l outside_at (Stands s c l f) (IsOfRun s c) at cost t
+    pub by_code : located_step s c at ≡ after → IsDoneBy (located_machine s c) l outside_at (Stands s c l f rest) (IsOfRun s c) at cost t
 
   pub silently : (at : Located) (cost : ℕ) (t : State) (after : Located) → 1 ≤ tokens_at s c after → outside_at after ≡ outside_at at →
-      length after.store.registers ≡ length at.store.registers → (AreBare at → AreBare after) → Reaches (map_of l) 1 cost t (Stands s c l f after) → IsDone at cost t after
+      length after.store.registers ≡ length at.store.registers → (AreBare at → AreBare after) → Reaches (map_of l) 1 cost t (Stands s c l f rest after) → IsDone at cost t after
   silently at cost t after tokens same count are_bare reaches = record {
     tokens = tokens;
     registers = count;
     bytes = subst (All IsByte) (sym (ap (λ (o : Outside). o.input) same));
     are_bare = are_bare;
-    by_code = λ e. Silently (ap outside_at e ∙ same) (subst (λ (z : Located). Reaches (map_of l) 1 cost t (Stands s c l f z)) (sym e) reaches);
+    by_code = λ e. Silently (ap outside_at e ∙ same) (subst (λ (z : Located). Reaches (map_of l) 1 cost t (Stands s c l f rest z)) (sym e) reaches);
   }
 
   -- ---- where control goes on at a node
@@ -70,8 +70,8 @@ module _ (s : Setting) (c : Compiled) (l : Launch) (f : Finished) where
         let some : 1 ≤ there.0.tokens = (node_holds g m there.0 valid there.1).0 in
         omega (arith, e, some)
 
-    pub stands_there : (u : State) → at.store.status ≡ p.Running → IsInBody at → IsRepresented f.symbols s at.holdings at.store at.carried u →
-        u.pc ≡ f.node_at at.procedure m → IsSound u → Stands s c l f (record at { node = m }) u
+    pub stands_there : (u : State) → at.store.status ≡ p.Running → IsInBody at → IsRepresented f.symbols rest s at.holdings at.store at.carried u →
+        u.pc ≡ f.node_at at.procedure m → IsSound u → Stands s c l f rest (record at { node = m }) u
     stands_there u running body shown pc sound = record {
       running = running;
       node = there.0;

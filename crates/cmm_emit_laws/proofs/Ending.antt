@@ -44,10 +44,10 @@ ended_outside at outcome running =
     outside_with : List ℕ → Outside
     outside_with log = record { input = at.store.input; taken = at.store.taken; output = at.store.output; log = log; status = Ended outcome }
 
-module _ (s : Setting) (c : Compiled) (l : Launch) (f : Finished) (at : Located) (t : State) where
+module _ (s : Setting) (c : Compiled) (l : Launch) (f : Finished) (rest : ℕ → ℕ) (at : Located) (t : State) where
   pub ends : (request : Request) (outcome : Outcome) → IsEnd l request outcome → (after : Located) → after.store.status ≡ p.Ended outcome →
       outside_at after ≡ record (outside_at at) { status = Ended outcome } → 1 ≤ tokens_at s c after → length after.store.registers ≡ length at.store.registers → (AreBare at → AreBare after) → (cost before : ℕ) → before + 1 + 0 ≤ cost →
-      Reaches (map_of l) 0 before t (λ u. instruction_step (map_of l) u ≡ Asks request) → IsDone s c l f at cost t after
+      Reaches (map_of l) 0 before t (λ u. instruction_step (map_of l) u ≡ Asks request) → IsDone s c l f rest at cost t after
   ends request outcome end after over left tokens count are_bare cost before few reaches = record {
     tokens = tokens;
     registers = count;

@@ -67,14 +67,14 @@ zeros_are_places : (s : Setting) (a : Activation) (place : ℕ → Location) (vs
 zeros_are_places s a place [] are = tt
 zeros_are_places s a place (v ∷ vs) are = (are v, (omega arith, zeros_are_places s a place vs are))
 
-module _ (s : Setting) (c : Compiled) (l : Launch) (f : Finished) (is_for : IsFor s (map_of l)) (at : Located) (t : State) (stands : Stands s c l f at t)
+module _ (s : Setting) (c : Compiled) (l : Launch) (f : Finished) (rest : ℕ → ℕ) (is_for : IsFor s (map_of l)) (at : Located) (t : State) (stands : Stands s c l f rest at t)
     (are_bare : AreBare at) (laid : IsLaidFor s c at.procedure) where
   -- ---- without room
 
   pub limit_done : (cost : ℕ) (formals : List Variable) (next : NodeId) → EntryCode s c l f at.procedure at.node formals next cost → 1 ≤ tokens_at s c at →
-      nat_le (s.stack_base + (c.plan.frame at.procedure).size) at.holdings.point.at ≡ false → IsDone s c l f at cost t (record at { store = over (p.Ended p.StackLimit) at.store })
+      nat_le (s.stack_base + (c.plan.frame at.procedure).size) at.holdings.point.at ≡ false → IsDone s c l f rest at cost t (record at { store = over (p.Ended p.StackLimit) at.store })
   limit_done cost formals next code tokens lacks =
-      ends s c l f at t request.StackLimit p.StackLimit (record { leaves = λ o u. refl; silent = λ u event is. absurd (cc); plain = λ walk other. refl }) _ refl
+      ends s c l f rest at t request.StackLimit p.StackLimit (record { leaves = λ o u. refl; silent = λ u event is. absurd (cc); plain = λ walk other. refl }) _ refl
       (ended_outside at p.StackLimit stands.running) tokens refl (λ b. b) cost (7 + code.ends) (omega (arith, code.few_at_limit))
       (reaches_weaker
       (reaches_then
@@ -156,59 +156,59 @@ module _ (s : Setting) (c : Compiled) (l : Launch) (f : Finished) (is_for : IsFo
     module _ (next : NodeId) (cost : ℕ) (code : EntryCode s c l f at.procedure at.node formals next cost) (w u v : State)
         (makes : Makes (c.plan.frame at.procedure).size (fixed_numbers (f.labels at.procedure) (c.plan.frame at.procedure) code.landings t.registers (w.registers 2)) t w)
         (puts : PutsEach (zeros (map (c.plan.place at.procedure) (c.zeroed at.procedure))) w u) (takes : Takes (stack_region s) (places_of s c l f at.procedure formals) u v) where
-      first_shown : IsRepresented f.symbols s (entered c.plan at.procedure at.holdings.point at.holdings.contents) store_made at.carried w
+      first_shown : IsRepresented f.symbols rest s (entered c.plan at.procedure at.holdings.point at.holdings.contents) store_made at.carried w
       first_shown =
-          made_shows f.symbols s (map_of l) is_for c.plan at.procedure at.holdings at.store at.carried new room (f.labels at.procedure) code.landings t w (is_made next cost code)
+          made_shows f.symbols rest s (map_of l) is_for c.plan at.procedure at.holdings at.store at.carried new room (f.labels at.procedure) code.landings t w (is_made next cost code)
           stands.sound.registers makes stands.shown
 
-      first_bare : IsRepresented f.symbols s (entered c.plan at.procedure at.holdings.point at.holdings.contents) store_made [] w
-      first_bare = forget_values f.symbols s (entered c.plan at.procedure at.holdings.point at.holdings.contents) store_made at.carried w first_shown
+      first_bare : IsRepresented f.symbols rest s (entered c.plan at.procedure at.holdings.point at.holdings.contents) store_made [] w
+      first_bare = forget_values f.symbols rest s (entered c.plan at.procedure at.holdings.point at.holdings.contents) store_made at.carried w first_shown
 
       zero_places : ArePlacesOf s new (zeros (map (c.plan.place at.procedure) (c.zeroed at.procedure)))
       zero_places = zeros_are_places s new (c.plan.place at.procedure) (c.zeroed at.procedure) (λ k. laid.places new k refl)
 
-      zeroed_shown : IsRepresented f.symbols s holdings_made store_made [] u
+      zeroed_shown : IsRepresented f.symbols rest s holdings_made store_made [] u
       zeroed_shown =
-          subst (λ (h : Holdings). IsRepresented f.symbols s h store_made [] u) (zeros_put c at.procedure (c.zeroed at.procedure) _)
-          (puts_show f.symbols s (map_of l) is_for (zeros (map (c.plan.place at.procedure) (c.zeroed at.procedure))) (entered c.plan at.procedure at.holdings.point at.holdings.contents)
+          subst (λ (h : Holdings). IsRepresented f.symbols rest s h store_made [] u) (zeros_put c at.procedure (c.zeroed at.procedure) _)
+          (puts_show f.symbols rest s (map_of l) is_for (zeros (map (c.plan.place at.procedure) (c.zeroed at.procedure))) (entered c.plan at.procedure at.holdings.point at.holdings.contents)
           store_made new at.store.activations w u refl zero_places puts first_bare)
 
       -- the arguments are still where they came
       came : (i : ℕ) → i < length formals → word_at u (value_place (stack_region s) i) ≡ slice_index_or at.carried i 0
       came i less =
-          zeros_keep_values f.symbols s (map_of l) is_for store_made new at.store.activations refl (length formals) i less (omega (arith, less, code.few_formals))
+          zeros_keep_values f.symbols rest s (map_of l) is_for store_made new at.store.activations refl (length formals) i less (omega (arith, less, code.few_formals))
           (map (c.plan.place at.procedure) (c.zeroed at.procedure)) (entered c.plan at.procedure at.holdings.point at.holdings.contents) w u zero_places code.apart puts first_bare
           ∙ first_shown.values.1 i (omega (arith, less, enough))
 
-      entered_shown : IsRepresented f.symbols s (holdings_entered formals) store_made [] v
+      entered_shown : IsRepresented f.symbols rest s (holdings_entered formals) store_made [] v
       entered_shown =
           let places : List Location = places_of s c l f at.procedure formals in
           let count : length places ≡ length formals = length-map formals (λ k. c.plan.place at.procedure k.number) in
           let same : values_for (stack_region s) 0 places u ≡ pairs places at.carried = come_to_places (stack_region s) places at.carried u (omega (arith, count, enough)) (λ i less. came i (omega (arith, less, count))) in
-          subst (λ (h : Holdings). IsRepresented f.symbols s h store_made [] v) (formals_put c.plan at.procedure formals at.carried holdings_made)
-          (puts_show f.symbols s (map_of l) is_for (pairs places at.carried) holdings_made store_made new at.store.activations u v refl
+          subst (λ (h : Holdings). IsRepresented f.symbols rest s h store_made [] v) (formals_put c.plan at.procedure formals at.carried holdings_made)
+          (puts_show f.symbols rest s (map_of l) is_for (pairs places at.carried) holdings_made store_made new at.store.activations u v refl
           (pairs_are_places s new places at.carried (formals_are_places s new c.plan at.procedure formals (λ k. laid.places new k refl))
           (values_fit (stack_region s) at.carried t stands.sound stands.shown.values))
           (subst (λ (list : List (Location × ℕ)). PutsEach list u v) same takes) zeroed_shown)
 
     made_done : (cost : ℕ) (next : NodeId) (code : EntryCode s c l f at.procedure at.node formals next cost) (g : Graph) → slice_get c.graphs at.procedure ≡ Some g → IsValid g →
-        IsTrue (leads_to g is_step next) → IsDone s c l f at cost t (record (made formals) { node = next })
+        IsTrue (leads_to g is_step next) → IsDone s c l f rest at cost t (record (made formals) { node = next })
     made_done cost next code g is_graph valid leads =
-        silently s c l f at cost t (record (made formals) { node = next }) (tokens_there s c l f (made formals) g is_graph valid next leads) refl refl (λ b. ap (λ (xs : List Activation). new ∷ xs) b)
-        (reaches_more (reaches_sound {Q = λ v. (v.pc ≡ f.node_at at.procedure next) × IsRepresented f.symbols s (holdings_entered formals) store_made [] v}
+        silently s c l f rest at cost t (record (made formals) { node = next }) (tokens_there s c l f rest (made formals) g is_graph valid next leads) refl refl (λ b. ap (λ (xs : List Activation). new ∷ xs) b)
+        (reaches_more (reaches_sound {Q = λ v. (v.pc ≡ f.node_at at.procedure next) × IsRepresented f.symbols rest s (holdings_entered formals) store_made [] v}
         (reaches_weaker
         (reaches_then (reaches_sound ((code.begins.made (stack_region s)).runs.go t stands.sound stands.pc has_room) stands.sound)
         (λ u there. reaches_more (code.goes_on.go u there.1 there.0.0 tt)
-        (λ v last. (last.0, kept_shown f s l is_for (holdings_entered formals) store_made [] u v last.1 (taken u there.0.1)))))
+        (λ v last. (last.0, kept_shown f rest s l is_for (holdings_entered formals) store_made [] u v last.1 (taken u there.0.1)))))
         (omega arith) (omega (arith, code.few, length-map {B = Location} formals (λ k. c.plan.place at.procedure k.number))) (λ v last. last))
         stands.sound)
-        (λ v last. stands_there s c l f (made formals) g is_graph valid next leads v stands.running
+        (λ v last. stands_there s c l f rest (made formals) g is_graph valid next leads v stands.running
         (record { activation = new; older = at.store.activations; youngest = refl; same = refl; carried = refl }) last.0.1 last.0.0 last.1))
       where
         taken : (v : State) →
             (u : State) × IsEntered (code_of l f at.procedure) (c.plan.frame at.procedure) code.landings (map (c.plan.place at.procedure) (c.zeroed at.procedure)) t u
             × Takes (stack_region s) (places_of s c l f at.procedure formals) u v →
-            IsRepresented f.symbols s (holdings_entered formals) store_made [] v
+            IsRepresented f.symbols rest s (holdings_entered formals) store_made [] v
         taken v (u, (w, makes, puts), takes) = entered_shown next cost code w u v makes puts takes
 
   store_is : (o : Option Proc) → o ≡ Some laid.procedure → elim o as (λ _. Store) [
@@ -223,7 +223,7 @@ module _ (s : Setting) (c : Compiled) (l : Launch) (f : Finished) (is_for : IsFo
 
   pub entry_done : (formals : List Variable) (next : NodeId) (cost : ℕ) (after : Located) (code : EntryCode s c l f at.procedure at.node formals next cost) (g : Graph) → slice_get c.graphs at.procedure ≡ Some g → IsValid g →
       IsTrue (leads_to g is_step next) → 1 ≤ tokens_at s c at →
-      ran_at s c (Entry formals next) at ≡ Ok after → IsDone s c l f at cost t after
+      ran_at s c (Entry formals next) at ≡ Ok after → IsDone s c l f rest at cost t after
   entry_done formals next cost after code g is_graph valid leads tokens is = by_count (nat_le (length formals) (length at.carried)) refl is
     where
       by : length formals ≤ length at.carried → (test : Bool) → nat_le (s.stack_base + (c.plan.frame at.procedure).size) at.holdings.point.at ≡ test →
@@ -239,14 +239,14 @@ module _ (s : Setting) (c : Compiled) (l : Launch) (f : Finished) (is_for : IsFo
               carried = [];
             }
             | false ↦ record at { store = over (p.Ended p.StackLimit) at.store }
-          ] ≡ after → IsDone s c l f at cost t after
+          ] ≡ after → IsDone s c l f rest at cost t after
       by enough true fits e =
           let same : record (made formals) { node = next } ≡ after = ap (λ (z : Store). record (made formals) { store = z; node = next }) (sym (store_is (procedure_at s at.procedure) laid.is_procedure)) ∙ e in
-          subst (λ (z : Located). IsDone s c l f at cost t z) same (made_done formals enough fits cost next code g is_graph valid leads)
-      by enough false lacks e = subst (λ (z : Located). IsDone s c l f at cost t z) e (limit_done cost formals next code tokens lacks)
+          subst (λ (z : Located). IsDone s c l f rest at cost t z) same (made_done formals enough fits cost next code g is_graph valid leads)
+      by enough false lacks e = subst (λ (z : Located). IsDone s c l f rest at cost t z) e (limit_done cost formals next code tokens lacks)
 
       by_count : (test : Bool) → nat_le (length formals) (length at.carried) ≡ test →
-          provided test WrongValues (Ok (begins s c (map (λ k. k.number) formals) next at)) ≡ Ok after → IsDone s c l f at cost t after
+          provided test WrongValues (Ok (begins s c (map (λ k. k.number) formals) next at)) ≡ Ok after → IsDone s c l f rest at cost t after
       by_count true many e =
           by (grind (arith, nat_tests, many)) (nat_le (s.stack_base + (c.plan.frame at.procedure).size) at.holdings.point.at) refl (place_is e)
       by_count false few e = absurd (cc)

@@ -91,7 +91,7 @@ set_keeps_asking t u n keeps = record {
     other : (r : ℕ) → is_of_request r ≡ false → r ≡ 10 → ⊥
     other r is same = let e : is_of_request 10 ≡ false = subst (λ (k : ℕ). is_of_request k ≡ false) same is in absurd (cc)
 
-module _ (s : Setting) (c : Compiled) (l : Launch) (f : Finished) (is_for : IsFor s (map_of l)) (at : Located) (t : State) (stands : Stands s c l f at t)
+module _ (s : Setting) (c : Compiled) (l : Launch) (f : Finished) (rest : ℕ → ℕ) (is_for : IsFor s (map_of l)) (at : Located) (t : State) (stands : Stands s c l f rest at t)
     (body : IsInBody at) (g : Graph) (is_graph : slice_get c.graphs at.procedure ≡ Some g) (valid : IsValid g)
     (places : (v : ℕ) → IsPlaceOf s body.activation (c.plan.place at.procedure v)) (takes : Target) (next : NodeId) (cost : ℕ) (after : Located)
     (code : GetByteCode s c l f at.procedure at.node takes next cost) (fine : IsTrue (is_kind g (Host (host.GetByte takes) next)))
@@ -125,41 +125,41 @@ module _ (s : Setting) (c : Compiled) (l : Launch) (f : Finished) (is_for : IsFo
     sound_there : IsSound w
     sound_there = sound_taken u value (next_fits at.store.input bytes) sound
 
-    shown_there : IsRepresented f.symbols s at.holdings store_taking [] w
+    shown_there : IsRepresented f.symbols rest s at.holdings store_taking [] w
     shown_there =
-        asked_shown f s at.holdings at.store at.carried (rest_of at.store.input) (taken_with at.store.input at.store.taken) at.store.output t w
+        asked_shown f rest s at.holdings at.store at.carried (rest_of at.store.input) (taken_with at.store.input at.store.taken) at.store.output t w
         (set_keeps_asking t u value keeps) stands.shown
 
-    shown_put : (v : State) → PutsTo (f.labels at.procedure) code.into (w.registers 10) w v → IsRepresented f.symbols s got.holdings got.store at.carried v
+    shown_put : (v : State) → PutsTo (f.labels at.procedure) code.into (w.registers 10) w v → IsRepresented f.symbols rest s got.holdings got.store at.carried v
     shown_put v puts =
-        subst (λ (xs : List ℕ). IsRepresented f.symbols s got.holdings got.store xs v) (sym body.carried)
-        (put_shown s c l f is_for at.procedure at.holdings store_taking body.activation body.older body.youngest places w shown_there kept value (next_fits at.store.input bytes) v
+        subst (λ (xs : List ℕ). IsRepresented f.symbols rest s got.holdings got.store xs v) (sym body.carried)
+        (put_shown s c l f rest is_for at.procedure at.holdings store_taking body.activation body.older body.youngest places w shown_there kept value (next_fits at.store.input bytes) v
         (destination.Target takes) code.into code.is_into named_there
         (subst (λ (n : ℕ). PutsTo (f.labels at.procedure) code.into n w v) (with_register-same u.registers 10 value (omega arith)) puts))
 
     behind : Reaches (map_of l) 0 code.later w (λ v. (v.pc ≡ code.on) × PutsTo (f.labels at.procedure) code.into (w.registers 10) w v) →
-        Reaches (map_of l) 0 (code.later + 2) w (Stands s c l f (record got { node = next }))
+        Reaches (map_of l) 0 (code.later + 2) w (Stands s c l f rest (record got { node = next }))
     behind reaches =
         reaches_weaker
         (reaches_then (reaches_sound reaches sound_there)
         (λ v there. reaches_more (reaches_sound (code.goes_on.go v there.1 there.0.0 tt) there.1)
-        (λ x last. stands_there s c l f got g is_graph valid next leads x stands.running
+        (λ x last. stands_there s c l f rest got g is_graph valid next leads x stands.running
         (record { activation = body.activation; older = body.older; youngest = body.youngest; same = body.same; carried = body.carried })
-        (kept_shown f s l is_for got.holdings got.store at.carried v x last.0.1 (shown_put v there.0.1)) last.0.0 last.1)))
+        (kept_shown f rest s l is_for got.holdings got.store at.carried v x last.0.1 (shown_put v there.0.1)) last.0.0 last.1)))
         (omega arith) (omega arith) (λ x last. last)
 
   reached : CanPut (f.labels at.procedure) code.into (map_of l) t
-  reached = can_put s c l f is_for at.procedure at.holdings at.store body.activation body.older body.youngest places t
-      (forget_values f.symbols s at.holdings at.store at.carried t stands.shown) kept (destination.Target takes) code.into code.is_into named_there
+  reached = can_put s c l f rest is_for at.procedure at.holdings at.store body.activation body.older body.youngest places t
+      (forget_values f.symbols rest s at.holdings at.store at.carried t stands.shown) kept (destination.Target takes) code.into code.is_into named_there
 
   asks_input : (located_machine s c).asks at ≡ Some Input
   asks_input =
       ap (λ (z : p.Status). event_at s z (shown s c at) (act_of (keeping s c at) (kind_at c.graphs at.procedure at.node))) stands.running
       ∙ ap (λ (kind : NodeKind). event_at s p.Running (shown s c at) (act_of (keeping s c at) kind)) kind_is
 
-  taken : IsDone s c l f at cost t (record got { node = next })
+  taken : IsDone s c l f rest at cost t (record got { node = next })
   taken = record {
-    tokens = tokens_there s c l f got g is_graph valid next leads;
+    tokens = tokens_there s c l f rest got g is_graph valid next leads;
     registers = count_with (destination.Target takes) value at.store.registers;
     bytes = rest_fits at.store.input;
     are_bare = λ b. b;
@@ -168,7 +168,7 @@ module _ (s : Setting) (c : Compiled) (l : Launch) (f : Finished) (is_for : IsFo
           asks = there.0.1;
           event = λ event is. asks_input ∙ is;
           outside = outside_taken l (outside_at at) u at.store.input refl ∙ sym (ap outside_at e);
-          running = λ going. subst (λ (z : Located). Reaches (map_of l) 0 (code.later + 2) (with_set u 10 value) (Stands s c l f z)) (sym e)
+          running = λ going. subst (λ (z : Located). Reaches (map_of l) 0 (code.later + 2) (with_set u 10 value) (Stands s c l f rest z)) (sym e)
               (behind u there.1 there.0.0 (there.0.2 (with_set u 10 value) (value, next_fits at.store.input bytes, refl)));
           over = λ outcome ended. absurd (never_over (ap (λ (z : Located). z.store.status) e ∙ stands.running) ended);
         }));
@@ -179,8 +179,8 @@ module _ (s : Setting) (c : Compiled) (l : Launch) (f : Finished) (is_for : IsFo
   got_with (target.Variable number width) store = record at { store = store; holdings = holdings_with c at.procedure (destination.Target (target.Variable number width)) value at.holdings; node = next }
   got_with (target.Register number width) store = record at { store = record store { registers = slice_set store.registers number value }; node = next }
 
-  pub byte_taken : ran_at s c (Host (host.GetByte takes) next) at ≡ Ok after → IsDone s c l f at cost t after
-  byte_taken is = subst (λ (z : Located). IsDone s c l f at cost t z) (sym (found takes) ∙ ran takes is) taken
+  pub byte_taken : ran_at s c (Host (host.GetByte takes) next) at ≡ Ok after → IsDone s c l f rest at cost t after
+  byte_taken is = subst (λ (z : Located). IsDone s c l f rest at cost t z) (sym (found takes) ∙ ran takes is) taken
     where
       ran : (to : Target) → ran_at s c (Host (host.GetByte to) next) at ≡ Ok after → got_with to (one_taken at.store) ≡ after
       ran (target.Variable number width) e = place_is e

@@ -27,9 +27,9 @@ use Rattle.cmm_emit_laws.specs.Finished.{Finished}
 use Rattle.cmm_emit_laws.specs.NodeCode.{AreOperandsOf}
 use Rattle.cmm_emit_laws.specs.ProgramCode.{IsLaidFor}
 
-module _ (s : Setting) (c : Compiled) (l : Launch) (f : Finished) (is_for : IsFor s (map_of l)) (at : Located) (t : State) (a : Activation) (older : List Activation)
+module _ (s : Setting) (c : Compiled) (l : Launch) (f : Finished) (rest : ℕ → ℕ) (is_for : IsFor s (map_of l)) (at : Located) (t : State) (a : Activation) (older : List Activation)
     (youngest : at.store.activations ≡ a ∷ older) (same : a.procedure ≡ at.procedure) (laid : IsLaidFor s c at.procedure)
-    (shown : IsRepresented f.symbols s at.holdings at.store at.carried t) where
+    (shown : IsRepresented f.symbols rest s at.holdings at.store at.carried t) where
   pub record AreValues (operands : List CodeOperand) (ws : List Word) : Type 0 where
     pub count : length operands ≡ length (numbers ws)
     pub have : (k : ℕ) (operand : CodeOperand) → slice_get operands k ≡ Some operand → operand_at (f.labels at.procedure) operand t ≡ slice_index_or (numbers ws) k 0
@@ -61,25 +61,25 @@ module _ (s : Setting) (c : Compiled) (l : Launch) (f : Finished) (is_for : IsFo
           (v : Tried ℕ) → operand_value (keeping s c at).held result.value (reads_at s c at) ≡ v →
           (others : Tried (List Word)) → all_of (map (word_passed (reads_at s c at)) (passed (keeping s c at).held results)) ≡ others →
           and_then (and_then v (λ n. Ok (record { width = result.width; value = n }))) (λ w. and_then others (λ rest. Ok (w ∷ rest))) ≡ Ok ws → AreValues (operand ∷ operands) ws
-      by again (Ok n) is_n (Ok rest) is_rest e =
-          let whole : record { width = result.width; value = n } ∷ rest ≡ ws = cc in
-          let found = operand_is s c l f is_for at t a older youngest (λ v. laid.places a v same) shown result.value operand n are.0 is_n in
-          subst (AreValues (operand ∷ operands)) whole (one_more operand operands (record { width = result.width; value = n }) rest found.0 (again rest is_rest))
+      by again (Ok n) is_n (Ok ws') is_rest e =
+          let whole : record { width = result.width; value = n } ∷ ws' ≡ ws = cc in
+          let found = operand_is s c l f rest is_for at t a older youngest (λ v. laid.places a v same) shown result.value operand n are.0 is_n in
+          subst (AreValues (operand ∷ operands)) whole (one_more operand operands (record { width = result.width; value = n }) ws' found.0 (again ws' is_rest))
       by again (Ok n) is_n (Err error) is_rest e = absurd (cc)
       by again (Err error) is_n others is_rest e = absurd (cc)
 
   -- so they are shown where they travel
   pub given : (operands : List CodeOperand) (ws : List Word) (u : State) → length operands ≤ 64 → AreValues operands ws → Gives (stack_region s) (f.labels at.procedure) operands t u →
-      IsRepresented f.symbols s (record at.holdings { temps = none_known }) at.store (numbers ws) u
+      IsRepresented f.symbols rest s (record at.holdings { temps = none_known }) at.store (numbers ws) u
   given operands ws u few are gives =
-      given_shows f.symbols s (map_of l) is_for at.holdings at.store (numbers ws) (f.labels at.procedure) operands t u gives
+      given_shows f.symbols rest s (map_of l) is_for at.holdings at.store (numbers ws) (f.labels at.procedure) operands t u gives
       (record { few = omega (arith, few, are.count); count = are.count; have = are.have })
-      (forget_values f.symbols s at.holdings at.store at.carried t shown)
+      (forget_values f.symbols rest s at.holdings at.store at.carried t shown)
 
   -- and so once the frame is left as well
   pub parted : (operands : List CodeOperand) (ws : List Word) (u : State) → length operands ≤ 64 → AreValues operands ws → GivesAndLeaves (stack_region s) (f.labels at.procedure) (c.plan.frame at.procedure) operands t u →
-      IsRepresented f.symbols s (left c.plan at.procedure at.holdings) (without 1 at.store) (numbers ws) u
+      IsRepresented f.symbols rest s (left c.plan at.procedure at.holdings) (without 1 at.store) (numbers ws) u
   parted operands ws u few are (w, gives, leaves) =
-      left_shows f.symbols s (map_of l) is_for c.plan at.procedure (record at.holdings { temps = none_known }) at.store (numbers ws) a older w u youngest
+      left_shows f.symbols rest s (map_of l) is_for c.plan at.procedure (record at.holdings { temps = none_known }) at.store (numbers ws) a older w u youngest
       (size_of s c at.procedure a laid same) (λ r offset found. saved_is_callee_saves (c.plan.frame at.procedure).saved r offset laid.can.registers found) leaves
       (given operands ws w few are gives)

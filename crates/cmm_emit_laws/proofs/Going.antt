@@ -40,23 +40,23 @@ use Rattle.cmm_emit_laws.specs.Standing.{IsInBody, Stands}
 pub place_is : {at after : Located} → ◌≡◌ {A = Tried Located} (Ok at) (Ok after) → at ≡ after
 place_is is = cc
 
-module _ (s : Setting) (c : Compiled) (l : Launch) (f : Finished) (is_for : IsFor s (map_of l)) (at : Located) (t : State) (stands : Stands s c l f at t)
+module _ (s : Setting) (c : Compiled) (l : Launch) (f : Finished) (rest : ℕ → ℕ) (is_for : IsFor s (map_of l)) (at : Located) (t : State) (stands : Stands s c l f rest at t)
     (body : IsInBody at) (g : Graph) (is_graph : slice_get c.graphs at.procedure ≡ Some g) (valid : IsValid g)
     (places : (v : ℕ) → IsPlaceOf s body.activation (c.plan.place at.procedure v)) where
   -- where nothing but scratch registers is changed, control stands at a node to which it goes
   pub goes_to : (cost : ℕ) (m : NodeId) → IsTrue (leads_to g is_step m) → Reaches (map_of l) 1 cost t (λ u. (u.pc ≡ f.node_at at.procedure m) × Keeps t u) →
-      IsDone s c l f at cost t (record at { node = m })
+      IsDone s c l f rest at cost t (record at { node = m })
   goes_to cost m leads reaches =
-      silently s c l f at cost t (record at { node = m }) (tokens_there s c l f at g is_graph valid m leads) refl refl (λ b. b)
+      silently s c l f rest at cost t (record at { node = m }) (tokens_there s c l f rest at g is_graph valid m leads) refl refl (λ b. b)
       (reaches_more (reaches_sound reaches stands.sound) (λ u there.
-      stands_there s c l f at g is_graph valid m leads u stands.running body
-      (kept_shown f s l is_for at.holdings at.store at.carried t u there.0.1 stands.shown) there.0.0 there.1))
+      stands_there s c l f rest at g is_graph valid m leads u stands.running body
+      (kept_shown f rest s l is_for at.holdings at.store at.carried t u there.0.1 stands.shown) there.0.0 there.1))
 
   pub goto_done : (next : NodeId) (cost : ℕ) (after : Located) → GotoCode s c l f at.procedure at.node next cost → IsTrue (is_kind g (Goto next)) →
-      ran_at s c (Goto next) at ≡ Ok after → IsDone s c l f at cost t after
+      ran_at s c (Goto next) at ≡ Ok after → IsDone s c l f rest at cost t after
   goto_done next cost after code leads is =
       let same : record at { node = next } ≡ after = place_is is in
-      subst (λ (z : Located). IsDone s c l f at cost t z) same
+      subst (λ (z : Located). IsDone s c l f rest at cost t z) same
       (goes_to cost next leads (code.goes.goes.go t stands.sound stands.pc tt))
 
   -- ---- a branch
@@ -81,10 +81,10 @@ module _ (s : Setting) (c : Compiled) (l : Launch) (f : Finished) (is_for : IsFo
       also = word_is test.width (operand_value (keeping s c at).held test.right (reads_at s c at)) y is_y
 
       left : (operand_at (f.labels at.procedure) code.left t ≡ x) × CanBringOperand code.left (map_of l) t
-      left = operand_is s c l f is_for at t body.activation body.older body.youngest places stands.shown test.left code.left x code.is_left known.0
+      left = operand_is s c l f rest is_for at t body.activation body.older body.youngest places stands.shown test.left code.left x code.is_left known.0
 
       right : (operand_at (f.labels at.procedure) code.right t ≡ y) × CanBringOperand code.right (map_of l) t
-      right = operand_is s c l f is_for at t body.activation body.older body.youngest places stands.shown test.right code.right y code.is_right also.0
+      right = operand_is s c l f rest is_for at t body.activation body.older body.youngest places stands.shown test.right code.right y code.is_right also.0
 
       found : (b : Bool) → holds test.operator test.width x y ≡ b →
           way (holds test.operator test.width (operand_at (f.labels at.procedure) code.left t) (operand_at (f.labels at.procedure) code.right t)) (f.labels at.procedure code.label.number) code.on ≡ way b (f.labels at.procedure code.label.number) code.on
@@ -104,26 +104,26 @@ module _ (s : Setting) (c : Compiled) (l : Launch) (f : Finished) (is_for : IsFo
 
   pub branch_done : (test : Comparison) (then_ otherwise : NodeId) (cost : ℕ) (after : Located) → BranchCode s c l f at.procedure at.node test then_ otherwise cost →
       IsTrue (is_kind g (Branch test then_ otherwise)) → ran_at s c (Branch test then_ otherwise) at ≡ Ok after →
-      IsDone s c l f at cost t after
+      IsDone s c l f rest at cost t after
   branch_done test then_ otherwise cost after code fine is = by (word test test.left) refl (word test test.right) refl is
     where
       both : IsTrue (is_test g test && leads_to g is_step then_) × IsTrue (leads_to g is_step otherwise)
       both = and_parts (is_test g test && leads_to g is_step then_) (leads_to g is_step otherwise) fine
 
       by_test : (x y : ℕ) (h : Bool) → word test test.left ≡ Ok x → word test test.right ≡ Ok y → holds test.operator test.width x y ≡ h →
-          done s c (Branch test then_ otherwise) (order.Choose (elim h [ true ↦ 0 | false ↦ 1 ])) at ≡ Ok after → IsDone s c l f at cost t after
+          done s c (Branch test then_ otherwise) (order.Choose (elim h [ true ↦ 0 | false ↦ 1 ])) at ≡ Ok after → IsDone s c l f rest at cost t after
       by_test x y true is_x is_y is_h e =
           let same : record at { node = then_ } ≡ after = place_is e in
-          subst (λ (z : Located). IsDone s c l f at cost t z) same
+          subst (λ (z : Located). IsDone s c l f rest at cost t z) same
           (goes_to cost then_ (and_parts (is_test g test) (leads_to g is_step then_) both.0).1 (branch_goes test then_ otherwise cost x y true code is_x is_y is_h))
       by_test x y false is_x is_y is_h e =
           let same : record at { node = otherwise } ≡ after = place_is e in
-          subst (λ (z : Located). IsDone s c l f at cost t z) same
+          subst (λ (z : Located). IsDone s c l f rest at cost t z) same
           (goes_to cost otherwise both.1 (branch_goes test then_ otherwise cost x y false code is_x is_y is_h))
 
       by : (a : Tried ℕ) → word test test.left ≡ a → (b : Tried ℕ) → word test test.right ≡ b →
           and_then (and_then (and_then (and_then a (λ x. and_then b (λ y. Ok (holds test.operator test.width x y)))) (λ h. Ok (elim h [ true ↦ 0 | false ↦ 1 ])))
-          (λ n. Ok (order.Choose n))) (λ o. done s c (Branch test then_ otherwise) o at) ≡ Ok after → IsDone s c l f at cost t after
+          (λ n. Ok (order.Choose n))) (λ o. done s c (Branch test then_ otherwise) o at) ≡ Ok after → IsDone s c l f rest at cost t after
       by (Ok x) is_x (Ok y) is_y e = by_test x y (holds test.operator test.width x y) is_x is_y refl e
       by (Ok x) is_x (Err error) is_y e = absurd (cc)
       by (Err error) is_x b is_y e = absurd (cc)
@@ -132,7 +132,7 @@ module _ (s : Setting) (c : Compiled) (l : Launch) (f : Finished) (is_for : IsFo
 
   pub switch_done : SwitchesLead → (value : Operand) (arms : List Arm) (otherwise : NodeId) (cost : ℕ) (after : Located) →
       SwitchCode s c l f at.procedure at.node value arms otherwise cost → IsTrue (is_kind g (Switch value arms otherwise)) →
-      ran_at s c (Switch value arms otherwise) at ≡ Ok after → IsDone s c l f at cost t after
+      ran_at s c (Switch value arms otherwise) at ≡ Ok after → IsDone s c l f rest at cost t after
   switch_done lead value arms otherwise cost after code fine is = by (operand_value (keeping s c at).held value (reads_at s c at)) refl is
     where
       both : IsTrue (is_operand g value && list_all (is_arm g) arms) × IsTrue (leads_to g is_step otherwise)
@@ -144,9 +144,9 @@ module _ (s : Setting) (c : Compiled) (l : Launch) (f : Finished) (is_for : IsFo
       by_arm : (x : ℕ) → operand_at (f.labels at.procedure) code.operand t ≡ x → Reaches (map_of l) 1 code.count t
           (λ u. (u.pc ≡ arm_address (f.labels at.procedure) code.labels arms (operand_at (f.labels at.procedure) code.operand t) code.on) × Keeps t u) →
           (o : Option Arm) → slice_get arms (arm_way arms x) ≡ o →
-          elim (elim o as (λ z. Option NodeId) [ Some arm ↦ Some arm.to | None ↦ Some otherwise ]) as (λ z. Located) [ Some n ↦ record at { node = n } | None ↦ at ] ≡ after → IsDone s c l f at cost t after
+          elim (elim o as (λ z. Option NodeId) [ Some arm ↦ Some arm.to | None ↦ Some otherwise ]) as (λ z. Located) [ Some n ↦ record at { node = n } | None ↦ at ] ≡ after → IsDone s c l f rest at cost t after
       by_arm x is_x reaches (Some arm) is_arm_there e =
-          subst (λ (z : Located). IsDone s c l f at cost t z) e
+          subst (λ (z : Located). IsDone s c l f rest at cost t z) e
           (goes_to cost arm.to (list_all_get (is_arm g) arms (arm_way arms x) arm all is_arm_there)
           (reaches_weaker reaches (omega arith) (omega (arith, code.few)) (λ u there. (
             there.0 ∙ ap (λ (n : ℕ). arm_address (f.labels at.procedure) code.labels arms n code.on) is_x ∙ lead (f.labels at.procedure) code.labels arms x code.on
@@ -155,7 +155,7 @@ module _ (s : Setting) (c : Compiled) (l : Launch) (f : Finished) (is_for : IsFo
             there.1,
           ))))
       by_arm x is_x reaches None is_none e =
-          subst (λ (z : Located). IsDone s c l f at cost t z) e
+          subst (λ (z : Located). IsDone s c l f rest at cost t z) e
           (goes_to cost otherwise both.1
           (reaches_weaker
           (reaches_then (reaches_sound reaches stands.sound)
@@ -167,8 +167,8 @@ module _ (s : Setting) (c : Compiled) (l : Launch) (f : Finished) (is_for : IsFo
 
       by : (a : Tried ℕ) → operand_value (keeping s c at).held value (reads_at s c at) ≡ a →
           and_then (and_then (and_then a (λ v. Ok (arm_way arms v))) (λ n. Ok (order.Choose n))) (λ o. done s c (Switch value arms otherwise) o at) ≡ Ok after →
-          IsDone s c l f at cost t after
+          IsDone s c l f rest at cost t after
       by (Ok x) is_x e =
-          let found = operand_is s c l f is_for at t body.activation body.older body.youngest places stands.shown value code.operand x code.is_value is_x in
+          let found = operand_is s c l f rest is_for at t body.activation body.older body.youngest places stands.shown value code.operand x code.is_value is_x in
           by_arm x found.0 (code.switches.goes.go t stands.sound stands.pc found.1) (slice_get arms (arm_way arms x)) refl (place_is e)
       by (Err error) is_x e = absurd (cc)

@@ -81,10 +81,10 @@ outside_with at status = record {
   status = status_of status;
 }
 
-module _ (s : Setting) (c : Compiled) (l : Launch) (f : Finished) (is_for : IsFor s (map_of l)) (at : Located) (t : State) (stands : Stands s c l f at t)
+module _ (s : Setting) (c : Compiled) (l : Launch) (f : Finished) (rest : ℕ → ℕ) (is_for : IsFor s (map_of l)) (at : Located) (t : State) (stands : Stands s c l f rest at t)
     (body : IsInBody at) (laid : IsLaidFor s c at.procedure) (results : List Argument) (exit alternates cost : ℕ)
     (code : ReturnCode s c l f at.procedure at.node exit results cost) (ws : List Word)
-    (are_out : AreValues s c l f is_for at t body.activation body.older body.youngest body.same laid stands.shown code.operands ws)
+    (are_out : AreValues s c l f rest is_for at t body.activation body.older body.youngest body.same laid stands.shown code.operands ws)
     (q site : ℕ) (valid : (g : Graph) → slice_get c.graphs q ≡ Some g → IsValid g) (sites : (exits : Exits) → site_exits c.graphs q site ≡ Some exits → SiteCode s c l f q site exits)
     (back : at.holdings.contents (at.holdings.point.at + (c.plan.frame at.procedure).return_at) ≡ ReturnTo q site) where
   address_is : return_address (c.plan.frame at.procedure) t ≡ f.symbols.return_to q site
@@ -94,7 +94,7 @@ module _ (s : Setting) (c : Compiled) (l : Launch) (f : Finished) (is_for : IsFo
       ∙ subst (λ (content : Content). Represents f.symbols content (loaded t.memory (at.holdings.point.at + offset) 8)) back (stands.shown.words.shown (at.holdings.point.at + offset))
 
   framed : HasFrame (stack_region s) (c.plan.frame at.procedure).size (map_of l) t
-  framed = framed_inside s c l f is_for at t stands body laid
+  framed = framed_inside s c l f rest is_for at t stands body laid
 
   module _ (waits : is_at s c (drop 1 at.store.activations) q site ≡ true) (exits : Exits) (is_exits : site_exits c.graphs q site ≡ Some exits)
       (within : exit ≤ length exits.returns) (n : NodeId) (is_node : exit_node s c q exits exit ≡ Some n) where
@@ -145,22 +145,22 @@ module _ (s : Setting) (c : Compiled) (l : Launch) (f : Finished) (is_for : IsFo
         let some : 1 ≤ landing.0.tokens = has_tokens c.graphs q valid n landing.0 landing.1 in
         omega (arith, e, some)
 
-    stands_back : (u v : State) → GivesAndLeaves (stack_region s) (f.labels at.procedure) (c.plan.frame at.procedure) code.operands t u → v.pc ≡ f.node_at q n → Keeps u v → IsSound v → Stands s c l f back_at v
+    stands_back : (u v : State) → GivesAndLeaves (stack_region s) (f.labels at.procedure) (c.plan.frame at.procedure) code.operands t u → v.pc ≡ f.node_at q n → Keeps u v → IsSound v → Stands s c l f rest back_at v
     stands_back u v parts pc keeps sound = record {
       running = refl;
       node = landing.0;
       there = landing.1;
       inside = inside_copy landing.0.kind landing.2 back_at youngest;
-      shown = kept_shown f s l is_for back_at.holdings store_back (numbers ws) u v keeps
-          (resited_shows f.symbols s back_at.holdings (without 1 at.store) (numbers ws) u None p.Running
-          (parted s c l f is_for at t body.activation body.older body.youngest body.same laid stands.shown code.operands ws u code.few_results are_out parts));
+      shown = kept_shown f rest s l is_for back_at.holdings store_back (numbers ws) u v keeps
+          (resited_shows f.symbols rest s back_at.holdings (without 1 at.store) (numbers ws) u None p.Running
+          (parted s c l f rest is_for at t body.activation body.older body.youngest body.same laid stands.shown code.operands ws u code.few_results are_out parts));
       pc = pc;
       sound = sound;
     }
 
-    went_back : IsDone s c l f at cost t back_at
+    went_back : IsDone s c l f rest at cost t back_at
     went_back =
-        silently s c l f at cost t back_at some_tokens (ap (outside_with at) (sym stands.running)) refl
+        silently s c l f rest at cost t back_at some_tokens (ap (outside_with at) (sym stands.running)) refl
         (λ are. resited_are_bare None (drop 1 at.store.activations) (dropped_are_bare 1 at.store.activations are))
         (reaches_weaker
         (reaches_then
@@ -179,29 +179,29 @@ module _ (s : Setting) (c : Compiled) (l : Launch) (f : Finished) (is_for : IsFo
   -- ---- where the located machine goes back
 
   pub back_done : (after : Located) → to_return s c (ReturnTo q site) exit alternates (numbers ws) (without 1 at.store) (left c.plan at.procedure at.holdings) ≡ Ok after →
-      IsDone s c l f at cost t after
+      IsDone s c l f rest at cost t after
   back_done after is = by_site (is_at s c (drop 1 at.store.activations) q site) refl is
     where
       by_node : (waits : is_at s c (drop 1 at.store.activations) q site ≡ true) (exits : Exits) (is_exits : site_exits c.graphs q site ≡ Some exits) (within : exit ≤ length exits.returns) →
           (o : Option NodeId) → exit_node s c q exits exit ≡ o →
-          to_landing s c NeverReturns o q (without 1 at.store) (left c.plan at.procedure at.holdings) (numbers ws) ≡ Ok after → IsDone s c l f at cost t after
-      by_node waits exits is_exits within (Some n) is_node e = subst (λ (z : Located). IsDone s c l f at cost t z) (place_is e) (went_back waits exits is_exits within n is_node)
+          to_landing s c NeverReturns o q (without 1 at.store) (left c.plan at.procedure at.holdings) (numbers ws) ≡ Ok after → IsDone s c l f rest at cost t after
+      by_node waits exits is_exits within (Some n) is_node e = subst (λ (z : Located). IsDone s c l f rest at cost t z) (place_is e) (went_back waits exits is_exits within n is_node)
       by_node waits exits is_exits within None is_node e = absurd (cc)
 
       by_count : (waits : is_at s c (drop 1 at.store.activations) q site ≡ true) (exits : Exits) → site_exits c.graphs q site ≡ Some exits → (test : Bool) → nat_le exit (length exits.returns) ≡ test →
           provided test WrongAlternates (to_landing s c NeverReturns (exit_node s c q exits exit) q (without 1 at.store) (left c.plan at.procedure at.holdings) (numbers ws)) ≡ Ok after →
-          IsDone s c l f at cost t after
+          IsDone s c l f rest at cost t after
       by_count waits exits is_exits true count e = by_node waits exits is_exits (grind (arith, nat_tests, count)) (exit_node s c q exits exit) refl e
       by_count waits exits is_exits false count e = absurd (cc)
 
       by_exits : (waits : is_at s c (drop 1 at.store.activations) q site ≡ true) (o : Option Exits) → site_exits c.graphs q site ≡ o →
           if_given o WrongAlternates (λ exits. provided (nat_le exit (length exits.returns)) WrongAlternates
-          (to_landing s c NeverReturns (exit_node s c q exits exit) q (without 1 at.store) (left c.plan at.procedure at.holdings) (numbers ws))) ≡ Ok after → IsDone s c l f at cost t after
+          (to_landing s c NeverReturns (exit_node s c q exits exit) q (without 1 at.store) (left c.plan at.procedure at.holdings) (numbers ws))) ≡ Ok after → IsDone s c l f rest at cost t after
       by_exits waits (Some exits) is_exits e = by_count waits exits is_exits (nat_le exit (length exits.returns)) refl e
       by_exits waits None is_exits e = absurd (cc)
 
       by_site : (test : Bool) → is_at s c (drop 1 at.store.activations) q site ≡ test →
           provided test WrongAlternates (if_given (site_exits c.graphs q site) WrongAlternates (λ exits. provided (nat_le exit (length exits.returns)) WrongAlternates
-          (to_landing s c NeverReturns (exit_node s c q exits exit) q (without 1 at.store) (left c.plan at.procedure at.holdings) (numbers ws)))) ≡ Ok after → IsDone s c l f at cost t after
+          (to_landing s c NeverReturns (exit_node s c q exits exit) q (without 1 at.store) (left c.plan at.procedure at.holdings) (numbers ws)))) ≡ Ok after → IsDone s c l f rest at cost t after
       by_site true waits e = by_exits waits (site_exits c.graphs q site) refl e
       by_site false waits e = absurd (cc)

@@ -33,16 +33,17 @@ value_differs i k low = grind (arith, nat_tests, low)
 saved_differs : (r k : ℕ) → is_callee_saves r ≡ true → k < 9 → (r == k) ≡ false
 saved_differs r k is low = grind (arith, nat_tests, is, low)
 
-module _ (y : Symbols) (s : Setting) (m : MemoryMap) (is_for : IsFor s m) where
+module _ (y : Symbols) (rest : ℕ → ℕ) (s : Setting) (m : MemoryMap) (is_for : IsFor s m) where
   -- memory stays, and some of the youngest activations may go
-  pub moved_shows : (h h' : Holdings) (store : Store) (carried : List ℕ) (younger : ℕ) (t t' : State) → IsRepresented y s h store carried t → t'.memory ≡ t.memory →
+  pub moved_shows : (h h' : Holdings) (store : Store) (carried : List ℕ) (younger : ℕ) (t t' : State) → IsRepresented y rest s h store carried t → t'.memory ≡ t.memory →
       h'.contents ≡ h.contents → RepresentsHoldings y (stack_region s) h' t'.registers → ((i : ℕ) → i < 8 → t'.registers (10 + i) ≡ t.registers (10 + i)) →
-      h'.point.at ≡ frame_address s (drop younger store.activations) → IsRepresented y s h' (without younger store) carried t'
+      h'.point.at ≡ frame_address s (drop younger store.activations) → IsRepresented y rest s h' (without younger store) carried t'
   moved_shows h h' store carried younger t t' shows same contents holdings values at = record {
     holdings = holdings;
     words = rw (same, contents) (rooms_go y (stack_region s) store.memory younger h.contents t.memory shows.words);
     cells = rw same ((shows.cells.0, show_fewer store.memory.rooms younger t.memory shows.cells.1));
     registers = rw same shows.registers;
+    elsewhere = rw same shows.elsewhere;
     values = values_same (stack_region s) carried t t' values (λ b less low. rw same refl) shows.values;
     stack = (without_keeps s younger store).1 shows.stack;
     at = at;
@@ -53,7 +54,7 @@ module _ (y : Symbols) (s : Setting) (m : MemoryMap) (is_for : IsFor s m) where
   module _ (plan : Plan) (q : ℕ) (h : Holdings) (store : Store) (carried : List ℕ) (a : Activation) (older : List Activation) (t t' : State)
       (youngest : store.activations ≡ a ∷ older) (size : (plan.frame q).size ≡ frame_size s a)
       (saves : (r offset : ℕ) → saved_at plan q r ≡ Some offset → is_callee_saves r ≡ true) (leaves : Leaves (plan.frame q) t t')
-      (shows : IsRepresented y s h store carried t) where
+      (shows : IsRepresented y rest s h store carried t) where
     not_saved : (r : ℕ) → is_callee_saves r ≡ false → is_some (saved_at plan q r) ≡ false
     not_saved r never = by (saved_at plan q r) refl
       where
@@ -76,7 +77,7 @@ module _ (y : Symbols) (s : Setting) (m : MemoryMap) (is_for : IsFor s m) where
     kept_at r is None at = shown_same y (h.point.kept r) (t.registers r) (t'.registers r)
         (λ known. still r (saved_differs r 1 is (omega arith)) (saved_differs r 2 is (omega arith)) (callee_saves_is_kept r is) (ap is_some at)) (shows.holdings.kept r is)
 
-    pub left_shows : IsRepresented y s (record { point = behind plan h.contents q h.point; temps = none_known; contents = h.contents }) (without 1 store) carried t'
+    pub left_shows : IsRepresented y rest s (record { point = behind plan h.contents q h.point; temps = none_known; contents = h.contents }) (without 1 store) carried t'
     left_shows = moved_shows h _ store carried 1 t t' shows leaves.memory refl
         (record {
           zero = still 0 refl refl refl (not_saved 0 refl) ∙ shows.holdings.zero;
@@ -94,8 +95,8 @@ module _ (y : Symbols) (s : Setting) (m : MemoryMap) (is_for : IsFor s m) where
 
   -- to a procedure that is called: register 1 has the return address of the site
   pub called_shows : (h : Holdings) (store : Store) (values : List ℕ) (t t' : State) (q site : ℕ) → t'.registers 1 ≡ y.return_to q site → t'.memory ≡ t.memory →
-      KeepsBut (λ r. (r == 1) || is_scratch r) t t' → IsRepresented y s h store values t →
-      IsRepresented y s (record { point = record h.point { back = ReturnTo q site }; temps = none_known; contents = h.contents }) store values t'
+      KeepsBut (λ r. (r == 1) || is_scratch r) t t' → IsRepresented y rest s h store values t →
+      IsRepresented y rest s (record { point = record h.point { back = ReturnTo q site }; temps = none_known; contents = h.contents }) store values t'
   called_shows h store values t t' q site link same others shows = moved_shows h _ store values 0 t t' shows same refl
       (record {
         zero = others 0 refl ∙ shows.holdings.zero;
@@ -111,8 +112,8 @@ module _ (y : Symbols) (s : Setting) (m : MemoryMap) (is_for : IsFor s m) where
 
   -- by a cut: register 2 has the address of an older frame, and no register is restored
   pub cut_shows : (h : Holdings) (store : Store) (values : List ℕ) (t t' : State) (at younger : ℕ) → t'.registers 2 ≡ at → t'.memory ≡ t.memory →
-      KeepsBut (λ r. (r == 1) || ((r == 2) || is_scratch r)) t t' → at ≡ frame_address s (drop younger store.activations) → IsRepresented y s h store values t →
-      IsRepresented y s (record { point = record { at = at; back = Unknown; kept = h.point.kept }; temps = none_known; contents = h.contents }) (without younger store) values t'
+      KeepsBut (λ r. (r == 1) || ((r == 2) || is_scratch r)) t t' → at ≡ frame_address s (drop younger store.activations) → IsRepresented y rest s h store values t →
+      IsRepresented y rest s (record { point = record { at = at; back = Unknown; kept = h.point.kept }; temps = none_known; contents = h.contents }) (without younger store) values t'
   cut_shows h store values t t' at younger frame same others is shows = moved_shows h _ store values younger t t' shows same refl
       (record {
         zero = others 0 refl ∙ shows.holdings.zero;

@@ -2,7 +2,9 @@ pub mod Regions
 pub mod WrittenWords
 pub mod WrittenBytes
 pub mod Frames
+pub mod Rest
 pub mod Showing
+pub mod DataWritten
 pub mod Accessing
 pub mod Leaving
 pub mod Resiting

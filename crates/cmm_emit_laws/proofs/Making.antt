@@ -19,10 +19,11 @@ use Rattle.cmm_machine_laws.specs.Stacks.{IsStack, extent, stack_of, stackdata_o
 use Rattle.rv_asm.specs.declared.part.Label.{Label}
 use Rattle.rv_table.specs.Machine.{MemoryMap, State, loaded, stored, bottom, Region}
 use Rattle.cmm_calls.specs.Frames.{Makes, fixed_numbers, pair_numbers, saved_numbers, stored_words}
-use Rattle.cmm_emit_laws.specs.Words.{Symbols, Represents, RepresentsCells, RepresentsRoom, RepresentsWords, Sits}
+use Rattle.cmm_emit_laws.specs.Words.{Symbols, Represents, RepresentsCells, RepresentsRest, RepresentsRoom, RepresentsWords, Sits}
 use Rattle.cmm_emit_laws.specs.Represented.{AreLandings, AreWordsAt, AreWritten, IsFor, IsMade, IsRepresented, IsWordAt, stack_region}
 use Rattle.cmm_emit_laws.proofs.WrittenWords.{below_stays, cells_stay, shown_same, word_written}
 use Rattle.cmm_emit_laws.proofs.Frames.{room_comes, word_sits}
+use Rattle.cmm_emit_laws.proofs.Rest.{rest_stays}
 use Rattle.cmm_emit_laws.proofs.Showing.{registers_same, values_same}
 
 -- ---- words are written, one after the other
@@ -32,24 +33,26 @@ AreSitting w memory at [] = Unit {0}
 AreSitting w memory at ((offset, c) ∷ rest) = Sits w memory (at + offset) × AreSitting w memory at rest
 
 -- what one or many writes leave
-record Written (y : Symbols) (w : Region) (memory : Memory) (contents : Contents) (before after : ℕ → ℕ) : Type 0 where
+record Written (y : Symbols) (rest : ℕ → ℕ) (w : Region) (memory : Memory) (contents : Contents) (before after : ℕ → ℕ) : Type 0 where
   words : RepresentsWords y w memory contents after
   cells : RepresentsCells memory after
   below : (b : ℕ) → b + 8 ≤ bottom w → loaded after b 8 ≡ loaded before b 8
+  elsewhere : RepresentsRest rest w memory.data_room after
 
-words_written : (y : Symbols) (w : Region) (memory : Memory) (at : ℕ) (numbers : List (ℕ × ℕ)) (words : List (ℕ × Content)) (contents : Contents) (first before : ℕ → ℕ) →
-    AreSitting w memory at words → AreWritten y numbers words → Written y w memory contents first before →
-    Written y w memory (with_words at words contents) first (stored_words at numbers before)
-words_written y w memory at [] [] contents first before sit written so_far = so_far
-words_written y w memory at ((offset, n) ∷ numbers) ((place, c) ∷ words) contents first before sit written so_far =
-    subst (λ (o : ℕ). Written y w memory (with_words at words (with_content (at + place) c contents)) first (stored_words at numbers (stored before (at + o) 8 n))) (sym written.0)
-    (words_written y w memory at numbers words (with_content (at + place) c contents) first (stored before (at + place) 8 n) sit.1 written.1.1.1 (record {
+words_written : (y : Symbols) (rest : ℕ → ℕ) (w : Region) (memory : Memory) (at : ℕ) (numbers : List (ℕ × ℕ)) (words : List (ℕ × Content)) (contents : Contents) (first before : ℕ → ℕ) →
+    AreSitting w memory at words → AreWritten y numbers words → Written y rest w memory contents first before →
+    Written y rest w memory (with_words at words contents) first (stored_words at numbers before)
+words_written y rest w memory at [] [] contents first before sit written so_far = so_far
+words_written y rest w memory at ((offset, n) ∷ numbers) ((place, c) ∷ words) contents first before sit written so_far =
+    subst (λ (o : ℕ). Written y rest w memory (with_words at words (with_content (at + place) c contents)) first (stored_words at numbers (stored before (at + o) 8 n))) (sym written.0)
+    (words_written y rest w memory at numbers words (with_content (at + place) c contents) first (stored before (at + place) 8 n) sit.1 written.1.1.1 (record {
       words = word_written y w memory (at + place) n sit.0 contents before c written.1.1.0 written.1.0 so_far.words;
       cells = cells_stay y w memory (at + place) n sit.0 before so_far.cells;
       below = λ b low. below_stays y w memory (at + place) n sit.0 before b low ∙ so_far.below b low;
+      elsewhere = rest_stays rest w memory.data_room before (at + place) 8 n (omega (arith, sit.0.low)) sit.0.high so_far.elsewhere;
     }))
-words_written y w memory at [] (word ∷ words) contents first before sit written so_far = absurd written
-words_written y w memory at (number ∷ numbers) [] contents first before sit written so_far = absurd written
+words_written y rest w memory at [] (word ∷ words) contents first before sit written so_far = absurd written
+words_written y rest w memory at (number ∷ numbers) [] contents first before sit written so_far = absurd written
 
 -- ---- the words of a new frame represent its contents
 
@@ -83,9 +86,9 @@ sit_saved s w memory a q at kept ((r, offset) ∷ rest) pairs sits all = (sits o
 
 -- ---- a frame comes
 
-module _ (y : Symbols) (s : Setting) (m : MemoryMap) (is_for : IsFor s m) (plan : Plan) (q : ℕ) (h : Holdings) (store : Store) (carried : List ℕ) (a : Activation) (room : Room)
+module _ (y : Symbols) (rest : ℕ → ℕ) (s : Setting) (m : MemoryMap) (is_for : IsFor s m) (plan : Plan) (q : ℕ) (h : Holdings) (store : Store) (carried : List ℕ) (a : Activation) (room : Room)
     (address_of : ℕ → ℕ) (landings : List Label) (t t' : State) (is_made : IsMade y s plan q a room address_of landings h) (small : (r : ℕ) → t.registers r < 2 ^ 64)
-    (makes : Makes (plan.frame q).size (fixed_numbers address_of (plan.frame q) landings t.registers (t'.registers 2)) t t') (shows : IsRepresented y s h store carried t) where
+    (makes : Makes (plan.frame q).size (fixed_numbers address_of (plan.frame q) landings t.registers (t'.registers 2)) t t') (shows : IsRepresented y rest s h store carried t) where
   abbrev f : Frame
   f = plan.frame q
 
@@ -148,11 +151,11 @@ module _ (y : Symbols) (s : Setting) (m : MemoryMap) (is_for : IsFor s m) (plan 
     ),
   )
 
-  written : Written y (stack_region s) after.memory (with_words at words (blank at h.point.at h.contents)) t.memory (stored_words at numbers t.memory)
+  written : Written y rest (stack_region s) after.memory (with_words at words (blank at h.point.at h.contents)) t.memory (stored_words at numbers t.memory)
   unfolding numbers words
-  written = words_written y (stack_region s) after.memory at numbers words (blank at h.point.at h.contents) t.memory t.memory
+  written = words_written y rest (stack_region s) after.memory at numbers words (blank at h.point.at h.contents) t.memory t.memory
       (lookup f.return_at is_made.words.0, sit_saved s (stack_region s) after.memory a q at h.point.kept f.saved f.pairs lookup is_made.words.1) are_written
-      (record { words = blanked; cells = (shows.cells.0, (room_shown, shows.cells.1)); below = λ b low. refl })
+      (record { words = blanked; cells = (shows.cells.0, (room_shown, shows.cells.1)); below = λ b low. refl; elsewhere = shows.elsewhere })
 
   stored_there : t'.memory ≡ stored_words at numbers t.memory
   unfolding numbers
@@ -161,7 +164,7 @@ module _ (y : Symbols) (s : Setting) (m : MemoryMap) (is_for : IsFor s m) (plan 
   keeps : (r : ℕ) → (r == 2) ≡ false → is_scratch r ≡ false → t'.registers r ≡ t.registers r
   keeps r two scratch = makes.registers r (or_from (r == 2) (is_scratch r) two scratch)
 
-  pub made_shows : IsRepresented y s (entered plan q h.point h.contents) after carried t'
+  pub made_shows : IsRepresented y rest s (entered plan q h.point h.contents) after carried t'
   unfolding numbers words
   made_shows = record {
     holdings = record {
@@ -175,6 +178,7 @@ module _ (y : Symbols) (s : Setting) (m : MemoryMap) (is_for : IsFor s m) (plan 
     };
     words = rw stored_there written.words;
     cells = rw stored_there written.cells;
+    elsewhere = rw stored_there written.elsewhere;
     registers = rw stored_there (registers_same (stack_region s) store.registers t.memory (stored_words at numbers t.memory) (λ b less low. written.below b less) shows.registers);
     values = values_same (stack_region s) carried t t'
         (λ i less. keeps (10 + i) (grind (arith, nat_tests)) (grind (arith, nat_tests))) (λ b less low. rw stored_there (written.below b less)) shows.values;

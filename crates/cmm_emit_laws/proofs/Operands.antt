@@ -46,9 +46,9 @@ number_is (ReturnTo q site) v is = absurd (cc)
 number_is (LandingOf q k) v is = absurd (cc)
 number_is LastReturn v is = absurd (cc)
 
-module _ (s : Setting) (c : Compiled) (l : Launch) (f : Finished) (is_for : IsFor s (map_of l)) (at : Located) (t : State) (a : Activation) (older : List Activation)
+module _ (s : Setting) (c : Compiled) (l : Launch) (f : Finished) (rest : ℕ → ℕ) (is_for : IsFor s (map_of l)) (at : Located) (t : State) (a : Activation) (older : List Activation)
     (youngest : at.store.activations ≡ a ∷ older) (places : (v : ℕ) → IsPlaceOf s a (c.plan.place at.procedure v))
-    (shown : IsRepresented f.symbols s at.holdings at.store at.carried t) where
+    (shown : IsRepresented f.symbols rest s at.holdings at.store at.carried t) where
   constant_is : (k : Constant) (x : CodeOperand) (v : ℕ) → IsConstant s c l f at.procedure k x → constant_value s.program s.placement k ≡ v →
       (operand_at (f.labels at.procedure) x t ≡ v) × CanBringOperand x (map_of l) t
   constant_is k (code.Held (source.Number n)) v is e = (is ∙ e, tt)
@@ -73,8 +73,8 @@ module _ (s : Setting) (c : Compiled) (l : Launch) (f : Finished) (is_for : IsFo
       let fine = places (number_in c.graphs at.procedure local) in
       subst (λ (z : CodeOperand). (operand_at (f.labels at.procedure) z t ≡ v) × CanBringOperand z (map_of l) t) (sym is)
       ((
-        held_is_read f.symbols s (map_of l) is_for at.holdings at.store at.carried a older t youngest shown place v fine holds,
-        place_is_reachable f.symbols s (map_of l) is_for at.holdings at.store at.carried a older t youngest shown place fine,
+        held_is_read f.symbols rest s (map_of l) is_for at.holdings at.store at.carried a older t youngest shown place v fine holds,
+        place_is_reachable f.symbols rest s (map_of l) is_for at.holdings at.store at.carried a older t youngest shown place fine,
       ))
   operand_is (operand.Stackdata label) x v is e = address_is (slice_index_or (c.plan.frame at.procedure).stack label.number 0) x v is (ok_is e)
   operand_is (operand.Continuation k) x v is e = address_is (slice_index_or (c.plan.frame at.procedure).pairs k.number 0) x v is (ok_is e)

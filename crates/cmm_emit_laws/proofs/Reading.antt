@@ -15,6 +15,7 @@ use Rattle.rv_table.specs.Machine.{LiesIn, MemoryMap, Region, State, is_accessib
 use Rattle.cmm_effects.specs.Changes.{CanReach, Writes, read_at}
 use Rattle.cmm_emit_laws.specs.Words.{Symbols, Represents, Sits}
 use Rattle.cmm_emit_laws.specs.Represented.{IsFor, IsPlaceOf, IsRepresented, stack_region}
+use Rattle.cmm_emit_laws.proofs.Rest.{rest_stays}
 use Rattle.cmm_emit_laws.proofs.WrittenWords.{rooms_same, shown_same}
 use Rattle.cmm_emit_laws.proofs.Frames.{region_free}
 use Rattle.cmm_emit_laws.proofs.Showing.{holdings_same, no_values, own_word_sits}
@@ -30,8 +31,8 @@ sits_accessible r m memory b lies sits =
     let aligned : b % 8 ≡ 0 = sits.aligned in
     grind (arith, nat_tests, low, high, aligned)
 
-module _ (y : Symbols) (s : Setting) (m : MemoryMap) (is_for : IsFor s m) (h : Holdings) (store : Store) (carried : List ℕ) (a : Activation) (older : List Activation) (t : State)
-    (youngest : store.activations ≡ a ∷ older) (shows : IsRepresented y s h store carried t) where
+module _ (y : Symbols) (rest : ℕ → ℕ) (s : Setting) (m : MemoryMap) (is_for : IsFor s m) (h : Holdings) (store : Store) (carried : List ℕ) (a : Activation) (older : List Activation) (t : State)
+    (youngest : store.activations ≡ a ∷ older) (shows : IsRepresented y rest s h store carried t) where
   pub held_is_read : (place : Location) (n : ℕ) → IsPlaceOf s a place → held h place ≡ Number n → read_at place t ≡ n
   held_is_read (Slot offset) n is holds =
       ap (λ (at : ℕ). loaded t.memory (at + offset) 8) shows.holdings.frame
@@ -41,7 +42,7 @@ module _ (y : Symbols) (s : Setting) (m : MemoryMap) (is_for : IsFor s m) (h : H
 
   pub place_is_reachable : (place : Location) → IsPlaceOf s a place → CanReach place m t
   place_is_reachable (Slot offset) is =
-      let sits : Sits (stack_region s) store.memory (h.point.at + offset) = own_word_sits y s m is_for h store a older t t youngest offset carried is shows in
+      let sits : Sits (stack_region s) store.memory (h.point.at + offset) = own_word_sits y rest s m is_for h store a older t t youngest offset carried is shows in
       subst (λ (at : ℕ). (at + offset < 2 ^ 64) × IsTrue (is_accessible m (at + offset) 8)) (sym shows.holdings.frame)
       ((omega (arith, sits.high, is_for.lies.narrow), sits_accessible (stack_region s) m store.memory (h.point.at + offset) is_for.lies sits))
   place_is_reachable (Saved r) is = tt
@@ -49,11 +50,11 @@ module _ (y : Symbols) (s : Setting) (m : MemoryMap) (is_for : IsFor s m) (h : H
 
 -- ---- global registers
 
-module _ (y : Symbols) (s : Setting) (m : MemoryMap) (is_for : IsFor s m) (h : Holdings) (store : Store) (r : ℕ) (within : r < length store.registers) (t : State) where
-  pub register_is_read : (carried : List ℕ) → IsRepresented y s h store carried t → loaded t.memory (global_address (stack_region s) r) 8 ≡ slice_index_or store.registers r 0
+module _ (y : Symbols) (rest : ℕ → ℕ) (s : Setting) (m : MemoryMap) (is_for : IsFor s m) (h : Holdings) (store : Store) (r : ℕ) (within : r < length store.registers) (t : State) where
+  pub register_is_read : (carried : List ℕ) → IsRepresented y rest s h store carried t → loaded t.memory (global_address (stack_region s) r) 8 ≡ slice_index_or store.registers r 0
   register_is_read carried shows = shows.registers.1 r within
 
-  module _ (n : ℕ) (small : n < 2 ^ 64) (u : State) (writes : Writes (global_address (stack_region s) r) 8 n t u) (shows : IsRepresented y s h store [] t) where
+  module _ (n : ℕ) (small : n < 2 ^ 64) (u : State) (writes : Writes (global_address (stack_region s) r) 8 n t u) (shows : IsRepresented y rest s h store [] t) where
     free : (k : ℕ) (low : Bool) → nat_lt k (global_address (stack_region s) r) ≡ low → (high : Bool) → nat_lt k (global_address (stack_region s) r + 8) ≡ high →
         (stored t.memory (global_address (stack_region s) r) 8 n k ≡ t.memory k) ⊎ (cell_at store.memory k ≡ Outside)
     free k true low high top = inl (stored-outside t.memory (global_address (stack_region s) r) 8 n k (inl (grind (arith, nat_tests))))
@@ -79,7 +80,7 @@ module _ (y : Symbols) (s : Setting) (m : MemoryMap) (is_for : IsFor s m) (h : H
         let q : slice_index_or (slice_set store.registers r n) k 0 ≡ slice_index_or store.registers k 0 = grind (arith, nat_tests, common_steps, within, differ) in
         other k (nat_lt k r) refl differ ∙ shows.registers.1 k under ∙ sym q
 
-    pub register_shows : IsRepresented y s h (record store { registers = slice_set store.registers r n }) [] u
+    pub register_shows : IsRepresented y rest s h (record store { registers = slice_set store.registers r n }) [] u
     register_shows = record {
       holdings = holdings_same y (stack_region s) h t.registers u.registers writes.registers shows.holdings;
       words = rw writes.memory (record {
@@ -93,6 +94,8 @@ module _ (y : Symbols) (s : Setting) (m : MemoryMap) (is_for : IsFor s m) (h : H
         rw (length-set store.registers r n) (shows.registers.0),
         λ k under. now k (rw (length-set store.registers r n) at under) (k == r) refl,
       ));
+      elsewhere = rw writes.memory (rest_stays rest (stack_region s) store.memory.data_room t.memory (global_address (stack_region s) r) 8 n (omega arith)
+          (omega (arith, within, shows.registers.0)) shows.elsewhere);
       values = no_values (stack_region s) u;
       stack = shows.stack;
       at = shows.at;

@@ -20,13 +20,14 @@ stackdata_same : (s : Setting) (site : Option ℕ) (activations : List Activatio
 stackdata_same s site [] = refl
 stackdata_same s site (a ∷ older) = refl
 
-pub resited_shows : (y : Symbols) (s : Setting) (h : Holdings) (store : Store) (carried : List ℕ) (t : State) (site : Option ℕ) (status : Status) →
-    IsRepresented y s h store carried t → IsRepresented y s h (record store { activations = with_site site store.activations; status = status }) carried t
-resited_shows y s h store carried t site status shows = record {
+pub resited_shows : (y : Symbols) (rest : ℕ → ℕ) (s : Setting) (h : Holdings) (store : Store) (carried : List ℕ) (t : State) (site : Option ℕ) (status : Status) →
+    IsRepresented y rest s h store carried t → IsRepresented y rest s h (record store { activations = with_site site store.activations; status = status }) carried t
+resited_shows y rest s h store carried t site status shows = record {
   holdings = shows.holdings;
   words = shows.words;
   cells = shows.cells;
   registers = shows.registers;
+  elsewhere = shows.elsewhere;
   values = shows.values;
   stack = record {
     fits = rw (sizes_same s site store.activations) shows.stack.fits;
@@ -34,4 +35,18 @@ resited_shows y s h store carried t site status shows = record {
     data_room = shows.stack.data_room;
   };
   at = shows.at ∙ sym (address_same s site store.activations);
+}
+
+-- what is outside of memory and registers may change as well
+pub outside_shows : (y : Symbols) (rest : ℕ → ℕ) (s : Setting) (h : Holdings) (store : Store) (carried : List ℕ) (t : State) (input taken output log : List ℕ) (status : Status) →
+    IsRepresented y rest s h store carried t → IsRepresented y rest s h (record store { input = input; taken = taken; output = output; log = log; status = status }) carried t
+outside_shows y rest s h store carried t input taken output log status shows = record {
+  holdings = shows.holdings;
+  words = shows.words;
+  cells = shows.cells;
+  registers = shows.registers;
+  elsewhere = shows.elsewhere;
+  values = shows.values;
+  stack = shows.stack;
+  at = shows.at;
 }

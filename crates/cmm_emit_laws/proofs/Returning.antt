@@ -45,10 +45,10 @@ use Rattle.cmm_emit_laws.specs.NodeCode.{ReturnCode, SiteCode}
 use Rattle.cmm_emit_laws.specs.ProgramCode.{IsLaidFor}
 use Rattle.cmm_emit_laws.specs.Standing.{IsInBody, Stands}
 
-module _ (s : Setting) (c : Compiled) (l : Launch) (f : Finished) (is_for : IsFor s (map_of l)) (at : Located) (t : State) (stands : Stands s c l f at t)
+module _ (s : Setting) (c : Compiled) (l : Launch) (f : Finished) (rest : ℕ → ℕ) (is_for : IsFor s (map_of l)) (at : Located) (t : State) (stands : Stands s c l f rest at t)
     (body : IsInBody at) (laid : IsLaidFor s c at.procedure) where
   abbrev AreOut : List CodeOperand → List Word → Type 0
-  AreOut = AreValues s c l f is_for at t body.activation body.older body.youngest body.same laid stands.shown
+  AreOut = AreValues s c l f rest is_for at t body.activation body.older body.youngest body.same laid stands.shown
 
   -- ---- the oldest returns
 
@@ -59,7 +59,7 @@ module _ (s : Setting) (c : Compiled) (l : Launch) (f : Finished) (is_for : IsFo
   size_is = size_of s c at.procedure body.activation laid body.same
 
   framed : HasFrame (stack_region s) (c.plan.frame at.procedure).size (map_of l) t
-  framed = framed_inside s c l f is_for at t stands body laid
+  framed = framed_inside s c l f rest is_for at t stands body laid
 
   address_is : back_in ≡ LastReturn → return_address (c.plan.frame at.procedure) t ≡ f.symbols.last_return
   address_is back =
@@ -71,7 +71,7 @@ module _ (s : Setting) (c : Compiled) (l : Launch) (f : Finished) (is_for : IsFo
   value_is : (operands : List CodeOperand) (ws : List Word) (value : ℕ) (values : List ℕ) (u : State) → length operands ≤ 64 → AreOut operands ws → numbers ws ≡ value ∷ values →
       GivesAndLeaves (stack_region s) (f.labels at.procedure) (c.plan.frame at.procedure) operands t u → u.registers 10 ≡ value
   value_is operands ws value values u few are is parts =
-      let gone = parted s c l f is_for at t body.activation body.older body.youngest body.same laid stands.shown operands ws u few are parts in
+      let gone = parted s c l f rest is_for at t body.activation body.older body.youngest body.same laid stands.shown operands ws u few are parts in
       let some : 0 < length (numbers ws) = grind (arith, is) in
       gone.values.1 0 some ∙ ap (λ (xs : List ℕ). slice_index_or xs 0 0) is
 
@@ -104,32 +104,32 @@ module _ (s : Setting) (c : Compiled) (l : Launch) (f : Finished) (is_for : IsFo
           procedure = 0;
           node = record { number = 0 };
           carried = [];
-        })) ≡ Ok after → IsDone s c l f at cost t after
+        })) ≡ Ok after → IsDone s c l f rest at cost t after
     last_done value values ws are is back true none e =
-        subst (λ (z : Located). IsDone s c l f at cost t z) (place_is e)
-        (ends s c l f at t (request.End value) (p.Done value) (record { leaves = λ o u. refl; silent = λ u event is. absurd (cc); plain = λ walk other. refl }) _ refl
+        subst (λ (z : Located). IsDone s c l f rest at cost t z) (place_is e)
+        (ends s c l f rest at t (request.End value) (p.Done value) (record { leaves = λ o u. refl; silent = λ u event is. absurd (cc); plain = λ walk other. refl }) _ refl
         (ended_outside at (p.Done value) stands.running) first refl (dropped_are_bare 1 at.store.activations) cost (parting_cost (c.plan.frame at.procedure) code.operands + 1 + code.ends)
         (omega (arith, code.few)) (returned results exit cost value values ws code aligned fits are is back (eqb-true exit 0 none)))
     last_done value values ws are is back false some e = absurd (cc)
 
     by_values : (ws : List Word) → AreOut code.operands ws → back_in ≡ LastReturn → (xs : List ℕ) → numbers ws ≡ xs →
-        to_return s c LastReturn exit alternates xs (without 1 at.store) (left c.plan at.procedure at.holdings) ≡ Ok after → IsDone s c l f at cost t after
+        to_return s c LastReturn exit alternates xs (without 1 at.store) (left c.plan at.procedure at.holdings) ≡ Ok after → IsDone s c l f rest at cost t after
     by_values ws are back [] is e = absurd (cc)
     by_values ws are back (value ∷ values) is e = last_done value values ws are is back (exit == 0) refl e
 
     by_back : (ws : List Word) → AreOut code.operands ws → (content : Content) → back_in ≡ content →
-        to_return s c content exit alternates (numbers ws) (without 1 at.store) (left c.plan at.procedure at.holdings) ≡ Ok after → IsDone s c l f at cost t after
+        to_return s c content exit alternates (numbers ws) (without 1 at.store) (left c.plan at.procedure at.holdings) ≡ Ok after → IsDone s c l f rest at cost t after
     by_back ws are LastReturn back e = by_values ws are back (numbers ws) refl e
     by_back ws are (ReturnTo q site) back e =
-        back_done s c l f is_for at t stands body laid results exit alternates cost code ws are q site (valid q) (sites q site) back after e
+        back_done s c l f rest is_for at t stands body laid results exit alternates cost code ws are q site (valid q) (sites q site) back after e
     by_back ws are Unknown back e = absurd (cc)
     by_back ws are (Number n) back e = absurd (cc)
     by_back ws are (LandingOf q k) back e = absurd (cc)
 
-    pub return_done : ran_at s c (Return exit alternates results) at ≡ Ok after → IsDone s c l f at cost t after
+    pub return_done : ran_at s c (Return exit alternates results) at ≡ Ok after → IsDone s c l f rest at cost t after
     return_done is = by (all_of (map (word_passed (reads_at s c at)) (passed (keeping s c at).held results))) refl is
       where
         by : (found : Tried (List Word)) → all_of (map (word_passed (reads_at s c at)) (passed (keeping s c at).held results)) ≡ found →
-            and_then (and_then found (λ ws. Ok (order.Return exit alternates ws))) (λ o. done s c (Return exit alternates results) o at) ≡ Ok after → IsDone s c l f at cost t after
-        by (Ok ws) is_ws e = by_back ws (values_are s c l f is_for at t body.activation body.older body.youngest body.same laid stands.shown results code.operands ws code.are is_ws) back_in refl e
+            and_then (and_then found (λ ws. Ok (order.Return exit alternates ws))) (λ o. done s c (Return exit alternates results) o at) ≡ Ok after → IsDone s c l f rest at cost t after
+        by (Ok ws) is_ws e = by_back ws (values_are s c l f rest is_for at t body.activation body.older body.youngest body.same laid stands.shown results code.operands ws code.are is_ws) back_in refl e
         by (Err error) is_ws e = absurd (cc)

@@ -56,9 +56,9 @@ begins = record {
 abbrev at_start : Holdings
 at_start = record { point = record { at = 0x60002000; back = LastReturn; kept = none_known }; temps = none_known; contents = none_known }
 
-row_start : IsRepresented symbols small at_start (first_store small []) [] first
+row_start : IsRepresented symbols (λ a. 0) small at_start (first_store small []) [] first
 unfolding opened
-row_start = starts_are_shown symbols small map [] first is_for begins
+row_start = starts_are_shown symbols (λ a. 0) small map [] first is_for begins (λ a lacks out. refl)
 
 -- the frame of `main`: two words, of which the second has the return address
 abbrev plan : Plan

@@ -23,6 +23,7 @@ use Rattle.cmm_emit_laws.proofs.Regions.{value_same}
 use Rattle.cmm_emit_laws.proofs.WrittenWords.{shown_same, word_written, cells_stay, below_stays}
 use Rattle.cmm_emit_laws.proofs.WrittenBytes.{cells_written, words_stay, word_stays}
 use Rattle.cmm_emit_laws.proofs.Frames.{region_free, word_sits}
+use Rattle.cmm_emit_laws.proofs.Rest.{rest_by_cells, rest_stays}
 
 -- ---- registers
 
@@ -88,16 +89,16 @@ pub values_same : (w : Region) (values : List ℕ) (t t' : State) → ((i : ℕ)
 values_same w values t t' registers words shows =
     (shows.0, λ i less. value_same w t t' i (registers i) (λ far. words (w.address + 8 * (i - 8)) (omega (arith, shows.0, less)) (omega arith)) ∙ shows.1 i less)
 
-module _ (y : Symbols) (s : Setting) (m : MemoryMap) (is_for : IsFor s m) where
+module _ (y : Symbols) (rest : ℕ → ℕ) (s : Setting) (m : MemoryMap) (is_for : IsFor s m) where
   -- ---- a place of the youngest
 
   module _ (h : Holdings) (store : Store) (a : Activation) (older : List Activation) (t t' : State) (youngest : store.activations ≡ a ∷ older) where
-    pub own_word_sits : (offset : ℕ) (carried : List ℕ) → IsWordAt s a offset → IsRepresented y s h store carried t → Sits (stack_region s) store.memory (h.point.at + offset)
+    pub own_word_sits : (offset : ℕ) (carried : List ℕ) → IsWordAt s a offset → IsRepresented y rest s h store carried t → Sits (stack_region s) store.memory (h.point.at + offset)
     own_word_sits offset carried is shows =
         subst (λ (at : ℕ). Sits (stack_region s) store.memory (at + offset)) (sym shows.at) (word_sits s m is_for store a older shows.stack youngest offset is)
 
-    put_in_slot : (offset n : ℕ) → IsWordAt s a offset → n < 2 ^ 64 → Puts (Slot offset) n t t' → IsRepresented y s h store [] t →
-        IsRepresented y s (put_in (Slot offset) (Number n) h) store [] t'
+    put_in_slot : (offset n : ℕ) → IsWordAt s a offset → n < 2 ^ 64 → Puts (Slot offset) n t t' → IsRepresented y rest s h store [] t →
+        IsRepresented y rest s (put_in (Slot offset) (Number n) h) store [] t'
     put_in_slot offset n is small puts shows =
         let sits : Sits (stack_region s) store.memory (h.point.at + offset) = own_word_sits offset [] is shows in
         let there : t'.memory ≡ stored t.memory (h.point.at + offset) 8 n = puts.memory ∙ ap (λ (at : ℕ). stored t.memory (at + offset) 8 n) shows.holdings.frame in
@@ -109,13 +110,14 @@ module _ (y : Symbols) (s : Setting) (m : MemoryMap) (is_for : IsFor s m) where
           cells = rw there (cells_stay y (stack_region s) store.memory (h.point.at + offset) n sits t.memory shows.cells);
           registers = rw there (registers_same (stack_region s) store.registers t.memory (stored t.memory (h.point.at + offset) 8 n)
               (λ b less low. below_stays y (stack_region s) store.memory (h.point.at + offset) n sits t.memory b less) shows.registers);
+          elsewhere = rw there (rest_stays rest (stack_region s) store.memory.data_room t.memory (h.point.at + offset) 8 n (omega (arith, sits.low)) sits.high shows.elsewhere);
           values = no_values (stack_region s) t';
           stack = shows.stack;
           at = shows.at;
         }
 
     -- a register of the activation is set: what is known of others stays known
-    module _ (r n : ℕ) (puts : PutsRegister r n t t') (shows : IsRepresented y s h store [] t) where
+    module _ (r n : ℕ) (puts : PutsRegister r n t t') (shows : IsRepresented y rest s h store [] t) where
       other_register : (k : ℕ) → (k == r) ≡ false → is_scratch k ≡ false → t'.registers k ≡ t.registers k
       other_register k differs scratch = puts.1 k (or_from (k == r) (is_scratch k) differs scratch)
 
@@ -131,7 +133,7 @@ module _ (y : Symbols) (s : Setting) (m : MemoryMap) (is_for : IsFor s m) where
 
       put_in_register : (h' : Holdings) → ((k : ℕ) → k < 5 → (k == r) ≡ false) → h'.contents ≡ h.contents → h'.point.at ≡ h.point.at → h'.point.back ≡ h.point.back →
           ((k : ℕ) → is_callee_saves k ≡ true → Represents y (h'.point.kept k) (t'.registers k)) →
-          ((k : ℕ) → is_temporary k ≡ true → Represents y (h'.temps k) (t'.registers k)) → IsRepresented y s h' store [] t'
+          ((k : ℕ) → is_temporary k ≡ true → Represents y (h'.temps k) (t'.registers k)) → IsRepresented y rest s h' store [] t'
       put_in_register h' fixed contents at back kept temps = record {
         holdings = record {
           zero = other_register 0 (fixed 0 (omega arith)) refl ∙ shows.holdings.zero;
@@ -144,14 +146,15 @@ module _ (y : Symbols) (s : Setting) (m : MemoryMap) (is_for : IsFor s m) where
         words = rw (puts.2, contents) shows.words;
         cells = rw puts.2 shows.cells;
         registers = rw puts.2 shows.registers;
+        elsewhere = rw puts.2 shows.elsewhere;
         values = no_values (stack_region s) t';
         stack = shows.stack;
         at = at ∙ shows.at;
       }
 
     -- a number is put into a place
-    pub put_shows : (place : Location) (n : ℕ) → IsPlaceOf s a place → n < 2 ^ 64 → Puts place n t t' → IsRepresented y s h store [] t →
-        IsRepresented y s (put_in place (Number n) h) store [] t'
+    pub put_shows : (place : Location) (n : ℕ) → IsPlaceOf s a place → n < 2 ^ 64 → Puts place n t t' → IsRepresented y rest s h store [] t →
+        IsRepresented y rest s (put_in place (Number n) h) store [] t'
     put_shows (Slot offset) n is small puts shows = put_in_slot offset n is small puts shows
     put_shows (Saved r) n is small puts shows =
         put_in_register r n puts shows (put_in (Saved r) (Number n) h) (λ k low. grind (arith, nat_tests, is, low)) refl refl refl
@@ -165,8 +168,8 @@ module _ (y : Symbols) (s : Setting) (m : MemoryMap) (is_for : IsFor s m) where
   -- ---- a store where cells stand
 
   pub store_shows : (h : Holdings) (store : Store) (t t' : State) (address size n : ℕ) → 1 ≤ size → ((i : ℕ) → i < size → is_there (cell_at store.memory (address + i)) ≡ true) →
-      Writes address size n t t' → IsRepresented y s h store [] t →
-      IsRepresented y s h (record store { memory = with_bytes store.memory address (bytes_of size n) }) [] t'
+      Writes address size n t t' → IsRepresented y rest s h store [] t →
+      IsRepresented y rest s h (record store { memory = with_bytes store.memory address (bytes_of size n) }) [] t'
   store_shows h store t t' address size n some there writes shows = record {
     holdings = holdings_same y (stack_region s) h t.registers t'.registers writes.registers shows.holdings;
     words = rw writes.memory (words_stay store.memory address size n t.memory some there y (stack_region s) h.contents shows.words);
@@ -174,6 +177,8 @@ module _ (y : Symbols) (s : Setting) (m : MemoryMap) (is_for : IsFor s m) where
     registers = rw writes.memory (registers_same (stack_region s) store.registers t.memory (stored t.memory address size n)
         (λ b less low. word_stays store.memory address size n t.memory some there b
         (λ i under. region_free s m is_for store shows.stack (b + i) (omega arith) (omega (arith, less, under)))) shows.registers);
+    elsewhere = rw writes.memory (rest_by_cells s m is_for rest store (record store { memory = with_bytes store.memory address (bytes_of size n) }) t.memory address size n shows.stack
+        (stack_after_bytes s store address (bytes_of size n) shows.stack) there shows.elsewhere);
     values = no_values (stack_region s) t';
     stack = stack_after_bytes s store address (bytes_of size n) shows.stack;
     at = shows.at;

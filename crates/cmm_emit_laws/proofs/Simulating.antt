@@ -68,7 +68,7 @@ step_is s c at z is = ap (λ (q : p.Status). elim q as (λ _. Located) [
 never_ended : {z : Status} {outcome : Outcome} → z ≡ Ended outcome → z ≡ Running → ⊥
 never_ended is going = absurd (cc)
 
-module _ (lead : SwitchesLead) (s : Setting) (c : Compiled) (l : Launch) (f : Finished) (code : IsCodeAround s c l f) where
+module _ (lead : SwitchesLead) (s : Setting) (c : Compiled) (l : Launch) (f : Finished) (rest : ℕ → ℕ) (code : IsCodeAround s c l f) where
   pub first_tokens : (at : Located) → 1 ≤ tokens_at s c (record at { procedure = 0; node = record { number = 0 } })
   first_tokens at =
       let found = found_in c.graphs 0 (λ g. node_of g (record { number = 0 })) code.first code.is_first in
@@ -78,7 +78,7 @@ module _ (lead : SwitchesLead) (s : Setting) (c : Compiled) (l : Launch) (f : Fi
       omega (arith, e, some)
 
   -- a step at a node that is no yield
-  module _ (at : Located) (t : State) (stands : Stands s c l f at t) (run : IsOfRun s c at) (coded : is_coded stands.node.kind ≡ true)
+  module _ (at : Located) (t : State) (stands : Stands s c l f rest at t) (run : IsOfRun s c at) (coded : is_coded stands.node.kind ≡ true)
       (piece_here : IsCodeOf s c l f at.procedure at.node stands.node.kind (32 * stands.node.tokens)) where
     found : (g : Graph) × (slice_get c.graphs at.procedure ≡ Some g) × (node_of g at.node ≡ Some stands.node)
     found = found_in c.graphs at.procedure (λ g. node_of g at.node) stands.node stands.there
@@ -94,54 +94,54 @@ module _ (lead : SwitchesLead) (s : Setting) (c : Compiled) (l : Launch) (f : Fi
 
     node_done : (kind : NodeKind) → kind_at c.graphs at.procedure at.node ≡ kind → is_coded kind ≡ true → names_registers s.program kind ≡ true → IsInside kind at → IsTrue (is_kind found.0 kind) →
         IsCodeOf s c l f at.procedure at.node kind (32 * stands.node.tokens) → (next : Located) → ran_at s c kind at ≡ Ok next →
-        IsDone s c l f at (32 * stands.node.tokens) t next
+        IsDone s c l f rest at (32 * stands.node.tokens) t next
     node_done (Entry formals to) here is named inside fine piece next ran =
-        entry_done s c l f code.is_for at t stands run.are_bare (code.laid at.procedure found.0 found.1) formals to (32 * stands.node.tokens) next piece found.0 found.1 valid_here
+        entry_done s c l f rest code.is_for at t stands run.are_bare (code.laid at.procedure found.0 found.1) formals to (32 * stands.node.tokens) next piece found.0 found.1 valid_here
         (and_parts (list_all (is_variable found.0) formals) (leads_to found.0 is_step to) fine).1 run.tokens ran
     node_done (Branch test then_ otherwise) here is named inside fine piece next ran =
-        branch_done s c l f code.is_for at t stands inside found.0 found.1 valid_here (λ v. (code.laid at.procedure found.0 found.1).places inside.activation v inside.same)
+        branch_done s c l f rest code.is_for at t stands inside found.0 found.1 valid_here (λ v. (code.laid at.procedure found.0 found.1).places inside.activation v inside.same)
         test then_ otherwise (32 * stands.node.tokens) next piece fine ran
     node_done (Switch value arms otherwise) here is named inside fine piece next ran =
-        switch_done s c l f code.is_for at t stands inside found.0 found.1 valid_here (λ v. (code.laid at.procedure found.0 found.1).places inside.activation v inside.same)
+        switch_done s c l f rest code.is_for at t stands inside found.0 found.1 valid_here (λ v. (code.laid at.procedure found.0 found.1).places inside.activation v inside.same)
         lead value arms otherwise (32 * stands.node.tokens) next piece fine ran
     node_done (Return exit alternates results) here is named inside fine piece next ran =
-        return_done s c l f code.is_for at t stands inside (code.laid at.procedure found.0 found.1) exit alternates results (32 * stands.node.tokens) piece
+        return_done s c l f rest code.is_for at t stands inside (code.laid at.procedure found.0 found.1) exit alternates results (32 * stands.node.tokens) piece
         code.back_aligned code.back_fits (first_tokens at) code.valid code.sites next ran
     node_done (Goto to) here is named inside fine piece next ran =
-        goto_done s c l f code.is_for at t stands inside found.0 found.1 valid_here (λ v. (code.laid at.procedure found.0 found.1).places inside.activation v inside.same)
+        goto_done s c l f rest code.is_for at t stands inside found.0 found.1 valid_here (λ v. (code.laid at.procedure found.0 found.1).places inside.activation v inside.same)
         to (32 * stands.node.tokens) next piece fine ran
     node_done Stop here is named inside fine piece next ran = absurd (cc)
     node_done (CopyIn to after) here is named inside fine piece next ran =
         let laid = code.laid at.procedure found.0 found.1 in
-        copy_done s c l f code.is_for at t stands inside found.0 found.1 valid_here (λ v. laid.places inside.activation v inside.same)
-        (framed_here s c l f code.is_for at.procedure at.holdings at.store at.carried inside.activation inside.older t laid inside.youngest inside.same stands.shown)
+        copy_done s c l f rest code.is_for at t stands inside found.0 found.1 valid_here (λ v. laid.places inside.activation v inside.same)
+        (framed_here s c l f rest code.is_for at.procedure at.holdings at.store at.carried inside.activation inside.older t laid inside.youngest inside.same stands.shown)
         to after (32 * stands.node.tokens) next piece named run.registers fine ran
     node_done (Assign to value after) here is named inside fine piece next ran =
-        assign_done s c l f code.is_for at t stands inside found.0 found.1 valid_here (λ v. (code.laid at.procedure found.0 found.1).places inside.activation v inside.same)
+        assign_done s c l f rest code.is_for at t stands inside found.0 found.1 valid_here (λ v. (code.laid at.procedure found.0 found.1).places inside.activation v inside.same)
         run.registers to value after (32 * stands.node.tokens) next piece fine named ran
     node_done (Store width aligned address value after) here is named inside fine piece next ran =
-        store_done s c l f code.is_for at t stands inside found.0 found.1 valid_here (λ v. (code.laid at.procedure found.0 found.1).places inside.activation v inside.same)
+        store_done s c l f rest code.is_for at t stands inside found.0 found.1 valid_here (λ v. (code.laid at.procedure found.0 found.1).places inside.activation v inside.same)
         width aligned address value after (32 * stands.node.tokens) next piece fine ran
     node_done (Call site callee arguments exits) here is named inside fine piece next ran =
-        call_done s c l f code.is_for code.valid code.entries at t stands inside (code.laid at.procedure found.0 found.1)
+        call_done s c l f rest code.is_for code.valid code.entries at t stands inside (code.laid at.procedure found.0 found.1)
         site callee arguments exits (32 * stands.node.tokens) next piece ran
     node_done (Yield site values exits) here is named inside fine piece next ran = absurd (cc)
     node_done (Jump callee arguments) here is named inside fine piece next ran =
-        jump_done s c l f code.is_for code.valid code.entries at t stands inside (code.laid at.procedure found.0 found.1)
+        jump_done s c l f rest code.is_for code.valid code.entries at t stands inside (code.laid at.procedure found.0 found.1)
         callee arguments (32 * stands.node.tokens) next piece ran
     node_done (Cut to arguments own) here is named inside fine piece next ran =
-        cut_done s c l f code.is_for code.valid code.landings at t stands inside (code.laid at.procedure found.0 found.1)
+        cut_done s c l f rest code.is_for code.valid code.landings at t stands inside (code.laid at.procedure found.0 found.1)
         to arguments own (32 * stands.node.tokens) next piece ran
     node_done (Host (host.PutByte value) after) here is named inside fine piece next ran =
-        byte_put s c l f code.is_for at t stands inside found.0 found.1 valid_here (λ v. (code.laid at.procedure found.0 found.1).places inside.activation v inside.same)
+        byte_put s c l f rest code.is_for at t stands inside found.0 found.1 valid_here (λ v. (code.laid at.procedure found.0 found.1).places inside.activation v inside.same)
         value after (32 * stands.node.tokens) next piece fine ran
     node_done (Host (host.GetByte to) after) here is named inside fine piece next ran =
-        byte_taken s c l f code.is_for at t stands inside found.0 found.1 valid_here (λ v. (code.laid at.procedure found.0 found.1).places inside.activation v inside.same)
+        byte_taken s c l f rest code.is_for at t stands inside found.0 found.1 valid_here (λ v. (code.laid at.procedure found.0 found.1).places inside.activation v inside.same)
         to after (32 * stands.node.tokens) next piece fine named run.registers run.bytes here ran
 
     -- a step that is not wrong
     step_done : (r : Tried Located) → ran_at s c stands.node.kind at ≡ r → (located_machine s c).wrong (tried s c at r) ≡ false →
-        IsDone s c l f at (32 * stands.node.tokens) t (tried s c at r)
+        IsDone s c l f rest at (32 * stands.node.tokens) t (tried s c at r)
     step_done (Ok next) is right =
         node_done stands.node.kind kind_is coded
         (list_all_get (λ node. names_registers s.program node.kind) found.0.nodes at.node.number stands.node (code.named at.procedure found.0 found.1) found.2)
@@ -151,7 +151,7 @@ module _ (lead : SwitchesLead) (s : Setting) (c : Compiled) (l : Launch) (f : Fi
     steps_to : located_step s c at ≡ tried s c at (ran_at s c stands.node.kind at)
     steps_to = step_is s c at p.Running stands.running ∙ ap (λ (kind : NodeKind). tried s c at (ran_at s c kind at)) kind_is
 
-    done_here : (located_machine s c).wrong (located_step s c at) ≡ false → IsDone s c l f at (32 * stands.node.tokens) t (tried s c at (ran_at s c stands.node.kind at))
+    done_here : (located_machine s c).wrong (located_step s c at) ≡ false → IsDone s c l f rest at (32 * stands.node.tokens) t (tried s c at (ran_at s c stands.node.kind at))
     done_here right = step_done (ran_at s c stands.node.kind at) refl (sym (ap (λ (z : Located). (located_machine s c).wrong z) steps_to) ∙ right)
 
     pub keeps : (located_machine s c).wrong (located_step s c at) ≡ false → IsOfRun s c (located_step s c at)
@@ -163,9 +163,9 @@ module _ (lead : SwitchesLead) (s : Setting) (c : Compiled) (l : Launch) (f : Fi
     }
 
     pub code_does : (located_machine s c).wrong (located_step s c at) ≡ false →
-        IsDoneBy (located_machine s c) l outside_at (Stands s c l f) (IsOfRun s c) at (32 * tokens_at s c at) t
+        IsDoneBy (located_machine s c) l outside_at (Stands s c l f rest) (IsOfRun s c) at (32 * tokens_at s c at) t
     code_does right =
-        subst (λ (n : ℕ). IsDoneBy (located_machine s c) l outside_at (Stands s c l f) (IsOfRun s c) at (32 * n) t) (sym tokens_are) ((done_here right).by_code steps_to)
+        subst (λ (n : ℕ). IsDoneBy (located_machine s c) l outside_at (Stands s c l f rest) (IsOfRun s c) at (32 * n) t) (sym tokens_are) ((done_here right).by_code steps_to)
 
 -- ---- programs without yields
 
@@ -184,14 +184,14 @@ code_around s c l f code = record {
   back_fits = code.back_fits;
 }
 
-module _ (lead : SwitchesLead) (s : Setting) (c : Compiled) (l : Launch) (f : Finished) (code : IsCode s c l f) where
-  all_coded : (at : Located) (t : State) (stands : Stands s c l f at t) → is_coded stands.node.kind ≡ true
+module _ (lead : SwitchesLead) (s : Setting) (c : Compiled) (l : Launch) (f : Finished) (rest : ℕ → ℕ) (code : IsCode s c l f) where
+  all_coded : (at : Located) (t : State) (stands : Stands s c l f rest at t) → is_coded stands.node.kind ≡ true
   all_coded at t stands =
       let found = found_in c.graphs at.procedure (λ g. node_of g at.node) stands.node stands.there in
       list_all_get (λ node. is_coded node.kind) found.0.nodes at.node.number stands.node (code.coded at.procedure found.0 found.1) found.2
 
   -- the first instruction of a node asks for nothing but input
-  level : (at : Located) (t : State) → Stands s c l f at t → but_input ((located_machine s c).asks at) ≡ but_input (asked_at l t (instruction_step (map_of l) t))
+  level : (at : Located) (t : State) → Stands s c l f rest at t → but_input ((located_machine s c).asks at) ≡ but_input (asked_at l t (instruction_step (map_of l) t))
   level at t stands =
       ap (λ (z : p.Status). but_input (event_at s z (shown s c at) (act_of (keeping s c at) (kind_at c.graphs at.procedure at.node)))) stands.running
       ∙ running_asks s (shown s c at) (act_of (keeping s c at) (kind_at c.graphs at.procedure at.node))
@@ -206,7 +206,7 @@ module _ (lead : SwitchesLead) (s : Setting) (c : Compiled) (l : Launch) (f : Fi
   over_by at (p.Wrong error) is right never =
       let e : (located_machine s c).wrong at ≡ true = ap (λ (z : p.Status). elim z as (λ _. Bool) [ p.Wrong error ↦ true | _ ↦ false ]) is in absurd (cc)
 
-  pub is_served : IsServed (located_machine s c) l outside_at (Stands s c l f) (IsOfRun s c) (most_for_step s c)
+  pub is_served : IsServed (located_machine s c) l outside_at (Stands s c l f rest) (IsOfRun s c) (most_for_step s c)
   is_served = record {
     seen = λ at. refl;
     over = λ at run right never. over_by at at.store.status refl right never;
@@ -214,18 +214,18 @@ module _ (lead : SwitchesLead) (s : Setting) (c : Compiled) (l : Launch) (f : Fi
     level = λ at t run going stands. level at t stands;
   }
 
-  pub step_leads : (at : Located) (u : Run) → IsRepresentedIn s c l f at u → (located_machine s c).wrong (located_step s c at) ≡ false →
-      Leads (image_machine l) (λ run. 1) (Passes (located_machine s c) (image_machine l) at) (IsRepresentedIn s c l f (located_step s c at)) 1 (most_for_step s c at) u
+  pub step_leads : (at : Located) (u : Run) → IsRepresentedIn s c l f rest at u → (located_machine s c).wrong (located_step s c at) ≡ false →
+      Leads (image_machine l) (λ run. 1) (Passes (located_machine s c) (image_machine l) at) (IsRepresentedIn s c l f rest (located_step s c at)) 1 (most_for_step s c at) u
   step_leads at u is_shown right =
-      image_leads (located_machine s c) l outside_at (Stands s c l f) (IsOfRun s c) (most_for_step s c) is_served at u is_shown right
+      image_leads (located_machine s c) l outside_at (Stands s c l f rest) (IsOfRun s c) (most_for_step s c) is_served at u is_shown right
       (λ going. let stands = is_shown.running going in
-      keeps lead s c l f (code_around s c l f code) at u.machine stands is_shown.holds (all_coded at u.machine stands) (code.nodes at.procedure at.node stands.node stands.there) right)
+      keeps lead s c l f rest (code_around s c l f code) at u.machine stands is_shown.holds (all_coded at u.machine stands) (code.nodes at.procedure at.node stands.node stands.there) right)
       (λ going. let stands = is_shown.running going in
-      code_does lead s c l f (code_around s c l f code) at u.machine stands is_shown.holds (all_coded at u.machine stands) (code.nodes at.procedure at.node stands.node stands.there) right)
+      code_does lead s c l f rest (code_around s c l f code) at u.machine stands is_shown.holds (all_coded at u.machine stands) (code.nodes at.procedure at.node stands.node stands.there) right)
 
 pub images_simulate_located_runs : SwitchesLead → ImagesSimulateLocatedRuns
-images_simulate_located_runs lead s c l f code = record {
+images_simulate_located_runs lead s c l f code rest = record {
   level = λ at u is_shown.
-      image_is_level (located_machine s c) l outside_at (Stands s c l f) (IsOfRun s c) (most_for_step s c) (is_served lead s c l f code) at u is_shown;
-  leads = λ at u is_shown right. step_leads lead s c l f code at u is_shown right;
+      image_is_level (located_machine s c) l outside_at (Stands s c l f rest) (IsOfRun s c) (most_for_step s c) (is_served lead s c l f rest code) at u is_shown;
+  leads = λ at u is_shown right. step_leads lead s c l f rest code at u is_shown right;
 }

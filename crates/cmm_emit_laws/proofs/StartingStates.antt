@@ -14,7 +14,7 @@ use Rattle.cmm_emit_laws.specs.StateLaws.{StartsAreRepresented}
 use Rattle.cmm_emit_laws.proofs.Showing.{no_values}
 
 pub starts_are_shown : StartsAreRepresented
-starts_are_shown y s m input t is_for begins = record {
+starts_are_shown y rest s m input t is_for begins outside = record {
   holdings = record { zero = begins.zero; frame = begins.frame; region = begins.region; back = begins.back; kept = λ r is. tt; temps = λ r is. tt };
   words = record { sits = λ a known. absurd (cc); shown = λ a. tt };
   cells = (shown_data, tt);
@@ -22,6 +22,7 @@ starts_are_shown y s m input t is_for begins = record {
     rw (length-map {B = ℕ} s.program.globals (λ g. 0)) begins.few,
     λ r less. global_at r (rw (length-map {B = ℕ} s.program.globals (λ g. 0)) at less),
   );
+  elsewhere = outside;
   values = no_values (stack_region s) t;
   stack = record { fits = omega arith; rooms = refl; data_room = ap (λ (count : ℕ). record { address = data_base; length = count }) (length-map (data_bytes s.program s.placement) Some) };
   at = omega arith;

@@ -55,8 +55,8 @@ register_accessible w m k lies less =
     let reached = low_word_accessible w m (GLOBALS_OFFSET + 8 * k) lies (omega arith) (omega (arith, less)) in
     subst (λ (a : ℕ). IsTrue (is_accessible m a 8)) here reached
 
-module _ (s : Setting) (c : Compiled) (l : Launch) (f : Finished) (is_for : IsFor s (map_of l)) (q : ℕ) (h : Holdings) (store : Store) (a : Activation) (older : List Activation)
-    (youngest : store.activations ≡ a ∷ older) (places : (v : ℕ) → IsPlaceOf s a (c.plan.place q v)) (t : State) (shown : IsRepresented f.symbols s h store [] t) where
+module _ (s : Setting) (c : Compiled) (l : Launch) (f : Finished) (rest : ℕ → ℕ) (is_for : IsFor s (map_of l)) (q : ℕ) (h : Holdings) (store : Store) (a : Activation) (older : List Activation)
+    (youngest : store.activations ≡ a ∷ older) (places : (v : ℕ) → IsPlaceOf s a (c.plan.place q v)) (t : State) (shown : IsRepresented f.symbols rest s h store [] t) where
   -- ---- global registers
 
   module _ (r : ℕ) (label : Label) (is : IsRegister s c l f q r label) (within : r < length store.registers) where
@@ -69,11 +69,11 @@ module _ (s : Setting) (c : Compiled) (l : Launch) (f : Finished) (is_for : IsFo
         subst (λ (n : ℕ). (n < 2 ^ 64) × IsTrue (is_accessible (map_of l) n 8)) (sym address_is) ((omega (arith, few, is_for.lies.narrow), register_accessible (stack_region s) (map_of l) r is_for.lies few))
 
     pub global_is_read : global_at (f.labels q label.number) t ≡ slice_index_or store.registers r 0
-    global_is_read = ap (λ (n : ℕ). loaded t.memory n 8) address_is ∙ register_is_read f.symbols s (map_of l) is_for h store r within t [] shown
+    global_is_read = ap (λ (n : ℕ). loaded t.memory n 8) address_is ∙ register_is_read f.symbols rest s (map_of l) is_for h store r within t [] shown
 
     global_put : (v : ℕ) → v < 2 ^ 64 → (u : State) → PutsGlobal (f.labels q label.number) v t u →
-        IsRepresented f.symbols s h (record store { registers = slice_set store.registers r v }) [] u
-    global_put v small u puts = register_shows f.symbols s (map_of l) is_for h store r within t v small u (subst (λ (n : ℕ). Writes n 8 v t u) address_is puts) shown
+        IsRepresented f.symbols rest s h (record store { registers = slice_set store.registers r v }) [] u
+    global_put v small u puts = register_shows f.symbols rest s (map_of l) is_for h store r within t v small u (subst (λ (n : ℕ). Writes n 8 v t u) address_is puts) shown
 
   -- ---- destinations
 
@@ -84,7 +84,7 @@ module _ (s : Setting) (c : Compiled) (l : Launch) (f : Finished) (is_for : IsFo
     local_reached : (v : Local) (x : CodeDestination) → x ≡ into.Place (place_of c q v) → CanPut (f.labels q) x (map_of l) t
     local_reached v x is =
         subst (λ (d : CodeDestination). CanPut (f.labels q) d (map_of l) t) (sym is)
-        (place_is_reachable f.symbols s (map_of l) is_for h store [] a older t youngest shown (place_of c q v) (places (number_in c.graphs q v)))
+        (place_is_reachable f.symbols rest s (map_of l) is_for h store [] a older t youngest shown (place_of c q v) (places (number_in c.graphs q v)))
 
     pub can_put : (d : Destination) (x : CodeDestination) → IsDestinationOf s c l f q d x → list_all (names_register s.program) (targets_of_destination d) ≡ true →
         CanPut (f.labels q) x (map_of l) t
@@ -95,13 +95,13 @@ module _ (s : Setting) (c : Compiled) (l : Launch) (f : Finished) (is_for : IsFo
 
     module _ (v : ℕ) (small : v < 2 ^ 64) (u : State) where
       local_put : (w : Local) (x : CodeDestination) → x ≡ into.Place (place_of c q w) → PutsTo (f.labels q) x v t u →
-          IsRepresented f.symbols s (put_in (place_of c q w) (Number v) h) store [] u
+          IsRepresented f.symbols rest s (put_in (place_of c q w) (Number v) h) store [] u
       local_put w x is puts =
-          put_shows f.symbols s (map_of l) is_for h store a older t u youngest (place_of c q w) v (places (number_in c.graphs q w)) small
+          put_shows f.symbols rest s (map_of l) is_for h store a older t u youngest (place_of c q w) v (places (number_in c.graphs q w)) small
           (subst (λ (d : CodeDestination). PutsTo (f.labels q) d v t u) is puts) shown
 
       pub put_shown : (d : Destination) (x : CodeDestination) → IsDestinationOf s c l f q d x → list_all (names_register s.program) (targets_of_destination d) ≡ true →
-          PutsTo (f.labels q) x v t u → IsRepresented f.symbols s (holdings_with c q d v h) (record store { registers = registers_with d v store.registers }) [] u
+          PutsTo (f.labels q) x v t u → IsRepresented f.symbols rest s (holdings_with c q d v h) (record store { registers = registers_with d v store.registers }) [] u
       put_shown (destination.Target (target.Variable number width)) x is named puts = local_put (local.Variable (record { number = number })) x is puts
       put_shown (destination.Target (target.Register number width)) (into.Register label) is named puts = global_put number label is (within_store number named) v small u puts
       put_shown (destination.Target (target.Register number width)) (into.Place place) is named puts = absurd is

@@ -18,7 +18,7 @@ use Rattle.rv_table.specs.Machine.{LiesIn, MemoryMap, Region, State, data_base}
 use Rattle.rv_table.specs.declared.memory_map.TheConstants.{BELOW_STACK}
 use Rattle.cmm_select.specs.Operands.{operand_at}
 use Rattle.cmm_select.specs.declared.operand.Operand.{Operand}
-use Rattle.cmm_emit_laws.specs.Words.{Symbols, Represents, RepresentsWords, RepresentsCells, RepresentsRegisters, RepresentsValues}
+use Rattle.cmm_emit_laws.specs.Words.{Symbols, Represents, RepresentsWords, RepresentsCells, RepresentsRegisters, RepresentsRest, RepresentsValues}
 
 -- the region whose stack is that of a setting
 abbrev pub stack_region : Setting → Region
@@ -41,12 +41,14 @@ pub record RepresentsHoldings (y : Symbols) (r : Region) (h : Holdings) (registe
   pub kept : (k : ℕ) → is_callee_saves k ≡ true → Represents y (h.point.kept k) (registers k)
   pub temps : (k : ℕ) → is_temporary k ≡ true → Represents y (h.temps k) (registers k)
 
--- Words, cells, global registers and the values that control brings are shown. The frames of the store lie where the machine has them.
-pub record IsRepresented (y : Symbols) (s : Setting) (h : Holdings) (store : Store) (carried : List ℕ) (t : State) : Type 0 where
+-- Words, cells, global registers and the values that control brings are shown, and elsewhere memory is the rest. The frames of the store lie where the
+-- machine has them.
+pub record IsRepresented (y : Symbols) (rest : ℕ → ℕ) (s : Setting) (h : Holdings) (store : Store) (carried : List ℕ) (t : State) : Type 0 where
   pub holdings : RepresentsHoldings y (stack_region s) h t.registers
   pub words : RepresentsWords y (stack_region s) store.memory h.contents t.memory
   pub cells : RepresentsCells store.memory t.memory
   pub registers : RepresentsRegisters (stack_region s) store.registers t.memory
+  pub elsewhere : RepresentsRest rest (stack_region s) store.memory.data_room t.memory
   pub values : RepresentsValues (stack_region s) carried t
   pub stack : IsStack s (stack_of store)
   pub at : h.point.at ≡ frame_address s store.activations

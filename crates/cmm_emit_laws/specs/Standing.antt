@@ -1,5 +1,5 @@
 -- Which states of the machine represent a state of the located machine, with where control is.
-use Rattle.std.specs.Prelude.{◌≡◌, ◌≤◌, List, [], ◌∷◌, length, map, Some}
+use Rattle.std.specs.Prelude.{◌≡◌, ◌≤◌, ℕ, List, [], ◌∷◌, length, map, Some}
 use Rattle.std.specs.List.{All}
 use Rattle.rv_table.specs.Bounds.{IsSound}
 use Rattle.rv_table.specs.Machine.{State}
@@ -65,13 +65,14 @@ IsInside _ at = IsInBody at
 abbrev pub AreBare : Located → Type 0
 AreBare at = map bare at.store.activations ≡ at.store.activations
 
-module _ (s : Setting) (c' : Compiled) (l : Launch) (f : Finished) where
+-- elsewhere, memory is the rest
+module _ (s : Setting) (c' : Compiled) (l : Launch) (f : Finished) (rest : ℕ → ℕ) where
   pub record Stands (at : Located) (t : State) : Type 0 where
     pub running : at.store.status ≡ c.Running
     pub node : Node
     pub there : in_graph c'.graphs at.procedure (λ g. node_of g at.node) ≡ Some node
     pub inside : IsInside node.kind at
-    pub shown : IsRepresented f.symbols s at.holdings at.store at.carried t
+    pub shown : IsRepresented f.symbols rest s at.holdings at.store at.carried t
     pub pc : t.pc ≡ f.node_at at.procedure at.node
     pub sound : IsSound t
 

@@ -1,5 +1,5 @@
 -- How the bytes and registers of the machine represent what words, cells and values hold.
-use Rattle.std.specs.Prelude.{◌≡◌, ℕ, ◌+◌, ◌-◌, ◌%◌, ◌<◌, ◌≤◌, Bool, true, false, List, [], ◌∷◌, length, slice_index_or, None}
+use Rattle.std.specs.Prelude.{◌≡◌, ◌⊎◌, ℕ, ◌+◌, ◌-◌, ◌%◌, ◌<◌, ◌≤◌, Bool, true, false, List, [], ◌∷◌, length, slice_index_or, None}
 use Rattle.cmm_chain.specs.Contents.{Content, Unknown, Number, ReturnTo, LandingOf, LastReturn, Contents}
 use Rattle.cmm_program.specs.Memory.{Cell, Outside, Byte, Room, Memory, is_in, cell_of, cell_at, rooms_of}
 use Rattle.cmm_abi.specs.Regions.{global_address, value_place, word_at}
@@ -65,6 +65,12 @@ abbrev pub RepresentsRegisters : Region → List ℕ → (ℕ → ℕ) → Type 
 RepresentsRegisters r registers bytes =
     (length registers ≤ 256) × ((k : ℕ) → k < length registers → loaded bytes (global_address r k) 8 ≡ slice_index_or registers k 0)
 
--- the values that control brings are where values travel
+-- ---- elsewhere: memory that is no data and lies outside of a region, such as other stacks
+
+abbrev pub RepresentsRest : (ℕ → ℕ) → Region → Room → (ℕ → ℕ) → Type 0
+RepresentsRest rest r data_room bytes = (a : ℕ) → is_in data_room a ≡ false → (a < r.address) ⊎ (top r ≤ a) → bytes a ≡ rest a
+
+-- ---- the values that control brings are where values travel
+
 abbrev pub RepresentsValues : Region → List ℕ → State → Type 0
 RepresentsValues r values t = (length values ≤ 64) × ((i : ℕ) → i < length values → word_at t (value_place r i) ≡ slice_index_or values i 0)

@@ -1,7 +1,8 @@
 //! Correctness of code generation: where each node's code meets its contract, the image simulates the machine after allocation.
 //!
 //! The state relation says when registers and bytes of the RISC-V machine represent a state of the located machine: at the addresses that finished code gives
-//! the symbols they have just the words, cells, global registers and travelling values of that state, and anything where nothing is known. Each effect of code
+//! the symbols they have just the words, cells, global registers and travelling values of that state, and anything where nothing is known. Memory that is no
+//! data and lies outside of the region of the stack is a parameter of the relation, and stays, whatever it is. Each effect of code
 //! (`cmm_effects`, `cmm_calls`) preserves it. From a machine state that represents a state at a node, the node's code leads to one that represents the state
 //! after the node's step, within 32 instructions for each token of the node, or makes the request of the step by an ECALL. So the image simulates the located
 //! machine, and follows it from its first state on.
@@ -24,5 +25,5 @@ pub mod call_example;
 pub mod examples;
 pub mod laws;
 pub mod request_laws;
-mod starting;
+pub mod starting;
 pub mod state_laws;

@@ -26,6 +26,11 @@ pub fn cells_are_shown()
     ensures stores { laws.StoresAreRepresented }
 {}
 
+/// Bytes of any count are written where data lies, as a client changes data.
+pub fn data_is_written()
+    ensures { laws.DataIsWritten }
+{}
+
 /// The frame of an activation comes with its fixed words, and goes with its saved registers restored.
 pub fn frames_are_shown()
     ensures come { laws.FramesComeRepresented }

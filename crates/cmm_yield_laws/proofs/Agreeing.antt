@@ -17,21 +17,19 @@ use Rattle.cmm_program.specs.Machine.{start as start_of}
 use Rattle.cmm_program.specs.State.{Setting}
 use Rattle.cmm_program.specs.Todo.{todo_control}
 use Rattle.cmm_machine_laws.specs.Fitting.{IsByte, StatesAreSound}
-use Rattle.cmm_machine_laws.specs.Observed.{Call, Ending, MachineLasts, machine_of}
+use Rattle.cmm_machine_laws.specs.Observed.{Call, Ending, LineUnseen, MachineLasts, machine_of}
 use Rattle.cmm_select.specs.Laws.{SwitchesLead}
 use Rattle.cmm_image_machine.specs.Laws.{ImagesLast}
-use Rattle.cmm_image_machine.specs.Machine.{Launch, Run, first_run}
+use Rattle.cmm_image_machine.specs.Machine.{Launch, Run, first_memory, first_run}
 use Rattle.cmm_image_machine.specs.Observed.{image_machine}
 use Rattle.cmm_located.specs.Compiled.{Compiled, Located}
 use Rattle.cmm_located.specs.LocatedMachine.{located_machine, located_start, located_step, tokens_at}
-use Rattle.cmm_emit_laws.proofs.Agreeing.{first_asks, first_shows}
-use Rattle.cmm_emit_laws.proofs.Beginning.{nothing_within, shown_at_start}
-use Rattle.cmm_emit_laws.proofs.OnceBegun.{agrees_once_begun, stands_soon}
+use Rattle.cmm_emit_laws.proofs.Shared.{agrees_once_begun, first_asks, first_shows, nothing_within, shown_at_start, stands_soon}
 use Rattle.cmm_emit_laws.specs.Agreeing.{AgreesOnceBegun, Precedes}
 use Rattle.cmm_emit_laws.specs.Finished.{Finished}
 use Rattle.cmm_emit_laws.specs.Laws.{IsRepresentedIn, most_for_step}
 use Rattle.cmm_emit_laws.specs.Starting.{StartCode}
-use Rattle.cmm_client_laws.proofs.Lines.{lines_come_soon}
+use Rattle.cmm_client_laws.proofs.Shared.{lines_come_soon}
 use Rattle.cmm_client_laws.specs.Fits.{event_fits}
 use Rattle.cmm_yield_laws.proofs.Simulating.{images_simulate_yields}
 use Rattle.cmm_simulation.proofs.Composing.{follows_simulated}
@@ -40,14 +38,14 @@ use Rattle.cmm_yield_laws.specs.Laws.{ImagesAgreeWithClients, IsRepresentedWhole
 use Rattle.cmm_simulation.specs.Tested.{fails}
 use Rattle.cmm_yield_laws.specs.WholeCode.{IsWholeCode}
 
-module _ (lead : SwitchesLead) (images : ImagesLast) (s : Setting) (c : Compiled) (l : Launch) (f : Finished) (whole : IsWholeCode s c l f) (input : List ℕ) (is_bytes : All IsByte input)
+module _ (lead : SwitchesLead) (line : LineUnseen) (images : ImagesLast) (s : Setting) (c : Compiled) (l : Launch) (f : Finished) (whole : IsWholeCode s c l f) (input : List ℕ) (is_bytes : All IsByte input)
     (begins : StartCode s c l f) where
   abbrev start : Located
   start = located_start s c input
 
   -- ---- the start
 
-  starts : (u : Run) → IsRepresentedIn s c l f (located_start s c input) u → IsRepresentedWhole s c l f (located_start s c input) u
+  starts : (u : Run) → IsRepresentedIn s c l f (first_memory l.image) (located_start s c input) u → IsRepresentedWhole s c l f (first_memory l.image) (located_start s c input) u
   starts u shown = record {
     outside = shown.outside;
     right = or_from ((located_machine s c).wrong (located_start s c input)) (fails event_fits ((located_machine s c).asks (located_start s c input))) shown.right
@@ -66,7 +64,7 @@ module _ (lead : SwitchesLead) (images : ImagesLast) (s : Setting) (c : Compiled
   }
 
   pub whole_begins : Leads (image_machine l) (λ run. 1) (Passes (fitting_machine s c) (image_machine l) (located_start s c input))
-      (IsRepresentedWhole s c l f (located_start s c input)) 0 begins.most (first_run l input)
+      (IsRepresentedWhole s c l f (first_memory l.image) (located_start s c input)) 0 begins.most (first_run l input)
   whole_begins = weaker (shown_at_start s c l f whole.code.around input is_bytes begins) passed starts (omega arith) (λ n le. le)
 
   -- ---- a machine that is followed over locations, once `main` is entered
@@ -103,11 +101,11 @@ module _ (lead : SwitchesLead) (images : ImagesLast) (s : Setting) (c : Compiled
     begun_by right =
         weaker
         (joined {l = 0} {m = begins.most} {n = 1} {o = most_for_step s c (located_start s c input)} {least = 0} {most = begins.most + 32 * tokens_at s c (located_start s c input)}
-        whole_begins (λ u is_shown. (images_simulate_yields lead s c l f whole).leads (located_start s c input) u is_shown (right_at_first right)) (omega arith) (omega arith))
+        whole_begins (λ u is_shown. (images_simulate_yields lead line s c l f whole (first_memory l.image)).leads (located_start s c input) u is_shown (right_at_first right)) (omega arith) (omega arith))
         (λ u p. precedes right u p)
         (λ u is_shown.
         follows_simulated lasts (follows_scaled {a' = λ _. 32 * cost} {b' = most_for_step s c} 32 (λ _. omega arith) (λ _. omega arith) follows)
-        (images_simulate_yields lead s c l f whole) is_shown)
+        (images_simulate_yields lead line s c l f whole (first_memory l.image)) is_shown)
         (omega arith) (λ n le. le)
 
     positive : 1 ≤ 32 * cost
@@ -138,13 +136,13 @@ module _ (lead : SwitchesLead) (images : ImagesLast) (s : Setting) (c : Compiled
 
 -- ---- the C-- machine
 
-pub images_agree_with_clients : SwitchesLead → ImagesLast → StatesAreSound → MachineLasts → ImagesAgreeWithClients
-images_agree_with_clients lead images are_sound lasts s set c l f code begins input is_bytes cost follows soon =
-    whole_agrees lead images s c l f code input is_bytes begins (machine_of (todo_control s.program) s) (start_of s input) cost (lasts s)
+pub images_agree_with_clients : SwitchesLead → LineUnseen → ImagesLast → StatesAreSound → MachineLasts → ImagesAgreeWithClients
+images_agree_with_clients lead line images are_sound lasts s set c l f code begins input is_bytes cost follows soon =
+    whole_agrees lead line images s c l f code input is_bytes begins (machine_of (todo_control s.program) s) (start_of s input) cost (lasts s)
     (fits_follow are_sound lasts s set input is_bytes (λ _. cost) (located_machine s c) (tokens_at s c) (located_step s c (located_start s c input)) follows) soon
 
-pub lines_are_logged : SwitchesLead → ImagesLast → StatesAreSound → MachineLasts → LinesAreThere
-lines_are_logged lead images are_sound lasts s set c l f code begins input is_bytes cost follows spare m right call walk asks is_walk =
-    lines_are_there lead images s c l f code input is_bytes begins (machine_of (todo_control s.program) s) (start_of s input) cost (lasts s)
+pub lines_are_logged : SwitchesLead → LineUnseen → ImagesLast → StatesAreSound → MachineLasts → LinesAreThere
+lines_are_logged lead line images are_sound lasts s set c l f code begins input is_bytes cost follows spare m right call walk asks is_walk =
+    lines_are_there lead line images s c l f code input is_bytes begins (machine_of (todo_control s.program) s) (start_of s input) cost (lasts s)
     (fits_follow are_sound lasts s set input is_bytes (λ _. cost) (located_machine s c) (tokens_at s c) (located_step s c (located_start s c input)) follows) (omega (arith, spare)) spare m
     right call walk asks is_walk

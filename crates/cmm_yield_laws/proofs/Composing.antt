@@ -11,7 +11,7 @@ use Rattle.cmm_machine_laws.specs.Fitting.{IsByte, IsSetUp, IsSound, StatesAreSo
 use Rattle.cmm_machine_laws.specs.Observed.{Call, Ending, MachineLasts, machine_of}
 use Rattle.cmm_located.specs.LocatedMachine.{located_machine}
 use Rattle.cmm_client_laws.specs.Fits.{event_fits}
-use Rattle.cmm_client_laws.proofs.Events.{sound_events_fit}
+use Rattle.cmm_client_laws.proofs.Shared.{sound_events_fit}
 use Rattle.cmm_simulation.proofs.Testing.{follows_tested}
 use Rattle.cmm_simulation.specs.Tested.{tested}
 use Rattle.cmm_yield_laws.specs.Laws.{FittingRunsFollow}

@@ -3,3 +3,5 @@ pub mod Served
 pub mod Simulating
 pub mod Composing
 pub mod Agreeing
+pub mod YieldedOnce
+mod YieldRows

@@ -12,9 +12,8 @@ use Rattle.cmm_program.specs.State as p
 use Rattle.cmm_program.specs.State.{Outcome, Setting}
 use Rattle.cmm_script.specs.Walk as walk
 use Rattle.cmm_simulation.specs.Seen.{Event, Client, End}
-use Rattle.cmm_machine_laws.specs.Observed.{Call, Ending, ending_of, event_at as stands_at, log_seen}
+use Rattle.cmm_machine_laws.specs.Observed.{Call, Ending, LineUnseen, ending_of, event_at as stands_at, log_seen}
 use Rattle.cmm_machine_laws.specs.Runs.{yielded as values_waiting}
-use Rattle.cmm_machine_laws.proofs.Growing.{line_unseen}
 use Rattle.cmm_graph.specs.Acting.{act_of}
 use Rattle.cmm_graph.specs.GraphControl.{in_graph, kind_at}
 use Rattle.cmm_graph.specs.Paths.{node_of}
@@ -45,13 +44,8 @@ use Rattle.cmm_client_laws.specs.Asked.{IsAtExit, IsResumedAs}
 use Rattle.cmm_client_laws.specs.Keeping.{Keeps as KeepsOutside, PutOrRuns}
 use Rattle.cmm_client_laws.specs.Laws.{IsTold}
 use Rattle.cmm_client_laws.specs.Waiting.{IsClientDone}
-use Rattle.cmm_client_laws.proofs.Clients.{call_is, client_done, ending_is}
-use Rattle.cmm_client_laws.proofs.Keeping.{answers_keep}
-use Rattle.cmm_emit_laws.proofs.Doing.{kept_shown}
-use Rattle.cmm_emit_laws.proofs.GoingBack.{there_too}
-use Rattle.cmm_emit_laws.proofs.Landing.{inside_copy, landing_holds, normal_holds}
-use Rattle.cmm_emit_laws.proofs.Nodes.{found_in, node_holds}
-use Rattle.cmm_emit_laws.proofs.Simulating.{step_is}
+use Rattle.cmm_client_laws.proofs.Shared.{answers_keep, call_is, client_done, ending_is}
+use Rattle.cmm_emit_laws.proofs.Shared.{found_in, inside_copy, kept_shown, landing_holds, node_holds, normal_holds, step_is, there_too}
 use Rattle.cmm_emit_laws.specs.Finished.{Finished}
 use Rattle.cmm_emit_laws.specs.NodeCode.{SiteCode}
 use Rattle.cmm_emit_laws.specs.ProgramCode.{IsCodeAround}
@@ -82,40 +76,40 @@ yield_keeps l run = by chain_here.activations chain_here.broken
     by [] (Some b) = (refl, refl, refl)
     by [] None = left_keeps (answered l (yielded_at (region_of l) (goes_on run).machine []) (goes_on run).machine).left _
 
-module _ (s : Setting) (c : Compiled) (l : Launch) (f : Finished) (code : IsCodeAround s c l f) (told : IsTold s c f.symbols l) (have : HaveSiteExits s c) where
+module _ (line : LineUnseen) (s : Setting) (c : Compiled) (l : Launch) (f : Finished) (rest : ℕ → ℕ) (code : IsCodeAround s c l f) (told : IsTold s c f.symbols l) (have : HaveSiteExits s c) where
   -- ---- from where the client resumes to the CopyIn
 
   reaches_here : (t : State) (P : State → Type 0) → P t → Reaches (map_of l) 0 3 t P
   reaches_here t P is = record { count = 0; to = t; enough = omega arith; few = omega arith; runs = refl; arrives = is }
 
-  module _ (after : Located) (t : State) (resumed : IsResumedAs s c f.symbols l.image after t) (running : after.store.status ≡ p.Running) where
+  module _ (after : Located) (t : State) (resumed : IsResumedAs s c f.symbols rest l.image after t) (running : after.store.status ≡ p.Running) where
     valid : (g : Graph) → slice_get c.graphs after.procedure ≡ Some g → IsValid g
     valid = code.valid after.procedure
 
     youngest : IsYoungest after
     youngest = record { activation = resumed.activation; older = resumed.older; youngest = resumed.youngest; same = resumed.same }
 
-    stands_at_landing : (k : ℕ) → landing_in c.graphs after.procedure k ≡ Some after.node → (u : State) → u.pc ≡ f.node_at after.procedure after.node → Keeps t u → IsSound u → Stands s c l f after u
+    stands_at_landing : (k : ℕ) → landing_in c.graphs after.procedure k ≡ Some after.node → (u : State) → u.pc ≡ f.node_at after.procedure after.node → Keeps t u → IsSound u → Stands s c l f rest after u
     stands_at_landing k leads u pc keeps sound =
         let landing = landing_holds c.graphs after.procedure valid k after.node leads in record {
           running = running;
           node = landing.0;
           there = landing.1;
           inside = inside_copy landing.0.kind landing.2 after youngest;
-          shown = kept_shown f s l code.is_for after.holdings after.store after.carried t u keeps resumed.shown;
+          shown = kept_shown f rest s l code.is_for after.holdings after.store after.carried t u keeps resumed.shown;
           pc = pc;
           sound = sound;
         }
 
     stands_behind : (site : ℕ) (exits : Exits) → site_exits c.graphs after.procedure site ≡ Some exits → exits.normal ≡ Some after.node → (u : State) →
-        u.pc ≡ f.node_at after.procedure after.node → Keeps t u → IsSound u → Stands s c l f after u
+        u.pc ≡ f.node_at after.procedure after.node → Keeps t u → IsSound u → Stands s c l f rest after u
     stands_behind site exits is_exits normal u pc keeps sound =
         let landing = normal_holds c.graphs after.procedure valid site exits after.node is_exits normal in record {
           running = running;
           node = landing.0;
           there = landing.1;
           inside = inside_copy landing.0.kind landing.2 after youngest;
-          shown = kept_shown f s l code.is_for after.holdings after.store after.carried t u keeps resumed.shown;
+          shown = kept_shown f rest s l code.is_for after.holdings after.store after.carried t u keeps resumed.shown;
           pc = pc;
           sound = sound;
         }
@@ -123,10 +117,10 @@ module _ (s : Setting) (c : Compiled) (l : Launch) (f : Finished) (code : IsCode
     nothing_changed : Keeps t t
     nothing_changed = record { registers = λ r is. refl; memory = refl }
 
-    comes : IsAtExit s c f.symbols l.image after t → Reaches (map_of l) 0 3 t (StandsOrWaits s c l f after)
+    comes : IsAtExit s c f.symbols l.image after t → Reaches (map_of l) 0 3 t (StandsOrWaits s c l f rest after)
     comes (IsAtExit.Landing k leads pc) =
         let lands = code.landings after.procedure k after.node leads in
-        reaches_here t (StandsOrWaits s c l f after) (inl (stands_at_landing k leads t (pc ∙ sym lands.0) nothing_changed resumed.sound))
+        reaches_here t (StandsOrWaits s c l f rest after) (inl (stands_at_landing k leads t (pc ∙ sym lands.0) nothing_changed resumed.sound))
     comes (IsAtExit.Alternate proc site number n k is_proc is_site is_k leads pc) =
         let out = have after.procedure number proc site is_proc is_site in
         let behind : SiteCode s c l f after.procedure number out.0 = code.sites after.procedure number out.0 out.1 in
@@ -155,7 +149,7 @@ module _ (s : Setting) (c : Compiled) (l : Launch) (f : Finished) (code : IsCode
 
   -- ---- the step
 
-  module _ (at : Located) (t : State) (waiting : WaitsAt s c l f at t) where
+  module _ (at : Located) (t : State) (waiting : WaitsAt s c l f rest at t) where
     abbrev values : List ℕ
     values = waiting.values
 
@@ -169,19 +163,19 @@ module _ (s : Setting) (c : Compiled) (l : Launch) (f : Finished) (code : IsCode
     going = ap status_of waiting.status
 
     logged : log_seen (values_waiting at.store.status) at.store.log ≡ waiting.waits.front
-    logged = ap (λ (z : p.Status). log_seen (values_waiting z) at.store.log) waiting.status ∙ ap (log_seen (Some waiting.values)) waiting.waits.logged ∙ line_unseen waiting.values waiting.waits.front
+    logged = ap (λ (z : p.Status). log_seen (values_waiting z) at.store.log) waiting.status ∙ ap (log_seen (Some waiting.values)) waiting.waits.logged ∙ line waiting.values waiting.waits.front
 
     pub event_is : (e : Event Call Ending) → asked_at l t (Asks Yield) ≡ Some e → (located_machine s c).asks at ≡ Some e
     event_is e is =
-        let call = call_is s c f.symbols l told.tables told.planned told.is_for told.region told.frames told.apart told.knows told.scripts waiting.values at (run_with (outside_at at) t) waiting.waits in
+        let call = call_is s c f.symbols rest l told.tables told.planned told.is_for told.region told.frames told.apart told.knows told.scripts waiting.values at (run_with (outside_at at) t) waiting.waits in
         ap (λ (z : p.Status). stands_at s z (shown s c at) (act_of (keeping s c at) (kind_at c.graphs at.procedure at.node))) waiting.status
         ∙ ap (λ (k : Call). client_of k) (sym call) ∙ is
       where
         client_of : Call → Option (Event Call Ending)
         client_of k = Some (Client k)
 
-    done : IsClientDone s c f.symbols l.image (answered_at s c waiting.values at) (requested l (run_with (outside_at at) t) Yield)
-    done = client_done s c f.symbols l told.tables told.planned told.is_for told.region told.frames told.apart told.knows told.scripts waiting.values at (run_with (outside_at at) t) waiting.waits going logged
+    done : IsClientDone s c f.symbols rest l.image (answered_at s c waiting.values at) (requested l (run_with (outside_at at) t) Yield)
+    done = client_done s c f.symbols rest l told.tables told.planned told.is_for told.region told.frames told.apart told.knows told.scripts waiting.values at (run_with (outside_at at) t) waiting.waits going logged
 
     kept : KeepsOutside at (answered_at s c waiting.values at)
     kept = (answers_keep s c at waiting.values).0
@@ -240,7 +234,7 @@ module _ (s : Setting) (c : Compiled) (l : Launch) (f : Finished) (code : IsCode
         is_over : {z : p.Status} → z ≡ p.Running → z ≡ p.Ended p.Stopped → ⊥
         is_over a b = absurd (cc)
 
-        by_client : IsClientDone s c f.symbols l.image (answered_at s c waiting.values at) (requested l (run_with (outside_at at) t) Yield) → 1 ≤ tokens_at s c (answered_at s c waiting.values at)
+        by_client : IsClientDone s c f.symbols rest l.image (answered_at s c waiting.values at) (requested l (run_with (outside_at at) t) Yield) → 1 ≤ tokens_at s c (answered_at s c waiting.values at)
         by_client (IsClientDone.GoesOn image_runs runs resumed same_log) = at_exit (answered_at s c waiting.values at) (requested l (run_with (outside_at at) t) Yield).machine resumed.control
         by_client (IsClientDone.GoesWrong e wrong) = let never : (located_machine s c).wrong (located_step s c at) ≡ true = not_wrong e wrong in absurd (cc)
         by_client (IsClientDone.IsOver image_over over stopped same_log) = by_place (answers_keep s c at waiting.values).1
@@ -255,16 +249,16 @@ module _ (s : Setting) (c : Compiled) (l : Launch) (f : Finished) (code : IsCode
                 tokens_there q n = elim (in_graph c.graphs q (λ g. node_of g n)) as (λ _. ℕ) [ Some node ↦ node.tokens | None ↦ 0 ]
             by_place (inr runs) = absurd (is_over runs over)
 
-    is_asked : (located_machine s c).wrong (located_step s c at) ≡ false → IsAsked (located_machine s c) l outside_at (StandsOrWaits s c l f) (IsOfRun s c) at 3 Yield t
+    is_asked : (located_machine s c).wrong (located_step s c at) ≡ false → IsAsked (located_machine s c) l outside_at (StandsOrWaits s c l f rest) (IsOfRun s c) at 3 Yield t
     is_asked right = by done
       where
-        by : IsClientDone s c f.symbols l.image (answered_at s c waiting.values at) (requested l (run_with (outside_at at) t) Yield) →
-            IsAsked (located_machine s c) l outside_at (StandsOrWaits s c l f) (IsOfRun s c) at 3 Yield t
+        by : IsClientDone s c f.symbols rest l.image (answered_at s c waiting.values at) (requested l (run_with (outside_at at) t) Yield) →
+            IsAsked (located_machine s c) l outside_at (StandsOrWaits s c l f rest) (IsOfRun s c) at 3 Yield t
         by (IsClientDone.GoesOn image_runs runs resumed same_log) = record {
           asks = waiting.asks;
           event = event_is;
           outside = same_outside p.Running Running [] runs refl refl image_runs same_log ∙ sym (ap outside_at steps_to);
-          running = λ is. subst (λ (z : Located). Reaches (map_of l) 0 3 (requested l (run_with (outside_at at) t) Yield).machine (StandsOrWaits s c l f z)) (sym steps_to)
+          running = λ is. subst (λ (z : Located). Reaches (map_of l) 0 3 (requested l (run_with (outside_at at) t) Yield).machine (StandsOrWaits s c l f rest z)) (sym steps_to)
               (comes (answered_at s c waiting.values at) (requested l (run_with (outside_at at) t) Yield).machine resumed runs resumed.control);
           over = λ outcome is. absurd (never (sym (ap status_of runs) ∙ sym (ap (λ (z : Located). status_of z.store.status) steps_to) ∙ is));
         }
@@ -277,7 +271,7 @@ module _ (s : Setting) (c : Compiled) (l : Launch) (f : Finished) (code : IsCode
           running = λ is. absurd (never (sym is ∙ ap (λ (z : Located). status_of z.store.status) steps_to ∙ ap status_of over));
           over = λ outcome is.
               let one : p.Stopped ≡ outcome = same_outcome p.Stopped outcome (sym (ap status_of over) ∙ sym (ap (λ (z : Located). status_of z.store.status) steps_to) ∙ is) in
-              let walks = ending_is s c f.symbols l told.tables told.planned told.is_for told.region told.frames told.apart told.knows told.scripts (answered_at s c waiting.values at) (requested l (run_with (outside_at at) t) Yield).machine stopped in
+              let walks = ending_is s c f.symbols rest l told.tables told.planned told.is_for told.region told.frames told.apart told.knows told.scripts (answered_at s c waiting.values at) (requested l (run_with (outside_at at) t) Yield).machine stopped in
               ap (λ (z : Located). (located_machine s c).asks z) steps_to
               ∙ ap (λ (z : p.Status). stands_at s z (shown s c (answered_at s c waiting.values at)) (act_of (keeping s c (answered_at s c waiting.values at)) (kind_at c.graphs (answered_at s c waiting.values at).procedure (answered_at s c waiting.values at).node))) over
               ∙ ap (λ (w : Option (List walk.Activation)). ended p.Stopped w) (sym walks)
@@ -288,6 +282,6 @@ module _ (s : Setting) (c : Compiled) (l : Launch) (f : Finished) (code : IsCode
             ended o w = Some (End (ending_of o w))
 
     -- the client's answer is done by code
-    pub waiting_done : (located_machine s c).wrong (located_step s c at) ≡ false → (cost : ℕ) → 4 ≤ cost → IsDoneBy (located_machine s c) l outside_at (StandsOrWaits s c l f) (IsOfRun s c) at cost t
+    pub waiting_done : (located_machine s c).wrong (located_step s c at) ≡ false → (cost : ℕ) → 4 ≤ cost → IsDoneBy (located_machine s c) l outside_at (StandsOrWaits s c l f rest) (IsOfRun s c) at cost t
     waiting_done right cost enough = Asking 0 3 Yield (omega (arith, enough))
         (record { count = 0; to = t; enough = omega arith; few = omega arith; runs = refl; arrives = is_asked right })

@@ -10,7 +10,7 @@ use Rattle.cmm_simulation.specs.Seen.{Event, Client, but_input}
 use Rattle.cmm_program.specs.Errors.{Tried}
 use Rattle.cmm_program.specs.State as p
 use Rattle.cmm_program.specs.State.{Activation, Outcome, Setting}
-use Rattle.cmm_machine_laws.specs.Observed.{Call, Ending, event_at}
+use Rattle.cmm_machine_laws.specs.Observed.{Call, Ending, LineUnseen, event_at}
 use Rattle.cmm_graph.specs.declared.node.Exits.{Exits}
 use Rattle.cmm_graph.specs.declared.node.Node.{Node}
 use Rattle.cmm_graph.specs.declared.node.NodeKind.{NodeKind}
@@ -24,7 +24,7 @@ use Rattle.cmm_effects.specs.Pieces.{BeginsQuietly}
 use Rattle.cmm_select.specs.Laws.{SwitchesLead}
 use Rattle.cmm_image_machine.specs.Machine.{Launch, Running, Ended, map_of}
 use Rattle.cmm_image_machine.specs.Observed.{asked_at, call_at}
-use Rattle.cmm_emit_laws.proofs.Shared.{image_simulates}
+use Rattle.cmm_emit_laws.proofs.Shared.{code_does, code_is_quiet, found_in, image_simulates, keeps, quiet_asks, running_asks, step_is}
 use Rattle.cmm_emit_laws.specs.Outside.{Outside}
 use Rattle.cmm_emit_laws.specs.Serving.{AreDone, Asking, IsAsked, IsDoneBy, IsServed, Silently}
 use Rattle.cmm_located.specs.Answering.{shown}
@@ -32,9 +32,7 @@ use Rattle.cmm_located.specs.Compiled.{Compiled, Located}
 use Rattle.cmm_located.specs.LocatedMachine.{located_machine, located_step, tokens_at, tried}
 use Rattle.cmm_located.specs.Nodes.{keeping, ran_at}
 use Rattle.cmm_client_laws.specs.Fits.{event_fits}
-use Rattle.cmm_client_laws.proofs.Keeping.{resited_bare}
-use Rattle.cmm_emit_laws.proofs.Nodes.{code_is_quiet, found_in, quiet_asks, running_asks}
-use Rattle.cmm_emit_laws.proofs.Simulating.{code_does, keeps, step_is}
+use Rattle.cmm_client_laws.proofs.Shared.{resited_bare}
 use Rattle.cmm_emit_laws.specs.Finished.{Finished, code_of}
 use Rattle.cmm_emit_laws.specs.Laws.{most_for_step}
 use Rattle.cmm_emit_laws.specs.ProgramCode.{IsLaidFor, is_coded}
@@ -80,11 +78,11 @@ done_tested A passes l outside_of P H a cost t (Silently same reaches) = Silentl
 done_tested A passes l outside_of P H a cost t (Asking before later r enough reaches) =
     Asking before later r enough (reaches_weaker reaches (omega arith) (omega arith) (λ u there. asked_tested A passes l outside_of P H a later r u there))
 
-module _ (lead : SwitchesLead) (s : Setting) (c : Compiled) (l : Launch) (f : Finished) (whole : IsWholeCode s c l f) where
-  kind_here : (at : Located) (t : State) (stands : Stands s c l f at t) → kind_at c.graphs at.procedure at.node ≡ stands.node.kind
+module _ (lead : SwitchesLead) (line : LineUnseen) (s : Setting) (c : Compiled) (l : Launch) (f : Finished) (rest : ℕ → ℕ) (whole : IsWholeCode s c l f) where
+  kind_here : (at : Located) (t : State) (stands : Stands s c l f rest at t) → kind_at c.graphs at.procedure at.node ≡ stands.node.kind
   kind_here at t stands = ap (λ (o : Option Node). elim o as (λ _. NodeKind) [ Some node ↦ node.kind | None ↦ Stop ]) stands.there
 
-  tokens_here : (at : Located) (t : State) (stands : Stands s c l f at t) → tokens_at s c at ≡ stands.node.tokens
+  tokens_here : (at : Located) (t : State) (stands : Stands s c l f rest at t) → tokens_at s c at ≡ stands.node.tokens
   tokens_here at t stands = ap (λ (o : Option Node). elim o as (λ _. ℕ) [ Some node ↦ node.tokens | None ↦ 0 ]) stands.there
 
   abbrev IsYieldNode : NodeKind → Type 0
@@ -108,7 +106,7 @@ module _ (lead : SwitchesLead) (s : Setting) (c : Compiled) (l : Launch) (f : Fi
 
   -- ---- a yield
 
-  module _ (at : Located) (t : State) (stands : Stands s c l f at t) (run : IsOfRun s c at) (site : SiteId) (values : List Operand) (exits : Exits)
+  module _ (at : Located) (t : State) (stands : Stands s c l f rest at t) (run : IsOfRun s c at) (site : SiteId) (values : List Operand) (exits : Exits)
       (is : stands.node.kind ≡ Yield site values exits) (right : (located_machine s c).wrong (located_step s c at) ≡ false) where
     here : kind_at c.graphs at.procedure at.node ≡ Yield site values exits
     here = kind_here at t stands ∙ is
@@ -136,11 +134,11 @@ module _ (lead : SwitchesLead) (s : Setting) (c : Compiled) (l : Launch) (f : Fi
         let found = found_in c.graphs at.procedure (λ g. node_of g at.node) stands.node stands.there in whole.code.around.laid at.procedure found.0 found.1
 
     yield_by_code : fails event_fits ((located_machine s c).asks (located_step s c at)) ≡ false →
-        IsDoneBy (located_machine s c) l outside_at (StandsOrWaits s c l f) (IsOfRun s c) at (most_for_step s c at) t
+        IsDoneBy (located_machine s c) l outside_at (StandsOrWaits s c l f rest) (IsOfRun s c) at (most_for_step s c at) t
     yield_by_code fit =
-        let made = yield_done s c l f whole.code.around.is_for whole.code.values at t stands body laid_here site values exits here (32 * stands.node.tokens)
+        let made = yield_done line s c l f rest whole.code.around.is_for whole.code.values at t stands body laid_here site values exits here (32 * stands.node.tokens)
         (whole.code.yields at.procedure at.node stands.node site values exits stands.there is) ran.0 ran.1 ran.2 fit in
-        subst (λ (n : ℕ). IsDoneBy (located_machine s c) l outside_at (StandsOrWaits s c l f) (IsOfRun s c) at (32 * n) t) (sym (tokens_here at t stands)) made
+        subst (λ (n : ℕ). IsDoneBy (located_machine s c) l outside_at (StandsOrWaits s c l f rest) (IsOfRun s c) at (32 * n) t) (sym (tokens_here at t stands)) made
 
     yield_is_of_run : IsOfRun s c (located_step s c at)
     yield_is_of_run =
@@ -154,7 +152,7 @@ module _ (lead : SwitchesLead) (s : Setting) (c : Compiled) (l : Launch) (f : Fi
 
   -- ---- the first instruction of a node asks for nothing but input
 
-  quiet_here : (at : Located) (t : State) (stands : Stands s c l f at t) → BeginsQuietly (code_of l f at.procedure) (f.node_at at.procedure at.node)
+  quiet_here : (at : Located) (t : State) (stands : Stands s c l f rest at t) → BeginsQuietly (code_of l f at.procedure) (f.node_at at.procedure at.node)
   quiet_here at t stands = by (which stands.node.kind)
     where
       by : (is_coded stands.node.kind ≡ true) ⊎ IsYieldNode stands.node.kind → BeginsQuietly (code_of l f at.procedure) (f.node_at at.procedure at.node)
@@ -164,14 +162,14 @@ module _ (lead : SwitchesLead) (s : Setting) (c : Compiled) (l : Launch) (f : Fi
 
   -- ---- all
 
-  level_both : (at : Located) (t : State) → StandsOrWaits s c l f at t → but_input ((located_machine s c).asks at) ≡ but_input (asked_at l t (instruction_step (map_of l) t))
+  level_both : (at : Located) (t : State) → StandsOrWaits s c l f rest at t → but_input ((located_machine s c).asks at) ≡ but_input (asked_at l t (instruction_step (map_of l) t))
   level_both at t (inl stands) =
       ap (λ (z : p.Status). but_input (event_at s z (shown s c at) (act_of (keeping s c at) (kind_at c.graphs at.procedure at.node)))) stands.running
       ∙ running_asks s (shown s c at) (act_of (keeping s c at) (kind_at c.graphs at.procedure at.node))
       ∙ sym (quiet_asks l f at.procedure (f.node_at at.procedure at.node) t (quiet_here at t stands) stands.pc)
   level_both at t (inr waits) =
       ap (λ (o : Option (Event Call Ending)). but_input o)
-      (event_is s c l f whole.code.around whole.told whole.code.exits at t waits (Client (call_at l t)) refl)
+      (event_is line s c l f rest whole.code.around whole.told whole.code.exits at t waits (Client (call_at l t)) refl)
       ∙ sym (ap (λ o. but_input (asked_at l t o)) waits.asks)
 
   over_by : (at : Located) (z : p.Status) → at.store.status ≡ z → (located_machine s c).wrong at ≡ false → (status_of at.store.status ≡ Running → ⊥) →
@@ -182,27 +180,27 @@ module _ (lead : SwitchesLead) (s : Setting) (c : Compiled) (l : Launch) (f : Fi
   over_by at (p.Wrong error) is right never =
       let e : (located_machine s c).wrong at ≡ true = ap (λ (z : p.Status). elim z as (λ _. Bool) [ p.Wrong error ↦ true | _ ↦ false ]) is in absurd (cc)
 
-  keeps_both : (at : Located) (t : State) → IsOfRun s c at → StandsOrWaits s c l f at t → (located_machine s c).wrong (located_step s c at) ≡ false → IsOfRun s c (located_step s c at)
-  keeps_both at t run (inr waits) right = answer_is_of_run s c l f whole.code.around whole.told whole.code.exits at t waits run right
+  keeps_both : (at : Located) (t : State) → IsOfRun s c at → StandsOrWaits s c l f rest at t → (located_machine s c).wrong (located_step s c at) ≡ false → IsOfRun s c (located_step s c at)
+  keeps_both at t run (inr waits) right = answer_is_of_run line s c l f rest whole.code.around whole.told whole.code.exits at t waits run right
   keeps_both at t run (inl stands) right = by (which stands.node.kind)
     where
       by : (is_coded stands.node.kind ≡ true) ⊎ IsYieldNode stands.node.kind → IsOfRun s c (located_step s c at)
-      by (inl other) = keeps lead s c l f whole.code.around at t stands run other (whole.code.nodes at.procedure at.node stands.node stands.there other) right
+      by (inl other) = keeps lead s c l f rest whole.code.around at t stands run other (whole.code.nodes at.procedure at.node stands.node stands.there other) right
       by (inr yield) = yield_is_of_run at t stands run yield.0 yield.1 yield.2 yield.3 right
 
-  done_both : (at : Located) (t : State) → IsOfRun s c at → StandsOrWaits s c l f at t → (located_machine s c).wrong (located_step s c at) ≡ false →
+  done_both : (at : Located) (t : State) → IsOfRun s c at → StandsOrWaits s c l f rest at t → (located_machine s c).wrong (located_step s c at) ≡ false →
       fails event_fits ((located_machine s c).asks (located_step s c at)) ≡ false →
-      IsDoneBy (located_machine s c) l outside_at (StandsOrWaits s c l f) (IsOfRun s c) at (most_for_step s c at) t
+      IsDoneBy (located_machine s c) l outside_at (StandsOrWaits s c l f rest) (IsOfRun s c) at (most_for_step s c at) t
   done_both at t run (inr waits) right fit =
-      waiting_done s c l f whole.code.around whole.told whole.code.exits at t waits right (most_for_step s c at) (omega (arith, run.tokens))
+      waiting_done line s c l f rest whole.code.around whole.told whole.code.exits at t waits right (most_for_step s c at) (omega (arith, run.tokens))
   done_both at t run (inl stands) right fit = by (which stands.node.kind)
     where
-      by : (is_coded stands.node.kind ≡ true) ⊎ IsYieldNode stands.node.kind → IsDoneBy (located_machine s c) l outside_at (StandsOrWaits s c l f) (IsOfRun s c) at (most_for_step s c at) t
-      by (inl other) = done_more (located_machine s c) l outside_at (Stands s c l f) (StandsOrWaits s c l f) (IsOfRun s c) (λ a u there. inl there) at (most_for_step s c at) t
-          (code_does lead s c l f whole.code.around at t stands run other (whole.code.nodes at.procedure at.node stands.node stands.there other) right)
+      by : (is_coded stands.node.kind ≡ true) ⊎ IsYieldNode stands.node.kind → IsDoneBy (located_machine s c) l outside_at (StandsOrWaits s c l f rest) (IsOfRun s c) at (most_for_step s c at) t
+      by (inl other) = done_more (located_machine s c) l outside_at (Stands s c l f rest) (StandsOrWaits s c l f rest) (IsOfRun s c) (λ a u there. inl there) at (most_for_step s c at) t
+          (code_does lead s c l f rest whole.code.around at t stands run other (whole.code.nodes at.procedure at.node stands.node stands.there other) right)
       by (inr yield) = yield_by_code at t stands run yield.0 yield.1 yield.2 yield.3 right fit
 
-  served : IsServed (fitting_machine s c) l outside_at (StandsOrWaits s c l f) (IsOfRun s c) (most_for_step s c)
+  served : IsServed (fitting_machine s c) l outside_at (StandsOrWaits s c l f rest) (IsOfRun s c) (most_for_step s c)
   served = record {
     seen = λ at. refl;
     over = λ at run right never. over_by at at.store.status refl (or_parts ((located_machine s c).wrong at) (fails event_fits ((located_machine s c).asks at)) right).0 never;
@@ -210,7 +208,7 @@ module _ (lead : SwitchesLead) (s : Setting) (c : Compiled) (l : Launch) (f : Fi
     level = λ at t run going stands. level_both at t stands;
   }
 
-  pub are_done : AreDone (fitting_machine s c) l outside_at (StandsOrWaits s c l f) (IsOfRun s c) (most_for_step s c)
+  pub are_done : AreDone (fitting_machine s c) l outside_at (StandsOrWaits s c l f rest) (IsOfRun s c) (most_for_step s c)
   are_done = record {
     served = served;
     keeps = λ at t run going stands right.
@@ -218,10 +216,10 @@ module _ (lead : SwitchesLead) (s : Setting) (c : Compiled) (l : Launch) (f : Fi
         keeps_both at t run stands both.0;
     done = λ at t run going stands right.
         let both = or_parts ((located_machine s c).wrong (located_step s c at)) (fails event_fits ((located_machine s c).asks (located_step s c at))) right in
-        done_tested (located_machine s c) event_fits l outside_at (StandsOrWaits s c l f) (IsOfRun s c) at (most_for_step s c at) t (done_both at t run stands both.0 both.1);
+        done_tested (located_machine s c) event_fits l outside_at (StandsOrWaits s c l f rest) (IsOfRun s c) at (most_for_step s c at) t (done_both at t run stands both.0 both.1);
   }
 
 -- the image simulates the located machine, with yields and the whole client
-pub images_simulate_yields : SwitchesLead → ImagesSimulateYields
-images_simulate_yields lead s c l f code =
-    image_simulates (fitting_machine s c) l outside_at (StandsOrWaits s c l f) (IsOfRun s c) (most_for_step s c) (are_done lead s c l f code)
+pub images_simulate_yields : SwitchesLead → LineUnseen → ImagesSimulateYields
+images_simulate_yields lead line s c l f code rest =
+    image_simulates (fitting_machine s c) l outside_at (StandsOrWaits s c l f rest) (IsOfRun s c) (most_for_step s c) (are_done lead line s c l f rest code)

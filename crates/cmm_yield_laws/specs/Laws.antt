@@ -32,15 +32,15 @@ use Rattle.cmm_yield_laws.specs.WholeCode.{IsWholeCode}
 abbrev pub fitting_machine : Setting → Compiled → Machine Located ℕ Call Ending
 fitting_machine s c = tested event_fits (located_machine s c)
 
--- a run of the image represents a located state, which may wait for the client
-abbrev pub IsRepresentedWhole : Setting → Compiled → Launch → Finished → Located → Run → Type 0
-IsRepresentedWhole s c l f = IsRepresentedBy (fitting_machine s c) l outside_at (StandsOrWaits s c l f) (IsOfRun s c)
+-- a run of the image represents a located state, which may wait for the client, and has the rest of memory elsewhere
+abbrev pub IsRepresentedWhole : Setting → Compiled → Launch → Finished → (ℕ → ℕ) → Located → Run → Type 0
+IsRepresentedWhole s c l f rest = IsRepresentedBy (fitting_machine s c) l outside_at (StandsOrWaits s c l f rest) (IsOfRun s c)
 
 -- Where code is that of a program with its yields, and tables tell of it, each located step is done by instructions, at most 32 a token of its node: a
--- yield by those that lead to the ECALL, and the client's answer by that ECALL.
+-- yield by those that lead to the ECALL, and the client's answer by that ECALL. Whatever the rest of memory is, it stays.
 abbrev pub ImagesSimulateYields : Type 0
-ImagesSimulateYields = (s : Setting) (c : Compiled) (l : Launch) (f : Finished) → IsWholeCode s c l f →
-    Simulates (fitting_machine s c) (most_for_step s c) (image_machine l) (λ run. 1) (IsRepresentedWhole s c l f)
+ImagesSimulateYields = (s : Setting) (c : Compiled) (l : Launch) (f : Finished) → IsWholeCode s c l f → (rest : ℕ → ℕ) →
+    Simulates (fitting_machine s c) (most_for_step s c) (image_machine l) (λ run. 1) (IsRepresentedWhole s c l f rest)
 
 -- What follows the C-- machine over locations does so where the walks of events have to fit.
 abbrev pub FittingRunsFollow : Type 0

@@ -1,4 +1,5 @@
 pub mod Yielding
 pub mod Standing
 pub mod WholeCode
+pub mod Examples
 pub mod Laws

@@ -9,13 +9,14 @@ use Rattle.cmm_client_laws.specs.Waiting.{IsWaitingAs}
 use Rattle.cmm_emit_laws.specs.Finished.{Finished}
 use Rattle.cmm_emit_laws.specs.Standing.{Stands}
 
-module _ (s : Setting) (c : Compiled) (l : Launch) (f : Finished) where
+-- elsewhere, memory is the rest
+module _ (s : Setting) (c : Compiled) (l : Launch) (f : Finished) (rest : ℕ → ℕ) where
   -- at the ECALL that calls the client
   pub record WaitsAt (at : Located) (t : State) : Type 0 where
     pub values : List ℕ
     pub status : at.store.status ≡ Waiting values
-    pub waits : IsWaitingAs s c f.symbols l.image values at t
+    pub waits : IsWaitingAs s c f.symbols rest l.image values at t
     pub asks : instruction_step (map_of l) t ≡ Asks Yield
 
   abbrev pub StandsOrWaits : Located → State → Type 0
-  StandsOrWaits at t = Stands s c l f at t ⊎ WaitsAt at t
+  StandsOrWaits at t = Stands s c l f rest at t ⊎ WaitsAt at t

@@ -6,6 +6,7 @@ pub fn images_simulate_yields()
     ensures { ImagesSimulateYields }
 {
     cmm_select::laws::switches_lead();
+    cmm_machine_laws::runs::what_is_seen_lasts();
 }
 
 /// What follows the C-- machine over locations does so where the values of each walk have to fit their widths.

@@ -10,7 +10,11 @@
 //!
 //! - `specs/Yielding`: what is required of the code of a yield. `specs/WholeCode`: of all finished code, and of the tables beside it.
 //! - `specs/Standing`: which machine states represent a located state that waits.
+//! - `specs/Examples`, `yield_example`: the code of a small program that yields, with which what is required of whole code is met.
 //! - `specs/Laws`, `laws`: that the image simulates the located machine with its yields.
+//!
+//! An error of `yield_once` is want of memory, and then a part of the code may be there.
 #![tactic(auto)]
 
 pub mod laws;
+pub mod yield_example;
