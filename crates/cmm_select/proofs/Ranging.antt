@@ -1,25 +1,27 @@
 -- A value is in a range, in one of some ranges, or an arm is for it.
-use Rattle.std.proofs.Common.{◌≡◌, ℕ, ◌+◌, ◌-◌, ◌*◌, ◌<◌, ◌≤◌, ◌^◌, ◌⊎◌, inl, inr, suc, refl, sym, ◌∙◌, ap, subst, arith, List, [], ◌∷◌, ◌++◌, length, take, get_or, true, false}
-use Rattle.std.specs.Prelude.{◌||◌, ◌&&◌, Bool, not, nat_le, nat_lt}
+use Rattle.std.proofs.Common.{◌≡◌, ℕ, ◌+◌, ◌-◌, ◌*◌, ◌<◌, ◌≤◌, ◌^◌, ◌⊎◌, inl, inr, suc, refl, sym, ◌∙◌, ap, subst, arith, List, [], ◌∷◌, ◌++◌, length, take, get_or, true, false, pos, ◌-ℤ◌}
+use Rattle.std.specs.Prelude.{◌||◌, ◌&&◌, ◌==◌, Bool, not, nat_le, nat_lt}
 use Rattle.std.proofs.Math.Seq.{take-suc}
 use Rattle.std.proofs.lemmas.Bool.Decides.{nat_tests}
 use Rattle.cmm_graph.specs.declared.node.Arm.{Arm}
 use Rattle.cmm_program.specs.Bodies.{is_in_ranges}
 use Rattle.cmm_program.specs.declared.statement.Range.{Range}
-use Rattle.cmm_words.specs.declared.operators.Cmp.TheVariants.{Geu}
+use Rattle.cmm_words.specs.declared.operators.Cmp.{Cmp}
+use Rattle.cmm_words.specs.declared.operators.Cmp.TheVariants.{Eq, Geu}
 use Rattle.rv_asm.specs.Appending.{Then}
 use Rattle.rv_asm.specs.Parts.{Code, Does, taken, way}
 use Rattle.rv_asm.specs.declared.part.Label.{Label}
 use Rattle.rv_asm.specs.declared.part.Part.TheVariants.{Branch}
 use Rattle.rv_table.specs.Machine.{State}
-use Rattle.rv_table.specs.Words.{difference}
-use Rattle.rv_table.specs.declared.instruction.Instr.TheVariants.{Sub}
-use Rattle.cmm_effects.proofs.Shared.{goes_choice, goes_keeps, goes_none, goes_weaker, keeps_same, keeps_then, leads_set, leads_then, leads_turns, reaches_more, runs_of, set_keeps, turns_weaker}
+use Rattle.rv_table.specs.Words.{difference, modulo, sum}
+use Rattle.rv_table.specs.declared.instruction.Instr.TheVariants.{Addi, Sub}
+use Rattle.cmm_effects.proofs.Shared.{goes_choice, goes_keeps, goes_none, goes_weaker, keeps_same, keeps_then, leads_set, leads_then, leads_turns, leads_weaker, reaches_more, runs_of, set_keeps, turns_weaker}
 use Rattle.cmm_effects.specs.Changes.{Sets}
 use Rattle.cmm_effects.specs.Pieces.{Always, Leads}
 use Rattle.cmm_effects.specs.Ways.{Goes}
 use Rattle.cmm_select.proofs.Keeping.{brings_keeps}
-use Rattle.cmm_select.proofs.Places.{One}
+use Rattle.cmm_select.proofs.Places.{One, same_set, set_as}
+use Rattle.cmm_select.proofs.SmallNumbers.{negative_small}
 use Rattle.cmm_select.specs.Operands.{Brings, BringsOperand, most_for, operand_at}
 use Rattle.cmm_select.specs.Switches.{GoesInArms, GoesInRanges, KeepsFirst, Switches, arm_address, label_of, ranges_in}
 use Rattle.cmm_select.specs.declared.operand.Operand.{Operand}
@@ -51,6 +53,10 @@ in_range f t v order fits small =
     either : (f v : ℕ) → (f ≤ v) ⊎ (v < f)
     either f v = grind arith
 
+-- one number
+alone : (f t v : ℕ) → f ≡ t → (v == f) ≡ ((nat_le f v && nat_le v t) || false)
+alone f t v same = grind (arith, nat_tests) ∙ sym (none_or (nat_le f v && nat_le v t))
+
 -- a range that falls has no value
 falls : (f t v : ℕ) → t < f → ((nat_le f v && nat_le v t) || false) ≡ false
 falls f t v h = none_or (nat_le f v && nat_le v t) ∙ grind (arith, nat_tests)
@@ -63,64 +69,83 @@ module _ (x : Code) (from on : ℕ) (r : Range) (l : Label) where
       (λ s sound. sym (ap (λ (b : Bool). way b (x.at l.number) on) (falls r.from r.to (s.registers 5) h)))
       (λ s t keeps. keeps)
 
-  module _ (m n : ℕ) where
+  branched : (c : Cmp) (a b mid : ℕ) → Does x (Branch c a b l) mid on →
+      Goes 1 3 Always (λ s. way (taken c (s.registers a) (s.registers b)) (x.at l.number) on) KeepsFirst x mid
+  branched c a b mid does = record {
+    go = λ s sound at p.
+        reaches_more (does s at)
+        (λ t goes. (
+          goes.pc,
+          record {
+            first = goes.registers 5 (omega arith);
+            keeps = goes_keeps (way (taken c (s.registers a) (s.registers b)) (x.at l.number) on) s t goes;
+          },
+        ));
+  }
+
+  -- the value is the one number
+  pub goes_at : (m : ℕ) → m ≤ 8 → r.from ≡ r.to → Then (Leads m Always (λ s t. Sets 7 r.from s t)) (λ x from on. Does x (Branch Eq 5 7 l) from on) x from on →
+      GoesInRanges 20 (r ∷ []) l x from on
+  goes_at m few same does =
+      let turns = leads_turns does.1 (branched Eq 5 7 does.0 does.2) (λ s t sound also p q. tt) (λ s. way (s.registers 5 == r.from) (x.at l.number) on)
+      (λ s t p sets.
+      ap (λ (a : ℕ). way (a == t.registers 7) (x.at l.number) on) (sets.others 5 refl)
+      ∙ ap (λ (b : ℕ). way (s.registers 5 == b) (x.at l.number) on) sets.given)
+      in
+      goes_weaker turns.goes (omega arith) (omega (arith, few))
+      (λ s. way (is_in_ranges (s.registers 5) (r ∷ [])) (x.at l.number) on)
+      (λ s sound. ap (λ (b : Bool). way b (x.at l.number) on) (alone r.from r.to (s.registers 5) same))
+      (λ s u both. keeps_first_then s both.0 u (record { first = both.1.others 5 refl; keeps = set_keeps 7 r.from s both.0 refl both.1 }) both.2)
+
+  module _ (n : ℕ) where
     -- how far the value is above the first number, and how far the last one is
     abbrev Measures : State → State → Type 0
-    Measures s w =
-        (t : State) × Sets 7 r.from s t
-        × ((u : State) × Sets 7 (difference (t.registers 5) (t.registers 7)) t u × Sets 6 (r.to - r.from) u w)
-
-    measured : (mid : ℕ) → Then (Leads m Always (λ s t. Sets 7 r.from s t)) (Then (One (Sub 7 5 7)) (Leads n Always (λ s t. Sets 6 (r.to - r.from) s t))) x from mid →
-        Leads (m + (1 + n)) Always Measures x from mid
-    measured mid does =
-        leads_then does.1
-        (runs_of (leads_then (leads_set x (Sub 7 5 7) does.0 does.2.0 7 (λ g. difference (g 5) (g 7)) (omega arith) (λ g pc. refl) does.2.1)
-        (runs_of does.2.2)
-        (λ s t sound also p q. tt)))
-        (λ s t sound also p q. tt)
+    Measures s w = (u : State) × Sets 7 (difference (s.registers 5) r.from) s u × Sets 6 (r.to - r.from) u w
 
     keeps_measures : (s w : State) → Measures s w → KeepsFirst s w
     keeps_measures s w ms = record {
-      first = ms.2.2.others 5 refl ∙ ms.2.1.others 5 refl ∙ ms.1.others 5 refl;
-      keeps = keeps_then s ms.0 w (set_keeps 7 r.from s ms.0 refl ms.1)
-          (keeps_then ms.0 ms.2.0 w (set_keeps 7 (difference (ms.0.registers 5) (ms.0.registers 7)) ms.0 ms.2.0 refl ms.2.1)
-          (set_keeps 6 (r.to - r.from) ms.2.0 w refl ms.2.2));
+      first = ms.2.others 5 refl ∙ ms.1.others 5 refl;
+      keeps = keeps_then s ms.0 w (set_keeps 7 (difference (s.registers 5) r.from) s ms.0 refl ms.1) (set_keeps 6 (r.to - r.from) ms.0 w refl ms.2);
     }
 
     measure : (s w : State) → Measures s w → w.registers 7 ≡ difference (s.registers 5) r.from
-    measure s w ms =
-        ms.2.2.others 7 refl ∙ ms.2.1.given ∙ ap (λ (a : ℕ). difference a (ms.0.registers 7)) (ms.1.others 5 refl)
-        ∙ ap (difference (s.registers 5)) ms.1.given
+    measure s w ms = ms.2.others 7 refl ∙ ms.1.given
 
-    branched : (mid : ℕ) → Does x (Branch Geu 6 7 l) mid on →
-        Goes 1 3 Always (λ s. way (not (nat_lt (s.registers 6) (s.registers 7))) (x.at l.number) on) KeepsFirst x mid
-    branched mid does = record {
-      go = λ s sound at p.
-          reaches_more (does s at)
-          (λ t goes. (
-            goes.pc,
-            record {
-              first = goes.registers 5 (omega arith);
-              keeps = goes_keeps (way (taken Geu (s.registers 6) (s.registers 7)) (x.at l.number) on) s t goes;
-            },
-          ));
-    }
-
-    pub goes_in_range : r.from ≤ r.to → r.to < 2 ^ 64 → m ≤ 8 → n ≤ 8 →
-        Then (Leads m Always (λ s t. Sets 7 r.from s t))
-        (Then (One (Sub 7 5 7)) (Then (Leads n Always (λ s t. Sets 6 (r.to - r.from) s t)) (λ x from on. Does x (Branch Geu 6 7 l) from on))) x from on →
+    pub goes_in_range : r.from ≤ r.to → r.to < 2 ^ 64 → n ≤ 8 →
+        Then (Leads 9 Always (λ s t. Sets 7 (difference (s.registers 5) r.from) s t))
+        (Then (Leads n Always (λ s t. Sets 6 (r.to - r.from) s t)) (λ x from on. Does x (Branch Geu 6 7 l) from on)) x from on →
         GoesInRanges 20 (r ∷ []) l x from on
-    goes_in_range order fits few less does =
-        let turns = leads_turns (measured does.2.2.0 (does.0, does.1, (does.2.0, does.2.1, does.2.2.1))) (branched does.2.2.0 does.2.2.2) (λ s t sound also p q. tt)
+    goes_in_range order fits less does =
+        let turns = leads_turns (leads_then does.1 (runs_of does.2.1) (λ s t sound also p q. tt)) (branched Geu 6 7 does.2.0 does.2.2) (λ s t sound also p q. tt)
         (λ s. way (not (nat_lt (r.to - r.from) (difference (s.registers 5) r.from))) (x.at l.number) on)
         (λ s w p ms.
-        ap (λ (a : ℕ). way (not (nat_lt a (w.registers 7))) (x.at l.number) on) ms.2.2.given
+        ap (λ (a : ℕ). way (not (nat_lt a (w.registers 7))) (x.at l.number) on) ms.2.given
         ∙ ap (λ (b : ℕ). way (not (nat_lt (r.to - r.from) b)) (x.at l.number) on) (measure s w ms))
         in
-        goes_weaker turns.goes (omega arith) (omega (arith, few, less))
+        goes_weaker turns.goes (omega arith) (omega (arith, less))
         (λ s. way (is_in_ranges (s.registers 5) (r ∷ [])) (x.at l.number) on)
         (λ s sound. ap (λ (b : Bool). way b (x.at l.number) on) (in_range r.from r.to (s.registers 5) order fits (sound.registers 5)))
         (λ s u both. keeps_first_then s both.0 u (keeps_measures s both.0 both.1) both.2)
+
+-- ---- a difference with a number
+
+module _ (x : Code) (from to f : ℕ) where
+  pub measures_small : f < 2048 → One (Addi 7 5 (pos 0 -ℤ pos f)) x from to → Leads 9 Always (λ s t. Sets 7 (difference (s.registers 5) f) s t) x from to
+  measures_small small does =
+      leads_weaker (leads_set x (Addi 7 5 (pos 0 -ℤ pos f)) from to 7 (λ g. sum (g 5) (modulo 64 (pos 0 -ℤ pos f))) (omega arith) (λ g pc. refl) does) (omega arith)
+      (λ s sound p. tt)
+      (λ s t sound p sets. set_as 7 (sum (s.registers 5) (modulo 64 (pos 0 -ℤ pos f))) (difference (s.registers 5) f) s t
+      (negative_small (s.registers 5) f (sound.registers 5) small) sets)
+
+  pub measures_loaded : (m : ℕ) → m ≤ 8 → Then (Leads m Always (λ s t. Sets 7 f s t)) (One (Sub 7 5 7)) x from to →
+      Leads 9 Always (λ s t. Sets 7 (difference (s.registers 5) f) s t) x from to
+  measures_loaded m few does =
+      leads_weaker
+      (leads_then does.1 (runs_of (leads_set x (Sub 7 5 7) does.0 to 7 (λ g. difference (g 5) (g 7)) (omega arith) (λ g pc. refl) does.2)) (λ s t sound also p q. tt))
+      (omega (arith, few)) (λ s sound p. tt)
+      (λ s u sound p both. same_set 7 f (difference (s.registers 5) f) s both.0 u both.1
+      (set_as 7 (difference (both.0.registers 5) (both.0.registers 7)) (difference (s.registers 5) f) both.0 u
+      (ap (λ (a : ℕ). difference a (both.0.registers 7)) (both.1.others 5 refl) ∙ ap (difference (s.registers 5)) both.1.given) both.2))
 
 -- ---- one after another
 

@@ -58,7 +58,7 @@ small_is o (Held (Number k)) n is = by (nat_lt k (limit_of o)) refl is
 plain_small : (n : ℕ) → n < 2048 → modulo 64 (pos n) ≡ n
 plain_small n h = omega arith
 
-negative_small : (a n : ℕ) → a < 2 ^ 64 → n < 2048 → sum a (modulo 64 (pos 0 -ℤ pos n)) ≡ difference a n
+pub negative_small : (a n : ℕ) → a < 2 ^ 64 → n < 2048 → sum a (modulo 64 (pos 0 -ℤ pos n)) ≡ difference a n
 negative_small a n h g =
     let negative : modulo 64 (pos 0 -ℤ pos n) ≡ (0 + (2 ^ 64 - n)) % 2 ^ 64 =
     modulo_same 64 (pos 0 -ℤ pos n) ∙ wrapped_difference 0 n (pos 0 -ℤ pos n) refl (omega (arith, g))

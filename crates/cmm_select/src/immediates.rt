@@ -68,7 +68,7 @@ pub(crate) fn operate_with(
 }
 
 /// The instruction of an operator of 64 bits on a register and a small number.
-fn instruction(operator: Op2, rd: u8, rs1: u8, number: u64) -> Instr
+pub(crate) fn instruction(operator: Op2, rd: u8, rs1: u8, number: u64) -> Instr
     requires small { number < limit_of operator }
     requires register { rd < 32 }
     requires first { rs1 < 32 }

@@ -3,16 +3,20 @@
 ghost use Rattle.std.specs.Prelude.{◌≡◌, ◌+◌, ◌*◌, ◌<◌, ◌∷◌, [], length, OnOk};
 ghost use Rattle.std.specs.List.{All};
 ghost use Rattle.rv_asm.specs.Assembly.{IsInner};
-ghost use Rattle.cmm_effects.specs.Pieces.{Adds};
+ghost use Rattle.rv_table.specs.Words.{difference};
+ghost use Rattle.cmm_effects.specs.Changes.{Sets};
+ghost use Rattle.cmm_effects.specs.Pieces.{Adds, Always, Leads};
 ghost use Rattle.cmm_select.specs.Operands.{IsOperand, most_for};
 ghost use Rattle.cmm_select.specs.Switches.{GoesInArms, GoesInRanges, Switches, ranges_in};
 
+use crate::immediates::instruction;
 use crate::number::load_constant;
 use crate::operand::{Operand, bring_operand};
+use crate::word::NEAR;
 use cmm_abi::registers::{FIRST_SCRATCH, HELPER, SECOND_SCRATCH};
 use cmm_graph::Arm;
 use cmm_program::Range;
-use cmm_words::Cmp;
+use cmm_words::{Cmp, Op2};
 use rv_asm::{Asm, Label};
 use rv_table::Instr;
 use std::alloc::AllocError;
@@ -60,7 +64,8 @@ fn branch_in_ranges(asm: &mut Asm, ranges: &[Range], to: Label) -> Result<(), Al
     Ok(())
 }
 
-/// Goes to a label where the value in register 5 is in a range: where it is above the first number by no more than the last one is.
+/// Goes to a label where the value in register 5 is in a range: where it is the one number of it, or above the first number by no more than the
+/// last one is.
 fn branch_between(asm: &mut Asm, first: u64, last: u64, to: Label) -> Result<(), AllocError>
     requires { IsInner asm.old.labels to }
     ensures goes { OnOk result (Adds 20 asm.old.parts asm.new.parts (GoesInRanges 20 (record { from = first; to = last } ∷ []) to)) }
@@ -69,13 +74,31 @@ fn branch_between(asm: &mut Asm, first: u64, last: u64, to: Label) -> Result<(),
     if last < first {
         return Ok(());
     }
+    if last == first {
+        load_constant(asm, first, SECOND_SCRATCH)?;
+        asm.branch(Cmp::Eq, FIRST_SCRATCH, SECOND_SCRATCH, to)?;
+        return Ok(());
+    }
+    measure(asm, first)?;
+    load_constant(asm, last - first, HELPER)?;
+    asm.branch(Cmp::Geu, HELPER, SECOND_SCRATCH, to)?;
+    Ok(())
+}
+
+/// Gives register 7 the difference of the value in register 5 and a number.
+fn measure(asm: &mut Asm, first: u64) -> Result<(), AllocError>
+    ensures measures { OnOk result (Adds 9 asm.old.parts asm.new.parts (Leads 9 Always (λ s t. Sets SECOND_SCRATCH (difference (s.registers FIRST_SCRATCH) first) s t))) }
+    ensures labels { asm.new.labels ≡ asm.old.labels }
+{
+    if first < u64::from(NEAR) {
+        asm.emit(instruction(Op2::Sub, SECOND_SCRATCH, FIRST_SCRATCH, first))?;
+        return Ok(());
+    }
     load_constant(asm, first, SECOND_SCRATCH)?;
     asm.emit(Instr::Sub {
         rd: SECOND_SCRATCH,
         rs1: FIRST_SCRATCH,
         rs2: SECOND_SCRATCH,
     })?;
-    load_constant(asm, last - first, HELPER)?;
-    asm.branch(Cmp::Geu, HELPER, SECOND_SCRATCH, to)?;
     Ok(())
 }
