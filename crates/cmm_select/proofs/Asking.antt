@@ -13,14 +13,10 @@ use Rattle.rv_table.specs.Machine.{MemoryMap, State, is_accessible, request_of, 
 use Rattle.rv_table.specs.Words.{modulo, sum}
 use Rattle.rv_table.specs.declared.instruction.Instr.TheVariants.{Addi, Ecall}
 use Rattle.rv_table.specs.declared.request.Request.TheVariants.{PutByte, GetByte}
-use Rattle.cmm_effects.proofs.Shared.{gets_byte, leads_set, leads_then, leads_weaker, puts_byte, requests_then, runs_of, set_keeps, sound_taken}
+use Rattle.cmm_effects.proofs.Shared.{gets_byte, leads_set, leads_then, leads_weaker, puts_byte, requests_then, runs_of, sound_taken}
 use Rattle.cmm_effects.specs.Changes.{CanReach, Sets}
-use Rattle.cmm_effects.specs.Pieces.{Leads}
 use Rattle.cmm_effects.specs.Requests.{KeepsAsking, Requests, is_of_request}
-use Rattle.cmm_select.proofs.Keeping.{put_as}
 use Rattle.cmm_select.proofs.Places.{One}
-use Rattle.cmm_select.proofs.Putting.{then_put}
-use Rattle.cmm_select.proofs.Sums.{plus_none}
 use Rattle.cmm_select.specs.Destinations.{CanPut, PutsFrom, PutsTo}
 use Rattle.cmm_select.specs.Operands.{Brings, BringsOperand, CanBringOperand, most_for, operand_at}
 use Rattle.cmm_select.specs.declared.destination.Destination.{Destination}

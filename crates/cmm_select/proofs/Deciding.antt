@@ -19,7 +19,6 @@ use Rattle.rv_table.specs.Bounds.{IsSound}
 use Rattle.rv_table.specs.Machine.{State}
 use Rattle.rv_table.specs.Words.{is_less, signed}
 use Rattle.cmm_effects.proofs.Shared.{goes_keeps, keeps_then, leads_then, leads_weaker, quiet_if_runs, reaches_more}
-use Rattle.cmm_effects.specs.Changes.{Keeps}
 use Rattle.cmm_effects.specs.Pieces.{Runs}
 use Rattle.cmm_select.proofs.InPlace.{passes_of, passes_weaker}
 use Rattle.cmm_select.proofs.Operating.{Signs}

@@ -15,9 +15,9 @@ use Rattle.rv_asm.specs.Parts.{Code}
 use Rattle.rv_asm.specs.declared.part.Meaning.{Meaning}
 use Rattle.rv_table.specs.Bounds.{IsSound}
 use Rattle.rv_table.specs.Machine.{MemoryMap, State}
-use Rattle.cmm_effects.proofs.Shared.{keeps_then, kept_is_reachable, leads_then, leads_weaker, reaches_more, reaches_sound, runs_none, runs_of, runs_then, runs_weaker}
-use Rattle.cmm_effects.specs.Changes.{Keeps, KeepsBut, PutsRegister, Sets}
-use Rattle.cmm_effects.specs.Pieces.{BeginsQuietly, Leads, Runs}
+use Rattle.cmm_effects.proofs.Shared.{keeps_then, leads_then, leads_weaker, reaches_more, reaches_sound, runs_none, runs_of, runs_then, runs_weaker}
+use Rattle.cmm_effects.specs.Changes.{Keeps, Sets}
+use Rattle.cmm_effects.specs.Pieces.{BeginsQuietly, Leads}
 use Rattle.cmm_effects.specs.Ways.{Turns}
 use Rattle.cmm_select.proofs.Keeping.{operand_as_before, put_after, still_brought, still_put}
 use Rattle.cmm_select.specs.Destinations.{CanPut, IsDestination, PutsFrom, PutsTo}

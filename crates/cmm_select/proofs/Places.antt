@@ -1,19 +1,16 @@
 -- A place is read into a scratch register, and register 5 is written to a place.
-use Rattle.std.proofs.Common.{◌≡◌, ◌≢◌, ℕ, ◌+◌, ◌*◌, ◌/◌, ◌%◌, ◌<◌, ◌^◌, refl, sym, ◌∙◌, ap, subst, arith, pos, true, false}
-use Rattle.std.specs.Prelude.{◌==◌, ◌||◌, Bool, IsTrue}
+use Rattle.std.proofs.Common.{◌≡◌, ◌≢◌, ℕ, refl, ◌∙◌, arith, pos, true, false}
+use Rattle.std.specs.Prelude.{◌==◌, ◌||◌, Bool}
 use Rattle.std.proofs.lemmas.Bool.Decides.{nat_tests}
 use Rattle.cmm_abi.specs.Registers.{is_scratch}
-use Rattle.cmm_chain.specs.declared.frame.Location.TheVariants.{Slot}
-use Rattle.rv_asm.specs.Appending.{Then}
 use Rattle.rv_asm.specs.Parts.{Code, Does}
 use Rattle.rv_asm.specs.declared.part.Part.TheVariants.{Single}
-use Rattle.rv_table.specs.Bounds.{IsSound}
-use Rattle.rv_table.specs.Machine.{State, is_accessible, extended, loaded, stored}
-use Rattle.rv_table.specs.Words.{modulo, shifted_left, sum}
+use Rattle.rv_table.specs.Machine.{State}
+use Rattle.rv_table.specs.Words.{modulo, sum}
 use Rattle.rv_table.specs.declared.instruction.Instr.{Instr}
-use Rattle.rv_table.specs.declared.instruction.Instr.TheVariants.{Add, Addi, Ld, Sd, Slli}
-use Rattle.cmm_effects.proofs.Shared.{leads_load, leads_set, leads_store, leads_then, leads_weaker, runs_of}
-use Rattle.cmm_effects.specs.Changes.{CanReach, Puts, PutsRegister, Sets, Writes, read_at}
+use Rattle.rv_table.specs.declared.instruction.Instr.TheVariants.{Addi}
+use Rattle.cmm_effects.proofs.Shared.{leads_set, leads_weaker}
+use Rattle.cmm_effects.specs.Changes.{PutsRegister, Sets}
 use Rattle.cmm_effects.specs.Pieces.{Always, Leads}
 use Rattle.cmm_select.proofs.Sums.{plus_none}
 

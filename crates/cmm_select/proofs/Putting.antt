@@ -1,5 +1,5 @@
 -- Operands are brought, something is done with them, and the number in register 5 is put somewhere.
-use Rattle.std.proofs.Common.{◌≡◌, ℕ, ◌+◌, ◌*◌, refl, sym, ◌∙◌, ap, subst, arith, Some}
+use Rattle.std.proofs.Common.{◌≡◌, ℕ, ◌+◌, ◌*◌, sym, ◌∙◌, ap, subst, arith, Some}
 use Rattle.std.specs.Prelude.{Bool, if◌then◌else◌}
 use Rattle.cmm_words.specs.Widths.{IsWord}
 use Rattle.cmm_words.specs.Words.{holds, low_bits, sign_extended, value2}

@@ -1,8 +1,7 @@
 -- Operators on a word and a small number.
-use Rattle.std.proofs.Common.{◌≡◌, ◌≢◌, ℕ, zero, suc, ◌+◌, ◌-◌, ◌*◌, ◌/◌, ◌%◌, ◌<◌, ◌≤◌, ◌^◌, refl, sym, ◌∙◌, ap, subst, arith, pos, negsuc, ◌-ℤ◌, min, Option, Some, None}
+use Rattle.std.proofs.Common.{◌≡◌, ◌≢◌, ℕ, ◌+◌, ◌-◌, ◌*◌, ◌/◌, ◌%◌, ◌<◌, ◌^◌, refl, ◌∙◌, ap, subst, arith, pos, ◌-ℤ◌, min, Option, Some, None}
 use Rattle.std.specs.Prelude.{Bool, true, false, nat_lt, bit_and, bit_or, bit_xor}
 use Rattle.std.proofs.lemmas.Bool.Decides.{nat_tests}
-use Rattle.std.proofs.lemmas.Int.{ints}
 use Rattle.std.proofs.lemmas.Option.{same_Some}
 use Rattle.cmm_words.specs.Laws.{IsCut2}
 use Rattle.cmm_words.specs.Words.{value2}

@@ -1,5 +1,5 @@
 -- Comparisons as numbers: at 64 bits one is an instruction, or the contrary of another.
-use Rattle.std.proofs.Common.{◌≡◌, ◌≢◌, ℕ, ◌+◌, ◌<◌, ◌^◌, refl, ◌∙◌, ap, subst, arith, pos, Some, None}
+use Rattle.std.proofs.Common.{◌≡◌, ◌≢◌, ℕ, ◌<◌, ◌^◌, refl, ◌∙◌, ap, subst, arith, pos, Some, None}
 use Rattle.std.specs.Prelude.{Bool, true, false, not, ◌==◌, nat_lt, bit_xor}
 use Rattle.std.proofs.lemmas.Bool.Decides.{nat_tests}
 use Rattle.cmm_words.specs.Integers.{signed as word_signed}

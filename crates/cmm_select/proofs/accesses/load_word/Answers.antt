@@ -1,4 +1,4 @@
-use Rattle.std.proofs.Common.{◌≡◌, ℕ, suc, ◌-◌, ◌*◌, ◌/◌, ◌<◌, ◌∙◌, refl, ap, arith}
+use Rattle.std.proofs.Common.{◌≡◌, ℕ, suc, ◌-◌, ◌*◌, ◌/◌, ◌<◌, ◌∙◌, ap, arith}
 use Rattle.cmm_words.specs.Widths.{bytes}
 use Rattle.cmm_effects.proofs.Shared.{adds_then, adds_weaker, leads_weaker}
 use Rattle.cmm_select.proofs.Gathering.{eight_bytes, loads_joined, parts}

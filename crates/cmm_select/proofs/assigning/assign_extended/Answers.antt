@@ -1,5 +1,4 @@
-use Rattle.std.proofs.Common.{◌≡◌, ◌+◌, arith}
-use Rattle.cmm_words.specs.Words.{sign_extended}
+use Rattle.std.proofs.Common.{◌≡◌, arith}
 use Rattle.cmm_effects.proofs.Shared.{adds_then, adds_weaker, leads_weaker}
 use Rattle.cmm_select.proofs.Putting.{extends_low, extends_one}
 use Rattle.cmm_select.proofs.Widths.{two_shifts}

@@ -1,8 +1,6 @@
-use Rattle.std.proofs.Common.{◌≡◌, ℕ, ◌+◌, arith}
-use Rattle.cmm_words.specs.Words.{low_bits}
+use Rattle.std.proofs.Common.{◌≡◌, arith}
 use Rattle.cmm_effects.proofs.Shared.{adds_then, adds_weaker, leads_weaker}
-use Rattle.cmm_select.proofs.Keeping.{put_as}
-use Rattle.cmm_select.proofs.Putting.{assigns_one, cuts_one, copies_low}
+use Rattle.cmm_select.proofs.Putting.{cuts_one, copies_low}
 use Rattle.cmm_select.proofs.Widths.{two_shifts}
 use Rattle.cmm_select.specs.Operators.{shifts_of}
 use Rattle.cmm_select.proofs.assigning.assign_low.Goals as goal

@@ -1,6 +1,6 @@
-use Rattle.std.proofs.Common.{◌∙◌, inl, inr, refl, sym, arith}
+use Rattle.std.proofs.Common.{◌∙◌, inr, sym, arith}
 use Rattle.cmm_effects.proofs.Shared.{adds_none, adds_weaker}
-use Rattle.cmm_select.proofs.InPlace.{home_is, located_brought, located_home}
+use Rattle.cmm_select.proofs.InPlace.{home_is, located_home}
 use Rattle.cmm_select.proofs.in_place.locate.Goals as goal
 
 pub returns-in-Some-clause-locates : goal.returns-in-Some-clause-locates
