@@ -6,10 +6,9 @@ use Rattle.std.proofs.Math.Path.{fun_ext}
 use Rattle.rv_table.specs.declared.registers.Regs.{Regs}
 use Rattle.rv_table.specs.Machine.{State}
 use Rattle.rv_table.specs.Registers.{registers_of}
-use Rattle.rv_memory.specs.Regions.{Regions, memory_of, region_of}
-use Rattle.rv_memory.specs.States.{state_of}
+use Rattle.rv_memory.specs.Regions.{Regions, memory_of}
 use Rattle.cmm_format.proofs.Shared.{chosen_false}
-use Rattle.cmm_snapshot.specs.SnapshotFormat.{Snapshot, taken_of}
+use Rattle.cmm_snapshot.specs.SnapshotFormat.{Snapshot}
 use Rattle.cmm_snapshot.specs.Laws.{SnapshotsKeepStates}
 
 pub behind-first : (xs : List ℕ) (k : ℕ) → slice_index (drop 1 xs) k ≡ slice_index xs (suc k)

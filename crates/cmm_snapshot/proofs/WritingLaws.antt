@@ -1,12 +1,11 @@
 -- What is written is a snapshot.
 use Rattle.std.proofs.Common.{◌≡◌, ℕ, suc, ◌+◌, ◌*◌, ◌%◌, ◌^◌, ◌<◌, ◌≤◌, List, [], ◌∷◌, ◌++◌, length, drop, slice_index, Option, Some, None, true, refl, sym, ap, subst, ◌∙◌, append_assoc, inl, inr, arith}
-use Rattle.std.specs.Prelude.{bytes_eq, IsTrue}
 use Rattle.std.proofs.Math.ListN.{get_or-append}
 use Rattle.std.proofs.lemmas.Bool.{cases_lt}
 use Rattle.std.proofs.lemmas.Bool.Decides.{nat_tests}
 use Rattle.std.proofs.lemmas.List.{length-append, get_or-append-add, get_or_past}
 use Rattle.std.proofs.lemmas.Slice.Eq.{bytes_eq-Decides}
-use Rattle.rv_table.specs.declared.memory_map.TheConstants.{BELOW_STACK, DATA_LENGTH_LIMIT, STACK_SIZE_LIMIT}
+use Rattle.rv_table.specs.declared.memory_map.TheConstants.{STACK_SIZE_LIMIT}
 use Rattle.rv_table.specs.declared.registers.Regs.{Regs}
 use Rattle.rv_memory.specs.Regions.{Fits, Regions}
 use Rattle.cmm_format.specs.Formats.{AreBytes, AreRows, number_bytes}

@@ -1,10 +1,9 @@
 -- What readings of several fields answer.
-use Rattle.std.specs.Prelude.{◌≡◌, ℕ, ◌-◌, length, Result, Ok, Err}
+use Rattle.std.specs.Prelude.{ℕ, ◌-◌, length}
 use Rattle.cmm_image.specs.declared.rows.ProcRow.{ProcRow}
 use Rattle.cmm_image.specs.declared.bounds.Bounds.{Bounds}
 use Rattle.cmm_image.specs.declared.header.RowCounts.{RowCounts}
 use Rattle.cmm_image.specs.declared.site.SiteTail.{SiteTail}
-use Rattle.cmm_format.specs.declared.fault.Broken.{Broken}
 use Rattle.cmm_image.specs.declared.fault.ImageFault.{ImageFault}
 use Rattle.cmm_image.specs.declared.fault.ImageFault.TheVariants.{At}
 use Rattle.cmm_image.specs.declared.fault.ImageFault.TheVariants as image_fault

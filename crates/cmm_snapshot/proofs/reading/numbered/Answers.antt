@@ -1,8 +1,6 @@
-use Rattle.std.proofs.Common.{◌≡◌, length, arith}
-use Rattle.std.specs.Prelude.{slice_set}
 use Rattle.std.proofs.lemmas.Result.{err_from_is_err_and}
 use Rattle.std.proofs.lemmas.List.{length-set}
-use Rattle.cmm_snapshot.proofs.TakingLaws.{count_is, first-kept, word-missed, word-read, words-done}
+use Rattle.cmm_snapshot.proofs.TakingLaws.{first-kept, word-missed, word-read, words-done}
 use Rattle.cmm_snapshot.proofs.reading.numbered.Goals as goal
 
 pub returns-in_err-x-clause-fields : goal.returns-in_err-x-clause-fields
