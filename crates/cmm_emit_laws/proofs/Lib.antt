@@ -38,6 +38,7 @@ pub mod Putting
 pub mod Getting
 pub mod CopyingIn
 pub mod Simulating
+pub mod Stepping
 pub mod Beginning
 pub mod OnceBegun
 pub mod Agreeing

@@ -14,4 +14,5 @@ pub mod Placing
 pub mod Naming
 pub mod Examples
 pub mod Laws
+pub mod Steps
 pub mod Agreeing

@@ -3,6 +3,15 @@ ghost use Rattle.cmm_emit_laws.specs.Laws.{CodeBegins, ImagesFollowLocatedRuns, 
 ghost use Rattle.cmm_emit_laws.specs.Laying.{FramesCanBeMade, ProceduresAreLaid};
 ghost use Rattle.cmm_emit_laws.specs.Naming.{GraphsAreNamed};
 ghost use Rattle.cmm_emit_laws.specs.Placing.{FinishedCodeStands};
+ghost use Rattle.cmm_emit_laws.specs.Steps.{EndsAreRepresented, StepsAreDoneByCode};
+
+/// The code of one node does its step; and where a return ends the run, the state behind the call of `main` represents what is left.
+pub fn steps_are_done_by_code()
+    ensures steps { StepsAreDoneByCode }
+    ensures ends { EndsAreRepresented }
+{
+    cmm_select::laws::switches_lead();
+}
 
 /// Where code is that of a program, the image simulates the located machine.
 pub fn images_simulate_located_runs()

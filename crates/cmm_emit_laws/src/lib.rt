@@ -14,6 +14,7 @@
 //! - `specs/Finished`: where code stands, and what its labels and symbols are. `specs/NodeCode`: what is required of the code of each node.
 //!   `specs/ProgramCode`: the conditions on finished code from which the simulation follows. `specs/Standing`: which machine states represent a state.
 //!   `specs/Starting`: the code with which a run begins.
+//! - `specs/Steps`: what the code of one node does, and what is represented where the run ends.
 //! - `specs/Laying`, `Placing`, `Naming`: what the layout of frames, finished bytes and graphs give of what is required.
 //! - `starting`: the code with which a run begins. `examples`, `call_example`: the code of small programs, with which what is required of code is met.
 //! - `laws`: that the image simulates the located machine, and follows it from its first state on.
