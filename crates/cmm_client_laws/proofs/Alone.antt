@@ -1,14 +1,12 @@
 -- A chain on its own is a stopped program, and a stopped program has a chain.
-use Rattle.std.proofs.Common.{◌≡◌, ℕ, ◌+◌, ◌-◌, ◌<◌, Bool, true, false, List, [], ◌∷◌, length, map, Option, None, refl, sym, ap, ◌∙◌, subst, arith}
-use Rattle.std.specs.Prelude.{replicate, slice_index_or}
+use Rattle.std.proofs.Common.{◌≡◌, ℕ, ◌+◌, ◌-◌, ◌<◌, false, List, [], ◌∷◌, length, map, Option, None, refl, ap, ◌∙◌, subst, arith}
 use Rattle.std.proofs.lemmas.Bool.Decides.{nat_tests}
 use Rattle.std.proofs.lemmas.List.{get_or-replicate, length-replicate}
-use Rattle.rv_table.specs.Machine.{State, data_base}
-use Rattle.cmm_machine_laws.specs.Stacks.{Extent, extent, stack_of}
+use Rattle.rv_table.specs.Machine.{data_base}
+use Rattle.cmm_machine_laws.specs.Stacks.{Extent, extent}
 use Rattle.cmm_program.specs.Layout.{data_bytes}
-use Rattle.cmm_program.specs.Memory.{Cell, Memory, Outside, Room, cell_at, cell_in, cell_of, is_in, rooms_of}
-use Rattle.cmm_program.specs.State.{Setting}
-use Rattle.cmm_emit_laws.specs.Words.{RepresentsRoom, RepresentsRooms, RepresentsWords, Sits}
+use Rattle.cmm_program.specs.Memory.{Outside, Room, cell_in, is_in, rooms_of}
+use Rattle.cmm_emit_laws.specs.Words.{RepresentsRoom, RepresentsRooms, Sits}
 use Rattle.cmm_emit_laws.specs.Represented.{stack_region}
 use Rattle.cmm_emit_laws.proofs.Shared.{in_none, no_values, not_in}
 use Rattle.cmm_client_laws.specs.Alone.{ChainsAreStopped, StoppedAreChains, bare_store, unwritten}

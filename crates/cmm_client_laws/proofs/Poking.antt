@@ -1,6 +1,6 @@
 -- The client writes data, over locations and in the image.
-use Rattle.std.proofs.Common.{◌≡◌, ℕ, ◌+◌, ◌-◌, ◌*◌, ◌/◌, ◌%◌, ◌^◌, ◌<◌, ◌≤◌, ◌==◌, ◌&&◌, Bool, true, false, All, List, [], ◌∷◌, length, Option, Some, None, refl, sym, ap, ◌∙◌, subst, arith}
-use Rattle.std.specs.Prelude.{nat_le, nat_lt, slice_index_or}
+use Rattle.std.proofs.Common.{◌≡◌, ℕ, ◌+◌, ◌%◌, ◌≤◌, ◌==◌, ◌&&◌, Bool, true, false, All, List, [], length, Option, Some, None, refl, sym, ap, ◌∙◌, subst, arith}
+use Rattle.std.specs.Prelude.{nat_le}
 use Rattle.std.proofs.lemmas.Bool.Decides.{nat_tests}
 use Rattle.rv_table.specs.Machine.{MemoryMap, State, data_base, stored}
 use Rattle.cmm_program.specs.declared.program.Label.{Label}
@@ -8,15 +8,13 @@ use Rattle.cmm_program.specs.Client as program
 use Rattle.cmm_program.specs.Client.{linked_label}
 use Rattle.cmm_program.specs.Errors.{with_some}
 use Rattle.cmm_program.specs.Layout.{label_address}
-use Rattle.cmm_program.specs.Memory.{Cell, Room, cell_at, cell_in, cell_of, is_in, number_of, with_bytes}
+use Rattle.cmm_program.specs.Memory.{Room, number_of, with_bytes}
 use Rattle.cmm_program.specs.State.{Setting, Store}
-use Rattle.cmm_program.specs.Values.{is_there}
 use Rattle.cmm_image.specs.declared.parts.ImageParts.{ImageParts}
 use Rattle.cmm_image.specs.declared.rows.LabelRow.{LabelRow}
 use Rattle.cmm_machine_laws.specs.Alike.{ChangesAlike, StayAlike}
 use Rattle.cmm_machine_laws.specs.Fitting.{IsByte}
 use Rattle.cmm_machine_laws.specs.Stacks.{Extent}
-use Rattle.cmm_machine_laws.proofs.Shared.{bytes_of_spelled}
 use Rattle.cmm_image_machine.specs.Changes as image
 use Rattle.cmm_image_machine.specs.Changes.{label_named}
 use Rattle.cmm_emit_laws.specs.Words.{Symbols}
