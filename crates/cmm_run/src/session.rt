@@ -6,6 +6,9 @@ ghost use Rattle.cmm_script.specs.Limits.{HasFewValues};
 ghost use Rattle.cmm_run.specs.Outside.{outside_of};
 ghost use Rattle.cmm_run.specs.Runs.{Runs};
 ghost use Rattle.cmm_run.specs.declared.outcome.Outcome.{Outcome as OutcomeOf};
+ghost use Rattle.cmm_run.specs.declared.outcome.Outcome.TheVariants.{Stopped as StoppedBy};
+ghost use Rattle.cmm_snapshot.specs.SnapshotFormat.{taken_of};
+ghost use Rattle.cmm_snapshot.specs.Snapshots.{SpellsSnapshot};
 
 use crate::loaded::Loaded;
 use crate::machine::{Machine, first_registers};
@@ -15,10 +18,11 @@ use crate::waiting::Waiting;
 use cmm_image::Image;
 use cmm_outside::{Sink, Source};
 use cmm_script::Script;
+use cmm_snapshot::write_snapshot;
 use rv_memory::{Memory, NoMemory};
 use rv_sim::Decoded;
 use rv_table::memory_map::STACK_SIZE_LIMIT;
-use std::alloc::Global;
+use std::alloc::{AllocError, Global};
 use std::marker::Model;
 
 /// The limits of a run.
@@ -106,6 +110,16 @@ impl Session {
         let outcome = run(&self.loaded, self.steps, &mut self.machine, input, out, log);
         self.answer = Some(outcome);
         outcome
+    }
+
+    /// The bytes of a snapshot of a run that the client stopped: the image's header, the registers and the memory as they stand.
+    pub fn snapshot(&self, alloc: Global) -> Result<Vec<u8>, AllocError>
+        requires { self.now.answer ≡ Some StoppedBy }
+        ensures spelled { IfOk result (λ bytes. SpellsSnapshot self.now.launch.image bytes.items (taken_of self.now.regs self.now.memory)) }
+        ensures stack { self.now.memory.stack_size ≡ self.now.launch.stack_size }
+    {
+        let Machine { regs, memory, .. } = &self.machine;
+        write_snapshot(alloc, self.loaded.image(), regs, memory)
     }
 
     /// The image that was loaded, given back.

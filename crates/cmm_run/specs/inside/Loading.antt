@@ -17,10 +17,11 @@ pub record IsLoaded (l : Launch) (table : List (Option Instr)) : Type 0 where
   pub stack : l.stack_size ≤ STACK_SIZE_LIMIT
   pub aligned : l.stack_size % 16 ≡ 0
 
--- the memory is one of the run's: its code, and data and region of its lengths
+-- the memory is one of the run's: its code, and data and region of its lengths, with a stack that is a multiple of 16
 pub record IsOfRun (l : Launch) (memory : Regions) : Type 0 where
   pub map : regions.map_of memory ≡ map_of l
   pub region : regions.region_of memory ≡ region_of l
+  pub aligned : l.stack_size % 16 ≡ 0
 
 -- registers and memory are those where a run begins, no output waits, and the input has not ended
 pub record IsReady (l : Launch) (machine : Machine) : Type 0 where

@@ -20,4 +20,4 @@ invariant_of-result c =
     (λ bytes. c.first_registers-regs.ensures bytes
     ∙ ap (λ (i : ImageParts). at_pc i.start (start (region_of machine.memory) bytes)) c.parts.ensures.same)
     c.in_ok-memory.ensures c.in_ok-waiting.ensures refl in
-    (record { map = ready.map; region = ready.region }, λ _. ready))
+    (record { map = ready.map; region = ready.region; aligned = c.requires.aligned }, λ _. ready))
