@@ -8,7 +8,7 @@ use Rattle.cmm_command.specs.Laws.{CommandsAreInRange, IsName}
 use Rattle.cmm_command.specs.Meaning.{Meaning, meaning_of}
 use Rattle.cmm_command.specs.Meaning as meaning
 use Rattle.cmm_outside.specs.declared.storage.TheConstants.{NAME_LIMIT}
-use Rattle.cmm_top.specs.Words.{Task, execute, run, build, generate, task_in, task_of}
+use Rattle.cmm_top.specs.Words.{Task, execute, run, build, walk, generate, task_in, task_of}
 use Rattle.cmm_top.specs.declared.task.Task.{Task as TaskAsked}
 use Rattle.cmm_top.specs.inside.Tasks.{CanBeDone, IsAsked, plain_task}
 
@@ -27,16 +27,17 @@ can_be_done law words (meaning.exec (name ∷ names) client limits) t is asks =
     let range = law words (meaning.exec (name ∷ names) client limits) is in
     let same : execute (name ∷ names) client limits ≡ t = cc in
     let some : 0 < length (name ∷ names) = omega arith in subst CanBeDone same (range.0, some, range.1, (range.2.whole, range.2.stack))
-can_be_done law words (meaning.run image client limits None) t is asks =
-    let range = law words (meaning.run image client limits None) is in
-    let same : run image client limits ≡ t = cc in subst CanBeDone same (range.0, range.1, (range.2.whole, range.2.stack))
-can_be_done law words (meaning.run image client limits (Some save)) t is asks = absurd cc
+can_be_done law words (meaning.run image client limits save) t is asks =
+    let range = law words (meaning.run image client limits save) is in
+    let same : run image client limits save ≡ t = cc in subst CanBeDone same (range.0, range.1, (range.2.whole, range.2.stack), range.3)
 can_be_done law words (meaning.build [] image) t is asks = absurd cc
 can_be_done law words (meaning.build (name ∷ names) image) t is asks =
     let range = law words (meaning.build (name ∷ names) image) is in
     let same : build (name ∷ names) image ≡ t = cc in
     let some : 0 < length (name ∷ names) = omega arith in subst CanBeDone same (range.0, some, range.1)
-can_be_done law words (meaning.walk image snapshot) t is asks = absurd cc
+can_be_done law words (meaning.walk image snapshot) t is asks =
+    let range = law words (meaning.walk image snapshot) is in
+    let same : walk image snapshot ≡ t = cc in subst CanBeDone same range
 can_be_done law words (meaning.generate number) t is asks = let same : generate number ≡ t = cc in subst CanBeDone same tt
 
 pub task_is : (words : List (List ℕ)) (m : Meaning) (o : Option Task) → meaning_of words ≡ Some m → task_in m ≡ o → task_of words ≡ o

@@ -4,3 +4,5 @@ pub mod Counting
 pub mod Asked
 pub mod Closing
 pub mod Preparing
+pub mod Leaving
+pub mod Walked

@@ -3,6 +3,8 @@ use Rattle.std.proofs.Common.{◌≡◌, ℕ, List, [], ◌∷◌, ◌++◌, Opt
 use Rattle.std.specs.Prelude.{◌⊎◌}
 use Rattle.std.specs.Result.{IsErrAnd}
 use Rattle.std.proofs.lemmas.List.Elements.{Contains-append_left, Contains-append_right}
+use Rattle.cmm_image.specs.Images.{SpellsImage}
+use Rattle.cmm_image.specs.declared.parts.ImageParts.{ImageParts}
 use Rattle.cmm_image.specs.declared.reading.TheConstants.{IMAGE_LIMIT}
 use Rattle.cmm_outside.specs.Faults.{Rose}
 use Rattle.cmm_outside.specs.Storage.{Contents, FailedCall}
@@ -12,6 +14,7 @@ use Rattle.cmm_script.specs.Faults.{IsFirstFault}
 use Rattle.cmm_script.specs.declared.reader.TheConstants.{SCRIPT_LIMIT}
 use Rattle.cmm_script.specs.declared.script.Script.{Script}
 use Rattle.cmm_script.specs.Spelling.{SpellsScript}
+use Rattle.cmm_snapshot.specs.declared.reading.TheConstants.{SNAPSHOT_LIMIT}
 use Rattle.cmm_top.specs.declared.ending.Ending.{Ending}
 use Rattle.cmm_top.specs.declared.ending.Ending.TheVariants as ending
 use Rattle.cmm_top.specs.declared.reading.FileBytes.{FileBytes}
@@ -24,8 +27,9 @@ use Rattle.cmm_top.specs.Files.{FailsToRead, HasBytes, HasUnits}
 use Rattle.cmm_top.specs.Running.{IsRefused}
 use Rattle.cmm_top.specs.Script.{HasScript, HoldsNoScript, named_file}
 use Rattle.cmm_top.specs.Units.{HaveFault, IsRefused as AreRefused}
+use Rattle.cmm_top.specs.Walking.{HasBadSnapshot}
 use Rattle.cmm_top.specs.Work.{RanOutOfMemory}
-use Rattle.cmm_top.specs.inside.Ending.{IsNotImage, IsRefusedScript, IsUnread, LackImage, work_of}
+use Rattle.cmm_top.specs.inside.Ending.{IsNotImage, IsNotSnapshot, IsRefusedScript, IsUnread, LackImage, work_of}
 use Rattle.cmm_top.specs.inside.Reading.{AreRead, AreUnits, IsClientRead, IsFileOf, IsScriptRead, ReadsOrFails}
 use Rattle.cmm_top.proofs.FilesRead.{bytes_so}
 use Rattle.cmm_top.proofs.Refusing.{fault_in, is_refused, ran_out}
@@ -90,8 +94,10 @@ not_image name bytes before after ending.Usage same there first = absurd first
 not_image name bytes before after (ending.Refused n f) same there first = absurd first
 not_image name bytes before after (ending.BadScript rule line) same there first = absurd first
 not_image name bytes before after (ending.FileFault n) same there first = absurd first
+not_image name bytes before after (ending.BadSnapshot rule offset) same there first = absurd first
 not_image name bytes before after ending.OutputFault same there first = absurd first
 not_image name bytes before after ending.Built same there first = absurd first
+not_image name bytes before after ending.Walked same there first = absurd first
 not_image name bytes before after (ending.Ran outcome) same there first = absurd first
 
 -- the file that was read holds no image
@@ -99,6 +105,38 @@ pub holds_no_image : (name : List ℕ) (before after : Outside) (read : FileByte
     ((bytes : List ℕ) → IsFileOf IMAGE_LIMIT bytes read → IsNotImage bytes end) →
     IsRefused name (work_of end None before after) ⊎ RanOutOfMemory (work_of end None before after)
 holds_no_image name before after read end same (bytes, there, is) lacks = not_image name bytes before after end same there (lacks bytes is)
+
+-- ---- a snapshot
+
+not_snapshot : (name snapshot bytes : List ℕ) (image : ImageParts) (before after : Outside) (end : Ending) → after ≡ before → HasBytes before.files name (λ b. SpellsImage b image) →
+    IfSome before.files (λ files. files snapshot ≡ Some bytes) → IsNotSnapshot image bytes end →
+    HasBadSnapshot name snapshot (work_of end None before after) ⊎ RanOutOfMemory (work_of end None before after)
+not_snapshot name snapshot bytes image before after (ending.BadSnapshot rule offset) same spelled there first = inl record {
+  image = image;
+  spelled = spelled;
+  rule = rule;
+  offset = offset;
+  first = (bytes, there, first);
+  nothing = record { same = same; no_image = refl };
+  ends = record { line = refl; status = refl };
+}
+not_snapshot name snapshot bytes image before after ending.OutOfMemory same spelled there first = inr (ran_out before after same)
+not_snapshot name snapshot bytes image before after ending.Usage same spelled there first = absurd first
+not_snapshot name snapshot bytes image before after (ending.Refused n f) same spelled there first = absurd first
+not_snapshot name snapshot bytes image before after (ending.BadImage rule offset) same spelled there first = absurd first
+not_snapshot name snapshot bytes image before after (ending.BadScript rule line) same spelled there first = absurd first
+not_snapshot name snapshot bytes image before after (ending.FileFault n) same spelled there first = absurd first
+not_snapshot name snapshot bytes image before after ending.OutputFault same spelled there first = absurd first
+not_snapshot name snapshot bytes image before after ending.Built same spelled there first = absurd first
+not_snapshot name snapshot bytes image before after ending.Walked same spelled there first = absurd first
+not_snapshot name snapshot bytes image before after (ending.Ran outcome) same spelled there first = absurd first
+
+-- the file that was read holds no snapshot
+pub holds_no_snapshot : (name snapshot : List ℕ) (image : ImageParts) (before after : Outside) (read : FileBytes) (end : Ending) → after ≡ before →
+    HasBytes before.files name (λ b. SpellsImage b image) → HasBytes before.files snapshot (λ bytes. IsFileOf SNAPSHOT_LIMIT bytes read) →
+    ((bytes : List ℕ) → IsFileOf SNAPSHOT_LIMIT bytes read → IsNotSnapshot image bytes end) →
+    HasBadSnapshot name snapshot (work_of end None before after) ⊎ RanOutOfMemory (work_of end None before after)
+holds_no_snapshot name snapshot image before after read end same spelled (bytes, there, is) lacks = not_snapshot name snapshot bytes image before after end same spelled there (lacks bytes is)
 
 -- ---- a script
 
@@ -135,15 +173,19 @@ refused_script name before after (Whole bytes) ending.Usage same has first = abs
 refused_script name before after (Whole bytes) (ending.Refused n f) same has first = absurd first
 refused_script name before after (Whole bytes) (ending.BadImage rule offset) same has first = absurd first
 refused_script name before after (Whole bytes) (ending.FileFault n) same has first = absurd first
+refused_script name before after (Whole bytes) (ending.BadSnapshot rule offset) same has first = absurd first
 refused_script name before after (Whole bytes) ending.OutputFault same has first = absurd first
 refused_script name before after (Whole bytes) ending.Built same has first = absurd first
+refused_script name before after (Whole bytes) ending.Walked same has first = absurd first
 refused_script name before after (Whole bytes) (ending.Ran outcome) same has first = absurd first
 refused_script name before after TooLong ending.Usage same has first = absurd first
 refused_script name before after TooLong (ending.Refused n f) same has first = absurd first
 refused_script name before after TooLong (ending.BadImage rule offset) same has first = absurd first
 refused_script name before after TooLong (ending.FileFault n) same has first = absurd first
+refused_script name before after TooLong (ending.BadSnapshot rule offset) same has first = absurd first
 refused_script name before after TooLong ending.OutputFault same has first = absurd first
 refused_script name before after TooLong ending.Built same has first = absurd first
+refused_script name before after TooLong ending.Walked same has first = absurd first
 refused_script name before after TooLong (ending.Ran outcome) same has first = absurd first
 
 -- without a file there is always a script, but memory may run out
@@ -154,8 +196,10 @@ none_refused before after (ending.Refused n f) same first = absurd first
 none_refused before after (ending.BadImage rule offset) same first = absurd first
 none_refused before after (ending.BadScript rule line) same first = absurd first
 none_refused before after (ending.FileFault n) same first = absurd first
+none_refused before after (ending.BadSnapshot rule offset) same first = absurd first
 none_refused before after ending.OutputFault same first = absurd first
 none_refused before after ending.Built same first = absurd first
+none_refused before after ending.Walked same first = absurd first
 none_refused before after (ending.Ran outcome) same first = absurd first
 
 -- what was read holds no script

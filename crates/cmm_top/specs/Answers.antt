@@ -10,12 +10,14 @@ use Rattle.cmm_top.specs.Generating.{Generates}
 use Rattle.cmm_top.specs.Lines.{usage_line}
 use Rattle.cmm_top.specs.Running.{RunsFile}
 use Rattle.cmm_top.specs.Status.{number_of}
-use Rattle.cmm_top.specs.Words.{Task, execute, run, build, generate, task_of}
+use Rattle.cmm_top.specs.Walking.{Walks}
+use Rattle.cmm_top.specs.Words.{Task, execute, run, build, walk, generate, task_of}
 use Rattle.cmm_top.specs.Work.{DoesNothing, Ends, RanOutOfMemory, Work}
 
 abbrev pub Does : Task → Work → Type 0
 Does (execute names client limits) w = Executes names client limits w
-Does (run name client limits) w = RunsFile name client limits w
+Does (run name client limits save) w = RunsFile name client limits save w
+Does (walk name snapshot) w = Walks name snapshot w
 Does (build names name) w = Builds names name w
 Does (generate number) w = Generates number w
 

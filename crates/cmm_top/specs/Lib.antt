@@ -6,7 +6,9 @@ pub mod Files
 pub mod Script
 pub mod Units
 pub mod Executing
+pub mod Saving
 pub mod Running
+pub mod Walking
 pub mod Building
 pub mod Generating
 pub mod Words

@@ -21,6 +21,10 @@ refused_line name fault =
 abbrev pub bad_image_line : Rule → ℕ → List ℕ
 bad_image_line rule offset = codes "bad image " ++ (decimal (rule_number rule) ++ (codes " at " ++ (decimal offset ++ codes "\n")))
 
+-- a file that holds no snapshot of a run of an image
+abbrev pub bad_snapshot_line : Rule → ℕ → List ℕ
+bad_snapshot_line rule offset = codes "bad snapshot " ++ (decimal (rule_number rule) ++ (codes " at " ++ (decimal offset ++ codes "\n")))
+
 -- a file that holds no script of a client, by the rule that its bytes break first, and in which line
 abbrev pub bad_script_line : Rule → ℕ → List ℕ
 bad_script_line rule line = codes "bad script " ++ (decimal (rule_number rule) ++ (codes " line " ++ (decimal line ++ codes "\n")))

@@ -16,6 +16,8 @@ pub(crate) enum Ending<'a> {
     BadImage { rule: Rule, offset: u64 },
     /// The bytes of a file are no script: this rule is broken in this line.
     BadScript { rule: Rule, line: u32 },
+    /// The bytes of a file are no snapshot of a run of the image: this rule is broken at the field that begins at this offset.
+    BadSnapshot { rule: Rule, offset: u64 },
     /// A call on the file of this name failed.
     FileFault(&'a str),
     /// A call on the log failed.
@@ -24,6 +26,8 @@ pub(crate) enum Ending<'a> {
     OutOfMemory,
     /// An image was written to its file.
     Built,
+    /// The walk of a stopped program was written.
+    Walked,
     /// An image has run.
     Ran(Outcome),
 }

@@ -3,7 +3,7 @@
 ghost use Rattle.std.specs.Prelude.{◌≡◌};
 ghost use Rattle.cmm_outside.specs.Output.{WritesAll};
 ghost use Rattle.cmm_top.specs.inside.Ending.{Closes, line_of, status_at};
-ghost use Rattle.cmm_top.specs.Lines.{bad_image_line, bad_script_line, outcome_line, refused_line};
+ghost use Rattle.cmm_top.specs.Lines.{bad_image_line, bad_script_line, bad_snapshot_line, outcome_line, refused_line};
 
 use crate::ending::Ending;
 use crate::status::Status;
@@ -31,15 +31,16 @@ fn status_of(ending: &Ending) -> Status
         Ending::Refused(..) => Status::Refused,
         Ending::BadImage { .. } => Status::BadImage,
         Ending::BadScript { .. } => Status::BadScript,
+        Ending::BadSnapshot { .. } => Status::BadSnapshot,
         Ending::FileFault(_) => Status::FileFault,
         Ending::OutputFault => Status::OutputFault,
         Ending::OutOfMemory => Status::Memory,
-        Ending::Built => Status::Done,
+        Ending::Built | Ending::Walked => Status::Done,
         Ending::Ran(outcome) => Status::of(outcome),
     }
 }
 
-/// Writes the line of an ending. An image that was written has none, and neither has a fault of the log.
+/// Writes the line of an ending. An image or a walk that was written has none, and neither has a fault of output or log.
 fn write_line<E: Sink>(ending: &Ending, log: &mut E) -> Result<(), Failed>
     ensures { WritesAll E.taken E.faults log.old log.new (line_of ending.now) result }
 {
@@ -56,7 +57,8 @@ fn write_line<E: Sink>(ending: &Ending, log: &mut E) -> Result<(), Failed>
                 Part::Text(b"\n"),
             ],
         ),
-        Ending::OutputFault | Ending::Built => Ok(()),
+        Ending::BadSnapshot { rule, offset } => write_snapshot_fault(rule, offset, log),
+        Ending::OutputFault | Ending::Built | Ending::Walked => Ok(()),
         Ending::OutOfMemory => write_all(log, b"out of memory\n"),
         Ending::Ran(outcome) => write_outcome(outcome, log),
     }
@@ -91,6 +93,22 @@ fn write_image_fault<E: Sink>(rule: Rule, offset: u64, log: &mut E) -> Result<()
         log,
         &[
             Part::Text(b"bad image "),
+            Part::Number(u64::from(rule.number())),
+            Part::Text(b" at "),
+            Part::Number(offset),
+            Part::Text(b"\n"),
+        ],
+    )
+}
+
+/// Writes the line of bytes that are no snapshot.
+fn write_snapshot_fault<E: Sink>(rule: Rule, offset: u64, log: &mut E) -> Result<(), Failed>
+    ensures { WritesAll E.taken E.faults log.old log.new (bad_snapshot_line rule offset) result }
+{
+    write_parts(
+        log,
+        &[
+            Part::Text(b"bad snapshot "),
             Part::Number(u64::from(rule.number())),
             Part::Text(b" at "),
             Part::Number(offset),

@@ -1,10 +1,9 @@
 //! `run`: an image is read and runs.
 
-ghost use Rattle.std.specs.Prelude.{◌≡◌, ◌≤◌, ℕ, List, length, None, IfOk, IfErr, IfSome, OnOk};
+ghost use Rattle.std.specs.Prelude.{◌≡◌, ◌≤◌, length, None, IfOk, IfErr, IfSome, OnOk};
 ghost use Rattle.std.specs.Option.{option_map};
 ghost use Rattle.cmm_compile.specs.Agreement.{IsStackSize};
 ghost use Rattle.cmm_image.specs.Images.{SpellsImage};
-ghost use Rattle.cmm_image.specs.declared.reading.TheConstants.{IMAGE_LIMIT};
 ghost use Rattle.cmm_outside.specs.declared.storage.TheConstants.{NAME_LIMIT};
 ghost use Rattle.cmm_run.specs.Outside.{Outside as Streams, outside_of};
 ghost use Rattle.cmm_script.specs.Limits.{HasFewValues};
@@ -12,40 +11,19 @@ ghost use Rattle.cmm_top.specs.Call.{standing};
 ghost use Rattle.cmm_top.specs.Files.{HasBytes};
 ghost use Rattle.cmm_top.specs.Running.{CannotRun, RunsFile};
 ghost use Rattle.cmm_top.specs.Script.{HasScript};
-ghost use Rattle.cmm_top.specs.inside.Ending.{IsNotImage, work_of};
-ghost use Rattle.cmm_top.specs.inside.Reading.{IsFileOf};
+ghost use Rattle.cmm_top.specs.inside.Ending.{work_of};
 
 use crate::client::{client_in, script_of};
 use crate::ending::Ending;
-use crate::reading::{FileBytes, bytes_in};
+use crate::reading::bytes_in;
+use crate::image::image_of;
+use crate::saving::left_by;
 use crate::session::{Prepared, run_image};
 use cmm_command::RunLimits;
-use cmm_image::{IMAGE_LIMIT, Image, ImageFault, read_image};
+use cmm_image::IMAGE_LIMIT;
 use cmm_outside::{Files, Sink, Source};
-use cmm_rules::Rule;
 use rv_memory::NoMemory;
 use std::alloc::Global;
-
-/// The image in a file as it was read. The error is what the call comes to where there is none.
-fn image_of(alloc: Global, read: &FileBytes) -> Result<Image, Ending<'static>>
-    ensures ok { (bytes : List ℕ) → IsFileOf IMAGE_LIMIT bytes read.now → IfOk result (SpellsImage bytes) }
-    ensures err { (bytes : List ℕ) → IsFileOf IMAGE_LIMIT bytes read.now → IfErr result (IsNotImage bytes) }
-{
-    let bytes = match read {
-        FileBytes::Whole(bytes) => bytes,
-        FileBytes::TooLong => {
-            return Err(Ending::BadImage {
-                rule: Rule::ImageTooLong,
-                offset: IMAGE_LIMIT as u64,
-            });
-        }
-    };
-    match read_image(alloc, bytes) {
-        Ok(image) => Ok(image),
-        Err(ImageFault::At { rule, offset }) => Err(Ending::BadImage { rule, offset }),
-        Err(ImageFault::Memory) => Err(Ending::OutOfMemory),
-    }
-}
 
 /// The image in the file of this name, and the client's script. The error is what the call comes to where there is none: nothing was done then but to read.
 fn prepare<'a, F: Files>(
@@ -73,12 +51,13 @@ fn prepare<'a, F: Files>(
     Ok(Prepared { image, script })
 }
 
-/// What the image in the file of this name comes to: it is read and run, with the client's script in another file.
+/// What the image in the file of this name comes to: it is read and run, with the client's script in another file. Where the client stops it, a snapshot is saved.
 pub(crate) fn run<'a, F: Files, I: Source, O: Sink, E: Sink>(
     alloc: Global,
     name: &'a str,
     client: Option<&'a str>,
     limits: RunLimits,
+    save: Option<&'a str>,
     files: &mut F,
     input: &mut I,
     out: &mut O,
@@ -87,7 +66,8 @@ pub(crate) fn run<'a, F: Files, I: Source, O: Sink, E: Sink>(
     requires short { length name.now ≤ NAME_LIMIT }
     requires client { IfSome client (λ name. length name.now ≤ NAME_LIMIT) }
     requires stack { IsStackSize limits.stack }
-    ensures { RunsFile name.now (option_map (λ name. name.now) client.entry) limits (work_of result None
+    requires save { IfSome save (λ name. length name.now ≤ NAME_LIMIT) }
+    ensures { RunsFile name.now (option_map (λ name. name.now) client.entry) limits (option_map (λ name. name.now) save.entry) (work_of result None
         (standing F.contents F.faults F.last_failed files.old (outside_of I.left I.faults O.taken O.faults E.taken E.faults input.old out.old log.old))
         (standing F.contents F.faults F.last_failed files.new (outside_of I.left I.faults O.taken O.faults E.taken E.faults input.new out.new log.new))) }
 {
@@ -96,7 +76,7 @@ pub(crate) fn run<'a, F: Files, I: Source, O: Sink, E: Sink>(
         Err(ending) => return ending,
     };
     match run_image(alloc, prepared, limits, input, out, log) {
-        Ok((outcome, _)) => Ending::Ran(outcome),
+        Ok((outcome, session)) => left_by(alloc, outcome, &session, save, files),
         Err(NoMemory) => Ending::OutOfMemory,
     }
 }

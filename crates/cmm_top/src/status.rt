@@ -32,6 +32,8 @@ pub enum Status {
     OutputFault,
     /// Memory ran out.
     Memory,
+    /// The file holds no snapshot of a run of the image.
+    BadSnapshot,
     /// The file of the client holds no script.
     BadScript,
     /// The chain of frames breaks.
@@ -58,6 +60,7 @@ impl Status {
             Status::InputFault => 10,
             Status::OutputFault => 11,
             Status::Memory => 12,
+            Status::BadSnapshot => 13,
             Status::BadScript => 14,
             Status::Torn => 15,
         }

@@ -17,11 +17,17 @@ pub(crate) enum Task<'a> {
         client: Option<&'a str>,
         limits: RunLimits,
     },
-    /// To run the image in a file, with the client's script in another.
+    /// To run the image in a file, with the client's script in another, and to save a snapshot of it to a third where the client stops it.
     Run {
         image: &'a str,
         client: Option<&'a str>,
         limits: RunLimits,
+        save: Option<&'a str>,
+    },
+    /// To write the walk of the program that the snapshot in a file has, of a run of the image in another.
+    Walk {
+        image: &'a str,
+        snapshot: &'a str,
     },
     /// To build the units in files of these names, one at least, and to write their image to a file.
     Build {
@@ -34,7 +40,7 @@ pub(crate) enum Task<'a> {
     },
 }
 
-/// What a command asks for, so far: a task that saves nothing.
+/// What a command asks for.
 pub(crate) fn task_in<'a>(command: Command<'a>) -> Option<Task<'a>>
     ensures { IsAsked (task_meant (plain command.entry)) result }
 {
@@ -59,13 +65,11 @@ pub(crate) fn task_in<'a>(command: Command<'a>) -> Option<Task<'a>>
             limits,
             save,
         } => {
-            if save.is_some() {
-                return None;
-            }
             Some(Task::Run {
                 image,
                 client,
                 limits,
+                save,
             })
         }
         Command::Build { units, image } => {
@@ -75,6 +79,6 @@ pub(crate) fn task_in<'a>(command: Command<'a>) -> Option<Task<'a>>
             Some(Task::Build { units, image })
         }
         Command::Generate { number } => Some(Task::Generate { number }),
-        Command::Walk { .. } => None,
+        Command::Walk { image, snapshot } => Some(Task::Walk { image, snapshot }),
     }
 }

@@ -16,6 +16,7 @@ use crate::line::close;
 use crate::running::run;
 use crate::status::Finish;
 use crate::task::{Task, task_in};
+use crate::walking::walk;
 use cmm_command::laws::commands_are_in_range;
 use cmm_command::{CommandFault, command_of};
 use cmm_image::Image;
@@ -49,8 +50,15 @@ fn done<'a, F: Files, I: Source, O: Sink, E: Sink>(
             image,
             client,
             limits,
+            save,
         } => {
-            let ending = run(alloc, *image, *client, *limits, files, input, out, log);
+            let ending = run(
+                alloc, *image, *client, *limits, *save, files, input, out, log,
+            );
+            (ending, None)
+        }
+        Task::Walk { image, snapshot } => {
+            let ending = walk(alloc, *image, *snapshot, files, out);
             (ending, None)
         }
         Task::Build { units, image } => {
@@ -90,7 +98,8 @@ fn ended<'a, F: Files, I: Source, O: Sink, E: Sink>(
 /// Does what the words of the command line ask for. The words are those after the program's name.
 ///
 /// - `build UNIT .. -o IMAGE` builds the units in files and writes their image to a file.
-/// - `run IMAGE` runs the image in a file, and answers its yields as the script of `--client` says.
+/// - `run IMAGE` runs the image in a file, and answers its yields as the script of `--client` says. Where that stops it, `--save` writes a snapshot.
+/// - `walk IMAGE SNAPSHOT` writes the walk of the program that a snapshot has.
 /// - `exec UNIT ..` builds the units in files and runs their image in the same way.
 /// - `gen NUMBER` builds the unit of a number, tells the counts of its program and runs its image.
 pub fn cmm_main<F: Files, I: Source, O: Sink, E: Sink>(

@@ -10,8 +10,9 @@ use Rattle.cmm_outside.specs.Faults.{Rose}
 use Rattle.cmm_outside.specs.Output.{Appends, AppendsFront}
 use Rattle.cmm_rules.specs.declared.rule.Rule.TheVariants.{ScriptTooLong}
 use Rattle.cmm_script.specs.Faults.{IsFirstFault}
+use Rattle.cmm_snapshot.specs.Snapshots.{IsFirstFault as IsFirstSnapshotFault}
 use Rattle.cmm_top.specs.declared.ending.Ending.{Ending}
-use Rattle.cmm_top.specs.declared.ending.Ending.TheVariants.{Usage, Refused, BadImage, BadScript, FileFault, OutputFault, OutOfMemory, Built, Ran}
+use Rattle.cmm_top.specs.declared.ending.Ending.TheVariants.{Usage, Refused, BadImage, BadScript, BadSnapshot, FileFault, OutputFault, OutOfMemory, Built, Walked, Ran}
 use Rattle.cmm_top.specs.declared.reading.FileBytes.{FileBytes}
 use Rattle.cmm_top.specs.declared.reading.FileBytes.TheVariants.{Whole, TooLong}
 use Rattle.cmm_top.specs.declared.reading.ReadFault.{ReadFault}
@@ -19,7 +20,7 @@ use Rattle.cmm_top.specs.declared.reading.ReadFault.TheVariants as read_fault
 use Rattle.cmm_top.specs.declared.status.Status.{Status}
 use Rattle.cmm_top.specs.declared.status.Status.TheVariants as status
 use Rattle.cmm_top.specs.Call.{Outside}
-use Rattle.cmm_top.specs.Lines.{bad_image_line, bad_script_line, file_fault_line, memory_line, outcome_line, refused_line, usage_line}
+use Rattle.cmm_top.specs.Lines.{bad_image_line, bad_script_line, bad_snapshot_line, file_fault_line, memory_line, outcome_line, refused_line, usage_line}
 use Rattle.cmm_top.specs.Status.{status_of}
 use Rattle.cmm_top.specs.Work.{Work}
 
@@ -28,10 +29,12 @@ line_of Usage = usage_line
 line_of (Refused name fault) = refused_line name.now fault
 line_of (BadImage rule offset) = bad_image_line rule offset
 line_of (BadScript rule line) = bad_script_line rule line
+line_of (BadSnapshot rule offset) = bad_snapshot_line rule offset
 line_of (FileFault name) = file_fault_line name.now
 line_of OutputFault = []
 line_of OutOfMemory = memory_line
 line_of Built = []
+line_of Walked = []
 line_of (Ran outcome) = outcome_line outcome
 
 abbrev pub status_at : Ending → Status
@@ -39,10 +42,12 @@ status_at Usage = status.Usage
 status_at (Refused name fault) = status.Refused
 status_at (BadImage rule offset) = status.BadImage
 status_at (BadScript rule line) = status.BadScript
+status_at (BadSnapshot rule offset) = status.BadSnapshot
 status_at (FileFault name) = status.FileFault
 status_at OutputFault = status.OutputFault
 status_at OutOfMemory = status.Memory
 status_at Built = status.Done
+status_at Walked = status.Done
 status_at (Ran outcome) = status_of outcome
 
 -- the work that ends so, between these
@@ -60,6 +65,12 @@ abbrev pub IsNotImage : List ℕ → Ending → Type 0
 IsNotImage bytes (BadImage rule offset) = IsFirstImageFault bytes rule offset
 IsNotImage bytes OutOfMemory = Unit {0}
 IsNotImage bytes _ = ⊥
+
+-- why there is no snapshot of a run of an image in bytes
+abbrev pub IsNotSnapshot : ImageParts → List ℕ → Ending → Type 0
+IsNotSnapshot image bytes (BadSnapshot rule offset) = IsFirstSnapshotFault image bytes rule offset
+IsNotSnapshot image bytes OutOfMemory = Unit {0}
+IsNotSnapshot image bytes _ = ⊥
 
 -- why files were not read
 abbrev pub IsUnread : ReadFault → Ending → Type 0

@@ -6,11 +6,12 @@ use Rattle.cmm_command.specs.Laws.{IsName}
 use Rattle.cmm_compile.specs.Agreement.{IsStackSize}
 use Rattle.cmm_top.specs.declared.task.Task.{Task as TaskAsked}
 use Rattle.cmm_top.specs.declared.task.Task.TheVariants as asked
-use Rattle.cmm_top.specs.Words.{Task, execute, run, build, generate}
+use Rattle.cmm_top.specs.Words.{Task, execute, run, build, walk, generate}
 
 abbrev pub plain_task : TaskAsked → Task
 plain_task (asked.Execute units client limits) = execute (map (λ name. name.now) units) (option_map (λ name. name.now) client) limits
-plain_task (asked.Run image client limits) = run image.now (option_map (λ name. name.now) client) limits
+plain_task (asked.Run image client limits save) = run image.now (option_map (λ name. name.now) client) limits (option_map (λ name. name.now) save)
+plain_task (asked.Walk image snapshot) = walk image.now snapshot.now
 plain_task (asked.Build units image) = build (map (λ name. name.now) units) image.now
 plain_task (asked.Generate number) = generate number
 
@@ -23,6 +24,7 @@ IsAsked _ _ = ⊥
 -- names are short enough, and the stack has a size that one may have
 abbrev pub CanBeDone : Task → Type 0
 CanBeDone (execute names client limits) = All IsName names × (0 < length names) × IfSome client IsName × IsStackSize limits.stack
-CanBeDone (run name client limits) = IsName name × IfSome client IsName × IsStackSize limits.stack
+CanBeDone (run name client limits save) = IsName name × IfSome client IsName × IsStackSize limits.stack × IfSome save IsName
+CanBeDone (walk name snapshot) = IsName name × IsName snapshot
 CanBeDone (build names name) = All IsName names × (0 < length names) × IsName name
 CanBeDone (generate number) = Unit {0}

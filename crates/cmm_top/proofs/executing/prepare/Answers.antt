@@ -4,12 +4,28 @@ use Rattle.cmm_compile.specs.Agreement.{Agree}
 use Rattle.cmm_outside.specs.Storage.{Contents}
 use Rattle.cmm_top.specs.Call.{Outside, standing}
 use Rattle.cmm_top.specs.Executing.{CannotRun}
+use Rattle.cmm_top.specs.Script.{named_file}
 use Rattle.cmm_top.specs.declared.ending.Ending.{Ending}
+use Rattle.cmm_top.specs.declared.reading.FileBytes.{FileBytes}
 use Rattle.cmm_top.specs.inside.Ending.{work_of}
 use Rattle.cmm_top.specs.inside.Reading.{AreUnits, IsClientRead}
 use Rattle.cmm_top.proofs.FilesRead.{same_outside, units_so}
-use Rattle.cmm_top.proofs.Preparing.{handed, no_image, no_script_in}
+use Rattle.cmm_top.proofs.Preparing.{fails_behind, handed, no_image, no_script_in, unread}
 use Rattle.cmm_top.proofs.executing.prepare.Goals as goal
+
+pub returns-in_err-read-clause-err : goal.returns-in_err-read-clause-err
+returns-in_err-read-clause-err g c = λ streams.
+    let names = map (λ (name : Bor (List ℕ)). name.now) c.args.names.now in
+    let client = option_map (λ (name : Bor (List ℕ)). name.now) c.args.client in
+    let before = standing g.F.Files.contents g.F.Files.faults g.F.Files.last_failed c.args.files.now streams in
+    let mid = standing g.F.Files.contents g.F.Files.faults g.F.Files.last_failed c.sources_of.new.files streams in
+    let after = standing g.F.Files.contents g.F.Files.faults g.F.Files.last_failed c.client_in.new.files streams in
+    let fault = c.in_err-read.field-0.0 in
+    handed c.from_residual-in_err-read.result _ (λ (end : Ending). CannotRun names client (work_of end None before after))
+    (λ end is. inr (inr (unread (Option FileBytes) (names ++ named_file client) before after fault end (c.in_err-read.ensures.same ∙ c.in_ok-sources.ensures.same) refl
+    (fails_behind (Option FileBytes) names (named_file client) before.file_faults mid.file_faults after.file_faults before.last_failed mid.last_failed after.last_failed fault
+    c.in_ok-sources.ensures.fault.0 c.in_ok-sources.ensures.fault.1 c.in_err-read.ensures.fault) is)))
+    c.from_residual-in_err-read.ensures.1
 
 pub returns-in_err-image-clause-err : goal.returns-in_err-image-clause-err
 returns-in_err-image-clause-err g c = λ streams.

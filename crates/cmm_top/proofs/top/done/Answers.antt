@@ -1,4 +1,4 @@
-use Rattle.std.proofs.Common.{◌≤◌, Bor, List, ℕ, ap, length, subst, sym}
+use Rattle.std.proofs.Common.{◌≤◌, Bor, List, ℕ, None, ap, length, subst, sym}
 use Rattle.std.specs.List.{All}
 use Rattle.cmm_outside.specs.declared.storage.TheConstants.{NAME_LIMIT}
 use Rattle.cmm_run.specs.Outside.{outside_of}
@@ -33,3 +33,15 @@ returns-in-Generate g c =
     subst (λ (t : Task). Does (plain_task t) (work_of c.generate.result.0 c.generate.result.1 (stands (streams c.args.input.now c.args.out.now c.args.log.now))
     (stands (streams c.generate.new.input c.generate.new.out c.generate.new.log)))) (sym c.in-Generate.is)
     (c.generate.ensures (g.F.Files.contents c.args.files.now) (g.F.Files.faults c.args.files.now) (g.F.Files.last_failed c.args.files.now))
+
+pub run-ending-requires-clause-save : goal.run-ending-requires-clause-save
+run-ending-requires-clause-save g c = let can = subst CanBeDone (ap plain_task c.in-Run.is) c.requires in short_name c.in-Run.save can.3
+
+pub returns-in-Walk : goal.returns-in-Walk
+returns-in-Walk g c =
+    let streams = outside_of g.I.Source.left g.I.Source.faults g.O.Sink.taken g.O.Sink.faults g.E.Sink.taken g.E.Sink.faults in
+    let first = streams c.args.input.now c.args.out.now c.args.log.now in
+    let last = streams c.args.input.now c.walk-ending.new.out c.args.log.now in
+    let stands = standing g.F.Files.contents g.F.Files.faults g.F.Files.last_failed in
+    subst (λ (t : Task). Does (plain_task t) (work_of c.walk-ending.result None (stands c.args.files.now first) (stands c.walk-ending.new.files last))) (sym c.in-Walk.is)
+    (c.walk-ending.ensures first)
