@@ -8,6 +8,7 @@ use Rattle.std.proofs.lemmas.Option.{slice_get_within}
 use Rattle.cmm_abi.specs.Regions.{InMemory, InRegister, LiesIn, Place as WordPlace, value_place, with_word, word_at}
 use Rattle.cmm_abi.specs.Registers.{is_callee_saves, is_temporary, is_scratch}
 use Rattle.cmm_chain.specs.declared.frame.Frame.{Frame}
+use Rattle.cmm_chain.specs.declared.frame.Location.{Location}
 use Rattle.cmm_chain.specs.declared.frame.Location.TheVariants.{Slot, Saved, Temp}
 use Rattle.rv_asm.proofs.Shared.{reaches_then, reaches_weaker, single_does}
 use Rattle.rv_asm.specs.Appending.{Then}
@@ -20,7 +21,7 @@ use Rattle.rv_table.specs.Registers.{with_register}
 use Rattle.rv_table.specs.Words.{modulo, sum}
 use Rattle.rv_table.specs.declared.instruction.Instr.TheVariants.{Addi, Sd}
 use Rattle.cmm_effects.proofs.Shared.{adds_none, adds_then, adds_weaker, leads_set, leads_sound, leads_store, leads_then, leads_turns, leads_weaker, reaches_more, reaches_sound, runs_none, runs_of, turns_weaker}
-use Rattle.cmm_effects.specs.Changes.{Keeps, PutsRegister, Sets, Writes}
+use Rattle.cmm_effects.specs.Changes.{CanReach, Keeps, PutsRegister, Sets, Writes, read_at}
 use Rattle.cmm_effects.specs.Pieces.{Adds, Always, BeginsQuietly, Leads}
 use Rattle.cmm_effects.specs.Ways.{Turns}
 use Rattle.cmm_select.specs.Operands.{Brings, BringsOperand, CanBringOperand, most_for, operand_at}
@@ -60,6 +61,29 @@ register_given k n s t puts = record { registers = λ r h. by r (r == 10 + k) re
     by r false is h =
         let other : r ≢ 10 + k = grind (arith, nat_tests, is) in
         puts.1 r (grind (arith, nat_tests, is, h)) ∙ sym (with_register-other s.registers (10 + k) n r other)
+
+-- a register gets what another has
+pub copies_register : (x : Code) (rd r from to : ℕ) → rd ≢ 0 → One (Addi rd r (pos 0)) x from to → Leads 1 Always (λ s t. Sets rd (s.registers r) s t) x from to
+copies_register x rd r from to written does =
+    leads_weaker (leads_set x (Addi rd r (pos 0)) from to rd (λ g. sum (g r) (modulo 64 (pos 0))) written (λ g pc. refl) does) (omega arith) (λ s sound p. p)
+    (λ s t sound p sets. record { given = sets.given ∙ plus_none (s.registers r) (sound.registers r); others = sets.others; memory = sets.memory })
+
+module _ (x : Code) (a : Operand) (k from to : ℕ) (region : Region) where
+  -- a place has it, from which its register gets it
+  pub gives_fetched : (p : Location) → a ≡ Held (Place p) → k < 8 → Leads 3 (CanReach p) (λ s t. Sets (10 + k) (read_at p s) s t) x from to →
+      Leads 12 (CanGive region a) (λ s t. GivesValue region k (operand_at x.at a s) s t) x from to
+  gives_fetched p is low first =
+      leads_weaker (leads_sound first) (omega arith) (λ s sound can. subst (λ (o : Operand). CanBringOperand o x.map s) is can.brings)
+      (λ s t sound can both. subst (λ (o : Operand). GivesValue region k (operand_at x.at o s) s t) (sym is)
+      (all s t (read_at p s) both.0 (subst (λ (v : ℕ). v < 2 ^ 64) both.0.given (both.1.registers (10 + k)))))
+    where
+      all : (s t : State) (n : ℕ) → Sets (10 + k) n s t → n < 2 ^ 64 → GivesValue region k n s t
+      all s t n sets fits = record {
+        fits = fits;
+        given = subst (λ (w : WordPlace). Keeps (with_word w n s) t) (sym (near_place region k low))
+            (register_given k n s t (sets.given, (λ r h. sets.others r (first_both (r == 10 + k) (is_scratch r) h).0), sets.memory));
+        waits = sets.others 7 (waits_beside k);
+      }
 
 module _ (x : Code) (a : Operand) (k from to : ℕ) (short : most_for a ≤ 11) (region : Region) where
   -- it is brought into register 5, and has 64 bits

@@ -130,16 +130,22 @@ pub record HasCopied (r : Region) (at : ℕ → ℕ) (count : ℕ) (to : List De
   pub others : (k : ℕ) → length to ≤ k → k < count → word_at t (value_place r k) ≡ word_at s (value_place r k)
 
 -- that is done by a piece, where so much is known of the labels
-abbrev pub Copied : ((ℕ → ℕ) → Type 0) → ℕ → ℕ → ℕ → List Destination → Code → ℕ → ℕ → Type 0
-Copied known most size count to x from on = known x.at → (region : Region) → Passes most (HasRegion region size) (HasCopied region x.at count to) x from on
+pub record Copied (known : (ℕ → ℕ) → Type 0) (most size count : ℕ) (to : List Destination) (x : Code) (from on : ℕ) : Type 0 where
+  pub none : to ≡ [] → from ≡ on
+  pub some : 0 < length to → known x.at → (region : Region) → Leads most (HasRegion region size) (HasCopied region x.at count to) x from on
+
+copied_passes : (known : (ℕ → ℕ) → Type 0) (most size count : ℕ) (to : List Destination) (x : Code) (from on : ℕ) → Copied known most size count to x from on → known x.at →
+    (region : Region) → Passes most (HasRegion region size) (HasCopied region x.at count to) x from on
+copied_passes known most size count [] x from on copied knows region = record {
+  begins = inl (copied.none refl);
+  runs = runs_none (copied.none refl) (λ s sound has. record { puts = refl; frame = refl; region = refl; others = λ k low among. refl });
+}
+copied_passes known most size count (d ∷ ds) x from on copied knows region = passes_of (copied.some (omega arith) knows region)
 
 pub copied_none : (known : (ℕ → ℕ) → Type 0) (old : List Part) (size count : ℕ) → Adds 0 old old (Copied known 0 size count [])
 copied_none known old size count =
     adds_weaker (adds_none old) (omega arith)
-    (λ x from to is. λ knows. λ region. record {
-      begins = inl is;
-      runs = runs_none is (λ s sound has. record { puts = refl; frame = refl; region = refl; others = λ k low among. refl });
-    })
+    (λ x from to is. record { none = λ e. is; some = λ more. absurd (omega (arith, more)) })
 
 copied_then : (region : Region) (f : Frame) (at : ℕ → ℕ) (count i : ℕ) (before : List Destination) (to : Destination) (s t u : State) → CanBeMade f → is_destination f to ≡ true → IsGlobalBy at to →
     length before ≡ i → i < count → count ≤ 64 → bottom region ≤ s.registers 2 → s.registers 4 ≡ region.address → is_copied_first count i to ≡ true →
@@ -167,17 +173,20 @@ pub copied_more : (known : (ℕ → ℕ) → Type 0) (a b : ℕ) (old mid new : 
     Adds (a + b) old new (Copied known (a + b) f.size count (before ++ to ∷ []))
 copied_more known a b old mid new f count i before to can is global first count_is within few so_far more =
     adds_weaker (adds_then so_far more) (omega arith)
-    (λ x from on does. λ knows. λ region.
-    passes_of (leads_weaker
-    (passes_then (does.1 knows region) (does.2 region)
-    (λ s t sound also has copied. record {
-      reaches = destination_reached region f x.at to x.map t is (global x.at knows) record { stack = frame_stays f.size x.map s t copied.frame has.stack; region = copied.region ∙ has.region };
-      lies = has.stack.lies;
-      region = copied.region ∙ has.region;
-    }))
-    (omega arith) (λ s sound has. has)
-    (λ s u sound has passed.
-    copied_then region f x.at count i before to s passed.0 u can is (global x.at knows) count_is within few has.stack.low has.region first passed.1 passed.2)))
+    (λ x from on does. record {
+      none = λ e. absurd (omega (arith, simp length-append at (ap length e)));
+      some = λ more knows region.
+          leads_weaker
+          (passes_then (copied_passes known a f.size count before x from does.0 does.1 knows region) (does.2 region)
+          (λ s t sound also has copied. record {
+            reaches = destination_reached region f x.at to x.map t is (global x.at knows) record { stack = frame_stays f.size x.map s t copied.frame has.stack; region = copied.region ∙ has.region };
+            lies = has.stack.lies;
+            region = copied.region ∙ has.region;
+          }))
+          (omega arith) (λ s sound has. has)
+          (λ s u sound has passed.
+          copied_then region f x.at count i before to s passed.0 u can is (global x.at knows) count_is within few has.stack.low has.region first passed.1 passed.2);
+    })
 
 -- ---- to any destinations
 
@@ -204,9 +213,10 @@ pub copied_all : (old new : List Part) (f : Frame) (to : List Destination) (i : 
     Adds (5 * length to) old new (CopiesIn (5 * length to) f to)
 copied_all old new f to i within all_are adds =
     adds_weaker adds (omega (arith, within, all_are))
-    (λ x from on copied. λ knows. λ region. record {
-      begins = (copied knows region).begins;
-      runs = runs_weaker {k = 0} (copied knows region).runs (omega arith) (omega (arith, within, all_are)) (λ s sound has. has)
+    (λ x from on copied. record {
+      none = λ e. copied.none (take_all i to all_are ∙ e);
+      some = λ more knows region.
+          leads_weaker (copied.some (rw (take_all i to all_are) more) knows region) (omega (arith, within, all_are)) (λ s sound has. has)
           (λ s t sound has all. subst (λ (xs : List Destination). PutsEachTo x.at (values_to region 0 xs s) s t) (take_all i to all_are) all.puts);
     })
 
@@ -253,9 +263,11 @@ pub taken_all : (old new : List Part) (size : ℕ) (places : List Location) (i :
     Adds (4 * length places) old new (TakesIn (4 * length places) size places)
 taken_all old new size places i within all_are adds =
     adds_weaker adds (omega (arith, within, all_are))
-    (λ x from to taken. λ region. record {
-      begins = (taken tt region).begins;
-      runs = runs_weaker {k = 0} (taken tt region).runs (omega arith) (omega (arith, within, all_are)) (λ s sound has. has)
+    (λ x from to taken. λ region.
+    let passes = copied_passes (λ at. Unit {0}) (4 * i) size (length places) (map Place (take i places)) x from to taken tt region in
+    record {
+      begins = passes.begins;
+      runs = runs_weaker {k = 0} passes.runs (omega arith) (omega (arith, within, all_are)) (λ s sound has. has)
           (λ s t sound has all.
           puts_places region x.at 0 places s s t (subst (λ (ps : List Location). PutsEachTo x.at (values_to region 0 (map Place ps) s) s t) (take_all i places all_are) all.puts));
     })

@@ -20,7 +20,7 @@ use rv_asm::{Asm, Label};
 use std::alloc::AllocError;
 
 /// Copies the values that control brings, each to its place or to its global register, the first one first. No place may be a register in which a
-/// later value comes.
+/// later value comes. Where there is nothing to copy, no instruction is added.
 pub fn copy_in(asm: &mut Asm, frame: &Frame, to: &[Destination]) -> Result<(), AllocError>
     requires frame { CanBeMade frame.now }
     requires destinations { list_all (is_destination frame.now) to.now ≡ true }

@@ -1,5 +1,6 @@
 -- Pieces of code are what is required of the nodes' code.
-use Rattle.std.proofs.Common.{◌≡◌, inl, inr, ℕ, ◌+◌, ◌*◌, ◌≤◌, ◌%◌, ◌^◌, nat_le, Bool, true, false, refl, sym, ◌∙◌, ap, subst, List, [], ◌∷◌, length, map, IsTrue, arith}
+use Rattle.std.proofs.Common.{◌≡◌, inl, inr, ℕ, ◌+◌, ◌*◌, ◌<◌, ◌≤◌, ◌%◌, ◌^◌, nat_le, Bool, true, false, refl, sym, ◌∙◌, ap, subst, List, [], ◌∷◌, length, map, IsTrue, arith}
+use Rattle.std.specs.Prelude.{◌==◌}
 use Rattle.std.proofs.lemmas.List.{length-map}
 use Rattle.std.specs.List.{list_all}
 use Rattle.std.proofs.lemmas.Bool.Decides.{nat_tests}
@@ -19,18 +20,17 @@ use Rattle.cmm_graph.specs.declared.operand.Operand.{Operand}
 use Rattle.cmm_graph.specs.declared.operand.Rvalue.{Rvalue}
 use Rattle.cmm_graph.specs.declared.node.Arm.{Arm}
 use Rattle.cmm_graph.specs.declared.node.HostCall.TheVariants as host
-use Rattle.cmm_graph.specs.declared.node.NodeKind.TheVariants.{Assign, Branch, CopyIn, Cut, Entry, Goto, Host, Jump, Return, Stop, Store, Switch}
+use Rattle.cmm_graph.specs.declared.node.NodeKind.TheVariants.{Assign, Branch, CopyIn, Cut, Entry, Host, Jump, Return, Stop, Store, Switch}
 use Rattle.rv_asm.specs.Parts.{Code}
 use Rattle.rv_asm.specs.declared.part.Label.{Label}
 use Rattle.rv_asm.specs.declared.part.Meaning.{Meaning}
 use Rattle.rv_table.specs.Machine.{MemoryMap, State, Traps, instruction_step, Region}
 use Rattle.rv_table.specs.declared.request.Request.TheVariants.{GetByte, PutByte}
 use Rattle.rv_table.specs.declared.trap.TrapKind.TheVariants.{Breakpoint}
-use Rattle.cmm_effects.proofs.Shared.{keeps_then, leads_turns, reaches_more, reaches_sound, turns_weaker}
-use Rattle.rv_asm.proofs.Shared.{reaches_then, reaches_weaker}
+use Rattle.cmm_effects.proofs.Shared.{leads_turns, turns_weaker}
 use Rattle.cmm_effects.specs.Ways.{Turns}
 use Rattle.cmm_effects.specs.Changes.{Keeps}
-use Rattle.cmm_effects.specs.Pieces.{Always, BeginsQuietly, Leads}
+use Rattle.cmm_effects.specs.Pieces.{BeginsQuietly}
 use Rattle.cmm_effects.specs.Requests.{Requests}
 use Rattle.cmm_select.specs.Destinations.{CanPut, PutsTo}
 use Rattle.cmm_select.specs.Going.{Decides}
@@ -43,7 +43,7 @@ use Rattle.cmm_select.specs.Switches.{Switches, label_of}
 use Rattle.cmm_calls.specs.Calls.{CutsTo, JumpsBy}
 use Rattle.cmm_calls.specs.Copying.{CopiesIn, PutsEachTo, values_to}
 use Rattle.cmm_calls.specs.Frames.{entry_cost}
-use Rattle.cmm_calls.specs.Values.{Begins, HasRegion, JumpsTo, Passes, ReturnsValues, is_taken_first, parting_cost}
+use Rattle.cmm_calls.specs.Values.{Begins, HasRegion, JumpsTo, ReturnsValues, is_taken_first, parting_cost}
 use Rattle.cmm_emit_laws.specs.Finished.{code_of}
 use Rattle.cmm_emit_laws.specs.NodeCode.{GoesOn, IsLabelOf, IsPutInto, places_of}
 use Rattle.cmm_emit.proofs.Operands.{destination_is_of, operand_is_of, operands_are_of, target_is_of, targets_are_global, targets_are_of}
@@ -51,26 +51,12 @@ use Rattle.cmm_emit.specs.declared.context.Context.{Context}
 use Rattle.cmm_emit.specs.declared.context.Targets.{Targets}
 use Rattle.cmm_emit.specs.Costs.{branch_cost, copy_cost, operand_cost, rvalue_cost, store_cost, switch_cost}
 use Rattle.cmm_emit.specs.Naming.{IsNamed, argument_operand, argument_operands, can_begin, can_go_to, can_land, can_return, code_destination, code_operand, has_arm, has_both, has_destination, has_local, has_node, has_operand, has_target, place, target_destination, target_destinations, variable_places}
-use Rattle.cmm_emit.specs.Standing.{CodesNode, IsReady, PutsValue}
+use Rattle.cmm_emit.specs.Standing.{CodesNode, CodesOwn, CodesWhole, IsReady, PutsValue}
 use Rattle.cmm_emit_laws.specs.Represented.{stack_region}
 
 -- code is that of an image, and an address is that of a node
 pub moved : {x z : Code} {from at : ℕ} (P : Code → ℕ → Type 0) → x ≡ z → at ≡ from → P x from → P z at
 moved {z = z} {from = from} P is-x is-at holds = subst (λ a. P z a) (sym is-at) (subst (λ w. P w from) is-x holds)
-
--- values come to what takes them, by no instruction or more, and then control goes somewhere
-passes_turns : {x : Code} {from mid a b : ℕ} {P : MemoryMap → State → Type 0} {Q S : State → State → Type 0} {there : ℕ} → Passes a P Q x from mid →
-    Turns b Always (λ s. there) S x mid → Turns (a + b) P (λ s. there) (λ s u. (t : State) × Q s t × S t u) x from
-passes_turns {x = x} {mid = mid} passes turns = record {
-  quiet = elim passes.begins [ inl e ↦ subst (BeginsQuietly x) (sym e) turns.quiet | inr quiet ↦ quiet ];
-  goes = record {
-    go = λ s sound at p.
-        reaches_weaker
-        (reaches_then (reaches_sound (passes.runs.go s sound at p) sound)
-        (λ t arrived. reaches_more (turns.goes.go t arrived.1 arrived.0.0 tt) (λ u last. (last.0, (t, arrived.0.1, last.1)))))
-        (omega arith) (omega arith) (λ u arrived. arrived);
-  };
-}
 
 -- an operand is brought by 11 instructions at most
 few_for_number : (b : Bool) → elim b as (λ _. ℕ) [ true ↦ 4 | false ↦ 8 ] ≤ 11
@@ -193,29 +179,32 @@ module _ (labels : List Meaning) (p : Context) (y : Targets) (ready : IsReady la
           subst (λ fr. P fr (map (c.plan.place q) (c.zeroed q)) (places_of s c l f q formals)) (sym of.frame)
           (subst (λ zs. P p.frame zs (places_of s c l f q formals)) (sym of.zeroed) (subst (λ vs. P p.frame p.zeroed vs) (sym formal_places) holds))
 
-  pub copy_codes : (targets : List Target) (next : NodeId) (mid : ℕ) → IsTrue (can_land p y targets) →
-      CopiesIn (5 * length (target_destinations p y targets)) p.frame (target_destinations p y targets) x from mid → Leads 1 Always Keeps x mid to →
-      CodesNode p y (CopyIn targets next) x from to
-  copy_codes targets next mid can copies leads s c l f q n is-x of at goes = record {
+  copies_some : (targets : List Target) (next : NodeId) → IsTrue (can_land p y targets) → 0 < length targets →
+      CopiesIn (5 * length (target_destinations p y targets)) p.frame (target_destinations p y targets) x from to → CodesNode p y (CopyIn targets next) x from to
+  copies_some targets next can some copies s c l f q n is-x of at goes = record {
     destinations = target_destinations p y targets;
     are = targets_are_of labels p y ready s c l f q of targets (grind (arith, can));
     turns = λ r. subst (λ (fr : Frame). Turns (copy_cost p y targets + 2) (HasRegion r fr.size) (λ u. f.node_at q next)
         (λ u w. (v : State) × PutsEachTo (f.labels q) (values_to r 0 (target_destinations p y targets) u) u v × Keeps v w) (code_of l f q) (f.node_at q n)) (sym of.frame)
-        (copied r (moved (λ z a. CopiesIn (5 * length (target_destinations p y targets)) p.frame (target_destinations p y targets) z a mid) is-x at copies
-        (targets_are_global labels p y ready s c l f q of targets (grind (arith, can))) r) (subst (λ z. Leads 1 Always Keeps z mid to) is-x leads) goes);
-    few_values = (let same : length (target_destinations p y targets) ≡ length targets = length-map targets (target_destination p y) in grind (arith, nat_tests, can, same));
+        (turns_weaker
+        (leads_turns
+        ((moved (λ z a. CopiesIn (5 * length (target_destinations p y targets)) p.frame (target_destinations p y targets) z a to) is-x at copies).some (rw same some)
+        (targets_are_global labels p y ready s c l f q of targets (grind (arith, can))) r)
+        goes (λ u v sound sound_after region there. tt) (λ u. f.node_at q next) (λ u v region there. refl))
+        (omega (arith, same)) (λ u sound region. region) (λ u w region there. there));
+    few_values = grind (arith, nat_tests, can, same);
   }
     where
-      copied : (r : Region) → Passes (5 * length (target_destinations p y targets)) (HasRegion r p.frame.size)
-          (λ u v. PutsEachTo (f.labels q) (values_to r 0 (target_destinations p y targets) u) u v) (code_of l f q) (f.node_at q n) mid →
-          Leads 1 Always Keeps (code_of l f q) mid to → GoesOn s c l f q next to →
-          Turns (copy_cost p y targets + 2) (HasRegion r p.frame.size) (λ u. f.node_at q next)
-          (λ u w. (v : State) × PutsEachTo (f.labels q) (values_to r 0 (target_destinations p y targets) u) u v × Keeps v w) (code_of l f q) (f.node_at q n)
-      copied r passes here on =
-          let same : length (target_destinations p y targets) ≡ length targets = length-map targets (target_destination p y) in
-          let last = leads_turns here on (λ u v sound sound_after can_be kept. tt) (λ u. f.node_at q next) (λ u v can_be kept. refl) in
-          turns_weaker (passes_turns passes last) (omega (arith, same)) (λ u sound region. region)
-          (λ u w region there. (there.0, there.1, keeps_then there.0 there.2.0 w there.2.1 there.2.2))
+      same : length (target_destinations p y targets) ≡ length targets
+      same = length-map targets (target_destination p y)
+
+  pub copy_codes : (targets : List Target) (next : NodeId) → IsTrue (can_land p y targets) →
+      CopiesIn (5 * length (target_destinations p y targets)) p.frame (target_destinations p y targets) x from to → CodesOwn p y (CopyIn targets next) x from to
+  copy_codes [] next can copies = copies.none refl
+  copy_codes (t ∷ ts) next can copies =
+      let full : (length (t ∷ ts) == 0) ≡ false = grind (arith, nat_tests) in
+      subst (λ (b : Bool). elim b as (λ _. Type 0) [ true ↦ from ≡ to | false ↦ CodesWhole p y (CopyIn (t ∷ ts) next) x from to ]) (sym full)
+      (copies_some (t ∷ ts) next can (omega arith) copies, λ s c l f q is-x of on. tt)
 
   pub return_codes : (exit alternates : ℕ) (results : List Argument) → IsTrue (can_return p y exit results) →
       ReturnsValues p.frame (argument_operands p y results) exit x from → CodesNode p y (Return exit alternates results) x from to
@@ -293,14 +282,6 @@ module _ (labels : List Meaning) (p : Context) (y : Targets) (ready : IsReady la
   }
 
 module _ (p : Context) (y : Targets) (x : Code) (from to : ℕ) where
-  pub goto_codes : (next : NodeId) → Leads 1 Always Keeps x from to → CodesNode p y (Goto next) x from to
-  goto_codes next leads s c l f q n is-x of at goes = record {
-    goes = turns_weaker
-        (leads_turns (moved (λ z a. Leads 1 Always Keeps z a to) is-x at leads) goes
-        (λ s t sound sound_after can kept. tt) (λ s. f.node_at q next) (λ s t can kept. refl))
-        (omega arith) (λ s sound can. can) (λ s u can kept. keeps_then s kept.0 u kept.1 kept.2);
-  }
-
   pub stop_codes : ((s : State) → s.pc ≡ from → instruction_step x.map s ≡ Traps Breakpoint) → CodesNode p y Stop x from to
   stop_codes traps s c l f q n is-x of at goes t r there asks =
       let e : instruction_step x.map t ≡ Traps Breakpoint = traps t (there ∙ at) in

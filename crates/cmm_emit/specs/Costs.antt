@@ -75,7 +75,7 @@ module _ (p : Context) (y : Targets) where
   begin_cost formals = entry_cost p.frame p.zeroed + 4 * length formals
 
   abbrev pub copy_cost : List Target → ℕ
-  copy_cost to = 5 * length to + 1
+  copy_cost to = 5 * length to
 
   abbrev pub return_cost : List Argument → ℕ
   return_cost results = parting_cost p.frame (argument_operands p y results) + 1
@@ -108,7 +108,7 @@ module _ (p : Context) (y : Targets) where
   cost_of (Cut to arguments own) = cut_cost to arguments
   cost_of (Return exit alternates results) = return_cost results + 3
   cost_of (Host call next) = host_cost call + jump_cost
-  cost_of (Goto next) = 1 + jump_cost
+  cost_of (Goto next) = jump_cost
   cost_of Stop = 1
 
   -- of several nodes together

@@ -1,5 +1,5 @@
 -- What is known of the code of a node, wherever finished code of a program has it.
-use Rattle.std.specs.Prelude.{◌≡◌, ℕ, ◌+◌, ◌*◌, ◌%◌, ◌<◌, ◌≤◌, ◌^◌, IsTrue, IfSome, List, length, map, slice_get, slice_index_or, slice_set, Option, Some, None, true, false}
+use Rattle.std.specs.Prelude.{◌≡◌, ℕ, ◌+◌, ◌*◌, ◌%◌, ◌<◌, ◌≤◌, ◌^◌, ◌==◌, IsTrue, IfSome, Bool, List, length, map, slice_get, slice_index_or, slice_set, Option, Some, None, true, false}
 use Rattle.std.specs.List.{All}
 use Rattle.cmm_abi.specs.declared.registers.TheConstants.{REQUEST_VALUE}
 use Rattle.cmm_words.specs.declared.constant.Constant.TheVariants as constant
@@ -24,8 +24,9 @@ use Rattle.rv_asm.specs.declared.part.Meaning.TheVariants.{Inner}
 use Rattle.rv_asm.specs.declared.part.Part.{Part}
 use Rattle.rv_table.specs.Words.{sum}
 use Rattle.rv_table.specs.declared.request.Request.TheVariants.{StackLimit, End}
-use Rattle.cmm_effects.specs.Changes.{IsPlace}
-use Rattle.cmm_effects.specs.Pieces.{BeginsQuietly}
+use Rattle.cmm_effects.specs.Changes.{IsPlace, Keeps}
+use Rattle.cmm_effects.specs.Pieces.{Always, BeginsQuietly}
+use Rattle.cmm_effects.specs.Ways.{Goes, Turns}
 use Rattle.cmm_select.specs.declared.destination.Destination.{Destination as CodeDestination}
 use Rattle.cmm_select.specs.Switches.{label_of}
 use Rattle.cmm_calls.specs.Calls.{CallsClient, HasExits}
@@ -40,7 +41,7 @@ use Rattle.cmm_emit_laws.specs.NodeCode.{CallCode, GoesOn, IsCodeOf, IsPutInto, 
 use Rattle.cmm_yield_laws.specs.Yielding.{YieldCode}
 use Rattle.cmm_emit.specs.declared.context.Context.{Context}
 use Rattle.cmm_emit.specs.declared.context.Targets.{Targets}
-use Rattle.cmm_emit.specs.Costs.{callee_cost, cost_of, rvalue_cost}
+use Rattle.cmm_emit.specs.Costs.{callee_cost, cost_of, jump_cost, rvalue_cost}
 use Rattle.cmm_emit.specs.Naming.{has_local, label_at, landing_labels, local_number, site_label}
 
 -- ---- while code is assembled
@@ -139,6 +140,16 @@ falls_to (Host call next) = Some next
 falls_to (Goto next) = Some next
 falls_to _ = None
 
+-- a node that only goes on: it has no code of its own, and an instruction leads on from it
+abbrev pub is_bare : NodeKind → Bool
+is_bare (CopyIn to next) = length to == 0
+is_bare (Goto next) = true
+is_bare _ = false
+
+-- control goes to an address, from a bare node by an instruction at least
+abbrev pub LeadsFrom : Bool → ℕ → Code → ℕ → Type 0
+LeadsFrom bare there x from = elim bare [ true ↦ Turns jump_cost Always (λ t. there) Keeps x from | false ↦ Goes 0 jump_cost Always (λ t. there) Keeps x from ]
+
 -- the value of a right side is put where a destination is, and control goes on
 abbrev pub PutsValue : Context → Targets → Rvalue → CodeDestination → Code → ℕ → ℕ → Type 0
 PutsValue p y value into x from to =
@@ -179,3 +190,7 @@ CodesSite p y kind x from to =
 -- both
 abbrev pub CodesWhole : Context → Targets → NodeKind → Code → ℕ → ℕ → Type 0
 CodesWhole p y kind x from to = CodesNode p y kind x from to × CodesSite p y kind x from to
+
+-- a node's own code, which a bare one has not
+abbrev pub CodesOwn : Context → Targets → NodeKind → Code → ℕ → ℕ → Type 0
+CodesOwn p y kind x from to = elim (is_bare kind) [ true ↦ from ≡ to | false ↦ CodesWhole p y kind x from to ]

@@ -9,7 +9,7 @@ ghost use Rattle.cmm_graph.specs.declared.node.HostCall.TheVariants as host;
 ghost use Rattle.cmm_effects.specs.Pieces.{Adds};
 ghost use Rattle.cmm_emit.specs.Naming.{has_arm, has_both, has_call, has_kind, has_node, has_operand, has_target};
 ghost use Rattle.cmm_emit.specs.Costs.{branch_cost, cost_of, host_cost, jump_of, store_cost, switch_cost};
-ghost use Rattle.cmm_emit.specs.Standing.{CanWait, CodesNode, CodesWhole, IsReady, SiteStands, labels_with};
+ghost use Rattle.cmm_emit.specs.Standing.{CanWait, CodesNode, CodesOwn, IsReady, SiteStands, labels_with};
 
 use crate::assign::assign_body;
 use crate::calling::call_body;
@@ -19,7 +19,7 @@ use crate::transfer::{copy_in_body, cut_body, entry_body, jump_body, return_body
 use crate::yielding::yield_body;
 use cmm_graph::{Arm, Comparison, HostCall, NodeId, NodeKind, Operand};
 use cmm_program::Target;
-use cmm_select::{decide, get_byte, go_on, put_byte, stop, store, switch};
+use cmm_select::{decide, get_byte, put_byte, stop, store, switch};
 use cmm_words::Width;
 use rv_asm::Asm;
 use std::alloc::{AllocError, Global};
@@ -103,15 +103,6 @@ fn put_byte_body(
     Ok(())
 }
 
-/// Does nothing: one instruction, for each node has one.
-fn goto_body(asm: &mut Asm, context: &Context, targets: &Targets) -> Result<(), AllocError>
-    ensures code { (next : NodeId) → OnOk result (Adds 1 asm.old.parts asm.new.parts (CodesNode context.now targets.now (kind.Goto next))) }
-    ensures labels { asm.new.labels ≡ asm.old.labels }
-{
-    go_on(asm)?;
-    Ok(())
-}
-
 /// Ends a run that has gone wrong, at the end of a body.
 fn stop_body(asm: &mut Asm, context: &Context, targets: &Targets) -> Result<(), AllocError>
     ensures code { OnOk result (Adds 1 asm.old.parts asm.new.parts (CodesNode context.now targets.now kind.Stop)) }
@@ -162,7 +153,7 @@ fn host_body(
     }
 }
 
-/// The code of a node, up to where control goes on at the node to which it falls.
+/// The code of a node, up to where control goes on at the node to which it falls: none of one that only goes on.
 pub(crate) fn body(
     asm: &mut Asm,
     alloc: Global,
@@ -173,7 +164,7 @@ pub(crate) fn body(
     requires ready { IsReady asm.old.labels context.now targets.now }
     requires kind { IsTrue (has_kind context.now targets.now kind.now) }
     requires waits { CanWait context.now kind.now asm.old.labels }
-    ensures code { OnOk result (Adds (cost_of context.now targets.now kind.now - jump_of kind.now) asm.old.parts asm.new.parts (CodesWhole context.now targets.now kind.now)) }
+    ensures code { OnOk result (Adds (cost_of context.now targets.now kind.now - jump_of kind.now) asm.old.parts asm.new.parts (CodesOwn context.now targets.now kind.now)) }
     ensures labels { OnOk result (asm.new.labels ≡ labels_with context.now kind.now asm.old.labels) }
     ensures stands { OnOk result (SiteStands context.now kind.now asm.new.parts) }
 {
@@ -258,10 +249,7 @@ pub(crate) fn body(
             host_body(asm, context, targets, call)?;
             Ok(())
         }
-        NodeKind::Goto { .. } => {
-            goto_body(asm, context, targets)?;
-            Ok(())
-        }
+        NodeKind::Goto { .. } => Ok(()),
         NodeKind::Stop => {
             stop_body(asm, context, targets)?;
             Ok(())

@@ -3,25 +3,26 @@
 //! The code of a node is followed by that of the node to which it falls, if that has no place yet; else by a jump there. So a loop pays for one jump a
 //! turn at most, and each node stands once.
 
-ghost use Rattle.std.specs.Prelude.{◌≡◌, ℕ, OnOk, IfOk, IfNone, IfSome, IsTrue, Some, None, true, false, length, replicate, slice_get, ◌+◌, ◌*◌, ◌<◌, ◌≤◌, ◌^◌};
+ghost use Rattle.std.specs.Prelude.{◌≡◌, ℕ, OnOk, IfOk, IfNone, IfSome, IsTrue, Some, None, true, false, length, replicate, slice_get, [], ◌∷◌, ◌++◌, ◌+◌, ◌*◌, ◌<◌, ◌≤◌, ◌^◌};
 ghost use Rattle.std.specs.List.{list_all};
 ghost use Rattle.cmm_bitset.specs.Sets.{has};
 ghost use Rattle.rv_asm.specs.Appending.{Appends, Codes};
 ghost use Rattle.rv_asm.specs.Sizes.{all_longest};
+ghost use Rattle.rv_asm.specs.declared.part.Part.TheVariants.{Place};
 ghost use Rattle.cmm_effects.specs.Changes.{Keeps};
 ghost use Rattle.cmm_graph.specs.declared.node.Node.{Node as GraphNode};
 ghost use Rattle.cmm_effects.specs.Pieces.{Adds, Always};
-ghost use Rattle.cmm_effects.specs.Ways.{Goes};
+ghost use Rattle.cmm_effects.specs.Ways.{Goes, Turns};
 ghost use Rattle.cmm_emit.specs.Costs.{cost_of, jump_cost, total_cost};
 ghost use Rattle.cmm_emit.specs.LaidNodes.{PlacesOwn, AreLaid, AreUnplaced, CodesAlone, EndsAt, HaveCode, HaveSites, IsPending, SitesStand, SitesWait, StandsHere, WaitApart, labels_behind, size_with};
 ghost use Rattle.cmm_emit.specs.Naming.{has_kind, has_node, label_at};
-ghost use Rattle.cmm_emit.specs.Standing.{CanWait, IsReady, SiteStands, falls_to, labels_with};
+ghost use Rattle.cmm_emit.specs.Standing.{CanWait, IsReady, LeadsFrom, SiteStands, falls_to, is_bare, labels_with};
 
 use crate::body::body;
 use crate::context::{Context, Targets};
 use cmm_bitset::BitSet;
 use cmm_graph::{Graph, NodeId, NodeKind};
-use cmm_select::go_to;
+use cmm_select::{go_on, go_to};
 use rv_asm::Asm;
 use std::alloc::{AllocError, Global};
 
@@ -44,6 +45,22 @@ pub(crate) fn falls_to(kind: &NodeKind) -> Option<NodeId>
     }
 }
 
+/// A node that has no place yet gets it at the end of the code.
+fn arrive(asm: &mut Asm, context: &Context, targets: &Targets, node: NodeId, placed: &mut BitSet)
+    requires ready { IsReady asm.old.labels context.now targets.now }
+    requires laid { AreLaid asm.old.labels context.now placed.old }
+    requires node { IsTrue (has_node context.now node) }
+    requires fresh { has placed.old node.number ≡ false }
+    ensures ready { IsReady asm.new.labels context.now targets.now }
+    ensures laid { AreLaid asm.new.labels context.now placed.new }
+    ensures parts { asm.new.parts ≡ asm.old.parts ++ Place (label_at context.now.nodes node.number) ∷ [] }
+    ensures ends { EndsAt context.now node placed.old placed.new asm.new.parts }
+    ensures labels { asm.new.labels ≡ labels_behind context.now (Some node) asm.old.labels }
+{
+    asm.place(context.nodes.as_slice()[node.number as usize]);
+    placed.insert(node.number);
+}
+
 /// Control goes on at a node: it gets its place here, if it has none yet, and is answered; else a jump leads to it. An error is want of memory, and
 /// nothing is changed.
 fn lead_to(
@@ -63,14 +80,78 @@ fn lead_to(
     ensures jumps { IfOk result (λ there. IfNone there (placed.new ≡ placed.old)) }
     ensures labels { IfOk result (λ there. asm.new.labels ≡ labels_behind context.now there asm.old.labels) }
 {
-    let label = context.nodes.as_slice()[node.number as usize];
     if placed.has(node.number) {
+        go_to(asm, context.nodes.as_slice()[node.number as usize])?;
+        return Ok(None);
+    }
+    arrive(asm, context, targets, node, placed);
+    Ok(Some(node))
+}
+
+/// Whether a node only goes on: a jump, or a landing that takes no value.
+fn is_bare(kind: &NodeKind) -> bool
+    ensures { result ≡ is_bare kind.now }
+{
+    match kind {
+        NodeKind::CopyIn { to, .. } => to.is_empty(),
+        NodeKind::Goto { .. } => true,
+        _ => false,
+    }
+}
+
+/// As `lead_to`, from a node that only goes on: by an instruction, since each node has one.
+fn pass_to(
+    asm: &mut Asm,
+    context: &Context,
+    targets: &Targets,
+    node: NodeId,
+    placed: &mut BitSet,
+) -> Result<Option<NodeId>, AllocError>
+    requires ready { IsReady asm.old.labels context.now targets.now }
+    requires laid { AreLaid asm.old.labels context.now placed.old }
+    requires node { IsTrue (has_node context.now node) }
+    ensures ready { OnOk result (IsReady asm.new.labels context.now targets.now) }
+    ensures laid { OnOk result (AreLaid asm.new.labels context.now placed.new) }
+    ensures turns { OnOk result (Adds jump_cost asm.old.parts asm.new.parts (λ x from to. Turns jump_cost Always (λ t. x.at (label_at context.now.nodes node.number).number) Keeps x from)) }
+    ensures ends { IfOk result (λ there. IfSome there (λ n. EndsAt context.now n placed.old placed.new asm.new.parts)) }
+    ensures jumps { IfOk result (λ there. IfNone there (placed.new ≡ placed.old)) }
+    ensures labels { IfOk result (λ there. asm.new.labels ≡ labels_behind context.now there asm.old.labels) }
+{
+    if placed.has(node.number) {
+        let label = context.nodes.as_slice()[node.number as usize];
         go_to(asm, label)?;
         return Ok(None);
     }
-    asm.place(label);
-    placed.insert(node.number);
+    go_on(asm)?;
+    arrive(asm, context, targets, node, placed);
     Ok(Some(node))
+}
+
+/// Control goes on at a node from one that falls to it, by an instruction at least where that only goes on.
+fn lead_on(
+    asm: &mut Asm,
+    context: &Context,
+    targets: &Targets,
+    kind: &NodeKind,
+    next: NodeId,
+    placed: &mut BitSet,
+) -> Result<Option<NodeId>, AllocError>
+    requires ready { IsReady asm.old.labels context.now targets.now }
+    requires laid { AreLaid asm.old.labels context.now placed.old }
+    requires node { IsTrue (has_node context.now next) }
+    ensures ready { OnOk result (IsReady asm.new.labels context.now targets.now) }
+    ensures laid { OnOk result (AreLaid asm.new.labels context.now placed.new) }
+    ensures goes { OnOk result (Adds jump_cost asm.old.parts asm.new.parts (λ x from to. LeadsFrom (is_bare kind.now) (x.at (label_at context.now.nodes next.number).number) x from)) }
+    ensures ends { IfOk result (λ there. IfSome there (λ n. EndsAt context.now n placed.old placed.new asm.new.parts)) }
+    ensures jumps { IfOk result (λ there. IfNone there (placed.new ≡ placed.old)) }
+    ensures labels { IfOk result (λ there. asm.new.labels ≡ labels_behind context.now there asm.old.labels) }
+{
+    if is_bare(kind) {
+        let there = pass_to(asm, context, targets, next, placed)?;
+        return Ok(there);
+    }
+    let there = lead_to(asm, context, targets, next, placed)?;
+    Ok(there)
 }
 
 /// Lays a node, which has its place at the end of the code: its own code, and what leads on behind it. Answers the node that has its place behind it,
@@ -99,7 +180,7 @@ fn lay_node(
     body(asm, alloc, context, targets, kind)?;
     match falls_to(kind) {
         Some(next) => {
-            let there = lead_to(asm, context, targets, next, placed)?;
+            let there = lead_on(asm, context, targets, kind, next, placed)?;
             Ok(there)
         }
         None => Ok(None),
@@ -217,7 +298,7 @@ pub fn lay_nodes(
         graph.first,
         &mut placed,
     )?;
-    for number in 0..graph.nodes.len() {
+    for number in (0..graph.nodes.len()).rev() {
         let first = NodeId {
             number: number as u32,
         };

@@ -7,14 +7,13 @@ ghost use Rattle.cmm_graph.specs.declared.number.ContinuationId.{ContinuationId}
 ghost use Rattle.cmm_graph.specs.declared.number.NodeId.{NodeId};
 ghost use Rattle.cmm_emit.specs.Costs.{begin_cost, copy_cost, cut_cost, jump_to_cost, return_cost};
 ghost use Rattle.cmm_emit.specs.Naming.{IsNamed, can_begin, can_go_to, can_land, can_return, has_operand};
-ghost use Rattle.cmm_emit.specs.Standing.{CodesNode, IsReady};
+ghost use Rattle.cmm_emit.specs.Standing.{CodesNode, CodesOwn, IsReady};
 
 use crate::context::{Context, Targets};
 use crate::operand::{argument_operands, code_operand, target_destinations, variable_places};
 use cmm_calls::{begin, copy_in, cut, jump, jump_by, return_values};
 use cmm_graph::{Argument, Operand, Variable};
 use cmm_program::Target;
-use cmm_select::go_on;
 use cmm_words::Constant;
 use rv_asm::{Asm, Label};
 use std::alloc::{AllocError, Global};
@@ -44,7 +43,7 @@ pub(crate) fn entry_body(
     Ok(())
 }
 
-/// Lands: the values that control brings come to what takes them.
+/// Lands: the values that control brings come to what takes them. Where there is none, nothing is to be done.
 pub(crate) fn copy_in_body(
     asm: &mut Asm,
     alloc: Global,
@@ -54,12 +53,11 @@ pub(crate) fn copy_in_body(
 ) -> Result<(), AllocError>
     requires ready { IsReady asm.old.labels context.now targets.now }
     requires to { IsTrue (can_land context.now targets.now to.now) }
-    ensures code { (next : NodeId) → OnOk result (Adds (copy_cost context.now targets.now to.now) asm.old.parts asm.new.parts (CodesNode context.now targets.now (kind.CopyIn to.now next))) }
+    ensures code { (next : NodeId) → OnOk result (Adds (copy_cost context.now targets.now to.now) asm.old.parts asm.new.parts (CodesOwn context.now targets.now (kind.CopyIn to.now next))) }
     ensures labels { asm.new.labels ≡ asm.old.labels }
 {
     let destinations = target_destinations(alloc, context, targets, to)?;
     copy_in(asm, &context.frame, destinations.as_slice())?;
-    go_on(asm)?;
     Ok(())
 }
 

@@ -1,5 +1,5 @@
-use Rattle.std.proofs.Common.{arith}
-use Rattle.cmm_effects.proofs.Shared.{adds_weaker}
+use Rattle.std.proofs.Common.{arith, refl}
+use Rattle.cmm_effects.proofs.Shared.{adds_none, adds_weaker}
 use Rattle.cmm_emit.proofs.body.body.Goals as goal
 
 pub returns-in_ok-assign_body-in-Assign-clause-code : goal.returns-in_ok-assign_body-in-Assign-clause-code
@@ -18,9 +18,8 @@ pub returns-in_ok-host_body-in-Host-clause-code : goal.returns-in_ok-host_body-i
 returns-in_ok-host_body-in-Host-clause-code c =
     rw c.in-Host.is (adds_weaker (c.in_ok-host_body-in-Host.ensures.code c.in-Host.next) (omega arith) (λ x from to does. (does, λ s c l f q is-x of on. tt)))
 
-pub returns-in_ok-goto_body-in-Goto-clause-code : goal.returns-in_ok-goto_body-in-Goto-clause-code
-returns-in_ok-goto_body-in-Goto-clause-code c =
-    rw c.in-Goto.is (adds_weaker (c.in_ok-goto_body-in-Goto.ensures.code c.in-Goto.next) (omega arith) (λ x from to does. (does, λ s c l f q is-x of on. tt)))
+pub returns-in-Goto-clause-code : goal.returns-in-Goto-clause-code
+returns-in-Goto-clause-code c = rw c.in-Goto.is (adds_weaker (adds_none c.args.asm.now.parts) (omega arith) (λ x from to is. is))
 
 pub returns-in_ok-entry_body-in-Entry-clause-code : goal.returns-in_ok-entry_body-in-Entry-clause-code
 returns-in_ok-entry_body-in-Entry-clause-code c =
@@ -40,7 +39,7 @@ returns-in_ok-return_body-in-Return-clause-code c =
 pub returns-in_ok-copy_in_body-in-CopyIn-clause-code : goal.returns-in_ok-copy_in_body-in-CopyIn-clause-code
 returns-in_ok-copy_in_body-in-CopyIn-clause-code c =
     let code = rw c.as_slice-in-CopyIn.ensures at c.in_ok-copy_in_body-in-CopyIn.ensures.code c.in-CopyIn.next in
-    rw c.in-CopyIn.is (adds_weaker code (omega arith) (λ x from to does. (does, λ s c l f q is-x of on. tt)))
+    rw c.in-CopyIn.is (adds_weaker code (omega arith) (λ x from to does. does))
 
 pub returns-in_ok-jump_body-in-Jump-clause-code : goal.returns-in_ok-jump_body-in-Jump-clause-code
 returns-in_ok-jump_body-in-Jump-clause-code c =
@@ -100,8 +99,8 @@ returns-in_ok-return_body-in-Return-clause-labels c = rw c.in-Return.is c.in_ok-
 pub returns-in_ok-host_body-in-Host-clause-labels : goal.returns-in_ok-host_body-in-Host-clause-labels
 returns-in_ok-host_body-in-Host-clause-labels c = rw c.in-Host.is c.in_ok-host_body-in-Host.ensures.labels
 
-pub returns-in_ok-goto_body-in-Goto-clause-labels : goal.returns-in_ok-goto_body-in-Goto-clause-labels
-returns-in_ok-goto_body-in-Goto-clause-labels c = rw c.in-Goto.is c.in_ok-goto_body-in-Goto.ensures.labels
+pub returns-in-Goto-clause-labels : goal.returns-in-Goto-clause-labels
+returns-in-Goto-clause-labels c = rw c.in-Goto.is refl
 
 pub returns-in_ok-stop_body-in-Stop-clause-labels : goal.returns-in_ok-stop_body-in-Stop-clause-labels
 returns-in_ok-stop_body-in-Stop-clause-labels c = rw c.in-Stop.is c.in_ok-stop_body-in-Stop.ensures.labels

@@ -6,17 +6,17 @@ use Rattle.cmm_emit.proofs.Leading.{falls_within, jump_fits, leads_nowhere, lead
 use Rattle.cmm_emit.proofs.NodeSites.{site_stays}
 use Rattle.cmm_emit.proofs.node_code.lay_node.Goals as goal
 
-pub lead_to-requires-clause-ready : goal.lead_to-requires-clause-ready
-lead_to-requires-clause-ready c =
+pub lead_on-requires-clause-ready : goal.lead_on-requires-clause-ready
+lead_on-requires-clause-ready c =
     rw c.in_ok-body.ensures.labels (ready_with c.args.asm.now.labels c.args.context.now c.args.targets.now c.args.kind.now c.requires.waits c.requires.ready)
 
-pub lead_to-requires-clause-laid : goal.lead_to-requires-clause-laid
-lead_to-requires-clause-laid c =
+pub lead_on-requires-clause-laid : goal.lead_on-requires-clause-laid
+lead_on-requires-clause-laid c =
     rw c.in_ok-body.ensures.labels
     (laid_with c.args.asm.now.labels c.args.context.now c.args.targets.now c.args.kind.now c.requires.waits c.args.placed.now c.requires.kind c.requires.sites c.requires.laid)
 
-pub lead_to-requires-clause-node : goal.lead_to-requires-clause-node
-lead_to-requires-clause-node c =
+pub lead_on-requires-clause-node : goal.lead_on-requires-clause-node
+lead_on-requires-clause-node c =
     grind (arith, nat_tests, falls_within c.args.context.now c.args.targets.now c.args.kind.now c.in-Some.next c.requires.kind (sym c.in-Some.ensures))
 
 pub returns-in_ok-there-in-Some-clause-code : goal.returns-in_ok-there-in-Some-clause-code

@@ -1,10 +1,19 @@
-use Rattle.std.proofs.Common.{None, arith, below_more}
+use Rattle.std.proofs.Common.{◌≡◌, ℕ, ◌-◌, ◌<◌, ◌≤◌, None, arith, inl, inr, subst, true}
+use Rattle.std.proofs.lemmas.Bool.{cases_lt}
 use Rattle.std.proofs.lemmas.Option.{slice_get_within}
 use Rattle.rv_asm.proofs.Shared.{appends_none, appends_then, appends_weaker}
+use Rattle.cmm_bitset.specs.Sets.{has}
 use Rattle.cmm_emit.proofs.Own.{own_none, own_then}
 use Rattle.cmm_emit.proofs.Summing.{come_few}
 use Rattle.cmm_emit.proofs.WaitingSites.{none_placed}
 use Rattle.cmm_emit.proofs.node_code.lay_nodes.Goals as goal
+
+-- what holds from a number on, and just below it, holds from there on
+from_below : (P : ℕ → Type 0) (n end : ℕ) → ((k : ℕ) → n ≤ k → k < end → P k) → P (n - 1) → (k : ℕ) → n - 1 ≤ k → k < end → P k
+from_below P n end above here k least less = elim (cases_lt k n) [
+  | inl below ↦ subst P (omega (arith, below, least)) here
+  | inr is ↦ above k is less
+]
 
 pub lay_from-requires-clause-waits : goal.lay_from-requires-clause-waits
 lay_from-requires-clause-waits c =
@@ -20,7 +29,7 @@ returns-clause-places c =
 pub loop-number-init : goal.loop-number-init
 loop-number-init c =
     let e = c.in_ok-lay_from.ensures in
-    (e.ready, e.laid, e.waits, e.have, λ k less. absurd (omega (arith, less)), appends_weaker (appends_none c.lay_from.new.asm.parts) (λ x from to is. tt), own_none c.args.context.now c.lay_from.new.asm.labels, omega arith, e.stand)
+    (e.ready, e.laid, e.waits, e.have, λ k least less. absurd (omega (arith, least, less)), appends_weaker (appends_none c.lay_from.new.asm.parts) (λ x from to is. tt), own_none c.args.context.now c.lay_from.new.asm.labels, omega arith, e.stand)
 
 pub loop-number-preserved : goal.loop-number-preserved
 loop-number-preserved c =
@@ -30,7 +39,7 @@ loop-number-preserved c =
       e.laid,
       e.waits,
       e.have,
-      below_more _ _ (λ k less. e.grows k (inv.4 k less)) e.first,
+      from_below (λ k. has c.lay_from-in-loop-number.new.placed k ≡ true) c.loop-number.number _ (λ k least less. e.grows k (inv.4 k least less)) e.first,
       appends_weaker (appends_then inv.5 e.added) (λ x from to does. tt),
       own_then c.args.context.now c.lay_from.new.asm.labels c.loop-number.asm.labels c.lay_from-in-loop-number.new.asm.labels inv.6 e.places,
       omega (arith, e.size, inv.7),
@@ -39,7 +48,7 @@ loop-number-preserved c =
 
 pub returns-clause-code : goal.returns-clause-code
 returns-clause-code c k less =
-    c.loop-number.invariant.3 k (c.loop-number.invariant.4 k (omega (arith, less, c.loop-number-test.false, c.len-number-end.ensures)))
+    c.loop-number.invariant.3 k (c.loop-number.invariant.4 k (omega arith) less)
 
 pub returns-clause-size : goal.returns-clause-size
 returns-clause-size c =
@@ -52,4 +61,4 @@ lay_from-requires-in-loop-number-clause-stand c = c.loop-number.invariant.8
 pub returns-clause-sites : goal.returns-clause-sites
 returns-clause-sites c k node is =
     c.loop-number.invariant.8 k node is
-    (c.loop-number.invariant.4 k (let less = slice_get_within c.args.graph.now.nodes k node is in omega (arith, less, c.loop-number-test.false, c.len-number-end.ensures)))
+    (c.loop-number.invariant.4 k (omega arith) (slice_get_within c.args.graph.now.nodes k node is))

@@ -8,5 +8,4 @@ use Rattle.cmm_emit.proofs.node_code.lead_to.Goals as goal
 pub returns-clause-goes : goal.returns-clause-goes
 returns-clause-goes c =
     let l = label_at c.args.context.now.nodes c.args.node.number in
-    rw (c.place.ensures.parts, c.as_slice.ensures)
-    (adds_weaker (adds_part c.args.asm.now.parts (Place l) 2 (omega arith)) (omega arith) (λ x from to does. goes_here x from to l does))
+    rw c.arrive.ensures.parts (adds_weaker (adds_part c.args.asm.now.parts (Place l) 2 (omega arith)) (omega arith) (λ x from to does. goes_here x from to l does))

@@ -1,6 +1,6 @@
 use Rattle.std.proofs.Common.{◌≡◌, length, arith}
 use Rattle.std.proofs.lemmas.List.{length-map}
-use Rattle.cmm_effects.proofs.Shared.{adds_then, adds_weaker}
+use Rattle.cmm_effects.proofs.Shared.{adds_weaker}
 use Rattle.cmm_emit.proofs.Bodies.{copy_codes}
 use Rattle.cmm_emit.proofs.Operands.{targets_are_ready}
 use Rattle.cmm_emit.specs.Naming.{target_destination, target_destinations}
@@ -18,5 +18,4 @@ returns-clause-code c next =
     let to = c.args.to.now in
     let same : length (target_destinations p y to) ≡ length to = length-map to (target_destination p y) in
     let copies = rw (c.as_slice.ensures, c.in_ok-destinations.ensures) at c.in_ok-copy_in.ensures.copies in
-    adds_weaker (adds_then copies c.in_ok-go_on.ensures.keeps) (omega (arith, same))
-    (λ x from behind does. copy_codes c.args.asm.now.labels p y c.requires.ready x from behind to next does.0 c.requires.to does.1 does.2)
+    adds_weaker copies (omega (arith, same)) (λ x from behind does. copy_codes c.args.asm.now.labels p y c.requires.ready x from behind to next c.requires.to does)
