@@ -1,5 +1,5 @@
 #!/usr/bin/env python3
-"""Runs the examples of README.md, examples/README.md and docs/TUTORIAL.md with a built program, and compares what they print: examples.py [PROGRAM].
+"""Runs the examples of README.md, examples/README.md, docs/TUTORIAL.md and docs/RUNTIME.md with a built program, and compares what they print: examples.py [PROGRAM].
 
 An example is an indented line `$ COMMAND` of these pages with the lines below it, up to the next such line or the end of its block: what the command
 must print on both streams together. A command that is `./cmm ..; echo $?` so shows its exit status; any other must end with 0. Each .cmm file of
@@ -44,7 +44,7 @@ def fault_of(command, wanted, program):
 def main(program="./cmm"):
     os.makedirs(f"{TOP}/out", exist_ok=True)
     found = []
-    for name in ("README.md", "examples/README.md", "docs/TUTORIAL.md"):
+    for name in ("README.md", "examples/README.md", "docs/TUTORIAL.md", "docs/RUNTIME.md"):
         with open(f"{TOP}/{name}", encoding="utf-8") as page:
             found += examples(page.read())
     shown = " ".join(command for command, _ in found)
