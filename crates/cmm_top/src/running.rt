@@ -15,8 +15,8 @@ ghost use Rattle.cmm_top.specs.inside.Ending.{work_of};
 
 use crate::client::{client_in, script_of};
 use crate::ending::Ending;
-use crate::reading::bytes_in;
 use crate::image::image_of;
+use crate::reading::bytes_in;
 use crate::saving::left_by;
 use crate::session::{Prepared, run_image};
 use cmm_command::RunLimits;

@@ -52,11 +52,11 @@ returns-in_err-image-clause-err g c = λ streams.
     (c.in_ok-taken.ensures.same ∙ c.in_ok-bytes.ensures.same) (c.in_ok-taken.ensures.fault.0 ∙ c.in_ok-bytes.ensures.fault.0) (c.in_ok-taken.ensures.fault.1 ∙ c.in_ok-bytes.ensures.fault.1) in
     handed c.from_residual-in_err-image.result _ (λ (end : Ending). CannotWalk name snapshot (work_of end None before after))
     (λ end is.
-      let refused : end ≡ c.in_err-image.field-0.0 = is in
-      elim (holds_no_image name before after c.in_ok-bytes.bytes c.in_err-image.field-0.0 same c.in_ok-bytes.ensures.ok c.in_err-image.ensures.err) [
-        | inl none ↦ subst (λ (e : Ending). CannotWalk name snapshot (work_of e None before after)) (sym refused) (inr (inl none))
-        | inr memory ↦ subst (λ (e : Ending). CannotWalk name snapshot (work_of e None before after)) (sym refused) (inr (inr (inr memory)))
-      ])
+    let refused : end ≡ c.in_err-image.field-0.0 = is in
+    elim (holds_no_image name before after c.in_ok-bytes.bytes c.in_err-image.field-0.0 same c.in_ok-bytes.ensures.ok c.in_err-image.ensures.err) [
+      | inl none ↦ subst (λ (e : Ending). CannotWalk name snapshot (work_of e None before after)) (sym refused) (inr (inl none))
+      | inr memory ↦ subst (λ (e : Ending). CannotWalk name snapshot (work_of e None before after)) (sym refused) (inr (inr (inr memory)))
+    ])
     c.from_residual-in_err-image.ensures.1
 
 pub returns-in_err-halted-clause-err : goal.returns-in_err-halted-clause-err
@@ -72,11 +72,11 @@ returns-in_err-halted-clause-err g c = λ streams.
     let read = subst (λ (told : Option Contents). HasBytes told snapshot (λ bytes. IsFileOf SNAPSHOT_LIMIT bytes c.in_ok-taken.taken)) c.in_ok-bytes.ensures.same c.in_ok-taken.ensures.ok in
     handed c.from_residual-in_err-halted.result _ (λ (end : Ending). CannotWalk name snapshot (work_of end None before after))
     (λ end is.
-      let refused : end ≡ c.in_err-halted.field-0.0 = is in
-      elim (holds_no_snapshot name snapshot c.in_ok-image.image before after c.in_ok-taken.taken c.in_err-halted.field-0.0 same spelled read c.in_err-halted.ensures.err) [
-        | inl bad ↦ subst (λ (e : Ending). CannotWalk name snapshot (work_of e None before after)) (sym refused) (inl bad)
-        | inr memory ↦ subst (λ (e : Ending). CannotWalk name snapshot (work_of e None before after)) (sym refused) (inr (inr (inr memory)))
-      ])
+    let refused : end ≡ c.in_err-halted.field-0.0 = is in
+    elim (holds_no_snapshot name snapshot c.in_ok-image.image before after c.in_ok-taken.taken c.in_err-halted.field-0.0 same spelled read c.in_err-halted.ensures.err) [
+      | inl bad ↦ subst (λ (e : Ending). CannotWalk name snapshot (work_of e None before after)) (sym refused) (inl bad)
+      | inr memory ↦ subst (λ (e : Ending). CannotWalk name snapshot (work_of e None before after)) (sym refused) (inr (inr (inr memory)))
+    ])
     c.from_residual-in_err-halted.ensures.1
 
 pub returns-clause-spelled : goal.returns-clause-spelled
