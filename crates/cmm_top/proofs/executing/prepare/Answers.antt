@@ -7,11 +7,24 @@ use Rattle.cmm_top.specs.Executing.{CannotRun}
 use Rattle.cmm_top.specs.Script.{named_file}
 use Rattle.cmm_top.specs.declared.ending.Ending.{Ending}
 use Rattle.cmm_top.specs.declared.reading.FileBytes.{FileBytes}
+use Rattle.cmm_top.specs.declared.sources.Sources.{Sources}
 use Rattle.cmm_top.specs.inside.Ending.{work_of}
 use Rattle.cmm_top.specs.inside.Reading.{AreUnits, IsClientRead}
 use Rattle.cmm_top.proofs.FilesRead.{same_outside, units_so}
-use Rattle.cmm_top.proofs.Preparing.{fails_behind, handed, no_image, no_script_in, unread}
+use Rattle.cmm_top.proofs.Preparing.{fails_before, fails_behind, handed, no_image, no_script_in, unread}
 use Rattle.cmm_top.proofs.executing.prepare.Goals as goal
+
+pub returns-in_err-sources-clause-err : goal.returns-in_err-sources-clause-err
+returns-in_err-sources-clause-err g c = λ streams.
+    let names = map (λ (name : Bor (List ℕ)). name.now) c.args.names.now in
+    let client = option_map (λ (name : Bor (List ℕ)). name.now) c.args.client in
+    let before = standing g.F.Files.contents g.F.Files.faults g.F.Files.last_failed c.args.files.now streams in
+    let after = standing g.F.Files.contents g.F.Files.faults g.F.Files.last_failed c.sources_of.new.files streams in
+    let fault = c.in_err-sources.field-0.0 in
+    handed c.from_residual.result _ (λ (end : Ending). CannotRun names client (work_of end None before after))
+    (λ end is. inr (inr (unread Sources (names ++ named_file client) before after fault end c.in_err-sources.ensures.same refl
+    (fails_before Sources names (named_file client) before.file_faults after.file_faults before.last_failed after.last_failed fault c.in_err-sources.ensures.fault) is)))
+    c.from_residual.ensures.1
 
 pub returns-in_err-read-clause-err : goal.returns-in_err-read-clause-err
 returns-in_err-read-clause-err g c = λ streams.
