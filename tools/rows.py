@@ -312,9 +312,13 @@ class Runner:
         names, options = parts_of(words[1:])
         built = call(self.program, ["build", "-o", "image", "--", *names], files)
         made = built.files.pop("image", None)
-        if answer.status in (REFUSED, FILE_FAULT):
+        unread = answer.status == FILE_FAULT and answer.log.decode().removeprefix("file fault ").rstrip("\n")
+        if answer.status == REFUSED or unread in names:
             same = (built.status, built.log, made) == (answer.status, answer.log, None)
             return None if same and built.files == files else f"`build` answers {built.status} {built.log}"
+        # (`exec` reads the file of the client before it looks at the units, so `build` may refuse these)
+        if unread and built.status == REFUSED:
+            return None
         if (built.status, built.log, built.output) != (0, b"", b"") or made is None or built.files != files:
             return f"`build` answers {built.status} {built.log}"
         beside = {"image": made, **{name: content for name, content in files.items() if name not in names}}
