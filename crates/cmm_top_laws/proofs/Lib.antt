@@ -1,0 +1,4 @@
+pub mod Explaining
+pub mod Calling
+pub mod Asking
+mod CallRows

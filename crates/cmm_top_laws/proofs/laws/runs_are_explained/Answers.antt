@@ -1,0 +1,5 @@
+use Rattle.cmm_top_laws.proofs.Explaining.{runs_are_explained}
+use Rattle.cmm_top_laws.proofs.laws.runs_are_explained.Goals as goal
+
+pub returns : goal.returns
+returns c = runs_are_explained

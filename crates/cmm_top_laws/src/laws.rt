@@ -1,0 +1,31 @@
+//! What holds of the calls of the program, as contracts.
+ghost use Rattle.cmm_top_laws.specs.Laws.{BuiltFilesRunSo, ExecIsTheMachine, GenIsTheMachine, RunsAreExplained, WordsGiveStackSizes};
+
+/// What a run of an image writes, takes and answers is what the C-- machine does, where the two agree.
+pub fn runs_are_explained()
+    ensures { RunsAreExplained }
+{}
+
+/// What `exec` writes, takes and answers is what the C-- machine does on the program that the units mean, with the client's script.
+pub fn exec_is_the_machine()
+    ensures { ExecIsTheMachine }
+{}
+
+/// And so is what `run` does with a file that `build` has written, and that is not changed between.
+pub fn built_files_run_so()
+    ensures { BuiltFilesRunSo }
+{
+    cmm_image::laws::bytes_mean_one_thing();
+}
+
+/// And so is what `gen` does with the unit of a number, within the usual limits and with a client that stops the run at the first yield.
+pub fn gen_is_the_machine()
+    ensures { GenIsTheMachine }
+{}
+
+/// No words ask for a stack of a size that a run may not have.
+pub fn words_give_stack_sizes()
+    ensures { WordsGiveStackSizes }
+{
+    cmm_command::laws::commands_are_in_range();
+}
