@@ -6,7 +6,7 @@ A case is a paragraph: lines up to an empty one. It runs in a folder of its own,
     case: a sum                 what it shows, which may be left out
     file a.cmm: export main;    a file; each line that begins with four spaces is a further line of it, without these
         main() { return (2 + 3); }
-    input = "ab\\x00"            what is on standard input; without this line nothing
+    input = "ab\\x00"            what is on standard input, a pipe; without this line nothing. It may be told as a file is, below
     $ exec a.cmm --steps 1000   the words of the command line
     status: 0                   the exit status; without this line 0
     output = "A\\n" * 3          what must be on standard output; without this line nothing
@@ -24,8 +24,11 @@ A file has one of these after its name, and so has `then`; the paths of `from` b
                                 `first 0 .. 3 bytes` (a run for each length), `each byte xor ff` or `each byte is 00` (a run for each byte), `at 64 00 00`, `24 has 00 01`
                                 (which those bytes must be already), `and 00` (at the end)
 
-`input fails`, `output fails` and `log fails` make that stream one that cannot be read or written. `any: 8 trap *` says one of more answers: with such lines
-the status and the log are those of one of them, and are the same when it runs again. In words and in the log `$NAME` is the text of a line `text NAME = ..`,
+`input fails`, `output fails` and `log fails` make that stream one that cannot be read or written. `fails: log 2` makes one call on a device fail, counted from
+0 (`files 0 .. 37`: a run for each); tools/failing_calls.c, which is compiled for that and preloaded, has the devices. `room: files 0 .. 9` is how many bytes a file
+may get, a run for each number, and then just so many first bytes of each file of a `then` must be there; `room: log 3` is that of the log. `front = "abc"` is an output of which
+as many first bytes must be there as the number of the call that fails, and `log = "abc"` is a log that ends without its line's end.
+`any: 8 trap *` says one of more answers: with such lines the status and the log are those of one of them, and are the same when it runs again. In words and in the log `$NAME` is the text of a line `text NAME = ..`,
 or the sum of a line `number NAME: end - 28 of a.cmm`, where `end` is the length of the image of these files and `frame.NAME` the frame size of a procedure
 in it. A paragraph without a line of words holds for all later cases of its file. Lines that begin with `#` are comments.
 
@@ -33,6 +36,7 @@ An `exec` is run a second way by itself: `build`, and `run` of the image, with t
 are refused, and where it is done says nothing. The last line is `N passed, M failed`, of cases.
 """
 
+import atexit
 import concurrent.futures
 import dataclasses
 import functools
@@ -64,10 +68,14 @@ class Case:
     words: str | None = None
     status: int = 0
     output: bytes = b""
-    input: bytes = b""
+    input: str = '= ""'
     log: list = dataclasses.field(default_factory=list)
     answers: list = dataclasses.field(default_factory=list)
     failing: set = dataclasses.field(default_factory=set)
+    calls: str = ""
+    room: str = ""
+    front: bytes | None = None
+    cut_log: bytes | None = None
     files: dict = dataclasses.field(default_factory=dict)
     wanted: dict = dataclasses.field(default_factory=dict)
     units: dict = dataclasses.field(default_factory=dict)
@@ -106,10 +114,18 @@ def take(case, line):
         case.title = plain(rest).decode()
     elif key in ("input", "output", "log") and rest == "fails":
         case.failing.add(key)
-    elif key in ("input", "output"):
-        setattr(case, key, plain(rest))
+    elif key == "input":
+        case.input = rest
+    elif key == "output":
+        case.output = plain(rest)
     elif key == "status":
         case.status = int(plain(rest))
+    elif key in ("fails", "room"):
+        setattr(case, "calls" if key == "fails" else "room", plain(rest).decode())
+    elif key == "front":
+        case.front = plain(rest)
+    elif key == "log" and rest.startswith("= "):
+        case.cut_log = plain(rest)
     elif key in ("log", "any"):
         (case.log if key == "log" else case.answers).append(plain(rest).decode())
     else:
@@ -204,6 +220,36 @@ def frames_of(image):
     return found
 
 
+@dataclasses.dataclass(frozen=True)
+class Limits:
+    """What the world outside refuses in a run: calls on devices, which cannot be used at all, the one call on a device that fails, and bytes of a file beyond so many."""
+
+    failing: frozenset = frozenset()
+    device: str = ""
+    call: int = 0
+    room: int | None = None
+    log_is_file: bool = False
+
+    def any(self):
+        return self != Limits()
+
+    def environment(self):
+        """The variables that tell the preloaded library what to refuse."""
+        told = {"FAILING_CALL": f"{self.device} {self.call}"} if self.device else {}
+        told.update({} if self.room is None else {"FILE_ROOM": str(self.room)})
+        return {**os.environ, "LD_PRELOAD": failing_calls(), **told} if told else None
+
+
+@functools.lru_cache(maxsize=None)
+def failing_calls():
+    """The library that makes calls fail, compiled."""
+    folder = tempfile.TemporaryDirectory(prefix="rows-")
+    atexit.register(folder.cleanup)
+    made = os.path.join(folder.name, "failing_calls.so")
+    subprocess.run(["cc", "-O1", "-shared", "-fPIC", "-o", made, os.path.join(TOOLS, "failing_calls.c")], check=True)
+    return made
+
+
 @dataclasses.dataclass
 class Answer:
     status: int
@@ -222,23 +268,24 @@ def held(folder):
     return found
 
 
-def call(program, words, files, given=b"", failing=()):
+def call(program, words, files, given=b"", limits=Limits()):
     """What comes of the program with these words, in a folder that has these files."""
-    with tempfile.TemporaryDirectory(prefix="rows-") as folder, open("/dev/full", "wb") as full:
+    with tempfile.TemporaryDirectory(prefix="rows-") as folder, open("/dev/full", "wb") as full, tempfile.TemporaryFile() as log:
         for name, content in files.items():
             with open(os.path.join(folder, name), "wb") as file:
                 file.write(content)
-        ends = {"stdout": full if "output" in failing else subprocess.PIPE, "stderr": full if "log" in failing else subprocess.PIPE}
-        if "input" in failing:
+        ends = {"stdout": full if "output" in limits.failing else subprocess.PIPE, "stderr": full if "log" in limits.failing else log if limits.log_is_file else subprocess.PIPE}
+        if "input" in limits.failing:
             ends["stdin"] = os.open(folder, os.O_RDONLY)
         else:
             ends["input"] = given
         try:
-            ran = subprocess.run([program, *words], cwd=folder, timeout=SECONDS, **ends)
+            ran = subprocess.run([program, *words], cwd=folder, timeout=SECONDS, env=limits.environment(), **ends)
         finally:
-            if "input" in failing:
+            if "input" in limits.failing:
                 os.close(ends["stdin"])
-        return Answer(ran.returncode, ran.stdout or b"", ran.stderr or b"", held(folder))
+        log.seek(0)
+        return Answer(ran.returncode, ran.stdout or b"", ran.stderr or log.read(), held(folder))
 
 
 class Runner:
@@ -284,33 +331,59 @@ class Runner:
             found[name] = str(sum_of(formula, {"end": len(image), **frames_of(image)}))
         return found
 
+    def limits_of(self, case):
+        """What the world outside refuses in each run of a case."""
+        device, _, told = (case.calls or case.room).partition(" ")
+        told, _, names = told.partition(" of ")
+        ends = {"end": len(self.image_of(case, names.split()))} if names else {}
+        least, most = (told.split(" .. ") * 2)[:2] if told else ("0", "0")
+        numbers = range(sum_of(least, ends), sum_of(most, ends) + 1)
+        failing = frozenset(case.failing)
+        if case.room:
+            return [Limits(failing, room=number, log_is_file=device == "log") for number in numbers]
+        return [Limits(failing, device, number) for number in numbers]
+
     def runs(self, case):
-        """The runs of a case: files, and the files that must be there afterwards."""
+        """The runs of a case: files, the files that must be there afterwards, and what is refused."""
+        limits = self.limits_of(case)
+        fronts = [{name: content[: it.room] for name, content in self.then_of(case).items()} for it in limits]
+        found = self.ways(case)
+        return [(files, {**left, **then}, it) for files, left in found for it, then in zip(limits, fronts)]
+
+    def then_of(self, case):
+        """The files that must be there afterwards beside what was there."""
+        return {name: self.contents(case, told)[0] for name, told in case.wanted.items()}
+
+    def ways(self, case):
+        """The files that a case may begin with, twice: as they are then, and as they must be left."""
         ways = {name: self.contents(case, told) for name, told in case.files.items()}
-        then = {name: self.contents(case, told)[0] for name, told in case.wanted.items()}
         several = [name for name, contents in ways.items() if len(contents) != 1]
         files = {name: contents[0] for name, contents in ways.items() if len(contents) == 1}
         if not several:
-            return [(files, {**files, **then})]
+            return [(files, files)]
         return [({**files, several[0]: content},) * 2 for content in ways[several[0]]]
 
-    def fault_of(self, case, texts, files, then):
+    def fault_of(self, case, texts, files, then, limits):
         """What is wrong with a run of a case, if anything is."""
-        words = [filled(word, texts) for word in shlex.split(case.words)]
-        answer = call(self.program, words, files, case.input, case.failing)
-        fault = fault_of_answer(case, texts, answer)
+        words, given = [filled(word, texts) for word in shlex.split(case.words)], self.contents(case, case.input)[0]
+        answer = call(self.program, words, files, given, limits)
+        fault = fault_of_answer(case, texts, answer, limits)
+        if fault and (limits.device or limits.room is not None):
+            fault = f"where call {limits.call} on {limits.device} fails: {fault}" if limits.device else f"with room for {limits.room} bytes: {fault}"
         if fault is None and answer.files != then:
             fault = f"the files {told_apart(answer.files, then)} are not as they must be"
         if fault is None and case.answers:
-            fault = None if call(self.program, words, files, case.input) == answer else "another run answers otherwise"
-        if fault is None and words[:1] == ["exec"] and answer.status != USAGE and not case.failing:
-            fault = self.fault_of_second_way(words, files, case.input, answer)
+            fault = None if call(self.program, words, files, given) == answer else "another run answers otherwise"
+        if fault is None and words[:1] == ["exec"] and answer.status != USAGE and not limits.any():
+            fault = self.fault_of_second_way(words, files, given, answer)
         return fault
 
     def fault_of_second_way(self, words, files, given, answer):
         """What is wrong where the units are built to a file and that is run, if anything is."""
         names, options = parts_of(words[1:])
-        built = call(self.program, ["build", "-o", "image", "--", *names], files)
+        # (where a unit is standard input, `build` takes that)
+        rest, given = (given, b"") if "/dev/stdin" in names else (b"", given)
+        built = call(self.program, ["build", "-o", "image", "--", *names], files, rest)
         made = built.files.pop("image", None)
         unread = answer.status == FILE_FAULT and answer.log.decode().removeprefix("file fault ").rstrip("\n")
         if answer.status == REFUSED or unread in names:
@@ -380,16 +453,19 @@ def told_apart(found, wanted):
     return sorted(name for name in found.keys() | wanted.keys() if found.get(name) != wanted.get(name))
 
 
-def fault_of_answer(case, texts, answer):
+def fault_of_answer(case, texts, answer, limits):
     """What is wrong with a status, an output and a log, if anything is."""
+    output = case.output if case.front is None else case.front[: limits.call]
     log = answer.log.decode(errors="replace")
     if case.answers:
         told = [it.split(" ", 1) for it in case.answers]
         good = any(answer.status == int(status) and is_told(log, filled(line, texts) + "\n") for status, line in told)
         return None if good else f"answered {answer.status} {log!r}, which is none of the answers"
     wanted = "".join(filled(line, texts) + "\n" for line in case.log)
-    if (answer.status, answer.output) != (case.status, case.output) or not is_told(log, wanted):
-        return f"answered {answer.status} {log[-200:]!r} {answer.output!r}, and not {case.status} {wanted[-200:]!r} {case.output!r}"
+    told = is_told(log, wanted) if case.cut_log is None else answer.log == case.cut_log
+    if (answer.status, answer.output) != (case.status, output) or not told:
+        wanted = wanted if case.cut_log is None else case.cut_log.decode(errors="replace")
+        return f"answered {answer.status} {log[-200:]!r} {answer.output!r}, and not {case.status} {wanted[-200:]!r} {output!r}"
     return None
 
 
@@ -403,8 +479,8 @@ def main(program, *paths):
         for case in cases:
             try:
                 texts = runner.texts_of(case)
-                for files, then in runner.runs(case):
-                    runs[pool.submit(runner.fault_of, case, texts, files, then)] = case
+                for files, then, limits in runner.runs(case):
+                    runs[pool.submit(runner.fault_of, case, texts, files, then, limits)] = case
             except (BadRow, KeyError, subprocess.TimeoutExpired) as why:
                 faults.setdefault(case.place, f"{case.title}: {why}")
         for run, case in runs.items():

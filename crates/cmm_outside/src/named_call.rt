@@ -1,6 +1,6 @@
 //! A call of `Files` that is kept without taking memory.
 
-ghost use Rattle.std.specs.Prelude.{◌≡◌, ◌≤◌, length};
+ghost use Rattle.std.specs.Prelude.{◌≡◌, ◌↔◌, ◌≤◌, length, true};
 
 use crate::storage::{CallKind, NAME_LIMIT};
 use std::marker::Model;
@@ -39,5 +39,12 @@ impl NamedCall {
             name: bytes,
             length,
         }
+    }
+
+    /// Whether it was given this name.
+    pub fn is_of(&self, name: &str) -> bool
+        ensures { result ≡ true ↔ self.now.name ≡ name.now }
+    {
+        &self.name[..self.length] == name.as_bytes()
     }
 }

@@ -11,7 +11,7 @@ use crate::named_call::NamedCall;
 use crate::storage::NAME_LIMIT;
 use crate::{CallKind, Failed, Files, Sink, Source};
 use std::fs::{self, OpenOptions};
-use std::io::{self, Read, Seek, SeekFrom, Write};
+use std::io::{self, ErrorKind, Read, Seek, SeekFrom, Write};
 
 /// A source over a reader, as standard input. Each call is one read, and what is not asked for stays in
 /// the reader.
@@ -118,10 +118,37 @@ impl<W: Write> Sink for StdSink<W> {
     }
 }
 
-/// The files of a file system. Each call opens its file anew.
+/// A file that cannot be read at an offset, as a pipe. It stays open, and is read once, in order.
 #[derive(Drop)]
-pub struct StdFiles<R> {
+struct Stream<F> {
+    opened: NamedCall,
+    file: F,
+
+    /// How many bytes it has given.
+    position: u64,
+}
+
+impl<F: Read> Stream<F> {
+    /// Whether the bytes of this file from this offset on are those that it gives next.
+    fn gives(&self, name: &str, from: u64) -> bool {
+        self.position == from && self.opened.is_of(name)
+    }
+
+    fn read(&mut self, buffer: &mut [u8]) -> io::Result<usize>
+        ensures { IfOk result (λ n. n ≤ length buffer.old) }
+    {
+        let count = self.file.read(buffer)?;
+        self.position = self.position.saturating_add(count as u64);
+        Ok(count)
+    }
+}
+
+/// The files of a file system. Each call opens its file anew, but where that cannot be read at an offset:
+/// then it stays open as long as reads go on where the last one ended.
+#[derive(Drop)]
+pub struct StdFiles<R: fs::Files> {
     system: R,
+    stream: Option<Stream<R::File>>,
     faults: FaultCount,
     last_failed: Option<NamedCall>,
 }
@@ -134,18 +161,38 @@ impl<R: fs::Files> StdFiles<R> {
     {
         StdFiles {
             system,
+            stream: None,
             faults: FaultCount::new(),
             last_failed: None,
         }
     }
 
-    /// One read of a file, from an offset on.
-    fn try_read_at(&self, name: &str, from: u64, buffer: &mut [u8]) -> io::Result<usize>
-        ensures { IfOk result (λ n. n ≤ length buffer.old) }
+    /// One read of a file, from an offset on. Of a file that has no offsets, the first is at its front.
+    fn try_read_at(&mut self, name: &str, from: u64, buffer: &mut [u8]) -> io::Result<usize>
+        requires { length name.now ≤ NAME_LIMIT }
+        ensures bound { IfOk result (λ n. n ≤ length buffer.old) }
+        ensures same { (self.new.faults ≡ self.old.faults) × (self.new.last_failed ≡ self.old.last_failed) }
     {
+        match &mut self.stream {
+            Some(stream) if stream.gives(name, from) => return stream.read(buffer),
+            _ => {}
+        }
         let mut file = fs::open(&self.system, name)?;
-        file.seek(SeekFrom::Start(from))?;
-        file.read(buffer)
+        match file.seek(SeekFrom::Start(from)) {
+            Ok(_) => file.read(buffer),
+            Err(error) if from == 0 && error.kind() == ErrorKind::NotSeekable => {
+                let opened = NamedCall::new(CallKind::Read, name);
+                let position = 0;
+                self.stream
+                    .insert(Stream {
+                        opened,
+                        file,
+                        position,
+                    })
+                    .read(buffer)
+            }
+            Err(error) => Err(error),
+        }
     }
 
     /// One write at a file's end.

@@ -1,0 +1,86 @@
+/* Makes one call of a program on a device fail: tools/rows.py preloads it where a case says `fails`.
+
+   FAILING_CALL is a device and a number, as "log 2": that call on the device, counted from 0, fails, and no other. The devices are
+
+     files    the calls that open a file
+     reads    the reads of a file, once it is open
+     writes   the writes to a file, once it is open
+     input    the reads of standard input, each of which takes at most one byte, so that the calls can be told by the bytes
+     output   the writes to standard output
+     log      the writes to standard error
+
+   FILE_ROOM is how many bytes a file may get: a write beyond is cut there, and fails where it would begin there.
+
+   The functions are those of the C library that a program calls; each goes on to the system's call of its name. */
+#define _GNU_SOURCE
+#include <errno.h>
+#include <signal.h>
+#include <stdarg.h>
+#include <stdlib.h>
+#include <string.h>
+#include <sys/resource.h>
+#include <sys/syscall.h>
+#include <sys/types.h>
+#include <unistd.h>
+
+__attribute__((constructor)) static void limit_files(void)
+{
+    const char *room = getenv("FILE_ROOM");
+    if (room == NULL)
+        return;
+    struct rlimit limit = {(rlim_t)atol(room), (rlim_t)atol(room)};
+    /* (the signal would end the program where the write fails) */
+    signal(SIGXFSZ, SIG_IGN);
+    setrlimit(RLIMIT_FSIZE, &limit);
+}
+
+/* Counts a call on the device, and tells whether it is the one that fails. */
+static int fails(const char *device)
+{
+    static long count;
+    const char *failing = getenv("FAILING_CALL");
+    size_t length = strlen(device);
+    if (failing == NULL || strncmp(failing, device, length) != 0 || failing[length] != ' ')
+        return 0;
+    if (count++ != atol(failing + length + 1))
+        return 0;
+    errno = EIO;
+    return 1;
+}
+
+ssize_t read(int file, void *bytes, size_t size)
+{
+    if (fails(file == STDIN_FILENO ? "input" : "reads"))
+        return -1;
+    return syscall(SYS_read, file, bytes, file == STDIN_FILENO && size > 1 ? 1 : size);
+}
+
+ssize_t write(int file, const void *bytes, size_t size)
+{
+    if (fails(file == STDOUT_FILENO ? "output" : file == STDERR_FILENO ? "log" : "writes"))
+        return -1;
+    return syscall(SYS_write, file, bytes, size);
+}
+
+ssize_t __write(int file, const void *bytes, size_t size)
+{
+    return write(file, bytes, size);
+}
+
+int openat(int folder, const char *name, int flags, ...)
+{
+    va_list rest;
+    va_start(rest, flags);
+    mode_t mode = va_arg(rest, mode_t);
+    va_end(rest);
+    return fails("files") ? -1 : (int)syscall(SYS_openat, folder, name, flags, mode);
+}
+
+int openat64(int folder, const char *name, int flags, ...)
+{
+    va_list rest;
+    va_start(rest, flags);
+    mode_t mode = va_arg(rest, mode_t);
+    va_end(rest);
+    return openat(folder, name, flags, mode);
+}
