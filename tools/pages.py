@@ -8,6 +8,7 @@
   with an underscore in it. What looks like none of these is text, and is not tested; nor is what stands in an indented block.
 - Each line of an excerpt, a block that begins with three backquotes, a language and a path, stands in that file, after the line before it; `..` stands
   for lines that are left out.
+- The table of files of the headline is that of tools/trusted.py.
 
 Each miss is printed with its file and line. The last line is `N passed, M failed`, and with a miss the exit status is 1.
 """
@@ -15,6 +16,8 @@ Each miss is printed with its file and line. The last line is `N passed, M faile
 import os
 import re
 import sys
+
+import trusted
 
 TOP = os.path.dirname(os.path.dirname(os.path.abspath(__file__)))
 MAP = "docs/ARCHITECTURE.md"
@@ -180,9 +183,15 @@ def excerpts():
                 yield not found and f"{page}:{number}: {path} has no such line there"
 
 
+def headline():
+    """Whether the table of files of the headline is that of today."""
+    text = trusted.text_of(trusted.PAGE)
+    yield trusted.page_of(text) != text and f"{trusted.PAGE}: the files of the headline are others: tools/trusted.py --write"
+
+
 def main():
     tree = Tree()
-    faults = [*crates(tree), *definitions(tree), *names(tree), *excerpts()]
+    faults = [*crates(tree), *definitions(tree), *names(tree), *excerpts(), *headline()]
     misses = [it for it in faults if it]
     for it in misses:
         print(it)

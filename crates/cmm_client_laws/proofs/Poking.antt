@@ -23,7 +23,8 @@ use Rattle.cmm_emit_laws.proofs.Shared.{data_is_written}
 use Rattle.cmm_located.specs.Answering.{places_askable}
 use Rattle.cmm_located.specs.Compiled.{Compiled, Located}
 use Rattle.cmm_client_laws.specs.Asked.{AreAs, GoesOnAs, IsStoppedAs}
-use Rattle.cmm_client_laws.specs.Tables.{HaveTables, IsLabelRow}
+use Rattle.cmm_client_laws.specs.Tables.{HaveTables}
+use Rattle.cmm_image_machine.specs.Tables.{IsLabelRow}
 use Rattle.cmm_client_laws.proofs.Sound.{sound_memory}
 
 module _ (s : Setting) (c : Compiled) (y : Symbols) (rest : ℕ → ℕ) (i : ImageParts) (tables : HaveTables s c y i) (m : MemoryMap) (is_for : IsFor s m)

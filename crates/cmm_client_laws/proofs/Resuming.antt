@@ -47,7 +47,7 @@ use Rattle.cmm_located.specs.Compiled.{Compiled, Located, landing_in}
 use Rattle.cmm_located.specs.SameOrders.{HasFrames}
 use Rattle.cmm_machine_laws.specs.Alike.{ExitsAlike}
 use Rattle.cmm_client_laws.specs.Asked.{AreAs, GoesOnAs, IsActivationAs, IsAtExit, IsStoppedAs}
-use Rattle.cmm_tables.specs.ProcedureRows.{variable_row}
+use Rattle.cmm_image_machine.specs.Tables.{variable_row}
 use Rattle.cmm_client_laws.specs.Tables.{HaveTables, IsContinuationRow, IsProcedureRow}
 use Rattle.cmm_client_laws.specs.Walked.{IsGhostOf, back_of, mark_to, marked, shown_plan}
 use Rattle.cmm_client_laws.proofs.Asking.{Known, known, proc_row}

@@ -28,7 +28,8 @@ use Rattle.cmm_located.specs.Compiled.{Compiled}
 use Rattle.cmm_tables.specs.ProcedureRows.{continuation_row, continuation_rows, parameter_row, procedure_row}
 use Rattle.cmm_tables.specs.SiteRows.{continuation_number, unwind_row}
 use Rattle.cmm_client_laws.specs.Rows.{HaveLabelRows, HaveRows, HaveSiteRows, rows_ascend, site_row}
-use Rattle.cmm_client_laws.specs.Tables.{HaveTables, IsContinuationRow, IsLabelRow, IsProcedureRow, IsSiteRow, IsUnwindRow}
+use Rattle.cmm_client_laws.specs.Tables.{HaveTables, IsContinuationRow, IsProcedureRow, IsSiteRow, IsUnwindRow}
+use Rattle.cmm_image_machine.specs.Tables.{IsLabelRow}
 
 -- in ascending rows those behind are above
 above : (rows : List SiteRow) (before k : ℕ) (row : SiteRow) → rows_ascend before rows ≡ true → slice_get rows k ≡ Some row → before < row.return_address

@@ -48,7 +48,7 @@ use Rattle.cmm_emit_laws.specs.Words.{Symbols, Represents, RepresentsWords}
 use Rattle.cmm_emit_laws.specs.Represented.{RepresentsHoldings, stack_region}
 use Rattle.cmm_located.specs.Answering.{activation_of, number_shown}
 use Rattle.cmm_located.specs.Compiled.{Compiled, Located}
-use Rattle.cmm_tables.specs.ProcedureRows.{variable_row}
+use Rattle.cmm_image_machine.specs.Tables.{variable_row}
 use Rattle.cmm_tables.specs.SiteRows.{place_while, span_row}
 use Rattle.cmm_client_laws.specs.Tables.{HaveTables, IsProcedureRow, IsSiteRow}
 use Rattle.cmm_client_laws.specs.Walked.{IsFoundAs, IsGhostOf, back_of, live_at, mark_to, marked, place_of, shown_plan}

@@ -41,7 +41,8 @@ use Rattle.cmm_emit_laws.specs.Represented.{stack_region}
 use Rattle.cmm_emit_laws.specs.Words.{Symbols}
 use Rattle.cmm_located.specs.Compiled.{Compiled}
 use Rattle.cmm_client_laws.specs.Rows.{HaveLabelRows, HaveRows, site_row}
-use Rattle.cmm_tables.specs.ProcedureRows.{saved_row, variable_row}
+use Rattle.cmm_tables.specs.ProcedureRows.{saved_row}
+use Rattle.cmm_image_machine.specs.Tables.{variable_row}
 use Rattle.cmm_client_laws.specs.Tables.{HaveTables, IsProcedureRow}
 use Rattle.cmm_client_laws.proofs.Rows.{finds_that, procedure_is_told, tables_are_told}
 

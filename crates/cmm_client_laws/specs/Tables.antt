@@ -1,15 +1,12 @@
 -- What the tables of an image tell of the procedures and the sites of a program, as they are compiled.
-use Rattle.std.specs.Prelude.{List, Option, nat_lt, ◌≡◌, ℕ, ◌≤◌, true, map, length, slice_get, slice_index_or, Some, None}
+use Rattle.std.specs.Prelude.{List, nat_lt, ◌≡◌, ℕ, ◌≤◌, true, map, length, slice_get, slice_index_or, Some, None}
 use Rattle.std.specs.List.{AllZip, list_all, range_with_len}
 use Rattle.cmm_program.specs.declared.procedure.Cont.{Cont}
 use Rattle.cmm_program.specs.declared.procedure.Proc.{Proc}
 use Rattle.cmm_program.specs.declared.procedure.Site.{Site}
 use Rattle.cmm_program.specs.Frames.{procedure_at}
-use Rattle.cmm_program.specs.declared.program.Label.{Label}
-use Rattle.cmm_program.specs.declared.program.Program.{Program}
 use Rattle.cmm_program.specs.Client.{linked_label}
-use Rattle.cmm_program.specs.Layout.{constant_value, data_bytes, label_address}
-use Rattle.cmm_image.specs.declared.rows.LabelRow.{LabelRow}
+use Rattle.cmm_program.specs.Layout.{constant_value, data_bytes}
 use Rattle.cmm_image_machine.specs.Changes.{label_named}
 use Rattle.cmm_program.specs.Liveness.{is_live_at}
 use Rattle.cmm_program.specs.Orders.{target_width}
@@ -25,7 +22,8 @@ use Rattle.cmm_image_machine.specs.Frames.{site_at}
 use Rattle.cmm_image_machine.specs.Laws.{KeepFrames}
 use Rattle.cmm_emit_laws.specs.Words.{Symbols}
 use Rattle.cmm_located.specs.Compiled.{Compiled}
-use Rattle.cmm_tables.specs.ProcedureRows.{saved_row, variable_row}
+use Rattle.cmm_tables.specs.ProcedureRows.{saved_row}
+use Rattle.cmm_image_machine.specs.Tables.{IsLabelRow, variable_row}
 use Rattle.cmm_tables.specs.SiteRows.{continuation_number, place_while, span_row}
 
 -- ---- procedures
@@ -66,14 +64,6 @@ pub record IsSiteRow (s : Setting) (c : Compiled) (y : Symbols) (q n : ℕ) (p :
   pub cuts_there : list_all (λ k. nat_lt k (length p.conts)) site.cuts ≡ true
   pub variables : row.variables ≡ map (λ v. place_while (is_live_at p n v) (c.plan.place q v)) (range_with_len 0 (length p.vars))
   pub spans : row.spans ≡ map (span_row (constant_value s.program s.placement)) site.spans
-
--- ---- labels
-
--- the data label that is exported under a name has its address in the tables too
-abbrev pub IsLabelRow : Program → Option Label → Option LabelRow → Type 0
-IsLabelRow p (Some l) (Some row) = row.address ≡ label_address p l
-IsLabelRow p None None = Unit {0}
-IsLabelRow p _ _ = ⊥
 
 -- ---- the whole
 

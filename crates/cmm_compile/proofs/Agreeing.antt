@@ -39,7 +39,7 @@ use Rattle.cmm_located.specs.Compiled.{Compiled}
 use Rattle.cmm_located.specs.Layouts.{row_with}
 use Rattle.cmm_located.specs.LocatedMachine.{located_start, tokens_at}
 use Rattle.cmm_located.specs.SameOrders.{HasFrames}
-use Rattle.cmm_emit_laws.specs.Agreeing.{AgreesOnceBegun}
+use Rattle.cmm_image_machine.specs.Agreeing.{AgreesOnceBegun}
 use Rattle.cmm_emit_laws.specs.Represented.{IsFor}
 use Rattle.cmm_client_laws.specs.Laws.{IsTold, RowsAreTables}
 use Rattle.cmm_client_laws.specs.Tables.{HaveTables}
@@ -53,7 +53,7 @@ use Rattle.cmm_allocate.specs.Placing.{placement_rows}
 use Rattle.cmm_unit_code.specs.declared.text.Text.{Text}
 use Rattle.cmm_unit_code.specs.Texts.{ascend_above}
 use Rattle.cmm_link.specs.Laws.{ImagesHaveRows}
-use Rattle.cmm_link.specs.Placements.{place_row_of, placement_of}
+use Rattle.cmm_image_machine.specs.Tables.{place_row_of, placement_of}
 use Rattle.cmm_emit.specs.Texts.{RunsProgram}
 use Rattle.cmm_compile.specs.Agreement.{IsStackSize, TellsOf, launch_of, setting_of}
 use Rattle.cmm_compile.specs.inside.Laws.{ImagesAgreeWithUnits, IsMade}

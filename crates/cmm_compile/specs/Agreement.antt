@@ -25,11 +25,8 @@ use Rattle.cmm_image.specs.ImageFormat.{procedure_at}
 use Rattle.cmm_image_machine.specs.Changes.{label_named}
 use Rattle.cmm_image_machine.specs.Machine.{Launch, first_run}
 use Rattle.cmm_image_machine.specs.Observed.{image_machine}
-use Rattle.cmm_emit_laws.specs.Agreeing.{AgreesOnceBegun}
-use Rattle.cmm_client_laws.specs.Tables.{IsLabelRow}
-use Rattle.cmm_tables.specs.ProcedureRows.{variable_row}
-use Rattle.cmm_link.specs.Placements.{placement_of}
-use Rattle.cmm_link.specs.Rows.{global_row}
+use Rattle.cmm_image_machine.specs.Agreeing.{AgreesOnceBegun}
+use Rattle.cmm_image_machine.specs.Tables.{IsLabelRow, global_row, placement_of, variable_row}
 use Rattle.cmm_front.specs.Programs.{IsProgramOf}
 
 -- the machine runs with the placement that the image shows, and a stack of n bytes

@@ -1,6 +1,7 @@
 //! The passes, one after another.
 
 ghost use Rattle.std.specs.Prelude.{◌<◌, ◌^◌, length, IfOk, IfErr};
+ghost use Rattle.cmm_program.specs.InRange.{IsInRange};
 ghost use Rattle.cmm_front.specs.Programs.{IsProgramOf};
 ghost use Rattle.cmm_image.specs.Images.{IsImage};
 ghost use Rattle.cmm_compile.specs.Agreement.{Agree, AgreesWith};
@@ -40,6 +41,7 @@ pub struct Compiled {
 pub fn compile_program(alloc: Global, units: &[Items<u8>]) -> Result<Compiled, BuildFault>
     requires { length units.now < 2 ^ 32 }
     ensures ok { IfOk result (λ c. IsProgramOf units.now c.program × AgreesWith c.program c.image) }
+    ensures range { IfOk result (λ c. IsInRange c.program) }
     ensures err { IfErr result (IsRefused (IsFaultOf units.now)) }
     ensures named { 0 < length units.now → IfErr result (IsRefused (λ f. f.unit < length units.now)) }
 {

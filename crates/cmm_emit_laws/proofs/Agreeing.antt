@@ -40,7 +40,7 @@ use Rattle.cmm_located.specs.Nodes.{keeping, passed_to, ran_at, zeros_in}
 use Rattle.cmm_emit_laws.proofs.Beginning.{code_begins, entry, nothing_within, right_earlier, shown_follows, start_at, start_is}
 use Rattle.cmm_emit_laws.proofs.OnceBegun.{agrees_once_begun, stands_soon}
 use Rattle.cmm_emit_laws.proofs.Simulating.{code_around, step_leads}
-use Rattle.cmm_emit_laws.specs.Agreeing.{AgreesOnceBegun, Precedes}
+use Rattle.cmm_image_machine.specs.Agreeing.{AgreesOnceBegun, Precedes}
 use Rattle.cmm_emit_laws.specs.Finished.{Finished}
 use Rattle.cmm_emit_laws.specs.Laws.{most_for_step}
 use Rattle.cmm_emit_laws.specs.ProgramCode.{IsCode, IsCodeAround}

@@ -15,4 +15,3 @@ pub mod Naming
 pub mod Examples
 pub mod Laws
 pub mod Steps
-pub mod Agreeing

@@ -4,6 +4,8 @@ ghost use Rattle.std.specs.Prelude.{◌<◌, ◌≤◌, ◌^◌, All, length, ma
 ghost use Rattle.std.specs.Cmp.Lexicographic.{slice_cmp};
 ghost use Rattle.std.specs.List.Sorted.{IsStrictlySortedBy};
 ghost use Rattle.std.specs.Ordering.{nat_cmp};
+ghost use Rattle.cmm_elaboration.specs.Room.{KeepsRoom};
+ghost use Rattle.cmm_program.specs.InRange.{IsInRange};
 ghost use Rattle.cmm_front.specs.Programs.{IsProgramOf};
 ghost use Rattle.cmm_front.specs.Refusing.{IsFaultOf, IsRefused};
 
@@ -21,6 +23,9 @@ use std::alloc::Global;
 pub fn program_of(alloc: Global, units: &[Items<u8>]) -> Result<Program, FrontFault>
     requires { length units.now < 2 ^ 32 }
     ensures ok { IfOk result (IsProgramOf units.now) }
+    // It is in range, and has no more than the tokens of units allow.
+    ensures range { IfOk result IsInRange }
+    ensures room { IfOk result KeepsRoom }
     // Registers are numbered by their names, which ascend by bytes.
     ensures registers { IfOk result (λ p. IsStrictlySortedBy (slice_cmp nat_cmp) (map (λ g. g.name) p.globals)) }
     // Each span in force at a call site stands in a bracket of its own, and at most 200 brackets are open.

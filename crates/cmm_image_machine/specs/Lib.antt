@@ -4,3 +4,5 @@ pub mod Changes
 pub mod Machine
 pub mod Observed
 pub mod Laws
+pub mod Tables
+pub mod Agreeing

@@ -18,7 +18,7 @@ use Rattle.cmm_image.specs.declared.rows.LabelRow.{LabelRow}
 use Rattle.cmm_format.specs.Formats.{AreRows}
 use Rattle.cmm_image.specs.ImageFormat.{global, is_after, is_in_data, label}
 use Rattle.cmm_link.specs.Labels.{ascend_after, exports_at, label_exports, label_names}
-use Rattle.cmm_link.specs.Rows.{global_row}
+use Rattle.cmm_image_machine.specs.Tables.{global_row}
 use Rattle.cmm_link.specs.inside.Named.{IsNamedGlobal, IsNamedLabel}
 use Rattle.cmm_link.proofs.ProcedureRows.{name_short, width_holds}
 

@@ -33,7 +33,8 @@ use Rattle.cmm_link.specs.Labels.{AreLabelsOf, exports, names_ascend, row_named}
 use Rattle.cmm_allocate.specs.Placing.{placement_rows}
 use Rattle.cmm_link.specs.Linked.{AreSitesOf, HaveFewSpans, HaveFrames, IsDataOf, IsImageOf}
 use Rattle.cmm_link.specs.Rooms.{HasRoom}
-use Rattle.cmm_link.specs.Rows.{global_row, procedure_rows, site_rows}
+use Rattle.cmm_link.specs.Rows.{procedure_rows, site_rows}
+use Rattle.cmm_image_machine.specs.Tables.{global_row}
 use Rattle.cmm_unit_code.specs.Texts.{IsText}
 use Rattle.cmm_link.specs.inside.Made.{AreMade}
 use Rattle.cmm_link.specs.inside.Named.{HasSmallSpans, IsNamed, IsNamedGlobal, IsNamedLabel}

@@ -11,7 +11,7 @@ use Rattle.cmm_allocate.specs.declared.procedure.ProcedurePlaces.{ProcedurePlace
 use Rattle.cmm_allocate.specs.Placing.{placement_rows}
 use Rattle.cmm_link.specs.Laws.{ImagesShowPlacements, PlacesHaveFrames}
 use Rattle.cmm_link.specs.Linked.{HaveFrames}
-use Rattle.cmm_link.specs.Placements.{place_row_of}
+use Rattle.cmm_image_machine.specs.Tables.{place_row_of}
 use Rattle.cmm_link.specs.Rows.{procedure_rows}
 use Rattle.cmm_tables.specs.ProcedureRows.{continuation_rows, procedure_row, stack_label_row}
 use Rattle.cmm_unit_code.specs.Texts.{HasLandings}

@@ -23,7 +23,8 @@ use Rattle.cmm_image.specs.declared.rows.VariableNumber.{VariableNumber}
 use Rattle.cmm_image.specs.declared.rows.VariableRow.{VariableRow}
 use Rattle.cmm_format.specs.Formats.{AreRows}
 use Rattle.cmm_image.specs.ImageFormat.{continuation, is_in_code, one_if, procedure, stack_label, variable, variable_number, width}
-use Rattle.cmm_tables.specs.ProcedureRows.{continuation_row, continuation_rows, parameter_row, procedure_row, saved_row, stack_label_row, variable_row}
+use Rattle.cmm_tables.specs.ProcedureRows.{continuation_row, continuation_rows, parameter_row, procedure_row, saved_row, stack_label_row}
+use Rattle.cmm_image_machine.specs.Tables.{variable_row}
 use Rattle.cmm_link.specs.inside.Named.{HasByteKind, IsNamed}
 use Rattle.cmm_link.proofs.Frames.{Fits, frame_fits}
 use Rattle.cmm_link.proofs.SavedRows.{saved_few, saved_rows_hold}

@@ -26,7 +26,8 @@ use Rattle.cmm_image.specs.declared.rows.VariablePlace.{VariablePlace}
 use Rattle.cmm_format.specs.Formats.{AreRows}
 use Rattle.cmm_image.specs.ImageFormat.{SiteLists, exits_in_code, has_sites, is_above, is_in_code, or_none, procedure_at, site, site_lists, site_lists_in}
 use Rattle.cmm_allocate.specs.declared.procedure.ProcedurePlaces.{ProcedurePlaces}
-use Rattle.cmm_tables.specs.ProcedureRows.{continuation_rows, procedure_row, variable_row}
+use Rattle.cmm_tables.specs.ProcedureRows.{continuation_rows, procedure_row}
+use Rattle.cmm_image_machine.specs.Tables.{variable_row}
 use Rattle.cmm_tables.specs.SiteRows.{continuation_number, local_place, place_while, placed_site, span_row, unplaced_site, unwind_row}
 use Rattle.cmm_unit_code.specs.declared.text.Text.{Text}
 use Rattle.cmm_unit_code.specs.Texts.{HasLandings, HasSitesAt, IsSiteAt, IsText, ascend_above}

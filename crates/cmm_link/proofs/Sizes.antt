@@ -25,7 +25,8 @@ use Rattle.cmm_located.specs.Layouts.{IsFrameOf}
 use Rattle.cmm_allocate.specs.declared.procedure.ProcedurePlaces.{ProcedurePlaces}
 use Rattle.cmm_link.specs.Linked.{HaveFrames}
 use Rattle.cmm_link.specs.Rows.{procedure_rows}
-use Rattle.cmm_tables.specs.ProcedureRows.{procedure_row, stack_label_row, variable_row}
+use Rattle.cmm_tables.specs.ProcedureRows.{procedure_row, stack_label_row}
+use Rattle.cmm_image_machine.specs.Tables.{variable_row}
 use Rattle.cmm_link.proofs.Frames.{frame_fits}
 use Rattle.cmm_link.proofs.ProcedureRows.{continuations_few, saved_short}
 use Rattle.cmm_link.proofs.SiteTokens.{site_measure}

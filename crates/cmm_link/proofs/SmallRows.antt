@@ -31,7 +31,7 @@ use Rattle.cmm_allocate.specs.Placing.{placement_rows}
 use Rattle.cmm_unit_code.specs.declared.text.Text.{Text}
 use Rattle.cmm_link.specs.Labels.{exports, names_ascend, row_named}
 use Rattle.cmm_link.specs.Linked.{AreSitesOf, HaveFewSpans, IsDataOf}
-use Rattle.cmm_link.specs.Placements.{place_row_of}
+use Rattle.cmm_image_machine.specs.Tables.{place_row_of}
 use Rattle.cmm_link.specs.Rooms.{HasRoom}
 use Rattle.cmm_link.specs.Rows.{procedure_rows, site_rows}
 use Rattle.cmm_link.specs.inside.Values.{value_at}

@@ -14,7 +14,7 @@ use Rattle.cmm_allocate.specs.Placing.{placement_rows}
 use Rattle.cmm_image.specs.declared.parts.ImageParts.{ImageParts}
 use Rattle.cmm_unit_code.specs.declared.text.Text.{Text}
 use Rattle.cmm_link.specs.Linked.{HaveFrames, IsImageOf}
-use Rattle.cmm_link.specs.Placements.{placement_of}
+use Rattle.cmm_image_machine.specs.Tables.{placement_of}
 use Rattle.cmm_unit_code.specs.Texts.{IsText, address_in}
 
 -- procedures whose places are those of their graphs have frames

@@ -1,6 +1,5 @@
 pub mod Rows
 pub mod Labels
-pub mod Placements
 pub mod Rooms
 pub mod Linked
 pub mod Laws

@@ -18,7 +18,8 @@ use Rattle.cmm_unit_code.specs.declared.text.Text.{Text}
 use Rattle.cmm_unit_code.specs.Texts.{ascend_above}
 use Rattle.cmm_tables.specs.Premises.{AreExactSets}
 use Rattle.cmm_link.specs.Labels.{AreLabelsOf, exports}
-use Rattle.cmm_link.specs.Rows.{global_row, procedure_rows, site_rows}
+use Rattle.cmm_link.specs.Rows.{procedure_rows, site_rows}
+use Rattle.cmm_image_machine.specs.Tables.{global_row}
 
 -- the frames of procedures are laid for their places
 abbrev pub HaveFrames : List Proc → List ProcedurePlaces → Type 0

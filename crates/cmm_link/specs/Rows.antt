@@ -1,10 +1,8 @@
--- The rows that the tables of an image have for procedures, sites and global registers of a program.
+-- The rows that the tables of an image have for procedures and sites of a program.
 use Rattle.std.specs.Prelude.{ℕ, List, flat_map, map, slice_index}
 use Rattle.std.specs.List.{enumerate_from, zip}
 use Rattle.cmm_words.specs.declared.constant.Constant.{Constant}
 use Rattle.cmm_program.specs.declared.procedure.Proc.{Proc}
-use Rattle.cmm_program.specs.declared.program.Global.{Global}
-use Rattle.cmm_image.specs.declared.rows.GlobalRow.{GlobalRow}
 use Rattle.cmm_image.specs.declared.rows.ProcRow.{ProcRow}
 use Rattle.cmm_image.specs.declared.rows.SiteRow.{SiteRow}
 use Rattle.cmm_allocate.specs.declared.procedure.ProcedurePlaces.{ProcedurePlaces}
@@ -33,8 +31,3 @@ placed_sites value of = sites_of value of.0 of.1.0 of.1.1.0 of.1.1.1.0 of.1.1.1.
 -- those of all procedures, one procedure after another
 abbrev pub site_rows : (Constant → ℕ) → List Proc → List ProcedurePlaces → List (List ℕ) → List (List ℕ) → List SiteRow
 site_rows value procs places landings addresses = flat_map (placed_sites value) (enumerate_from 0 (zip procs (zip places (zip landings addresses))))
-
--- ---- global registers
-
-abbrev pub global_row : Global → GlobalRow
-global_row g = record { width = g.width; name = g.name }

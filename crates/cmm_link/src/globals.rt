@@ -2,7 +2,7 @@
 
 ghost use Rattle.std.specs.Prelude.{◌≡◌, map, IfOk};
 ghost use Rattle.std.specs.List.{All};
-ghost use Rattle.cmm_link.specs.Rows.{global_row};
+ghost use Rattle.cmm_image_machine.specs.Tables.{global_row};
 ghost use Rattle.cmm_link.specs.inside.Named.{IsNamedGlobal};
 
 use crate::names::copy;

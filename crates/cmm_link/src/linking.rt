@@ -6,7 +6,7 @@ ghost use Rattle.cmm_allocate.specs.Placing.{placement_rows};
 ghost use Rattle.cmm_unit_code.specs.Joined.{CanBeJoined, IsTextOf};
 ghost use Rattle.cmm_link.specs.Labels.{names_ascend};
 ghost use Rattle.cmm_link.specs.Linked.{HaveFewSpans, HaveFrames, IsDataOf, IsImageOf, KnowLive};
-ghost use Rattle.cmm_link.specs.Placements.{placement_of};
+ghost use Rattle.cmm_image_machine.specs.Tables.{placement_of};
 ghost use Rattle.cmm_link.specs.Rooms.{HasRoom};
 ghost use Rattle.cmm_unit_code.specs.Texts.{IsText};
 ghost use Rattle.cmm_unit_code.specs.declared.text.Text.{Text as JoinedText};

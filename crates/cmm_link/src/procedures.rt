@@ -4,7 +4,8 @@ ghost use Rattle.std.specs.Prelude.{◌≡◌, ◌<◌, ◌^◌, map, IfOk};
 ghost use Rattle.std.specs.List.{All};
 ghost use Rattle.cmm_link.specs.inside.Named.{AreShort, HasByteKind, HasShortParameters, IsNamed};
 ghost use Rattle.cmm_link.specs.Rows.{procedure_rows};
-ghost use Rattle.cmm_tables.specs.ProcedureRows.{continuation_rows, parameter_row, procedure_row, saved_row, stack_label_row, variable_row};
+ghost use Rattle.cmm_tables.specs.ProcedureRows.{continuation_rows, parameter_row, procedure_row, saved_row, stack_label_row};
+ghost use Rattle.cmm_image_machine.specs.Tables.{variable_row};
 
 use crate::names::copy;
 use cmm_allocate::ProcedurePlaces;

@@ -1,7 +1,7 @@
 //! The placement that an image shows.
 
 ghost use Rattle.std.specs.Prelude.{◌≡◌, map, IfOk};
-ghost use Rattle.cmm_link.specs.Placements.{place_row_of, placement_of};
+ghost use Rattle.cmm_image_machine.specs.Tables.{place_row_of, placement_of};
 
 use cmm_image::{ContinuationRow, Image, ProcRow, StackLabelRow};
 use cmm_items::Items;

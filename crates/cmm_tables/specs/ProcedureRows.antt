@@ -3,22 +3,18 @@ use Rattle.std.specs.Prelude.{ℕ, List, map, Some}
 use Rattle.std.specs.List.{zip}
 use Rattle.cmm_program.specs.declared.procedure.Cont.{Cont}
 use Rattle.cmm_program.specs.declared.procedure.Proc.{Proc}
-use Rattle.cmm_program.specs.declared.procedure.VarInfo.{VarInfo}
 use Rattle.cmm_chain.specs.declared.frame.Frame.{Frame}
 use Rattle.cmm_image.specs.declared.rows.ContinuationRow.{ContinuationRow}
 use Rattle.cmm_image.specs.declared.rows.ProcRow.{ProcRow}
 use Rattle.cmm_image.specs.declared.rows.SavedRegister.{SavedRegister}
 use Rattle.cmm_image.specs.declared.rows.StackLabelRow.{StackLabelRow}
 use Rattle.cmm_image.specs.declared.rows.VariableNumber.{VariableNumber}
-use Rattle.cmm_image.specs.declared.rows.VariableRow.{VariableRow}
+use Rattle.cmm_image_machine.specs.Tables.{variable_row}
 
 -- ---- parts of procedures
 
 abbrev pub saved_row : ℕ × ℕ → SavedRegister
 saved_row saved = record { register = saved.0; offset = saved.1 }
-
-abbrev pub variable_row : VarInfo → VariableRow
-variable_row v = record { width = v.width; invariant = v.invariant; kind = v.kind }
 
 abbrev pub stack_label_row : ℕ → StackLabelRow
 stack_label_row offset = record { offset = offset }

@@ -2,6 +2,7 @@
 
 ghost use Rattle.std.specs.Prelude.{◌≡◌, ◌≤◌, ◌∷◌, [], ℕ, Option, None, sum_by, length, IfOk, IfErr};
 ghost use Rattle.cmm_compile.specs.Agreement.{AgreesWith};
+ghost use Rattle.cmm_program.specs.InRange.{IsInRange};
 ghost use Rattle.cmm_front.specs.Programs.{IsProgramOf};
 ghost use Rattle.cmm_generated.specs.Generated.{generated};
 ghost use Rattle.cmm_outside.specs.Output.{WritesAll};
@@ -35,6 +36,7 @@ const LIMITS: RunLimits = RunLimits {
 /// The program of the unit of a number, and its image. The error is what the call comes to where there is none.
 fn compiled(alloc: Global, number: u64) -> Result<Compiled, Ending<'static>>
     ensures means { IfOk result (λ c. IsProgramOf (generated number ∷ []) c.program) }
+    ensures range { IfOk result (λ c. IsInRange c.program) }
     ensures agrees { IfOk result (λ c. AgreesWith c.program c.image) }
     ensures err { (o : Outside) → IfErr result (λ ending. HasNoImage number (work_of ending None o o)) }
 {

@@ -14,7 +14,7 @@ use Rattle.cmm_front.specs.Programs.{IsProgramOf}
 use Rattle.cmm_image.specs.declared.parts.ImageParts.{ImageParts}
 use Rattle.cmm_image_machine.specs.Machine.{region_of}
 use Rattle.cmm_image_machine.specs.Walks.{chain_walk}
-use Rattle.cmm_link.specs.Placements.{placement_of}
+use Rattle.cmm_image_machine.specs.Tables.{placement_of}
 use Rattle.cmm_compile.specs.Agreement.{IsStackSize, launch_of, setting_of}
 use Rattle.cmm_run.specs.declared.outcome.Outcome.{Outcome}
 use Rattle.cmm_run.specs.Outside.{Outside as Streams}

@@ -9,7 +9,7 @@ use Rattle.cmm_machine_laws.specs.Fitting.{IsByte}
 use Rattle.cmm_image_machine.specs.Machine.{Launch, first_run, region_of}
 use Rattle.cmm_image_machine.specs.Observed.{image_machine}
 use Rattle.cmm_image_machine.specs.Walks.{chain_walk}
-use Rattle.cmm_emit_laws.specs.Agreeing.{AgreesOnceBegun}
+use Rattle.cmm_image_machine.specs.Agreeing.{AgreesOnceBegun}
 use Rattle.cmm_run.specs.declared.outcome.Outcome.{Outcome}
 use Rattle.cmm_run.specs.Outside.{Outside as Streams}
 use Rattle.cmm_run.specs.Runs.{Runs}

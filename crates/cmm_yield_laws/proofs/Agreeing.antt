@@ -25,7 +25,7 @@ use Rattle.cmm_image_machine.specs.Observed.{image_machine}
 use Rattle.cmm_located.specs.Compiled.{Compiled, Located}
 use Rattle.cmm_located.specs.LocatedMachine.{located_machine, located_start, located_step, tokens_at}
 use Rattle.cmm_emit_laws.proofs.Shared.{agrees_once_begun, first_asks, first_shows, nothing_within, shown_at_start, stands_soon}
-use Rattle.cmm_emit_laws.specs.Agreeing.{AgreesOnceBegun, Precedes}
+use Rattle.cmm_image_machine.specs.Agreeing.{AgreesOnceBegun, Precedes}
 use Rattle.cmm_emit_laws.specs.Finished.{Finished}
 use Rattle.cmm_emit_laws.specs.Laws.{IsRepresentedIn, most_for_step}
 use Rattle.cmm_emit_laws.specs.Starting.{StartCode}

@@ -18,7 +18,7 @@ use Rattle.cmm_image_machine.specs.Machine.{Launch, Run, first_run}
 use Rattle.cmm_image_machine.specs.Observed.{image_machine}
 use Rattle.cmm_located.specs.Compiled.{Compiled, Located}
 use Rattle.cmm_located.specs.LocatedMachine.{located_machine, located_start, located_step, tokens_at}
-use Rattle.cmm_emit_laws.specs.Agreeing.{AgreesOnceBegun}
+use Rattle.cmm_image_machine.specs.Agreeing.{AgreesOnceBegun}
 use Rattle.cmm_emit_laws.specs.Finished.{Finished}
 use Rattle.cmm_emit_laws.specs.Laws.{most_for_step}
 use Rattle.cmm_emit_laws.specs.Serving.{IsRepresentedBy}

@@ -17,7 +17,7 @@ use Rattle.cmm_image.specs.declared.parts.ImageParts.{ImageParts}
 use Rattle.cmm_image.specs.Images.{IsImage}
 use Rattle.cmm_unit_code.specs.declared.text.Text.{Text}
 use Rattle.cmm_link.specs.Linked.{HaveFrames, IsImageOf, KnowLive}
-use Rattle.cmm_link.specs.Placements.{placement_of}
+use Rattle.cmm_image_machine.specs.Tables.{placement_of}
 use Rattle.cmm_unit_code.specs.Texts.{IsText}
 use Rattle.cmm_emit.specs.Premises.{AreCovered, AreShort}
 use Rattle.cmm_emit.specs.Texts.{IsCodeOfProgram}

@@ -10,7 +10,8 @@ use Rattle.cmm_allocate.specs.declared.procedure.ProcedurePlaces.{ProcedurePlace
 use Rattle.cmm_unit_code.specs.declared.text.Text.{Text}
 use Rattle.cmm_link.specs.Labels.{AreLabelsOf, exports}
 use Rattle.cmm_link.specs.Linked.{AreSitesOf}
-use Rattle.cmm_link.specs.Rows.{global_row, procedure_rows, site_rows}
+use Rattle.cmm_link.specs.Rows.{procedure_rows, site_rows}
+use Rattle.cmm_image_machine.specs.Tables.{global_row}
 use Rattle.cmm_link.specs.inside.Named.{HasSmallSpans, IsNamed, IsNamedGlobal, IsNamedLabel}
 use Rattle.cmm_link.specs.inside.Values.{value_at}
 

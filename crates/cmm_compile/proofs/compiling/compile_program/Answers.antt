@@ -9,11 +9,11 @@ use Rattle.cmm_compile.proofs.compiling.compile_program.Goals as goal
 
 pub lay_out-requires : goal.lay_out-requires
 lay_out-requires c =
-    c.passes_fit.ensures.data c.in_ok-program.program c.in_ok-program.ensures.ok.range
+    c.passes_fit.ensures.data c.in_ok-program.program c.in_ok-program.ensures.range
 
 pub liveness_of_all-requires : goal.liveness_of_all-requires
 liveness_of_all-requires c =
-    rw c.as_slice.ensures (few_locals c.in_ok-program.program c.in_ok-program.program.procs c.in_ok-graphs.graphs c.in_ok-program.ensures.ok.range.procedures (c.in_ok-graphs.ensures.are_bounded c.in_ok-program.ensures.ok.range))
+    rw c.as_slice.ensures (few_locals c.in_ok-program.program c.in_ok-program.program.procs c.in_ok-graphs.graphs c.in_ok-program.ensures.range.procedures (c.in_ok-graphs.ensures.are_bounded c.in_ok-program.ensures.range))
 
 pub place_program-requires-clause-flows : goal.place_program-requires-clause-flows
 place_program-requires-clause-flows c =
@@ -38,15 +38,15 @@ lay_program-requires-clause-places c =
 
 pub lay_program-requires-clause-covered : goal.lay_program-requires-clause-covered
 lay_program-requires-clause-covered c =
-    rw (c.as_slice-3.ensures, c.as_slice-4.ensures) (c.passes_fit.ensures.covered c.in_ok-program.program c.in_ok-graphs.graphs c.in_ok-places.places c.in_ok-program.ensures.ok.range c.in_ok-graphs.ensures.each (rw c.as_slice-2.ensures at c.in_ok-places.ensures.places))
+    rw (c.as_slice-3.ensures, c.as_slice-4.ensures) (c.passes_fit.ensures.covered c.in_ok-program.program c.in_ok-graphs.graphs c.in_ok-places.places c.in_ok-program.ensures.range c.in_ok-graphs.ensures.each (rw c.as_slice-2.ensures at c.in_ok-places.ensures.places))
 
 pub lay_program-requires-clause-short : goal.lay_program-requires-clause-short
 lay_program-requires-clause-short c =
-    rw (c.as_slice-3.ensures, c.as_slice-4.ensures) (c.passes_fit.ensures.short c.in_ok-program.program c.in_ok-graphs.graphs c.in_ok-places.places c.in_ok-program.ensures.ok.range c.in_ok-graphs.ensures.each (rw c.as_slice-2.ensures at c.in_ok-places.ensures.places))
+    rw (c.as_slice-3.ensures, c.as_slice-4.ensures) (c.passes_fit.ensures.short c.in_ok-program.program c.in_ok-graphs.graphs c.in_ok-places.places c.in_ok-program.ensures.range c.in_ok-graphs.ensures.each (rw c.as_slice-2.ensures at c.in_ok-places.ensures.places))
 
 pub lay_program-requires-clause-labels : goal.lay_program-requires-clause-labels
 lay_program-requires-clause-labels c =
-    let room = c.in_ok-program.ensures.ok.room in
+    let room = c.in_ok-program.ensures.room in
     omega (arith, room)
 
 pub link-requires-clause-frames : goal.link-requires-clause-frames
@@ -57,7 +57,7 @@ link-requires-clause-frames c =
 pub link-requires-clause-live : goal.link-requires-clause-live
 link-requires-clause-live c =
     rw c.as_slice-5.ensures
-    (c.passes_fit.ensures.live c.in_ok-program.program c.in_ok-graphs.graphs c.in_ok-places.places c.in_ok-program.ensures.ok.range c.in_ok-graphs.ensures.each (rw c.as_slice-2.ensures at c.in_ok-places.ensures.places))
+    (c.passes_fit.ensures.live c.in_ok-program.program c.in_ok-graphs.graphs c.in_ok-places.places c.in_ok-program.ensures.range c.in_ok-graphs.ensures.each (rw c.as_slice-2.ensures at c.in_ok-places.ensures.places))
 
 pub link-requires-clause-spans : goal.link-requires-clause-spans
 link-requires-clause-spans c = few_spans c.in_ok-program.program.procs c.in_ok-program.ensures.spans
@@ -68,7 +68,7 @@ link-requires-clause-globals c =
 
 pub link-requires-clause-room : goal.link-requires-clause-room
 link-requires-clause-room c t is =
-    let room = c.in_ok-program.ensures.ok.room in
+    let room = c.in_ok-program.ensures.room in
     let size = c.in_ok-code.ensures.size t is in
     record { code = omega (arith, room, size); tokens = omega (arith, room) }
 
@@ -78,7 +78,7 @@ returns-clause-ok c =
     let t = linked.0 in (
       c.in_ok-program.ensures.ok,
       c.passes_fit.ensures.agree c.in_ok-program.program c.in_ok-graphs.graphs c.in_ok-places.places t c.in_ok-image.image record {
-        range = c.in_ok-program.ensures.ok.range;
+        range = c.in_ok-program.ensures.range;
         flows = c.in_ok-graphs.ensures.each;
         places = rw c.as_slice-2.ensures at c.in_ok-places.ensures.places;
         frames =

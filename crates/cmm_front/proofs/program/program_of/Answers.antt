@@ -79,15 +79,20 @@ returns-clause-ok c =
     let is = when_read units trees c.in_ok-tokens.ensures.bytes are
     (subst (λ (ts : List UnitTree). AreRead ts → TextsAreBytes ts → program ≡ meaning_of ts) same c.in_ok-program.ensures.program)
     in
-    record {
-      trees = trees;
-      are_trees = are;
-      accepted = accepted;
-      is_program = is;
-      range = when_read units trees c.in_ok-tokens.ensures.bytes are
-          (subst (λ (ts : List UnitTree). AreRead ts → TextsAreBytes ts → IsInRange program) same c.in_ok-program.ensures.range);
-      room = subst KeepsRoom (sym is) (when_read units trees c.in_ok-tokens.ensures.bytes are (λ read texts. c.room_is_kept.ensures trees accepted read));
-    }
+    record { trees = trees; are_trees = are; accepted = accepted; is_program = is }
+
+pub returns-clause-range : goal.returns-clause-range
+returns-clause-range c =
+    let is : IsProgramOf c.args.units.now c.in_ok-program.program = returns-clause-ok c in
+    let same : c.in_ok-checked.checked ≡ c.in_ok-trees.trees = c.in_ok-checked.ensures.ok ∙ c.as_slice-2.ensures in
+    when_read c.args.units.now is.trees c.in_ok-tokens.ensures.bytes is.are_trees
+    (subst (λ (ts : List UnitTree). AreRead ts → TextsAreBytes ts → IsInRange c.in_ok-program.program) same c.in_ok-program.ensures.range)
+
+pub returns-clause-room : goal.returns-clause-room
+returns-clause-room c =
+    let is : IsProgramOf c.args.units.now c.in_ok-program.program = returns-clause-ok c in
+    subst KeepsRoom (sym is.is_program)
+    (when_read c.args.units.now is.trees c.in_ok-tokens.ensures.bytes is.are_trees (λ read texts. c.room_is_kept.ensures is.trees is.accepted read))
 
 pub returns-clause-registers : goal.returns-clause-registers
 returns-clause-registers c =

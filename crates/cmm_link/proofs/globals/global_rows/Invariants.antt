@@ -1,5 +1,5 @@
 use Rattle.std.proofs.Common.{◌≡◌, map, take, All}
-use Rattle.cmm_link.specs.Rows.{global_row}
+use Rattle.cmm_image_machine.specs.Tables.{global_row}
 use Rattle.cmm_link.specs.inside.Named.{IsNamedGlobal}
 use Rattle.cmm_link.proofs.globals.global_rows.Given as goal
 

@@ -1,5 +1,5 @@
 use Rattle.std.proofs.Common.{◌≡◌, map, take, All}
-use Rattle.cmm_tables.specs.ProcedureRows.{variable_row}
+use Rattle.cmm_image_machine.specs.Tables.{variable_row}
 use Rattle.cmm_link.specs.inside.Named.{HasByteKind}
 use Rattle.cmm_link.proofs.procedures.variables.Given as goal
 

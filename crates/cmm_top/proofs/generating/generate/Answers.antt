@@ -31,7 +31,7 @@ returns-in-Err-load g c = λ files faults failed.
     inr (inr (inr (ran_out here here refl)))
 
 pub put_counts-requires : goal.put_counts-requires
-put_counts-requires g c = sites_are_few c.in-Ok.compiled.program c.in-Ok.ensures.means.range
+put_counts-requires g c = sites_are_few c.in-Ok.compiled.program c.in-Ok.ensures.range
 
 pub returns-in_default : goal.returns-in_default
 returns-in_default g c = λ files faults failed.
