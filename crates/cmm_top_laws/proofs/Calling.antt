@@ -17,7 +17,7 @@ use Rattle.cmm_command.specs.declared.command.RunLimits.{RunLimits}
 use Rattle.cmm_top.specs.Generating.{usual_limits}
 use Rattle.cmm_top.specs.Work.{no_script}
 use Rattle.cmm_top_laws.specs.Calls.{CanRun, RunsOf}
-use Rattle.cmm_top_laws.specs.Laws.{BuiltFilesRunSo, ExecIsTheMachine, GenIsTheMachine}
+use Rattle.cmm_top_laws.specs.Laws.{BuiltBytesRunSo, BuiltFilesRunSo, ExecIsTheMachine, GenIsTheMachine}
 use Rattle.cmm_top_laws.proofs.Explaining.{runs_are_explained}
 
 -- the input by which a run is explained has bytes
@@ -73,12 +73,9 @@ holds_told : (later : Contents) (files : Option Contents) (name bytes : List ℕ
 holds_told later None name bytes is told = absurd (cc is)
 holds_told later (Some f) name bytes is told = let same : later ≡ f = cc (sym is) in ap (λ (g : Contents). g name) same ∙ told
 
-pub built_files_run_so : ImagesAreOne → BuiltFilesRunSo
-built_files_run_so one names name client limits save built ran can files told made now later is_now is_later same run =
+pub built_bytes_run_so : ImagesAreOne → BuiltBytesRunSo
+built_bytes_run_so one names to from client limits save built ran can made run bytes =
     let units = made.built.agrees in
-    let here = written_has files now _ _ name made.bytes told is_now made.written in
-    let there = holds_told later _ name run.spelled.0 is_later run.spelled.1 in
-    let bytes : made.bytes ≡ run.spelled.0 = cc (sym here ∙ sym same ∙ there) in
     let image : made.built.image ≡ run.image = one run.spelled.0 made.built.image run.image (subst (λ (bs : List ℕ). SpellsImage bs made.built.image) bytes made.built.spelled) run.spelled.2 in
     record {
       program = units.2.program;
@@ -93,3 +90,10 @@ built_files_run_so one names name client limits save built ran can files told ma
           (subst (λ (i : ImageParts). AgreesWith units.2.program i) image units.2.agrees) can run.runs;
       saves = run.saves;
     }
+
+pub built_files_run_so : BuiltBytesRunSo → BuiltFilesRunSo
+built_files_run_so so names name client limits save built ran can files told made now later is_now is_later same run =
+    let here = written_has files now _ _ name made.bytes told is_now made.written in
+    let there = holds_told later _ name run.spelled.0 is_later run.spelled.1 in
+    let bytes : made.bytes ≡ run.spelled.0 = cc (sym here ∙ sym same ∙ there) in
+    so names name name client limits save built ran can made run bytes

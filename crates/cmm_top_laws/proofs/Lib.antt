@@ -1,4 +1,5 @@
 pub mod Explaining
 pub mod Calling
+pub mod Snapshots
 pub mod Asking
 mod CallRows

@@ -1,16 +1,24 @@
 -- What a user relies on: calls do what the C-- machine does.
-use Rattle.std.specs.Prelude.{◌≡◌, ℕ, IfSome, List, Option, Some}
+use Rattle.std.specs.Prelude.{◌≡◌, ℕ, ◌+◌, ◌*◌, false, IfSome, List, Option, Some}
 use Rattle.std.specs.List.{All}
 use Rattle.rv_table.specs.Machine as rv
 use Rattle.cmm_outside.specs.Storage.{Contents}
+use Rattle.cmm_script.specs.declared.script.Script.{Script}
+use Rattle.cmm_script.specs.Walk.{Activation}
+use Rattle.cmm_program.specs.Bounds.{step_factor}
 use Rattle.cmm_program.specs.Machine.{start}
 use Rattle.cmm_program.specs.State.{Setting}
+use Rattle.cmm_program.specs.Walks.{walk_of}
 use Rattle.cmm_machine_laws.specs.Fitting.{IsByte}
+use Rattle.cmm_image.specs.declared.parts.ImageParts.{ImageParts}
+use Rattle.cmm_image.specs.Images.{SpellsImage}
 use Rattle.cmm_image_machine.specs.Machine.{Launch, first_run, region_of}
 use Rattle.cmm_image_machine.specs.Observed.{image_machine}
 use Rattle.cmm_image_machine.specs.Walks.{chain_walk}
 use Rattle.cmm_image_machine.specs.Agreeing.{AgreesOnceBegun}
+use Rattle.cmm_compile.specs.Agreement.{launch_of, setting_of}
 use Rattle.cmm_run.specs.declared.outcome.Outcome.{Outcome}
+use Rattle.cmm_run.specs.declared.outcome.Outcome.TheVariants.{Stopped}
 use Rattle.cmm_run.specs.Outside.{Outside as Streams}
 use Rattle.cmm_run.specs.Runs.{Runs}
 use Rattle.cmm_command.specs.declared.command.RunLimits.{RunLimits}
@@ -18,10 +26,13 @@ use Rattle.cmm_top.specs.Building.{HasBuilt}
 use Rattle.cmm_top.specs.Executing as executing
 use Rattle.cmm_top.specs.Generating as generating
 use Rattle.cmm_top.specs.Running as running
+use Rattle.cmm_top.specs.Saving.{HasSaved, IsSnapshotOf}
+use Rattle.cmm_top.specs.Walking.{HasWalked}
 use Rattle.cmm_top.specs.Words.{Task, task_of}
 use Rattle.cmm_top.specs.Work.{Work}
 use Rattle.cmm_top_laws.specs.Calls.{CanRun, HasStackSize, IsMachineOf, IsMachineOfBuilt, IsMachineOfGenerated}
-use Rattle.cmm_top_laws.specs.Explained.{IsExplained, machine_in}
+use Rattle.cmm_top_laws.specs.Explained.{IsExplained, machine_in, state_at}
+use Rattle.cmm_top_laws.specs.Walked.{WalksSo}
 
 -- the C-- machine explains a run of an image that agrees with it
 abbrev pub RunsAreExplained : Type 0
@@ -33,6 +44,12 @@ RunsAreExplained = (s : Setting) (l : Launch) (factor n : ℕ) (before after : S
 abbrev pub ExecIsTheMachine : Type 0
 ExecIsTheMachine = (names : List (List ℕ)) (client : Option (List ℕ)) (limits : RunLimits) (w : Work) → CanRun limits w.before.streams →
     executing.HasRun names client limits w → IsMachineOf names client limits w
+
+-- where `build` has written bytes, and `run` has run the same bytes
+abbrev pub BuiltBytesRunSo : Type 0
+BuiltBytesRunSo = (names : List (List ℕ)) (to from : List ℕ) (client : Option (List ℕ)) (limits : RunLimits) (save : Option (List ℕ)) (built ran : Work) →
+    CanRun limits ran.before.streams → (made : HasBuilt names to built) (run : running.HasRun from client limits save ran) → made.bytes ≡ run.spelled.0 →
+    IsMachineOfBuilt built.before.files names client limits save ran
 
 -- where `build` has written a file, and `run` has run what it held then, for files that tell what they hold
 abbrev pub BuiltFilesRunSo : Type 0
@@ -48,3 +65,17 @@ GenIsTheMachine = (number : ℕ) (w : Work) → IfSome w.before.streams.input (A
 -- words ask for no stack of another size
 abbrev pub WordsGiveStackSizes : Type 0
 WordsGiveStackSizes = (words : List (List ℕ)) (task : Task) → task_of words ≡ Some task → HasStackSize task
+
+-- where a run of an image stood so when its client stopped it, and `walk` has read this image and the snapshot of that
+abbrev pub SnapshotsWalkSo : Type 0
+SnapshotsWalkSo = (image : ImageParts) (script : Script) (stack : ℕ) (stood : rv.State) (bytes : List ℕ) (walk : List Activation) → IsSnapshotOf image stack stood bytes →
+    chain_walk image (region_of (launch_of image script stack)) stood ≡ Some walk → (name snapshot : List ℕ) (w : Work) (walked : HasWalked name snapshot w) →
+    walked.program.image ≡ image → walked.stopped.0 ≡ bytes → WalksSo walk w
+
+-- where the client has stopped a run of what was built, its snapshot was saved, and `walk` has read the same image and the same snapshot, unless the machine has gone wrong
+abbrev pub SavedRunsWalkSo : Type 0
+SavedRunsWalkSo = (contents : Option Contents) (names : List (List ℕ)) (client : Option (List ℕ)) (limits : RunLimits) (saved : List ℕ) (ran : Work)
+    (so : IsMachineOfBuilt contents names client limits (Some saved) ran) → so.answer ≡ Stopped → (has : HasSaved so.image limits.stack so.stood saved ran) →
+    (name : List ℕ) (w : Work) (walked : HasWalked name saved w) → SpellsImage walked.spelled.0 so.image → walked.stopped.0 ≡ has.bytes →
+    let s = setting_of so.program so.image so.script limits.stack in let end = state_at s so.explained.input (step_factor so.program * (limits.steps + 1)) in
+    (machine_in s).wrong end ≡ false → WalksSo (walk_of s end.store) w

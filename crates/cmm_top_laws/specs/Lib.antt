@@ -1,3 +1,4 @@
 pub mod Explained
 pub mod Calls
+pub mod Walked
 pub mod Laws
