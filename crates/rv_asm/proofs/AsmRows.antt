@@ -3,7 +3,7 @@ use Rattle.std.proofs.Common.{◌≡◌, ℕ, refl, arith, inl, negsuc}
 use Rattle.std.specs.Prelude.{List, [], ◌∷◌, Option, Some, None, true, false, ◌==◌}
 use Rattle.std.specs.Int.{w32, to_le_bytes}
 use Rattle.std.specs.List.{All, flat_map}
-use Rattle.std.proofs.lemmas.List.Elements.{All-cons, All-from_recursion, All-nil}
+use Rattle.std.proofs.lemmas.List.Elements.{All-from_recursion}
 use Rattle.cmm_words.specs.declared.operators.Cmp.TheVariants.{Ne}
 use Rattle.rv_table.specs.declared.instruction.Instr.TheVariants.{Addi}
 use Rattle.rv_table.specs.Machine.{MemoryMap, State, steps}
@@ -20,7 +20,7 @@ use Rattle.rv_asm.specs.declared.part.Meaning.TheVariants.{Inner, Outer}
 use Rattle.rv_asm.specs.declared.part.Part.{Part}
 use Rattle.rv_asm.specs.declared.part.Part.TheVariants.{Single, Place, Branch, Jump, Call, Address, Table}
 
--- ---- a program: two places, a symbol that is called, and one whose value is taken
+-- ---- a program: two places, a symbol that is called and whose value is taken as well, and one whose value is taken alone
 abbrev label : ℕ → Label
 label n = record { number = n }
 
@@ -34,13 +34,14 @@ parts =
     ∷ Branch Ne 10 0 (label 0)
     ∷ Call (label 1)
     ∷ Address 5 (label 2)
+    ∷ Address 28 (label 1)
     ∷ Table (label 0 ∷ label 3 ∷ [])
     ∷ Place (label 3)
     ∷ Jump (label 3)
     ∷ []
 
 abbrev places : List ℕ
-places = 0x10000 ∷ 0 ∷ 0 ∷ 0x1003c ∷ []
+places = 0x10000 ∷ 0 ∷ 0 ∷ 0x10044 ∷ []
 
 abbrev value : ℕ → ℕ
 value symbol = elim (symbol == 7) [ true ↦ 0x11900 | false ↦ 0x1a8 ]
@@ -51,7 +52,7 @@ words ws = flat_map (to_le_bytes w32) ws
 -- the second place is behind the table, with the word of the jump behind it; and the table has three words
 behind_table : IsBehind (label 3) 1 parts
 behind_table = record {
-  front = Place (label 0) ∷ Single (Addi 10 10 (negsuc 0)) ∷ Branch Ne 10 0 (label 0) ∷ Call (label 1) ∷ Address 5 (label 2) ∷ [];
+  front = Place (label 0) ∷ Single (Addi 10 10 (negsuc 0)) ∷ Branch Ne 10 0 (label 0) ∷ Call (label 1) ∷ Address 5 (label 2) ∷ Address 28 (label 1) ∷ [];
   part = Table (label 0 ∷ label 3 ∷ []);
   back = Jump (label 3) ∷ [];
   is = refl;
@@ -65,26 +66,30 @@ table_words = record { parts = Table (label 0 ∷ label 3 ∷ []) ∷ []; added 
 -- ---- its bytes
 abbrev bytes : List ℕ
 bytes = words
-    (0xfff50513 ∷ 0x00050663 ∷ 0x00000317 ∷ 0xff830067 ∷ 0x00000097 ∷ 0x000080e7 ∷ 0x000002b7 ∷ 0x00028293 ∷ 0x00c0006f ∷ 0x0100006f
-    ∷ 0x0140006f ∷ 0x00000317 ∷ 0xfd430067 ∷ 0x00000317 ∷ 0x00830067 ∷ 0x00000317 ∷ 0x00030067 ∷ [])
+    (0xfff50513 ∷ 0x00050663 ∷ 0x00000317 ∷ 0xff830067 ∷ 0x00000097 ∷ 0x000080e7 ∷ 0x000002b7 ∷ 0x00028293 ∷ 0x00000e37 ∷ 0x000e0e13
+    ∷ 0x00c0006f ∷ 0x0100006f ∷ 0x0140006f ∷ 0x00000317 ∷ 0xfcc30067 ∷ 0x00000317 ∷ 0x00830067 ∷ 0x00000317 ∷ 0x00030067 ∷ [])
 
 made : code_of (code_by labels places unfilled 0x10000 parts) ≡ bytes
 made = refl
 
 abbrev fixes : List CodeFix
-fixes = record { place = 16; symbol = 7; relative = true } ∷ record { place = 24; symbol = 3; relative = false } ∷ []
+fixes =
+    record { place = 16; symbol = 7; relative = true }
+    ∷ record { place = 24; symbol = 3; relative = false }
+    ∷ record { place = 32; symbol = 7; relative = false }
+    ∷ []
 
 fixed : fixes_of labels 0 parts ≡ fixes
 fixed = refl
 
-symbols : (fix_symbols fixes ≡ symbols_of labels parts) × (symbols_of labels parts ≡ (7, true) ∷ (3, false) ∷ [])
+symbols : (fix_symbols fixes ≡ symbols_of labels parts) × (symbols_of labels parts ≡ (7, true) ∷ (3, false) ∷ (7, false) ∷ [])
 symbols = (refl, refl)
 
 -- ---- once the symbols have their numbers
 abbrev code : List ℕ
 code = words
-    (0xfff50513 ∷ 0x00050663 ∷ 0x00000317 ∷ 0xff830067 ∷ 0x00002097 ∷ 0x8f0080e7 ∷ 0x000002b7 ∷ 0x1a828293 ∷ 0x00c0006f ∷ 0x0100006f
-    ∷ 0x0140006f ∷ 0x00000317 ∷ 0xfd430067 ∷ 0x00000317 ∷ 0x00830067 ∷ 0x00000317 ∷ 0x00030067 ∷ [])
+    (0xfff50513 ∷ 0x00050663 ∷ 0x00000317 ∷ 0xff830067 ∷ 0x00002097 ∷ 0x8f0080e7 ∷ 0x000002b7 ∷ 0x1a828293 ∷ 0x00012e37 ∷ 0x900e0e13
+    ∷ 0x00c0006f ∷ 0x0100006f ∷ 0x0140006f ∷ 0x00000317 ∷ 0xfcc30067 ∷ 0x00000317 ∷ 0x00830067 ∷ 0x00000317 ∷ 0x00030067 ∷ [])
 
 given : filled value 0x10000 fixes bytes ≡ code
 given = refl
@@ -95,12 +100,10 @@ map = record { code = code; data_length = 0; region_length = 8192 }
 
 reached : All (IsReached value 0x10000) fixes
 reached =
-    All-cons (IsReached value 0x10000) (record { place = 16; symbol = 7; relative = true }) (record { place = 24; symbol = 3; relative = false } ∷ [])
-    (omega arith, inl (omega arith))
-    (All-cons (IsReached value 0x10000) (record { place = 24; symbol = 3; relative = false }) [] (omega arith, inl (omega arith)) (All-nil (IsReached value 0x10000)))
+    All-from_recursion (IsReached value 0x10000) fixes ((omega arith, inl (omega arith)), ((omega arith, inl (omega arith)), ((omega arith, inl (omega arith)), tt)))
 
 called : All (GoesToCode labels value) parts
-called = All-from_recursion (GoesToCode labels value) parts (tt, (tt, (tt, (refl, (tt, (tt, (tt, (tt, tt))))))))
+called = All-from_recursion (GoesToCode labels value) parts (tt, (tt, (tt, (refl, (tt, (tt, (tt, (tt, (tt, tt)))))))))
 
 contained : Contains map 0x10000 (filled value 0x10000 fixes bytes)
 contained = record { front = []; back = []; whole = refl; place = refl }
@@ -117,11 +120,18 @@ comes_to None = None
 branches : (comes_to (steps map 4 (from 0x10000 2)) ≡ Some 0x10000) × (comes_to (steps map 2 (from 0x10000 1)) ≡ Some 0x10010)
 branches = (refl, refl)
 
--- the call
+-- the call, and the address of what it calls
 calls : comes_to (steps map 2 (from 0x10010 0)) ≡ Some 0x11900
 calls = refl
 
+abbrev has : Option State → ℕ → Option ℕ
+has (Some t) k = Some (t.registers k)
+has None k = None
+
+addresses : (has (steps map 2 (from 0x10018 0)) 5 ≡ Some 0x1a8) × (has (steps map 2 (from 0x10020 0)) 28 ≡ Some 0x11900)
+addresses = (refl, refl)
+
 -- the words of the table, and the place after them
-goes : (comes_to (steps map 3 (from 0x10020 0)) ≡ Some 0x10000) × (comes_to (steps map 3 (from 0x10024 0)) ≡ Some 0x1003c)
-    × (comes_to (steps map 1 (from 0x10028 0)) ≡ Some 0x1003c)
+goes : (comes_to (steps map 3 (from 0x10028 0)) ≡ Some 0x10000) × (comes_to (steps map 3 (from 0x1002c 0)) ≡ Some 0x10044)
+    × (comes_to (steps map 1 (from 0x10030 0)) ≡ Some 0x10044)
 goes = (refl, refl, refl)

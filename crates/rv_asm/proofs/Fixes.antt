@@ -1,6 +1,6 @@
 -- Once its fixes are filled, the code is that of the symbols' numbers.
 use Rattle.std.proofs.Common.{◌≡◌, ℕ, ◌+◌, ◌*◌, ◌<◌, ◌≤◌, refl, sym, ◌∙◌, ap, arith, List, [], ◌∷◌, ◌++◌, length, length-append, append_assoc}
-use Rattle.std.specs.Prelude.{IsTrue}
+use Rattle.std.specs.Prelude.{Bool, true, false, IsTrue}
 use Rattle.std.specs.Int.{w32, to_le_bytes}
 use Rattle.std.specs.List.{All}
 use Rattle.std.proofs.lemmas.Grind.{flat_map-append}
@@ -35,42 +35,41 @@ filled-append value at [] gs bytes = refl
 filled-append value at (f ∷ fs) gs bytes = filled-append value at fs gs _
 
 module _ (labels : List Meaning) (places : List ℕ) (value : ℕ → ℕ) (up base : ℕ) where
-  abbrev before : Label → ℕ → ℕ
+  abbrev before : Bool → Label → ℕ → ℕ
   before = number_of labels places unfilled
 
-  abbrev after : Label → ℕ → ℕ
+  abbrev after : Bool → Label → ℕ → ℕ
   after = number_of labels places (filled_up value up)
 
-  -- a pair that jumps, and one that gives an address
+  -- a pair that jumps: its number is relative
   jump_filled : (meant : Meaning) (l r d : ℕ) (front back : List ℕ) → r < 32 → d < 32 →
-      filled value (base + up) (fix_by meant (length front))
-      (front ++ (code_of (far r d (number_by unfilled places meant l (base + length front))) ++ back))
-      ≡ front ++ (code_of (far r d (number_by (filled_up value up) places meant l (base + length front))) ++ back)
+      filled value (base + up) (fix_by true meant (length front))
+      (front ++ (code_of (far r d (number_by unfilled places meant true l (base + length front))) ++ back))
+      ≡ front ++ (code_of (far r d (number_by (filled_up value up) places meant true l (base + length front))) ++ back)
   jump_filled (Inner placed) l r d front back h g = refl
-  jump_filled (Outer symbol relative) l r d front back h g =
+  jump_filled (Outer symbol target) l r d front back h g =
       let same : base + up + length front ≡ base + length front + up = omega arith in
-      let n = number_at relative (value symbol) (base + length front + up) in
+      let n = number_at true (value symbol) (base + length front + up) in
       rw same
       (pair_filled front back n (word_of (Auipc r (high 0))) (word_of (Jalr d r (low 0))) (word_of (Auipc r (high n))) (word_of (Jalr d r (low n)))
       (word_of-lt (Auipc r (high 0)) (auipc_valid r 0 h)) (word_of-lt (Jalr d r (low 0)) (jalr_valid d r 0 g h)) (auipc_filled r n h) (jalr_filled d r n g h))
 
+  -- and one that gives an address
   address_filled : (meant : Meaning) (l r : ℕ) (front back : List ℕ) → r < 32 →
-      filled value (base + up) (fix_by meant (length front))
-      (front ++ (code_of (begins meant r (high (number_by unfilled places meant l (base + length front))) ∷ Addi r r (low (number_by unfilled places meant l (base + length front))) ∷ []) ++ back))
-      ≡ front ++ (code_of (begins meant r (high (number_by (filled_up value up) places meant l (base + length front))) ∷ Addi r r (low (number_by (filled_up value up) places meant l (base + length front))) ∷ []) ++ back)
+      filled value (base + up) (fix_by false meant (length front))
+      (front ++ (code_of (begins meant r (high (number_by unfilled places meant false l (base + length front))) ∷ Addi r r (low (number_by unfilled places meant false l (base + length front))) ∷ []) ++ back))
+      ≡ front ++ (code_of (begins meant r (high (number_by (filled_up value up) places meant false l (base + length front))) ∷ Addi r r (low (number_by (filled_up value up) places meant false l (base + length front))) ∷ []) ++ back)
   address_filled (Inner placed) l r front back h = refl
-  address_filled (Outer symbol relative) l r front back h =
-      let same : base + up + length front ≡ base + length front + up = omega arith in
-      let n = number_at relative (value symbol) (base + length front + up) in
-      let first = begins (Outer symbol relative) r in
-      rw same
-      (pair_filled front back n (word_of (first (high 0))) (word_of (Addi r r (low 0))) (word_of (first (high n))) (word_of (Addi r r (low n)))
-      (word_of-lt (first (high 0)) (begins_valid (Outer symbol relative) r 0 h)) (word_of-lt (Addi r r (low 0)) (addi_valid r r 0 h h))
-      (begins_filled (Outer symbol relative) r n h) (addi_filled r r n h h))
+  address_filled (Outer symbol target) l r front back h =
+      let n = value symbol in
+      let first = begins (Outer symbol target) r in
+      pair_filled front back n (word_of (first (high 0))) (word_of (Addi r r (low 0))) (word_of (first (high n))) (word_of (Addi r r (low n)))
+      (word_of-lt (first (high 0)) (begins_valid (Outer symbol target) r 0 h)) (word_of-lt (Addi r r (low 0)) (addi_valid r r 0 h h))
+      (begins_filled (Outer symbol target) r n h) (addi_filled r r n h h)
 
-  inner_same : (meant : Meaning) (l from : ℕ) → IsTrue (is_inner meant) → number_by unfilled places meant l from ≡ number_by (filled_up value up) places meant l from
+  inner_same : (meant : Meaning) (l from : ℕ) → IsTrue (is_inner meant) → number_by unfilled places meant true l from ≡ number_by (filled_up value up) places meant true l from
   inner_same (Inner placed) l from is = refl
-  inner_same (Outer symbol relative) l from is = absurd (cc)
+  inner_same (Outer symbol target) l from is = absurd (cc)
 
   far_jumps_same : (from : ℕ) (ls : List Label) → All (IsInner labels) ls → far_jumps before from ls ≡ far_jumps after from ls
   far_jumps_same from [] inner = refl
@@ -114,15 +113,15 @@ module _ (labels : List Meaning) (places : List ℕ) (value : ℕ → ℕ) (up b
       ∙ rest ∙ append_assoc front (code_of is') (code_of js') ∙ ap (λ (bytes : List ℕ). front ++ bytes) (sym (code-append is' js'))
 
 -- ---- what the fixes are
-by_symbols : (meant : Meaning) (place : ℕ) → fix_symbols (fix_by meant place) ≡ symbol_by meant
-by_symbols (Inner placed) place = refl
-by_symbols (Outer symbol relative) place = refl
+by_symbols : (relative : Bool) (meant : Meaning) (place : ℕ) → fix_symbols (fix_by relative meant place) ≡ symbol_by relative meant
+by_symbols relative (Inner placed) place = refl
+by_symbols relative (Outer symbol target) place = refl
 
 module _ (labels : List Meaning) where
   of_symbols : (place : ℕ) (p : Part) → fix_symbols (fix_of labels place p) ≡ symbol_of labels p
-  of_symbols place (Jump l) = by_symbols (meaning labels l) place
-  of_symbols place (Call l) = by_symbols (meaning labels l) place
-  of_symbols place (Address rd l) = by_symbols (meaning labels l) place
+  of_symbols place (Jump l) = by_symbols true (meaning labels l) place
+  of_symbols place (Call l) = by_symbols true (meaning labels l) place
+  of_symbols place (Address rd l) = by_symbols false (meaning labels l) place
   of_symbols place (Single i) = refl
   of_symbols place (Place l) = refl
   of_symbols place (Branch c a b l) = refl
@@ -137,14 +136,14 @@ module _ (labels : List Meaning) where
       in
       rw (whole, of_symbols place p, symbols_are (place + longest p) ps) refl
 
-  by_apart : (meant : Meaning) (place end : ℕ) (fs : List CodeFix) → AreApart (place + 8) fs end → AreApart place (fix_by meant place ++ fs) end
-  by_apart (Inner placed) place end fs apart = apart_later (λ (f : CodeFix). f.place) place (place + 8) end fs (omega arith) apart
-  by_apart (Outer symbol relative) place end fs apart = (omega arith, apart)
+  by_apart : (relative : Bool) (meant : Meaning) (place end : ℕ) (fs : List CodeFix) → AreApart (place + 8) fs end → AreApart place (fix_by relative meant place ++ fs) end
+  by_apart relative (Inner placed) place end fs apart = apart_later (λ (f : CodeFix). f.place) place (place + 8) end fs (omega arith) apart
+  by_apart relative (Outer symbol target) place end fs apart = (omega arith, apart)
 
   part_apart : (place end : ℕ) (p : Part) (fs : List CodeFix) → AreApart (place + longest p) fs end → AreApart place (fix_of labels place p ++ fs) end
-  part_apart place end (Jump l) fs apart = by_apart (meaning labels l) place end fs apart
-  part_apart place end (Call l) fs apart = by_apart (meaning labels l) place end fs apart
-  part_apart place end (Address rd l) fs apart = by_apart (meaning labels l) place end fs apart
+  part_apart place end (Jump l) fs apart = by_apart true (meaning labels l) place end fs apart
+  part_apart place end (Call l) fs apart = by_apart true (meaning labels l) place end fs apart
+  part_apart place end (Address rd l) fs apart = by_apart false (meaning labels l) place end fs apart
   part_apart place end (Single i) fs apart = apart_later (λ (f : CodeFix). f.place) place (place + 4) end fs (omega arith) apart
   part_apart place end (Place l) fs apart = apart_later (λ (f : CodeFix). f.place) place (place + 0) end fs (omega arith) apart
   part_apart place end (Branch c a b l) fs apart = apart_later (λ (f : CodeFix). f.place) place (place + 12) end fs (omega arith) apart

@@ -1,6 +1,6 @@
 -- The bytes of parts, added up, and the instructions of the parts before an index.
 use Rattle.std.proofs.Common.{◌≡◌, ℕ, zero, suc, ◌+◌, ◌*◌, ◌%◌, ◌≤◌, ◌^◌, refl, arith, List, [], ◌∷◌, ◌++◌, length, length-append, take, append_assoc, append-nil, Some}
-use Rattle.std.specs.Prelude.{slice_get}
+use Rattle.std.specs.Prelude.{Bool, slice_get}
 use Rattle.std.proofs.Math.Seq.{take-suc}
 use Rattle.std.proofs.lemmas.Option.{slice_get_within, get_or_from_slice_get}
 use Rattle.rv_asm.specs.Assembly.{Fits}
@@ -65,7 +65,7 @@ pub length-entries : (ahead : ℕ) (ls : List Label) → length (entries ahead l
 length-entries ahead [] = refl
 length-entries ahead (l ∷ ls) = omega (arith, length-entries (ahead + 4) ls)
 
-module _ (number : Label → ℕ → ℕ) (labels : List Meaning) where
+module _ (number : Bool → Label → ℕ → ℕ) (labels : List Meaning) where
   length-far_jumps : (from : ℕ) (ls : List Label) → length (far_jumps number from ls) ≡ 2 * length ls
   length-far_jumps from [] = refl
   length-far_jumps from (l ∷ ls) = omega (arith, length-far_jumps (from + 8) ls)
@@ -108,7 +108,7 @@ module _ (labels : List Meaning) where
   fixes_more place ps i p is =
       rw (next_part ps i p is, fixes-append place (take i ps) (p ∷ []), append-nil (fix_of labels (place + all_longest (take i ps)) p)) refl
 
-pub all_size : (number : Label → ℕ → ℕ) (labels : List Meaning) (from : ℕ) (ps : List Part) →
+pub all_size : (number : Bool → Label → ℕ → ℕ) (labels : List Meaning) (from : ℕ) (ps : List Part) →
     4 * length (all_instructions number labels from ps) ≡ all_longest ps
 all_size number labels from [] = refl
 all_size number labels from (p ∷ ps) =

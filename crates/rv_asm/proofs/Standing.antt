@@ -36,58 +36,47 @@ module _ (m : MemoryMap) (labels : List Meaning) (places : List ℕ) (base up : 
   abbrev code : Code
   code = record { map = m; at = address_of labels places up value }
 
-  abbrev number : Label → ℕ → ℕ
+  abbrev number : Bool → Label → ℕ → ℕ
   number = number_of labels places (filled_up value up)
 
   -- a place in the code, seen from an address
   inner_leads : (l : Label) (meant : Meaning) (from : ℕ) → IsTrue (is_inner meant) → IsCodeAddress (slice_index places l.number) → from ≤ 2 ^ 30 →
-      LeadsTo (from + up) (stands_for value up places meant l.number) (number_by (filled_up value up) places meant l.number from)
+      LeadsTo (from + up) (stands_for value up places meant l.number) (number_by (filled_up value up) places meant true l.number from)
   inner_leads l (Inner placed) from is within low = record {
     near = distance_near (slice_index places l.number) from within.0 low;
     there = distance_up up (slice_index places l.number) from small within.0 low;
     aligned = omega (arith, within.1, even);
   }
-  inner_leads l (Outer symbol relative) from is within low = absurd (cc)
+  inner_leads l (Outer symbol target) from is within low = absurd (cc)
 
   -- what control goes to, seen from there: a place in the code or a symbol
   target_leads : (l : Label) (meant : Meaning) (place : ℕ) → IsTrue (is_target meant) → IsAligned value meant →
-      All (IsReached value (base + up)) (fix_by meant place) → IsCodeAddress (slice_index places l.number) → base + place ≤ 2 ^ 30 →
-      LeadsTo (base + place + up) (stands_for value up places meant l.number) (number_by (filled_up value up) places meant l.number (base + place))
+      All (IsReached value (base + up)) (fix_by true meant place) → IsCodeAddress (slice_index places l.number) → base + place ≤ 2 ^ 30 →
+      LeadsTo (base + place + up) (stands_for value up places meant l.number) (number_by (filled_up value up) places meant true l.number (base + place))
   target_leads l (Inner placed) place is aligned reached within low = inner_leads l (Inner placed) (base + place) refl within low
-  target_leads l (Outer symbol relative) place is aligned reached within low =
-      let here : IsReached value (base + up) (record { place = place; symbol = symbol; relative = relative }) =
-      All-head (IsReached value (base + up)) (record { place = place; symbol = symbol; relative = relative }) [] reached
+  target_leads l (Outer symbol target) place is aligned reached within low =
+      let here : IsReached value (base + up) (record { place = place; symbol = symbol; relative = true }) =
+      All-head (IsReached value (base + up)) (record { place = place; symbol = symbol; relative = true }) [] reached
       in
-      by relative is here.0 here.1
-    where
-      by : (r : Bool) → IsTrue r → value symbol < 2 ^ 64 → IsNear (number_at r (value symbol) (base + up + place)) →
-          LeadsTo (base + place + up) (value symbol) (number_at r (value symbol) (base + place + up))
-      by true e fits near =
-          let same : base + up + place ≡ base + place + up = omega arith in
-          record { near = rw same at near; there = distance_back (value symbol) (base + place + up) fits (omega arith); aligned = aligned }
-      by false e fits near = absurd (cc)
+      let same : base + up + place ≡ base + place + up = omega arith in
+      record { near = rw same at here.1; there = distance_back (value symbol) (base + place + up) here.0 (omega arith); aligned = aligned }
 
-  -- an address or a value that is taken
+  -- an address that is taken: that of a symbol by its value
   taken : (l : Label) (rd : ℕ) (meant : Meaning) (place : ℕ) → meaning labels l ≡ meant → rd ≢ 0 →
-      All (IsReached value (base + up)) (fix_by meant place) → IsCodeAddress (slice_index places l.number) → base + place ≤ 2 ^ 30 →
-      Stands m.code (base + place + up) (begins meant rd (high (number_by (filled_up value up) places meant l.number (base + place)))
-      ∷ Addi rd rd (low (number_by (filled_up value up) places meant l.number (base + place))) ∷ []) →
+      All (IsReached value (base + up)) (fix_by false meant place) → IsCodeAddress (slice_index places l.number) → base + place ≤ 2 ^ 30 →
+      Stands m.code (base + place + up) (begins meant rd (high (number_by (filled_up value up) places meant false l.number (base + place)))
+      ∷ Addi rd rd (low (number_by (filled_up value up) places meant false l.number (base + place))) ∷ []) →
       Does code (Address rd l) (base + place + up) (base + place + up + 8)
   taken l rd (Inner placed) place is written reached within low stands =
       let leads = inner_leads l (Inner placed) (base + place) refl within low in
       does_relative code l rd (base + place + up) _ written stands leads.near (leads.there ∙ ap (λ n. stands_for value up places n l.number) (sym is))
-  taken l rd (Outer symbol true) place is written reached within low stands =
-      let here = All-head (IsReached value (base + up)) (record { place = place; symbol = symbol; relative = true }) [] reached in
-      let same : base + up + place ≡ base + place + up = omega arith in
-      does_relative code l rd (base + place + up) _ written stands (rw same at here.1)
-      (distance_back (value symbol) (base + place + up) here.0 (omega arith) ∙ ap (λ n. stands_for value up places n l.number) (sym is))
-  taken l rd (Outer symbol false) place is written reached within low stands =
+  taken l rd (Outer symbol target) place is written reached within low stands =
       let here = All-head (IsReached value (base + up)) (record { place = place; symbol = symbol; relative = false }) [] reached in
       does_absolute code l rd (base + place + up) _ written stands here.1 (ap (λ n. stands_for value up places n l.number) (sym is))
 
   inner_stands_for : (meant : Meaning) (l : ℕ) → IsTrue (is_inner meant) → stands_for value up places meant l ≡ slice_index places l + up
   inner_stands_for (Inner placed) l is = refl
-  inner_stands_for (Outer symbol relative) l is = absurd (cc)
+  inner_stands_for (Outer symbol target) l is = absurd (cc)
 
   module _ (addresses : All IsCodeAddress places) (count : length places ≡ length labels) where
     within : (l : Label) → l.number < length labels → IsCodeAddress (slice_index places l.number)
@@ -117,7 +106,7 @@ module _ (m : MemoryMap) (labels : List Meaning) (places : List ℕ) (base up : 
       where
         leads : (i : ℕ) (l : Label) → slice_get ls i ≡ Some l →
             LeadsTo (base + place + up + (4 * length ls + 4) + 8 * i) (address_of labels places up value l.number)
-            (number l (base + place + 4 * length ls + 4 + 8 * i))
+            (number true l (base + place + 4 * length ls + 4 + 8 * i))
         leads i l is =
             let less = slice_get_within ls i l is in
             let inner : (l.number < length labels) × IsTrue (is_inner (meaning labels l)) =

@@ -1,6 +1,6 @@
 -- The instructions of parts are valid.
 use Rattle.std.proofs.Common.{◌≡◌, ℕ, ◌+◌, ◌*◌, ◌%◌, ◌<◌, ◌≤◌, ◌^◌, refl, arith, List, [], ◌∷◌, length, pos, negsuc}
-use Rattle.std.specs.Prelude.{true, false}
+use Rattle.std.specs.Prelude.{Bool, true, false}
 use Rattle.std.specs.List.{All}
 use Rattle.std.proofs.lemmas.Int.{ints}
 use Rattle.std.proofs.lemmas.Bool.Decides.{nat_tests}
@@ -43,8 +43,7 @@ auipc_valid rd n h = (h, high_between n)
 
 pub begins_valid : (meant : Meaning) (rd n : ℕ) → rd < 32 → IsValid (begins meant rd (high n))
 begins_valid (Inner placed) rd n h = (h, high_between n)
-begins_valid (Outer symbol true) rd n h = (h, high_between n)
-begins_valid (Outer symbol false) rd n h = (h, high_between n)
+begins_valid (Outer symbol target) rd n h = (h, high_between n)
 
 pub jalr_valid : (rd rs n : ℕ) → rd < 32 → rs < 32 → IsValid (Jalr rd rs (low n))
 jalr_valid rd rs n h g = ((h, g), low_between n)
@@ -70,24 +69,24 @@ entries_valid ahead [] even near = All-nil IsValid
 entries_valid ahead (l ∷ ls) even near =
     All-cons IsValid (Jal 0 (pos ahead)) (entries (ahead + 4) ls) (jal_valid ahead even (omega arith)) (entries_valid (ahead + 4) ls (omega arith) (omega arith))
 
-module _ (number : Label → ℕ → ℕ) (labels : List Meaning) where
+module _ (number : Bool → Label → ℕ → ℕ) (labels : List Meaning) where
   far_jumps_valid : (from : ℕ) (ls : List Label) → All IsValid (far_jumps number from ls)
   far_jumps_valid from [] = All-nil IsValid
   far_jumps_valid from (l ∷ ls) =
-      All-append IsValid (far 6 0 (number l from)) (far_jumps number (from + 8) ls) (far_valid 6 0 (number l from) (omega arith) (omega arith))
+      All-append IsValid (far 6 0 (number true l from)) (far_jumps number (from + 8) ls) (far_valid 6 0 (number true l from) (omega arith) (omega arith))
       (far_jumps_valid (from + 8) ls)
 
   part_valid : (from : ℕ) (p : Part) → Fits labels p → All IsValid (instructions number labels from p)
   part_valid from (Single i) fits = one i fits
   part_valid from (Place l) fits = All-nil IsValid
   part_valid from (Branch c a b l) fits =
-      All-cons IsValid (past_unless c a b) (far 6 0 (number l (from + 4))) (past_valid c a b fits.2 fits.3)
-      (far_valid 6 0 (number l (from + 4)) (omega arith) (omega arith))
-  part_valid from (Jump l) fits = far_valid 6 0 (number l from) (omega arith) (omega arith)
-  part_valid from (Call l) fits = far_valid 1 1 (number l from) (omega arith) (omega arith)
+      All-cons IsValid (past_unless c a b) (far 6 0 (number true l (from + 4))) (past_valid c a b fits.2 fits.3)
+      (far_valid 6 0 (number true l (from + 4)) (omega arith) (omega arith))
+  part_valid from (Jump l) fits = far_valid 6 0 (number true l from) (omega arith) (omega arith)
+  part_valid from (Call l) fits = far_valid 1 1 (number true l from) (omega arith) (omega arith)
   part_valid from (Address rd l) fits =
-      two (begins (meaning labels l) rd (high (number l from))) (Addi rd rd (low (number l from)))
-      (begins_valid (meaning labels l) rd (number l from) fits.2) (addi_valid rd rd (number l from) fits.2 fits.2)
+      two (begins (meaning labels l) rd (high (number false l from))) (Addi rd rd (low (number false l from)))
+      (begins_valid (meaning labels l) rd (number false l from) fits.2) (addi_valid rd rd (number false l from) fits.2 fits.2)
   part_valid from (Table ls) fits =
       let few : length ls ≤ 64 = fits.1 in
       All-append IsValid (entries (4 * length ls + 4) ls) (Jal 0 (pos (8 * length ls + 4)) ∷ far_jumps number (from + 4 * length ls + 4) ls)

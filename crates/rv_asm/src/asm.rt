@@ -88,16 +88,17 @@ impl Asm {
         Ok(Label { number })
     }
 
-    /// Makes a label for a symbol outside of the code, by the symbol's number. An error is want of memory, and nothing is changed.
-    pub fn outer(&mut self, symbol: u32, relative: bool) -> Result<Label, AllocError>
+    /// Makes a label for a symbol outside of the code, by the symbol's number, and tells whether control can go to it. An error is want
+    /// of memory, and nothing is changed.
+    pub fn outer(&mut self, symbol: u32, target: bool) -> Result<Label, AllocError>
         requires { length self.old.labels < 2 ^ 32 }
         ensures number { IfOk result (λ label. label.number ≡ length self.old.labels) }
         ensures parts { self.new.parts ≡ self.old.parts }
-        ensures labels { OnOk result (self.new.labels ≡ self.old.labels ++ Meaning.Outer symbol relative ∷ []) }
+        ensures labels { OnOk result (self.new.labels ≡ self.old.labels ++ Meaning.Outer symbol target ∷ []) }
         ensures kept { OnErr result (self.new.labels ≡ self.old.labels) }
     {
         let number = self.labels.len() as u32;
-        self.labels.push(Meaning::Outer { symbol, relative })?;
+        self.labels.push(Meaning::Outer { symbol, target })?;
         Ok(Label { number })
     }
 
@@ -162,8 +163,7 @@ impl Asm {
         self.add(Part::Call(to))
     }
 
-    /// Gives register `rd` the label's address, or the symbol's value where the label is not relative. An error is want of memory,
-    /// and nothing is changed.
+    /// Gives register `rd` the label's address, that of a symbol by its value. An error is want of memory, and nothing is changed.
     pub fn address(&mut self, rd: u8, of: Label) -> Result<(), AllocError>
         requires written { rd ≢ 0 }
         requires register { rd < 32 }

@@ -152,20 +152,24 @@ fn add_fix(
     ensures { OnOk result (fixes.new.items ≡ fixes.old.items ++ fix_of labels.now place part.now) }
 {
     match part {
-        Part::Jump(label) | Part::Call(label) | Part::Address { of: label, .. } => add_fix_by(
-            fixes,
-            labels[label.number as usize],
-            place,
-        ),
+        Part::Jump(label) | Part::Call(label) => {
+            add_fix_by(fixes, labels[label.number as usize], place, true)
+        }
+        Part::Address { of, .. } => add_fix_by(fixes, labels[of.number as usize], place, false),
         Part::Single(_) | Part::Place(_) | Part::Branch { .. } | Part::Table(_) => Ok(()),
     }
 }
 
 /// Adds a fix for a label's symbol, if it has one.
-fn add_fix_by(fixes: &mut Vec<CodeFix>, meaning: Meaning, place: u32) -> Result<(), AllocError>
-    ensures { OnOk result (fixes.new.items ≡ fixes.old.items ++ fix_by meaning place) }
+fn add_fix_by(
+    fixes: &mut Vec<CodeFix>,
+    meaning: Meaning,
+    place: u32,
+    relative: bool,
+) -> Result<(), AllocError>
+    ensures { OnOk result (fixes.new.items ≡ fixes.old.items ++ fix_by relative meaning place) }
 {
-    if let Meaning::Outer { symbol, relative } = meaning {
+    if let Meaning::Outer { symbol, .. } = meaning {
         fixes.push(CodeFix {
             place,
             symbol,

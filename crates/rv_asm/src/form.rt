@@ -1,6 +1,6 @@
 //! The instructions of a part, as bytes: for now the form that reaches any label.
 
-ghost use Rattle.std.specs.Prelude.{◌≡◌, ℕ, ◌+◌, ◌*◌, ◌%◌, ◌<◌, ◌≤◌, ◌^◌, ◌++◌, ◌∷◌, [], length, pos, OnOk, IsTrue};
+ghost use Rattle.std.specs.Prelude.{◌≡◌, ℕ, ◌+◌, ◌*◌, ◌%◌, ◌<◌, ◌≤◌, ◌^◌, ◌++◌, ◌∷◌, [], length, pos, OnOk, IsTrue, true, false};
 ghost use Rattle.std.specs.List.{All};
 ghost use Rattle.rv_table.specs.Stands.{code_of};
 ghost use Rattle.rv_table.specs.Table.{IsValid};
@@ -185,7 +185,8 @@ fn add(bytes: &mut Vec<u8>, instruction: Instr) -> Result<(), AllocError>
 fn number(labels: &[Meaning], places: &[u64], label: Label, from: u64) -> u64
     requires there { IsLabel labels.now label }
     requires count { length places.now ≡ length labels.now }
-    ensures { result ≡ number_of labels.now places.now unfilled label from }
+    ensures distance { result ≡ number_of labels.now places.now unfilled true label from }
+    ensures taken { result ≡ number_of labels.now places.now unfilled false label from }
 {
     match labels[label.number as usize] {
         Meaning::Inner { .. } => places[label.number as usize].wrapping_sub(from),
@@ -223,16 +224,14 @@ fn past_unless(compare: Cmp, left: u8, right: u8) -> Instr
     }
 }
 
-/// The instruction that begins an address: it gives the upper part of a number.
+/// The instruction that begins an address: it gives the upper part of a number, relative to pc for a place in this code.
 fn begin(meaning: Meaning, rd: u8, n: u64) -> Instr
     ensures { result ≡ begins meaning rd (high n) }
 {
+    let imm = high(n);
     match meaning {
-        Meaning::Outer {
-            relative: false,
-            ..
-        } => Instr::Lui { rd, imm: high(n) },
-        _ => Instr::Auipc { rd, imm: high(n) },
+        Meaning::Inner { .. } => Instr::Auipc { rd, imm },
+        Meaning::Outer { .. } => Instr::Lui { rd, imm },
     }
 }
 

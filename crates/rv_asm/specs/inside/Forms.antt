@@ -1,5 +1,5 @@
 -- The instructions of each part: for now the form that reaches any label.
-use Rattle.std.specs.Prelude.{ℕ, ◌+◌, ◌-◌, ◌*◌, ◌/◌, ◌%◌, ◌^◌, ℤ, pos, negsuc, nat_lt, List, [], ◌∷◌, ◌++◌, length, slice_index, Bool, false, if◌then◌else◌}
+use Rattle.std.specs.Prelude.{ℕ, ◌+◌, ◌-◌, ◌*◌, ◌/◌, ◌%◌, ◌^◌, ℤ, pos, negsuc, nat_lt, List, [], ◌∷◌, ◌++◌, length, slice_index, Bool, true, false, if◌then◌else◌}
 use Rattle.cmm_words.specs.declared.operators.Cmp.{Cmp}
 use Rattle.cmm_words.specs.declared.operators.Cmp.TheVariants.{Eq, Ne, Lt, Ge, Ltu, Geu}
 use Rattle.rv_table.specs.declared.instruction.Instr.{Instr}
@@ -35,31 +35,32 @@ past_unless _ a b = Beq a b (pos 12)
 abbrev pub far : ℕ → ℕ → ℕ → List Instr
 far through link n = Auipc through (high n) ∷ Jalr link through (low n) ∷ []
 
--- the instruction that begins an address: relative to pc, or not
+-- the instruction that begins an address: relative to pc for a place in this code, and not for a symbol
 abbrev pub begins : Meaning → ℕ → ℤ → Instr
-begins (Outer symbol false) rd imm = Lui rd imm
-begins _ rd imm = Auipc rd imm
+begins (Inner placed) rd imm = Auipc rd imm
+begins (Outer symbol target) rd imm = Lui rd imm
 
 -- one word for each label of a table, which jumps to the label's far jump
 abbrev pub entries : ℕ → List Label → List Instr
 entries ahead [] = []
 entries ahead (l ∷ ls) = Jal 0 (pos ahead) ∷ entries (ahead + 4) ls
 
-module _ (number : Label → ℕ → ℕ) where
+-- `number` gives how far a label is from an address, or, where it is not asked relative to that, the value of one that stands for a symbol
+module _ (number : Bool → Label → ℕ → ℕ) where
   -- the far jumps of a table that begin at an address
   abbrev pub far_jumps : ℕ → List Label → List Instr
   far_jumps from [] = []
-  far_jumps from (l ∷ ls) = far 6 0 (number l from) ++ far_jumps (from + 8) ls
+  far_jumps from (l ∷ ls) = far 6 0 (number true l from) ++ far_jumps (from + 8) ls
 
-  -- the instructions of a part at an address; `number` gives how far a label is from an address, or its value
+  -- the instructions of a part at an address
   abbrev pub instructions : List Meaning → ℕ → Part → List Instr
   instructions labels from (Single i) = i ∷ []
   instructions labels from (Place l) = []
-  instructions labels from (Branch c a b l) = past_unless c a b ∷ far 6 0 (number l (from + 4))
-  instructions labels from (Jump l) = far 6 0 (number l from)
-  instructions labels from (Call l) = far 1 1 (number l from)
+  instructions labels from (Branch c a b l) = past_unless c a b ∷ far 6 0 (number true l (from + 4))
+  instructions labels from (Jump l) = far 6 0 (number true l from)
+  instructions labels from (Call l) = far 1 1 (number true l from)
   instructions labels from (Address rd l) =
-      begins (meaning labels l) rd (high (number l from)) ∷ Addi rd rd (low (number l from)) ∷ []
+      begins (meaning labels l) rd (high (number false l from)) ∷ Addi rd rd (low (number false l from)) ∷ []
   instructions labels from (Table ls) =
       entries (4 * length ls + 4) ls ++ (Jal 0 (pos (8 * length ls + 4)) ∷ far_jumps (from + 4 * length ls + 4) ls)
 
@@ -68,13 +69,13 @@ module _ (number : Label → ℕ → ℕ) where
   all_instructions labels from [] = []
   all_instructions labels from (p ∷ ps) = instructions labels from p ++ all_instructions labels (from + longest p) ps
 
--- the number of a label at an address; `outer` gives it for a symbol
-abbrev pub number_by : (ℕ → Bool → ℕ → ℕ) → List ℕ → Meaning → ℕ → ℕ → ℕ
-number_by outer places (Inner placed) l from = distance (slice_index places l) from
-number_by outer places (Outer symbol relative) l from = outer symbol relative from
+-- the number of a label at an address; `outer` gives it for a symbol, relative to the address or not
+abbrev pub number_by : (ℕ → Bool → ℕ → ℕ) → List ℕ → Meaning → Bool → ℕ → ℕ → ℕ
+number_by outer places (Inner placed) relative l from = distance (slice_index places l) from
+number_by outer places (Outer symbol target) relative l from = outer symbol relative from
 
-abbrev pub number_of : List Meaning → List ℕ → (ℕ → Bool → ℕ → ℕ) → Label → ℕ → ℕ
-number_of labels places outer l from = number_by outer places (meaning labels l) l.number from
+abbrev pub number_of : List Meaning → List ℕ → (ℕ → Bool → ℕ → ℕ) → Bool → Label → ℕ → ℕ
+number_of labels places outer relative l from = number_by outer places (meaning labels l) relative l.number from
 
 -- all instructions of parts with these labels and places
 abbrev pub code_by : List Meaning → List ℕ → (ℕ → Bool → ℕ → ℕ) → ℕ → List Part → List Instr
@@ -89,14 +90,14 @@ abbrev pub filled_up : (ℕ → ℕ) → ℕ → ℕ → Bool → ℕ → ℕ
 filled_up value up symbol relative from = number_at relative (value symbol) (from + up)
 
 -- each part with a symbol has one fix, where it begins
-abbrev pub fix_by : Meaning → ℕ → List CodeFix
-fix_by (Inner placed) place = []
-fix_by (Outer symbol relative) place = record { place = place; symbol = symbol; relative = relative } ∷ []
+abbrev pub fix_by : Bool → Meaning → ℕ → List CodeFix
+fix_by relative (Inner placed) place = []
+fix_by relative (Outer symbol target) place = record { place = place; symbol = symbol; relative = relative } ∷ []
 
 abbrev pub fix_of : List Meaning → ℕ → Part → List CodeFix
-fix_of labels place (Jump l) = fix_by (meaning labels l) place
-fix_of labels place (Call l) = fix_by (meaning labels l) place
-fix_of labels place (Address rd l) = fix_by (meaning labels l) place
+fix_of labels place (Jump l) = fix_by true (meaning labels l) place
+fix_of labels place (Call l) = fix_by true (meaning labels l) place
+fix_of labels place (Address rd l) = fix_by false (meaning labels l) place
 fix_of labels place _ = []
 
 abbrev pub fixes_of : List Meaning → ℕ → List Part → List CodeFix

@@ -13,7 +13,7 @@ use Rattle.rv_asm.specs.declared.part.Part.TheVariants.{Place}
 abbrev pub room_for : Meaning → ℕ
 room_for (Inner true) = 0
 room_for (Inner false) = 1
-room_for (Outer symbol relative) = 0
+room_for (Outer symbol target) = 0
 
 -- each part fits, and no label is placed twice
 pub record IsSound (parts : List Part) (labels : List Meaning) : Type 0 where
