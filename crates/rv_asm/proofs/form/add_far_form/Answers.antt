@@ -1,7 +1,7 @@
 use Rattle.std.proofs.Common.{true, ◌+◌}
 use Rattle.rv_asm.proofs.Emitting.{code_then}
 use Rattle.rv_asm.specs.inside.Forms.{far, number_of, past_unless, unfilled}
-use Rattle.rv_asm.proofs.form.add_part.Goals as goal
+use Rattle.rv_asm.proofs.form.add_far_form.Goals as goal
 
 pub returns-in_ok-add_far-in-Branch : goal.returns-in_ok-add_far-in-Branch
 returns-in_ok-add_far-in-Branch c =
