@@ -16,10 +16,13 @@ import sys
 from riscv_files import BRANCHES, TOOLS, run, write_or_compare
 
 # The first and a late place of code, and distances at the ends of a low part, of the words' own reach, and beyond.
-FIRST, LATE = 0x10000, 0x3FFF_0000
-NEAR = [0, 4, -4, 2044, 2048, -2048, -2052, 4092, -4096, 0xFFFFC, -0x100000]
+FIRST, LATE, MIDDLE = 0x10000, 0x3FFF_0000, 0x210000
+NEAR = [0, 4, -4, 2044, 2048, -2048, -2052, 4092, -4096, 0xFFFFC, -0x100000, 0xFFFFE, 0x100000, -0x100002]
 PAIRS = [(FIRST, LATE), (LATE, FIRST), (FIRST, FIRST), (LATE, LATE)]
-PAIRS += [(FIRST + 0x200000 + far, FIRST + 0x200000) for far in NEAR]
+PAIRS += [(MIDDLE + far, MIDDLE) for far in NEAR]
+BRANCHED = PAIRS[:2] + [(MIDDLE + far, MIDDLE) for far in [4, -2052, 4094, 4096, -4096, -4098]]
+# How many bytes back one word reaches, of a branch and of a jump; ahead it reaches two fewer.
+BRANCH_REACH, JUMP_REACH = 1 << 12, 1 << 20
 COMPARISONS = dict(zip(BRANCHES, ["Eq", "Ne", "Lt", "Ge", "Ltu", "Geu"]))
 OPPOSITE = {"beq": "bne", "bne": "beq", "blt": "bge", "bge": "blt", "bltu": "bgeu", "bgeu": "bltu"}
 TABLES = [1, 2, 64]
@@ -36,15 +39,22 @@ def linked(folder, text, place, address):
         return [w for (w,) in struct.iter_unpack("<I", f.read())]
 
 
-def linked_pairs(folder, text):
-    return [(place, address, linked(folder, text, place, address)) for place, address in PAIRS]
+def is_near(reach, place, address):
+    return -reach <= place - address <= reach - 2
+
+
+def linked_pairs(folder, near, far):
+    """A part in one word where that reaches its label, and else in the words that reach any."""
+    return [(place, address, linked(folder, near if is_near(JUMP_REACH, place, address) else far, place, address)) for place, address in PAIRS]
 
 
 def branches(folder):
-    """Each branch turned round over a far jump; to a label near and far."""
+    """Each branch, or the one turned round over a far jump; to a label near and far."""
     for name, comparison in COMPARISONS.items():
-        for place, address in [PAIRS[0], PAIRS[1], PAIRS[5], PAIRS[10]]:
-            yield comparison, place, address, linked(folder, f"{OPPOSITE[name]} x10, x31, .+12\ntail label", place, address)
+        for place, address in BRANCHED:
+            far = f"{OPPOSITE[name]} x10, x31, .+12\ntail label"
+            text = f"{name} x10, x31, .{place - address:+}" if is_near(BRANCH_REACH, place, address) else far
+            yield comparison, place, address, linked(folder, text, place, address)
 
 
 def tables(folder):
@@ -110,7 +120,7 @@ def emulated(folder):
         sys.exit(f"QEMU came elsewhere: status {status}")
 
 
-HEAD = """-- The words of parts with labels near and far, as the GNU assembler and linker make them: made by tools/riscv_parts.py.
+HEAD = """-- The words of parts with labels near and far, at the edge of reach too, as the GNU assembler and linker make them: made by tools/riscv_parts.py.
 use Rattle.std.proofs.Common.{◌≡◌, ℕ, refl}
 use Rattle.std.specs.Prelude.{List, [], ◌∷◌, true}
 use Rattle.std.specs.Int.{w32, to_le_bytes}
@@ -120,7 +130,6 @@ use Rattle.cmm_words.specs.declared.operators.Cmp.TheVariants.{Eq, Ne, Lt, Ge, L
 use Rattle.rv_table.specs.Stands.{code_of}
 use Rattle.rv_asm.specs.inside.Forms.{instructions, number_of, unfilled}
 use Rattle.rv_asm.specs.declared.part.Label.{Label}
-use Rattle.rv_asm.specs.declared.part.Meaning.{Meaning}
 use Rattle.rv_asm.specs.declared.part.Meaning.TheVariants.{Inner}
 use Rattle.rv_asm.specs.declared.part.Part.{Part}
 use Rattle.rv_asm.specs.declared.part.Part.TheVariants.{Branch, Jump, Call, Address, Table}
@@ -133,7 +142,7 @@ l = record { number = 0 }
 
 -- the bytes of a part at an address whose label has a place
 abbrev made : Part → ℕ → ℕ → List ℕ
-made part place from = code_of (instructions (number_of (Inner true ∷ []) (place ∷ []) unfilled) (Inner true ∷ []) from part)
+made part place from = code_of (instructions (number_of (Inner true ∷ []) (place ∷ []) unfilled) (place ∷ []) (Inner true ∷ []) from part)
 
 abbrev branch : Cmp → Part
 branch c = Branch c 10 31 l
@@ -148,13 +157,15 @@ def row(name, part, place, address, found):
 def made_files(folder):
     emulated(folder)
     text = HEAD
-    for name, part, spelled in [("jump", "(Jump l)", "tail label"), ("call", "(Call l)", "call label"), ("address", "(Address 31 l)", "la x31, label")]:
+    spelled = [("jump", "(Jump l)", "jal x0, label", "tail label"), ("call", "(Call l)", "jal x1, label", "call label")]
+    spelled += [("address", "(Address 31 l)", "la x31, label", "la x31, label")]
+    for name, part, near, far in spelled:
         text += f"\n-- ---- {name}\n"
-        for number, (place, address, found) in enumerate(linked_pairs(folder, spelled), 1):
+        for number, (place, address, found) in enumerate(linked_pairs(folder, near, far), 1):
             text += row(f"{name}_{number}", part, place, address, found)
     text += "\n-- ---- branch\n"
     for number, (comparison, place, address, found) in enumerate(branches(folder)):
-        text += row(f"branch_{comparison.lower()}_{number % 4 + 1}", f"(branch {comparison})", place, address, found)
+        text += row(f"branch_{comparison.lower()}_{number % len(BRANCHED) + 1}", f"(branch {comparison})", place, address, found)
     text += "\n-- ---- tables of one label\n"
     for count, found in tables(folder):
         text += row(f"table_of_{count}", f"(Table ({'l ∷ ' * count}[]))", LATE, FIRST, found)

@@ -1,5 +1,5 @@
 -- Labels stay behind their instructions while more is appended.
-use Rattle.std.proofs.Common.{◌≡◌, ℕ, ◌+◌, ◌*◌, ◌≤◌, refl, ◌∙◌, ap, arith, List, [], ◌∷◌, ◌++◌, append_assoc}
+use Rattle.std.proofs.Common.{◌≡◌, ℕ, ◌*◌, ◌≤◌, refl, ◌∙◌, ap, arith, List, [], ◌∷◌, ◌++◌, append_assoc}
 use Rattle.rv_asm.specs.Appending.{AddsWords, Appends, IsBehind}
 use Rattle.rv_asm.specs.Parts.{Code}
 use Rattle.rv_asm.specs.Sizes.{all_shortest, shortest}

@@ -3,7 +3,6 @@ mod Reaching
 mod FarForms
 mod Growing
 mod Sizes
-mod Noting
 mod ShortForms
 mod Tables
 mod Validity
@@ -20,4 +19,10 @@ mod Following
 pub mod Shared
 mod Places
 mod AsmRows
+mod Starts
+mod Forming
+mod Walking
+mod Settled
+mod Noted
+mod Steps
 mod PartRows

@@ -5,6 +5,7 @@ ghost use Rattle.std.specs.List.{All};
 ghost use Rattle.rv_table.specs.Table.{IsValid};
 ghost use Rattle.rv_asm.specs.Filling.{AreApart};
 ghost use Rattle.rv_asm.specs.Finishing.{HavePlaces, RunAsParts, fix_symbols, symbols_of};
+ghost use Rattle.rv_asm.specs.Reach.{HasForms};
 ghost use Rattle.rv_asm.specs.Sizes.{all_longest};
 ghost use Rattle.rv_asm.specs.Assembly.{ArePlaced, Fits, IsInner, IsLabel, IsTarget, has_branch, table_limit};
 
@@ -88,16 +89,17 @@ impl Asm {
         Ok(Label { number })
     }
 
-    /// Makes a label for a symbol outside of the code, by the symbol's number. An error is want of memory, and nothing is changed.
-    pub fn outer(&mut self, symbol: u32, relative: bool) -> Result<Label, AllocError>
+    /// Makes a label for a symbol outside of the code, by the symbol's number, and tells whether control can go to it. An error is want
+    /// of memory, and nothing is changed.
+    pub fn outer(&mut self, symbol: u32, target: bool) -> Result<Label, AllocError>
         requires { length self.old.labels < 2 ^ 32 }
         ensures number { IfOk result (λ label. label.number ≡ length self.old.labels) }
         ensures parts { self.new.parts ≡ self.old.parts }
-        ensures labels { OnOk result (self.new.labels ≡ self.old.labels ++ Meaning.Outer symbol relative ∷ []) }
+        ensures labels { OnOk result (self.new.labels ≡ self.old.labels ++ Meaning.Outer symbol target ∷ []) }
         ensures kept { OnErr result (self.new.labels ≡ self.old.labels) }
     {
         let number = self.labels.len() as u32;
-        self.labels.push(Meaning::Outer { symbol, relative })?;
+        self.labels.push(Meaning::Outer { symbol, target })?;
         Ok(Label { number })
     }
 
@@ -162,8 +164,7 @@ impl Asm {
         self.add(Part::Call(to))
     }
 
-    /// Gives register `rd` the label's address, or the symbol's value where the label is not relative. An error is want of memory,
-    /// and nothing is changed.
+    /// Gives register `rd` the label's address, that of a symbol by its value. An error is want of memory, and nothing is changed.
     pub fn address(&mut self, rd: u8, of: Label) -> Result<(), AllocError>
         requires written { rd ≢ 0 }
         requires register { rd < 32 }
@@ -188,8 +189,9 @@ impl Asm {
         self.add(Part::Table(labels))
     }
 
-    /// The bytes of the parts for code at an address, in one pass over the parts for each list of the answer. An error is want of
-    /// memory.
+    /// The bytes of the parts for code at an address. A branch, a jump or a call is one word where that reaches its label (RISC-V ISA, 2.5:
+    /// 4 KiB back and 2 bytes less ahead for a branch, 1 MiB for the others), and else has the form that reaches any label. An error is
+    /// want of memory.
     pub fn finish(self, base: u64) -> Result<Placed, AllocError>
         requires aligned { base % 4 ≡ 0 }
         requires room { base + all_longest self.parts ≤ 2 ^ 30 }
@@ -199,6 +201,7 @@ impl Asm {
         ensures symbols { IfOk result (λ p. fix_symbols p.fixes ≡ symbols_of self.labels self.parts) }
         ensures apart { IfOk result (λ p. AreApart 0 p.fixes (length p.bytes)) }
         ensures whole { IfOk result (λ p. length p.bytes % 4 ≡ 0) }
+        ensures forms { IfOk result (λ p. HasForms self.labels self.parts base (length p.bytes) p.places) }
         ensures fit { IfOk result (λ p. All (Fits self.labels) self.parts) }
     {
         finish(self.alloc, &self.room[..self.used], &self.labels, base)

@@ -6,13 +6,15 @@ ghost use Rattle.rv_table.specs.Stands.{code_of};
 ghost use Rattle.rv_asm.specs.Assembly.{Fits};
 ghost use Rattle.rv_asm.specs.Filling.{AreApart};
 ghost use Rattle.rv_asm.specs.Finishing.{HavePlaces, RunAsParts, fix_symbols, symbols_of};
+ghost use Rattle.rv_asm.specs.Reach.{HasForms};
 ghost use Rattle.rv_asm.specs.Sizes.{all_longest, longest};
 ghost use Rattle.rv_asm.specs.inside.Forms.{code_by, fix_by, fix_of, fixes_of, unfilled};
-ghost use Rattle.rv_asm.specs.inside.Sound.{ArePlaces, IsSound, PlaceFits, noted};
+ghost use Rattle.rv_asm.specs.inside.Sound.{ArePlaces, IsCodeAddress, IsSound, PlaceFits, noted};
 
 use crate::filling::CodeFix;
-use crate::form::{add_part, size};
+use crate::form::{add_part, size, size_at};
 use crate::part::{Label, Meaning, Part};
+use crate::walks::grown_places;
 use cmm_items::Items;
 use std::alloc::{AllocError, Global};
 
@@ -46,10 +48,11 @@ pub fn finish(
     ensures symbols { IfOk result (λ p. fix_symbols p.fixes ≡ symbols_of labels.now parts.now) }
     ensures apart { IfOk result (λ p. AreApart 0 p.fixes (length p.bytes)) }
     ensures whole { IfOk result (λ p. length p.bytes % 4 ≡ 0) }
+    ensures forms { IfOk result (λ p. HasForms labels.now parts.now base (length p.bytes) p.places) }
 {
-    let places = places_of(alloc, parts, labels, base)?;
+    let places = grown_places(alloc, parts, labels, base)?;
     let bytes = bytes_of(alloc, parts, labels, &places, base)?;
-    let fixes = fixes_of(alloc, parts, labels)?;
+    let fixes = fixes_of(alloc, parts, labels, &places, base)?;
     Ok(Placed {
         bytes: Items::from_vec(bytes),
         places: Items::from_vec(places),
@@ -73,29 +76,8 @@ pub fn fits(parts: &[Part], labels: &[Meaning], base: u64) -> bool
     true
 }
 
-/// The address of each label that is placed, and 0 for every other one.
-fn places_of(
-    alloc: Global,
-    parts: &[Part],
-    labels: &[Meaning],
-    base: u64,
-) -> Result<Vec<u64>, AllocError>
-    requires sound { IsSound parts.now labels.now }
-    requires aligned { base % 4 ≡ 0 }
-    requires room { base + all_longest parts.now ≤ 2 ^ 30 }
-    ensures { IfOk result (λ places. ArePlaces base parts.now labels.now places.items) }
-{
-    let mut places = vec![in alloc; 0; labels.len()]?;
-    let mut address = base;
-    for part in parts {
-        note(&mut places, part, address);
-        address += size(part);
-    }
-    Ok(places)
-}
-
 /// Keeps the address of a part that is a label's place.
-fn note(places: &mut Vec<u64>, part: &Part, address: u64)
+pub fn note(places: &mut Vec<u64>, part: &Part, address: u64)
     requires { PlaceFits (length places.old.items) part.now }
     ensures { places.new.items ≡ noted places.old.items part.now address }
 {
@@ -114,6 +96,8 @@ fn bytes_of(
 ) -> Result<Vec<u8>, AllocError>
     requires fit { All (Fits labels.now) parts.now }
     requires count { length places.now ≡ length labels.now }
+    requires addresses { All IsCodeAddress places.now }
+    requires aligned { base % 4 ≡ 0 }
     requires room { base + all_longest parts.now ≤ 2 ^ 30 }
     ensures { IfOk result (λ bytes. bytes.items ≡ code_of (code_by labels.now places.now unfilled base parts.now)) }
 {
@@ -121,22 +105,30 @@ fn bytes_of(
     let mut address = base;
     for part in parts {
         add_part(&mut bytes, part, labels, places, address)?;
-        address += size(part);
+        address += size_at(part, labels, places, address);
     }
     Ok(bytes)
 }
 
 /// Where the numbers of symbols are to be filled in, by where each part begins.
-fn fixes_of(alloc: Global, parts: &[Part], labels: &[Meaning]) -> Result<Vec<CodeFix>, AllocError>
+fn fixes_of(
+    alloc: Global,
+    parts: &[Part],
+    labels: &[Meaning],
+    places: &[u64],
+    base: u64,
+) -> Result<Vec<CodeFix>, AllocError>
     requires fit { All (Fits labels.now) parts.now }
-    requires room { all_longest parts.now ≤ 2 ^ 30 }
-    ensures { IfOk result (λ fixes. fixes.items ≡ fixes_of labels.now 0 parts.now) }
+    requires count { length places.now ≡ length labels.now }
+    requires addresses { All IsCodeAddress places.now }
+    requires room { base + all_longest parts.now ≤ 2 ^ 30 }
+    ensures { IfOk result (λ fixes. fixes.items ≡ fixes_of labels.now places.now base 0 parts.now) }
 {
     let mut fixes = Vec::new(alloc);
     let mut place = 0;
     for part in parts {
         add_fix(&mut fixes, part, labels, place)?;
-        place += size(part) as u32;
+        place += size_at(part, labels, places, base + u64::from(place)) as u32;
     }
     Ok(fixes)
 }
@@ -152,20 +144,24 @@ fn add_fix(
     ensures { OnOk result (fixes.new.items ≡ fixes.old.items ++ fix_of labels.now place part.now) }
 {
     match part {
-        Part::Jump(label) | Part::Call(label) | Part::Address { of: label, .. } => add_fix_by(
-            fixes,
-            labels[label.number as usize],
-            place,
-        ),
+        Part::Jump(label) | Part::Call(label) => {
+            add_fix_by(fixes, labels[label.number as usize], place, true)
+        }
+        Part::Address { of, .. } => add_fix_by(fixes, labels[of.number as usize], place, false),
         Part::Single(_) | Part::Place(_) | Part::Branch { .. } | Part::Table(_) => Ok(()),
     }
 }
 
 /// Adds a fix for a label's symbol, if it has one.
-fn add_fix_by(fixes: &mut Vec<CodeFix>, meaning: Meaning, place: u32) -> Result<(), AllocError>
-    ensures { OnOk result (fixes.new.items ≡ fixes.old.items ++ fix_by meaning place) }
+fn add_fix_by(
+    fixes: &mut Vec<CodeFix>,
+    meaning: Meaning,
+    place: u32,
+    relative: bool,
+) -> Result<(), AllocError>
+    ensures { OnOk result (fixes.new.items ≡ fixes.old.items ++ fix_by relative meaning place) }
 {
-    if let Meaning::Outer { symbol, relative } = meaning {
+    if let Meaning::Outer { symbol, .. } = meaning {
         fixes.push(CodeFix {
             place,
             symbol,

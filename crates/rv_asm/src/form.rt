@@ -1,12 +1,16 @@
-//! The instructions of a part, as bytes: for now the form that reaches any label.
+//! The instructions of a part, as bytes, in the form that it has where it begins.
 
-ghost use Rattle.std.specs.Prelude.{◌≡◌, ℕ, ◌+◌, ◌*◌, ◌%◌, ◌<◌, ◌≤◌, ◌^◌, ◌++◌, ◌∷◌, [], length, pos, OnOk, IsTrue};
+ghost use Rattle.std.specs.Prelude.{◌≡◌, ℕ, ◌+◌, ◌*◌, ◌%◌, ◌<◌, ◌≤◌, ◌^◌, ◌++◌, ◌∷◌, [], length, pos, OnOk, IsTrue, true, false};
 ghost use Rattle.std.specs.List.{All};
 ghost use Rattle.rv_table.specs.Stands.{code_of};
 ghost use Rattle.rv_table.specs.Table.{IsValid};
 ghost use Rattle.rv_asm.specs.Assembly.{Fits, IsInner, IsLabel, table_limit};
-ghost use Rattle.rv_asm.specs.Sizes.{longest};
-ghost use Rattle.rv_asm.specs.inside.Forms.{begins, entries, far, far_jumps, high, instructions, low, number_of, past_unless, unfilled};
+ghost use Rattle.rv_asm.specs.Filling.{distance};
+ghost use Rattle.rv_asm.specs.Reach.{is_near, is_short, near_label, size_at};
+ghost use Rattle.rv_asm.specs.ShortForms.{branch_on};
+ghost use Rattle.rv_asm.specs.Sizes.{longest, shortest};
+ghost use Rattle.rv_asm.specs.inside.Forms.{begins, by_sign, entries, far, far_form, far_jumps, form_as, high, instructions, low, number_of, past_unless, short_form, unfilled};
+ghost use Rattle.rv_asm.specs.inside.Sound.{IsCodeAddress};
 
 use crate::part::{Label, Meaning, Part};
 use cmm_abi::registers::{HELPER as SCRATCH, RETURN_ADDRESS as LINK, ZERO};
@@ -29,6 +33,78 @@ pub fn size(part: &Part) -> u64
     }
 }
 
+/// The bytes of a part in its shortest form.
+pub fn shortest_size(part: &Part) -> u64
+    requires { longest part.now ≤ 2 ^ 30 }
+    ensures { result ≡ shortest part.now }
+{
+    match part {
+        Part::Single(_) | Part::Branch { .. } | Part::Jump(_) | Part::Call(_) => 4,
+        Part::Place(_) => 0,
+        Part::Address { .. } => 8,
+        Part::Table(labels) => 4 * labels.len() as u64 + 4,
+    }
+}
+
+/// How far back a short branch reaches, and a short jump. Ahead they reach two bytes less.
+const BRANCH_REACH: u64 = 1 << 12;
+
+const JUMP_REACH: u64 = 1 << 20;
+
+/// The label of a part that has a short form, and how far that reaches.
+pub fn near_label(part: &Part, labels: &[Meaning]) -> Option<(Label, u64)>
+    requires { Fits labels.now part.now }
+    ensures { result ≡ near_label labels.now part.now }
+{
+    match part {
+        Part::Branch { to, .. } => Some((*to, BRANCH_REACH)),
+        Part::Jump(to) | Part::Call(to) => match labels[to.number as usize] {
+            Meaning::Inner { .. } => Some((*to, JUMP_REACH)),
+            Meaning::Outer { .. } => None,
+        },
+        _ => None,
+    }
+}
+
+/// Whether an address is in reach of a form whose first byte stands at another.
+fn is_near(reach: u64, to: u64, from: u64) -> bool
+    requires to { to ≤ 2 ^ 30 }
+    requires from { from ≤ 2 ^ 30 }
+    requires reach { reach ≤ 2 ^ 20 }
+    ensures { result ≡ is_near reach to from }
+{
+    from <= to + reach && to + 2 <= from + reach
+}
+
+/// Whether a part that begins at an address has its short form.
+pub fn is_short(part: &Part, labels: &[Meaning], places: &[u64], from: u64) -> bool
+    requires fits { Fits labels.now part.now }
+    requires count { length places.now ≡ length labels.now }
+    requires addresses { All IsCodeAddress places.now }
+    requires from { from ≤ 2 ^ 30 }
+    ensures { result ≡ is_short labels.now places.now from part.now }
+{
+    match near_label(part, labels) {
+        Some((label, reach)) => is_near(reach, places[label.number as usize], from),
+        None => false,
+    }
+}
+
+/// The bytes of a part that begins at an address.
+pub fn size_at(part: &Part, labels: &[Meaning], places: &[u64], from: u64) -> u64
+    requires fits { Fits labels.now part.now }
+    requires count { length places.now ≡ length labels.now }
+    requires addresses { All IsCodeAddress places.now }
+    requires room { from + longest part.now ≤ 2 ^ 30 }
+    ensures { result ≡ size_at labels.now places.now from part.now }
+{
+    if is_short(part, labels, places, from) {
+        shortest_size(part)
+    } else {
+        size(part)
+    }
+}
+
 /// Adds the bytes of a part that begins at an address. The numbers of symbols in it are 0.
 pub fn add_part(
     bytes: &mut Vec<u8>,
@@ -39,8 +115,98 @@ pub fn add_part(
 ) -> Result<(), AllocError>
     requires fits { Fits labels.now part.now }
     requires count { length places.now ≡ length labels.now }
+    requires addresses { All IsCodeAddress places.now }
+    requires aligned { from % 4 ≡ 0 }
     requires room { from + longest part.now ≤ 2 ^ 30 }
-    ensures { OnOk result (bytes.new.items ≡ bytes.old.items ++ code_of (instructions (number_of labels.now places.now unfilled) labels.now from part.now)) }
+    ensures { OnOk result (bytes.new.items ≡ bytes.old.items ++ code_of (instructions (number_of labels.now places.now unfilled) places.now labels.now from part.now)) }
+{
+    if is_short(part, labels, places, from) {
+        add_short_form(bytes, part, labels, places, from)
+    } else {
+        add_far_form(bytes, part, labels, places, from)
+    }
+}
+
+/// How far an address is from another, with its sign.
+fn by_sign(to: u64, from: u64) -> i32
+    requires to { to ≤ 2 ^ 30 }
+    requires from { from ≤ 2 ^ 30 }
+    ensures { result ≡ by_sign (distance to from) }
+{
+    if to >= from {
+        (to - from) as i32
+    } else {
+        -((from - to) as i32)
+    }
+}
+
+/// The branch on a comparison, from one address to another.
+fn near_branch(compare: Cmp, left: u8, right: u8, to: u64, from: u64) -> Instr
+    requires to { to ≤ 2 ^ 30 }
+    requires from { from ≤ 2 ^ 30 }
+    ensures { result ≡ branch_on compare left right (by_sign (distance to from)) }
+{
+    let (rs1, rs2, imm) = (left, right, by_sign(to, from));
+    match compare {
+        Cmp::Ne => Instr::Bne { rs1, rs2, imm },
+        Cmp::Lt => Instr::Blt { rs1, rs2, imm },
+        Cmp::Ge => Instr::Bge { rs1, rs2, imm },
+        Cmp::Ltu => Instr::Bltu { rs1, rs2, imm },
+        Cmp::Geu => Instr::Bgeu { rs1, rs2, imm },
+        _ => Instr::Beq { rs1, rs2, imm },
+    }
+}
+
+/// Adds the word of a part that is in reach of its label.
+fn add_short_form(
+    bytes: &mut Vec<u8>,
+    part: &Part,
+    labels: &[Meaning],
+    places: &[u64],
+    from: u64,
+) -> Result<(), AllocError>
+    requires short { is_short labels.now places.now from part.now ≡ true }
+    requires fits { Fits labels.now part.now }
+    requires count { length places.now ≡ length labels.now }
+    requires addresses { All IsCodeAddress places.now }
+    requires aligned { from % 4 ≡ 0 }
+    requires low { from ≤ 2 ^ 30 }
+    ensures { OnOk result (bytes.new.items ≡ bytes.old.items ++ code_of (short_form (number_of labels.now places.now unfilled) labels.now from part.now)) }
+{
+    match part {
+        Part::Branch {
+            compare,
+            left,
+            right,
+            to,
+        } => {
+            let place = places[to.number as usize];
+            add(bytes, near_branch(*compare, *left, *right, place, from))
+        }
+        Part::Jump(to) => {
+            let imm = by_sign(places[to.number as usize], from);
+            add(bytes, Instr::Jal { rd: ZERO, imm })
+        }
+        Part::Call(to) => {
+            let imm = by_sign(places[to.number as usize], from);
+            add(bytes, Instr::Jal { rd: LINK, imm })
+        }
+        _ => unreachable!(),
+    }
+}
+
+/// Adds the form of a part that reaches any label.
+fn add_far_form(
+    bytes: &mut Vec<u8>,
+    part: &Part,
+    labels: &[Meaning],
+    places: &[u64],
+    from: u64,
+) -> Result<(), AllocError>
+    requires fits { Fits labels.now part.now }
+    requires count { length places.now ≡ length labels.now }
+    requires room { from + longest part.now ≤ 2 ^ 30 }
+    ensures { OnOk result (bytes.new.items ≡ bytes.old.items ++ code_of (far_form (number_of labels.now places.now unfilled) labels.now from part.now)) }
 {
     match part {
         Part::Single(instruction) => add(bytes, *instruction)?,
@@ -77,7 +243,7 @@ fn add_table(
     requires inner { All (IsInner labels.now) to.now }
     requires count { length places.now ≡ length labels.now }
     requires room { from ≤ 2 ^ 30 }
-    ensures { OnOk result (bytes.new.items ≡ bytes.old.items ++ code_of (instructions (number_of labels.now places.now unfilled) labels.now from (Part.Table to.now))) }
+    ensures { OnOk result (bytes.new.items ≡ bytes.old.items ++ code_of (far_form (number_of labels.now places.now unfilled) labels.now from (Part.Table to.now))) }
 {
     let count = to.len() as u32;
     add_entries(bytes, to, 4 * count + 4)?;
@@ -185,7 +351,8 @@ fn add(bytes: &mut Vec<u8>, instruction: Instr) -> Result<(), AllocError>
 fn number(labels: &[Meaning], places: &[u64], label: Label, from: u64) -> u64
     requires there { IsLabel labels.now label }
     requires count { length places.now ≡ length labels.now }
-    ensures { result ≡ number_of labels.now places.now unfilled label from }
+    ensures distance { result ≡ number_of labels.now places.now unfilled true label from }
+    ensures taken { result ≡ number_of labels.now places.now unfilled false label from }
 {
     match labels[label.number as usize] {
         Meaning::Inner { .. } => places[label.number as usize].wrapping_sub(from),
@@ -223,16 +390,14 @@ fn past_unless(compare: Cmp, left: u8, right: u8) -> Instr
     }
 }
 
-/// The instruction that begins an address: it gives the upper part of a number.
+/// The instruction that begins an address: it gives the upper part of a number, relative to pc for a place in this code.
 fn begin(meaning: Meaning, rd: u8, n: u64) -> Instr
     ensures { result ≡ begins meaning rd (high n) }
 {
+    let imm = high(n);
     match meaning {
-        Meaning::Outer {
-            relative: false,
-            ..
-        } => Instr::Lui { rd, imm: high(n) },
-        _ => Instr::Auipc { rd, imm: high(n) },
+        Meaning::Inner { .. } => Instr::Auipc { rd, imm },
+        Meaning::Outer { .. } => Instr::Lui { rd, imm },
     }
 }
 

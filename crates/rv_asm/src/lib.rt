@@ -8,7 +8,8 @@
 //!
 //! - `part`: labels, their meanings, and the parts.
 //! - `asm`: `Asm`, a list of parts that grows at its end.
-//! - `finishing`: from parts to bytes, places of labels, and fixes. `form`: the instructions of each part.
+//! - `finishing`: from parts to bytes, places of labels, and fixes. `form`: the instructions of each part, in one word where that reaches
+//!   its label. `walks`: which parts that are.
 //! - `filling`: `fill`, which gives a fix the number of its symbol.
 //! - `laws`: what is proved of parts that stand, of pieces that are appended, and of runs.
 //!
@@ -23,6 +24,7 @@ mod finishing;
 mod form;
 pub mod laws;
 mod part;
+mod walks;
 
 pub use asm::Asm;
 pub use filling::{CodeFix, fill};

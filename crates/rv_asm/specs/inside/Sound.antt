@@ -2,7 +2,7 @@
 use Rattle.std.specs.Prelude.{◌≡◌, ◌≢◌, ℕ, ◌+◌, ◌<◌, ◌≤◌, ◌^◌, ◌%◌, true, false, List, length, take, slice_get, slice_index, slice_set, Some}
 use Rattle.std.specs.List.{All, sum_by}
 use Rattle.rv_asm.specs.Assembly.{Fits}
-use Rattle.rv_asm.specs.Sizes.{all_longest}
+use Rattle.rv_asm.specs.Reach.{begins_at}
 use Rattle.rv_asm.specs.declared.part.Label.{Label}
 use Rattle.rv_asm.specs.declared.part.Meaning.{Meaning}
 use Rattle.rv_asm.specs.declared.part.Meaning.TheVariants.{Inner, Outer}
@@ -13,7 +13,7 @@ use Rattle.rv_asm.specs.declared.part.Part.TheVariants.{Place}
 abbrev pub room_for : Meaning → ℕ
 room_for (Inner true) = 0
 room_for (Inner false) = 1
-room_for (Outer symbol relative) = 0
+room_for (Outer symbol target) = 0
 
 -- each part fits, and no label is placed twice
 pub record IsSound (parts : List Part) (labels : List Meaning) : Type 0 where
@@ -32,26 +32,17 @@ abbrev pub noted : List ℕ → Part → ℕ → List ℕ
 noted places (Place l) address = slice_set places l.number address
 noted places _ address = places
 
--- each label that is placed among the first parts has the address of its place
-abbrev pub ArePlacesBelow : ℕ → ℕ → List Part → List ℕ → Type 0
-ArePlacesBelow i base parts places = (k : ℕ) (l : Label) → k < i → slice_get parts k ≡ Some (Place l) →
-    slice_index places l.number ≡ base + all_longest (take k parts)
-
--- a label that no part before an index places has 0
-abbrev pub OthersAreZero : ℕ → List Part → List ℕ → Type 0
-OthersAreZero i parts places = (n : ℕ) →
-    ((k : ℕ) (l : Label) → k < i → slice_get parts k ≡ Some (Place l) → l.number ≢ n) → slice_index places n ≡ 0
-
 -- an address in code, at which an instruction may begin
 abbrev pub IsCodeAddress : ℕ → Type 0
 IsCodeAddress a = (a ≤ 2 ^ 30) × (a % 4 ≡ 0)
 
--- what the code goes by: each label that is placed has the address of its place, and every address is one in code
+-- What the code goes by: each label that is placed has the address of its place, by the forms that parts have with just these addresses, and
+-- every address is one in code. Labels without a place have 0.
 pub record ArePlaces (base : ℕ) (parts : List Part) (labels : List Meaning) (places : List ℕ) : Type 0 where
   pub addresses : All IsCodeAddress places
   pub count : length places ≡ length labels
-  pub at : ArePlacesBelow (length parts) base parts places
-  pub others : OthersAreZero (length parts) parts places
+  pub at : (k : ℕ) (l : Label) → slice_get parts k ≡ Some (Place l) → slice_index places l.number ≡ begins_at labels places base parts k
+  pub others : (n : ℕ) → ((k : ℕ) (l : Label) → slice_get parts k ≡ Some (Place l) → l.number ≢ n) → slice_index places n ≡ 0
 
 -- a part that is a place has its label among n
 abbrev pub PlaceFits : ℕ → Part → Type 0
