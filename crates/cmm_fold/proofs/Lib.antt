@@ -1,0 +1,5 @@
+pub mod Standing
+pub mod Walks
+pub mod Graphs
+pub mod FoldRows
+pub mod Shared
