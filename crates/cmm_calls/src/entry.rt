@@ -4,14 +4,13 @@ ghost use Rattle.std.specs.Prelude.{◌≡◌, ◌+◌, ◌*◌, ◌^◌, ◌<�
 ghost use Rattle.std.specs.List.{All, list_all};
 ghost use Rattle.cmm_chain.specs.Plans.{is_place};
 ghost use Rattle.rv_asm.specs.Assembly.{IsInner, IsLabel};
-ghost use Rattle.rv_table.specs.Machine.{Region};
 ghost use Rattle.cmm_effects.specs.Pieces.{Adds, Runs};
-ghost use Rattle.cmm_calls.specs.Frames.{CanBeMade, Enters, HasRoom, Makes, RunsInFrame, Stores, entry_cost, fixed_numbers, pair_numbers};
+ghost use Rattle.cmm_calls.specs.Frames.{CanBeMade, Enters, RunsInFrame, Stores, entry_cost, fixed_numbers, pair_numbers};
 ghost use Rattle.cmm_calls.specs.Values.{Begins, are_taken_first};
 ghost use Rattle.cmm_calls.specs.inside.Pairs.{CanReachPair};
 
 use crate::place::zero_all;
-use crate::room::{check_room, move_down};
+use crate::room::take_room;
 use crate::saved::save_all;
 use crate::taking::take;
 use cmm_abi::registers::{FIRST_SCRATCH, FRAME, RETURN_ADDRESS};
@@ -37,8 +36,8 @@ pub fn enter(
     ensures enters { OnOk result (Adds (entry_cost frame.now zeroed.now) asm.old.parts asm.new.parts (Enters frame.now landings.now zeroed.now limit)) }
     ensures labels { asm.new.labels ≡ asm.old.labels }
 {
-    check_room(asm, frame.size, limit)?;
-    make_frame(asm, frame, landings)?;
+    take_room(asm, frame.size, limit)?;
+    write_frame(asm, frame, landings)?;
     zero_all(asm, frame, zeroed)?;
     Ok(())
 }
@@ -68,15 +67,14 @@ pub fn begin(
     Ok(())
 }
 
-/// Makes a frame, for which the stack has room.
-fn make_frame(asm: &mut Asm, frame: &Frame, landings: &[Label]) -> Result<(), AllocError>
+/// Writes the words of a new frame: the return address, the registers that it saves, and the pairs.
+fn write_frame(asm: &mut Asm, frame: &Frame, landings: &[Label]) -> Result<(), AllocError>
     requires frame { CanBeMade frame.now }
     requires landings { length landings.now ≡ length frame.now.pairs }
     requires labels { All (IsLabel asm.old.labels) landings.now }
-    ensures makes { OnOk result (Adds (7 + (3 * length frame.now.saved + 8 * length frame.now.pairs)) asm.old.parts asm.new.parts (λ x from to. (r : Region) → Runs 0 (7 + (3 * length frame.now.saved + 8 * length frame.now.pairs)) (HasRoom r frame.now.size) (λ s u. Makes frame.now.size (fixed_numbers x.at frame.now landings.now s.registers (u.registers FRAME)) s u) x from to)) }
+    ensures writes { OnOk result (Adds (3 + (3 * length frame.now.saved + 8 * length frame.now.pairs)) asm.old.parts asm.new.parts (λ x from to. RunsInFrame (3 + (3 * length frame.now.saved + 8 * length frame.now.pairs)) frame.now.size (λ s t. Stores (fixed_numbers x.at frame.now landings.now s.registers (s.registers FRAME)) s t) x from to)) }
     ensures labels { asm.new.labels ≡ asm.old.labels }
 {
-    move_down(asm, frame.size)?;
     save(asm, RETURN_ADDRESS, frame.return_at)?;
     save_all(asm, frame)?;
     write_pairs(asm, frame, landings)?;

@@ -74,12 +74,14 @@ module _ (s : Setting) (c : Compiled) (l : Launch) (f : Finished) (rest : ℕ �
   pub limit_done : (cost : ℕ) (formals : List Variable) (next : NodeId) → EntryCode s c l f at.procedure at.node formals next cost → 1 ≤ tokens_at s c at →
       nat_le (s.stack_base + (c.plan.frame at.procedure).size) at.holdings.point.at ≡ false → IsDone s c l f rest at cost t (record at { store = over (p.Ended p.StackLimit) at.store })
   limit_done cost formals next code tokens lacks =
+      let aligned = frames_aligned.of_stack s (stack_of at.store) stands.shown.stack is_for.set in
       ends s c l f rest at t request.StackLimit p.StackLimit (record { leaves = λ o u. refl; silent = λ u event is. absurd (cc); plain = λ walk other. refl }) _ refl
       (ended_outside at p.StackLimit stands.running) tokens refl (λ b. b) cost (7 + code.ends) (omega (arith, code.few_at_limit))
       (reaches_weaker
       (reaches_then
       (reaches_sound ((code.begins.short (stack_region s)).runs.go t stands.sound stands.pc (record {
         region = stands.shown.holdings.region;
+        low = omega (arith, aligned.1, stands.shown.holdings.frame, stands.shown.at, bottom_is s (map_of l) is_for);
         lacks = grind (arith, nat_tests, lacks, stands.shown.holdings.frame, bottom_is s (map_of l) is_for);
         fits = omega (arith, bottom_is s (map_of l) is_for, is_for.small, laid.can.small);
       })) stands.sound)
