@@ -1,5 +1,5 @@
 -- The Entry of a procedure: what is live behind it is a formal or is made 0.
-use Rattle.std.proofs.Common.{◌≡◌, ◌⊎◌, inl, inr, ℕ, ◌<◌, ◌≤◌, nat_le, nat_lt, Bool, true, false, Contains, Option, Some, None, List, [], ◌∷◌, flat_map, length, map, refl, ap, sym, ◌∙◌, subst, arith}
+use Rattle.std.proofs.Common.{◌≡◌, ◌⊎◌, inl, inr, ℕ, ◌+◌, ◌<◌, ◌≤◌, nat_le, nat_lt, Bool, true, false, Contains, Option, Some, None, List, [], ◌∷◌, flat_map, length, map, refl, ap, sym, ◌∙◌, subst, arith}
 use Rattle.std.proofs.lemmas.Bool.{and_parts}
 use Rattle.std.proofs.lemmas.Bool.Decides.{nat_tests}
 use Rattle.std.proofs.lemmas.List.FromFn.{get_or-range_with_len, length-range_with_len}
@@ -25,8 +25,12 @@ use Rattle.cmm_located.specs.Entering.{HasEntry}
 use Rattle.cmm_located.specs.Relation.{variable_count}
 use Rattle.cmm_allocate.specs.declared.procedure.ProcedurePlaces.{ProcedurePlaces}
 use Rattle.cmm_allocate.specs.Compiling.{compiled, live_before}
+use Rattle.cmm_allocate.specs.Placed.{place_at}
+use Rattle.cmm_graph.specs.declared.operand.Local.{Local}
+use Rattle.cmm_allocate.proofs.Members.{contains_unmapped}
+use Rattle.cmm_allocate.proofs.Touching.{writes_local}
 use Rattle.cmm_allocate.proofs.Living.{before, stays}
-use Rattle.cmm_allocate.proofs.Placing.{Beside, are_apart, exists, kind_is, live_is, live_within}
+use Rattle.cmm_allocate.proofs.Placing.{Beside, apart_in, exists, kind_in_range, kind_is, live_is}
 
 -- the numbers of what an Entry writes are those of its formals
 written_numbers : (g : Graph) (formals : List Variable) → map (local_number g) (flat_map written_by_variable formals) ≡ map (λ v. v.number) formals
@@ -79,6 +83,14 @@ module _ (program : Program) (procs : List Proc) (graphs : List Graph) (found : 
           (sym (live_is procs graphs found q at at.flow.flow.flow.begun.next u) ∙ is) fresh in
           inr (subst (λ ns. Contains ns u) (sym zeroed_is) ((members_had (set_at at.places.live.before g.first.number) u).1 live))
 
+  -- an Entry writes each formal
+  formal_written : (v : ℕ) → v < p.formals → (l : Local) × (local_number g l ≡ v) × Contains (writes first.kind) l
+  formal_written v less =
+      let there_ : Contains (range_with_len 0 p.formals) v = (v, subst (λ n. v < n) (sym (length-range_with_len 0 p.formals)) less, get_or-range_with_len 0 p.formals v v less ∙ (let e : 0 + v ≡ v = omega arith in e)) in
+      let numbered : Contains (map (local_number g) (writes first.kind)) v =
+      subst (λ ns. Contains ns v) (sym (written_numbers g at.flow.flow.flow.begun.formals ∙ numbers)) there_ in
+      contains_unmapped (local_number g) (writes first.kind) v numbered
+
   pub has_entry : HasEntry (compiled graphs found) (live_before found) q at.procedure
   has_entry = record {
     exists = exists procs graphs found q at;
@@ -91,7 +103,10 @@ module _ (program : Program) (procs : List Proc) (graphs : List Graph) (found : 
     numbered = numbers;
     formals_are_variables = few;
     known = known;
-    apart = λ u v is less other.
-        are_apart procs graphs found q at v u (omega (arith, less, few, at.flow.flow.variables)) (live_within procs graphs found q at at.flow.flow.flow.begun.next u is)
-        (λ same. other (sym same));
+    apart = λ u v is less other. (
+        let written = formal_written v less in
+        let same : local_number g written.0 ≡ v = written.1 in
+        apart_in procs graphs found q at v u
+        (λ e. at.has.locals.written g.first first at.flow.flow.flow.begun.next written.0 u there (0, omega arith, refl) written.2
+        (writes_local g first.kind written.0 (kind_in_range procs graphs found q at g.first first there) written.2) (sym (live_is procs graphs found q at at.flow.flow.flow.begun.next u) ∙ is) (λ it. other (it ∙ same)) (ap (λ n. place_at at.places.locals n) same ∙ e)));
   }

@@ -57,7 +57,7 @@ use Rattle.cmm_allocate.proofs.Beginning.{has_entry, variables_are}
 use Rattle.cmm_allocate.proofs.Cutting.{cuts_land, frame_is, own_cuts_land}
 use Rattle.cmm_allocate.proofs.Exits.{SiteNode, site_has_exits, site_id, waits_with}
 use Rattle.cmm_allocate.proofs.Living.{lives_before_site}
-use Rattle.cmm_allocate.proofs.Placing.{Beside, are_apart, exists, is_slot, kind_in_range, kind_is, live_is, node_keeps, node_reads, place_is, planned_at, procedure_beside, range_at, site_is, site_within}
+use Rattle.cmm_allocate.proofs.Placing.{Beside, apart_in, exists, kind_in_range, kind_is, live_is, node_keeps, node_reads, place_is, planned_at, procedure_beside, range_at, site_is, site_within}
 
 -- ---- places and tokens
 
@@ -141,7 +141,7 @@ module _ (are_graphs : AnswersAreGraphs) (closed : SetsAreClosed) (once : Answer
 
       lasting : (site v : ℕ) → c.plan.live q site v ≡ true → lasts (c.plan.place q v) ≡ true
       lasting site v is_live =
-          ap lasts (is_slot s.program.procs graphs found q at v (site_within s.program.procs graphs found q at site v is_live))
+          ap lasts (place_is s.program.procs graphs found q at v) ∙ at.has.locals.lasting site v (sym (site_is s.program.procs graphs found q at site v) ∙ is_live)
 
       living : (site : SiteId) (v : ℕ) → site_of (kind_at graphs q n) ≡ Some site → c.plan.live q site.number v ≡ true → live q n v ≡ true
       living site v waits is_live = by (node_of at.graph n) refl (sym (ap site_of (kind_is s.program.procs graphs found q at n)) ∙ waits)
@@ -246,8 +246,8 @@ module _ (are_graphs : AnswersAreGraphs) (closed : SetsAreClosed) (once : Answer
   apart : AreApart c
   apart q site v u is live_v live_u other =
       let at = planned_at are_graphs s graphs found runs q is in
-      are_apart s.program.procs graphs found q at v u (site_within s.program.procs graphs found q at site v live_v)
-      (site_within s.program.procs graphs found q at site u live_u) (λ same. other (sym same))
+      apart_in s.program.procs graphs found q at v u (at.has.locals.at_site site v u (sym (site_is s.program.procs graphs found q at site v) ∙ live_v)
+      (sym (site_is s.program.procs graphs found q at site u) ∙ live_u) other)
 
   -- nothing is live at a site that is not there
   site_exists : (p : Proc) (site v : ℕ) → is_live_at p site v ≡ true → site < length p.sites

@@ -30,7 +30,13 @@ use Rattle.cmm_allocate.specs.Compiling.{compiled, live_before, no_frame}
 use Rattle.cmm_allocate.proofs.Exits.{SiteNode, by_cut, copy_of, lands_at, lands_in}
 use Rattle.cmm_allocate.proofs.Living.{stays}
 use Rattle.cmm_allocate.proofs.Members.{contains_landing, none_contained}
-use Rattle.cmm_allocate.proofs.Placing.{Beside, is_slot, kind_is, live_is, live_within}
+use Rattle.cmm_allocate.proofs.Placing.{Beside, kind_is, live_is, place_is}
+use Rattle.cmm_allocate.specs.Placed.{cuts_inside}
+use Rattle.cmm_graph.specs.declared.node.Exits.{Exits}
+use Rattle.cmm_graph.specs.Paths.{landings}
+use Rattle.cmm_live.specs.Sites.{cut_nodes}
+use Rattle.cmm_located.specs.Compiled.{exits_of}
+use Rattle.std.proofs.lemmas.Option.{same_Some}
 
 -- ---- all registers are saved
 
@@ -83,8 +89,16 @@ module _ (procs : List Proc) (graphs : List Graph) (found : List ProcedurePlaces
       ap (λ l. list_any (λ x. r == x) l) registers ∙ callee_saves_is_listed r is in
       ap (λ (f : Frame). is_some (saved_in f.saved r)) frame_is ∙ has_word at.places.frame.saved r listed
 
-  in_slot : (n : NodeId) (u : ℕ) → live_before found q n u ≡ true → (offset : ℕ) × ((compiled graphs found).plan.place q u ≡ Slot offset)
-  in_slot n u is = (8 * u, is_slot procs graphs found q at u (live_within procs graphs found q at n u is))
+  in_slot : (n : NodeId) (node : Node) (m : NodeId) (u : ℕ) → node_of g n ≡ Some node → Contains (cut_nodes g node.kind) m → live_before found q m u ≡ true →
+      (offset : ℕ) × ((compiled graphs found).plan.place q u ≡ Slot offset)
+  in_slot n node m u there leads is =
+      let r = at.has.locals.cut n node m u there leads (sym (live_is procs graphs found q at m u) ∙ is) in (r.0, place_is procs graphs found q at u ∙ r.1)
+
+  -- the cut exits of a node that waits
+  cuts_of : (kind : NodeKind) (exits : Exits) → exits_of kind ≡ Some exits → cut_nodes g kind ≡ landings g exits.cuts
+  cuts_of (kind.Call site callee arguments others) exits is = ap (λ (e : Exits). landings g e.cuts) (same_Some others exits is)
+  cuts_of (kind.Yield site values others) exits is = ap (λ (e : Exits). landings g e.cuts) (same_Some others exits is)
+  cuts_of other exits is = absurd (cc (is))
 
   pub cuts_land : (number : ℕ) (node : SiteNode p g number) (site : Site) (k : ℕ) (cont : Cont) → slice_get at.procedure.sites number ≡ Some site →
       Contains site.cuts k → slice_get at.procedure.conts k ≡ Some cont →
@@ -99,7 +113,9 @@ module _ (procs : List Proc) (graphs : List Graph) (found : List ProcedurePlaces
         is_node = lands.is_node;
         lands = lands_at procs graphs found q at closed number node (parameter_targets p cont) lands.node lands.takes leads;
         saves = saves_all (cuts_there p.sites number site k is has);
-        in_slots = in_slot lands.node;
+        in_slots = λ u is. in_slot node.at node.node lands.node u node.is_there
+            (subst (λ ns. Contains ns lands.node) (sym (cuts_of node.node.kind node.with'.exits node.with'.is_exits))
+            (contains_landing g node.with'.exits.cuts k lands.node (subst (λ ks. Contains ks k) (sym cuts) has) lands.is_landing)) is;
       }
 
   -- ---- own continuations
@@ -121,7 +137,8 @@ module _ (procs : List Proc) (graphs : List Graph) (found : List ProcedurePlaces
             subst (λ kind. ¬ Contains (map (local_number g) (writes kind)) u) (sym is_cut) (none_contained u) in (
               live_is procs graphs found q at n u
                   ∙ stays g at.places.live at.has.live closed n node there lands.node u leads (sym (live_is procs graphs found q at lands.node u) ∙ is) fresh,
-              ap lasts (is_slot procs graphs found q at u (live_within procs graphs found q at lands.node u is)),
+              ap lasts (place_is procs graphs found q at u) ∙ at.has.locals.inside n node lands.node u there (ap cuts_inside is_cut) leads
+                  (sym (live_is procs graphs found q at lands.node u) ∙ is),
             );
       }
   inside n node there other is_other = tt

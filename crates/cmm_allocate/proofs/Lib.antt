@@ -4,6 +4,7 @@ pub mod Slotted
 pub mod Members
 pub mod Touching
 pub mod Living
+pub mod SlotPlaces
 pub mod Placing
 pub mod Exits
 pub mod Cutting

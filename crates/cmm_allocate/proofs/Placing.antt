@@ -23,18 +23,17 @@ use Rattle.cmm_graph.specs.Ranges.{IsValid, is_kind, is_local, is_node}
 use Rattle.cmm_live.specs.Laws.{SetsAreClosed}
 use Rattle.cmm_live.specs.Locals.{local_count, local_number}
 use Rattle.cmm_chain.specs.declared.frame.Location.{Location}
-use Rattle.cmm_chain.specs.declared.frame.Location.TheVariants.{Slot}
 use Rattle.cmm_located.specs.SameOrders.{ReadsAreLive}
 use Rattle.cmm_located.specs.Steps.{KeepsLive}
 use Rattle.cmm_flow.specs.Flow.{IsFlow}
 use Rattle.cmm_flow.specs.Laws.{AnswersAreGraphs}
 use Rattle.cmm_allocate.specs.declared.procedure.ProcedurePlaces.{ProcedurePlaces}
 use Rattle.cmm_allocate.specs.Compiling.{compiled, live_before, no_place}
+use Rattle.cmm_allocate.specs.Placed.{place_at}
 use Rattle.cmm_allocate.specs.Laws.{RunsOverPlaces}
 use Rattle.cmm_allocate.specs.Places.{HasPlaces, HavePlaces}
 use Rattle.cmm_allocate.proofs.Living.{at_site, at_site_within, before, before_within, number_within, read_lives, stays}
 use Rattle.cmm_allocate.proofs.Members.{none_contained}
-use Rattle.cmm_allocate.proofs.Slotted.{slot_at, slots_differ}
 use Rattle.cmm_allocate.proofs.Touching.{reads_local, writes_local}
 
 -- ---- the three lists side by side
@@ -149,11 +148,9 @@ module _ (procs : List Proc) (graphs : List Graph) (found : List ProcedurePlaces
 
   -- ---- places
 
-  pub is_slot : (v : ℕ) → v < local_count g → (compiled graphs found).plan.place q v ≡ Slot (8 * v)
-  is_slot v less = place_is v ∙ (ap (λ locals. get_or locals v no_place) at.has.locals ∙ slot_at (local_count g) v no_place less)
-
-  pub are_apart : (v u : ℕ) → v < local_count g → u < local_count g → v ≢ u → (compiled graphs found).plan.place q v ≢ (compiled graphs found).plan.place q u
-  are_apart v u less_v less_u other same = slots_differ v u other (sym (is_slot v less_v) ∙ (same ∙ is_slot u less_u))
+  -- places that differ are different ones of the plan
+  pub apart_in : (v u : ℕ) → place_at at.places.locals v ≢ place_at at.places.locals u → (compiled graphs found).plan.place q v ≢ (compiled graphs found).plan.place q u
+  apart_in v u other same = other (sym (place_is v) ∙ (same ∙ place_is u))
 
   pub live_within : (n : NodeId) (u : ℕ) → live_before found q n u ≡ true → u < local_count g
   live_within n u is = before_within g k.live at.has.live n u (sym (live_is n u) ∙ is)
@@ -210,7 +207,6 @@ module _ (procs : List Proc) (graphs : List Graph) (found : List ProcedurePlaces
         by (Some node) there = keeps_all n node.kind (λ l has. writes_local g node.kind l (kind_in_range n node there) has)
             (λ m u leads is fresh. live_is n u ∙ stays g k.live at.has.live closed n node there m u leads (sym (live_is m u) ∙ is) fresh)
             (λ m u l leads is has other.
-            let number = number_within g l (writes_local g node.kind l (kind_in_range n node there) has) in
-            are_apart (local_number g l) u number (live_within m u is) (λ same. other (sym same)))
+            apart_in (local_number g l) u (at.has.locals.written n node m l u there leads has (writes_local g node.kind l (kind_in_range n node there) has) (sym (live_is m u) ∙ is) other))
         by None there = keeps_all n Stop (λ l has. absurd (none_contained l has)) (λ m u leads is fresh. absurd (none_contained m leads))
             (λ m u l leads is has other. absurd (none_contained m leads))

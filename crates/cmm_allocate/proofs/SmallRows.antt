@@ -42,6 +42,7 @@ use Rattle.cmm_allocate.specs.Compiling.{compiled}
 use Rattle.cmm_allocate.specs.Laws.{RunsOverPlaces}
 use Rattle.cmm_allocate.specs.Places.{CanBePlaced, HasPlaces}
 use Rattle.cmm_allocate.proofs.Members.{none_contained, one_contained}
+use Rattle.cmm_allocate.proofs.SlotPlaces.{slots_suit}
 
 abbrev body : List Statement
 body = is 5 (form.Return 0 0 (variable_of 0 ∷ [])) ∷ []
@@ -213,7 +214,7 @@ can_be_placed : CanBePlaced main graph
 can_be_placed = record { frames = in_range.frames; bounded = lit≤ tt; continuations = refl }
 
 has_places : HasPlaces main graph places
-has_places = record { locals = refl; frame = is_frame; live = are_live; zeroed = refl }
+has_places = record { locals = slots_suit graph sets are_live; frame = is_frame; live = are_live; zeroed = refl }
 
 -- ---- so it runs over them
 

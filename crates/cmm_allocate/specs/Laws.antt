@@ -1,4 +1,4 @@
--- What a plan of slots guarantees: it meets all that the laws of located runs require of a compiled program.
+-- What the places of a program guarantee: they meet all that the laws of located runs require of a compiled program.
 use Rattle.std.specs.Prelude.{◌≡◌, ℕ, ◌+◌, ◌*◌, ◌≤◌, IsTrue, List, length}
 use Rattle.std.specs.List.{All, AllZip, list_all}
 use Rattle.cmm_abi.specs.Registers.{callee_saves}

@@ -1,6 +1,7 @@
 pub mod Slots
-pub mod Places
 pub mod Compiling
+pub mod Placed
+pub mod Places
 pub mod Placing
 pub mod Laws
 pub mod inside

@@ -6,11 +6,10 @@ use Rattle.cmm_program.specs.declared.procedure.Proc.{Proc}
 use Rattle.cmm_program.specs.InRange.{FitsFrames}
 use Rattle.cmm_graph.specs.declared.graph.Graph.{Graph}
 use Rattle.cmm_live.specs.Exact.{AreLiveSets, set_at}
-use Rattle.cmm_live.specs.Locals.{local_count}
 use Rattle.cmm_located.specs.Layouts.{IsFrameOf}
 use Rattle.cmm_flow.specs.Flow.{IsBounded}
 use Rattle.cmm_allocate.specs.declared.procedure.ProcedurePlaces.{ProcedurePlaces}
-use Rattle.cmm_allocate.specs.Slots.{slots}
+use Rattle.cmm_allocate.specs.Placed.{ArePlaces}
 
 -- A frame can be laid for a procedure and its graph: its parts are small, its locals and pairs have room in the bound on frames, and the
 -- graph has its continuations.
@@ -20,8 +19,8 @@ pub record CanBePlaced (p : Proc) (g : Graph) : Type 0 where
   pub continuations : length g.continuations ≡ length p.conts
 
 pub record HasPlaces (p : Proc) (g : Graph) (k : ProcedurePlaces) : Type 0 where
-  -- each local has a slot of its own
-  pub locals : k.locals ≡ slots (local_count g)
+  -- each local has a place, which suits what is live where
+  pub locals : ArePlaces g k.live k.locals
   -- and the frame is laid for these
   pub frame : IsFrameOf p k.locals k.frame
   -- the sets have just the locals that are live

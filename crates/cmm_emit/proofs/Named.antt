@@ -1,9 +1,8 @@
 -- What nodes name is there.
 use Rattle.std.proofs.Common.{◌≡◌, ℕ, zero, suc, ◌+◌, ◌<◌, ◌≤◌, ◌^◌, refl, sym, ◌∙◌, ap, subst, arith, Bool, true, false, List, [], ◌∷◌, length, map, get_or, Option, Some, None, slice_get}
-use Rattle.std.specs.Prelude.{◌&&◌, nat_le, nat_lt, is_some}
-use Rattle.std.specs.List.{list_all, range_with_len}
+use Rattle.std.specs.Prelude.{◌&&◌, ◌||◌, min, nat_le, nat_lt, is_some}
+use Rattle.std.specs.List.{list_all}
 use Rattle.std.proofs.lemmas.List.{length-map}
-use Rattle.std.proofs.lemmas.List.FromFn.{length-range_with_len}
 use Rattle.std.proofs.lemmas.Option.{slice_get_within}
 use Rattle.std.proofs.lemmas.Bool.{and_parts}
 use Rattle.std.proofs.lemmas.Bool.Decides.{nat_tests}
@@ -12,6 +11,8 @@ use Rattle.cmm_words.specs.declared.constant.Constant.{Constant}
 use Rattle.cmm_words.specs.declared.constant.Constant.TheVariants as constant
 use Rattle.cmm_words.specs.declared.width.Width.{Width}
 use Rattle.cmm_words.specs.declared.width.Width.TheVariants.{W8, W16, W32, W64}
+use Rattle.cmm_abi.specs.declared.registers.TheConstants.{FIRST_VALUE}
+use Rattle.cmm_abi.specs.declared.values.TheConstants.{IN_REGISTERS}
 use Rattle.cmm_chain.specs.Plans.{is_place}
 use Rattle.cmm_chain.specs.declared.frame.Frame.{Frame}
 use Rattle.cmm_chain.specs.declared.frame.Location.{Location}
@@ -51,13 +52,17 @@ use Rattle.cmm_select.specs.declared.source.Source.TheVariants.{Place}
 use Rattle.cmm_calls.specs.Copying.{are_copied_first, is_copied_first, is_destination as is_code_destination}
 use Rattle.cmm_calls.specs.Values.{are_given_first, are_taken_first, is_given_first, is_operand as is_code_operand, is_taken_first}
 use Rattle.cmm_emit_laws.specs.ProgramCode.{names_register}
-use Rattle.cmm_allocate.specs.Slots.{slot_of, slots}
+use Rattle.cmm_allocate.specs.Placed.{is_clear_of_values}
 use Rattle.cmm_emit.specs.declared.context.Context.{Context}
 use Rattle.cmm_emit.specs.declared.context.Targets.{Targets}
 use Rattle.cmm_emit.specs.Naming.{argument_operand, argument_operands, can_begin, can_come_back, can_copy, can_give, can_go_to, can_land, can_send, can_take, code_operand, code_operands, constant_operand, has_argument, has_arm, has_both, has_constant, has_destination, has_kind, has_landing, has_local, has_node, has_operand, has_rvalue, has_site, has_target, local_number, place, target_destination, target_destinations, variable_places}
 use Rattle.cmm_flow.specs.Few.{passes_few}
 
 -- ---- tests
+
+either_true : (a b : Bool) → b ≡ true → (a || b) ≡ true
+either_true true b is = refl
+either_true false b is = is
 
 pub join : (a b : Bool) → a ≡ true → b ≡ true → (a && b) ≡ true
 join true b is also = also
@@ -86,7 +91,8 @@ less_in n a b same less = subst (λ (z : ℕ). nat_lt n z ≡ true) same less
 
 pub record Has (p : Program) (q : Proc) (g : Graph) (c : Context) (y : Targets) : Type 0 where
   pub variables : c.variables ≡ g.variables
-  pub places : c.places ≡ slots (local_count g)
+  pub places : length c.places ≡ local_count g
+  pub places_clear : list_all is_clear_of_values c.places ≡ true
   pub fine : list_all (is_place c.frame) c.places ≡ true
   pub zeroed : list_all (is_place c.frame) c.zeroed ≡ true
   pub zeroed_first : (count : ℕ) → list_all (is_taken_first count 0) c.zeroed ≡ true
@@ -101,21 +107,21 @@ pub record Has (p : Program) (q : Proc) (g : Graph) (c : Context) (y : Targets) 
   pub data_labels : length p.labels ≡ length y.data_labels
   pub registers : length p.globals ≡ length y.registers
 
--- ---- slots
+-- ---- locations that are clear of values
 
-abbrev pub is_slot : Location → Bool
-is_slot (Slot offset) = true
-is_slot _ = false
+-- what is not listed is one as well, if what stands in for it is
+pub clear_at : (ls : List Location) (v : ℕ) (d : Location) → list_all is_clear_of_values ls ≡ true → is_clear_of_values d ≡ true → is_clear_of_values (get_or ls v d) ≡ true
+clear_at [] v d all clear = clear
+clear_at (l ∷ ls) zero d all clear = (and_parts (is_clear_of_values l) (list_all is_clear_of_values ls) all).0
+clear_at (l ∷ ls) (suc v) d all clear = clear_at ls v d (and_parts (is_clear_of_values l) (list_all is_clear_of_values ls) all).1 clear
 
-pub slots_are_slots : (first count v : ℕ) → is_slot (get_or (map slot_of (range_with_len first count)) v (Slot 0)) ≡ true
-slots_are_slots first zero v = refl
-slots_are_slots first (suc count) zero = refl
-slots_are_slots first (suc count) (suc v) = slots_are_slots (first + 1) count v
-
-pub slot_taken : (count k : ℕ) (l : Location) → is_slot l ≡ true → is_taken_first count k l ≡ true
-slot_taken count k (Slot offset) is = refl
-slot_taken count k (Saved r) is = absurd (cc)
-slot_taken count k (Temp r) is = absurd (cc)
+pub clear_taken : (count k : ℕ) (l : Location) → is_clear_of_values l ≡ true → is_taken_first count k l ≡ true
+clear_taken count k (Slot offset) is = refl
+clear_taken count k (Saved r) is = refl
+clear_taken count k (Temp r) is =
+    let high : FIRST_VALUE + IN_REGISTERS ≤ r = grind (arith, nat_tests, is) in
+    let behind : FIRST_VALUE + min count IN_REGISTERS ≤ r = omega arith in
+    either_true (nat_le r (FIRST_VALUE + k)) (nat_le (FIRST_VALUE + min count IN_REGISTERS) r) (grind (arith, nat_tests, behind))
 
 pub all_at : (f : Frame) (ls : List Location) (v : ℕ) (d : Location) → list_all (is_place f) ls ≡ true → nat_lt v (length ls) ≡ true → is_place f (get_or ls v d) ≡ true
 all_at f [] v d all less = absurd (grind (arith, nat_tests, less))
@@ -144,7 +150,7 @@ module _ (p : Program) (q : Proc) (g : Graph) (c : Context) (y : Targets) (has :
   number_is (local.Temporary t) = ap (λ (n : ℕ). n + t.number) has.variables
 
   counted : local_count g ≡ length c.places
-  counted = sym (ap (λ (ls : List Location). length ls) has.places ∙ length-map (range_with_len 0 (local_count g)) slot_of ∙ length-range_with_len 0 (local_count g))
+  counted = sym has.places
 
   local_there : (l : Local) → is_local g l ≡ true → has_local c l ≡ true
   local_there (local.Variable v) is =
@@ -156,8 +162,8 @@ module _ (p : Program) (q : Proc) (g : Graph) (c : Context) (y : Targets) (has :
       let within : c.variables + t.number < length c.places = omega (arith, less, counted, has.variables) in
       grind (arith, nat_tests, within)
 
-  place_slot : (l : Local) → is_slot (place c l) ≡ true
-  place_slot l = subst (λ (ls : List Location). is_slot (get_or ls (local_number c l) (Slot 0)) ≡ true) (sym has.places) (slots_are_slots 0 (local_count g) (local_number c l))
+  place_clear : (l : Local) → is_clear_of_values (place c l) ≡ true
+  place_clear l = clear_at c.places (local_number c l) (Slot 0) has.places_clear refl
 
   place_fine : (l : Local) → is_local g l ≡ true → is_place c.frame (place c l) ≡ true
   place_fine l is = all_at c.frame c.places (local_number c l) (Slot 0) has.fine (local_there l is)
@@ -188,10 +194,13 @@ module _ (p : Program) (q : Proc) (g : Graph) (c : Context) (y : Targets) (has :
   operand_fine (operand.Stackdata label) is named = has.offset_stack label.number
   operand_fine (operand.Continuation k) is named = has.offset_pairs k.number
 
-  given_at : (i : ℕ) (l : Location) → is_slot l ≡ true → is_given_first i (Held (Place l)) ≡ true
+  given_at : (i : ℕ) (l : Location) → is_clear_of_values l ≡ true → is_given_first i (Held (Place l)) ≡ true
   given_at i (Slot offset) is = refl
-  given_at i (Saved r) is = absurd (cc)
-  given_at i (Temp r) is = absurd (cc)
+  given_at i (Saved r) is = refl
+  given_at i (Temp r) is =
+      let high : FIRST_VALUE + IN_REGISTERS ≤ r = grind (arith, nat_tests, is) in
+      let behind : FIRST_VALUE + min i IN_REGISTERS ≤ r = omega arith in
+      grind (arith, nat_tests, behind)
 
   constant_given : (i : ℕ) (k : Constant) → is_given_first i (constant_operand y k) ≡ true
   constant_given i (constant.Number n width) = refl
@@ -200,7 +209,7 @@ module _ (p : Program) (q : Proc) (g : Graph) (c : Context) (y : Targets) (has :
 
   operand_given : (i : ℕ) (o : Operand) → is_given_first i (code_operand c y o) ≡ true
   operand_given i (operand.Constant k) = constant_given i k
-  operand_given i (operand.Local l) = given_at i (place c l) (place_slot l)
+  operand_given i (operand.Local l) = given_at i (place c l) (place_clear l)
   operand_given i (operand.Stackdata label) = refl
   operand_given i (operand.Continuation k) = refl
 
@@ -279,7 +288,7 @@ module _ (p : Program) (q : Proc) (g : Graph) (c : Context) (y : Targets) (has :
 
   target_copied : (count i : ℕ) (t : Target) → is_copied_first count i (target_destination c y t) ≡ true
   target_copied count i (target.Variable number width) =
-      slot_taken count i (place c (local.Variable (record { number = number }))) (place_slot (local.Variable (record { number = number })))
+      clear_taken count i (place c (local.Variable (record { number = number }))) (place_clear (local.Variable (record { number = number })))
   target_copied count i (target.Register number width) = refl
 
   targets_copied : (count i : ℕ) (ts : List Target) → are_copied_first count i (target_destinations c y ts) ≡ true
@@ -313,7 +322,7 @@ module _ (p : Program) (q : Proc) (g : Graph) (c : Context) (y : Targets) (has :
   formals_taken count i [] = refl
   formals_taken count i (v ∷ vs) =
       join (is_taken_first count i (place c (local.Variable v))) (are_taken_first count (suc i) (variable_places c vs))
-      (slot_taken count i (place c (local.Variable v)) (place_slot (local.Variable v))) (formals_taken count (suc i) vs)
+      (clear_taken count i (place c (local.Variable v)) (place_clear (local.Variable v))) (formals_taken count (suc i) vs)
 
   formals_fine : (vs : List Variable) → list_all (is_variable g) vs ≡ true → list_all (is_place c.frame) (variable_places c vs) ≡ true
   formals_fine [] are = refl

@@ -1,7 +1,7 @@
 -- Each procedure of a program can be laid, over the context that is made for it.
 use Rattle.std.proofs.Common.{◌≡◌, ℕ, zero, suc, ◌+◌, ◌<◌, ◌≤◌, ◌^◌, refl, sym, ◌∙◌, ap, subst, arith, Bool, true, false, List, [], ◌∷◌, length, map, get_or, Option, Some, None, slice_get}
 use Rattle.std.specs.Prelude.{◌&&◌, ◌==◌, Contains, nat_le, nat_lt}
-use Rattle.std.specs.List.{All, list_all, range_with_len}
+use Rattle.std.specs.List.{All, list_all}
 use Rattle.std.proofs.lemmas.Bool.{and_parts, eqb-true}
 use Rattle.std.proofs.lemmas.Bool.Decides.{nat_tests}
 use Rattle.std.proofs.lemmas.List.{get_or_default, get_or_past, length-map}
@@ -35,7 +35,7 @@ use Rattle.cmm_emit_laws.specs.ProgramCode.{names_register, names_registers}
 use Rattle.cmm_allocate.specs.declared.procedure.ProcedurePlaces.{ProcedurePlaces}
 use Rattle.cmm_allocate.specs.Compiling.{no_place}
 use Rattle.cmm_allocate.specs.Places.{HasPlaces}
-use Rattle.cmm_allocate.specs.Slots.{slot_of, slots}
+use Rattle.cmm_allocate.specs.Placed.{is_clear_of_values}
 use Rattle.cmm_located.specs.Layouts.{row_with}
 use Rattle.rv_table.specs.Memory.{code_base}
 use Rattle.cmm_calls.specs.Frames.{CanBeMade}
@@ -43,18 +43,17 @@ use Rattle.cmm_flow.specs.Waiting.{WaitOnce}
 use Rattle.cmm_emit.specs.Naming.{has_kind, label_at}
 use Rattle.cmm_program.specs.Typing.{is_target}
 use Rattle.cmm_chain.specs.declared.frame.Location.TheVariants.{Slot}
-use Rattle.std.proofs.lemmas.List.FromFn.{length-range_with_len}
 use Rattle.cmm_emit.specs.declared.context.Context.{Context}
 use Rattle.cmm_emit.specs.declared.context.Targets.{Targets}
 use Rattle.cmm_emit.proofs.Fitting.{IsRow, all_below, pairs_inside, places_are, row_parts, stack_counted, stack_inside}
 use Rattle.cmm_emit.proofs.Numbering.{length-labels_from}
-use Rattle.cmm_emit.proofs.Named.{Has, join, kind_there, all_at, is_slot, slot_taken, slots_are_slots}
+use Rattle.cmm_emit.proofs.Named.{Has, join, kind_there, all_at, clear_at, clear_taken}
 use Rattle.cmm_emit.proofs.WaitingNodes.{waits_apart}
 use Rattle.cmm_emit.specs.Contexts.{IsMadeFor, place_in}
 use Rattle.cmm_emit.specs.LaidProcedures.{CanBeLaid}
 use Rattle.cmm_flow.specs.Few.{PassFew, passes_few}
 
--- ---- what is made 0 has slots
+-- ---- what is made 0
 
 set_short : (g : Graph) (sets : LiveSets) (n : ℕ) → AreLiveSets g sets → length (set_at sets.before n) ≤ local_count g
 set_short g sets n are = by (nat_lt n (length g.nodes)) refl
@@ -80,12 +79,6 @@ each_listed test place count [] so below = refl
 each_listed test place count (n ∷ ns) so below =
     join (test (place n)) (list_all test (map place ns)) (so n (below n (0, (omega arith), refl)))
     (each_listed test place count ns so (λ m there. below m (suc there.0, (let h = there.1 in omega (arith, h)), there.2)))
-
-slot_there : (count n : ℕ) (d : Location) → n < length (slots count) → is_slot (get_or (slots count) n d) ≡ true
-slot_there count n d less = subst (λ (l : Location). is_slot l ≡ true) (get_or_default (slots count) n (Slot 0) d less) (slots_are_slots 0 count n)
-
-slots_counted : (count : ℕ) → length (slots count) ≡ count
-slots_counted count = length-map (range_with_len 0 count) slot_of ∙ length-range_with_len 0 count
 
 lt_test : (a b : ℕ) → a < b → nat_lt a b ≡ true
 lt_test a b h = grind (arith, nat_tests, h)
@@ -114,7 +107,7 @@ module _ (p : Program) (q : Proc) (g : Graph) (k : ProcedurePlaces) (first : ℕ
   row = row_parts q k.locals k.frame found.frame
 
   locals_counted : length k.locals ≡ local_count g
-  locals_counted = ap (λ (ls : List Location). length ls) found.locals ∙ slots_counted (local_count g)
+  locals_counted = found.locals.count
 
   zeroed_below : (n : ℕ) → Contains k.zeroed n → n < local_count g
   zeroed_below n there =
@@ -145,14 +138,15 @@ module _ (p : Program) (q : Proc) (g : Graph) (k : ProcedurePlaces) (first : ℕ
   pub context_has : Has p q g c y
   context_has = record {
     variables = made.variables;
-    places = made.places ∙ found.locals;
+    places = ap (λ (ls : List Location). length ls) made.places ∙ found.locals.count;
+    places_clear = subst (λ (ls : List Location). list_all is_clear_of_values ls ≡ true) (sym made.places) found.locals.clear;
     fine = subst (λ (ls : List Location). list_all (is_place c.frame) ls ≡ true) (sym made.places)
         (subst (λ (f : Frame). list_all (is_place f) k.locals ≡ true) (sym frame_is) found.frame.locals);
     zeroed = subst (λ (f : Frame). list_all (is_place f) c.zeroed ≡ true) (sym frame_is)
         (zeroed_all (is_place k.frame) (λ n less. all_at k.frame k.locals n no_place found.frame.locals (lt_test n (length k.locals) (omega (arith, less, locals_counted)))));
     zeroed_first = λ count. zeroed_all (is_taken_first count 0)
-        (λ n less. slot_taken count 0 (place_in k n) (subst (λ (ls : List Location). is_slot (get_or ls n no_place) ≡ true) (sym found.locals)
-        (slot_there (local_count g) n no_place (omega (arith, less, slots_counted (local_count g))))));
+        (λ n less. clear_taken count 0 (place_in k n) (subst (λ (l : Location). is_clear_of_values l ≡ true)
+        (get_or_default k.locals n (Slot 0) no_place (omega (arith, less, locals_counted))) (clear_at k.locals n (Slot 0) found.locals.clear refl)));
     nodes = sym (ap (λ (ls : List Label). length ls) made.nodes ∙ length-labels_from first (length g.nodes));
     sites = sym (ap (λ (ls : List Label). length ls) made.sites ∙ length-labels_from (first + length g.nodes) (length q.sites));
     landings = sym (ap (λ (ls : List Label). length ls) made.landings ∙ length-map g.continuations (λ (n : NodeId). label_at c.nodes n.number));
