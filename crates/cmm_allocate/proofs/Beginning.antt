@@ -48,16 +48,16 @@ module _ (program : Program) (procs : List Proc) (graphs : List Graph) (found : 
   p = at.procedure
 
   abbrev first : Node
-  first = record { tokens = p.tokens; kind = Entry at.flow.flow.flow.begun.formals at.flow.flow.flow.begun.next }
+  first = record { tokens = p.tokens; kind = Entry at.flow.entry.formals at.flow.entry.next }
 
   there : node_of g g.first ≡ Some first
-  there = at.flow.flow.flow.begun.node
+  there = at.flow.entry.node
 
-  numbers : map (λ (v : Variable). v.number) at.flow.flow.flow.begun.formals ≡ range_with_len 0 p.formals
-  numbers = same_Some _ _ (sym (ap (λ o. with_some o (λ (node : Node). formals_of node.kind)) there) ∙ at.flow.flow.formals)
+  numbers : map (λ (v : Variable). v.number) at.flow.entry.formals ≡ range_with_len 0 p.formals
+  numbers = same_Some _ _ (sym (ap (λ o. with_some o (λ (node : Node). formals_of node.kind)) there) ∙ at.flow.formals)
 
   pub variables_are : variable_count graphs q ≡ length p.vars
-  variables_are = ap (λ (o : Option Graph). elim o as (λ _. ℕ) [ Some g ↦ g.variables | None ↦ 0 ]) at.is_graph ∙ at.flow.flow.variables
+  variables_are = ap (λ (o : Option Graph). elim o as (λ _. ℕ) [ Some g ↦ g.variables | None ↦ 0 ]) at.is_graph ∙ at.flow.variables
 
   few : p.formals ≤ length p.vars
   few = let both = and_parts (nat_le p.formals (length p.vars)) (nat_le p.formals 64) range.formals in grind (arith, nat_tests, both.0)
@@ -65,7 +65,7 @@ module _ (program : Program) (procs : List Proc) (graphs : List Graph) (found : 
   zeroed_is : (compiled graphs found).zeroed q ≡ members (set_at at.places.live.before g.first.number)
   zeroed_is = ap (λ (o : Option ProcedurePlaces). elim o as (λ _. List ℕ) [ Some k ↦ k.zeroed | None ↦ [] ]) at.is_places ∙ at.has.zeroed
 
-  known : (u : ℕ) → live_before found q at.flow.flow.flow.begun.next u ≡ true → (u < p.formals) ⊎ Contains ((compiled graphs found).zeroed q) u
+  known : (u : ℕ) → live_before found q at.flow.entry.next u ≡ true → (u < p.formals) ⊎ Contains ((compiled graphs found).zeroed q) u
   known u is = by (nat_lt u p.formals) refl
     where
       by : (b : Bool) → nat_lt u p.formals ≡ b → (u < p.formals) ⊎ Contains ((compiled graphs found).zeroed q) u
@@ -73,10 +73,10 @@ module _ (program : Program) (procs : List Proc) (graphs : List Graph) (found : 
       by false formal =
           let past : p.formals ≤ u = grind (arith, nat_tests, formal) in
           let fresh : ¬ Contains (map (local_number g) (writes first.kind)) u =
-          (λ written. let less = among_first p.formals u (subst (λ ns. Contains ns u) (written_numbers g at.flow.flow.flow.begun.formals ∙ numbers) written) in omega (arith, past, less)) in
+          (λ written. let less = among_first p.formals u (subst (λ ns. Contains ns u) (written_numbers g at.flow.entry.formals ∙ numbers) written) in omega (arith, past, less)) in
           let live : before at.places.live g.first u ≡ true =
-          stays g at.places.live at.has.live closed g.first first there at.flow.flow.flow.begun.next u (0, omega arith, refl)
-          (sym (live_is procs graphs found q at at.flow.flow.flow.begun.next u) ∙ is) fresh in
+          stays g at.places.live at.has.live closed g.first first there at.flow.entry.next u (0, omega arith, refl)
+          (sym (live_is procs graphs found q at at.flow.entry.next u) ∙ is) fresh in
           inr (subst (λ ns. Contains ns u) (sym zeroed_is) ((members_had (set_at at.places.live.before g.first.number) u).1 live))
 
   pub has_entry : HasEntry (compiled graphs found) (live_before found) q at.procedure
@@ -84,14 +84,14 @@ module _ (program : Program) (procs : List Proc) (graphs : List Graph) (found : 
     exists = exists procs graphs found q at;
     variables = variables_are;
     first = g.first;
-    formals = at.flow.flow.flow.begun.formals;
-    next = at.flow.flow.flow.begun.next;
+    formals = at.flow.entry.formals;
+    next = at.flow.entry.next;
     is_first = ap (λ (o : Option Graph). with_some o (λ (g : Graph). Some g.first)) at.is_graph;
     is_entry = kind_is procs graphs found q at g.first ∙ ap (λ (o : Option Node). elim o as (λ _. NodeKind) [ Some node ↦ node.kind | None ↦ Stop ]) there;
     numbered = numbers;
     formals_are_variables = few;
     known = known;
     apart = λ u v is less other.
-        are_apart procs graphs found q at v u (omega (arith, less, few, at.flow.flow.variables)) (live_within procs graphs found q at at.flow.flow.flow.begun.next u is)
+        are_apart procs graphs found q at v u (omega (arith, less, few, at.flow.variables)) (live_within procs graphs found q at at.flow.entry.next u is)
         (λ same. other (sym same));
   }
