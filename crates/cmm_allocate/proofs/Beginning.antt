@@ -52,16 +52,16 @@ module _ (program : Program) (procs : List Proc) (graphs : List Graph) (found : 
   p = at.procedure
 
   abbrev first : Node
-  first = record { tokens = p.tokens; kind = Entry at.flow.flow.flow.begun.formals at.flow.flow.flow.begun.next }
+  first = record { tokens = p.tokens; kind = Entry at.flow.entry.formals at.flow.entry.next }
 
   there : node_of g g.first ≡ Some first
-  there = at.flow.flow.flow.begun.node
+  there = at.flow.entry.node
 
-  numbers : map (λ (v : Variable). v.number) at.flow.flow.flow.begun.formals ≡ range_with_len 0 p.formals
-  numbers = same_Some _ _ (sym (ap (λ o. with_some o (λ (node : Node). formals_of node.kind)) there) ∙ at.flow.flow.formals)
+  numbers : map (λ (v : Variable). v.number) at.flow.entry.formals ≡ range_with_len 0 p.formals
+  numbers = same_Some _ _ (sym (ap (λ o. with_some o (λ (node : Node). formals_of node.kind)) there) ∙ at.flow.formals)
 
   pub variables_are : variable_count graphs q ≡ length p.vars
-  variables_are = ap (λ (o : Option Graph). elim o as (λ _. ℕ) [ Some g ↦ g.variables | None ↦ 0 ]) at.is_graph ∙ at.flow.flow.variables
+  variables_are = ap (λ (o : Option Graph). elim o as (λ _. ℕ) [ Some g ↦ g.variables | None ↦ 0 ]) at.is_graph ∙ at.flow.variables
 
   few : p.formals ≤ length p.vars
   few = let both = and_parts (nat_le p.formals (length p.vars)) (nat_le p.formals 64) range.formals in grind (arith, nat_tests, both.0)
@@ -69,7 +69,7 @@ module _ (program : Program) (procs : List Proc) (graphs : List Graph) (found : 
   zeroed_is : (compiled graphs found).zeroed q ≡ members (set_at at.places.live.before g.first.number)
   zeroed_is = ap (λ (o : Option ProcedurePlaces). elim o as (λ _. List ℕ) [ Some k ↦ k.zeroed | None ↦ [] ]) at.is_places ∙ at.has.zeroed
 
-  known : (u : ℕ) → live_before found q at.flow.flow.flow.begun.next u ≡ true → (u < p.formals) ⊎ Contains ((compiled graphs found).zeroed q) u
+  known : (u : ℕ) → live_before found q at.flow.entry.next u ≡ true → (u < p.formals) ⊎ Contains ((compiled graphs found).zeroed q) u
   known u is = by (nat_lt u p.formals) refl
     where
       by : (b : Bool) → nat_lt u p.formals ≡ b → (u < p.formals) ⊎ Contains ((compiled graphs found).zeroed q) u
@@ -77,10 +77,10 @@ module _ (program : Program) (procs : List Proc) (graphs : List Graph) (found : 
       by false formal =
           let past : p.formals ≤ u = grind (arith, nat_tests, formal) in
           let fresh : ¬ Contains (map (local_number g) (writes first.kind)) u =
-          (λ written. let less = among_first p.formals u (subst (λ ns. Contains ns u) (written_numbers g at.flow.flow.flow.begun.formals ∙ numbers) written) in omega (arith, past, less)) in
+          (λ written. let less = among_first p.formals u (subst (λ ns. Contains ns u) (written_numbers g at.flow.entry.formals ∙ numbers) written) in omega (arith, past, less)) in
           let live : before at.places.live g.first u ≡ true =
-          stays g at.places.live at.has.live closed g.first first there at.flow.flow.flow.begun.next u (0, omega arith, refl)
-          (sym (live_is procs graphs found q at at.flow.flow.flow.begun.next u) ∙ is) fresh in
+          stays g at.places.live at.has.live closed g.first first there at.flow.entry.next u (0, omega arith, refl)
+          (sym (live_is procs graphs found q at at.flow.entry.next u) ∙ is) fresh in
           inr (subst (λ ns. Contains ns u) (sym zeroed_is) ((members_had (set_at at.places.live.before g.first.number) u).1 live))
 
   -- an Entry writes each formal
@@ -88,7 +88,7 @@ module _ (program : Program) (procs : List Proc) (graphs : List Graph) (found : 
   formal_written v less =
       let there_ : Contains (range_with_len 0 p.formals) v = (v, subst (λ n. v < n) (sym (length-range_with_len 0 p.formals)) less, get_or-range_with_len 0 p.formals v v less ∙ (let e : 0 + v ≡ v = omega arith in e)) in
       let numbered : Contains (map (local_number g) (writes first.kind)) v =
-      subst (λ ns. Contains ns v) (sym (written_numbers g at.flow.flow.flow.begun.formals ∙ numbers)) there_ in
+      subst (λ ns. Contains ns v) (sym (written_numbers g at.flow.entry.formals ∙ numbers)) there_ in
       contains_unmapped (local_number g) (writes first.kind) v numbered
 
   pub has_entry : HasEntry (compiled graphs found) (live_before found) q at.procedure
@@ -96,8 +96,8 @@ module _ (program : Program) (procs : List Proc) (graphs : List Graph) (found : 
     exists = exists procs graphs found q at;
     variables = variables_are;
     first = g.first;
-    formals = at.flow.flow.flow.begun.formals;
-    next = at.flow.flow.flow.begun.next;
+    formals = at.flow.entry.formals;
+    next = at.flow.entry.next;
     is_first = ap (λ (o : Option Graph). with_some o (λ (g : Graph). Some g.first)) at.is_graph;
     is_entry = kind_is procs graphs found q at g.first ∙ ap (λ (o : Option Node). elim o as (λ _. NodeKind) [ Some node ↦ node.kind | None ↦ Stop ]) there;
     numbered = numbers;
@@ -107,6 +107,6 @@ module _ (program : Program) (procs : List Proc) (graphs : List Graph) (found : 
         let written = formal_written v less in
         let same : local_number g written.0 ≡ v = written.1 in
         apart_in procs graphs found q at v u
-        (λ e. at.has.locals.written g.first first at.flow.flow.flow.begun.next written.0 u there (0, omega arith, refl) written.2
-        (writes_local g first.kind written.0 (kind_in_range procs graphs found q at g.first first there) written.2) (sym (live_is procs graphs found q at at.flow.flow.flow.begun.next u) ∙ is) (λ it. other (it ∙ same)) (ap (λ n. place_at at.places.locals n) same ∙ e)));
+        (λ e. at.has.locals.written g.first first at.flow.entry.next written.0 u there (0, omega arith, refl) written.2
+        (writes_local g first.kind written.0 (kind_in_range procs graphs found q at g.first first there) written.2) (sym (live_is procs graphs found q at at.flow.entry.next u) ∙ is) (λ it. other (it ∙ same)) (ap (λ n. place_at at.places.locals n) same ∙ e)));
   }

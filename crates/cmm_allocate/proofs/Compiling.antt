@@ -46,8 +46,7 @@ use Rattle.cmm_graph.specs.GraphControl.{kind_at}
 use Rattle.cmm_live.specs.Sites.{site_of}
 use Rattle.cmm_located.specs.Steps.{IsClosed}
 use Rattle.cmm_flow.specs.Flow.{HasTokens}
-use Rattle.cmm_flow.specs.Laws.{AnswersAreFlows, AnswersAreGraphs, AnswersHaveSites, AnswersWaitAtEach, AnswersWaitOnce}
-use Rattle.cmm_flow.specs.Liveness.{AnswersAreInRange, SetsAreOfProcedure}
+use Rattle.cmm_folded.specs.Laws.{FoldedFlowsAreGraphs, FoldedFlowsHaveSites, FoldedFlowsHaveTokens, FoldedFlowsWaitAtEach, FoldedFlowsWaitOnce, FoldedSetsAreOfProcedure}
 use Rattle.cmm_flow.specs.Relation.{longest, longest_of}
 use Rattle.cmm_flow.specs.Waiting.{WaitOnce}
 use Rattle.cmm_allocate.specs.declared.procedure.ProcedurePlaces.{ProcedurePlaces}
@@ -92,7 +91,7 @@ return_in_range g (Return exit alternates results) is =
     let both = and_parts (nat_le exit alternates) (list_all (is_argument g) results) is in grind (arith, nat_tests, both.0)
 return_in_range g kind is = tt
 
-module _ (are_graphs : AnswersAreGraphs) (closed : SetsAreClosed) (once : AnswersWaitOnce) (have_sites : AnswersHaveSites) (wait_at_each : AnswersWaitAtEach) (s : Setting) (graphs : List Graph)
+module _ (are_graphs : FoldedFlowsAreGraphs) (closed : SetsAreClosed) (once : FoldedFlowsWaitOnce) (have_sites : FoldedFlowsHaveSites) (wait_at_each : FoldedFlowsWaitAtEach) (s : Setting) (graphs : List Graph)
     (found : List ProcedurePlaces) (runs : RunsOverPlaces s graphs found) where
   abbrev c : Compiled
   c = compiled graphs found
@@ -258,14 +257,13 @@ module _ (are_graphs : AnswersAreGraphs) (closed : SetsAreClosed) (once : Answer
       by (Some x) there is = slice_get_within p.sites site x there
       by None there is = absurd (cc (is))
 
-  knows_live : AnswersAreInRange → SetsAreOfProcedure → KnowsLive s c
-  knows_live in_range of_procedure q site v p is less is_live =
+  knows_live : FoldedSetsAreOfProcedure → KnowsLive s c
+  knows_live of_procedure q site v p is less is_live =
       let at = procedure_beside are_graphs s graphs found runs q p is in
       let same : at.procedure ≡ p = same_Some at.procedure p (sym at.is_procedure ∙ is) in
       let its : is_live_at at.procedure site v ≡ true = subst (λ p. is_live_at p site v ≡ true) (sym same) is_live in
       let below : v < length at.procedure.vars = subst (λ (p : Proc). v < length p.vars) (sym same) less in
-      let flows = in_range s.program at.procedure at.graph (range_at are_graphs s graphs found runs q at) at.flow.flow in
-      let sets = of_procedure s.program at.procedure at.graph at.places.live flows (waits_once q at) at.has.live site v (site_exists at.procedure site v its) below in
+      let sets = of_procedure s.program at.procedure at.graph at.places.live (range_at are_graphs s graphs found runs q at) at.flow.flow at.has.live site v (site_exists at.procedure site v its) below in
       site_is s.program.procs graphs found q at site v ∙ (sets.tested ∙ its)
 
   -- nodes wait at sites of their procedures
@@ -293,15 +291,15 @@ module _ (are_graphs : AnswersAreGraphs) (closed : SetsAreClosed) (once : Answer
           (all_get (λ (node : Node). HasSite at.procedure at.graph node.kind) at.graph.nodes n.number node have there) e
       by at have None there e = absurd (cc)
 
-pub places_are_compiled : AnswersAreGraphs → SetsAreClosed → AnswersWaitOnce → AnswersHaveSites → AnswersWaitAtEach → AnswersAreFlows → PlacesAreCompiled
-places_are_compiled are_graphs closed once have_sites wait_at_each are_flows s graphs found runs =
+pub places_are_compiled : FoldedFlowsAreGraphs → SetsAreClosed → FoldedFlowsWaitOnce → FoldedFlowsHaveSites → FoldedFlowsWaitAtEach → FoldedFlowsHaveTokens → PlacesAreCompiled
+places_are_compiled are_graphs closed once have_sites wait_at_each have_tokens s graphs found runs =
     are_compiled are_graphs closed once have_sites wait_at_each s graphs found runs
-    (are_flows s graphs runs.range runs.flows).tokens
+    (have_tokens s.program graphs runs.range runs.flows)
 
-pub places_are_showable : AnswersAreGraphs → SetsAreClosed → AnswersWaitOnce → AnswersHaveSites → AnswersWaitAtEach → AnswersAreInRange → SetsAreOfProcedure → PlacesAreShowable
-places_are_showable are_graphs closed once have_sites wait_at_each in_range of_procedure s graphs found runs = record {
+pub places_are_showable : FoldedFlowsAreGraphs → SetsAreClosed → FoldedFlowsWaitOnce → FoldedFlowsHaveSites → FoldedFlowsWaitAtEach → FoldedSetsAreOfProcedure → PlacesAreShowable
+places_are_showable are_graphs closed once have_sites wait_at_each of_procedure s graphs found runs = record {
   variables = variables are_graphs closed once have_sites wait_at_each s graphs found runs;
-  live = knows_live are_graphs closed once have_sites wait_at_each s graphs found runs in_range of_procedure;
+  live = knows_live are_graphs closed once have_sites wait_at_each s graphs found runs of_procedure;
   apart = apart are_graphs closed once have_sites wait_at_each s graphs found runs;
   sites = sites_are are_graphs closed once have_sites wait_at_each s graphs found runs;
 }

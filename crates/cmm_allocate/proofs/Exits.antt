@@ -148,7 +148,7 @@ module _ (procs : List Proc) (graphs : List Graph) (found : List ProcedurePlaces
 
   pub lands_in : (k : ℕ) (cont : Cont) → slice_get at.procedure.conts k ≡ Some cont → LandsIn k cont
   lands_in k cont is =
-      let lands = landing_takes g (parameter_targets p) g.continuations p.conts k cont at.flow.flow.continuations is in
+      let lands = landing_takes g (parameter_targets p) g.continuations p.conts k cont at.flow.continuations is in
       record {
         node = lands.0;
         is_landing = lands.1;

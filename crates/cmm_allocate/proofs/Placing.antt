@@ -3,7 +3,7 @@ use Rattle.std.proofs.Common.{◌≡◌, ◌≢◌, ℕ, zero, suc, ◌*◌, ◌
 use Rattle.std.proofs.lemmas.Bool.{and_parts}
 use Rattle.std.proofs.lemmas.List.Elements.{All-head, All-tail}
 use Rattle.std.proofs.lemmas.Option.{slice_get_within}
-use Rattle.std.specs.List.{AllZip}
+use Rattle.std.specs.List.{AllZip, range_with_len}
 use Rattle.cmm_program.proofs.Shared.{all_get, list_all_get}
 use Rattle.cmm_program.specs.declared.procedure.Proc.{Proc}
 use Rattle.cmm_program.specs.declared.program.Program.{Program}
@@ -17,6 +17,7 @@ use Rattle.cmm_graph.specs.declared.node.NodeKind.{NodeKind}
 use Rattle.cmm_graph.specs.declared.node.NodeKind.TheVariants.{Stop}
 use Rattle.cmm_graph.specs.declared.number.NodeId.{NodeId}
 use Rattle.cmm_graph.specs.declared.operand.Local.{Local}
+use Rattle.cmm_graph.specs.Counterpart.{formals_of, parameter_targets, taken_at}
 use Rattle.cmm_graph.specs.GraphControl.{kind_at}
 use Rattle.cmm_graph.specs.Paths.{node_of, successors, writes}
 use Rattle.cmm_graph.specs.Ranges.{IsValid, is_kind, is_local, is_node}
@@ -25,8 +26,9 @@ use Rattle.cmm_live.specs.Locals.{local_count, local_number}
 use Rattle.cmm_chain.specs.declared.frame.Location.{Location}
 use Rattle.cmm_located.specs.SameOrders.{ReadsAreLive}
 use Rattle.cmm_located.specs.Steps.{KeepsLive}
-use Rattle.cmm_flow.specs.Flow.{IsFlow}
-use Rattle.cmm_flow.specs.Laws.{AnswersAreGraphs}
+use Rattle.cmm_folded.specs.Flow.{IsFoldedFlow}
+use Rattle.cmm_folded.specs.Laws.{FoldedFlowsAreGraphs, HasEntry}
+use Rattle.cmm_folded.proofs.Shared.{folded_flows_have_entries}
 use Rattle.cmm_allocate.specs.declared.procedure.ProcedurePlaces.{ProcedurePlaces}
 use Rattle.cmm_allocate.specs.Compiling.{compiled, live_before, no_place}
 use Rattle.cmm_allocate.specs.Placed.{place_at}
@@ -38,18 +40,34 @@ use Rattle.cmm_allocate.proofs.Touching.{reads_local, writes_local}
 
 -- ---- the three lists side by side
 
--- a graph is what `flow` answers for a procedure, and is in range
+-- a graph is the folded flow of a procedure, and one of the procedure
 pub record IsFlowGraph (p : Proc) (g : Graph) : Type 0 where
-  pub flow : IsFlow p g
+  pub flow : IsFoldedFlow p g
   pub valid : IsValid g
+  pub variables : g.variables ≡ length p.vars
+  pub formals : with_some (node_of g g.first) (λ node. formals_of node.kind) ≡ Some (range_with_len 0 p.formals)
+  pub continuations : map (taken_at g) g.continuations ≡ map (λ c. Some (parameter_targets p c)) p.conts
+  pub entry : HasEntry p g
 
-flow_graphs : AnswersAreGraphs → (program : Program) (procs : List Proc) (graphs : List Graph) → All (IsProcInRange program) procs → AllZip IsFlow procs graphs →
+flow_graph : FoldedFlowsAreGraphs → (program : Program) (p : Proc) (g : Graph) → IsProcInRange program p → IsFoldedFlow p g → IsFlowGraph p g
+flow_graph are_graphs program p g range is =
+    let graph = are_graphs program p g range is in
+    record {
+      flow = is;
+      valid = graph.valid;
+      variables = graph.variables;
+      formals = graph.formals;
+      continuations = graph.continuations;
+      entry = folded_flows_have_entries p g is;
+    }
+
+flow_graphs : FoldedFlowsAreGraphs → (program : Program) (procs : List Proc) (graphs : List Graph) → All (IsProcInRange program) procs → AllZip IsFoldedFlow procs graphs →
     AllZip IsFlowGraph procs graphs
 flow_graphs are_graphs program [] [] range are = tt
 flow_graphs are_graphs program [] (g ∷ graphs) range are = are
 flow_graphs are_graphs program (p ∷ procs) [] range are = are
 flow_graphs are_graphs program (p ∷ procs) (g ∷ graphs) range are = (
-  record { flow = are.0; valid = (are_graphs program p g (All-head (IsProcInRange program) p procs range) are.0).valid },
+  flow_graph are_graphs program p g (All-head (IsProcInRange program) p procs range) are.0,
   flow_graphs are_graphs program procs graphs (All-tail (IsProcInRange program) p procs range) are.1,
 )
 
@@ -104,7 +122,7 @@ as_many (p ∷ procs) (g ∷ graphs) [] q flows have is = elim have [ ]
 as_many (p ∷ procs) (g ∷ graphs) (k ∷ found) zero flows have is = omega arith
 as_many (p ∷ procs) (g ∷ graphs) (k ∷ found) (suc q) flows have is = omega (arith, as_many procs graphs found q flows.1 have.1 is)
 
-module _ (are_graphs : AnswersAreGraphs) (s : Setting) (graphs : List Graph) (found : List ProcedurePlaces) (runs : RunsOverPlaces s graphs found) where
+module _ (are_graphs : FoldedFlowsAreGraphs) (s : Setting) (graphs : List Graph) (found : List ProcedurePlaces) (runs : RunsOverPlaces s graphs found) where
   flows_in_range : AllZip IsFlowGraph s.program.procs graphs
   flows_in_range = flow_graphs are_graphs s.program s.program.procs graphs runs.range.procedures runs.flows
 

@@ -23,9 +23,10 @@ use Rattle.cmm_located.specs.Compiled.{Compiled}
 use Rattle.cmm_located.specs.LocatedMachine.{located_start}
 use Rattle.cmm_located.specs.Simulating.{LocatedRunsFollowGraphs, step_cost}
 use Rattle.cmm_located.specs.Steps.{kind_of_youngest, leads_on}
-use Rattle.cmm_flow.specs.Flow.{IsFlow}
+use Rattle.cmm_folded.specs.Flow.{IsFoldedFlow}
 use Rattle.cmm_flow.specs.Laws as flow
-use Rattle.cmm_flow.specs.Laws.{AnswersAreBounded, AnswersAreFlows, AreCosts, AreFlows, FlowFollowsAt}
+use Rattle.cmm_flow.specs.Laws.{AreCosts}
+use Rattle.cmm_folded.specs.Laws.{FoldedFlowsAreBounded, FoldedFlowsAreGraphs, FoldedFlowsFollow}
 use Rattle.cmm_flow.specs.Relation.{longest}
 use Rattle.cmm_allocate.specs.Compiling.{compiled, live_before}
 use Rattle.cmm_allocate.specs.Places.{CanBePlaced}
@@ -33,26 +34,26 @@ use Rattle.cmm_allocate.specs.Laws.{FlowsCanBePlaced, PlacesAreCompiled, PlacesA
 
 -- ---- room
 
-can_be_placed : AnswersAreBounded → (program : Program) (p : Proc) (g : Graph) → IsProcInRange program p → IsFlow p g → CanBePlaced p g
-can_be_placed are_bounded program p g range is = record {
+can_be_placed : FoldedFlowsAreGraphs → FoldedFlowsAreBounded → (program : Program) (p : Proc) (g : Graph) → IsProcInRange program p → IsFoldedFlow p g → CanBePlaced p g
+can_be_placed are_graphs are_bounded program p g range is = record {
   frames = range.frames;
   bounded = are_bounded program p g range is;
   continuations = sym (length-map g.continuations (taken_at g))
-      ∙ (ap (λ l. length l) is.continuations ∙ length-map p.conts (λ (c : Cont). Some (parameter_targets p c)));
+      ∙ (ap (λ l. length l) (are_graphs program p g range is).continuations ∙ length-map p.conts (λ (c : Cont). Some (parameter_targets p c)));
 }
 
-all_can : AnswersAreBounded → (program : Program) (procs : List Proc) (graphs : List Graph) → All (IsProcInRange program) procs → AllZip IsFlow procs graphs →
+all_can : FoldedFlowsAreGraphs → FoldedFlowsAreBounded → (program : Program) (procs : List Proc) (graphs : List Graph) → All (IsProcInRange program) procs → AllZip IsFoldedFlow procs graphs →
     AllZip CanBePlaced procs graphs
-all_can are_bounded program [] [] range are = tt
-all_can are_bounded program [] (g ∷ graphs) range are = are
-all_can are_bounded program (p ∷ procs) [] range are = are
-all_can are_bounded program (p ∷ procs) (g ∷ graphs) range are = (
-  can_be_placed are_bounded program p g (All-head (IsProcInRange program) p procs range) are.0,
-  all_can are_bounded program procs graphs (All-tail (IsProcInRange program) p procs range) are.1,
+all_can are_graphs are_bounded program [] [] range are = tt
+all_can are_graphs are_bounded program [] (g ∷ graphs) range are = are
+all_can are_graphs are_bounded program (p ∷ procs) [] range are = are
+all_can are_graphs are_bounded program (p ∷ procs) (g ∷ graphs) range are = (
+  can_be_placed are_graphs are_bounded program p g (All-head (IsProcInRange program) p procs range) are.0,
+  all_can are_graphs are_bounded program procs graphs (All-tail (IsProcInRange program) p procs range) are.1,
 )
 
-pub flows_can_be_placed : AnswersAreBounded → FlowsCanBePlaced
-flows_can_be_placed are_bounded program graphs range are = all_can are_bounded program program.procs graphs range.procedures are
+pub flows_can_be_placed : FoldedFlowsAreGraphs → FoldedFlowsAreBounded → FlowsCanBePlaced
+flows_can_be_placed are_graphs are_bounded program graphs range are = all_can are_graphs are_bounded program program.procs graphs range.procedures are
 
 -- ---- costs
 
@@ -102,12 +103,11 @@ main_there s less = by s.program.procs less
     by [] less = absurd (omega arith)
     by (p ∷ procs) less = (get_or (p ∷ procs) s.program.main p, slice_get-get_or (p ∷ procs) s.program.main p less)
 
-pub places_follow_programs : LocatedRunsFollowGraphs → FlowFollowsAt → AnswersAreFlows → PlacesAreCompiled → PlacesAreShowable → LocatedRunsFollowPrograms
-places_follow_programs located_runs_follow_graphs flow_follows are_flows are_compiled are_showable s graphs found input set bytes runs =
+pub places_follow_programs : LocatedRunsFollowGraphs → FoldedFlowsFollow → PlacesAreCompiled → PlacesAreShowable → LocatedRunsFollowPrograms
+places_follow_programs located_runs_follow_graphs folded_flows_follow are_compiled are_showable s graphs found input set bytes runs =
     let c = compiled graphs found in
-    let flows : AreFlows s graphs = are_flows s graphs runs.range runs.flows in
     let main = main_there s runs.range.main in
-    follows_trans (flow_follows s graphs input (step_cost c (longest s.program)) (longest s.program) set bytes flows (are_costs s c))
+    follows_trans (folded_flows_follow s graphs input (step_cost c (longest s.program)) (longest s.program) set bytes runs.flows (are_costs s c))
     (located_runs_follow_graphs s c (live_before found) (longest s.program) main.0 input (are_compiled s graphs found runs) (are_showable s graphs found runs) main.1
     (runs.range.main_formals main.0 main.1))
 

@@ -2,7 +2,6 @@
 --     main() { bits64 x; return (x); }
 use Rattle.std.proofs.Common.{◌≡◌, ◌↔◌, ℕ, zero, suc, ◌<◌, ◌≤◌, true, false, Contains, [], ◌∷◌, Bool, List, length, is_some, slice_get, Some, refl, ap, sym, subst, arith, lit<, lit≤}
 use Rattle.std.proofs.lemmas.Bool.Decides.{nat_tests}
-use Rattle.std.proofs.lemmas.List.Elements.{All-cons, All-nil}
 use Rattle.cmm_simulation.specs.Machine.{after}
 use Rattle.cmm_machine_laws.specs.Fitting.{IsSetUp}
 use Rattle.cmm_program.proofs.Shared.{opened}
@@ -34,7 +33,9 @@ use Rattle.cmm_chain.specs.declared.frame.Location.TheVariants.{Slot}
 use Rattle.cmm_located.specs.Layouts.{IsFrameOf}
 use Rattle.cmm_located.specs.LocatedMachine.{located_machine, located_start}
 use Rattle.cmm_located.specs.SameOrders.{HasFrames}
+use Rattle.cmm_fold.proofs.Shared.{graph_itself}
 use Rattle.cmm_flow.specs.Flow.{IsFlow, IsFlowOf}
+use Rattle.cmm_folded.specs.Flow.{IsFoldedFlow}
 use Rattle.cmm_flow.specs.Statements.{ListCode}
 use Rattle.cmm_flow.specs.Waiting.{times, waiting_sites}
 use Rattle.cmm_allocate.specs.declared.procedure.ProcedurePlaces.{ProcedurePlaces}
@@ -103,6 +104,10 @@ answer = record {
   yields = λ p range. refl;
   covered = λ p range sites. refl;
 }
+
+-- it has no operator, so that it is folded
+is_folded_flow : IsFoldedFlow main graph
+is_folded_flow = record { flow = graph; is_flow = answer; stands = graph_itself graph }
 
 -- ---- the program is in range
 
@@ -234,7 +239,7 @@ frames_are = record { size = sizes; pairs = pairs; stack = stacks }
     stacks (suc q) is = absurd (cc (is))
 
 runs : RunsOverPlaces small (graph ∷ []) (places ∷ [])
-runs = record { range = range; flows = (answer, tt); places = (has_places, tt); frames = frames_are }
+runs = record { range = range; flows = (is_folded_flow, tt); places = (has_places, tt); frames = frames_are }
 
 is_set_up : IsSetUp small
 is_set_up = record { program = range; placement = record { rows = refl; ascending = refl }; top = lit< tt }

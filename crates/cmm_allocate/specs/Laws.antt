@@ -18,16 +18,16 @@ use Rattle.cmm_located.specs.Clients.{IsShowable}
 use Rattle.cmm_located.specs.LocatedMachine.{located_machine, located_start, located_step, tokens_at}
 use Rattle.cmm_located.specs.RunningSteps.{IsCompiled}
 use Rattle.cmm_located.specs.SameOrders.{HasFrames}
-use Rattle.cmm_flow.specs.Flow.{IsFlow}
+use Rattle.cmm_folded.specs.Flow.{IsFoldedFlow}
 use Rattle.cmm_flow.specs.Relation.{longest}
 use Rattle.cmm_allocate.specs.declared.procedure.ProcedurePlaces.{ProcedurePlaces}
 use Rattle.cmm_allocate.specs.Compiling.{compiled, live_before}
 use Rattle.cmm_allocate.specs.Places.{CanBePlaced, HasPlaces, HavePlaces}
 use Rattle.cmm_allocate.specs.Placing.{placement_rows}
 
--- frames can be laid for the procedures of a program in range and what `flow` answers for them
+-- frames can be laid for the procedures of a program in range and their folded flows
 abbrev pub FlowsCanBePlaced : Type 0
-FlowsCanBePlaced = (p : Program) (graphs : List Graph) → IsInRange p → AllZip IsFlow p.procs graphs → AllZip CanBePlaced p.procs graphs
+FlowsCanBePlaced = (p : Program) (graphs : List Graph) → IsInRange p → AllZip IsFoldedFlow p.procs graphs → AllZip CanBePlaced p.procs graphs
 
 -- The code of an Entry writes few words: at most the callee-saves registers are saved, and what is made 0 and the two words of each continuation's pair
 -- come to at most one for each token of the procedure.
@@ -38,11 +38,11 @@ pub record EntryIsShort (p : Proc) (k : ProcedurePlaces) : Type 0 where
 abbrev pub EntriesAreShort : Type 0
 EntriesAreShort = (p : Proc) (g : Graph) (k : ProcedurePlaces) → CanBePlaced p g → HasPlaces p g k → EntryIsShort p k
 
--- A program in range runs in a setting over graphs that `flow` answers for its procedures, and over their places. The rows of the placement
+-- A program in range runs in a setting over the folded flows of its procedures, and over their places. The rows of the placement
 -- have the frames that were laid.
 pub record RunsOverPlaces (s : Setting) (graphs : List Graph) (found : List ProcedurePlaces) : Type 0 where
   pub range : IsInRange s.program
-  pub flows : AllZip IsFlow s.program.procs graphs
+  pub flows : AllZip IsFoldedFlow s.program.procs graphs
   pub places : HavePlaces s.program.procs graphs found
   pub frames : HasFrames s (compiled graphs found)
 

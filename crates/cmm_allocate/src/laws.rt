@@ -2,11 +2,11 @@
 
 ghost use Rattle.cmm_allocate.specs.Laws.{EntriesAreShort, FlowsCanBePlaced, PlacesAreCompiled, PlacesAreShowable, LocatedRunsFollowPrograms, RowsArePlaced, RowsHaveFrames, RunsBeginCheaply};
 
-/// Frames can be laid for the procedures of a program in range and what `flow` answers for them.
+/// Frames can be laid for the procedures of a program in range and their folded flows.
 pub fn flows_can_be_placed()
     ensures { FlowsCanBePlaced }
 {
-    cmm_flow::laws::answers_are_graphs();
+    cmm_folded::laws::folded_flows_are_graphs();
 }
 
 /// What is written where a procedure is entered is bounded by its tokens.
@@ -29,11 +29,10 @@ pub fn places_are_compiled()
     ensures showable { PlacesAreShowable }
 {
     cmm_live::laws::sets_are_closed();
-    cmm_flow::laws::answers_are_graphs();
-    cmm_flow::laws::answers_wait_once();
-    cmm_flow::laws::answers_are_flows();
-    cmm_flow::laws::answers_keep_liveness();
-    cmm_flow::laws::sites_keep_liveness();
+    cmm_folded::laws::folded_flows_are_graphs();
+    cmm_folded::laws::folded_flows_wait_once();
+    cmm_folded::laws::folded_flows_follow_programs();
+    cmm_folded::laws::folded_flows_keep_liveness();
 }
 
 /// So located runs do what the C-- machine does on the program, and nothing else: on every input they follow its run. A step of the machine
@@ -43,7 +42,6 @@ pub fn located_runs_follow_programs()
     ensures begins { RunsBeginCheaply }
 {
     cmm_located::laws::located_runs_follow_graphs();
-    cmm_flow::laws::graphs_simulate_at_costs();
-    cmm_flow::laws::answers_are_flows();
+    cmm_folded::laws::folded_flows_follow_programs();
     places_are_compiled();
 }

@@ -8,21 +8,25 @@ use Rattle.cmm_program.specs.declared.procedure.Site.{Site}
 use Rattle.cmm_program.specs.declared.program.Program.{Program}
 use Rattle.cmm_graph.specs.declared.graph.Graph.{Graph}
 use Rattle.cmm_flow.specs.Flow.{IsBounded}
+use Rattle.cmm_folded.specs.Flow.{IsFoldedFlow}
+use Rattle.cmm_folded.specs.Laws.{FoldedFlowsAreBounded}
 use Rattle.cmm_live.specs.Locals.{local_count}
 use Rattle.cmm_link.specs.Linked.{HaveFewSpans}
 
 abbrev HasFewLocals : Graph → Type 0
 HasFewLocals g = local_count g < 2 ^ 32
 
-pub few_locals : (p : Program) (procs : List Proc) (graphs : List Graph) → All (IsProcInRange p) procs → AllZip IsBounded procs graphs → All (λ g. local_count g < 2 ^ 32) graphs
-few_locals p [] [] range bounded = All-nil HasFewLocals
-few_locals p [] (g ∷ graphs) range bounded = absurd bounded
-few_locals p (q ∷ procs) [] range bounded = absurd bounded
-few_locals p (q ∷ procs) (g ∷ graphs) range bounded =
-    let tokens = (All-head (IsProcInRange p) q procs range).frames.tokens in
-    let most = bounded.0 in
+pub few_locals : FoldedFlowsAreBounded → (p : Program) (procs : List Proc) (graphs : List Graph) → All (IsProcInRange p) procs → AllZip IsFoldedFlow procs graphs →
+    All (λ g. local_count g < 2 ^ 32) graphs
+few_locals bounded p [] [] range flows = All-nil HasFewLocals
+few_locals bounded p [] (g ∷ graphs) range flows = absurd flows
+few_locals bounded p (q ∷ procs) [] range flows = absurd flows
+few_locals bounded p (q ∷ procs) (g ∷ graphs) range flows =
+    let own = All-head (IsProcInRange p) q procs range in
+    let tokens = own.frames.tokens in
+    let most : IsBounded q g = bounded p q g own flows.0 in
     let here : local_count g < 2 ^ 32 = omega (arith, tokens, most) in
-    All-cons HasFewLocals g graphs here (few_locals p procs graphs (All-tail (IsProcInRange p) q procs range) bounded.1)
+    All-cons HasFewLocals g graphs here (few_locals bounded p procs graphs (All-tail (IsProcInRange p) q procs range) flows.1)
 
 abbrev AreFew : Site → Type 0
 AreFew site = length site.spans ≤ 200

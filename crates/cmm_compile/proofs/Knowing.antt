@@ -7,16 +7,15 @@ use Rattle.cmm_program.specs.declared.procedure.Proc.{Proc}
 use Rattle.cmm_program.specs.declared.program.Program.{Program}
 use Rattle.cmm_program.specs.InRange.{IsProcInRange}
 use Rattle.cmm_graph.specs.declared.graph.Graph.{Graph}
-use Rattle.cmm_flow.specs.Flow.{IsFlow}
-use Rattle.cmm_flow.specs.Laws.{AnswersWaitOnce}
-use Rattle.cmm_flow.specs.Liveness.{AnswersAreInRange, SetsAreOfProcedure}
+use Rattle.cmm_folded.specs.Flow.{IsFoldedFlow}
+use Rattle.cmm_folded.specs.Laws.{FoldedSetsAreOfProcedure}
 use Rattle.cmm_allocate.specs.declared.procedure.ProcedurePlaces.{ProcedurePlaces}
 use Rattle.cmm_allocate.specs.Places.{HavePlaces}
 use Rattle.cmm_link.specs.Linked.{KnowLive}
 use Rattle.cmm_compile.specs.inside.Laws.{PlacesKnowLive}
 
-module _ (range : AnswersAreInRange) (once : AnswersWaitOnce) (sets : SetsAreOfProcedure) (p : Program) where
-  all_know : (procs : List Proc) (graphs : List Graph) (found : List ProcedurePlaces) → All (IsProcInRange p) procs → AllZip IsFlow procs graphs → HavePlaces procs graphs found → KnowLive procs found
+module _ (sets : FoldedSetsAreOfProcedure) (p : Program) where
+  all_know : (procs : List Proc) (graphs : List Graph) (found : List ProcedurePlaces) → All (IsProcInRange p) procs → AllZip IsFoldedFlow procs graphs → HavePlaces procs graphs found → KnowLive procs found
   all_know [] [] [] are flows places = tt
   all_know [] [] (k ∷ found) are flows places = absurd places
   all_know [] (g ∷ graphs) found are flows places = absurd flows
@@ -24,9 +23,9 @@ module _ (range : AnswersAreInRange) (once : AnswersWaitOnce) (sets : SetsAreOfP
   all_know (q ∷ procs) (g ∷ graphs) [] are flows places = absurd places
   all_know (q ∷ procs) (g ∷ graphs) (k ∷ found) are flows places =
       let own = All-head (IsProcInRange p) q procs are in (
-        λ n v is_site is_variable. (sets p q g k.live (range p q g own flows.0) (once p q g own flows.0) places.0.live n v is_site is_variable).tested,
+        λ n v is_site is_variable. (sets p q g k.live own flows.0 places.0.live n v is_site is_variable).tested,
         all_know procs graphs found (All-tail (IsProcInRange p) q procs are) flows.1 places.1,
       )
 
-pub places_know_live : AnswersAreInRange → AnswersWaitOnce → SetsAreOfProcedure → PlacesKnowLive
-places_know_live range once sets p graphs found are flows places = all_know range once sets p p.procs graphs found are.procedures flows places
+pub places_know_live : FoldedSetsAreOfProcedure → PlacesKnowLive
+places_know_live sets p graphs found are flows places = all_know sets p p.procs graphs found are.procedures flows places

@@ -14,6 +14,7 @@ use cmm_allocate::place_program;
 use cmm_data::lay_out;
 use cmm_emit::lay_program;
 use cmm_flow::flows;
+use cmm_fold::fold_all;
 use cmm_front::program_of;
 use cmm_image::Image;
 use cmm_items::Items;
@@ -48,7 +49,8 @@ pub fn compile_program(alloc: Global, units: &[Items<u8>]) -> Result<Compiled, B
     passes_fit();
     let program = program_of(alloc, units)?;
     let data = lay_out(alloc, &program)?;
-    let graphs = flows(alloc, &program)?;
+    let unfolded = flows(alloc, &program)?;
+    let graphs = fold_all(unfolded);
     let live = liveness_of_all(alloc, graphs.as_slice())?;
     let places = place_program(alloc, &program, graphs.as_slice(), live)?;
     let code = lay_program(alloc, &program, graphs.as_slice(), places.as_slice())?;

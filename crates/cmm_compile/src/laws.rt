@@ -2,6 +2,7 @@
 
 ghost use Rattle.cmm_elaboration.specs.Laws.{ProceduresAscend};
 ghost use Rattle.cmm_data.specs.Laws.{InRangeCanBeLaidOut};
+ghost use Rattle.cmm_folded.specs.Laws.{FlowsFold, FoldedFlowsAreBounded};
 ghost use Rattle.cmm_link.specs.Laws.{PlacesHaveFrames};
 ghost use Rattle.cmm_compile.specs.inside.Laws.{ImagesAgreeWithUnits, PlacesKnowLive, ProgramsAreCovered, ProgramsAreShort};
 
@@ -10,8 +11,8 @@ ghost use Rattle.cmm_compile.specs.inside.Laws.{ImagesAgreeWithUnits, PlacesKnow
 fn programs_are_covered()
     ensures { ProgramsAreCovered }
 {
-    cmm_flow::laws::answers_are_graphs();
-    cmm_flow::laws::answers_are_covered();
+    cmm_folded::laws::folded_flows_are_graphs();
+    cmm_folded::laws::folded_flows_are_covered();
     cmm_allocate::laws::flows_can_be_placed();
     cmm_allocate::laws::entries_are_short();
     cmm_emit::laws::nodes_are_short();
@@ -23,9 +24,9 @@ fn programs_are_covered()
 fn programs_are_short()
     ensures { ProgramsAreShort }
 {
-    cmm_flow::laws::answers_are_graphs();
-    cmm_flow::laws::answers_are_covered();
-    cmm_flow::laws::answers_are_short();
+    cmm_folded::laws::folded_flows_are_graphs();
+    cmm_folded::laws::folded_flows_are_covered();
+    cmm_folded::laws::folded_flows_are_short();
     cmm_allocate::laws::flows_can_be_placed();
     cmm_allocate::laws::entries_are_short();
     cmm_emit::laws::graphs_are_short();
@@ -36,9 +37,7 @@ fn programs_are_short()
 fn places_know_live()
     ensures { PlacesKnowLive }
 {
-    cmm_flow::laws::answers_keep_liveness();
-    cmm_flow::laws::answers_wait_once();
-    cmm_flow::laws::sites_keep_liveness();
+    cmm_folded::laws::folded_flows_keep_liveness();
 }
 
 /// An image that is made of a program agrees with it, whatever its client does.
@@ -60,6 +59,8 @@ fn images_agree_with_units()
 pub(crate) fn passes_fit()
     ensures ascend { ProceduresAscend }
     ensures data { InRangeCanBeLaidOut }
+    ensures folded { FlowsFold }
+    ensures bounded { FoldedFlowsAreBounded }
     ensures frames { PlacesHaveFrames }
     ensures covered { ProgramsAreCovered }
     ensures short { ProgramsAreShort }
@@ -68,6 +69,8 @@ pub(crate) fn passes_fit()
 {
     cmm_elaboration::laws::procedures_ascend();
     cmm_data::laws::programs_in_range();
+    cmm_folded::laws::flows_fold();
+    cmm_folded::laws::folded_flows_are_graphs();
     cmm_link::laws::places_have_frames();
     programs_are_covered();
     programs_are_short();

@@ -18,8 +18,8 @@ use Rattle.cmm_emit_laws.specs.Laying.{FramesCanBeMade, ProceduresAreLaid}
 use Rattle.cmm_emit_laws.specs.Placing.{FinishedCodeStands}
 use Rattle.cmm_emit_laws.specs.Naming.{GraphsAreNamed}
 use Rattle.cmm_data.specs.Laws.{InRangeCanBeLaidOut, LabelsLieInData, LiesInData}
-use Rattle.cmm_flow.specs.Flow.{IsFlow}
-use Rattle.cmm_flow.specs.Laws.{AnswersAreGraphs, AnswersHaveSites, AnswersPassFew, AnswersWaitAtEach, AnswersWaitOnce, AnswersYieldThere}
+use Rattle.cmm_folded.specs.Flow.{IsFoldedFlow}
+use Rattle.cmm_folded.specs.Laws.{FoldedFlowsAreGraphs, FoldedFlowsHaveSites, FoldedFlowsPassFew, FoldedFlowsWaitAtEach, FoldedFlowsWaitOnce, FoldedFlowsYieldThere}
 use Rattle.cmm_unit_code.specs.Joined.{CanBeJoined, IsJoined, IsTextOf, IsWhole, joined_code, landing_addresses, procedure_addresses, site_addresses}
 use Rattle.cmm_unit_code.specs.Texts.{IsText, address_in}
 use Rattle.cmm_unit_code.specs.declared.text.Text.{Text}
@@ -336,8 +336,8 @@ module _ (p : Program) (graphs : List Graph) (found : List ProcedurePlaces)
 
 -- ---- a located program, with the codes of its units
 
-module _ (p : Program) (graphs : List Graph) (found : List ProcedurePlaces) (range : IsInRange p) (flows : AllZip IsFlow p.procs graphs)
-    (places : HavePlaces p.procs graphs found) (passes : AnswersPassFew) (yields : AnswersYieldThere) (answers : AnswersAreGraphs) (named : GraphsAreNamed) (made : FramesCanBeMade) (waits : AnswersWaitOnce) (each : AnswersWaitAtEach) (have : AnswersHaveSites)
+module _ (p : Program) (graphs : List Graph) (found : List ProcedurePlaces) (range : IsInRange p) (flows : AllZip IsFoldedFlow p.procs graphs)
+    (places : HavePlaces p.procs graphs found) (passes : FoldedFlowsPassFew) (yields : FoldedFlowsYieldThere) (answers : FoldedFlowsAreGraphs) (named : GraphsAreNamed) (made : FramesCanBeMade) (waits : FoldedFlowsWaitOnce) (each : FoldedFlowsWaitAtEach) (have : FoldedFlowsHaveSites)
     (short : AreShort p.procs graphs found) (start : Start) (is_start : IsStart p start)
     (codes : List UnitCode) (units : (us : List UnitCode) × (codes ≡ start.code ∷ us) × (length us ≤ 256) × AreUnits p graphs found 0 (length p.procs) us) where
   abbrev pub code : ProgramCode

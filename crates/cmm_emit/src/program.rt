@@ -5,7 +5,7 @@ ghost use Rattle.std.specs.List.{AllZip};
 ghost use Rattle.std.specs.List.Sorted.{IsNonDecreasingBy};
 ghost use Rattle.cmm_program.specs.Bounds.{code_bound};
 ghost use Rattle.cmm_program.specs.InRange.{IsInRange};
-ghost use Rattle.cmm_flow.specs.Flow.{IsFlow};
+ghost use Rattle.cmm_folded.specs.Flow.{IsFoldedFlow};
 ghost use Rattle.cmm_unit_code.specs.Joined.{CanBeJoined, IsTextOf};
 ghost use Rattle.cmm_unit_code.specs.Texts.{IsText};
 ghost use Rattle.cmm_unit_code.specs.declared.text.Text.{Text};
@@ -31,7 +31,7 @@ pub fn lay_program(
 ) -> Result<ProgramCode, AllocError>
     requires range { IsInRange program.now }
     requires ascending { IsNonDecreasingBy (λ q. q.unit) program.now.procs }
-    requires flows { AllZip IsFlow program.now.procs graphs.now }
+    requires flows { AllZip IsFoldedFlow program.now.procs graphs.now }
     requires places { HavePlaces program.now.procs graphs.now places.now }
     requires covered { AreCovered graphs.now places.now }
     requires short { AreShort program.now.procs graphs.now places.now }
@@ -43,9 +43,9 @@ pub fn lay_program(
 {
     cmm_data::laws::programs_in_range();
     cmm_data::laws::labels_in_data();
-    cmm_flow::laws::answers_are_graphs();
-    cmm_flow::laws::answers_pass_few();
-    cmm_flow::laws::answers_wait_once();
+    cmm_folded::laws::folded_flows_are_graphs();
+    cmm_folded::laws::folded_flows_pass_few();
+    cmm_folded::laws::folded_flows_wait_once();
     cmm_allocate::laws::rows_are_placed();
     cmm_emit_laws::laws::graphs_are_named();
     cmm_emit_laws::laws::frames_are_laid();
