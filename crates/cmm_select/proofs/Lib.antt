@@ -8,6 +8,7 @@ mod Widths
 mod Shifting
 mod Methods
 mod Operating
+mod SmallComparisons
 mod SmallNumbers
 mod Rotating
 mod Signs

@@ -10,8 +10,8 @@ use Rattle.cmm_words.specs.declared.width.Width.{Width}
 use Rattle.cmm_words.specs.declared.width.Width.TheVariants.{W64}
 use Rattle.rv_asm.specs.Parts.{Code}
 use Rattle.rv_table.specs.Machine.{State}
-use Rattle.cmm_effects.proofs.Shared.{keeps_then, leads_then, leads_weaker, runs_then, runs_weaker, set_keeps}
-use Rattle.cmm_effects.specs.Changes.{Keeps}
+use Rattle.cmm_effects.proofs.Shared.{keeps_then, leads_then, leads_weaker, runs_of, runs_then, runs_weaker, set_keeps}
+use Rattle.cmm_effects.specs.Changes.{Keeps, Sets}
 use Rattle.cmm_effects.specs.Pieces.{Always, Leads, Runs}
 use Rattle.cmm_select.proofs.InPlace.{beside_then, set_beside}
 use Rattle.cmm_select.proofs.Rotating.{OperatesUncut}
@@ -40,8 +40,12 @@ module _ (x : Code) (from mid to n k : ℕ) (o : Op2) (w : Width) where
           let wide = wide_value w (value2 o W64 (s.registers 5) (s.registers 7)) v (sym (cut w (s.registers 5) (s.registers 7) words.0 words.1) ∙ is) in
           narrows.given ∙ ap (low_bits w) (operates.given wide.0 wide.1) ∙ wide.2
 
+-- an operator at a width is that of 64 bits, cut to the width
+abbrev pub IsCutAt : Op2 → Width → Type 0
+IsCutAt o w = (a b : ℕ) → IsWord w a → IsWord w b → value2 o w a b ≡ option_map (low_bits w) (value2 o W64 a b)
+
 -- an operator on what two functions give
-pub cut_makes : (f g : State → ℕ) (x : Code) (from mid to n k rd : ℕ) (o : Op2) (w : Width) → IsCut2 o →
+pub cut_makes : (f g : State → ℕ) (x : Code) (from mid to n k rd : ℕ) (o : Op2) (w : Width) → IsCutAt o w →
     Leads n Always (λ s t. Makes rd (IsValue o W64 (f s) (g s)) s t) x from mid → Runs 0 k Always (Narrows w rd) x mid to →
     Leads (n + k) (λ m s. IsWord w (f s) × IsWord w (g s)) (λ s t. Makes rd (IsValue o w (f s) (g s)) s t) x from to
 cut_makes f g x from mid to n k rd o w cut first second =
@@ -54,8 +58,32 @@ cut_makes f g x from mid to n k rd o w cut first second =
     cut_value : (s t u : State) (v : ℕ) → IsWord w (f s) × IsWord w (g s) → Makes rd (IsValue o W64 (f s) (g s)) s t → Narrows w rd t u →
         value2 o w (f s) (g s) ≡ Some v → u.registers rd ≡ v
     cut_value s t u v words makes narrows is =
-        let wide = wide_value w (value2 o W64 (f s) (g s)) v (sym (cut w (f s) (g s) words.0 words.1) ∙ is) in
+        let wide = wide_value w (value2 o W64 (f s) (g s)) v (sym (cut (f s) (g s) words.0 words.1) ∙ is) in
         narrows.given ∙ ap (low_bits w) (makes.given wide.0 wide.1) ∙ wide.2
+
+-- an operator on a word with its sign and a number
+pub signed_makes : (x : Code) (from one two to k rd a n : ℕ) (o : Op2) (w : Width) → IsCutOfExtendedFirst o →
+    Leads 2 (HasWord w a) (λ s t. Sets rd (sign_extended w W64 (s.registers a)) s t) x from one → Leads 1 Always (λ s t. Makes rd (IsValue o W64 (s.registers rd) n) s t) x one two →
+    Runs 0 k Always (Narrows w rd) x two to →
+    Leads (3 + k) (λ m s. IsWord w (s.registers a) × IsWord w n) (λ s t. Makes rd (IsValue o w (s.registers a) n) s t) x from to
+signed_makes x from one two to k rd a n o w cut first second third =
+    leads_weaker
+    (leads_then
+    (leads_weaker {R = λ m s. IsWord w (s.registers a) × IsWord w n} {S = λ s t. Sets rd (sign_extended w W64 (s.registers a)) s t} {b = 2} first (omega arith)
+    (λ s sound words. words.0) (λ s t sound words sets. sets))
+    (runs_then (runs_of second) third (λ s t sound also p q. tt)) (λ s t sound also p q. tt))
+    (omega arith) (λ s sound words. words)
+    (λ s u sound words all. record {
+      given = λ v is. cut_value s all.0 all.2.0 u v words all.1 all.2.1 all.2.2 is;
+      keeps = beside_then rd s all.0 u (set_beside rd (sign_extended w W64 (s.registers a)) s all.0 all.1)
+          (beside_then rd all.0 all.2.0 u all.2.1.keeps (set_beside rd (low_bits w (all.2.0.registers rd)) all.2.0 u all.2.2));
+    })
+  where
+    cut_value : (s r t u : State) (v : ℕ) → IsWord w (s.registers a) × IsWord w n → Sets rd (sign_extended w W64 (s.registers a)) s r →
+        Makes rd (IsValue o W64 (r.registers rd) n) r t → Narrows w rd t u → value2 o w (s.registers a) n ≡ Some v → u.registers rd ≡ v
+    cut_value s r t u v words sets makes narrows is =
+        let wide = wide_value w (value2 o W64 (sign_extended w W64 (s.registers a)) n) v (sym (cut w (s.registers a) n words.0 words.1) ∙ is) in
+        narrows.given ∙ ap (low_bits w) (makes.given wide.0 (ap (λ (k : ℕ). value2 o W64 k n) sets.given ∙ wide.1)) ∙ wide.2
 
 -- both words with their sign
 pub record Signs (w : Width) (s t : State) : Type 0 where

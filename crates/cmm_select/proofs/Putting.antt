@@ -176,6 +176,17 @@ module _ (x : Code) (to : Destination) (from end : ℕ) where
           puts = all.2;
         })
 
+    pub assigns_small_comparison : (c : Cmp) (rd r k : ℕ) → rd ≡ target_of to → right ≡ Held (Number k) →
+        Then (LocatesOperand left 5 r)
+        (Then (λ x. Leads n (λ m s. IsWord w (s.registers r)) (λ s t. Makes rd (Tells01 c w (s.registers r) k) s t) x) (Finishes to)) x from end →
+        AssignsComparison (most_for left + n + 4) c w left right to x from end
+    assigns_small_comparison c rd r k is same does =
+        let number : (s : State) → operand_at x.at right s ≡ k = (λ s. ap (λ (a : Operand). operand_at x.at a s) same) in
+        leads_weaker (one_finished x (λ m a. Tells01 c w a k) (λ m a. IsWord w a) left to is does.1 does.2.1 does.2.2) (omega arith)
+        (λ s sound can. ((can.brings.brings_left, can.words.0), can.reaches))
+        (λ s u sound can all. put_as x.at to all.0 (if holds c w (operand_at x.at left s) (operand_at x.at right s) then 1 else 0) s u
+        (all.1 ∙ ap (λ (a : ℕ). if holds c w (operand_at x.at left s) a then 1 else 0) (sym (number s))) all.2)
+
     pub assigns_comparison : (c : Cmp) (rd a b : ℕ) → rd ≡ target_of to → Then (ReadiesBoth c w left right a b) (Then (TellsIn n c rd a b) (Finishes to)) x from end →
         AssignsComparison (most_for left + most_for right + 2 * shifts_of w + n + 4) c w left right to x from end
     assigns_comparison c rd a b is does =

@@ -1,11 +1,12 @@
 -- The shift to the right of 64 bits that copies the top bit, by any count.
-use Rattle.std.proofs.Common.{◌≡◌, ℕ, ◌-◌, ◌%◌, ◌<◌, ◌≤◌, ◌^◌, ◌⊎◌, inl, inr, refl, sym, ◌∙◌, ap, arith, ℤ, pos, negsuc, min}
+use Rattle.std.proofs.Common.{◌≡◌, ℕ, ◌-◌, ◌%◌, ◌<◌, ◌≤◌, ◌^◌, ◌⊎◌, inl, inr, refl, sym, ◌∙◌, ap, arith, ℤ, pos, negsuc, min, Some}
 use Rattle.std.specs.Prelude.{Bool, true, false, nat_lt}
 use Rattle.std.proofs.Math.Nat.{div-one}
 use Rattle.std.proofs.lemmas.Bool.{cases_lt}
 use Rattle.std.proofs.lemmas.Bool.Decides.{nat_tests}
 use Rattle.std.proofs.lemmas.Int.{ints}
 use Rattle.cmm_words.specs.Integers.{rounded_down, signed as word_signed, wrapped}
+use Rattle.cmm_words.specs.Words.{value2}
 use Rattle.cmm_words.specs.declared.operators.Op2.TheVariants as op
 use Rattle.rv_asm.specs.Appending.{Then}
 use Rattle.rv_asm.specs.Parts.{Code}
@@ -46,6 +47,13 @@ unshifted a h = by (cases_lt a (2 ^ 63))
         let e : signed 64 a ≡ negsuc (2 ^ 64 - 1 - a) = grind (arith, ints, nat_tests) in
         ap (λ (z : ℤ). modulo 64 (floor_divided z 1)) e ∙ omega (arith, div-one (2 ^ 64 - 1 - a))
 
+-- a shift by fewer bits than 64
+pub shra_below : (a b v : ℕ) → a < 2 ^ 64 → b < 64 → value2 op.Shra W64 a b ≡ Some v → shifted_right_signed 64 a b ≡ v
+shra_below a b v first h is =
+    let e : min b 64 ≡ b = grind arith in
+    ap (shifted_right_signed 64 a) (sym e) ∙ modulo_same 64 (floor_divided (signed 64 a) (2 ^ min b 64)) ∙ ap (wrapped 64) (divided_same (signed 64 a) (2 ^ min b 64))
+    ∙ ap (λ (z : ℤ). wrapped 64 (rounded_down z (2 ^ min b 64))) (signed_same a first) ∙ some_same (wrapped 64 (rounded_down (word_signed 64 a) (2 ^ min b 64))) v is
+
 -- no word and all ones stay what they are
 none_stays : (k : ℕ) → shifted_right_signed 64 0 k ≡ 0
 none_stays k = grind (arith, nat_tests)
@@ -61,15 +69,11 @@ shra_row a b v first second is = by (cases_lt b 64)
   where
     below : b < 64 → shra_value a b ≡ v
     below h =
-        let e : min b 64 ≡ b = grind arith in
         let m : b % 64 ≡ b = omega arith in
         ap (λ (n : ℕ). shifted_right_signed 64 (shifted_right_signed 64 a (n % 64)) (b % 64)) (none_past b h)
         ∙ ap (λ (n : ℕ). shifted_right_signed 64 n (b % 64)) (unshifted a first)
-        ∙ ap (shifted_right_signed 64 a) (m ∙ sym e)
-        ∙ modulo_same 64 (floor_divided (signed 64 a) (2 ^ min b 64))
-        ∙ ap (wrapped 64) (divided_same (signed 64 a) (2 ^ min b 64))
-        ∙ ap (λ (z : ℤ). wrapped 64 (rounded_down z (2 ^ min b 64))) (signed_same a first)
-        ∙ some_same (wrapped 64 (rounded_down (word_signed 64 a) (2 ^ min b 64))) v is
+        ∙ ap (shifted_right_signed 64 a) m
+        ∙ shra_below a b v first h is
 
     past_low : 64 ≤ b → a < 2 ^ 63 → shra_value a b ≡ v
     past_low h low =

@@ -1,27 +1,31 @@
 -- Operators on a word and a small number.
-use Rattle.std.proofs.Common.{◌≡◌, ◌≢◌, ℕ, ◌+◌, ◌-◌, ◌*◌, ◌/◌, ◌%◌, ◌<◌, ◌^◌, refl, ◌∙◌, ap, subst, arith, pos, ◌-ℤ◌, min, Option, Some, None}
-use Rattle.std.specs.Prelude.{Bool, true, false, nat_lt, bit_and, bit_or, bit_xor}
+use Rattle.std.proofs.Common.{◌≡◌, ◌≢◌, ℕ, ◌+◌, ◌-◌, ◌*◌, ◌/◌, ◌%◌, ◌<◌, ◌^◌, refl, sym, ◌∙◌, ap, subst, arith, pos, ◌-ℤ◌, min, Option, Some, None}
+use Rattle.std.specs.Prelude.{Bool, true, false, nat_lt, bit_and, bit_or, bit_xor, option_map}
 use Rattle.std.proofs.lemmas.Bool.Decides.{nat_tests}
 use Rattle.std.proofs.lemmas.Option.{same_Some}
-use Rattle.cmm_words.specs.Laws.{IsCut2}
-use Rattle.cmm_words.specs.Words.{value2}
+use Rattle.cmm_words.specs.Laws.{IsCut2, IsCutOfExtendedFirst}
+use Rattle.cmm_words.specs.Words.{low_bits, value2}
 use Rattle.cmm_words.specs.declared.operators.Op2.{Op2}
 use Rattle.cmm_words.specs.declared.operators.Op2.TheVariants as op
-use Rattle.cmm_words.specs.declared.width.Width.TheVariants.{W64}
+use Rattle.cmm_words.specs.declared.width.Width.{Width}
+use Rattle.cmm_words.specs.declared.width.Width.TheVariants.{W8, W16, W32, W64}
 use Rattle.rv_asm.specs.Parts.{Code}
 use Rattle.rv_table.specs.Row.{row}
-use Rattle.rv_table.specs.Words.{difference, modulo, shifted_left, shifted_right, sum}
+use Rattle.rv_table.specs.Words.{difference, modulo, shifted_left, shifted_right, shifted_right_signed, sum}
 use Rattle.rv_table.specs.declared.effects.Effect.TheVariants.{Set}
 use Rattle.rv_table.specs.declared.instruction.Instr.{Instr}
 use Rattle.cmm_effects.proofs.Shared.{leads_set, leads_weaker}
 use Rattle.cmm_effects.specs.Pieces.{Always, Leads}
+use Rattle.cmm_select.proofs.Converting.{sign_cut, whole_cut}
 use Rattle.cmm_select.proofs.InPlace.{set_beside}
+use Rattle.cmm_select.proofs.Operating.{IsCutAt}
+use Rattle.cmm_select.proofs.Signs.{shra_below}
 use Rattle.cmm_select.proofs.Places.{One}
 use Rattle.cmm_select.proofs.Wide.{add_row, and_row, modulo_same, or_row, some_same, sub_row, wrapped_difference, xor_row}
 use Rattle.cmm_select.specs.declared.operand.Operand.{Operand}
 use Rattle.cmm_select.specs.declared.operand.Operand.TheVariants.{Held, Symbol}
 use Rattle.cmm_select.specs.declared.source.Source.TheVariants.{Place, Number, Address}
-use Rattle.cmm_select.specs.inside.Immediates.{immediate, limit_of, small_of}
+use Rattle.cmm_select.specs.inside.Immediates.{heeds_sign, immediate, limit_of, small_of}
 use Rattle.cmm_select.specs.inside.InPlace.{IsValue, Makes}
 
 -- ---- which numbers are small
@@ -34,6 +38,7 @@ limit_small op.Or n h = h
 limit_small op.Xor n h = h
 limit_small op.Shl n h = omega (arith, h)
 limit_small op.Shrl n h = omega (arith, h)
+limit_small op.Shra n h = omega (arith, h)
 limit_small _ n h = absurd (omega (arith, h))
 
 -- such an operand is that number
@@ -54,7 +59,7 @@ small_is o (Held (Number k)) n is = by (nat_lt k (limit_of o)) refl is
 
 -- ---- what the instructions give
 
-plain_small : (n : ℕ) → n < 2048 → modulo 64 (pos n) ≡ n
+pub plain_small : (n : ℕ) → n < 2048 → modulo 64 (pos n) ≡ n
 plain_small n h = omega arith
 
 pub negative_small : (a n : ℕ) → a < 2 ^ 64 → n < 2048 → sum a (modulo 64 (pos 0 -ℤ pos n)) ≡ difference a n
@@ -102,15 +107,31 @@ module _ (x : Code) (from to rd a n : ℕ) (written : rd ≢ 0) where
   does_small op.Shrl h does =
       does_one op.Shrl (immediate op.Shrl rd a n) (λ m. shifted_right m n)
       (λ m v g has. ap (λ (k : ℕ). m / 2 ^ k) (least n h) ∙ some_same (m / 2 ^ min n 64) v has) (λ r pc. rw (six_bits n h) refl) does
+  does_small op.Shra h does =
+      does_one op.Shra (immediate op.Shra rd a n) (λ m. shifted_right_signed 64 m n) (λ m v g has. shra_below m n v g h has) (λ r pc. rw (six_bits n h) refl) does
   does_small _ h does = absurd (omega (arith, h))
 
+-- at 64 bits a word with its sign is the word
+unsigned_first : IsCutOfExtendedFirst op.Shra → IsCutAt op.Shra W64
+unsigned_first shra a b h g = shra W64 a b h g ∙ ap (λ (k : ℕ). option_map (low_bits W64) (value2 op.Shra W64 k b)) (sym (sign_cut W64 a h) ∙ sym (whole_cut a h))
+
 -- which law an operator has
-pub small_cut : (o : Op2) (n : ℕ) → n < limit_of o → IsCut2 op.Add → IsCut2 op.Sub → IsCut2 op.And → IsCut2 op.Or → IsCut2 op.Xor → IsCut2 op.Shl → IsCut2 op.Shrl → IsCut2 o
-small_cut op.Add n h add sub and or xor shl shrl = add
-small_cut op.Sub n h add sub and or xor shl shrl = sub
-small_cut op.And n h add sub and or xor shl shrl = and
-small_cut op.Or n h add sub and or xor shl shrl = or
-small_cut op.Xor n h add sub and or xor shl shrl = xor
-small_cut op.Shl n h add sub and or xor shl shrl = shl
-small_cut op.Shrl n h add sub and or xor shl shrl = shrl
-small_cut _ n h add sub and or xor shl shrl = absurd (omega (arith, h))
+pub small_cut : (o : Op2) (w : Width) (n : ℕ) → n < limit_of o → heeds_sign o w ≡ false → IsCut2 op.Add → IsCut2 op.Sub → IsCut2 op.And → IsCut2 op.Or → IsCut2 op.Xor → IsCut2 op.Shl →
+    IsCut2 op.Shrl → IsCutOfExtendedFirst op.Shra → IsCutAt o w
+small_cut op.Add w n h none add sub and or xor shl shrl shra = add w
+small_cut op.Sub w n h none add sub and or xor shl shrl shra = sub w
+small_cut op.And w n h none add sub and or xor shl shrl shra = and w
+small_cut op.Or w n h none add sub and or xor shl shrl shra = or w
+small_cut op.Xor w n h none add sub and or xor shl shrl shra = xor w
+small_cut op.Shl w n h none add sub and or xor shl shrl shra = shl w
+small_cut op.Shrl w n h none add sub and or xor shl shrl shra = shrl w
+small_cut op.Shra W64 n h none add sub and or xor shl shrl shra = unsigned_first shra
+small_cut op.Shra _ n h none add sub and or xor shl shrl shra = absurd (cc (none))
+small_cut _ w n h none add sub and or xor shl shrl shra = absurd (omega (arith, h))
+
+pub signed_small_cut : (o : Op2) (w : Width) → heeds_sign o w ≡ true → IsCutOfExtendedFirst op.Shra → IsCutOfExtendedFirst o
+signed_small_cut op.Shra w is shra = shra
+signed_small_cut _ W64 is shra = absurd (cc (is))
+signed_small_cut _ W8 is shra = absurd (cc (is))
+signed_small_cut _ W16 is shra = absurd (cc (is))
+signed_small_cut _ W32 is shra = absurd (cc (is))

@@ -36,11 +36,11 @@ contrary_is_plain Leu o is = let e : Gtu ≡ o = cc in subst (λ (k : Cmp). cont
 contrary_is_plain Geu o is = let e : Ltu ≡ o = cc in subst (λ (k : Cmp). contrary_of k ≡ None) e refl
 contrary_is_plain _ o is = absurd (cc)
 
-flag_turned : (h : Bool) → bit_xor (flag h) (modulo 64 (pos 1)) ≡ flag (not h)
+pub flag_turned : (h : Bool) → bit_xor (flag h) (modulo 64 (pos 1)) ≡ flag (not h)
 flag_turned true = refl
 flag_turned false = refl
 
-same_by_difference : (a b : ℕ) → a < 2 ^ 64 → b < 2 ^ 64 → nat_lt (difference a b) (modulo 64 (pos 1)) ≡ (a == b)
+pub same_by_difference : (a b : ℕ) → a < 2 ^ 64 → b < 2 ^ 64 → nat_lt (difference a b) (modulo 64 (pos 1)) ≡ (a == b)
 same_by_difference a b h g = grind (arith, nat_tests)
 
 module _ (x : Code) (from to rd a b : ℕ) (written : rd ≢ 0) where

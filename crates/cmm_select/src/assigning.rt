@@ -11,12 +11,12 @@ ghost use Rattle.cmm_select.specs.Operands.{IsOperand, most_for};
 ghost use Rattle.cmm_select.specs.Operators.{shifts_of};
 ghost use Rattle.cmm_select.specs.declared.operand.Operand.TheVariants.{Held};
 ghost use Rattle.cmm_select.specs.declared.source.Source.TheVariants.{Number};
-ghost use Rattle.cmm_select.specs.inside.Immediates.{limit_of};
+ghost use Rattle.cmm_select.specs.inside.Immediates.{compared_below, limit_of};
 ghost use Rattle.cmm_select.specs.inside.Wide.{is_plain};
 
 use crate::comparing::{compare, ready};
 use crate::destination::{Destination, put, read_global};
-use crate::immediates::{operate_with, small};
+use crate::immediates::{compare_with, compared, operate_with, small};
 use crate::in_place::{finish, home_of, locate, locate_both, target};
 use crate::operand::{Operand, bring_both, bring_operand};
 use crate::operator::{cut, is_plain, narrow, operate, plain, sign};
@@ -174,7 +174,7 @@ fn assign_small(
     requires small { number < limit_of operator }
     requires left { IsOperand asm.old.labels left.now }
     requires destination { IsDestination asm.old.labels to.now }
-    ensures assigns { OnOk result (Adds (most_for left.now + shifts_of width + 5) asm.old.parts asm.new.parts (AssignsBinary (most_for left.now + shifts_of width + 5) operator width left.now (Held (Number number)) to.now)) }
+    ensures assigns { OnOk result (Adds (most_for left.now + shifts_of width + 7) asm.old.parts asm.new.parts (AssignsBinary (most_for left.now + shifts_of width + 7) operator width left.now (Held (Number number)) to.now)) }
     ensures labels { asm.new.labels ≡ asm.old.labels }
 {
     let source = locate(asm, left, FIRST_SCRATCH)?;
@@ -220,8 +220,33 @@ pub fn assign_comparison(
     ensures assigns { OnOk result (Adds (most_for left.now + most_for right.now + 2 * shifts_of width + 7) asm.old.parts asm.new.parts (AssignsComparison (most_for left.now + most_for right.now + 2 * shifts_of width + 7) comparison width left.now right.now to.now)) }
     ensures labels { asm.new.labels ≡ asm.old.labels }
 {
+    if let Some(number) = compared(width, right) {
+        assign_small_comparison(asm, comparison, width, left, number, to)?;
+        return Ok(());
+    }
     let from = ready(asm, comparison, width, left, right)?;
     compare(asm, comparison, target(to), from.first, from.second)?;
+    finish(asm, to)?;
+    Ok(())
+}
+
+/// Assigns 1 where a comparison holds of a word of a width and a number that its instructions hold, and else 0.
+fn assign_small_comparison(
+    asm: &mut Asm,
+    comparison: Cmp,
+    width: Width,
+    left: &Operand,
+    number: u64,
+    to: &Destination,
+) -> Result<(), AllocError>
+    requires small { number < compared_below width }
+    requires left { IsOperand asm.old.labels left.now }
+    requires destination { IsDestination asm.old.labels to.now }
+    ensures assigns { OnOk result (Adds (most_for left.now + 9) asm.old.parts asm.new.parts (AssignsComparison (most_for left.now + 9) comparison width left.now (Held (Number number)) to.now)) }
+    ensures labels { asm.new.labels ≡ asm.old.labels }
+{
+    let source = locate(asm, left, FIRST_SCRATCH)?;
+    compare_with(asm, comparison, width, target(to), source, number)?;
     finish(asm, to)?;
     Ok(())
 }

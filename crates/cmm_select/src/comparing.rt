@@ -51,7 +51,7 @@ pub(crate) fn ready(
 }
 
 /// Whether a comparison at a width is made of words with their sign.
-fn needs_signs(comparison: Cmp, width: Width) -> bool
+pub(crate) fn needs_signs(comparison: Cmp, width: Width) -> bool
     ensures { result ≡ needs_signs comparison width }
 {
     match width {

@@ -1,5 +1,5 @@
 -- How comparisons are made at 64 bits: RISC-V ISA Volume I, "Conditional Branches", which has six of them.
-use Rattle.std.specs.Prelude.{◌≡◌, ℕ, ◌+◌, ◌*◌, Bool, true, false, Option, Some, None}
+use Rattle.std.specs.Prelude.{◌≡◌, ℕ, ◌+◌, ◌*◌, ◌==◌, Bool, true, false, Option, Some, None}
 use Rattle.cmm_words.specs.Words.{holds}
 use Rattle.cmm_words.specs.declared.operators.Cmp.{Cmp}
 use Rattle.cmm_words.specs.declared.operators.Cmp.TheVariants.{Eq, Ne, Lt, Le, Gt, Ge, Ltu, Leu, Gtu, Geu}
@@ -48,6 +48,16 @@ BranchesIn c a b l x from on = Turns 3 Always (λ s. way (holds c W64 (s.registe
 -- a register gets 1 where the comparison holds at 64 bits of the words in two registers, and else 0
 abbrev pub TellsIn : ℕ → Cmp → ℕ → ℕ → ℕ → Code → ℕ → ℕ → Type 0
 TellsIn most c rd a b x = Leads most Always (λ s t. Makes rd (Tells01 c W64 (s.registers a) (s.registers b)) s t) x
+
+-- it does of the word in a register and a number
+abbrev pub TellsNumber : Cmp → ℕ → ℕ → ℕ → Code → ℕ → ℕ → Type 0
+TellsNumber c rd a n x = Leads 3 Always (λ s t. Makes rd (Tells01 c W64 (s.registers a) n) s t) x
+
+-- whether a comparison with a number is whether a word is greater than 0
+abbrev pub is_positive : Cmp → ℕ → Bool
+is_positive Gt n = n == 0
+is_positive Gtu n = n == 0
+is_positive _ n = false
 
 -- the branch on the operands with their places changed, where there is none on them as they are
 abbrev pub turned_of : Cmp → Option Cmp

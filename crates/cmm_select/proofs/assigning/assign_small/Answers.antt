@@ -12,5 +12,5 @@ returns-clause-assigns c =
     let n = c.args.number in
     adds_weaker (adds_then c.in_ok-source.ensures.locates (adds_then c.in_ok-operate_with.ensures.operates c.in_ok-finish.ensures.finishes)) (omega arith)
     (λ x from end does. leads_weaker
-    (assigns_small x c.args.to.now from end w c.args.left.now (Held (Number n)) (1 + shifts_of w) c.args.operator c.target.result c.in_ok-source.source n c.target.ensures.is refl does)
+    (assigns_small x c.args.to.now from end w c.args.left.now (Held (Number n)) (3 + shifts_of w) c.args.operator c.target.result c.in_ok-source.source n c.target.ensures.is refl does)
     (omega arith) (λ s sound can. can) (λ s t sound can assigned. assigned))

@@ -21,5 +21,5 @@ returns-clause-operates c =
     in
     let written : rd ≢ 0 = (λ e. omega (arith, e, c.requires.register.0)) in
     adds_weaker (adds_then first c.in_ok-narrow.ensures.narrows) (omega arith)
-    (λ x from to does. cut_makes (λ s. s.registers a) (λ s. s.registers b) x from does.0 to 1 (shifts_of w) rd o w (plain_cut o c.requires.plain l.add l.sub l.mul l.and l.or l.xor l.divu l.modu)
+    (λ x from to does. cut_makes (λ s. s.registers a) (λ s. s.registers b) x from does.0 to 1 (shifts_of w) rd o w (plain_cut o c.requires.plain l.add l.sub l.mul l.and l.or l.xor l.divu l.modu w)
     (does_plain x from does.0 rd a b written o c.requires.plain does.1) does.2)
