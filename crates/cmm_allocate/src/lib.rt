@@ -11,12 +11,15 @@
 //! - `laws`: what they guarantee, as contracts.
 #![tactic(auto)]
 
+mod classes;
+mod colouring;
 pub mod laws;
 mod layout;
 mod procedure;
 mod program;
 mod rows;
 
+pub use colouring::places;
 pub use procedure::ProcedurePlaces;
 pub use program::place_program;
 pub use rows::placement;
