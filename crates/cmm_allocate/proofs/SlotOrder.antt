@@ -1,7 +1,7 @@
 -- Slots that stand without a gap, in the order of their locals.
-use Rattle.std.proofs.Common.{◌≡◌, ◌≢◌, ℕ, zero, suc, ◌+◌, ◌*◌, ◌<◌, ◌≤◌, ◌++◌, List, [], ◌∷◌, get_or, length, map, refl, ap, sym, ◌∙◌, subst, arith, append_assoc, length-append}
+use Rattle.std.proofs.Common.{◌≡◌, ◌≢◌, ℕ, zero, suc, ◌+◌, ◌*◌, ◌%◌, ◌<◌, ◌≤◌, ◌++◌, List, [], ◌∷◌, get_or, length, map, refl, ap, sym, ◌∙◌, subst, arith, append_assoc, length-append}
 use Rattle.std.proofs.lemmas.List.FromFn.{map-range_with_len_more}
-use Rattle.std.proofs.Math.Nat.{max-le}
+use Rattle.std.proofs.Math.Nat.{max-le, mul-mod_right}
 use Rattle.std.specs.List.{range_with_len}
 use Rattle.cmm_chain.specs.declared.frame.Location.{Location}
 use Rattle.cmm_chain.specs.declared.frame.Location.TheVariants.{Slot, Saved, Temp}
@@ -49,6 +49,19 @@ slot_from (Saved r ∷ ls) first zero offset d are less is = absurd (cc (is))
 slot_from (Saved r ∷ ls) first (suc v) offset d are less is = slot_from ls first v offset d are (omega (arith, less)) is
 slot_from (Temp r ∷ ls) first zero offset d are less is = absurd (cc (is))
 slot_from (Temp r ∷ ls) first (suc v) offset d are less is = slot_from ls first v offset d are (omega (arith, less)) is
+
+-- each slot is at a multiple of 8
+pub slot_even : (locals : List Location) (first v offset : ℕ) (d : Location) → slot_offsets locals ≡ words first (length (slot_offsets locals)) → v < length locals →
+    get_or locals v d ≡ Slot offset → offset % 8 ≡ 0
+slot_even [] first v offset d are less is = absurd (omega arith)
+slot_even (Slot o ∷ ls) first zero offset d are less is =
+    (let same : o ≡ offset = cc in let head : o ≡ 8 * first = cc (are) in ap (λ n. n % 8) (sym same ∙ head) ∙ mul-mod_right 8 first)
+slot_even (Slot o ∷ ls) first (suc v) offset d are less is =
+    (let tail : slot_offsets ls ≡ words (first + 1) (length (slot_offsets ls)) = cc (are) in slot_even ls (first + 1) v offset d tail (omega (arith, less)) is)
+slot_even (Saved r ∷ ls) first zero offset d are less is = absurd (cc (is))
+slot_even (Saved r ∷ ls) first (suc v) offset d are less is = slot_even ls first v offset d are (omega (arith, less)) is
+slot_even (Temp r ∷ ls) first zero offset d are less is = absurd (cc (is))
+slot_even (Temp r ∷ ls) first (suc v) offset d are less is = slot_even ls first v offset d are (omega (arith, less)) is
 
 -- a later local has a later slot
 pub slots_ordered : (locals : List Location) (first : ℕ) (v w a b : ℕ) (d : Location) → slot_offsets locals ≡ words first (length (slot_offsets locals)) → v < w →

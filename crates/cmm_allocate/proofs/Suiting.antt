@@ -1,9 +1,9 @@
 -- Places that a colouring gives suit what is live where.
-use Rattle.std.proofs.Common.{◌≡◌, ◌≢◌, ◌⊎◌, inl, inr, ℕ, zero, suc, ◌+◌, ◌-◌, ◌<◌, ◌≤◌, nat_lt, Bool, true, false, ◌&&◌, ◌||◌, not, Contains, List, [], ◌∷◌, get_or, length, slice_get, Option, Some, None, refl, ap, sym, ◌∙◌, subst, arith}
-use Rattle.std.proofs.lemmas.Bool.{and_from, and_parts, or_left, or_right}
+use Rattle.std.proofs.Common.{◌≡◌, ◌≢◌, ◌⊎◌, inl, inr, ℕ, zero, suc, ◌+◌, ◌-◌, ◌%◌, ◌<◌, ◌≤◌, nat_lt, Bool, true, false, ◌&&◌, ◌||◌, not, Contains, List, [], ◌∷◌, get_or, length, slice_get, Option, Some, None, refl, ap, sym, ◌∙◌, subst, arith}
+use Rattle.std.proofs.lemmas.Bool.{and_from, and_parts, eq-eqb, or_left, or_right}
 use Rattle.std.proofs.lemmas.Bool.Decides.{nat_tests}
 use Rattle.std.specs.List.{list_all, list_any}
-use Rattle.cmm_abi.specs.Registers.{callee_saves, is_callee_saves}
+use Rattle.cmm_abi.specs.Registers.{callee_saves, is_callee_saves, is_temporary}
 use Rattle.cmm_bitset.specs.Sets.{has}
 use Rattle.cmm_program.proofs.Shared.{list_all_get}
 use Rattle.cmm_graph.specs.declared.graph.Graph.{Graph}
@@ -27,11 +27,14 @@ use Rattle.cmm_live.specs.Sites.{cut_nodes, site_of}
 use Rattle.cmm_chain.specs.declared.frame.Location.{Location}
 use Rattle.cmm_chain.specs.declared.frame.Location.TheVariants.{Slot, Saved, Temp}
 use Rattle.cmm_chain.specs.Running.{lasts}
+use Rattle.cmm_located.specs.Layouts.{is_location}
 use Rattle.cmm_allocate.specs.Allocated.{AreAllocated, temporaries}
 use Rattle.cmm_allocate.specs.Classes.{conflict, is_in_some, is_live_past_cut, local_at, local_by, suits_callee_saves, suits_temporary}
+use Rattle.cmm_allocate.specs.Compiling.{no_place}
 use Rattle.cmm_allocate.specs.Placed.{ArePlaces, cuts_inside, is_clear_of_values, place_at}
 use Rattle.cmm_allocate.proofs.Living.{at_site_within, before_within, number_within, numbered}
 use Rattle.cmm_allocate.proofs.Members.{contained_at, none_contained}
+use Rattle.cmm_allocate.proofs.SlotOrder.{slot_even}
 
 -- ---- tests of lists
 
@@ -76,6 +79,15 @@ waits_at : (g : Graph) (k : NodeKind) (m : NodeId) → Contains (cut_nodes g k) 
 waits_at g (kind.Call site callee arguments exits) m has = (site, refl)
 waits_at g (kind.Yield site values exits) m has = (site, refl)
 waits_at g other m has = absurd (none_contained m has)
+
+-- places that are given are places that a frame takes
+pub allocated_are_locations : (g : Graph) (live : LiveSets) (locals : List Location) → AreAllocated g live locals → list_all is_location locals ≡ true
+allocated_are_locations g live locals are = all_from is_location locals no_place (λ v less. at v less (place_at locals v) refl)
+  where
+    at : (v : ℕ) → v < length locals → (l : Location) → place_at locals v ≡ l → is_location l ≡ true
+    at v less (Slot offset) is = eq-eqb (offset % 8) 0 (slot_even locals 0 v offset no_place are.slots less is)
+    at v less (Saved r) is = all_of is_callee_saves callee_saves r refl (are.saved v r (subst (λ n. v < n) are.count less) is).0
+    at v less (Temp r) is = all_of is_temporary temporaries r refl (are.temporary v r (subst (λ n. v < n) are.count less) is).0
 
 module _ (closed : SetsAreClosed) (decide : SetsDecideConflicts) (g : Graph) (live : LiveSets) (locals : List Location) (sets : AreLiveSets g live)
     (are : AreAllocated g live locals) where
@@ -176,7 +188,7 @@ module _ (closed : SetsAreClosed) (decide : SetsDecideConflicts) (g : Graph) (li
   pub allocated_suit : ArePlaces g live locals
   allocated_suit = record {
     count = are.count;
-    clear = all_from is_clear_of_values locals (Temp 12) (λ v less. clear_at v (subst (λ n. v < n) are.count less) (place_at locals v) refl);
+    clear = all_from is_clear_of_values locals no_place (λ v less. clear_at v (subst (λ n. v < n) are.count less) (place_at locals v) refl);
     written = written;
     at_site = at_one_site;
     lasting = λ site v is. not_temporary v (at_site_within g live sets site v is) (at_some_site v (in_some live.sites site v is)) (place_at locals v) refl;
