@@ -5,6 +5,11 @@ pub mod Members
 pub mod Touching
 pub mod Living
 pub mod SlotPlaces
+pub mod SlotOrder
+pub mod Peeling
+pub mod Classing
+pub mod Suiting
+pub mod Allocating
 pub mod Placing
 pub mod Exits
 pub mod Cutting
@@ -14,3 +19,4 @@ pub mod Running
 pub mod Placed
 pub mod Together
 mod SmallRows
+mod RegisterRows

@@ -1,11 +1,11 @@
 //! The places of one procedure.
 
-ghost use Rattle.std.specs.Prelude.{◌≡◌, ◌*◌, ◌<◌, ◌^◌, IfOk};
+ghost use Rattle.std.specs.Prelude.{◌≡◌, IfOk};
 ghost use Rattle.cmm_bitset.specs.Sets.{members};
 ghost use Rattle.cmm_live.specs.Exact.{AreLiveSets, set_at};
 ghost use Rattle.cmm_allocate.specs.Places.{CanBePlaced, HasPlaces};
-ghost use Rattle.cmm_allocate.specs.Slots.{slots};
 
+use crate::colouring::places;
 use crate::layout::lay_frame;
 use cmm_bitset::BitSet;
 use cmm_chain::{Frame, Location};
@@ -27,18 +27,6 @@ pub struct ProcedurePlaces {
     pub zeroed: Items<u32>,
 }
 
-/// A slot for each of `count` locals.
-fn slots(alloc: Global, count: u32) -> Result<Items<Location>, AllocError>
-    requires { 8 * count < 2 ^ 32 }
-    ensures { IfOk result (λ places. places ≡ slots count) }
-{
-    let mut places = Items::new(alloc);
-    for number in 0..count {
-        places.push(Location::Slot(8 * number))?;
-    }
-    Ok(places)
-}
-
 /// The members of a set, in ascending order.
 fn listed(alloc: Global, set: &BitSet) -> Result<Items<u32>, AllocError>
     ensures { IfOk result (λ numbers. numbers ≡ members set.now) }
@@ -56,9 +44,9 @@ fn live_at(alloc: Global, live: &LiveSets, node: NodeId) -> Result<Items<u32>, A
     }
 }
 
-/// The places of a procedure with this graph, of which just these locals are live: a slot for each local, and the frame that is laid for
-/// them. A local that is live before the Entry, and so no formal, is made 0. An error is want of memory.
-pub(crate) fn places(
+/// The places of a procedure with this graph, of which just these locals are live, and the frame that is laid for them. A local that is live
+/// before the Entry, and so no formal, is made 0. An error is want of memory.
+pub(crate) fn place_procedure(
     alloc: Global,
     p: &Proc,
     g: &Graph,
@@ -68,7 +56,7 @@ pub(crate) fn places(
     requires live { AreLiveSets g.now live }
     ensures { IfOk result (λ k. HasPlaces p.now g.now k) }
 {
-    let locals = slots(alloc, g.variables + g.temporaries)?;
+    let locals = places(alloc, g, &live)?;
     let frame = lay_frame(alloc, p, locals.as_slice())?;
     let zeroed = live_at(alloc, &live, g.first)?;
     Ok(ProcedurePlaces {

@@ -12,7 +12,7 @@ ghost use Rattle.cmm_allocate.specs.Laws.{RunsOverPlaces};
 ghost use Rattle.cmm_allocate.specs.Places.{HavePlaces};
 
 use crate::laws::flows_can_be_placed;
-use crate::procedure::{ProcedurePlaces, places};
+use crate::procedure::{ProcedurePlaces, place_procedure};
 use cmm_graph::Graph;
 use cmm_items::Items;
 use cmm_live::LiveSets;
@@ -38,7 +38,8 @@ pub fn place_program(
     let mut found = Items::new(alloc);
     for sets in live.into_vec() {
         let number = found.len();
-        found.push(places(alloc, &procs[number], &graphs[number], sets)?)?;
+        let places = place_procedure(alloc, &procs[number], &graphs[number], sets)?;
+        found.push(places)?;
     }
     Ok(found)
 }

@@ -53,8 +53,8 @@ bounds-graphs-number c =
     let number : c.len-number.result ≡ length before = c.len-number.ensures ∙ c.loop-sets.invariant.count in
     omega (arith, number, graph_there procs graphs live c.requires.live can before sets rest is_live)
 
-pub places-requires-clause-can : goal.places-requires-clause-can
-places-requires-clause-can c =
+pub place_procedure-requires-clause-can : goal.place_procedure-requires-clause-can
+place_procedure-requires-clause-can c =
     let procs = c.args.program.now.procs in
     let graphs = c.args.graphs.now in
     let live = c.args.live in
@@ -71,8 +71,8 @@ places-requires-clause-can c =
     let is_g : g ≡ get_or graphs (length before) g = c.index-graphs-number.is ∙ ap (λ (n : ℕ). get_or graphs n g) number in
     can_be_placed procs graphs live c.requires.live can before sets rest is_live p g is_p is_g
 
-pub places-requires-clause-live : goal.places-requires-clause-live
-places-requires-clause-live c =
+pub place_procedure-requires-clause-live : goal.place_procedure-requires-clause-live
+place_procedure-requires-clause-live c =
     let procs = c.args.program.now.procs in
     let graphs = c.args.graphs.now in
     let live = c.args.live in
@@ -102,7 +102,7 @@ loop-sets-preserved c =
     c.index-procs-number.is ∙ (ap (λ (qs : List Proc). get_or qs c.len-number.result p) c.as_slice-procs.ensures ∙ ap (λ (n : ℕ). get_or procs n p) number) in
     let g = c.index-graphs-number.result in
     let is_g : g ≡ get_or graphs (length before) g = c.index-graphs-number.is ∙ ap (λ (n : ℕ). get_or graphs n g) number in
-    let k = c.in_ok-places.field-0 in
+    let k = c.in_ok-places.places in
     let same = AllZip-long CanBePlaced procs graphs can in
     let grown : length (before ++ sets ∷ []) ≡ length before + 1 = length-append before (sets ∷ []) in
     let found = c.loop-sets.found in

@@ -1,0 +1,6 @@
+use Rattle.cmm_allocate.specs.inside.Colouring.{AreHomes, register_in}
+use Rattle.cmm_allocate.proofs.colouring.places.Given as goal
+
+abbrev pub invariant-loop-number : goal.invariant-loop-number
+invariant-loop-number l =
+    AreHomes (register_in l.registers.classes.temporary l.registers.temporary l.registers.classes.callee_saves l.registers.callee_saves) l.number l.locals l.end
