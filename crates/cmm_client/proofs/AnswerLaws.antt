@@ -1,5 +1,5 @@
 -- The client's answer, command by command.
-use Rattle.std.proofs.Common.{◌≡◌, ℕ, suc, ◌+◌, ◌<◌, List, [], ◌∷◌, ◌++◌, length, drop, get_or, Result, Ok, Err, Option, Some, None, IfOk, IfSome, refl, sym, ap, subst, ◌∙◌, append_assoc, append-nil, add-one}
+use Rattle.std.proofs.Common.{◌≡◌, ℕ, suc, ◌+◌, ◌<◌, List, [], ◌∷◌, ◌++◌, length, drop, get_or, Result, Ok, Err, Option, IfSome, sym, ap, subst, ◌∙◌, append_assoc, append-nil, add-one}
 use Rattle.std.specs.Result.{IsErr}
 use Rattle.std.proofs.Math.Seq.{drop-cons}
 use Rattle.rv_table.specs.Machine.{State}
@@ -15,17 +15,13 @@ use Rattle.cmm_program.specs.Commands.{After, Answer, Reply, answer_of, reply}
 use Rattle.cmm_image.specs.declared.parts.ImageParts.{ImageParts}
 use Rattle.cmm_image_machine.specs.Frames.{Element}
 use Rattle.cmm_image_machine.specs.Machine.{askable}
-use Rattle.cmm_walk.specs.declared.activation.Activation.{Activation as ActivationOf}
-use Rattle.cmm_walk.specs.declared.chain.Torn.{Torn}
 use Rattle.cmm_walk.specs.Activations.{Fits}
-use Rattle.cmm_walk.specs.Walking.{break_of}
-use Rattle.cmm_walk.proofs.Shared.{joined, nothing_more, written_ok}
+use Rattle.cmm_walk.proofs.Shared.{joined, written_ok}
+use Rattle.cmm_client.specs.declared.cursor.Cursor.{Cursor as CursorOf}
 use Rattle.cmm_client.specs.declared.reply.After.{After as AfterOf}
-use Rattle.cmm_client.specs.declared.reply.After.TheVariants.{Goes, Resumes, Stops, Tears}
-use Rattle.cmm_client.specs.declared.yielding.Left.{Left as LeftOf}
-use Rattle.cmm_client.specs.declared.yielding.Left.TheVariants as left
-use Rattle.cmm_client.specs.Yields.{IsLeft}
-use Rattle.cmm_client.specs.inside.Replies.{Replies, StandsAt, StaysWhere, cursor_of}
+use Rattle.cmm_client.specs.declared.reply.After.TheVariants.{Goes}
+use Rattle.cmm_client.specs.Stops.{cursor_of}
+use Rattle.cmm_client.specs.inside.Replies.{Replies, StandsAt, StaysWhere}
 
 -- what a reply leads to, with the commands behind it
 abbrev by_reply : {A S R : Type 0} → Askable A S R → List ℕ → List ℕ → S → List Command → Reply A S R → Answer S R
@@ -56,54 +52,22 @@ grows k ys (d ∷ cs) text c s =
 
 -- What was written so far, and the answer that is left to give, from this cursor and state on.
 pub record SoFar {Sink : Type 0} (taken : Sink → Option (List ℕ)) (faults : Sink → ℕ) (old new : Sink) (i : ImageParts) (r : Region) (ys : List ℕ) (all : Answer State State)
-    (cursor : Option ActivationOf) (s : State) (cs : List Command) : Type 0 where
+    (cursor : CursorOf) (s : State) (cs : List Command) : Type 0 where
   pub text : List ℕ
   pub written : HasWritten taken faults old new text
   pub whole : all ≡ answer_of (askable i r) ys text (cursor_of i cursor) s cs
-  pub fits : IfSome cursor (Fits i r)
-
--- nothing is done yet
-pub begins : {Sink : Type 0} (taken : Sink → Option (List ℕ)) (faults : Sink → ℕ) (old : Sink) (i : ImageParts) (r : Region) (ys : List ℕ)
-    (cursor : Option ActivationOf) (s : State) (cs : List Command) → IfSome cursor (Fits i r) →
-    SoFar taken faults old old i r ys (answer_of (askable i r) ys [] (cursor_of i cursor) s cs) cursor s cs
-begins taken faults old i r ys cursor s cs fits = record {
-  text = [];
-  written = record { appended = nothing_more (taken old); same_faults = refl };
-  whole = refl;
-  fits = fits;
-}
+  pub fits : IfSome cursor.activation (Fits i r)
 
 module _ (i : ImageParts) (r : Region) (ys text t : List ℕ) (s after : State) (cs : List Command) where
   led : After Element State State → Answer State State
   led a = by_reply (askable i r) ys text s cs record { text = t; after = a }
 
-  to_goes : (a : After Element State State) (c : Option ActivationOf) → StandsAt i after a (Goes c) → led a ≡ answer_of (askable i r) ys (text ++ t) (cursor_of i c) after cs
+  to_goes : (a : After Element State State) (c : CursorOf) → StandsAt i after a (Goes c) → led a ≡ answer_of (askable i r) ys (text ++ t) (cursor_of i c) after cs
   unfolding led
   to_goes (client.Goes c' s') c stands = λ j. answer_of (askable i r) ys (text ++ t) (stands.0 j) (stands.1 j) cs
   to_goes (client.Resumes s') c stands = absurd stands
   to_goes client.Stops c stands = absurd stands
   to_goes (client.Tears b) c stands = absurd stands
-
-  to_running : (a : After Element State State) → StandsAt i after a Resumes → led a ≡ record { text = text ++ t; left = client.Running after }
-  unfolding led
-  to_running (client.Goes c' s') stands = absurd stands
-  to_running (client.Resumes s') stands = λ j. record { text = text ++ t; left = client.Running (stands j) }
-  to_running client.Stops stands = absurd stands
-  to_running (client.Tears b) stands = absurd stands
-
-  to_stopped : (a : After Element State State) → StandsAt i after a Stops → after ≡ s → led a ≡ record { text = text ++ t; left = client.Stopped after }
-  unfolding led
-  to_stopped (client.Goes c' s') stands stays = absurd stands
-  to_stopped (client.Resumes s') stands stays = absurd stands
-  to_stopped client.Stops stands stays = λ j. record { text = text ++ t; left = client.Stopped (sym stays j) }
-  to_stopped (client.Tears b) stands stays = absurd stands
-
-  to_torn : (a : After Element State State) (torn : Torn) → StandsAt i after a (Tears torn) → after ≡ s → led a ≡ record { text = text ++ t; left = client.Torn (break_of torn) after }
-  unfolding led
-  to_torn (client.Goes c' s') torn stands stays = absurd stands
-  to_torn (client.Resumes s') torn stands stays = absurd stands
-  to_torn client.Stops torn stands stays = absurd stands
-  to_torn (client.Tears b) torn stands stays = λ j. record { text = text ++ t; left = client.Torn (stands j) (sym stays j) }
 
 -- where the next write fails, a front of what was to come is written
 failing : {Sink A B Fault : Type 0} (taken : Sink → Option (List ℕ)) (faults : Sink → ℕ) (old mid new : Sink) (xs ys more all : List ℕ) (first : Result A Failed) (e : Failed) (last : Result B Fault) →
@@ -117,28 +81,8 @@ failing taken faults old mid new xs ys more all (Err d) e (Err f) was failed who
   fault = rw (← written.same_faults) wrote.fault;
 }
 
--- an answer that is written and leaves the program so
-pub record Ended {Sink : Type 0} (taken : Sink → Option (List ℕ)) (faults : Sink → ℕ) (old new : Sink) (all : Answer State State) (l : LeftOf) (s : State) : Type 0 where
-  pub writes : WritesAll {Answer = LeftOf} {Error = Failed} taken faults old new all.text (Ok l)
-  pub left : IsLeft all.left l s
-
-ended : {Sink : Type 0} (taken : Sink → Option (List ℕ)) (faults : Sink → ℕ) (old new : Sink) (all : Answer State State) (text : List ℕ) (to : client.Left State State) (l : LeftOf) (s : State) →
-    HasWritten taken faults old new text → all ≡ record { text = text; left = to } → IsLeft to l s → Ended taken faults old new all l s
-ended taken faults old new all text to l s written is left =
-    subst (λ (a : Answer State State). Ended taken faults old new a l s) (sym is) record {
-      writes = record { ok = written.appended; err = tt; no_fault = written.same_faults; fault = tt };
-      left = left;
-    }
-
--- no command is left
-pub none_left : {Sink : Type 0} (taken : Sink → Option (List ℕ)) (faults : Sink → ℕ) (old new : Sink) (i : ImageParts) (r : Region) (ys : List ℕ) (all : Answer State State)
-    (cursor : Option ActivationOf) (s : State) (cs : List Command) → cs ≡ [] → SoFar taken faults old new i r ys all cursor s cs → Ended taken faults old new all left.Stopped s
-none_left taken faults old new i r ys all cursor s cs none so_far =
-    ended taken faults old new all so_far.text (client.Stopped s) left.Stopped s so_far.written
-    (so_far.whole ∙ ap (answer_of (askable i r) ys so_far.text (cursor_of i cursor) s) none) refl
-
 module _ {Sink : Type 0} (taken : Sink → Option (List ℕ)) (faults : Sink → ℕ) (old mid new : Sink) (i : ImageParts) (r : Region) (ys : List ℕ) (all : Answer State State)
-    (cursor : Option ActivationOf) (s after : State) (c : Command) (cs : List Command) (so_far : SoFar taken faults old mid i r ys all cursor s (c ∷ cs))
+    (cursor : CursorOf) (s after : State) (c : Command) (cs : List Command) (so_far : SoFar taken faults old mid i r ys all cursor s (c ∷ cs))
     (result : Result AfterOf Failed) (replies : Replies taken faults mid new i r after (reply (askable i r) ys (cursor_of i cursor) s c) result)
     (stays : StaysWhere s after result) where
   stands_as : (a : AfterOf) → result ≡ Ok a → StandsAt i after (reply (askable i r) ys (cursor_of i cursor) s c).after a
@@ -147,7 +91,7 @@ module _ {Sink : Type 0} (taken : Sink → Option (List ℕ)) (faults : Sink →
   wrote : (a : AfterOf) → result ≡ Ok a → HasWritten taken faults old new (so_far.text ++ (reply (askable i r) ys (cursor_of i cursor) s c).text)
   wrote a is = joined taken faults old mid new so_far.text _ so_far.written (written_ok taken faults mid new _ result a is replies.writes)
 
-  pub goes_on : (next : Option ActivationOf) → result ≡ Ok (Goes next) → SoFar taken faults old new i r ys all next after cs
+  pub goes_on : (next : CursorOf) → result ≡ Ok (Goes next) → SoFar taken faults old new i r ys all next after cs
   unfolding led
   goes_on next is = let t = (reply (askable i r) ys (cursor_of i cursor) s c).text in record {
     text = so_far.text ++ t;
@@ -155,24 +99,6 @@ module _ {Sink : Type 0} (taken : Sink → Option (List ℕ)) (faults : Sink →
     whole = so_far.whole ∙ to_goes i r ys so_far.text t s after cs (reply (askable i r) ys (cursor_of i cursor) s c).after next (stands_as (Goes next) is);
     fits = rw is at replies.fits;
   }
-
-  pub resumes : result ≡ Ok Resumes → Ended taken faults old new all left.Running after
-  unfolding led
-  resumes is = let t = (reply (askable i r) ys (cursor_of i cursor) s c).text in
-      ended taken faults old new all (so_far.text ++ t) (client.Running after) left.Running after (wrote Resumes is)
-      (so_far.whole ∙ to_running i r ys so_far.text t s after cs (reply (askable i r) ys (cursor_of i cursor) s c).after (stands_as Resumes is)) refl
-
-  pub stops : result ≡ Ok Stops → Ended taken faults old new all left.Stopped after
-  unfolding led
-  stops is = let t = (reply (askable i r) ys (cursor_of i cursor) s c).text in
-      ended taken faults old new all (so_far.text ++ t) (client.Stopped after) left.Stopped after (wrote Stops is)
-      (so_far.whole ∙ to_stopped i r ys so_far.text t s after cs (reply (askable i r) ys (cursor_of i cursor) s c).after (stands_as Stops is) (rw is at stays)) refl
-
-  pub tears : (torn : Torn) → result ≡ Ok (Tears torn) → Ended taken faults old new all (left.Torn torn) after
-  unfolding led
-  tears torn is = let t = (reply (askable i r) ys (cursor_of i cursor) s c).text in
-      ended taken faults old new all (so_far.text ++ t) (client.Torn (break_of torn) after) (left.Torn torn) after (wrote (Tears torn) is)
-      (so_far.whole ∙ to_torn i r ys so_far.text t s after cs (reply (askable i r) ys (cursor_of i cursor) s c).after torn (stands_as (Tears torn) is) (rw is at stays)) (refl, refl)
 
   pub fails : {B Fault : Type 0} (e : Failed) (last : Result B Fault) → result ≡ Err e → IsErr last → WritesAll taken faults old new all.text last
   fails e last was failed =
@@ -187,7 +113,7 @@ pub from_place : (all : List Command) (j : ℕ) (c : Command) → j < length all
 from_place all j c below is = drop-cons all j c below ∙ ap (λ d. d ∷ drop (suc j) all) (sym is)
 
 module _ {Sink : Type 0} (taken : Sink → Option (List ℕ)) (faults : Sink → ℕ) (old mid new : Sink) (i : ImageParts) (r q : Region) (same : q ≡ r) (ys : List ℕ)
-    (answer : Answer State State) (cursor : Option ActivationOf) (s after : State) (all : List Command) (j : ℕ) (c : Command) (below : j < length all) (is : c ≡ get_or all j c)
+    (answer : Answer State State) (cursor : CursorOf) (s after : State) (all : List Command) (j : ℕ) (c : Command) (below : j < length all) (is : c ≡ get_or all j c)
     (so_far : SoFar taken faults old mid i r ys answer cursor s (drop j all)) (result : Result AfterOf Failed)
     (replies : Replies taken faults mid new i q after (reply (askable i q) ys (cursor_of i cursor) s c) result) (stays : StaysWhere s after result) where
   before : SoFar taken faults old mid i r ys answer cursor s (c ∷ drop (suc j) all)
@@ -196,19 +122,10 @@ module _ {Sink : Type 0} (taken : Sink → Option (List ℕ)) (faults : Sink →
   replied : Replies taken faults mid new i r after (reply (askable i r) ys (cursor_of i cursor) s c) result
   replied = subst (λ x. Replies taken faults mid new i x after (reply (askable i x) ys (cursor_of i cursor) s c) result) same replies
 
-  pub next_goes : (to : AfterOf) (next : Option ActivationOf) → result ≡ Ok to → to ≡ Goes next → SoFar taken faults old new i r ys answer next after (drop (j + 1) all)
+  pub next_goes : (to : AfterOf) (next : CursorOf) → result ≡ Ok to → to ≡ Goes next → SoFar taken faults old new i r ys answer next after (drop (j + 1) all)
   next_goes to next was goes =
       rw (add-one j) (goes_on taken faults old mid new i r ys answer cursor s after c (drop (suc j) all) before result replied stays next (was ∙ ap Ok goes))
 
   pub next_fails : {B Fault : Type 0} (e : Failed) (left : Result B Fault) → result ≡ Err e → IsErr left → WritesAll taken faults old new answer.text left
   next_fails e left was failed =
       fails taken faults old mid new i r ys answer cursor s after c (drop (suc j) all) before result replied stays e left was failed
-
-  pub next_resumes : (to : AfterOf) → result ≡ Ok to → to ≡ Resumes → Ended taken faults old new answer left.Running after
-  next_resumes to was goes = resumes taken faults old mid new i r ys answer cursor s after c (drop (suc j) all) before result replied stays (was ∙ ap Ok goes)
-
-  pub next_stops : (to : AfterOf) → result ≡ Ok to → to ≡ Stops → Ended taken faults old new answer left.Stopped after
-  next_stops to was goes = stops taken faults old mid new i r ys answer cursor s after c (drop (suc j) all) before result replied stays (was ∙ ap Ok goes)
-
-  pub next_tears : (to : AfterOf) (torn : Torn) → result ≡ Ok to → to ≡ Tears torn → Ended taken faults old new answer (left.Torn torn) after
-  next_tears to torn was goes = tears taken faults old mid new i r ys answer cursor s after c (drop (suc j) all) before result replied stays torn (was ∙ ap Ok goes)

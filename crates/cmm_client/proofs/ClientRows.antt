@@ -6,13 +6,11 @@ use Rattle.rv_table.specs.Machine.{State}
 use Rattle.cmm_rules.specs.declared.rule.Rule.TheVariants.{NoYieldedValue}
 use Rattle.cmm_script.specs.declared.script.Block.{Block}
 use Rattle.cmm_script.specs.declared.script.Command.{Command}
-use Rattle.cmm_script.specs.declared.script.Command.TheVariants.{List as ListAll, Next, Seek, Stop, Var, Youngest}
-use Rattle.cmm_script.specs.declared.script.Script.{Script}
+use Rattle.cmm_script.specs.declared.script.Command.TheVariants.{Next, Seek, Stop, Var, Youngest}
 use Rattle.cmm_script.specs.declared.script.Value.TheVariants.{Number, Yielded}
 use Rattle.cmm_script.specs.Walk.{line}
-use Rattle.cmm_program.specs.Asking.{Chain}
 use Rattle.cmm_program.specs.Commands.{Answer, Stopped, Torn, numbers_given}
-use Rattle.cmm_image_machine.specs.Frames.{Element, breaks}
+use Rattle.cmm_image_machine.specs.Frames.{breaks}
 use Rattle.cmm_image_machine.proofs.Shared.{yielding}
 use Rattle.cmm_walk.proofs.Shared.{leaf_activation, main_activation, region}
 use Rattle.cmm_walk.proofs.Shared as walk

@@ -1,22 +1,29 @@
 -- What the commands that let a program go on may answer, and that an answer tells which.
-use Rattle.std.proofs.Common.{◌≡◌, ◌==◌, ◌⊎◌, length, inl, inr, Bool, true, false, List, [], ◌∷◌, ℕ, Result, Ok, Err, Option, Some, None, OnErr, refl, sym, ap, subst, ◌∙◌}
+use Rattle.std.proofs.Common.{◌≡◌, ◌==◌, ◌⊎◌, length, inl, inr, Bool, true, false, List, [], ◌∷◌, ℕ, Result, Ok, Err, Option, Some, None, refl, sym, ap, subst, ◌∙◌}
+use Rattle.std.specs.Result.{result_and}
 use Rattle.cmm_rules.specs.declared.rule.Rule.{Rule}
-use Rattle.cmm_rules.specs.declared.rule.Rule.TheVariants.{DoesNotFit, NoExit, OtherCount}
+use Rattle.cmm_rules.specs.declared.rule.Rule.TheVariants.{DoesNotFit, NoExit, NoPlace, OtherCount}
 use Rattle.rv_table.specs.Machine.{State}
-use Rattle.rv_table.specs.declared.registers.Regs.{Regs}
-use Rattle.rv_memory.specs.Regions.{Regions}
-use Rattle.rv_memory.specs.States.{state_of}
 use Rattle.cmm_abi.specs.Regions.{Region}
-use Rattle.cmm_script.specs.Lines.{resume_line}
+use Rattle.rv_memory.specs.Regions as regions
+use Rattle.rv_memory.specs.States as states
+use Rattle.cmm_script.specs.Lines.{ok_line, resume_line}
 use Rattle.cmm_program.specs.Asking.{Askable, Break, Cursor, Exit}
-use Rattle.cmm_program.specs.Commands.{Asked, Resumes, Tears, all_fit, at_first, cut, cutting, past, resumed, returning, unwinding}
-use Rattle.cmm_program.specs.Errors.{provided}
+use Rattle.cmm_program.specs.Commands.{Asked, Resumes, Tears, all_fit, at_first, cut, cutting, past, poking, resumed, returning, says, unwinding}
+use Rattle.cmm_program.specs.Errors.{given, provided}
+use Rattle.cmm_program.specs.Layout.{bytes_of}
 use Rattle.cmm_image.specs.declared.parts.ImageParts.{ImageParts}
+use Rattle.cmm_image_machine.specs.Changes.{with_data}
 use Rattle.cmm_image_machine.specs.Frames.{Element}
+use Rattle.cmm_image_machine.specs.Machine.{askable}
 use Rattle.cmm_resume.specs.declared.refusal.Refusal.{Refusal}
 use Rattle.cmm_resume.specs.Answering.{Answers}
+use Rattle.cmm_resume.specs.Finding.{poking_in}
 use Rattle.cmm_client.specs.declared.reply.Reply.TheVariants.{Changed, Resumed}
-use Rattle.cmm_client.specs.inside.Replies.{Keeps, ReplyFits, done_as, meant}
+use Rattle.cmm_client.specs.declared.stopped.Stopped.{Stopped}
+use Rattle.cmm_client.specs.declared.stopped.Thread.{Thread}
+use Rattle.cmm_client.specs.Stops.{map_of, region_of, state_of}
+use Rattle.cmm_client.specs.inside.Replies.{meant}
 
 -- a command is refused, or lets the program go on, or comes to a break
 abbrev Leaves : {A S R : Type 0} → Asked A S R → Type 0
@@ -61,37 +68,44 @@ module _ {A S R : Type 0} (k : Askable A S R) where
 -- ---- what is answered tells which
 
 module _ (i : ImageParts) (r : Region) (cursor : Cursor Element) (before after : State) where
-  pub left_is : (change : Asked Element State State) (result : Result (Unit {0}) Refusal) → Leaves change → Answers change before after result →
-      change ≡ meant i r cursor after (done_as Resumed result)
+  left_is : (change : Asked Element State State) (result : Result (Unit {0}) Refusal) → Leaves change → Answers change before after result →
+      change ≡ meant i r cursor after (result_and result (Ok Resumed))
   left_is change result (inl (rule, is)) answers =
       let there = subst (λ (x : Asked Element State State). Answers x before after result) is answers in
-      is ∙ sym (ap (λ (x : Result (Unit {0}) Refusal). meant i r cursor after (done_as Resumed x)) there.0)
+      is ∙ sym (ap (λ (x : Result (Unit {0}) Refusal). meant i r cursor after (result_and x (Ok Resumed))) there.0)
   left_is change result (inr (inl (s, is))) answers =
       let there = subst (λ (x : Asked Element State State). Answers x before after result) is answers in
       is ∙ ap (λ (t : State). Ok record { text = resume_line; after = Resumes t }) (sym there.1)
-      ∙ sym (ap (λ (x : Result (Unit {0}) Refusal). meant i r cursor after (done_as Resumed x)) there.0)
+      ∙ sym (ap (λ (x : Result (Unit {0}) Refusal). meant i r cursor after (result_and x (Ok Resumed))) there.0)
   left_is change result (inr (inr (b, is))) answers =
       let there = subst (λ (x : Asked Element State State). Answers x before after result) is answers in
-      is ∙ sym (ap (λ (x : Result (Unit {0}) Refusal). meant i r cursor after (done_as Resumed x)) there.0)
+      is ∙ sym (ap (λ (x : Result (Unit {0}) Refusal). meant i r cursor after (result_and x (Ok Resumed))) there.0)
 
--- ---- what comes of a change
+  -- where a label is and its data may be written, it is
+  poked_is : (o : Option State) (result : Result (Unit {0}) Refusal) → Answers (given o NoPlace (says ok_line cursor)) before after result →
+      given o NoPlace (says ok_line cursor) ≡ meant i r cursor after (result_and result (Ok Changed))
+  poked_is None result answers = sym (ap (λ (x : Result (Unit {0}) Refusal). meant i r cursor after (result_and x (Ok Changed))) answers.0)
+  poked_is (Some s) result answers =
+      ap (λ (t : State). says ok_line cursor t) (sym answers.1) ∙ sym (ap (λ (x : Result (Unit {0}) Refusal). meant i r cursor after (result_and x (Ok Changed))) answers.0)
 
-pub changed_fits : (i : ImageParts) (r : Region) (change : Result (Unit {0}) Refusal) → ReplyFits i r (done_as Changed change)
-changed_fits i r (Ok done) = tt
-changed_fits i r (Err refusal) = tt
+-- ---- what is answered of the thread that an accessor gave
 
-pub resumed_fits : (i : ImageParts) (r : Region) (change : Result (Unit {0}) Refusal) → ReplyFits i r (done_as Resumed change)
-resumed_fits i r (Ok done) = tt
-resumed_fits i r (Err refusal) = tt
+module _ (i : ImageParts) (cursor : Cursor Element) (stopped : Stopped) (t : Thread) (same : t ≡ stopped.thread) (after : State) (result : Result (Unit {0}) Refusal) where
+  -- so far its state is the program's
+  abbrev pub state_in : Thread → State
+  state_in u = states.state_of u.regs u.memory
 
-pub changed_keeps : (r t : Regs) (m n : Regions) (change : Result (Unit {0}) Refusal) → OnErr change ((t ≡ r) × (n ≡ m)) → Keeps (state_of r m) (state_of t n) (done_as Changed change)
-changed_keeps r t m n (Ok done) same = tt
-changed_keeps r t m n (Err refusal) same = λ i. state_of (same.0 i) (same.1 i)
+  pub left_from : (change : Region → State → Asked Element State State) → Leaves (change (region_of stopped) (state_of stopped)) →
+      Answers (change (regions.region_of t.memory) (state_in t)) (state_in t) after result →
+      change (region_of stopped) (state_of stopped) ≡ meant i (region_of stopped) cursor after (result_and result (Ok Resumed))
+  left_from change leaves answers = left_is i (region_of stopped) cursor (state_of stopped) after (change (region_of stopped) (state_of stopped)) result leaves
+      (subst (λ (u : Thread). Answers (change (regions.region_of u.memory) (state_in u)) (state_in u) after result) same answers)
 
-pub resumed_keeps : (r t : Regs) (m n : Regions) (change : Result (Unit {0}) Refusal) → OnErr change ((t ≡ r) × (n ≡ m)) → Keeps (state_of r m) (state_of t n) (done_as Resumed change)
-resumed_keeps r t m n (Ok done) same = tt
-resumed_keeps r t m n (Err refusal) same = λ i. state_of (same.0 i) (same.1 i)
-
-pub poked_keeps : (r : Regs) (m n : Regions) (change : Result (Unit {0}) Refusal) → OnErr change (n ≡ m) → Keeps (state_of r m) (state_of r n) (done_as Changed change)
-poked_keeps r m n (Ok done) same = tt
-poked_keeps r m n (Err refusal) same = ap (state_of r) same
+  pub poked_from : (name : List ℕ) (offset value : ℕ) → (map_of stopped).data_length ≡ length i.initial →
+      Answers (poking_in (regions.map_of t.memory).data_length i cursor (state_in t) name offset value) (state_in t) after result →
+      poking (askable i (region_of stopped)) cursor (state_of stopped) name offset value ≡ meant i (region_of stopped) cursor after (result_and result (Ok Changed))
+  poked_from name offset value all answers =
+      let s = state_of stopped in
+      poked_is i (region_of stopped) cursor s after (with_data i s name offset (bytes_of 8 value)) result
+      (subst (λ (n : ℕ). Answers (poking_in n i cursor s name offset value) s after result) all
+      (subst (λ (u : Thread). Answers (poking_in (regions.map_of u.memory).data_length i cursor (state_in u) name offset value) (state_in u) after result) same answers))

@@ -1,30 +1,21 @@
 -- The numbers that a command is given.
-use Rattle.std.proofs.Common.{◌≡◌, ◌<◌, ◌≤◌, ◌+◌, ℕ, zero, suc, List, [], ◌∷◌, ◌++◌, map, take, drop, length, slice_get, slice_set, get_or, Result, Ok, Err, Option, Some, None, refl, sym, ap, subst, ◌∙◌, append_assoc, append-nil, add-one, arith}
-use Rattle.std.proofs.Math.Seq.{drop-cons}
+use Rattle.std.proofs.Common.{◌≡◌, ◌+◌, ℕ, suc, List, [], ◌∷◌, ◌++◌, take, drop, length, Result, Ok, Err, Option, Some, None, refl, sym, ap, ◌∙◌, append_assoc, append-nil, add-one}
+use Rattle.std.specs.Option.{ok_or}
 use Rattle.cmm_rules.specs.declared.rule.Rule.{Rule}
+use Rattle.cmm_rules.specs.declared.rule.Rule.TheVariants.{NoActivation}
 use Rattle.cmm_script.specs.declared.script.Value.{Value}
-use Rattle.rv_table.specs.Machine.{State}
-use Rattle.cmm_abi.specs.Regions.{Region}
-use Rattle.cmm_program.specs.Asking.{Cursor}
-use Rattle.cmm_program.specs.Commands.{Asked, number_given, numbers_given}
-use Rattle.cmm_program.specs.Errors.{all_of, and_then}
-use Rattle.cmm_image.specs.declared.parts.ImageParts.{ImageParts}
-use Rattle.cmm_image_machine.specs.Frames.{Element}
+use Rattle.cmm_program.specs.Commands.{number_given, numbers_given}
+use Rattle.cmm_program.specs.Errors.{and_then}
 use Rattle.cmm_walk.specs.declared.activation.Activation.{Activation}
 use Rattle.cmm_resume.specs.declared.refusal.Refusal.{Refusal}
-use Rattle.cmm_resume.specs.declared.refusal.Refusal.TheVariants.{ByRule, Torn}
-use Rattle.cmm_client.specs.inside.Replies.{first_numbers, meant, ruled, standing_at}
+use Rattle.cmm_resume.specs.declared.refusal.Refusal.TheVariants.{ByRule}
+use Rattle.cmm_client.specs.declared.cursor.Cursor.{Cursor}
+use Rattle.cmm_client.specs.inside.Replies.{first_numbers, ruled, standing_at}
 
 -- what was given is this, or the rule that refuses it
 pub given_ok : {A : Type 0} (given : Result A Rule) (a : A) → ruled given ≡ Ok a → given ≡ Ok a
 given_ok (Ok b) a is = let same : b ≡ a = cc is in ap Ok same
 given_ok (Err rule) a is = absurd (cc is)
-
-pub given_err : {A : Type 0} (i : ImageParts) (r : Region) (cursor : Cursor Element) (s : State) (given : Result A Rule) (next : A → Asked Element State State) (refusal : Refusal) →
-    ruled given ≡ Err refusal → and_then given next ≡ meant i r cursor s (Err refusal)
-given_err i r cursor s (Ok b) next refusal is = absurd (cc is)
-given_err i r cursor s (Err rule) next (ByRule other) is = let same : rule ≡ other = cc is in ap Err same
-given_err i r cursor s (Err rule) next (Torn t) is = absurd (cc is)
 
 pub numbers_ok : (given : Result (List ℕ) Rule) (count : ℕ) (numbers : List ℕ) → first_numbers count (Ok numbers) ≡ ruled given → given ≡ Ok (take count numbers)
 numbers_ok given count numbers is = given_ok given (take count numbers) (sym is)
@@ -78,6 +69,9 @@ pub numbers_were : (given : Result (List ℕ) Rule) (count : ℕ) (result : Resu
 numbers_were given count result numbers is was = numbers_ok given count numbers (ap (first_numbers count) (sym was) ∙ is)
 
 -- the activation at the cursor
-pub cursor_is : (cursor : Option Activation) (a : Activation) (result : Result Activation Refusal) → result ≡ standing_at cursor → result ≡ Ok a → cursor ≡ Some a
-cursor_is (Some b) a result is was = let both : ◌≡◌ {A = Result Activation Refusal} (Ok b) (Ok a) = sym is ∙ was in let same : b ≡ a = cc in ap Some same
-cursor_is None a result is was = absurd (cc (sym is ∙ was))
+pub cursor_is : (cursor : Cursor) (a : Activation) (result : Result Activation Refusal) → result ≡ standing_at cursor → result ≡ Ok a → cursor.activation ≡ Some a
+cursor_is cursor a result is was = by cursor.activation (sym is ∙ was)
+  where
+    by : (o : Option Activation) → ok_or o (ByRule NoActivation) ≡ Ok a → o ≡ Some a
+    by (Some b) both = let same : b ≡ a = cc in ap Some same
+    by None both = absurd (cc both)

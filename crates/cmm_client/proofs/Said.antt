@@ -1,35 +1,27 @@
 -- What is said of a command, and where the client stands then.
-use Rattle.std.proofs.Common.{◌≡◌, ℕ, List, [], ◌++◌, map, Result, Ok, Err, Option, Some, None, IfSome, IfOk, refl, sym, ap, subst, ◌∙◌, append-nil}
+use Rattle.std.proofs.Common.{◌≡◌, ℕ, List, Result, Ok, Err, Option, refl, sym, ap, subst, ◌∙◌}
+use Rattle.std.specs.Result.{result_and}
 use Rattle.rv_table.specs.Machine.{State}
 use Rattle.cmm_abi.specs.Regions.{Region}
-use Rattle.cmm_outside.specs.Output.{Appends, AppendsFront, WritesAll}
+use Rattle.cmm_outside.specs.Output.{WritesAll}
 use Rattle.cmm_outside.specs.declared.Failed.{Failed}
-use Rattle.cmm_script.specs.Walk.{activation_texts}
 use Rattle.cmm_script.specs.declared.script.Command.{Command}
-use Rattle.cmm_program.specs.Asking.{Break, Chain, Cursor}
+use Rattle.cmm_program.specs.Asking.{Cursor}
 use Rattle.cmm_program.specs.Commands as client
 use Rattle.cmm_program.specs.Commands.{Asked, asked, listed, reply}
 use Rattle.cmm_image.specs.declared.parts.ImageParts.{ImageParts}
-use Rattle.cmm_image_machine.specs.Frames.{Element, chain_of}
+use Rattle.cmm_image_machine.specs.Frames.{Element}
 use Rattle.cmm_image_machine.specs.Machine.{askable}
-use Rattle.cmm_image_machine.specs.Walks.{element_shown}
-use Rattle.cmm_walk.specs.declared.activation.Activation.{Activation as ActivationOf}
-use Rattle.cmm_walk.specs.declared.chain.Torn.{Torn as TornOf}
-use Rattle.cmm_walk.specs.declared.walking.WalkError.TheVariants as walk_error
-use Rattle.cmm_walk.specs.Activations.{Fits}
-use Rattle.cmm_walk.specs.Texts.{WritesWalk, chain_text}
-use Rattle.cmm_walk.specs.Walking.{break_of}
 use Rattle.cmm_resume.specs.declared.refusal.Refusal.{Refusal}
-use Rattle.cmm_resume.specs.declared.refusal.Refusal.TheVariants.{ByRule, Torn}
 use Rattle.cmm_client.specs.declared.reply.After.{After}
 use Rattle.cmm_client.specs.declared.reply.After.TheVariants.{Goes, Resumes, Stops, Tears}
 use Rattle.cmm_client.specs.declared.reply.Reply.{Reply}
 use Rattle.cmm_client.specs.declared.reply.Reply.TheVariants.{Walk, Stands, Descriptor, Variable, Changed, Resumed, Stopped}
-use Rattle.cmm_client.specs.inside.Replies.{CursorFits, Keeps, Replies, StandsAt, Stays, StaysWhere, behind_line, cursor_of, meant, reply_of}
+use Rattle.cmm_client.specs.inside.Replies.{CursorFits, Keeps, Replies, StandsAt, Stays, StaysWhere, meant, reply_of}
 
 module _ {Sink : Type 0} (taken : Sink → Option (List ℕ)) (faults : Sink → ℕ) (old new : Sink) (i : ImageParts) (r : Region) (s : State) where
   said_by : (reply : client.Reply Element State State) (written : Result (Unit {0}) Failed) (after : After) → WritesAll taken faults old new reply.text written →
-      StandsAt i s reply.after after → CursorFits i r after → Replies taken faults old new i r s reply (behind_line after written)
+      StandsAt i s reply.after after → CursorFits i r after → Replies taken faults old new i r s reply (result_and written (Ok after))
   said_by reply (Ok done) after writes stands fits = record {
     writes = record { ok = writes.ok; err = tt; no_fault = writes.no_fault; fault = tt };
     stands = stands;
@@ -43,53 +35,11 @@ module _ {Sink : Type 0} (taken : Sink → Option (List ℕ)) (faults : Sink →
 
   -- a line is written, and the client stands behind it
   pub said : (reply : client.Reply Element State State) (text : List ℕ) (written : Result (Unit {0}) Failed) (after : After) (result : Result After Failed) →
-      result ≡ behind_line after written → text ≡ reply.text → WritesAll taken faults old new text written → StandsAt i s reply.after after → CursorFits i r after →
+      result ≡ result_and written (Ok after) → text ≡ reply.text → WritesAll taken faults old new text written → StandsAt i s reply.after after → CursorFits i r after →
       Replies taken faults old new i r s reply result
   said reply text written after result is same writes stands fits =
       subst (λ (x : Result After Failed). Replies taken faults old new i r s reply x) (sym is)
       (said_by reply written after (subst (λ (t : List ℕ). WritesAll taken faults old new t written) same writes) stands fits)
-
-  -- ---- the walk
-
-  module _ (cursor : Option ActivationOf) where
-    abbrev to_list : Chain Element → client.Reply Element State State
-    to_list chain = reply_of (cursor_of i cursor) s (listed (askable i r) (cursor_of i cursor) s chain)
-
-    listed_ok : (activations : List Element) (broken : Option Break) → let chain : Chain Element = record { activations = activations; broken = broken } in
-        IfSome cursor (Fits i r) → WritesWalk taken faults old new s chain (Ok tt) → Replies taken faults old new i r s (to_list chain) (Ok (Goes cursor))
-    listed_ok activations None fits writes =
-        record { writes = record { ok = writes.1; err = tt; no_fault = writes.2; fault = tt }; stands = (refl, refl); fits = fits }
-    listed_ok activations (Some b) fits writes = absurd (cc writes.0)
-
-    listed_torn : (activations : List Element) (broken : Option Break) (t : TornOf) → let chain : Chain Element = record { activations = activations; broken = broken } in
-        WritesWalk taken faults old new s chain (Err (walk_error.Torn t)) → Replies taken faults old new i r s (to_list chain) (Ok (Tears t))
-    listed_torn activations None t writes = absurd (cc writes.0)
-    listed_torn activations (Some b) t writes =
-        let same : b ≡ break_of t = cc writes.0 in
-        record {
-          writes = record { ok = subst (Appends (taken old) (taken new)) (append-nil (activation_texts 0 (map (element_shown s) activations))) writes.1; err = tt; no_fault = writes.2; fault = tt };
-          stands = same;
-          fits = tt;
-        }
-
-    listed_failed : (activations : List Element) (broken : Option Break) (e : Failed) → let chain : Chain Element = record { activations = activations; broken = broken } in
-        WritesWalk taken faults old new s chain (Err walk_error.Failed) → Replies taken faults old new i r s (to_list chain) (Err e)
-    listed_failed activations None e writes =
-        record { writes = record { ok = tt; err = writes.0; no_fault = tt; fault = writes.1 }; stands = tt; fits = tt }
-    listed_failed activations (Some b) e writes = record {
-      writes = record { ok = tt; err = subst (AppendsFront (taken old) (taken new)) (append-nil (activation_texts 0 (map (element_shown s) activations))) writes.0; no_fault = tt; fault = writes.1 };
-      stands = tt;
-      fits = tt;
-    }
-
-    pub lists_ok : (chain : Chain Element) → IfSome cursor (Fits i r) → WritesWalk taken faults old new s chain (Ok tt) → Replies taken faults old new i r s (to_list chain) (Ok (Goes cursor))
-    lists_ok chain = listed_ok chain.activations chain.broken
-
-    pub lists_torn : (chain : Chain Element) (t : TornOf) → WritesWalk taken faults old new s chain (Err (walk_error.Torn t)) → Replies taken faults old new i r s (to_list chain) (Ok (Tears t))
-    lists_torn chain = listed_torn chain.activations chain.broken
-
-    pub lists_failed : (chain : Chain Element) (e : Failed) → WritesWalk taken faults old new s chain (Err walk_error.Failed) → Replies taken faults old new i r s (to_list chain) (Err e)
-    lists_failed chain = listed_failed chain.activations chain.broken
 
 -- ---- a whole command
 

@@ -1,2 +1,4 @@
+pub mod Lending
+pub mod Stops
 pub mod Yields
 pub mod inside

@@ -4,9 +4,9 @@ use Rattle.rv_table.specs.Machine.{State}
 use Rattle.cmm_abi.specs.Regions.{Region}
 use Rattle.cmm_script.specs.declared.script.Script.{Script}
 use Rattle.cmm_script.specs.Lines.{yield_line}
-use Rattle.cmm_program.specs.Asking.{Chain}
+use Rattle.cmm_program.specs.Asking.{Chain, Cursor, at_youngest}
 use Rattle.cmm_program.specs.Commands as client
-use Rattle.cmm_program.specs.Commands.{Answer, Left, answer_to}
+use Rattle.cmm_program.specs.Commands.{Answer, Left, answer_of, commands_for}
 use Rattle.cmm_image.specs.declared.parts.ImageParts.{ImageParts}
 use Rattle.cmm_image_machine.specs.Frames.{Element, chain_of}
 use Rattle.cmm_image_machine.specs.Machine as image
@@ -15,14 +15,14 @@ use Rattle.cmm_walk.specs.Walking.{break_of}
 use Rattle.cmm_client.specs.declared.yielding.Left.{Left as LeftOf}
 use Rattle.cmm_client.specs.declared.yielding.Left.TheVariants.{Running, Stopped, Torn}
 
--- where there is a yield, of these values: its line, and the client's answer
-abbrev pub with_line : ImageParts → Region → Script → List ℕ → State → Answer State State
-with_line i r script values s = let answer = answer_to (askable i r) script values s in
+-- the line of a yield of these values, and the client's answer, which begins with the cursor here
+abbrev pub with_values : ImageParts → Region → Script → List ℕ → Cursor Element → State → Answer State State
+with_values i r script values cursor s = let answer = answer_of (askable i r) values [] cursor s (commands_for values script) in
     record { text = yield_line values ++ answer.text; left = answer.left }
 
--- where the chain breaks at its first point, there is none
+-- where the chain breaks at its first point, there is none; else the cursor begins at the youngest activation
 abbrev pub at_chain : ImageParts → Region → Script → Chain Element → State → Answer State State
-at_chain i r script chain s = let yields = with_line i r script (yielded_at r s chain.activations) s in elim chain.activations [
+at_chain i r script chain s = let yields = with_values i r script (yielded_at r s chain.activations) (at_youngest (chain_of i r s)) s in elim chain.activations [
   | [] ↦ elim chain.broken [ Some b ↦ record { text = []; left = client.Torn b s } | None ↦ yields ]
   | e ∷ older ↦ yields
 ]

@@ -1,157 +1,134 @@
 //! Commands that change a stopped program, or let it go on.
 ghost use Rattle.std.specs.Prelude.{◌≡◌, ◌≤◌, length, IfSome};
-ghost use Rattle.rv_memory.specs.Regions.{map_of, region_of};
-ghost use Rattle.rv_memory.specs.States.{state_of};
-ghost use Rattle.rv_table.specs.declared.registers.Regs.{Regs as RegsOf};
 ghost use Rattle.cmm_script.specs.declared.script.Command.TheVariants.{Cut, Poke, Return, Set, Unwind};
-ghost use Rattle.cmm_program.specs.Asking.{Cursor};
+ghost use Rattle.cmm_program.specs.Asking.{Cursor as CursorOver};
 ghost use Rattle.cmm_program.specs.Commands.{asked};
 ghost use Rattle.cmm_image_machine.specs.Frames.{Element};
 ghost use Rattle.cmm_image_machine.specs.Machine.{askable};
 ghost use Rattle.cmm_walk.specs.Activations.{Fits};
-ghost use Rattle.cmm_client.specs.inside.Replies.{Keeps, ReplyFits, cursor_of, done_as, meant};
+ghost use Rattle.cmm_client.specs.Stops.{cursor_of, map_of, region_of, state_of};
+ghost use Rattle.cmm_client.specs.inside.Replies.{Keeps, ReplyFits, meant};
 
+use crate::cursor::{Cursor, activation_at};
 use crate::given::{number_given, numbers_given};
-use crate::looking::at_cursor;
 use crate::reply::Reply;
+use crate::stopped::Stopped;
 use cmm_image::Image;
 use cmm_resume::{Refusal, poke, resume_cut, resume_return, resume_unwind, set_local_var};
 use cmm_script::Value;
-use cmm_walk::Activation;
-use rv_memory::Memory;
-use rv_table::Regs;
-
-/// What comes of a change, where this comes of it if it is made.
-fn done(change: Result<(), Refusal>, reply: Reply) -> Result<Reply, Refusal>
-    ensures { result ≡ done_as reply change }
-{
-    match change {
-        Ok(()) => Ok(reply),
-        Err(refusal) => Err(refusal),
-    }
-}
 
 /// `set`: a value for a variable of the activation at the cursor.
-#[tactic(auto, using(crate::proofs::Forms::changed_fits, crate::proofs::Forms::changed_keeps))]
 pub(crate) fn set_variable(
     yielded: &[u64],
-    cursor: Option<Activation>,
+    cursor: Cursor,
     i: &Image,
-    r: &mut Regs,
-    m: &mut Memory,
+    stopped: &mut Stopped,
     n: u32,
     value: Value,
 ) -> Result<Reply, Refusal>
-    requires { IfSome cursor (Fits i.now (region_of m.old)) }
-    ensures asked { asked (askable i.now (region_of m.old)) yielded.now (cursor_of i.now cursor) (state_of r.old m.old) (Set n value)
-        ≡ meant i.now (region_of m.old) (cursor_of i.now cursor) (state_of r.new m.new) result }
-    ensures map { map_of m.new ≡ map_of m.old }
-    ensures region { region_of m.new ≡ region_of m.old }
-    ensures fits { ReplyFits i.now (region_of m.old) result }
-    ensures keeps { Keeps (state_of r.old m.old) (state_of r.new m.new) result }
+    requires { IfSome cursor.activation (Fits i.now (region_of stopped.old)) }
+    ensures asked { asked (askable i.now (region_of stopped.old)) yielded.now (cursor_of i.now cursor) (state_of stopped.old) (Set n value)
+        ≡ meant i.now (region_of stopped.old) (cursor_of i.now cursor) (state_of stopped.new) result }
+    ensures map { map_of stopped.new ≡ map_of stopped.old }
+    ensures region { region_of stopped.new ≡ region_of stopped.old }
+    ensures fits { ReplyFits i.now (region_of stopped.old) result }
+    ensures keeps { Keeps (state_of stopped.old) (state_of stopped.new) result }
 {
     let value = number_given(yielded, value)?;
-    let a = at_cursor(cursor)?;
-    done(set_local_var(&a, i, r, m, n, value), Reply::Changed)
+    let a = activation_at(cursor)?;
+    let thread = stopped.at_cursor_mut();
+    set_local_var(&a, i, &mut thread.regs, &mut thread.memory, n, value).and(Ok(Reply::Changed))
 }
 
 /// `poke`: a value of 8 bytes behind a data label, in data of the image's own length.
-#[tactic(auto, using(crate::proofs::Forms::changed_fits, crate::proofs::Forms::poked_keeps))]
 pub(crate) fn poke_label(
     yielded: &[u64],
     i: &Image,
-    m: &mut Memory,
+    stopped: &mut Stopped,
     label: &[u8],
     offset: u64,
     value: Value,
 ) -> Result<Reply, Refusal>
-    requires { (map_of m.old).data_length ≡ length i.now.initial }
-    ensures asked { (r : RegsOf) (cursor : Cursor Element) → asked (askable i.now (region_of m.old)) yielded.now cursor (state_of r m.old) (Poke label.now offset value)
-        ≡ meant i.now (region_of m.old) cursor (state_of r m.new) result }
-    ensures map { map_of m.new ≡ map_of m.old }
-    ensures region { region_of m.new ≡ region_of m.old }
-    ensures fits { ReplyFits i.now (region_of m.old) result }
-    ensures keeps { (r : RegsOf) → Keeps (state_of r m.old) (state_of r m.new) result }
+    requires { (map_of stopped.old).data_length ≡ length i.now.initial }
+    ensures asked { (cursor : CursorOver Element) → asked (askable i.now (region_of stopped.old)) yielded.now cursor (state_of stopped.old) (Poke label.now offset value)
+        ≡ meant i.now (region_of stopped.old) cursor (state_of stopped.new) result }
+    ensures map { map_of stopped.new ≡ map_of stopped.old }
+    ensures region { region_of stopped.new ≡ region_of stopped.old }
+    ensures fits { ReplyFits i.now (region_of stopped.old) result }
+    ensures keeps { Keeps (state_of stopped.old) (state_of stopped.new) result }
 {
     let value = number_given(yielded, value)?;
-    done(poke(i, m, label, offset, value), Reply::Changed)
+    let thread = stopped.at_cursor_mut();
+    poke(i, &mut thread.memory, label, offset, value).and(Ok(Reply::Changed))
 }
 
-/// `return`: the youngest activation goes on at an exit, as a return takes it.
-#[tactic(auto, using(crate::proofs::Forms::resumed_fits, crate::proofs::Forms::resumed_keeps))]
+/// `return`: the youngest activation of the thread that runs goes on at an exit, as a return takes it.
 pub(crate) fn return_to(
     yielded: &[u64],
     i: &Image,
-    r: &mut Regs,
-    m: &mut Memory,
+    stopped: &mut Stopped,
     exit: u32,
     values: &[Value],
 ) -> Result<Reply, Refusal>
     requires { length values.now ≤ 64 }
-    ensures asked { (cursor : Cursor Element) → asked (askable i.now (region_of m.old)) yielded.now cursor (state_of r.old m.old) (Return exit values.now)
-        ≡ meant i.now (region_of m.old) cursor (state_of r.new m.new) result }
-    ensures map { map_of m.new ≡ map_of m.old }
-    ensures region { region_of m.new ≡ region_of m.old }
-    ensures fits { ReplyFits i.now (region_of m.old) result }
-    ensures keeps { Keeps (state_of r.old m.old) (state_of r.new m.new) result }
+    ensures asked { (cursor : CursorOver Element) → asked (askable i.now (region_of stopped.old)) yielded.now cursor (state_of stopped.old) (Return exit values.now)
+        ≡ meant i.now (region_of stopped.old) cursor (state_of stopped.new) result }
+    ensures map { map_of stopped.new ≡ map_of stopped.old }
+    ensures region { region_of stopped.new ≡ region_of stopped.old }
+    ensures fits { ReplyFits i.now (region_of stopped.old) result }
+    ensures keeps { Keeps (state_of stopped.old) (state_of stopped.new) result }
 {
     let numbers = numbers_given(yielded, values)?;
-    done(
-        resume_return(i, r, m, exit, &numbers[..values.len()]),
-        Reply::Resumed,
-    )
+    let thread = stopped.running_mut();
+    let numbers = &numbers[..values.len()];
+    resume_return(i, &mut thread.regs, &mut thread.memory, exit, numbers).and(Ok(Reply::Resumed))
 }
 
-/// `unwind`: the activation at the cursor goes on at an unwind exit.
-#[tactic(auto, using(crate::proofs::Forms::resumed_fits, crate::proofs::Forms::resumed_keeps))]
+/// `unwind`: the thread that runs goes on in the activation at the cursor, at an unwind exit.
 pub(crate) fn unwind_to(
     yielded: &[u64],
-    cursor: Option<Activation>,
+    cursor: Cursor,
     i: &Image,
-    r: &mut Regs,
-    m: &mut Memory,
+    stopped: &mut Stopped,
     exit: u32,
     values: &[Value],
 ) -> Result<Reply, Refusal>
-    requires fits { IfSome cursor (Fits i.now (region_of m.old)) }
+    requires fits { IfSome cursor.activation (Fits i.now (region_of stopped.old)) }
     requires few { length values.now ≤ 64 }
-    ensures asked { asked (askable i.now (region_of m.old)) yielded.now (cursor_of i.now cursor) (state_of r.old m.old) (Unwind exit values.now)
-        ≡ meant i.now (region_of m.old) (cursor_of i.now cursor) (state_of r.new m.new) result }
-    ensures map { map_of m.new ≡ map_of m.old }
-    ensures region { region_of m.new ≡ region_of m.old }
-    ensures fits { ReplyFits i.now (region_of m.old) result }
-    ensures keeps { Keeps (state_of r.old m.old) (state_of r.new m.new) result }
+    ensures asked { asked (askable i.now (region_of stopped.old)) yielded.now (cursor_of i.now cursor) (state_of stopped.old) (Unwind exit values.now)
+        ≡ meant i.now (region_of stopped.old) (cursor_of i.now cursor) (state_of stopped.new) result }
+    ensures map { map_of stopped.new ≡ map_of stopped.old }
+    ensures region { region_of stopped.new ≡ region_of stopped.old }
+    ensures fits { ReplyFits i.now (region_of stopped.old) result }
+    ensures keeps { Keeps (state_of stopped.old) (state_of stopped.new) result }
 {
     let numbers = numbers_given(yielded, values)?;
-    let a = at_cursor(cursor)?;
-    done(
-        resume_unwind(&a, i, r, m, exit, &numbers[..values.len()]),
-        Reply::Resumed,
-    )
+    let a = activation_at(cursor)?;
+    let thread = stopped.running_mut();
+    let numbers = &numbers[..values.len()];
+    let resumed = resume_unwind(&a, i, &mut thread.regs, &mut thread.memory, exit, numbers);
+    resumed.and(Ok(Reply::Resumed))
 }
 
-/// `cut`: control goes to a continuation.
-#[tactic(auto, using(crate::proofs::Forms::resumed_fits, crate::proofs::Forms::resumed_keeps))]
+/// `cut`: control of the thread that runs goes to a continuation.
 pub(crate) fn cut_to(
     yielded: &[u64],
     i: &Image,
-    r: &mut Regs,
-    m: &mut Memory,
+    stopped: &mut Stopped,
     to: Value,
     values: &[Value],
 ) -> Result<Reply, Refusal>
     requires { length values.now ≤ 64 }
-    ensures asked { (cursor : Cursor Element) → asked (askable i.now (region_of m.old)) yielded.now cursor (state_of r.old m.old) (Cut to values.now)
-        ≡ meant i.now (region_of m.old) cursor (state_of r.new m.new) result }
-    ensures map { map_of m.new ≡ map_of m.old }
-    ensures region { region_of m.new ≡ region_of m.old }
-    ensures fits { ReplyFits i.now (region_of m.old) result }
-    ensures keeps { Keeps (state_of r.old m.old) (state_of r.new m.new) result }
+    ensures asked { (cursor : CursorOver Element) → asked (askable i.now (region_of stopped.old)) yielded.now cursor (state_of stopped.old) (Cut to values.now)
+        ≡ meant i.now (region_of stopped.old) cursor (state_of stopped.new) result }
+    ensures map { map_of stopped.new ≡ map_of stopped.old }
+    ensures region { region_of stopped.new ≡ region_of stopped.old }
+    ensures fits { ReplyFits i.now (region_of stopped.old) result }
+    ensures keeps { Keeps (state_of stopped.old) (state_of stopped.new) result }
 {
     let to = number_given(yielded, to)?;
     let numbers = numbers_given(yielded, values)?;
-    done(
-        resume_cut(i, r, m, to, &numbers[..values.len()]),
-        Reply::Resumed,
-    )
+    let thread = stopped.running_mut();
+    let numbers = &numbers[..values.len()];
+    resume_cut(i, &mut thread.regs, &mut thread.memory, to, numbers).and(Ok(Reply::Resumed))
 }

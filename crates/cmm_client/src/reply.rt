@@ -1,4 +1,5 @@
 //! What comes of a command.
+use crate::cursor::Cursor;
 use cmm_walk::{Activation, Torn, Var};
 
 /// What comes of a command that is not refused.
@@ -23,8 +24,8 @@ pub(crate) enum Reply {
 /// Where the client stands after a command.
 #[derive(Clone, Copy)]
 pub(crate) enum After {
-    /// The next command runs, with the cursor at this activation, if there is one.
-    Goes(Option<Activation>),
+    /// The next command runs, with the cursor here.
+    Goes(Cursor),
     /// The program goes on.
     Resumes,
     /// The run is stopped.

@@ -3,42 +3,42 @@ ghost use Rattle.std.specs.Prelude.{◌≡◌, IfSome, Ok, Err};
 ghost use Rattle.rv_table.specs.Machine.{State};
 ghost use Rattle.cmm_abi.specs.Regions.{Region};
 ghost use Rattle.cmm_image.specs.declared.parts.ImageParts.{ImageParts};
-ghost use Rattle.rv_memory.specs.Regions.{region_of};
-ghost use Rattle.rv_memory.specs.States.{state_of};
 ghost use Rattle.cmm_outside.specs.Output.{WritesAll};
 ghost use Rattle.cmm_script.specs.Lines.{descriptor_line, refused_line};
 ghost use Rattle.cmm_image_machine.specs.Frames.{chain_of};
 ghost use Rattle.cmm_image_machine.specs.Machine.{askable};
 ghost use Rattle.cmm_program.specs.Commands.{listed};
 ghost use Rattle.cmm_walk.specs.Activations.{Fits, IsIn, element_of};
-ghost use Rattle.cmm_client.specs.inside.Replies.{Replies, ReplyFits, at_text, behind_line, cursor_of, meant, reply_of, variable_text};
+ghost use Rattle.rv_memory.specs.Regions.{region_of as region_of_memory};
+ghost use Rattle.rv_memory.specs.States.{state_of as state_with};
+ghost use Rattle.cmm_client.specs.Stops.{cursor_of, region_of, state_of};
+ghost use Rattle.cmm_client.specs.inside.Replies.{Replies, ReplyFits, at_text, meant, reply_of, variable_text};
 
+use crate::cursor::Cursor;
 use crate::reply::{After, Reply};
+use crate::stopped::{Stopped, Thread};
 use cmm_image::Image;
 use cmm_outside::{Failed, Sink, write_all};
 use cmm_report::{Part, write_parts};
 use cmm_resume::Refusal;
 use cmm_rules::Rule;
 use cmm_walk::{Activation, Var, WalkError, procedure_of, site_at, write_walk};
-use rv_memory::Memory;
-use rv_table::Regs;
 
 /// Says what came of a command, with the cursor where it was before.
 pub(crate) fn say<E: Sink>(
     asked: Result<Reply, Refusal>,
     i: &Image,
-    r: &Regs,
-    m: &Memory,
-    cursor: Option<Activation>,
+    stopped: &Stopped,
+    cursor: Cursor,
     log: &mut E,
 ) -> Result<After, Failed>
-    requires fits { ReplyFits i.now (region_of m.now) asked }
-    requires cursor { IfSome cursor (Fits i.now (region_of m.now)) }
-    ensures { Replies E.taken E.faults log.old log.new i.now (region_of m.now) (state_of r.now m.now)
-        (reply_of (cursor_of i.now cursor) (state_of r.now m.now) (meant i.now (region_of m.now) (cursor_of i.now cursor) (state_of r.now m.now) asked)) result }
+    requires fits { ReplyFits i.now (region_of stopped.now) asked }
+    requires cursor { IfSome cursor.activation (Fits i.now (region_of stopped.now)) }
+    ensures { Replies E.taken E.faults log.old log.new i.now (region_of stopped.now) (state_of stopped.now)
+        (reply_of (cursor_of i.now cursor) (state_of stopped.now) (meant i.now (region_of stopped.now) (cursor_of i.now cursor) (state_of stopped.now) asked)) result }
 {
     match asked {
-        Ok(reply) => say_reply(reply, i, r, m, cursor, log),
+        Ok(reply) => say_reply(reply, i, stopped, cursor, log),
         Err(refusal) => say_refusal(refusal, cursor, log),
     }
 }
@@ -47,73 +47,56 @@ pub(crate) fn say<E: Sink>(
 fn say_reply<E: Sink>(
     reply: Reply,
     i: &Image,
-    r: &Regs,
-    m: &Memory,
-    cursor: Option<Activation>,
+    stopped: &Stopped,
+    cursor: Cursor,
     log: &mut E,
 ) -> Result<After, Failed>
-    requires fits { ReplyFits i.now (region_of m.now) (Ok reply) }
-    requires cursor { IfSome cursor (Fits i.now (region_of m.now)) }
-    ensures { Replies E.taken E.faults log.old log.new i.now (region_of m.now) (state_of r.now m.now)
-        (reply_of (cursor_of i.now cursor) (state_of r.now m.now) (meant i.now (region_of m.now) (cursor_of i.now cursor) (state_of r.now m.now) (Ok reply))) result }
+    requires fits { ReplyFits i.now (region_of stopped.now) (Ok reply) }
+    requires cursor { IfSome cursor.activation (Fits i.now (region_of stopped.now)) }
+    ensures { Replies E.taken E.faults log.old log.new i.now (region_of stopped.now) (state_of stopped.now)
+        (reply_of (cursor_of i.now cursor) (state_of stopped.now) (meant i.now (region_of stopped.now) (cursor_of i.now cursor) (state_of stopped.now) (Ok reply))) result }
 {
+    let stays = Ok(After::Goes(cursor));
     match reply {
-        Reply::Walk => list(i, r, m, cursor, log),
-        Reply::Stands(a) => behind(put_at(log, &a, i), After::Goes(Some(a))),
-        Reply::Descriptor(value) => behind(put_descriptor(log, value), After::Goes(cursor)),
-        Reply::Variable(n, variable) => {
-            behind(put_variable(log, n, &variable), After::Goes(cursor))
+        Reply::Walk => list(i, stopped.at_cursor(), cursor, log),
+        Reply::Stands(a) => {
+            let there = Cursor {
+                activation: Some(a),
+            };
+            put_at(log, &a, i).and(Ok(After::Goes(there)))
         }
-        Reply::Changed => behind(write_all(log, b"ok\n"), After::Goes(cursor)),
-        Reply::Resumed => behind(write_all(log, b"resume\n"), After::Resumes),
+        Reply::Descriptor(value) => put_descriptor(log, value).and(stays),
+        Reply::Variable(n, variable) => put_variable(log, n, &variable).and(stays),
+        Reply::Changed => write_all(log, b"ok\n").and(stays),
+        Reply::Resumed => write_all(log, b"resume\n").and(Ok(After::Resumes)),
         Reply::Stopped => Ok(After::Stops),
     }
 }
 
 /// Says by which rule a command was refused. A break of the chain has no line.
-fn say_refusal<E: Sink>(
-    refusal: Refusal,
-    cursor: Option<Activation>,
-    log: &mut E,
-) -> Result<After, Failed>
-    ensures { (i : ImageParts) (r : Region) (s : State) → IfSome cursor (Fits i r) →
+fn say_refusal<E: Sink>(refusal: Refusal, cursor: Cursor, log: &mut E) -> Result<After, Failed>
+    ensures { (i : ImageParts) (r : Region) (s : State) → IfSome cursor.activation (Fits i r) →
         Replies E.taken E.faults log.old log.new i r s (reply_of (cursor_of i cursor) s (meant i r (cursor_of i cursor) s (Err refusal))) result }
 {
     match refusal {
-        Refusal::ByRule(rule) => behind(put_refused(log, rule), After::Goes(cursor)),
+        Refusal::ByRule(rule) => put_refused(log, rule).and(Ok(After::Goes(cursor))),
         Refusal::Torn(torn) => Ok(After::Tears(torn)),
     }
 }
 
-/// Writes the walk.
-fn list<E: Sink>(
-    i: &Image,
-    r: &Regs,
-    m: &Memory,
-    cursor: Option<Activation>,
-    log: &mut E,
-) -> Result<After, Failed>
-    requires { IfSome cursor (Fits i.now (region_of m.now)) }
-    ensures { Replies E.taken E.faults log.old log.new i.now (region_of m.now) (state_of r.now m.now)
-        (reply_of (cursor_of i.now cursor) (state_of r.now m.now)
-        (listed (askable i.now (region_of m.now)) (cursor_of i.now cursor) (state_of r.now m.now) (chain_of i.now (region_of m.now) (state_of r.now m.now)))) result }
+/// Writes the walk of a thread.
+fn list<E: Sink>(i: &Image, thread: &Thread, cursor: Cursor, log: &mut E) -> Result<After, Failed>
+    requires { IfSome cursor.activation (Fits i.now (region_of_memory thread.now.memory)) }
+    ensures { let r = region_of_memory thread.now.memory in let s = state_with thread.now.regs thread.now.memory in
+        Replies E.taken E.faults log.old log.new i.now r s
+        (reply_of (cursor_of i.now cursor) s (listed (askable i.now r) (cursor_of i.now cursor) s (chain_of i.now r s))) result }
 {
-    match write_walk(i, r, m, log) {
+    match write_walk(i, &thread.regs, &thread.memory, log) {
         Ok(()) => Ok(After::Goes(cursor)),
         Err(error) => match error {
             WalkError::Torn(torn) => Ok(After::Tears(torn)),
             WalkError::Failed => Err(Failed),
         },
-    }
-}
-
-/// Where the client stands once a line is written.
-fn behind(written: Result<(), Failed>, after: After) -> Result<After, Failed>
-    ensures { result ≡ behind_line after written }
-{
-    match written {
-        Ok(()) => Ok(after),
-        Err(Failed) => Err(Failed),
     }
 }
 

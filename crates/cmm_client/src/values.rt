@@ -1,19 +1,20 @@
-//! The values of a yield.
+//! The values of a yield, which are those of the thread that runs.
 ghost use Rattle.std.specs.Prelude.{◌≡◌, ◌≤◌, ◌<◌, ◌+◌, ◌*◌, ℕ, length, slice_index, IfSome};
-ghost use Rattle.rv_memory.specs.Regions.{memory_of, region_of};
-ghost use Rattle.rv_memory.specs.States.{state_of};
+ghost use Rattle.rv_memory.specs.Regions.{memory_of, region_of as region_of_memory};
+ghost use Rattle.rv_memory.specs.States.{state_of as state_with};
 ghost use Rattle.rv_table.specs.Machine.{loaded as number_at};
 ghost use Rattle.cmm_abi.specs.Regions.{value_place, word_at};
 ghost use Rattle.cmm_image.specs.Images.{IsImage};
 ghost use Rattle.cmm_walk.specs.Activations.{IsIn};
+ghost use Rattle.cmm_client.specs.Stops.{region_of, state_of};
 ghost use Rattle.cmm_client.specs.inside.Counting.{count_at};
 
+use crate::stopped::{Stopped, Thread};
 use cmm_abi::registers::FIRST_VALUE;
 use cmm_abi::values::IN_REGISTERS;
 use cmm_image::Image;
 use cmm_walk::{Activation, site_at};
 use rv_memory::Memory;
-use rv_table::Regs;
 use rv_table::memory_map::ARGUMENT_WORDS;
 
 /// How many values the youngest activation yields: none where there is none or its site does not yield.
@@ -33,34 +34,35 @@ pub(crate) fn yield_count(youngest: Option<Activation>, i: &Image) -> usize
 }
 
 /// What stands at the places of the values.
-pub(crate) fn values_of(r: &Regs, m: &Memory) -> [u64; 64]
+pub(crate) fn values_of(stopped: &Stopped) -> [u64; 64]
     ensures count { length result ≡ 64 }
-    ensures each { (k : ℕ) → k < 64 → slice_index result k ≡ word_at (state_of r.now m.now) (value_place (region_of m.now) k) }
+    ensures each { (k : ℕ) → k < 64 → slice_index result k ≡ word_at (state_of stopped.now) (value_place (region_of stopped.now) k) }
 {
+    let thread = stopped.running();
     let mut values = [0; 64];
     for (k, value) in values.iter_mut().enumerate() {
-        *value = value_at(r, m, k);
+        *value = value_at(thread, k);
     }
     values
 }
 
 /// What stands at the place of the value of this number.
-fn value_at(r: &Regs, m: &Memory, k: usize) -> u64
+fn value_at(thread: &Thread, k: usize) -> u64
     requires { k < 64 }
-    ensures { result ≡ word_at (state_of r.now m.now) (value_place (region_of m.now) k) }
+    ensures { result ≡ word_at (state_with thread.now.regs thread.now.memory) (value_place (region_of_memory thread.now.memory) k) }
 {
     let in_registers = IN_REGISTERS as usize;
     if k < in_registers {
-        r.read(FIRST_VALUE + k as u8)
+        thread.regs.read(FIRST_VALUE + k as u8)
     } else {
-        argument(m, (k - in_registers) as u64)
+        argument(&thread.memory, (k - in_registers) as u64)
     }
 }
 
 /// The word of this number of the argument area.
 fn argument(m: &Memory, index: u64) -> u64
     requires { index < ARGUMENT_WORDS }
-    ensures { result ≡ number_at (memory_of m.now) ((region_of m.now).address + 8 * index) 8 }
+    ensures { result ≡ number_at (memory_of m.now) ((region_of_memory m.now).address + 8 * index) 8 }
 {
     match m.load(m.region() + 8 * index, 8) {
         Ok(value) => value,

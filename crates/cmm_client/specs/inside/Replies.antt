@@ -1,6 +1,6 @@
 -- What comes of a command: what is asked, what the log says of it, and where the client stands then.
-use Rattle.std.specs.Prelude.{◌≡◌, ℕ, List, [], ◌++◌, take, OnErr, IfOk, IfSome, Result, Ok, Err, Option, Some, None, codes, decimal}
-use Rattle.std.specs.Option.{option_map}
+use Rattle.std.specs.Prelude.{◌≡◌, ℕ, List, [], ◌++◌, take, IfOk, IfSome, Result, Ok, Err, Option, Some, None, codes, decimal}
+use Rattle.std.specs.Option.{ok_or}
 use Rattle.rv_table.specs.Machine.{State}
 use Rattle.cmm_abi.specs.Regions.{Region}
 use Rattle.cmm_rules.specs.declared.rule.Rule.{Rule}
@@ -23,15 +23,14 @@ use Rattle.cmm_walk.specs.Activations.{Fits, element_of}
 use Rattle.cmm_walk.specs.Walking.{break_of}
 use Rattle.cmm_resume.specs.declared.refusal.Refusal.{Refusal}
 use Rattle.cmm_resume.specs.declared.refusal.Refusal.TheVariants.{ByRule, Torn}
+use Rattle.cmm_client.specs.declared.cursor.Cursor.{Cursor as CursorOf}
 use Rattle.cmm_client.specs.declared.reply.After.{After}
 use Rattle.cmm_client.specs.declared.reply.After.TheVariants.{Goes, Resumes, Stops, Tears}
 use Rattle.cmm_client.specs.declared.reply.Reply.{Reply}
 use Rattle.cmm_client.specs.declared.reply.Reply.TheVariants.{Walk, Stands, Descriptor, Variable, Changed, Resumed, Stopped}
+use Rattle.cmm_client.specs.Stops.{cursor_of}
 
 -- ---- what is asked
-
-abbrev pub cursor_of : ImageParts → Option Activation → Cursor Element
-cursor_of i cursor = record { activation = option_map (element_of i) cursor }
 
 abbrev pub value_in : Var → Option ℕ
 value_in Dead = None
@@ -72,14 +71,9 @@ abbrev pub first_numbers : ℕ → Result (List ℕ) Refusal → Result (List �
 first_numbers count (Ok numbers) = Ok (take count numbers)
 first_numbers count (Err refusal) = Err refusal
 
--- this comes of a change that is made
-abbrev pub done_as : Reply → Result (Unit {0}) Refusal → Result Reply Refusal
-done_as reply (Ok done) = Ok reply
-done_as reply (Err refusal) = Err refusal
-
-abbrev pub standing_at : Option Activation → Result Activation Refusal
-standing_at (Some a) = Ok a
-standing_at None = Err (ByRule NoActivation)
+-- the activation at the cursor
+abbrev pub standing_at : CursorOf → Result Activation Refusal
+standing_at cursor = ok_or cursor.activation (ByRule NoActivation)
 
 -- the cursor goes to what was found
 abbrev pub standing : Result (Option Activation) walk.Torn → Result Reply Refusal
@@ -95,7 +89,7 @@ reply_of cursor s asked = elim asked [ Ok r ↦ r | Err refusal ↦ record { tex
 
 -- the client stands there: cursor and state
 abbrev pub StandsAt : ImageParts → State → client.After Element State State → After → Type 0
-StandsAt i s (client.Goes cursor t) (Goes a) = (cursor ≡ cursor_of i a) × (t ≡ s)
+StandsAt i s (client.Goes cursor t) (Goes c) = (cursor ≡ cursor_of i c) × (t ≡ s)
 StandsAt i s (client.Resumes t) Resumes = t ≡ s
 StandsAt i s client.Stops Stops = Unit {0}
 StandsAt i s (client.Tears b) (Tears t) = b ≡ break_of t
@@ -103,7 +97,7 @@ StandsAt i s _ _ = ⊥
 
 -- and the cursor fits
 abbrev pub CursorFits : ImageParts → Region → After → Type 0
-CursorFits i r (Goes cursor) = IfSome cursor (Fits i r)
+CursorFits i r (Goes cursor) = IfSome cursor.activation (Fits i r)
 CursorFits i r _ = Unit {0}
 
 -- a client that ends the run has not changed the program
@@ -121,10 +115,6 @@ pub record Replies {Sink : Type 0} (taken : Sink → Option (List ℕ)) (faults 
   pub writes : WritesAll taken faults old new reply.text result
   pub stands : IfOk result (StandsAt i s reply.after)
   pub fits : IfOk result (CursorFits i r)
-
-abbrev pub behind_line : After → Result (Unit {0}) Failed → Result After Failed
-behind_line after (Ok done) = Ok after
-behind_line after (Err failed) = Err failed
 
 -- ---- lines, as they are written
 

@@ -4,7 +4,6 @@ use Rattle.std.proofs.lemmas.Result.{err_from_is_err_and}
 use Rattle.std.proofs.Math.Seq.{drop-cons}
 use Rattle.cmm_program.specs.Commands.{number_given}
 use Rattle.cmm_script.specs.declared.script.Value.TheVariants.{Number}
-use Rattle.cmm_resume.specs.declared.refusal.Refusal.{Refusal}
 use Rattle.cmm_client.specs.inside.Replies.{first_numbers, ruled}
 use Rattle.cmm_client.proofs.Numbers.{given_ok, goes_on, refused, refused_by}
 use Rattle.cmm_client.proofs.given.numbers_given.Goals as goal

@@ -1,4 +1,3 @@
-use Rattle.std.proofs.Common.{IfSome, ◌≤◌}
 use Rattle.cmm_walk.proofs.Shared.{site_bounds}
 use Rattle.cmm_client.proofs.values.yield_count.Goals as goal
 
