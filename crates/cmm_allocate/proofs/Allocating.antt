@@ -1,14 +1,14 @@
 -- Registers by colours, and slots for the other locals, are what a colouring is to give.
-use Rattle.std.proofs.Common.{◌≡◌, ◌≢◌, ◌⊎◌, inl, inr, ℕ, zero, suc, ◌+◌, ◌*◌, ◌<◌, ◌≤◌, nat_le, nat_lt, Bool, true, false, ◌&&◌, ◌||◌, not, Contains, List, [], ◌∷◌, ◌++◌, get_or, length, Option, Some, None, is_some, refl, ap, sym, ◌∙◌, subst, arith, length-append}
+use Rattle.std.proofs.Common.{◌≡◌, ◌≢◌, ◌⊎◌, inl, inr, ℕ, zero, suc, ◌+◌, ◌*◌, ◌<◌, ◌≤◌, nat_le, nat_lt, Bool, true, false, ◌&&◌, not, Contains, List, [], ◌∷◌, ◌++◌, get_or, length, Option, Some, None, is_some, refl, ap, sym, ◌∙◌, subst, arith, length-append}
 use Rattle.std.proofs.lemmas.Bool.{and_from, and_parts, eq-eqb, or_right}
 use Rattle.std.proofs.lemmas.Bool.Decides.{nat_tests}
-use Rattle.std.proofs.lemmas.List.{get_or_append_left, get_or-append-add, get_or_default, get_or_past}
+use Rattle.std.proofs.lemmas.List.{get_or_append_left, get_or-append-add, get_or_default}
 use Rattle.cmm_abi.specs.Registers.{callee_saves}
 use Rattle.cmm_bitset.specs.Sets.{has}
 use Rattle.cmm_ilist.specs.NodeLists.{has as is_listed}
 use Rattle.cmm_chain.specs.declared.frame.Location.{Location}
 use Rattle.cmm_chain.specs.declared.frame.Location.TheVariants.{Slot, Saved, Temp}
-use Rattle.cmm_colour.specs.Colours.{AreColours, colour_of}
+use Rattle.cmm_colour.specs.Colours.{colour_of}
 use Rattle.cmm_colour.specs.Graphs.{adjacent}
 use Rattle.cmm_colour.specs.Peeling.{Peels}
 use Rattle.cmm_graph.specs.declared.graph.Graph.{Graph}
@@ -16,16 +16,15 @@ use Rattle.cmm_graph.specs.declared.operand.Local.{Local}
 use Rattle.cmm_graph.specs.declared.operand.Local.TheVariants as local
 use Rattle.cmm_live.specs.declared.live_sets.LiveSets.{LiveSets}
 use Rattle.cmm_live.specs.Conflicts.{Conflicts, conflicts, is_same}
-use Rattle.cmm_live.specs.Exact.{AreLiveSets, has_local}
-use Rattle.cmm_live.specs.Interference.{AreConflictsWithin}
+use Rattle.cmm_live.specs.Exact.{AreLiveSets}
 use Rattle.cmm_live.specs.Laws.{SetsDecideConflicts}
 use Rattle.cmm_live.specs.Locals.{local_count, local_number}
-use Rattle.cmm_located.specs.Layouts.{slot_offset, slot_offsets}
+use Rattle.cmm_located.specs.Layouts.{slot_offset}
 use Rattle.cmm_allocate.specs.Allocated.{AreAllocated, is_in_callee_saves, is_in_temporary, temporaries}
 use Rattle.cmm_allocate.specs.Classes.{conflict, conflict_within, is_in_some, is_live_past_cut, local_at, suits_callee_saves, suits_temporary}
 use Rattle.cmm_allocate.specs.Compiling.{no_place}
 use Rattle.cmm_allocate.specs.Placed.{place_at}
-use Rattle.cmm_allocate.specs.inside.Classing.{AreClasses, IsClass}
+use Rattle.cmm_allocate.specs.inside.Classing.{IsClass}
 use Rattle.cmm_allocate.specs.inside.Colouring.{AreHomes, AreRegisters, IsColoured, IsHome, home, if_in, in_register, next_slot, register_in, register_of, with_colour}
 use Rattle.cmm_allocate.proofs.Living.{numbered}
 use Rattle.cmm_allocate.proofs.Peeling.{peels_less}

@@ -1,10 +1,9 @@
 -- Unions and complements of sets, step by step, and the classes that they give.
-use Rattle.std.proofs.Common.{◌≡◌, ◌≢◌, ℕ, zero, suc, ◌+◌, ◌<◌, ◌≤◌, nat_lt, Bool, true, false, ◌&&◌, ◌||◌, not, All, List, [], ◌∷◌, get_or, length, replicate, set, take, refl, ap, sym, ◌∙◌, subst, arith}
+use Rattle.std.proofs.Common.{◌≡◌, ◌≢◌, ℕ, ◌+◌, ◌<◌, ◌≤◌, nat_lt, Bool, true, false, ◌&&◌, ◌||◌, not, List, [], get_or, length, set, take, refl, ap, sym, ◌∙◌, subst, arith}
 use Rattle.std.proofs.lemmas.Bool.Decides.{nat_tests}
 use Rattle.std.proofs.lemmas.List.{get_or_default, get_or_past, length-set}
 use Rattle.std.proofs.lemmas.List.Folds.{list_any_more}
-use Rattle.std.specs.List.{list_any}
-use Rattle.cmm_bitset.proofs.Shared.{has-replicate, has-set_other, has-set_same, has-union, length-union}
+use Rattle.cmm_bitset.proofs.Shared.{has-set_other, has-set_same, has-union, length-union}
 use Rattle.cmm_bitset.specs.Sets.{has, union}
 use Rattle.cmm_graph.specs.declared.graph.Graph.{Graph}
 use Rattle.cmm_graph.specs.declared.node.Node.{Node}
@@ -12,7 +11,7 @@ use Rattle.cmm_graph.specs.declared.number.NodeId.{NodeId}
 use Rattle.cmm_live.specs.declared.live_sets.LiveSets.{LiveSets}
 use Rattle.cmm_live.specs.Exact.{AreLiveSets, set_at}
 use Rattle.cmm_live.specs.Locals.{local_count}
-use Rattle.cmm_allocate.specs.Classes.{is_in_some, is_live_past_cut, leads_past_cut, suits_callee_saves, suits_temporary}
+use Rattle.cmm_allocate.specs.Classes.{is_in_some, is_live_past_cut, leads_past_cut}
 use Rattle.cmm_allocate.specs.inside.Classing.{AreClasses, HasTaken, IsClass, IsComplementTo, IsUnionOf, is_before_some, is_past_some}
 
 -- ---- unions

@@ -56,7 +56,7 @@ use Rattle.cmm_allocate.proofs.Beginning.{has_entry, variables_are}
 use Rattle.cmm_allocate.proofs.Cutting.{cuts_land, frame_is, own_cuts_land}
 use Rattle.cmm_allocate.proofs.Exits.{SiteNode, site_has_exits, site_id, waits_with}
 use Rattle.cmm_allocate.proofs.Living.{lives_before_site}
-use Rattle.cmm_allocate.proofs.Placing.{Beside, apart_in, exists, kind_in_range, kind_is, live_is, node_keeps, node_reads, place_is, planned_at, procedure_beside, range_at, site_is, site_within}
+use Rattle.cmm_allocate.proofs.Placing.{Beside, apart_in, exists, kind_in_range, kind_is, live_is, node_keeps, node_reads, place_is, planned_at, procedure_beside, range_at, site_is}
 
 -- ---- places and tokens
 

@@ -1,5 +1,5 @@
 -- Where cuts land: the procedure saves all registers, and what is live there stands in slots.
-use Rattle.std.proofs.Common.{◌≡◌, ℕ, zero, suc, ◌*◌, ◌==◌, ◌||◌, Bool, true, false, Contains, Option, Some, None, List, [], ◌∷◌, filter, is_some, map, slice_get, refl, ap, sym, ◌∙◌, subst, arith}
+use Rattle.std.proofs.Common.{◌≡◌, ℕ, zero, suc, ◌==◌, ◌||◌, Bool, true, false, Contains, Option, Some, None, List, [], ◌∷◌, filter, is_some, map, slice_get, refl, ap, sym, ◌∙◌, subst, arith}
 use Rattle.std.proofs.lemmas.Bool.{or_left}
 use Rattle.std.specs.List.{list_any}
 use Rattle.cmm_chain.proofs.Shared.{callee_saves_is_listed}

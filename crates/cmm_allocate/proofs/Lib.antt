@@ -1,10 +1,8 @@
 pub mod Offsets
 pub mod Framing
-pub mod Slotted
 pub mod Members
 pub mod Touching
 pub mod Living
-pub mod SlotPlaces
 pub mod SlotOrder
 pub mod Peeling
 pub mod Classing

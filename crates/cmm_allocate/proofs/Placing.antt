@@ -1,5 +1,5 @@
 -- A procedure of a program with its graph and its places: what the plan says of it, and what its nodes read and keep.
-use Rattle.std.proofs.Common.{◌≡◌, ◌≢◌, ℕ, zero, suc, ◌*◌, ◌<◌, nat_lt, Bool, true, false, All, Contains, Option, Some, None, List, [], ◌∷◌, get_or, is_some, length, map, slice_get, refl, ap, sym, ◌∙◌, subst, arith}
+use Rattle.std.proofs.Common.{◌≡◌, ◌≢◌, ℕ, zero, suc, ◌<◌, nat_lt, Bool, true, false, All, Contains, Option, Some, None, List, [], ◌∷◌, get_or, is_some, length, map, slice_get, refl, ap, sym, ◌∙◌, subst, arith}
 use Rattle.std.proofs.lemmas.Bool.{and_parts}
 use Rattle.std.proofs.lemmas.List.Elements.{All-head, All-tail}
 use Rattle.std.proofs.lemmas.Option.{slice_get_within}
@@ -34,7 +34,7 @@ use Rattle.cmm_allocate.specs.Compiling.{compiled, live_before, no_place}
 use Rattle.cmm_allocate.specs.Placed.{place_at}
 use Rattle.cmm_allocate.specs.Laws.{RunsOverPlaces}
 use Rattle.cmm_allocate.specs.Places.{HasPlaces, HavePlaces}
-use Rattle.cmm_allocate.proofs.Living.{at_site, at_site_within, before, before_within, number_within, read_lives, stays}
+use Rattle.cmm_allocate.proofs.Living.{at_site, at_site_within, before, before_within, read_lives, stays}
 use Rattle.cmm_allocate.proofs.Members.{none_contained}
 use Rattle.cmm_allocate.proofs.Touching.{reads_local, writes_local}
 

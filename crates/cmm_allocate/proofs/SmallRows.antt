@@ -25,11 +25,13 @@ use Rattle.cmm_graph.specs.Liveness.{IsLiveBefore, Here, Onward}
 use Rattle.cmm_graph.specs.Paths.{reads, successors}
 use Rattle.cmm_graph.specs.Ranges.{is_local}
 use Rattle.cmm_graph.proofs.Shared.{n, v, arg}
+use Rattle.cmm_live.proofs.Conflicting.{sets_decide_conflicts}
+use Rattle.cmm_live.proofs.Gathering.{sets_are_closed}
 use Rattle.cmm_live.specs.declared.live_sets.LiveSets.{LiveSets}
 use Rattle.cmm_live.specs.Exact.{AreLiveSets, IsSetOf, has_local, set_at}
 use Rattle.cmm_live.specs.Sites.{site_of}
 use Rattle.cmm_chain.specs.declared.frame.Frame.{Frame}
-use Rattle.cmm_chain.specs.declared.frame.Location.TheVariants.{Slot}
+use Rattle.cmm_chain.specs.declared.frame.Location.TheVariants.{Saved, Temp}
 use Rattle.cmm_located.specs.Layouts.{IsFrameOf}
 use Rattle.cmm_located.specs.LocatedMachine.{located_machine, located_start}
 use Rattle.cmm_located.specs.SameOrders.{HasFrames}
@@ -39,11 +41,14 @@ use Rattle.cmm_folded.specs.Flow.{IsFoldedFlow}
 use Rattle.cmm_flow.specs.Statements.{ListCode}
 use Rattle.cmm_flow.specs.Waiting.{times, waiting_sites}
 use Rattle.cmm_allocate.specs.declared.procedure.ProcedurePlaces.{ProcedurePlaces}
+use Rattle.cmm_allocate.specs.Allocated.{AreAllocated, is_in_temporary, temporaries}
+use Rattle.cmm_allocate.specs.Classes.{conflict, suits_callee_saves, suits_temporary}
 use Rattle.cmm_allocate.specs.Compiling.{compiled}
 use Rattle.cmm_allocate.specs.Laws.{RunsOverPlaces}
+use Rattle.cmm_allocate.specs.Placed.{place_at}
 use Rattle.cmm_allocate.specs.Places.{CanBePlaced, HasPlaces}
 use Rattle.cmm_allocate.proofs.Members.{none_contained, one_contained}
-use Rattle.cmm_allocate.proofs.SlotPlaces.{slots_suit}
+use Rattle.cmm_allocate.proofs.Suiting.{allocated_suit}
 
 abbrev body : List Statement
 body = is 5 (form.Return 0 0 (variable_of 0 ∷ [])) ∷ []
@@ -200,10 +205,10 @@ are_live = record {
 -- ---- its places
 
 abbrev laid : Frame
-laid = record { size = 16; return_at = 8; saved = []; pairs = []; stack = [] }
+laid = record { size = 16; return_at = 0; saved = []; pairs = []; stack = [] }
 
 abbrev places : ProcedurePlaces
-places = record { locals = Slot 0 ∷ []; frame = laid; live = sets; zeroed = 0 ∷ [] }
+places = record { locals = Temp 28 ∷ []; frame = laid; live = sets; zeroed = 0 ∷ [] }
 
 is_frame : IsFrameOf main places.locals laid
 unfolding opened
@@ -215,11 +220,31 @@ is_frame = record {
   clear = refl;
 }
 
+-- the variable is live at no site, and so has a register
+first_only : (v : ℕ) → v < 1 → 0 ≡ v
+first_only v less = omega (arith, less)
+
+allocated : AreAllocated graph sets places.locals
+allocated = record {
+  count = refl;
+  temporary = λ v r less is. subst (λ v. Contains temporaries r × (suits_temporary graph sets v ≡ true)) (first_only v less) (
+    let at : place_at places.locals 0 ≡ Temp r = subst (λ v. place_at places.locals v ≡ Temp r) (sym (first_only v less)) is in
+        let same : 28 ≡ r = cc (at) in subst (λ r. Contains temporaries r) same (0, lit< tt, refl),
+    refl,
+  );
+  saved = λ v r less is. (let at : place_at places.locals 0 ≡ Saved r = subst (λ v. place_at places.locals v ≡ Saved r) (sym (first_only v less)) is in absurd (cc (at)));
+  apart = λ v w v_less w_less are. (let none : conflict graph sets 0 0 ≡ true =
+      subst (λ w. conflict graph sets 0 w ≡ true) (sym (first_only w w_less)) (subst (λ v. conflict graph sets v w ≡ true) (sym (first_only v v_less)) are) in absurd (cc (none)));
+  slots = refl;
+  temporary_full = λ v less suits peels. subst (λ v. is_in_temporary (place_at places.locals v) ≡ true) (first_only v less) refl;
+  saved_full = λ v less suits peels. (let none : suits_callee_saves sets 0 ≡ true = subst (λ v. suits_callee_saves sets v ≡ true) (sym (first_only v less)) suits in absurd (cc (none)));
+}
+
 can_be_placed : CanBePlaced main graph
 can_be_placed = record { frames = in_range.frames; bounded = lit≤ tt; continuations = refl }
 
 has_places : HasPlaces main graph places
-has_places = record { locals = slots_suit graph sets are_live; frame = is_frame; live = are_live; zeroed = refl }
+has_places = record { locals = allocated_suit sets_are_closed sets_decide_conflicts graph sets places.locals are_live allocated; frame = is_frame; live = are_live; zeroed = refl }
 
 -- ---- so it runs over them
 

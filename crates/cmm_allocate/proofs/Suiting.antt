@@ -1,13 +1,12 @@
 -- Places that a colouring gives suit what is live where.
-use Rattle.std.proofs.Common.{◌≡◌, ◌≢◌, ◌⊎◌, inl, inr, ℕ, zero, suc, ◌+◌, ◌-◌, ◌%◌, ◌<◌, ◌≤◌, nat_lt, Bool, true, false, ◌&&◌, ◌||◌, not, Contains, List, [], ◌∷◌, get_or, length, slice_get, Option, Some, None, refl, ap, sym, ◌∙◌, subst, arith}
-use Rattle.std.proofs.lemmas.Bool.{and_from, and_parts, eq-eqb, or_left, or_right}
+use Rattle.std.proofs.Common.{◌≡◌, ◌≢◌, inl, inr, ℕ, zero, suc, ◌+◌, ◌-◌, ◌%◌, ◌<◌, nat_lt, Bool, true, false, ◌&&◌, not, Contains, List, [], ◌∷◌, get_or, length, slice_get, Some, refl, ap, sym, ◌∙◌, subst, arith}
+use Rattle.std.proofs.lemmas.Bool.{and_from, eq-eqb, or_left, or_right}
 use Rattle.std.proofs.lemmas.Bool.Decides.{nat_tests}
 use Rattle.std.specs.List.{list_all, list_any}
 use Rattle.cmm_abi.specs.Registers.{callee_saves, is_callee_saves, is_temporary}
 use Rattle.cmm_bitset.specs.Sets.{has}
 use Rattle.cmm_program.proofs.Shared.{list_all_get}
 use Rattle.cmm_graph.specs.declared.graph.Graph.{Graph}
-use Rattle.cmm_graph.specs.declared.node.Exits.{Exits}
 use Rattle.cmm_graph.specs.declared.node.Node.{Node}
 use Rattle.cmm_graph.specs.declared.node.NodeKind.{NodeKind}
 use Rattle.cmm_graph.specs.declared.node.NodeKind.TheVariants as kind
@@ -19,7 +18,7 @@ use Rattle.cmm_graph.specs.Paths.{node_of, successors, writes}
 use Rattle.cmm_graph.specs.Ranges.{is_local}
 use Rattle.cmm_live.proofs.Gathering.{live_of}
 use Rattle.cmm_live.specs.declared.live_sets.LiveSets.{LiveSets}
-use Rattle.cmm_live.specs.Conflicts.{Conflicts, conflicts}
+use Rattle.cmm_live.specs.Conflicts.{Conflicts}
 use Rattle.cmm_live.specs.Exact.{AreLiveSets, has_local, set_at}
 use Rattle.cmm_live.specs.Laws.{IsKeptAt, SetsAreClosed, SetsDecideConflicts}
 use Rattle.cmm_live.specs.Locals.{local_count, local_number}
@@ -29,7 +28,7 @@ use Rattle.cmm_chain.specs.declared.frame.Location.TheVariants.{Slot, Saved, Tem
 use Rattle.cmm_chain.specs.Running.{lasts}
 use Rattle.cmm_located.specs.Layouts.{is_location}
 use Rattle.cmm_allocate.specs.Allocated.{AreAllocated, temporaries}
-use Rattle.cmm_allocate.specs.Classes.{conflict, is_in_some, is_live_past_cut, local_at, local_by, suits_callee_saves, suits_temporary}
+use Rattle.cmm_allocate.specs.Classes.{is_in_some, is_live_past_cut, local_at, local_by, suits_callee_saves, suits_temporary}
 use Rattle.cmm_allocate.specs.Compiling.{no_place}
 use Rattle.cmm_allocate.specs.Placed.{ArePlaces, cuts_inside, is_clear_of_values, place_at}
 use Rattle.cmm_allocate.proofs.Living.{at_site_within, before_within, number_within, numbered}

@@ -6,7 +6,7 @@ use Rattle.cmm_graph.specs.declared.graph.Graph.{Graph}
 use Rattle.cmm_live.specs.declared.live_sets.LiveSets.{LiveSets}
 use Rattle.cmm_live.specs.Locals.{local_count}
 use Rattle.cmm_chain.specs.declared.frame.Location.{Location}
-use Rattle.cmm_chain.specs.declared.frame.Location.TheVariants.{Slot, Saved, Temp}
+use Rattle.cmm_chain.specs.declared.frame.Location.TheVariants.{Saved, Temp}
 use Rattle.cmm_colour.specs.Peeling.{Peels}
 use Rattle.cmm_located.specs.Layouts.{slot_offsets}
 use Rattle.cmm_allocate.specs.Classes.{conflict, conflict_within, suits_callee_saves, suits_temporary}

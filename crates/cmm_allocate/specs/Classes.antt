@@ -1,7 +1,7 @@
 -- Which locals suit registers of either kind (RISC-V ABIs Specification, Integer Register Convention: temporaries are lost over a call, and
 -- callee-saves registers are not), and which of them may not share one.
-use Rattle.std.specs.Prelude.{ℕ, ◌+◌, ◌-◌, ◌&&◌, ◌||◌, not, nat_lt, Bool, true, false, List, map}
-use Rattle.std.specs.List.{list_any, range_with_len}
+use Rattle.std.specs.Prelude.{ℕ, ◌-◌, ◌&&◌, ◌||◌, not, nat_lt, Bool, true, false, List}
+use Rattle.std.specs.List.{list_any}
 use Rattle.cmm_bitset.specs.Sets.{has}
 use Rattle.cmm_graph.specs.declared.graph.Graph.{Graph}
 use Rattle.cmm_graph.specs.declared.node.Node.{Node}
@@ -11,7 +11,6 @@ use Rattle.cmm_graph.specs.Paths.{successors}
 use Rattle.cmm_live.specs.declared.live_sets.LiveSets.{LiveSets}
 use Rattle.cmm_live.specs.Conflicts.{conflicts}
 use Rattle.cmm_live.specs.Exact.{set_at}
-use Rattle.cmm_live.specs.Locals.{local_count}
 use Rattle.cmm_allocate.specs.Placed.{cuts_inside}
 
 -- the local of a number

@@ -1,4 +1,3 @@
-pub mod Slots
 pub mod Compiling
 pub mod Placed
 pub mod Classes

@@ -1,10 +1,10 @@
 -- What nodes name is there.
 use Rattle.std.proofs.Common.{◌≡◌, ℕ, zero, suc, ◌+◌, ◌<◌, ◌≤◌, ◌^◌, refl, sym, ◌∙◌, ap, subst, arith, Bool, true, false, List, [], ◌∷◌, length, map, get_or, Option, Some, None, slice_get}
-use Rattle.std.specs.Prelude.{◌&&◌, ◌||◌, min, nat_le, nat_lt, is_some}
+use Rattle.std.specs.Prelude.{◌&&◌, min, nat_le, nat_lt, is_some}
 use Rattle.std.specs.List.{list_all}
 use Rattle.std.proofs.lemmas.List.{length-map}
 use Rattle.std.proofs.lemmas.Option.{slice_get_within}
-use Rattle.std.proofs.lemmas.Bool.{and_parts}
+use Rattle.std.proofs.lemmas.Bool.{and_parts, or_right}
 use Rattle.std.proofs.lemmas.Bool.Decides.{nat_tests}
 use Rattle.cmm_words.specs.Widths.{bits}
 use Rattle.cmm_words.specs.declared.constant.Constant.{Constant}
@@ -59,10 +59,6 @@ use Rattle.cmm_emit.specs.Naming.{argument_operand, argument_operands, can_begin
 use Rattle.cmm_flow.specs.Few.{passes_few}
 
 -- ---- tests
-
-either_true : (a b : Bool) → b ≡ true → (a || b) ≡ true
-either_true true b is = refl
-either_true false b is = is
 
 pub join : (a b : Bool) → a ≡ true → b ≡ true → (a && b) ≡ true
 join true b is also = also
@@ -121,7 +117,7 @@ clear_taken count k (Saved r) is = refl
 clear_taken count k (Temp r) is =
     let high : FIRST_VALUE + IN_REGISTERS ≤ r = grind (arith, nat_tests, is) in
     let behind : FIRST_VALUE + min count IN_REGISTERS ≤ r = omega arith in
-    either_true (nat_le r (FIRST_VALUE + k)) (nat_le (FIRST_VALUE + min count IN_REGISTERS) r) (grind (arith, nat_tests, behind))
+    or_right (nat_le r (FIRST_VALUE + k)) (nat_le (FIRST_VALUE + min count IN_REGISTERS) r) (grind (arith, nat_tests, behind))
 
 pub all_at : (f : Frame) (ls : List Location) (v : ℕ) (d : Location) → list_all (is_place f) ls ≡ true → nat_lt v (length ls) ≡ true → is_place f (get_or ls v d) ≡ true
 all_at f [] v d all less = absurd (grind (arith, nat_tests, less))

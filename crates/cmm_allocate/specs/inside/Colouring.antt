@@ -1,5 +1,5 @@
 -- Registers by colours, and the slots of the locals that have none.
-use Rattle.std.specs.Prelude.{◌≡◌, ℕ, ◌+◌, ◌*◌, ◌<◌, Bool, true, false, List, [], length, map, slice_index_or, Option, Some, None}
+use Rattle.std.specs.Prelude.{◌≡◌, ℕ, ◌+◌, ◌*◌, ◌<◌, Bool, true, false, List, length, map, slice_index_or, Option, Some, None}
 use Rattle.std.specs.List.{range_with_len}
 use Rattle.cmm_abi.specs.Registers.{callee_saves}
 use Rattle.cmm_bitset.specs.Sets.{has}

@@ -1,4 +1,4 @@
-use Rattle.std.proofs.Common.{◌≡◌, ◌+◌, ◌*◌, ◌<◌, ◌≤◌, ℕ, Option, length, subst, sym, ◌∙◌, arith}
+use Rattle.std.proofs.Common.{◌≡◌, ℕ, Option, subst, sym, ◌∙◌, arith}
 use Rattle.cmm_abi.specs.Registers.{callee_saves}
 use Rattle.cmm_chain.specs.declared.frame.Location.{Location}
 use Rattle.cmm_live.specs.Locals.{local_count}
