@@ -244,7 +244,7 @@ can_be_placed : CanBePlaced main graph
 can_be_placed = record { frames = in_range.frames; bounded = lit≤ tt; continuations = refl }
 
 has_places : HasPlaces main graph places
-has_places = record { locals = allocated_suit sets_are_closed sets_decide_conflicts graph sets places.locals are_live allocated; frame = is_frame; live = are_live; zeroed = refl }
+has_places = record { allocated = allocated; locals = allocated_suit sets_are_closed sets_decide_conflicts graph sets places.locals are_live allocated; frame = is_frame; live = are_live; zeroed = refl }
 
 -- ---- so it runs over them
 

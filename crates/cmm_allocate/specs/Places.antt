@@ -9,6 +9,7 @@ use Rattle.cmm_live.specs.Exact.{AreLiveSets, set_at}
 use Rattle.cmm_located.specs.Layouts.{IsFrameOf}
 use Rattle.cmm_flow.specs.Flow.{IsBounded}
 use Rattle.cmm_allocate.specs.declared.procedure.ProcedurePlaces.{ProcedurePlaces}
+use Rattle.cmm_allocate.specs.Allocated.{AreAllocated}
 use Rattle.cmm_allocate.specs.Placed.{ArePlaces}
 
 -- A frame can be laid for a procedure and its graph: its parts are small, its locals and pairs have room in the bound on frames, and the
@@ -19,7 +20,9 @@ pub record CanBePlaced (p : Proc) (g : Graph) : Type 0 where
   pub continuations : length g.continuations ≡ length p.conts
 
 pub record HasPlaces (p : Proc) (g : Graph) (k : ProcedurePlaces) : Type 0 where
-  -- each local has a place, which suits what is live where
+  -- each local has the place that a colouring gives it
+  pub allocated : AreAllocated g k.live k.locals
+  -- which suits what is live where
   pub locals : ArePlaces g k.live k.locals
   -- and the frame is laid for these
   pub frame : IsFrameOf p k.locals k.frame

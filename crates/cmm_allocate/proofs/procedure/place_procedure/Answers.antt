@@ -18,6 +18,7 @@ lay_frame-requires-clause-room c =
 
 pub returns : goal.returns
 returns c = record {
+  allocated = c.in_ok-locals.ensures.allocated;
   locals = c.in_ok-locals.ensures.suit;
   frame = rw c.as_slice.ensures at c.in_ok-frame.ensures;
   live = c.requires.live;
