@@ -3,7 +3,6 @@ use Rattle.std.proofs.Common.{◌≡◌, ℕ, ◌+◌, List, [], ◌++◌, Optio
 use Rattle.rv_table.specs.declared.request.Request.TheVariants.{Yield}
 use Rattle.rv_table.specs.Machine as rv
 use Rattle.rv_table.specs.Machine.{State, instruction_step}
-use Rattle.rv_sim.specs.Stepping.{state_of}
 use Rattle.cmm_outside.specs.Output.{Appends, AppendsFront, WritesAll}
 use Rattle.cmm_outside.specs.declared.Failed.{Failed}
 use Rattle.cmm_report.proofs.Shared.{appends_then, appends_then_front}
@@ -17,6 +16,7 @@ use Rattle.cmm_client.specs.declared.yielding.Left.{Left}
 use Rattle.cmm_client.specs.declared.yielding.Left.TheVariants as left
 use Rattle.cmm_client.specs.Yields.{IsLeft, at_yield, run_behind}
 use Rattle.cmm_client.proofs.Shared.{yields_are_answers}
+use Rattle.cmm_client.specs.Stops.{state_of}
 use Rattle.cmm_run.specs.declared.machine.Machine.{Machine}
 use Rattle.cmm_run.specs.declared.outcome.Outcome.{Outcome}
 use Rattle.cmm_run.specs.declared.outcome.Outcome.TheVariants as outcome
@@ -76,7 +76,7 @@ module _ {Sink : Type 0} (taken : Sink → Option (List ℕ)) (faults : Sink →
   behind text to = image.left to record (goes_on run) { log = run.log ++ text }
 
   turn_by : (text : List ℕ) (to : client.Left State State) (o : Option Outcome) → step l run ≡ behind text to →
-      AnswersWith (record { text = text; left = to }) (state_of next.regs next.memory) taken faults old new o → Turns l start after next rest run o
+      AnswersWith (record { text = text; left = to }) (state_of next.program) taken faults old new o → Turns l start after next rest run o
   unfolding behind
   turn_by text to None is answers =
       subst (λ (r : Run). IsAt next start after rest r) (sym (is ∙ ap (behind text) answers.0)) record {
@@ -86,7 +86,7 @@ module _ {Sink : Type 0} (taken : Sink → Option (List ℕ)) (faults : Sink →
         written = record { output = moved start.output after.output run.output next.waiting none_waits_then output_shown; log = log_shown text answers.1 };
       }
   turn_by text to (Some outcome.Stopped) is answers =
-      subst (λ (r : Run). IsOver start after rest r outcome.Stopped × (r.machine ≡ state_of next.regs next.memory)) (sym (is ∙ ap (behind text) answers.0)) (
+      subst (λ (r : Run). IsOver start after rest r outcome.Stopped × (r.machine ≡ state_of next.program)) (sym (is ∙ ap (behind text) answers.0)) (
         record { over = λ e. absurd (cc e); answer = refl; input = at.input; shown = record { output = output_shown; log = log_shown text answers.1 } },
         refl,
       )
@@ -110,8 +110,8 @@ module _ {Sink : Type 0} (taken : Sink → Option (List ℕ)) (faults : Sink →
   turn_by text to (Some outcome.InputFault) is answers = absurd answers
 
   -- registers and memory are those of the machine once it went on, and the client's answer is given
-  pub yield_turn : (s : State) (o : Option Outcome) → instruction_step (map_of l) run.machine ≡ rv.Asks Yield → s ≡ at_pc (machine.regs.pc + 4) (state_of machine.regs machine.memory) →
-      AnswersWith (at_yield l.image (region_of l) l.script s) (state_of next.regs next.memory) taken faults old new o → Turns l start after next rest run o
+  pub yield_turn : (s : State) (o : Option Outcome) → instruction_step (map_of l) run.machine ≡ rv.Asks Yield → s ≡ at_pc ((state_of machine.program).pc + 4) (state_of machine.program) →
+      AnswersWith (at_yield l.image (region_of l) l.script s) (state_of next.program) taken faults old new o → Turns l start after next rest run o
   unfolding behind
   yield_turn s o asks state answers =
       let here : (goes_on run).machine ≡ s = ap (λ (t : State). at_pc (t.pc + 4) t) at.machine_is ∙ sym state in

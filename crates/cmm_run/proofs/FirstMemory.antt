@@ -5,6 +5,7 @@ use Rattle.std.proofs.lemmas.Bool.{cases_lt}
 use Rattle.std.proofs.lemmas.Bool.Decides.{nat_tests}
 use Rattle.std.proofs.lemmas.List.{get_or_past, length-replicate}
 use Rattle.std.specs.Prelude.{nat_le, true, false}
+use Rattle.rv_table.specs.declared.registers.Regs.{Regs}
 use Rattle.rv_table.specs.declared.memory_map.TheConstants.{BELOW_STACK, DATA_LENGTH_LIMIT}
 use Rattle.rv_table.specs.Machine.{data_base, region_base, start}
 use Rattle.rv_memory.specs.Regions as regions
@@ -13,6 +14,7 @@ use Rattle.rv_sim.specs.Stepping.{state_with}
 use Rattle.cmm_image.specs.declared.parts.ImageParts.{ImageParts}
 use Rattle.cmm_image_machine.specs.Changes.{at_pc}
 use Rattle.cmm_image_machine.specs.Machine.{Launch, map_of, region_of, first_memory}
+use Rattle.cmm_client.specs.Stops as stops
 use Rattle.cmm_run.specs.declared.machine.Machine.{Machine}
 use Rattle.cmm_run.specs.inside.Loading.{IsReady}
 use Rattle.cmm_run.proofs.Zeros.{zero_at}
@@ -43,17 +45,17 @@ pub region_is : (l : Launch) (m : Regions) → m ≡ started l.image.code l.imag
 region_is l m is = ap regions.region_of is
 
 -- a machine is ready with the first registers and the first memory
-pub is_ready : (l : Launch) (machine : Machine) → length l.image.initial ≤ DATA_LENGTH_LIMIT →
-    ((bytes : ℕ → ℕ) → state_with machine.regs bytes ≡ at_pc l.image.start (start (regions.region_of machine.memory) bytes)) →
-    machine.memory ≡ started l.image.code l.image.initial l.stack_size → machine.waiting ≡ [] → machine.input_ended ≡ false →
+pub is_ready : (l : Launch) (machine : Machine) (regs : Regs) (memory : Regions) → machine.program ≡ record { thread = record { regs = regs; memory = memory } } →
+    length l.image.initial ≤ DATA_LENGTH_LIMIT → ((bytes : ℕ → ℕ) → state_with regs bytes ≡ at_pc l.image.start (start (regions.region_of memory) bytes)) →
+    memory ≡ started l.image.code l.image.initial l.stack_size → machine.waiting ≡ [] → machine.input_ended ≡ false →
     IsReady l machine
-is_ready l machine short registers memory none has_input =
-    let region = region_is l machine.memory memory in
-    let bytes : first_memory l.image ≡ memory_of machine.memory = first_memory_is l.image l.stack_size short ∙ ap memory_of (sym memory) in
+is_ready l machine regs memory program short registers is none has_input =
+    let region = region_is l memory is in
+    let bytes : first_memory l.image ≡ memory_of memory = first_memory_is l.image l.stack_size short ∙ ap memory_of (sym is) in
     record {
-      map = map_is l machine.memory memory;
-      region = region;
-      first = (λ i. at_pc l.image.start (start (sym region i) (bytes i))) ∙ sym (registers (memory_of machine.memory));
+      map = ap stops.map_of program ∙ map_is l memory is;
+      region = ap stops.region_of program ∙ region;
+      first = (λ i. at_pc l.image.start (start (sym region i) (bytes i))) ∙ sym (registers (memory_of memory)) ∙ ap stops.state_of (sym program);
       none_waits = none;
       has_input = has_input;
     }

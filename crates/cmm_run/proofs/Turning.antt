@@ -8,9 +8,8 @@ use Rattle.rv_table.specs.declared.request.Request.TheVariants.{PutByte, GetByte
 use Rattle.rv_table.specs.declared.trap.Trap.{Trap}
 use Rattle.rv_table.specs.Machine as rv
 use Rattle.rv_table.specs.Machine.{State, MemoryMap, instruction_step, with_set}
-use Rattle.rv_memory.specs.Regions as regions
 use Rattle.rv_sim.specs.declared.event.Event.TheVariants as event
-use Rattle.rv_sim.specs.Stepping.{event_of, outcome_of, state_after, state_of}
+use Rattle.rv_sim.specs.Stepping.{event_of, outcome_of, state_after}
 use Rattle.cmm_outside.specs.Output.{Appends, AppendsFront}
 use Rattle.cmm_report.proofs.Shared.{front_longer}
 use Rattle.cmm_image_machine.proofs.Shared.{step_grows}
@@ -18,6 +17,10 @@ use Rattle.cmm_program.specs.Performing.{next_byte}
 use Rattle.cmm_program.specs.State as c
 use Rattle.cmm_image_machine.specs.Changes.{at_pc}
 use Rattle.cmm_image_machine.specs.Machine.{Launch, Run, Status, Running, Ended, Trapped, map_of, one_taken, after_instruction, step}
+use Rattle.cmm_client.specs.declared.stopped.Stopped.{Stopped}
+use Rattle.cmm_client.specs.declared.stopped.Thread.{Thread}
+use Rattle.cmm_client.specs.Stops as stops
+use Rattle.cmm_client.specs.Stops.{state_of}
 use Rattle.cmm_run.specs.declared.machine.Machine.{Machine}
 use Rattle.cmm_run.specs.declared.outcome.Outcome.{Outcome}
 use Rattle.cmm_run.specs.declared.outcome.Outcome.TheVariants as outcome
@@ -36,11 +39,19 @@ step_is l run o running is = running_step ∙ ap (after_instruction l run) is
     running_step : step l run ≡ after_instruction l run (instruction_step (map_of l) run.machine)
     running_step = rw running refl
 
--- the instruction is that of the registers and the memory
-pub at_outcome : (l : Launch) (machine : Machine) (start now : Outside) (left : List ℕ) (run : Run) → regions.map_of machine.memory ≡ map_of l → IsAt machine start now left run →
-    instruction_step (map_of l) run.machine ≡ outcome_of machine.regs machine.memory
+-- the program of one thread
+abbrev pub of_thread : Thread → Stopped
+of_thread t = record { thread = t }
+
+-- what comes of the instruction at pc
+abbrev pub outcome_in : Stopped → rv.Outcome
+outcome_in s = outcome_of s.thread.regs s.thread.memory
+
+-- the instruction is that of the program
+pub at_outcome : (l : Launch) (machine : Machine) (start now : Outside) (left : List ℕ) (run : Run) → stops.map_of machine.program ≡ map_of l → IsAt machine start now left run →
+    instruction_step (map_of l) run.machine ≡ outcome_in machine.program
 at_outcome l machine start now left run map at =
-    ap (instruction_step (map_of l)) at.machine_is ∙ ap (λ (m : MemoryMap). instruction_step m (state_of machine.regs machine.memory)) (sym map)
+    ap (instruction_step (map_of l)) at.machine_is ∙ ap (λ (m : MemoryMap). instruction_step m (state_of machine.program)) (sym map)
 
 pub trap_of : (pc : ℕ) (t : Trap) (o : rv.Outcome) → event_of pc o ≡ event.Trap t → (o ≡ rv.Traps t.kind) × (t.pc ≡ pc)
 trap_of pc t (rv.Next s) is = absurd (cc is)
@@ -122,10 +133,10 @@ module _ {Sink : Type 0} (taken : Sink → Option (List ℕ)) (faults : Sink →
       closes_turn taken faults old new before after was is machine.waiting ending result l start next left run stands (λ e. over (same ∙ e))
       (answer ∙ ap answer_of same) (ap (λ (r : Run). r.input) stepped ∙ at.input) (ended_is status stepped) log closes
 
-  pub trap_turn : (t : Trap) → instruction_step (map_of l) run.machine ≡ rv.Traps t.kind → t.pc ≡ machine.regs.pc →
+  pub trap_turn : (t : Trap) → instruction_step (map_of l) run.machine ≡ rv.Traps t.kind → t.pc ≡ (state_of machine.program).pc →
       Closes taken faults old new machine.waiting (outcome.Trap t) result → Turns l start after next left run (Some result)
   trap_turn t traps pc closes =
-      let same : run.machine.pc ≡ machine.regs.pc = ap (λ (s : State). s.pc) at.machine_is in
+      let same : run.machine.pc ≡ (state_of machine.program).pc = ap (λ (s : State). s.pc) at.machine_is in
       ended_over (Trapped t.kind run.machine.pc) (outcome.Trap t) (step_is l run (rv.Traps t.kind) at.running traps) (λ e. absurd (cc e))
       (λ i. outcome.Trap record { kind = t.kind; pc = (pc ∙ sym same) i }) (λ o. o) closes
 
@@ -142,12 +153,12 @@ module _ {Sink : Type 0} (taken : Sink → Option (List ℕ)) (faults : Sink →
 -- ---- the run goes on
 
 -- the instruction asks for nothing
-pub next_turn : (l : Launch) (begun : Outside) (machine next : Machine) → regions.map_of machine.memory ≡ map_of l →
-    outcome_of machine.regs machine.memory ≡ rv.Next (state_of next.regs next.memory) → next.waiting ≡ machine.waiting → next.input_ended ≡ machine.input_ended →
+pub next_turn : (l : Launch) (begun : Outside) (machine next : Machine) → stops.map_of machine.program ≡ map_of l →
+    outcome_in machine.program ≡ rv.Next (state_of next.program) → next.waiting ≡ machine.waiting → next.input_ended ≡ machine.input_ended →
     HasTurned l begun begun machine next None (λ _. Unit {0})
 next_turn l begun machine next map goes waiting ended =
     turns_without l begun begun machine next None (λ _. Unit {0}) refl ended (λ start run left at _.
-    subst (IsAt next start begun left) (sym (step_is l run (rv.Next (state_of next.regs next.memory)) at.running (at_outcome l machine start begun left run map at ∙ goes)))
+    subst (IsAt next start begun left) (sym (step_is l run (rv.Next (state_of next.program)) at.running (at_outcome l machine start begun left run map at ∙ goes)))
     record {
       running = at.running;
       machine_is = refl;
@@ -159,12 +170,12 @@ next_turn l begun machine next map goes waiting ended =
     })
 
 -- it asks for something, which is done from the machine as it stood
-pub asks_turn : (l : Launch) (begun now : Outside) (machine asking after : Machine) (result : Option Outcome) (r : Request) → asking.regs ≡ machine.regs →
-    asking.memory ≡ machine.memory → asking.waiting ≡ machine.waiting → asking.input_ended ≡ machine.input_ended → regions.map_of machine.memory ≡ map_of l →
-    outcome_of machine.regs machine.memory ≡ rv.Asks r →
+pub asks_turn : (l : Launch) (begun now : Outside) (machine asking after : Machine) (result : Option Outcome) (r : Request) → asking.program ≡ machine.program →
+    asking.waiting ≡ machine.waiting → asking.input_ended ≡ machine.input_ended → stops.map_of machine.program ≡ map_of l →
+    outcome_in machine.program ≡ rv.Asks r →
     HasTurned l begun now asking after result (λ run. instruction_step (map_of l) run.machine ≡ rv.Asks r) → HasTurned l begun now machine after result (λ _. Unit {0})
-asks_turn l begun now machine asking after result r regs memory waiting ended map asks turned =
-    let same : asking ≡ machine = λ i. record { regs = regs i; memory = memory i; waiting = waiting i; input_ended = ended i } in
+asks_turn l begun now machine asking after result r program waiting ended map asks turned =
+    let same : asking ≡ machine = λ i. record { program = program i; waiting = waiting i; input_ended = ended i } in
     let here = subst (λ (m : Machine). HasTurned l begun now m after result (λ run. instruction_step (map_of l) run.machine ≡ rv.Asks r)) same turned in record {
       bytes = here.bytes;
       taken = here.taken;
@@ -175,7 +186,7 @@ asks_turn l begun now machine asking after result r regs memory waiting ended ma
 
 pub put_turn : (l : Launch) (start before after : Outside) (machine next : Machine) (left : List ℕ) (run : Run) (byte : ℕ) → IsAt machine start before left run →
     instruction_step (map_of l) run.machine ≡ rv.Asks (PutByte byte) →
-    state_of next.regs next.memory ≡ at_pc (machine.regs.pc + 4) (state_of machine.regs machine.memory) →
+    state_of next.program ≡ at_pc ((state_of machine.program).pc + 4) (state_of machine.program) →
     Moves before.output after.output (machine.waiting ++ byte ∷ []) next.waiting → after.log ≡ before.log → IsAt next start after left (step l run)
 put_turn l start before after machine next left run byte at asks state output log =
     subst (IsAt next start after left) (sym (step_is l run (rv.Asks (PutByte byte)) at.running asks)) record {
@@ -202,12 +213,12 @@ write_fails l start before after machine left run at output log =
     }
 
 -- what waits is written before an instruction
-pub written_at : (start before after : Outside) (machine next : Machine) (left : List ℕ) (run : Run) → IsAt machine start before left run → next.regs ≡ machine.regs →
-    next.memory ≡ machine.memory → next.waiting ≡ [] → Appends before.output after.output machine.waiting → after.log ≡ before.log →
+pub written_at : (start before after : Outside) (machine next : Machine) (left : List ℕ) (run : Run) → IsAt machine start before left run → next.program ≡ machine.program →
+    next.waiting ≡ [] → Appends before.output after.output machine.waiting → after.log ≡ before.log →
     IsAt next start after left run
-written_at start before after machine next left run at regs memory none output log = record {
+written_at start before after machine next left run at program none output log = record {
   running = at.running;
-  machine_is = at.machine_is ∙ sym (rw (regs, memory) refl);
+  machine_is = at.machine_is ∙ ap state_of (sym program);
   input = at.input;
   written = record {
     output = moved start.output after.output run.output next.waiting none
@@ -234,14 +245,14 @@ is_taken machine (byte ∷ rest) taken output log status = record { status = ref
 module _ (l : Launch) (start before after : Outside) (machine next : Machine) (bytes rest : List ℕ) (run : Run) (at : IsAt machine start before (bytes ++ rest) run)
     (none : machine.waiting ≡ []) (asks : instruction_step (map_of l) run.machine ≡ rv.Asks GetByte) (waits : next.waiting ≡ machine.waiting)
     (output : after.output ≡ before.output) (log : after.log ≡ before.log) where
-  take_next : state_of next.regs next.memory ≡ with_set (state_of machine.regs machine.memory) REQUEST_VALUE (next_byte (bytes ++ rest)) → rest ≡ drop 1 (bytes ++ rest) →
+  take_next : state_of next.program ≡ with_set (state_of machine.program) REQUEST_VALUE (next_byte (bytes ++ rest)) → rest ≡ drop 1 (bytes ++ rest) →
       IsAt next start after rest (step l run)
   take_next state left =
       let taken = is_taken run.machine run.input run.taken run.output run.log run.status in
       subst (IsAt next start after rest) (sym (step_is l run (rv.Asks GetByte) at.running asks)) record {
         running = taken.status ∙ at.running;
         machine_is = ap (λ (s : State). with_set s REQUEST_VALUE (next_byte run.input)) at.machine_is
-            ∙ ap (λ (input : List ℕ). with_set (state_of machine.regs machine.memory) REQUEST_VALUE (next_byte input)) at.input ∙ sym state;
+            ∙ ap (λ (input : List ℕ). with_set (state_of machine.program) REQUEST_VALUE (next_byte input)) at.input ∙ sym state;
         input = taken.input ∙ ap (drop 1) at.input ∙ sym left;
         written = record {
           output = subst (λ (xs : List ℕ). Moves start.output after.output xs next.waiting) (sym taken.output)
@@ -263,7 +274,7 @@ module _ (l : Launch) (start before after : Outside) (machine next : Machine) (b
     };
   }
 
-  pub take_turn : (result : Option Outcome) → Takes (state_of machine.regs machine.memory) (state_of next.regs next.memory) bytes rest result →
+  pub take_turn : (result : Option Outcome) → Takes (state_of machine.program) (state_of next.program) bytes rest result →
       Turns l start after next rest run result
   take_turn None takes = take_next takes.0 takes.1
   take_turn (Some o) takes = subst (λ (p : Outcome). Turns l start after next rest run (Some p)) (sym takes.0) (take_fails takes.1)

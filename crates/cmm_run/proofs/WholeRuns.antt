@@ -3,9 +3,9 @@ use Rattle.std.proofs.Common.{◌≡◌, ℕ, suc, ◌+◌, ◌<◌, Bool, true,
 use Rattle.std.specs.List.{All}
 use Rattle.std.proofs.lemmas.List.Elements.{All-nil, All-append}
 use Rattle.rv_table.specs.Machine.{State}
-use Rattle.rv_sim.specs.Stepping.{state_of}
 use Rattle.cmm_outside.specs.Output.{Appends, AppendsFront}
 use Rattle.cmm_image_machine.specs.Machine.{Launch, Run, step, image_after}
+use Rattle.cmm_client.specs.Stops.{state_of}
 use Rattle.cmm_run.specs.declared.machine.Machine.{Machine}
 use Rattle.cmm_run.specs.declared.outcome.Outcome.{Outcome}
 use Rattle.cmm_run.specs.declared.outcome.Outcome.TheVariants.{Done, Stopped, StackLimit, StepLimit, Trap, InputFault, OutputFault, Torn}
@@ -187,7 +187,7 @@ module _ (l : Launch) (start now : Outside) (machine : Machine) (input left : Li
       (rw (step_last l input count) turned)
 
   stands : (o : Outcome) → Turns l start now machine left (image_after l input count) (Some o) → o ≡ Stopped →
-      (image_after l input limit).machine ≡ state_of machine.regs machine.memory
+      (image_after l input limit).machine ≡ state_of machine.program
   stands Stopped turned is = ap (λ (run : Run). run.machine) (sym (at_limit Stopped turned.0)) ∙ turned.1
   stands (Done value) turned is = absurd (cc is)
   stands StackLimit turned is = absurd (cc is)
@@ -199,7 +199,7 @@ module _ (l : Launch) (start now : Outside) (machine : Machine) (input left : Li
 
 pub run_over : (l : Launch) (start mid now : Outside) (machine next : Machine) (count limit : ℕ) (outcome : Outcome) (o : Option Outcome) → o ≡ Some outcome →
     count < limit → HasRun l start mid machine count → TurnFails mid now o → HasTurned l mid now machine next o (λ _. Unit {0}) →
-    Runs l limit start now outcome (state_of next.regs next.memory)
+    Runs l limit start now outcome (state_of next.program)
 run_over l start mid now machine next count limit outcome None is below run fails turned = absurd (cc is)
 run_over l start mid now machine next count limit outcome (Some other) is below run fails turned =
     let same : other ≡ outcome = cc is in
@@ -207,7 +207,7 @@ run_over l start mid now machine next count limit outcome (Some other) is below 
     let input = input_of start now next.input_ended taken start.input refl (bytes_then l start mid now machine next count (Some other) run turned)
     (told_then l start mid now machine next count (Some other) run turned) in
     let turns = turns_at l start mid now machine next count (Some other) run turned input.left input.may in
-    subst (λ (x : Outcome). Runs l limit start now x (state_of next.regs next.memory)) same record {
+    subst (λ (x : Outcome). Runs l limit start now x (state_of next.program)) same record {
       fails = fails_then start mid now other run.fails fails;
       input = taken ++ input.left;
       told = input.told;

@@ -8,7 +8,7 @@
 //! - `session`: `Session`, and `Limits`.
 //! - `outcome`: `Outcome`, what a run comes to.
 //! - `loaded`: what stays as it is in a run: the image with its code decoded, the script and the stack's size.
-//! - `machine`: what a run changes: registers, memory and the output that waits. `waiting`: that output.
+//! - `machine`: what a run changes: the program and the output that waits. `waiting`: that output.
 //! - `running`: the turns of a run. `requests`: what an ECALL asks for.
 //! - `yielding`: a yield, and what its answer leaves of the run.
 //!

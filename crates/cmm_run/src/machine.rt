@@ -7,15 +7,15 @@ ghost use Rattle.cmm_image_machine.specs.Changes.{at_pc};
 
 use crate::waiting::Waiting;
 use cmm_abi::registers::{FRAME, REGION};
+use cmm_client::Stopped;
 use rv_memory::Memory;
 use rv_table::Regs;
 
-/// What a run changes: registers, pc and memory, the output that it has put and not written yet, and whether its input has ended. An input that has ended
+/// What a run changes: the program's registers, pc and memory, the output that it has put and not written yet, and whether its input has ended. An input that has ended
 /// stays so: a terminal may give bytes again, which no list of bytes that a program reads in a row would explain.
 #[derive(Drop)]
 pub struct Machine {
-    pub regs: Regs,
-    pub memory: Memory,
+    pub program: Stopped,
     pub waiting: Waiting,
     pub input_ended: bool,
 }

@@ -1,11 +1,10 @@
 //! What an ECALL asks for.
-ghost use Rattle.std.specs.Prelude.{◌≡◌, ◌+◌, ◌<◌, ◌^◌, ℕ, IfOk, OnErr, OnOk};
-ghost use Rattle.rv_memory.specs.Regions.{map_of as memory_map_of, region_of as memory_region_of};
-ghost use Rattle.rv_sim.specs.Stepping.{state_of, state_with};
+ghost use Rattle.std.specs.Prelude.{◌≡◌, ◌+◌, ◌<◌, ◌^◌, IfOk, OnErr, OnOk};
 ghost use Rattle.rv_table.specs.Machine.{Asks, instruction_step, with_set};
 ghost use Rattle.cmm_outside.specs.Faults.{Rose};
 ghost use Rattle.cmm_image_machine.specs.Changes.{at_pc};
 ghost use Rattle.cmm_image_machine.specs.Machine.{map_of, region_of};
+ghost use Rattle.cmm_client.specs.Stops.{map_of as program_map_of, region_of as program_region_of, state_of};
 ghost use Rattle.cmm_run.specs.Outside.{outside_of};
 ghost use Rattle.cmm_run.specs.inside.Takes.{GivesNext, HasAsked, TakeFails};
 ghost use Rattle.cmm_run.specs.inside.Turns.{HasTurned, TurnFails};
@@ -15,8 +14,9 @@ use crate::machine::Machine;
 use crate::outcome::Outcome;
 use crate::yielding::yields;
 use cmm_abi::registers::REQUEST_VALUE;
+use cmm_client::Stopped;
 use cmm_outside::{Failed, Sink, Source};
-use rv_table::{Regs, Request};
+use rv_table::Request;
 
 /// Does what the ECALL at pc asks for, and says what the run comes to if it is over.
 pub fn answer<I: Source, O: Sink, E: Sink>(
@@ -27,11 +27,11 @@ pub fn answer<I: Source, O: Sink, E: Sink>(
     out: &mut O,
     log: &mut E,
 ) -> Option<Outcome>
-    requires map { memory_map_of machine.old.memory ≡ map_of loaded.now }
-    requires region { memory_region_of machine.old.memory ≡ region_of loaded.now }
-    requires room { machine.old.regs.pc + 4 < 2 ^ 64 }
-    ensures map { memory_map_of machine.new.memory ≡ map_of loaded.now }
-    ensures region { memory_region_of machine.new.memory ≡ region_of loaded.now }
+    requires map { program_map_of machine.old.program ≡ map_of loaded.now }
+    requires region { program_region_of machine.old.program ≡ region_of loaded.now }
+    requires room { (state_of machine.old.program).pc + 4 < 2 ^ 64 }
+    ensures map { program_map_of machine.new.program ≡ map_of loaded.now }
+    ensures region { program_region_of machine.new.program ≡ region_of loaded.now }
     ensures fails { TurnFails (outside_of I.left I.faults O.taken O.faults E.taken E.faults input.old out.old log.old)
         (outside_of I.left I.faults O.taken O.faults E.taken E.faults input.new out.new log.new) result }
     ensures turns { HasTurned loaded.now (outside_of I.left I.faults O.taken O.faults E.taken E.faults input.old out.old log.old)
@@ -41,7 +41,7 @@ pub fn answer<I: Source, O: Sink, E: Sink>(
     match request {
         Request::PutByte(byte) => match machine.waiting.put(byte, out) {
             Ok(()) => {
-                go_on(&mut machine.regs);
+                go_on(&mut machine.program);
                 None
             }
             Err(Failed) => Some(Outcome::OutputFault),
@@ -52,7 +52,7 @@ pub fn answer<I: Source, O: Sink, E: Sink>(
         },
         Request::Yield => match machine.waiting.flush(out) {
             Ok(()) => {
-                go_on(&mut machine.regs);
+                go_on(&mut machine.program);
                 yields(loaded, machine, log)
             }
             Err(Failed) => Some(Outcome::OutputFault),
@@ -64,46 +64,51 @@ pub fn answer<I: Source, O: Sink, E: Sink>(
 
 /// Gives the register for it the next byte of the input, or all ones where the input has ended, once and for all.
 fn get_byte<I: Source>(machine: &mut Machine, input: &mut I) -> Option<Outcome>
-    requires { machine.old.regs.pc + 4 < 2 ^ 64 }
-    ensures memory { machine.new.memory ≡ machine.old.memory }
+    requires { (state_of machine.old.program).pc + 4 < 2 ^ 64 }
+    ensures map { program_map_of machine.new.program ≡ program_map_of machine.old.program }
+    ensures region { program_region_of machine.new.program ≡ program_region_of machine.old.program }
     ensures waiting { machine.new.waiting ≡ machine.old.waiting }
-    ensures asked { HasAsked (state_of machine.old.regs machine.old.memory) (state_of machine.new.regs machine.new.memory)
+    ensures asked { HasAsked (state_of machine.old.program) (state_of machine.new.program)
         (I.left input.old) (I.left input.new) machine.old.input_ended machine.new.input_ended result }
     ensures fails { TakeFails (I.faults input.old) (I.faults input.new) result }
 {
     if machine.input_ended {
-        receive(&mut machine.regs, u64::MAX);
+        receive(&mut machine.program, u64::MAX);
         return None;
     }
     match next_byte(input) {
         Ok(Some(byte)) => {
-            receive(&mut machine.regs, u64::from(byte));
+            receive(&mut machine.program, u64::from(byte));
             None
         }
         Ok(None) => {
             machine.input_ended = true;
-            receive(&mut machine.regs, u64::MAX);
+            receive(&mut machine.program, u64::MAX);
             None
         }
         Err(Failed) => Some(Outcome::InputFault),
     }
 }
 
-/// Moves pc on, past the ECALL.
-fn go_on(r: &mut Regs)
-    requires { r.old.pc + 4 < 2 ^ 64 }
-    ensures { (memory : ℕ → ℕ) → state_with r.new memory ≡ at_pc (r.old.pc + 4) (state_with r.old memory) }
+/// Moves pc of the thread that runs on, past the ECALL.
+fn go_on(program: &mut Stopped)
+    requires { (state_of program.old).pc + 4 < 2 ^ 64 }
+    ensures state { state_of program.new ≡ at_pc ((state_of program.old).pc + 4) (state_of program.old) }
+    ensures map { program_map_of program.new ≡ program_map_of program.old }
+    ensures region { program_region_of program.new ≡ program_region_of program.old }
 {
-    r.pc += 4;
+    program.running_mut().regs.pc += 4;
 }
 
 /// Gives the register of what comes of a request its value, and moves pc on.
-fn receive(r: &mut Regs, value: u64)
-    requires { r.old.pc + 4 < 2 ^ 64 }
-    ensures { (memory : ℕ → ℕ) → state_with r.new memory ≡ with_set (state_with r.old memory) REQUEST_VALUE value }
+fn receive(program: &mut Stopped, value: u64)
+    requires { (state_of program.old).pc + 4 < 2 ^ 64 }
+    ensures state { state_of program.new ≡ with_set (state_of program.old) REQUEST_VALUE value }
+    ensures map { program_map_of program.new ≡ program_map_of program.old }
+    ensures region { program_region_of program.new ≡ program_region_of program.old }
 {
-    r.write(REQUEST_VALUE, value);
-    go_on(r);
+    program.running_mut().regs.write(REQUEST_VALUE, value);
+    go_on(program);
 }
 
 /// Takes the next byte of the input, or none at its end.

@@ -1,20 +1,19 @@
 //! Sessions.
 ghost use Rattle.std.specs.Prelude.{◌≡◌, ◌≤◌, ◌%◌, ℕ, None, Some, IfOk};
 ghost use Rattle.rv_memory.specs.Regions.{started};
-ghost use Rattle.rv_sim.specs.Stepping.{state_of};
 ghost use Rattle.cmm_script.specs.Limits.{HasFewValues};
 ghost use Rattle.cmm_run.specs.Outside.{outside_of};
 ghost use Rattle.cmm_run.specs.Runs.{Runs};
 ghost use Rattle.cmm_run.specs.declared.outcome.Outcome.{Outcome as OutcomeOf};
 ghost use Rattle.cmm_run.specs.declared.outcome.Outcome.TheVariants.{Stopped as StoppedBy};
-ghost use Rattle.cmm_snapshot.specs.SnapshotFormat.{taken_of};
-ghost use Rattle.cmm_snapshot.specs.Snapshots.{SpellsSnapshot};
+ghost use Rattle.cmm_run.specs.Sessions.{IsSnapshotOf, machine_of};
 
 use crate::loaded::Loaded;
 use crate::machine::{Machine, first_registers};
 use crate::outcome::Outcome;
 use crate::running::run;
 use crate::waiting::Waiting;
+use cmm_client::Stopped;
 use cmm_image::Image;
 use cmm_outside::{Sink, Source};
 use cmm_script::Script;
@@ -50,10 +49,10 @@ impl Model for Session {
 
     ghost Value = { SessionState };
 
-    ghost view = { λ s. record { launch = s.loaded; steps = s.steps; answer = s.answer; regs = s.machine.regs; memory = s.machine.memory } };
+    ghost view = { λ s. record { launch = s.loaded; steps = s.steps; answer = s.answer; program = s.machine.program } };
 
     // what has not run stands where a run begins
-    ghost invariant = { λ s. IsOfRun s.loaded s.machine.memory × (s.answer ≡ None → IsReady s.loaded s.machine) };
+    ghost invariant = { λ s. IsOfRun s.loaded s.machine.program × (s.answer ≡ None → IsReady s.loaded s.machine) };
 }
 
 impl Session {
@@ -78,8 +77,7 @@ impl Session {
         Ok(Session {
             loaded: Loaded::new(image, script, limits.stack, table),
             machine: Machine {
-                regs,
-                memory,
+                program: Stopped::new(regs, memory),
                 waiting,
                 input_ended: false,
             },
@@ -97,7 +95,7 @@ impl Session {
     ) -> Outcome
         ensures first { self.old.answer ≡ None → Runs self.old.launch self.old.steps
             (outside_of I.left I.faults O.taken O.faults E.taken E.faults input.old out.old log.old)
-            (outside_of I.left I.faults O.taken O.faults E.taken E.faults input.new out.new log.new) result (state_of self.new.regs self.new.memory) }
+            (outside_of I.left I.faults O.taken O.faults E.taken E.faults input.new out.new log.new) result (machine_of self.new) }
         ensures again { (outcome : OutcomeOf) → self.old.answer ≡ Some outcome →
             (result ≡ outcome) × (self.new ≡ self.old) × (input.new ≡ input.old) × (out.new ≡ out.old) × (log.new ≡ log.old) }
         ensures answer { self.new.answer ≡ Some result }
@@ -112,14 +110,13 @@ impl Session {
         outcome
     }
 
-    /// The bytes of a snapshot of a run that the client stopped: the image's header, the registers and the memory as they stand.
+    /// The bytes of a snapshot of a run that the client stopped: the image's header, and the registers and the memory of its state.
     pub fn snapshot(&self, alloc: Global) -> Result<Vec<u8>, AllocError>
         requires { self.now.answer ≡ Some StoppedBy }
-        ensures spelled { IfOk result (λ bytes. SpellsSnapshot self.now.launch.image bytes.items (taken_of self.now.regs self.now.memory)) }
-        ensures stack { self.now.memory.stack_size ≡ self.now.launch.stack_size }
+        ensures { IfOk result (λ bytes. IsSnapshotOf self.now.launch.image self.now.launch.stack_size (machine_of self.now) bytes.items) }
     {
-        let Machine { regs, memory, .. } = &self.machine;
-        write_snapshot(alloc, self.loaded.image(), regs, memory)
+        let thread = self.machine.program.running();
+        write_snapshot(alloc, self.loaded.image(), &thread.regs, &thread.memory)
     }
 
     /// The image that was loaded, given back.

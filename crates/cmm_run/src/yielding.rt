@@ -1,7 +1,6 @@
 //! A yield.
 ghost use Rattle.std.specs.Prelude.{◌≡◌, length};
-ghost use Rattle.rv_memory.specs.Regions.{map_of, region_of};
-ghost use Rattle.rv_sim.specs.Stepping.{state_of};
+ghost use Rattle.cmm_client.specs.Stops.{map_of, region_of, state_of};
 ghost use Rattle.cmm_client.specs.Yields.{at_yield};
 ghost use Rattle.cmm_run.specs.inside.Yields.{AnswersWith, ending_of};
 
@@ -13,21 +12,15 @@ use cmm_outside::{Failed, Sink};
 
 /// Writes the line of a yield and the lines of the client's answer, and says what the run comes to if that ends it.
 pub fn yields<E: Sink>(loaded: &Loaded, machine: &mut Machine, log: &mut E) -> Option<Outcome>
-    requires { (map_of machine.old.memory).data_length ≡ length loaded.now.image.initial }
-    ensures answers { AnswersWith (at_yield loaded.now.image (region_of machine.old.memory) loaded.now.script (state_of machine.old.regs machine.old.memory))
-        (state_of machine.new.regs machine.new.memory) E.taken E.faults log.old log.new result }
-    ensures map { map_of machine.new.memory ≡ map_of machine.old.memory }
-    ensures region { region_of machine.new.memory ≡ region_of machine.old.memory }
+    requires { (map_of machine.old.program).data_length ≡ length loaded.now.image.initial }
+    ensures answers { AnswersWith (at_yield loaded.now.image (region_of machine.old.program) loaded.now.script (state_of machine.old.program))
+        (state_of machine.new.program) E.taken E.faults log.old log.new result }
+    ensures map { map_of machine.new.program ≡ map_of machine.old.program }
+    ensures region { region_of machine.new.program ≡ region_of machine.old.program }
     ensures waiting { machine.new.waiting ≡ machine.old.waiting }
     ensures input { machine.new.input_ended ≡ machine.old.input_ended }
 {
-    match answer_yield(
-        loaded.image(),
-        loaded.script(),
-        &mut machine.regs,
-        &mut machine.memory,
-        log,
-    ) {
+    match answer_yield(loaded.image(), loaded.script(), &mut machine.program, log) {
         Ok(left) => ending(left),
         Err(Failed) => Some(Outcome::OutputFault),
     }

@@ -1,16 +1,12 @@
 -- What a run leaves in files: nothing, but where the client stopped it and words name a file for that, its snapshot.
 use Rattle.std.specs.Prelude.{◌≡◌, ◌⊎◌, ℕ, Bool, true, false, List, Option, Some, None}
-use Rattle.rv_table.specs.declared.registers.Regs.{Regs}
 use Rattle.rv_table.specs.Machine.{State}
-use Rattle.rv_memory.specs.Regions.{Regions}
-use Rattle.rv_memory.specs.States.{state_of}
 use Rattle.cmm_image.specs.declared.parts.ImageParts.{ImageParts}
 use Rattle.cmm_outside.specs.Faults.{Rose}
 use Rattle.cmm_outside.specs.Storage.{StopsWriting, Writes}
 use Rattle.cmm_run.specs.declared.outcome.Outcome.{Outcome}
 use Rattle.cmm_run.specs.declared.outcome.Outcome.TheVariants as outcome
-use Rattle.cmm_snapshot.specs.SnapshotFormat.{taken_of}
-use Rattle.cmm_snapshot.specs.Snapshots.{SpellsSnapshot}
+use Rattle.cmm_run.specs.Sessions.{IsSnapshotOf}
 use Rattle.cmm_top.specs.Call.{SameFiles}
 use Rattle.cmm_top.specs.Lines.{file_fault_line, memory_line, outcome_line}
 use Rattle.cmm_top.specs.Status.{status_of}
@@ -32,14 +28,6 @@ is_stopped (outcome.Torn torn) = false
 abbrev pub saved_to : Bool → Option (List ℕ) → Option (List ℕ)
 saved_to true save = save
 saved_to false save = None
-
--- these bytes are a snapshot of a run of the image, with a stack of so many bytes, that stands so
-pub record IsSnapshotOf (image : ImageParts) (stack : ℕ) (machine : State) (bytes : List ℕ) : Type 0 where
-  pub regs : Regs
-  pub memory : Regions
-  pub spelled : SpellsSnapshot image bytes (taken_of regs memory)
-  pub state : state_of regs memory ≡ machine
-  pub stack_is : memory.stack_size ≡ stack
 
 -- the file of this name holds the snapshot now
 pub record HasSaved (image : ImageParts) (stack : ℕ) (machine : State) (name : List ℕ) (w : Work) : Type 0 where

@@ -2,9 +2,9 @@
 
 ghost use Rattle.std.specs.Prelude.{◌≡◌, ◌≤◌, length, None, Some, IfSome};
 ghost use Rattle.std.specs.Option.{option_map};
-ghost use Rattle.rv_memory.specs.States.{state_of};
 ghost use Rattle.cmm_outside.specs.declared.storage.TheConstants.{NAME_LIMIT};
 ghost use Rattle.cmm_run.specs.Outside.{Outside as Streams};
+ghost use Rattle.cmm_run.specs.Sessions.{machine_of};
 ghost use Rattle.cmm_run.specs.declared.outcome.Outcome.TheVariants.{Stopped};
 ghost use Rattle.cmm_top.specs.Call.{standing};
 ghost use Rattle.cmm_top.specs.Saving.{Saves, is_stopped as is_stop, saved_to};
@@ -25,7 +25,7 @@ pub(crate) fn left_by<'a, F: Files>(
 ) -> Ending<'a>
     requires answered { session.now.answer ≡ Some outcome }
     requires save { IfSome save (λ name. length name.now ≤ NAME_LIMIT) }
-    ensures { (first last : Streams) → Saves session.now.launch.image session.now.launch.stack_size (state_of session.now.regs session.now.memory) outcome
+    ensures { (first last : Streams) → Saves session.now.launch.image session.now.launch.stack_size (machine_of session.now) outcome
         (saved_to (is_stop outcome) (option_map (λ name. name.now) save.entry)) (work_of result None
         (standing F.contents F.faults F.last_failed files.old first)
         (standing F.contents F.faults F.last_failed files.new last)) }
@@ -64,7 +64,7 @@ fn save_to<'a, F: Files>(
 ) -> Ending<'a>
     requires stopped { session.now.answer ≡ Some Stopped }
     requires short { length name.now ≤ NAME_LIMIT }
-    ensures { (first last : Streams) → Saves session.now.launch.image session.now.launch.stack_size (state_of session.now.regs session.now.memory) Stopped
+    ensures { (first last : Streams) → Saves session.now.launch.image session.now.launch.stack_size (machine_of session.now) Stopped
         (Some name.now) (work_of result None
         (standing F.contents F.faults F.last_failed files.old first)
         (standing F.contents F.faults F.last_failed files.new last)) }

@@ -1,7 +1,6 @@
 //! Sessions that run an image with a client's script.
 
 ghost use Rattle.std.specs.Prelude.{◌≡◌, None, IfOk, OnErr};
-ghost use Rattle.rv_sim.specs.Stepping.{state_of};
 ghost use Rattle.cmm_compile.specs.Agreement.{IsStackSize, launch_of};
 ghost use Rattle.cmm_run.specs.Outside.{outside_of};
 ghost use Rattle.cmm_run.specs.Runs.{Runs};

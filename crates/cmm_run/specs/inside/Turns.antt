@@ -1,8 +1,8 @@
 -- What one turn of a run comes to.
 use Rattle.std.specs.Prelude.{◌≡◌, ◌≢◌, ℕ, Bool, List, ◌++◌, Option, Some, None}
 use Rattle.cmm_outside.specs.Output.{Appends}
-use Rattle.rv_sim.specs.Stepping.{state_of}
 use Rattle.cmm_image_machine.specs.Machine.{Launch, Run, Running, step}
+use Rattle.cmm_client.specs.Stops.{state_of}
 use Rattle.cmm_run.specs.declared.machine.Machine.{Machine}
 use Rattle.cmm_run.specs.declared.outcome.Outcome.{Outcome}
 use Rattle.cmm_run.specs.declared.outcome.Outcome.TheVariants.{Done, Stopped, StackLimit, StepLimit, Trap, InputFault, OutputFault, Torn}
@@ -21,10 +21,10 @@ pub record IsShown (start now : Outside) (run : Run) : Type 0 where
   pub output : Appends start.output now.output run.output
   pub log : Appends start.log now.log run.log
 
--- a run stands here: with these registers and this memory, with this input that is left, and with this output that waits
+-- a run stands here: in the program's state, with this input that is left, and with this output that waits
 pub record IsAt (machine : Machine) (start now : Outside) (left : List ℕ) (run : Run) : Type 0 where
   pub running : run.status ≡ Running
-  pub machine_is : run.machine ≡ state_of machine.regs machine.memory
+  pub machine_is : run.machine ≡ state_of machine.program
   pub input : run.input ≡ left
   pub written : IsWritten machine.waiting start now run
 
@@ -41,13 +41,13 @@ pub record LacksInput (l : Launch) (start now : Outside) (left : List ℕ) (run 
   pub input : run.input ≡ left
   pub shown : IsShown start now run
 
--- After a turn the run goes on, or it ended, from this run on, with this input that is left. Where the client stopped it, registers and memory are as they were left.
+-- After a turn the run goes on, or it ended, from this run on, with this input that is left. Where the client stopped it, the state is as it was left.
 abbrev pub Turns : Launch → Outside → Outside → Machine → List ℕ → Run → Option Outcome → Type 0
 Turns l start now machine left run None = IsAt machine start now left (step l run)
 Turns l start now machine left run (Some InputFault) = LacksInput l start now left run
 Turns l start now machine left run (Some OutputFault) = ShowsFront start now (step l run)
 Turns l start now machine left run (Some (Done value)) = IsOver start now left (step l run) (Done value)
-Turns l start now machine left run (Some Stopped) = IsOver start now left (step l run) Stopped × ((step l run).machine ≡ state_of machine.regs machine.memory)
+Turns l start now machine left run (Some Stopped) = IsOver start now left (step l run) Stopped × ((step l run).machine ≡ state_of machine.program)
 Turns l start now machine left run (Some StackLimit) = IsOver start now left (step l run) StackLimit
 Turns l start now machine left run (Some StepLimit) = IsOver start now left (step l run) StepLimit
 Turns l start now machine left run (Some (Trap t)) = IsOver start now left (step l run) (Trap t)

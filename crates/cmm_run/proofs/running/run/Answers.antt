@@ -1,5 +1,5 @@
 use Rattle.std.proofs.Common.{◌≡◌, refl, subst, arith}
-use Rattle.rv_sim.specs.Stepping.{state_of}
+use Rattle.cmm_client.specs.Stops.{state_of}
 use Rattle.cmm_run.proofs.WholeRuns.{HasRun, has_begun, has_run_more, run_limited, run_over}
 use Rattle.cmm_run.proofs.running.run.Goals as goal
 
@@ -27,5 +27,5 @@ pub returns-clause-runs : goal.returns-clause-runs
 returns-clause-runs g c =
     let all : c.loop.counter ≡ c.args.steps = omega (arith, c.loop.auto.counter-end, c.loop-test.false) in
     run_limited g.O.Sink.taken g.O.Sink.faults c.loop.out c.close.new.out c.args.loaded.now _ _ _ c.loop.machine c.args.steps
-    (subst (HasRun c.args.loaded.now _ _ c.loop.machine) all c.loop.invariant.run) refl refl refl refl (state_of c.loop.machine.regs c.loop.machine.memory) refl refl refl refl c.close.result
+    (subst (HasRun c.args.loaded.now _ _ c.loop.machine) all c.loop.invariant.run) refl refl refl refl (state_of c.loop.machine.program) refl refl refl refl c.close.result
     c.close.ensures

@@ -1,5 +1,5 @@
 use Rattle.std.proofs.Common.{◌≡◌}
-use Rattle.rv_memory.specs.Regions.{map_of as memory_map_of, region_of as memory_region_of}
+use Rattle.cmm_client.specs.Stops.{map_of as program_map_of, region_of as program_region_of}
 use Rattle.cmm_image_machine.specs.Machine.{map_of, region_of}
 use Rattle.cmm_run.specs.Outside.{outside_of}
 use Rattle.cmm_run.proofs.WholeRuns.{HasRun}
@@ -7,8 +7,8 @@ use Rattle.cmm_run.proofs.running.run.Given as goal
 
 abbrev pub invariant-loop : goal.invariant-loop
 invariant-loop g l = record {
-  map : memory_map_of l.machine.memory ≡ map_of l.loaded;
-  region : memory_region_of l.machine.memory ≡ region_of l.loaded;
+  map : program_map_of l.machine.program ≡ map_of l.loaded;
+  region : program_region_of l.machine.program ≡ region_of l.loaded;
   run : HasRun l.loaded
       (outside_of g.I.Source.left g.I.Source.faults g.O.Sink.taken g.O.Sink.faults g.E.Sink.taken g.E.Sink.faults l.initial.input l.initial.out l.initial.log)
       (outside_of g.I.Source.left g.I.Source.faults g.O.Sink.taken g.O.Sink.faults g.E.Sink.taken g.E.Sink.faults l.input l.out l.log)

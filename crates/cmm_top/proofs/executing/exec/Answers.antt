@@ -1,6 +1,6 @@
 use Rattle.std.proofs.Common.{Some, ap, inl, refl, ◌∙◌}
-use Rattle.rv_sim.specs.Stepping.{state_of}
 use Rattle.cmm_image_machine.specs.Machine.{Launch}
+use Rattle.cmm_run.specs.Sessions.{machine_of}
 use Rattle.cmm_top.proofs.executing.exec.Goals as goal
 
 pub returns-in-Ok-run_image : goal.returns-in-Ok-run_image
@@ -16,7 +16,7 @@ returns-in-Ok-run_image g c =
       ran = record {
         files = record { files = read.same; file_faults = read.no_fault; last_failed = read.no_failed_call };
         outcome = c.in-Ok-run_image.outcome;
-        machine = state_of c.in-Ok-run_image.session.regs c.in-Ok-run_image.session.memory;
+        machine = machine_of c.in-Ok-run_image.session;
         runs = ran.runs;
         ends = record { line = refl; status = refl };
       };

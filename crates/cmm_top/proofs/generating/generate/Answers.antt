@@ -1,9 +1,9 @@
 use Rattle.std.proofs.Common.{◌≡◌, ℕ, List, [], Some, ap, inl, inr, refl, subst, sym, ◌∙◌}
-use Rattle.rv_sim.specs.Stepping.{state_of}
 use Rattle.cmm_compile.specs.Agreement.{launch_of}
 use Rattle.cmm_image_machine.specs.Machine.{Launch}
 use Rattle.cmm_run.specs.Outside.{outside_of}
 use Rattle.cmm_run.specs.Runs.{Runs}
+use Rattle.cmm_run.specs.Sessions.{machine_of}
 use Rattle.cmm_script.specs.declared.script.Block.{Block}
 use Rattle.cmm_top.specs.Call.{Outside}
 use Rattle.cmm_top.specs.Generating.{usual_limits}
@@ -52,7 +52,7 @@ returns g c = λ files faults failed.
     let last = streams c.run-outcome.new.input c.run-outcome.new.out c.run-outcome.new.log in
     let ended = c.run-outcome.result in
     let image = c.in-Ok.compiled.image in
-    let machine = state_of c.run-outcome.new.self.regs c.run-outcome.new.self.memory in
+    let machine = machine_of c.run-outcome.new.self in
     let launch : c.in-Ok-load.session.launch ≡ launch_of image no_script usual_limits.stack =
     c.in-Ok-load.ensures.launch ∙ ap (λ (blocks : List Block). launch_of image (record { blocks = blocks }) usual_limits.stack) c.empty.ensures in
     inl record {

@@ -1,8 +1,8 @@
 use Rattle.std.proofs.Common.{◌≡◌, Bor, List, ℕ, None, inl, refl, subst}
 use Rattle.std.specs.Option.{option_map}
-use Rattle.rv_memory.specs.States.{state_of}
 use Rattle.cmm_image_machine.specs.Machine.{Launch}
 use Rattle.cmm_run.specs.Outside.{outside_of}
+use Rattle.cmm_run.specs.Sessions.{machine_of}
 use Rattle.cmm_top.specs.Call.{Outside, standing}
 use Rattle.cmm_top.specs.Saving.{Saves, is_stopped, saved_to}
 use Rattle.cmm_top.specs.inside.Ending.{work_of}
@@ -22,7 +22,7 @@ returns-in-Ok-run_image g c =
     let ran = c.in-Ok-run_image.ensures.runs in
     let outcome = c.in-Ok-run_image.outcome in
     let session = c.in-Ok-run_image.session in
-    let machine = state_of session.regs session.memory in
+    let machine = machine_of session in
     let to = saved_to (is_stopped outcome) (option_map (λ (name : Bor (List ℕ)). name.now) c.args.save) in
     let same : mid ≡ before = same_outside first before.files mid.files before.file_faults mid.file_faults before.last_failed mid.last_failed read.same read.no_fault read.no_failed_call in
     inl record {

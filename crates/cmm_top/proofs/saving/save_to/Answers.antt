@@ -7,11 +7,10 @@ returns-in-Err g c = λ first last. inr (inr record { files = record { files = r
 
 pub returns-in-Ok-write_file : goal.returns-in-Ok-write_file
 returns-in-Ok-write_file g c = λ first last.
-    let session = c.args.session.now in
     let wrote = c.in-Ok-write_file.ensures in
     inl record {
       bytes = c.in-Ok.bytes.items;
-      snapshot = record { regs = session.regs; memory = session.memory; spelled = c.in-Ok.ensures.spelled; state = refl; stack_is = c.snapshot.ensures.stack };
+      snapshot = c.in-Ok.ensures;
       written = subst (λ (bytes : List ℕ). Writes (g.F.Files.contents c.args.files.now) (g.F.Files.contents c.write_file.new.files) c.args.name.now (λ _. bytes)) c.deref.ensures.value wrote.ok;
       file_faults = wrote.no_fault;
       last_failed = wrote.no_failed_call;
@@ -20,11 +19,10 @@ returns-in-Ok-write_file g c = λ first last.
 
 pub returns : goal.returns
 returns g c = λ first last.
-    let session = c.args.session.now in
     let stopped = c.in-Err-write_file.ensures in
     inr (inl record {
       bytes = c.in-Ok.bytes.items;
-      snapshot = record { regs = session.regs; memory = session.memory; spelled = c.in-Ok.ensures.spelled; state = refl; stack_is = c.snapshot.ensures.stack };
+      snapshot = c.in-Ok.ensures;
       stops = subst (λ (bytes : List ℕ). StopsWriting (g.F.Files.contents c.args.files.now) (g.F.Files.contents c.write_file.new.files) (g.F.Files.last_failed c.write_file.new.files) c.args.name.now bytes)
           c.deref.ensures.value stopped.err;
       rose = stopped.fault;

@@ -14,10 +14,11 @@ use Rattle.cmm_run.proofs.session.Session.load.Goals as goal
 pub invariant_of-result : goal.invariant_of-result
 invariant_of-result c =
     let l : Launch = record { image = c.args.image; script = c.args.script; stack_size = c.args.limits.stack } in
-    let machine : Machine = record { regs = c.first_registers-regs.result; memory = c.in_ok-memory.memory; waiting = c.in_ok-waiting.waiting; input_ended = false } in
-    subst (λ (launch : Launch). IsOfRun launch machine.memory × (◌≡◌ {A = Option Outcome} None None → IsReady launch machine)) (sym c.new-3.ensures)
-    (let ready = is_ready l machine (rows_are_bounded l.image c.parts.ensures.kept).initial
-    (λ bytes. c.first_registers-regs.ensures bytes
-    ∙ ap (λ (i : ImageParts). at_pc i.start (start (region_of machine.memory) bytes)) c.parts.ensures.same)
+    let regs = c.first_registers-regs.result in
+    let memory = c.in_ok-memory.memory in
+    let machine : Machine = record { program = c.new-4.result; waiting = c.in_ok-waiting.waiting; input_ended = false } in
+    subst (λ (launch : Launch). IsOfRun launch machine.program × (◌≡◌ {A = Option Outcome} None None → IsReady launch machine)) (sym c.new-3.ensures)
+    (let ready = is_ready l machine regs memory c.new-4.ensures (rows_are_bounded l.image c.parts.ensures.kept).initial
+    (λ bytes. c.first_registers-regs.ensures bytes ∙ ap (λ (i : ImageParts). at_pc i.start (start (region_of memory) bytes)) c.parts.ensures.same)
     c.in_ok-memory.ensures c.in_ok-waiting.ensures refl in
     (record { map = ready.map; region = ready.region; aligned = c.requires.aligned }, λ _. ready))
