@@ -3,10 +3,10 @@
 //! same locals; `specs/Folding` says what that is of a right side, and which operators are left, `specs/Graphs` of a graph.
 //!
 //! - `value`: what a right side becomes.
-//! - `folding`: `fold`, which does so in each node of a graph.
+//! - `folding`: `fold`, which does so in each node of a graph, and `fold_all`, in each of some graphs.
 #![tactic(auto)]
 
 mod folding;
 mod value;
 
-pub use folding::fold;
+pub use folding::{fold, fold_all};
