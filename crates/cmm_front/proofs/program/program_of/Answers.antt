@@ -82,6 +82,7 @@ returns-clause-ok c =
     record { trees = trees; are_trees = are; accepted = accepted; is_program = is }
 
 pub returns-clause-range : goal.returns-clause-range
+unfolding returns-clause-ok
 returns-clause-range c =
     let is : IsProgramOf c.args.units.now c.in_ok-program.program = returns-clause-ok c in
     let same : c.in_ok-checked.checked ≡ c.in_ok-trees.trees = c.in_ok-checked.ensures.ok ∙ c.as_slice-2.ensures in
