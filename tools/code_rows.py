@@ -107,6 +107,14 @@ CALLER = 144
 MARKS = {0: 2, 1: 1}
 
 
+# The largest frame whose entry moves register 2 before it checks the room: so register 2 has moved at the limit.
+MOVED_FIRST = 2048
+
+
+def moved_at_limit(size):
+    return size if size <= MOVED_FIRST else 0
+
+
 def register(n):
     """What a register has at the beginning."""
     return n * 0x0101010101010101
@@ -123,10 +131,11 @@ def call_cases():
                 back = [0, passed[3], 11, 10, passed[9], 8, 7, 6, 5, passed[4], passed[2], passed[1], passed[0], frame - size + data, frame]
                 enough = spare >= 0
                 kept = [register(9), register(27)]
-                found = [MARKS[exit] if enough else 3, CALLER] + kept + (back if enough else [0] * 15)
+                below = CALLER if enough else CALLER + moved_at_limit(size)
+                found = [MARKS[exit] if enough else 3, below] + kept + (back if enough else [0] * 15)
                 yield f"call {layout:x} {exit:x} {stack:x}", hexes(found)
     # not even the caller has room
-    yield f"call 0 0 {CALLER - 16:x}", hexes([3, 0, register(9), register(27)] + [0] * 15)
+    yield f"call 0 0 {CALLER - 16:x}", hexes([3, moved_at_limit(CALLER), register(9), register(27)] + [0] * 15)
 
 
 # ---- switches
