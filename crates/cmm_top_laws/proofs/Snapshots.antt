@@ -1,5 +1,5 @@
 -- What `walk` writes of the snapshot of a run is the walk of where the run was stopped.
-use Rattle.std.proofs.Common.{◌≡◌, ℕ, List, ◌++◌, Option, Some, None, map, codes, inl, inr, refl, ap, sym, ◌∙◌, subst}
+use Rattle.std.proofs.Common.{◌≡◌, ◌⊎◌, ℕ, List, ◌++◌, Option, Some, None, map, codes, inl, inr, refl, ap, sym, ◌∙◌, subst}
 use Rattle.rv_table.specs.Machine as rv
 use Rattle.rv_table.specs.Machine.{region_base}
 use Rattle.rv_memory.specs.Regions as regions
@@ -18,7 +18,6 @@ use Rattle.cmm_snapshot.specs.Laws.{SnapshotsAreOne, SnapshotsKeepStates}
 use Rattle.cmm_snapshot.specs.SnapshotFormat.{taken_of}
 use Rattle.cmm_snapshot.specs.Snapshots.{SpellsSnapshot}
 use Rattle.cmm_walk.specs.Texts.{end_text}
-use Rattle.cmm_top.specs.Walking as walking
 use Rattle.cmm_top.specs.Walking.{FailsToWalk, IsTorn, IsWhole, Stopped, chain_in}
 use Rattle.cmm_top.specs.Work.{Work}
 use Rattle.cmm_top_laws.specs.Laws.{SavedRunsWalkSo, SnapshotsWalkSo}
@@ -57,15 +56,15 @@ pub snapshots_walk_so : SnapshotsAreOne → SnapshotsKeepStates → SnapshotsWal
 snapshots_walk_so one keep image script stack stood bytes walk saved walks name snapshot w walked same_image same_bytes =
     let p = walked.program in
     let spelled : SpellsSnapshot image bytes (taken_of p.regs p.memory) =
-        subst (λ (i : ImageParts). SpellsSnapshot i bytes (taken_of p.regs p.memory)) same_image
-        (subst (λ (bs : List ℕ). SpellsSnapshot p.image bs (taken_of p.regs p.memory)) same_bytes walked.stopped.2) in
+    subst (λ (i : ImageParts). SpellsSnapshot i bytes (taken_of p.regs p.memory)) same_image
+    (subst (λ (bs : List ℕ). SpellsSnapshot p.image bs (taken_of p.regs p.memory)) same_bytes walked.stopped.2) in
     let kept = keep p.regs saved.regs p.memory saved.memory (one image bytes (taken_of p.regs p.memory) (taken_of saved.regs saved.memory) spelled saved.spelled) in
     let state : state_of p.regs p.memory ≡ stood = kept.0 ∙ saved.state in
     let region : regions.region_of p.memory ≡ region_of (launch_of image script stack) =
-        kept.1 ∙ ap (λ (size : ℕ). let r : Region = record { address = region_base; stack_size = size } in r) saved.stack_is in
+    kept.1 ∙ ap (λ (size : ℕ). let r : Region = record { address = region_base; stack_size = size } in r) saved.stack_is in
     let same : chain_walk p.image (regions.region_of p.memory) (state_of p.regs p.memory) ≡ chain_walk image (region_of (launch_of image script stack)) stood =
-        ap (λ (i : ImageParts). chain_walk i (regions.region_of p.memory) (state_of p.regs p.memory)) same_image
-        ∙ (ap (λ (r : Region). chain_walk image r (state_of p.regs p.memory)) region ∙ ap (λ (s : rv.State). chain_walk image (region_of (launch_of image script stack)) s) state) in
+    ap (λ (i : ImageParts). chain_walk i (regions.region_of p.memory) (state_of p.regs p.memory)) same_image
+    ∙ (ap (λ (r : Region). chain_walk image r (state_of p.regs p.memory)) region ∙ ap (λ (s : rv.State). chain_walk image (region_of (launch_of image script stack)) s) state) in
     written_so p walk w (same ∙ walks) walked.walked
 
 pub saved_runs_walk_so : ImagesAreOne → SnapshotsWalkSo → SavedRunsWalkSo

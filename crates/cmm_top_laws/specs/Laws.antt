@@ -21,12 +21,13 @@ use Rattle.cmm_run.specs.declared.outcome.Outcome.{Outcome}
 use Rattle.cmm_run.specs.declared.outcome.Outcome.TheVariants.{Stopped}
 use Rattle.cmm_run.specs.Outside.{Outside as Streams}
 use Rattle.cmm_run.specs.Runs.{Runs}
+use Rattle.cmm_run.specs.Sessions.{IsSnapshotOf}
 use Rattle.cmm_command.specs.declared.command.RunLimits.{RunLimits}
 use Rattle.cmm_top.specs.Building.{HasBuilt}
 use Rattle.cmm_top.specs.Executing as executing
 use Rattle.cmm_top.specs.Generating as generating
 use Rattle.cmm_top.specs.Running as running
-use Rattle.cmm_top.specs.Saving.{HasSaved, IsSnapshotOf}
+use Rattle.cmm_top.specs.Saving.{HasSaved}
 use Rattle.cmm_top.specs.Walking.{HasWalked}
 use Rattle.cmm_top.specs.Words.{Task, task_of}
 use Rattle.cmm_top.specs.Work.{Work}
