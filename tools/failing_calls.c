@@ -23,6 +23,9 @@
 #include <sys/types.h>
 #include <unistd.h>
 
+/* (fcntl.h may define these functions itself) */
+#define AT_FDCWD -100
+
 __attribute__((constructor)) static void limit_files(void)
 {
     const char *room = getenv("FILE_ROOM");
@@ -67,20 +70,23 @@ ssize_t __write(int file, const void *bytes, size_t size)
     return write(file, bytes, size);
 }
 
-int openat(int folder, const char *name, int flags, ...)
+/* Opens a file, where the flags say so with a mode, if that call is not the one that fails. */
+static int open_at(int folder, const char *name, int flags, mode_t mode)
 {
-    va_list rest;
-    va_start(rest, flags);
-    mode_t mode = va_arg(rest, mode_t);
-    va_end(rest);
     return fails("files") ? -1 : (int)syscall(SYS_openat, folder, name, flags, mode);
 }
 
-int openat64(int folder, const char *name, int flags, ...)
-{
-    va_list rest;
-    va_start(rest, flags);
-    mode_t mode = va_arg(rest, mode_t);
-    va_end(rest);
-    return openat(folder, name, flags, mode);
-}
+#define OPENING(function, parameters, folder)              \
+    int function parameters                                \
+    {                                                      \
+        va_list rest;                                      \
+        va_start(rest, flags);                             \
+        mode_t mode = va_arg(rest, mode_t);                \
+        va_end(rest);                                      \
+        return open_at(folder, name, flags, mode);         \
+    }
+
+OPENING(open, (const char *name, int flags, ...), AT_FDCWD)
+OPENING(open64, (const char *name, int flags, ...), AT_FDCWD)
+OPENING(openat, (int folder, const char *name, int flags, ...), folder)
+OPENING(openat64, (int folder, const char *name, int flags, ...), folder)
