@@ -25,8 +25,7 @@ use Rattle.cmm_graph.specs.Liveness.{IsLiveBefore, Here, Onward}
 use Rattle.cmm_graph.specs.Paths.{reads, successors}
 use Rattle.cmm_graph.specs.Ranges.{is_local}
 use Rattle.cmm_graph.proofs.Shared.{n, v, arg}
-use Rattle.cmm_live.proofs.Conflicting.{sets_decide_conflicts}
-use Rattle.cmm_live.proofs.Gathering.{sets_are_closed}
+use Rattle.cmm_live.proofs.Shared.{sets_are_closed, sets_decide_conflicts}
 use Rattle.cmm_live.specs.declared.live_sets.LiveSets.{LiveSets}
 use Rattle.cmm_live.specs.Exact.{AreLiveSets, IsSetOf, has_local, set_at}
 use Rattle.cmm_live.specs.Sites.{site_of}

@@ -16,7 +16,7 @@ use Rattle.cmm_graph.specs.declared.operand.Local.{Local}
 use Rattle.cmm_graph.specs.declared.operand.Local.TheVariants as local
 use Rattle.cmm_graph.specs.Paths.{node_of, successors, writes}
 use Rattle.cmm_graph.specs.Ranges.{is_local}
-use Rattle.cmm_live.proofs.Gathering.{live_of}
+use Rattle.cmm_live.proofs.Shared.{live_of}
 use Rattle.cmm_live.specs.declared.live_sets.LiveSets.{LiveSets}
 use Rattle.cmm_live.specs.Conflicts.{Conflicts}
 use Rattle.cmm_live.specs.Exact.{AreLiveSets, has_local, set_at}

@@ -8,12 +8,11 @@ use Rattle.cmm_program.specs.Client as program
 use Rattle.cmm_program.specs.Client.{linked_label}
 use Rattle.cmm_program.specs.Errors.{with_some}
 use Rattle.cmm_program.specs.Layout.{label_address}
-use Rattle.cmm_program.specs.Memory.{Room, number_of, with_bytes}
+use Rattle.cmm_program.specs.Memory.{IsByte, Room, number_of, with_bytes}
 use Rattle.cmm_program.specs.State.{Setting, Store}
 use Rattle.cmm_image.specs.declared.parts.ImageParts.{ImageParts}
 use Rattle.cmm_image.specs.declared.rows.LabelRow.{LabelRow}
 use Rattle.cmm_machine_laws.specs.Alike.{ChangesAlike, StayAlike}
-use Rattle.cmm_machine_laws.specs.Fitting.{IsByte}
 use Rattle.cmm_machine_laws.specs.Stacks.{Extent}
 use Rattle.cmm_image_machine.specs.Changes as image
 use Rattle.cmm_image_machine.specs.Changes.{label_named}

@@ -23,7 +23,8 @@ use Rattle.cmm_program.specs.Machine.{start}
 use Rattle.cmm_program.specs.Placed.{IsPlaced, ascend_from, is_code_address}
 use Rattle.cmm_program.specs.State.{Setting}
 use Rattle.cmm_program.specs.Todo.{todo_control}
-use Rattle.cmm_machine_laws.specs.Fitting.{IsByte, IsSetUp}
+use Rattle.cmm_machine_laws.specs.Fitting.{IsSetUp}
+use Rattle.cmm_program.specs.Memory.{IsByte}
 use Rattle.cmm_machine_laws.specs.Observed.{Call, machine_of}
 use Rattle.cmm_data.specs.Laws.{DataReachesItsEnd, InRangeCanBeLaidOut}
 use Rattle.cmm_image_machine.specs.Laws.{ImagesKeepFrames}
@@ -39,7 +40,7 @@ use Rattle.cmm_located.specs.Compiled.{Compiled}
 use Rattle.cmm_located.specs.Layouts.{row_with}
 use Rattle.cmm_located.specs.LocatedMachine.{located_start, tokens_at}
 use Rattle.cmm_located.specs.SameOrders.{HasFrames}
-use Rattle.cmm_image_machine.specs.Agreeing.{AgreesOnceBegun}
+use Rattle.cmm_simulation.specs.OnceBegun.{AgreesOnceBegun}
 use Rattle.cmm_emit_laws.specs.Represented.{IsFor}
 use Rattle.cmm_client_laws.specs.Laws.{IsTold, RowsAreTables}
 use Rattle.cmm_client_laws.specs.Tables.{HaveTables}

@@ -18,14 +18,14 @@ use Rattle.cmm_program.specs.Machine.{start}
 use Rattle.cmm_program.specs.Placed.{IsPlaced}
 use Rattle.cmm_program.specs.State.{Setting}
 use Rattle.cmm_program.specs.Todo.{todo_control}
-use Rattle.cmm_machine_laws.specs.Fitting.{IsByte}
+use Rattle.cmm_program.specs.Memory.{IsByte}
 use Rattle.cmm_machine_laws.specs.Observed.{Call, machine_of}
 use Rattle.cmm_image.specs.declared.parts.ImageParts.{ImageParts}
 use Rattle.cmm_image.specs.ImageFormat.{procedure_at}
 use Rattle.cmm_image_machine.specs.Changes.{label_named}
 use Rattle.cmm_image_machine.specs.Machine.{Launch, first_run}
 use Rattle.cmm_image_machine.specs.Observed.{image_machine}
-use Rattle.cmm_image_machine.specs.Agreeing.{AgreesOnceBegun}
+use Rattle.cmm_simulation.specs.OnceBegun.{AgreesOnceBegun}
 use Rattle.cmm_image_machine.specs.Tables.{IsLabelRow, global_row, placement_of, variable_row}
 use Rattle.cmm_front.specs.Programs.{IsProgramOf}
 

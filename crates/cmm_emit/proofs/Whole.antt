@@ -26,7 +26,7 @@ use Rattle.cmm_program.specs.Errors.{with_some}
 use Rattle.cmm_program.specs.InRange.{IsProcInRange}
 use Rattle.cmm_program.specs.Performing.{procedure_from}
 use Rattle.cmm_program.specs.State.{Setting}
-use Rattle.cmm_machine_laws.specs.Fitting.{IsByte}
+use Rattle.cmm_program.specs.Memory.{IsByte}
 use Rattle.cmm_graph.specs.declared.graph.Graph.{Graph}
 use Rattle.cmm_graph.specs.declared.node.Exits.{Exits}
 use Rattle.cmm_graph.specs.declared.node.Node.{Node}

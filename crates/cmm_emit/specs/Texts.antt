@@ -5,7 +5,7 @@ use Rattle.cmm_program.specs.declared.procedure.Proc.{Proc}
 use Rattle.cmm_program.specs.declared.program.Program.{Program}
 use Rattle.cmm_program.specs.Layout.{data_bytes}
 use Rattle.cmm_program.specs.State.{Setting}
-use Rattle.cmm_machine_laws.specs.Fitting.{IsByte}
+use Rattle.cmm_program.specs.Memory.{IsByte}
 use Rattle.cmm_graph.specs.declared.graph.Graph.{Graph}
 use Rattle.cmm_image_machine.specs.Machine.{Launch, map_of, region_of}
 use Rattle.cmm_emit_laws.specs.Represented.{IsFor, stack_region}

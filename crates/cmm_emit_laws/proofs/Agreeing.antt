@@ -18,7 +18,7 @@ use Rattle.cmm_program.specs.Errors.{WrongValues, provided}
 use Rattle.cmm_program.specs.Exits.{begun}
 use Rattle.cmm_program.specs.Frames.{procedure_at}
 use Rattle.cmm_program.specs.State.{Setting, Store, Running, Ended, StackLimit}
-use Rattle.cmm_machine_laws.specs.Fitting.{IsByte}
+use Rattle.cmm_program.specs.Memory.{IsByte}
 use Rattle.cmm_machine_laws.specs.Observed.{Call, Ending, event_at}
 use Rattle.cmm_graph.specs.declared.number.NodeId.{NodeId}
 use Rattle.cmm_graph.specs.declared.number.Variable.{Variable}
@@ -40,7 +40,7 @@ use Rattle.cmm_located.specs.Nodes.{keeping, passed_to, ran_at, zeros_in}
 use Rattle.cmm_emit_laws.proofs.Beginning.{code_begins, entry, nothing_within, right_earlier, shown_follows, start_at, start_is}
 use Rattle.cmm_emit_laws.proofs.OnceBegun.{agrees_once_begun, stands_soon}
 use Rattle.cmm_emit_laws.proofs.Simulating.{code_around, step_leads}
-use Rattle.cmm_image_machine.specs.Agreeing.{AgreesOnceBegun, Precedes}
+use Rattle.cmm_simulation.specs.OnceBegun.{AgreesOnceBegun, Precedes}
 use Rattle.cmm_emit_laws.specs.Finished.{Finished}
 use Rattle.cmm_emit_laws.specs.Laws.{most_for_step}
 use Rattle.cmm_emit_laws.specs.ProgramCode.{IsCode, IsCodeAround}

@@ -21,7 +21,7 @@ use Rattle.cmm_program.specs.Layout.{data_bytes}
 use Rattle.cmm_program.specs.Machine.{first_store}
 use Rattle.cmm_program.specs.State as p
 use Rattle.cmm_program.specs.State.{Setting, stack_top}
-use Rattle.cmm_machine_laws.specs.Fitting.{IsByte}
+use Rattle.cmm_program.specs.Memory.{IsByte}
 use Rattle.cmm_graph.specs.declared.number.NodeId.{NodeId}
 use Rattle.cmm_graph.specs.declared.node.Node.{Node}
 use Rattle.cmm_graph.specs.GraphControl.{in_graph}

@@ -4,11 +4,10 @@ use Rattle.std.specs.Prelude.{◌&&◌, nat_le, nat_lt, slice_index_or}
 use Rattle.std.proofs.lemmas.Bool.Decides.{nat_tests}
 use Rattle.cmm_chain.specs.Running.{Holdings}
 use Rattle.cmm_program.specs.Layout.{data_bytes}
-use Rattle.cmm_program.specs.Memory.{Cell, cell_at, cell_in, cell_of, is_in, number_of, with_bytes}
+use Rattle.cmm_program.specs.Memory.{IsByte, Cell, cell_at, cell_in, cell_of, is_in, number_of, with_bytes}
 use Rattle.cmm_program.specs.State.{Setting, Store}
 use Rattle.cmm_program.specs.Values.{is_there}
 use Rattle.cmm_machine_laws.proofs.Shared.{bytes_of_spelled}
-use Rattle.cmm_machine_laws.specs.Fitting.{IsByte}
 use Rattle.cmm_machine_laws.specs.Stacks.{Extent}
 use Rattle.rv_table.specs.Machine.{MemoryMap, State, data_base, stored}
 use Rattle.cmm_emit_laws.specs.Words.{Symbols}

@@ -16,7 +16,7 @@ use Rattle.cmm_graph.specs.Paths.{node_of}
 use Rattle.cmm_graph.specs.Ranges.{IsValid, is_step, leads_to}
 use Rattle.cmm_effects.specs.Changes.{Keeps}
 use Rattle.cmm_image_machine.specs.Machine.{Launch, map_of}
-use Rattle.cmm_machine_laws.specs.Fitting.{IsByte}
+use Rattle.cmm_program.specs.Memory.{IsByte}
 use Rattle.cmm_emit_laws.specs.Outside.{Outside}
 use Rattle.cmm_emit_laws.specs.Serving.{IsDoneBy, Silently}
 use Rattle.cmm_emit_laws.proofs.Showing.{holdings_same}

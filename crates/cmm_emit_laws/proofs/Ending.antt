@@ -10,7 +10,7 @@ use Rattle.cmm_program.specs.State as p
 use Rattle.cmm_program.specs.State.{Outcome, Setting}
 use Rattle.cmm_graph.specs.Acting.{act_of}
 use Rattle.cmm_graph.specs.GraphControl.{kind_at}
-use Rattle.cmm_machine_laws.specs.Fitting.{IsByte}
+use Rattle.cmm_program.specs.Memory.{IsByte}
 use Rattle.cmm_machine_laws.specs.Observed.{Call, Ending, ending_of, event_at, log_seen}
 use Rattle.cmm_machine_laws.specs.Runs.{yielded}
 use Rattle.cmm_effects.proofs.Shared.{reaches_more}

@@ -11,7 +11,7 @@ use Rattle.rv_table.specs.declared.request.Request.TheVariants as request
 use Rattle.rv_asm.proofs.Shared.{reaches_then, reaches_weaker}
 use Rattle.rv_asm.specs.Reaching.{Reaches}
 use Rattle.cmm_simulation.specs.Seen.{Input}
-use Rattle.cmm_machine_laws.specs.Fitting.{IsByte}
+use Rattle.cmm_program.specs.Memory.{IsByte}
 use Rattle.cmm_machine_laws.specs.Observed.{event_at}
 use Rattle.cmm_program.specs.declared.procedure.Target.{Target}
 use Rattle.cmm_program.specs.declared.procedure.Target.TheVariants as target

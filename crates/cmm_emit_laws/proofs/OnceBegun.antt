@@ -10,7 +10,7 @@ use Rattle.cmm_simulation.specs.Machine.{Machine, Lasts, Stands, after}
 use Rattle.cmm_simulation.specs.Observing.{Level, Passes}
 use Rattle.cmm_simulation.specs.Seen.{Event, End, but_input}
 use Rattle.cmm_simulation.specs.Simulation.{Leads}
-use Rattle.cmm_image_machine.specs.Agreeing.{AgreesOnceBegun, Precedes}
+use Rattle.cmm_simulation.specs.OnceBegun.{AgreesOnceBegun, Precedes}
 
 module _ {S T L C E : Type 0} {A : Machine S L C E} {B : Machine T L C E} {factor first : ℕ} {s : S} {t : T} (lasts : Lasts A) (lasts' : Lasts B) (positive : 1 ≤ factor)
     (early : first ≤ factor) (begins : Leads B (λ _. 1) (Precedes A B s) (Follows A (λ _. factor) B (λ _. 1) s) 0 first t) where

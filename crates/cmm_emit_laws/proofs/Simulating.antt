@@ -20,7 +20,7 @@ use Rattle.cmm_graph.specs.Acting.{act_of}
 use Rattle.cmm_graph.specs.GraphControl.{kind_at}
 use Rattle.cmm_graph.specs.Paths.{node_of}
 use Rattle.cmm_graph.specs.Ranges.{IsValid, is_kind, is_step, is_variable, leads_to}
-use Rattle.cmm_machine_laws.specs.Fitting.{IsByte}
+use Rattle.cmm_program.specs.Memory.{IsByte}
 use Rattle.cmm_machine_laws.specs.Observed.{event_at}
 use Rattle.cmm_select.specs.Laws.{SwitchesLead}
 use Rattle.cmm_image_machine.specs.Machine.{Launch, Run, Status, Running, Ended, map_of}

@@ -5,7 +5,7 @@ use Rattle.cmm_simulation.specs.Following.{Follows}
 use Rattle.cmm_simulation.specs.Observing.{Passes}
 use Rattle.cmm_simulation.specs.Simulation.{Leads, Simulates}
 use Rattle.cmm_program.specs.State.{Setting}
-use Rattle.cmm_machine_laws.specs.Fitting.{IsByte}
+use Rattle.cmm_program.specs.Memory.{IsByte}
 use Rattle.cmm_image_machine.specs.Machine.{Launch, Run, first_memory, first_run}
 use Rattle.cmm_image_machine.specs.Observed.{image_machine}
 use Rattle.cmm_emit_laws.specs.Serving.{IsRepresentedBy}

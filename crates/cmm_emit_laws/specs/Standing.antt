@@ -6,7 +6,7 @@ use Rattle.rv_table.specs.Machine.{State}
 use Rattle.rv_table.specs.declared.trap.TrapKind.TheVariants.{Breakpoint}
 use Rattle.cmm_program.specs.State as c
 use Rattle.cmm_program.specs.State.{Activation, Setting}
-use Rattle.cmm_machine_laws.specs.Fitting.{IsByte}
+use Rattle.cmm_program.specs.Memory.{IsByte}
 use Rattle.cmm_machine_laws.specs.Observed.{store_seen}
 use Rattle.cmm_graph.specs.declared.node.Node.{Node}
 use Rattle.cmm_graph.specs.GraphControl.{in_graph}

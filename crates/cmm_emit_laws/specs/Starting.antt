@@ -7,7 +7,7 @@ use Rattle.rv_asm.specs.declared.part.Label.{Label}
 use Rattle.rv_table.specs.declared.request.Request.TheVariants.{End}
 use Rattle.cmm_program.specs.Layout.{data_bytes}
 use Rattle.cmm_program.specs.State.{Setting}
-use Rattle.cmm_machine_laws.specs.Fitting.{IsByte}
+use Rattle.cmm_program.specs.Memory.{IsByte}
 use Rattle.cmm_graph.specs.declared.number.NodeId.{NodeId}
 use Rattle.cmm_graph.specs.GraphControl.{in_graph}
 use Rattle.cmm_effects.specs.Changes.{PutsRegister}

@@ -14,11 +14,10 @@ use Rattle.cmm_program.specs.Errors.{all_of}
 use Rattle.cmm_program.specs.Frames.{frame_address, frame_size, without}
 use Rattle.cmm_program.specs.Layout.{bytes_of, data_bytes}
 use Rattle.cmm_program.specs.Machine.{first_store}
-use Rattle.cmm_program.specs.Memory.{Room, cell_at, number_of, with_bytes}
+use Rattle.cmm_program.specs.Memory.{IsByte, Room, cell_at, number_of, with_bytes}
 use Rattle.cmm_program.specs.State.{Setting, Activation, Store, stack_top}
 use Rattle.cmm_program.specs.Values.{byte_of, is_there}
 use Rattle.rv_asm.specs.declared.part.Label.{Label}
-use Rattle.cmm_machine_laws.specs.Fitting.{IsByte}
 use Rattle.rv_table.specs.Bounds.{IsSound}
 use Rattle.rv_table.specs.Machine.{MemoryMap, State, data_base, is_accessible, loaded, stored}
 use Rattle.cmm_effects.specs.Changes.{CanReach, KeepsBut, Writes, read_at}

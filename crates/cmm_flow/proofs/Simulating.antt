@@ -11,7 +11,8 @@ use Rattle.cmm_simulation.specs.Seen.{IsWithin, but_input}
 use Rattle.cmm_simulation.specs.Simulation.{Leads, Simulates}
 use Rattle.cmm_machine_laws.proofs.Shared.{machine_lasts}
 use Rattle.cmm_machine_laws.specs.Fitting as Fitting
-use Rattle.cmm_machine_laws.specs.Fitting.{AreActivations, ExpressionsFit, IsByte, IsSetUp, IsSound, IsStatementOf, StatesAreSound}
+use Rattle.cmm_machine_laws.specs.Fitting.{AreActivations, ExpressionsFit, IsSetUp, IsSound, IsStatementOf, StatesAreSound}
+use Rattle.cmm_program.specs.Memory.{IsByte}
 use Rattle.cmm_machine_laws.specs.Observed.{Call, Ending, event_at, machine_of, store_seen}
 use Rattle.cmm_program.proofs.Shared.{list_all_get}
 use Rattle.cmm_program.specs.declared.procedure.Proc.{Proc}

@@ -11,7 +11,8 @@ use Rattle.cmm_program.specs.Todo.{todo_control}
 use Rattle.cmm_simulation.specs.Agreement.{Agrees}
 use Rattle.cmm_simulation.specs.Following.{Follows}
 use Rattle.cmm_simulation.specs.Simulation.{Simulates}
-use Rattle.cmm_machine_laws.specs.Fitting.{IsByte, IsSetUp}
+use Rattle.cmm_machine_laws.specs.Fitting.{IsSetUp}
+use Rattle.cmm_program.specs.Memory.{IsByte}
 use Rattle.cmm_machine_laws.specs.Observed.{machine_of}
 use Rattle.cmm_graph.specs.declared.graph.Graph.{Graph}
 use Rattle.cmm_graph.specs.Acting.{led}

@@ -2,7 +2,8 @@
 use Rattle.std.specs.Prelude.{◌≡◌, ℕ, ◌+◌, ◌<◌, List, length}
 use Rattle.std.specs.List.{All, AllZip}
 use Rattle.cmm_simulation.specs.Following.{Follows}
-use Rattle.cmm_machine_laws.specs.Fitting.{IsByte, IsSetUp}
+use Rattle.cmm_machine_laws.specs.Fitting.{IsSetUp}
+use Rattle.cmm_program.specs.Memory.{IsByte}
 use Rattle.cmm_machine_laws.specs.Observed.{machine_of}
 use Rattle.cmm_program.specs.declared.procedure.Proc.{Proc}
 use Rattle.cmm_program.specs.declared.program.Program.{Program}

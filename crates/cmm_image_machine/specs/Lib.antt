@@ -5,4 +5,3 @@ pub mod Machine
 pub mod Observed
 pub mod Laws
 pub mod Tables
-pub mod Agreeing

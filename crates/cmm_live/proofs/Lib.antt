@@ -10,3 +10,4 @@ pub mod Interfering
 pub mod Pairing
 pub mod ConflictGraphs
 mod Rows
+pub mod Shared

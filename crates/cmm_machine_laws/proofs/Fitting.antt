@@ -14,7 +14,7 @@ use Rattle.cmm_program.proofs.Shared.{all_get}
 use Rattle.cmm_machine_laws.proofs.Lists.{some_get, zip_zeros}
 use Rattle.cmm_machine_laws.proofs.Steps.{kept_by_steps, landed_has, start_keeps, step_has}
 use Rattle.cmm_machine_laws.proofs.StoredWords.{bytes_of_number}
-use Rattle.cmm_machine_laws.specs.Fitting.{StateFits, MemoryFits, AreActivations, Demand, ExpressionsFit, IsByte, IsSound, IsStatementOf, IsSuspended, RoomFits, Youngest, ArePassed, IsSetUp, StatesAreSound}
+use Rattle.cmm_machine_laws.specs.Fitting.{StateFits, MemoryFits, AreActivations, Demand, ExpressionsFit, IsSound, IsStatementOf, IsSuspended, RoomFits, Youngest, ArePassed, IsSetUp, StatesAreSound}
 use Rattle.cmm_machine_laws.specs.Runs.{Adds, Traffic, traffic}
 use Rattle.cmm_program.specs.Acts.{evaluated}
 use Rattle.cmm_program.specs.Orders as order
@@ -25,7 +25,7 @@ use Rattle.cmm_program.specs.Exits.{Exit, Instead, Landing, have_widths, numbers
 use Rattle.cmm_program.specs.Frames.{Suspended, procedure_at, suspended_at, without}
 use Rattle.cmm_program.specs.Layout.{bytes_of}
 use Rattle.cmm_program.specs.Machine.{first_store, start, step}
-use Rattle.cmm_program.specs.Memory.{with_bytes}
+use Rattle.cmm_program.specs.Memory.{IsByte, with_bytes}
 use Rattle.cmm_program.specs.Performing.{Transfer, Away, Over, Stay, perform}
 use Rattle.cmm_program.specs.State.{Ended, Activation, Outcome, Running, Setting, Store, Waiting, StackLimit, Stopped}
 use Rattle.cmm_program.specs.Todo.{Todo, todo_control}

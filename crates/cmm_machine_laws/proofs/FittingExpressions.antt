@@ -14,10 +14,9 @@ use Rattle.cmm_program.specs.declared.expression.Expression.TheVariants.{Load', 
 use Rattle.cmm_program.specs.declared.procedure.Proc.{Proc}
 use Rattle.cmm_program.specs.declared.program.Program.{Program}
 use Rattle.cmm_program.specs.Errors.{Tried, all_of}
-use Rattle.cmm_program.specs.Memory.{Cell, number_of}
+use Rattle.cmm_program.specs.Memory.{IsByte, Cell, number_of}
 use Rattle.cmm_program.specs.Typing.{has_variable, has_register, has_width, is_typed}
 use Rattle.cmm_program.specs.Values.{Reads, value_of, width_of, known_width, byte_of}
-use Rattle.cmm_machine_laws.specs.Fitting.{IsByte}
 use Rattle.cmm_machine_laws.proofs.Kept.{KeptBy, kept_after}
 
 -- a cell that was written holds a byte

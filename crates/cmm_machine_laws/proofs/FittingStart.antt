@@ -19,7 +19,8 @@ use Rattle.rv_table.specs.Memory.{data_base}
 use Rattle.cmm_program.specs.Placed.{IsPlaced, are_labels}
 use Rattle.cmm_program.specs.State.{Setting}
 use Rattle.cmm_program.proofs.Shared.{all_get, end_of-grows}
-use Rattle.cmm_machine_laws.specs.Fitting.{IsByte, CellFits}
+use Rattle.cmm_machine_laws.specs.Fitting.{CellFits}
+use Rattle.cmm_program.specs.Memory.{IsByte}
 use Rattle.cmm_machine_laws.proofs.Addresses.{pairs_inside, row_at}
 use Rattle.cmm_machine_laws.proofs.FittingStores.{AreUpTo, PartsInside}
 

@@ -11,10 +11,10 @@ use Rattle.cmm_program.specs.Memory as memory
 use Rattle.cmm_machine_laws.proofs.FittingActs.{PlaceFits}
 use Rattle.cmm_machine_laws.proofs.FittingExpressions.{IsByteCell, ReadsFit}
 use Rattle.cmm_machine_laws.proofs.Lists.{any_place}
-use Rattle.cmm_machine_laws.specs.Fitting.{AreActivations, CellFits, Demand, IsByte, MemoryFits, RoomFits}
+use Rattle.cmm_machine_laws.specs.Fitting.{AreActivations, CellFits, Demand, MemoryFits, RoomFits}
 use Rattle.cmm_program.specs.Orders.{Held, target_width}
 use Rattle.cmm_program.specs.Frames.{frame_size, place_row, procedure_at, sum_of_sizes}
-use Rattle.cmm_program.specs.Memory.{is_in, Room, cell_in, cell_of, with_byte, with_byte_in, with_bytes, rooms_of}
+use Rattle.cmm_program.specs.Memory.{IsByte, is_in, Room, cell_in, cell_of, with_byte, with_byte_in, with_bytes, rooms_of}
 use Rattle.std.specs.List.{list_all}
 use Rattle.cmm_program.specs.State.{stack_top, Activation, Setting, Status, Store}
 use Rattle.cmm_program.specs.Todo.{Todo}

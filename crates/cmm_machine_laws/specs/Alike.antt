@@ -5,7 +5,7 @@ use Rattle.cmm_script.specs.Walk.{Shown}
 use Rattle.cmm_program.specs.Asking.{Askable, Chain, Cursor, Exit}
 use Rattle.cmm_program.specs.Commands as client
 use Rattle.cmm_program.specs.Commands.{After, Answer, Asked, Left, all_fit}
-use Rattle.cmm_machine_laws.specs.Fitting.{IsByte}
+use Rattle.cmm_program.specs.Memory.{IsByte}
 
 -- `Same` says which two programs are taken together, `Is` which of their activations, and `GoesOn` which that go on.
 module _ {A S R B T Q : Type 0} (Same : S → T → Type 0) (Is : S → T → A → B → Type 0) (GoesOn : R → Q → Type 0) where

@@ -13,7 +13,7 @@ use Rattle.cmm_program.specs.Control.{State}
 use Rattle.cmm_program.specs.Frames.{procedure_at, sum_of_sizes}
 use Rattle.cmm_program.specs.InRange.{IsInRange, is_statement, is_body_in}
 use Rattle.cmm_program.specs.Machine.{start, step, state_after}
-use Rattle.cmm_program.specs.Memory.{Memory, Room}
+use Rattle.cmm_program.specs.Memory.{IsByte, Memory, Room}
 use Rattle.cmm_program.specs.Placed.{IsPlaced}
 use Rattle.cmm_program.specs.State.{Setting, Activation, Status, Running, Waiting, stack_top}
 use Rattle.cmm_program.specs.Todo.{Todo}
@@ -63,10 +63,6 @@ Youngest (Waiting values) youngest = (site : ℕ) × (youngest ≡ Some (Some si
 Youngest status youngest = ⊤
 
 -- ---- values
-
--- a byte
-abbrev pub IsByte : ℕ → Type 0
-IsByte n = n < 256
 
 -- what was written into a cell is a byte, and so in every cell of a room
 abbrev pub CellFits : Option ℕ → Type 0

@@ -1,5 +1,9 @@
 -- Memory: the bytes of data, and those of the stackdata of each present activation.
-use Rattle.std.specs.Prelude.{ℕ, ◌+◌, ◌-◌, ◌*◌, ◌&&◌, Bool, true, false, nat_lt, nat_le, List, [], ◌∷◌, length, map, slice_index_or, slice_set, Option, Some, None}
+use Rattle.std.specs.Prelude.{ℕ, ◌<◌, ◌+◌, ◌-◌, ◌*◌, ◌&&◌, Bool, true, false, nat_lt, nat_le, List, [], ◌∷◌, length, map, slice_index_or, slice_set, Option, Some, None}
+
+-- a byte
+abbrev pub IsByte : ℕ → Type 0
+IsByte n = n < 256
 
 -- what stands at an address
 pub data Cell : Type 0 where

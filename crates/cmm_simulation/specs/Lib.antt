@@ -3,6 +3,7 @@ pub mod Examples
 pub mod Following
 pub mod Machine
 pub mod Observing
+pub mod OnceBegun
 pub mod Reader
 pub mod Seen
 pub mod Simulation

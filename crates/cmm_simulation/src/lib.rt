@@ -15,7 +15,7 @@
 //! - `Observing`: two states that are level, and a state that is passed.
 //! - `Simulation`: paths with a cost, and simulations.
 //! - `Following`: both directions, with costs: any number of steps of the first is done by one path of the second.
-//! - `Agreement`: both directions, in counts of steps.
+//! - `Agreement`: both directions, in counts of steps. `OnceBegun`: the same where the second machine first takes steps of its own.
 //!
 //! The laws hold for all machines, which a contract cannot say, so they are the public lemmas of `proofs/`: of runs in `Runs`, of
 //! paths in `Paths`, of simulations in `Simulations` (lock-step) and `Followings` (what follows for whole runs), of both in

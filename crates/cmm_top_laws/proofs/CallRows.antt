@@ -1,7 +1,7 @@
 -- A call for which nothing is said can run.
 use Rattle.std.proofs.Common.{ℕ, List, [], ◌∷◌, Some, refl, arith}
 use Rattle.std.proofs.lemmas.List.Elements.{All-cons, All-nil}
-use Rattle.cmm_machine_laws.specs.Fitting.{IsByte}
+use Rattle.cmm_program.specs.Memory.{IsByte}
 use Rattle.cmm_run.specs.Outside.{Outside as Streams}
 use Rattle.cmm_top.specs.Generating.{usual_limits}
 use Rattle.cmm_top_laws.specs.Calls.{CanRun}

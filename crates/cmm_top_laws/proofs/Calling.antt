@@ -5,7 +5,7 @@ use Rattle.rv_table.specs.Machine as rv
 use Rattle.cmm_outside.specs.Storage.{Contents, Writes}
 use Rattle.cmm_script.specs.declared.script.Script.{Script}
 use Rattle.cmm_program.specs.declared.program.Program.{Program}
-use Rattle.cmm_machine_laws.specs.Fitting.{IsByte}
+use Rattle.cmm_program.specs.Memory.{IsByte}
 use Rattle.cmm_image.specs.declared.parts.ImageParts.{ImageParts}
 use Rattle.cmm_image.specs.Images.{SpellsImage}
 use Rattle.cmm_image.specs.Laws.{ImagesAreOne}

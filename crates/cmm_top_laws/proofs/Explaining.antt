@@ -25,7 +25,7 @@ use Rattle.cmm_image_machine.specs.Machine.{Launch, Run, first_run, image_after,
 use Rattle.cmm_image_machine.specs.Observed.{asked_at, event_at, has_failed, image_machine, seen_of}
 use Rattle.cmm_image_machine.specs.Walks.{chain_walk}
 use Rattle.cmm_image_machine.proofs.Shared.{images_last, input_kept, runs_are_the_machine}
-use Rattle.cmm_image_machine.specs.Agreeing.{AgreesOnceBegun}
+use Rattle.cmm_simulation.specs.OnceBegun.{AgreesOnceBegun}
 use Rattle.cmm_walk.specs.declared.chain.Torn.{Torn}
 use Rattle.cmm_run.specs.declared.outcome.Outcome.{Outcome}
 use Rattle.cmm_run.specs.declared.outcome.Outcome.TheVariants as outcome

@@ -9,7 +9,7 @@ use Rattle.cmm_program.specs.declared.program.Program.{Program}
 use Rattle.cmm_program.specs.Bounds.{step_factor}
 use Rattle.cmm_program.specs.Placed.{IsPlaced}
 use Rattle.cmm_generated.specs.Generated.{generated}
-use Rattle.cmm_machine_laws.specs.Fitting.{IsByte}
+use Rattle.cmm_program.specs.Memory.{IsByte}
 use Rattle.cmm_front.specs.Programs.{IsProgramOf}
 use Rattle.cmm_image.specs.declared.parts.ImageParts.{ImageParts}
 use Rattle.cmm_image_machine.specs.Machine.{region_of}

@@ -9,13 +9,13 @@ use Rattle.cmm_program.specs.Bounds.{step_factor}
 use Rattle.cmm_program.specs.Machine.{start}
 use Rattle.cmm_program.specs.State.{Setting}
 use Rattle.cmm_program.specs.Walks.{walk_of}
-use Rattle.cmm_machine_laws.specs.Fitting.{IsByte}
+use Rattle.cmm_program.specs.Memory.{IsByte}
 use Rattle.cmm_image.specs.declared.parts.ImageParts.{ImageParts}
 use Rattle.cmm_image.specs.Images.{SpellsImage}
 use Rattle.cmm_image_machine.specs.Machine.{Launch, first_run, region_of}
 use Rattle.cmm_image_machine.specs.Observed.{image_machine}
 use Rattle.cmm_image_machine.specs.Walks.{chain_walk}
-use Rattle.cmm_image_machine.specs.Agreeing.{AgreesOnceBegun}
+use Rattle.cmm_simulation.specs.OnceBegun.{AgreesOnceBegun}
 use Rattle.cmm_compile.specs.Agreement.{launch_of, setting_of}
 use Rattle.cmm_run.specs.declared.outcome.Outcome.{Outcome}
 use Rattle.cmm_run.specs.declared.outcome.Outcome.TheVariants.{Stopped}

@@ -16,7 +16,8 @@ use Rattle.cmm_script.specs.Walk.{Activation}
 use Rattle.cmm_program.specs.Machine.{start as start_of}
 use Rattle.cmm_program.specs.State.{Setting}
 use Rattle.cmm_program.specs.Todo.{todo_control}
-use Rattle.cmm_machine_laws.specs.Fitting.{IsByte, StatesAreSound}
+use Rattle.cmm_machine_laws.specs.Fitting.{StatesAreSound}
+use Rattle.cmm_program.specs.Memory.{IsByte}
 use Rattle.cmm_machine_laws.specs.Observed.{Call, Ending, LineUnseen, MachineLasts, machine_of}
 use Rattle.cmm_select.specs.Laws.{SwitchesLead}
 use Rattle.cmm_image_machine.specs.Laws.{ImagesLast}
@@ -25,7 +26,7 @@ use Rattle.cmm_image_machine.specs.Observed.{image_machine}
 use Rattle.cmm_located.specs.Compiled.{Compiled, Located}
 use Rattle.cmm_located.specs.LocatedMachine.{located_machine, located_start, located_step, tokens_at}
 use Rattle.cmm_emit_laws.proofs.Shared.{agrees_once_begun, first_asks, first_shows, nothing_within, shown_at_start, stands_soon}
-use Rattle.cmm_image_machine.specs.Agreeing.{AgreesOnceBegun, Precedes}
+use Rattle.cmm_simulation.specs.OnceBegun.{AgreesOnceBegun, Precedes}
 use Rattle.cmm_emit_laws.specs.Finished.{Finished}
 use Rattle.cmm_emit_laws.specs.Laws.{IsRepresentedIn, most_for_step}
 use Rattle.cmm_emit_laws.specs.Starting.{StartCode}

@@ -7,7 +7,8 @@ use Rattle.cmm_program.specs.Control.{State}
 use Rattle.cmm_program.specs.Machine.{start}
 use Rattle.cmm_program.specs.State.{Setting}
 use Rattle.cmm_program.specs.Todo.{Todo, todo_control}
-use Rattle.cmm_machine_laws.specs.Fitting.{IsByte, IsSetUp, IsSound, StatesAreSound}
+use Rattle.cmm_machine_laws.specs.Fitting.{IsSetUp, IsSound, StatesAreSound}
+use Rattle.cmm_program.specs.Memory.{IsByte}
 use Rattle.cmm_machine_laws.specs.Observed.{Call, Ending, MachineLasts, machine_of}
 use Rattle.cmm_located.specs.LocatedMachine.{located_machine}
 use Rattle.cmm_client_laws.specs.Fits.{event_fits}

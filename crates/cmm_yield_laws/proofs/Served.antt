@@ -18,7 +18,7 @@ use Rattle.cmm_graph.specs.Acting.{act_of}
 use Rattle.cmm_graph.specs.GraphControl.{in_graph, kind_at}
 use Rattle.cmm_graph.specs.Paths.{node_of}
 use Rattle.cmm_graph.specs.declared.node.Node.{Node}
-use Rattle.cmm_machine_laws.specs.Fitting.{IsByte}
+use Rattle.cmm_program.specs.Memory.{IsByte}
 use Rattle.std.specs.List.{All}
 use Rattle.cmm_graph.specs.declared.node.Exits.{Exits}
 use Rattle.cmm_graph.specs.declared.number.ContinuationId.{ContinuationId}

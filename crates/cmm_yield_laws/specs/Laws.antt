@@ -12,13 +12,14 @@ use Rattle.cmm_program.specs.Control.{State}
 use Rattle.cmm_program.specs.Machine.{start}
 use Rattle.cmm_program.specs.State.{Setting}
 use Rattle.cmm_program.specs.Todo.{Todo, todo_control}
-use Rattle.cmm_machine_laws.specs.Fitting.{IsByte, IsSetUp}
+use Rattle.cmm_machine_laws.specs.Fitting.{IsSetUp}
+use Rattle.cmm_program.specs.Memory.{IsByte}
 use Rattle.cmm_machine_laws.specs.Observed.{Call, Ending, machine_of}
 use Rattle.cmm_image_machine.specs.Machine.{Launch, Run, first_run}
 use Rattle.cmm_image_machine.specs.Observed.{image_machine}
 use Rattle.cmm_located.specs.Compiled.{Compiled, Located}
 use Rattle.cmm_located.specs.LocatedMachine.{located_machine, located_start, located_step, tokens_at}
-use Rattle.cmm_image_machine.specs.Agreeing.{AgreesOnceBegun}
+use Rattle.cmm_simulation.specs.OnceBegun.{AgreesOnceBegun}
 use Rattle.cmm_emit_laws.specs.Finished.{Finished}
 use Rattle.cmm_emit_laws.specs.Laws.{most_for_step}
 use Rattle.cmm_emit_laws.specs.Serving.{IsRepresentedBy}
