@@ -1,4 +1,6 @@
 pub mod Appending
+pub mod Going
+pub mod InOrder
 pub mod Places
 pub mod Reading
 pub mod Rewriting

@@ -6,6 +6,8 @@ pub mod MemoryFiles
 pub mod MemorySink
 pub mod MemorySource
 pub mod Output
+pub mod Reads
+pub mod RecordedFiles
 pub mod Standard
 pub mod Storage
 pub mod inside

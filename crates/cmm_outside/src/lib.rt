@@ -9,6 +9,7 @@
 //!   `write_all`, `read_file` and `write_file`.
 //! - `memory_source`, `memory_sink`, `memory_files`: the same over memory, for tests. Their clauses say
 //!   exactly which calls fail: those that are listed, and those for which there is no room or no file.
+//! - `recorded_files`: files that tell the reads that are made of them, for tests of the order in which files are read.
 //! - `fixed_sink`: a sink over lent bytes, for callers that have no memory to spare.
 //! - `standard`: the same over standard input, a standard output and the file system.
 #![tactic(auto)]
@@ -23,6 +24,7 @@ pub mod memory_source;
 mod named_call;
 pub mod output;
 mod place;
+pub mod recorded_files;
 pub mod standard;
 pub mod storage;
 
@@ -32,6 +34,7 @@ pub use memory_files::MemFiles;
 pub use memory_sink::MemSink;
 pub use memory_source::{MemSource, SureSource};
 pub use output::{Sink, write_all};
+pub use recorded_files::{RecordedFiles, RecordedRead};
 pub use standard::{StdFiles, StdSink, StdSource};
 pub use storage::{CallKind, FileError, Files, read_file, write_file};
 

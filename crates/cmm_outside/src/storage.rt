@@ -1,7 +1,8 @@
 //! Files by name, with the loops that read and write a whole file.
 
-ghost use Rattle.std.specs.Prelude.{◌≡◌, ℕ, ◌+◌, ◌<◌, ◌≤◌, ◌++◌, [], Option, Some, Ok, length, take, max, IfOk, OnOk, OnErr, IsErrOf};
+ghost use Rattle.std.specs.Prelude.{◌≡◌, ℕ, ◌+◌, ◌<◌, ◌≤◌, ◌++◌, [], List, Option, Some, None, Ok, length, take, IfOk, OnOk, OnErr, IsErrOf};
 ghost use Rattle.cmm_outside.specs.Faults.{Rose};
+ghost use Rattle.cmm_outside.specs.Reads.{IsReadFor, Made, MadeOne, MadeOrNot, ReadCall};
 ghost use Rattle.cmm_outside.specs.Storage.{Contents, FailedCall, HasFile, MatchFailed, ReadsAt, StopsWriting, Writes, bytes_of};
 
 use crate::Failed;
@@ -33,8 +34,8 @@ pub trait Files {
     /// The last call that failed.
     ghost last_failed: { Self → Option FailedCall };
 
-    /// How far reads have asked: none so far has asked for a byte from this offset on.
-    ghost asked: { Self → ℕ } = { λ _. 0 };
+    /// The reads so far, where the object tells them.
+    ghost reads: { Self → Option (List ReadCall) } = { λ _. None };
 
     /// Reads bytes of a file from the offset `from` on into the front of `buffer`, and answers how many:
     /// none only where the file has no byte from there on. It fails where there is no such file.
@@ -46,8 +47,10 @@ pub trait Files {
         // It changes no file.
         ensures same { contents self.new ≡ contents self.old }
 
-        // It asks for bytes up to the end of the buffer.
-        ensures asked { asked self.new ≤ max (asked self.old) (from + length buffer.old) }
+        // It is told as it was asked for, with what came of it. One that fails need not be told.
+        ensures told { IfOk result (λ n. 0 < length buffer.old →
+            MadeOne (reads self.old) (reads self.new) (record { name = name.now; from = from; room = length buffer.old; came = Some n })) }
+        ensures told_failed { OnErr result (MadeOrNot (reads self.old) (reads self.new) (record { name = name.now; from = from; room = length buffer.old; came = None })) }
 
         // It fails only where the count of faults rises, and that rises only where it fails.
         ensures no_fault { OnOk result (faults self.new ≡ faults self.old) }
@@ -63,7 +66,7 @@ pub trait Files {
         requires { length name.now ≤ NAME_LIMIT }
         ensures created { OnOk result (Writes (contents self.old) (contents self.new) name.now (λ _. [])) }
         ensures err { OnErr result (contents self.new ≡ contents self.old) }
-        ensures same_asked { asked self.new ≡ asked self.old }
+        ensures same_reads { reads self.new ≡ reads self.old }
 
         ensures no_fault { OnOk result (faults self.new ≡ faults self.old) }
         ensures no_failed_call { OnOk result (last_failed self.new ≡ last_failed self.old) }
@@ -79,7 +82,7 @@ pub trait Files {
         ensures appended { IfOk result (λ n. 0 < n →
             Writes (contents self.old) (contents self.new) name.now (λ file. bytes_of file ++ take n bytes.now)) }
         ensures err { OnErr result (contents self.new ≡ contents self.old) }
-        ensures same_asked { asked self.new ≡ asked self.old }
+        ensures same_reads { reads self.new ≡ reads self.old }
 
         ensures no_fault { OnOk result (faults self.new ≡ faults self.old) }
         ensures no_failed_call { OnOk result (last_failed self.new ≡ last_failed self.old) }
@@ -128,8 +131,8 @@ impl From<AllocError> for FileError {
     }
 }
 
-/// The bytes of a file, read to its end. It reads at most one byte past `limit`. A limit may be any
-/// number: past what memory can hold, memory ends first.
+/// The bytes of a file, read from its first byte on to its end, each piece where the one before it ended, or to
+/// the byte behind `limit`. A limit may be any number: past what memory can hold, memory ends first.
 pub fn read_file<F: Files>(
     alloc: Global,
     files: &mut F,
@@ -141,7 +144,7 @@ pub fn read_file<F: Files>(
     ensures within { IfOk result (λ bytes. length bytes.items ≤ limit) }
     ensures too_long { IsErrOf result FileError.TooLong → HasFile (F.contents files.old) name.now (λ file. limit < length file) }
     ensures same { F.contents files.new ≡ F.contents files.old }
-    ensures asked { F.asked files.new ≤ max (F.asked files.old) (limit + 1) }
+    ensures reads { Made (F.reads files.old) (F.reads files.new) (IsReadFor name.now limit result) }
 
     // It answers Failed only where a read of this file fails, at the first that does.
     ensures fault { MatchFailed result (Rose (F.faults files.old) (F.faults files.new)) (F.faults files.new ≡ F.faults files.old) }
@@ -171,7 +174,7 @@ pub fn write_file<F: Files>(files: &mut F, name: &str, bytes: &[u8]) -> Result<(
     requires { length name.now ≤ NAME_LIMIT }
     ensures ok { OnOk result (Writes (F.contents files.old) (F.contents files.new) name.now (λ _. bytes.now)) }
     ensures err { OnErr result (StopsWriting (F.contents files.old) (F.contents files.new) (F.last_failed files.new) name.now bytes.now) }
-    ensures same_asked { F.asked files.new ≡ F.asked files.old }
+    ensures same_reads { F.reads files.new ≡ F.reads files.old }
 
     // It fails only where the count of faults rises, and that rises only where it fails.
     ensures no_fault { OnOk result (F.faults files.new ≡ F.faults files.old) }

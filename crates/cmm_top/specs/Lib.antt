@@ -12,5 +12,6 @@ pub mod Walking
 pub mod Building
 pub mod Generating
 pub mod Words
+pub mod Reads
 pub mod Answers
 pub mod inside

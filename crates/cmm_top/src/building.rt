@@ -3,12 +3,14 @@
 ghost use Rattle.std.specs.Prelude.{◌≡◌, ◌≤◌, ◌<◌, length, map, None, IfOk, IfErr, OnOk};
 ghost use Rattle.std.specs.List.{All};
 ghost use Rattle.cmm_compile.specs.Agreement.{Agree};
+ghost use Rattle.cmm_outside.specs.Reads.{AreReadInOrder, Made};
 ghost use Rattle.cmm_outside.specs.declared.storage.TheConstants.{NAME_LIMIT};
 ghost use Rattle.cmm_run.specs.Outside.{Outside as Streams};
 ghost use Rattle.cmm_top.specs.Building.{Builds};
 ghost use Rattle.cmm_top.specs.Call.{standing};
 ghost use Rattle.cmm_top.specs.Files.{HasUnits};
 ghost use Rattle.cmm_top.specs.Units.{HaveNoImage};
+ghost use Rattle.cmm_top.specs.Reads.{units_in};
 ghost use Rattle.cmm_top.specs.inside.Ending.{work_of};
 
 use crate::ending::Ending;
@@ -31,6 +33,7 @@ fn image_in<'a, F: Files>(
         (standing F.contents F.faults F.last_failed files.old streams)
         (standing F.contents F.faults F.last_failed files.new streams))) }
     ensures same { F.contents files.new ≡ F.contents files.old }
+    ensures reads { Made (F.reads files.old) (F.reads files.new) (AreReadInOrder (units_in (map (λ name. name.now) names.now))) }
     ensures no_fault { OnOk result (F.faults files.new ≡ F.faults files.old) }
     ensures no_failed_call { OnOk result (F.last_failed files.new ≡ F.last_failed files.old) }
 {
@@ -49,7 +52,8 @@ pub(crate) fn build<'a, F: Files>(
     requires short { All (λ name. length name.now ≤ NAME_LIMIT) names.now }
     requires some { 0 < length names.now }
     requires name { length name.now ≤ NAME_LIMIT }
-    ensures { (streams : Streams) → Builds (map (λ name. name.now) names.now) name.now (work_of result None
+    ensures reads { Made (F.reads files.old) (F.reads files.new) (AreReadInOrder (units_in (map (λ name. name.now) names.now))) }
+    ensures builds { (streams : Streams) → Builds (map (λ name. name.now) names.now) name.now (work_of result None
         (standing F.contents F.faults F.last_failed files.old streams)
         (standing F.contents F.faults F.last_failed files.new streams)) }
 {

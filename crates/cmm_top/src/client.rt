@@ -4,9 +4,10 @@ ghost use Rattle.std.specs.Prelude.{◌≡◌, ◌≤◌, ℕ, List, length, Som
 ghost use Rattle.std.specs.Option.{option_map};
 ghost use Rattle.cmm_outside.specs.declared.storage.TheConstants.{NAME_LIMIT};
 ghost use Rattle.cmm_script.specs.Limits.{HasFewValues};
+ghost use Rattle.cmm_top.specs.Reads.{script_in};
 ghost use Rattle.cmm_top.specs.Script.{named_file};
 ghost use Rattle.cmm_top.specs.inside.Ending.{IsRefusedScript};
-ghost use Rattle.cmm_top.specs.inside.Reading.{IsClientRead, IsScriptRead, ReadsOrFails};
+ghost use Rattle.cmm_top.specs.inside.Reading.{IsClientRead, IsScriptRead, ReadsEach, ReadsOrFails};
 
 use crate::ending::Ending;
 use crate::reading::{FileBytes, ReadFault, bytes_in};
@@ -24,6 +25,7 @@ pub(crate) fn client_in<'a, F: Files>(
     requires { IfSome client (λ name. length name.now ≤ NAME_LIMIT) }
     ensures ok { IfOk result (IsClientRead (F.contents files.old) (option_map (λ name. name.now) client.entry)) }
     ensures same { F.contents files.new ≡ F.contents files.old }
+    ensures reads { ReadsEach (script_in (option_map (λ name. name.now) client.entry)) (F.reads files.old) (F.reads files.new) result }
     ensures fault { ReadsOrFails (named_file (option_map (λ name. name.now) client.entry))
         (F.faults files.old) (F.faults files.new) (F.last_failed files.old) (F.last_failed files.new) result }
 {

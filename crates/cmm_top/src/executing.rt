@@ -1,9 +1,10 @@
 //! `exec`: units are built, and their image runs.
 
-ghost use Rattle.std.specs.Prelude.{◌≡◌, ◌≤◌, ◌<◌, length, map, None, IfOk, IfErr, IfSome, OnOk};
+ghost use Rattle.std.specs.Prelude.{◌≡◌, ◌≤◌, ◌<◌, ◌++◌, length, map, None, IfOk, IfErr, IfSome, OnOk};
 ghost use Rattle.std.specs.List.{All};
 ghost use Rattle.std.specs.Option.{option_map};
 ghost use Rattle.cmm_compile.specs.Agreement.{Agree, IsStackSize};
+ghost use Rattle.cmm_outside.specs.Reads.{AreReadInOrder, Made};
 ghost use Rattle.cmm_outside.specs.declared.storage.TheConstants.{NAME_LIMIT};
 ghost use Rattle.cmm_run.specs.Outside.{Outside as Streams, outside_of};
 ghost use Rattle.cmm_script.specs.Limits.{HasFewValues};
@@ -11,6 +12,7 @@ ghost use Rattle.cmm_top.specs.Call.{standing};
 ghost use Rattle.cmm_top.specs.Executing.{CannotRun, Executes};
 ghost use Rattle.cmm_top.specs.Files.{HasUnits};
 ghost use Rattle.cmm_top.specs.Script.{HasScript};
+ghost use Rattle.cmm_top.specs.Reads.{script_in, units_in};
 ghost use Rattle.cmm_top.specs.inside.Ending.{work_of};
 
 use crate::client::{client_in, script_of};
@@ -41,6 +43,7 @@ fn prepare<'a, F: Files>(
         (standing F.contents F.faults F.last_failed files.old streams)
         (standing F.contents F.faults F.last_failed files.new streams))) }
     ensures same { F.contents files.new ≡ F.contents files.old }
+    ensures reads { Made (F.reads files.old) (F.reads files.new) (AreReadInOrder (units_in (map (λ name. name.now) names.now) ++ script_in (option_map (λ name. name.now) client.entry))) }
     ensures no_fault { OnOk result (F.faults files.new ≡ F.faults files.old) }
     ensures no_failed_call { OnOk result (F.last_failed files.new ≡ F.last_failed files.old) }
 {
@@ -66,7 +69,8 @@ pub(crate) fn exec<'a, F: Files, I: Source, O: Sink, E: Sink>(
     requires some { 0 < length names.now }
     requires client { IfSome client (λ name. length name.now ≤ NAME_LIMIT) }
     requires stack { IsStackSize limits.stack }
-    ensures { Executes (map (λ name. name.now) names.now) (option_map (λ name. name.now) client.entry) limits (work_of result.0 result.1
+    ensures reads { Made (F.reads files.old) (F.reads files.new) (AreReadInOrder (units_in (map (λ name. name.now) names.now) ++ script_in (option_map (λ name. name.now) client.entry))) }
+    ensures executes { Executes (map (λ name. name.now) names.now) (option_map (λ name. name.now) client.entry) limits (work_of result.0 result.1
         (standing F.contents F.faults F.last_failed files.old (outside_of I.left I.faults O.taken O.faults E.taken E.faults input.old out.old log.old))
         (standing F.contents F.faults F.last_failed files.new (outside_of I.left I.faults O.taken O.faults E.taken E.faults input.new out.new log.new))) }
 {

@@ -3,7 +3,7 @@
 ghost use Rattle.std.specs.Prelude.{◌≡◌, ◌≤◌, ◌∷◌, [], length, IfOk};
 ghost use Rattle.cmm_outside.specs.declared.storage.TheConstants.{NAME_LIMIT};
 ghost use Rattle.cmm_top.specs.Files.{HasBytes};
-ghost use Rattle.cmm_top.specs.inside.Reading.{IsFileOf, ReadsOrFails};
+ghost use Rattle.cmm_top.specs.inside.Reading.{IsFileOf, ReadsEach, ReadsOrFails};
 
 use cmm_outside::{FileError, Files, read_file};
 use std::alloc::{AllocError, AllocFailed, Global};
@@ -47,6 +47,7 @@ pub(crate) fn bytes_in<'a, F: Files>(
     requires { length name.now ≤ NAME_LIMIT }
     ensures ok { IfOk result (λ read. HasBytes (F.contents files.old) name.now (λ bytes. IsFileOf limit bytes read)) }
     ensures same { F.contents files.new ≡ F.contents files.old }
+    ensures reads { ReadsEach (record { name = name.now; limit = limit } ∷ []) (F.reads files.old) (F.reads files.new) result }
     ensures fault { ReadsOrFails (name.now ∷ []) (F.faults files.old) (F.faults files.new) (F.last_failed files.old) (F.last_failed files.new) result }
 {
     match read_file(alloc, files, name, limit) {

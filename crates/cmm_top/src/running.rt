@@ -1,9 +1,10 @@
 //! `run`: an image is read and runs.
 
-ghost use Rattle.std.specs.Prelude.{◌≡◌, ◌≤◌, length, None, IfOk, IfErr, IfSome, OnOk};
+ghost use Rattle.std.specs.Prelude.{◌≡◌, ◌≤◌, ◌∷◌, length, None, IfOk, IfErr, IfSome, OnOk};
 ghost use Rattle.std.specs.Option.{option_map};
 ghost use Rattle.cmm_compile.specs.Agreement.{IsStackSize};
 ghost use Rattle.cmm_image.specs.Images.{SpellsImage};
+ghost use Rattle.cmm_outside.specs.Reads.{AreReadInOrder, Made};
 ghost use Rattle.cmm_outside.specs.declared.storage.TheConstants.{NAME_LIMIT};
 ghost use Rattle.cmm_run.specs.Outside.{Outside as Streams, outside_of};
 ghost use Rattle.cmm_script.specs.Limits.{HasFewValues};
@@ -11,6 +12,7 @@ ghost use Rattle.cmm_top.specs.Call.{standing};
 ghost use Rattle.cmm_top.specs.Files.{HasBytes};
 ghost use Rattle.cmm_top.specs.Running.{CannotRun, RunsFile};
 ghost use Rattle.cmm_top.specs.Script.{HasScript};
+ghost use Rattle.cmm_top.specs.Reads.{image_in, script_in};
 ghost use Rattle.cmm_top.specs.inside.Ending.{work_of};
 
 use crate::client::{client_in, script_of};
@@ -41,6 +43,7 @@ fn prepare<'a, F: Files>(
         (standing F.contents F.faults F.last_failed files.old streams)
         (standing F.contents F.faults F.last_failed files.new streams))) }
     ensures same { F.contents files.new ≡ F.contents files.old }
+    ensures reads { Made (F.reads files.old) (F.reads files.new) (AreReadInOrder (image_in name.now ∷ script_in (option_map (λ name. name.now) client.entry))) }
     ensures no_fault { OnOk result (F.faults files.new ≡ F.faults files.old) }
     ensures no_failed_call { OnOk result (F.last_failed files.new ≡ F.last_failed files.old) }
 {
@@ -67,7 +70,8 @@ pub(crate) fn run<'a, F: Files, I: Source, O: Sink, E: Sink>(
     requires client { IfSome client (λ name. length name.now ≤ NAME_LIMIT) }
     requires stack { IsStackSize limits.stack }
     requires save { IfSome save (λ name. length name.now ≤ NAME_LIMIT) }
-    ensures { RunsFile name.now (option_map (λ name. name.now) client.entry) limits (option_map (λ name. name.now) save.entry) (work_of result None
+    ensures reads { Made (F.reads files.old) (F.reads files.new) (AreReadInOrder (image_in name.now ∷ script_in (option_map (λ name. name.now) client.entry))) }
+    ensures runs { RunsFile name.now (option_map (λ name. name.now) client.entry) limits (option_map (λ name. name.now) save.entry) (work_of result None
         (standing F.contents F.faults F.last_failed files.old (outside_of I.left I.faults O.taken O.faults E.taken E.faults input.old out.old log.old))
         (standing F.contents F.faults F.last_failed files.new (outside_of I.left I.faults O.taken O.faults E.taken E.faults input.new out.new log.new))) }
 {

@@ -25,7 +25,8 @@ pub(crate) fn left_by<'a, F: Files>(
 ) -> Ending<'a>
     requires answered { session.now.answer ≡ Some outcome }
     requires save { IfSome save (λ name. length name.now ≤ NAME_LIMIT) }
-    ensures { (first last : Streams) → Saves session.now.launch.image session.now.launch.stack_size (machine_of session.now) outcome
+    ensures same_reads { F.reads files.new ≡ F.reads files.old }
+    ensures saves { (first last : Streams) → Saves session.now.launch.image session.now.launch.stack_size (machine_of session.now) outcome
         (saved_to (is_stop outcome) (option_map (λ name. name.now) save.entry)) (work_of result None
         (standing F.contents F.faults F.last_failed files.old first)
         (standing F.contents F.faults F.last_failed files.new last)) }
@@ -64,7 +65,8 @@ fn save_to<'a, F: Files>(
 ) -> Ending<'a>
     requires stopped { session.now.answer ≡ Some Stopped }
     requires short { length name.now ≤ NAME_LIMIT }
-    ensures { (first last : Streams) → Saves session.now.launch.image session.now.launch.stack_size (machine_of session.now) Stopped
+    ensures same_reads { F.reads files.new ≡ F.reads files.old }
+    ensures saves { (first last : Streams) → Saves session.now.launch.image session.now.launch.stack_size (machine_of session.now) Stopped
         (Some name.now) (work_of result None
         (standing F.contents F.faults F.last_failed files.old first)
         (standing F.contents F.faults F.last_failed files.new last)) }

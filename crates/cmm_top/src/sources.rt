@@ -3,7 +3,8 @@
 ghost use Rattle.std.specs.Prelude.{◌≡◌, ◌+◌, ◌≤◌, ◌++◌, ◌∷◌, [], ℕ, List, length, map, IfOk, OnOk};
 ghost use Rattle.std.specs.List.{All};
 ghost use Rattle.cmm_outside.specs.declared.storage.TheConstants.{NAME_LIMIT};
-ghost use Rattle.cmm_top.specs.inside.Reading.{AreRead, AreUnits, AreWithin, IsFileOf, ReadsOrFails};
+ghost use Rattle.cmm_top.specs.Reads.{units_in};
+ghost use Rattle.cmm_top.specs.inside.Reading.{AreRead, AreUnits, AreWithin, IsFileOf, ReadsEach, ReadsOrFails};
 
 use crate::reading::{FileBytes, ReadFault, bytes_in};
 use cmm_items::Items;
@@ -46,6 +47,7 @@ pub(crate) fn sources_of<'a, F: Files>(
     ensures ok { IfOk result (AreRead (F.contents files.old) (map (λ name. name.now) names.now)) }
     ensures within { IfOk result (AreWithin (length names.now)) }
     ensures same { F.contents files.new ≡ F.contents files.old }
+    ensures reads { ReadsEach (units_in (map (λ name. name.now) names.now)) (F.reads files.old) (F.reads files.new) result }
     ensures fault { ReadsOrFails (map (λ name. name.now) names.now) (F.faults files.old) (F.faults files.new) (F.last_failed files.old) (F.last_failed files.new) result }
 {
     let mut sources = Sources {

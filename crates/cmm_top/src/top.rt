@@ -1,9 +1,11 @@
 //! `cmm_main`: the call that the program makes.
 
 ghost use Rattle.std.specs.Prelude.{◌<◌, ◌^◌, length};
+ghost use Rattle.cmm_outside.specs.Reads.{AreReadInOrder, Made};
 ghost use Rattle.cmm_run.specs.Outside.{outside_of};
 ghost use Rattle.cmm_top.specs.Answers.{Answers, ComesTo, Does};
 ghost use Rattle.cmm_top.specs.Call.{standing};
+ghost use Rattle.cmm_top.specs.Reads.{read_by, read_for};
 ghost use Rattle.cmm_top.specs.Words.{texts};
 ghost use Rattle.cmm_top.specs.inside.Ending.{work_of};
 ghost use Rattle.cmm_top.specs.inside.Tasks.{CanBeDone, plain_task};
@@ -33,7 +35,8 @@ fn done<'a, F: Files, I: Source, O: Sink, E: Sink>(
     log: &mut E,
 ) -> (Ending<'a>, Option<Image>)
     requires { CanBeDone (plain_task task.now) }
-    ensures { Does (plain_task task.now) (work_of result.0 result.1
+    ensures reads { Made (F.reads files.old) (F.reads files.new) (AreReadInOrder (read_for (plain_task task.now))) }
+    ensures does { Does (plain_task task.now) (work_of result.0 result.1
         (standing F.contents F.faults F.last_failed files.old (outside_of I.left I.faults O.taken O.faults E.taken E.faults input.old out.old log.old))
         (standing F.contents F.faults F.last_failed files.new (outside_of I.left I.faults O.taken O.faults E.taken E.faults input.new out.new log.new))) }
 {
@@ -78,7 +81,8 @@ fn ended<'a, F: Files, I: Source, O: Sink, E: Sink>(
     out: &mut O,
     log: &mut E,
 ) -> (Ending<'a>, Option<Image>)
-    ensures { ComesTo (texts words.now) (work_of result.0 result.1
+    ensures reads { Made (F.reads files.old) (F.reads files.new) (AreReadInOrder (read_by (texts words.now))) }
+    ensures comes { ComesTo (texts words.now) (work_of result.0 result.1
         (standing F.contents F.faults F.last_failed files.old (outside_of I.left I.faults O.taken O.faults E.taken E.faults input.old out.old log.old))
         (standing F.contents F.faults F.last_failed files.new (outside_of I.left I.faults O.taken O.faults E.taken E.faults input.new out.new log.new))) }
 {
@@ -111,7 +115,8 @@ pub fn cmm_main<F: Files, I: Source, O: Sink, E: Sink>(
     log: &mut E,
 ) -> Finish
     requires { length words.now < 2 ^ 32 }
-    ensures { Answers (record {
+    ensures reads { Made (F.reads files.old) (F.reads files.new) (AreReadInOrder (read_by (texts words.now))) }
+    ensures answers { Answers (record {
       words = texts words.now;
       before = standing F.contents F.faults F.last_failed files.old (outside_of I.left I.faults O.taken O.faults E.taken E.faults input.old out.old log.old);
       after = standing F.contents F.faults F.last_failed files.new (outside_of I.left I.faults O.taken O.faults E.taken E.faults input.new out.new log.new);

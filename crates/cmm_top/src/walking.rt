@@ -1,7 +1,8 @@
 //! `walk`: the walk of a program that was saved.
 
-ghost use Rattle.std.specs.Prelude.{◌≡◌, ◌≤◌, ℕ, List, length, None, IfOk, IfErr, OnOk};
+ghost use Rattle.std.specs.Prelude.{◌≡◌, ◌≤◌, ◌∷◌, [], ℕ, List, length, None, IfOk, IfErr, OnOk};
 ghost use Rattle.cmm_image.specs.Images.{SpellsImage};
+ghost use Rattle.cmm_outside.specs.Reads.{AreReadInOrder, Made};
 ghost use Rattle.cmm_outside.specs.declared.storage.TheConstants.{NAME_LIMIT};
 ghost use Rattle.cmm_run.specs.Outside.{Outside as Streams};
 ghost use Rattle.cmm_snapshot.specs.SnapshotFormat.{taken_of};
@@ -10,6 +11,7 @@ ghost use Rattle.cmm_snapshot.specs.declared.reading.TheConstants.{SNAPSHOT_LIMI
 ghost use Rattle.cmm_top.specs.Call.{standing};
 ghost use Rattle.cmm_top.specs.Files.{HasBytes};
 ghost use Rattle.cmm_top.specs.Walking.{CannotWalk, Walks};
+ghost use Rattle.cmm_top.specs.Reads.{image_in, snapshot_in};
 ghost use Rattle.cmm_top.specs.inside.Ending.{IsNotSnapshot, work_of};
 ghost use Rattle.cmm_top.specs.inside.Reading.{IsFileOf};
 
@@ -68,6 +70,7 @@ fn prepare<'a, F: Files>(
         (standing F.contents F.faults F.last_failed files.old streams)
         (standing F.contents F.faults F.last_failed files.new streams))) }
     ensures same { F.contents files.new ≡ F.contents files.old }
+    ensures reads { Made (F.reads files.old) (F.reads files.new) (AreReadInOrder (image_in name.now ∷ snapshot_in snapshot.now ∷ [])) }
     ensures no_fault { OnOk result (F.faults files.new ≡ F.faults files.old) }
     ensures no_failed_call { OnOk result (F.last_failed files.new ≡ F.last_failed files.old) }
 {
@@ -88,7 +91,8 @@ pub(crate) fn walk<'a, F: Files, O: Sink>(
 ) -> Ending<'a>
     requires short { length name.now ≤ NAME_LIMIT }
     requires snapshot { length snapshot.now ≤ NAME_LIMIT }
-    ensures { (streams : Streams) → Walks name.now snapshot.now (work_of result None
+    ensures reads { Made (F.reads files.old) (F.reads files.new) (AreReadInOrder (image_in name.now ∷ snapshot_in snapshot.now ∷ [])) }
+    ensures walks { (streams : Streams) → Walks name.now snapshot.now (work_of result None
         (standing F.contents F.faults F.last_failed files.old (record streams { output = O.taken out.old; output_faults = O.faults out.old }))
         (standing F.contents F.faults F.last_failed files.new (record streams { output = O.taken out.new; output_faults = O.faults out.new }))) }
 {

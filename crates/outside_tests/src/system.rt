@@ -4,7 +4,7 @@
 ghost use Rattle.std.specs.Prelude.{None};
 
 use crate::troubled_files::{Trouble, TroubledFiles};
-use cmm_outside::{Failed, FileError, Files, StdFiles, read_file};
+use cmm_outside::{Failed, FileError, Files, RecordedFiles, StdFiles, read_file};
 use std::fs;
 use std::test::Fail;
 
@@ -117,11 +117,9 @@ fn pieces_are_put_at_the_end_of_real_files(rt: HostRuntime) -> Result<(), Fail> 
     Ok(fs::remove_dir_all(&rt, "appends.tmp")?)
 }
 
-/// An endless file that keeps how far it was asked.
+/// A file without an end, whatever its name.
 #[derive(Drop)]
-struct Endless {
-    asked: u64,
-}
+struct Endless;
 
 impl Files for Endless {
     ghost contents = { λ _. None };
@@ -130,13 +128,7 @@ impl Files for Endless {
 
     ghost last_failed = { λ _. None };
 
-    ghost asked = { λ f. f.asked };
-
-    fn read_at(&mut self, _name: &str, from: u64, buffer: &mut [u8]) -> Result<usize, Failed> {
-        if buffer.is_empty() {
-            return Ok(0);
-        }
-        self.asked = self.asked.max(from.saturating_add(buffer.len() as u64));
+    fn read_at(&mut self, _name: &str, _from: u64, buffer: &mut [u8]) -> Result<usize, Failed> {
         Ok(buffer.len())
     }
 
@@ -151,11 +143,24 @@ impl Files for Endless {
 
 #[test]
 fn no_more_is_asked_than_a_byte_past_the_limit(rt: HostRuntime) -> Result<(), Fail> {
-    for limit in [0, 1, 4094, 4095, 4096, 9000] {
-        let mut file = Endless { asked: 0 };
-        let read = read_file(rt.alloc(), &mut file, "endless", limit);
+    for (limit, rooms) in [
+        (0, [1, 0, 0]),
+        (1, [2, 0, 0]),
+        (4094, [4095, 0, 0]),
+        (4095, [4096, 0, 0]),
+        (4096, [4096, 1, 0]),
+        (9000, [4096, 4096, 809]),
+    ] {
+        let mut files = RecordedFiles::new(rt.alloc(), Endless);
+        let read = read_file(rt.alloc(), &mut files, "endless", limit);
         assert_eq!(rt; read.map(|bytes| bytes.len()), Err(FileError::TooLong));
-        assert_eq!(rt; file.asked, limit + 1);
+        let mut from = 0;
+        for (read, room) in files.told().iter().zip(rooms) {
+            assert_eq!(rt; read.name.as_slice(), b"endless".as_slice());
+            assert_eq!(rt; (read.from, read.room, read.came), (from, room, room));
+            from += room as u64;
+        }
+        assert_eq!(rt; from, limit + 1);
     }
     Ok(())
 }

@@ -5,6 +5,7 @@ use Rattle.cmm_image.specs.declared.parts.ImageParts.{ImageParts}
 use Rattle.cmm_lexer.specs.declared.tokens.TheConstants.{UNIT_LIMIT}
 use Rattle.cmm_outside.specs.declared.storage.CallKind.TheVariants.{Read}
 use Rattle.cmm_outside.specs.Faults.{Rose}
+use Rattle.cmm_outside.specs.Reads.{AreReadInOrder, AreReadWhole, Made, ReadCall, WantedFile}
 use Rattle.cmm_outside.specs.Storage.{Contents, FailedCall}
 use Rattle.cmm_script.specs.declared.reader.TheConstants.{SCRIPT_LIMIT}
 use Rattle.cmm_script.specs.declared.script.Script.{Script}
@@ -28,6 +29,11 @@ ReadsOrFails names before after last_before last_after (Ok _) = (after ≡ befor
 ReadsOrFails names before after last_before last_after (Err Memory) = (after ≡ before) × (last_after ≡ last_before)
 ReadsOrFails names before after last_before last_after (Err (Failed name)) =
     Contains names name.now × Rose before after × (last_after ≡ Some record { kind = Read; name = name.now })
+
+-- files were read for an answer: each of them whole, or for an error as far as that
+abbrev pub ReadsEach : {T E : Type 0} → List WantedFile → Option (List ReadCall) → Option (List ReadCall) → Result T E → Type 0
+ReadsEach files before after (Ok _) = Made before after (AreReadWhole files)
+ReadsEach files before after (Err _) = Made before after (AreReadInOrder files)
 
 -- ---- units
 

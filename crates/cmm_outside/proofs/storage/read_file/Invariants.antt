@@ -1,5 +1,7 @@
-use Rattle.std.proofs.Common.{◌≡◌, ◌≤◌, ◌+◌, ◌-◌, max, vec_len}
+use Rattle.std.proofs.Common.{◌≡◌, ◌≤◌, ◌-◌, vec_len}
+use Rattle.cmm_outside.proofs.Going.{Going}
 use Rattle.cmm_outside.proofs.Reading.{IsFront}
+use Rattle.cmm_outside.specs.Reads.{Made}
 use Rattle.cmm_outside.proofs.storage.read_file.Given as goal
 
 abbrev pub invariant-loop-bytes : goal.invariant-loop-bytes
@@ -8,7 +10,7 @@ invariant-loop-bytes g l = record {
   front : IsFront (g.F.Files.contents l.initial.files) l.name l.bytes.items;
   same : g.F.Files.contents l.files ≡ g.F.Files.contents l.initial.files;
   same_faults : g.F.Files.faults l.files ≡ g.F.Files.faults l.initial.files;
-  asked : g.F.Files.asked l.files ≤ max (g.F.Files.asked l.initial.files) (l.limit + 1);
+  reads : Made (g.F.Files.reads l.initial.files) (g.F.Files.reads l.files) (Going l.name l.limit 0 (vec_len l.bytes));
   same_failed : g.F.Files.last_failed l.files ≡ g.F.Files.last_failed l.initial.files;
 }
 

@@ -14,7 +14,7 @@ loop-written-preserved g c =
     record {
       within = omega (arith, length-drop c.loop-written.written c.args.bytes.now);
       so_far = Writes-take _ _ _ _ _ _ _ c.loop-written.invariant.so_far (rw rest at (c.in_ok-written.ensures.appended some));
-      same_asked = c.in_ok-written.ensures.same_asked ∙ c.loop-written.invariant.same_asked;
+      same_reads = c.in_ok-written.ensures.same_reads ∙ c.loop-written.invariant.same_reads;
       same_faults = c.in_ok-written.ensures.no_fault ∙ c.loop-written.invariant.same_faults;
       same_failed = c.in_ok-written.ensures.no_failed_call ∙ c.loop-written.invariant.same_failed;
     }
