@@ -4,18 +4,14 @@ use Rattle.std.specs.Prelude.{◌==◌, find, Some}
 use Rattle.rv_asm.proofs.Shared.{reaches_weaker, single_does}
 use Rattle.rv_asm.specs.Parts.{Code, Does}
 use Rattle.rv_asm.specs.declared.part.Part.TheVariants.{Single}
-use Rattle.rv_asm.specs.Reaching.{Reaches}
-use Rattle.rv_table.specs.Bounds.{IsSound}
-use Rattle.rv_table.specs.Machine.{Asks, State, instruction_step}
+use Rattle.rv_table.specs.Machine.{State}
 use Rattle.rv_table.specs.Words.{modulo, sum}
 use Rattle.rv_table.specs.Requests.{request_number, request_of}
 use Rattle.rv_table.specs.declared.instruction.Instr.TheVariants.{Addi, Ecall}
 use Rattle.rv_table.specs.declared.request.Request.{Request}
 use Rattle.rv_table.specs.declared.request.Request.TheVariants.{PutByte, GetByte, Yield, StackLimit, End}
-use Rattle.cmm_effects.proofs.Shared.{leads_set, reaches_more, set_keeps}
-use Rattle.cmm_effects.specs.Changes.{Keeps}
+use Rattle.cmm_effects.proofs.Shared.{leads_set, set_keeps}
 use Rattle.cmm_effects.specs.Requests.{AsksFor}
-use Rattle.cmm_calls.specs.Calls.{CallsClient}
 
 limit_asked : (g : ℕ → ℕ) → g 5 ≡ 4 → request_of g ≡ Some StackLimit
 limit_asked g is =
@@ -33,23 +29,16 @@ end_asked g v is value =
 first_number : (z n : ℕ) → z ≡ 0 → n < 2048 → sum z (modulo 64 (pos n)) ≡ n
 first_number z n none small = omega arith
 
--- a number that tells a request, and the ECALL
-reaches_ask : (x : Code) (from mid to number : ℕ) (asked : State → Request) → number < 2048 → Does x (Single (Addi 5 0 (pos number))) from mid → Does x (Single Ecall) mid to →
-    ((s t : State) → t.registers 5 ≡ number → t.registers 10 ≡ s.registers 10 → request_of t.registers ≡ Some (asked s)) →
-    (s : State) → IsSound s → s.pc ≡ from → Reaches x.map 0 1 s (λ t. Keeps s t × (instruction_step x.map t ≡ Asks (asked s)))
-reaches_ask x from mid to number asked small first ecall tells s sound at =
-    reaches_weaker ((leads_set x (Addi 5 0 (pos number)) from mid 5 (λ g. sum (g 0) (modulo 64 (pos number))) (omega arith) (λ g pc. refl) first).runs.go s sound at tt)
-    (omega arith) (omega arith) (λ t there. (
-      set_keeps 5 (sum (s.registers 0) (modulo 64 (pos number))) s t refl there.1,
-      (single_does x Ecall mid to t ecall there.0).ask (asked s) refl
-          (tells s t (there.1.given ∙ first_number (s.registers 0) number sound.zero small) (there.1.others 10 refl)),
-    ))
-
 -- a request of a number that this and register 10 tell
 asks : (x : Code) (from mid to number : ℕ) (asked : State → Request) → number < 2048 → Does x (Single (Addi 5 0 (pos number))) from mid → Does x (Single Ecall) mid to →
     ((s t : State) → t.registers 5 ≡ number → t.registers 10 ≡ s.registers 10 → request_of t.registers ≡ Some (asked s)) → AsksFor 1 asked x from
 asks x from mid to number asked small first ecall tells = record {
-  go = λ s sound at. reaches_more (reaches_ask x from mid to number asked small first ecall tells s sound at) (λ t there. there.1);
+  go = λ s sound at. reaches_weaker ((leads_set x (Addi 5 0 (pos number)) from mid 5 (λ g. sum (g 0) (modulo 64 (pos number))) (omega arith) (λ g pc. refl) first).runs.go s sound at tt)
+    (omega arith) (omega arith) (λ t there. (
+      set_keeps 5 (sum (s.registers 0) (modulo 64 (pos number))) s t refl there.1,
+      (single_does x Ecall mid to t ecall there.0).ask (asked s) refl
+          (tells s t (there.1.given ∙ first_number (s.registers 0) number sound.zero small) (there.1.others 10 refl)),
+    ));
 }
 
 pub asks_limit : (x : Code) (from mid to : ℕ) → Does x (Single (Addi 5 0 (pos 4))) from mid → Does x (Single Ecall) mid to → AsksFor 1 (λ t. StackLimit) x from
@@ -58,7 +47,5 @@ asks_limit x from mid to first ecall = asks x from mid to 4 (λ t. StackLimit) (
 pub asks_end : (x : Code) (from mid to : ℕ) → Does x (Single (Addi 5 0 (pos 5))) from mid → Does x (Single Ecall) mid to → AsksFor 1 (λ t. End (t.registers 10)) x from
 asks_end x from mid to first ecall = asks x from mid to 5 (λ t. End (t.registers 10)) (omega arith) first ecall (λ s t is same. end_asked t.registers (s.registers 10) is same)
 
-pub calls_client : (x : Code) (from mid to : ℕ) → Does x (Single (Addi 5 0 (pos 3))) from mid → Does x (Single Ecall) mid to → CallsClient 1 x from
-calls_client x from mid to first ecall = record {
-  go = reaches_ask x from mid to 3 (λ t. Yield) (omega arith) first ecall (λ s t is same. client_asked t.registers is);
-}
+pub asks_client : (x : Code) (from mid to : ℕ) → Does x (Single (Addi 5 0 (pos 3))) from mid → Does x (Single Ecall) mid to → AsksFor 1 (λ t. Yield) x from
+asks_client x from mid to first ecall = asks x from mid to 3 (λ t. Yield) (omega arith) first ecall (λ s t is same. client_asked t.registers is)

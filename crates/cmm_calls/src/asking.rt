@@ -4,7 +4,6 @@ ghost use Rattle.std.specs.Prelude.{◌≡◌, OnOk};
 ghost use Rattle.rv_table.specs.declared.request.Request.TheVariants as request;
 ghost use Rattle.cmm_effects.specs.Pieces.{Adds};
 ghost use Rattle.cmm_effects.specs.Requests.{AsksFor};
-ghost use Rattle.cmm_calls.specs.Calls.{CallsClient};
 
 use cmm_abi::registers::REQUEST_VALUE;
 use cmm_select::choose;
@@ -34,7 +33,7 @@ pub fn ask_end(asm: &mut Asm) -> Result<(), AllocError>
 
 /// Calls the client. Nothing but scratch registers is changed on the way.
 pub fn ask_client(asm: &mut Asm) -> Result<(), AllocError>
-    ensures asks { OnOk result (Adds 2 asm.old.parts asm.new.parts (λ x from to. CallsClient 1 x from)) }
+    ensures asks { OnOk result (Adds 2 asm.old.parts asm.new.parts (λ x from to. AsksFor 1 (λ t. request.Yield) x from)) }
     ensures labels { asm.new.labels ≡ asm.old.labels }
 {
     asm.emit(choose(Request::Yield))?;

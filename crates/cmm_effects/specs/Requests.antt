@@ -8,7 +8,7 @@ use Rattle.rv_table.specs.Machine.{MemoryMap, State, Asks, instruction_step, wit
 use Rattle.rv_table.specs.declared.request.Request.{Request}
 use Rattle.rv_table.specs.declared.request.Request.TheVariants.{PutByte, GetByte}
 use Rattle.cmm_abi.specs.Registers.{is_scratch}
-use Rattle.cmm_effects.specs.Changes.{KeepsBut}
+use Rattle.cmm_effects.specs.Changes.{Keeps, KeepsBut}
 use Rattle.cmm_effects.specs.Pieces.{BeginsQuietly}
 
 -- the registers that a request uses: register 10 besides the scratch registers
@@ -36,6 +36,7 @@ pub record Requests (before after : ℕ) (P : MemoryMap → State → Type 0) (a
       (λ t. KeepsAsking s t × (instruction_step x.map t ≡ Asks (asked s))
       × ((u : State) → IsAnswered (asked s) t u → Reaches x.map 0 after u (λ v. (v.pc ≡ to) × Q u v)))
 
--- from every sound state at an address, n instructions at most lead to an ECALL that asks for what the state tells
+-- From every sound state at an address, n instructions at most lead to an ECALL that asks for what the state tells, and change nothing but scratch
+-- registers.
 pub record AsksFor (most : ℕ) (asked : State → Request) (x : Code) (from : ℕ) : Type 0 where
-  pub go : (s : State) → IsSound s → s.pc ≡ from → Reaches x.map 0 most s (λ t. instruction_step x.map t ≡ Asks (asked s))
+  pub go : (s : State) → IsSound s → s.pc ≡ from → Reaches x.map 0 most s (λ t. Keeps s t × (instruction_step x.map t ≡ Asks (asked s)))

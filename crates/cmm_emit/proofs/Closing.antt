@@ -12,13 +12,12 @@ use Rattle.rv_asm.specs.declared.part.Meaning.{Meaning}
 use Rattle.rv_asm.specs.declared.part.Meaning.TheVariants.{Inner}
 use Rattle.rv_asm.specs.declared.part.Part.{Part}
 use Rattle.rv_asm.specs.declared.part.Part.TheVariants.{Place}
-use Rattle.rv_table.specs.declared.request.Request.TheVariants.{StackLimit}
+use Rattle.rv_table.specs.declared.request.Request.TheVariants.{StackLimit, Yield}
 use Rattle.cmm_program.specs.declared.procedure.Proc.{Proc}
 use Rattle.cmm_program.specs.declared.program.Program.{Program}
 use Rattle.cmm_graph.specs.declared.graph.Graph.{Graph}
 use Rattle.cmm_allocate.specs.declared.procedure.ProcedurePlaces.{ProcedurePlaces}
 use Rattle.cmm_effects.specs.Requests.{AsksFor}
-use Rattle.cmm_calls.specs.Calls.{CallsClient}
 use Rattle.cmm_emit.specs.declared.context.Context.{Context}
 use Rattle.cmm_emit.proofs.Belonging.{IsOne, one_with, share_at, there_at}
 use Rattle.cmm_emit.specs.LaidProcedures.{CanAllBeLaidIn, HaveCodes, HaveLabels, IsWhole, tokens_of_first}
@@ -105,7 +104,7 @@ module _ (p : Program) (procs : List Proc) (graphs : List Graph) (o : Outline) w
     pub is_whole : (labels mid new : List Meaning) (front middle parts : List Part) → HaveLabels p procs graphs (length o.contexts) labels → HaveCodes procs graphs o (length o.contexts) front →
         mid ≡ set labels o.targets.limit.number (Inner true) → new ≡ set mid o.targets.client.number (Inner true) →
         (back : List Part) × (middle ≡ front ++ Place o.targets.limit ∷ back) → Appends middle parts (λ x from to. Unit {0}) →
-        Codes middle o.targets.limit (λ x from to. AsksFor 1 (λ t. StackLimit) x from) → Codes parts o.targets.client (λ x from to. CallsClient 1 x from) →
+        Codes middle o.targets.limit (λ x from to. AsksFor 1 (λ t. StackLimit) x from) → Codes parts o.targets.client (λ x from to. AsksFor 1 (λ t. Yield) x from) →
         all_longest middle ≤ all_longest front + 8 → all_longest parts ≤ all_longest middle + 8 → IsWhole p procs graphs o new parts
     is_whole labels mid new front middle parts have codes is also behind more limits calls few few_more =
         let now = both_placed labels have mid new is also in

@@ -8,7 +8,7 @@ use Rattle.rv_asm.specs.declared.part.Meaning.{Meaning}
 use Rattle.rv_asm.specs.declared.part.Meaning.TheVariants.{Inner}
 use Rattle.rv_asm.specs.declared.part.Part.{Part}
 use Rattle.rv_asm.specs.declared.part.Part.TheVariants.{Place}
-use Rattle.rv_table.specs.declared.request.Request.TheVariants.{StackLimit}
+use Rattle.rv_table.specs.declared.request.Request.TheVariants.{StackLimit, Yield}
 use Rattle.cmm_program.specs.declared.procedure.Proc.{Proc}
 use Rattle.cmm_program.specs.declared.program.Program.{Program}
 use Rattle.cmm_graph.specs.declared.graph.Graph.{Graph}
@@ -17,7 +17,6 @@ use Rattle.cmm_effects.specs.Changes.{IsPlace}
 use Rattle.cmm_calls.specs.Frames.{CanBeMade}
 use Rattle.cmm_allocate.specs.declared.procedure.ProcedurePlaces.{ProcedurePlaces}
 use Rattle.cmm_effects.specs.Requests.{AsksFor}
-use Rattle.cmm_calls.specs.Calls.{CallsClient}
 use Rattle.cmm_emit.specs.declared.context.Context.{Context}
 use Rattle.cmm_emit.specs.declared.context.Targets.{Targets}
 use Rattle.cmm_emit.specs.Costs.{total_cost}
@@ -104,7 +103,7 @@ pub record IsWhole (p : Program) (procs : List Proc) (graphs : List Graph) (o : 
   pub back : List Part
   pub is : parts ≡ front ++ Place o.targets.limit ∷ back
   pub limits : Codes parts o.targets.limit (λ x from to. AsksFor 1 (λ t. StackLimit) x from)
-  pub client : Codes parts o.targets.client (λ x from to. CallsClient 1 x from)
+  pub client : Codes parts o.targets.client (λ x from to. AsksFor 1 (λ t. Yield) x from)
   pub size : all_longest parts ≤ 256 * sum_by (λ q. q.tokens) procs + 16
 
 abbrev pub IsWholeIn : Program → List Graph → Outline → List Meaning → List Part → Type 0

@@ -23,13 +23,13 @@ use Rattle.rv_asm.specs.declared.part.Meaning.{Meaning}
 use Rattle.rv_asm.specs.declared.part.Meaning.TheVariants.{Inner}
 use Rattle.rv_asm.specs.declared.part.Part.{Part}
 use Rattle.rv_table.specs.Words.{sum}
-use Rattle.rv_table.specs.declared.request.Request.TheVariants.{StackLimit, End}
+use Rattle.rv_table.specs.declared.request.Request.TheVariants as request
 use Rattle.cmm_effects.specs.Changes.{IsPlace, Keeps}
 use Rattle.cmm_effects.specs.Pieces.{Always, BeginsQuietly}
 use Rattle.cmm_effects.specs.Ways.{Goes, Turns}
 use Rattle.cmm_select.specs.declared.destination.Destination.{Destination as CodeDestination}
 use Rattle.cmm_select.specs.Switches.{label_of}
-use Rattle.cmm_calls.specs.Calls.{CallsClient, HasExits}
+use Rattle.cmm_calls.specs.Calls.{HasExits}
 use Rattle.rv_asm.specs.Appending.{IsBehind}
 use Rattle.cmm_calls.specs.Frames.{CanBeMade}
 use Rattle.cmm_image_machine.specs.Machine.{Launch}
@@ -102,9 +102,9 @@ module _ (s : Setting) (c : Compiled) (l : Launch) (f : Finished) (q : ℕ) wher
     pub landings : AreLandings f.symbols (f.labels q) q 0 p.landings
     pub landed : (k : ℕ) (n : NodeId) → k < length p.landings → landing_in c.graphs q k ≡ Some n → f.labels q (label_at p.landings k).number ≡ f.node_at q n
     pub sites : (k : ℕ) → k < length p.sites → IsSiteOf k (label_at p.sites k)
-    pub limit : AsksFor 1 (λ t. StackLimit) (code_of l f q) (f.labels q y.limit.number)
-    pub client : CallsClient 1 (code_of l f q) (f.labels q y.client.number)
-    pub end_asked : AsksFor 1 (λ t. End (t.registers REQUEST_VALUE)) (code_of l f q) f.symbols.last_return
+    pub limit : AsksFor 1 (λ t. request.StackLimit) (code_of l f q) (f.labels q y.limit.number)
+    pub client : AsksFor 1 (λ t. request.Yield) (code_of l f q) (f.labels q y.client.number)
+    pub end_asked : AsksFor 1 (λ t. request.End (t.registers REQUEST_VALUE)) (code_of l f q) f.symbols.last_return
 
   -- control goes on at a node from an address, if there is one
   abbrev pub GoesOnTo : Option NodeId → ℕ → Type 0

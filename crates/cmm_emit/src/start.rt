@@ -10,7 +10,6 @@ ghost use Rattle.rv_asm.specs.declared.part.Meaning.TheVariants.{Inner};
 ghost use Rattle.rv_table.specs.declared.instruction.Instr.TheVariants.{Ebreak};
 ghost use Rattle.rv_table.specs.declared.request.Request.TheVariants as request;
 ghost use Rattle.cmm_effects.specs.Requests.{AsksFor};
-ghost use Rattle.cmm_calls.specs.Calls.{CallsClient};
 ghost use Rattle.cmm_abi.specs.declared.registers.TheConstants.{REQUEST_VALUE};
 ghost use Rattle.cmm_program.specs.InRange.{IsInRange};
 ghost use Rattle.cmm_emit.specs.Starts.{CallsMain, IsStart};
@@ -69,7 +68,7 @@ pub fn lay_limit(asm: &mut Asm, limit: Label) -> Result<(), AllocError>
 pub fn lay_client(asm: &mut Asm, client: Label) -> Result<(), AllocError>
     requires { slice_get asm.old.labels client.number ≡ Some (Inner false) }
     ensures placed { OnOk result (Appends asm.old.parts asm.new.parts (λ x from to. Unit {0})) }
-    ensures calls { OnOk result (Codes asm.new.parts client (λ x from to. CallsClient 1 x from)) }
+    ensures calls { OnOk result (Codes asm.new.parts client (λ x from to. AsksFor 1 (λ t. request.Yield) x from)) }
     ensures size { OnOk result (all_longest asm.new.parts ≤ all_longest asm.old.parts + 8) }
     ensures labels { OnOk result (asm.new.labels ≡ slice_set asm.old.labels client.number (Inner true)) }
 {

@@ -86,7 +86,7 @@ module _ (s : Setting) (c : Compiled) (l : Launch) (f : Finished) (rest : ℕ �
         fits = omega (arith, bottom_is s (map_of l) is_for, is_for.small, laid.can.small);
       })) stands.sound)
       (λ u there. code.limits.go u there.1 there.0.0))
-      (omega arith) (omega arith) (λ v asks. asks))
+      (omega arith) (omega arith) (λ v asks. asks.1))
 
   -- ---- with room
 

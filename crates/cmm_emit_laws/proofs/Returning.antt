@@ -34,7 +34,7 @@ use Rattle.cmm_emit_laws.specs.Words.{Represents}
 use Rattle.cmm_located.specs.Compiled.{Compiled, Located, site_exits}
 use Rattle.cmm_located.specs.LocatedMachine.{tokens_at}
 use Rattle.cmm_located.specs.Nodes.{done, exit_node, is_at, keeping, ran_at, reads_at, to_landing, to_return}
-use Rattle.cmm_emit_laws.proofs.Doing.{IsDone}
+use Rattle.cmm_emit_laws.proofs.Doing.{IsDone, kept_shown}
 use Rattle.cmm_emit_laws.proofs.Resiting.{outside_shows}
 use Rattle.cmm_emit_laws.proofs.Framed.{framed_inside, size_of}
 use Rattle.cmm_emit_laws.proofs.Ending.{ended_outside, ends}
@@ -46,6 +46,7 @@ use Rattle.cmm_emit_laws.specs.Finished.{Finished}
 use Rattle.cmm_emit_laws.specs.NodeCode.{ReturnCode, SiteCode}
 use Rattle.cmm_emit_laws.specs.ProgramCode.{IsLaidFor}
 use Rattle.cmm_emit_laws.specs.Standing.{IsInBody, Stands}
+use Rattle.cmm_emit_laws.specs.Steps.{ComesToEnd}
 
 module _ (s : Setting) (c : Compiled) (l : Launch) (f : Finished) (rest : ℕ → ℕ) (is_for : IsFor s (map_of l)) (at : Located) (t : State) (stands : Stands s c l f rest at t)
     (body : IsInBody at) (laid : IsLaidFor s c at.procedure) where
@@ -104,7 +105,7 @@ module _ (s : Setting) (c : Compiled) (l : Launch) (f : Finished) (rest : ℕ �
       (reaches_then
       (reaches_sound (comes_back results exit cost ws code aligned fits are back none) stands.sound)
       (λ u there. reaches_more (code.end_asked.go u there.1 there.0.0)
-      (λ v asks. asks ∙ ap (λ (n : ℕ). Asks (request.End n)) (value_is ws value values u is there.0.1))))
+      (λ v asks. asks.1 ∙ ap (λ (n : ℕ). Asks (request.End n)) (value_is ws value values u is there.0.1))))
       (omega arith) (omega arith) (λ v asks. asks)
 
   module _ (exit alternates : ℕ) (results : List Argument) (cost : ℕ) (code : ReturnCode s c l f at.procedure at.node exit results cost) (aligned : f.symbols.last_return % 4 ≡ 0)
@@ -153,9 +154,7 @@ module _ (s : Setting) (c : Compiled) (l : Launch) (f : Finished) (rest : ℕ �
   module _ (exit alternates : ℕ) (results : List Argument) (cost : ℕ) (code : ReturnCode s c l f at.procedure at.node exit results cost) (aligned : f.symbols.last_return % 4 ≡ 0)
       (fits : f.symbols.last_return < 2 ^ 64) (after : Located) (end : ℕ) (ended : after.store.status ≡ p.Ended (p.Done end)) where
     abbrev EndsAs : Located → Type 0
-    EndsAs z =
-        Reaches (map_of l) 0 cost t
-        (λ u. (u.pc ≡ f.symbols.last_return) × ((values : List ℕ) × IsRepresented f.symbols rest s z.holdings z.store (end ∷ values) u))
+    EndsAs = ComesToEnd s l f rest cost end t
 
     abbrev RunsOn : Tried Located → Type 0
     RunsOn r = r ≡ Ok after → after.store.status ≡ p.Running
@@ -198,17 +197,28 @@ module _ (s : Setting) (c : Compiled) (l : Launch) (f : Finished) (rest : ℕ �
         })) ≡ Ok after → EndsAs after
     last_shown value values ws are is back true none e =
         let same = same_end value (ap (λ (z : Located). z.store.status) (place_is e) ∙ ended) in
-        subst EndsAs (place_is e)
-        (reaches_weaker (comes_back results exit cost ws code aligned fits are back (eqb-true exit 0 none)) (omega arith) (omega (arith, code.few)) (λ u there. (
-          there.0,
-          (
-            values,
-            outside_shows f.symbols rest s (left c.plan at.procedure at.holdings) (without 1 at.store) (end ∷ values) u at.store.input at.store.taken at.store.output at.store.log
-                (p.Ended (p.Done value))
-                (subst (λ (xs : List ℕ). IsRepresented f.symbols rest s (left c.plan at.procedure at.holdings) (without 1 at.store) xs u)
-                (is ∙ ap (λ (n : ℕ). n ∷ values) same) there.1),
-          ),
-        )))
+        let back_there = comes_back results exit cost ws code aligned fits are back (eqb-true exit 0 none) in
+        subst EndsAs (place_is e) (record {
+          returns = reaches_weaker back_there (omega arith) (omega (arith, code.few)) (λ u there. (there.0, left_shown u there.1));
+          asks =
+              reaches_weaker
+              (reaches_then (reaches_sound back_there stands.sound)
+              (λ u there. reaches_more (code.end_asked.go u there.1 there.0.0) (λ v asks. (
+                asks.1 ∙ ap (λ (n : ℕ). Asks (request.End n)) (value_is ws value values u is there.0.1 ∙ same),
+                left_shown v (kept_shown f rest s l is_for (left c.plan at.procedure at.holdings) (without 1 at.store) (numbers ws) u v asks.0 there.0.1),
+              ))))
+              (omega arith) (omega (arith, code.few)) (λ v there. there);
+        })
+      where
+        left_shown : (u : State) → IsRepresented f.symbols rest s (left c.plan at.procedure at.holdings) (without 1 at.store) (numbers ws) u →
+            (xs : List ℕ) × IsRepresented f.symbols rest s (left c.plan at.procedure at.holdings) (over (p.Ended (p.Done value)) (without 1 at.store)) (end ∷ xs) u
+        left_shown u shown = (
+          values,
+          outside_shows f.symbols rest s (left c.plan at.procedure at.holdings) (without 1 at.store) (end ∷ values) u at.store.input at.store.taken at.store.output at.store.log
+              (p.Ended (p.Done value))
+              (subst (λ (xs : List ℕ). IsRepresented f.symbols rest s (left c.plan at.procedure at.holdings) (without 1 at.store) xs u)
+              (is ∙ ap (λ (n : ℕ). n ∷ values) (same_end value (ap (λ (z : Located). z.store.status) (place_is e) ∙ ended))) shown),
+        )
     last_shown value values ws are is back false some e = absurd (cc)
 
     by_first : (ws : List Word) → AreOut code.operands ws → back_in ≡ LastReturn → (xs : List ℕ) → numbers ws ≡ xs →

@@ -1,8 +1,7 @@
 -- What the code of one node does, and what is represented where the run ends.
-use Rattle.std.proofs.Common.{◌≡◌, ℕ, ◌*◌, List, ◌∷◌, Option, Some, None, refl, sym, ◌∙◌, ap, subst}
+use Rattle.std.proofs.Common.{◌≡◌, ℕ, ◌*◌, Option, Some, None, refl, sym, ◌∙◌, ap, subst}
 use Rattle.std.specs.Prelude.{Ok, Err}
 use Rattle.rv_table.specs.Machine.{State}
-use Rattle.rv_asm.specs.Reaching.{Reaches}
 use Rattle.cmm_program.specs.Errors.{Tried, UncheckedError}
 use Rattle.cmm_program.specs.State as p
 use Rattle.cmm_program.specs.State.{Setting}
@@ -12,7 +11,7 @@ use Rattle.cmm_graph.specs.declared.node.NodeKind.TheVariants.{Return, Stop}
 use Rattle.cmm_graph.specs.GraphControl.{kind_at}
 use Rattle.cmm_graph.specs.Paths.{node_of}
 use Rattle.cmm_select.specs.Laws.{SwitchesLead}
-use Rattle.cmm_image_machine.specs.Machine.{Launch, map_of}
+use Rattle.cmm_image_machine.specs.Machine.{Launch}
 use Rattle.cmm_located.specs.Compiled.{Compiled, Located}
 use Rattle.cmm_located.specs.LocatedMachine.{located_step, tokens_at, tried}
 use Rattle.cmm_located.specs.Nodes.{ran_at}
@@ -21,19 +20,12 @@ use Rattle.cmm_emit_laws.proofs.Returning.{end_shown}
 use Rattle.cmm_emit_laws.proofs.Simulating.{code_does, keeps, step_is}
 use Rattle.cmm_emit_laws.specs.Finished.{Finished}
 use Rattle.cmm_emit_laws.specs.NodeCode.{IsCodeOf, ReturnCode}
-use Rattle.cmm_emit_laws.specs.Represented.{IsRepresented}
 use Rattle.cmm_emit_laws.specs.Standing.{IsInBody, IsInside}
-use Rattle.cmm_emit_laws.specs.Steps.{EndsAreRepresented, StepsAreDoneByCode}
+use Rattle.cmm_emit_laws.specs.Steps.{ComesToEnd, EndsAreRepresented, StepsAreDoneByCode}
 
 pub steps_are_done_by_code : SwitchesLead → StepsAreDoneByCode
 steps_are_done_by_code lead s c l f rest at t code stands piece coded run right =
     (code_does lead s c l f rest code at t stands run coded piece right, keeps lead s c l f rest code at t stands run coded piece right)
-
--- control comes to the return address of the oldest activation, where a state is represented
-abbrev EndsAs : (s : Setting) (c : Compiled) (l : Launch) (f : Finished) (rest : ℕ → ℕ) (at : Located) (t : State) (value : ℕ) → Located → Type 0
-EndsAs s c l f rest at t value z =
-    Reaches (map_of l) 0 (32 * tokens_at s c at) t
-    (λ u. (u.pc ≡ f.symbols.last_return) × ((values : List ℕ) × IsRepresented f.symbols rest s z.holdings z.store (value ∷ values) u))
 
 pub ends_are_represented : EndsAreRepresented
 ends_are_represented s c l f rest at t code stands piece exit alternates results is value ended = by (ran_at s c (Return exit alternates results) at) refl
@@ -57,11 +49,11 @@ ends_are_represented s c l f rest at t code stands piece exit alternates results
     wrong_ends : (error : UncheckedError) → located_step s c at ≡ tried s c at (Err error) → ⊥
     wrong_ends error to = let e : p.Wrong error ≡ p.Ended (p.Done value) = sym (ap (λ (z : Located). z.store.status) to) ∙ ended in absurd (cc)
 
-    by : (r : Tried Located) → ran_at s c (Return exit alternates results) at ≡ r → EndsAs s c l f rest at t value (located_step s c at)
+    by : (r : Tried Located) → ran_at s c (Return exit alternates results) at ≡ r → ComesToEnd s l f rest (32 * tokens_at s c at) value t (located_step s c at)
     by (Ok after) ran =
         let to : located_step s c at ≡ after = steps_to ∙ ap (tried s c at) ran in
         let found = found_in c.graphs at.procedure (λ g. node_of g at.node) stands.node stands.there in
-        subst (EndsAs s c l f rest at t value) (sym to)
+        subst (ComesToEnd s l f rest (32 * tokens_at s c at) value t) (sym to)
         (end_shown s c l f rest code.is_for at t stands body (code.laid at.procedure found.0 found.1) exit alternates results (32 * tokens_at s c at) return_code code.back_aligned code.back_fits
         after value (sym (ap (λ (z : Located). z.store.status) to) ∙ ended) ran)
     by (Err error) ran = absurd (wrong_ends error (steps_to ∙ ap (tried s c at) ran))

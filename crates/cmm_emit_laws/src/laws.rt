@@ -5,7 +5,7 @@ ghost use Rattle.cmm_emit_laws.specs.Naming.{GraphsAreNamed};
 ghost use Rattle.cmm_emit_laws.specs.Placing.{FinishedCodeStands};
 ghost use Rattle.cmm_emit_laws.specs.Steps.{EndsAreRepresented, StepsAreDoneByCode};
 
-/// The code of one node does its step; and where a return ends the run, the state behind the call of `main` represents what is left.
+/// The code of one node does its step; and where a return ends the run, the states behind the call of `main` and at the ECALL there represent what is left.
 pub fn steps_are_done_by_code()
     ensures steps { StepsAreDoneByCode }
     ensures ends { EndsAreRepresented }

@@ -10,6 +10,7 @@ use Rattle.cmm_program.specs.declared.procedure.Proc.{Proc}
 use Rattle.cmm_program.specs.declared.program.Program.{Program}
 use Rattle.cmm_program.specs.InRange.{IsInRange, IsProcInRange, is_body_in, is_continuation, is_datum, is_item, is_label, is_name, is_site}
 use Rattle.cmm_program.specs.Layout.{end_before, stackdata_size}
+use Rattle.cmm_program.specs.Limits.{data_limit, procedure_limit, procedure_token_limit, register_limit, site_span_limit, site_variable_limit, stackdata_limit, token_limit, unit_limit, variable_limit}
 use Rattle.cmm_program.specs.Numbering.{are_each_once, body_numbers, body_tokens, continuation_number, label_number, site_number}
 use Rattle.cmm_program.specs.Tokens.{procedure_tokens}
 
@@ -32,13 +33,13 @@ module _ (p : Program) where
   abbrev tests : Proc → List Bool
   tests q =
       is_name q.name
-      ∷ nat_lt q.unit 256
+      ∷ nat_lt q.unit unit_limit
       ∷ (nat_le q.formals (length q.vars) && nat_le q.formals 64)
-      ∷ nat_le (length q.vars) 1024
+      ∷ nat_le (length q.vars) variable_limit
       ∷ list_all (λ v. is_name v.kind) q.vars
       ∷ list_all is_item q.stack
-      ∷ nat_le (stackdata_size q.stack) 65536
-      ∷ nat_le q.tokens 131072
+      ∷ nat_le (stackdata_size q.stack) stackdata_limit
+      ∷ nat_le q.tokens procedure_token_limit
       ∷ list_all (is_continuation p q) q.conts
       ∷ list_all (is_site p q) q.sites
       ∷ is_body_in p q (Span q.body)
@@ -87,19 +88,19 @@ module _ (p : Program) where
   abbrev program_tests : List Bool
   program_tests =
       list_all is_procedure_in_range p.procs
-      ∷ nat_le (length p.procs) 65535
+      ∷ nat_le (length p.procs) procedure_limit
       ∷ nat_lt p.main (length p.procs)
       ∷ main_takes_none
       ∷ list_all (is_datum p) p.datums
       ∷ nat_lt (length p.datums) (2 ^ 32)
-      ∷ nat_le (end_before p (length p.datums)) (data_base + 67108864)
+      ∷ nat_le (end_before p (length p.datums)) (data_base + data_limit)
       ∷ list_all (is_label p) p.labels
       ∷ nat_lt (length p.labels) (2 ^ 32)
-      ∷ nat_le (length p.globals) 256
+      ∷ nat_le (length p.globals) register_limit
       ∷ list_all (λ g. is_name g.name) p.globals
-      ∷ nat_le (sum_by (λ q. q.tokens) p.procs) 1000000
-      ∷ nat_le (sum_by (λ q. length q.sites * length q.vars) p.procs) 8000000
-      ∷ nat_le (sum_by (λ q. sum_by (λ site. length site.spans) q.sites) p.procs) 1000000
+      ∷ nat_le (sum_by (λ q. q.tokens) p.procs) token_limit
+      ∷ nat_le (sum_by (λ q. length q.sites * length q.vars) p.procs) site_variable_limit
+      ∷ nat_le (sum_by (λ q. sum_by (λ site. length site.spans) q.sites) p.procs) site_span_limit
       ∷ []
 
   abbrev pub is_program_in_range : Bool

@@ -31,6 +31,7 @@ use Rattle.cmm_program.specs.Orders.{target_width}
 use Rattle.cmm_program.specs.Bodies.{Mark, AtLabel, Branch, branches, within, after_inside}
 use Rattle.cmm_program.specs.Numbering.{AreNumbered, body_numbers, label_number, continuation_number, site_number, body_tokens}
 use Rattle.cmm_program.specs.Layout.{end_before, stackdata_size}
+use Rattle.cmm_program.specs.Limits.{data_limit, procedure_limit, procedure_token_limit, register_limit, site_span_limit, site_variable_limit, stackdata_limit, token_limit, unit_limit, variable_limit}
 use Rattle.cmm_program.specs.Tokens.{own_tokens, procedure_tokens}
 use Rattle.cmm_program.specs.Typing.{is_alignment, same_width, constant_width, is_target, typed, has_width, is_typed, is_condition}
 
@@ -170,14 +171,14 @@ is_item i = is_alignment i.align && (not i.label || (i.length == 0))
 -- what a test of a frame relies on: its parts are small
 pub record FitsFrames (q : Proc) : Type 0 where
   pub items : IsTrue (list_all is_item q.stack)
-  pub stackdata : stackdata_size q.stack ≤ 65536
-  pub tokens : q.tokens ≤ 131072
+  pub stackdata : stackdata_size q.stack ≤ stackdata_limit
+  pub tokens : q.tokens ≤ procedure_token_limit
 
 pub record IsProcInRange (p : Program) (q : Proc) : Type 0 where
   pub name : IsTrue (is_name q.name)
-  pub unit : q.unit < 256
+  pub unit : q.unit < unit_limit
   pub formals : IsTrue (nat_le q.formals (length q.vars) && nat_le q.formals 64)
-  pub variables : length q.vars ≤ 1024
+  pub variables : length q.vars ≤ variable_limit
   pub kinds : IsTrue (list_all (λ v. is_name v.kind) q.vars)
   pub frames : FitsFrames q
   pub continuations : IsTrue (list_all (is_continuation p q) q.conts)
@@ -209,16 +210,16 @@ is_label p l = is_name l.name && list_all is_name l.links && elim l.at_end [ tru
 
 pub record IsInRange (p : Program) : Type 0 where
   pub procedures : All (IsProcInRange p) p.procs
-  pub procedure_count : length p.procs ≤ 65535
+  pub procedure_count : length p.procs ≤ procedure_limit
   pub main : p.main < length p.procs
   pub main_formals : (q : Proc) → slice_get p.procs p.main ≡ Some q → q.formals ≡ 0
   pub datums : IsTrue (list_all (is_datum p) p.datums)
   pub datum_count : length p.datums < 2 ^ 32
-  pub data_size : end_before p (length p.datums) ≤ data_base + 67108864
+  pub data_size : end_before p (length p.datums) ≤ data_base + data_limit
   pub labels : IsTrue (list_all (is_label p) p.labels)
   pub label_count : length p.labels < 2 ^ 32
-  pub registers : length p.globals ≤ 256
+  pub registers : length p.globals ≤ register_limit
   pub register_names : IsTrue (list_all (λ g. is_name g.name) p.globals)
-  pub tokens : sum_by (λ q. q.tokens) p.procs ≤ 1000000
-  pub site_variables : sum_by (λ q. length q.sites * length q.vars) p.procs ≤ 8000000
-  pub site_spans : sum_by (λ q. sum_by (λ site. length site.spans) q.sites) p.procs ≤ 1000000
+  pub tokens : sum_by (λ q. q.tokens) p.procs ≤ token_limit
+  pub site_variables : sum_by (λ q. length q.sites * length q.vars) p.procs ≤ site_variable_limit
+  pub site_spans : sum_by (λ q. sum_by (λ site. length site.spans) q.sites) p.procs ≤ site_span_limit

@@ -60,6 +60,11 @@ each_is_listed rule.NotASnapshot = refl
 each_is_listed rule.UnknownLine = refl
 each_is_listed rule.RepeatedBlock = refl
 each_is_listed rule.ScriptTooLong = refl
+each_is_listed rule.NotAnElfFile = refl
+each_is_listed rule.ElfFileIsCut = refl
+each_is_listed rule.BadElfField = refl
+each_is_listed rule.BytesOutsideSegments = refl
+each_is_listed rule.ElfFileTooLong = refl
 
 -- rules with one number are both the rule of it
 pub one_rule : OneRuleANumber
@@ -122,3 +127,8 @@ texts_are_lines rule.NotASnapshot = refl
 texts_are_lines rule.UnknownLine = refl
 texts_are_lines rule.RepeatedBlock = refl
 texts_are_lines rule.ScriptTooLong = refl
+texts_are_lines rule.NotAnElfFile = refl
+texts_are_lines rule.ElfFileIsCut = refl
+texts_are_lines rule.BadElfField = refl
+texts_are_lines rule.BytesOutsideSegments = refl
+texts_are_lines rule.ElfFileTooLong = refl

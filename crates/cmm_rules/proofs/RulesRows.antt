@@ -1,6 +1,6 @@
 -- Worked rows: numbers, texts and phases as messages show them.
 use Rattle.std.proofs.Common.{◌≡◌, ◌++◌, Some, None, refl, codes, decimal}
-use Rattle.cmm_rules.specs.declared.rule.Rule.TheVariants.{Syntax, ArmsOverlap, Limit, NoCut, NotASnapshot, ScriptTooLong}
+use Rattle.cmm_rules.specs.declared.rule.Rule.TheVariants.{Syntax, ArmsOverlap, Limit, NoCut, NotASnapshot, ScriptTooLong, BytesOutsideSegments}
 use Rattle.cmm_rules.specs.declared.rule.Phase.TheVariants as phase
 use Rattle.cmm_rules.specs.Rules.{rules, rule_of, rule_text, phase_of, shown}
 
@@ -32,6 +32,9 @@ client_cut = refl
 
 snapshot_front : phase_of NotASnapshot ≡ phase.Snapshot
 snapshot_front = refl
+
+elf_padding : phase_of BytesOutsideSegments ≡ phase.Elf
+elf_padding = refl
 
 script_length : phase_of ScriptTooLong ≡ phase.Script
 script_length = refl

@@ -61,6 +61,11 @@ rule_number rule.NotASnapshot = 75
 rule_number rule.UnknownLine = 80
 rule_number rule.RepeatedBlock = 81
 rule_number rule.ScriptTooLong = 82
+rule_number rule.NotAnElfFile = 110
+rule_number rule.ElfFileIsCut = 111
+rule_number rule.BadElfField = 112
+rule_number rule.BytesOutsideSegments = 113
+rule_number rule.ElfFileTooLong = 114
 
 -- what is wrong, in a few words
 abbrev pub rule_text : Rule → List ℕ
@@ -118,6 +123,11 @@ rule_text rule.NotASnapshot = codes "not a snapshot"
 rule_text rule.UnknownLine = codes "unknown line"
 rule_text rule.RepeatedBlock = codes "repeated block"
 rule_text rule.ScriptTooLong = codes "script too long"
+rule_text rule.NotAnElfFile = codes "not an elf file"
+rule_text rule.ElfFileIsCut = codes "elf file is cut"
+rule_text rule.BadElfField = codes "bad elf field"
+rule_text rule.BytesOutsideSegments = codes "bytes outside segments"
+rule_text rule.ElfFileTooLong = codes "elf file too long"
 
 -- when a rule is tested
 abbrev pub phase_of : Rule → Phase
@@ -175,6 +185,11 @@ phase_of rule.NotASnapshot = phase.Snapshot
 phase_of rule.UnknownLine = phase.Script
 phase_of rule.RepeatedBlock = phase.Script
 phase_of rule.ScriptTooLong = phase.Script
+phase_of rule.NotAnElfFile = phase.Elf
+phase_of rule.ElfFileIsCut = phase.Elf
+phase_of rule.BadElfField = phase.Elf
+phase_of rule.BytesOutsideSegments = phase.Elf
+phase_of rule.ElfFileTooLong = phase.Elf
 
 -- every rule
 unfoldable pub rules : List Rule
@@ -187,7 +202,8 @@ rules =
     ∷ rule.OtherImageVersion ∷ rule.ImageIsCut ∷ rule.BadImageField ∷ rule.ImageOutOfRange ∷ rule.BytesAfterImage
     ∷ rule.ImageTooLong ∷ rule.NoActivation ∷ rule.NoVariable ∷ rule.DeadVariable ∷ rule.DoesNotFit ∷ rule.NoExit ∷ rule.OtherCount ∷ rule.InvariantVariable
     ∷ rule.NoCut ∷ rule.NoPlace ∷ rule.NoYieldedValue ∷ rule.SnapshotIsCut ∷ rule.OtherImageHeader ∷ rule.BadSnapshotField
-    ∷ rule.SnapshotTooLong ∷ rule.BytesAfterSnapshot ∷ rule.NotASnapshot ∷ rule.UnknownLine ∷ rule.RepeatedBlock ∷ rule.ScriptTooLong ∷ []
+    ∷ rule.SnapshotTooLong ∷ rule.BytesAfterSnapshot ∷ rule.NotASnapshot ∷ rule.UnknownLine ∷ rule.RepeatedBlock ∷ rule.ScriptTooLong
+    ∷ rule.NotAnElfFile ∷ rule.ElfFileIsCut ∷ rule.BadElfField ∷ rule.BytesOutsideSegments ∷ rule.ElfFileTooLong ∷ []
 
 -- the rule of a number
 abbrev pub rule_of : ℕ → Option Rule

@@ -6,7 +6,7 @@ ghost use Rattle.cmm_rules.specs.Rules.{rule_number, rule_text, phase_of, rule_o
 use std::fmt;
 
 /// A rule, with the place that a message names where it is broken, as `LINE:COLUMN` of a unit, as the offset of a byte
-/// of an image or a snapshot, or as a line of a script. A command
+/// of an image, a snapshot or an ELF file, or as a line of a script. A command
 /// that a client's rule refuses has no place.
 #[derive(Clone, Copy, Debug, PartialEq, Eq)]
 pub enum Rule {
@@ -129,6 +129,17 @@ pub enum Rule {
     RepeatedBlock,
     /// 82. A script has more than 65,536 bytes: at line 1.
     ScriptTooLong,
+    /// 110. The file does not begin as an ELF64 executable file of RISC-V: at the first field of its first 24 bytes with another value.
+    NotAnElfFile,
+    /// 111. The bytes of an ELF file end inside a field: at the field.
+    ElfFileIsCut,
+    /// 112. A field of an ELF file behind its first 24 bytes is none of the values that it may have: at the field.
+    BadElfField,
+    /// 113. A byte before the code or between code and data is not 0, or bytes follow the data: at the first byte of that padding, or at the
+    /// first byte that follows.
+    BytesOutsideSegments,
+    /// 114. An ELF file has more than 536,879,104 bytes: at the first byte too many.
+    ElfFileTooLong,
 }
 
 /// When a rule is tested: of a unit the first three phases one after another, each for all units before the next.
@@ -146,12 +157,14 @@ pub enum Phase {
     Snapshot,
     /// The form of scripts: rules 80 to 82.
     Script,
+    /// The form of ELF files: rules 110 to 114.
+    Elf,
     /// What a command of a client asks: rules 60 to 69.
     Client,
 }
 
 /// Every rule, in the order of the numbers.
-const RULES: [Rule; 54] = [
+const RULES: [Rule; 59] = [
     Rule::BadByte,
     Rule::OpenComment,
     Rule::OpenText,
@@ -206,6 +219,11 @@ const RULES: [Rule; 54] = [
     Rule::UnknownLine,
     Rule::RepeatedBlock,
     Rule::ScriptTooLong,
+    Rule::NotAnElfFile,
+    Rule::ElfFileIsCut,
+    Rule::BadElfField,
+    Rule::BytesOutsideSegments,
+    Rule::ElfFileTooLong,
 ];
 
 impl Rule {
@@ -268,6 +286,11 @@ impl Rule {
             Rule::UnknownLine => 80,
             Rule::RepeatedBlock => 81,
             Rule::ScriptTooLong => 82,
+            Rule::NotAnElfFile => 110,
+            Rule::ElfFileIsCut => 111,
+            Rule::BadElfField => 112,
+            Rule::BytesOutsideSegments => 113,
+            Rule::ElfFileTooLong => 114,
         }
     }
 
@@ -330,6 +353,11 @@ impl Rule {
             Rule::UnknownLine => "unknown line",
             Rule::RepeatedBlock => "repeated block",
             Rule::ScriptTooLong => "script too long",
+            Rule::NotAnElfFile => "not an elf file",
+            Rule::ElfFileIsCut => "elf file is cut",
+            Rule::BadElfField => "bad elf field",
+            Rule::BytesOutsideSegments => "bytes outside segments",
+            Rule::ElfFileTooLong => "elf file too long",
         }
     }
 
@@ -379,6 +407,11 @@ impl Rule {
             | Rule::BytesAfterSnapshot
             | Rule::NotASnapshot => Phase::Snapshot,
             Rule::UnknownLine | Rule::RepeatedBlock | Rule::ScriptTooLong => Phase::Script,
+            Rule::NotAnElfFile
+            | Rule::ElfFileIsCut
+            | Rule::BadElfField
+            | Rule::BytesOutsideSegments
+            | Rule::ElfFileTooLong => Phase::Elf,
             Rule::NoActivation
             | Rule::NoVariable
             | Rule::DeadVariable

@@ -3,14 +3,14 @@ use Rattle.std.specs.Prelude.{ℕ, [], ◌∷◌}
 use Rattle.cmm_chain.specs.declared.frame.Frame.{Frame}
 use Rattle.rv_asm.specs.Parts.{Code}
 use Rattle.rv_asm.specs.declared.part.Label.{Label}
-use Rattle.rv_table.specs.declared.request.Request.TheVariants.{StackLimit}
+use Rattle.rv_table.specs.declared.request.Request.TheVariants.{StackLimit, Yield}
 use Rattle.cmm_select.specs.declared.operand.Operand.TheVariants.{Held}
 use Rattle.cmm_select.specs.declared.source.Source.TheVariants.{Number}
 use Rattle.cmm_effects.specs.Changes.{Keeps}
 use Rattle.cmm_effects.specs.Pieces.{Always}
 use Rattle.cmm_effects.specs.Requests.{AsksFor}
 use Rattle.cmm_effects.specs.Ways.{Turns}
-use Rattle.cmm_calls.specs.Calls.{Calls, CallsClient, HasExits}
+use Rattle.cmm_calls.specs.Calls.{Calls, HasExits}
 use Rattle.cmm_calls.specs.Values.{Begins, ReturnsValues}
 use Rattle.cmm_emit_laws.specs.Starting.{BeginsRun}
 
@@ -27,4 +27,4 @@ pub record YieldsOnce (f : Frame) (main client site behind limit : Label) (x : C
   pub copies : Turns 2 Always (λ t. x.at behind.number) Keeps x landing
   pub returns : ReturnsValues f (Held (Number 7) ∷ []) 0 x (x.at behind.number)
   pub limits : AsksFor 1 (λ t. StackLimit) x (x.at limit.number)
-  pub asks : CallsClient 1 x (x.at client.number)
+  pub asks : AsksFor 1 (λ t. Yield) x (x.at client.number)

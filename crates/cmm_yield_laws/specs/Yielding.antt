@@ -1,6 +1,7 @@
 -- What is required of the code of a yield.
 use Rattle.std.specs.Prelude.{◌≡◌, ℕ, ◌+◌, ◌*◌, ◌≤◌, List, [], ◌∷◌, length, slice_get, Some}
 use Rattle.rv_asm.specs.declared.part.Label.{Label}
+use Rattle.rv_table.specs.declared.request.Request.TheVariants as request
 use Rattle.cmm_program.specs.declared.procedure.Proc.{Proc}
 use Rattle.cmm_program.specs.declared.procedure.Site.{Site}
 use Rattle.cmm_program.specs.Frames.{procedure_at}
@@ -13,7 +14,8 @@ use Rattle.cmm_graph.specs.declared.operand.Operand.{Operand}
 use Rattle.cmm_graph.specs.Counterpart.{numbers_of}
 use Rattle.cmm_graph.specs.GraphControl.{kind_at}
 use Rattle.cmm_effects.specs.Pieces.{BeginsQuietly}
-use Rattle.cmm_calls.specs.Calls.{Calls, CallsClient}
+use Rattle.cmm_effects.specs.Requests.{AsksFor}
+use Rattle.cmm_calls.specs.Calls.{Calls}
 use Rattle.cmm_select.specs.declared.operand.Operand.{Operand as CodeOperand}
 use Rattle.cmm_image_machine.specs.Machine.{Launch}
 use Rattle.cmm_located.specs.Compiled.{Compiled, site_exits}
@@ -37,7 +39,7 @@ module _ (s : Setting) (c : Compiled) (l : Launch) (f : Finished) where
     pub stub : Label
     pub on : ℕ
     pub calls : Calls (c.plan.frame q) operands stub back (code_of l f q) (f.node_at q n) on
-    pub client : CallsClient 1 (code_of l f q) (f.labels q stub.number)
+    pub client : AsksFor 1 (λ t. request.Yield) (code_of l f q) (f.labels q stub.number)
     pub few : 12 * length operands + 2 + 1 ≤ most
 
 -- a node that yields does so with as many values as its site says
