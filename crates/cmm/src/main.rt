@@ -3,9 +3,11 @@
 
 ghost use Rattle.std.specs.Prelude.{◌≡◌, ◌<◌, ◌≤◌, ◌^◌, length, IfOk, OnErr};
 ghost use Rattle.cmm_top.specs.declared.status.Status.TheVariants.{Usage, Memory};
+ghost use Rattle.cmm_outside.specs.Reads.{AreReadInOrder, Made};
 ghost use Rattle.cmm_run.specs.Outside.{outside_of};
 ghost use Rattle.cmm_top.specs.Answers.{EndsWith};
 ghost use Rattle.cmm_top.specs.Call.{standing};
+ghost use Rattle.cmm_top.specs.Reads.{read_by};
 ghost use Rattle.cmm_top.specs.Words.{texts};
 ghost use Rattle.cmm_top.specs.Status.{number_of};
 
@@ -39,6 +41,7 @@ fn run<F: Files, I: Source, O: Sink, E: Sink>(
 ) -> u8
     ensures none { OnErr words (result ≡ number_of Memory) }
     ensures many { IfOk words (λ given. 2 ^ 32 ≤ length given.items → result ≡ number_of Usage) }
+    ensures reads { IfOk words (λ given. length given.items < 2 ^ 32 → Made (F.reads files.old) (F.reads files.new) (AreReadInOrder (read_by (texts given.items)))) }
     ensures answers { IfOk words (λ given. length given.items < 2 ^ 32 → EndsWith (λ status image. record {
       words = texts given.items;
       before = standing F.contents F.faults F.last_failed files.old (outside_of I.left I.faults O.taken O.faults E.taken E.faults input.old out.old log.old);

@@ -1,4 +1,5 @@
 pub mod FilesRead
+pub mod ReadsMade
 pub mod Refusing
 pub mod Counting
 pub mod Asked

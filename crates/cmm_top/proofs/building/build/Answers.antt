@@ -3,8 +3,8 @@ use Rattle.cmm_outside.specs.Faults.{Rose}
 use Rattle.cmm_outside.specs.Storage.{Contents, StopsWriting, Writes}
 use Rattle.cmm_top.proofs.building.build.Goals as goal
 
-pub returns-in-Ok-write_file : goal.returns-in-Ok-write_file
-returns-in-Ok-write_file g c = λ streams.
+pub returns-in-Ok-write_file-clause-builds : goal.returns-in-Ok-write_file-clause-builds
+returns-in-Ok-write_file-clause-builds g c = λ streams.
     let after = g.F.Files.contents c.write_file.new.files in
     let read = c.in-Ok.ensures in
     let wrote = c.in-Ok-write_file.ensures in
@@ -20,8 +20,8 @@ returns-in-Ok-write_file g c = λ streams.
       ends = record { line = refl; status = refl };
     }
 
-pub returns : goal.returns
-returns g c = λ streams.
+pub returns-clause-builds : goal.returns-clause-builds
+returns-clause-builds g c = λ streams.
     let after = g.F.Files.contents c.write_file.new.files in
     let failed = g.F.Files.last_failed c.write_file.new.files in
     let read = c.in-Ok.ensures in

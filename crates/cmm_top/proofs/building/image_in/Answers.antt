@@ -7,6 +7,8 @@ use Rattle.cmm_top.specs.inside.Ending.{work_of}
 use Rattle.cmm_top.specs.inside.Reading.{AreUnits}
 use Rattle.cmm_top.proofs.FilesRead.{same_outside, units_so}
 use Rattle.cmm_top.proofs.Preparing.{handed, no_image}
+use Rattle.cmm_top.proofs.ReadsMade.{read_whole}
+use Rattle.cmm_top.specs.Reads.{units_in}
 use Rattle.cmm_top.proofs.building.image_in.Goals as goal
 
 pub returns-in_err-image-clause-err : goal.returns-in_err-image-clause-err
@@ -29,3 +31,9 @@ pub returns-clause-ok : goal.returns-clause-ok
 returns-clause-ok g c =
     units_so (g.F.Files.contents c.args.files.now) (map (λ (name : Bor (List ℕ)). name.now) c.args.names.now) (λ units. AreUnits units c.in_ok-sources.sources)
     (λ units. Agree units c.in_ok-image.image) (λ units are. c.in_ok-image.ensures.ok units are) c.in_ok-sources.ensures.ok
+
+pub returns-in_err-image-clause-reads : goal.returns-in_err-image-clause-reads
+returns-in_err-image-clause-reads g c = read_whole (units_in (map (λ (name : Bor (List ℕ)). name.now) c.args.names.now)) _ _ c.in_ok-sources.ensures.reads
+
+pub returns-clause-reads : goal.returns-clause-reads
+returns-clause-reads g c = read_whole (units_in (map (λ (name : Bor (List ℕ)). name.now) c.args.names.now)) _ _ c.in_ok-sources.ensures.reads

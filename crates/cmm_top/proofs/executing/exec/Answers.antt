@@ -3,8 +3,8 @@ use Rattle.cmm_image_machine.specs.Machine.{Launch}
 use Rattle.cmm_run.specs.Sessions.{machine_of}
 use Rattle.cmm_top.proofs.executing.exec.Goals as goal
 
-pub returns-in-Ok-run_image : goal.returns-in-Ok-run_image
-returns-in-Ok-run_image g c =
+pub returns-in-Ok-run_image-clause-executes : goal.returns-in-Ok-run_image-clause-executes
+returns-in-Ok-run_image-clause-executes g c =
     let ran = c.in-Ok-run_image.ensures.runs in
     let read = c.in-Ok.ensures in
     inl record {

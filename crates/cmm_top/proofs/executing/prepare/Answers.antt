@@ -12,6 +12,8 @@ use Rattle.cmm_top.specs.inside.Ending.{work_of}
 use Rattle.cmm_top.specs.inside.Reading.{AreUnits, IsClientRead}
 use Rattle.cmm_top.proofs.FilesRead.{same_outside, units_so}
 use Rattle.cmm_top.proofs.Preparing.{fails_before, fails_behind, handed, no_image, no_script_in, unread}
+use Rattle.cmm_top.proofs.ReadsMade.{read_all, read_first, read_part}
+use Rattle.cmm_top.specs.Reads.{script_in, units_in}
 use Rattle.cmm_top.proofs.executing.prepare.Goals as goal
 
 pub returns-in_err-sources-clause-err : goal.returns-in_err-sources-clause-err
@@ -82,3 +84,18 @@ pub returns-clause-agrees : goal.returns-clause-agrees
 returns-clause-agrees g c =
     units_so (g.F.Files.contents c.args.files.now) (map (λ (name : Bor (List ℕ)). name.now) c.args.names.now) (λ units. AreUnits units c.in_ok-sources.sources)
     (λ units. Agree units c.in_ok-image.image) (λ units are. c.in_ok-image.ensures.ok units are) c.in_ok-sources.ensures.ok
+
+pub returns-in_err-sources-clause-reads : goal.returns-in_err-sources-clause-reads
+returns-in_err-sources-clause-reads g c = read_first (units_in (map (λ (name : Bor (List ℕ)). name.now) c.args.names.now)) (script_in (option_map (λ (name : Bor (List ℕ)). name.now) c.args.client)) _ _ c.in_err-sources.ensures.reads
+
+pub returns-in_err-read-clause-reads : goal.returns-in_err-read-clause-reads
+returns-in_err-read-clause-reads g c = read_part (units_in (map (λ (name : Bor (List ℕ)). name.now) c.args.names.now)) (script_in (option_map (λ (name : Bor (List ℕ)). name.now) c.args.client)) _ _ _ c.in_ok-sources.ensures.reads c.in_err-read.ensures.reads
+
+pub returns-in_err-image-clause-reads : goal.returns-in_err-image-clause-reads
+returns-in_err-image-clause-reads g c = read_all (units_in (map (λ (name : Bor (List ℕ)). name.now) c.args.names.now)) (script_in (option_map (λ (name : Bor (List ℕ)). name.now) c.args.client)) _ _ _ c.in_ok-sources.ensures.reads c.in_ok-read.ensures.reads
+
+pub returns-in_err-script-clause-reads : goal.returns-in_err-script-clause-reads
+returns-in_err-script-clause-reads g c = read_all (units_in (map (λ (name : Bor (List ℕ)). name.now) c.args.names.now)) (script_in (option_map (λ (name : Bor (List ℕ)). name.now) c.args.client)) _ _ _ c.in_ok-sources.ensures.reads c.in_ok-read.ensures.reads
+
+pub returns-clause-reads : goal.returns-clause-reads
+returns-clause-reads g c = read_all (units_in (map (λ (name : Bor (List ℕ)). name.now) c.args.names.now)) (script_in (option_map (λ (name : Bor (List ℕ)). name.now) c.args.client)) _ _ _ c.in_ok-sources.ensures.reads c.in_ok-read.ensures.reads

@@ -13,6 +13,8 @@ use Rattle.cmm_top.specs.inside.Ending.{work_of}
 use Rattle.cmm_top.specs.inside.Reading.{IsClientRead, IsFileOf}
 use Rattle.cmm_top.proofs.FilesRead.{bytes_so, same_outside}
 use Rattle.cmm_top.proofs.Preparing.{fails_before, fails_behind, handed, holds_no_image, no_script_in, unread}
+use Rattle.cmm_top.proofs.ReadsMade.{read_all, read_first, read_part}
+use Rattle.cmm_top.specs.Reads.{image_in, script_in}
 use Rattle.cmm_top.proofs.running.prepare.Goals as goal
 
 pub returns-in_err-bytes-clause-err : goal.returns-in_err-bytes-clause-err
@@ -77,3 +79,23 @@ pub returns-clause-spelled : goal.returns-clause-spelled
 returns-clause-spelled g c =
     bytes_so (g.F.Files.contents c.args.files.now) c.args.name.now (λ bytes. IsFileOf IMAGE_LIMIT bytes c.in_ok-bytes.bytes) (λ bytes. SpellsImage bytes c.in_ok-image.image)
     (λ bytes is. c.in_ok-image.ensures.ok bytes is) c.in_ok-bytes.ensures.ok
+
+pub returns-in_err-bytes-clause-reads : goal.returns-in_err-bytes-clause-reads
+returns-in_err-bytes-clause-reads g c =
+    read_first (image_in c.args.name.now ∷ []) (script_in (option_map (λ (name : Bor (List ℕ)). name.now) c.args.client)) _ _ c.in_err-bytes.ensures.reads
+
+pub returns-in_err-read-clause-reads : goal.returns-in_err-read-clause-reads
+returns-in_err-read-clause-reads g c =
+    read_part (image_in c.args.name.now ∷ []) (script_in (option_map (λ (name : Bor (List ℕ)). name.now) c.args.client)) _ _ _ c.in_ok-bytes.ensures.reads c.in_err-read.ensures.reads
+
+pub returns-in_err-image-clause-reads : goal.returns-in_err-image-clause-reads
+returns-in_err-image-clause-reads g c =
+    read_all (image_in c.args.name.now ∷ []) (script_in (option_map (λ (name : Bor (List ℕ)). name.now) c.args.client)) _ _ _ c.in_ok-bytes.ensures.reads c.in_ok-read.ensures.reads
+
+pub returns-in_err-script-clause-reads : goal.returns-in_err-script-clause-reads
+returns-in_err-script-clause-reads g c =
+    read_all (image_in c.args.name.now ∷ []) (script_in (option_map (λ (name : Bor (List ℕ)). name.now) c.args.client)) _ _ _ c.in_ok-bytes.ensures.reads c.in_ok-read.ensures.reads
+
+pub returns-clause-reads : goal.returns-clause-reads
+returns-clause-reads g c =
+    read_all (image_in c.args.name.now ∷ []) (script_in (option_map (λ (name : Bor (List ℕ)). name.now) c.args.client)) _ _ _ c.in_ok-bytes.ensures.reads c.in_ok-read.ensures.reads

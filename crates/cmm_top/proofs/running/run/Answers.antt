@@ -1,4 +1,4 @@
-use Rattle.std.proofs.Common.{◌≡◌, Bor, List, ℕ, None, inl, refl, subst}
+use Rattle.std.proofs.Common.{◌≡◌, ◌∷◌, Bor, List, ℕ, Option, None, inl, refl, subst, sym}
 use Rattle.std.specs.Option.{option_map}
 use Rattle.cmm_image_machine.specs.Machine.{Launch}
 use Rattle.cmm_run.specs.Outside.{outside_of}
@@ -7,10 +7,12 @@ use Rattle.cmm_top.specs.Call.{Outside, standing}
 use Rattle.cmm_top.specs.Saving.{Saves, is_stopped, saved_to}
 use Rattle.cmm_top.specs.inside.Ending.{work_of}
 use Rattle.cmm_top.proofs.FilesRead.{same_outside}
+use Rattle.cmm_outside.specs.Reads.{AreReadInOrder, Made, ReadCall}
+use Rattle.cmm_top.specs.Reads.{image_in, script_in}
 use Rattle.cmm_top.proofs.running.run.Goals as goal
 
-pub returns-in-Ok-run_image : goal.returns-in-Ok-run_image
-returns-in-Ok-run_image g c =
+pub returns-in-Ok-run_image-clause-runs : goal.returns-in-Ok-run_image-clause-runs
+returns-in-Ok-run_image-clause-runs g c =
     let streams = outside_of g.I.Source.left g.I.Source.faults g.O.Sink.taken g.O.Sink.faults g.E.Sink.taken g.E.Sink.faults in
     let first = streams c.args.input.now c.args.out.now c.args.log.now in
     let last = streams c.run_image.new.input c.run_image.new.out c.run_image.new.log in
@@ -35,5 +37,10 @@ returns-in-Ok-run_image g c =
       machine = machine;
       runs = ran.runs;
       saves = subst (λ (l : Launch). Saves l.image l.stack_size machine outcome to (work_of c.left_by.result None before after)) ran.launch
-          (subst (λ (b : Outside). Saves session.launch.image session.launch.stack_size machine outcome to (work_of c.left_by.result None b after)) same (c.left_by.ensures first last));
+          (subst (λ (b : Outside). Saves session.launch.image session.launch.stack_size machine outcome to (work_of c.left_by.result None b after)) same (c.left_by.ensures.saves first last));
     }
+
+pub returns-in-Ok-run_image-clause-reads : goal.returns-in-Ok-run_image-clause-reads
+returns-in-Ok-run_image-clause-reads g c =
+    subst (λ (after : Option (List ReadCall)). Made (g.F.Files.reads c.args.files.now) after
+    (AreReadInOrder (image_in c.args.name.now ∷ script_in (option_map (λ (name : Bor (List ℕ)). name.now) c.args.client)))) (sym c.left_by.ensures.same_reads) c.prepare.ensures.reads

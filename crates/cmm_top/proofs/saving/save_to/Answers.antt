@@ -2,11 +2,11 @@ use Rattle.std.proofs.Common.{List, ℕ, inl, inr, refl, subst}
 use Rattle.cmm_outside.specs.Storage.{StopsWriting, Writes}
 use Rattle.cmm_top.proofs.saving.save_to.Goals as goal
 
-pub returns-in-Err : goal.returns-in-Err
-returns-in-Err g c = λ first last. inr (inr record { files = record { files = refl; file_faults = refl; last_failed = refl }; ends = record { line = refl; status = refl } })
+pub returns-in-Err-clause-saves : goal.returns-in-Err-clause-saves
+returns-in-Err-clause-saves g c = λ first last. inr (inr record { files = record { files = refl; file_faults = refl; last_failed = refl }; ends = record { line = refl; status = refl } })
 
-pub returns-in-Ok-write_file : goal.returns-in-Ok-write_file
-returns-in-Ok-write_file g c = λ first last.
+pub returns-in-Ok-write_file-clause-saves : goal.returns-in-Ok-write_file-clause-saves
+returns-in-Ok-write_file-clause-saves g c = λ first last.
     let wrote = c.in-Ok-write_file.ensures in
     inl record {
       bytes = c.in-Ok.bytes.items;
@@ -17,8 +17,8 @@ returns-in-Ok-write_file g c = λ first last.
       ends = record { line = refl; status = refl };
     }
 
-pub returns : goal.returns
-returns g c = λ first last.
+pub returns-clause-saves : goal.returns-clause-saves
+returns-clause-saves g c = λ first last.
     let stopped = c.in-Err-write_file.ensures in
     inr (inl record {
       bytes = c.in-Ok.bytes.items;

@@ -1,4 +1,4 @@
-use Rattle.std.proofs.Common.{◌≤◌, Bor, List, ℕ, None, ap, length, subst, sym}
+use Rattle.std.proofs.Common.{◌≤◌, Bor, List, ℕ, None, ap, length, refl, subst, sym}
 use Rattle.std.specs.List.{All}
 use Rattle.cmm_outside.specs.declared.storage.TheConstants.{NAME_LIMIT}
 use Rattle.cmm_run.specs.Outside.{outside_of}
@@ -8,6 +8,9 @@ use Rattle.cmm_top.specs.declared.task.Task.{Task}
 use Rattle.cmm_top.specs.inside.Ending.{work_of}
 use Rattle.cmm_top.specs.inside.Tasks.{CanBeDone, plain_task}
 use Rattle.cmm_top.proofs.Asked.{short_name, short_names}
+use Rattle.cmm_outside.specs.Reads.{AreReadInOrder, Made}
+use Rattle.cmm_top.proofs.ReadsMade.{read_none}
+use Rattle.cmm_top.specs.Reads.{read_for}
 use Rattle.cmm_top.proofs.top.done.Goals as goal
 
 pub exec-requires-clause-short : goal.exec-requires-clause-short
@@ -26,8 +29,8 @@ exec-requires-clause-client g c = let can = subst CanBeDone (ap plain_task c.in-
 pub run-ending-requires-clause-client : goal.run-ending-requires-clause-client
 run-ending-requires-clause-client g c = let can = subst CanBeDone (ap plain_task c.in-Run.is) c.requires in short_name c.in-Run.client can.1
 
-pub returns-in-Generate : goal.returns-in-Generate
-returns-in-Generate g c =
+pub returns-in-Generate-clause-does : goal.returns-in-Generate-clause-does
+returns-in-Generate-clause-does g c =
     let streams = outside_of g.I.Source.left g.I.Source.faults g.O.Sink.taken g.O.Sink.faults g.E.Sink.taken g.E.Sink.faults in
     let stands = standing g.F.Files.contents g.F.Files.faults g.F.Files.last_failed c.args.files.now in
     subst (λ (t : Task). Does (plain_task t) (work_of c.generate.result.0 c.generate.result.1 (stands (streams c.args.input.now c.args.out.now c.args.log.now))
@@ -37,11 +40,14 @@ returns-in-Generate g c =
 pub run-ending-requires-clause-save : goal.run-ending-requires-clause-save
 run-ending-requires-clause-save g c = let can = subst CanBeDone (ap plain_task c.in-Run.is) c.requires in short_name c.in-Run.save can.3
 
-pub returns-in-Walk : goal.returns-in-Walk
-returns-in-Walk g c =
+pub returns-in-Walk-clause-does : goal.returns-in-Walk-clause-does
+returns-in-Walk-clause-does g c =
     let streams = outside_of g.I.Source.left g.I.Source.faults g.O.Sink.taken g.O.Sink.faults g.E.Sink.taken g.E.Sink.faults in
     let first = streams c.args.input.now c.args.out.now c.args.log.now in
     let last = streams c.args.input.now c.walk-ending.new.out c.args.log.now in
     let stands = standing g.F.Files.contents g.F.Files.faults g.F.Files.last_failed in
     subst (λ (t : Task). Does (plain_task t) (work_of c.walk-ending.result None (stands c.args.files.now first) (stands c.walk-ending.new.files last))) (sym c.in-Walk.is)
-    (c.walk-ending.ensures first)
+    (c.walk-ending.ensures.walks first)
+
+pub returns-in-Generate-clause-reads : goal.returns-in-Generate-clause-reads
+returns-in-Generate-clause-reads g c = read_none (read_for (plain_task c.args.task.now)) _ _ refl

@@ -14,6 +14,8 @@ use Rattle.cmm_top.specs.inside.Ending.{work_of}
 use Rattle.cmm_top.specs.inside.Reading.{IsFileOf}
 use Rattle.cmm_top.proofs.FilesRead.{bytes_so, same_outside}
 use Rattle.cmm_top.proofs.Preparing.{fails_before, fails_behind, handed, holds_no_image, holds_no_snapshot, unread}
+use Rattle.cmm_top.proofs.ReadsMade.{read_all, read_first, read_part}
+use Rattle.cmm_top.specs.Reads.{image_in, snapshot_in}
 use Rattle.cmm_top.proofs.walking.prepare.Goals as goal
 
 pub returns-in_err-bytes-clause-err : goal.returns-in_err-bytes-clause-err
@@ -90,3 +92,18 @@ returns-clause-stopped g c =
     bytes_so (g.F.Files.contents c.args.files.now) c.args.snapshot.now (λ bytes. IsFileOf SNAPSHOT_LIMIT bytes c.in_ok-taken.taken)
     (λ bytes. SpellsSnapshot c.in_ok-image.image bytes (taken_of h.regs h.memory)) (λ bytes is. c.in_ok-halted.ensures.ok bytes is)
     (subst (λ (told : Option Contents). HasBytes told c.args.snapshot.now (λ bytes. IsFileOf SNAPSHOT_LIMIT bytes c.in_ok-taken.taken)) c.in_ok-bytes.ensures.same c.in_ok-taken.ensures.ok)
+
+pub returns-in_err-bytes-clause-reads : goal.returns-in_err-bytes-clause-reads
+returns-in_err-bytes-clause-reads g c = read_first (image_in c.args.name.now ∷ []) (snapshot_in c.args.snapshot.now ∷ []) _ _ c.in_err-bytes.ensures.reads
+
+pub returns-in_err-taken-clause-reads : goal.returns-in_err-taken-clause-reads
+returns-in_err-taken-clause-reads g c = read_part (image_in c.args.name.now ∷ []) (snapshot_in c.args.snapshot.now ∷ []) _ _ _ c.in_ok-bytes.ensures.reads c.in_err-taken.ensures.reads
+
+pub returns-in_err-image-clause-reads : goal.returns-in_err-image-clause-reads
+returns-in_err-image-clause-reads g c = read_all (image_in c.args.name.now ∷ []) (snapshot_in c.args.snapshot.now ∷ []) _ _ _ c.in_ok-bytes.ensures.reads c.in_ok-taken.ensures.reads
+
+pub returns-in_err-halted-clause-reads : goal.returns-in_err-halted-clause-reads
+returns-in_err-halted-clause-reads g c = read_all (image_in c.args.name.now ∷ []) (snapshot_in c.args.snapshot.now ∷ []) _ _ _ c.in_ok-bytes.ensures.reads c.in_ok-taken.ensures.reads
+
+pub returns-clause-reads : goal.returns-clause-reads
+returns-clause-reads g c = read_all (image_in c.args.name.now ∷ []) (snapshot_in c.args.snapshot.now ∷ []) _ _ _ c.in_ok-bytes.ensures.reads c.in_ok-taken.ensures.reads

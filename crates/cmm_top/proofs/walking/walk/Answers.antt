@@ -7,8 +7,8 @@ use Rattle.cmm_walk.specs.declared.walking.WalkError.{WalkError}
 use Rattle.cmm_top.proofs.Walked.{has_walked}
 use Rattle.cmm_top.proofs.walking.walk.Goals as goal
 
-pub returns-in-Ok-write_walk : goal.returns-in-Ok-write_walk
-returns-in-Ok-write_walk g c = λ streams.
+pub returns-in-Ok-write_walk-clause-walks : goal.returns-in-Ok-write_walk-clause-walks
+returns-in-Ok-write_walk-clause-walks g c = λ streams.
     let read = c.in-Ok.ensures in
     let walked = c.in-Ok-write_walk.ensures in
     let halted = c.in-Ok.stopped.halted in
@@ -17,8 +17,8 @@ returns-in-Ok-write_walk g c = λ streams.
     (record { files = read.same; file_faults = read.no_fault; last_failed = read.no_failed_call; input = refl; input_faults = refl; log = refl; log_faults = refl })
     (inl record { unbroken = walked.0; output = walked.1; faults = walked.2; ends = record { line = refl; status = refl } })
 
-pub returns-in-Err-Torn : goal.returns-in-Err-Torn
-returns-in-Err-Torn g c = λ streams.
+pub returns-in-Err-Torn-clause-walks : goal.returns-in-Err-Torn-clause-walks
+returns-in-Err-Torn-clause-walks g c = λ streams.
     let read = c.in-Ok.ensures in
     let halted = c.in-Ok.stopped.halted in
     let image = c.in-Ok.stopped.image in
@@ -29,8 +29,8 @@ returns-in-Err-Torn g c = λ streams.
     (record { files = read.same; file_faults = read.no_fault; last_failed = read.no_failed_call; input = refl; input_faults = refl; log = refl; log_faults = refl })
     (inr (inl record { torn = c.in-Err-Torn.torn; broken = walked.0; output = walked.1; faults = walked.2; ends = record { line = refl; status = refl } }))
 
-pub returns : goal.returns
-returns g c = λ streams.
+pub returns-clause-walks : goal.returns-clause-walks
+returns-clause-walks g c = λ streams.
     let read = c.in-Ok.ensures in
     let halted = c.in-Ok.stopped.halted in
     let image = c.in-Ok.stopped.image in

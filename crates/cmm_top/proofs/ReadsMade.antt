@@ -1,0 +1,94 @@
+-- Reads of files, as calls make them one after another.
+use Rattle.std.proofs.Common.{◌≡◌, ℕ, suc, Bor, List, [], ◌∷◌, ◌++◌, Option, Some, None, Result, Ok, Err, ◌+◌, ◌<◌, length, drop, map, take, ap, refl, sym, ◌∙◌, subst}
+use Rattle.std.proofs.lemmas.List.{map-append, map_more, take-append-drop}
+use Rattle.std.specs.Prelude.{slice_index_or}
+use Rattle.cmm_outside.proofs.Shared.{made_none, made_so, made_then, one_in_order, one_whole, others_behind, whole_in_order, whole_then, whole_then_in_order}
+use Rattle.cmm_outside.specs.Reads.{AreReadInOrder, AreReadWhole, GoOn, IsReadFor, Made, ReadCall, WantedFile}
+use Rattle.cmm_outside.specs.declared.storage.FileError.{FileError}
+use Rattle.cmm_outside.specs.declared.storage.FileError.TheVariants.{Failed, TooLong, Memory}
+use Rattle.cmm_top.specs.Reads.{units_in}
+
+abbrev Reads : Type 0
+Reads = Option (List ReadCall)
+
+-- where nothing was read, any files are read in order so far
+pub none_in_order : (files : List WantedFile) → AreReadInOrder files []
+none_in_order [] = refl
+none_in_order (file ∷ files) = ([], [], refl, tt, (λ part. refl), none_in_order files)
+
+pub read_none : (files : List WantedFile) (before after : Reads) → after ≡ before → Made before after (AreReadInOrder files)
+read_none files before after same = made_none before after (AreReadInOrder files) same (none_in_order files)
+
+-- ---- one file
+
+goes_on_for : {T : Type 0} (name : List ℕ) (limit : ℕ) (r : Result T FileError) (calls : List ReadCall) → IsReadFor name limit r calls → GoOn name limit 0 calls
+goes_on_for name limit (Ok _) calls is = is.0
+goes_on_for name limit (Err TooLong) calls is = is.0
+goes_on_for name limit (Err Failed) calls is = is
+goes_on_for name limit (Err Memory) calls is = is
+
+pub file_whole : {T : Type 0} (name : List ℕ) (limit : ℕ) (read : T) (before after : Reads) → Made before after (IsReadFor {T = T} name limit (Ok read)) →
+    Made before after (AreReadWhole (record { name = name; limit = limit } ∷ []))
+file_whole name limit read before after made = made_so before after _ _ made (λ calls is. one_whole (record { name = name; limit = limit }) calls is.0 is.1)
+
+pub file_too_long : {T : Type 0} (name : List ℕ) (limit : ℕ) (e : FileError) (before after : Reads) → e ≡ TooLong → Made before after (IsReadFor {T = T} name limit (Err e)) →
+    Made before after (AreReadWhole (record { name = name; limit = limit } ∷ []))
+file_too_long name limit e before after is made =
+    made_so before after (IsReadFor name limit (Err TooLong)) _ (subst (λ (z : FileError). Made before after (IsReadFor name limit (Err z))) is made)
+    (λ calls so. one_whole (record { name = name; limit = limit }) calls so.0 so.1)
+
+pub file_in_order : {T : Type 0} (name : List ℕ) (limit : ℕ) (r : Result T FileError) (before after : Reads) → Made before after (IsReadFor name limit r) →
+    Made before after (AreReadInOrder (record { name = name; limit = limit } ∷ []))
+file_in_order name limit r before after made =
+    made_so before after (IsReadFor name limit r) _ made (λ calls so. one_in_order (record { name = name; limit = limit }) calls (goes_on_for name limit r calls so))
+
+-- ---- files, and others behind them
+
+pub read_whole : (files : List WantedFile) (before after : Reads) → Made before after (AreReadWhole files) → Made before after (AreReadInOrder files)
+read_whole files before after made = made_so before after (AreReadWhole files) _ made (whole_in_order files)
+
+pub read_first : (first second : List WantedFile) (before after : Reads) → Made before after (AreReadInOrder first) → Made before after (AreReadInOrder (first ++ second))
+read_first first second before after made = made_so before after (AreReadInOrder first) _ made (others_behind first second)
+
+pub read_part : (first second : List WantedFile) (before between after : Reads) → Made before between (AreReadWhole first) → Made between after (AreReadInOrder second) →
+    Made before after (AreReadInOrder (first ++ second))
+read_part first second before between after made more =
+    made_then before between after (AreReadWhole first) (AreReadInOrder second) _ made more (λ x y. whole_then_in_order first second x y)
+
+pub read_both : (first second : List WantedFile) (before between after : Reads) → Made before between (AreReadWhole first) → Made between after (AreReadWhole second) →
+    Made before after (AreReadWhole (first ++ second))
+read_both first second before between after made more =
+    made_then before between after (AreReadWhole first) (AreReadWhole second) _ made more (λ x y. whole_then first second x y)
+
+pub read_all : (first second : List WantedFile) (before between after : Reads) → Made before between (AreReadWhole first) → Made between after (AreReadWhole second) →
+    Made before after (AreReadInOrder (first ++ second))
+read_all first second before between after made more =
+    made_so before after (AreReadWhole (first ++ second)) _ (read_both first second before between after made more) (whole_in_order (first ++ second))
+
+-- ---- units
+
+units_joined : (first second : List (List ℕ)) → units_in (first ++ second) ≡ units_in first ++ units_in second
+units_joined first second = map-append _ first second
+
+-- one unit more
+pub unit_read : (names : List (List ℕ)) (name : List ℕ) (before between after : Reads) → Made before between (AreReadWhole (units_in names)) →
+    Made between after (AreReadWhole (units_in (name ∷ []))) → Made before after (AreReadWhole (units_in (names ++ name ∷ [])))
+unit_read names name before between after made more =
+    subst (λ (files : List WantedFile). Made before after (AreReadWhole files)) (sym (units_joined names (name ∷ [])))
+    (read_both (units_in names) (units_in (name ∷ [])) before between after made more)
+
+-- names split where a list of borrows is
+pub names_split : (names : List (Bor (List ℕ))) (k : ℕ) (nothing : Bor (List ℕ)) → k < length names →
+    map (λ name. name.now) names ≡ (map (λ name. name.now) (take k names) ++ (slice_index_or names k nothing).now ∷ []) ++ map (λ name. name.now) (drop (k + 1) names)
+names_split names k nothing low =
+    ap (map (λ (name : Bor (List ℕ)). name.now)) (sym (take-append-drop (k + 1) names)) ∙ (map-append (λ (name : Bor (List ℕ)). name.now) (take (k + 1) names) (drop (k + 1) names)
+    ∙ ap (λ xs. xs ++ map (λ (name : Bor (List ℕ)). name.now) (drop (k + 1) names)) (map_more (λ name. name.now) names k nothing low))
+
+-- a unit in vain, and others behind it
+pub unit_in_vain : (names : List (List ℕ)) (name : List ℕ) (later all : List (List ℕ)) (before between after : Reads) → all ≡ (names ++ name ∷ []) ++ later →
+    Made before between (AreReadWhole (units_in names)) → Made between after (AreReadInOrder (units_in (name ∷ []))) → Made before after (AreReadInOrder (units_in all))
+unit_in_vain names name later all before between after is made more =
+    subst (λ (files : List WantedFile). Made before after (AreReadInOrder files)) (sym (ap units_in is ∙ units_joined (names ++ name ∷ []) later))
+    (read_first (units_in (names ++ name ∷ [])) (units_in later) before after
+    (subst (λ (files : List WantedFile). Made before after (AreReadInOrder files)) (sym (units_joined names (name ∷ [])))
+    (read_part (units_in names) (units_in (name ∷ [])) before between after made more)))
