@@ -5,6 +5,7 @@ ghost use Rattle.std.specs.List.{AllZip};
 ghost use Rattle.std.specs.List.Sorted.{IsNonDecreasingBy};
 ghost use Rattle.cmm_program.specs.Bounds.{code_bound};
 ghost use Rattle.cmm_program.specs.InRange.{IsInRange};
+ghost use Rattle.cmm_program.specs.Limits.{token_limit};
 ghost use Rattle.cmm_folded.specs.Flow.{IsFoldedFlow};
 ghost use Rattle.cmm_unit_code.specs.Joined.{CanBeJoined, IsTextOf};
 ghost use Rattle.cmm_unit_code.specs.Texts.{IsText};
@@ -35,7 +36,7 @@ pub fn lay_program(
     requires places { HavePlaces program.now.procs graphs.now places.now }
     requires covered { AreCovered graphs.now places.now }
     requires short { AreShort program.now.procs graphs.now places.now }
-    requires labels { length program.now.labels ≤ 1000000 }
+    requires labels { length program.now.labels ≤ token_limit }
     ensures can { IfOk result CanBeJoined }
     ensures text { IfOk result (λ code. (t : Text) → IsTextOf program.now code t → IsText program.now t) }
     ensures size { IfOk result (λ code. (t : Text) → IsTextOf program.now code t → length t.code ≤ code_bound (sum_by (λ q. q.tokens) program.now.procs)) }

@@ -12,6 +12,7 @@ ghost use Rattle.rv_table.specs.declared.request.Request.TheVariants as request;
 ghost use Rattle.cmm_effects.specs.Requests.{AsksFor};
 ghost use Rattle.cmm_abi.specs.declared.registers.TheConstants.{REQUEST_VALUE};
 ghost use Rattle.cmm_program.specs.InRange.{IsInRange};
+ghost use Rattle.cmm_program.specs.Limits.{token_limit};
 ghost use Rattle.cmm_emit.specs.Starts.{CallsMain, IsStart};
 ghost use Rattle.cmm_emit.specs.Orders.{IsClosed};
 
@@ -88,7 +89,7 @@ pub struct Start {
 /// The code with which a run of a program begins: it calls `main`, a symbol as all procedures are. An error is want of memory.
 pub fn start_code(alloc: Global, program: &Program) -> Result<Start, AllocError>
     requires range { IsInRange program.now }
-    requires labels { length program.now.labels ≤ 1000000 }
+    requires labels { length program.now.labels ≤ token_limit }
     ensures { IfOk result (IsStart program.now) }
 {
     let mut asm = Asm::new(alloc);

@@ -4,6 +4,7 @@ ghost use Rattle.std.specs.Prelude.{◌≡◌, ◌+◌, ◌<◌, ◌≤◌, ◌�
 ghost use Rattle.std.specs.List.{AllZip};
 ghost use Rattle.std.specs.List.Sorted.{IsNonDecreasingBy};
 ghost use Rattle.cmm_program.specs.InRange.{IsInRange};
+ghost use Rattle.cmm_program.specs.Limits.{token_limit};
 ghost use Rattle.cmm_folded.specs.Flow.{IsFoldedFlow};
 ghost use Rattle.cmm_unit_code.specs.declared.unit_code.UnitCode.{UnitCode as CodeOfUnit};
 ghost use Rattle.cmm_allocate.specs.Places.{HavePlaces};
@@ -34,7 +35,7 @@ fn unit_code(
     requires flows { AllZip IsFoldedFlow program.now.procs graphs.now }
     requires places { HavePlaces program.now.procs graphs.now places.now }
     requires short { AreShort program.now.procs graphs.now places.now }
-    requires labels { length program.now.labels ≤ 1000000 }
+    requires labels { length program.now.labels ≤ token_limit }
     requires within { first + count ≤ length program.now.procs }
     ensures { IfOk result (IsUnit program.now graphs.now places.now first count) }
 {
@@ -77,7 +78,7 @@ pub fn unit_codes(
     requires flows { AllZip IsFoldedFlow program.now.procs graphs.now }
     requires places { HavePlaces program.now.procs graphs.now places.now }
     requires short { AreShort program.now.procs graphs.now places.now }
-    requires labels { length program.now.labels ≤ 1000000 }
+    requires labels { length program.now.labels ≤ token_limit }
     ensures { IfOk result (λ codes. (units : List CodeOfUnit) × (codes ≡ start ∷ units) × (length units ≤ 256)
         × AreUnits program.now graphs.now places.now 0 (length program.now.procs) units) }
 {

@@ -2,11 +2,8 @@
 use Rattle.std.specs.Prelude.{ℕ, ◌+◌, ◌*◌, ◌≤◌, length, sum_by}
 use Rattle.cmm_program.specs.declared.program.Program.{Program}
 use Rattle.cmm_program.specs.Bounds.{code_bound}
+use Rattle.cmm_program.specs.Limits.{token_limit}
 use Rattle.cmm_unit_code.specs.declared.text.Text.{Text}
-
--- the most tokens that all units of a program may have
-abbrev pub token_limit : ℕ
-token_limit = 1000000
 
 -- the names under which data labels are exported
 abbrev pub link_count : Program → ℕ

@@ -3,6 +3,7 @@
 ghost use Rattle.std.specs.Prelude.{◌≡◌, ◌<◌, ◌≤◌, ◌^◌, ◌++◌, length, map, slice_index, IsTrue, IfOk, OnOk};
 ghost use Rattle.std.specs.List.{All, IsDistinct, zip};
 ghost use Rattle.std.specs.List.Sorted.{IsPermutation};
+ghost use Rattle.cmm_program.specs.Limits.{procedure_limit};
 ghost use Rattle.cmm_tables.specs.Premises.{HasShortSites};
 ghost use Rattle.cmm_tables.specs.SiteRows.{placed_site, span_row, unwind_row};
 ghost use Rattle.cmm_link.specs.Linked.{AreSitesOf, KnowLive};
@@ -139,7 +140,7 @@ fn all_sites(
     labels: &[u64],
 ) -> Result<Vec<SiteRow>, AllocError>
     requires short { All HasShortSites procs.now }
-    requires count { length procs.now ≤ 65535 }
+    requires count { length procs.now ≤ procedure_limit }
     requires live { KnowLive procs.now places.now }
     requires landings { length text.now.landings ≡ length procs.now }
     requires sites { length text.now.sites ≡ length procs.now }
@@ -181,7 +182,7 @@ pub(crate) fn site_rows(
     labels: &[u64],
 ) -> Result<Items<SiteRow>, AllocError>
     requires short { All HasShortSites procs.now }
-    requires count { length procs.now ≤ 65535 }
+    requires count { length procs.now ≤ procedure_limit }
     requires live { KnowLive procs.now places.now }
     requires landings { length text.now.landings ≡ length procs.now }
     requires sites { length text.now.sites ≡ length procs.now }

@@ -3,6 +3,7 @@
 ghost use Rattle.std.specs.Prelude.{◌≡◌, ◌≤◌, ◌∷◌, [], ℕ, Option, None, sum_by, length, IfOk, IfErr};
 ghost use Rattle.cmm_compile.specs.Agreement.{AgreesWith};
 ghost use Rattle.cmm_program.specs.InRange.{IsInRange};
+ghost use Rattle.cmm_program.specs.Limits.{token_limit};
 ghost use Rattle.cmm_front.specs.Programs.{IsProgramOf};
 ghost use Rattle.cmm_generated.specs.Generated.{generated};
 ghost use Rattle.cmm_outside.specs.Output.{WritesAll};
@@ -52,7 +53,7 @@ fn compiled(alloc: Global, number: u64) -> Result<Compiled, Ending<'static>>
 
 /// How many call sites a program has.
 fn count_sites(program: &Program) -> u64
-    requires { site_count program.now ≤ 1000000 }
+    requires { site_count program.now ≤ token_limit }
     ensures { result ≡ site_count program.now }
 {
     let mut count = 0;
@@ -64,7 +65,7 @@ fn count_sites(program: &Program) -> u64
 
 /// Tells how many procedures and how many call sites a program has.
 fn put_counts<E: Sink>(program: &Program, log: &mut E) -> Result<(), Failed>
-    requires { site_count program.now ≤ 1000000 }
+    requires { site_count program.now ≤ token_limit }
     ensures { WritesAll E.taken E.faults log.old log.new (counts_lines program.now) result }
 {
     write_parts(
