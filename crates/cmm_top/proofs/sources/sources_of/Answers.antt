@@ -6,7 +6,7 @@ use Rattle.cmm_top.specs.Files.{HasBytes}
 use Rattle.cmm_top.specs.inside.Reading.{AreRead, IsFileOf}
 use Rattle.cmm_top.proofs.FilesRead.{more_read}
 use Rattle.cmm_outside.specs.Reads.{AreReadWhole, Made}
-use Rattle.cmm_top.proofs.ReadsMade.{names_split, read_whole, unit_in_vain, unit_read}
+use Rattle.cmm_top.proofs.ReadsMade.{in_order_for, names_split, read_whole, unit_in_vain, unit_read}
 use Rattle.cmm_top.specs.Reads.{units_in}
 use Rattle.cmm_top.proofs.sources.sources_of.Goals as goal
 
@@ -33,14 +33,16 @@ returns-in_err-unit-clause-reads g c =
     let k = c.loop-name.name-index in
     let names = c.args.names.now in
     let nothing : Bor (List ℕ) = record { ref_ptr = (0, 0); now = [] } in
-    unit_in_vain (map (λ name. name.now) (take k names)) (slice_index_or names k nothing).now (map (λ name. name.now) (drop (k + 1) names)) (map (λ name. name.now) names) _ _ _
-    (names_split names k nothing c.loop-name-test.true) c.loop-name.invariant.5 c.in_err-unit.ensures.reads
+    in_order_for (units_in (map (λ name. name.now) names)) _ _ c.from_residual.result _ c.from_residual.ensures.1
+    (unit_in_vain (map (λ name. name.now) (take k names)) (slice_index_or names k nothing).now (map (λ name. name.now) (drop (k + 1) names)) (map (λ name. name.now) names) _ _ _
+    (names_split names k nothing c.loop-name-test.true) c.loop-name.invariant.5 c.in_err-unit.ensures.reads)
 
 pub returns-in_err-add-clause-reads : goal.returns-in_err-add-clause-reads
 returns-in_err-add-clause-reads g c =
     let k = c.loop-name.name-index in
     let names = c.args.names.now in
     let nothing : Bor (List ℕ) = record { ref_ptr = (0, 0); now = [] } in
-    unit_in_vain (map (λ name. name.now) (take k names)) (slice_index_or names k nothing).now (map (λ name. name.now) (drop (k + 1) names)) (map (λ name. name.now) names) _ _ _
+    in_order_for (units_in (map (λ name. name.now) names)) _ _ c.from_residual-in_err-add.result _ c.from_residual-in_err-add.ensures.1
+    (unit_in_vain (map (λ name. name.now) (take k names)) (slice_index_or names k nothing).now (map (λ name. name.now) (drop (k + 1) names)) (map (λ name. name.now) names) _ _ _
     (names_split names k nothing c.loop-name-test.true) c.loop-name.invariant.5
-    (read_whole (units_in ((slice_index_or names k nothing).now ∷ [])) _ _ c.in_ok-unit.ensures.reads)
+    (read_whole (units_in ((slice_index_or names k nothing).now ∷ [])) _ _ c.in_ok-unit.ensures.reads))
