@@ -5,18 +5,19 @@ Usage: bench/lang.py [PROGRAM], at the top of the repository; PROGRAM is the bui
 
 C, compiled by gcc for RV64IM at -O0, and Python do what the program does, but for its lines of text and its mistakes; their result has to stand in what
 the program prints. C tests no index and no divisor, and Python tests as much as the program does. Counts are made as bench/counted.py says; times are
-those of `run` and of Python less those of a program that does nothing.
+those that a processor spends, the least of five: on `run`, less that on a program that does nothing, and on the algorithm in Python.
 """
 import os
 import subprocess
 import sys
 import tempfile
 
-from counted import instructions, instructions_in_c, seconds, written
+from counted import instructions, instructions_in_c, written
 
 TOP = os.path.dirname(os.path.dirname(os.path.abspath(__file__)))
 RUNTIME = f"{TOP}/examples/lang/runtime.cmm"
 NOTHING = "fun main() { }\n"
+TIMED = "import time\nstart = time.process_time()\n{}\nprint(time.process_time() - start)\n"
 
 # Of each program: its name, the same in C and in Python.
 QUEENS = (
@@ -216,29 +217,41 @@ def compiled(folder, source, *words):
     return f"{base}.cmm", RUNTIME, "--client", f"{base}.script"
 
 
-def time_of_run(program, folder, unit, runtime, *client):
-    """The least time of some runs of an image."""
+def spent(command, runs=5):
+    """The least time that a processor spends on some runs of a command: other work on the machine changes it less than the time that passes."""
+    best = None
+    for _ in range(runs):
+        process = subprocess.Popen(command, stdin=subprocess.DEVNULL, stdout=subprocess.DEVNULL, stderr=subprocess.DEVNULL)
+        _, _, usage = os.wait4(process.pid, 0)
+        process.returncode = 0
+        took = usage.ru_utime + usage.ru_stime
+        best = took if best is None else min(best, took)
+    return best
+
+
+def spent_on_run(program, folder, unit, runtime, *client):
+    """What a processor spends on a run of an image."""
     image = os.path.join(folder, "a.image")
     subprocess.run([program, "build", unit, runtime, "-o", image], check=True)
-    return seconds([program, "run", image, *client])[0]
+    return spent([program, "run", image, *client])
 
 
 def main(program="crates/cmm/out/cmm"):
     print("| program | by unwinding | by cuts | gcc -O0 | to one of gcc -O0 | `run` | executed per second | Python |\n|---|---|---|---|---|---|---|---|")
     with tempfile.TemporaryDirectory() as folder:
-        start = time_of_run(program, folder, *compiled(folder, written(folder, "nothing.lang", NOTHING)))
-        python, _ = seconds([sys.executable, written(folder, "nothing.py", "")])
+        start = spent_on_run(program, folder, *compiled(folder, written(folder, "nothing.lang", NOTHING)))
         for name, in_c, in_python in (QUEENS, MATRIX, MUTUAL, PIPELINE, BUILDER):
             source = f"{TOP}/examples/lang/{name}.lang"
             by_cuts, _ = instructions(program, *compiled(folder, source, "--cuts"))
             words = compiled(folder, source)
             count, _ = instructions(program, *words)
             plain, result = instructions_in_c(folder, f"typedef unsigned long u64;\n{in_c}\n", "-O0")
-            script = written(folder, "a.py", in_python)
+            script = written(folder, "a.py", TIMED.format(in_python))
             told = subprocess.run([program, "exec", *words], stdout=subprocess.PIPE, stderr=subprocess.DEVNULL, check=True).stdout.decode().split()
-            other = subprocess.run([sys.executable, script], stdout=subprocess.PIPE, check=True).stdout.decode().strip()
+            others = [subprocess.run([sys.executable, script], stdout=subprocess.PIPE, check=True).stdout.decode().split() for _ in range(5)]
+            other, in_other = others[0][0], min(float(it[1]) for it in others)
             assert str(result) == other and other in told, (name, result, other, told)
-            took, in_other = time_of_run(program, folder, *words) - start, seconds([sys.executable, script])[0] - python
+            took = spent_on_run(program, folder, *words) - start
             print(f"| `{name}` | {count:,} | {by_cuts:,} | {plain:,} | {by_cuts / plain:.2f} | {took * 1e3:.1f} ms | {count / took / 1e6:.0f} million | {in_other * 1e3:.1f} ms |", flush=True)
 
 

@@ -919,6 +919,8 @@ def main():
         with open(words.trace, encoding="utf-8") as file:
             print("\n".join(traced(sys.stdin.read(), file.read())))
         return 0
+    if not words.source:
+        parser.error("a source is wanted")
     try:
         unit = Unit(words.source, words.cuts)
         made = {"cmm": unit.unit(), "script": unit.script()}

@@ -8,6 +8,7 @@ like. Each difference is printed; the last line is `N passed, M failed`, of runs
 import collections
 import json
 import os
+import re
 import subprocess
 import sys
 import tempfile
@@ -47,13 +48,8 @@ def tree():
 
 def pipeline():
     squares = [n * n for n in range(1, 5000)]
-    inverses = ["1000 / x = 1", "1000 / x = 2", "1000 / x = 1000"]  # of 1000 / 3, 1000 / 2 and 1000 / 1; and then of 0
-    return [*map(str, [n for n in squares if n % 3][:5]), f"sum {sum([n for n in squares if n % 7][:2000])}", *map(inverse, (3, 2, 1)), "division by zero",
-            "got 1000", "got -1", "closed"] if inverses else []
-
-
-def inverse(n):
-    return f"1000 / x = {1000 // n}"
+    return [*map(str, [n for n in squares if n % 3][:5]), f"sum {sum([n for n in squares if n % 7][:2000])}", *(f"1000 / x = {1000 // n}" for n in (3, 2, 1)),
+            "division by zero", "got 1000", "got -1", "closed"]
 
 
 def matrix():
@@ -141,8 +137,7 @@ def told(run, base, wanted):
 
 def matches(line, shape):
     """Whether a line is of a shape in which `*` stands for an address."""
-    parts = shape.split("*")
-    return lang.re.fullmatch("0x[0-9a-f]+".join(map(lang.re.escape, parts)), line) is not None
+    return re.fullmatch("0x[0-9a-f]+".join(map(re.escape, shape.split("*"))), line) is not None
 
 
 def main(program):
