@@ -329,7 +329,7 @@ class Body:
         """A variable of the source. The block of a `finally` is made more than once: each declaration in it is still one variable."""
         if id(node) not in self.declared:
             made = f"v.{name}"
-            while made in self.variables:
+            while made in self.declared.values():
                 made += ".again"
             self.variables[made] = f"{name}: {type}"
             self.declared[id(node)] = made
@@ -517,7 +517,7 @@ class Checks(Expressions):
 #     p = Point(1, 2);                t.1 = heap.next;                                       the heap is a datum of the runtime, and
 #                                     if t.1 + 16 > heap.end { goto fail.4; }                how far it is used is in a global register
 #                                     heap.next = t.1 + 16;
-#                                     bits64[t.1] = 1; bits64[t.1 + 8] = 2;
+#                                     bits64[t.1 + 0] = 1; bits64[t.1 + 8] = 2;
 #     s = s + "!";                    t.2 = rt.join(v.s, s.1) also returns to fail.5;        the runtime knows no exceptions: it fails
 #                                                                                            by another exit, and its caller raises
 #     table a[8];                     stackdata { align 8; v.a: bits64[8]; }                 in the frame, for as long as this call lasts:
@@ -877,7 +877,7 @@ def traced(log, unit):
     source, asked, said = lines[0].partition(" from ")[2], [], []
     name, kinds = os.path.splitext(os.path.basename(source))[0], {number: kind for kind, number in re.findall(r"const kind\.(\w+) = (\d+);", unit)}
     for line in log.splitlines():
-        word, *rest = line.split()
+        word, *rest = line.split() or [""]
         if fault := re.fullmatch(rf"(?:.*/)?{re.escape(name)}\.cmm:(\d+):\d+: \d+ (.*)", line):
             at = next((it[1] for it in map(re.compile(r" *// (\d+): ").match, reversed(lines[:int(fault[1])])) if it), "1")
             said.append(f"{source}:{at}: {fault[2]}")
