@@ -66,8 +66,9 @@ def written(folder, name, text):
 
 
 def line_of(program, path, *words):
-    """What the program says of a run."""
-    return subprocess.run([program, "exec", path, *words], stdout=subprocess.DEVNULL, stderr=subprocess.PIPE, check=False).stderr.decode().strip()
+    """What the program says last of a run, behind the lines of a client."""
+    ran = subprocess.run([program, "exec", path, *words], stdin=subprocess.DEVNULL, stdout=subprocess.DEVNULL, stderr=subprocess.PIPE, check=False)
+    return ran.stderr.decode().strip().split("\n")[-1]
 
 
 def instructions(program, path, *words):
