@@ -30,6 +30,7 @@ MIB = 1 << 20
 # Half of what systems usually give. docs/PERFORMANCE.md has what the deepest units need, which is more than 1 MiB.
 STACK = 4 * MIB
 ALIKE = 40
+CALLS = 40
 
 SUM = b"export main; main() { return (2 + 3); }"
 PUT = b'export main; main() { foreign "C" cmm_putbyte(65); foreign "C" cmm_putbyte(10); return (7); }'
@@ -304,7 +305,7 @@ def failing_device(cases, words, files, written, device):
     """One device: what comes where each of its calls fails, until one is never made."""
     whole = rows.call(cases.program, words, files, b"xy")
     made = True
-    for number in range(40):
+    for number in range(CALLS):
         cases.count += 1
         found = rows.call(cases.program, words, files, b"xy", rows.Limits(device=device, call=number))
         title = f"{' '.join(words)}, {device} {number}"
