@@ -8,6 +8,7 @@
      input    the reads of standard input, each of which takes at most one byte, so that the calls can be told by the bytes
      output   the writes to standard output
      log      the writes to standard error
+     memory   the requests for memory of the program, but not those of the loader before
 
    FILE_ROOM is how many bytes a file may get: a write beyond is cut there, and fails where it would begin there.
 
@@ -26,8 +27,12 @@
 /* (fcntl.h may define these functions itself) */
 #define AT_FDCWD -100
 
-__attribute__((constructor)) static void limit_files(void)
+/* whether the program itself has begun, or what is called for it */
+static int has_begun;
+
+__attribute__((constructor)) static void begin(void)
 {
+    has_begun = 1;
     const char *room = getenv("FILE_ROOM");
     if (room == NULL)
         return;
@@ -49,6 +54,20 @@ static int fails(const char *device)
         return 0;
     errno = EIO;
     return 1;
+}
+
+/* (what they are in the GNU C library) */
+void *__libc_malloc(size_t size);
+void *__libc_realloc(void *held, size_t size);
+
+void *malloc(size_t size)
+{
+    return has_begun && fails("memory") ? NULL : __libc_malloc(size);
+}
+
+void *realloc(void *held, size_t size)
+{
+    return has_begun && fails("memory") ? NULL : __libc_realloc(held, size);
 }
 
 ssize_t read(int file, void *bytes, size_t size)

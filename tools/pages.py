@@ -4,7 +4,7 @@
 - Each crate of crates.txt has one row in the tables of crates of docs/ARCHITECTURE.md, those below "## Crates".
 - Each public file of definitions, those of specs/ itself, stands in a row of its crate below "## Where definitions live", and each file
   that a row names is there.
-- Each name between backticks stands in the tree: a crate, a path, `Module.definition` of a spec file, `crate::path::function`, and any word
+- Each name between backticks stands in the tree: a crate, a path, `Module.definition` of a spec file, `crate::path::function`, an edit, and any word
   with an underscore in it. What looks like none of these is text, and is not tested; nor is what stands in an indented block.
 - Each line of an excerpt, a block that begins with three backquotes, a language and a path, stands in that file, after the line before it; `..` stands
   for lines that are left out.
@@ -78,7 +78,8 @@ class Tree:
         files = sorted(tree_files())
         self.ends = ends_of(files) | ends_of(folders_of(files))
         self.by_path = {it: words_of(it) for it in files if not it.endswith((".md", ".edit")) and it != HERE}
-        self.words = set().union(*self.by_path.values())
+        edits = {os.path.splitext(os.path.basename(it))[0] for it in files if it.endswith(".edit")}
+        self.words = edits.union(*self.by_path.values())
         self.modules = {}
         for path in self.by_path:
             name, ending = os.path.splitext(os.path.basename(path))
