@@ -1,6 +1,6 @@
 -- The format of the ELF file of an image: its fields in their order, a line each. They have the names of the ELF specification, of its sections
 -- "ELF Header" and "Program Header"; the number of the machine and its flags are those of the RISC-V ELF psABI specification.
-use Rattle.std.specs.Prelude.{ℕ, ◌+◌, ◌-◌, ◌==◌, nat_lt, nat_le, bytes_eq, Bool, true, false, List, [], ◌∷◌, ◌++◌, length, drop, replicate, Ok}
+use Rattle.std.specs.Prelude.{ℕ, ◌+◌, ◌-◌, ◌==◌, nat_lt, nat_le, bytes_eq, Bool, true, false, List, [], ◌∷◌, length, drop, replicate, Ok}
 use Rattle.std.specs.Int.{next_multiple_of}
 use Rattle.std.specs.List.{list_all}
 use Rattle.byteorder.specs.Endian.{little_number}
