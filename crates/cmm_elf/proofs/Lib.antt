@@ -1,0 +1,6 @@
+mod FieldLaws
+mod ElfLaws
+mod LengthLaws
+mod ReadLaws
+mod WritingLaws
+mod ElfRows

@@ -1,0 +1,4 @@
+pub mod ElfFormat
+pub mod ElfFiles
+pub mod Laws
+pub mod inside
