@@ -93,8 +93,8 @@ module _ (s : Setting) (c : Compiled) (l : Launch) (f : Finished) (rest : ℕ �
         lacks = grind (arith, nat_tests, lacks, stands.shown.holdings.frame, bottom_is s (map_of l) is_for);
         fits = omega (arith, bottom_is s (map_of l) is_for, is_for.small, laid.can.small);
       })) stands.sound)
-      (λ u there. code.limits.go u there.1 there.0.0))
-      (omega arith) (omega arith) (λ v asks. asks.1))
+      (λ u there. reaches_more (code.limits.go u there.1 there.0.0) (λ v asks. asks.1)))
+      (omega arith) (omega arith) (λ v asks. asks))
 
   -- ---- with room
 
