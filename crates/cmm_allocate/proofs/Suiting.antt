@@ -30,7 +30,7 @@ use Rattle.cmm_located.specs.Layouts.{is_location}
 use Rattle.cmm_allocate.specs.Allocated.{AreAllocated, temporaries}
 use Rattle.cmm_allocate.specs.Classes.{is_in_some, is_live_past_cut, local_at, local_by, suits_callee_saves, suits_temporary}
 use Rattle.cmm_allocate.specs.Compiling.{no_place}
-use Rattle.cmm_allocate.specs.Placed.{ArePlaces, cuts_inside, is_clear_of_values, place_at}
+use Rattle.cmm_allocate.specs.Placed.{ArePlaces, cuts_inside, place_at}
 use Rattle.cmm_allocate.proofs.Living.{at_site_within, before_within, number_within, numbered}
 use Rattle.cmm_allocate.proofs.Members.{contained_at, none_contained}
 use Rattle.cmm_allocate.proofs.SlotOrder.{slot_even}
@@ -118,11 +118,6 @@ module _ (closed : SetsAreClosed) (decide : SetsDecideConflicts) (g : Graph) (li
   in_slot v low none other (Saved r) is = let suits : suits_callee_saves live v ≡ true = (are.saved v r low is).1 in absurd (cc (other, suits))
   in_slot v low none other (Temp r) is = let suits : suits_temporary g live v ≡ true = (are.temporary v r low is).1 in absurd (cc (none, suits))
 
-  clear_at : (v : ℕ) → v < local_count g → (l : Location) → place_at locals v ≡ l → is_clear_of_values l ≡ true
-  clear_at v low (Slot offset) is = refl
-  clear_at v low (Saved r) is = refl
-  clear_at v low (Temp r) is = all_of (λ (n : ℕ). is_clear_of_values (Temp n)) temporaries r refl (are.temporary v r low is).0
-
   -- ---- conflicts
 
   conflicting : (v w : ℕ) (v_low : v < local_count g) (w_low : w < local_count g) → Conflicts g (local_at g v) (local_at g w) → place_at locals v ≢ place_at locals w
@@ -187,7 +182,6 @@ module _ (closed : SetsAreClosed) (decide : SetsDecideConflicts) (g : Graph) (li
   pub allocated_suit : ArePlaces g live locals
   allocated_suit = record {
     count = are.count;
-    clear = all_from is_clear_of_values locals no_place (λ v less. clear_at v (subst (λ n. v < n) are.count less) (place_at locals v) refl);
     written = written;
     at_site = at_one_site;
     lasting = λ site v is. not_temporary v (at_site_within g live sets site v is) (at_some_site v (in_some live.sites site v is)) (place_at locals v) refl;

@@ -1,8 +1,5 @@
 -- What is asked of the places of a graph's locals, for what is live where.
-use Rattle.std.specs.Prelude.{◌≡◌, ◌≢◌, ◌+◌, ℕ, nat_le, Bool, true, false, Contains, List, length, slice_index_or, Some}
-use Rattle.std.specs.List.{list_all}
-use Rattle.cmm_abi.specs.declared.registers.TheConstants.{FIRST_VALUE}
-use Rattle.cmm_abi.specs.declared.values.TheConstants.{IN_REGISTERS}
+use Rattle.std.specs.Prelude.{◌≡◌, ◌≢◌, ◌+◌, ℕ, Bool, true, false, Contains, List, length, slice_index_or, Some}
 use Rattle.cmm_bitset.specs.Sets.{has}
 use Rattle.cmm_graph.specs.declared.graph.Graph.{Graph}
 use Rattle.cmm_graph.specs.declared.node.Node.{Node}
@@ -17,17 +14,12 @@ use Rattle.cmm_live.specs.Exact.{set_at}
 use Rattle.cmm_live.specs.Locals.{local_count, local_number}
 use Rattle.cmm_live.specs.Sites.{cut_nodes}
 use Rattle.cmm_chain.specs.declared.frame.Location.{Location}
-use Rattle.cmm_chain.specs.declared.frame.Location.TheVariants.{Slot, Temp}
+use Rattle.cmm_chain.specs.declared.frame.Location.TheVariants.{Slot}
 use Rattle.cmm_chain.specs.Running.{lasts}
 use Rattle.cmm_allocate.specs.Compiling.{no_place}
 
 abbrev pub place_at : List Location → ℕ → Location
 place_at locals v = slice_index_or locals v no_place
-
--- no value that is passed comes or goes in a location: values travel in registers of lower numbers
-abbrev pub is_clear_of_values : Location → Bool
-is_clear_of_values (Temp r) = nat_le (FIRST_VALUE + IN_REGISTERS) r
-is_clear_of_values _ = true
 
 -- a cut statement, which may lead to a continuation of its own activation
 abbrev pub cuts_inside : NodeKind → Bool
@@ -36,8 +28,6 @@ cuts_inside _ = false
 
 pub record ArePlaces (g : Graph) (live : LiveSets) (locals : List Location) : Type 0 where
   pub count : length locals ≡ local_count g
-  -- values that come and go disturb none of them
-  pub clear : list_all is_clear_of_values locals ≡ true
   -- what a node writes shares its place with nothing else that is live where the node leads
   pub written : (n : NodeId) (node : Node) (m : NodeId) (l : Local) (u : ℕ) → node_of g n ≡ Some node → Contains (successors g node.kind) m → Contains (writes node.kind) l →
       is_local g l ≡ true → has (set_at live.before m.number) u ≡ true → u ≢ local_number g l → place_at locals (local_number g l) ≢ place_at locals u

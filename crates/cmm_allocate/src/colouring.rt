@@ -19,8 +19,8 @@ use cmm_items::Items;
 use cmm_live::{LiveSets, interference_within};
 use std::alloc::{AllocError, Global};
 
-/// The temporary registers that locals get: of those, values travel in none.
-const TEMPORARIES: [u8; 4] = [28, 29, 30, 31];
+/// The temporary registers that locals get: a2 to a5, in which values travel, and t3 to t6.
+const TEMPORARIES: [u8; 8] = [12, 13, 14, 15, 28, 29, 30, 31];
 
 /// Colours for the locals of a class by their conflicts.
 fn colour_class(
@@ -115,7 +115,7 @@ fn home(register: Option<Location>, end: u32) -> (Location, u32)
 }
 
 /// The place of each local of a graph, by its number, where just these locals are live. Locals that are live at no site, and to which no cut
-/// statement leads, are coloured by the temporary registers 28 to 31; those that are live at some site, and on no cut exit, by the
+/// statement leads, are coloured by the temporary registers 12 to 15 and 28 to 31; those that are live at some site, and on no cut exit, by the
 /// callee-saves registers. Who gets no colour has a slot. An error is want of memory.
 pub fn places(alloc: Global, g: &Graph, live: &LiveSets) -> Result<Items<Location>, AllocError>
     requires few { 8 * local_count g.now + 8 < 2 ^ 32 }

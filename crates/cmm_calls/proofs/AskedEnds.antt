@@ -34,11 +34,11 @@ asks : (x : Code) (from mid to number : ℕ) (asked : State → Request) → num
     ((s t : State) → t.registers 5 ≡ number → t.registers 10 ≡ s.registers 10 → request_of t.registers ≡ Some (asked s)) → AsksFor 1 asked x from
 asks x from mid to number asked small first ecall tells = record {
   go = λ s sound at. reaches_weaker ((leads_set x (Addi 5 0 (pos number)) from mid 5 (λ g. sum (g 0) (modulo 64 (pos number))) (omega arith) (λ g pc. refl) first).runs.go s sound at tt)
-    (omega arith) (omega arith) (λ t there. (
-      set_keeps 5 (sum (s.registers 0) (modulo 64 (pos number))) s t refl there.1,
-      (single_does x Ecall mid to t ecall there.0).ask (asked s) refl
-          (tells s t (there.1.given ∙ first_number (s.registers 0) number sound.zero small) (there.1.others 10 refl)),
-    ));
+      (omega arith) (omega arith) (λ t there. (
+        set_keeps 5 (sum (s.registers 0) (modulo 64 (pos number))) s t refl there.1,
+        (single_does x Ecall mid to t ecall there.0).ask (asked s) refl
+            (tells s t (there.1.given ∙ first_number (s.registers 0) number sound.zero small) (there.1.others 10 refl)),
+      ));
 }
 
 pub asks_limit : (x : Code) (from mid to : ℕ) → Does x (Single (Addi 5 0 (pos 4))) from mid → Does x (Single Ecall) mid to → AsksFor 1 (λ t. StackLimit) x from

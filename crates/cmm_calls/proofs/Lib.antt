@@ -9,6 +9,15 @@ mod Leaving
 mod Taken
 mod Copied
 mod Brought
+mod Tests
+mod Moved
+mod Gone
+mod Homes
+mod Stored
+mod Arrived
+mod Targets
+mod Idle
+mod Zeroed
 mod Beginning
 mod Going
 mod AskedEnds

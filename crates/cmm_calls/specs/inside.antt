@@ -3,3 +3,6 @@ pub mod Pairs
 pub mod Taking
 pub mod Giving
 pub mod Jumps
+pub mod Moves
+pub mod Arriving
+pub mod Zeroing

@@ -9,7 +9,7 @@ ghost use Rattle.cmm_select.specs.Operands.{IsOperand, most_for};
 ghost use Rattle.cmm_calls.specs.Calls.{Calls, CallsBy, CutsTo, HasExits, JumpsBy};
 ghost use Rattle.cmm_calls.specs.Frames.{CanBeMade};
 ghost use Rattle.rv_asm.specs.Appending.{AddsWords, IsBehind};
-ghost use Rattle.cmm_calls.specs.Values.{are_given_first, is_operand, parting_cost};
+ghost use Rattle.cmm_calls.specs.Values.{is_operand, parting_cost};
 ghost use Rattle.cmm_calls.specs.inside.Pairs.{GoesToPair};
 
 use crate::exit::leave;
@@ -34,7 +34,6 @@ pub fn call(
     requires operands { list_all (is_operand frame.now) values.now ≡ true }
     requires labels { All (IsOperand asm.old.labels) values.now }
     requires few { length values.now ≤ 64 }
-    requires first { are_given_first 0 values.now ≡ true }
     requires to { IsTarget asm.old.labels to }
     requires site { slice_get asm.old.labels site.number ≡ Some (Inner false) }
     ensures calls { OnOk result (Adds (12 * length values.now + 2) asm.old.parts asm.new.parts (Calls frame.now values.now to site)) }
@@ -62,7 +61,6 @@ pub fn call_by(
     requires operands { list_all (is_operand frame.now) values.now ≡ true }
     requires labels { All (IsOperand asm.old.labels) values.now }
     requires few { length values.now ≤ 64 }
-    requires first { are_given_first 0 values.now ≡ true }
     requires site { slice_get asm.old.labels site.number ≡ Some (Inner false) }
     ensures calls { OnOk result (Adds (most_for to.now + (12 * length values.now + 1)) asm.old.parts asm.new.parts (CallsBy frame.now to.now values.now site)) }
     ensures placed { OnOk result (asm.new.labels ≡ slice_set asm.old.labels site.number (Inner true)) }
@@ -93,7 +91,6 @@ pub fn jump_by(
     requires operands { list_all (is_operand frame.now) values.now ≡ true }
     requires labels { All (IsOperand asm.old.labels) values.now }
     requires few { length values.now ≤ 64 }
-    requires first { are_given_first 0 values.now ≡ true }
     ensures jumps { OnOk result (Adds (most_for to.now + (parting_cost frame.now values.now + 1)) asm.old.parts asm.new.parts (λ x from on. JumpsBy frame.now to.now values.now x from)) }
     ensures labels { asm.new.labels ≡ asm.old.labels }
 {
@@ -130,7 +127,6 @@ pub fn cut(asm: &mut Asm, frame: &Frame, to: &Operand, values: &[Operand]) -> Re
     requires operands { list_all (is_operand frame.now) values.now ≡ true }
     requires labels { All (IsOperand asm.old.labels) values.now }
     requires few { length values.now ≤ 64 }
-    requires first { are_given_first 0 values.now ≡ true }
     ensures cuts { OnOk result (Adds (most_for to.now + (12 * length values.now + 3)) asm.old.parts asm.new.parts (λ x from on. CutsTo frame.now to.now values.now x from)) }
     ensures labels { asm.new.labels ≡ asm.old.labels }
 {

@@ -8,7 +8,7 @@ ghost use Rattle.rv_table.specs.declared.instruction.Instr.TheVariants.{Jalr};
 ghost use Rattle.cmm_effects.specs.Pieces.{Adds};
 ghost use Rattle.cmm_select.specs.Operands.{IsOperand};
 ghost use Rattle.cmm_calls.specs.Frames.{CanBeMade, LeavesFrame, Returns, leave_cost};
-ghost use Rattle.cmm_calls.specs.Values.{JumpsTo, ReturnsValues, are_given_first, is_operand, parting_cost};
+ghost use Rattle.cmm_calls.specs.Values.{JumpsTo, ReturnsValues, is_operand, parting_cost};
 
 use crate::giving::give;
 use crate::room::move_up;
@@ -58,7 +58,6 @@ pub fn return_values(
     requires operands { list_all (is_operand frame.now) values.now ≡ true }
     requires labels { All (IsOperand asm.old.labels) values.now }
     requires few { length values.now ≤ 64 }
-    requires first { are_given_first 0 values.now ≡ true }
     requires exit { exit < 512 }
     ensures returns { OnOk result (Adds (parting_cost frame.now values.now + 1) asm.old.parts asm.new.parts (λ x from to. ReturnsValues frame.now values.now exit x from)) }
     ensures labels { asm.new.labels ≡ asm.old.labels }
@@ -75,7 +74,6 @@ pub fn jump(asm: &mut Asm, frame: &Frame, values: &[Operand], to: Label) -> Resu
     requires operands { list_all (is_operand frame.now) values.now ≡ true }
     requires labels { All (IsOperand asm.old.labels) values.now }
     requires few { length values.now ≤ 64 }
-    requires first { are_given_first 0 values.now ≡ true }
     requires to { IsTarget asm.old.labels to }
     ensures jumps { OnOk result (Adds (parting_cost frame.now values.now + 2) asm.old.parts asm.new.parts (λ x from on. JumpsTo frame.now values.now to x from)) }
     ensures labels { asm.new.labels ≡ asm.old.labels }

@@ -14,6 +14,7 @@
 //! - `taking`: values that control brings come to places.
 //! - `copying`: values that control brings come to places and to global registers.
 //! - `giving`: values go out to where they travel.
+//! - `moving`: numbers go from registers to registers, all at once.
 //! - `calling`: control goes to another procedure, or is cut to a continuation.
 //! - `asking`: the end of the run is requested, or the client is called.
 #![tactic(auto)]
@@ -24,6 +25,7 @@ mod copying;
 mod entry;
 mod exit;
 mod giving;
+mod moving;
 mod place;
 mod room;
 mod saved;

@@ -1,6 +1,6 @@
 //! Values that control brings come to places.
 
-ghost use Rattle.std.specs.Prelude.{◌≡◌, ◌-◌, ◌*◌, ◌<◌, ◌≤◌, length, pos, true, OnOk};
+ghost use Rattle.std.specs.Prelude.{◌≡◌, ◌-◌, ◌*◌, ◌<◌, ◌≤◌, length, map, pos, true, IfOk, OnOk};
 ghost use Rattle.std.specs.List.{list_all};
 ghost use Rattle.cmm_chain.specs.Plans.{is_place};
 ghost use Rattle.cmm_abi.specs.Regions.{value_place, word_at};
@@ -9,31 +9,46 @@ ghost use Rattle.rv_table.specs.Table.{IsValid};
 ghost use Rattle.rv_table.specs.declared.instruction.Instr.TheVariants.{Ld};
 ghost use Rattle.cmm_effects.specs.Changes.{IsPlace, Puts};
 ghost use Rattle.cmm_effects.specs.Pieces.{Adds, Leads};
+ghost use Rattle.cmm_select.specs.declared.destination.Destination.TheVariants.{Place};
 ghost use Rattle.cmm_calls.specs.Frames.{CanBeMade};
-ghost use Rattle.cmm_calls.specs.Values.{TakesIn, are_taken_first};
+ghost use Rattle.cmm_calls.specs.Values.{TakesIn};
 ghost use Rattle.cmm_calls.specs.inside.Taking.{CanTake};
 
+use crate::copying::copy_all;
 use cmm_abi::registers::{FIRST_SCRATCH, FIRST_VALUE, REGION};
 use cmm_abi::values::IN_REGISTERS;
 use cmm_chain::{Frame, Location};
-use cmm_select::write;
+use cmm_items::Items;
+use cmm_select::{Destination, write};
 use rv_asm::Asm;
 use rv_table::Instr;
-use std::alloc::AllocError;
+use std::alloc::{AllocError, Global};
 
-/// Takes the values that control brings, each to its place, the first one first. No place may be a register in which a later value comes.
+/// Takes the values that control brings, each to its place, as if the first one went first.
 pub fn take(asm: &mut Asm, frame: &Frame, places: &[Location]) -> Result<(), AllocError>
     requires frame { CanBeMade frame.now }
     requires places { list_all (is_place frame.now) places.now ≡ true }
     requires few { length places.now ≤ 64 }
-    requires first { are_taken_first (length places.now) 0 places.now ≡ true }
     ensures takes { OnOk result (Adds (4 * length places.now) asm.old.parts asm.new.parts (TakesIn (4 * length places.now) frame.now.size places.now)) }
     ensures labels { asm.new.labels ≡ asm.old.labels }
 {
-    for (index, place) in places.iter().enumerate() {
-        take_value(asm, index as u32, *place)?;
-    }
+    let to = destinations(asm.alloc(), places)?;
+    copy_all(asm, frame, to.as_slice())?;
     Ok(())
+}
+
+/// Places as destinations.
+pub(crate) fn destinations(
+    alloc: Global,
+    places: &[Location],
+) -> Result<Items<Destination>, AllocError>
+    ensures { IfOk result (λ to. to ≡ map Place places.now) }
+{
+    let mut to = Items::new(alloc);
+    for place in places {
+        to.push(Destination::Place(*place))?;
+    }
+    Ok(to)
 }
 
 /// Takes the value with this index to a place.

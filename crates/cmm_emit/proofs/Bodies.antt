@@ -43,7 +43,7 @@ use Rattle.cmm_select.specs.Switches.{Switches, label_of}
 use Rattle.cmm_calls.specs.Calls.{CutsTo, JumpsBy}
 use Rattle.cmm_calls.specs.Copying.{CopiesIn, PutsEachTo, values_to}
 use Rattle.cmm_calls.specs.Frames.{entry_cost}
-use Rattle.cmm_calls.specs.Values.{Begins, HasRegion, JumpsTo, ReturnsValues, is_taken_first, parting_cost}
+use Rattle.cmm_calls.specs.Values.{Begins, HasRegion, JumpsTo, ReturnsValues, parting_cost}
 use Rattle.cmm_emit_laws.specs.Finished.{code_of}
 use Rattle.cmm_emit_laws.specs.NodeCode.{GoesOn, IsLabelOf, IsPutInto, places_of}
 use Rattle.cmm_emit.proofs.Operands.{destination_is_of, operand_is_of, operands_are_of, target_is_of, targets_are_global, targets_are_of}
@@ -153,7 +153,6 @@ module _ (labels : List Meaning) (p : Context) (y : Targets) (ready : IsReady la
     ends = 1;
     begins = at_frame (λ fr zs vs. Begins fr p.landings zs vs y.limit (code_of l f q) (f.node_at q n) to)
         (moved (λ z a. Begins p.frame p.landings p.zeroed (variable_places p formals) y.limit z a to) is-x at begins);
-    apart = subst (λ zs. list_all (is_taken_first (length formals) 0) zs ≡ true) (sym of.zeroed) (grind (arith, can));
     few_formals = grind (arith, nat_tests, can, length-map);
     pairs = ready.landed ∙ ap (λ (fr : Frame). length fr.pairs) (sym of.frame);
     addresses = of.landings;

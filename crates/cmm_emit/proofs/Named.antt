@@ -1,22 +1,20 @@
 -- What nodes name is there.
 use Rattle.std.proofs.Common.{◌≡◌, ℕ, zero, suc, ◌+◌, ◌<◌, ◌≤◌, ◌^◌, refl, sym, ap, subst, arith, Bool, true, false, List, [], ◌∷◌, length, get_or, Option, Some, None, slice_get}
-use Rattle.std.specs.Prelude.{◌&&◌, min, nat_le, nat_lt, is_some}
+use Rattle.std.specs.Prelude.{◌&&◌, nat_le, nat_lt, is_some}
 use Rattle.std.specs.List.{list_all}
 use Rattle.std.proofs.lemmas.List.{length-map}
 use Rattle.std.proofs.lemmas.Option.{slice_get_within}
-use Rattle.std.proofs.lemmas.Bool.{and_parts, or_right}
+use Rattle.std.proofs.lemmas.Bool.{and_parts}
 use Rattle.std.proofs.lemmas.Bool.Decides.{nat_tests}
 use Rattle.cmm_words.specs.Widths.{bits}
 use Rattle.cmm_words.specs.declared.constant.Constant.{Constant}
 use Rattle.cmm_words.specs.declared.constant.Constant.TheVariants as constant
 use Rattle.cmm_words.specs.declared.width.Width.{Width}
 use Rattle.cmm_words.specs.declared.width.Width.TheVariants.{W8, W16, W32, W64}
-use Rattle.cmm_abi.specs.declared.registers.TheConstants.{FIRST_VALUE}
-use Rattle.cmm_abi.specs.declared.values.TheConstants.{IN_REGISTERS}
 use Rattle.cmm_chain.specs.Plans.{is_place}
 use Rattle.cmm_chain.specs.declared.frame.Frame.{Frame}
 use Rattle.cmm_chain.specs.declared.frame.Location.{Location}
-use Rattle.cmm_chain.specs.declared.frame.Location.TheVariants.{Slot, Saved, Temp}
+use Rattle.cmm_chain.specs.declared.frame.Location.TheVariants.{Slot}
 use Rattle.cmm_program.specs.declared.procedure.Proc.{Proc}
 use Rattle.cmm_program.specs.declared.procedure.Site.{Site}
 use Rattle.cmm_program.specs.declared.procedure.Target.{Target}
@@ -47,12 +45,9 @@ use Rattle.cmm_graph.specs.Counterpart.{HasSite, names_operand, names_rvalue, re
 use Rattle.cmm_graph.specs.Paths.{node_of, operands, operands_of_rvalue, values_of}
 use Rattle.cmm_graph.specs.Ranges.{are_exits, is_argument, is_arm, is_constant, is_continuation, is_copy_in, is_destination, is_kind, is_local, is_normal, is_operand, is_rvalue, is_step, is_target, is_test, is_variable, leads_to}
 use Rattle.cmm_live.specs.Locals.{local_count, local_number as number_of_local}
-use Rattle.cmm_select.specs.declared.operand.Operand.TheVariants.{Held}
-use Rattle.cmm_select.specs.declared.source.Source.TheVariants.{Place}
-use Rattle.cmm_calls.specs.Copying.{are_copied_first, is_copied_first, is_destination as is_code_destination}
-use Rattle.cmm_calls.specs.Values.{are_given_first, are_taken_first, is_given_first, is_operand as is_code_operand, is_taken_first}
+use Rattle.cmm_calls.specs.Copying.{is_destination as is_code_destination}
+use Rattle.cmm_calls.specs.Values.{is_operand as is_code_operand}
 use Rattle.cmm_emit_laws.specs.ProgramCode.{names_register}
-use Rattle.cmm_allocate.specs.Placed.{is_clear_of_values}
 use Rattle.cmm_emit.specs.declared.context.Context.{Context}
 use Rattle.cmm_emit.specs.declared.context.Targets.{Targets}
 use Rattle.cmm_emit.specs.Naming.{argument_operand, argument_operands, can_begin, can_come_back, can_copy, can_give, can_go_to, can_land, can_send, can_take, code_operand, code_operands, constant_operand, has_argument, has_arm, has_both, has_constant, has_destination, has_kind, has_landing, has_local, has_node, has_operand, has_rvalue, has_site, has_target, local_number, place, target_destination, target_destinations, variable_places}
@@ -88,10 +83,8 @@ less_in n a b same less = subst (λ (z : ℕ). nat_lt n z ≡ true) same less
 pub record Has (p : Program) (q : Proc) (g : Graph) (c : Context) (y : Targets) : Type 0 where
   pub variables : c.variables ≡ g.variables
   pub places : length c.places ≡ local_count g
-  pub places_clear : list_all is_clear_of_values c.places ≡ true
   pub fine : list_all (is_place c.frame) c.places ≡ true
   pub zeroed : list_all (is_place c.frame) c.zeroed ≡ true
-  pub zeroed_first : (count : ℕ) → list_all (is_taken_first count 0) c.zeroed ≡ true
   pub nodes : length g.nodes ≡ length c.nodes
   pub sites : length q.sites ≡ length c.sites
   pub landings : length g.continuations ≡ length c.landings
@@ -103,21 +96,7 @@ pub record Has (p : Program) (q : Proc) (g : Graph) (c : Context) (y : Targets) 
   pub data_labels : length p.labels ≡ length y.data_labels
   pub registers : length p.globals ≡ length y.registers
 
--- ---- locations that are clear of values
-
--- what is not listed is one as well, if what stands in for it is
-pub clear_at : (ls : List Location) (v : ℕ) (d : Location) → list_all is_clear_of_values ls ≡ true → is_clear_of_values d ≡ true → is_clear_of_values (get_or ls v d) ≡ true
-clear_at [] v d all clear = clear
-clear_at (l ∷ ls) zero d all clear = (and_parts (is_clear_of_values l) (list_all is_clear_of_values ls) all).0
-clear_at (l ∷ ls) (suc v) d all clear = clear_at ls v d (and_parts (is_clear_of_values l) (list_all is_clear_of_values ls) all).1 clear
-
-pub clear_taken : (count k : ℕ) (l : Location) → is_clear_of_values l ≡ true → is_taken_first count k l ≡ true
-clear_taken count k (Slot offset) is = refl
-clear_taken count k (Saved r) is = refl
-clear_taken count k (Temp r) is =
-    let high : FIRST_VALUE + IN_REGISTERS ≤ r = grind (arith, nat_tests, is) in
-    let behind : FIRST_VALUE + min count IN_REGISTERS ≤ r = omega arith in
-    or_right (nat_le r (FIRST_VALUE + k)) (nat_le (FIRST_VALUE + min count IN_REGISTERS) r) (grind (arith, nat_tests, behind))
+-- ---- places of a frame
 
 pub all_at : (f : Frame) (ls : List Location) (v : ℕ) (d : Location) → list_all (is_place f) ls ≡ true → nat_lt v (length ls) ≡ true → is_place f (get_or ls v d) ≡ true
 all_at f [] v d all less = absurd (grind (arith, nat_tests, less))
@@ -158,9 +137,6 @@ module _ (p : Program) (q : Proc) (g : Graph) (c : Context) (y : Targets) (has :
       let within : c.variables + t.number < length c.places = omega (arith, less, counted, has.variables) in
       grind (arith, nat_tests, within)
 
-  place_clear : (l : Local) → is_clear_of_values (place c l) ≡ true
-  place_clear l = clear_at c.places (local_number c l) (Slot 0) has.places_clear refl
-
   place_fine : (l : Local) → is_local g l ≡ true → is_place c.frame (place c l) ≡ true
   place_fine l is = all_at c.frame c.places (local_number c l) (Slot 0) has.fine (local_there l is)
 
@@ -190,25 +166,6 @@ module _ (p : Program) (q : Proc) (g : Graph) (c : Context) (y : Targets) (has :
   operand_fine (operand.Stackdata label) is named = has.offset_stack label.number
   operand_fine (operand.Continuation k) is named = has.offset_pairs k.number
 
-  given_at : (i : ℕ) (l : Location) → is_clear_of_values l ≡ true → is_given_first i (Held (Place l)) ≡ true
-  given_at i (Slot offset) is = refl
-  given_at i (Saved r) is = refl
-  given_at i (Temp r) is =
-      let high : FIRST_VALUE + IN_REGISTERS ≤ r = grind (arith, nat_tests, is) in
-      let behind : FIRST_VALUE + min i IN_REGISTERS ≤ r = omega arith in
-      grind (arith, nat_tests, behind)
-
-  constant_given : (i : ℕ) (k : Constant) → is_given_first i (constant_operand y k) ≡ true
-  constant_given i (constant.Number n width) = refl
-  constant_given i (constant.Code proc plus) = refl
-  constant_given i (constant.Address label plus) = refl
-
-  operand_given : (i : ℕ) (o : Operand) → is_given_first i (code_operand c y o) ≡ true
-  operand_given i (operand.Constant k) = constant_given i k
-  operand_given i (operand.Local l) = given_at i (place c l) (place_clear l)
-  operand_given i (operand.Stackdata label) = refl
-  operand_given i (operand.Continuation k) = refl
-
   -- ---- arguments
 
   arguments_there : (args : List Argument) → list_all (is_argument g) args ≡ true → list_all (names_operand p q) (values_of args) ≡ true →
@@ -222,11 +179,6 @@ module _ (p : Program) (q : Proc) (g : Graph) (c : Context) (y : Targets) (has :
         join (is_code_operand c.frame (argument_operand c y a)) (list_all (is_code_operand c.frame) (argument_operands c y args)) (operand_fine a.value first.0 second.0) rest.1,
       )
 
-  arguments_given : (i : ℕ) (args : List Argument) → are_given_first i (argument_operands c y args) ≡ true
-  arguments_given i [] = refl
-  arguments_given i (a ∷ args) =
-      join (is_given_first i (argument_operand c y a)) (are_given_first (suc i) (argument_operands c y args)) (operand_given i a.value) (arguments_given (suc i) args)
-
   can_pass : (args : List Argument) → list_all (is_argument g) args ≡ true → list_all (names_operand p q) (values_of args) ≡ true → nat_le (length args) 64 ≡ true →
       (list_all (has_argument c y) args && can_give c y (argument_operands c y args)) ≡ true
   can_pass args are named few =
@@ -234,8 +186,7 @@ module _ (p : Program) (q : Proc) (g : Graph) (c : Context) (y : Targets) (has :
       let vs = argument_operands c y args in
       let count : nat_le (length vs) 64 ≡ true = subst (λ (n : ℕ). nat_le n 64 ≡ true) (sym (length-map args (argument_operand c y))) few in
       join (list_all (has_argument c y) args) (can_give c y vs) there.0
-      (join (nat_le (length vs) 64 && list_all (is_code_operand c.frame) vs) (are_given_first 0 vs)
-      (join (nat_le (length vs) 64) (list_all (is_code_operand c.frame) vs) count there.1) (arguments_given 0 args))
+      (join (nat_le (length vs) 64) (list_all (is_code_operand c.frame) vs) count there.1)
 
   can_go : (to : Operand) (args : List Argument) → is_operand g to ≡ true → list_all (is_argument g) args ≡ true →
       list_all (names_operand p q) (to ∷ values_of args) ≡ true → nat_le (length args) 64 ≡ true → can_go_to c y to args ≡ true
@@ -259,18 +210,13 @@ module _ (p : Program) (q : Proc) (g : Graph) (c : Context) (y : Targets) (has :
         join (is_code_operand c.frame (code_operand c y o)) (list_all (is_code_operand c.frame) (code_operands c y os)) (operand_fine o first.0 second.0) rest.1,
       )
 
-  values_given : (i : ℕ) (vs : List Operand) → are_given_first i (code_operands c y vs) ≡ true
-  values_given i [] = refl
-  values_given i (o ∷ os) = join (is_given_first i (code_operand c y o)) (are_given_first (suc i) (code_operands c y os)) (operand_given i o) (values_given (suc i) os)
-
   sends : (vs : List Operand) → list_all (is_operand g) vs ≡ true → list_all (names_operand p q) vs ≡ true → nat_le (length vs) 64 ≡ true → can_send c y vs ≡ true
   sends vs are named few =
       let there = values_there vs are named in
       let out = code_operands c y vs in
       let count : nat_le (length out) 64 ≡ true = subst (λ (n : ℕ). nat_le n 64 ≡ true) (sym (length-map vs (code_operand c y))) few in
       join (list_all (has_operand c y) vs) (can_give c y out) there.0
-      (join (nat_le (length out) 64 && list_all (is_code_operand c.frame) out) (are_given_first 0 out)
-      (join (nat_le (length out) 64) (list_all (is_code_operand c.frame) out) count there.1) (values_given 0 vs))
+      (join (nat_le (length out) 64) (list_all (is_code_operand c.frame) out) count there.1)
 
   -- ---- what takes values
 
@@ -281,17 +227,6 @@ module _ (p : Program) (q : Proc) (g : Graph) (c : Context) (y : Targets) (has :
   target_fine : (t : Target) → is_target g t ≡ true → is_code_destination c.frame (target_destination c y t) ≡ true
   target_fine (target.Variable number width) is = place_fine (local.Variable (record { number = number })) is
   target_fine (target.Register number width) is = refl
-
-  target_copied : (count i : ℕ) (t : Target) → is_copied_first count i (target_destination c y t) ≡ true
-  target_copied count i (target.Variable number width) =
-      clear_taken count i (place c (local.Variable (record { number = number }))) (place_clear (local.Variable (record { number = number })))
-  target_copied count i (target.Register number width) = refl
-
-  targets_copied : (count i : ℕ) (ts : List Target) → are_copied_first count i (target_destinations c y ts) ≡ true
-  targets_copied count i [] = refl
-  targets_copied count i (t ∷ ts) =
-      join (is_copied_first count i (target_destination c y t)) (are_copied_first count (suc i) (target_destinations c y ts)) (target_copied count i t)
-      (targets_copied count (suc i) ts)
 
   targets_fine : (ts : List Target) → list_all (is_target g) ts ≡ true → list_all (is_code_destination c.frame) (target_destinations c y ts) ≡ true
   targets_fine [] are = refl
@@ -305,20 +240,13 @@ module _ (p : Program) (q : Proc) (g : Graph) (c : Context) (y : Targets) (has :
       let ds = target_destinations c y ts in
       let count : nat_le (length ds) 64 ≡ true = subst (λ (n : ℕ). nat_le n 64 ≡ true) (sym (length-map ts (target_destination c y))) few in
       join (list_all (has_target c y) ts) (can_copy c y ds) (all_both (is_target g) (names_register p) (has_target c y) ts target_there are named)
-      (join (nat_le (length ds) 64 && list_all (is_code_destination c.frame) ds) (are_copied_first (length ds) 0 ds)
-      (join (nat_le (length ds) 64) (list_all (is_code_destination c.frame) ds) count (targets_fine ts are)) (targets_copied (length ds) 0 ts))
+      (join (nat_le (length ds) 64) (list_all (is_code_destination c.frame) ds) count (targets_fine ts are))
 
   destination_there : (d : Destination) → is_destination g d ≡ true → list_all (names_register p) (targets_of_destination d) ≡ true → has_destination c y d ≡ true
   destination_there (destination.Target t) is named = target_there t is (and_parts (names_register p t) true named).0
   destination_there (destination.Temporary t) is named = local_there (local.Temporary t) is
 
   -- ---- formals
-
-  formals_taken : (count i : ℕ) (vs : List Variable) → are_taken_first count i (variable_places c vs) ≡ true
-  formals_taken count i [] = refl
-  formals_taken count i (v ∷ vs) =
-      join (is_taken_first count i (place c (local.Variable v))) (are_taken_first count (suc i) (variable_places c vs))
-      (clear_taken count i (place c (local.Variable v)) (place_clear (local.Variable v))) (formals_taken count (suc i) vs)
 
   formals_fine : (vs : List Variable) → list_all (is_variable g) vs ≡ true → list_all (is_place c.frame) (variable_places c vs) ≡ true
   formals_fine [] are = refl
@@ -330,15 +258,11 @@ module _ (p : Program) (q : Proc) (g : Graph) (c : Context) (y : Targets) (has :
   begins vs are few =
       let ls = variable_places c vs in
       let count : nat_le (length ls) 64 ≡ true = subst (λ (n : ℕ). nat_le n 64 ≡ true) (sym (length-map vs (λ (v : Variable). place c (local.Variable v)))) few in
-      let taken : can_take c ls ≡ true =
-      join (nat_le (length ls) 64 && list_all (is_place c.frame) ls) (are_taken_first (length ls) 0 ls)
-      (join (nat_le (length ls) 64) (list_all (is_place c.frame) ls) count (formals_fine vs are)) (formals_taken (length ls) 0 vs)
-      in
-      join (list_all (λ v. has_local c (local.Variable v)) vs && can_take c ls && list_all (is_place c.frame) c.zeroed) (list_all (is_taken_first (length vs) 0) c.zeroed)
-      (join (list_all (λ v. has_local c (local.Variable v)) vs && can_take c ls) (list_all (is_place c.frame) c.zeroed)
+      let taken : can_take c ls ≡ true = join (nat_le (length ls) 64) (list_all (is_place c.frame) ls) count (formals_fine vs are) in
+      join (list_all (λ v. has_local c (local.Variable v)) vs && can_take c ls) (list_all (is_place c.frame) c.zeroed)
       (join (list_all (λ v. has_local c (local.Variable v)) vs) (can_take c ls)
       (all_so (is_variable g) (λ v. has_local c (local.Variable v)) vs (λ v is. local_there (local.Variable v) is) are) taken)
-      has.zeroed) (has.zeroed_first (length vs))
+      has.zeroed
 
   -- ---- nodes and sites
 

@@ -4,7 +4,7 @@ use Rattle.std.specs.Prelude.{◌&&◌, ◌==◌, Contains, nat_le, nat_lt}
 use Rattle.std.specs.List.{All, list_all}
 use Rattle.std.proofs.lemmas.Bool.{and_parts, eqb-true}
 use Rattle.std.proofs.lemmas.Bool.Decides.{nat_tests}
-use Rattle.std.proofs.lemmas.List.{get_or_default, get_or_past, length-map}
+use Rattle.std.proofs.lemmas.List.{get_or_past, length-map}
 use Rattle.std.proofs.lemmas.Option.{slice_get-get_or, slice_get_within}
 use Rattle.rv_asm.specs.declared.part.Label.{Label}
 use Rattle.cmm_bitset.proofs.Shared.{members_had}
@@ -29,25 +29,22 @@ use Rattle.cmm_graph.specs.Ranges.{is_copy_in, is_entry, is_kind, is_node, leads
 use Rattle.cmm_live.specs.declared.live_sets.LiveSets.{LiveSets}
 use Rattle.cmm_live.specs.Exact.{AreLiveSets, set_at}
 use Rattle.cmm_live.specs.Locals.{local_count}
-use Rattle.cmm_calls.specs.Values.{is_taken_first}
 use Rattle.cmm_emit_laws.specs.Laying.{FramesCanBeMade}
 use Rattle.cmm_emit_laws.specs.ProgramCode.{names_register, names_registers}
 use Rattle.cmm_allocate.specs.declared.procedure.ProcedurePlaces.{ProcedurePlaces}
 use Rattle.cmm_allocate.specs.Compiling.{no_place}
 use Rattle.cmm_allocate.specs.Places.{HasPlaces}
-use Rattle.cmm_allocate.specs.Placed.{is_clear_of_values}
 use Rattle.cmm_located.specs.Layouts.{row_with}
 use Rattle.rv_table.specs.Memory.{code_base}
 use Rattle.cmm_calls.specs.Frames.{CanBeMade}
 use Rattle.cmm_flow.specs.Waiting.{WaitOnce}
 use Rattle.cmm_emit.specs.Naming.{has_kind, label_at}
 use Rattle.cmm_program.specs.Typing.{is_target}
-use Rattle.cmm_chain.specs.declared.frame.Location.TheVariants.{Slot}
 use Rattle.cmm_emit.specs.declared.context.Context.{Context}
 use Rattle.cmm_emit.specs.declared.context.Targets.{Targets}
 use Rattle.cmm_emit.proofs.Fitting.{IsRow, all_below, pairs_inside, places_are, row_parts, stack_counted, stack_inside}
 use Rattle.cmm_emit.proofs.Numbering.{length-labels_from}
-use Rattle.cmm_emit.proofs.Named.{Has, join, kind_there, all_at, clear_at, clear_taken}
+use Rattle.cmm_emit.proofs.Named.{Has, join, kind_there, all_at}
 use Rattle.cmm_emit.proofs.WaitingNodes.{waits_apart}
 use Rattle.cmm_emit.specs.Contexts.{IsMadeFor, place_in}
 use Rattle.cmm_emit.specs.LaidProcedures.{CanBeLaid}
@@ -139,14 +136,10 @@ module _ (p : Program) (q : Proc) (g : Graph) (k : ProcedurePlaces) (first : ℕ
   context_has = record {
     variables = made.variables;
     places = ap (λ (ls : List Location). length ls) made.places ∙ found.locals.count;
-    places_clear = subst (λ (ls : List Location). list_all is_clear_of_values ls ≡ true) (sym made.places) found.locals.clear;
     fine = subst (λ (ls : List Location). list_all (is_place c.frame) ls ≡ true) (sym made.places)
         (subst (λ (f : Frame). list_all (is_place f) k.locals ≡ true) (sym frame_is) found.frame.locals);
     zeroed = subst (λ (f : Frame). list_all (is_place f) c.zeroed ≡ true) (sym frame_is)
         (zeroed_all (is_place k.frame) (λ n less. all_at k.frame k.locals n no_place found.frame.locals (lt_test n (length k.locals) (omega (arith, less, locals_counted)))));
-    zeroed_first = λ count. zeroed_all (is_taken_first count 0)
-        (λ n less. clear_taken count 0 (place_in k n) (subst (λ (l : Location). is_clear_of_values l ≡ true)
-        (get_or_default k.locals n (Slot 0) no_place (omega (arith, less, locals_counted))) (clear_at k.locals n (Slot 0) found.locals.clear refl)));
     nodes = sym (ap (λ (ls : List Label). length ls) made.nodes ∙ length-labels_from first (length g.nodes));
     sites = sym (ap (λ (ls : List Label). length ls) made.sites ∙ length-labels_from (first + length g.nodes) (length q.sites));
     landings = sym (ap (λ (ls : List Label). length ls) made.landings ∙ length-map g.continuations (λ (n : NodeId). label_at c.nodes n.number));

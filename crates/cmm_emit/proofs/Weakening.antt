@@ -15,7 +15,7 @@ use Rattle.cmm_emit.specs.Standing.{IsNodeCode}
 
 module _ (s : Setting) (c : Compiled) (l : Launch) (f : Finished) (q : ℕ) (n : NodeId) (a b : ℕ) (less : a ≤ b) where
   pub code_within : (kind : NodeKind) → IsNodeCode s c l f q n kind a → IsNodeCode s c l f q n kind b
-  code_within (Entry formals next) code = record { landings = code.landings; limit = code.limit; on = code.on; ends = code.ends; begins = code.begins; apart = code.apart; few_formals = code.few_formals; pairs = code.pairs; addresses = code.addresses; limits = code.limits; goes_on = code.goes_on; few = omega (arith, less, code.few); few_at_limit = omega (arith, less, code.few_at_limit) }
+  code_within (Entry formals next) code = record { landings = code.landings; limit = code.limit; on = code.on; ends = code.ends; begins = code.begins; few_formals = code.few_formals; pairs = code.pairs; addresses = code.addresses; limits = code.limits; goes_on = code.goes_on; few = omega (arith, less, code.few); few_at_limit = omega (arith, less, code.few_at_limit) }
   code_within (CopyIn to next) code = record { destinations = code.destinations; are = code.are; turns = λ r. turns_weaker (code.turns r) less (λ u sound has. has) (λ u w is there. there); few_values = code.few_values }
   code_within (Assign to value next) code = record { into = code.into; is_into = code.is_into; on = code.on; count = code.count; quiet = code.quiet; puts = code.puts; goes_on = code.goes_on; few = omega (arith, less, code.few) }
   code_within (Store width aligned address value next) code = record { to = code.to; stored = code.stored; on = code.on; count = code.count; is_address = code.is_address; is_value = code.is_value; stores = code.stores; goes_on = code.goes_on; few = omega (arith, less, code.few) }

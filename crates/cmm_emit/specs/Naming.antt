@@ -35,8 +35,8 @@ use Rattle.cmm_select.specs.declared.destination.Destination.TheVariants as into
 use Rattle.cmm_select.specs.declared.operand.Operand.{Operand as CodeOperand}
 use Rattle.cmm_select.specs.declared.operand.Operand.TheVariants as code
 use Rattle.cmm_select.specs.declared.source.Source.TheVariants as source
-use Rattle.cmm_calls.specs.Copying.{are_copied_first, is_destination}
-use Rattle.cmm_calls.specs.Values.{are_given_first, are_taken_first, is_operand, is_taken_first}
+use Rattle.cmm_calls.specs.Copying.{is_destination}
+use Rattle.cmm_calls.specs.Values.{is_operand}
 use Rattle.cmm_emit.specs.declared.context.Context.{Context}
 use Rattle.cmm_emit.specs.declared.context.Targets.{Targets}
 
@@ -79,18 +79,17 @@ module _ (p : Context) where
       list_all has_landing exits.returns && nat_le (length exits.returns) table_limit
       && elim exits.normal [ Some n ↦ has_node n | None ↦ true ]
 
-  -- values come to places of the frame, none of them to one in which a later one comes
+  -- values come to places of the frame
   abbrev pub can_take : List Location → Bool
-  can_take places = nat_le (length places) 64 && list_all (is_place p.frame) places && are_taken_first (length places) 0 places
+  can_take places = nat_le (length places) 64 && list_all (is_place p.frame) places
 
   abbrev pub variable_places : List Variable → List Location
   variable_places vs = map (λ v. place (local.Variable v)) vs
 
-  -- formals take their values, and what is made 0 before that is none in which a value comes
+  -- locals are made 0, and formals take their values
   abbrev pub can_begin : List Variable → Bool
   can_begin formals =
       list_all (λ v. has_local (local.Variable v)) formals && can_take (variable_places formals) && list_all (is_place p.frame) p.zeroed
-      && list_all (is_taken_first (length formals) 0) p.zeroed
 
 module _ (y : Targets) where
   abbrev pub constant_operand : Constant → CodeOperand
@@ -167,12 +166,12 @@ module _ (p : Context) (y : Targets) where
   has_rvalue (rvalue.SignExtend narrow width o) = has_operand o
   has_rvalue (rvalue.LowBits wide width o) = has_operand o
 
-  -- values come to destinations, none of them to a register in which a later one comes
+  -- values come to destinations
   abbrev pub target_destinations : List Target → List CodeDestination
   target_destinations ts = map target_destination ts
 
   abbrev pub can_copy : List CodeDestination → Bool
-  can_copy ds = nat_le (length ds) 64 && list_all (is_destination p.frame) ds && are_copied_first (length ds) 0 ds
+  can_copy ds = nat_le (length ds) 64 && list_all (is_destination p.frame) ds
 
   abbrev pub can_land : List Target → Bool
   can_land to = list_all has_target to && can_copy (target_destinations to)
@@ -189,9 +188,9 @@ module _ (p : Context) (y : Targets) where
   abbrev pub argument_operands : List Argument → List CodeOperand
   argument_operands arguments = map argument_operand arguments
 
-  -- values go out of the frame, none of them from a register to which an earlier one goes
+  -- values go out of the frame
   abbrev pub can_give : List CodeOperand → Bool
-  can_give values = nat_le (length values) 64 && list_all (is_operand p.frame) values && are_given_first 0 values
+  can_give values = nat_le (length values) 64 && list_all (is_operand p.frame) values
 
   -- values go to what an operand gives the address of
   abbrev pub can_go_to : Operand → List Argument → Bool

@@ -1,31 +1,25 @@
 -- What is shown as values go out to where they travel, and come to places.
-use Rattle.std.proofs.Common.{◌≡◌, ◌⊎◌, inl, inr, ℕ, zero, suc, ◌+◌, ◌-◌, ◌*◌, ◌<◌, ◌≤◌, refl, sym, ◌∙◌, ap, subst, arith, Bool, true, false, List, [], ◌∷◌, length, Option, Some, None}
+use Rattle.std.proofs.Common.{◌≡◌, ◌⊎◌, inl, inr, ℕ, zero, suc, ◌+◌, ◌-◌, ◌*◌, ◌<◌, ◌≤◌, refl, ◌∙◌, subst, arith, Bool, true, false, List, [], ◌∷◌, length, Option, Some, None}
 use Rattle.std.specs.Prelude.{◌==◌, ◌&&◌, ◌||◌, min, nat_le, nat_lt, slice_get, slice_index_or}
-use Rattle.std.specs.List.{list_all}
-use Rattle.std.proofs.lemmas.Bool.{and_parts}
 use Rattle.std.proofs.lemmas.Bool.Decides.{nat_tests}
 use Rattle.cmm_chain.proofs.Shared.{callee_saves_is_kept}
 use Rattle.cmm_chain.specs.declared.frame.Location.{Location}
-use Rattle.cmm_chain.specs.declared.frame.Location.TheVariants.{Slot, Saved, Temp}
-use Rattle.cmm_abi.specs.Registers.{is_callee_saves, is_temporary, is_scratch}
+use Rattle.cmm_abi.specs.Registers.{is_callee_saves, is_scratch}
 use Rattle.cmm_chain.specs.Contents.{Number}
 use Rattle.cmm_chain.specs.Running.{Holdings, none_known, put_in}
 use Rattle.cmm_program.specs.Memory.{Outside, cell_at, rooms_of}
 use Rattle.cmm_program.specs.State.{Setting, Activation, Store}
-use Rattle.rv_table.proofs.Shared.{loaded-below}
-use Rattle.rv_table.specs.Machine.{MemoryMap, State, loaded, bottom, top}
-use Rattle.cmm_effects.specs.Changes.{Puts}
-use Rattle.cmm_calls.specs.Frames.{PutsEach, zeros}
-use Rattle.cmm_calls.specs.Values.{Gives, is_taken_first}
+use Rattle.rv_table.specs.Machine.{MemoryMap, State, loaded, top}
+use Rattle.cmm_calls.specs.Frames.{PutsEach}
+use Rattle.cmm_calls.specs.Values.{Gives}
 use Rattle.cmm_select.specs.declared.operand.Operand.{Operand}
-use Rattle.cmm_emit_laws.specs.Words.{Symbols, Sits}
-use Rattle.cmm_emit_laws.specs.Represented.{ArePlacesOf, IsFor, IsGiven, IsPlaceOf, IsRepresented, put_each, stack_region}
+use Rattle.cmm_emit_laws.specs.Words.{Symbols}
+use Rattle.cmm_emit_laws.specs.Represented.{ArePlacesOf, IsFor, IsGiven, IsRepresented, put_each, stack_region}
 use Rattle.cmm_emit_laws.proofs.WrittenWords.{rooms_same, shown_same}
 use Rattle.cmm_emit_laws.proofs.Frames.{region_free}
-use Rattle.cmm_emit_laws.proofs.Showing.{no_values, own_word_sits, put_shows}
+use Rattle.cmm_emit_laws.proofs.Showing.{no_values, put_shows}
 use Rattle.cmm_abi.specs.Regions.{global_address, value_place, word_at}
 use Rattle.rv_table.specs.declared.memory_map.TheConstants.{GLOBALS_OFFSET}
-use Rattle.cmm_emit_laws.proofs.Regions.{value_same}
 
 -- values that were brought are done with
 pub forget_values : (y : Symbols) (rest : ℕ → ℕ) (s : Setting) (h : Holdings) (store : Store) (carried : List ℕ) (t : State) → IsRepresented y rest s h store carried t → IsRepresented y rest s h store [] t
@@ -48,7 +42,7 @@ puts_show y rest s m is_for ((place, n) ∷ places) h store a older t t' younges
     puts_show y rest s m is_for places (put_in place (Number n) h) store a older puts.0 t' youngest are.1.1 puts.2
     (put_shows y rest s m is_for h store a older t puts.0 youngest place n are.0 are.1.0 puts.1 shows)
 
--- ---- values stay where they came while places are put in which none of them is
+-- ---- registers in which values travel
 
 -- a register in which values travel is no scratch register
 pub value_is_kept : (k : ℕ) → k < 8 → is_scratch (10 + k) ≡ false
@@ -57,40 +51,6 @@ value_is_kept k early = grind (arith, nat_tests, early)
 -- and no callee-saves register
 saved_no_value : (r : ℕ) → is_callee_saves r ≡ true → nat_le 10 r && nat_lt r 18 ≡ false
 saved_no_value r is = grind (arith, nat_tests, is)
-
-module _ (y : Symbols) (rest : ℕ → ℕ) (s : Setting) (m : MemoryMap) (is_for : IsFor s m) (store : Store) (a : Activation) (older : List Activation) (youngest : store.activations ≡ a ∷ older)
-    (count i : ℕ) (among : i < count) (few : i < 64) where
-  module _ (h : Holdings) (t t' : State) (shows : IsRepresented y rest s h store [] t) where
-    below_same : (i < 8 → t'.registers (10 + i) ≡ t.registers (10 + i)) → ((b : ℕ) → b + 8 ≤ bottom (stack_region s) → loaded t'.memory b 8 ≡ loaded t.memory b 8) →
-        word_at t' (value_place (stack_region s) i) ≡ word_at t (value_place (stack_region s) i)
-    below_same registers below = value_same (stack_region s) t t' i registers (λ far. below ((stack_region s).address + 8 * (i - 8)) (omega arith))
-
-    saved_apart : (r : ℕ) → is_callee_saves r ≡ true → i < 8 → ((10 + i == r) || is_scratch (10 + i)) ≡ false
-    saved_apart r is early = grind (arith, nat_tests, is, early)
-
-    temp_differs : (r : ℕ) → is_temporary r ≡ true → is_taken_first count 0 (Temp r) ≡ true → i < 8 → ((10 + i == r) || is_scratch (10 + i)) ≡ false
-    temp_differs r is apart early =
-        let far : nat_le (10 + min count 8) r ≡ true = grind (arith, nat_tests, is, apart) in
-        let near : 10 + i < 10 + min count 8 = grind (arith, nat_tests, among, early) in
-        grind (arith, nat_tests, far, near)
-
-    value_stays : (place : Location) (n : ℕ) → IsPlaceOf s a place → is_taken_first count 0 place ≡ true → Puts place n t t' → word_at t' (value_place (stack_region s) i) ≡ word_at t (value_place (stack_region s) i)
-    value_stays (Slot offset) n is apart puts =
-        let sits : Sits (stack_region s) store.memory (h.point.at + offset) = own_word_sits y rest s m is_for h store a older t t' youngest offset [] is shows in
-        let low : bottom (stack_region s) ≤ t.registers 2 + offset = omega (arith, sits.low, shows.holdings.frame) in
-        below_same (λ early. puts.registers (10 + i) (value_is_kept i early))
-        (λ b below. rw puts.memory (loaded-below t.memory (t.registers 2 + offset) 8 n b 8 (omega (arith, low, below))))
-    value_stays (Saved r) n is apart puts = below_same (λ early. puts.1 (10 + i) (saved_apart r is early)) (λ b below. rw puts.2 refl)
-    value_stays (Temp r) n is apart puts = below_same (λ early. puts.1 (10 + i) (temp_differs r is apart early)) (λ b below. rw puts.2 refl)
-
-  pub zeros_keep_values : (places : List Location) (h : Holdings) (t t' : State) → ArePlacesOf s a (zeros places) → list_all (is_taken_first count 0) places ≡ true →
-      PutsEach (zeros places) t t' → IsRepresented y rest s h store [] t → word_at t' (value_place (stack_region s) i) ≡ word_at t (value_place (stack_region s) i)
-  zeros_keep_values [] h t t' are apart puts shows = ap (λ (u : State). word_at u (value_place (stack_region s) i)) (sym puts)
-  zeros_keep_values (place ∷ places) h t t' are apart puts shows =
-      let both = and_parts (is_taken_first count 0 place) (list_all (is_taken_first count 0) places) apart in
-      zeros_keep_values places (put_in place (Number 0) h) puts.0 t' are.1.1 both.1 puts.2
-      (put_shows y rest s m is_for h store a older t puts.0 youngest place 0 are.0 are.1.0 puts.1 shows)
-      ∙ value_stays h t puts.0 shows place 0 are.0 both.0 puts.1
 
 -- a register that carries no value is none to which values are given, however many they are
 none_given : (count r : ℕ) (scratch : Bool) → nat_le 10 r && nat_lt r 18 ≡ false → scratch ≡ false → ((nat_le 10 r && nat_lt r (10 + min count 8)) || scratch) ≡ false

@@ -1,6 +1,6 @@
 -- A procedure is entered at its Entry, or the run ends at the limit of the stack.
-use Rattle.std.proofs.Common.{◌≡◌, ℕ, ◌+◌, ◌-◌, ◌%◌, ◌<◌, ◌≤◌, refl, sym, ◌∙◌, ap, subst, arith, Bool, true, false, List, [], ◌∷◌, length, map, Option, Some, None, IsTrue, slice_get}
-use Rattle.std.specs.Prelude.{nat_le, replicate, slice_index_or, Ok}
+use Rattle.std.proofs.Common.{◌≡◌, ℕ, ◌+◌, ◌-◌, ◌%◌, ◌<◌, ◌≤◌, refl, sym, ◌∙◌, ap, subst, arith, Bool, true, false, List, [], ◌∷◌, ◌++◌, length, map, Option, Some, None, IsTrue, slice_get}
+use Rattle.std.specs.Prelude.{nat_le, replicate, Ok}
 use Rattle.std.proofs.lemmas.Bool.Decides.{nat_tests}
 use Rattle.std.proofs.lemmas.List.{length-map}
 use Rattle.std.proofs.lemmas.List.Sums.{sum_by-cons}
@@ -27,10 +27,10 @@ use Rattle.cmm_graph.specs.Ranges.{IsValid, is_step, leads_to}
 use Rattle.cmm_machine_laws.proofs.Shared.{frames_aligned}
 use Rattle.cmm_machine_laws.specs.Stacks.{Extent, extent, stack_of, stackdata_at}
 use Rattle.cmm_effects.proofs.Shared.{reaches_more, reaches_sound}
-use Rattle.cmm_calls.specs.Frames.{HasRoom, IsEntered, Makes, PutsEach, fixed_numbers, zeros}
-use Rattle.cmm_calls.specs.Values.{Takes, values_for}
+use Rattle.cmm_calls.specs.Frames.{HasRoom, Makes, PutsEach, fixed_numbers, zeros}
+use Rattle.cmm_calls.specs.Values.{IsBegun, values_for}
 use Rattle.cmm_image_machine.specs.Machine.{Launch, map_of}
-use Rattle.cmm_emit_laws.proofs.Carrying.{forget_values, puts_show, zeros_keep_values}
+use Rattle.cmm_emit_laws.proofs.Carrying.{forget_values, puts_show}
 use Rattle.cmm_emit_laws.proofs.Making.{made_shows}
 use Rattle.cmm_emit_laws.specs.Represented.{ArePlacesOf, IsFor, IsMade, IsPlaceOf, IsRepresented, put_each, stack_region}
 use Rattle.cmm_located.specs.Compiled.{Compiled, Located, bare}
@@ -44,7 +44,6 @@ use Rattle.cmm_emit_laws.specs.Finished.{Finished, code_of}
 use Rattle.cmm_emit_laws.specs.NodeCode.{EntryCode, places_of}
 use Rattle.cmm_emit_laws.specs.ProgramCode.{IsLaidFor}
 use Rattle.cmm_emit_laws.specs.Standing.{AreBare, Stands}
-use Rattle.cmm_abi.specs.Regions.{value_place, word_at}
 use Rattle.cmm_emit_laws.proofs.Regions.{bottom_is, top_is}
 
 -- stackdata comes unwritten
@@ -66,6 +65,15 @@ zeros_put c q (v ∷ vs) h = zeros_put c q vs _
 zeros_are_places : (s : Setting) (a : Activation) (place : ℕ → Location) (vs : List ℕ) → ((v : ℕ) → IsPlaceOf s a (place v)) → ArePlacesOf s a (zeros (map place vs))
 zeros_are_places s a place [] are = tt
 zeros_are_places s a place (v ∷ vs) are = (are v, (omega arith, zeros_are_places s a place vs are))
+
+-- what two lists put, one behind the other
+put_both : (xs ys : List (Location × ℕ)) (h : Holdings) → put_each (xs ++ ys) h ≡ put_each ys (put_each xs h)
+put_both [] ys h = refl
+put_both ((place, n) ∷ xs) ys h = put_both xs ys _
+
+both_are_places : (s : Setting) (a : Activation) (xs ys : List (Location × ℕ)) → ArePlacesOf s a xs → ArePlacesOf s a ys → ArePlacesOf s a (xs ++ ys)
+both_are_places s a [] ys one two = two
+both_are_places s a ((place, n) ∷ xs) ys one two = (one.0, (one.1.0, both_are_places s a xs ys one.1.1 two))
 
 module _ (s : Setting) (c : Compiled) (l : Launch) (f : Finished) (rest : ℕ → ℕ) (is_for : IsFor s (map_of l)) (at : Located) (t : State) (stands : Stands s c l f rest at t)
     (are_bare : AreBare at) (laid : IsLaidFor s c at.procedure) where
@@ -155,9 +163,9 @@ module _ (s : Setting) (c : Compiled) (l : Launch) (f : Finished) (rest : ℕ �
           addresses = code.addresses;
         }
 
-    module _ (next : NodeId) (cost : ℕ) (code : EntryCode s c l f at.procedure at.node formals next cost) (w u v : State)
+    module _ (next : NodeId) (cost : ℕ) (code : EntryCode s c l f at.procedure at.node formals next cost) (w v : State)
         (makes : Makes (c.plan.frame at.procedure).size (fixed_numbers (f.labels at.procedure) (c.plan.frame at.procedure) code.landings t.registers (w.registers 2)) t w)
-        (puts : PutsEach (zeros (map (c.plan.place at.procedure) (c.zeroed at.procedure))) w u) (takes : Takes (stack_region s) (places_of s c l f at.procedure formals) u v) where
+        (puts : PutsEach (zeros (map (c.plan.place at.procedure) (c.zeroed at.procedure)) ++ values_for (stack_region s) 0 (places_of s c l f at.procedure formals) t) w v) where
       first_shown : IsRepresented f.symbols rest s (entered c.plan at.procedure at.holdings.point at.holdings.contents) store_made at.carried w
       first_shown =
           made_shows f.symbols rest s (map_of l) is_for c.plan at.procedure at.holdings at.store at.carried new room (f.labels at.procedure) code.landings t w (is_made next cost code)
@@ -169,29 +177,23 @@ module _ (s : Setting) (c : Compiled) (l : Launch) (f : Finished) (rest : ℕ �
       zero_places : ArePlacesOf s new (zeros (map (c.plan.place at.procedure) (c.zeroed at.procedure)))
       zero_places = zeros_are_places s new (c.plan.place at.procedure) (c.zeroed at.procedure) (λ k. laid.places new k refl)
 
-      zeroed_shown : IsRepresented f.symbols rest s holdings_made store_made [] u
-      zeroed_shown =
-          subst (λ (h : Holdings). IsRepresented f.symbols rest s h store_made [] u) (zeros_put c at.procedure (c.zeroed at.procedure) _)
-          (puts_show f.symbols rest s (map_of l) is_for (zeros (map (c.plan.place at.procedure) (c.zeroed at.procedure))) (entered c.plan at.procedure at.holdings.point at.holdings.contents)
-          store_made new at.store.activations w u refl zero_places puts first_bare)
-
-      -- the arguments are still where they came
-      came : (i : ℕ) → i < length formals → word_at u (value_place (stack_region s) i) ≡ slice_index_or at.carried i 0
-      came i less =
-          zeros_keep_values f.symbols rest s (map_of l) is_for store_made new at.store.activations refl (length formals) i less (omega (arith, less, code.few_formals))
-          (map (c.plan.place at.procedure) (c.zeroed at.procedure)) (entered c.plan at.procedure at.holdings.point at.holdings.contents) w u zero_places code.apart puts first_bare
-          ∙ first_shown.values.1 i (omega (arith, less, enough))
-
       entered_shown : IsRepresented f.symbols rest s (holdings_entered formals) store_made [] v
       entered_shown =
           let places : List Location = places_of s c l f at.procedure formals in
           let count : length places ≡ length formals = length-map formals (λ k. c.plan.place at.procedure k.number) in
-          let same : values_for (stack_region s) 0 places u ≡ pairs places at.carried = come_to_places (stack_region s) places at.carried u (omega (arith, count, enough)) (λ i less. came i (omega (arith, less, count))) in
-          subst (λ (h : Holdings). IsRepresented f.symbols rest s h store_made [] v) (formals_put c.plan at.procedure formals at.carried holdings_made)
-          (puts_show f.symbols rest s (map_of l) is_for (pairs places at.carried) holdings_made store_made new at.store.activations u v refl
+          let same : values_for (stack_region s) 0 places t ≡ pairs places at.carried =
+          come_to_places (stack_region s) places at.carried t (omega (arith, count, enough)) (λ i less. stands.shown.values.1 i (omega (arith, less, count, enough))) in
+          let made_zero = zeros (map (c.plan.place at.procedure) (c.zeroed at.procedure)) in
+          let first = entered c.plan at.procedure at.holdings.point at.holdings.contents in
+          subst (λ (h : Holdings). IsRepresented f.symbols rest s h store_made [] v)
+          (put_both made_zero (pairs places at.carried) first
+          ∙ ap (put_each (pairs places at.carried)) (zeros_put c at.procedure (c.zeroed at.procedure) first)
+          ∙ formals_put c.plan at.procedure formals at.carried holdings_made)
+          (puts_show f.symbols rest s (map_of l) is_for (made_zero ++ pairs places at.carried) first store_made new at.store.activations w v refl
+          (both_are_places s new made_zero (pairs places at.carried) zero_places
           (pairs_are_places s new places at.carried (formals_are_places s new c.plan at.procedure formals (λ k. laid.places new k refl))
-          (values_fit (stack_region s) at.carried t stands.sound stands.shown.values))
-          (subst (λ (list : List (Location × ℕ)). PutsEach list u v) same takes) zeroed_shown)
+          (values_fit (stack_region s) at.carried t stands.sound stands.shown.values)))
+          (subst (λ (list : List (Location × ℕ)). PutsEach (made_zero ++ list) w v) same puts) first_bare)
 
     made_done : (cost : ℕ) (next : NodeId) (code : EntryCode s c l f at.procedure at.node formals next cost) (g : Graph) → slice_get c.graphs at.procedure ≡ Some g → IsValid g →
         IsTrue (leads_to g is_step next) → IsDone s c l f rest at cost t (record (made formals) { node = next })
@@ -208,10 +210,9 @@ module _ (s : Setting) (c : Compiled) (l : Launch) (f : Finished) (rest : ℕ �
         (record { activation = new; older = at.store.activations; youngest = refl; same = refl; carried = refl }) last.0.1 last.0.0 last.1))
       where
         taken : (v : State) →
-            (u : State) × IsEntered (code_of l f at.procedure) (c.plan.frame at.procedure) code.landings (map (c.plan.place at.procedure) (c.zeroed at.procedure)) t u
-            × Takes (stack_region s) (places_of s c l f at.procedure formals) u v →
+            IsBegun (code_of l f at.procedure) (stack_region s) (c.plan.frame at.procedure) code.landings (map (c.plan.place at.procedure) (c.zeroed at.procedure)) (places_of s c l f at.procedure formals) t v →
             IsRepresented f.symbols rest s (holdings_entered formals) store_made [] v
-        taken v (u, (w, makes, puts), takes) = entered_shown next cost code w u v makes puts takes
+        taken v (w, makes, puts) = entered_shown next cost code w v makes puts
 
   store_is : (o : Option Proc) → o ≡ Some laid.procedure → elim o as (λ _. Store) [
     | Some p ↦ let after = begun s at.procedure p [] at.store.activations at.store in record after { activations = map bare after.activations }

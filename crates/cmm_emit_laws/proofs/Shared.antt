@@ -1,6 +1,6 @@
 -- The lemmas that proofs of other crates may cite.
 pub use Rattle.cmm_emit_laws.proofs.Accessing.{loaded_is_spelled, there_is_accessible, there_is_placed}
-pub use Rattle.cmm_emit_laws.proofs.Carrying.{forget_values, given_shows, puts_show, zeros_keep_values}
+pub use Rattle.cmm_emit_laws.proofs.Carrying.{forget_values, given_shows, puts_show}
 pub use Rattle.cmm_emit_laws.proofs.Leaving.{called_shows, cut_shows, left_shows, moved_shows}
 pub use Rattle.cmm_emit_laws.proofs.Making.{made_shows}
 pub use Rattle.cmm_emit_laws.proofs.Reading.{held_is_read, place_is_reachable, register_is_read, register_shows, sits_accessible}

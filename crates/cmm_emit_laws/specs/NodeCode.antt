@@ -1,6 +1,5 @@
 -- What is required of the code of each node: pieces that do what the node does, with its locals in their places, and that go on where it leads.
 use Rattle.std.specs.Prelude.{◌≡◌, ◌⊎◌, ℕ, ◌+◌, ◌*◌, ◌%◌, ◌<◌, ◌≤◌, ◌^◌, true, List, [], ◌∷◌, length, map, slice_get, slice_index_or, Some}
-use Rattle.std.specs.List.{list_all}
 use Rattle.cmm_abi.specs.declared.registers.TheConstants.{REQUEST_VALUE}
 use Rattle.cmm_words.specs.Words.{low_bits, sign_extended, value1}
 use Rattle.cmm_words.specs.declared.width.Width.{Width}
@@ -50,7 +49,7 @@ use Rattle.cmm_select.specs.Switches.{Switches, label_of}
 use Rattle.cmm_calls.specs.Calls.{Calls, CallsBy, CutsTo, HasExits, JumpsBy}
 use Rattle.cmm_calls.specs.Copying.{PutsEachTo, values_to}
 use Rattle.cmm_calls.specs.Frames.{entry_cost}
-use Rattle.cmm_calls.specs.Values.{Begins, HasRegion, JumpsTo, ReturnsValues, is_taken_first, parting_cost}
+use Rattle.cmm_calls.specs.Values.{Begins, HasRegion, JumpsTo, ReturnsValues, parting_cost}
 use Rattle.cmm_image_machine.specs.Machine.{Launch}
 use Rattle.cmm_emit_laws.specs.Represented.{AreLandings}
 use Rattle.cmm_located.specs.Compiled.{Compiled, landing_in, place_of}
@@ -217,15 +216,14 @@ module _ (s : Setting) (c : Compiled) (l : Launch) (f : Finished) where
         (λ u w. (v : State) × PutsEachTo (f.labels q) (values_to r 0 destinations u) u v × Keeps v w) (code_of l f q) (f.node_at q n)
     pub few_values : length to ≤ 64
 
-  -- The frame is made with the landings of the continuations, locals are made 0, none of which is where an argument comes, and the formals
-  -- take the arguments; where the stack lacks room, the limit is requested.
+  -- The frame is made with the landings of the continuations, locals are made 0, and the formals take the arguments; where the stack lacks room,
+  -- the limit is requested.
   pub record EntryCode (q : ℕ) (n : NodeId) (formals : List Variable) (next : NodeId) (most : ℕ) : Type 0 where
     pub landings : List Label
     pub limit : Label
     pub on : ℕ
     pub ends : ℕ
     pub begins : Begins (c.plan.frame q) landings (map (c.plan.place q) (c.zeroed q)) (places_of q formals) limit (code_of l f q) (f.node_at q n) on
-    pub apart : list_all (is_taken_first (length formals) 0) (map (c.plan.place q) (c.zeroed q)) ≡ true
     pub few_formals : length formals ≤ 64
     pub pairs : length landings ≡ length (c.plan.frame q).pairs
     pub addresses : AreLandings f.symbols (f.labels q) q 0 landings

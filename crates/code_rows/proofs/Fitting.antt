@@ -23,7 +23,7 @@ use Rattle.cmm_select.specs.declared.operand.Operand.TheVariants.{Held, Symbol}
 use Rattle.cmm_select.specs.declared.source.Source.TheVariants.{Place, Number, Address}
 use Rattle.cmm_calls.proofs.Shared.{each, place_is}
 use Rattle.cmm_calls.specs.Frames.{CanBeMade}
-use Rattle.cmm_calls.specs.Values.{are_given_first, are_taken_first, is_operand}
+use Rattle.cmm_calls.specs.Values.{is_operand}
 use Rattle.code_rows.specs.Layouts.{callee_frame, caller_frame, formals_of, passed_values, returned_of, slot_of}
 use Rattle.code_rows.specs.declared.frames.Layout.{Layout}
 use Rattle.code_rows.specs.declared.frames.Layout.TheVariants.{Small, Reach, Before, Behind, Last}
@@ -56,18 +56,12 @@ zeroed_is Before = refl
 zeroed_is Behind = refl
 zeroed_is Last = refl
 
-pub formals_first : (l : Layout) → are_taken_first 12 0 (formals_of l) ≡ true
-formals_first l = refl
-
 pub returned_are : (l : Layout) → list_all (is_operand (callee_frame l)) (returned_of l) ≡ true
 returned_are Small = refl
 returned_are Reach = refl
 returned_are Before = refl
 returned_are Behind = refl
 returned_are Last = refl
-
-pub returned_first : (l : Layout) → are_given_first 0 (returned_of l) ≡ true
-returned_first l = refl
 
 -- operands in a frame need no label
 operand_is : (f : Frame) (a : Operand) (labels : List Meaning) → CanBeMade f → is_operand f a ≡ true → needs_no_label a ≡ true → IsOperand labels a

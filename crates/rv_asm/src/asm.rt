@@ -53,6 +53,11 @@ impl Asm {
         }
     }
 
+    /// Where its memory comes from, so that whoever appends parts may take memory of their own.
+    pub fn alloc(&self) -> Global {
+        self.alloc
+    }
+
     /// How many labels were made.
     pub fn label_count(&self) -> usize
         ensures { result ≡ length self.now.labels }

@@ -1,37 +1,15 @@
-use Rattle.std.proofs.Common.{◌∙◌, length, refl}
-use Rattle.std.specs.List.{All}
-use Rattle.std.proofs.lemmas.List.Elements.{All-get_or}
-use Rattle.cmm_chain.specs.declared.frame.Location.TheVariants.{Slot}
-use Rattle.cmm_select.specs.Destinations.{IsDestination}
-use Rattle.cmm_select.specs.declared.destination.Destination.TheVariants.{Place}
-use Rattle.cmm_calls.proofs.Copied.{copied_all, copied_next, copied_none}
-use Rattle.cmm_calls.proofs.Standing.{each}
-use Rattle.cmm_calls.specs.Copying.{IsGlobalBy, is_destination}
+use Rattle.std.proofs.Common.{◌∙◌, pos, sym}
+use Rattle.rv_table.specs.declared.instruction.Instr.TheVariants.{Addi}
+use Rattle.cmm_effects.proofs.Shared.{adds_one}
+use Rattle.cmm_calls.proofs.Idle.{copied_idly, copied_plainly}
 use Rattle.cmm_calls.proofs.copying.copy_in.Goals as goal
 
-pub loop-index-init : goal.loop-index-init
-loop-index-init c = record {
-  copies = copied_none (λ at. All (IsGlobalBy at) c.args.to.now) c.args.asm.now.parts c.args.frame.now.size (length c.args.to.now);
-  labels = refl;
-}
-
-pub copy_value-requires-clause-destination : goal.copy_value-requires-clause-destination
-copy_value-requires-clause-destination c =
-    rw c.loop-index.invariant.labels
-    (All-get_or (IsDestination c.args.asm.now.labels) c.args.to.now c.loop-index.index (Place (Slot 0)) c.loop-index-test.true c.requires.labels)
-
-pub loop-index-preserved : goal.loop-index-preserved
-loop-index-preserved c =
-    let i = c.loop-index.index in
-    let d = Place (Slot 0) in
-    let is = each (is_destination c.args.frame.now) c.args.to.now i d c.requires.destinations c.loop-index-test.true in
-    record {
-      copies = copied_next c.args.asm.now.parts c.loop-index.asm.parts c.copy_value.new.asm.parts c.args.frame.now c.args.to.now i d c.requires.frame is c.requires.first
-          c.loop-index-test.true c.requires.few c.loop-index.invariant.copies c.in_ok-copy_value.ensures.copies;
-      labels = c.in_ok-copy_value.ensures.labels ∙ c.loop-index.invariant.labels;
-    }
+pub returns-then-begins_idle-clause-copies : goal.returns-then-begins_idle-clause-copies
+returns-then-begins_idle-clause-copies c =
+    copied_idly c.args.asm.now.parts c.emit.new.self.parts c.copy_all.new.asm.parts c.args.frame.now c.args.to.now (sym c.begins_idle.ensures ∙ c.if-begins_idle.true)
+    (rw (c.in_ok-emit.ensures.parts, c.copy.ensures.is) (adds_one c.args.asm.now.parts (Addi 5 5 (pos 0)))) c.in_ok-copy_all.ensures.copies
 
 pub returns-clause-copies : goal.returns-clause-copies
 returns-clause-copies c =
-    copied_all c.args.asm.now.parts c.loop-index.asm.parts c.args.frame.now c.args.to.now c.loop-index.index c.loop-index.auto.index-end c.loop-index-test.false
-    c.loop-index.invariant.copies
+    copied_plainly c.args.asm.now.parts c.copy_all-2.new.asm.parts c.args.frame.now c.args.to.now c.requires.destinations (sym c.begins_idle.ensures ∙ c.if-begins_idle.false)
+    c.in_ok-copy_all-2.ensures.copies

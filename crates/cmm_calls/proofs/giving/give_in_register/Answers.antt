@@ -1,13 +1,14 @@
 use Rattle.std.proofs.Common.{◌+◌, arith, pos}
+use Rattle.cmm_chain.specs.declared.frame.Location.TheVariants.{Slot}
 use Rattle.rv_table.specs.declared.instruction.Instr.TheVariants.{Addi}
 use Rattle.cmm_effects.proofs.Shared.{adds_one, adds_then, adds_weaker}
 use Rattle.cmm_calls.proofs.Brought.{gives_fetched, gives_register}
 use Rattle.cmm_calls.proofs.giving.give_in_register.Goals as goal
 
-pub returns-in_ok-fetch-in-Some-clause-gives : goal.returns-in_ok-fetch-in-Some-clause-gives
-returns-in_ok-fetch-in-Some-clause-gives c =
-    adds_weaker c.in_ok-fetch-in-Some.ensures.fetches (omega arith)
-    (λ x from to does. λ region. gives_fetched x c.args.value.now c.args.index from to region c.in-Some.place c.in-Some.ensures c.requires.near does)
+pub returns-in_ok-restore-in-Some-clause-gives : goal.returns-in_ok-restore-in-Some-clause-gives
+returns-in_ok-restore-in-Some-clause-gives c =
+    adds_weaker c.in_ok-restore-in-Some.ensures.restores (omega arith)
+    (λ x from to does. λ region. gives_fetched x c.args.value.now c.args.index from to region (Slot c.in-Some.offset) c.in-Some.ensures c.requires.near does)
 
 pub returns-in_ok-emit-in-None-clause-gives : goal.returns-in_ok-emit-in-None-clause-gives
 returns-in_ok-emit-in-None-clause-gives c =

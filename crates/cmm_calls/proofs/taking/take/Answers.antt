@@ -1,32 +1,18 @@
-use Rattle.std.proofs.Common.{◌∙◌, length, refl}
-use Rattle.cmm_chain.specs.Plans.{is_place}
-use Rattle.cmm_chain.specs.declared.frame.Location.TheVariants.{Slot}
-use Rattle.cmm_calls.proofs.Copied.{copied_none, taken_all, taken_more}
-use Rattle.cmm_calls.proofs.Standing.{each, place_is}
+use Rattle.std.proofs.Common.{◌∙◌, List, subst}
+use Rattle.cmm_effects.specs.Pieces.{Adds}
+use Rattle.cmm_select.specs.declared.destination.Destination.{Destination}
+use Rattle.cmm_calls.proofs.Targets.{are_destinations, are_labelled, takes_all}
+use Rattle.cmm_calls.specs.inside.Arriving.{CopiesAll, copy_cost, copy_least}
 use Rattle.cmm_calls.proofs.taking.take.Goals as goal
 
-pub loop-index-init : goal.loop-index-init
-loop-index-init c = record {
-  takes = copied_none (λ at. Unit {0}) c.args.asm.now.parts c.args.frame.now.size (length c.args.places.now);
-  labels = refl;
-}
+pub copy_all-requires-clause-destinations : goal.copy_all-requires-clause-destinations
+copy_all-requires-clause-destinations c = rw (c.as_slice.ensures, c.in_ok-to.ensures) (are_destinations c.args.frame.now c.args.places.now c.requires.places)
 
-pub take_value-requires-clause-place : goal.take_value-requires-clause-place
-take_value-requires-clause-place c =
-    let i = c.loop-index.index in
-    place_is c.args.frame.now _ c.requires.frame (each (is_place c.args.frame.now) c.args.places.now i (Slot 0) c.requires.places c.loop-index-test.true)
-
-pub loop-index-preserved : goal.loop-index-preserved
-loop-index-preserved c =
-    let i = c.loop-index.index in
-    let place = each (is_place c.args.frame.now) c.args.places.now i (Slot 0) c.requires.places c.loop-index-test.true in
-    record {
-      takes = taken_more c.args.asm.now.parts c.loop-index.asm.parts c.take_value.new.asm.parts c.args.frame.now c.args.places.now i (Slot 0) c.requires.frame place c.requires.first
-          c.loop-index-test.true c.requires.few c.loop-index.invariant.takes c.in_ok-take_value.ensures.takes;
-      labels = c.in_ok-take_value.ensures.labels ∙ c.loop-index.invariant.labels;
-    }
+pub copy_all-requires-clause-labels : goal.copy_all-requires-clause-labels
+copy_all-requires-clause-labels c = rw (c.as_slice.ensures, c.in_ok-to.ensures) (are_labelled c.args.frame.now c.args.asm.now.labels c.args.places.now c.requires.frame c.requires.places)
 
 pub returns-clause-takes : goal.returns-clause-takes
 returns-clause-takes c =
-    taken_all c.args.asm.now.parts c.loop-index.asm.parts c.args.frame.now.size c.args.places.now c.loop-index.index c.loop-index.auto.index-end c.loop-index-test.false
-    c.loop-index.invariant.takes
+    takes_all c.args.asm.now.parts c.copy_all.new.asm.parts c.args.frame.now c.args.places.now
+    (subst (λ (to : List Destination). Adds (copy_cost to) c.args.asm.now.parts c.copy_all.new.asm.parts (CopiesAll (copy_least to) (copy_cost to) c.args.frame.now.size to)) (c.as_slice.ensures ∙ c.in_ok-to.ensures)
+    c.in_ok-copy_all.ensures.copies)

@@ -1,5 +1,5 @@
 use Rattle.std.proofs.Common.{◌≡◌, length, refl, arith}
-use Rattle.code_rows.proofs.Fitting.{callee_made, formals_are, formals_first, placed_few, returned_are, returned_first, returned_operands, zeroed_is}
+use Rattle.code_rows.proofs.Fitting.{callee_made, formals_are, placed_few, returned_are, returned_operands, zeroed_is}
 use Rattle.code_rows.proofs.frames.add_callee.Goals as goal
 
 pub begin-requires-clause-zeroed : goal.begin-requires-clause-zeroed
@@ -7,9 +7,6 @@ begin-requires-clause-zeroed c = rw (c.requires.frame, c.slot.ensures) (zeroed_i
 
 pub begin-requires-clause-formals : goal.begin-requires-clause-formals
 begin-requires-clause-formals c = rw (c.requires.frame, c.formals.ensures) (formals_are c.args.layout)
-
-pub begin-requires-clause-first : goal.begin-requires-clause-first
-begin-requires-clause-first c = rw c.formals.ensures (formals_first c.args.layout)
 
 pub return_values-requires-clause-frame : goal.return_values-requires-clause-frame
 return_values-requires-clause-frame c = rw c.requires.frame (callee_made c.args.layout)
@@ -19,9 +16,6 @@ return_values-requires-clause-operands c = rw (c.requires.frame, c.returned.ensu
 
 pub return_values-requires-clause-labels : goal.return_values-requires-clause-labels
 return_values-requires-clause-labels c = rw c.returned.ensures (returned_operands c.args.layout _)
-
-pub return_values-requires-clause-first : goal.return_values-requires-clause-first
-return_values-requires-clause-first c = rw c.returned.ensures (returned_first c.args.layout)
 
 pub returns : goal.returns
 returns c =

@@ -9,9 +9,6 @@ call-requires-clause-operands c = rw (c.requires.frame, c.passed.ensures) refl
 pub call-requires-clause-labels : goal.call-requires-clause-labels
 call-requires-clause-labels c = rw c.passed.ensures (passed_operands _)
 
-pub call-requires-clause-first : goal.call-requires-clause-first
-call-requires-clause-first c = rw c.passed.ensures refl
-
 pub take-requires-clause-places : goal.take-requires-clause-places
 take-requires-clause-places c = rw c.requires.frame refl
 
