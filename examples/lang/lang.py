@@ -6,7 +6,7 @@ runtime.cmm, which stands beside this file. There are two ways to raise an excep
 a global register holds the innermost handler, and control is cut to it. A program prints the same with both.
 
 --exec runs the source with the built `cmm` PROGRAM, and tells what went wrong in words of the source. --trace does only the latter, for a log
-on standard input: a line on which `cmm` refuses the unit UNIT gets its place in the source, and a walk becomes a trace of calls.
+on standard input: a line on which `cmm` refuses the unit UNIT gets its place in the source, and a walk becomes a trace of calls. trace.py does both.
 
 The language has the types int, string, T[], gen T and those of its records. examples/lang/*.lang are programs, docs/TUTORIAL.md tells the story.
 """
@@ -14,10 +14,9 @@ import argparse
 import collections
 import os
 import re
-import subprocess
 import sys
 
-HERE = os.path.dirname(os.path.abspath(__file__))
+import trace
 
 
 class Fault(Exception):
@@ -26,21 +25,21 @@ class Fault(Exception):
 
 # ---- Tokens ----------------------------------------------------------------------------------------------------------------------------------------
 
-TOKEN = re.compile(r"""(?P<space>\s+|//[^\n]*)|(?P<number>[0-9]+)|(?P<text>"(?:[^"\\\n]|\\[ntr0\\"'])*")|(?P<char>'(?:[^'\\\n]|\\[ntr0\\"'])')
+TOKEN = re.compile(r"""(?P<space>\s+|//[^\n]*)|(?P<number>0|[1-9][0-9]*)|(?P<text>"(?:[^"\\\n]|\\[ntr0\\"'])*")|(?P<char>'(?:[^'\\\n]|\\[ntr0\\"'])')
     |(?P<name>[A-Za-z_]\w*)|(?P<sign>==|!=|<=|>=|[-+*/%<>=()\[\]{},;:.])""", re.VERBOSE)
 WORDS = set("record fun gen var table if else while for in return yield print write raise try catch finally new nil and or not int string".split())
 Token = collections.namedtuple("Token", "sort text line")
 
 
 def tokens_of(text):
-    """The tokens of a source, the end of it the last."""
+    """The tokens of a source, the end of it the last. A word of the language and a sign are sorts of their own."""
     at, line, found = 0, 1, []
     while at < len(text):
         match = TOKEN.match(text, at)
         if not match:
             raise Fault(line, f"no token begins with {text[at]!r}")
         if match.lastgroup != "space":
-            found.append(Token("word" if match[0] in WORDS else match.lastgroup, match[0], line))
+            found.append(Token(match[0] if match.lastgroup == "sign" or match[0] in WORDS else match.lastgroup, match[0], line))
         line, at = line + match[0].count("\n"), match.end()
     return found + [Token("end", "the end", line)]
 
@@ -50,36 +49,48 @@ def tokens_of(text):
 Node = collections.namedtuple("Node", "form line parts")
 Function = collections.namedtuple("Function", "name line is_generator formals result body")
 COMPARISONS = {"==": "!=", "!=": "==", "<": ">=", ">=": "<", ">": "<=", "<=": ">"}  # each with its opposite
+LEVELS = [("logic", "or"), ("logic", "and"), ("compare", *COMPARISONS), ("binary", "+", "-"), ("binary", "*", "/", "%")]  # the last binds most
+ORDERS = {"<": "lt", "<=": "le", ">": "gt", ">=": "ge"}
+# what stands in a statement behind its word: names of methods of the parser, and sorts of tokens
+SHAPES = {"if": "expression block otherwise", "while": "expression block", "for": "name in expression block", "try": "block catches last",
+          "var": "name = expression ;", "table": "name [ number ] ;", "return": "answer ;", "yield": "expression ;", "print": "values ;",
+          "write": "values ;", "raise": "kind ( expression ) ;", "assign": "expression assigned ;"}
 
 
 class Parser:
     """A parser by recursive descent: a method a form, which takes its tokens."""
 
     def __init__(self, text):
-        self.tokens, self.at = tokens_of(text), 0
-        self.records, self.functions, self.kinds = {}, {}, ["Index", "Zero", "Nil", "Memory", "Format"]
+        self.tokens, self.records, self.functions, self.kinds = tokens_of(text)[::-1], {}, {}, [*MESSAGES]
+        while self.ahead.sort != "end":
+            if self.take("record"):
+                (name,) = self.shape("name {")
+                self.records[name] = dict(self.formals("}"))
+            else:
+                self.function()
 
     @property
-    def token(self):
-        return self.tokens[self.at]
+    def ahead(self):
+        return self.tokens[-1]
 
-    def take(self, *texts):
-        """The next token's text, which is taken if it is one of these."""
-        if self.token.sort not in ("sign", "word") or self.token.text not in texts:
-            return None
-        self.at += 1
-        return self.tokens[self.at - 1].text
+    def take(self, *sorts):
+        """The text of the next token, which is taken if it is of one of these sorts."""
+        return self.tokens.pop().text if self.ahead.sort in sorts else None
 
-    def want(self, text):
-        if not self.take(text):
-            raise Fault(self.token.line, f"{text} wanted, and not {self.token.text}")
+    def want(self, *sorts):
+        if self.ahead.sort not in sorts:
+            raise Fault(self.ahead.line, f"{' or '.join(sorts)} wanted, and not {self.ahead.text}")
+        return self.take(*sorts)
 
-    def sort(self, sort):
-        """The next token's text, which must be of this sort."""
-        if self.token.sort != sort:
-            raise Fault(self.token.line, f"a {sort} wanted, and not {self.token.text}")
-        self.at += 1
-        return self.tokens[self.at - 1].text
+    def shape(self, shape):
+        """The parts of a form: signs and words of the language are none."""
+        parts = []
+        for item in shape.split():
+            method = getattr(self, item, None)
+            found = method() if method else self.want(item)
+            if method or item in ("name", "number"):
+                parts.append(found)
+        return parts
 
     def list(self, end, item):
         """Items with commas between them, up to a closing sign."""
@@ -90,47 +101,25 @@ class Parser:
             found.append(item())
         return found
 
-    def named(self, sign):
-        """A name with this sign or word behind it."""
-        name = self.sort("name")
-        self.want(sign)
-        return name
+    def function(self):
+        line, is_generator = self.ahead.line, self.want("fun", "gen") == "gen"
+        name, formals, result, body = self.shape("name ( formals result block")
+        self.functions[name] = Function(name, line, is_generator, formals, f"gen {result}" if is_generator else result, body)
 
-    def closed(self, item, sign):
-        """An item with this sign behind it."""
-        found = item()
-        self.want(sign)
-        return found
+    def formals(self, end=")"):
+        return self.list(end, lambda: self.shape("name : type"))
 
-    def program(self):
-        while self.token.sort != "end":
-            if self.take("record"):
-                name = self.named("{")
-                self.records[name] = dict(self.list("}", self.typed))
-            else:
-                self.function()
-        return self
-
-    def typed(self):
-        return self.named(":"), self.type()
+    def result(self):
+        return self.type() if self.take(":") else None
 
     def type(self):
-        return "gen " + self.type() if self.take("gen") else (self.take("int", "string") or self.sort("name")) + self.brackets()
+        return "gen " + self.type() if self.take("gen") else self.element() + self.brackets()
+
+    def element(self):
+        return self.want("int", "string", "name")
 
     def brackets(self):
-        found = ""
-        while self.take("["):
-            self.want("]")
-            found += "[]"
-        return found
-
-    def function(self):
-        line, is_generator = self.token.line, self.take("gen") is not None
-        if not is_generator:
-            self.want("fun")
-        name, formals = self.named("("), self.list(")", self.typed)
-        result = self.type() if self.take(":") else None
-        self.functions[name] = Function(name, line, is_generator, formals, f"gen {result}" if is_generator else result, self.block())
+        return "[" + self.want("]") + self.brackets() if self.take("[") else ""
 
     def block(self):
         self.want("{")
@@ -139,101 +128,76 @@ class Parser:
             found.append(self.statement())
         return found
 
+    def statement(self):
+        line, word = self.ahead.line, self.take(*SHAPES) or "assign"
+        return Node(word, line, self.shape(SHAPES[word]))
+
+    def otherwise(self):
+        if not self.take("else"):
+            return []
+        return [self.statement()] if self.ahead.sort == "if" else self.block()
+
+    def catches(self):
+        found = []
+        while self.take("catch"):
+            found.append(self.shape("kind name block"))
+        return found
+
+    def last(self):
+        return self.block() if self.take("finally") else None
+
     def kind(self):
         """The kind of an exception: it is declared by being named."""
-        name = self.sort("name")
+        name = self.want("name")
         if name not in self.kinds:
             self.kinds.append(name)
         return name
 
-    def statement(self):
-        line, word = self.token.line, self.take("if", "while", "for", "try", "var", "table", "return", "yield", "print", "write", "raise")
-        if word in ("if", "while", "for", "try"):
-            return Node(word, line, getattr(self, f"parse_{word}")())
-        return Node(word or "simple", line, self.closed(lambda: self.simple(word), ";"))
+    def answer(self):
+        return None if self.ahead.sort == ";" else self.expression()
 
-    def parse_if(self):
-        condition, then = self.expression(), self.block()
-        if not self.take("else"):
-            return condition, then, []
-        return condition, then, [self.statement()] if self.token.text == "if" else self.block()
+    def assigned(self):
+        return self.expression() if self.take("=") else None
 
-    def parse_while(self):
-        return self.expression(), self.block()
-
-    def parse_for(self):
-        return self.named("in"), self.expression(), self.block()
-
-    def parse_try(self):
-        body, catches = self.block(), []
-        while self.take("catch"):
-            catches.append((self.kind(), self.sort("name"), self.block()))
-        return body, catches, self.block() if self.take("finally") else None
-
-    def simple(self, word):
-        """The parts of a statement without blocks."""
-        if word == "var":
-            return self.named("="), self.expression()
-        if word == "table":
-            return self.named("["), int(self.closed(lambda: self.sort("number"), "]"))
-        if word == "raise":
-            kind, _ = self.kind(), self.want("(")
-            return kind, self.closed(self.expression, ")")
-        if word == "return" and self.token.text == ";":
-            return (None,)
+    def values(self):
         found = [self.expression()]
-        while self.take("," if word in ("print", "write") else "=" if word is None else ""):
+        while self.take(","):
             found.append(self.expression())
         return found
 
-    def expression(self):
-        return self.operators("logic", ("or",), lambda: self.operators("logic", ("and",), self.denial))
-
-    def denial(self):
-        line = self.token.line
-        return Node("not", line, (self.denial(),)) if self.take("not") else self.comparison()
-
-    def comparison(self):
-        return self.operators("compare", tuple(COMPARISONS), lambda: self.operators("binary", ("+", "-"), self.product))
-
-    def product(self):
-        return self.operators("binary", ("*", "/", "%"), self.unary)
-
-    def operators(self, form, signs, operand):
-        """Operands with some of these signs between them, grouped to the left."""
-        found = operand()
-        while (line := self.token.line) and (sign := self.take(*signs)):
-            found = Node(form, line, (sign, found, operand()))
+    def expression(self, level=0):
+        """Operands with signs of a level between them, grouped to the left; before a comparison may be `not`."""
+        if level == len(LEVELS):
+            return self.unary()
+        line, (form, *signs) = self.ahead.line, LEVELS[level]
+        if form == "compare" and self.take("not"):
+            return Node("not", line, [self.expression(level)])
+        found = self.expression(level + 1)
+        while (line := self.ahead.line) and (sign := self.take(*signs)):
+            found = Node(form, line, [sign, found, self.expression(level + 1)])
         return found
 
     def unary(self):
-        line = self.token.line
+        line = self.ahead.line
         if self.take("-"):
-            return Node("negative", line, (self.unary(),))
+            return Node("negative", line, [self.unary()])
         found = self.primary()
-        while True:
-            if self.take("."):
-                found = Node("field", line, (found, self.sort("name")))
-            elif self.take("["):
-                found = Node("index", line, (found, self.closed(self.expression, "]")))
-            else:
-                return found
+        while sign := self.take(".", "["):
+            form, shape = ("field", "name") if sign == "." else ("index", "expression ]")
+            found = Node(form, line, [found, *self.shape(shape)])
+        return found
 
     def primary(self):
-        sort, text, line = self.token
+        line, sort = self.ahead.line, self.ahead.sort
         if self.take("("):
-            return self.closed(self.expression, ")")
+            return self.shape("expression )")[0]
         if self.take("new"):  # `new int[n][]` has n elements, each an int[]
-            element, _, size = self.take("int", "string") or self.sort("name"), self.want("["), self.closed(self.expression, "]")
-            return Node("new", line, (element + self.brackets(), size))
-        if self.take("nil"):
-            return Node("nil", line, ())
-        if sort not in ("number", "text", "char", "name"):
-            raise Fault(line, f"an expression wanted, and not {text}")
-        self.at += 1
-        if sort == "name" and self.take("("):
-            return Node("call", line, (text, self.list(")", self.expression)))
-        return Node(sort, line, (text,))
+            element, size, brackets = self.shape("element [ expression ] brackets")
+            return Node("new", line, [element + brackets, size])
+        text = self.want("number", "text", "char", "nil", "name")
+        if sort != "name":
+            return Node("literal", line, [sort, text])
+        return Node("call", line, [text, self.list(")", self.expression)]) if self.take("(") else Node("name", line, [text])
 
 
 # ---- A unit ----------------------------------------------------------------------------------------------------------------------------------------
@@ -243,10 +207,11 @@ class Parser:
 # constant from 2 on: the code 1 is that of a checked operator, and token 1 holds lines.
 
 MESSAGES = {"Index": "no such element", "Zero": "division by zero", "Nil": "nil has no fields", "Memory": "out of memory", "Format": "not a number"}
-RUNTIME = "rt.alloc rt.array rt.fill rt.join rt.same rt.sub rt.str rt.num rt.chr rt.print rt.number nil"
-# what is called like a function and is a procedure of the runtime: formals, result, and by which kinds of exceptions it fails
-BUILTINS = {"str": (["int"], "string", ["Memory"]), "num": (["string"], "int", ["Format"]), "chr": (["int"], "string", ["Memory"]),
-            "sub": (["string", "int", "int"], "string", ["Memory", "Index"])}
+RUNTIME = "rt.alloc, rt.array, rt.fill, rt.join, rt.same, rt.sub, rt.str, rt.num, rt.chr, rt.print, rt.number, nil"
+# what is called like a function and is none of the source: what it stands for, types of actuals and result, and by which kinds of exceptions it fails
+BUILTINS = {"str": ("rt.str({})", ["int"], "string", ["Memory"]), "num": ("rt.num({})", ["string"], "int", ["Format"]),
+            "chr": ("rt.chr({})", ["int"], "string", ["Memory"]), "sub": ("rt.sub({}, {}, {})", ["string", "int", "int"], "string", ["Memory", "Index"]),
+            "len": ("bits64[{}]", ["[]"], "int", []), "read": ('foreign "C" cmm_getbyte()', [], "int", [])}
 
 
 class Unit:
@@ -254,9 +219,8 @@ class Unit:
 
     def __init__(self, path, cuts):
         with open(path, encoding="utf-8") as file:
-            self.source = file.read()
-        self.path, self.cuts, self.count = path, cuts, 0
-        self.lines, self.program, self.texts = self.source.splitlines(), Parser(self.source).program(), {}
+            source = file.read()
+        self.path, self.cuts, self.count, self.lines, self.program, self.texts = path, cuts, 0, source.splitlines(), Parser(source), {}
 
     def fresh(self, name):
         self.count += 1
@@ -269,12 +233,13 @@ class Unit:
     def unit(self):
         """All of the unit. A global register belongs to all units that name it: the heap grows here and in the runtime."""
         main = self.program.functions.get("main")
-        if not main or main.formals or main.result or main.is_generator:
+        if not main or main.formals or main.result:
             raise Fault(1, "there is no function main without formals and result")
         procedures = [text for function in self.program.functions.values() for text in procedures_of(self, function)]
         kinds = [f"const kind.{kind} = {number};" for number, kind in enumerate(self.program.kinds, 2)]
-        texts = [f"  align 8; {label}: bits64 {{ {len(bytes_of(text))} }}; bits8[] {text};" for text, label in self.texts.items()]
-        return "\n".join([f"// from {self.path}", f"import {', '.join(RUNTIME.split())};", 'export f.main as "start";', "register bits64 heap.next, heap.end, handler;",
+        sizes = {text: len(re.sub(r"\\.", "1", text[1:-1]).encode()) for text in self.texts}
+        texts = [f"  align 8; {label}: bits64 {{ {sizes[text]} }}; bits8[] {text};" for text, label in self.texts.items()]
+        return "\n".join([f"// from {self.path}", f"import {RUNTIME};", 'export f.main as "start";', "register bits64 heap.next, heap.end, handler;",
                           *kinds, 'section "data" {', *texts, "}", *procedures, ""])
 
     def script(self):
@@ -283,11 +248,6 @@ class Unit:
         if self.cuts:
             return "other\nlist\nstop\n"
         return "at 1\nunwind 0\n" + "".join(f"at {n}\nseek {n} 1\nunwind 0 $0 $1\nlist\nstop\n" for n in range(2, 2 + len(self.program.kinds)))
-
-
-def bytes_of(literal):
-    escapes = {"n": "\n", "t": "\t", "r": "\r", "0": "\0"}
-    return re.sub(r"\\(.)", lambda it: escapes.get(it[1], it[1]), literal[1:-1]).encode()
 
 
 # ---- Procedures: what all constructs share ---------------------------------------------------------------------------------------------------------
@@ -306,10 +266,9 @@ class Body:
     """A procedure, as it is made."""
 
     def __init__(self, unit, function):
-        self.unit, self.function, self.line = unit, function, function.line
+        self.unit, self.fresh, self.function, self.line, self.noted = unit, unit.fresh, function, function.line, None
         self.out, self.failures, self.tries, self.resumes = [], {}, [], []
-        self.scopes, self.variables, self.declared, self.tables = [{}], {}, {}, []
-        self.used, self.most, self.noted = 0, 0, None
+        self.scope, self.variables, self.tables, self.used, self.most = {}, {}, {}, 0, 0
 
     def emit(self, *lines):
         self.out += lines
@@ -319,64 +278,64 @@ class Body:
         self.most = max(self.most, self.used)
         return f"t.{self.used}"
 
+    def into(self, text):
+        """A temporary that has this value."""
+        place = self.temporary()
+        self.emit(f"{place} = {text};")
+        return place
+
+    def kept(self, text):
+        """A text that costs nothing to read twice."""
+        return text if re.fullmatch(r"[\w.]+(::bits64)?", text) else self.into(text)
+
     def hidden(self, name):
         """A variable that the source does not name, and that lives on between statements."""
-        name = self.unit.fresh(name)
-        self.variables[name] = ""
+        name = self.fresh(name)
+        self.variables[name] = None
         return name
 
-    def declare(self, node, name, type):
-        """A variable of the source. The block of a `finally` is made more than once: each declaration in it is still one variable."""
-        if id(node) not in self.declared:
-            made = f"v.{name}"
-            while made in self.declared.values():
-                made += ".again"
-            self.variables[made] = f"{name}: {type}"
-            self.declared[id(node)] = made
-        self.scopes[-1][name] = self.declared[id(node)], type
-        return self.declared[id(node)]
+    def variable(self, name, type):
+        """A new variable of the source, and its type. Another of its name is another variable."""
+        made = f"v.{name}"
+        while made in self.variables or made in self.tables:
+            made += ".again"
+        self.variables[made] = f"{name}: {type}"
+        return made, type
 
     def found(self, name):
-        for scope in reversed(self.scopes):
-            if name in scope:
-                return scope[name]
-        raise Fault(self.line, f"there is no variable {name}")
+        if name not in self.scope:
+            raise Fault(self.line, f"there is no variable {name}")
+        return self.scope[name]
 
     def need(self, type, wanted):
-        """That a value has the type that is wanted. `nil` has each but int."""
-        if type != wanted and not (type == "nil" and wanted != "int") and not (wanted == "nil" and type != "int"):
+        """That a value has the type that is wanted; `[]` is any with elements. `nil` has each but int."""
+        fits = type == wanted or "nil" in (type, wanted) and "int" not in (type, wanted) or wanted == "[]" and re.fullmatch(r"string|.*\[\]", str(type))
+        if not fits:
             raise Fault(self.line, f"{wanted or 'nothing'} wanted, and not {type or 'nothing'}")
 
-    def block(self, statements):
-        self.scopes.append({})
-        for node in statements:
+    def block(self, statements, names=()):
+        """A block, with these variables besides those around it."""
+        around, self.scope = self.scope, {**self.scope, **dict(names)}
+        for node in statements or []:
             self.statement(node)
-        self.scopes.pop()
+        self.scope = around
 
     def statement(self, node):
         self.line, self.used = node.line, 0
         if node.line != self.noted:
             self.noted = node.line
             self.emit(f"// {node.line}: {self.unit.lines[node.line - 1].strip()}")
-        getattr(self, f"do_{node.form}")(node, *node.parts)
+        getattr(self, f"do_{node.form}")(*node.parts)
 
     def value(self, node):
         """The text of an expression and its type. The text has no effect: calls, loads and tests are statements before it."""
         self.line = node.line
-        return getattr(self, f"value_{node.form}")(*node.parts)
+        return self.told(node) if node.form in ("not", "logic", "compare") else getattr(self, f"value_{node.form}")(*node.parts)
 
     def typed(self, node, wanted):
         text, type = self.value(node)
         self.need(type, wanted)
         return text
-
-    def kept(self, text):
-        """A text that costs nothing to read twice."""
-        if re.fullmatch(r"[\w.]+(::bits64)?", text):
-            return text
-        place = self.temporary()
-        self.emit(f"{place} = {text};")
-        return place
 
 
 # ---- Expressions -----------------------------------------------------------------------------------------------------------------------------------
@@ -388,21 +347,14 @@ class Body:
 # C-- are unsigned: signed operators have names.
 
 class Expressions(Body):
-    def value_number(self, text):
-        return text.lstrip("0") or "0", "int"
-
-    def value_char(self, text):
-        return f"{text}::bits64", "int"
-
-    def value_text(self, text):
-        return self.unit.text(text), "string"
-
-    def value_nil(self):
-        return "nil", "nil"
+    def value_literal(self, sort, text):
+        if sort == "text":
+            return self.unit.text(text), "string"
+        return {"number": (text, "int"), "char": (f"{text}::bits64", "int"), "nil": ("nil", "nil")}[sort]
 
     def value_name(self, name):
         text, type = self.found(name)
-        if type.startswith("table"):
+        if text in self.tables:
             raise Fault(self.line, f"{name} is a table, which has only elements")
         return text, type
 
@@ -412,24 +364,14 @@ class Expressions(Body):
     def value_binary(self, sign, left, right):
         a, type = self.value(left)
         if sign == "+" and type == "string":
-            return self.runtime("rt.join", [a, self.typed(right, "string")], ["Memory"]), "string"
+            return self.runtime(f"rt.join({a}, {self.typed(right, 'string')})", "Memory"), "string"
         self.need(type, "int")
         b = self.typed(right, "int")
-        return (f"({a} {sign} {b})" if sign in "+-*" else self.divided({"/": "div", "%": "mod"}[sign], a, b)), "int"
-
-    def value_not(self, operand):
-        return self.told(Node("not", self.line, (operand,)))
-
-    def value_logic(self, *parts):
-        return self.told(Node("logic", self.line, parts))
-
-    def value_compare(self, *parts):
-        return self.told(Node("compare", self.line, parts))
+        return f"({a} {sign} {b})" if sign in "+-*" else self.divided("div" if sign == "/" else "mod", a, b), "int"
 
     def told(self, node):
         """A condition as a number. C-- has none: control goes by conditions."""
-        place, past = self.temporary(), self.unit.fresh("l")
-        self.emit(f"{place} = 1;")
+        place, past = self.into("1"), self.fresh("l")
         self.branch(node, past, True)
         self.emit(f"{place} = 0;", f"{past}:")
         return place, "int"
@@ -441,11 +383,10 @@ class Expressions(Body):
             self.branch(node.parts[0], label, not sense)
         elif node.form == "logic":
             sign, left, right = node.parts
-            past = label if (sign == "or") == sense else self.unit.fresh("l")
+            past = label if (sign == "or") == sense else self.fresh("l")
             self.branch(left, past, sign == "or")
             self.branch(right, label, sense)
-            if past != label:
-                self.emit(f"{past}:")
+            self.emit(*([f"{past}:"] if past != label else []))
         else:
             self.emit(f"if {self.condition(node, sense)} {{ goto {label}; }}")
 
@@ -455,14 +396,15 @@ class Expressions(Body):
             return f"{self.typed(node, 'int')} {'!=' if sense else '=='} 0"
         sign, left, right = node.parts
         (a, type), (b, other) = self.value(left), self.value(right)
-        self.need(other, type)
         sign = sign if sense else COMPARISONS[sign]
-        if sign in ("==", "!="):
-            if "string" in (type, other):
-                return f"{self.runtime('rt.same', [a, b], [])} {'!=' if sign == '==' else '=='} 0"
-            return f"{a} {sign} {b}"
-        self.need(type, "int")
-        return f"%{ {'<': 'lt', '<=': 'le', '>': 'gt', '>=': 'ge'}[sign] }({a}, {b})"
+        if sign in ORDERS:
+            self.need(type, "int")
+        self.need(other, type)
+        if sign in ORDERS:
+            return f"%{ORDERS[sign]}({a}, {b})"
+        if "string" in (type, other):
+            a, b, sign = self.runtime(f"rt.same({a}, {b})"), "0", COMPARISONS[sign]
+        return f"{a} {sign} {b}"
 
 
 # ---- Checks ----------------------------------------------------------------------------------------------------------------------------------------
@@ -477,11 +419,11 @@ class Expressions(Body):
 # With --cuts no client answers, so an `if` tests.
 
 class Checks(Expressions):
-    def failure(self, kind, sort):
+    def failure(self, kind, sort="continuation"):
         """The place where this line fails so: a continuation for the client or for another exit of a call, a label for a `goto`."""
         key = self.line, kind, sort, tuple(it.landing for it in self.tries)
         if key not in self.failures:
-            self.failures[key] = self.unit.fresh("fail"), list(self.tries)
+            self.failures[key] = self.fresh("fail"), list(self.tries)
         return self.failures[key][0]
 
     def fail_if(self, kind, condition):
@@ -492,24 +434,20 @@ class Checks(Expressions):
         if self.unit.cuts:
             self.fail_if(kind, condition)
         else:
-            self.emit(f"{self.temporary()} = %%divu(1, {divisor}) also unwinds to {self.failure(kind, 'continuation')};")
+            self.into(f"%%divu(1, {divisor}) also unwinds to {self.failure(kind)}")
 
     def divided(self, operator, a, b):
-        place = self.temporary()
-        if self.unit.cuts:
-            b = self.kept(b)
-            self.fail_if("Zero", f"{b} == 0")
-            self.emit(f"{place} = %{operator}({a}, {b});")
-        else:
-            self.emit(f"{place} = %%{operator}({a}, {b}) also unwinds to {self.failure('Zero', 'continuation')};")
-        return place
+        if not self.unit.cuts:
+            return self.into(f"%%{operator}({a}, {b}) also unwinds to {self.failure('Zero')}")
+        b = self.kept(b)
+        self.fail_if("Zero", f"{b} == 0")
+        return self.into(f"%{operator}({a}, {b})")
 
     def raised_failures(self):
         """The end of a procedure: each place that fails raises."""
         for (self.line, kind, sort, _), (name, self.tries) in list(self.failures.items()):
             self.emit(f"{name}:" if sort == "label" else f"continuation {name}():")
-            message = MESSAGES[kind]
-            self.raise_(f"kind.{kind}", self.unit.text(f'"{message}"'))
+            self.raise_(f"kind.{kind}", self.unit.text(f'"{MESSAGES[kind]}"'))
 
 
 # ---- Strings, records and arrays on a heap ---------------------------------------------------------------------------------------------------------
@@ -524,37 +462,29 @@ class Checks(Expressions):
 #                                     rt.fill(v.a, 8, 0);                                    so a table has elements and is no value
 
 class Memory(Checks):
-    def runtime(self, name, actuals, fails):
-        """A call of the runtime, and its result."""
-        place = self.temporary()
-        exits = f" also returns to {', '.join(self.failure(kind, 'continuation') for kind in fails)}" if fails else ""
-        self.emit(f"{place} = {name}({', '.join(actuals)}){exits};")
-        return place
+    def runtime(self, call, *fails):
+        """The result of what the runtime does, which fails by these kinds."""
+        return self.into(f"{call} also returns to {', '.join(map(self.failure, fails))}" if fails else call)
 
     def record(self, words):
         """The address of these words in new memory."""
-        place = self.temporary()
-        self.emit(f"{place} = heap.next;")
+        place = self.into("heap.next")
         self.fail_if("Memory", f"{place} + {8 * len(words)} > heap.end")
         self.emit(f"heap.next = {place} + {8 * len(words)};", *(f"bits64[{place} + {8 * n}] = {word};" for n, word in enumerate(words)))
         return place
 
     def value_new(self, element, size):
-        fill = "0" if element == "int" else "nil"
-        return self.runtime("rt.array", [self.typed(size, "int"), fill], ["Memory"]), element + "[]"
+        return self.runtime(f"rt.array({self.typed(size, 'int')}, {'0' if element == 'int' else 'nil'})", "Memory"), element + "[]"
 
-    def value_field(self, node, name):
-        return self.loaded(*self.field(node, name))
+    def value_field(self, *parts):
+        place, type = self.place_field(*parts)
+        return self.into(place), type
 
-    def value_index(self, node, index):
-        return self.loaded(*self.element(node, index))
+    def value_index(self, *parts):
+        place, type = self.place_index(*parts)
+        return self.into(place), type
 
-    def loaded(self, place, type):
-        result = self.temporary()
-        self.emit(f"{result} = {place};")
-        return result, type
-
-    def field(self, node, name):
+    def place_field(self, node, name):
         """The memory of a field, and its type."""
         record, type = self.value(node)
         names = self.unit.program.records.get(type, {})
@@ -563,26 +493,23 @@ class Memory(Checks):
         self.check("Nil", f"{record} - nil", f"{record} == nil")
         return f"bits64[{record} + {8 * list(names).index(name)}]", names[name]
 
-    def element(self, node, index):
+    def place_index(self, node, index):
         """The memory of an element, and its type. Before the elements stands how many there are, but of a table, where that is a constant."""
         name, type = self.found(*node.parts) if node.form == "name" else self.value(node)
+        self.need(type, "[]")
         i = self.kept(self.typed(index, "int"))
-        size = type[6:] if type.startswith("table") else f"bits64[{name}]"
+        size = self.tables.get(name) or f"bits64[{name}]"
         self.check("Index", f"({i} - {size} & ~{i}) >> 63", f"{i} >= {size}")
         if type == "string":
             return f"%zx64(bits8[{name} + 8 + {i}])", "int"
-        if type.startswith("table"):
-            return f"bits64[{name} + {i} * 8]", "int"
-        if not type.endswith("[]"):
-            raise Fault(self.line, f"{type} has no elements")
-        return f"bits64[{name} + 8 + {i} * 8]", type[:-2]
+        return f"bits64[{name}{'' if name in self.tables else ' + 8'} + {i} * 8]", type[:-2]
 
-    def do_table(self, node, name, size):
+    def do_table(self, name, size):
         if self.function.is_generator:
             raise Fault(self.line, "the frame of a generator does not last, so it has no tables")
-        place = self.declare(node, name, f"table {size}")
-        if self.variables.pop(place, None):
-            self.tables.append(f"{place}: bits64[{size}];")
+        place, _ = self.scope[name] = self.variable(name, "int[]")
+        del self.variables[place]
+        self.tables[place] = size
         self.emit(f"rt.fill({place}, {size}, 0);")
 
 
@@ -595,54 +522,45 @@ class Memory(Checks):
 # whoever cuts: `also cuts to try.2`.
 
 class Calls(Memory):
-    def flow(self):
-        if not self.tries:
-            return ""
-        return f" also {'cuts' if self.unit.cuts else 'unwinds'} to {self.tries[-1].landing}"
-
     def emit_call(self, text):
-        self.emit(f"span 1 {self.line} {{ {text}{self.flow()}; }}")
+        flow = f" also {'cuts' if self.unit.cuts else 'unwinds'} to {self.tries[-1].landing}" if self.tries else ""
+        self.emit(f"span 1 {self.line} {{ {text}{flow}; }}")
 
     def actuals(self, name, nodes, types):
         if len(nodes) != len(types):
             raise Fault(self.line, f"{name} takes {len(types)} values")
         return [self.typed(node, type) for node, type in zip(nodes, types)]
 
+    def call(self, function, nodes):
+        return f"f.{function.name}({', '.join(self.actuals(function.name, nodes, [type for _, type in function.formals]))})"
+
     def value_call(self, name, nodes):
-        records, functions = self.unit.program.records, self.unit.program.functions
+        records, functions, line = self.unit.program.records, self.unit.program.functions, self.line
         if name in records:
             return self.record(self.actuals(name, nodes, records[name].values())), name
         if name in functions:
-            function, line = functions[name], self.line
-            actuals = self.actuals(name, nodes, [type for _, type in function.formals])
-            place = self.temporary() if function.result else None
-            self.line = line
-            self.emit_call(f"{f'{place} = ' if place else ''}f.{name}({', '.join(actuals)})")
-            return place, function.result
+            call, result = self.call(functions[name], nodes), functions[name].result
+            place, self.line = self.temporary() if result else "", line
+            self.emit_call(f"{place} = {call}" if result else call)
+            return place, result
         if name in BUILTINS:
-            types, result, fails = BUILTINS[name]
-            return self.runtime(f"rt.{name}", self.actuals(name, nodes, types), fails), result
-        if name == "read" and not nodes:
-            place = self.temporary()
-            self.emit(f'{place} = foreign "C" cmm_getbyte();')
-            return place, "int"
-        if name == "len" and len(nodes) == 1:
-            return self.loaded(f"bits64[{self.value(nodes[0])[0]}]", "int")
+            shape, types, result, fails = BUILTINS[name]
+            return self.runtime(shape.format(*self.actuals(name, nodes, types)), *fails), result
         raise Fault(self.line, f"there is no function {name}")
 
-    def do_return(self, node, value):
-        function = self.function
-        if value is None or function.is_generator:
-            return self.leave("return <0/1> ();" if function.is_generator else "return ();")
+    def do_return(self, value):
+        result = None if self.function.is_generator else self.function.result
+        if value is None:
+            self.need(None, result)
+            return self.leave("return <0/1> ();" if self.function.is_generator else "return ();")
         callee = self.unit.program.functions.get(value.parts[0]) if value.form == "call" else None
-        if callee and not self.tries and callee.result == function.result:
-            actuals = self.actuals(callee.name, value.parts[1], [type for _, type in callee.formals])
-            return self.emit(f"jump f.{callee.name}({', '.join(actuals)});")
-        text = self.typed(value, function.result)
-        if any(it.last for it in self.tries):
-            result = self.hidden("result")
-            self.emit(f"{result} = {text};")
-            text = result
+        if callee and not self.tries and callee.result == result:
+            return self.emit(f"jump {self.call(callee, value.parts[1])};")
+        text = self.typed(value, result)
+        if result and any(it.last for it in self.tries):
+            place = self.hidden("result")
+            self.emit(f"{place} = {text};")
+            text = place
         return self.leave(f"return ({text});")
 
 
@@ -655,49 +573,44 @@ class Calls(Memory):
 #                                   l.2:
 
 class Statements(Calls):
-    def do_var(self, node, name, value):
+    def do_var(self, name, value):
         text, type = self.value(value)
         if type in (None, "nil"):
             raise Fault(self.line, f"{name} has no type")
-        self.emit(f"{self.declare(node, name, type)} = {text};")
+        place, _ = self.scope[name] = self.variable(name, type)
+        self.emit(f"{place} = {text};")
 
-    def do_simple(self, node, left, *right):
-        if not right:
+    def do_assign(self, left, right):
+        if right is None:
             return self.value(left)
-        text, type = self.value(right[0])
-        if left.form == "name":
-            place, wanted = self.found(*left.parts)
-        elif left.form in ("field", "index"):
-            place, wanted = (self.field if left.form == "field" else self.element)(*left.parts)
-        else:
-            raise Fault(self.line, "a variable, a field or an element wanted before =")
+        text, type = self.value(right)
+        place, wanted = getattr(self, f"place_{left.form}", self.value)(*(left.parts if left.form in ("field", "index") else [left]))
+        if not place.startswith(("v.", "bits64[")):
+            raise Fault(self.line, "only a variable, a field or an element of an array can be set")
         self.need(type, wanted)
-        if not place.startswith(("v.", "bits64")):
-            raise Fault(self.line, "a string has no elements that change")
         return self.emit(f"{place} = {text};")
 
-    def do_if(self, node, condition, then, otherwise):
-        past, end = self.unit.fresh("l"), self.unit.fresh("l")
+    def do_if(self, condition, then, otherwise):
+        past, end = self.fresh("l"), self.fresh("l")
         self.branch(condition, past, False)
         self.block(then)
         self.emit(*([f"goto {end};"] if otherwise else []), f"{past}:")
         self.block(otherwise)
         self.emit(*([f"{end}:"] if otherwise else []))
 
-    def do_while(self, node, condition, body):
-        again, past = self.unit.fresh("l"), self.unit.fresh("l")
+    def do_while(self, condition, body):
+        again, past = self.fresh("l"), self.fresh("l")
         self.emit(f"{again}:")
         self.branch(condition, past, False)
         self.block(body)
         self.emit(f"goto {again};", f"{past}:")
 
-    def do_print(self, node, *values):
-        self.do_write(node, *values)
+    def do_print(self, values):
+        self.do_write(values)
         self.emit('foreign "C" cmm_putbyte(10);')
 
-    def do_write(self, node, *values):
-        for value in values:
-            text, type = self.value(value)
+    def do_write(self, values):
+        for text, type in map(self.value, values):
             if type != "int":
                 self.need(type, "string")
             self.emit(f"{'rt.number' if type == 'int' else 'rt.print'}({text});")
@@ -718,19 +631,17 @@ class Statements(Calls):
 # An alternate return says that there is no further value. A generator that an exception has left, or that is at work, has none: its place is 0.
 
 class Generators(Statements):
-    def do_for(self, node, name, generator, body):
+    def do_for(self, name, generator, body):
         text, type = self.value(generator)
         if not (type or "").startswith("gen "):
             raise Fault(self.line, f"a generator wanted, and not {type}")
-        state, again, done = self.hidden("for"), self.unit.fresh("l"), self.unit.fresh("done")
-        self.scopes.append({})
+        state, again, done, item = self.hidden("for"), self.fresh("l"), self.fresh("done"), self.variable(name, type[4:])
         self.emit(f"{state} = {text};", f"{again}:")
-        self.emit_call(f"{self.declare(node, name, type[4:])} = bits64[{state}]({state}) also returns to {done}")
-        self.block(body)
+        self.emit_call(f"{item[0]} = bits64[{state}]({state}) also returns to {done}")
+        self.block(body, {name: item})
         self.emit(f"goto {again};", f"continuation {done}():")
-        self.scopes.pop()
 
-    def do_yield(self, node, value):
+    def do_yield(self, value):
         if not self.function.is_generator:
             raise Fault(self.line, "only a generator yields")
         text = self.typed(value, self.function.result[4:])
@@ -740,10 +651,6 @@ class Generators(Statements):
         self.emit(f"bits64[self + 8] = {number};", "save", f"return <1/1> ({text});", f"resume.{number}:")
         for it in self.tries:
             self.handle(it.landing)
-
-    def words(self):
-        """Where each variable stands in the record: the variables, by their places there."""
-        return [f"bits64[self + {16 + 8 * n}]" for n in range(len(self.variables))]
 
 
 # ---- Exceptions ------------------------------------------------------------------------------------------------------------------------------------
@@ -764,7 +671,7 @@ class Generators(Statements):
 # A `finally` is a `try` for all kinds, that does its block and raises again; the block stands also where the `try` ends well, and before a `return`.
 
 class Exceptions(Generators):
-    def do_raise(self, node, kind, message):
+    def do_raise(self, kind, message):
         self.raise_(f"kind.{kind}", self.typed(message, "string"))
 
     def raise_(self, kind, message):
@@ -780,6 +687,7 @@ class Exceptions(Generators):
     def handle(self, landing):
         """With cuts: the handler is this one from here on."""
         if self.unit.cuts:
+            self.variables[f"outer.{landing}"] = None
             self.emit(f"outer.{landing} = handler;", f"handler = {landing};")
 
     def restore(self, tries):
@@ -793,38 +701,33 @@ class Exceptions(Generators):
         while self.tries:
             *self.tries, inner = self.tries
             self.restore([inner])
-            self.block(inner.last or [])
+            self.block(inner.last)
         self.tries = tries
         self.emit(how)
 
-    def do_try(self, node, body, catches, last):
+    def do_try(self, body, catches, last):
         if last is not None and catches:  # the `finally` is around the whole
-            body, catches = [Node("try", node.line, (body, catches, None))], []
-        landing, end = self.unit.fresh("try"), self.unit.fresh("l")
-        kind, message = self.hidden("kind"), self.hidden("value")
-        kinds = self.unit.program.kinds if last is not None else dict.fromkeys(name for name, _, _ in catches)
-        inner = Try(landing, last)
-        if self.unit.cuts:
-            self.variables[f"outer.{landing}"] = ""
+            body, catches = [Node("try", self.line, [body, catches, None])], []
+        line, landing, end, kind, message = self.line, self.fresh("try"), self.fresh("l"), self.hidden("kind"), self.hidden("value")
+        kinds = self.unit.program.kinds if last is not None else [name for name, _, _ in catches]
+        spans = [] if self.unit.cuts else [f"span kind.{it} 1 {{" for it in kinds]
         self.handle(landing)
-        self.tries.append(inner)
-        self.emit(*([] if self.unit.cuts else [f"span kind.{it} 1 {{" for it in kinds]))
+        self.tries.append(Try(landing, last))
+        self.emit(*spans)
         self.block(body)
-        self.emit(*([] if self.unit.cuts else ["}"] * len(kinds)))
-        self.tries.pop()
-        self.restore([inner])
-        self.block(last or [])
+        self.emit(*("}" for _ in spans))
+        past = [self.tries.pop()]
+        self.restore(past)
+        self.block(last)
         self.emit(f"goto {end};", f"continuation {landing}({kind}, {message}):")
-        self.restore([inner])
+        self.restore(past)
         for name, variable, block in catches:
-            past = self.unit.fresh("l")
-            self.scopes.append({})
-            self.emit(f"if {kind} != kind.{name} {{ goto {past}; }}", f"{self.declare(block, variable, 'string')} = {message};")
-            self.block(block)
-            self.emit(f"goto {end};", f"{past}:")
-            self.scopes.pop()
-        self.block(last or [])
-        self.line = node.line
+            other, place = self.fresh("l"), self.variable(variable, "string")
+            self.emit(f"if {kind} != kind.{name} {{ goto {other}; }}", f"{place[0]} = {message};")
+            self.block(block, {variable: place})
+            self.emit(f"goto {end};", f"{other}:")
+        self.block(last)
+        self.line = line
         self.raise_(kind, message)
         self.emit(f"{end}:")
 
@@ -835,74 +738,38 @@ class Procedure(Exceptions):
     def text(self, name, formals, head=()):
         """The procedure of what was emitted. Only now is it known which variables it has."""
         self.raised_failures()
-        made = {name for name, _ in formals}
-        variables = [f'"{kind}" bits64 {it};' if kind else f"bits64 {it};" for it, kind in self.variables.items() if it not in made]
-        variables += [f"bits64 t.{n};" for n in range(1, self.most + 1)]
-        tables = [f"stackdata {{ align 8; {' '.join(self.tables)} }}"] if self.tables else []
-        shown = ", ".join(f'"{kind}" bits64 {it}' for it, kind in formals)
-        return "\n".join([f"\n{name}({shown}) {{", *(line if re.match(r"[^/]*:$", line) else "  " + line for line in [*variables, *tables, *head, *self.out]), "}"])
+        variables = {**self.variables, **{f"t.{n}": None for n in range(1, self.most + 1)}}
+        lines = [f"{declared(it, kind)};" for it, kind in variables.items() if it not in dict(formals)]
+        tables = [f"{it}: bits64[{size}];" for it, size in self.tables.items()]
+        lines += [f"stackdata {{ align 8; {' '.join(tables)} }}"] if tables else []
+        lines = [line if re.match(r"[^/]*:$", line) else "  " + line for line in [*lines, *head, *self.out]]
+        return "\n".join([f"\n{name}({', '.join(declared(*it) for it in formals)}) {{", *lines, "}"])
+
+
+def declared(variable, kind):
+    return f"bits64 {variable}" if kind is None else f'"{kind}" bits64 {variable}'
 
 
 def procedures_of(unit, function):
     """The texts of a function's procedures: of a generator's the one that makes its record is the second."""
     body = Procedure(unit, function)
-    formals = [(body.declare(formal, *formal), "{}: {}".format(*formal)) for formal in function.formals]
+    body.scope = {name: body.variable(name, type) for name, type in function.formals}
+    formals = list(body.variables.items())
     body.block(function.body)
     if not function.is_generator:
         if not body.out or not body.out[-1].startswith(("return", "jump")):
             body.emit("return ();" if not function.result else f"return ({'0' if function.result == 'int' else 'nil'});")
         return [body.text(f"f.{function.name}", formals)]
     body.emit("return <0/1> ();")
-    places, words = list(body.variables), body.words()
-    save = f"{', '.join(words)} = {', '.join(places)};" if places else ";"
-    body.out = [save if line == "save" else line for line in body.out]
-    load = f"{', '.join(places)} = {', '.join(words)};" if places else ";"
-    state = body.temporary()
+    places, words, state = ", ".join(body.variables), ", ".join(f"bits64[self + {16 + 8 * n}]" for n in range(len(body.variables))), body.temporary()
+    body.out = [(f"{words} = {places};" if places else ";") if line == "save" else line for line in body.out]
     arms = " ".join(f"case {n}: {{ goto resume.{n}; }}" for n in body.resumes)
-    head = [f"{state} = bits64[self + 8];", "bits64[self + 8] = 0;", load,
+    head = [f"{state} = bits64[self + 8];", "bits64[self + 8] = 0;", f"{places} = {words};" if places else ";",
             f"switch {state} {{ case 1: {{ goto start; }} {arms} default: {{ return <0/1> (); }} }}", "start:"]
     maker = Procedure(unit, function)
-    maker.variables = dict(formals)
-    made = {name for name, _ in formals}
-    words = [f"next.{function.name}", "1", *(name if name in made else "0" for name in places)]
-    maker.emit(f"return ({maker.record(words)});")
+    made = maker.record([f"next.{function.name}", "1", *(it if it in dict(formals) else "0" for it in body.variables)])
+    maker.emit(f"return ({made});")
     return [body.text(f"next.{function.name}", [("self", "")], head), maker.text(f"f.{function.name}", formals)]
-
-
-# ---- What went wrong, in words of the source -------------------------------------------------------------------------------------------------------
-
-def traced(log, unit):
-    """The lines of a log of `cmm`, of a unit that was made here, as a user of the language reads them."""
-    lines = unit.splitlines()
-    source, asked, said = lines[0].partition(" from ")[2], [], []
-    name, kinds = os.path.splitext(os.path.basename(source))[0], {number: kind for kind, number in re.findall(r"const kind\.(\w+) = (\d+);", unit)}
-    for line in log.splitlines():
-        word, *rest = line.split() or [""]
-        if fault := re.fullmatch(rf"(?:.*/)?{re.escape(name)}\.cmm:(\d+):\d+: \d+ (.*)", line):
-            at = next((it[1] for it in map(re.compile(r" *// (\d+): ").match, reversed(lines[:int(fault[1])])) if it), "1")
-            said.append(f"{source}:{at}: {fault[2]}")
-        elif word == "yield":
-            asked = rest
-        elif word == "activation" and rest[0] == "0":
-            said.append(f"uncaught {kinds.get(asked[0], asked)}")
-        if word == "activation":
-            called, shown, at = rest[1].partition(".")[2], [], "?"
-            said.append("")
-        elif word == "span" and rest[0] == "1":
-            at = rest[1]
-        elif word == "var" and (named := re.fullmatch(r'var \d+ bits64 "(\w+): (.*)" (\w+)', line)):
-            if named[3] != "dead":  # what nothing reads again is not kept
-                shown.append(f"{named[1]} = {shown_as(named[2], int(named[3]))}")
-        elif word not in ("span", "var", "yield", "at", "resume", "refused", "end", "stopped", "result") and not fault:
-            said.append(line)
-        if said and word in ("activation", "span", "var"):
-            said[-1] = f"  {source}:{at}: in {called}({', '.join(shown)})" if called else ""
-    return [line for line in said if line]
-
-
-def shown_as(type, word):
-    """A variable of a stopped program: a walk tells words."""
-    return str(word - 2**64 if word >= 2**63 else word) if type == "int" else f"{type} at {word:#x}"
 
 
 # ---- The command -----------------------------------------------------------------------------------------------------------------------------------
@@ -916,9 +783,7 @@ def main():
     parser.add_argument("--trace", metavar="UNIT")
     words = parser.parse_args()
     if words.trace:
-        with open(words.trace, encoding="utf-8") as file:
-            print("\n".join(traced(sys.stdin.read(), file.read())))
-        return 0
+        return trace.tell(sys.stdin.read(), words.trace, sys.stdout)
     if not words.source:
         parser.error("a source is wanted")
     try:
@@ -932,12 +797,7 @@ def main():
     for ending, text in made.items():
         with open(f"{base}.{ending}", "w", encoding="utf-8") as file:
             file.write(text)
-    if not words.program:
-        return 0
-    ran = subprocess.run([words.program, "exec", f"{base}.cmm", f"{HERE}/runtime.cmm", "--client", f"{base}.script"], stderr=subprocess.PIPE, check=False)
-    for line in traced(ran.stderr.decode(), made["cmm"]):
-        print(line, file=sys.stderr)
-    return ran.returncode
+    return trace.execute(words.program, base) if words.program else 0
 
 
 if __name__ == "__main__":
