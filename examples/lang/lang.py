@@ -6,7 +6,7 @@ runtime.cmm, which stands beside this file. There are two ways to raise an excep
 a global register holds the innermost handler, and control is cut to it. A program prints the same with both.
 
 --exec runs the source with the built `cmm` PROGRAM, and tells what went wrong in words of the source. --trace does only the latter, for a log
-on standard input: a line on which `cmm` refuses the unit UNIT gets its place in the source, and a walk becomes a trace of calls. trace.py does both.
+on standard input: a line on which `cmm` refuses the unit UNIT gets its place in the source, and a walk becomes a trace of calls. mistakes.py does both.
 
 The language has the types int, string, T[], gen T and those of its records. examples/lang/*.lang are programs, docs/TUTORIAL.md tells the story.
 """
@@ -16,7 +16,7 @@ import pathlib
 import re
 import sys
 
-import trace
+import mistakes
 
 
 class Fault(Exception):
@@ -719,7 +719,7 @@ def main():
     parser.add_argument("--trace", metavar="UNIT")
     words = parser.parse_args()
     if words.trace:
-        return trace.tell(sys.stdin.read(), words.trace, sys.stdout)
+        return mistakes.tell(sys.stdin.read(), words.trace, sys.stdout)
     if not words.source:
         parser.error("a source is wanted")
     try:
@@ -732,7 +732,7 @@ def main():
     base.parent.mkdir(parents=True, exist_ok=True)
     for ending, text in made.items():
         pathlib.Path(f"{base}.{ending}").write_text(text, encoding="utf-8")
-    return trace.execute(words.program, base) if words.program else 0
+    return mistakes.execute(words.program, base) if words.program else 0
 
 
 if __name__ == "__main__":

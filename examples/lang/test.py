@@ -14,7 +14,7 @@ import sys
 import tempfile
 
 import lang
-import trace
+import mistakes
 
 HERE = os.path.dirname(os.path.abspath(__file__))
 
@@ -131,7 +131,7 @@ def runs_of(program, name, given, output, status, cuts, folder):
 def told(run, base, wanted):
     """What is wrong with what is told of a run in words of the source."""
     with open(f"{base}.cmm", encoding="utf-8") as file:
-        lines = trace.traced(run.stderr.decode(), file.read())
+        lines = mistakes.traced(run.stderr.decode(), file.read())
     alike = len(lines) == len(wanted) and all(matches(line, shape) for line, shape in zip(lines, wanted))
     return None if alike else f"told {lines}, and not {wanted}"
 
