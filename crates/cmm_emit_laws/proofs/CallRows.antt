@@ -168,7 +168,6 @@ module _ (l : Launch) (at : ℕ → ℕ) (main callee site behind limit : Label)
           on = pieces.entered;
           ends = 1;
           begins = pieces.begins;
-          apart = refl;
           few_formals = omega arith;
           pairs = refl;
           addresses = tt;
@@ -228,7 +227,6 @@ module _ (l : Launch) (at : ℕ → ℕ) (main callee site behind limit : Label)
           on = pieces.inside;
           ends = 1;
           begins = pieces.enters;
-          apart = refl;
           few_formals = omega arith;
           pairs = refl;
           addresses = tt;

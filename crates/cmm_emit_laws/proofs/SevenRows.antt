@@ -119,7 +119,6 @@ module _ (l : Launch) (at : ℕ → ℕ) (main limit : Label) (to : ℕ) (pieces
         on = pieces.mid;
         ends = 1;
         begins = pieces.begins;
-        apart = refl;
         few_formals = omega arith;
         pairs = refl;
         addresses = tt;

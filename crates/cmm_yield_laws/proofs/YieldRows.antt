@@ -219,7 +219,6 @@ module _ (l : Launch) (at : ℕ → ℕ) (main client site behind limit : Label)
         on = pieces.entered;
         ends = 1;
         begins = pieces.begins;
-        apart = refl;
         few_formals = omega arith;
         pairs = refl;
         addresses = tt;
