@@ -1,6 +1,8 @@
-use Rattle.std.proofs.Common.{List, ℕ, Option, ◌∙◌, inl, inr, refl, subst}
+use Rattle.std.proofs.Common.{Bor, List, ℕ, Option, ◌∙◌, inl, inr, map, refl, subst, sym}
 use Rattle.cmm_outside.specs.Faults.{Rose}
 use Rattle.cmm_outside.specs.Storage.{Contents, StopsWriting, Writes}
+use Rattle.cmm_outside.specs.Reads.{AreReadInOrder, Made, ReadCall}
+use Rattle.cmm_top.specs.Reads.{units_in}
 use Rattle.cmm_top.proofs.building.build.Goals as goal
 
 pub returns-in-Ok-write_file-clause-builds : goal.returns-in-Ok-write_file-clause-builds
@@ -36,3 +38,13 @@ returns-clause-builds g c = λ streams.
       no_image = refl;
       ends = record { line = refl; status = refl };
     })
+
+pub returns-in-Ok-write_file-clause-reads : goal.returns-in-Ok-write_file-clause-reads
+returns-in-Ok-write_file-clause-reads g c =
+    subst (λ (after : Option (List ReadCall)). Made (g.F.Files.reads c.args.files.now) after (AreReadInOrder (units_in (map (λ (name : Bor (List ℕ)). name.now) c.args.names.now))))
+    (sym c.in-Ok-write_file.ensures.same_reads) c.in-Ok.ensures.reads
+
+pub returns-clause-reads : goal.returns-clause-reads
+returns-clause-reads g c =
+    subst (λ (after : Option (List ReadCall)). Made (g.F.Files.reads c.args.files.now) after (AreReadInOrder (units_in (map (λ (name : Bor (List ℕ)). name.now) c.args.names.now))))
+    (sym c.in-Err-write_file.ensures.same_reads) c.in-Ok.ensures.reads
