@@ -158,7 +158,7 @@ fn no_more_is_asked_than_a_byte_past_the_limit(rt: HostRuntime) -> Result<(), Fa
         for (read, room) in files.told().iter().zip(rooms) {
             assert_eq!(rt; read.name.as_slice(), b"endless".as_slice());
             assert_eq!(rt; (read.from, read.room, read.came), (from, room, room));
-            from += room as u64;
+            from = from.saturating_add(room as u64);
         }
         assert_eq!(rt; from, limit + 1);
     }
