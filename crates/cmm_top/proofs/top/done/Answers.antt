@@ -1,5 +1,6 @@
-use Rattle.std.proofs.Common.{◌≤◌, Bor, List, ℕ, None, ap, length, refl, subst, sym}
+use Rattle.std.proofs.Common.{◌≤◌, ◌++◌, Bor, List, ℕ, None, ap, length, map, refl, subst, sym}
 use Rattle.std.specs.List.{All}
+use Rattle.std.specs.Option.{option_map}
 use Rattle.cmm_outside.specs.declared.storage.TheConstants.{NAME_LIMIT}
 use Rattle.cmm_run.specs.Outside.{outside_of}
 use Rattle.cmm_top.specs.Answers.{Does}
@@ -10,7 +11,7 @@ use Rattle.cmm_top.specs.inside.Tasks.{CanBeDone, plain_task}
 use Rattle.cmm_top.proofs.Asked.{short_name, short_names}
 use Rattle.cmm_outside.specs.Reads.{AreReadInOrder, Made}
 use Rattle.cmm_top.proofs.ReadsMade.{read_none}
-use Rattle.cmm_top.specs.Reads.{read_for}
+use Rattle.cmm_top.specs.Reads.{read_for, script_in, units_in}
 use Rattle.cmm_top.proofs.top.done.Goals as goal
 
 pub exec-requires-clause-short : goal.exec-requires-clause-short
@@ -51,3 +52,10 @@ returns-in-Walk-clause-does g c =
 
 pub returns-in-Generate-clause-reads : goal.returns-in-Generate-clause-reads
 returns-in-Generate-clause-reads g c = read_none (read_for (plain_task c.args.task.now)) _ _ refl
+
+pub returns-in-Execute-clause-reads : goal.returns-in-Execute-clause-reads
+returns-in-Execute-clause-reads g c =
+    subst (λ (t : Task). Made (g.F.Files.reads c.args.files.now) (g.F.Files.reads c.exec.new.files) (AreReadInOrder (read_for (plain_task t)))) (sym c.in-Execute.is)
+    (subst (λ (names : List (Bor (List ℕ))). Made (g.F.Files.reads c.args.files.now) (g.F.Files.reads c.exec.new.files)
+    (AreReadInOrder (units_in (map (λ (name : Bor (List ℕ)). name.now) names) ++ script_in (option_map (λ (name : Bor (List ℕ)). name.now) c.in-Execute.client))))
+    c.as_slice-names.ensures c.exec.ensures.reads)

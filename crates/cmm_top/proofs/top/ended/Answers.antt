@@ -25,8 +25,8 @@ returns-in-Some-clause-comes g c =
       });
     }
 
-pub returns-in_None-clause-reads : goal.returns-in_None-clause-reads
-returns-in_None-clause-reads g c = read_none (read_by (texts c.args.words.now)) _ _ refl
+pub returns-in-Memory-clause-reads : goal.returns-in-Memory-clause-reads
+returns-in-Memory-clause-reads g c = read_none (read_by (texts c.args.words.now)) _ _ refl
 
 pub returns-in-Some-clause-reads : goal.returns-in-Some-clause-reads
 returns-in-Some-clause-reads g c =
